@@ -11,23 +11,23 @@ use Rattle.mds_types.specs.Step.{step, number_or}
 use Rattle.mds_types.specs.History.{after, IsTaken, IsUsed, IsNext, IsLegal}
 
 -- the tree after one entry more
-pub after-push : (opening : Tree) (past : List Entry) (e : Entry) → after opening (past ++ e ∷ []) ≡ (step (after opening past) e.op (number_or e.number)).tree
-after-push opening [] e = refl
-after-push opening (x ∷ past) e = after-push (step opening x.op (number_or x.number)).tree past e
+pub after-push : (limit : ℕ) (opening : Tree) (past : List Entry) (e : Entry) → after limit opening (past ++ e ∷ []) ≡ (step limit (after limit opening past) e.op (number_or e.number)).tree
+after-push limit opening [] e = refl
+after-push limit opening (x ∷ past) e = after-push limit (step limit opening x.op (number_or x.number)).tree past e
 
 -- one entry more is legal where it may come next
-pub legal-push : (opening : Tree) (past : List Entry) (e : Entry) → IsLegal opening past → IsNext opening past e → IsLegal opening (past ++ e ∷ [])
-legal-push opening past e legal next k d below = ⊎_elim earlier last (cases_lt k (length past))
+pub legal-push : (limit : ℕ) (opening : Tree) (past : List Entry) (e : Entry) → IsLegal limit opening past → IsNext limit opening past e → IsLegal limit opening (past ++ e ∷ [])
+legal-push limit opening past e legal next k d below = ⊎_elim earlier last (cases_lt k (length past))
   where
-    earlier : k < length past → IsNext opening (take k (past ++ e ∷ [])) (slice_index_or (past ++ e ∷ []) k d)
+    earlier : k < length past → IsNext limit opening (take k (past ++ e ∷ [])) (slice_index_or (past ++ e ∷ []) k d)
     earlier h =
         let few : k ≤ length past = omega arith in
         rw (take-append-le k past (e ∷ []) few, get_or_append_left past (e ∷ []) d k h) (legal k d h)
 
-    last : length past ≤ k → IsNext opening (take k (past ++ e ∷ [])) (slice_index_or (past ++ e ∷ []) k d)
+    last : length past ≤ k → IsNext limit opening (take k (past ++ e ∷ [])) (slice_index_or (past ++ e ∷ []) k d)
     last h =
         let long : length past ≡ k = omega (arith, below, length-append past (e ∷ [])) in
-        subst (λ n. IsNext opening (take n (past ++ e ∷ [])) (slice_index_or (past ++ e ∷ []) n d)) long
+        subst (λ n. IsNext limit opening (take n (past ++ e ∷ [])) (slice_index_or (past ++ e ∷ []) n d)) long
         (rw (take-append_seam past (e ∷ []), get_or-append_seam past e [] d) next)
 
 -- a number that is taken with one entry more was taken before or by that entry

@@ -3,11 +3,12 @@
 use Rattle.std.specs.Prelude.{Option, ◌≡◌, ℕ, Bool, true, false, cond, ◌&&◌, ◌||◌, ◌==◌, ◌⊎◌, Some, None, refl}
 use Rattle.std.proofs.Common.{sym, ap, subst, ◌∙◌, ⊎_elim, inl, inr}
 use Rattle.std.proofs.lemmas.Bool.{or_parts}
+use Rattle.std.specs.Ordering.{eq_by_cmp}
 use Rattle.std.specs.FinMap as map
 use Rattle.mds_types.specs.declared.dentries.Dentry.{Dentry}
 use Rattle.mds_types.specs.declared.inodes.Inode.{Inode}
-use Rattle.mds_types.specs.Tree.{Tree, at, dentry_of, is_directory, is_dir_kind, is_above, has_entries, IsAbove, child, further, HasPinOf, HasSize, IsWellFormed, NothingIn}
-use Rattle.mds_types.specs.Step.{with_moved, replace_errno, IsMove}
+use Rattle.mds_types.specs.Tree.{Tree, at, dentry_cmp, dentry_of, is_directory, is_dir_kind, is_above, has_entries, IsAbove, child, further, HasPinOf, HasSize, IsWellFormed, NothingIn}
+use Rattle.mds_types.specs.Step.{with_moved, leads_to, replace_errno, IsMove}
 use Rattle.mds_types.proofs.AboveLaws.{above_exact}
 use Rattle.sorted_map.proofs.NatKeys.{is_same}
 use Rattle.mds_types.proofs.EntryLaws.{get_put, get_beside, get_left, stands_after_put, stands_after_removal, same_or_apart, same_dentry_is}
@@ -24,23 +25,24 @@ pub record MayMove (tree : Tree) (from to : Dentry) (inode : Inode) : Type 0 whe
   pub replaces : (t : Inode) → map.get tree to ≡ Some t → NothingIn tree t.ino.0
 
 -- what the table's tests say of a well-formed tree
-pub may_move : (tree : Tree) (from to : Dentry) (inode : Inode) → IsWellFormed tree → IsMove tree from to inode → MayMove tree from to inode
-may_move tree from to inode whole move = record {
-  stands = move.stands;
-  apart = λ same. let clash : true ≡ false = sym (same_dentry_is from to same) ∙ move.apart in cc;
-  parent = move.parent;
-  other = λ same. not_itself (is_dir_kind inode.kind) refl move.outside same;
-  not_below = λ above. not_under (is_dir_kind inode.kind) refl move.outside above;
-  replaces = λ t there. nothing t there (is_dir_kind inode.kind) (is_dir_kind t.kind) refl (has_entries tree t.ino.0) refl (ap (replace_errno tree inode) (sym there) ∙ move.replaces);
+pub may_move_by : (tree : Tree) (from to : Dentry) (inode : Inode) → IsWellFormed tree → map.get tree from ≡ Some inode → eq_by_cmp dentry_cmp from to ≡ false → is_directory tree to.dir.0 ≡ true
+    → leads_to tree inode to.dir.0 ≡ false → replace_errno tree inode (map.get tree to) ≡ None → MayMove tree from to inode
+may_move_by tree from to inode whole stands apart parent outside replaces = record {
+  stands = stands;
+  apart = λ same. let clash : true ≡ false = sym (same_dentry_is from to same) ∙ apart in cc;
+  parent = parent;
+  other = λ same. not_itself (is_dir_kind inode.kind) refl outside same;
+  not_below = λ above. not_under (is_dir_kind inode.kind) refl outside above;
+  replaces = λ t there. nothing t there (is_dir_kind inode.kind) (is_dir_kind t.kind) refl (has_entries tree t.ino.0) refl (ap (replace_errno tree inode) (sym there) ∙ replaces);
 }
   where
     not_itself : (b : Bool) → is_dir_kind inode.kind ≡ b → (b && ((inode.ino.0 == to.dir.0) || is_above tree inode.ino.0 to.dir.0)) ≡ false → inode.ino.0 ≡ to.dir.0 → ⊥
     not_itself true kinded outside same = let clash : true ≡ false = sym (is_same inode.ino.0 to.dir.0 same) ∙ (or_parts (inode.ino.0 == to.dir.0) (is_above tree inode.ino.0 to.dir.0) outside).0 in cc
-    not_itself false kinded outside same = no_directory tree from inode whole move.stands kinded (ap (is_directory tree) same ∙ move.parent)
+    not_itself false kinded outside same = no_directory tree from inode whole stands kinded (ap (is_directory tree) same ∙ parent)
 
     not_under : (b : Bool) → is_dir_kind inode.kind ≡ b → (b && ((inode.ino.0 == to.dir.0) || is_above tree inode.ino.0 to.dir.0)) ≡ false → IsAbove tree inode.ino.0 to.dir.0 → ⊥
     not_under true kinded outside above = let clash : true ≡ false = sym ((above_exact tree inode.ino.0 to.dir.0 whole).1 above) ∙ (or_parts (inode.ino.0 == to.dir.0) (is_above tree inode.ino.0 to.dir.0) outside).1 in cc
-    not_under false kinded outside above = above_nothing tree inode.ino.0 to.dir.0 (nothing_in_file tree from inode whole move.stands kinded) above
+    not_under false kinded outside above = above_nothing tree inode.ino.0 to.dir.0 (nothing_in_file tree from inode whole stands kinded) above
 
     nothing : (t : Inode) → map.get tree to ≡ Some t → (a b : Bool) → is_dir_kind t.kind ≡ b → (e : Bool) → has_entries tree t.ino.0 ≡ e
         → cond {A = Option ℕ} a (cond b (cond e (Some 39) None) (Some 20)) (cond b (Some 21) None) ≡ None → NothingIn tree t.ino.0
@@ -49,6 +51,9 @@ may_move tree from to inode whole move = record {
     nothing t there true false kinded e is replaces = cc
     nothing t there false true kinded e is replaces = cc
     nothing t there false false kinded e is replaces = nothing_in_file tree to t whole there kinded
+
+pub may_move : (tree : Tree) (from to : Dentry) (inode : Inode) → IsWellFormed tree → IsMove tree from to inode → MayMove tree from to inode
+may_move tree from to inode whole move = may_move_by tree from to inode whole move.stands move.apart move.parent move.outside move.replaces
 
 module _ (tree : Tree) (from to : Dentry) (inode : Inode) (whole : IsWellFormed tree) (may : MayMove tree from to inode) where
   abbrev moved : Tree

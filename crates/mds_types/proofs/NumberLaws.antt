@@ -11,7 +11,7 @@ use Rattle.mds_types.specs.declared.replies.Reply.TheVariants.{Entry, Done, Errn
 use Rattle.mds_types.specs.declared.operations.Op.{Op}
 use Rattle.mds_types.specs.Tree.{Tree, dentry_cmp, is_directory, is_dir_kind}
 use Rattle.mds_types.specs.Shape.{Shape, Looks, Lists, Makes, Sets, Unlinks, Removes, Moves, destination_in, directory_in, shape}
-use Rattle.mds_types.specs.Step.{Outcome, answers, with_moved, altered, altered_at, alteration_errno, looked, made, new_inode, unless, unlinked, dir_removed, removal_errno, leads_to, replace_errno, renamed, done_in, step}
+use Rattle.mds_types.specs.Step.{Outcome, answers, with_moved, altered, altered_at, alteration_errno, looked, made, new_inode, unless, unlinked, dir_removed, removal_errno, leads_to, replace_errno, room_errno, full_errno, renamed, done_in, step}
 use Rattle.mds_types.proofs.AlterationLaws.{altered_number}
 use Rattle.mds_types.proofs.EntryLaws.{stands_after_put, stands_after_removal}
 use Rattle.mds_types.specs.Outcomes.{IsOld}
@@ -27,10 +27,11 @@ unless_old : (errno : Option ℕ) (tree : Tree) (n : ℕ) (x : Outcome) → IsOl
 unless_old None tree n x h = h
 unless_old (Some errno) tree n x h = same_old tree n (unless tree (Some errno) x) refl
 
-made_old : (tree : Tree) (dentry : Dentry) (new : Inode) (other : Option Inode) → IsOld tree new.ino.0 (made tree dentry new other)
-made_old tree dentry new None q inode stands =
-    ⊎_elim (λ w. inr (refl, ap (λ (i : Inode). i.ino.0) (sym w.1))) (λ w. inl (q, inode, w.1, refl)) (stands_after_put tree dentry new q inode stands)
-made_old tree dentry new (Some other) q inode stands = inl (q, inode, stands, refl)
+made_old : (limit : ℕ) (tree : Tree) (dentry : Dentry) (new : Inode) (other : Option Inode) → IsOld tree new.ino.0 (made limit tree dentry new other)
+made_old limit tree dentry new None =
+    unless_old (full_errno limit tree dentry.dir.0) tree new.ino.0 (record { reply = Entry new; tree = map.insert tree dentry new; takes = true })
+    (λ q inode stands. ⊎_elim (λ w. inr (refl, ap (λ (i : Inode). i.ino.0) (sym w.1))) (λ w. inl (q, inode, w.1, refl)) (stands_after_put tree dentry new q inode stands))
+made_old limit tree dentry new (Some other) = λ q inode stands. inl (q, inode, stands, refl)
 
 looked_old : (tree : Tree) (n : ℕ) (answer : Inode → Reply) (other : Option Inode) → IsOld tree n (looked tree answer other)
 looked_old tree n answer None = same_old tree n (looked tree answer None) refl
@@ -60,29 +61,31 @@ dir_removed_old : (tree : Tree) (n : ℕ) (dentry : Dentry) (other : Option Inod
 dir_removed_old tree n dentry None = same_old tree n (dir_removed tree dentry None) refl
 dir_removed_old tree n dentry (Some inode) = unless_old (removal_errno tree inode) tree n (answers (map.remove tree dentry) Done) (removed_old tree n dentry)
 
-renamed_old : (tree : Tree) (n : ℕ) (from to : Dentry) (source target : Option Inode) → map.get tree from ≡ source → IsOld tree n (renamed tree from to source target)
-renamed_old tree n from to None target is = same_old tree n (renamed tree from to None target) refl
-renamed_old tree n from to (Some moved) target is =
-    let onto = unless tree (replace_errno tree moved target) (answers (with_moved tree from to moved) Done) in
+renamed_old : (limit : ℕ) (tree : Tree) (n : ℕ) (from to : Dentry) (source target : Option Inode) → map.get tree from ≡ source → IsOld tree n (renamed limit tree from to source target)
+renamed_old limit tree n from to None target is = same_old tree n (renamed limit tree from to None target) refl
+renamed_old limit tree n from to (Some moved) target is =
+    let arrives = unless tree (room_errno limit tree from to target) (answers (with_moved tree from to moved) Done) in
+    let onto = unless tree (replace_errno tree moved target) arrives in
     let below = cond (leads_to tree moved to.dir.0) (answers tree (Errno 22)) onto in
     either_old (eq_by_cmp dentry_cmp from to) tree n (answers tree Done) below (kept_old tree n Done)
     (either_old (leads_to tree moved to.dir.0) tree n (answers tree (Errno 22)) onto (kept_old tree n (Errno 22))
-    (unless_old (replace_errno tree moved target) tree n (answers (with_moved tree from to moved) Done)
+    (unless_old (replace_errno tree moved target) tree n arrives
+    (unless_old (room_errno limit tree from to target) tree n (answers (with_moved tree from to moved) Done)
     (λ q inode stands.
     ⊎_elim (λ w. inl (from, moved, is, ap (λ (i : Inode). i.ino.0) w.1)) (λ w. let before = stands_after_removal tree from q inode w.1 in inl (q, inode, before.1, refl))
-    (stands_after_put (map.remove tree from) to moved q inode stands))))
+    (stands_after_put (map.remove tree from) to moved q inode stands)))))
 
-done_old : (tree : Tree) (s : Shape) (n : ℕ) → IsOld tree n (done_in tree s n)
-done_old tree (Looks dentry answer) n = looked_old tree n answer (map.get tree dentry)
-done_old tree (Lists dir after max) n = same_old tree n (done_in tree (Lists dir after max) n) refl
-done_old tree (Makes dentry kind mode birth) n = made_old tree dentry (new_inode n kind mode birth) (map.get tree dentry)
-done_old tree (Sets dentry alteration) n = altered_old tree n dentry alteration (map.get tree dentry) refl
-done_old tree (Unlinks dentry) n = unlinked_old tree n dentry (map.get tree dentry)
-done_old tree (Removes dentry) n = dir_removed_old tree n dentry (map.get tree dentry)
-done_old tree (Moves from to) n = renamed_old tree n from to (map.get tree from) (map.get tree to) refl
+done_old : (limit : ℕ) (tree : Tree) (s : Shape) (n : ℕ) → IsOld tree n (done_in limit tree s n)
+done_old limit tree (Looks dentry answer) n = looked_old tree n answer (map.get tree dentry)
+done_old limit tree (Lists dir after max) n = same_old tree n (done_in limit tree (Lists dir after max) n) refl
+done_old limit tree (Makes dentry kind mode birth) n = made_old limit tree dentry (new_inode n kind mode birth) (map.get tree dentry)
+done_old limit tree (Sets dentry alteration) n = altered_old tree n dentry alteration (map.get tree dentry) refl
+done_old limit tree (Unlinks dentry) n = unlinked_old tree n dentry (map.get tree dentry)
+done_old limit tree (Removes dentry) n = dir_removed_old tree n dentry (map.get tree dentry)
+done_old limit tree (Moves from to) n = renamed_old limit tree n from to (map.get tree from) (map.get tree to) refl
 
 -- an inode of the tree that a step leaves stood before, or has the number that the step took
-pub old_or_taken : (tree : Tree) (op : Op) (n : ℕ) → IsOld tree n (step tree op n)
-old_or_taken tree op n =
-    either_old (is_directory tree (directory_in (shape op)) && is_directory tree (destination_in (shape op))) tree n (done_in tree (shape op) n) (answers tree (Errno 116))
-    (done_old tree (shape op) n) (kept_old tree n (Errno 116))
+pub old_or_taken : (limit : ℕ) (tree : Tree) (op : Op) (n : ℕ) → IsOld tree n (step limit tree op n)
+old_or_taken limit tree op n =
+    either_old (is_directory tree (directory_in (shape op)) && is_directory tree (destination_in (shape op))) tree n (done_in limit tree (shape op) n) (answers tree (Errno 116))
+    (done_old limit tree (shape op) n) (kept_old tree n (Errno 116))

@@ -49,30 +49,30 @@ some_number None n some is = cc
 some_number (Some ino) n some is = ap (λ k. Some (record { 0 = k })) (sym is)
 
 -- one entry more
-used_more : (opening : Tree) (past : List Entry) (e : Entry) → ((dentry : Dentry) (inode : Inode) → finmap.get (after opening past) dentry ≡ Some inode → IsUsed opening past inode.ino.0) → IsNext opening past e
-    → (dentry : Dentry) (inode : Inode) → finmap.get (after opening (past ++ e ∷ [])) dentry ≡ Some inode → IsUsed opening (past ++ e ∷ []) inode.ino.0
-used_more opening past e before next dentry inode stands =
+used_more : (limit : ℕ) (opening : Tree) (past : List Entry) (e : Entry) → ((dentry : Dentry) (inode : Inode) → finmap.get (after limit opening past) dentry ≡ Some inode → IsUsed opening past inode.ino.0) → IsNext limit opening past e
+    → (dentry : Dentry) (inode : Inode) → finmap.get (after limit opening (past ++ e ∷ [])) dentry ≡ Some inode → IsUsed opening (past ++ e ∷ []) inode.ino.0
+used_more limit opening past e before next dentry inode stands =
     ⊎_elim
     (λ (q, j, stood, same). subst (λ n. IsUsed opening (past ++ e ∷ []) n) same (used_still opening past e j.ino.0 (before q j stood)))
     (λ w. used_now opening past e inode.ino.0 (some_number e.number inode.ino.0 (next.number ∙ w.0) w.1))
-    (old_or_taken (after opening past) e.op (number_or e.number) dentry inode (ap (λ t. finmap.get t dentry) (sym (after-push opening past e)) ∙ stands))
+    (old_or_taken limit (after limit opening past) e.op (number_or e.number) dentry inode (ap (λ t. finmap.get t dentry) (sym (after-push limit opening past e)) ∙ stands))
 
 -- so far in a history
-used_so_far : (opening : Tree) (history : List Entry) (d : Entry) → IsLegal opening history → (k : ℕ) → k ≤ length history
-    → (dentry : Dentry) (inode : Inode) → finmap.get (after opening (take k history)) dentry ≡ Some inode → IsUsed opening (take k history) inode.ino.0
-used_so_far opening history d legal zero few dentry inode stands = inr (inl (number_stands opening dentry inode stands))
-used_so_far opening history d legal (suc k) few dentry inode stands =
+used_so_far : (limit : ℕ) (opening : Tree) (history : List Entry) (d : Entry) → IsLegal limit opening history → (k : ℕ) → k ≤ length history
+    → (dentry : Dentry) (inode : Inode) → finmap.get (after limit opening (take k history)) dentry ≡ Some inode → IsUsed opening (take k history) inode.ino.0
+used_so_far limit opening history d legal zero few dentry inode stands = inr (inl (number_stands opening dentry inode stands))
+used_so_far limit opening history d legal (suc k) few dentry inode stands =
     let below : k < length history = omega (arith, few) in
     let one : suc k ≡ k + 1 = omega arith in
     let more : take (suc k) history ≡ take k history ++ slice_index_or history k d ∷ [] = ap (λ n. take n history) one ∙ take_more history k d below in
     subst (λ h. IsUsed opening h inode.ino.0) (sym more)
-    (used_more opening (take k history) (slice_index_or history k d) (used_so_far opening history d legal k (omega (arith, few))) (legal k d below) dentry inode
-    (ap (λ h. finmap.get (after opening h) dentry) (sym more) ∙ stands))
+    (used_more limit opening (take k history) (slice_index_or history k d) (used_so_far limit opening history d legal k (omega (arith, few))) (legal k d below) dentry inode
+    (ap (λ h. finmap.get (after limit opening h) dentry) (sym more) ∙ stands))
 
 -- every number that stands after a legal history was given
-pub numbers_used : (opening : Tree) (history : List Entry) → IsLegal opening history → (dentry : Dentry) (inode : Inode) → finmap.get (after opening history) dentry ≡ Some inode → IsUsed opening history inode.ino.0
-numbers_used opening [] legal dentry inode stands = inr (inl (number_stands opening dentry inode stands))
-numbers_used opening (d ∷ rest) legal dentry inode stands =
+pub numbers_used : (limit : ℕ) (opening : Tree) (history : List Entry) → IsLegal limit opening history → (dentry : Dentry) (inode : Inode) → finmap.get (after limit opening history) dentry ≡ Some inode → IsUsed opening history inode.ino.0
+numbers_used limit opening [] legal dentry inode stands = inr (inl (number_stands opening dentry inode stands))
+numbers_used limit opening (d ∷ rest) legal dentry inode stands =
     let all : take (length (d ∷ rest)) (d ∷ rest) ≡ d ∷ rest = take_all (length (d ∷ rest)) (d ∷ rest) (omega arith) in
     subst (λ h. IsUsed opening h inode.ino.0) all
-    (used_so_far opening (d ∷ rest) d legal (length (d ∷ rest)) (omega arith) dentry inode (ap (λ h. finmap.get (after opening h) dentry) all ∙ stands))
+    (used_so_far limit opening (d ∷ rest) d legal (length (d ∷ rest)) (omega arith) dentry inode (ap (λ h. finmap.get (after limit opening h) dentry) all ∙ stands))

@@ -5,7 +5,7 @@ use Rattle.std.proofs.lemmas.Bool.{or_right}
 use Rattle.std.specs.Ordering.{eq_by_cmp}
 use Rattle.std.specs.FinMap as map
 use Rattle.std.specs.FinMap.{get-insert}
-use Rattle.mds_types.specs.declared.replies.Reply.TheVariants.{Errno}
+use Rattle.mds_types.specs.declared.replies.Reply.TheVariants.{Entry, Errno}
 use Rattle.mds_types.specs.declared.dentries.Dentry.{Dentry}
 use Rattle.mds_types.specs.declared.inodes.Alteration.{Alteration}
 use Rattle.mds_types.specs.declared.inodes.Inode.{Inode}
@@ -14,7 +14,7 @@ use Rattle.mds_types.specs.declared.inodes.Kind.TheVariants.{File, Dir, Symlink}
 use Rattle.mds_types.specs.declared.operations.Op.{Op}
 use Rattle.mds_types.specs.declared.replies.Reply.{Reply}
 use Rattle.mds_types.specs.Shape.{Shape, Looks, Lists, Makes, Sets, Unlinks, Removes, Moves, destination_in, directory_in, shape}
-use Rattle.mds_types.specs.Step.{Outcome, answers, altered, altered_at, alteration_errno, new_size, looked, made, new_inode, unless, unlinked, dir_removed, removal_errno, leads_to, replace_errno, renamed, done_in, step, step_in}
+use Rattle.mds_types.specs.Step.{Outcome, answers, altered, altered_at, alteration_errno, new_size, looked, made, new_inode, unless, unlinked, dir_removed, removal_errno, leads_to, replace_errno, room_errno, full_errno, renamed, done_in, step, step_in}
 use Rattle.mds_types.specs.Tree.{Tree, dentry_cmp, dentry_of, at, is_directory, is_dir_kind, has_entries, IsAbove, child, further, HasPinOf, HasSize, IsWellFormed, IsUnused}
 use Rattle.mds_types.proofs.TreeLaws.{is_directory-insert}
 use Rattle.sorted_map.proofs.MapLaws.{tie}
@@ -24,7 +24,7 @@ use Rattle.mds_types.proofs.DirectoryLaws.{reaches_root, nothing_in_file, nothin
 use Rattle.mds_types.proofs.AlterationLaws.{altered_kind, altered_number, altered_pin, altered_size}
 use Rattle.mds_types.proofs.AttributeLaws.{well-formed-changed}
 use Rattle.mds_types.proofs.RemovedLaws.{well-formed-removed}
-use Rattle.mds_types.proofs.MovedLaws.{well-formed-moved, may_move}
+use Rattle.mds_types.proofs.MovedLaws.{well-formed-moved, may_move_by}
 
 -- a new inode at a free dentry of a directory that stands
 module _ (tree : Tree) (dir : ℕ) (new_name : List ℕ) (new : Inode) (free : at tree dir new_name ≡ None) where
@@ -96,11 +96,17 @@ module _ (tree : Tree) (dir : ℕ) (new_name : List ℕ) (new : Inode) (free : a
       lifted : (d : ℕ) → (d ≡ 1) ⊎ IsAbove tree 1 d → (d ≡ 1) ⊎ IsAbove grown 1 d
       lifted d h = ⊎_elim inl (λ above. inr (still_above 1 d above)) h
 
-made-well-formed : (tree : Tree) (dir : ℕ) (name : List ℕ) (inode : Inode) (other : Option Inode) → at tree dir name ≡ other → IsWellFormed tree → is_directory tree dir ≡ true
-    → ((made tree (dentry_of dir name) inode other).takes ≡ true → IsUnused tree inode.ino.0) → HasSize inode.kind inode.size → HasPinOf inode.kind inode.pin → IsWellFormed (made tree (dentry_of dir name) inode other).tree
-made-well-formed tree dir name inode None free whole here unused sized pinned =
-    well-formed-grown tree dir name inode free whole here (unused refl).not_root (unused refl).not_there sized pinned
-made-well-formed tree dir name inode (Some other) taken whole here unused sized pinned = whole
+made-well-formed : (limit : ℕ) (tree : Tree) (dir : ℕ) (name : List ℕ) (inode : Inode) (other : Option Inode) → at tree dir name ≡ other → IsWellFormed tree → is_directory tree dir ≡ true
+    → ((made limit tree (dentry_of dir name) inode other).takes ≡ true → IsUnused tree inode.ino.0) → HasSize inode.kind inode.size → HasPinOf inode.kind inode.pin → IsWellFormed (made limit tree (dentry_of dir name) inode other).tree
+made-well-formed limit tree dir name inode None free whole here unused sized pinned = go (full_errno limit tree dir) unused
+  where
+    arrived : Outcome
+    arrived = record { reply = Entry inode; tree = map.insert tree (dentry_of dir name) inode; takes = true }
+
+    go : (errno : Option ℕ) → ((unless tree errno arrived).takes ≡ true → IsUnused tree inode.ino.0) → IsWellFormed (unless tree errno arrived).tree
+    go None new = well-formed-grown tree dir name inode free whole here (new refl).not_root (new refl).not_there sized pinned
+    go (Some errno) new = whole
+made-well-formed limit tree dir name inode (Some other) taken whole here unused sized pinned = whole
 
 looked-well-formed : (tree : Tree) (answer : Inode → Reply) (other : Option Inode) → IsWellFormed tree → IsWellFormed (looked tree answer other).tree
 looked-well-formed tree answer None whole = whole
@@ -154,37 +160,37 @@ dir_removed-well-formed tree dentry (Some inode) is whole =
     unless-well-formed tree (removal_errno tree inode) _ whole
     (λ may. well-formed-removed tree dentry inode is (nothing_in_empty tree inode.ino.0 (may_go (is_dir_kind inode.kind) (has_entries tree inode.ino.0) may).1) whole)
 
-renamed-well-formed : (tree : Tree) (from to : Dentry) (source target : Option Inode) → map.get tree from ≡ source → map.get tree to ≡ target → IsWellFormed tree → is_directory tree to.dir.0 ≡ true
-    → IsWellFormed (renamed tree from to source target).tree
-renamed-well-formed tree from to None target is there whole parent = whole
-renamed-well-formed tree from to (Some inode) target is there whole parent =
+renamed-well-formed : (limit : ℕ) (tree : Tree) (from to : Dentry) (source target : Option Inode) → map.get tree from ≡ source → map.get tree to ≡ target → IsWellFormed tree → is_directory tree to.dir.0 ≡ true
+    → IsWellFormed (renamed limit tree from to source target).tree
+renamed-well-formed limit tree from to None target is there whole parent = whole
+renamed-well-formed limit tree from to (Some inode) target is there whole parent =
     either-well-formed (eq_by_cmp dentry_cmp from to) _ _ (λ same. whole)
     (λ apart. either-well-formed (leads_to tree inode to.dir.0) _ _ (λ below. whole)
     (λ outside. unless-well-formed tree (replace_errno tree inode target) _ whole
-    (λ replaces. well-formed-moved tree from to inode whole
-    (may_move tree from to inode whole (record { stands = is; apart = apart; parent = parent; outside = outside; replaces = ap (replace_errno tree inode) there ∙ replaces })))))
+    (λ replaces. unless-well-formed tree (room_errno limit tree from to target) _ whole
+    (λ spaced. well-formed-moved tree from to inode whole (may_move_by tree from to inode whole is apart parent outside (ap (replace_errno tree inode) there ∙ replaces))))))
 
-done-well-formed : (tree : Tree) (s : Shape) (n : ℕ) → IsWellFormed tree → ((done_in tree s n).takes ≡ true → IsUnused tree n) → is_directory tree (directory_in s) ≡ true → is_directory tree (destination_in s) ≡ true
-    → IsWellFormed (done_in tree s n).tree
-done-well-formed tree (Looks dentry answer) n whole unused here there = looked-well-formed tree answer (map.get tree dentry) whole
-done-well-formed tree (Lists dir after max) n whole unused here there = whole
-done-well-formed tree (Makes dentry kind mode birth) n whole unused here there =
-    made-well-formed tree dentry.dir.0 dentry.name (new_inode n kind mode birth) (map.get tree dentry) refl whole here unused (new_sized kind) tt
-done-well-formed tree (Sets dentry alteration) n whole unused here there = altered_at-well-formed tree dentry alteration (map.get tree dentry) refl whole
-done-well-formed tree (Unlinks dentry) n whole unused here there = unlinked-well-formed tree dentry (map.get tree dentry) refl whole
-done-well-formed tree (Removes dentry) n whole unused here there = dir_removed-well-formed tree dentry (map.get tree dentry) refl whole
-done-well-formed tree (Moves from to) n whole unused here there =
-    renamed-well-formed tree from to (map.get tree from) (map.get tree to) refl refl whole there
+done-well-formed : (limit : ℕ) (tree : Tree) (s : Shape) (n : ℕ) → IsWellFormed tree → ((done_in limit tree s n).takes ≡ true → IsUnused tree n) → is_directory tree (directory_in s) ≡ true → is_directory tree (destination_in s) ≡ true
+    → IsWellFormed (done_in limit tree s n).tree
+done-well-formed limit tree (Looks dentry answer) n whole unused here there = looked-well-formed tree answer (map.get tree dentry) whole
+done-well-formed limit tree (Lists dir after max) n whole unused here there = whole
+done-well-formed limit tree (Makes dentry kind mode birth) n whole unused here there =
+    made-well-formed limit tree dentry.dir.0 dentry.name (new_inode n kind mode birth) (map.get tree dentry) refl whole here unused (new_sized kind) tt
+done-well-formed limit tree (Sets dentry alteration) n whole unused here there = altered_at-well-formed tree dentry alteration (map.get tree dentry) refl whole
+done-well-formed limit tree (Unlinks dentry) n whole unused here there = unlinked-well-formed tree dentry (map.get tree dentry) refl whole
+done-well-formed limit tree (Removes dentry) n whole unused here there = dir_removed-well-formed tree dentry (map.get tree dentry) refl whole
+done-well-formed limit tree (Moves from to) n whole unused here there =
+    renamed-well-formed limit tree from to (map.get tree from) (map.get tree to) refl refl whole there
 
-keeps_in : (tree : Tree) (s : Shape) (n : ℕ) → IsWellFormed tree → ((step_in tree s n).takes ≡ true → IsUnused tree n) → IsWellFormed (step_in tree s n).tree
-keeps_in tree s n whole unused = go (is_directory tree (directory_in s)) (is_directory tree (destination_in s)) refl refl unused
+keeps_in : (limit : ℕ) (tree : Tree) (s : Shape) (n : ℕ) → IsWellFormed tree → ((step_in limit tree s n).takes ≡ true → IsUnused tree n) → IsWellFormed (step_in limit tree s n).tree
+keeps_in limit tree s n whole unused = go (is_directory tree (directory_in s)) (is_directory tree (destination_in s)) refl refl unused
   where
     go : (a b : Bool) → is_directory tree (directory_in s) ≡ a → is_directory tree (destination_in s) ≡ b
-        → ((cond (a && b) (done_in tree s n) (answers tree (Errno 116))).takes ≡ true → IsUnused tree n) → IsWellFormed (cond (a && b) (done_in tree s n) (answers tree (Errno 116))).tree
-    go true true here there takes = done-well-formed tree s n whole takes here there
+        → ((cond (a && b) (done_in limit tree s n) (answers tree (Errno 116))).takes ≡ true → IsUnused tree n) → IsWellFormed (cond (a && b) (done_in limit tree s n) (answers tree (Errno 116))).tree
+    go true true here there takes = done-well-formed limit tree s n whole takes here there
     go true false here there takes = whole
     go false b here there takes = whole
 
 -- a step keeps the tree well formed, if the number that it takes, where it takes one, is unused
-pub step_keeps_well_formed : (tree : Tree) (op : Op) (n : ℕ) → IsWellFormed tree → ((step tree op n).takes ≡ true → IsUnused tree n) → IsWellFormed (step tree op n).tree
-step_keeps_well_formed tree op n whole unused = keeps_in tree (shape op) n whole unused
+pub step_keeps_well_formed : (limit : ℕ) (tree : Tree) (op : Op) (n : ℕ) → IsWellFormed tree → ((step limit tree op n).takes ≡ true → IsUnused tree n) → IsWellFormed (step limit tree op n).tree
+step_keeps_well_formed limit tree op n whole unused = keeps_in limit tree (shape op) n whole unused

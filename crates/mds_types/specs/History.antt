@@ -6,10 +6,10 @@ use Rattle.mds_types.specs.declared.entries.Entry.{Entry}
 use Rattle.mds_types.specs.Tree.{Tree, numbers}
 use Rattle.mds_types.specs.Step.{step, number_or}
 
--- the tree after a history, from an opening tree
-abbrev pub after : Tree → List Entry → Tree
-after opening [] = opening
-after opening (e ∷ es) = after (step opening e.op (number_or e.number)).tree es
+-- the tree after a history, from an opening tree, where a directory may have so many entries
+abbrev pub after : ℕ → Tree → List Entry → Tree
+after limit opening [] = opening
+after limit opening (e ∷ es) = after limit (step limit opening e.op (number_or e.number)).tree es
 
 -- the entry is that of the pair of client and transaction number
 abbrev pub is_pair : ℕ → ℕ → Entry → Bool
@@ -34,21 +34,21 @@ IsLawful opening past None = Unit {0}
 IsLawful opening past (Some number) = IsUsed opening past number.0 → ⊥
 
 -- an entry may come next after the past
-pub record IsNext (opening : Tree) (past : List Entry) (e : Entry) : Type 0 where
+pub record IsNext (limit : ℕ) (opening : Tree) (past : List Entry) (e : Entry) : Type 0 where
   -- no pair of client and transaction number stands twice
   pub once : list_any (is_pair e.client e.tid) past ≡ false
   -- its tid is at least its own oldest, and every earlier one of its client
   pub own : e.oldest ≤ e.tid
   pub marked : mark past e.client ≤ e.tid
   -- a number stands exactly where the table takes one, and is lawful
-  pub number : is_some e.number ≡ (step (after opening past) e.op (number_or e.number)).takes
+  pub number : is_some e.number ≡ (step limit (after limit opening past) e.op (number_or e.number)).takes
   pub lawful : IsLawful opening past e.number
   -- the reply is the table's, on the tree so far
-  pub reply : e.reply ≡ (step (after opening past) e.op (number_or e.number)).reply
+  pub reply : e.reply ≡ (step limit (after limit opening past) e.op (number_or e.number)).reply
 
 -- a legal history: each entry may come next after those before it
-abbrev pub IsLegal : Tree → List Entry → Type 0
-IsLegal opening history = (k : ℕ) (e : Entry) → k < length history → IsNext opening (take k history) (slice_index_or history k e)
+abbrev pub IsLegal : ℕ → Tree → List Entry → Type 0
+IsLegal limit opening history = (k : ℕ) (e : Entry) → k < length history → IsNext limit opening (take k history) (slice_index_or history k e)
 
 -- what a request with this client, tid and oldest is to a history: trimmed, if its tid is below the client's mark or its own oldest;
 abbrev pub IsTrimmed : List Entry → ℕ → ℕ → ℕ → Type 0

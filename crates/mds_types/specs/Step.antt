@@ -1,7 +1,8 @@
 -- The operation table: what each operation answers on the plain tree, and what it leaves. Each operation's checks come in
 -- the order in which they stand here; an errno changes nothing.
--- What operations do when they succeed is POSIX.1's; the order of the checks and the errno numbers are this project's own profile.
-use Rattle.std.specs.Prelude.{ℕ, Bool, true, false, cond, ◌&&◌, ◌||◌, ◌==◌, nat_lt, List, map, filter, take, length, Option, Some, None, unwrap_or, Unit, ◌≡◌, ◌<◌, ◌^◌}
+-- What operations do when they succeed is POSIX.1's; the order of the checks, the errno numbers and the limit of a directory's entries are this
+-- project's own profile.
+use Rattle.std.specs.Prelude.{ℕ, Bool, true, false, cond, ◌&&◌, ◌||◌, ◌==◌, nat_lt, nat_le, List, map, filter, take, length, Option, Some, None, unwrap_or, ◌≡◌, ◌<◌, ◌^◌}
 use Rattle.std.specs.Ordering.{is_lt, eq_by_cmp}
 use Rattle.std.specs.Cmp.Lexicographic.{slice_cmp}
 use Rattle.std.specs.Ordering.{nat_cmp, eq_by_cmp}
@@ -56,10 +57,15 @@ looked tree answer (Some inode) = answers tree (answer inode)
 abbrev pub page : Tree → ℕ → List (List ℕ × Inode) → Outcome
 page tree max names = answers tree (Entries (take max names) (nat_lt max (length names)))
 
--- a new inode at a dentry: present EEXIST
-abbrev pub made : Tree → Dentry → Inode → Option Inode → Outcome
-made tree dentry inode (Some other) = answers tree (Errno 17)
-made tree dentry inode None = record { reply = Entry inode; tree = map.insert tree dentry inode; takes = true }
+-- a directory with as many entries as the limit, or more, takes no further one: ENOSPC
+abbrev pub full_errno : ℕ → Tree → ℕ → Option ℕ
+full_errno limit tree d = cond (nat_le limit (entries_in tree d)) (Some 28) None
+
+-- a new inode at a dentry: present EEXIST, then a full directory ENOSPC
+abbrev pub made : ℕ → Tree → Dentry → Inode → Option Inode → Outcome
+made limit tree dentry inode (Some other) = answers tree (Errno 17)
+made limit tree dentry inode None =
+    unless tree (full_errno limit tree dentry.dir.0) (record { reply = Entry inode; tree = map.insert tree dentry inode; takes = true })
 
 -- a new file or directory has size 0, and a link the size of its target
 abbrev pub new_size : Kind → ℕ
@@ -150,31 +156,38 @@ leads_to tree inode d = is_dir_kind inode.kind && ((inode.ino.0 == d) || is_abov
 abbrev pub with_moved : Tree → Dentry → Dentry → Inode → Tree
 with_moved tree from to inode = map.insert (map.remove tree from) to inode
 
--- rename: absent ENOENT; to itself, nothing happens; a directory below itself EINVAL; then what stands at the target
-abbrev pub renamed : Tree → Dentry → Dentry → Option Inode → Option Inode → Outcome
-renamed tree from to None target = answers tree (Errno 2)
-renamed tree from to (Some inode) target =
+-- what is absent at the target comes to its directory, unless it stands in that already: then that may not be full
+abbrev pub room_errno : ℕ → Tree → Dentry → Dentry → Option Inode → Option ℕ
+room_errno limit tree from to None = cond (from.dir.0 == to.dir.0) None (full_errno limit tree to.dir.0)
+room_errno limit tree from to (Some target) = None
+
+-- rename: absent ENOENT; to itself, nothing happens; a directory below itself EINVAL; then what stands at the target; then a full directory ENOSPC
+abbrev pub renamed : ℕ → Tree → Dentry → Dentry → Option Inode → Option Inode → Outcome
+renamed limit tree from to None target = answers tree (Errno 2)
+renamed limit tree from to (Some inode) target =
     cond (eq_by_cmp dentry_cmp from to) (answers tree Done)
     (cond (leads_to tree inode to.dir.0) (answers tree (Errno 22))
-    (unless tree (replace_errno tree inode target) (answers (with_moved tree from to inode) Done)))
+    (unless tree (replace_errno tree inode target)
+    (unless tree (room_errno limit tree from to target) (answers (with_moved tree from to inode) Done))))
 
--- what is done in directories that stand, by its shape, offered the number n
-abbrev pub done_in : Tree → Shape → ℕ → Outcome
-done_in tree (Looks dentry answer) n = looked tree answer (map.get tree dentry)
-done_in tree (Lists dir after max) n = page tree max (names_after tree dir after)
-done_in tree (Makes dentry kind mode birth) n = made tree dentry (new_inode n kind mode birth) (map.get tree dentry)
-done_in tree (Sets dentry alteration) n = altered_at tree dentry alteration (map.get tree dentry)
-done_in tree (Unlinks dentry) n = unlinked tree dentry (map.get tree dentry)
-done_in tree (Removes dentry) n = dir_removed tree dentry (map.get tree dentry)
-done_in tree (Moves from to) n = renamed tree from to (map.get tree from) (map.get tree to)
+-- what is done in directories that stand, by its shape, where a directory may have so many entries, offered the number n
+abbrev pub done_in : ℕ → Tree → Shape → ℕ → Outcome
+done_in limit tree (Looks dentry answer) n = looked tree answer (map.get tree dentry)
+done_in limit tree (Lists dir after max) n = page tree max (names_after tree dir after)
+done_in limit tree (Makes dentry kind mode birth) n = made limit tree dentry (new_inode n kind mode birth) (map.get tree dentry)
+done_in limit tree (Sets dentry alteration) n = altered_at tree dentry alteration (map.get tree dentry)
+done_in limit tree (Unlinks dentry) n = unlinked tree dentry (map.get tree dentry)
+done_in limit tree (Removes dentry) n = dir_removed tree dentry (map.get tree dentry)
+done_in limit tree (Moves from to) n = renamed limit tree from to (map.get tree from) (map.get tree to)
 
 -- one step by its shape: first of all, a number that is no directory of the tree now is ESTALE
-abbrev pub step_in : Tree → Shape → ℕ → Outcome
-step_in tree s n = cond (is_directory tree (directory_in s) && is_directory tree (destination_in s)) (done_in tree s n) (answers tree (Errno 116))
+abbrev pub step_in : ℕ → Tree → Shape → ℕ → Outcome
+step_in limit tree s n =
+    cond (is_directory tree (directory_in s) && is_directory tree (destination_in s)) (done_in limit tree s n) (answers tree (Errno 116))
 
--- the table: what an operation does is told by its shape
-abbrev pub step : Tree → Op → ℕ → Outcome
-step tree op n = step_in tree (shape op) n
+-- the table, where a directory may have so many entries: what an operation does is told by its shape
+abbrev pub step : ℕ → Tree → Op → ℕ → Outcome
+step limit tree op n = step_in limit tree (shape op) n
 
 -- the number in an option, if it counts
 abbrev pub number_or : Option Ino → ℕ

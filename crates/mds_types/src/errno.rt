@@ -15,6 +15,9 @@ pub const EISDIR: u16 = 21;
 /// An argument that makes no sense there: a bad name, no link, a directory moved below itself.
 pub const EINVAL: u16 = 22;
 
+/// A directory has as many entries as it may have.
+pub const ENOSPC: u16 = 28;
+
 /// A name or a link's target is too long.
 pub const ENAMETOOLONG: u16 = 36;
 
