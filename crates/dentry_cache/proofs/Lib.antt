@@ -35,3 +35,7 @@ pub mod UncleanLaws
 pub mod UncleanPlaces
 pub mod UsedLaws
 pub mod WholeLaws
+pub mod CandidateLaws
+pub mod LeafSetLaws
+pub mod CandidateRoom
+pub mod CandidateSteps
