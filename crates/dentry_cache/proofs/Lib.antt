@@ -1,5 +1,8 @@
 pub mod CacheLaws
 pub mod CameLaws
+pub mod CandidateLaws
+pub mod CandidateRoom
+pub mod CandidateSteps
 pub mod ChildLaws
 pub mod CommitSteps
 pub mod CountLaws
@@ -12,6 +15,7 @@ pub mod KeepingLaws
 pub mod KeptLaws
 pub mod LacksLaws
 pub mod LeafLaws
+pub mod LeafSetLaws
 pub mod LoadLaws
 pub mod MapCalls
 pub mod MapLaws
@@ -35,7 +39,3 @@ pub mod UncleanLaws
 pub mod UncleanPlaces
 pub mod UsedLaws
 pub mod WholeLaws
-pub mod CandidateLaws
-pub mod LeafSetLaws
-pub mod CandidateRoom
-pub mod CandidateSteps
