@@ -1,5 +1,8 @@
 pub mod CacheLaws
 pub mod CameLaws
+pub mod CandidateLaws
+pub mod CandidateRoom
+pub mod CandidateSteps
 pub mod ChildLaws
 pub mod CommitSteps
 pub mod CountLaws
@@ -12,6 +15,7 @@ pub mod KeepingLaws
 pub mod KeptLaws
 pub mod LacksLaws
 pub mod LeafLaws
+pub mod LeafSetLaws
 pub mod LoadLaws
 pub mod MapCalls
 pub mod MapLaws

@@ -23,7 +23,7 @@ use Rattle.dentry_cache.proofs.LeafLaws.{flips, one_leaf}
 
 -- ---- look-ups
 
-entry_of_lookup : (leaf : Leaf) (places : Places) (place : Place) → lookup (leaf_is leaf) places ≡ Some place → lookup_entry (leaf_is leaf) places ≡ Some (leaf, place)
+pub entry_of_lookup : (leaf : Leaf) (places : Places) (place : Place) → lookup (leaf_is leaf) places ≡ Some place → lookup_entry (leaf_is leaf) places ≡ Some (leaf, place)
 entry_of_lookup leaf [] place is = cc
 entry_of_lookup leaf (e ∷ es) place is = go (entry_of_lookup leaf es place) (leaf_is leaf e.0) refl is
   where
@@ -66,7 +66,7 @@ after_use leaf q place old = go (leaf_is leaf q) refl
 pub promoted_is : (leaf : Leaf) (place : Place) (places : Places) → lookup (leaf_is leaf) places ≡ Some place → promoted (leaf_is leaf) places ≡ (leaf, place) ∷ remove_entry (leaf_is leaf) places
 promoted_is leaf place places is = ap (λ (o : Option (Leaf × Place)). option_map_or (λ e. e ∷ remove_entry (leaf_is leaf) places) o places) (entry_of_lookup leaf places place is)
 
-not_promoted : (leaf : Leaf) (places : Places) → lookup (leaf_is leaf) places ≡ None → promoted (leaf_is leaf) places ≡ places
+pub not_promoted : (leaf : Leaf) (places : Places) → lookup (leaf_is leaf) places ≡ None → promoted (leaf_is leaf) places ≡ places
 not_promoted leaf places is = ap (λ (o : Option (Leaf × Place)). option_map_or (λ e. e ∷ remove_entry (leaf_is leaf) places) o places) (no_entry leaf places is)
 
 pub is_used : (leaf : Leaf) (old mid new : Held) (there : Bool) → mid ≡ old → there ≡ is_some (lookup (leaf_is leaf) mid.entries) → new ≡ lru_cache (promoted (leaf_is leaf) mid.entries) mid.cap

@@ -3,6 +3,8 @@ pub mod CacheCalls
 pub mod CacheMap
 pub mod CacheSplits
 pub mod Came
+pub mod CandidateSets
+pub mod Candidates
 pub mod Commits
 pub mod Divided
 pub mod Ended

@@ -5,6 +5,7 @@ ghost use Rattle.lru.specs.LruCache.{lru_cache};
 ghost use Rattle.dentry_cache.specs.Cache.{IsNewest, IsUsed, cached, leaf_is};
 ghost use Rattle.dentry_cache.specs.Places.{IsCache};
 
+use crate::candidates::Candidates;
 use cached_frag::CachedFrag;
 use lru::LruCache;
 use mds_types::{Frag, Ino};
@@ -25,18 +26,23 @@ pub struct Place {
 #[derive(Drop)]
 pub struct Cache {
     pub(crate) places: LruCache<(Ino, Frag), Place>,
+    // what its rank would split or merge by the sizes of these
+    pub(crate) candidates: Candidates,
 }
 
 impl Model for Cache {
     ghost use Rattle.std.specs.Coded.{codes};
     ghost use Rattle.std.specs.FinMap as map;
     ghost use Rattle.dentry_cache.specs.Cache.{Held};
+    ghost use Rattle.dentry_cache.specs.CandidateSets.{AreTold};
 
     ghost Value = { Held };
 
     ghost coded = { Prim.hlevel (codes, map.code) };
 
     ghost view = { λ c. c.places };
+
+    ghost invariant = { λ c. AreTold c.places.entries c.candidates };
 }
 
 impl Cache {
@@ -49,6 +55,7 @@ impl Cache {
         match NonZeroUsize::new(places) {
             Some(cap) => Ok(Cache {
                 places: LruCache::sparse(alloc, cap)?,
+                candidates: Candidates::new(alloc),
             }),
             None => unreachable!(),
         }

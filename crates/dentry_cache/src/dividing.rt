@@ -32,8 +32,8 @@ pub(crate) fn place_of(frag: Frag, nb: u8, name: &Name) -> Option<usize>
     }
 }
 
-// How many hashes a fragment of so many bits contains.
-fn span(bits: u8) -> u32
+/// How many hashes a fragment of so many bits contains.
+pub(crate) fn span(bits: u8) -> u32
     requires { bits ≤ 24 }
     ensures value { result ≡ span bits }
     ensures some { 0 < result }

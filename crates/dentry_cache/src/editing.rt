@@ -20,7 +20,10 @@ impl Cache {
         let Some(place) = self.places.peek_mut(&(dir, frag)) else {
             return;
         };
+        let was = place.size();
         place.frag.put(name, inode, version);
+        let now = place.size();
+        self.candidates.resize(&self.places, &(dir, frag), was, now);
     }
 
     /// Removes a name of a fragment, whether it was there or not. The name is dirty then, at this version. Takes no memory.
@@ -32,7 +35,10 @@ impl Cache {
         let Some(place) = self.places.peek_mut(&(dir, frag)) else {
             return;
         };
+        let was = place.size();
         place.frag.erase(name, version);
+        let now = place.size();
+        self.candidates.resize(&self.places, &(dir, frag), was, now);
     }
 
     /// Makes room for so many changes of names of a fragment.

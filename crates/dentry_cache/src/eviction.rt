@@ -71,7 +71,7 @@ impl Cache {
         let _ = self.places.len();
         match self.oldest(stay) {
             Some(leaf) => {
-                drop(self.places.pop(&leaf));
+                drop(self.give_up(&leaf));
                 Ok(())
             }
             None => Err(Refusal::NothingToEvict),

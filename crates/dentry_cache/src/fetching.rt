@@ -81,8 +81,15 @@ impl Cache {
         ensures err { OnErr result (self.new ≡ self.old) }
         ensures refused { IfErr result (λ refusal. refusal ≡ NoMemory) }
     {
+        let count = self.places.len() + 1;
+        self.candidates.reserve(count)?;
+        let now = place.size();
         match self.places.put((dir, frag), place) {
-            Ok(_) => Ok(()),
+            Ok(_) => {
+                self.candidates
+                    .resize(&self.places, &(dir, frag), None, now);
+                Ok(())
+            }
             Err(_) => Err(Refusal::NoMemory),
         }
     }

@@ -2,7 +2,8 @@
 ghost use Rattle.std.specs.Prelude.{◌≡◌, ◌⊎◌, true, Some, None, OnOk, OnErr, IfErr};
 ghost use Rattle.std.specs.Map.{lookup};
 ghost use Rattle.mds_types.specs.declared.refusals.Refusal.TheVariants.{NoMemory, NothingToEvict};
-ghost use Rattle.dentry_cache.specs.Cache.{IsFull, MayMakeRoom, TakesPlace, cached, held, is_kept, kept_place, leaf_is, used_as, without};
+ghost use Rattle.dentry_cache.specs.Cache.{IsFull, MayMakeRoom, TakesPlace, cached, fragment_in, held, is_kept, kept_place, leaf_is, used_as, without};
+ghost use Rattle.dentry_cache.specs.Candidates.{size_in};
 ghost use Rattle.dentry_cache.specs.Fetches.{IsRefusedIn};
 
 use crate::cache::{Cache, Place};
@@ -52,6 +53,7 @@ impl Cache {
         requires { is_kept (lookup (leaf_is (dir, frag)) self.old.entries) ≡ true }
         ensures { self.new ≡ used_as (dir, frag) (held fragment) self.old }
     {
+        let now = Some(fragment.len());
         let _ = self.places.put(
             (dir, frag),
             Place {
@@ -59,15 +61,15 @@ impl Cache {
                 kept: false,
             },
         );
+        self.candidates
+            .resize(&self.places, &(dir, frag), None, now);
     }
 
     /// Gives up a leaf's place, with the fragment that is in it. A leaf that has none changes nothing. Takes no memory.
     pub fn forget(&mut self, dir: Ino, frag: Frag)
         ensures without { self.new ≡ without (dir, frag) self.old }
     {
-        // The contract of `len` is what says here that no leaf has two places.
-        let _ = self.places.len();
-        drop(self.places.pop(&(dir, frag)));
+        drop(self.give_up(&(dir, frag)));
     }
 
     /// Takes a fragment out. A place that is kept is given up.
@@ -75,10 +77,32 @@ impl Cache {
         ensures taken { result ≡ cached self.old.entries (dir, frag) }
         ensures without { self.new ≡ without (dir, frag) self.old }
     {
-        let _ = self.places.len();
-        match self.places.pop(&(dir, frag)) {
+        match self.give_up(&(dir, frag)) {
             Some(place) if !place.kept => Some(place.frag),
             _ => None,
         }
+    }
+
+    // Gives up a leaf's place, with what is in it.
+    pub(crate) fn give_up(&mut self, leaf: &(Ino, Frag)) -> Option<Place>
+        ensures place { result ≡ lookup (leaf_is leaf.now) self.old.entries }
+        ensures without { self.new ≡ without leaf.now self.old }
+    {
+        // The contract of `len` is what says here that no leaf has two places.
+        let _ = self.places.len();
+        let place = self.places.pop(leaf);
+        let was = size_of(&place);
+        self.candidates.resize(&self.places, leaf, was, None);
+        place
+    }
+}
+
+// The number of entries of the fragment in a place, if there is one.
+fn size_of(place: &Option<Place>) -> Option<usize>
+    ensures { result ≡ size_in (fragment_in place.now) }
+{
+    match place {
+        Some(place) => place.size(),
+        None => None,
     }
 }

@@ -8,6 +8,7 @@ mod pairs;
 
 // one rank's cache
 mod cache;
+mod candidates;
 mod committing;
 mod dividing;
 mod editing;
@@ -16,6 +17,7 @@ mod fetching;
 mod gathering;
 mod holding;
 pub mod laws;
+mod leaf_set;
 mod parts;
 mod reading;
 mod splitting;
@@ -25,6 +27,7 @@ mod unclean;
 mod caches;
 mod ending;
 mod handing;
+mod next_candidates;
 mod splits;
 mod walking;
 

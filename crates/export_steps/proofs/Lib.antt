@@ -1,4 +1,5 @@
 pub mod Between
+pub mod ByExporterLaws
 pub mod Coloured
 pub mod Directories
 pub mod Elsewhere

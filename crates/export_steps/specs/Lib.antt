@@ -1,3 +1,4 @@
+pub mod ByExporter
 pub mod Handover
 pub mod Holder
 pub mod Regions

@@ -42,6 +42,8 @@ pub struct StandingExport {
 #[derive(Debug, Drop)]
 pub struct Exports {
     pub(crate) rows: SortedMap<(Ino, Frag), StandingExport>,
+    // the roots again, those of each exporter one after the other
+    pub(crate) by: SortedMap<(u8, (Ino, Frag)), ()>,
 }
 
 impl Model for Exports {
@@ -49,7 +51,8 @@ impl Model for Exports {
     ghost use Rattle.std.specs.FinMap as map;
     ghost use Rattle.sorted_map.specs.SortedMap.{contents};
     ghost use Rattle.mds_types.specs.Leaf.{leaf_cmp};
-    ghost use Rattle.export_steps.specs.Standing.{AreBetweenRanks, Standing};
+    ghost use Rattle.export_steps.specs.ByExporter.{AreExports, by_cmp};
+    ghost use Rattle.export_steps.specs.Standing.{Standing};
 
     ghost Value = { Standing };
 
@@ -57,7 +60,7 @@ impl Model for Exports {
 
     ghost view = { λ e. contents leaf_cmp e.rows };
 
-    ghost invariant = { λ e. AreBetweenRanks (contents leaf_cmp e.rows) };
+    ghost invariant = { λ e. AreExports (contents leaf_cmp e.rows) (contents by_cmp e.by) };
 }
 
 impl Exports {
@@ -68,6 +71,7 @@ impl Exports {
     {
         Exports {
             rows: SortedMap::new(alloc),
+            by: SortedMap::new(alloc),
         }
     }
 

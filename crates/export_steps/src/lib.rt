@@ -2,6 +2,7 @@
 //! end. From these and the subtree roots it is told which leaves are frozen, and which rank holds a leaf.
 #![tactic(auto)]
 
+mod by_exporter;
 mod exports;
 pub mod laws;
 mod regions;

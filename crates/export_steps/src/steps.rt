@@ -1,12 +1,13 @@
 //! The steps of an export: each takes it from one state to the next, and two end it.
-ghost use Rattle.std.specs.Prelude.{◌≡◌, ◌≢◌, ◌<◌, Some, IfErr, MatchOption, OnErr, OnOk};
+ghost use Rattle.std.specs.Prelude.{◌≡◌, ◌≢◌, ◌<◌, Some, None, IfErr, MatchOption, OnErr, OnOk};
 ghost use Rattle.std.specs.FinMap as map;
 ghost use Rattle.sorted_map.specs.SortedMap.{contents};
 ghost use Rattle.mds_types.specs.declared.refusals.Refusal.TheVariants.{NoMemory};
 ghost use Rattle.mds_types.specs.Leaf.{leaf_cmp};
 ghost use Rattle.subtree_map.specs.Changes.{Subtrees as SubtreesSeen};
 ghost use Rattle.export_steps.specs.declared.exports.ExportState.TheVariants as state;
-ghost use Rattle.export_steps.specs.Standing.{AreBetweenRanks, AreKept, IsBetweenRanks, ArePlaced, Cancels, Finishes, Freezes, Preps, Starts, Steps, come_to, is_before_send, is_freezing, state_at};
+ghost use Rattle.export_steps.specs.ByExporter.{AreExports, RootsBy, by_cmp};
+ghost use Rattle.export_steps.specs.Standing.{AreKept, IsBetweenRanks, ArePlaced, Cancels, Finishes, Freezes, Preps, Starts, Steps, come_to, is_before_send, is_freezing, state_at};
 
 use crate::exports::{ExportState, Exports, StandingExport};
 use inode_table::Dirs;
@@ -66,7 +67,7 @@ impl Exports {
             importer,
             state: ExportState::Started,
         };
-        put_new(&mut self.rows, dir, frag, export)
+        put_new(&mut self.rows, &mut self.by, &(dir, frag), &export)
     }
 
     /// Freeze: makes the root of a started export a subtree root of the exporter. From now on its region is frozen.
@@ -144,11 +145,11 @@ impl Exports {
         ensures outcome { Finishes self.old self.new subtrees.old subtrees.new (dir, frag) result }
         ensures placed { ArePlaced self.new subtrees.new }
     {
-        let Some(_) = find_in(&self.rows, dir, frag, ExportState::Imported) else {
+        let Some(export) = find_in(&self.rows, dir, frag, ExportState::Imported) else {
             return Err(Refusal::WrongExportState);
         };
         subtrees.hand(dir, frag);
-        end(&mut self.rows, dir, frag);
+        end(&mut self.rows, &mut self.by, dir, frag, export);
         Ok(())
     }
 
@@ -168,7 +169,7 @@ impl Exports {
             return Err(Refusal::WrongExportState);
         }
         subtrees.withdraw(dir, frag);
-        end(&mut self.rows, dir, frag);
+        end(&mut self.rows, &mut self.by, dir, frag, export);
         Ok(())
     }
 }
@@ -176,17 +177,20 @@ impl Exports {
 // Records the first export of a root.
 fn put_new(
     rows: &mut SortedMap<(Ino, Frag), StandingExport>,
-    dir: Ino,
-    frag: Frag,
-    export: StandingExport,
+    by: &mut SortedMap<(u8, (Ino, Frag)), ()>,
+    root: &(Ino, Frag),
+    export: &StandingExport,
 ) -> Result<(), Refusal>
-    ensures ok { OnOk result (contents leaf_cmp rows.new ≡ map.insert (contents leaf_cmp rows.old) (dir, frag) export) }
+    requires { map.get (contents leaf_cmp rows.old) root.now ≡ None }
+    ensures ok { OnOk result (contents leaf_cmp rows.new ≡ map.insert (contents leaf_cmp rows.old) root.now export.now) }
     ensures err { IfErr result (λ reason. reason ≡ NoMemory) }
     ensures left { OnErr result (contents leaf_cmp rows.new ≡ contents leaf_cmp rows.old) }
-    ensures ranks { IsBetweenRanks export → AreBetweenRanks (contents leaf_cmp rows.old) → AreBetweenRanks (contents leaf_cmp rows.new) }
+    ensures kept { IsBetweenRanks export.now → AreExports (contents leaf_cmp rows.old) (contents by_cmp by.old) → AreExports (contents leaf_cmp rows.new) (contents by_cmp by.new) }
 {
     rows.reserve(1)?;
-    let _ = rows.insert((dir, frag), export);
+    by.reserve(1)?;
+    let _ = rows.insert(*root, *export);
+    let _ = by.insert((export.exporter.0, *root), ());
     Ok(())
 }
 
@@ -259,17 +263,25 @@ fn put_state(
 )
     requires { map.get (contents leaf_cmp rows.old) (dir, frag) ≡ Some export }
     ensures come { contents leaf_cmp rows.new ≡ map.insert (contents leaf_cmp rows.old) (dir, frag) (come_to state export) }
-    ensures ranks { AreBetweenRanks (contents leaf_cmp rows.old) → AreBetweenRanks (contents leaf_cmp rows.new) }
+    ensures kept { (by : RootsBy) → AreExports (contents leaf_cmp rows.old) by → AreExports (contents leaf_cmp rows.new) by }
 {
     let _ = rows.replace(&(dir, frag), StandingExport { state, ..export });
 }
 
 // Takes out the export of a root.
-fn end(rows: &mut SortedMap<(Ino, Frag), StandingExport>, dir: Ino, frag: Frag)
+fn end(
+    rows: &mut SortedMap<(Ino, Frag), StandingExport>,
+    by: &mut SortedMap<(u8, (Ino, Frag)), ()>,
+    dir: Ino,
+    frag: Frag,
+    export: StandingExport,
+)
+    requires { map.get (contents leaf_cmp rows.old) (dir, frag) ≡ Some export }
     ensures removed { contents leaf_cmp rows.new ≡ map.remove (contents leaf_cmp rows.old) (dir, frag) }
-    ensures ranks { AreBetweenRanks (contents leaf_cmp rows.old) → AreBetweenRanks (contents leaf_cmp rows.new) }
+    ensures kept { AreExports (contents leaf_cmp rows.old) (contents by_cmp by.old) → AreExports (contents leaf_cmp rows.new) (contents by_cmp by.new) }
 {
     let _ = rows.remove(&(dir, frag));
+    let _ = by.remove(&(export.exporter.0, (dir, frag)));
 }
 
 // Takes the export of a root from one state to another.
@@ -281,7 +293,7 @@ fn advance(
     to: ExportState,
 ) -> Result<(), Refusal>
     ensures outcome { Steps (contents leaf_cmp rows.old) (contents leaf_cmp rows.new) (dir, frag) from to result }
-    ensures ranks { AreBetweenRanks (contents leaf_cmp rows.old) → AreBetweenRanks (contents leaf_cmp rows.new) }
+    ensures kept { (by : RootsBy) → AreExports (contents leaf_cmp rows.old) by → AreExports (contents leaf_cmp rows.new) by }
 {
     let Some(export) = find_in(rows, dir, frag, from) else {
         return Err(Refusal::WrongExportState);

@@ -1,8 +1,11 @@
 use Rattle.sorted_map.specs.SortedMap.{contents}
 use Rattle.mds_types.specs.Leaf.{leaf_cmp}
-use Rattle.export_steps.proofs.Between.{removed_between}
+use Rattle.export_steps.specs.ByExporter.{by_cmp}
+use Rattle.export_steps.proofs.ByExporterLaws.{end_exports}
 use Rattle.export_steps.proofs.steps.end.Goals as goal
 
-pub returns-clause-ranks : goal.returns-clause-ranks
-returns-clause-ranks c between =
-    removed_between (contents leaf_cmp c.args.rows.now) (contents leaf_cmp c.remove.new.self) (c.args.dir, c.args.frag) between c.remove.ensures.removed
+pub returns-clause-kept : goal.returns-clause-kept
+returns-clause-kept c kept =
+    end_exports
+    (contents leaf_cmp c.args.rows.now) (contents leaf_cmp c.remove.new.self) (c.args.dir, c.args.frag) (contents by_cmp c.args.by.now) kept c.args.export (contents by_cmp c.remove-2.new.self)
+    c.requires c.remove.ensures.removed c.remove-2.ensures.removed

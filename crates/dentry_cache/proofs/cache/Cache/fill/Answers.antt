@@ -1,6 +1,15 @@
 use Rattle.dentry_cache.specs.Cache.{held}
 use Rattle.dentry_cache.proofs.UsedLaws.{filled}
+use Rattle.std.proofs.Common.{rules, subst}
+use Rattle.dentry_cache.specs.Cache.{Held}
+use Rattle.dentry_cache.specs.CandidateSets.{AreTold}
+use Rattle.dentry_cache.proofs.CandidateSteps.{resized_kept}
 use Rattle.dentry_cache.proofs.cache.Cache.fill.Goals as goal
 
 pub returns : goal.returns
 returns c = filled c.put.result (c.args.dir, c.args.frag) (held c.args.fragment) c.args.self.now _ _ c.self.view_is c.requires c.put.ensures.succeeds c.put.ensures.entries
+
+pub resize-requires : goal.resize-requires
+resize-requires c =
+    resized_kept (c.args.dir, c.args.frag) (held c.args.fragment) c.args.self.now c.put.new.self c.self.inside.candidates _ (subst (λ (h : Held). AreTold h.entries c.self.inside.candidates) c.self.view_is c.self.invariant) c.requires
+    (filled c.put.result (c.args.dir, c.args.frag) (held c.args.fragment) c.args.self.now _ _ c.self.view_is c.requires c.put.ensures.succeeds c.put.ensures.entries) (search rules)

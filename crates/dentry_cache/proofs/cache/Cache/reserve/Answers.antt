@@ -1,9 +1,10 @@
 use Rattle.std.proofs.Common.{◌≡◌, ◌≤◌, ◌∙◌, refl, sym, ap}
 use Rattle.std.proofs.lemmas.Result.{on_ok_weaker}
 use Rattle.std.specs.Option.{option_copied_mut}
-use Rattle.cached_frag.specs.Cached.{Cached}
+use Rattle.cached_frag.specs.Cached.{Cached, shown}
 use Rattle.dentry_cache.specs.Cache.{cached}
 use Rattle.dentry_cache.proofs.EditLaws.{changed}
+use Rattle.dentry_cache.proofs.CandidateSteps.{same_size, told_value}
 use Rattle.dentry_cache.proofs.cache.Cache.reserve.Goals as goal
 
 pub returns-clause-same : goal.returns-clause-same
@@ -17,3 +18,8 @@ returns-clause-room c =
     on_ok_weaker c.reserve.result (λ room.
     changed (c.args.dir, c.args.frag) c.args.self.now _ _ _ c.touch.ensures c.self.view_is
     (λ (f now : Cached). c.args.changes ≤ now.room) (cached c.args.self.now.entries (c.args.dir, c.args.frag)) c.in-Some.place.now _ refl c.requires (ap option_copied_mut (sym c.in-Some.is) ∙ c.peek_mut.ensures.value) room) c.reserve.ensures.room
+
+pub invariant_of-self-2 : goal.invariant_of-self-2
+invariant_of-self-2 c =
+    told_value (c.args.dir, c.args.frag) c.self.inside.places.entries c.in-Some.place.now _ c.self.inside.candidates c.self.invariant (ap option_copied_mut (sym c.in-Some.is) ∙ c.peek_mut.ensures.value)
+    (same_size c.in-Some.place.now c.reserve.new.self (ap shown c.reserve.ensures.same))

@@ -3,9 +3,16 @@ use Rattle.std.specs.Option.{option_copied_mut}
 use Rattle.dentry_cache.specs.Cache.{cached}
 use Rattle.dentry_cache.proofs.CommitSteps.{OnlyPlaces}
 use Rattle.dentry_cache.proofs.EditLaws.{changed}
+use Rattle.cached_frag.specs.Cached.{shown}
+use Rattle.dentry_cache.proofs.CandidateSteps.{same_size, told_value}
 use Rattle.dentry_cache.proofs.cache.Cache.reserve_settled.Goals as goal
 
 pub returns-clause-same : goal.returns-clause-same
 returns-clause-same c =
     changed (c.args.dir, c.args.frag) c.args.self.now _ _ _ c.touch.ensures c.self.view_is
     OnlyPlaces (cached c.args.self.now.entries (c.args.dir, c.args.frag)) c.in-Some.place.now _ refl c.requires (ap option_copied_mut (sym c.in-Some.is) ∙ c.peek_mut.ensures.value) c.reserve_settled.ensures.same
+
+pub invariant_of-self-2 : goal.invariant_of-self-2
+invariant_of-self-2 c =
+    told_value (c.args.dir, c.args.frag) c.self.inside.places.entries c.in-Some.place.now _ c.self.inside.candidates c.self.invariant (ap option_copied_mut (sym c.in-Some.is) ∙ c.peek_mut.ensures.value)
+    (same_size c.in-Some.place.now c.reserve_settled.new.self (ap shown c.reserve_settled.ensures.same))

@@ -13,3 +13,6 @@ returns-clause-placed c placed =
     cancels_placed
     c.args.self.now (contents leaf_cmp c.end.new.rows) (c.args.dir, c.args.frag) c.args.subtrees.now c.withdraw.new.self (Ok tt)
     (returns-clause-outcome c) placed
+
+pub invariant_of-self : goal.invariant_of-self
+invariant_of-self c = c.end.ensures.kept c.self.invariant

@@ -7,4 +7,4 @@ pub returns-clause-export : goal.returns-clause-export
 returns-clause-export c = search rules
 
 pub returns-clause-ranks : goal.returns-clause-ranks
-returns-clause-ranks c = found_between c.args.self.now (c.args.dir, c.args.frag) c.copied.result (subst AreBetweenRanks c.self.view_is c.self.invariant) (returns-clause-export c)
+returns-clause-ranks c = found_between c.args.self.now (c.args.dir, c.args.frag) c.copied.result (subst AreBetweenRanks c.self.view_is c.self.invariant.between) (returns-clause-export c)

@@ -5,6 +5,7 @@ use Rattle.mds_types.specs.Leaf.{leaf_cmp}
 use Rattle.export_steps.specs.Standing.{IsPrep}
 use Rattle.export_steps.proofs.Outcomes.{prepared}
 use Rattle.export_steps.proofs.Placed.{preps_placed}
+use Rattle.export_steps.specs.ByExporter.{by_cmp}
 use Rattle.export_steps.proofs.exports.Exports.prep.Goals as goal
 
 pub returns-in_err-promise-clause-outcome : goal.returns-in_err-promise-clause-outcome
@@ -23,3 +24,6 @@ returns-clause-outcome c =
 pub returns-clause-placed : goal.returns-clause-placed
 returns-clause-placed c =
     preps_placed c.args.self.now (contents leaf_cmp c.put_state.new.rows) (c.args.dir, c.args.frag) c.args.subtrees.now c.promise.new.subtrees (Ok tt) (returns-clause-outcome c)
+
+pub invariant_of-self : goal.invariant_of-self
+invariant_of-self c = c.put_state.ensures.kept (contents by_cmp c.self.inside.by) c.self.invariant

@@ -4,6 +4,7 @@ use Rattle.mds_types.specs.Leaf.{leaf_cmp}
 use Rattle.export_steps.specs.declared.exports.ExportState.TheVariants as state
 use Rattle.export_steps.specs.Standing.{ArePlaced}
 use Rattle.export_steps.proofs.Placed.{steps_placed}
+use Rattle.export_steps.specs.ByExporter.{by_cmp}
 use Rattle.export_steps.proofs.exports.Exports.send.Goals as goal
 
 pub returns-clause-placed : goal.returns-clause-placed
@@ -11,3 +12,6 @@ returns-clause-placed c subtrees placed =
     steps_placed
     (contents leaf_cmp c.self.inside.rows) (contents leaf_cmp c.advance.new.rows) (c.args.dir, c.args.frag) state.Prepared state.Sent c.advance.result
     refl c.advance.ensures.outcome subtrees (subst (λ m. ArePlaced m subtrees) (sym c.self.view_is) placed)
+
+pub invariant_of-self : goal.invariant_of-self
+invariant_of-self c = c.advance.ensures.kept (contents by_cmp c.self.inside.by) c.self.invariant

@@ -6,6 +6,7 @@ use Rattle.mds_types.specs.Leaf.{leaf_cmp}
 use Rattle.export_steps.specs.Standing.{Standing, Starts}
 use Rattle.export_steps.proofs.Outcomes.{not_started, started}
 use Rattle.export_steps.proofs.Placed.{starts_placed}
+use Rattle.export_steps.proofs.ByExporterLaws.{is_none}
 use Rattle.export_steps.proofs.exports.Exports.start.Goals as goal
 
 pub returns-then-contains-clause-outcome : goal.returns-then-contains-clause-outcome
@@ -22,3 +23,9 @@ returns-clause-outcome c =
 pub returns-clause-placed : goal.returns-clause-placed
 returns-clause-placed c =
     starts_placed c.args.self.now (contents leaf_cmp c.put_new.new.rows) (c.args.dir, c.args.frag) c.args.exporter c.args.importer c.put_new.result (returns-clause-outcome c)
+
+pub invariant_of-self : goal.invariant_of-self
+invariant_of-self c = c.put_new.ensures.kept (record { exporter = c.requires.exporter; importer = c.requires.importer; apart = c.requires.apart }) c.self.invariant
+
+pub put_new-requires : goal.put_new-requires
+put_new-requires c = is_none _ (sym c.contains.ensures ∙ c.if-contains.false)
