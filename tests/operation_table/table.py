@@ -21,8 +21,8 @@ class Entry:
 
 
 class Table:
-    def __init__(self):
-        self.rows, self.next_ino = [], FIRST
+    def __init__(self, limit=1048576):
+        self.limit, self.rows, self.next_ino = limit, [], FIRST
 
     def is_dir(self, ino):
         return ino == ROOT or any(row.ino == ino and row.kind == 'dir' for row in self.rows)
@@ -73,6 +73,8 @@ class Table:
     def make(self, directory, name, owners, *inode):
         if self.find(directory, name):
             return 'errno 17'
+        if len(self.inside(directory)) >= self.limit:
+            return 'errno 28'
         self.rows.append(Entry(directory, name, self.next_ino, dict(zip(owners[::2], owners[1::2])), *inode))
         self.next_ino += 1
         return str(self.rows[-1])
@@ -127,6 +129,8 @@ class Table:
             if self.inside(replaced.ino):
                 return 'errno 39'
             self.rows.remove(replaced)
+        elif directory != to[0] and len(self.inside(to[0])) >= self.limit:
+            return 'errno 28'
         row.directory, row.name = to
         return 'done'
 

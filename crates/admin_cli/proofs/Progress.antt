@@ -413,7 +413,7 @@ module _ (old now new : Admin) (known left rest before mid after : Option (List 
   stop_printing (Some printed) fault run (empty, inr own) = ended old known before after waiting' (Err fault) empty (own_ends printed fault run own)
 
 -- a script over a book that was made
-pub started : (ranks cache : ℕ) (known before after : Option (List ℕ)) (result : Result (Unit {0}) ScriptFault) (book : Kept) → IsFormatted ranks cache book
-    → RunsOrNot (record { book = book; operations = 0; jobs = map.empty; sent = map.empty }) known before after result → RunsNew ranks cache known before after result
-started ranks cache known before after result book formatted (inl runs) = inl (record { book = book; formatted = formatted; runs = runs })
-started ranks cache known before after result book formatted (inr never) = inr never
+pub started : (ranks cache limit : ℕ) (known before after : Option (List ℕ)) (result : Result (Unit {0}) ScriptFault) (book : Kept) → IsFormatted ranks cache limit book
+    → RunsOrNot (record { book = book; operations = 0; jobs = map.empty; sent = map.empty }) known before after result → RunsNew ranks cache limit known before after result
+started ranks cache limit known before after result book formatted (inl runs) = inl (record { book = book; formatted = formatted; runs = runs })
+started ranks cache limit known before after result book formatted (inr never) = inr never

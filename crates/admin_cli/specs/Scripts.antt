@@ -111,21 +111,21 @@ pub record RunsInput (old : Admin) (known before after : Option (List ℕ)) (res
   pub read : IfSome known (λ bytes. lines ≡ lines_of bytes)
   pub script : RunsScript old lines before after result
 
--- a book as `format` makes it with so many ranks and a cache of so many places for each: a sound book with an empty
--- tree, an empty history, the state of a new cluster, and its caches, each of that size and with no place taken but that
+-- a book as `format` makes it with so many ranks, a cache of so many places for each, and so many entries that a directory may have: a sound
+-- book with an empty tree, an empty history, the state of a new cluster, and its caches, each of that size and with no place taken but that
 -- of the root's leaf at rank 0. Its store told no fault
-pub record IsFormatted (ranks cache : ℕ) (book : Kept) : Type 0 where
+pub record IsFormatted (ranks cache limit : ℕ) (book : Kept) : Type 0 where
   pub opening : book.opening ≡ map.empty
   pub history : book.history ≡ []
-  pub state : book.core.state ≡ new_state ranks
+  pub state : book.core.state ≡ new_state ranks limit
   pub places : book.core.caches ≡ new_caches ranks cache
   pub sound : IsSoundBook book
   pub faults : book.core.faults ≡ 0
 
 -- a whole script, from a new book, with no line read yet
-pub record RunsFormatted (ranks cache : ℕ) (known before after : Option (List ℕ)) (result : Result (Unit {0}) ScriptFault) : Type 0 where
+pub record RunsFormatted (ranks cache limit : ℕ) (known before after : Option (List ℕ)) (result : Result (Unit {0}) ScriptFault) : Type 0 where
   pub book : Kept
-  pub formatted : IsFormatted ranks cache book
+  pub formatted : IsFormatted ranks cache limit book
   pub runs : RunsInput (record { book = book; operations = 0; jobs = map.empty; sent = map.empty }) known before after result
 
 -- memory for a book, or to read lines, was refused before the first line: nothing was written
@@ -133,5 +133,5 @@ pub record NeverStarts (before after : Option (List ℕ)) (result : Result (Unit
   pub told : result ≡ Err (record { line = 1; kind = OutOfMemory })
   pub same : Keeps before after
 
-abbrev pub RunsNew : (ranks cache : ℕ) → (known before after : Option (List ℕ)) → Result (Unit {0}) ScriptFault → Type 0
-RunsNew ranks cache known before after result = RunsFormatted ranks cache known before after result ⊎ NeverStarts before after result
+abbrev pub RunsNew : (ranks cache limit : ℕ) → (known before after : Option (List ℕ)) → Result (Unit {0}) ScriptFault → Type 0
+RunsNew ranks cache limit known before after result = RunsFormatted ranks cache limit known before after result ⊎ NeverStarts before after result

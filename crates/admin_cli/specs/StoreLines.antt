@@ -131,7 +131,7 @@ LacksForCommit old new rank dir f = LosesJob old new rank dir f ⊎ BeginsAlone 
 
 -- a flush led from a book to the next with this result, by all that its contract says; the store, which is in memory, tells no fault
 pub record IsFlush (old new : Kept) (result : Result (Unit {0}) Refusal) : Type 0 where
-  pub cold : OnOk result (IsColdTree new.core.state.tree.objects (after old.opening old.history))
+  pub cold : OnOk result (IsColdTree new.core.state.tree.objects (after old.core.state.tree.limit old.opening old.history))
   pub exact : OnOk result (AreExact new.core.state.tree)
   pub clean : OnOk result (new.core.state.tree.unsaved ≡ map.empty)
   pub purged : OnOk result (new.core.state.tree.purge ≡ map.empty)

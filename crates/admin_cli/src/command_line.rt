@@ -4,14 +4,15 @@ ghost use Rattle.admin_cli.specs.Settings.{AreInRange};
 
 use clap::error::ErrorKind;
 use clap::{Arg, ArgMatches, Command, Error, value_parser};
+use mds_types::Limit;
 use std::alloc::{AllocError, Global};
 use workload::Load;
 
 /// What the command line asks for.
 #[derive(Clone, Copy, Debug, PartialEq, Eq)]
 pub enum Options {
-    /// A script over a cluster of so many ranks, each of which may cache so many fragments.
-    Script { ranks: u8, cache: u32 },
+    /// A script over a cluster of so many ranks, each of which may cache so many fragments, where a directory may have so many entries.
+    Script { ranks: u8, cache: u32, limit: Limit },
     /// Clients that create files, served by rank threads.
     Serve(Load),
 }
@@ -45,8 +46,13 @@ fn of_script(script: &ArgMatches) -> Option<Options>
 {
     let ranks = script.get_one::<u8>("ranks")?;
     let cache = script.get_one::<u32>("cache")?;
+    let limit = Limit::new(script.get_one::<u32>("limit")?)?;
     if 1 <= ranks && ranks <= 16 && 512 <= cache && cache <= 65536 {
-        return Some(Options::Script { ranks, cache });
+        return Some(Options::Script {
+            ranks,
+            cache,
+            limit,
+        });
     }
     None
 }
@@ -117,7 +123,8 @@ fn script<'a>(alloc: Global) -> Result<Command<'a>, AllocError> {
         .about("Runs a script from standard input over a cluster with an empty tree")
         .after_help(LINES)
         .arg(ranks(alloc))?
-        .arg(cache(alloc))
+        .arg(cache(alloc))?
+        .arg(limit(alloc))
 }
 
 // What follows the options of `serve`.
@@ -156,6 +163,15 @@ fn cache<'a>(alloc: Global) -> Arg<'a> {
         .value_parser(value_parser!(u32).range(512..=65536))
         .default_value("4096")
         .help("Fragments that a rank may cache")
+}
+
+fn limit<'a>(alloc: Global) -> Arg<'a> {
+    Arg::new(alloc, "limit")
+        .long("limit")
+        .value_name("L")
+        .value_parser(value_parser!(u32).range(1..=1_048_576))
+        .default_value("1048576")
+        .help("Entries that a directory may have")
 }
 
 fn workers<'a>(alloc: Global) -> Arg<'a> {

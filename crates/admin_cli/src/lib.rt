@@ -15,6 +15,7 @@ mod waiting;
 
 pub use command_line::{Options, settings};
 pub use faults::{FaultKind, ScriptFault};
+pub use mds_types::Limit;
 pub use script::run_script;
 pub use serving::serve;
 pub use workload::{Load, ServeFault};

@@ -9,6 +9,7 @@ use crate::commands::Admin;
 use crate::faults::{FaultKind, ScriptFault};
 use crate::waiting::Waiting;
 use cluster_core::{Book, format};
+use mds_types::Limit;
 use objstore::MemStore;
 use script_output::{OutputFault, OutputLine, write_line};
 use script_text::{Line, LineBuffer, LineFault, NextLine, next_line, read_line};
@@ -16,7 +17,7 @@ use std::alloc::Global;
 use std::io::{BufRead, BufReader, Read, Write};
 use std::thread::Threads;
 
-/// Runs a script over a cluster with an empty tree: for each line of the reader that is a command, one line is written
+/// Runs a script over a cluster with an empty tree, where a directory may have `limit` entries: for each line of the reader that is a command, one line is written
 /// with what became of it. A fault ends the script: what the lines before it printed has been written, and after a write
 /// fault a beginning of its own line, nothing else. It returns wherever its reader ends.
 pub fn run_script<H: AllocGlobal + Threads + Sync, R: Read + Drop, W: Write>(
@@ -25,15 +26,16 @@ pub fn run_script<H: AllocGlobal + Threads + Sync, R: Read + Drop, W: Write>(
     writer: &mut W,
     ranks: u8,
     cache: u32,
+    limit: Limit,
 ) -> Result<(), ScriptFault>
     requires one { 1 ≤ ranks }
     requires few { ranks ≤ 16 }
     requires least { 512 ≤ cache }
     requires most { cache ≤ 65536 }
-    ensures { RunsNew ranks cache (R.remaining reader) (W.contents writer.old) (W.contents writer.new) result }
+    ensures { RunsNew ranks cache limit (R.remaining reader) (W.contents writer.old) (W.contents writer.new) result }
 {
     let alloc = rt.alloc();
-    match new_book(alloc, ranks, cache) {
+    match new_book(alloc, ranks, cache, limit) {
         Some(book) => run_book(rt, reader, writer, book),
         // (dropped by name, as what has many parts is: docs/PROVING.md)
         none => {
@@ -44,14 +46,14 @@ pub fn run_script<H: AllocGlobal + Threads + Sync, R: Read + Drop, W: Write>(
 }
 
 // A book over a new store; nothing where memory for it is refused.
-fn new_book(alloc: Global, ranks: u8, cache: u32) -> Option<Book<MemStore>>
+fn new_book(alloc: Global, ranks: u8, cache: u32, limit: Limit) -> Option<Book<MemStore>>
     requires one { 1 ≤ ranks }
     requires few { ranks ≤ 16 }
     requires least { 512 ≤ cache }
     requires most { cache ≤ 65536 }
-    ensures { IfSome result (IsFormatted ranks cache) }
+    ensures { IfSome result (IsFormatted ranks cache limit) }
 {
-    match format(alloc, MemStore::new(alloc), ranks, cache) {
+    match format(alloc, MemStore::new(alloc), ranks, cache, limit) {
         Ok(book) => Some(book),
         Err(_) => None,
     }

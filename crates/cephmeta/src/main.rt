@@ -3,7 +3,7 @@
 
 ghost use Rattle.std.specs.Prelude.{◌≤◌};
 
-use admin_cli::{Options, ServeFault, run_script, serve, settings};
+use admin_cli::{Limit, Options, ServeFault, run_script, serve, settings};
 use std::io::{IsTerminal, Read};
 use std::process::ExitCode;
 use std::thread::Threads;
@@ -24,7 +24,11 @@ fn main(rt: HostRuntime) -> io::Result<ExitCode> {
         Err(_) => return no_memory_for_words(&rt),
     };
     match settings(rt.alloc(), words.as_slice()) {
-        Ok(Options::Script { ranks, cache }) => script(&rt, rt.reader(), ranks, cache),
+        Ok(Options::Script {
+            ranks,
+            cache,
+            limit,
+        }) => script(&rt, rt.reader(), ranks, cache, limit),
         Ok(Options::Serve(load)) => {
             let is_watched = rt.stderr().is_terminal();
             served(&rt, serve(&rt, &mut io::writer(&rt), load, is_watched))
@@ -52,13 +56,14 @@ fn script<H: AllocGlobal + Threads + Sync + Print + Eprint, I: Read + Drop>(
     input: I,
     ranks: u8,
     cache: u32,
+    limit: Limit,
 ) -> io::Result<ExitCode>
     requires one { 1 ≤ ranks }
     requires few { ranks ≤ 16 }
     requires least { 512 ≤ cache }
     requires most { cache ≤ 65536 }
 {
-    match run_script(rt, input, &mut io::writer(rt), ranks, cache) {
+    match run_script(rt, input, &mut io::writer(rt), ranks, cache, limit) {
         Ok(()) => Ok(ExitCode::SUCCESS),
         Err(fault) => {
             eprintln!(rt; "{fault}")?;

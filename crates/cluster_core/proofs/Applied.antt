@@ -23,8 +23,8 @@ use Rattle.cluster_core.specs.Sound.{AreCached, AreExported, AreSupplied, IsFres
 use Rattle.ranked_tree.specs.Subtrees.{AreRoots}
 
 -- what an offer of a number comes to: the table took it, or it took none and the outcome is that of any number
-pub record IsTaking (tree : Tree) (request : Request) (s : Supply) (number : Option Ino) (outcome : Outcome) : Type 0 where
-  pub same : step tree request.op (number_or number) ≡ outcome
+pub record IsTaking (limit : ℕ) (tree : Tree) (request : Request) (s : Supply) (number : Option Ino) (outcome : Outcome) : Type 0 where
+  pub same : step limit tree request.op (number_or number) ≡ outcome
   pub numbered : is_some number ≡ outcome.takes
   pub next_one : (n : Ino) → number ≡ Some n → (n.0 ≡ s.next) × (s.next < end_number s.rank)
 
@@ -34,29 +34,29 @@ offered left n = cond {A = Option Ino} left (Some (record { 0 = n })) None
 abbrev took : Bool → Bool → ℕ → Option Ino
 took takes left n = cond {A = Option Ino} takes (offered left n) None
 
-taking : (tree : Tree) (request : Request) (s : Supply) (left : Bool) (takes : Bool)
+taking : (limit : ℕ) (tree : Tree) (request : Request) (s : Supply) (left : Bool) (takes : Bool)
     → (left ≡ true → s.next < end_number s.rank)
-    → takes ≡ (step tree request.op (number_or (offered left s.next))).takes
+    → takes ≡ (step limit tree request.op (number_or (offered left s.next))).takes
     → (offered left s.next ≡ None → takes ≡ false)
-    → IsTaking tree request s (took takes left s.next) (step tree request.op (number_or (offered left s.next)))
-taking tree request s left false below takes numbered = record {
-  same = sym (unused tree request.op _ 0 (sym takes));
+    → IsTaking limit tree request s (took takes left s.next) (step limit tree request.op (number_or (offered left s.next)))
+taking limit tree request s left false below takes numbered = record {
+  same = sym (unused limit tree request.op _ 0 (sym takes));
   numbered = takes;
   next_one = λ n is. cc;
 }
-taking tree request s true true below takes numbered = record {
+taking limit tree request s true true below takes numbered = record {
   same = refl;
   numbered = takes;
   next_one = λ n is. (cc, below refl);
 }
-taking tree request s false true below takes numbered = absurd (true≢false (numbered refl))
+taking limit tree request s false true below takes numbered = absurd (true≢false (numbered refl))
 
 -- what a request that is applied takes
 taking_of : (state : State) (rank : Rank) (request : Request) → (offer (supply_of state rank) ≡ None → (outcome_of state rank request).takes ≡ false)
-    → IsTaking (shown state) request (supply_of state rank) (number_of state rank request) (outcome_of state rank request)
+    → IsTaking state.tree.limit (shown state) request (supply_of state rank) (number_of state rank request) (outcome_of state rank request)
 taking_of state rank request numbered =
     let s = supply_of state rank in
-    taking (shown state) request s (nat_lt s.next (end_number s.rank)) (outcome_of state rank request).takes (λ e. grind (arith, nat_tests)) refl numbered
+    taking state.tree.limit (shown state) request s (nat_lt s.next (end_number s.rank)) (outcome_of state rank request).takes (λ e. grind (arith, nat_tests)) refl numbered
 
 -- the supply afterwards
 after_taking-fresh : (opening : Tree) (past : List Entry) (s : Supply) (e : Entry)
@@ -133,15 +133,15 @@ module _ (opening : Tree) (past : List Entry) (numbers : List Supply) (rank : �
 -- a book stays sound where a request is applied
 pub sound-applied : (opening : Tree) (past now : List Entry) (old new : Core) (rank : Rank) (request : Request) (rest : List Request) (answer : Answer)
     → rank.0 < length old.state.numbers → IsSound opening past old → IsKept new.state.tree new.caches → AreCached new → AreExported new → length new.caches.used ≡ length old.caches.used → AreRoots new.state.tree new.state.roots
-    → IsApplied old.state new.state past now rank request rest answer → IsSound opening now new
-sound-applied opening past now old new rank request rest answer there sound tree cached exported count valid done =
+    → new.state.tree.limit ≡ old.state.tree.limit → IsApplied old.state new.state past now rank request rest answer → IsSound opening now new
+sound-applied opening past now old new rank request rest answer there sound tree cached exported count valid limit done =
     let before = old.state in
     let e = entry_of before rank request in
     let t = taking_of before rank request done.numbered in
-    let first = after opening past in
-    let same : step first e.op (number_or e.number) ≡ outcome_of before rank request = ap (λ (t : Tree). step t e.op (number_or e.number)) (sym sound.replayed) ∙ t.same in
+    let first = after before.tree.limit opening past in
+    let same : step before.tree.limit first e.op (number_or e.number) ≡ outcome_of before rank request = ap (λ (t : Tree). step before.tree.limit t e.op (number_or e.number)) (sym sound.replayed) ∙ t.same in
     let mine = sound.supplied rank.0 there in
-    let next : IsNext opening past e = record {
+    let next : IsNext before.tree.limit opening past e = record {
       once = done.is_new.absent;
       own = done.is_new.own;
       marked = done.is_new.marked;
@@ -153,8 +153,8 @@ sound-applied opening past now old new rank request rest answer there sound tree
     let inboxes : new.state.inboxes ≡ with_waiting before.inboxes rank rest = ap (λ (s : State). s.inboxes) done.left in
     let sessions : new.state.sessions ≡ with_entry before.sessions (length past) e = ap (λ (s : State). s.sessions) done.left in
     record {
-      legal = rw done.appended (legal-push opening past e sound.legal next);
-      replayed = done.tree ∙ ap (λ (o : Outcome). o.tree) (sym same) ∙ sym (after-push opening past e) ∙ ap (after opening) (sym done.appended);
+      legal = rw (limit, done.appended) (legal-push before.tree.limit opening past e sound.legal next);
+      replayed = done.tree ∙ ap (λ (o : Outcome). o.tree) (sym same) ∙ sym (after-push before.tree.limit opening past e) ∙ (λ i. after (sym limit i) opening (sym done.appended i));
       tree = tree;
       subtrees = valid;
       cached = cached;

@@ -24,8 +24,11 @@ keeps_core old new before after exports later numbers inboxes pins sessions kept
     let now = core_of new after later numbers inboxes pins sessions in
     record {
       left = λ i. state_of (record {
+        limit = kept.limit i;
         homes = kept.homes i;
         covers = kept.covers i;
+        counts = kept.counts i;
+        pins = kept.pins i;
         unsaved = now.state.tree.unsaved;
         objects = new.objects;
         jobs = none i;
@@ -53,5 +56,5 @@ few_caches book sound =
 pub flushed_sound : (book : Kept) (new : Core) → IsSoundBook book → KeepsCore book.core new → IsKept new.state.tree new.caches → AreCached new → AreExported new → IsSoundBook (record book { core = new })
 flushed_sound book new sound keeps kept cached exported =
     let roots = keeps_tables book.core.state.tree new.state.tree book.core.state.roots new.state.roots book.core.state.exports new.state.exports (ap (λ (s : State). s.tree.homes) keeps.left) (ap (λ (s : State). s.tree.covers) keeps.left) (ap (λ (s : State). s.roots) keeps.left) (ap (λ (s : State). s.exports) keeps.left) sound.subtrees in
-    sound-same book.opening book.history book.history book.core new sound kept cached exported (came_ranks (HasFragment book.core.caches) NoneEnds book.core.caches new.caches keeps.caches) roots.valid
+    sound-same book.opening book.history book.history book.core new sound kept cached exported (came_ranks (HasFragment book.core.caches) NoneEnds book.core.caches new.caches keeps.caches) roots.valid (ap (λ (s : State). s.tree.limit) keeps.left)
     refl keeps.tree (ap (λ (s : State). s.numbers) keeps.left) (ap (λ (s : State). length s.inboxes) keeps.left) (ap (λ (s : State). s.sessions) keeps.left)

@@ -56,7 +56,7 @@ holds_one (Err e) tree roots rank all leaves at leaf same there is rules = (leaf
 -- ---- a grant
 
 module _ (tree now : TreeState) (roots still : Roots) (exports stands : Standing) (numbers : List Supply) (inboxes : Inboxes) (pins after : List Pin) (sessions : Table) (past : List Entry) (MayRefuse : Op → Refusal → Type 0) (rank : Rank) (client tid : ℕ)
-    (request : Request) (waits : Some request ≡ first_waiting client tid inboxes) (changed mine : List Leaf) (names : NamesOnce (changed_fragments tree.covers (shown_tree tree) request.op) changed) (held : AreHeldAmong now still rank changed mine) (same : now ≡ tree) (rooted : still ≡ roots) (stood : stands ≡ exports) where
+    (request : Request) (waits : Some request ≡ first_waiting client tid inboxes) (changed mine : List Leaf) (names : NamesOnce (changed_fragments tree.limit tree.covers (shown_tree tree) request.op) changed) (held : AreHeldAmong now still rank changed mine) (same : now ≡ tree) (rooted : still ≡ roots) (stood : stands ≡ exports) where
   abbrev before : State
   before = state_of tree roots exports numbers inboxes pins sessions
 
@@ -108,7 +108,7 @@ module _ (tree now : TreeState) (roots still : Roots) (exports stands : Standing
 
 -- none was found that the rank holds and may grant: there is none, or one is frozen, or memory lacked
 module _ (tree now : TreeState) (roots still : Roots) (exports stands : Standing) (numbers : List Supply) (inboxes : Inboxes) (pins after : List Pin) (sessions : Table) (past : List Entry) (MayRefuse : Op → Refusal → Type 0) (rank : Rank) (client tid : ℕ)
-    (request : Request) (waits : Some request ≡ first_waiting client tid inboxes) (changed : List Leaf) (names : NamesOnce (changed_fragments tree.covers (shown_tree tree) request.op) changed) (same : now ≡ tree) (rooted : still ≡ roots) (stood : stands ≡ exports) (left : after ≡ pins) where
+    (request : Request) (waits : Some request ≡ first_waiting client tid inboxes) (changed : List Leaf) (names : NamesOnce (changed_fragments tree.limit tree.covers (shown_tree tree) request.op) changed) (same : now ≡ tree) (rooted : still ≡ roots) (stood : stands ≡ exports) (left : after ≡ pins) where
   abbrev Refused : Refusal → Type 0
   Refused reason = GrantsWaiting (state_of tree roots exports numbers inboxes pins sessions) (state_of now still stands numbers inboxes after sessions) past past MayRefuse rank client tid (Err reason)
 

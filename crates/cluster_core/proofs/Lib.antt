@@ -9,6 +9,7 @@ pub mod GrantLaws
 pub mod HeldLaws
 pub mod ImportLaws
 pub mod JobObjects
+pub mod LimitStays
 pub mod MadeReady
 pub mod MasterLaws
 pub mod MountedBook

@@ -94,17 +94,17 @@ whole_numbers ranks ss a = whole_from 0 ss ranks a.count (λ k s is. let of = a.
 
 -- ---- the cluster
 
-module _ (objects : Objects) (ranks places : ℕ) (t : TreeCore) (roots : Roots) (opening : Tree) (ss : List Supply) (is : Mounts objects ranks places opening t) (opens : opening ≡ shown_in t) (given : AreNumbers (shown_in t) ranks ss) (top : AreTopRoots t.covers roots) where
+module _ (limit : ℕ) (objects : Objects) (ranks places : ℕ) (t : TreeCore) (roots : Roots) (opening : Tree) (ss : List Supply) (is : Mounts limit objects ranks places opening t) (opens : opening ≡ shown_in t) (given : AreNumbers (shown_in t) ranks ss) (top : AreTopRoots t.covers roots) where
   abbrev core : Core
   core = core_of t roots finmap.empty ss (replicate ranks []) [] finmap.empty
 
   its_numbers : AreNumbers opening ranks ss
   its_numbers = subst (λ (tree : Tree). AreNumbers tree ranks ss) (sym opens) given
 
-  pub mounts_core : MountsCore objects ranks places opening core
+  pub mounts_core : MountsCore limit objects ranks places opening core
   mounts_core = go is
     where
-      go : Mounts objects ranks places opening t → MountsCore objects ranks places opening core
+      go : Mounts limit objects ranks places opening t → MountsCore limit objects ranks places opening core
       go (inl (none, new)) =
           let first : roots ≡ _ = top_of_none roots (subst (λ (cs : Covers). AreTopRoots cs roots) (ap (λ (s : TreeState). s.covers) new.state) top) in
           let all : ss ≡ whole_supplies 0 ranks = whole_numbers ranks ss (subst (λ (tree : Tree). AreNumbers tree ranks ss) new.none its_numbers) in
@@ -113,6 +113,7 @@ module _ (objects : Objects) (ranks places : ℕ) (t : TreeCore) (roots : Roots)
         some,
         record {
           walked = m.walked;
+          counted = m.counted;
           tree = m.state;
           roots = top;
           exports = refl;
@@ -124,10 +125,17 @@ module _ (objects : Objects) (ranks places : ℕ) (t : TreeCore) (roots : Roots)
         },
       )
 
+  pub mounted_limit : t.limit ≡ limit
+  mounted_limit = go is
+    where
+      go : Mounts limit objects ranks places opening t → t.limit ≡ limit
+      go (inl (none, new)) = ap (λ (s : TreeState). s.limit) new.state
+      go (inr (some, m)) = ap (λ (s : TreeState). s.limit) m.state
+
   as_many : length t.caches.used ≡ ranks
   as_many = go is
     where
-      go : Mounts objects ranks places opening t → length t.caches.used ≡ ranks
+      go : Mounts limit objects ranks places opening t → length t.caches.used ≡ ranks
       go (inl (none, new)) = ap (λ (cs : CacheMap). length cs.used) new.caches ∙ new_count ranks places
       go (inr (some, m)) = ap (λ (cs : CacheMap). length cs.used) m.caches ∙ length-replicate ranks []
 

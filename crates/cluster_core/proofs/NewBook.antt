@@ -67,10 +67,10 @@ stand_alone core none ranked = record {
     gone root export stands = let clash : None ≡ Some export = sym (get-empty leaf_cmp root) ∙ ap (λ (e : Standing). finmap.get e root) (sym none) ∙ stands in cc
 
 -- a new book is sound
-pub sound-empty : (core : Core) (ranks : ℕ) → 1 ≤ ranks → ranks ≤ 16 → core.state ≡ new_state ranks → IsKept core.state.tree core.caches → AreCached core → length core.caches.used ≡ ranks → IsSound finmap.empty [] core
-sound-empty core ranks some most is tree cached count = record {
+pub sound-empty : (core : Core) (ranks limit : ℕ) → 1 ≤ ranks → ranks ≤ 16 → core.state ≡ new_state ranks limit → IsKept core.state.tree core.caches → AreCached core → length core.caches.used ≡ ranks → IsSound finmap.empty [] core
+sound-empty core ranks limit some most is tree cached count = record {
   legal = λ k e below. absurd (omega arith);
-  replayed = ap shown is ∙ new_tree;
+  replayed = ap shown is ∙ new_tree limit;
   tree = tree;
   subtrees = rw is new_are_roots;
   cached = cached;

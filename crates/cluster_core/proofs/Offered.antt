@@ -32,7 +32,7 @@ module _ (opening : Tree) (past : List Entry) (core : Core) (sound : IsSound ope
   next_unused below = record {
     not_root = λ one. omega (arith, one, has.supply.started);
     not_there = λ d name inode stands same.
-        let used = numbers_used opening past sound.legal (dentry_of d name) inode (ap (λ t. map.get t (dentry_of d name)) (sym sound.replayed) ∙ stands) in
+        let used = numbers_used core.state.tree.limit opening past sound.legal (dentry_of d name) inode (ap (λ t. map.get t (dentry_of d name)) (sym sound.replayed) ∙ stands) in
         let low : _ = has.fresh inode.ino.0 (omega (arith, same, has.supply.started)) (omega (arith, same, below)) used in
         omega (arith, same, low);
   }

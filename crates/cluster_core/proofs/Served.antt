@@ -166,7 +166,7 @@ module _ (f : TreeState) (roots : Roots) (exports : Standing) (numbers : List Su
       -- a request that was prepared, and then applied
       module _ (h : TreeState) (roots_now : Roots) (exports_now : Standing) (stand : exports_now ≡ between_exports) (numbers_after : List Supply) (pins_now : List Pin) (sessions_now : Table) (now : List Entry) (IsReady : Change → Type 0) (prepared : Prepared) (answer : Answer)
           (may : MayTouchAllIn f roots exports pins rank request.client request.tid request.op)
-          (planned : IsPrepared (shown_tree f) f.covers IsReady request.op (outcome_with f (supply_of old rank) request.op) (supply_of old rank) prepared)
+          (planned : IsPrepared f.limit (shown_tree f) f.covers IsReady request.op (outcome_with f (supply_of old rank) request.op) (supply_of old rank) prepared)
           (tree : shown_tree h ≡ after_plan (shown_tree g) prepared.plan.change)
           (made : MakesPlanned prepared.plan.change g h)
           (leaves : CarryLeaves (shown_tree g) (shown_tree h) g.covers h.covers)

@@ -28,12 +28,12 @@ use Rattle.cluster_core.proofs.Applied.{sound-applied}
 use Rattle.cluster_core.proofs.Offered.{there_of}
 
 module _ (opening : Tree) (past now : List Entry) (old new : Core) (sound : IsSound opening past old) (tree : IsKept new.state.tree new.caches) (cached : AreCached new) (exported : AreExported new) (count : length new.caches.used ≡ length old.caches.used)
-    (valid : AreRoots new.state.tree new.state.roots) where
+    (valid : AreRoots new.state.tree new.state.roots) (limit : new.state.tree.limit ≡ old.state.tree.limit) where
   -- the same history, and the same tree, numbers and sessions: what the inboxes have has no part in it
   pub sound-same : now ≡ past → shown new.state ≡ shown old.state → new.state.numbers ≡ old.state.numbers → length new.state.inboxes ≡ length old.state.inboxes → new.state.sessions ≡ old.state.sessions → IsSound opening now new
   sound-same same shown_same numbers_same inboxes_same sessions_same = record {
-    legal = rw same sound.legal;
-    replayed = shown_same ∙ rw same sound.replayed;
+    legal = rw (limit, same) sound.legal;
+    replayed = shown_same ∙ rw (limit, same) sound.replayed;
     tree = tree;
     subtrees = valid;
     cached = cached;
@@ -69,7 +69,7 @@ module _ (opening : Tree) (past now : List Entry) (old new : Core) (sound : IsSo
 
   module _ (MayRefuse : Op → Refusal → Type 0) (rank : Rank) (there : rank.0 < length old.state.numbers) where
     served : (request : Request) (rest : List Request) (result : Result Answer Refusal) → ServesRequest old.state new.state past now MayRefuse rank request rest result → IsSound opening now new
-    served request rest (Ok answer) (inl h) = sound-applied opening past now old new rank request rest answer there sound tree cached exported count valid h
+    served request rest (Ok answer) (inl h) = sound-applied opening past now old new rank request rest answer there sound tree cached exported count valid limit h
     served request rest (Ok answer) (inr (inl h)) = sound-out rank request rest h.out
     served request rest (Ok answer) (inr (inr (inl h))) = forwarded rank request rest answer h
     served request rest (Ok answer) (inr (inr (inr h))) = sound-but h.same _ old.state.pins (length-set old.state.inboxes rank.0 (rest ++ request ∷ [])) h.left

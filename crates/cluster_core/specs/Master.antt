@@ -64,7 +64,7 @@ MayTouchIn tree roots exports pins rank client tid leaf =
 
 -- the leaves that an operation would change now
 abbrev pub would_change_in : TreeState → Op → List Leaf
-would_change_in tree op = changed_fragments tree.covers (shown_tree tree) op
+would_change_in tree op = changed_fragments tree.limit tree.covers (shown_tree tree) op
 
 abbrev pub would_change : State → Op → List Leaf
 would_change state op = would_change_in state.tree op
@@ -101,4 +101,4 @@ AreMastersThere tree roots rank count = (op : Op) (master : Rank) → IsMasterIn
 
 -- the checks of an operation found this, offered some number, where leaves lie at the ranks that hold them
 abbrev pub IsCheckedIn : TreeState → Roots → Op → Checked → Type 0
-IsCheckedIn tree roots op checked = (n : ℕ) × Checks (shown_tree tree) tree.covers (HoldsAt tree roots) op n (step (shown_tree tree) op n) checked
+IsCheckedIn tree roots op checked = (n : ℕ) × Checks (shown_tree tree) tree.covers (HoldsAt tree roots) op n (step tree.limit (shown_tree tree) op n) checked

@@ -4,22 +4,24 @@ use Rattle.std.specs.FinMap as map
 use Rattle.mds_types.specs.Tree.{Tree}
 use Rattle.objstore.specs.Objects.{Objects}
 use Rattle.dentry_cache.specs.CacheMap.{no_caches}
+use Rattle.inode_table.specs.TreeTable.{IsCounted}
 use Rattle.mdcache.specs.Mounted.{AreNumbers, IsWalked, mounted}
 use Rattle.mdcache.specs.New.{new_caches}
 use Rattle.ranked_tree.specs.Mounted.{AreTopRoots}
 use Rattle.cluster_core.specs.State.{Core, new_state}
 
 -- the cluster over a store that has no object, as `format` makes it: nothing but the root's leaf is cached
-pub record IsNewCore (ranks places : ℕ) (core : Core) : Type 0 where
-  pub state : core.state ≡ new_state ranks
+pub record IsNewCore (limit ranks places : ℕ) (core : Core) : Type 0 where
+  pub state : core.state ≡ new_state ranks limit
   pub caches : core.caches ≡ new_caches ranks places
 
--- the cluster over a store that was walked: the tree has what the walk found, and the objects that weren't reached are to be removed; the leaves
+-- the cluster over a store that was walked, where a directory may have so many entries, whatever they have: the tree has what the walk found, and the objects that weren't reached are to be removed; the leaves
 -- of the root directory are rank 0's; no export stands; each rank has the numbers after the greatest of its range; nothing waits, is granted or is kept; and
 -- nothing is cached
-pub record IsMountedCore (objects : Objects) (ranks places : ℕ) (opening : Tree) (core : Core) : Type 0 where
+pub record IsMountedCore (limit : ℕ) (objects : Objects) (ranks places : ℕ) (opening : Tree) (core : Core) : Type 0 where
   pub walked : IsWalked objects opening core.state.tree.homes core.state.tree.covers core.state.tree.purge
-  pub tree : core.state.tree ≡ mounted objects core.state.tree.homes core.state.tree.covers core.state.tree.purge
+  pub counted : IsCounted opening core.state.tree.counts core.state.tree.pins
+  pub tree : core.state.tree ≡ mounted limit objects core.state.tree.homes core.state.tree.covers core.state.tree.counts core.state.tree.pins core.state.tree.purge
   pub roots : AreTopRoots core.state.tree.covers core.state.roots
   pub exports : core.state.exports ≡ map.empty
   pub numbers : AreNumbers opening ranks core.state.numbers
@@ -29,6 +31,6 @@ pub record IsMountedCore (objects : Objects) (ranks places : ℕ) (opening : Tre
   pub caches : core.caches ≡ no_caches ranks places
 
 -- a store with no object is mounted as a new one, any other as a walk finds it
-abbrev pub MountsCore : Objects → (ranks places : ℕ) → Tree → Core → Type 0
-MountsCore objects ranks places opening core =
-    ((objects ≡ map.empty) × (opening ≡ map.empty) × IsNewCore ranks places core) ⊎ ((objects ≡ map.empty → ⊥) × IsMountedCore objects ranks places opening core)
+abbrev pub MountsCore : ℕ → Objects → (ranks places : ℕ) → Tree → Core → Type 0
+MountsCore limit objects ranks places opening core =
+    ((objects ≡ map.empty) × (opening ≡ map.empty) × IsNewCore limit ranks places core) ⊎ ((objects ≡ map.empty → ⊥) × IsMountedCore limit objects ranks places opening core)

@@ -37,7 +37,7 @@ use Rattle.cluster_core.specs.Offer.{after_taking}
 
 -- the table's outcome for a request at a rank, offered the rank's next number
 abbrev pub outcome_of : State → Rank → Request → Outcome
-outcome_of state rank request = step (shown state) request.op (number_or (offer (supply_of state rank)))
+outcome_of state rank request = step state.tree.limit (shown state) request.op (number_or (offer (supply_of state rank)))
 
 -- the number that the table takes for a request, if it takes one
 abbrev pub number_of : State → Rank → Request → Option Ino

@@ -69,8 +69,8 @@ pub record AreExported (core : Core) : Type 0 where
 -- live leaf, tied to its object; each leaf of the root directory is a subtree root, and only leaves are; each rank caches what it holds; what
 -- the exports need has its place; no number is given twice, and the sessions are those of the history
 pub record IsSound (opening : Tree) (history : List Entry) (core : Core) : Type 0 where
-  pub legal : IsLegal opening history
-  pub replayed : shown core.state ≡ after opening history
+  pub legal : IsLegal core.state.tree.limit opening history
+  pub replayed : shown core.state ≡ after core.state.tree.limit opening history
   pub tree : IsKept core.state.tree core.caches
   pub subtrees : AreRoots core.state.tree core.state.roots
   pub cached : AreCached core

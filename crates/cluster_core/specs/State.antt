@@ -76,11 +76,11 @@ abbrev pub whole_supplies : ℕ → ℕ → List Supply
 whole_supplies first zero = []
 whole_supplies first (suc more) = record { rank = first; next = first_number first } ∷ whole_supplies (suc first) more
 
--- the state of a new book of so many ranks: no directory but the root, whose leaf is rank 0's, no name, no object, no export,
+-- the state of a new book of so many ranks, where a directory may have so many entries: no directory but the root, whose leaf is rank 0's, no name, no object, no export,
 -- nothing that waits, is granted or is kept, and for each rank all its numbers
-abbrev pub new_state : ℕ → State
-new_state ranks = record {
-  tree = new_tree;
+abbrev pub new_state : ℕ → ℕ → State
+new_state ranks limit = record {
+  tree = new_tree limit;
   roots = new_roots;
   exports = map.empty;
   numbers = whole_supplies 0 ranks;

@@ -69,11 +69,11 @@ pub(crate) fn prepare<F: Frags>(
 ) -> Result<Prepared, Refusal>
     requires session { IsSessionOf given.old.sessions asked.now.request.client asked.now.session }
     requires offered { IsOffered (F.content frags.old) F.IsNumber (offer asked.now.supply) }
-    requires checked { Checks (F.content frags.old) (F.covers frags.old) (F.Holds frags.old) asked.now.request.op (number_or (offer asked.now.supply)) (step (F.content frags.old) asked.now.request.op (number_or (offer asked.now.supply))) checked }
-    requires touch { (leaf : Leaf) → Contains (changed_fragments (F.covers frags.old) (F.content frags.old) asked.now.request.op) leaf → F.MayTouch frags.old leaf }
-    ensures prepared { let outcome = step (F.content frags.old) asked.now.request.op (number_or (offer asked.now.supply)) in
+    requires checked { Checks (F.content frags.old) (F.covers frags.old) (F.Holds frags.old) asked.now.request.op (number_or (offer asked.now.supply)) (step asked.now.limit (F.content frags.old) asked.now.request.op (number_or (offer asked.now.supply))) checked }
+    requires touch { (leaf : Leaf) → Contains (changed_fragments asked.now.limit (F.covers frags.old) (F.content frags.old) asked.now.request.op) leaf → F.MayTouch frags.old leaf }
+    ensures prepared { let outcome = step asked.now.limit (F.content frags.old) asked.now.request.op (number_or (offer asked.now.supply)) in
         MatchResult result
-        (IsPrepared (F.content frags.old) (F.covers frags.old) (F.IsReady frags.new) asked.now.request.op outcome asked.now.supply)
+        (IsPrepared asked.now.limit (F.content frags.old) (F.covers frags.old) (F.IsReady frags.new) asked.now.request.op outcome asked.now.supply)
         (IsRefused (F.content frags.old) (F.content frags.new) (F.MayRefuse frags.old frags.new asked.now.request.op) outcome (offer asked.now.supply)) }
     ensures room { OnOk result (vec_len history.new < vec_capacity history.new) }
     ensures reserved { OnOk result (IsReady given.new.sessions asked.now.request.client) }
@@ -85,7 +85,13 @@ pub(crate) fn prepare<F: Frags>(
 {
     history.reserve(1)?;
     given.sessions.reserve(alloc, &asked.session)?;
-    let plan = plan_checked(frags, &asked.request.op, checked, asked.supply.peek())?;
+    let plan = plan_checked(
+        frags,
+        asked.limit,
+        &asked.request.op,
+        checked,
+        asked.supply.peek(),
+    )?;
     // in place, since a plan is large and each call that it goes through copies it
     let Ok(answer) = plan.reply.try_clone() else {
         drop(plan);

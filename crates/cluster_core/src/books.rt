@@ -12,7 +12,7 @@ ghost use Rattle.cluster_core.specs.Sound.{IsSoundBook};
 use crate::clusters::Cluster;
 use crate::events::{Answer, Event};
 use crate::plain_trees::PlainTree;
-use mds_types::{Entry, Rank, Refusal};
+use mds_types::{Entry, Limit, Rank, Refusal};
 use objstore::Store;
 use std::alloc::Global;
 use std::marker::Model;
@@ -99,7 +99,7 @@ impl<S: Store + Drop> Book<S> {
 
 /// A book of so many ranks over a store that has no object: an empty tree, an empty history, and nothing that waits. The root
 /// directory's leaf is rank 0's. `cache` is the number of fragments that a rank may cache; the root's `*` is cached at rank 0,
-/// and no object counts for it. Takes memory.
+/// and no object counts for it. `limit` is the number of entries that a directory may have. Takes memory.
 ///
 /// Refused `NotClean` exactly where the store has objects, unless it refuses to tell, and `NoMemory`; the store is handed
 /// back then, with its objects as they were.
@@ -108,6 +108,7 @@ pub fn format<S: Store + Drop>(
     store: S,
     ranks: u8,
     cache: u32,
+    limit: Limit,
 ) -> Result<Book<S>, (Refusal, S)>
     requires some { 1 ≤ ranks }
     requires ranked { ranks ≤ 16 }
@@ -116,7 +117,7 @@ pub fn format<S: Store + Drop>(
     ensures empty { OnOk result (S.objects store ≡ map.empty) }
     ensures opening { IfOk result (λ book. book.opening ≡ map.empty) }
     ensures history { IfOk result (λ book. book.history ≡ []) }
-    ensures state { IfOk result (λ book. book.core.state ≡ new_state ranks) }
+    ensures state { IfOk result (λ book. book.core.state ≡ new_state ranks limit) }
     ensures caches { IfOk result (λ book. book.core.caches ≡ new_caches ranks cache) }
     ensures refused { IfErr result (λ back. MayNotFormat (S.objects store) (S.faults store) (S.faults back.1) back.0) }
     ensures left { IfErr result (λ back. S.objects back.1 ≡ S.objects store) }
@@ -124,7 +125,7 @@ pub fn format<S: Store + Drop>(
     ensures faults { IfOk result (λ book. book.core.faults ≡ S.faults store) }
     ensures counted { IfErr result (λ back. S.faults back.1 ≡ S.faults store + faults_in back.0) }
 {
-    match Cluster::format(alloc, store, ranks, cache as usize) {
+    match Cluster::format(alloc, store, ranks, cache as usize, limit) {
         Ok(cluster) => Ok(Book {
             cluster,
             history: Vec::new(alloc),

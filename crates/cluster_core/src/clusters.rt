@@ -19,7 +19,7 @@ use crate::granting::grant_first;
 use crate::parts::{Given, Waiting};
 use crate::serving::serve_front;
 use inode_table::Numbers;
-use mds_types::{Entry, Frag, Ino, Rank, Refusal, Request};
+use mds_types::{Entry, Frag, Ino, Limit, Rank, Refusal, Request};
 use namespace_ops::Frags;
 use objstore::Store;
 use ranked_tree::RankedTree;
@@ -53,7 +53,7 @@ impl<S: Store + Drop> Model for Cluster<S> {
 
 impl<S: Store + Drop> Cluster<S> {
     /// A cluster of so many ranks that serves the empty tree over a store that has no object, with a cache of so many places
-    /// each. The root directory's leaf is rank 0's.
+    /// each, where a directory may have `limit` entries. The root directory's leaf is rank 0's.
     ///
     /// Refused `NotClean` exactly where the store has objects, unless it refuses to tell, and `NoMemory`; the store is handed
     /// back then, with its objects as they were.
@@ -62,13 +62,14 @@ impl<S: Store + Drop> Cluster<S> {
         store: S,
         ranks: u8,
         places: usize,
+        limit: Limit,
     ) -> Result<Cluster<S>, (Refusal, S)>
         requires some { 1 ≤ ranks }
         requires ranked { ranks ≤ 16 }
         requires few { 512 ≤ places }
         requires many { places ≤ 65536 }
         ensures empty { OnOk result (S.objects store ≡ map.empty) }
-        ensures state { IfOk result (λ c. c.state ≡ new_state ranks) }
+        ensures state { IfOk result (λ c. c.state ≡ new_state ranks limit) }
         ensures caches { IfOk result (λ c. c.caches ≡ new_caches ranks places) }
         ensures kept { IfOk result (λ c. IsKept c.state.tree c.caches) }
         ensures cached { IfOk result AreCached }
@@ -79,7 +80,7 @@ impl<S: Store + Drop> Cluster<S> {
     {
         match parts_of(alloc, ranks) {
             Err(_) => Err((Refusal::NoMemory, store)),
-            Ok(parts) => match RankedTree::format(alloc, store, ranks, places) {
+            Ok(parts) => match RankedTree::format(alloc, store, ranks, places, limit) {
                 Err(back) => Err(back),
                 Ok(tree) => {
                     tree.is_sound();

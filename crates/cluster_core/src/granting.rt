@@ -45,7 +45,8 @@ pub(crate) fn grant_first<S: Store + Drop>(
         return Err(Refusal::InboxEmpty)
     };
     let places = locate(tree, rank, &request.op);
-    let changed = changes(alloc, tree, &request.op, places)?;
+    let limit = tree.limit();
+    let changed = changes(alloc, tree, limit, &request.op, places)?;
     let mine = match some_held(alloc, tree, rank, &changed) {
         Ok(mine) => mine,
         Err(refusal) => return Err(refusal),

@@ -19,7 +19,7 @@ use crate::clusters::Cluster;
 use crate::parts::{Given, Waiting};
 use crate::plain_trees::PlainTree;
 use mdcache::Opening;
-use mds_types::Refusal;
+use mds_types::{Limit, Refusal};
 use objstore::Store;
 use ranked_tree::RankedTree;
 use std::alloc::Global;
@@ -32,12 +32,14 @@ impl<S: Store + Drop> Cluster<S> {
         store: S,
         ranks: u8,
         places: usize,
+        limit: Limit,
     ) -> Result<(Cluster<S>, PlainTree), (Refusal, S)>
         requires some { 1 ≤ ranks }
         requires ranked { ranks ≤ 16 }
         requires few { 512 ≤ places }
         requires many { places ≤ 65536 }
-        ensures mounted { IfOk result (λ m. MountsCore (S.objects store) ranks places m.1 m.0) }
+        ensures limit { IfOk result (λ m. m.0.state.tree.limit ≡ limit) }
+        ensures mounted { IfOk result (λ m. MountsCore limit (S.objects store) ranks places m.1 m.0) }
         ensures cold { IfOk result (λ m. IsColdTree (S.objects store) (shown m.0.state)) }
         ensures opening { IfOk result (λ m. m.1 ≡ shown m.0.state) }
         ensures objects { IfOk result (λ m. m.0.state.tree.objects ≡ S.objects store) }
@@ -49,7 +51,7 @@ impl<S: Store + Drop> Cluster<S> {
     {
         match Waiting::new(alloc, ranks) {
             Err(_) => Err((Refusal::NoMemory, store)),
-            Ok(waiting) => match RankedTree::mount(alloc, store, ranks, places) {
+            Ok(waiting) => match RankedTree::mount(alloc, store, ranks, places, limit) {
                 Ok((tree, opening)) => Ok(Cluster::of_mounted(alloc, tree, opening, waiting)),
                 Err(back) => {
                     drop(waiting);
@@ -84,7 +86,8 @@ impl<S: Store + Drop> Cluster<S> {
 }
 
 /// A book of so many ranks over a store as it is found: it opens with the store's cold tree, with an empty history, and nothing
-/// that waits. `cache` is the number of fragments that a rank may cache. Nothing is written. Takes memory for all entries and for
+/// that waits. `cache` is the number of fragments that a rank may cache, and `limit` that of the entries that a directory may have: one that
+/// has more stays as it is, and takes no further one. Nothing is written. Takes memory for all entries and for
 /// the names of all objects.
 ///
 /// A store that has no object gives the book of `format`. Otherwise nothing is cached and all is clean; the leaves of the root
@@ -98,12 +101,14 @@ pub fn mount<S: Store + Drop>(
     store: S,
     ranks: u8,
     cache: u32,
+    limit: Limit,
 ) -> Result<Book<S>, (Refusal, S)>
     requires some { 1 ≤ ranks }
     requires ranked { ranks ≤ 16 }
     requires least { 512 ≤ cache }
     requires most { cache ≤ 65536 }
-    ensures mounted { IfOk result (λ book. MountsCore (S.objects store) ranks cache book.opening book.core) }
+    ensures limit { IfOk result (λ book. book.core.state.tree.limit ≡ limit) }
+    ensures mounted { IfOk result (λ book. MountsCore limit (S.objects store) ranks cache book.opening book.core) }
     ensures cold { IfOk result (λ book. IsColdTree (S.objects store) (shown book.core.state)) }
     ensures opening { IfOk result (λ book. book.opening ≡ shown book.core.state) }
     ensures history { IfOk result (λ book. book.history ≡ []) }
@@ -114,7 +119,7 @@ pub fn mount<S: Store + Drop>(
     ensures left { IfErr result (λ back. S.objects back.1 ≡ S.objects store) }
     ensures counted { IfErr result (λ back. S.faults back.1 ≡ S.faults store + faults_in back.0) }
 {
-    match Cluster::mount(alloc, store, ranks, cache as usize) {
+    match Cluster::mount(alloc, store, ranks, cache as usize, limit) {
         Ok((cluster, opening)) => Ok(Book {
             cluster,
             history: Vec::new(alloc),

@@ -6,7 +6,7 @@ ghost use Rattle.cluster_core.specs.State.{no_supply};
 
 use inboxes::{Inboxes, Pins};
 use inode_table::Numbers;
-use mds_types::{Rank, Request};
+use mds_types::{Limit, Rank, Request};
 use namespace_ops::Places;
 use sessions::{SessionAt, Sessions};
 use std::alloc::{AllocError, Global};
@@ -59,11 +59,12 @@ impl Given {
     }
 }
 
-/// A new request at its master, taken out of the master's inbox, with what was found of it: the numbers that the master has left,
-/// where its client's session is, and where its names lie.
+/// A new request at its master, taken out of the master's inbox, with what was found of it: how many entries a directory may have, the
+/// numbers that the master has left, where its client's session is, and where its names lie.
 #[derive(Drop)]
 pub(crate) struct Asked {
     pub(crate) rank: Rank,
+    pub(crate) limit: Limit,
     pub(crate) supply: Numbers,
     pub(crate) request: Request,
     pub(crate) session: SessionAt,

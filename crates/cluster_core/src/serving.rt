@@ -76,6 +76,7 @@ pub(crate) fn serve_front<S: Store + Drop>(
             }
             let asked = Asked {
                 rank,
+                limit: tree.limit(),
                 supply: given.supply_of(rank),
                 request,
                 session,
@@ -110,7 +111,14 @@ fn serve_new<S: Store + Drop>(
     ensures counted { tree.new.tree.faults ≡ tree.old.tree.faults + faults_told (result_err result) }
 {
     let number = asked.supply.peek().unwrap_or(Ino(0));
-    let checked = match check(alloc, tree, &asked.request.op, asked.places, number) {
+    let checked = match check(
+        alloc,
+        tree,
+        asked.limit,
+        &asked.request.op,
+        asked.places,
+        number,
+    ) {
         Ok(checked) => checked,
         Err(refusal) => {
             waiting.inboxes.put_back(asked.rank, asked.request);

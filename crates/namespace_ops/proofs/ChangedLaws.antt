@@ -128,20 +128,20 @@ no_errno None None = refl
 no_errno None (Some put) = refl
 no_errno (Some spot) puts = refl
 
-module _ (tree : Tree) (covers : Covers) (Holds : Dirfrag → Type 0) (op : Op) (n : ℕ) (change : Change) (checked : IsChecked tree covers Holds op n (step tree op n) change) where
+module _ (limit : ℕ) (tree : Tree) (covers : Covers) (Holds : Dirfrag → Type 0) (op : Op) (n : ℕ) (change : Change) (checked : IsChecked tree covers Holds op n (step limit tree op n) change) where
   pub takes_old : change.comes ≡ false → Takes tree change
   takes_old old = checked.takes (λ taken. let clash : true ≡ false = sym taken ∙ checked.number ∙ old in absurd cc)
 
   pub moves : stays op ≡ false
   moves = moves_by tree covers (shape op) change checked.one_of takes_old
 
-  pub busy : is_idle op (step tree op n).reply ≡ false
+  pub busy : is_idle op (step limit tree op n).reply ≡ false
   busy = ap (λ r. is_errno r || stays op) checked.replied ∙ ap (λ b. b || stays op) (no_errno change.takes change.puts) ∙ moves
 
-  pub fragments_are : fragments_of covers change ≡ changed_fragments covers tree op
+  pub fragments_are : fragments_of covers change ≡ changed_fragments limit covers tree op
   fragments_are =
       touched_by tree covers (shape op) change checked.one_of checked.carries moves
-      ∙ sym (ap (λ b. cond b [] (touched covers tree op)) (errno_of_any_number tree op 0 n ∙ ap is_errno checked.replied ∙ no_errno change.takes change.puts))
+      ∙ sym (ap (λ b. cond b [] (touched covers tree op)) (errno_of_any_number limit tree op 0 n ∙ ap is_errno checked.replied ∙ no_errno change.takes change.puts))
 
 -- the errno of a replacement, by three tests
 abbrev told : Bool → Bool → Bool → Option ℕ
@@ -245,18 +245,18 @@ module _ (tree : Tree) (covers : Covers) where
 -- the list of the fragments of the change that the checks found names the changed fragments of its operation, each once
 pub named_by : {V : Type 0} (tree : Tree) (covers : Covers) (Holds : Dirfrag → Type 0) (change : Change) (found : Checked) (result : Result V Refusal) (items : V → List Leaf) → found ≡ Changes change
     → IfOk result (λ list. items list ≡ named_once covers change) → IfOk result (λ list. IsCovered covers change.gone)
-    → IfOk result (λ list. (op : Op) (n : ℕ) → Checks tree covers Holds op n (step tree op n) found → NamesOnce (changed_fragments covers tree op) (items list))
+    → IfOk result (λ list. (limit : ℕ) (op : Op) (n : ℕ) → Checks tree covers Holds op n (step limit tree op n) found → NamesOnce (changed_fragments limit covers tree op) (items list))
 named_by tree covers Holds change found (Err reason) items is listed covered = tt
-named_by tree covers Holds change found (Ok list) items is listed covered = λ op n checks.
-    let checked : IsChecked tree covers Holds op n (step tree op n) change = subst (Checks tree covers Holds op n (step tree op n)) is checks in
-    subst (λ k. NamesOnce k (items list)) (fragments_are tree covers Holds op n change checked)
-    (subst (NamesOnce (fragments_of covers change)) (sym listed) (named_apart tree covers change checked.carries (comes_alone (shape op) change checked.one_of) (takes_old tree covers Holds op n change checked) covered))
+named_by tree covers Holds change found (Ok list) items is listed covered = λ limit op n checks.
+    let checked : IsChecked tree covers Holds op n (step limit tree op n) change = subst (Checks tree covers Holds op n (step limit tree op n)) is checks in
+    subst (λ k. NamesOnce k (items list)) (fragments_are limit tree covers Holds op n change checked)
+    (subst (NamesOnce (fragments_of covers change)) (sym listed) (named_apart tree covers change checked.carries (comes_alone (shape op) change checked.one_of) (takes_old limit tree covers Holds op n change checked) covered))
 
 -- so does one that was made after the checks
-pub named_from : {V : Type 0} (tree mid : Tree) (covers later : Covers) (Holds Held : Dirfrag → Type 0) (op : Op) (n : ℕ) (found : Checked) (result : Result V Refusal) (items : V → List Leaf) → mid ≡ tree → later ≡ covers → ((at : Dirfrag) → Holds at → Held at)
-    → Checks tree covers Holds op n (step tree op n) found → IfOk result (λ list. (o : Op) (m : ℕ) → Checks mid later Held o m (step mid o m) found → NamesOnce (changed_fragments later mid o) (items list))
-    → IfOk result (λ list. NamesOnce (changed_fragments covers tree op) (items list))
-named_from tree mid covers later Holds Held op n found (Err reason) items same leaves holds checks named = tt
-named_from tree mid covers later Holds Held op n found (Ok list) items same leaves holds checks named =
-    subst (λ t. NamesOnce (changed_fragments covers t op) (items list)) same
-    (subst (λ k. NamesOnce (changed_fragments k mid op) (items list)) leaves (named op n (checks_on tree mid covers later Holds Held op n n found same leaves holds refl checks)))
+pub named_from : {V : Type 0} (limit : ℕ) (tree mid : Tree) (covers later : Covers) (Holds Held : Dirfrag → Type 0) (op : Op) (n : ℕ) (found : Checked) (result : Result V Refusal) (items : V → List Leaf) → mid ≡ tree → later ≡ covers → ((at : Dirfrag) → Holds at → Held at)
+    → Checks tree covers Holds op n (step limit tree op n) found → IfOk result (λ list. (l : ℕ) (o : Op) (m : ℕ) → Checks mid later Held o m (step l mid o m) found → NamesOnce (changed_fragments l later mid o) (items list))
+    → IfOk result (λ list. NamesOnce (changed_fragments limit covers tree op) (items list))
+named_from limit tree mid covers later Holds Held op n found (Err reason) items same leaves holds checks named = tt
+named_from limit tree mid covers later Holds Held op n found (Ok list) items same leaves holds checks named =
+    subst (λ t. NamesOnce (changed_fragments limit covers t op) (items list)) same
+    (subst (λ k. NamesOnce (changed_fragments limit k mid op) (items list)) leaves (named limit op n (checks_on limit tree mid covers later Holds Held op n n found same leaves holds refl checks)))

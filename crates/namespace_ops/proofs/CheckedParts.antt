@@ -1,5 +1,5 @@
 -- What the checks of each kind of operation find.
-use Rattle.std.proofs.Common.{◌≡◌, ℕ, Bool, true, false, not, cond, ◌&&◌, is_some, IfOk, IfSome, Option, Some, None, Result, Ok, Err, refl, sym, ap, subst, ◌∙◌}
+use Rattle.std.proofs.Common.{◌≡◌, ℕ, ◌<◌, ◌^◌, nat_le, Bool, true, false, not, cond, ◌&&◌, is_some, IfOk, IfSome, Option, Some, None, Result, Ok, Err, refl, sym, ap, subst, ◌∙◌}
 use Rattle.std.specs.Ordering.{eq_by_cmp}
 use Rattle.std.specs.FinMap as map
 use Rattle.mds_types.specs.declared.ids.Ino.{Ino}
@@ -15,8 +15,8 @@ use Rattle.mds_types.specs.declared.operations.Op.TheVariants.{Rename}
 use Rattle.mds_types.specs.declared.refusals.Refusal.{Refusal}
 use Rattle.mds_types.specs.declared.replies.Reply.TheVariants.{Done, Entry, Errno}
 use Rattle.mds_types.specs.Shape.{destination_of, directory_of, shape, source_of}
-use Rattle.mds_types.specs.Tree.{HasPinOf, HasSize, Tree, dentry_cmp, is_directory, is_dir_kind, has_entries}
-use Rattle.mds_types.specs.Step.{IsMove, Outcome, altered, altered_at, alteration_errno, answers, dir_removed, done_in, removal_errno, leads_to, made, new_inode, renamed, replace_errno, step, unless, unlinked, with_moved}
+use Rattle.mds_types.specs.Tree.{HasPinOf, HasSize, Tree, dentry_cmp, is_directory, is_dir_kind, entries_in, has_entries}
+use Rattle.mds_types.specs.Step.{HasSpace, IsMove, Outcome, altered, altered_at, alteration_errno, answers, dir_removed, done_in, removal_errno, leads_to, made, new_inode, renamed, replace_errno, room_errno, step, unless, unlinked, with_moved}
 use Rattle.mds_types.proofs.AlterationLaws.{altered_kind, altered_number, altered_pin, altered_size}
 use Rattle.mds_types.proofs.DirectoryLaws.{entry_stands}
 use Rattle.mds_types.proofs.WellFormedLaws.{new_sized, may_go}
@@ -56,13 +56,44 @@ module _ (tree : Tree) (covers : Covers) (Holds : Dirfrag → Type 0) where
       let same = spot_is dentry at lies.dir spot is in
       (same, subst (λ (d : Dentry). IsLeafAt covers d spot.at.frag) (sym same) (subst (λ (s : Spot). IsLeafAt covers dentry s.at.frag) (sym is) lies.leaf), subst (λ (s : Spot). Holds s.at) (sym is) lies.held)
 
+-- a new inode where nothing stands, in a full directory
+pub made_full : (limit : ℕ) (tree : Tree) (dentry : Dentry) (inode : Inode) → map.get tree dentry ≡ None → nat_le limit (entries_in tree dentry.dir.0) ≡ true → made limit tree dentry inode (map.get tree dentry) ≡ answers tree (Errno 28)
+made_full limit tree dentry inode free full =
+    ap (made limit tree dentry inode) free
+    ∙ ap (λ b. unless tree (cond {A = Option ℕ} b (Some 28) None) (record { reply = Entry inode; tree = map.insert tree dentry inode; takes = true })) full
+
+-- what a rename comes to once its first checks have passed
+module _ (limit : ℕ) (tree : Tree) (from to : Dentry) (source target : Option Inode) (inode : Inode) (stands : source ≡ Some inode) (apart : eq_by_cmp dentry_cmp from to ≡ false) (outside : leads_to tree inode to.dir.0 ≡ false) where
+  abbrev arrives : Outcome
+  arrives = answers (with_moved tree from to inode) Done
+
+  abbrev onto : Outcome
+  onto = unless tree (replace_errno tree inode target) (unless tree (room_errno limit tree from to target) arrives)
+
+  renamed_on : renamed limit tree from to source target ≡ onto
+  renamed_on =
+      ap (λ o. renamed limit tree from to o target) stands
+      ∙ ap (λ b. cond b (answers tree Done) (cond (leads_to tree inode to.dir.0) (answers tree (Errno 22)) onto)) apart
+      ∙ ap (λ b. cond b (answers tree (Errno 22)) onto) outside
+
+  pub renamed_refused : (errno : ℕ) → replace_errno tree inode target ≡ Some errno → renamed limit tree from to source target ≡ answers tree (Errno errno)
+  renamed_refused errno refused = renamed_on ∙ ap (λ e. unless tree e (unless tree (room_errno limit tree from to target) arrives)) refused
+
+  pub renamed_full : (errno : ℕ) → replace_errno tree inode target ≡ None → room_errno limit tree from to target ≡ Some errno → renamed limit tree from to source target ≡ answers tree (Errno errno)
+  renamed_full errno replaces full = renamed_on ∙ ap (λ e. unless tree e (unless tree (room_errno limit tree from to target) arrives)) replaces ∙ ap (λ e. unless tree e arrives) full
+
+  pub renamed_moves : replace_errno tree inode target ≡ None → room_errno limit tree from to target ≡ None → renamed limit tree from to source target ≡ arrives
+  renamed_moves replaces room = renamed_on ∙ ap (λ e. unless tree e (unless tree (room_errno limit tree from to target) arrives)) replaces ∙ ap (λ e. unless tree e arrives) room
+
 module _ (tree : Tree) (covers : Covers) (Holds : Dirfrag → Type 0) (op : Op) (n : ℕ) where
-  pub made_checked : (dentry : Dentry) (at : Dirfrag) (spot : Spot) (kind : Kind) (mode : ℕ) (birth : Birth) (inode : Inode) → LiesAt tree covers Holds dentry at → spot ≡ record { at = at; name = dentry.name } → inode ≡ new_inode n kind mode birth → map.get tree dentry ≡ None
-      → ((s : Spot) (i : Inode) → dentry_at s ≡ dentry → i.kind ≡ kind → IsChangeOf op (adds s i)) → IsChecked tree covers Holds op n (made tree dentry (new_inode n kind mode birth) (map.get tree dentry)) (adds spot inode)
-  made_checked dentry at spot kind mode birth inode lies same is free makes =
+  pub made_checked : (limit : ℕ) (dentry : Dentry) (at : Dirfrag) (spot : Spot) (kind : Kind) (mode : ℕ) (birth : Birth) (inode : Inode) → LiesAt tree covers Holds dentry at → spot ≡ record { at = at; name = dentry.name } → inode ≡ new_inode n kind mode birth → map.get tree dentry ≡ None
+      → nat_le limit (entries_in tree dentry.dir.0) ≡ false → entries_in tree dentry.dir.0 < 2 ^ 20
+      → ((s : Spot) (i : Inode) → dentry_at s ≡ dentry → i.kind ≡ kind → IsChangeOf op (adds s i)) → IsChecked tree covers Holds op n (made limit tree dentry (new_inode n kind mode birth) (map.get tree dentry)) (adds spot inode)
+  made_checked limit dentry at spot kind mode birth inode lies same is free room few makes =
       let there = spot_of tree covers Holds dentry at lies spot same in
-      subst (λ (i : Inode). IsChecked tree covers Holds op n (made tree dentry new (map.get tree dentry)) (adds spot i)) (sym is)
-      (subst (λ o. IsChecked tree covers Holds op n (made tree dentry new o) (adds spot new)) (sym free) (record {
+      subst (λ (i : Inode). IsChecked tree covers Holds op n (made limit tree dentry new (map.get tree dentry)) (adds spot i)) (sym is)
+      (subst (λ o. IsChecked tree covers Holds op n (made limit tree dentry new o) (adds spot new)) (sym free)
+      (subst (λ b. IsChecked tree covers Holds op n (unless tree (cond {A = Option ℕ} b (Some 28) None) (record { reply = Entry new; tree = map.insert tree dentry new; takes = true })) (adds spot new)) (sym room) (record {
         one_of = makes spot new there.0 refl;
         replied = refl;
         leads = ap (λ (d : Dentry). map.insert tree d new) (sym there.0);
@@ -70,8 +101,8 @@ module _ (tree : Tree) (covers : Covers) (Holds : Dirfrag → Type 0) (op : Op) 
         numbered = λ new. refl;
         carries = record { taken = tt; put = there.1; gone = refl };
         held = record { taken = tt; put = there.2 };
-        takes = λ unused. subst (λ (d : Dentry). MayAdd tree d new) (sym there.0) (record { free = free; parent = lies.stands; unused = unused refl; sized = new_sized kind; pinned = tt });
-      }))
+        takes = λ unused. subst (λ (d : Dentry). MayAdd tree d new) (sym there.0) (record { free = free; parent = lies.stands; spaced = few; unused = unused refl; sized = new_sized kind; unpinned = refl });
+      })))
     where
       new : Inode
       new = new_inode n kind mode birth
@@ -137,14 +168,15 @@ module _ (tree : Tree) (covers : Covers) (Holds : Dirfrag → Type 0) (op : Op) 
       removed dentry at spot inode (Some inode.ino) _ lies same stands (ap (λ b. b && has_entries tree inode.ino.0) free.0 ∙ free.1) (sym (ap (λ b. cond b (Some inode.ino) None) free.0)) (λ s is. may_remove s (Some inode.ino) is)
       (ap (dir_removed tree dentry) stands ∙ ap (λ e. unless tree e (answers (map.remove tree dentry) Done)) may)
 
-  pub moved_checked : (from to : Dentry) (at : Dirfrag × Dirfrag) (source target : Spot) (gone : Option Ino) (inode : Inode) → LiesAt tree covers Holds from at.0 → LiesAt tree covers Holds to at.1 → source ≡ record { at = at.0; name = from.name } → target ≡ record { at = at.1; name = to.name }
-      → map.get tree from ≡ Some inode → eq_by_cmp dentry_cmp from to ≡ false → leads_to tree inode to.dir.0 ≡ false → replace_errno tree inode (map.get tree to) ≡ None → gone ≡ directory_at (map.get tree to)
+  pub moved_checked : (limit : ℕ) (from to : Dentry) (at : Dirfrag × Dirfrag) (source target : Spot) (gone : Option Ino) (inode : Inode) → LiesAt tree covers Holds from at.0 → LiesAt tree covers Holds to at.1 → source ≡ record { at = at.0; name = from.name } → target ≡ record { at = at.1; name = to.name }
+      → map.get tree from ≡ Some inode → eq_by_cmp dentry_cmp from to ≡ false → leads_to tree inode to.dir.0 ≡ false → replace_errno tree inode (map.get tree to) ≡ None
+      → room_errno limit tree from to (map.get tree to) ≡ None → HasSpace tree from to (map.get tree to) → gone ≡ directory_at (map.get tree to)
       → ((s t : Spot) (i : Inode) (g : Option Ino) → dentry_at s ≡ from → dentry_at t ≡ to → IsChangeOf op (moves s t i g))
-      → IsChecked tree covers Holds op n (unless tree (replace_errno tree inode (map.get tree to)) (answers (with_moved tree from to inode) Done)) (moves source target inode gone)
-  moved_checked from to at source target gone inode here there begins ends stands apart outside replaces is may_move =
+      → IsChecked tree covers Holds op n (renamed limit tree from to (map.get tree from) (map.get tree to)) (moves source target inode gone)
+  moved_checked limit from to at source target gone inode here there begins ends stands apart outside replaces room space is may_move =
       let a = spot_of tree covers Holds from at.0 here source begins in
       let b = spot_of tree covers Holds to at.1 there target ends in
-      subst (λ e. IsChecked tree covers Holds op n (unless tree e (answers (with_moved tree from to inode) Done)) (moves source target inode gone)) (sym replaces) (record {
+      subst (λ o. IsChecked tree covers Holds op n o (moves source target inode gone)) (sym (renamed_moves limit tree from to (map.get tree from) (map.get tree to) inode stands apart outside replaces room)) (record {
         one_of = may_move source target inode gone a.0 b.0;
         replied = refl;
         leads = λ i. with_moved tree (sym a.0 i) (sym b.0 i) inode;
@@ -154,20 +186,19 @@ module _ (tree : Tree) (covers : Covers) (Holds : Dirfrag → Type 0) (op : Op) 
         held = record { taken = a.2; put = b.2 };
         takes = λ unused.
             subst (λ (d : Dentry). IsMove tree d (dentry_at target) inode) (sym a.0) (subst (λ (d : Dentry). IsMove tree from d inode) (sym b.0)
-            (record { stands = stands; apart = apart; parent = there.stands; outside = outside; replaces = replaces }));
+            (record { stands = stands; apart = apart; parent = there.stands; outside = outside; replaces = replaces; spaced = space }));
       })
 
 -- the errno of what stands at the target, asked of a later state at which the tree was the same
 pub replaced_told : (tree mid : Tree) (inode : Inode) (to : Dentry) (copied found : Option Inode) (told : Option ℕ) → mid ≡ tree → copied ≡ found → found ≡ map.get tree to → told ≡ replace_errno mid inode copied → told ≡ replace_errno tree inode (map.get tree to)
 replaced_told tree mid inode to copied found told same copy there is = is ∙ (λ i. replace_errno (same i) inode (copy i)) ∙ ap (replace_errno tree inode) there
 
--- what a rename comes to once its first checks have passed
-pub renamed_on : (tree : Tree) (from to : Dentry) (source target : Option Inode) (inode : Inode) → source ≡ Some inode → eq_by_cmp dentry_cmp from to ≡ false → leads_to tree inode to.dir.0 ≡ false
-    → unless tree (replace_errno tree inode target) (answers (with_moved tree from to inode) Done) ≡ renamed tree from to source target
-renamed_on tree from to source target inode stands apart outside =
-    sym (ap (λ o. renamed tree from to o target) stands
-    ∙ ap (λ b. cond b (answers tree Done) (cond (leads_to tree inode to.dir.0) (answers tree (Errno 22)) (unless tree (replace_errno tree inode target) (answers (with_moved tree from to inode) Done)))) apart
-    ∙ ap (λ b. cond b (answers tree (Errno 22)) (unless tree (replace_errno tree inode target) (answers (with_moved tree from to inode) Done))) outside)
+-- so the errno of a directory that is full, and that it is none
+pub room_told : (limit : ℕ) (tree mid : Tree) (from to : Dentry) (copied found : Option Inode) (told : Option ℕ) → mid ≡ tree → copied ≡ found → found ≡ map.get tree to → told ≡ room_errno limit mid from to copied → told ≡ room_errno limit tree from to (map.get tree to)
+room_told limit tree mid from to copied found told same copy there is = is ∙ (λ i. room_errno limit (same i) from to (copy i)) ∙ ap (room_errno limit tree from to) there
+
+pub space_told : (tree mid : Tree) (from to : Dentry) (copied found : Option Inode) → mid ≡ tree → copied ≡ found → found ≡ map.get tree to → HasSpace mid from to copied → HasSpace tree from to (map.get tree to)
+space_told tree mid from to copied found same copy there space = subst (HasSpace tree from to) (copy ∙ there) (subst (λ t. HasSpace t from to copied) same space)
 
 -- what was found from a later state, at which the tree and the leaves were the same, was found from the earlier
 pub checks_from : (tree mid : Tree) (covers later : Covers) (Holds Held : Dirfrag → Type 0) (op : Op) (n : ℕ) (outcome here : Outcome) (result : Result Checked Refusal) → mid ≡ tree → later ≡ covers → ((at : Dirfrag) → Held at → Holds at) → outcome ≡ here
@@ -197,17 +228,17 @@ reads_inside tree op is dentry inode same concerns stands kind = (subst (λ (o :
 
 module _ (tree : Tree) (covers : Covers) (Holds : Dirfrag → Type 0) (op is : Op) (same : op ≡ is) where
   -- what was found of an operation whose directories stand, by which it is
-  pub step_from : (n : ℕ) (result : Result Checked Refusal) → is_directory tree (directory_of is) ≡ true → is_directory tree (destination_of is) ≡ true → IfOk result (Checks tree covers Holds op n (done_in tree (shape is) n)) → IfOk result (Checks tree covers Holds op n (step tree op n))
-  step_from n result here there found =
-      subst (λ (o : Op). IfOk result (Checks tree covers Holds op n (step tree o n))) (sym same)
-      (subst (λ b. IfOk result (Checks tree covers Holds op n (cond b (done_in tree (shape is) n) (answers tree (Errno 116))))) (sym ((λ i. here i && there i))) found)
+  pub step_from : (limit n : ℕ) (result : Result Checked Refusal) → is_directory tree (directory_of is) ≡ true → is_directory tree (destination_of is) ≡ true → IfOk result (Checks tree covers Holds op n (done_in limit tree (shape is) n)) → IfOk result (Checks tree covers Holds op n (step limit tree op n))
+  step_from limit n result here there found =
+      subst (λ (o : Op). IfOk result (Checks tree covers Holds op n (step limit tree o n))) (sym same)
+      (subst (λ b. IfOk result (Checks tree covers Holds op n (cond b (done_in limit tree (shape is) n) (answers tree (Errno 116))))) (sym ((λ i. here i && there i))) found)
 
   -- where its main name lies
   pub main_at : (places : Places) (at : Dirfrag) → AreLocated tree covers Holds op places → places.main ≡ Some at → IsAt tree covers Holds (destination_of is) (main_hash is) at
   main_at places at located stands = subst (λ (o : Op). IsAt tree covers Holds (destination_of o) (main_hash o) at) same (subst (Locates tree covers Holds (destination_of op) (main_hash op)) stands located.main)
 
-  pub step_at : (n : ℕ) (result : Result Checked Refusal) (places : Places) (at : Dirfrag) → AreLocated tree covers Holds op places → places.main ≡ Some at → directory_of is ≡ destination_of is → IfOk result (Checks tree covers Holds op n (done_in tree (shape is) n)) → IfOk result (Checks tree covers Holds op n (step tree op n))
-  step_at n result places at located stands one found = let there = main_at places at located stands in step_from n result (ap (is_directory tree) one ∙ there.stands) there.stands found
+  pub step_at : (limit n : ℕ) (result : Result Checked Refusal) (places : Places) (at : Dirfrag) → AreLocated tree covers Holds op places → places.main ≡ Some at → directory_of is ≡ destination_of is → IfOk result (Checks tree covers Holds op n (done_in limit tree (shape is) n)) → IfOk result (Checks tree covers Holds op n (step limit tree op n))
+  step_at limit n result places at located stands one found = let there = main_at places at located stands in step_from limit n result (ap (is_directory tree) one ∙ there.stands) there.stands found
 
 -- where the source of a rename lies
 pub source_at : (tree : Tree) (covers : Covers) (Holds : Dirfrag → Type 0) (op : Op) (from to : Dentry) (places : Places) (at : Dirfrag) → op ≡ Rename from to → AreLocated tree covers Holds op places → places.source ≡ Some at → LiesAt tree covers Holds from at
@@ -215,8 +246,8 @@ source_at tree covers Holds op from to places at same located stands =
     subst (Locates tree covers Holds from.dir.0 (hash_of from.name)) stands (subst (λ (o : Op). LocatesAt tree covers Holds (source_of o) places.source) same located.source)
 
 -- what was found of an operation is so after reads
-pub checks_on : (tree mid : Tree) (covers later : Covers) (Holds Held : Dirfrag → Type 0) (op : Op) (n m : ℕ) (found : Checked) → mid ≡ tree → later ≡ covers → ((at : Dirfrag) → Holds at → Held at) → n ≡ m → Checks tree covers Holds op n (step tree op n) found
-    → Checks mid later Held op m (step mid op m) found
-checks_on tree mid covers later Holds Held op n m found same leaves holds number checks =
-    subst (λ k. Checks mid later Held op k (step mid op k) found) number
-    (checks_from mid tree later covers Held Holds op n (step tree op n) (step mid op n) (Ok found) (sym same) (sym leaves) holds (λ i. step (sym same i) op n) checks)
+pub checks_on : (limit : ℕ) (tree mid : Tree) (covers later : Covers) (Holds Held : Dirfrag → Type 0) (op : Op) (n m : ℕ) (found : Checked) → mid ≡ tree → later ≡ covers → ((at : Dirfrag) → Holds at → Held at) → n ≡ m → Checks tree covers Holds op n (step limit tree op n) found
+    → Checks mid later Held op m (step limit mid op m) found
+checks_on limit tree mid covers later Holds Held op n m found same leaves holds number checks =
+    subst (λ k. Checks mid later Held op k (step limit mid op k) found) number
+    (checks_from mid tree later covers Held Holds op n (step limit tree op n) (step limit mid op n) (Ok found) (sym same) (sym leaves) holds (λ i. step limit (sym same i) op n) checks)

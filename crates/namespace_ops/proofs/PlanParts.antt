@@ -25,7 +25,7 @@ offered_number : (tree : Tree) (IsNumber : ℕ → Type 0) (number : Option Ino)
 offered_number tree IsNumber None offered some = absurd (some refl)
 offered_number tree IsNumber (Some ino) offered some = offered.1
 
-module _ (tree : Tree) (covers : Covers) (Holds : Dirfrag → Type 0) (op : Op) (number : Option Ino) (change : Change) (checked : IsChecked tree covers Holds op (number_or number) (step tree op (number_or number)) change) where
+module _ (limit : ℕ) (tree : Tree) (covers : Covers) (Holds : Dirfrag → Type 0) (op : Op) (number : Option Ino) (change : Change) (checked : IsChecked tree covers Holds op (number_or number) (step limit tree op (number_or number)) change) where
   pub may_change : (IsNumber : ℕ → Type 0) → IsOffered tree IsNumber number → (change.comes ≡ true → number ≡ None → ⊥) → MayChange tree covers change
   may_change IsNumber offered given = record {
     carries = checked.carries;
@@ -40,7 +40,7 @@ module _ (tree : Tree) (covers : Covers) (Holds : Dirfrag → Type 0) (op : Op) 
       go (Some put) is = subst IsNumber (sym is) (offered_number tree IsNumber number offered (given comes))
 
   pub planned_change : (IsReady : Change → Type 0) (reply : Reply) (taken : Option Ino) → reply ≡ reply_of change → taken ≡ cond (change.comes) number None → (number ≡ None → change.comes ≡ false) → IsReady change → MayChange tree covers change
-      → IsPlanned tree covers IsReady op (step tree op (number_or number)) number (record { reply = reply; change = Some change; number = taken })
+      → IsPlanned limit tree covers IsReady op (step limit tree op (number_or number)) number (record { reply = reply; change = Some change; number = taken })
   planned_change IsReady reply taken replied took numbered ready may = record {
     replied = replied ∙ sym checked.replied;
     leads = sym checked.leads;
@@ -48,6 +48,6 @@ module _ (tree : Tree) (covers : Covers) (Holds : Dirfrag → Type 0) (op : Op) 
     took = took ∙ ap (λ b. cond b number None) (sym checked.number);
     numbered = λ none. checked.number ∙ numbered none;
     one_of = checked.one_of;
-    idle = λ still. let clash : true ≡ false = sym still ∙ busy tree covers Holds op (number_or number) change checked in absurd cc;
-    fragments = fragments_are tree covers Holds op (number_or number) change checked;
+    idle = λ still. let clash : true ≡ false = sym still ∙ busy limit tree covers Holds op (number_or number) change checked in absurd cc;
+    fragments = fragments_are limit tree covers Holds op (number_or number) change checked;
   }

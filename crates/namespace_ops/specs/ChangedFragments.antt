@@ -1,5 +1,5 @@
 -- The fragments that an operation would change.
-use Rattle.std.specs.Prelude.{◌↔◌, cond, List, [], ◌∷◌, Option, Some, None}
+use Rattle.std.specs.Prelude.{◌↔◌, cond, List, [], ◌∷◌, ℕ, Option, Some, None}
 use Rattle.std.specs.List.{Contains}
 use Rattle.std.specs.Ordering.{eq_by_cmp}
 use Rattle.std.specs.FinMap as map
@@ -50,9 +50,9 @@ touched covers tree op = touched_in covers tree (shape op)
 abbrev pub unless_errno : Reply → List Leaf → List Leaf
 unless_errno reply changes = cond (is_errno reply) [] changes
 
--- the fragments that an operation would change; which number it is offered has no part in that
-abbrev pub changed_fragments : Covers → Tree → Op → List Leaf
-changed_fragments covers tree op = unless_errno (step tree op 0).reply (touched covers tree op)
+-- the fragments that an operation would change, where a directory may have so many entries; which number it is offered has no part in that
+abbrev pub changed_fragments : ℕ → Covers → Tree → Op → List Leaf
+changed_fragments limit covers tree op = unless_errno (step limit tree op 0).reply (touched covers tree op)
 
 -- no leaf is named twice
 abbrev pub AreApart : List Leaf → Type 0

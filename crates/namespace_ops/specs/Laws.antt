@@ -13,15 +13,15 @@ use Rattle.namespace_ops.specs.Kept.{OthersShowTheSame}
 
 -- an errno leaves the tree
 abbrev pub ErrnoLeavesTree : Type 0
-ErrnoLeavesTree = (tree : Tree) (op : Op) (n : ℕ) → ErrnoLeaves tree (step tree op n)
+ErrnoLeavesTree = (limit : ℕ) (tree : Tree) (op : Op) (n : ℕ) → ErrnoLeaves tree (step limit tree op n)
 
 -- exactly an operation that makes an inode, and succeeds, takes its number
 abbrev pub MakingTakesNumber : Type 0
-MakingTakesNumber = (tree : Tree) (op : Op) (n : ℕ) → TakesWhereMade op (step tree op n)
+MakingTakesNumber = (limit : ℕ) (tree : Tree) (op : Op) (n : ℕ) → TakesWhereMade op (step limit tree op n)
 
 -- a step keeps the tree well formed, if the number that it takes, where it takes one, is unused
 abbrev pub StepKeepsWellFormed : Type 0
-StepKeepsWellFormed = (tree : Tree) (op : Op) (n : ℕ) → IsWellFormed tree → ((step tree op n).takes ≡ true → IsUnused tree n) → IsWellFormed (step tree op n).tree
+StepKeepsWellFormed = (limit : ℕ) (tree : Tree) (op : Op) (n : ℕ) → IsWellFormed tree → ((step limit tree op n).takes ≡ true → IsUnused tree n) → IsWellFormed (step limit tree op n).tree
 
 -- the names of a listing are those of the directory that come after the given one, in order, with none left out
 abbrev pub NamesAreListed : Type 0
@@ -38,11 +38,11 @@ AboveIsChain = (tree : Tree) (d x : ℕ) → IsWellFormed tree → (is_above tre
 
 -- an inode of the tree that a step leaves stood before, or has the number that the step took
 abbrev pub NumbersStay : Type 0
-NumbersStay = (tree : Tree) (op : Op) (n : ℕ) → IsOld tree n (step tree op n)
+NumbersStay = (limit : ℕ) (tree : Tree) (op : Op) (n : ℕ) → IsOld tree n (step limit tree op n)
 
 -- whether a step answers an errno, the number that it is offered has no part in; so neither has it in the changed fragments
 abbrev pub NumberLeavesErrno : Type 0
-NumberLeavesErrno = (tree : Tree) (op : Op) (n m : ℕ) → is_errno (step tree op n).reply ≡ is_errno (step tree op m).reply
+NumberLeavesErrno = (limit : ℕ) (tree : Tree) (op : Op) (n m : ℕ) → is_errno (step limit tree op n).reply ≡ is_errno (step limit tree op m).reply
 
 -- of the leaves that stood, only the fragments of a change show something else once it is made, where each directory that stands then has the leaves that it had
 abbrev pub ChangesLeaveOthers : Type 0

@@ -1,5 +1,5 @@
 -- What planning an operation gives: all that serving it takes, but for its change.
-use Rattle.std.specs.Prelude.{◌≡◌, true, false, cond, Option, Some, None}
+use Rattle.std.specs.Prelude.{◌≡◌, ℕ, true, false, cond, Option, Some, None}
 use Rattle.mds_types.specs.declared.ids.Ino.{Ino}
 use Rattle.mds_types.specs.declared.operations.Op.{Op}
 use Rattle.mds_types.specs.Tree.{Tree}
@@ -27,7 +27,7 @@ IsOneOf op (Some change) = IsChangeOf op change
 
 -- planned: the reply is the table's, the change leads to the table's tree and can't fail, and the number is taken where the table takes one, and then one was given.
 -- The change is one of the operation, and its fragments are those that the operation changes; an operation that changes nothing plans none
-pub record IsPlanned (tree : Tree) (covers : Covers) (IsReady : Change → Type 0) (op : Op) (outcome : Outcome) (number : Option Ino) (plan : Plan) : Type 0 where
+pub record IsPlanned (limit : ℕ) (tree : Tree) (covers : Covers) (IsReady : Change → Type 0) (op : Op) (outcome : Outcome) (number : Option Ino) (plan : Plan) : Type 0 where
   pub replied : plan.reply ≡ outcome.reply
   pub leads : after_plan tree plan.change ≡ outcome.tree
   pub ready : IsReadyToChange tree covers IsReady plan.change
@@ -35,4 +35,4 @@ pub record IsPlanned (tree : Tree) (covers : Covers) (IsReady : Change → Type 
   pub numbered : number ≡ None → outcome.takes ≡ false
   pub one_of : IsOneOf op plan.change
   pub idle : is_idle op outcome.reply ≡ true → plan.change ≡ None
-  pub fragments : fragments_in covers plan.change ≡ changed_fragments covers tree op
+  pub fragments : fragments_in covers plan.change ≡ changed_fragments limit covers tree op

@@ -16,10 +16,10 @@ use crate::checking::check;
 use crate::frags::Frags;
 use crate::locating::Places;
 use crate::plans::{Change, Checked};
-use mds_types::{Dirfrag, Frag, Ino, Op, Refusal};
+use mds_types::{Dirfrag, Frag, Ino, Limit, Op, Refusal};
 use std::alloc::{AllocError, Global};
 
-/// The fragments that an operation whose names lie there would change now, each once and with its directory: those of its dentries, and all
+/// The fragments that an operation whose names lie there would change now, where a directory may have `limit` entries, each once and with its directory: those of its dentries, and all
 /// leaves of a directory that it removes or replaces. There are none where the operation answers an errno, only reads, or
 /// renames onto itself.
 ///
@@ -28,17 +28,18 @@ use std::alloc::{AllocError, Global};
 pub fn changes<F: Frags>(
     alloc: Global,
     frags: &mut F,
+    limit: Limit,
     op: &Op,
     places: Places,
 ) -> Result<Vec<(Ino, Frag)>, Refusal>
     requires { AreLocated (F.content frags.old) (F.covers frags.old) (F.Holds frags.old) op.now places }
-    ensures changed { IfOk result (λ list. NamesOnce (changed_fragments (F.covers frags.old) (F.content frags.old) op.now) list.items) }
+    ensures changed { IfOk result (λ list. NamesOnce (changed_fragments limit (F.covers frags.old) (F.content frags.old) op.now) list.items) }
     ensures kept { KeepsAll (F.content frags.old) (F.content frags.new) (F.covers frags.old) (F.covers frags.new) (F.Follows frags.old frags.new op.now (result_err result)) }
     ensures err { IfErr result (Refuses (F.MayRefuse frags.old frags.new op.now)) }
     ensures numbers { IfErr result (λ reason. reason ≢ NoInodes) }
 {
     // which leaves change doesn't depend on the number of a new inode
-    let checked = check(alloc, frags, op, places, Ino(0))?;
+    let checked = check(alloc, frags, limit, op, places, Ino(0))?;
     changed_by(alloc, frags, &checked)
 }
 
@@ -49,7 +50,7 @@ fn changed_by<F: Frags>(
     frags: &F,
     checked: &Checked,
 ) -> Result<Vec<(Ino, Frag)>, Refusal>
-    ensures changed { IfOk result (λ list. (op : Operation) (n : ℕ) → Checks (F.content frags.now) (F.covers frags.now) (F.Holds frags.now) op n (step (F.content frags.now) op n) checked.now → NamesOnce (changed_fragments (F.covers frags.now) (F.content frags.now) op) list.items) }
+    ensures changed { IfOk result (λ list. (limit : ℕ) (op : Operation) (n : ℕ) → Checks (F.content frags.now) (F.covers frags.now) (F.Holds frags.now) op n (step limit (F.content frags.now) op n) checked.now → NamesOnce (changed_fragments limit (F.covers frags.now) (F.content frags.now) op) list.items) }
     ensures err { IfErr result (λ reason. reason ≡ NoMemory) }
 {
     match checked {

@@ -16,22 +16,23 @@ use crate::plans::Checked;
 use crate::reading::{lookup, read_dir, read_link};
 use crate::removing::{remove_dir, unlink};
 use crate::renaming::rename;
-use mds_types::{Alteration, ESTALE, Ino, Op, Refusal, Reply};
+use mds_types::{Alteration, ESTALE, Ino, Limit, Op, Refusal, Reply};
 use std::alloc::Global;
 
-/// Checks an operation whose names lie there: finds the reply, or the one change that it makes. A new inode takes the number
-/// given. It reads alone, and is refused as a read is, or for want of memory. What checks a change is a function of its own, so that
+/// Checks an operation whose names lie there, where a directory may have `limit` entries: finds the reply, or the one change that it makes. A new
+/// inode takes the number given. It reads alone, and is refused as a read is, or for want of memory. What checks a change is a function of its own, so that
 /// a look-up has no room to clear that only changes need; the rest is put into the callers, and what was found isn't moved.
 #[inline(always)]
 pub fn check<F: Frags>(
     alloc: Global,
     frags: &mut F,
+    limit: Limit,
     op: &Op,
     places: Places,
     number: Ino,
 ) -> Result<Checked, Refusal>
     requires { AreLocated (F.content frags.old) (F.covers frags.old) (F.Holds frags.old) op.now places }
-    ensures checked { IfOk result (Checks (F.content frags.old) (F.covers frags.old) (F.Holds frags.old) op.now number.0 (step (F.content frags.old) op.now number.0)) }
+    ensures checked { IfOk result (Checks (F.content frags.old) (F.covers frags.old) (F.Holds frags.old) op.now number.0 (step limit (F.content frags.old) op.now number.0)) }
     ensures kept { KeepsAll (F.content frags.old) (F.content frags.new) (F.covers frags.old) (F.covers frags.new) (F.Follows frags.old frags.new op.now (result_err result)) }
     ensures err { IfErr result (Refuses (F.MayRefuse frags.old frags.new op.now)) }
     ensures numbers { IfErr result (λ reason. reason ≢ NoInodes) }
@@ -48,26 +49,25 @@ pub fn check<F: Frags>(
             dentry,
             mode,
             birth,
-        } => make(frags, op, dentry, &at, New::file(*mode, *birth), number),
+        } => {
+            let new = New::file(number, *mode, *birth);
+            make(frags, limit, op, dentry, &at, new)
+        },
         Op::Mkdir {
             dentry,
             mode,
             birth,
-        } => make(
-            frags,
-            op,
-            dentry,
-            &at,
-            New::directory(*mode, *birth),
-            number,
-        ),
+        } => {
+            let new = New::directory(number, *mode, *birth);
+            make(frags, limit, op, dentry, &at, new)
+        },
         Op::Symlink {
             dentry,
             target,
             birth,
         } => {
-            let new = New::link(target.try_clone()?, *birth);
-            make(frags, op, dentry, &at, new, number)
+            let new = New::link(number, target.try_clone()?, *birth);
+            make(frags, limit, op, dentry, &at, new)
         }
         Op::Setattr { dentry, attributes } => {
             let alteration = Alteration::Attributed(*attributes);
@@ -80,7 +80,7 @@ pub fn check<F: Frags>(
         Op::Unlink(dentry) => unlink(frags, op, dentry, &at),
         Op::Rmdir(dentry) => remove_dir(frags, op, dentry, &at),
         Op::Rename { from, to } => match source {
-            Some(source) => rename(frags, op, from, to, &(source, at)),
+            Some(source) => rename(frags, limit, op, from, to, &(source, at)),
             None => Ok(Checked::Answers(Reply::Errno(ESTALE))),
         },
     }

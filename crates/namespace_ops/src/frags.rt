@@ -10,7 +10,7 @@ ghost use Rattle.std.specs.FinMap as map;
 ghost use Rattle.std.specs.List.{Contains};
 ghost use Rattle.fragtree.specs.FragTree.{IsTree};
 ghost use Rattle.inode_table.specs.Dirs.{Covers, leaves_of};
-ghost use Rattle.mds_types.specs.Tree.{Tree, is_directory, is_above, has_entries};
+ghost use Rattle.mds_types.specs.Tree.{Tree, is_directory, is_above, entries_in, has_entries};
 ghost use Rattle.mds_types.specs.Step.{names_after};
 ghost use Rattle.inode_table.specs.TreeChanges.{KeepLeaves};
 ghost use Rattle.namespace_ops.specs.declared.plans.Change.{Change as Alteration};
@@ -27,7 +27,7 @@ use std::alloc::Global;
 /// The fragments that operations read and change. Together they show one plain tree, whatever they are kept in.
 ///
 /// A read may have to fetch what it reads, and can then be refused; it keeps all, and so does a refusal. Which leaves a
-/// directory has, and where they lie, is told with no fetch. A read is told for which operation it is asked, and asks of a directory of that. It takes
+/// directory has, where they lie, and how many entries it has, is told with no fetch. A read is told for which operation it is asked, and asks of a directory of that. It takes
 /// no number, and is never refused for want of one.
 /// All growth that a change needs is made by `ready`, which is asked of a change of leaves that may be touched; the change that follows
 /// can't fail.
@@ -68,6 +68,11 @@ pub trait Frags {
     fn is_above(&self, dir: Ino, below: Ino) -> bool
         requires { is_directory (content self.now) below.0 ≡ true }
         ensures { result ≡ is_above (content self.now) dir.0 below.0 };
+
+    /// How many entries a directory has, told with no fetch.
+    fn count(&self, dir: Ino) -> u64
+        requires { is_directory (content self.now) dir.0 ≡ true }
+        ensures { result ≡ entries_in (content self.now) dir.0 };
 
     /// Where a hash falls in a directory: the leaf that it picks, and the rank that holds it; nowhere exactly where there is no
     /// such directory. `rank` is asked first whether it holds the leaf. Takes no memory.

@@ -5,6 +5,7 @@
 mod altering;
 mod changing;
 mod checking;
+mod filling;
 mod frags;
 mod laws;
 mod locating;

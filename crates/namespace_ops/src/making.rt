@@ -14,45 +14,51 @@ ghost use Rattle.namespace_ops.specs.Checked.{Checks};
 ghost use Rattle.namespace_ops.specs.Places.{LiesAt};
 ghost use Rattle.namespace_ops.specs.Reasons.{Refuses};
 
+use crate::filling::is_full;
 use crate::frags::Frags;
 use crate::plans::{Change, Checked, Spot};
 use mds_types::{
-    Birth, Dentry, Dirfrag, EEXIST, Ino, Inode, Kind, Mode, Op, Refusal, Reply, Target,
+    Birth, Dentry, Dirfrag, EEXIST, ENOSPC, Ino, Inode, Kind, Limit, Mode, Op, Refusal, Reply,
+    Target,
 };
 
-/// What a new inode is, beside its number and size.
+/// What a new inode is, beside its size.
 #[derive(Drop)]
 pub struct New {
+    ino: Ino,
     kind: Kind,
     mode: Mode,
     birth: Birth,
 }
 
 impl New {
-    pub fn file(mode: Mode, birth: Birth) -> New
-        ensures { result ≡ record { kind = File; mode = mode; birth = birth } }
+    pub fn file(ino: Ino, mode: Mode, birth: Birth) -> New
+        ensures { result ≡ record { ino = ino; kind = File; mode = mode; birth = birth } }
     {
         New {
+            ino,
             kind: Kind::File,
             mode,
             birth,
         }
     }
 
-    pub fn directory(mode: Mode, birth: Birth) -> New
-        ensures { result ≡ record { kind = Dir; mode = mode; birth = birth } }
+    pub fn directory(ino: Ino, mode: Mode, birth: Birth) -> New
+        ensures { result ≡ record { ino = ino; kind = Dir; mode = mode; birth = birth } }
     {
         New {
+            ino,
             kind: Kind::Dir,
             mode,
             birth,
         }
     }
 
-    pub fn link(target: Target, birth: Birth) -> New
-        ensures { result ≡ record { kind = Link target; mode = link_mode; birth = birth } }
+    pub fn link(ino: Ino, target: Target, birth: Birth) -> New
+        ensures { result ≡ record { ino = ino; kind = Link target; mode = link_mode; birth = birth } }
     {
         New {
+            ino,
             kind: Kind::Symlink(target),
             mode: Mode::LINK,
             birth,
@@ -60,21 +66,21 @@ impl New {
     }
 }
 
-/// A new inode with this number, at a dentry that has to be free.
+/// A new inode at a dentry that has to be free, in a directory that may take a further entry.
 #[inline(never)]
 pub fn make<F: Frags>(
     frags: &mut F,
+    limit: Limit,
     op: &Op,
     dentry: &Dentry,
     at: &Dirfrag,
     new: New,
-    number: Ino,
 ) -> Result<Checked, Refusal>
     requires reads { Reads (F.content frags.old) op.now dentry.now.dir.0 }
     requires at { LiesAt (F.content frags.old) (F.covers frags.old) (F.Holds frags.old) dentry.now at.now }
     requires makes { (spot : Place) (inode : Node) → dentry_at spot ≡ dentry.now → inode.kind ≡ new.kind → IsChangeOf op.now (adds spot inode) }
-    ensures checked { let inode = new_inode number.0 new.kind new.mode new.birth in
-        IfOk result (Checks (F.content frags.old) (F.covers frags.old) (F.Holds frags.old) op.now number.0 (made (F.content frags.old) dentry.now inode (map.get (F.content frags.old) dentry.now))) }
+    ensures checked { let inode = new_inode new.ino.0 new.kind new.mode new.birth in
+        IfOk result (Checks (F.content frags.old) (F.covers frags.old) (F.Holds frags.old) op.now new.ino.0 (made limit (F.content frags.old) dentry.now inode (map.get (F.content frags.old) dentry.now))) }
     ensures kept { KeepsAll (F.content frags.old) (F.content frags.new) (F.covers frags.old) (F.covers frags.new) (F.Follows frags.old frags.new op.now (result_err result)) }
     ensures err { IfErr result (Refuses (F.MayRefuse frags.old frags.new op.now)) }
     ensures numbers { IfErr result (λ reason. reason ≢ NoInodes) }
@@ -82,8 +88,11 @@ pub fn make<F: Frags>(
     if frags.look(op, dentry, at)?.is_some() {
         return Ok(Checked::Answers(Reply::Errno(EEXIST)));
     }
+    if is_full(frags, limit, dentry.dir) {
+        return Ok(Checked::Answers(Reply::Errno(ENOSPC)));
+    }
     let spot = Spot::of(dentry, *at)?;
-    let inode = new.numbered(number);
+    let inode = new.inode();
     Ok(Checked::Changes(Change {
         takes: None,
         puts: Some((spot, inode)),
@@ -93,12 +102,12 @@ pub fn make<F: Frags>(
 }
 
 impl New {
-    // The new inode with its number. A link has the size of its target.
-    fn numbered(self, ino: Ino) -> Inode
-        ensures { result ≡ new_inode ino.0 self.kind self.mode self.birth }
+    // The new inode. A link has the size of its target.
+    fn inode(self) -> Inode
+        ensures { result ≡ new_inode self.ino.0 self.kind self.mode self.birth }
     {
         Inode {
-            ino,
+            ino: self.ino,
             size: first_size(&self.kind),
             kind: self.kind,
             mode: self.mode,

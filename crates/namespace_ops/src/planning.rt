@@ -14,9 +14,9 @@ ghost use Rattle.namespace_ops.specs.Served.{IsRefused};
 
 use crate::frags::Frags;
 use crate::plans::{Change, Checked, Plan};
-use mds_types::{Ino, Op, Refusal, Reply};
+use mds_types::{Ino, Limit, Op, Refusal, Reply};
 
-/// Plans what the checks of an operation found, which were offered the same number: answers the reply of the operation table, and
+/// Plans what the checks of an operation found, which had the same limit and were offered the same number: answers the reply of the operation table, and
 /// the change that leads to the table's tree, for which all growth has been made. There is no change where the operation reads,
 /// answers an errno, or leads to where it is. The fragments show what they showed; those that the operation changes have to be ones that
 /// may be touched. A new inode takes the number given, which has to
@@ -24,16 +24,17 @@ use mds_types::{Ino, Op, Refusal, Reply};
 /// Any other refusal is one of the fragments', or want of memory.
 pub fn plan_checked<F: Frags>(
     frags: &mut F,
+    limit: Limit,
     op: &Op,
     checked: Checked,
     number: Option<Ino>,
 ) -> Result<Plan, Refusal>
     requires offered { IsOffered (F.content frags.old) F.IsNumber number }
-    requires checked { Checks (F.content frags.old) (F.covers frags.old) (F.Holds frags.old) op.now (number_or number) (step (F.content frags.old) op.now (number_or number)) checked }
-    requires touch { (leaf : Leaf) → Contains (changed_fragments (F.covers frags.old) (F.content frags.old) op.now) leaf → F.MayTouch frags.old leaf }
-    ensures planned { let outcome = step (F.content frags.old) op.now (number_or number) in
+    requires checked { Checks (F.content frags.old) (F.covers frags.old) (F.Holds frags.old) op.now (number_or number) (step limit (F.content frags.old) op.now (number_or number)) checked }
+    requires touch { (leaf : Leaf) → Contains (changed_fragments limit (F.covers frags.old) (F.content frags.old) op.now) leaf → F.MayTouch frags.old leaf }
+    ensures planned { let outcome = step limit (F.content frags.old) op.now (number_or number) in
         MatchResult result
-        (IsPlanned (F.content frags.old) (F.covers frags.old) (F.IsReady frags.new) op.now outcome number)
+        (IsPlanned limit (F.content frags.old) (F.covers frags.old) (F.IsReady frags.new) op.now outcome number)
         (IsRefused (F.content frags.old) (F.content frags.new) (F.MayRefuse frags.old frags.new op.now) outcome number) }
     ensures kept { KeepsAll (F.content frags.old) (F.content frags.new) (F.covers frags.old) (F.covers frags.new) (F.Follows frags.old frags.new op.now (result_err result)) }
 {
@@ -43,23 +44,24 @@ pub fn plan_checked<F: Frags>(
             change: None,
             number: None,
         }),
-        Checked::Changes(change) => plan_change(frags, op, change, number),
+        Checked::Changes(change) => plan_change(frags, limit, op, change, number),
     }
 }
 
 // Plans the change that the checks found.
 fn plan_change<F: Frags>(
     frags: &mut F,
+    limit: Limit,
     op: &Op,
     change: Change,
     number: Option<Ino>,
 ) -> Result<Plan, Refusal>
     requires offered { IsOffered (F.content frags.old) F.IsNumber number }
-    requires checked { IsChecked (F.content frags.old) (F.covers frags.old) (F.Holds frags.old) op.now (number_or number) (step (F.content frags.old) op.now (number_or number)) change }
-    requires touch { (leaf : Leaf) → Contains (changed_fragments (F.covers frags.old) (F.content frags.old) op.now) leaf → F.MayTouch frags.old leaf }
-    ensures planned { let outcome = step (F.content frags.old) op.now (number_or number) in
+    requires checked { IsChecked (F.content frags.old) (F.covers frags.old) (F.Holds frags.old) op.now (number_or number) (step limit (F.content frags.old) op.now (number_or number)) change }
+    requires touch { (leaf : Leaf) → Contains (changed_fragments limit (F.covers frags.old) (F.content frags.old) op.now) leaf → F.MayTouch frags.old leaf }
+    ensures planned { let outcome = step limit (F.content frags.old) op.now (number_or number) in
         MatchResult result
-        (IsPlanned (F.content frags.old) (F.covers frags.old) (F.IsReady frags.new) op.now outcome number)
+        (IsPlanned limit (F.content frags.old) (F.covers frags.old) (F.IsReady frags.new) op.now outcome number)
         (IsRefused (F.content frags.old) (F.content frags.new) (F.MayRefuse frags.old frags.new op.now) outcome number) }
     ensures kept { KeepsAll (F.content frags.old) (F.content frags.new) (F.covers frags.old) (F.covers frags.new) (F.Follows frags.old frags.new op.now (result_err result)) }
 {

@@ -1,16 +1,15 @@
 //! The checks of a rename.
-ghost use Rattle.std.specs.Prelude.{◌≡◌, ◌≢◌, ℕ, true, false, Option, Some, IfOk, IfErr};
+ghost use Rattle.std.specs.Prelude.{◌≡◌, ◌≢◌, ℕ, true, Option, Some, IfOk, IfErr};
 ghost use Rattle.std.specs.Result.{result_err};
 ghost use Rattle.mds_types.specs.declared.refusals.Refusal.TheVariants.{NoInodes};
 ghost use Rattle.std.specs.FinMap as map;
-ghost use Rattle.mds_types.specs.declared.replies.Reply.TheVariants.{Done};
 ghost use Rattle.mds_types.specs.declared.ids.Ino.{Ino as Number};
 ghost use Rattle.mds_types.specs.declared.inodes.Inode.{Inode as Node};
 ghost use Rattle.mds_types.specs.declared.inodes.Kind.TheVariants.{Dir};
 ghost use Rattle.std.specs.Option.{option_copied};
 ghost use Rattle.std.specs.Ordering.{eq_by_cmp};
 ghost use Rattle.mds_types.specs.Tree.{dentry_cmp, is_directory};
-ghost use Rattle.mds_types.specs.Step.{renamed, unless, answers, with_moved};
+ghost use Rattle.mds_types.specs.Step.{renamed};
 ghost use Rattle.mds_types.specs.Step.{leads_to as leads_below, replace_errno as errno_of_replacing};
 ghost use Rattle.namespace_ops.specs.declared.plans.Spot.{Spot as Place};
 ghost use Rattle.namespace_ops.specs.Kept.{KeepsAll};
@@ -19,16 +18,18 @@ ghost use Rattle.namespace_ops.specs.Checked.{Checks};
 ghost use Rattle.namespace_ops.specs.Places.{LiesAt};
 ghost use Rattle.namespace_ops.specs.Reasons.{Refuses};
 
+use crate::filling::room_errno;
 use crate::frags::Frags;
 use crate::plans::{Change, Checked, Spot};
 use mds_types::{
-    Dentry, Dirfrag, EINVAL, EISDIR, ENOENT, ENOTDIR, ENOTEMPTY, Ino, Inode, Op, Refusal, Reply,
+    Dentry, Dirfrag, EINVAL, EISDIR, ENOENT, ENOTDIR, ENOTEMPTY, Ino, Inode, Limit, Op, Refusal, Reply,
 };
 
-/// Moves the entry at one dentry to another.
+/// Moves the entry at one dentry to another. What is absent there comes to a directory that may take a further entry.
 #[inline(never)]
 pub fn rename<F: Frags>(
     frags: &mut F,
+    limit: Limit,
     op: &Op,
     from: &Dentry,
     to: &Dentry,
@@ -42,7 +43,7 @@ pub fn rename<F: Frags>(
     requires idle { stays op.now ≡ eq_by_cmp dentry_cmp from.now to.now }
     requires moves { (source target : Place) (inode : Node) (gone : Option Number) → dentry_at source ≡ from.now → dentry_at target ≡ to.now → IsChangeOf op.now (moves_to source target inode gone) }
     ensures checked { (n : ℕ) → let tree = F.content frags.old in IfOk result (Checks tree (F.covers frags.old) (F.Holds frags.old) op.now n
-        (renamed tree from.now to.now (map.get tree from.now) (map.get tree to.now))) }
+        (renamed limit tree from.now to.now (map.get tree from.now) (map.get tree to.now))) }
     ensures kept { KeepsAll (F.content frags.old) (F.content frags.new) (F.covers frags.old) (F.covers frags.new) (F.Follows frags.old frags.new op.now (result_err result)) }
     ensures err { IfErr result (Refuses (F.MayRefuse frags.old frags.new op.now)) }
     ensures numbers { IfErr result (λ reason. reason ≢ NoInodes) }
@@ -56,34 +57,11 @@ pub fn rename<F: Frags>(
     if leads_to(frags, &inode, to.dir) {
         return Ok(Checked::Answers(Reply::Errno(EINVAL)));
     }
-    move_onto(frags, op, inode, from, to, at)
-}
-
-// The move of an inode to a dentry that isn't below it, unless what stands there can't be replaced.
-fn move_onto<F: Frags>(
-    frags: &mut F,
-    op: &Op,
-    inode: Inode,
-    from: &Dentry,
-    to: &Dentry,
-    at: &(Dirfrag, Dirfrag),
-) -> Result<Checked, Refusal>
-    requires stands { map.get (F.content frags.old) from.now ≡ Some inode }
-    requires from { LiesAt (F.content frags.old) (F.covers frags.old) (F.Holds frags.old) from.now at.now.0 }
-    requires to { LiesAt (F.content frags.old) (F.covers frags.old) (F.Holds frags.old) to.now at.now.1 }
-    requires apart { eq_by_cmp dentry_cmp from.now to.now ≡ false }
-    requires outside { leads_below (F.content frags.old) inode to.now.dir.0 ≡ false }
-    requires leads { Reads (F.content frags.old) op.now to.now.dir.0 }
-    requires inside { (gone : Node) → map.get (F.content frags.old) to.now ≡ Some gone → gone.kind ≡ Dir → Reads (F.content frags.old) op.now gone.ino.0 }
-    requires moves { (source target : Place) (inode : Node) (gone : Option Number) → dentry_at source ≡ from.now → dentry_at target ≡ to.now → IsChangeOf op.now (moves_to source target inode gone) }
-    ensures checked { (n : ℕ) → let tree = F.content frags.old in IfOk result (Checks tree (F.covers frags.old) (F.Holds frags.old) op.now n
-        (unless tree (errno_of_replacing tree inode (map.get tree to.now)) (answers (with_moved tree from.now to.now inode) Done))) }
-    ensures kept { KeepsAll (F.content frags.old) (F.content frags.new) (F.covers frags.old) (F.covers frags.new) (F.Follows frags.old frags.new op.now (result_err result)) }
-    ensures err { IfErr result (Refuses (F.MayRefuse frags.old frags.new op.now)) }
-    ensures numbers { IfErr result (λ reason. reason ≢ NoInodes) }
-{
     let replaced = frags.look(op, to, &at.1)?;
     if let Some(errno) = replace_errno(frags, op, &inode, replaced.as_ref())? {
+        return Ok(Checked::Answers(Reply::Errno(errno)));
+    }
+    if let Some(errno) = room_errno(frags, limit, from, to, replaced.as_ref()) {
         return Ok(Checked::Answers(Reply::Errno(errno)));
     }
     let gone = directory_of(replaced.as_ref());

@@ -16,10 +16,10 @@ use crate::frags::Frags;
 use crate::locating::locate;
 use crate::planning::plan_checked;
 use crate::plans::carry_out;
-use mds_types::{Ino, Op, Rank, Refusal, Reply};
+use mds_types::{Ino, Limit, Op, Rank, Refusal, Reply};
 use std::alloc::Global;
 
-/// Serves an operation: answers the reply of the operation table, and leaves the tree that the table leaves. Of the leaves
+/// Serves an operation, where a directory may have `limit` entries: answers the reply of the operation table, and leaves the tree that the table leaves. Of the leaves
 /// only the operation's changed fragments, which have to be ones that may be touched, show anything else afterwards: `frame` says so in
 /// the fragments' own words, and `others` in those of the tree and the leaves of each directory. Each directory that stands keeps its leaves. A
 /// new inode takes the number given, which has to be unused and one that a new inode may have; where the table takes one and none is given, the operation is
@@ -27,23 +27,24 @@ use std::alloc::Global;
 pub fn serve_op<F: Frags>(
     alloc: Global,
     frags: &mut F,
+    limit: Limit,
     op: &Op,
     number: Option<Ino>,
 ) -> Result<Reply, Refusal>
     requires offered { IsOffered (F.content frags.old) F.IsNumber number }
-    requires touch { (leaf : Leaf) → Contains (changed_fragments (F.covers frags.old) (F.content frags.old) op.now) leaf → F.MayTouch frags.old leaf }
-    ensures served { let outcome = step (F.content frags.old) op.now (number_or number) in
+    requires touch { (leaf : Leaf) → Contains (changed_fragments limit (F.covers frags.old) (F.content frags.old) op.now) leaf → F.MayTouch frags.old leaf }
+    ensures served { let outcome = step limit (F.content frags.old) op.now (number_or number) in
         MatchResult result
         (IsServed (F.content frags.new) outcome number)
         (IsRefused (F.content frags.old) (F.content frags.new) (F.MayRefuse frags.old frags.new op.now) outcome number) }
     ensures leaves { KeepLeaves (F.content frags.new) (F.covers frags.old) (F.covers frags.new) }
-    ensures frame { ChangesOnly (F.Unchanged frags.old frags.new) (changed_fragments (F.covers frags.old) (F.content frags.old) op.now) }
-    ensures others { IsWellFormed (F.content frags.old) → OthersShowTheSame (F.content frags.old) (F.content frags.new) (F.covers frags.old) (F.covers frags.new) (changed_fragments (F.covers frags.old) (F.content frags.old) op.now) }
+    ensures frame { ChangesOnly (F.Unchanged frags.old frags.new) (changed_fragments limit (F.covers frags.old) (F.content frags.old) op.now) }
+    ensures others { IsWellFormed (F.content frags.old) → OthersShowTheSame (F.content frags.old) (F.content frags.new) (F.covers frags.old) (F.covers frags.new) (changed_fragments limit (F.covers frags.old) (F.content frags.old) op.now) }
     ensures kept { OnErr result (KeepsAll (F.content frags.old) (F.content frags.new) (F.covers frags.old) (F.covers frags.new) (F.Follows frags.old frags.new op.now (result_err result))) }
 {
     let places = locate(frags, Rank(0), op);
-    let checked = check(alloc, frags, op, places, number.unwrap_or(Ino(0)))?;
-    let plan = plan_checked(frags, op, checked, number)?;
+    let checked = check(alloc, frags, limit, op, places, number.unwrap_or(Ino(0)))?;
+    let plan = plan_checked(frags, limit, op, checked, number)?;
     carry_out(frags, plan.change);
     Ok(plan.reply)
 }

@@ -1,3 +1,4 @@
+pub mod Counted
 pub mod Frames
 pub mod Rows
 pub mod Unused

@@ -4,13 +4,13 @@ ghost use Rattle.std.specs.List.{list_any};
 ghost use Rattle.std.specs.Option.{option_copied};
 ghost use Rattle.std.specs.FinMap as map;
 ghost use Rattle.sorted_map.specs.SortedMap.{contents};
-ghost use Rattle.mds_types.specs.Tree.{dentry_cmp, has_entries, IsUnused};
+ghost use Rattle.mds_types.specs.Tree.{dentry_cmp, entries_in, has_entries, IsUnused};
 ghost use Rattle.mds_types.specs.Step.{names_after};
 ghost use Rattle.plain_frags.specs.Run.{run};
 ghost use Rattle.plain_frags.specs.PlainFrags.{Kept, is_numbered};
 
 use super::changes::{move_entry, put_entry, remove_entry};
-use super::listing::{first_rows, next_in};
+use super::listing::{count_rows, first_rows, next_in};
 use inode_table::Dirs;
 use mds_types::{Dentry, Dirfrag, Frag, Ino, Inode, Listing, Name, Op, PageSize, Rank, Refusal};
 use namespace_ops::{Change, Frags};
@@ -178,6 +178,10 @@ impl Frags for PlainFrags {
         self.dirs.is_above(dir, below)
     }
 
+    fn count(&self, dir: Ino) -> u64 {
+        entries_of(&self.entries, dir) as u64
+    }
+
     fn locate(&self, _rank: Rank, dir: Ino, hash: u32) -> Option<Dirfrag> {
         let Some(at) = self.dirs.leaf_at(dir, hash) else {
             return None;
@@ -294,6 +298,13 @@ fn rows_after<'a>(
         Some(name) => entries.iter_after(&AfterName { dir, name }),
         None => entries.iter_from(&DirFront { dir }),
     }
+}
+
+// How many entries are in the directory.
+fn entries_of(entries: &SortedMap<Dentry, Inode>, dir: Ino) -> usize
+    ensures { result ≡ entries_in (contents dentry_cmp entries.now) dir.0 }
+{
+    count_rows(rows_after(entries, dir, None), dir)
 }
 
 // Whether no entry is in the directory.

@@ -41,6 +41,18 @@ fn copy_of(row: &(Dentry, Inode)) -> Result<(Name, Inode), AllocError>
     }
 }
 
+/// How many of the rows at the front are of the directory.
+pub fn count_rows(mut rows: Iter<'_, Dentry, Inode>, dir: Ino) -> usize
+    ensures { result ≡ length (run dir.0 rows.entry) }
+{
+    let most = rows.len();
+    let mut count = 0;
+    while let Some(_row) = next_in(&mut rows, dir) {
+        count += 1;
+    }
+    count
+}
+
 /// The next row, if it is one of the directory.
 pub fn next_in<'a>(rows: &mut Iter<'a, Dentry, Inode>, dir: Ino) -> Option<&'a (Dentry, Inode)>
     ensures run { MatchOption result (run dir.0 rows.old ≡ []) (λ row. run dir.0 rows.old ≡ (row.now.0.name, row.now.1) ∷ run dir.0 rows.new) }

@@ -5,7 +5,7 @@ ghost use Rattle.std.specs.FinMap as map;
 use crate::asking::ask;
 use crate::handing::hand;
 use cluster_core::{Book, format};
-use mds_types::{Birth, Dentry, Ino, Mode, Name, Op, Rank, Reply, Request};
+use mds_types::{Birth, Dentry, Ino, Limit, Mode, Name, Op, Rank, Reply, Request};
 use objstore::MemStore;
 use std::alloc::Global;
 
@@ -50,7 +50,7 @@ fn new_book(alloc: Global, ranks: u8) -> Option<Book<MemStore>>
     requires ranked { ranks ≤ 16 }
     ensures { IfSome result (λ book. book.opening ≡ map.empty) }
 {
-    match format(alloc, MemStore::new(alloc), ranks, CACHE) {
+    match format(alloc, MemStore::new(alloc), ranks, CACHE, Limit::MAX) {
         Ok(book) => Some(book),
         Err(back) => {
             drop(back);

@@ -7,7 +7,7 @@ use Rattle.cluster_core.proofs.books.format.Goals as goal
 pub invariant_of-result : goal.invariant_of-result
 invariant_of-result g c =
     let e = c.in-Ok.ensures in
-    rw (c.new-in-Ok.ensures, c.new.ensures.items) (sound-empty c.in-Ok.cluster c.args.ranks c.requires.some c.requires.ranked e.state e.kept e.cached (ap (λ (cs : CacheMap). length cs.used) e.caches ∙ new_count c.args.ranks c.args.cache))
+    rw (c.new-in-Ok.ensures, c.new.ensures.items) (sound-empty c.in-Ok.cluster c.args.ranks c.args.limit c.requires.some c.requires.ranked e.state e.kept e.cached (ap (λ (cs : CacheMap). length cs.used) e.caches ∙ new_count c.args.ranks c.args.cache))
 
 pub returns-in-Ok-clause-sound : goal.returns-in-Ok-clause-sound
 returns-in-Ok-clause-sound g c = invariant_of-result g c

@@ -1,14 +1,16 @@
 -- What serving made of the parts, said of the cluster's state.
-use Rattle.std.proofs.Common.{◌≢◌, Bool, MatchBool, rules, subst}
+use Rattle.std.proofs.Common.{◌≢◌, ℕ, Bool, MatchBool, ap, refl, rules, subst, sym, ◌∙◌}
+use Rattle.std.specs.List.{Contains}
 use Rattle.std.specs.Result.{result_err}
 use Rattle.mds_types.specs.declared.refusals.Refusal.TheVariants.{NoInodes}
-use Rattle.mds_types.specs.Step.{number_or}
+use Rattle.mds_types.specs.Step.{number_or, step}
 use Rattle.inode_table.specs.Numbers.{Supply, offer}
 use Rattle.sessions.specs.Rooms.{table}
 use Rattle.mdcache.specs.Core.{state_of as tree_state}
 use Rattle.mdcache.specs.Shown.{shown_tree}
 use Rattle.mdcache.specs.State.{State as TreeState}
 use Rattle.mdcache.proofs.FragsLaws.{refused_so}
+use Rattle.namespace_ops.specs.ChangedFragments.{changed_fragments}
 use Rattle.namespace_ops.specs.Changes.{Concerns}
 use Rattle.ranked_tree.specs.Held.{LacksPlacesAsked}
 use Rattle.ranked_tree.specs.Ranked.{IsReady as IsReadyIn, MayRefuse, held_roots}
@@ -23,7 +25,7 @@ use Rattle.cluster_core.proofs.serving.serve_new.Goals as goal
 
 pub must_wait-requires : goal.must_wait-requires
 must_wait-requires g c =
-    (number_or (offer c.args.asked.supply), checked_later c.args.tree.now c.check.new.frags c.args.asked.request.op _ _ c.in-Ok.checked c.in-Ok.ensures.kept.follows (search rules) c.in-Ok.ensures.checked)
+    (number_or (offer c.args.asked.supply), checked_later c.args.tree.now c.check.new.frags c.args.asked.request.op _ _ _ _ c.in-Ok.checked c.in-Ok.ensures.kept.follows (c.requires.asked.limit ∙ ap (λ (s : TreeState). s.limit) (sym c.in-Ok.ensures.kept.follows.tree.state)) (search rules) c.in-Ok.ensures.checked)
 
 pub returns-then-must_wait-clause-served : goal.returns-then-must_wait-clause-served
 returns-then-must_wait-clause-served g c =
@@ -44,7 +46,7 @@ returns-then-must_wait-clause-served g c =
 
 pub prepare-requires-clause-checked : goal.prepare-requires-clause-checked
 prepare-requires-clause-checked g c =
-    checked_later c.args.tree.now c.check.new.frags c.args.asked.request.op _ _ c.in-Ok.checked c.in-Ok.ensures.kept.follows (search rules) c.in-Ok.ensures.checked
+    checked_later c.args.tree.now c.check.new.frags c.args.asked.request.op c.args.asked.limit _ _ _ c.in-Ok.checked c.in-Ok.ensures.kept.follows refl (search rules) c.in-Ok.ensures.checked
 
 pub prepare-requires-clause-touch : goal.prepare-requires-clause-touch
 prepare-requires-clause-touch g c leaf has =
@@ -52,7 +54,8 @@ prepare-requires-clause-touch g c leaf has =
     let q = c.args.asked.request in
     let pins = c.args.waiting.now.pins in
     ((subst (λ (b : Bool). MatchBool b (MustWaitIn (tree_state m.tree) m.subtrees.roots m.exports pins c.args.asked.rank q.client q.tid q.op) (MayTouchAllIn (tree_state m.tree) m.subtrees.roots m.exports pins c.args.asked.rank q.client q.tid q.op)) c.if-must_wait.false
-    c.must_wait.ensures) leaf has).0
+    c.must_wait.ensures) leaf
+    (subst (λ (l : ℕ). Contains (changed_fragments l m.tree.covers (shown_tree (tree_state m.tree)) q.op) leaf) (c.requires.asked.limit ∙ ap (λ (s : TreeState). s.limit) (sym c.in-Ok.ensures.kept.follows.tree.state)) has)).0
 
 pub returns-in-Ok-prepare-clause-served : goal.returns-in-Ok-prepare-clause-served
 returns-in-Ok-prepare-clause-served g c =
@@ -70,8 +73,9 @@ returns-in-Ok-prepare-clause-served g c =
     (tree_state c.commit.new.tree.tree) c.commit.new.tree.subtrees.roots c.commit.new.tree.exports c.commit.ensures.kept.stand c.commit.new.given.numbers.items c.commit.new.pins (table c.commit.new.given.sessions) c.commit.new.history.items (IsReadyIn c.prepare.new.frags) c.in-Ok-prepare.prepared c.commit.result
     (subst (λ (b : Bool). MatchBool b (MustWaitIn f r e pins rank q.client q.tid q.op) (MayTouchAllIn f r e pins rank q.client q.tid q.op)) c.if-must_wait.false
     (waits_before c.args.tree.now c.check.new.frags pins rank q.client q.tid q.op _ first c.must_wait.ensures))
-    (subst (λ (s : Supply). IsPrepared (shown_tree f) c.args.tree.now.tree.covers (IsReadyIn c.prepare.new.frags) q.op (outcome_with f s q.op) s c.in-Ok-prepare.prepared) c.requires.asked.left
-    (subst (λ (s : TreeState). IsPrepared (shown_tree s) s.covers (IsReadyIn c.prepare.new.frags) q.op (outcome_with s c.args.asked.supply q.op) c.args.asked.supply c.in-Ok-prepare.prepared) first.tree.state c.in-Ok-prepare.ensures.prepared))
+    (subst (λ (s : Supply). IsPrepared f.limit (shown_tree f) c.args.tree.now.tree.covers (IsReadyIn c.prepare.new.frags) q.op (outcome_with f s q.op) s c.in-Ok-prepare.prepared) c.requires.asked.left
+    (subst (λ (l : ℕ). IsPrepared l (shown_tree f) f.covers (IsReadyIn c.prepare.new.frags) q.op (step l (shown_tree f) q.op (number_or (offer c.args.asked.supply))) c.args.asked.supply c.in-Ok-prepare.prepared) c.requires.asked.limit
+    (subst (λ (s : TreeState). IsPrepared c.args.asked.limit (shown_tree s) s.covers (IsReadyIn c.prepare.new.frags) q.op (step c.args.asked.limit (shown_tree s) q.op (number_or (offer c.args.asked.supply))) c.args.asked.supply c.in-Ok-prepare.prepared) first.tree.state c.in-Ok-prepare.ensures.prepared)))
     c.commit.ensures.tree c.commit.ensures.made c.commit.ensures.leaves c.commit.ensures.frame c.commit.ensures.followed c.commit.ensures.pins c.commit.ensures.appended c.commit.ensures.drawn c.commit.ensures.known c.commit.ensures.answer
 
 pub returns-in-Err-NoInodes-clause-served : goal.returns-in-Err-NoInodes-clause-served
@@ -89,7 +93,7 @@ returns-in-Err-NoInodes-clause-served g c =
     kept.tree.state kept.roots kept.exports c.prepare.ensures.known c.prepare.ensures.past c.prepare.ensures.numbers c.requires.asked.is_new c.requires.asked.master
     c.in-Err-NoInodes.field-0 c.end_request.new.pins c.in-Err-NoInodes.field-0-is
     (subst (λ (s : Supply). IsUnready (MayTouchAllIn f r e pins rank q.client q.tid q.op) (MayRefuse c.args.tree.now c.prepare.new.frags q.op) (outcome_with f s q.op) (offer s) c.in-Err-NoInodes.field-0) c.requires.asked.left
-    (still_refused c.args.tree.now c.check.new.frags c.prepare.new.frags q.op (MayTouchAllIn f r e pins rank q.client q.tid q.op) c.args.asked.supply c.in-Err-NoInodes.field-0 first
+    (still_refused c.args.tree.now c.check.new.frags c.prepare.new.frags q.op (MayTouchAllIn f r e pins rank q.client q.tid q.op) c.args.asked.limit c.args.asked.supply c.in-Err-NoInodes.field-0 first c.requires.asked.limit
     (subst (λ (b : Bool). MatchBool b (MustWaitIn f r e pins rank q.client q.tid q.op) (MayTouchAllIn f r e pins rank q.client q.tid q.op)) c.if-must_wait.false
     (waits_before c.args.tree.now c.check.new.frags pins rank q.client q.tid q.op _ first c.must_wait.ensures))
     c.in-Err-NoInodes.ensures.prepared))
@@ -135,7 +139,7 @@ returns-in-Err-prepare-clause-served g c =
     kept.tree.state kept.roots kept.exports c.prepare.ensures.known c.prepare.ensures.past c.prepare.ensures.numbers c.requires.asked.is_new c.requires.asked.master
     c.put_back-in-Err-prepare.new.self c.in-Err-prepare.refusal c.put_back-in-Err-prepare.ensures isnt
     (subst (λ (s : Supply). IsUnready (MayTouchAllIn f r e pins rank q.client q.tid q.op) (MayRefuse c.args.tree.now c.prepare.new.frags q.op) (outcome_with f s q.op) (offer s) c.in-Err-prepare.refusal) c.requires.asked.left
-    (still_refused c.args.tree.now c.check.new.frags c.prepare.new.frags q.op (MayTouchAllIn f r e pins rank q.client q.tid q.op) c.args.asked.supply c.in-Err-prepare.refusal first
+    (still_refused c.args.tree.now c.check.new.frags c.prepare.new.frags q.op (MayTouchAllIn f r e pins rank q.client q.tid q.op) c.args.asked.limit c.args.asked.supply c.in-Err-prepare.refusal first c.requires.asked.limit
     (subst (λ (b : Bool). MatchBool b (MustWaitIn f r e pins rank q.client q.tid q.op) (MayTouchAllIn f r e pins rank q.client q.tid q.op)) c.if-must_wait.false
     (waits_before c.args.tree.now c.check.new.frags pins rank q.client q.tid q.op _ first c.must_wait.ensures))
     c.in-Err-prepare.ensures.prepared))
@@ -154,7 +158,7 @@ returns-in-Err-prepare-clause-uses g c =
     (unready_of (MayTouchAllIn f r e pins rank q.client q.tid q.op) (MayRefuse c.args.tree.now c.prepare.new.frags q.op)
     (λ reason may. refused_so (LacksPlacesAsked 2 c.args.tree.now.tree (held_roots c.args.tree.now) (Concerns (shown_tree f) q.op)) c.args.tree.now.tree c.prepare.new.frags.tree q.op reason may)
     (outcome_with f c.args.asked.supply q.op) (offer c.args.asked.supply) c.in-Err-prepare.refusal
-    (still_refused c.args.tree.now c.check.new.frags c.prepare.new.frags q.op (MayTouchAllIn f r e pins rank q.client q.tid q.op) c.args.asked.supply c.in-Err-prepare.refusal first
+    (still_refused c.args.tree.now c.check.new.frags c.prepare.new.frags q.op (MayTouchAllIn f r e pins rank q.client q.tid q.op) c.args.asked.limit c.args.asked.supply c.in-Err-prepare.refusal first c.requires.asked.limit
     (subst (λ (b : Bool). MatchBool b (MustWaitIn f r e pins rank q.client q.tid q.op) (MayTouchAllIn f r e pins rank q.client q.tid q.op)) c.if-must_wait.false
     (waits_before c.args.tree.now c.check.new.frags pins rank q.client q.tid q.op _ first c.must_wait.ensures))
     c.in-Err-prepare.ensures.prepared)) kept.reads

@@ -1,14 +1,18 @@
-use Rattle.std.proofs.Common.{None, rules, sym, ◌∙◌}
-use Rattle.namespace_ops.proofs.CheckedParts.{checks_from, renamed_on}
+use Rattle.std.proofs.Common.{None, ap, refl, rules, sym, ◌∙◌}
+use Rattle.mds_types.specs.Tree.{Tree}
+use Rattle.std.specs.FinMap as map
+use Rattle.namespace_ops.specs.Changes.{directory_at}
+use Rattle.namespace_ops.proofs.CheckedParts.{moved_checked, renamed_full, renamed_refused, replaced_told, room_told, space_told}
 use Rattle.namespace_ops.proofs.renaming.rename.Goals as goal
 
 pub returns-clause-checked : goal.returns-clause-checked
 returns-clause-checked g c n =
-    checks_from (g.F.Frags.content c.args.frags.now) (g.F.Frags.content c.look.new.self) (g.F.Frags.covers c.args.frags.now) (g.F.Frags.covers c.look.new.self) (g.F.Frags.Holds c.args.frags.now) (g.F.Frags.Holds c.look.new.self) c.args.op.now n _ _ c.move_onto.result c.in_ok-inode.ensures.kept.tree c.in_ok-inode.ensures.kept.leaves
-    (λ at. (g.met.F.Frags.held_on _ _ c.args.op.now None at c.in_ok-inode.ensures.kept.follows).1)
-    (rw (c.in_ok-inode.ensures.kept.tree)
-    (renamed_on (g.F.Frags.content c.args.frags.now) c.args.from.now c.args.to.now _ _ c.in-Some.inode
-    (sym c.in_ok-inode.ensures.found ∙ c.in-Some.is)
-    (search rules)
-    (search rules)))
-    (c.move_onto.ensures.checked n)
+    let tree = g.F.Frags.content c.args.frags.now in
+    let mid = c.in_ok-replaced.ensures.kept.tree ∙ c.in_ok-inode.ensures.kept.tree in
+    let there = c.in_ok-replaced.ensures.found ∙ ap (λ (t : Tree). map.get t c.args.to.now) c.in_ok-inode.ensures.kept.tree in
+    moved_checked tree _ _ _ n c.args.limit c.args.from.now c.args.to.now c.args.at.now _ _ _ c.in-Some.inode c.requires.from c.requires.to c.in_ok-source.ensures c.in_ok-target.ensures
+    (sym c.in_ok-inode.ensures.found ∙ c.in-Some.is) (search rules) (search rules)
+    (sym (replaced_told tree _ c.in-Some.inode c.args.to.now _ _ _ mid c.as_ref.ensures.value there c.in_ok-errno.ensures.found) ∙ c.in_default-2.is)
+    (sym (room_told c.args.limit tree _ c.args.from.now c.args.to.now _ _ _ (c.in_ok-errno.ensures.kept.tree ∙ mid) c.as_ref-2.ensures.value there c.room_errno.ensures.told) ∙ c.in_default-3.is)
+    (space_told tree _ c.args.from.now c.args.to.now _ _ (c.in_ok-errno.ensures.kept.tree ∙ mid) c.as_ref-2.ensures.value there (c.room_errno.ensures.space c.in_default-3.is))
+    (c.directory_of-gone.ensures ∙ ap directory_at (c.as_ref-3.ensures.value ∙ there)) c.requires.moves

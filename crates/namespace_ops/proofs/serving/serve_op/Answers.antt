@@ -14,7 +14,7 @@ use Rattle.namespace_ops.proofs.serving.serve_op.Goals as goal
 
 pub plan_checked-requires-clause-checked : goal.plan_checked-requires-clause-checked
 plan_checked-requires-clause-checked g c =
-    checks_on (g.F.Frags.content c.args.frags.now) _ (g.F.Frags.covers c.args.frags.now) _ (g.F.Frags.Holds c.args.frags.now) _ c.args.op.now _ _ _ c.in_ok-checked.ensures.kept.tree c.in_ok-checked.ensures.kept.leaves
+    checks_on c.args.limit (g.F.Frags.content c.args.frags.now) _ (g.F.Frags.covers c.args.frags.now) _ (g.F.Frags.Holds c.args.frags.now) _ c.args.op.now _ _ _ c.in_ok-checked.ensures.kept.tree c.in_ok-checked.ensures.kept.leaves
     (λ at. (g.met.F.Frags.held_on _ _ c.args.op.now None at c.in_ok-checked.ensures.kept.follows).0)
     (search rules) c.in_ok-checked.ensures.checked
 
@@ -22,7 +22,7 @@ pub plan_checked-requires-clause-touch : goal.plan_checked-requires-clause-touch
 plan_checked-requires-clause-touch g c leaf has =
     let kept = c.in_ok-checked.ensures.kept in
     g.met.F.Frags.touch_on _ _ c.args.op.now None leaf kept.follows
-    (c.requires.touch leaf (subst (λ (k : List Leaf). Contains k leaf) (λ i. changed_fragments (kept.leaves i) (kept.tree i) c.args.op.now) has))
+    (c.requires.touch leaf (subst (λ (k : List Leaf). Contains k leaf) (λ i. changed_fragments c.args.limit (kept.leaves i) (kept.tree i) c.args.op.now) has))
 
 pub returns-in_err-plan-clause-frame : goal.returns-in_err-plan-clause-frame
 returns-in_err-plan-clause-frame g c leaf others =
@@ -33,7 +33,7 @@ returns-clause-frame g c leaf others =
     g.met.F.Frags.unchanged_on _ _ _ leaf (g.met.F.Frags.unchanged_by _ _ c.args.op.now leaf _ (g.met.F.Frags.follows_on _ _ _ c.args.op.now None c.in_ok-checked.ensures.kept.follows c.in_ok-plan.ensures.kept.follows))
     (subst (ChangesOnly (g.F.Frags.Unchanged c.plan_checked.new.frags c.carry_out.new.frags))
     (ap (λ (k : Covers). fragments_in k c.in_ok-plan.plan.change) c.in_ok-plan.ensures.kept.leaves ∙ c.in_ok-plan.ensures.planned.fragments
-    ∙ (λ i. changed_fragments (c.in_ok-checked.ensures.kept.leaves i) (c.in_ok-checked.ensures.kept.tree i) c.args.op.now)) c.carry_out.ensures.frame leaf others)
+    ∙ (λ i. changed_fragments c.args.limit (c.in_ok-checked.ensures.kept.leaves i) (c.in_ok-checked.ensures.kept.tree i) c.args.op.now)) c.carry_out.ensures.frame leaf others)
 
 pub returns-clause-others : goal.returns-clause-others
 returns-clause-others g c whole =
@@ -44,8 +44,8 @@ returns-clause-others g c whole =
     let new_covers = g.F.Frags.covers c.carry_out.new.frags in
     let tree = g.F.Frags.content c.args.frags.now in
     let new = g.F.Frags.content c.carry_out.new.frags in
-    subst (λ t. OthersShowTheSame t new old_covers new_covers (changed_fragments old_covers t c.args.op.now)) mid.tree
-    (subst (λ k. OthersShowTheSame (g.F.Frags.content c.check.new.frags) new k new_covers (changed_fragments k (g.F.Frags.content c.check.new.frags) c.args.op.now)) mid.leaves
+    subst (λ t. OthersShowTheSame t new old_covers new_covers (changed_fragments c.args.limit old_covers t c.args.op.now)) mid.tree
+    (subst (λ k. OthersShowTheSame (g.F.Frags.content c.check.new.frags) new k new_covers (changed_fragments c.args.limit k (g.F.Frags.content c.check.new.frags) c.args.op.now)) mid.leaves
     (subst (OthersShowTheSame (g.F.Frags.content c.check.new.frags) new (g.F.Frags.covers c.check.new.frags) new_covers) plan.fragments
     (others_after_plan (g.F.Frags.content c.check.new.frags) new (g.F.Frags.covers c.check.new.frags) new_covers _ c.in_ok-plan.plan.change (subst (λ t. IsWellFormed t) (sym mid.tree) whole) plan.ready (c.carry_out.ensures.done ∙ ap (λ t. after_plan t c.in_ok-plan.plan.change) kept.tree)
     (subst (λ k. KeepLeaves new k new_covers) kept.leaves c.carry_out.ensures.leaves))))

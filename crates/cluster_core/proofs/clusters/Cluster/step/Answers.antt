@@ -1,6 +1,7 @@
 use Rattle.std.proofs.Common.{refl, subst}
 use Rattle.cluster_core.specs.Sound.{AreCached, AreExported, IsKept}
 use Rattle.cluster_core.specs.State.{Core}
+use Rattle.cluster_core.proofs.LimitStays.{limit_stays}
 use Rattle.cluster_core.proofs.Stepped.{sound-step}
 use Rattle.cluster_core.proofs.clusters.Cluster.step.Goals as goal
 
@@ -11,4 +12,5 @@ returns-clause-sound g c opening sound =
     let cached = subst AreCached c.self.view_is (record { unsaved = refl; places = (_, s.sound.kept); held = s.held; orders = c.is_sound.ensures.caches }) in
     let stand = c.is_sound.ensures.stand in
     let exported = subst AreExported c.self.view_is (record { placed = stand.placed.ranked; ranked = stand.ranked; there = stand.there; unbegun = stand.unbegun }) in
-    sound-step opening _ _ _ _ sound kept cached exported c.choose-answer.ensures.stepped.ranks c.choose-answer.ensures.valid c.choose-answer.result c.args.event c.choose-answer.ensures.stepped.does
+    sound-step opening _ _ _ _ sound kept cached exported c.choose-answer.ensures.stepped.ranks c.choose-answer.ensures.valid
+    (limit_stays _ _ _ _ c.choose-answer.result c.args.event c.choose-answer.ensures.stepped.does) c.choose-answer.result c.args.event c.choose-answer.ensures.stepped.does
