@@ -22,7 +22,8 @@ use crate::filling::room_errno;
 use crate::frags::Frags;
 use crate::plans::{Change, Checked, Spot};
 use mds_types::{
-    Dentry, Dirfrag, EINVAL, EISDIR, ENOENT, ENOTDIR, ENOTEMPTY, Ino, Inode, Limit, Op, Refusal, Reply,
+    Dentry, Dirfrag, EINVAL, EISDIR, ENOENT, ENOTDIR, ENOTEMPTY, Ino, Inode, Limit, Op, Refusal,
+    Reply,
 };
 
 /// Moves the entry at one dentry to another. What is absent there comes to a directory that may take a further entry.

@@ -1,8 +1,8 @@
-use Rattle.std.proofs.Common.{None, ap, refl, rules, sym, ◌∙◌}
+use Rattle.std.proofs.Common.{None, ap, rules, sym, ◌∙◌}
 use Rattle.mds_types.specs.Tree.{Tree}
 use Rattle.std.specs.FinMap as map
 use Rattle.namespace_ops.specs.Changes.{directory_at}
-use Rattle.namespace_ops.proofs.CheckedParts.{moved_checked, renamed_full, renamed_refused, replaced_told, room_told, space_told}
+use Rattle.namespace_ops.proofs.CheckedParts.{moved_checked, replaced_told, room_told, space_told}
 use Rattle.namespace_ops.proofs.renaming.rename.Goals as goal
 
 pub returns-clause-checked : goal.returns-clause-checked
@@ -13,6 +13,13 @@ returns-clause-checked g c n =
     moved_checked tree _ _ _ n c.args.limit c.args.from.now c.args.to.now c.args.at.now _ _ _ c.in-Some.inode c.requires.from c.requires.to c.in_ok-source.ensures c.in_ok-target.ensures
     (sym c.in_ok-inode.ensures.found ∙ c.in-Some.is) (search rules) (search rules)
     (sym (replaced_told tree _ c.in-Some.inode c.args.to.now _ _ _ mid c.as_ref.ensures.value there c.in_ok-errno.ensures.found) ∙ c.in_default-2.is)
-    (sym (room_told c.args.limit tree _ c.args.from.now c.args.to.now _ _ _ (c.in_ok-errno.ensures.kept.tree ∙ mid) c.as_ref-2.ensures.value there c.room_errno.ensures.told) ∙ c.in_default-3.is)
-    (space_told tree _ c.args.from.now c.args.to.now _ _ (c.in_ok-errno.ensures.kept.tree ∙ mid) c.as_ref-2.ensures.value there (c.room_errno.ensures.space c.in_default-3.is))
+    (sym (room_told c.args.limit tree _ c.args.from.now c.args.to.now _ _ _ (c.in_ok-errno.ensures.kept.tree ∙ mid) c.as_ref-2.ensures.value there c.room_errno.ensures.told) ∙ c.in_default-room_errno.is)
+    (space_told tree _ c.args.from.now c.args.to.now _ _ (c.in_ok-errno.ensures.kept.tree ∙ mid) c.as_ref-2.ensures.value there (c.room_errno.ensures.space c.in_default-room_errno.is))
     (c.directory_of-gone.ensures ∙ ap directory_at (c.as_ref-3.ensures.value ∙ there)) c.requires.moves
+
+pub returns-clause-kept : goal.returns-clause-kept
+returns-clause-kept g c = record {
+  tree = c.in_ok-errno.ensures.kept.tree ∙ c.in_ok-replaced.ensures.kept.tree ∙ c.in_ok-inode.ensures.kept.tree;
+  leaves = c.in_ok-errno.ensures.kept.leaves ∙ c.in_ok-replaced.ensures.kept.leaves ∙ c.in_ok-inode.ensures.kept.leaves;
+  follows = g.met.F.Frags.follows_on _ _ _ c.args.op.now None (g.met.F.Frags.follows_on _ _ _ c.args.op.now None c.in_ok-inode.ensures.kept.follows c.in_ok-replaced.ensures.kept.follows) c.in_ok-errno.ensures.kept.follows;
+}
