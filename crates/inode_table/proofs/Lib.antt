@@ -1,6 +1,11 @@
 pub mod Chains
+pub mod CountRows
+pub mod CountedLaws
+pub mod CountingLaws
 pub mod MoveLaws
+pub mod NotedLaws
 pub mod OrderLaws
+pub mod PinLaws
 pub mod RowLaws
 pub mod TableLaws
 pub mod Tables

@@ -37,7 +37,7 @@ module _ {V X : Type 0} (f : V → X) where
       go true more = refl
       go false more = more
 
-  get_taken : (m : map.FinMap nat_cmp V) (q : ℕ) → map.get {R = nat_cmp} (map.from_sorted (taken (map.entries m))) q ≡ option_map f (map.get m q)
+  pub get_taken : (m : map.FinMap nat_cmp V) (q : ℕ) → map.get {R = nat_cmp} (map.from_sorted (taken (map.entries m))) q ≡ option_map f (map.get m q)
   get_taken m q =
       get-from_sorted nat_cmp _ q (subst T (sym (sorted_taken (map.entries m))) (entries_sorted m))
       ∙ find_taken q (map.entries m)
@@ -91,7 +91,7 @@ pub get_leaves : (root : Option (List Fragment)) (rows : Rows) (d : ℕ) → (d 
 get_leaves None rows d other = get_below rows d
 get_leaves (Some leaves) rows d other = get_beside (covers_below rows) 1 leaves d other ∙ get_below rows d
 
-same : {X : Type 0} (a b : map.FinMap nat_cmp X) → ((q : ℕ) → map.get a q ≡ map.get b q) → a ≡ b
+pub same : {X : Type 0} (a b : map.FinMap nat_cmp X) → ((q : ℕ) → map.get a q ≡ map.get b q) → a ≡ b
 same a b each = same_map nat_cmp_total nat_cmp-IsAntisymmetric a b each
 
 -- the table of no directories

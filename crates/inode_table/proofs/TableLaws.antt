@@ -6,7 +6,7 @@ use Rattle.std.specs.Ordering.{nat_cmp}
 use Rattle.std.proofs.lemmas.Bool.{eqb-true, or_cases, or_left, or_right}
 use Rattle.mds_types.specs.declared.dentries.Dentry.{Dentry}
 use Rattle.mds_types.specs.declared.inodes.Inode.{Inode}
-use Rattle.mds_types.specs.Tree.{Tree, dentry_cmp, dentry_of, at, is_directory, is_dir_kind, is_above, has_entries, IsAbove as IsAboveIn, child, further as further_down, IsWellFormed, NothingIn}
+use Rattle.mds_types.specs.Tree.{Tree, dentry_cmp, dentry_of, at, is_directory, is_dir_kind, is_above, has_entries, HasPinOf, IsAbove as IsAboveIn, child, further as further_down, IsWellFormed, NothingIn}
 use Rattle.mds_types.proofs.AboveLaws.{above_exact}
 use Rattle.mds_types.proofs.AttributeLaws.{well-formed-changed}
 use Rattle.mds_types.proofs.RemovedLaws.{well-formed-removed}
@@ -137,10 +137,14 @@ with_dir homes dentry inode kinded = ap (λ b. cond b (map.insert homes inode.in
 pub with_file : (homes : Homes) (dentry : Dentry) (inode : Inode) → is_dir_kind inode.kind ≡ false → with_home homes dentry inode ≡ homes
 with_file homes dentry inode kinded = ap (λ b. cond b (map.insert homes inode.ino.0 (home_at dentry)) homes) kinded
 
+-- a new inode has no pin, which its kind allows
+pub no_pin : (tree : Tree) (dentry : Dentry) (inode : Inode) → MayAdd tree dentry inode → HasPinOf inode.kind inode.pin
+no_pin tree dentry inode may = subst (HasPinOf inode.kind) (sym may.unpinned) tt
+
 -- a new inode comes in
 pub added_tabled : (tree : Tree) (homes : Homes) (dentry : Dentry) (inode : Inode) → IsTabled tree homes → MayAdd tree dentry inode → IsTabled (map.insert tree dentry inode) (with_home homes dentry inode)
 added_tabled tree homes dentry inode tabled may = record {
-  whole = well-formed-grown tree dentry.dir.0 dentry.name inode may.free tabled.whole may.parent may.unused.not_root may.unused.not_there may.sized may.pinned;
+  whole = well-formed-grown tree dentry.dir.0 dentry.name inode may.free tabled.whole may.parent may.unused.not_root may.unused.not_there may.sized (no_pin tree dentry inode may);
   holds = ⊎_elim of_dir of_file (dir_or_not inode);
 }
   where

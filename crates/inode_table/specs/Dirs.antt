@@ -1,9 +1,11 @@
--- The directory table: where each directory stands, and the leaves of each, CephFS's `fragtree_t`.
-use Rattle.std.specs.Prelude.{◌≡◌, ℕ, zero, suc, Bool, true, ◌||◌, ◌==◌, is_some, Option, Some, None, List, [], ◌∷◌}
+-- The directory table: where each directory stands, the leaves of each, CephFS's `fragtree_t`, how many entries it has, and its pin, CephFS's
+-- `export_pin`.
+use Rattle.std.specs.Prelude.{◌≡◌, ℕ, zero, suc, ◌+◌, ◌-◌, Bool, true, ◌||◌, ◌==◌, is_some, Option, Some, None, List, [], ◌∷◌}
 use Rattle.std.specs.Ordering.{nat_cmp}
 use Rattle.std.specs.FinMap as map
 use Rattle.mds_types.specs.Frag.{Fragment, root_fragment}
 use Rattle.mds_types.specs.Leaf.{Leaf}
+use Rattle.mds_types.specs.declared.ids.Rank.{Rank}
 use Rattle.fragtree.specs.FragTree.{HasLeaf, IsPick, IsTree}
 use Rattle.inode_table.specs.declared.dirs.Home.{Home}
 
@@ -15,10 +17,21 @@ Homes = map.FinMap nat_cmp Home
 abbrev pub Covers : Type 0
 Covers = map.FinMap nat_cmp (List Fragment)
 
--- what contracts see of a table: the homes and the leaves, and how many more directories still fit with no growth
+-- from the number of each directory to how many entries it has
+abbrev pub Counts : Type 0
+Counts = map.FinMap nat_cmp ℕ
+
+-- from the number of each directory with a pin to the rank that it names
+abbrev pub DirPins : Type 0
+DirPins = map.FinMap nat_cmp Rank
+
+-- what contracts see of a table: the homes and the leaves, how many entries each directory has, the pins, and how many more directories still
+-- fit with no growth
 pub record Table : Type 0 where
   pub homes : Homes
   pub trees : Covers
+  pub counts : Counts
+  pub pins : DirPins
   pub room : ℕ
 
 -- the leaves of a row, `*` alone where there is no row
@@ -29,6 +42,26 @@ or_whole (Some leaves) = leaves
 -- the leaves of a directory
 abbrev pub leaves_of : Covers → ℕ → List Fragment
 leaves_of trees d = or_whole (map.get trees d)
+
+-- how many entries a directory has; what is no directory has none
+abbrev pub or_zero : Option ℕ → ℕ
+or_zero None = 0
+or_zero (Some n) = n
+
+abbrev pub count_of : Counts → ℕ → ℕ
+count_of counts d = or_zero (map.get counts d)
+
+-- an entry comes to a directory, and one goes
+abbrev pub one_more : Counts → ℕ → Counts
+one_more counts d = map.insert counts d (count_of counts d + 1)
+
+abbrev pub one_less : Counts → ℕ → Counts
+one_less counts d = map.insert counts d (count_of counts d - 1)
+
+-- the pins with this one of a directory, or with none of it
+abbrev pub pinned_at : DirPins → ℕ → Option Rank → DirPins
+pinned_at pins d None = map.remove pins d
+pinned_at pins d (Some rank) = map.insert pins d rank
 
 -- d is a directory of the table: the root, 1, or one that has a home
 abbrev pub is_known : Homes → ℕ → Bool

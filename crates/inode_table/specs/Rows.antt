@@ -3,8 +3,9 @@ use Rattle.std.specs.Prelude.{ℕ, Bool, is_some, map, Option, Some, None, List}
 use Rattle.std.specs.Ordering.{nat_cmp}
 use Rattle.std.specs.FinMap as map
 use Rattle.mds_types.specs.Frag.{Fragment}
+use Rattle.mds_types.specs.declared.ids.Rank.{Rank}
 use Rattle.inode_table.specs.declared.dirs.Directory.{Directory}
-use Rattle.inode_table.specs.Dirs.{Homes, Covers, or_whole}
+use Rattle.inode_table.specs.Dirs.{Counts, Covers, DirPins, Homes, or_whole}
 
 -- the directories below the root by number
 abbrev pub Rows : Type 0
@@ -31,3 +32,29 @@ covers_below rows = map.from_sorted (map (λ e. (e.0, or_whole e.1.leaves)) (map
 abbrev pub covers_of : Option (List Fragment) → Rows → Covers
 covers_of None rows = covers_below rows
 covers_of (Some leaves) rows = map.insert (covers_below rows) 1 leaves
+
+-- how many entries each directory below the root has
+unfoldable pub counts_below : Rows → Counts
+counts_below rows = map.from_sorted (map (λ e. (e.0, e.1.entries)) (map.entries rows))
+
+-- and with those of the root
+abbrev pub counts_of : ℕ → Rows → Counts
+counts_of root rows = map.insert (counts_below rows) 1 root
+
+-- the pin of the row that was found, if it has one
+abbrev pub pin_in : Option Directory → Option Rank
+pin_in None = None
+pin_in (Some row) = row.pin
+
+-- whether a directory below the root has a pin
+abbrev pub has_pin : Rows → ℕ → Bool
+has_pin rows d = is_some (pin_in (map.get rows d))
+
+-- the rank that a pin names; where there is none, any
+abbrev pub or_first : Option Rank → Rank
+or_first None = record { 0 = 0 }
+or_first (Some rank) = rank
+
+-- the pins
+unfoldable pub pins_of : Rows → DirPins
+pins_of rows = map.from_sorted (map (λ e. (e.0, or_first e.1.pin)) (map.entries (map.retain_keys rows (has_pin rows))))

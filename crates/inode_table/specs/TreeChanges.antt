@@ -6,15 +6,15 @@ use Rattle.mds_types.specs.declared.inodes.Inode.{Inode}
 use Rattle.mds_types.specs.Tree.{Tree, is_directory, is_dir_kind, entries_in, has_entries, HasPinOf, HasSize, IsUnused}
 use Rattle.inode_table.specs.Dirs.{Covers, leaves_of}
 
--- a new inode may come: to a free dentry of a directory with fewer entries than the largest limit, with a number that is unused, and the size
--- and the pin that its kind allows
+-- a new inode may come: to a free dentry of a directory with fewer entries than the largest limit, with a number that is unused, the size that
+-- its kind allows, and no pin
 pub record MayAdd (tree : Tree) (dentry : Dentry) (inode : Inode) : Type 0 where
   pub free : map.get tree dentry ≡ None
   pub parent : is_directory tree dentry.dir.0 ≡ true
   pub spaced : entries_in tree dentry.dir.0 < 2 ^ 20
   pub unused : IsUnused tree inode.ino.0
   pub sized : HasSize inode.kind inode.size
-  pub pinned : HasPinOf inode.kind inode.pin
+  pub unpinned : inode.pin ≡ None
 
 -- an inode may be altered: it has the number and the kind of the one that stands there, and a size and a pin that its kind allows, where that had them
 pub record MaySet (tree : Tree) (dentry : Dentry) (inode : Inode) : Type 0 where

@@ -1,5 +1,5 @@
 //! The directory table.
-ghost use Rattle.std.specs.Prelude.{◌≡◌, ◌≢◌, ◌+◌, ◌-◌, ◌<◌, ◌≤◌, ◌↔◌, ◌∷◌, [], length, true, IsOk, IsSome, IsTrue, IfOk, OnOk, OnErr, IfErr, MatchOption, false, slice_get};
+ghost use Rattle.std.specs.Prelude.{◌≡◌, ◌≢◌, ◌+◌, ◌-◌, ◌<◌, ◌≤◌, ◌↔◌, ◌^◌, is_some, ◌∷◌, [], length, true, IsOk, IsSome, IsTrue, IfOk, OnOk, OnErr, IfErr, MatchOption, false, slice_get};
 ghost use Rattle.std.specs.Option.{option_copied, option_map};
 ghost use Rattle.std.specs.FinMap as map;
 ghost use Rattle.mds_types.specs.declared.refusals.Refusal.TheVariants.{NoMemory};
@@ -7,10 +7,10 @@ ghost use Rattle.mds_types.specs.Frag.{root_fragment};
 ghost use Rattle.fragtree.specs.FragTree.{CanMerge, CanSplit, IsPick, RefusesMerge, RefusesSplit};
 ghost use Rattle.mds_types.specs.declared.ids.Ino.{Ino};
 ghost use Rattle.inode_table.specs.Order.{dirs_after, trees_after};
-ghost use Rattle.inode_table.specs.Dirs.{IsAbove, IsLeafAt, IsLive, IsTable, MayCome, MayGo, MayMove, is_known, leaves_of, or_whole};
+ghost use Rattle.inode_table.specs.Dirs.{IsAbove, IsLeafAt, IsLive, IsTable, MayCome, MayGo, MayMove, count_of, is_known, leaves_of, one_less, one_more, or_whole, pinned_at};
 
 use fragtree::FragTree;
-use mds_types::{Frag, Ino, Name, Refusal};
+use mds_types::{Frag, Ino, Name, Rank, Refusal};
 use sorted_map::SortedMap;
 use std::alloc::{AllocError, Global};
 use std::marker::Model;
@@ -29,15 +29,20 @@ pub struct LeafAt<'a> {
     pub home: Option<&'a Home>,
 }
 
-/// What the table keeps of a directory below the root: where it stands, and its leaves if they were ever set.
+/// What the table keeps of a directory below the root: where it stands, its leaves if they were ever set, how many entries it
+/// has, and its pin.
 #[derive(Debug, Drop)]
 pub(crate) struct Directory {
     home: Home,
     leaves: Option<FragTree>,
+    entries: u64,
+    pin: Option<Rank>,
 }
 
-/// For each directory its parent and its name there, and its leaves. The root directory is always there, and has
-/// neither parent nor name.
+/// For each directory its parent and its name there, its leaves, how many entries it has, and the rank that it is pinned to,
+/// if it is. The root directory is always there, and has neither parent nor name nor pin.
+///
+/// The counts and the pins are what its owner makes them: an entry that comes or goes, and a pin that is set, is told here.
 ///
 /// Of every table it holds that each directory reaches the root by finitely many parents, and that only directories
 /// have leaves of their own, which cover every hash exactly once. A directory whose leaves were never set has the one
@@ -45,6 +50,7 @@ pub(crate) struct Directory {
 #[derive(Debug, Drop)]
 pub struct Dirs {
     root: Option<FragTree>,
+    in_root: u64,
     below: SortedMap<u64, Directory>,
 }
 
@@ -54,13 +60,13 @@ impl Model for Dirs {
     ghost use Rattle.std.specs.FinMap as map;
     ghost use Rattle.sorted_map.specs.SortedMap.{contents};
     ghost use Rattle.inode_table.specs.Dirs.{Table, IsTable};
-    ghost use Rattle.inode_table.specs.Rows.{covers_of, homes_of};
+    ghost use Rattle.inode_table.specs.Rows.{counts_of, covers_of, homes_of, pins_of};
 
     ghost Value = { Table };
 
     ghost coded = { Prim.hlevel (codes, map.code) };
 
-    ghost view = { λ d. record { homes = homes_of (contents nat_cmp d.below); trees = covers_of d.root (contents nat_cmp d.below); room = d.below.room } };
+    ghost view = { λ d. record { homes = homes_of (contents nat_cmp d.below); trees = covers_of d.root (contents nat_cmp d.below); counts = counts_of d.in_root (contents nat_cmp d.below); pins = pins_of (contents nat_cmp d.below); room = d.below.room } };
 
     ghost invariant = { λ d. IsTable (homes_of (contents nat_cmp d.below)) (covers_of d.root (contents nat_cmp d.below)) };
 }
@@ -70,9 +76,12 @@ impl Dirs {
     pub fn new(alloc: Global) -> Dirs
         ensures homes { result.homes ≡ map.empty }
         ensures trees { result.trees ≡ map.empty }
+        ensures counts { result.counts ≡ map.insert map.empty 1 0 }
+        ensures pins { result.pins ≡ map.empty }
     {
         Dirs {
             root: None,
+            in_root: 0,
             below: SortedMap::new(alloc),
         }
     }
@@ -151,6 +160,26 @@ impl Dirs {
         })
     }
 
+    /// How many entries a directory has, as they were told; of what is no directory 0. Takes no memory, and one search.
+    pub fn count(&self, dir: Ino) -> u64
+        ensures { result ≡ count_of self.now.counts dir.0 }
+    {
+        if dir == Ino::ROOT {
+            return self.in_root;
+        }
+        match self.below.get(&dir.0) {
+            Some(row) => row.entries,
+            None => 0,
+        }
+    }
+
+    /// The rank that a directory is pinned to; none where it isn't, and of what is no directory. Takes no memory, and one search.
+    pub fn pin(&self, dir: Ino) -> Option<Rank>
+        ensures { result ≡ map.get self.now.pins dir.0 }
+    {
+        self.below.get(&dir.0)?.pin
+    }
+
     /// The first directory after one, or of all, in order: the root, then the others by number. None after the last. Takes no
     /// memory, and one search.
     pub fn next_dir(&self, after: Option<Ino>) -> Option<Ino>
@@ -223,6 +252,8 @@ impl Dirs {
         ensures ok { OnOk result (0 < self.new.room) }
         ensures homes { self.new.homes ≡ self.old.homes }
         ensures trees { self.new.trees ≡ self.old.trees }
+        ensures counts { self.new.counts ≡ self.old.counts }
+        ensures pins { self.new.pins ≡ self.old.pins }
         ensures ready { 0 < self.old.room → IsOk result × (self.new ≡ self.old) }
         ensures err { IfErr result (λ reason. reason ≡ NoMemory) }
         ensures left { OnErr result (self.new ≡ self.old) }
@@ -236,6 +267,8 @@ impl Dirs {
         requires known { is_known self.old.homes dir.0 ≡ true }
         ensures trees { self.new.trees ≡ map.insert self.old.trees dir.0 tree }
         ensures homes { self.new.homes ≡ self.old.homes }
+        ensures counts { self.new.counts ≡ self.old.counts }
+        ensures pins { self.new.pins ≡ self.old.pins }
         ensures room { self.new.room ≡ self.old.room }
     {
         // of a tree that is asked for its length its leaves are known to cover every hash
@@ -250,24 +283,76 @@ impl Dirs {
         row.leaves = Some(tree);
     }
 
-    /// A new directory with the one leaf `*`, for which there is room. Takes no memory.
+    /// An entry comes to a directory. Takes no memory, and one search.
+    pub fn entry_comes(&mut self, dir: Ino)
+        requires known { is_known self.old.homes dir.0 ≡ true }
+        requires few { count_of self.old.counts dir.0 < 2 ^ 64 - 1 }
+        ensures { self.new ≡ record self.old { counts = one_more self.old.counts dir.0 } }
+    {
+        if dir == Ino::ROOT {
+            self.in_root += 1;
+            return;
+        }
+        let Some(row) = self.below.get_mut(&dir.0) else {
+            unreachable!()
+        };
+        row.entries += 1;
+    }
+
+    /// An entry of a directory goes; there is one fewer then, of none there is none. Takes no memory, and one search.
+    pub fn entry_goes(&mut self, dir: Ino)
+        requires { is_known self.old.homes dir.0 ≡ true }
+        ensures { self.new ≡ record self.old { counts = one_less self.old.counts dir.0 } }
+    {
+        if dir == Ino::ROOT {
+            self.in_root = self.in_root.saturating_sub(1);
+            return;
+        }
+        let Some(row) = self.below.get_mut(&dir.0) else {
+            unreachable!()
+        };
+        row.entries = row.entries.saturating_sub(1);
+    }
+
+    /// A directory below the root gets another pin, or none. Takes no memory, and one search.
+    pub fn set_pin(&mut self, dir: Ino, pin: Option<Rank>)
+        requires { is_some (map.get self.old.homes dir.0) ≡ true }
+        ensures { self.new ≡ record self.old { pins = pinned_at self.old.pins dir.0 pin } }
+    {
+        let Some(row) = self.below.get_mut(&dir.0) else {
+            unreachable!()
+        };
+        row.pin = pin;
+    }
+
+    /// A new directory with the one leaf `*`, no entry and no pin, for which there is room. Takes no memory.
     pub fn adopt(&mut self, dir: Ino, home: Home)
         requires room { 0 < self.old.room }
         requires may { MayCome self.old.homes dir.0 home }
         ensures homes { self.new.homes ≡ map.insert self.old.homes dir.0 home }
         ensures trees { self.new.trees ≡ self.old.trees }
         ensures whole { leaves_of self.new.trees dir.0 ≡ root_fragment ∷ [] }
+        ensures counts { self.new.counts ≡ map.insert self.old.counts dir.0 0 }
+        ensures pins { self.new.pins ≡ self.old.pins }
         ensures room { self.old.room ≤ self.new.room + 1 }
         ensures valid { IsTable self.new.homes self.new.trees }
     {
-        let _ = self.below.insert(dir.0, Directory { home, leaves: None });
+        let row = Directory {
+            home,
+            leaves: None,
+            entries: 0,
+            pin: None,
+        };
+        let _ = self.below.insert(dir.0, row);
     }
 
-    /// A directory goes to another parent, or takes another name, and keeps its leaves. Takes no memory.
+    /// A directory goes to another parent, or takes another name, and keeps its leaves, its entries and its pin. Takes no memory.
     pub fn relocate(&mut self, dir: Ino, home: Home)
         requires { MayMove self.old.homes dir.0 home }
         ensures homes { self.new.homes ≡ map.insert self.old.homes dir.0 home }
         ensures trees { self.new.trees ≡ self.old.trees }
+        ensures counts { self.new.counts ≡ self.old.counts }
+        ensures pins { self.new.pins ≡ self.old.pins }
         ensures room { self.new.room ≡ self.old.room }
         ensures valid { IsTable self.new.homes self.new.trees }
     {
@@ -277,11 +362,13 @@ impl Dirs {
         row.home = home;
     }
 
-    /// A directory goes that is no one's parent and not the root, and its leaves with it. Takes no memory.
+    /// A directory goes that is no one's parent and not the root, and its leaves, its count and its pin with it. Takes no memory.
     pub fn drop(&mut self, dir: Ino)
         requires { MayGo self.old.homes dir.0 }
         ensures homes { self.new.homes ≡ map.remove self.old.homes dir.0 }
         ensures trees { self.new.trees ≡ map.remove self.old.trees dir.0 }
+        ensures counts { self.new.counts ≡ map.remove self.old.counts dir.0 }
+        ensures pins { self.new.pins ≡ map.remove self.old.pins dir.0 }
         ensures room { self.old.room ≤ self.new.room }
         ensures valid { IsTable self.new.homes self.new.trees }
     {

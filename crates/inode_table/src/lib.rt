@@ -1,10 +1,12 @@
 //! Inode numbers and the directory table: which numbers each rank hands out, and where each directory stands.
 #![tactic(auto)]
 
+mod counting;
 mod dirs;
 mod numbers;
 mod table_changes;
 
+pub use counting::count_entries;
 pub use dirs::{Dirs, Home, LeafAt};
 pub use numbers::Numbers;
-pub use table_changes::{adopt_dir, drop_dir, relocate_dir};
+pub use table_changes::{adopt_dir, count_move, drop_dir, relocate_dir};

@@ -1,7 +1,7 @@
 -- How many entries a directory has: as many as its listing.
-use Rattle.std.proofs.Common.{◌≡◌, ℕ, suc, Bool, true, false, cond, ◌&&◌, ◌==◌, List, [], ◌∷◌, length, map, filter, None, refl, sym, ap, ◌∙◌}
+use Rattle.std.proofs.Common.{◌≡◌, ℕ, suc, Bool, true, false, cond, ◌&&◌, ◌==◌, T, List, [], ◌∷◌, length, map, filter, None, refl, sym, ap, ◌∙◌}
 use Rattle.std.specs.FinMap as finmap
-use Rattle.std.specs.FinMap.{entries-from_sorted, entries_sorted, get-entries, get-from_sorted, get-retain_keys, len-entries, same_map}
+use Rattle.std.specs.FinMap.{entries-from_sorted, entries_sorted, get-entries, get-from_sorted, get-retain_keys, len-entries, is_sorted, same_map}
 use Rattle.std.specs.FinMap.Entries.{find-where_key, is_sorted-where_key}
 use Rattle.mds_types.specs.declared.dentries.Dentry.{Dentry}
 use Rattle.mds_types.specs.declared.inodes.Inode.{Inode}
@@ -26,6 +26,7 @@ listed_alike d (e ∷ es) = go (e.0.dir.0 == d) (listed_alike d es)
 kept_entries : (tree : Tree) (d : ℕ) → finmap.entries (finmap.retain_keys tree (is_in d)) ≡ kept d (finmap.entries tree)
 kept_entries tree d = ap finmap.entries whole ∙ entries-from_sorted dentry_cmp (kept d (finmap.entries tree)) sorted
   where
+    sorted : T (is_sorted dentry_cmp (kept d (finmap.entries tree)))
     sorted = is_sorted-where_key dentry_cmp (is_in d) (finmap.entries tree) (entries_sorted tree)
 
     whole : finmap.retain_keys tree (is_in d) ≡ finmap.from_sorted {R = dentry_cmp} (kept d (finmap.entries tree))

@@ -3,7 +3,8 @@ use Rattle.std.proofs.Common.{None, refl, sym, ap, ◌∙◌}
 use Rattle.std.specs.FinMap as map
 use Rattle.inode_table.specs.declared.dirs.Directory.{Directory}
 use Rattle.inode_table.specs.Dirs.{Table, leaves_of}
-use Rattle.inode_table.specs.Rows.{covers_of, homes_of, leaves_in}
+use Rattle.inode_table.specs.Rows.{counts_of, covers_of, homes_of, leaves_in, pins_of}
+use Rattle.inode_table.proofs.CountRows.{counts_put, pins_grown}
 use Rattle.inode_table.proofs.RowLaws.{homes_put, leaves_kept, new_leaves, no_row}
 use Rattle.inode_table.proofs.Tables.{adopted_table}
 use Rattle.inode_table.proofs.dirs.Dirs.adopt.Goals as goal
@@ -21,11 +22,20 @@ returns-clause-whole c =
     ap (λ rows. leaves_of (covers_of c.self.inside.root rows) c.args.dir.0) c.insert.ensures.inserted
     ∙ new_leaves c.self.inside.root _ c.args.dir.0 _ c.requires.may.other refl
 
+pub returns-clause-counts : goal.returns-clause-counts
+returns-clause-counts c =
+    ap (counts_of c.self.inside.in_root) c.insert.ensures.inserted ∙ counts_put c.self.inside.in_root _ c.args.dir.0 _ 0 c.requires.may.other refl ∙ ap (λ (t : Table). map.insert t.counts c.args.dir.0 0) c.self.view_is
+
+pub returns-clause-pins : goal.returns-clause-pins
+returns-clause-pins c =
+    let none = no_row c.self.inside.root _ c.args.dir.0 (ap (λ (t : Table). map.get t.homes c.args.dir.0) c.self.view_is ∙ c.requires.may.fresh) in
+    ap pins_of c.insert.ensures.inserted ∙ pins_grown _ c.args.dir.0 _ none refl ∙ ap (λ (t : Table). t.pins) c.self.view_is
+
 pub returns-clause-valid : goal.returns-clause-valid
 returns-clause-valid c =
     let same = ap (λ (t : Table). t.homes) c.self.view_is in
     let none = no_row c.self.inside.root _ c.args.dir.0 (ap (λ (t : Table). map.get t.homes c.args.dir.0) c.self.view_is ∙ c.requires.may.fresh) in
-    let row : Directory = record { home = c.args.home; leaves = None } in
+    let row : Directory = record { home = c.args.home; leaves = None; entries = 0; pin = None } in
     rw (c.insert.ensures.inserted, homes_put _ c.args.dir.0 row, leaves_kept _ c.args.dir.0 c.self.inside.root row (sym (ap leaves_in none)))
     (adopted_table _ _ c.args.dir.0 c.args.home c.self.invariant (rw same c.requires.may))
 

@@ -1,6 +1,7 @@
 -- The table of the root alone.
 use Rattle.std.proofs.Common.{None, ap, ◌∙◌}
-use Rattle.inode_table.specs.Rows.{homes_of, covers_of}
+use Rattle.inode_table.specs.Rows.{counts_of, covers_of, homes_of, pins_of}
+use Rattle.inode_table.proofs.CountRows.{no_counts, no_pins}
 use Rattle.inode_table.proofs.RowLaws.{no_homes, no_leaves}
 use Rattle.inode_table.proofs.Tables.{empty_table}
 use Rattle.inode_table.proofs.dirs.Dirs.new.Goals as goal
@@ -13,3 +14,9 @@ returns-clause-homes c = ap homes_of c.new.ensures.empty ∙ no_homes
 
 pub returns-clause-trees : goal.returns-clause-trees
 returns-clause-trees c = ap (covers_of None) c.new.ensures.empty ∙ no_leaves
+
+pub returns-clause-counts : goal.returns-clause-counts
+returns-clause-counts c = ap (counts_of 0) c.new.ensures.empty ∙ no_counts
+
+pub returns-clause-pins : goal.returns-clause-pins
+returns-clause-pins c = ap pins_of c.new.ensures.empty ∙ no_pins

@@ -4,6 +4,7 @@ use Rattle.std.specs.FinMap as map
 use Rattle.inode_table.specs.declared.dirs.Directory.{Directory}
 use Rattle.inode_table.specs.Dirs.{Table}
 use Rattle.inode_table.proofs.Chains.{are_same, are_apart}
+use Rattle.inode_table.proofs.CountRows.{counts_unwritten, pins_unwritten}
 use Rattle.inode_table.proofs.RowLaws.{has_known_row, homes_unwritten, leaves_written, root_put}
 use Rattle.inode_table.proofs.Tables.{set_table}
 use Rattle.inode_table.proofs.dirs.Dirs.set_tree.Goals as goal
@@ -30,9 +31,15 @@ returns-clause-trees c =
 pub returns-clause-homes : goal.returns-clause-homes
 returns-clause-homes c = homes_unwritten c.self.inside.root _ c.args.dir.0 _ c.self.inside.below.room c.in-Some.row.now c.in-Some.ensures.value refl ∙ ap (λ (t : Table). t.homes) c.self.view_is
 
+pub returns-clause-counts : goal.returns-clause-counts
+returns-clause-counts c = counts_unwritten c.self.inside.in_root _ c.args.dir.0 _ c.self.inside.below.room c.in-Some.row.now c.in-Some.ensures.value refl ∙ ap (λ (t : Table). t.counts) c.self.view_is
+
+pub returns-clause-pins : goal.returns-clause-pins
+returns-clause-pins c = pins_unwritten _ c.args.dir.0 _ c.self.inside.below.room c.in-Some.row.now c.in-Some.ensures.value refl ∙ ap (λ (t : Table). t.pins) c.self.view_is
+
 pub invariant_of-self-2 : goal.invariant_of-self-2
 invariant_of-self-2 c =
     let same = ap (λ (t : Table). t.homes) c.self.view_is in
-    let row : Directory = record { home = c.in-Some.row.now.home; leaves = Some c.args.tree } in
+    let row : Directory = record { home = c.in-Some.row.now.home; leaves = Some c.args.tree; entries = c.in-Some.row.now.entries; pin = c.in-Some.row.now.pin } in
     rw (homes_unwritten c.self.inside.root _ c.args.dir.0 row c.self.inside.below.room c.in-Some.row.now c.in-Some.ensures.value refl, leaves_written c.self.inside.root _ c.args.dir.0 row c.self.inside.below.room c.args.tree (are_apart _ _ c.if-eq.ensures) refl)
     (set_table _ _ c.args.dir.0 c.args.tree c.self.invariant (rw same c.requires.known) c.len.ensures.valid)

@@ -1,0 +1,203 @@
+-- Entries that are counted one by one, and their pins.
+use Rattle.std.proofs.Common.{◌≡◌, ℕ, zero, suc, ◌+◌, ◌-◌, ◌<◌, ◌≤◌, ◌^◌, Bool, true, false, cond, T, is_some, length, List, [], ◌∷◌, Option, Some, None, ◌⊎◌, inl, inr, ⊎_elim, refl, sym, ap, subst, ◌∙◌, arith}
+use Rattle.std.specs.Prelude.{filter}
+use Rattle.std.proofs.lemmas.Bool.{eqb-true}
+use Rattle.std.specs.Ordering.{is_eq}
+use Rattle.std.specs.Cmp.{tied_itself}
+use Rattle.std.specs.FinMap as map
+use Rattle.std.specs.FinMap.{entries-from_sorted, entries_sorted, find, get-empty, get-from_sorted, is_sorted, len-entries, same_entries_map, same_map}
+use Rattle.std.specs.FinMap.Entries.{where_key}
+use Rattle.mds_types.specs.declared.dentries.Dentry.{Dentry}
+use Rattle.mds_types.specs.declared.ids.Rank.{Rank}
+use Rattle.mds_types.specs.declared.inodes.Inode.{Inode}
+use Rattle.mds_types.specs.OrderLaws.{dentry-exact}
+use Rattle.mds_types.specs.Tree.{Tree, dentry_cmp, entries_in, is_dir_kind, is_in}
+use Rattle.mds_types.proofs.CountLaws.{entries_go, none_in_empty, some_in}
+use Rattle.mds_types.proofs.DirectoryLaws.{one_dentry}
+use Rattle.mds_types.proofs.EntryLaws.{get_left, same_or_apart, stands_after_removal}
+use Rattle.mds_types.proofs.OrderLaws.{dentry-total}
+use Rattle.sorted_map.proofs.ContentLaws.{first_taken, len_shown, retained}
+use Rattle.sorted_map.proofs.NatKeys.{same_or_apart as same_number}
+use Rattle.inode_table.specs.Dirs.{Counts, DirPins, Homes, count_of, is_known, one_more, pinned_at}
+use Rattle.inode_table.specs.TreeTable.{HoldsPins, IsCounted, IsTabled, with_pin}
+use Rattle.inode_table.proofs.CountedLaws.{count_set}
+use Rattle.inode_table.proofs.PinLaws.{Stands, pinned_beside, pinned_here, with_dir_pin, with_file_pin}
+use Rattle.inode_table.proofs.TableLaws.{dir_or_not, home_of, known_is}
+
+-- ---- pairs in order, one by one
+
+abbrev pub Entries : Type 0
+Entries = List (Dentry × Inode)
+
+-- the tree of entries that are left
+abbrev pub rest_of : Entries → Tree
+rest_of left = map.from_sorted left
+
+whole_rest : (tree : Tree) → rest_of (map.entries tree) ≡ tree
+whole_rest tree = same_entries_map _ _ (entries-from_sorted dentry_cmp (map.entries tree) (entries_sorted tree))
+
+no_rest : rest_of [] ≡ map.empty
+no_rest = same_map dentry-total dentry-exact (rest_of []) map.empty (λ q. get-from_sorted dentry_cmp [] q tt ∙ sym (get-empty dentry_cmp q))
+
+module _ (e : Dentry × Inode) (left : Entries) (sorted : T (is_sorted dentry_cmp (e ∷ left))) where
+  first_is : map.get (rest_of (e ∷ left)) e.0 ≡ Some e.1
+  first_is = get-from_sorted dentry_cmp (e ∷ left) e.0 sorted ∙ ap (λ r. cond (is_eq r) (Some e.1) (find dentry_cmp e.0 left)) (tied_itself dentry-total e.0)
+
+  without_first : T (is_sorted dentry_cmp left) × (rest_of left ≡ map.remove (rest_of (e ∷ left)) e.0)
+  without_first = first_taken dentry-total dentry-exact (e ∷ left) left e sorted (omega arith) refl refl
+
+-- ---- a directory has no more entries than the tree
+
+few_pass : (p : Dentry × Inode → Bool) (es : Entries) → length (filter p es) ≤ length es
+few_pass p [] = omega arith
+few_pass p (e ∷ es) = go (p e) (few_pass p es)
+  where
+    go : (b : Bool) → length (filter p es) ≤ length es → length (cond b (e ∷ filter p es) (filter p es)) ≤ length (e ∷ es)
+    go true few = omega (arith, few)
+    go false few = omega (arith, few)
+
+pub within_tree : (tree : Tree) (d : ℕ) → entries_in tree d ≤ map.len tree
+unfolding entries_in
+within_tree tree d =
+    let kept : Entries = where_key dentry_cmp (is_in d) (map.entries tree) in
+    let both = retained dentry-total dentry-exact (is_in d) (map.entries tree) kept (entries_sorted tree) refl in
+    let passed : map.len (map.retain_keys tree (is_in d)) ≡ length kept =
+    ap (λ (m : Tree). map.len (map.retain_keys m (is_in d))) (sym (whole_rest tree)) ∙ ap (λ (m : Tree). map.len m) (sym both.1) ∙ sym (len_shown dentry_cmp kept both.0) in
+    let few = few_pass (λ (e : Dentry × Inode). is_in d e.0) (map.entries tree) in
+    let all = len-entries tree in
+    omega (arith, passed, few, all)
+
+-- ---- the entries before some were counted
+
+pub record IsCountedTo (tree : Tree) (left : Entries) (counts : Counts) (pins : DirPins) : Type 0 where
+  pub sorted : T (is_sorted dentry_cmp left)
+  pub each : (d : ℕ) → count_of counts d + entries_in (rest_of left) d ≡ entries_in tree d
+  pub within : (q : Dentry) (x : Inode) → map.get (rest_of left) q ≡ Some x → map.get tree q ≡ Some x
+  pub listed : (q : Dentry) (x : Inode) → map.get tree q ≡ Some x → is_dir_kind x.kind ≡ true → (map.get (rest_of left) q ≡ Some x) ⊎ (map.get pins x.ino.0 ≡ x.pin)
+  pub stands : (d : ℕ) (rank : Rank) → map.get pins d ≡ Some rank → Stands tree d
+
+-- none was
+pub counted_none : (tree : Tree) (left : Entries) (counts : Counts) (pins : DirPins) → left ≡ map.entries tree → IsCounted map.empty counts pins → IsCountedTo tree left counts pins
+counted_none tree left counts pins all none = subst (λ (es : Entries). IsCountedTo tree es counts pins) (sym all) (record {
+  sorted = entries_sorted tree;
+  each = λ d.
+      let zero_is : count_of counts d ≡ 0 = none.each d ∙ none_in_empty d in
+      let whole : entries_in (rest_of (map.entries tree)) d ≡ entries_in tree d = ap (λ (t : Tree). entries_in t d) (whole_rest tree) in
+      omega (arith, zero_is, whole);
+  within = λ q x is. ap (λ (t : Tree). map.get t q) (sym (whole_rest tree)) ∙ is;
+  listed = λ q x is kinded. inl (ap (λ (t : Tree). map.get t q) (whole_rest tree) ∙ is);
+  stands = λ d rank is.
+      let w = none.pinned.stands d rank is in
+      let clash : None ≡ Some w.1 = sym (get-empty dentry_cmp w.0) ∙ w.2 in
+      absurd cc;
+})
+
+-- all were
+pub counted_all : (tree : Tree) (left : Entries) (counts : Counts) (pins : DirPins) → left ≡ [] → IsCountedTo tree left counts pins → IsCounted tree counts pins
+counted_all tree left counts pins none to = record {
+  each = λ d.
+      let all = to.each d in
+      let nothing : entries_in (rest_of left) d ≡ 0 = ap (λ (t : Tree). entries_in t d) is_empty ∙ none_in_empty d in
+      omega (arith, all, nothing);
+  pinned = record { listed = λ q x stands kinded. done q x (to.listed q x stands kinded); stands = to.stands };
+}
+  where
+    is_empty : rest_of left ≡ map.empty
+    is_empty = ap rest_of none ∙ no_rest
+
+    done : (q : Dentry) (x : Inode) → (map.get (rest_of left) q ≡ Some x) ⊎ (map.get pins x.ino.0 ≡ x.pin) → map.get pins x.ino.0 ≡ x.pin
+    done q x (inl more) = let clash : None ≡ Some x = sym (get-empty dentry_cmp q) ∙ ap (λ (t : Tree). map.get t q) (sym is_empty) ∙ more in absurd cc
+    done q x (inr pinned) = pinned
+
+module _ (tree : Tree) (homes : Homes) (tabled : IsTabled tree homes) (left more : Entries) (e : Dentry × Inode) (counts : Counts) (pins : DirPins) (next : left ≡ e ∷ more) (before : IsCountedTo tree left counts pins) where
+  to : IsCountedTo tree (e ∷ more) counts pins
+  to = subst (λ (es : Entries). IsCountedTo tree es counts pins) next before
+
+  in_rest : map.get (rest_of (e ∷ more)) e.0 ≡ Some e.1
+  in_rest = first_is e more to.sorted
+
+  in_tree : map.get tree e.0 ≡ Some e.1
+  in_tree = to.within e.0 e.1 in_rest
+
+  without : rest_of more ≡ map.remove (rest_of (e ∷ more)) e.0
+  without = (without_first e more to.sorted).1
+
+  -- the next one's directory is there, its count has 64 bits with it, and it is there itself if it is one
+  pub next_known : is_known homes e.0.dir.0 ≡ true
+  next_known = known_is tree homes tabled e.0.dir.0 ∙ tabled.whole.parents e.0.dir.0 e.0.name e.1 in_tree
+
+  pub next_few : map.len tree < 2 ^ 64 → count_of counts e.0.dir.0 < 2 ^ 64 - 1
+  next_few fits =
+      let all = to.each e.0.dir.0 in
+      let some = some_in (rest_of (e ∷ more)) e.0 e.1 in_rest in
+      let most = within_tree tree e.0.dir.0 in
+      omega (arith, all, some, most, fits)
+
+  pub next_listed : is_dir_kind e.1.kind ≡ true → is_some (map.get homes e.1.ino.0) ≡ true
+  next_listed kinded = ap is_some (home_of tree homes tabled e.0 e.1 e.1.ino.0 in_tree refl kinded)
+
+  one_counted : (d : ℕ) → count_of (one_more counts e.0.dir.0) d + entries_in (rest_of more) d ≡ entries_in tree d
+  one_counted d = go (is_in d e.0) refl
+    where
+      all : count_of counts d + entries_in (rest_of (e ∷ more)) d ≡ entries_in tree d
+      all = to.each d
+
+      now : (b : Bool) → is_in d e.0 ≡ b → entries_in (rest_of more) d ≡ cond b (entries_in (rest_of (e ∷ more)) d - 1) (entries_in (rest_of (e ∷ more)) d)
+      now b is =
+          ap (λ (t : Tree). entries_in t d) without ∙ entries_go (rest_of (e ∷ more)) d e.0 e.1 in_rest
+          ∙ ap (λ (c : Bool). cond c (entries_in (rest_of (e ∷ more)) d - 1) (entries_in (rest_of (e ∷ more)) d)) is
+
+      counted : (b : Bool) → is_in d e.0 ≡ b → count_of (one_more counts e.0.dir.0) d ≡ cond b (count_of counts e.0.dir.0 + 1) (count_of counts d)
+      counted b is = count_set counts e.0.dir.0 (count_of counts e.0.dir.0 + 1) d ∙ ap (λ (c : Bool). cond c (count_of counts e.0.dir.0 + 1) (count_of counts d)) is
+
+      go : (b : Bool) → is_in d e.0 ≡ b → count_of (one_more counts e.0.dir.0) d + entries_in (rest_of more) d ≡ entries_in tree d
+      go true is =
+          let here : e.0.dir.0 ≡ d = eqb-true e.0.dir.0 d is in
+          let same : count_of counts e.0.dir.0 ≡ count_of counts d = ap (count_of counts) here in
+          let some : 0 < entries_in (rest_of (e ∷ more)) d = subst (λ k. 0 < entries_in (rest_of (e ∷ more)) k) here (some_in (rest_of (e ∷ more)) e.0 e.1 in_rest) in
+          let a = counted true is in
+          let b = now true is in
+          omega (arith, all, same, some, a, b)
+      go false is =
+          let a = counted false is in
+          let b = now false is in
+          omega (arith, all, a, b)
+
+  -- what stands elsewhere has another number
+  other : (q : Dentry) (x : Inode) → (q ≡ e.0 → ⊥) → map.get tree q ≡ Some x → x.ino.0 ≡ e.1.ino.0 → ⊥
+  other q x apart stands same = apart (one_dentry tree tabled.whole q e.0 x e.1 stands in_tree same)
+
+  beside : (q : Dentry) (x : Inode) → (q ≡ e.0 → ⊥) → map.get tree q ≡ Some x → map.get (with_pin pins e.1) x.ino.0 ≡ map.get pins x.ino.0
+  beside q x apart stands =
+      ⊎_elim (λ kinded. ap (λ (p : DirPins). map.get p x.ino.0) (with_dir_pin pins e.1 kinded) ∙ pinned_beside pins e.1.ino.0 e.1.pin x.ino.0 (other q x apart stands))
+      (λ kinded. ap (λ (p : DirPins). map.get p x.ino.0) (with_file_pin pins e.1 kinded)) (dir_or_not e.1)
+
+  its_pin : is_dir_kind e.1.kind ≡ true → map.get (with_pin pins e.1) e.1.ino.0 ≡ e.1.pin
+  its_pin kinded = ap (λ (p : DirPins). map.get p e.1.ino.0) (with_dir_pin pins e.1 kinded) ∙ pinned_here pins e.1.ino.0 e.1.pin
+
+  pins_stand : (d : ℕ) (rank : Rank) → map.get (with_pin pins e.1) d ≡ Some rank → Stands tree d
+  pins_stand d rank is = ⊎_elim of_dir (λ kinded. to.stands d rank (ap (λ (p : DirPins). map.get p d) (sym (with_file_pin pins e.1 kinded)) ∙ is)) (dir_or_not e.1)
+    where
+      of_dir : is_dir_kind e.1.kind ≡ true → Stands tree d
+      of_dir kinded =
+          ⊎_elim (λ same. (e.0, e.1, in_tree, sym same, kinded))
+          (λ apart. to.stands d rank (sym (pinned_beside pins e.1.ino.0 e.1.pin d apart) ∙ ap (λ (p : DirPins). map.get p d) (sym (with_dir_pin pins e.1 kinded)) ∙ is))
+          (same_number d e.1.ino.0)
+
+  -- the next one is counted
+  pub counted_next : IsCountedTo tree more (one_more counts e.0.dir.0) (with_pin pins e.1)
+  counted_next = record {
+    sorted = (without_first e more to.sorted).0;
+    each = one_counted;
+    within = λ q x is. to.within q x (stands_after_removal (rest_of (e ∷ more)) e.0 q x (ap (λ (t : Tree). map.get t q) (sym without) ∙ is)).1;
+    listed = λ q x stands kinded. go q x stands kinded (same_or_apart q e.0);
+    stands = pins_stand;
+  }
+    where
+      go : (q : Dentry) (x : Inode) → map.get tree q ≡ Some x → is_dir_kind x.kind ≡ true → (q ≡ e.0) ⊎ (q ≡ e.0 → ⊥) → (map.get (rest_of more) q ≡ Some x) ⊎ (map.get (with_pin pins e.1) x.ino.0 ≡ x.pin)
+      go q x stands kinded (inl same) =
+          let inodes : Some x ≡ Some e.1 = sym stands ∙ ap (λ p. map.get tree p) same ∙ in_tree in
+          let alike : e.1 ≡ x = cc in
+          inr (ap (λ (i : Inode). map.get (with_pin pins e.1) i.ino.0) (sym alike) ∙ its_pin (ap (λ (i : Inode). is_dir_kind i.kind) alike ∙ kinded) ∙ ap (λ (i : Inode). i.pin) alike)
+      go q x stands kinded (inr apart) =
+          ⊎_elim (λ rest. inl (ap (λ (t : Tree). map.get t q) without ∙ get_left (rest_of (e ∷ more)) e.0 q apart ∙ rest)) (λ pinned. inr (beside q x apart stands ∙ pinned)) (to.listed q x stands kinded)

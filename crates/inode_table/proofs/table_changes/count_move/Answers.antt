@@ -1,0 +1,12 @@
+-- The count of another directory is what it was.
+use Rattle.std.proofs.Common.{◌≡◌, ◌<◌, ◌-◌, ◌^◌, ◌∙◌, ap, false, subst, sym}
+use Rattle.std.specs.Prelude.{◌==◌}
+use Rattle.std.proofs.lemmas.Bool.{not-true}
+use Rattle.inode_table.specs.Dirs.{Table, count_of}
+use Rattle.inode_table.proofs.CountedLaws.{count_apart}
+use Rattle.inode_table.proofs.table_changes.count_move.Goals as goal
+
+pub entry_comes-requires-clause-few : goal.entry_comes-requires-clause-few
+entry_comes-requires-clause-few c =
+    let apart : (c.args.from.0 == c.args.to.0) ≡ false = not-true (c.args.from.0 == c.args.to.0) (sym c.if-ne.ensures) in
+    subst (λ n. n < 2 ^ 64 - 1) (sym (ap (λ (t : Table). count_of t.counts c.args.to.0) c.entry_goes-then-ne.ensures ∙ count_apart c.args.dirs.now.counts c.args.from.0 _ c.args.to.0 apart)) (c.requires.few c.if-stood.false apart)
