@@ -48,7 +48,8 @@ pub fn plan_checked<F: Frags>(
     }
 }
 
-// Plans the change that the checks found.
+// Plans the change that the checks found. A function of its own, since what is only read has no room to clear for a change.
+#[inline(never)]
 fn plan_change<F: Frags>(
     frags: &mut F,
     limit: Limit,
