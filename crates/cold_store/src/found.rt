@@ -6,6 +6,7 @@ ghost use Rattle.sorted_map.specs.SortedMap.{contents};
 ghost use Rattle.mds_types.specs.Tree.{dentry_cmp, is_dir_kind};
 ghost use Rattle.mds_types.specs.declared.refusals.Refusal.TheVariants.{NoMemory};
 ghost use Rattle.inode_table.specs.Dirs.{is_known};
+ghost use Rattle.inode_table.specs.TreeTable.{IsCounted};
 ghost use Rattle.cold_store.specs.Rows.{IsReady, is_met, queued, start, with_entry};
 
 use fragtree::FragTree;
@@ -16,7 +17,7 @@ use std::alloc::{AllocError, Global};
 use std::marker::Model;
 
 /// Directories in the order in which they were found, the inode numbers met, all entries, and where each directory stands
-/// with its leaves.
+/// with its leaves. The entries of the directories are counted once all are found, so until then none counts.
 #[derive(Drop)]
 pub struct Found {
     queue: Vec<Ino>,
@@ -31,6 +32,7 @@ impl Model for Found {
     ghost use Rattle.std.specs.Ordering.{nat_cmp};
     ghost use Rattle.sorted_map.specs.SortedMap.{contents};
     ghost use Rattle.mds_types.specs.Tree.{dentry_cmp};
+    ghost use Rattle.inode_table.specs.TreeTable.{IsCounted};
     ghost use Rattle.cold_store.specs.Rows.{Finding};
 
     ghost Value = { Finding };
@@ -38,6 +40,8 @@ impl Model for Found {
     ghost coded = { Prim.hlevel (codes, map.code) };
 
     ghost view = { λ f. record { shape = record { queue = f.queue.items; met = contents nat_cmp f.met; tree = contents dentry_cmp f.entries; homes = f.dirs.homes }; covers = f.dirs.trees } };
+
+    ghost invariant = { λ f. IsCounted map.empty f.dirs.counts f.dirs.pins };
 }
 
 impl Found {
@@ -78,6 +82,7 @@ impl Found {
         ensures entries { contents dentry_cmp result.0 ≡ self.shape.tree }
         ensures homes { result.1.homes ≡ self.shape.homes }
         ensures trees { result.1.trees ≡ self.covers }
+        ensures none { IsCounted map.empty result.1.counts result.1.pins }
     {
         let Found {
             queue,
@@ -138,6 +143,8 @@ fn ready_home(dirs: &mut Dirs, name: &Name, inode: &Inode) -> Result<Option<Name
     ensures ready { IfOk result (λ spare. is_dir_kind inode.now.kind ≡ true → (0 < dirs.new.room) × (spare ≡ Some name.now)) }
     ensures homes { dirs.new.homes ≡ dirs.old.homes }
     ensures trees { dirs.new.trees ≡ dirs.old.trees }
+    ensures counts { dirs.new.counts ≡ dirs.old.counts }
+    ensures pins { dirs.new.pins ≡ dirs.old.pins }
     ensures refused { IfErr result (λ reason. reason ≡ NoMemory) }
 {
     if !inode.kind.is_dir() {

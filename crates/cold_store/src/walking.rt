@@ -6,6 +6,7 @@ ghost use Rattle.sorted_map.specs.SortedMap.{contents};
 ghost use Rattle.mds_types.specs.Tree.{dentry_cmp};
 ghost use Rattle.objstore.specs.Omap.{key_cmp};
 ghost use Rattle.objstore.specs.Objects.{faults_told};
+ghost use Rattle.inode_table.specs.TreeTable.{IsCounted};
 ghost use Rattle.cold_store.specs.ColdTree.{IsColdTree};
 ghost use Rattle.cold_store.specs.Rows.{IsWalkedTo, start};
 ghost use Rattle.cold_store.specs.Walked.{IsWalked, MayNotWalk};
@@ -19,7 +20,7 @@ use objstore::Store;
 use std::alloc::Global;
 
 /// What a store says on its own: directory 1 first, directories in the order in which they are found, of each its tree
-/// object, then its leaves by value, of each the names in order. It writes nothing. Memory is linear in the names and the
+/// object, then its leaves by value, of each the names in order. At last the entries are counted. It writes nothing. Memory is linear in the names and the
 /// objects.
 ///
 /// For each object that it reaches it asks for the header once, and for its pairs by pages of 64; for a tree object, which
@@ -29,14 +30,15 @@ use std::alloc::Global;
 /// `NoMemory`. A store that has no object is refused too: directory 1 has no leaf there.
 pub fn walk<S: Store>(alloc: Global, store: &mut S) -> Result<Walked, Refusal>
     ensures walked { IfOk result (λ w. IsWalked (S.objects store.old) (contents dentry_cmp w.entries) w.dirs.homes w.dirs.trees (contents key_cmp w.left)) }
+    ensures counted { IfOk result (λ w. IsCounted (contents dentry_cmp w.entries) w.dirs.counts w.dirs.pins) }
     ensures cold { IfOk result (λ w. IsColdTree (S.objects store.old) (contents dentry_cmp w.entries)) }
     ensures refused { IfErr result (MayNotWalk (S.objects store.old) (S.faults store.old) (S.faults store.new)) }
     ensures same { S.objects store.new ≡ S.objects store.old }
-    ensures counted { S.faults store.new ≡ S.faults store.old + faults_told (result_err result) }
+    ensures faults { S.faults store.new ≡ S.faults store.old + faults_told (result_err result) }
 {
     let found = find(alloc, store)?;
     match list_left(alloc, store, &found) {
-        Ok(left) => Ok(Walked::of(found, left)),
+        Ok(left) => Ok(Walked::of(found, left).counted()),
         Err(refusal) => {
             drop(found);
             Err(refusal)

@@ -1,15 +1,25 @@
+use Rattle.std.proofs.Common.{ap, subst, sym, ◌∙◌}
 use Rattle.sorted_map.specs.SortedMap.{contents}
-use Rattle.mds_types.specs.Tree.{dentry_cmp}
+use Rattle.mds_types.specs.Tree.{Tree, dentry_cmp}
 use Rattle.objstore.specs.Omap.{key_cmp}
-use Rattle.std.proofs.Common.{ap}
+use Rattle.inode_table.specs.TreeTable.{IsTabled}
+use Rattle.cold_store.specs.Walked.{IsWalked}
+use Rattle.cold_store.proofs.TabledLaws.{walked_is_tabled}
 use Rattle.cold_store.proofs.WalkedLaws.{is_cold, walked_as}
 use Rattle.cold_store.proofs.walking.walk.Goals as goal
 
+pub counted-requires-clause-tabled : goal.counted-requires-clause-tabled
+counted-requires-clause-tabled g c =
+    (walked_is_tabled (g.S.Store.objects c.args.store.now) (contents dentry_cmp c.of.result.entries) c.of.result.dirs.homes c.of.result.dirs.trees (contents key_cmp c.of.result.left)
+    (walked_as (g.S.Store.objects c.args.store.now) (g.S.Store.objects c.find.new.store) c.in_ok-found.found (contents key_cmp c.in-Ok.left) (contents key_cmp c.of.result.left) (contents dentry_cmp c.of.result.entries) c.of.result.dirs.homes
+    c.of.result.dirs.trees c.in_ok-found.ensures.found c.in_ok-found.ensures.same c.in-Ok.ensures.left c.of.ensures.entries c.of.ensures.homes c.of.ensures.trees (ap (contents key_cmp) c.of.ensures.left))).0
+
 pub returns-in-Ok-clause-walked : goal.returns-in-Ok-clause-walked
 returns-in-Ok-clause-walked g c =
-    walked_as (g.S.Store.objects c.args.store.now) (g.S.Store.objects c.find.new.store) c.in_ok-found.found (contents key_cmp c.in-Ok.left) (contents key_cmp c.of.result.left) (contents dentry_cmp c.of.result.entries) c.of.result.dirs.homes
-    c.of.result.dirs.trees c.in_ok-found.ensures.found c.in_ok-found.ensures.same c.in-Ok.ensures.left c.of.ensures.entries c.of.ensures.homes c.of.ensures.trees (ap (contents key_cmp) c.of.ensures.left)
+    walked_as (g.S.Store.objects c.args.store.now) (g.S.Store.objects c.find.new.store) c.in_ok-found.found (contents key_cmp c.in-Ok.left) (contents key_cmp c.counted.result.left) (contents dentry_cmp c.counted.result.entries) c.counted.result.dirs.homes
+    c.counted.result.dirs.trees c.in_ok-found.ensures.found c.in_ok-found.ensures.same c.in-Ok.ensures.left (ap (contents dentry_cmp) c.counted.ensures.entries ∙ c.of.ensures.entries) (c.counted.ensures.homes ∙ c.of.ensures.homes) (c.counted.ensures.trees ∙ c.of.ensures.trees)
+    (ap (contents key_cmp) (c.counted.ensures.left ∙ c.of.ensures.left))
 
 pub returns-in-Ok-clause-cold : goal.returns-in-Ok-clause-cold
 returns-in-Ok-clause-cold g c =
-    is_cold (g.S.Store.objects c.args.store.now) (contents dentry_cmp c.of.result.entries) c.of.result.dirs.homes c.of.result.dirs.trees (contents key_cmp c.of.result.left) (returns-in-Ok-clause-walked g c)
+    is_cold (g.S.Store.objects c.args.store.now) (contents dentry_cmp c.counted.result.entries) c.counted.result.dirs.homes c.counted.result.dirs.trees (contents key_cmp c.counted.result.left) (returns-in-Ok-clause-walked g c)
