@@ -1,0 +1,33 @@
+-- A walk over candidates, one after the other, ends at the least of which something more holds.
+use Rattle.std.proofs.Common.{◌≡◌, ◌⊎◌, inl, inr, Option, Some, None, subst}
+use Rattle.std.specs.declared.cmp.Ordering.TheVariants.{Less}
+use Rattle.mds_types.specs.Leaf.{Leaf, leaf_cmp}
+use Rattle.dentry_cache.specs.Candidates.{IsBehind, IsNext}
+
+-- what passes holds of candidates alone, and of none before this one
+pub record IsWalked (Passes : Leaf → Type 0) (after : Option Leaf) : Type 0 where
+  pub behind : (leaf : Leaf) → Passes leaf → IsBehind after leaf
+
+module _ (Candidate Passes : Leaf → Type 0) (is : (leaf : Leaf) → Passes leaf → Candidate leaf) where
+  pub begun : IsWalked Passes None
+  begun = record { behind = λ leaf passes. tt }
+
+  -- a candidate that doesn't pass is left behind
+  pub passed : (after : Option Leaf) (leaf : Leaf) → IsWalked Passes after → IsNext Candidate after (Some leaf) → (Passes leaf → ⊥) → IsWalked Passes (Some leaf)
+  passed after leaf walked next not = record { behind = λ other passes. go other passes (next.least other (is other passes) (walked.behind other passes)) }
+    where
+      go : (other : Leaf) → Passes other → (other ≡ leaf) ⊎ (leaf_cmp leaf other ≡ Less) → leaf_cmp leaf other ≡ Less
+      go other passes (inl same) = absurd (not (subst Passes same passes))
+      go other passes (inr less) = less
+
+  -- so are those up to a later leaf of which none passes
+  pub passed_to : (after : Option Leaf) (last : Leaf) → IsWalked Passes after → ((leaf : Leaf) → IsBehind after leaf → Passes leaf → leaf_cmp last leaf ≡ Less) → IsWalked Passes (Some last)
+  passed_to after last walked none = record { behind = λ leaf passes. none leaf (walked.behind leaf passes) passes }
+
+  -- one that passes is the least
+  pub found : (after : Option Leaf) (leaf : Leaf) → IsWalked Passes after → IsNext Candidate after (Some leaf) → (other : Leaf) → Passes other → (other ≡ leaf) ⊎ (leaf_cmp leaf other ≡ Less)
+  found after leaf walked next other passes = next.least other (is other passes) (walked.behind other passes)
+
+  -- where none is left, none passes
+  pub ended : (after : Option Leaf) → IsWalked Passes after → IsNext Candidate after None → (leaf : Leaf) → Passes leaf → ⊥
+  ended after walked none leaf passes = none leaf (is leaf passes) (walked.behind leaf passes)

@@ -1,0 +1,193 @@
+-- The proposal of a rank's own step (CephFS's balancer and its subtree pins, with this project's own order of steps): an export that it goes on
+-- with, a leaf that it splits, leaves that it merges, or a subtree that it begins to hand to the rank that the subtree is pinned to.
+use Rattle.std.specs.Prelude.{◌≡◌, ◌≢◌, ◌⊎◌, ℕ, ◌<◌, ◌≤◌, Bool, false, List, [], ◌∷◌, length, Option, Some, None, IsSome, Result, Ok, Err}
+use Rattle.std.specs.List.{list_any}
+use Rattle.std.specs.declared.cmp.Ordering.TheVariants.{Less}
+use Rattle.std.specs.FinMap as map
+use Rattle.mds_types.specs.declared.ids.Rank.{Rank}
+use Rattle.mds_types.specs.declared.refusals.Refusal.{Refusal}
+use Rattle.mds_types.specs.declared.refusals.Refusal.TheVariants.{NoMemory, NotAuthority}
+use Rattle.mds_types.specs.Leaf.{Leaf, leaf_cmp}
+use Rattle.fragtree.specs.FragTree.{CanMerge, CanSplit, IsTree}
+use Rattle.inboxes.specs.Pins.{is_on}
+use Rattle.inode_table.specs.Dirs.{Covers, DirPins, Homes, IsLive, leaves_of}
+use Rattle.subtree_map.specs.Authority.{HasAuthority, NearestRoot, Roots}
+use Rattle.export_steps.specs.declared.exports.ExportState.{ExportState}
+use Rattle.export_steps.specs.declared.exports.ExportState.TheVariants as at
+use Rattle.export_steps.specs.declared.exports.StandingExport.{StandingExport}
+use Rattle.export_steps.specs.ByExporter.{IsNextOf}
+use Rattle.export_steps.specs.Holder.{IsFrozen}
+use Rattle.export_steps.specs.Standing.{Standing}
+use Rattle.dentry_cache.specs.Candidates.{IsLargeIn, IsNext, IsSmallIn, Sizes, child, sizes_at}
+use Rattle.cluster_core.specs.declared.events.Event.{Event}
+use Rattle.cluster_core.specs.declared.events.Event.TheVariants.{Split, Merge, Start, Freeze, Prep, Send, Import, Finish, Cancel}
+use Rattle.cluster_core.specs.Pins.{HasPin}
+use Rattle.cluster_core.specs.State.{Core}
+
+-- what a rank goes by when it proposes: how many ranks there are, the directories and their leaves, whose they are, the exports, the pins, the
+-- leaves on which a grant stands, and the fragments that it caches, each with its number of entries
+pub record Sight : Type 0 where
+  pub rank : Rank
+  pub ranks : ℕ
+  pub homes : Homes
+  pub covers : Covers
+  pub roots : Roots
+  pub exports : Standing
+  pub pins : DirPins
+  pub granted : Leaf → Bool
+  pub cached : Sizes
+
+-- a live leaf of the rank's authority
+pub record IsMine (s : Sight) (leaf : Leaf) : Type 0 where
+  pub live : IsLive s.homes s.covers leaf
+  pub mine : HasAuthority s.roots s.homes s.covers leaf s.rank
+
+-- no part of a frozen region
+abbrev pub IsThawed : Sight → Leaf → Type 0
+IsThawed s leaf = IsFrozen s.exports s.roots s.homes s.covers leaf → ⊥
+
+-- a leaf that the rank may regroup: its own, neither frozen nor granted
+pub record IsIdle (s : Sight) (leaf : Leaf) : Type 0 where
+  pub own : IsMine s leaf
+  pub thawed : IsThawed s leaf
+  pub free : s.granted leaf ≡ false
+
+-- ---- first: an export of the rank's goes on
+
+-- a started export can be frozen: its root is the rank's own and thawed, and no leaf of the region that it is to be has a grant
+pub record MayFreeze (s : Sight) (root : Leaf) : Type 0 where
+  pub own : IsMine s root
+  pub thawed : IsThawed s root
+  pub free : (leaf : Leaf) → NearestRoot (map.insert s.roots root s.rank) s.homes s.covers leaf root → s.granted leaf ≡ false
+
+-- the next step of an export by its state; a started one whose root ended or is another's is cancelled, and one that can't be frozen now has no next
+-- step
+abbrev pub IsNextStep : Sight → Leaf → ExportState → Event → Type 0
+IsNextStep s root at.Started event = ((event ≡ Freeze root.0 root.1) × MayFreeze s root) ⊎ ((event ≡ Cancel root.0 root.1) × (IsMine s root → ⊥))
+IsNextStep s root at.Frozen event = event ≡ Prep root.0 root.1
+IsNextStep s root at.Prepared event = event ≡ Send root.0 root.1
+IsNextStep s root at.Sent event = event ≡ Import root.0 root.1 []
+IsNextStep s root at.Imported event = event ≡ Finish root.0 root.1
+
+pub record GoesOn (s : Sight) (root : Leaf) (event : Event) : Type 0 where
+  pub export : StandingExport
+  pub stands : map.get s.exports root ≡ Some export
+  pub exporter : export.exporter ≡ s.rank
+  pub next : IsNextStep s root export.state event
+
+-- ---- second: a leaf with more than 10000 entries is split by 3 bits
+
+pub record IsLarge (s : Sight) (leaf : Leaf) (event : Event) : Type 0 where
+  pub many : IsLargeIn s.cached leaf
+  pub idle : IsIdle s leaf
+  pub leaves : length (leaves_of s.covers leaf.0.0) ≤ 4089
+  pub is : event ≡ Split s.rank leaf.0 leaf.1 3
+
+-- ---- third: eight leaves with fewer than 50 entries together are merged
+
+pub record AreSmall (s : Sight) (whole : Leaf) (event : Event) : Type 0 where
+  pub few : IsSmallIn s.cached whole
+  pub idle : (i : ℕ) → i < 8 → IsIdle s (child whole i)
+  pub is : event ≡ Merge s.rank whole.0 whole.1
+
+-- ---- fourth: a subtree whose directory is pinned to another rank starts for that rank
+
+pub record IsPinnedAway (s : Sight) (leaf : Leaf) (event : Event) : Type 0 where
+  pub to : Rank
+  pub own : IsMine s leaf
+  -- it is a subtree root, or its directory has a pin of its own
+  pub place : IsSome (map.get s.roots leaf) ⊎ IsSome (map.get s.pins leaf.0.0)
+  pub pin : HasPin s.pins s.homes leaf.0.0 to
+  pub other : to ≢ s.rank
+  pub there : to.0 < s.ranks
+  pub thawed : IsThawed s leaf
+  pub none : map.get s.exports leaf ≡ None
+  pub is : event ≡ Start s.rank leaf.0 leaf.1 to
+
+-- ---- the proposal
+
+-- the kinds of steps, in the order in which a rank thinks of them
+pub data Kind : Type 0 where
+  OfExport : Kind
+  OfLarge : Kind
+  OfSmall : Kind
+  OfPin : Kind
+
+abbrev pub kinds : List Kind
+kinds = OfExport ∷ OfLarge ∷ OfSmall ∷ OfPin ∷ []
+
+-- the rank would make this step of a kind at a leaf
+abbrev pub Would : Sight → Kind → Leaf → Event → Type 0
+Would s OfExport leaf event = GoesOn s leaf event
+Would s OfLarge leaf event = IsLarge s leaf event
+Would s OfSmall leaf event = AreSmall s leaf event
+Would s OfPin leaf event = IsPinnedAway s leaf event
+
+-- it would make none of a kind
+abbrev pub WouldNot : Sight → Kind → Type 0
+WouldNot s kind = (leaf : Leaf) (event : Event) → Would s kind leaf event → ⊥
+
+-- the step at the least leaf at which it would make one of a kind: by inode, then value, then bits
+pub record IsLeast (s : Sight) (kind : Kind) (event : Event) : Type 0 where
+  pub leaf : Leaf
+  pub would : Would s kind leaf event
+  pub least : (other : Leaf) (another : Event) → Would s kind other another → (other ≡ leaf) ⊎ (leaf_cmp leaf other ≡ Less)
+
+-- the first of these kinds of which it would make a step gives the least; without any there is none
+abbrev pub IsFirstOf : Sight → List Kind → Option Event → Type 0
+IsFirstOf s [] None = Unit {0}
+IsFirstOf s [] (Some event) = ⊥
+IsFirstOf s (kind ∷ others) None = WouldNot s kind × IsFirstOf s others None
+IsFirstOf s (kind ∷ others) (Some event) = IsLeast s kind event ⊎ (WouldNot s kind × IsFirstOf s others (Some event))
+
+-- the proposal of a rank's own step
+abbrev pub IsProposal : Sight → Option Event → Type 0
+IsProposal s event = IsFirstOf s kinds event
+
+-- ---- of a cluster
+
+-- what a rank of a cluster goes by
+abbrev pub sight : Core → Rank → Sight
+sight core rank = record {
+  rank = rank;
+  ranks = length core.state.numbers;
+  homes = core.state.tree.homes;
+  covers = core.state.tree.covers;
+  roots = core.state.roots;
+  exports = core.state.exports;
+  pins = core.state.tree.pins;
+  granted = λ leaf. list_any (is_on leaf.0 leaf.1) core.state.pins;
+  cached = sizes_at core.caches rank.0;
+}
+
+-- what a rank proposes; a rank that isn't there is refused NotAuthority, and want of memory comes where it is
+abbrev pub Proposes : Core → Rank → Result (Option Event) Refusal → Type 0
+Proposes core rank (Ok event) = (rank.0 < length core.state.numbers) × IsProposal (sight core rank) event
+Proposes core rank (Err reason) = ((reason ≡ NotAuthority) × (length core.state.numbers ≤ rank.0)) ⊎ ((reason ≡ NoMemory) × (rank.0 < length core.state.numbers))
+
+-- ---- what its laws say
+
+-- there is at most one proposal
+abbrev pub ThereIsOne : Type 0
+ThereIsOne = (s : Sight) (a b : Option Event) → IsProposal s a → IsProposal s b → a ≡ b
+
+-- a proposed split passes the listed checks of Split
+pub record PassesSplit (s : Sight) (leaf : Leaf) : Type 0 where
+  pub can : CanSplit (leaves_of s.covers leaf.0.0) leaf.1 3
+  pub own : IsMine s leaf
+  pub thawed : IsThawed s leaf
+  pub free : s.granted leaf ≡ false
+
+abbrev pub ProposedSplitsPass : Type 0
+ProposedSplitsPass = (s : Sight) (leaf : Leaf) (event : Event) → IsLarge s leaf event → PassesSplit s leaf
+
+-- a proposed merge passes the listed checks of Merge
+abbrev pub ProposedMergesPass : Type 0
+ProposedMergesPass = (s : Sight) (whole : Leaf) (event : Event) → IsTree (leaves_of s.covers whole.0.0) → AreSmall s whole event
+    → CanMerge (leaves_of s.covers whole.0.0) whole.1 × ((i : ℕ) → i < 8 → IsIdle s (child whole i))
+
+-- where none is kept as a candidate, nothing of that kind is proposed
+pub record NoCandidateNoProposal : Type 0 where
+  pub exports : (s : Sight) → IsNextOf s.exports s.rank None None → WouldNot s OfExport
+  pub large : (s : Sight) → IsNext (IsLargeIn s.cached) None None → WouldNot s OfLarge
+  pub small : (s : Sight) → IsNext (IsSmallIn s.cached) None None → WouldNot s OfSmall
