@@ -52,7 +52,7 @@ pub fn check<F: Frags>(
         } => {
             let new = New::file(number, *mode, *birth);
             make(frags, limit, op, dentry, &at, new)
-        },
+        }
         Op::Mkdir {
             dentry,
             mode,
@@ -60,7 +60,7 @@ pub fn check<F: Frags>(
         } => {
             let new = New::directory(number, *mode, *birth);
             make(frags, limit, op, dentry, &at, new)
-        },
+        }
         Op::Symlink {
             dentry,
             target,
