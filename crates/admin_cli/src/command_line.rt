@@ -97,6 +97,11 @@ Ranks:
 Fragments:
   dirfrag split RANK INO FRAG NB    dirfrag merge RANK INO FRAG
   dirfrag ls INO
+Exports, in this order:
+  export dir FROM INO FRAG TO       export freeze INO FRAG
+  export prep INO FRAG              export send INO FRAG
+  export import INO FRAG            export finish INO FRAG
+  export cancel INO FRAG (before send)
 Commits and the store:
   commit RANK INO FRAG              begin RANK INO FRAG
   end JOB                           drop JOB
