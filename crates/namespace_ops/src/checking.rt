@@ -20,35 +20,10 @@ use mds_types::{Alteration, ESTALE, Ino, Limit, Op, Refusal, Reply};
 use std::alloc::Global;
 
 /// Checks an operation whose names lie there, where a directory may have `limit` entries: finds the reply, or the one change that it makes. A new
-/// inode takes the number given. It reads alone, and is refused as a read is, or for want of memory. A look-up is put into the callers, and has no
-/// room to clear that only other operations need.
+/// inode takes the number given. It reads alone, and is refused as a read is, or for want of memory. What checks a change is a function of its own, so that
+/// a look-up has no room to clear that only changes need; the rest is put into the callers, and what was found isn't moved.
 #[inline(always)]
 pub fn check<F: Frags>(
-    alloc: Global,
-    frags: &mut F,
-    limit: Limit,
-    op: &Op,
-    places: Places,
-    number: Ino,
-) -> Result<Checked, Refusal>
-    requires { AreLocated (F.content frags.old) (F.covers frags.old) (F.Holds frags.old) op.now places }
-    ensures checked { IfOk result (Checks (F.content frags.old) (F.covers frags.old) (F.Holds frags.old) op.now number.0 (step limit (F.content frags.old) op.now number.0)) }
-    ensures kept { KeepsAll (F.content frags.old) (F.content frags.new) (F.covers frags.old) (F.covers frags.new) (F.Follows frags.old frags.new op.now (result_err result)) }
-    ensures err { IfErr result (Refuses (F.MayRefuse frags.old frags.new op.now)) }
-    ensures numbers { IfErr result (λ reason. reason ≢ NoInodes) }
-{
-    let Op::Lookup(dentry) = op else {
-        return check_any(alloc, frags, limit, op, places, number);
-    };
-    match places.main {
-        Some(at) => lookup(frags, op, dentry, &at),
-        None => Ok(Checked::Answers(Reply::Errno(ESTALE))),
-    }
-}
-
-// Checks any operation.
-#[inline(never)]
-fn check_any<F: Frags>(
     alloc: Global,
     frags: &mut F,
     limit: Limit,

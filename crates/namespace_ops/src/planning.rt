@@ -48,8 +48,7 @@ pub fn plan_checked<F: Frags>(
     }
 }
 
-// Plans the change that the checks found. A function of its own, since what is only read has no room to clear for a change.
-#[inline(never)]
+// Plans the change that the checks found.
 fn plan_change<F: Frags>(
     frags: &mut F,
     limit: Limit,

@@ -11,8 +11,7 @@ use script_words::{
 };
 use std::alloc::Global;
 
-/// The operation of this first word, with the arguments in these words. What reads more than a dentry is a function of its own, so that a
-/// look-up has no room to clear for it.
+/// The operation of this first word, with the arguments in these words.
 #[tactic(auto, unfolding(crate::specs::Operations::operation_of))]
 pub fn read_operation(alloc: Global, verb: &[u8], args: &[u8]) -> Result<Op, ReadError>
     ensures { Gives (λ op. op) result (operation_of verb.now (words_of args.now)) }
@@ -77,7 +76,6 @@ fn dentry(alloc: Global, args: &[u8]) -> Result<Dentry, ReadError>
 
 // `INO NAME MODE [uid N] [gid N]`: a dentry, and what is made there.
 #[tactic(auto, unfolding(crate::specs::Operations::made_of))]
-#[inline(never)]
 fn made(alloc: Global, args: &[u8]) -> Result<(Dentry, Mode, Birth), ReadError>
     ensures { Gives (λ made. made) result (made_of (words_of args.now)) }
 {
@@ -94,7 +92,6 @@ fn made(alloc: Global, args: &[u8]) -> Result<(Dentry, Mode, Birth), ReadError>
 
 // `readdir INO AFTER MAX`
 #[tactic(auto, unfolding(crate::specs::Operations::readdir_of))]
-#[inline(never)]
 fn readdir(alloc: Global, args: &[u8]) -> Result<Op, ReadError>
     ensures { Gives (λ op. op) result (readdir_of (words_of args.now)) }
 {
@@ -108,7 +105,6 @@ fn readdir(alloc: Global, args: &[u8]) -> Result<Op, ReadError>
 
 // `symlink INO NAME TARGET [uid N] [gid N]`
 #[tactic(auto, unfolding(crate::specs::Operations::symlink_of))]
-#[inline(never)]
 fn symlink(alloc: Global, args: &[u8]) -> Result<Op, ReadError>
     ensures { Gives (λ op. op) result (symlink_of (words_of args.now)) }
 {
@@ -129,7 +125,6 @@ fn symlink(alloc: Global, args: &[u8]) -> Result<Op, ReadError>
 
 // `setattr INO NAME [mode MODE] [size N] [mtime N] [uid N] [gid N]`
 #[tactic(auto, unfolding(crate::specs::Operations::setattr_of))]
-#[inline(never)]
 fn setattr(alloc: Global, args: &[u8]) -> Result<Op, ReadError>
     ensures { Gives (λ op. op) result (setattr_of (words_of args.now)) }
 {
@@ -147,7 +142,6 @@ fn setattr(alloc: Global, args: &[u8]) -> Result<Op, ReadError>
 
 // `setpin INO NAME RANK`, or `-1` in place of RANK
 #[tactic(auto, unfolding(crate::specs::Operations::setpin_of))]
-#[inline(never)]
 fn setpin(alloc: Global, args: &[u8]) -> Result<Op, ReadError>
     ensures { Gives (λ op. op) result (setpin_of (words_of args.now)) }
 {
@@ -164,7 +158,6 @@ fn setpin(alloc: Global, args: &[u8]) -> Result<Op, ReadError>
 
 // `rename INO NAME INO NAME`
 #[tactic(auto, unfolding(crate::specs::Operations::rename_of))]
-#[inline(never)]
 fn rename(alloc: Global, args: &[u8]) -> Result<Op, ReadError>
     ensures { Gives (λ op. op) result (rename_of (words_of args.now)) }
 {
