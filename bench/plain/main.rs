@@ -1,98 +1,73 @@
-//! What `cephmeta script` answers to `create INO NAME MODE` and `lookup INO NAME`, in plain Rust over the standard
-//! library's maps: names of a directory in one `BTreeMap`, each request kept in a history, each reply in its session.
-//! It stands beside the figures of bench/serve and bench/leaves.
-use std::collections::BTreeMap;
-use std::io::{self, BufRead, BufWriter, Write};
+//! What `cephmeta script` does with operations alone, in plain Rust over the standard library's maps: one rank, no store and no
+//! fragments. Names and words are checked, each request is kept in a history and each reply in its client's session, whose mark
+//! rises and trims it; answers are written together while whole lines are at hand. It prints what the program prints
+//! (bench/plain/check), and stands beside its figures.
+mod lines;
+mod tree;
 
-#[derive(Clone)]
-struct Inode {
-    ino: u64,
-    mode: u32,
-    size: u64,
-    mtime: u64,
-    target: Vec<u8>,
-}
+use lines::Line;
+use std::collections::{BTreeMap, HashMap};
+use std::io::{self, BufRead, BufReader, BufWriter, Write};
+use std::process::ExitCode;
+use tree::{Op, Reply, Tree};
 
-#[derive(Clone)]
-enum Reply {
-    Entry(Inode),
-    Errno(u32),
-}
-
-enum Op {
-    Create { dir: u64, name: String, mode: u32 },
-    Lookup { dir: u64, name: String },
+#[derive(Default)]
+struct Session {
+    mark: u64,
+    kept: BTreeMap<u64, (usize, Reply)>,
 }
 
 struct Server {
-    dirs: BTreeMap<u64, BTreeMap<String, Inode>>,
-    history: Vec<(u64, u64, Op)>,
-    sessions: BTreeMap<u64, BTreeMap<u64, (u64, Reply)>>,
-    next: u64,
+    tree: Tree,
+    history: Vec<(u64, u64, Op, Reply)>,
+    sessions: HashMap<u64, Session>,
 }
 
 impl Server {
-    fn serve(&mut self, client: u64, number: u64, op: Op) -> (u64, Reply) {
-        let place = self.history.len() as u64;
-        let reply = match &op {
-            Op::Create { dir, name, mode } => self.create(*dir, name, *mode),
-            Op::Lookup { dir, name } => self.lookup(*dir, name),
-        };
-        self.history.push((client, number, op));
+    /// Applies a request, and keeps it and its reply; its number is the oldest that its client still asks for.
+    fn serve(&mut self, client: u64, tid: u64, op: Op) -> (usize, &Reply) {
+        let place = self.history.len();
+        let reply = self.tree.serve(&op);
+        self.history.push((client, tid, op, reply.clone()));
         let session = self.sessions.entry(client).or_default();
-        session.insert(number, (place, reply.clone()));
-        (place, reply)
-    }
-
-    fn create(&mut self, dir: u64, name: &str, mode: u32) -> Reply {
-        let Some(names) = self.dirs.get_mut(&dir) else {
-            return Reply::Errno(2);
-        };
-        if names.contains_key(name) {
-            return Reply::Errno(17);
+        session.mark = session.mark.max(tid);
+        while session.kept.first_key_value().is_some_and(|(tid, _)| *tid < session.mark) {
+            session.kept.pop_first();
         }
-        let inode = Inode { ino: self.next, mode, size: 0, mtime: 0, target: Vec::new() };
-        self.next += 1;
-        names.insert(name.to_string(), inode.clone());
-        Reply::Entry(inode)
-    }
-
-    fn lookup(&self, dir: u64, name: &str) -> Reply {
-        match self.dirs.get(&dir).and_then(|names| names.get(name)) {
-            Some(inode) => Reply::Entry(inode.clone()),
-            None => Reply::Errno(2),
-        }
+        let (place, reply) = session.kept.entry(tid).or_insert((place, reply));
+        (*place, reply)
     }
 }
 
-fn read(line: &str) -> Option<Op> {
-    let mut words = line.split(' ');
-    let kind = words.next()?;
-    let dir = words.next()?.parse().ok()?;
-    let name = words.next()?.to_string();
-    match kind {
-        "create" => Some(Op::Create { dir, name, mode: u32::from_str_radix(words.next()?, 8).ok()? }),
-        "lookup" => Some(Op::Lookup { dir, name }),
-        _ => None,
-    }
-}
-
-fn main() -> io::Result<()> {
-    let mut server = Server { dirs: BTreeMap::new(), history: Vec::new(), sessions: BTreeMap::new(), next: 10_000_000_000 };
-    server.dirs.insert(1, BTreeMap::new());
+fn main() -> io::Result<ExitCode> {
+    let mut server = Server { tree: Tree::new(), history: Vec::new(), sessions: HashMap::new() };
+    let mut reader = BufReader::new(io::stdin().lock());
     let mut out = BufWriter::new(io::stdout().lock());
-    let mut number = 0;
-    for line in io::stdin().lock().lines() {
-        let line = line?;
-        let Some(op) = read(&line) else {
-            writeln!(out, "error")?;
-            continue;
-        };
-        number += 1;
-        match server.serve(0, number, op) {
-            (place, Reply::Entry(inode)) => writeln!(out, "reply 0 {number} {place} new entry {} file {:o} {} {}{}", inode.ino, inode.mode, inode.size, inode.mtime, String::from_utf8_lossy(&inode.target))?,
-            (place, Reply::Errno(errno)) => writeln!(out, "reply 0 {number} {place} new errno {errno}")?,
+    let (mut tid, mut count) = (0, 0);
+    let mut line = Vec::new();
+    loop {
+        // what was answered is written before the reader waits for more
+        if !reader.buffer().contains(&b'\n') {
+            out.flush()?;
+        }
+        line.clear();
+        if reader.read_until(b'\n', &mut line)? == 0 {
+            return Ok(ExitCode::SUCCESS);
+        }
+        count += 1;
+        match lines::read(line.strip_suffix(b"\n").unwrap_or(&line)) {
+            Line::Nothing => {}
+            Line::Fault(errno) => writeln!(out, "errno {errno}")?,
+            Line::Op(op) => {
+                tid += 1;
+                let (place, reply) = server.serve(0, tid, op);
+                lines::print(&mut out, 0, tid, place, reply)?;
+            }
+            Line::Bad => {
+                out.flush()?;
+                eprintln!("line {count}: not a command");
+                return Ok(ExitCode::FAILURE);
+            }
         }
     }
-    out.flush()
 }
