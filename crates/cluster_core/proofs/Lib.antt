@@ -9,12 +9,16 @@ pub mod GrantLaws
 pub mod HeldLaws
 pub mod ImportLaws
 pub mod JobObjects
+pub mod KindLaws
+pub mod LeafPlaces
 pub mod LimitStays
 pub mod MadeReady
 pub mod MasterLaws
+pub mod MergeLaws
 pub mod MountedBook
 pub mod NewBook
 pub mod Offered
+pub mod ProposalLaws
 pub mod Recorded
 pub mod RunLaws
 pub mod SendLaws
@@ -23,4 +27,5 @@ pub mod Stays
 pub mod Stepped
 pub mod Supplies
 pub mod UsesLaws
+pub mod WalkLaws
 pub mod Worked

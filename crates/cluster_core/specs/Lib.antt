@@ -12,7 +12,9 @@ pub mod Grants
 pub mod Master
 pub mod Mounted
 pub mod Offer
+pub mod Pins
 pub mod Prepared
+pub mod Proposal
 pub mod Runs
 pub mod Serve
 pub mod Sound

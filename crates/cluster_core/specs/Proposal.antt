@@ -9,6 +9,7 @@ use Rattle.mds_types.specs.declared.refusals.Refusal.{Refusal}
 use Rattle.mds_types.specs.declared.refusals.Refusal.TheVariants.{NoMemory, NotAuthority}
 use Rattle.mds_types.specs.Leaf.{Leaf, leaf_cmp}
 use Rattle.fragtree.specs.FragTree.{CanMerge, CanSplit, IsTree}
+use Rattle.inboxes.specs.declared.pins.Pin.{Pin}
 use Rattle.inboxes.specs.Pins.{is_on}
 use Rattle.inode_table.specs.Dirs.{Covers, DirPins, Homes, IsLive, leaves_of}
 use Rattle.subtree_map.specs.Authority.{HasAuthority, NearestRoot, Roots}
@@ -19,6 +20,7 @@ use Rattle.export_steps.specs.ByExporter.{IsNextOf}
 use Rattle.export_steps.specs.Holder.{IsFrozen}
 use Rattle.export_steps.specs.Standing.{Standing}
 use Rattle.dentry_cache.specs.Candidates.{IsLargeIn, IsNext, IsSmallIn, Sizes, child, sizes_at}
+use Rattle.ranked_tree.specs.Ranked.{Ranked}
 use Rattle.cluster_core.specs.declared.events.Event.{Event}
 use Rattle.cluster_core.specs.declared.events.Event.TheVariants.{Split, Merge, Start, Freeze, Prep, Send, Import, Finish, Cancel}
 use Rattle.cluster_core.specs.Pins.{HasPin}
@@ -191,3 +193,39 @@ pub record NoCandidateNoProposal : Type 0 where
   pub exports : (s : Sight) → IsNextOf s.exports s.rank None None → WouldNot s OfExport
   pub large : (s : Sight) → IsNext (IsLargeIn s.cached) None None → WouldNot s OfLarge
   pub small : (s : Sight) → IsNext (IsSmallIn s.cached) None None → WouldNot s OfSmall
+
+-- ---- words of this crate's own contracts
+
+-- what a rank goes by, by the tree, the grants, and how many ranks there are
+abbrev pub sight_of : Ranked → List Pin → ℕ → Rank → Sight
+sight_of ranked grants ranks rank = record {
+  rank = rank;
+  ranks = ranks;
+  homes = ranked.tree.homes;
+  covers = ranked.tree.covers;
+  roots = ranked.subtrees.roots;
+  exports = ranked.exports;
+  pins = ranked.tree.pins;
+  granted = λ leaf. list_any (is_on leaf.0 leaf.1) grants;
+  cached = sizes_at ranked.tree.caches rank.0;
+}
+
+-- the step of a kind that it would make at the least leaf, if it would make one
+abbrev pub IsFirstStep : Sight → Kind → Option Event → Type 0
+IsFirstStep s kind None = WouldNot s kind
+IsFirstStep s kind (Some event) = IsLeast s kind event
+
+-- the rank that a leaf would start for, which its directory is pinned to
+pub record IsAwayTo (s : Sight) (leaf : Leaf) (to : Rank) : Type 0 where
+  pub own : IsMine s leaf
+  pub pin : HasPin s.pins s.homes leaf.0.0 to
+  pub other : to ≢ s.rank
+  pub there : to.0 < s.ranks
+  pub thawed : IsThawed s leaf
+  pub none : map.get s.exports leaf ≡ None
+
+-- the first leaf of these that would start, with the rank that it would start for
+abbrev pub IsFirstAway : Sight → (Leaf → Type 0) → Option (Leaf × Rank) → Type 0
+IsFirstAway s Place None = (leaf : Leaf) (to : Rank) → Place leaf → IsAwayTo s leaf to → ⊥
+IsFirstAway s Place (Some found) =
+    Place found.0 × IsAwayTo s found.0 found.1 × ((leaf : Leaf) (to : Rank) → Place leaf → IsAwayTo s leaf to → (leaf ≡ found.0) ⊎ (leaf_cmp found.0 leaf ≡ Less))

@@ -9,13 +9,18 @@ mod clusters;
 mod events;
 mod exporting;
 mod flushing;
+mod going_on;
 mod granting;
 pub mod laws;
 mod masters;
 mod mounting;
 mod parts;
 mod pinned;
+mod pinned_away;
 mod plain_trees;
+pub mod proposals;
+mod proposing;
+mod regroups;
 mod runs;
 mod serving;
 
