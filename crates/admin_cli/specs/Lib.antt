@@ -5,7 +5,6 @@ pub mod FaultText
 pub mod Jobs
 pub mod OneLine
 pub mod Scripts
-pub mod SentBytes
 pub mod Settings
 pub mod StepLines
 pub mod StoreLines

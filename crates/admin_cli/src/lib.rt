@@ -6,7 +6,6 @@ mod command_line;
 mod commands;
 mod exporting;
 mod faults;
-mod kept_bytes;
 mod kept_jobs;
 mod script;
 mod serving;

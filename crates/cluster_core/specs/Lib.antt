@@ -16,6 +16,7 @@ pub mod Pins
 pub mod Prepared
 pub mod Proposal
 pub mod Runs
+pub mod SentBytes
 pub mod Serve
 pub mod Sound
 pub mod State
