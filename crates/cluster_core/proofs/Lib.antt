@@ -18,6 +18,7 @@ pub mod MergeLaws
 pub mod MountedBook
 pub mod NewBook
 pub mod Offered
+pub mod OwnLaws
 pub mod ProposalLaws
 pub mod Recorded
 pub mod RunLaws

@@ -22,7 +22,7 @@ use Rattle.export_steps.specs.Standing.{Standing}
 use Rattle.dentry_cache.specs.Candidates.{IsLargeIn, IsNext, IsSmallIn, Sizes, child, sizes_at}
 use Rattle.ranked_tree.specs.Ranked.{Ranked}
 use Rattle.cluster_core.specs.declared.events.Event.{Event}
-use Rattle.cluster_core.specs.declared.events.Event.TheVariants.{Split, Merge, Start, Freeze, Prep, Send, Import, Finish, Cancel}
+use Rattle.cluster_core.specs.declared.events.Event.TheVariants.{Arrive, Serve, Grant, Split, Merge, CommitBegin, CommitEnd, CommitDrop, CommitTree, Purge, Evict, Start, Freeze, Prep, Send, Import, Finish, Cancel}
 use Rattle.cluster_core.specs.Pins.{HasPin}
 use Rattle.cluster_core.specs.State.{Core}
 
@@ -145,6 +145,27 @@ IsFirstOf s (kind ∷ others) (Some event) = IsLeast s kind event ⊎ (WouldNot 
 -- the proposal of a rank's own step
 abbrev pub IsProposal : Sight → Option Event → Type 0
 IsProposal s event = IsFirstOf s kinds event
+
+-- the steps that a rank makes of its own
+abbrev pub IsOwnStep : Event → Type 0
+IsOwnStep (Arrive rank request) = ⊥
+IsOwnStep (Serve rank) = ⊥
+IsOwnStep (Grant rank client tid) = ⊥
+IsOwnStep (Split rank dir f bits) = Unit {0}
+IsOwnStep (Merge rank dir f) = Unit {0}
+IsOwnStep (CommitBegin rank dir f) = ⊥
+IsOwnStep (CommitEnd encoded) = ⊥
+IsOwnStep (CommitDrop job) = ⊥
+IsOwnStep (CommitTree dir) = ⊥
+IsOwnStep Purge = ⊥
+IsOwnStep (Evict rank) = ⊥
+IsOwnStep (Start from dir f to) = Unit {0}
+IsOwnStep (Freeze dir f) = Unit {0}
+IsOwnStep (Prep dir f) = Unit {0}
+IsOwnStep (Send dir f) = Unit {0}
+IsOwnStep (Import dir f bytes) = Unit {0}
+IsOwnStep (Finish dir f) = Unit {0}
+IsOwnStep (Cancel dir f) = Unit {0}
 
 -- ---- of a cluster
 
