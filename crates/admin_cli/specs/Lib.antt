@@ -4,6 +4,7 @@ pub mod ExportLines
 pub mod FaultText
 pub mod Jobs
 pub mod OneLine
+pub mod OwnLines
 pub mod Scripts
 pub mod Settings
 pub mod StepLines

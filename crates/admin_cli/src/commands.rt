@@ -80,6 +80,7 @@ impl Admin {
             Command::Operation(op) => Ok(self.operate(alloc, op)),
             Command::Request(rank, request) => Ok(self.arrive(alloc, rank, request)),
             Command::Serve(rank) => Ok(self.serve(alloc, rank)),
+            Command::Own(rank) => self.own_turn(alloc, rank),
             Command::History => Ok(OutputLine::History(self.book.history().len() as u64)),
             Command::Split {
                 rank,
@@ -152,7 +153,7 @@ impl Admin {
 
     // A leaf of a directory is split.
     #[inline(never)]
-    fn split(&mut self, alloc: Global, rank: Rank, ino: Ino, frag: Frag, bits: u8) -> OutputLine
+    pub(crate) fn split(&mut self, alloc: Global, rank: Rank, ino: Ino, frag: Frag, bits: u8) -> OutputLine
         ensures { Does self.old self.new (Split rank ino frag bits) result }
     {
         self.step(
@@ -168,7 +169,13 @@ impl Admin {
 
     // Leaves of a directory are merged.
     #[inline(never)]
-    fn merge(&mut self, alloc: Global, rank: Rank, ino: Ino, frag: Frag) -> OutputLine
+    pub(crate) fn merge(
+        &mut self,
+        alloc: Global,
+        rank: Rank,
+        ino: Ino,
+        frag: Frag,
+    ) -> OutputLine
         ensures { Does self.old self.new (Merge rank ino frag) result }
     {
         self.step(alloc, Event::Merge { rank, ino, frag })

@@ -54,7 +54,12 @@ impl Admin {
     // `export send INO FRAG`: what the export hands over is kept. An error says that there was no room to keep it, so that nothing was
     // sent.
     #[inline(never)]
-    fn send(&mut self, alloc: Global, ino: Ino, frag: Frag) -> Result<OutputLine, AllocError>
+    pub(crate) fn send(
+        &mut self,
+        alloc: Global,
+        ino: Ino,
+        frag: Frag,
+    ) -> Result<OutputLine, AllocError>
         ensures line { IfOk result (SendsLine self.old self.new ino frag) }
         ensures err { OnErr result (self.new ≡ self.old) }
         ensures count { self.new.operations ≡ self.old.operations }
@@ -73,7 +78,12 @@ impl Admin {
     // `export import INO FRAG`: the importer takes a copy of the kept bytes. Once it has them they are kept no longer. An error says
     // that there was no memory to copy them.
     #[inline(never)]
-    fn import(&mut self, alloc: Global, ino: Ino, frag: Frag) -> Result<OutputLine, AllocError>
+    pub(crate) fn import(
+        &mut self,
+        alloc: Global,
+        ino: Ino,
+        frag: Frag,
+    ) -> Result<OutputLine, AllocError>
         ensures line { IfOk result (ImportsLine self.old self.new ino frag) }
         ensures err { OnErr result (CopiesNoBytes self.old self.new ino frag) }
         ensures count { self.new.operations ≡ self.old.operations }

@@ -7,6 +7,7 @@ mod commands;
 mod exporting;
 mod faults;
 mod kept_jobs;
+mod own_turns;
 mod script;
 mod serving;
 mod store_commands;
