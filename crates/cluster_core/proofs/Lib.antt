@@ -5,6 +5,7 @@ pub mod Counted
 pub mod Exported
 pub mod FlushedBook
 pub mod FragmentLaws
+pub mod FreezeLaws
 pub mod GrantLaws
 pub mod HeldLaws
 pub mod ImportLaws
