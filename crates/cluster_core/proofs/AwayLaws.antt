@@ -1,9 +1,9 @@
 -- The first of the leaves that are to start for another rank.
-use Rattle.std.proofs.Common.{◌≡◌, ◌≢◌, ◌⊎◌, inl, inr, ℕ, ◌<◌, ◌≤◌, Bool, true, false, Option, Some, None, IsSome, refl, sym, ap, subst, ◌∙◌, arith}
+use Rattle.std.proofs.Common.{◌≡◌, ◌≢◌, ◌⊎◌, inl, inr, ℕ, ◌<◌, ◌≤◌, Bool, true, false, cond, Option, Some, None, IsSome, refl, sym, ap, subst, ◌∙◌, arith}
 use Rattle.std.specs.Prelude.{is_some, nat_le}
 use Rattle.std.specs.declared.cmp.Ordering.{Ordering}
 use Rattle.std.specs.declared.cmp.Ordering.TheVariants.{Less, Equal, Greater}
-use Rattle.std.specs.Ordering.{is_lt}
+use Rattle.std.specs.Ordering.{is_lt, ordering_reverse}
 use Rattle.std.specs.FinMap as map
 use Rattle.mds_types.specs.declared.ids.Rank.{Rank}
 use Rattle.mds_types.specs.Leaf.{Leaf, leaf_cmp}
@@ -13,7 +13,7 @@ use Rattle.subtree_map.specs.Authority.{Roots}
 use Rattle.subtree_map.specs.Lists.{is_after}
 use Rattle.subtree_map.specs.Rows.{IsFirst}
 use Rattle.cluster_core.specs.declared.events.Event.TheVariants.{Start}
-use Rattle.cluster_core.specs.Proposal.{IsAwayTo, IsFirstAway, IsFirstStep, IsLeast, IsPinnedAway, OfPin, Sight}
+use Rattle.cluster_core.specs.Proposal.{IsAwayTo, IsFirstAway, IsFirstStep, IsLeast, OfPin, Sight, lesser_of}
 use Rattle.cluster_core.proofs.WalkLaws.{IsWalked, ended, found, passed}
 
 -- a leaf of these is to start
@@ -56,9 +56,6 @@ next_of_roots roots after None none = λ leaf is behind. let clash : true ≡ fa
 
 -- ---- the lesser of two
 
-less_on : (a b c : Leaf) → leaf_cmp a b ≡ Less → leaf_cmp b c ≡ Less → leaf_cmp a c ≡ Less
-less_on a b c one two = leaf-total.trans a b c one two
-
 module _ (s : Sight) (P Q : Leaf → Type 0) where
   abbrev Both : Leaf → Type 0
   Both leaf = P leaf ⊎ Q leaf
@@ -75,12 +72,47 @@ module _ (s : Sight) (P Q : Leaf → Type 0) where
       go leaf to away (inl p) = absurd (none leaf to p away)
       go leaf to away (inr q) = rest.2 leaf to q away
 
-  pub no_second : (one : Leaf × Rank) → IsFirstAway s P (Some one) → IsFirstAway s Q None → IsFirstAway s Both (Some one)
+  no_second : (one : Leaf × Rank) → IsFirstAway s P (Some one) → IsFirstAway s Q None → IsFirstAway s Both (Some one)
   no_second at first none = (inl first.0, first.1, λ leaf to place away. go leaf to away place)
     where
       go : (leaf : Leaf) (to : Rank) → IsAwayTo s leaf to → P leaf ⊎ Q leaf → (leaf ≡ at.0) ⊎ (leaf_cmp at.0 leaf ≡ Less)
       go leaf to away (inl p) = first.2 leaf to p away
       go leaf to away (inr q) = absurd (none leaf to q away)
+
+  of_two : (one other : Leaf × Rank) (o : Ordering) → leaf_cmp other.0 one.0 ≡ o → IsFirstAway s P (Some one) → IsFirstAway s Q (Some other) → IsFirstAway s Both (Some (cond (is_lt o) other one))
+  of_two one other Less is first second = (inr second.0, second.1, λ leaf to place away. go leaf to away place)
+    where
+      on : (leaf : Leaf) → (leaf ≡ one.0) ⊎ (leaf_cmp one.0 leaf ≡ Less) → (leaf ≡ other.0) ⊎ (leaf_cmp other.0 leaf ≡ Less)
+      on leaf (inl same) = inr (subst (λ (l : Leaf). leaf_cmp other.0 l ≡ Less) (sym same) is)
+      on leaf (inr less) = inr (leaf-total.trans other.0 one.0 leaf is less)
+
+      go : (leaf : Leaf) (to : Rank) → IsAwayTo s leaf to → P leaf ⊎ Q leaf → (leaf ≡ other.0) ⊎ (leaf_cmp other.0 leaf ≡ Less)
+      go leaf to away (inl p) = on leaf (first.2 leaf to p away)
+      go leaf to away (inr q) = second.2 leaf to q away
+  of_two one other Equal is first second = (inl first.0, first.1, λ leaf to place away. go leaf to away place)
+    where
+      same_two : other.0 ≡ one.0
+      same_two = leaf-exact other.0 one.0 is
+
+      go : (leaf : Leaf) (to : Rank) → IsAwayTo s leaf to → P leaf ⊎ Q leaf → (leaf ≡ one.0) ⊎ (leaf_cmp one.0 leaf ≡ Less)
+      go leaf to away (inl p) = first.2 leaf to p away
+      go leaf to away (inr q) = subst (λ (l : Leaf). (leaf ≡ l) ⊎ (leaf_cmp l leaf ≡ Less)) same_two (second.2 leaf to q away)
+  of_two one other Greater is first second = (inl first.0, first.1, λ leaf to place away. go leaf to away place)
+    where
+      less : leaf_cmp one.0 other.0 ≡ Less
+      less = leaf-total.antisymm one.0 other.0 ∙ ap ordering_reverse is
+
+      on : (leaf : Leaf) → (leaf ≡ other.0) ⊎ (leaf_cmp other.0 leaf ≡ Less) → (leaf ≡ one.0) ⊎ (leaf_cmp one.0 leaf ≡ Less)
+      on leaf (inl same) = inr (subst (λ (l : Leaf). leaf_cmp one.0 l ≡ Less) (sym same) less)
+      on leaf (inr more) = inr (leaf-total.trans one.0 other.0 leaf less more)
+
+      go : (leaf : Leaf) (to : Rank) → IsAwayTo s leaf to → P leaf ⊎ Q leaf → (leaf ≡ one.0) ⊎ (leaf_cmp one.0 leaf ≡ Less)
+      go leaf to away (inl p) = first.2 leaf to p away
+      go leaf to away (inr q) = on leaf (second.2 leaf to q away)
+
+  pub first_of_both : (one : Leaf × Rank) (other : Option (Leaf × Rank)) → IsFirstAway s P (Some one) → IsFirstAway s Q other → IsFirstAway s Both (Some (lesser_of one other))
+  first_of_both one None first none = no_second one first none
+  first_of_both one (Some other) first second = of_two one other (leaf_cmp other.0 one.0) refl first second
 
 -- the step of the first
 pub start_of : (s : Sight) (found : Leaf × Rank) → IsFirstAway s (λ leaf. IsSome (map.get s.roots leaf) ⊎ IsSome (map.get s.pins leaf.0.0)) (Some found) → IsLeast s OfPin (Start s.rank found.0.0 found.0.1 found.1)

@@ -1,8 +1,11 @@
 pub mod AdminLaws
 pub mod Applied
+pub mod AwayLaws
 pub mod Carried
 pub mod Counted
+pub mod DirWalkLaws
 pub mod Exported
+pub mod FirstLaws
 pub mod FlushedBook
 pub mod FragmentLaws
 pub mod FreezeLaws
@@ -20,6 +23,7 @@ pub mod MountedBook
 pub mod NewBook
 pub mod Offered
 pub mod OwnLaws
+pub mod PinsLaws
 pub mod ProposalLaws
 pub mod Recorded
 pub mod RunLaws

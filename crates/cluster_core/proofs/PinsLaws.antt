@@ -1,6 +1,6 @@
 -- The effective pin of a directory, by the way up.
 use Rattle.std.proofs.Common.{◌≡◌, ◌⊎◌, ◌↔◌, inl, inr, ℕ, true, false, Option, Some, None, IsSome, MatchOption, refl, sym, ap, subst, ◌∙◌}
-use Rattle.std.specs.Prelude.{is_some}
+use Rattle.std.specs.Prelude.{is_none, is_some}
 use Rattle.std.specs.FinMap as map
 use Rattle.mds_types.specs.declared.ids.Ino.{Ino}
 use Rattle.mds_types.specs.declared.ids.Rank.{Rank}
@@ -31,3 +31,11 @@ module _ (pins : DirPins) (homes : Homes) where
   pub unpinned : IsNextPinned pins None None → (d : ℕ) (rank : Rank) → HasPin pins homes d rank → ⊥
   unpinned none _ rank (own d _ is) = none d (ap is_some is) tt
   unpinned none _ rank (inherited d home _ _ _ rest) = unpinned none home.parent.0 rank rest
+
+  pub unpinned_by : (found : Option Ino) → is_none found ≡ true → IsNextPinned pins None found → (d : ℕ) (rank : Rank) → HasPin pins homes d rank → ⊥
+  unpinned_by None is none = unpinned none
+  unpinned_by (Some dir) is next = let clash : false ≡ true = is in cc
+
+-- the same pins, seen in another place
+pub pin_over : (a b : DirPins) (x y : Homes) → a ≡ b → x ≡ y → (d : ℕ) (rank : Rank) → HasPin a x d rank → HasPin b y d rank
+pin_over a b x y same too d rank has = subst (λ (h : Homes). HasPin b h d rank) too (subst (λ (p : DirPins). HasPin p x d rank) same has)

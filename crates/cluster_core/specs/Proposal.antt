@@ -1,8 +1,9 @@
 -- The proposal of a rank's own step (CephFS's balancer and its subtree pins, with this project's own order of steps): an export that it goes on
 -- with, a leaf that it splits, leaves that it merges, or a subtree that it begins to hand to the rank that the subtree is pinned to.
-use Rattle.std.specs.Prelude.{◌≡◌, ◌≢◌, ◌⊎◌, ℕ, ◌<◌, ◌≤◌, Bool, false, List, [], ◌∷◌, length, Option, Some, None, IsSome, Result, Ok, Err}
+use Rattle.std.specs.Prelude.{◌≡◌, ◌≢◌, ◌⊎◌, ℕ, ◌<◌, ◌≤◌, Bool, false, cond, List, [], ◌∷◌, length, Option, Some, None, IsSome, Result, Ok, Err}
 use Rattle.std.specs.List.{list_any}
 use Rattle.std.specs.declared.cmp.Ordering.TheVariants.{Less}
+use Rattle.std.specs.Ordering.{is_lt}
 use Rattle.std.specs.FinMap as map
 use Rattle.mds_types.specs.declared.ids.Rank.{Rank}
 use Rattle.mds_types.specs.declared.refusals.Refusal.{Refusal}
@@ -236,6 +237,12 @@ abbrev pub IsFirstStep : Sight → Kind → Option Event → Type 0
 IsFirstStep s kind None = WouldNot s kind
 IsFirstStep s kind (Some event) = IsLeast s kind event
 
+-- an export of a leaf may start
+pub record MayStart (s : Sight) (leaf : Leaf) : Type 0 where
+  pub own : IsMine s leaf
+  pub thawed : IsThawed s leaf
+  pub none : map.get s.exports leaf ≡ None
+
 -- the rank that a leaf would start for, which its directory is pinned to
 pub record IsAwayTo (s : Sight) (leaf : Leaf) (to : Rank) : Type 0 where
   pub own : IsMine s leaf
@@ -250,3 +257,12 @@ abbrev pub IsFirstAway : Sight → (Leaf → Type 0) → Option (Leaf × Rank) �
 IsFirstAway s Place None = (leaf : Leaf) (to : Rank) → Place leaf → IsAwayTo s leaf to → ⊥
 IsFirstAway s Place (Some found) =
     Place found.0 × IsAwayTo s found.0 found.1 × ((leaf : Leaf) (to : Rank) → Place leaf → IsAwayTo s leaf to → (leaf ≡ found.0) ⊎ (leaf_cmp found.0 leaf ≡ Less))
+
+-- the one at the lesser leaf
+abbrev pub lesser_away : Leaf × Rank → Leaf × Rank → Leaf × Rank
+lesser_away one other = cond (is_lt (leaf_cmp other.0 one.0)) other one
+
+-- of one and another, if there is another
+abbrev pub lesser_of : Leaf × Rank → Option (Leaf × Rank) → Leaf × Rank
+lesser_of one None = one
+lesser_of one (Some other) = lesser_away one other

@@ -93,7 +93,10 @@ fn may_freeze<S: Store + Drop>(
 ) -> bool
     ensures { (ranks : ℕ) (rank : RankNumber) → IsMine (sight_of tree.now grants.now ranks rank) (ino, frag) → IsTrue result ↔ MayFreeze (sight_of tree.now grants.now ranks rank) (ino, frag) }
 {
-    !tree.is_frozen(ino, frag) && !is_region_pinned(tree, grants, ino, frag)
+    if tree.is_frozen(ino, frag) {
+        return false;
+    }
+    !is_region_pinned(tree, grants, ino, frag)
 }
 
 /// Whether there is such a leaf, and a rank is its authority.

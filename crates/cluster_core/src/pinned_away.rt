@@ -1,11 +1,11 @@
 //! Which subtree of a rank's is pinned to another rank, so that an export of it starts. No memory is taken.
-ghost use Rattle.std.specs.Prelude.{◌≡◌, ◌⊎◌, None, Some, IsSome, MatchOption, List};
+ghost use Rattle.std.specs.Prelude.{◌≡◌, ◌≢◌, ◌⊎◌, ◌↔◌, ◌<◌, ℕ, None, Some, IsSome, IsTrue, MatchOption, List};
 ghost use Rattle.std.specs.FinMap as map;
 ghost use Rattle.inboxes.specs.declared.pins.Pin.{Pin};
 ghost use Rattle.mds_types.specs.Leaf.{Leaf};
 ghost use Rattle.mds_types.specs.declared.ids.Rank.{Rank as RankNumber};
 ghost use Rattle.cluster_core.specs.Pins.{HasPin};
-ghost use Rattle.cluster_core.specs.Proposal.{IsAwayTo, IsFirstAway, IsFirstStep, OfPin, Sight, sight_of};
+ghost use Rattle.cluster_core.specs.Proposal.{IsAwayTo, IsFirstAway, IsFirstStep, MayStart, OfPin, Sight, lesser_away, lesser_of, sight_of};
 
 use crate::events::Event;
 use crate::going_on::is_mine;
@@ -93,8 +93,7 @@ fn first_of_dir<S: Store + Drop>(
     None
 }
 
-// The rank that a leaf is to start for: the rank's own, thawed, and with no export, of a directory whose effective pin is another rank
-// that is there.
+// The rank that a leaf is to start for: another one that is there, to which its directory is pinned, where an export may start.
 fn away_to<S: Store + Drop>(
     tree: &RankedTree<S>,
     ranks: usize,
@@ -106,17 +105,39 @@ fn away_to<S: Store + Drop>(
         ((to : RankNumber) → IsAwayTo (sight_of tree.now grants ranks rank) (ino, frag) to → ⊥)
         (λ to. IsAwayTo (sight_of tree.now grants ranks rank) (ino, frag) to) }
 {
-    let to = pin_of(tree.dirs(), ino)?;
-    if to == rank || usize::from(to.0) >= ranks {
+    let Some(to) = pin_of(tree.dirs(), ino) else {
+        return None;
+    };
+    if !is_another(ranks, rank, to) {
         return None;
     }
-    if !is_mine(tree, rank, ino, frag) {
-        return None;
-    }
-    if tree.is_frozen(ino, frag) || tree.exports().get(ino, frag).is_some() {
+    if !may_start(tree, rank, ino, frag) {
         return None;
     }
     Some(to)
+}
+
+// Whether a rank is there, and not this one.
+fn is_another(ranks: usize, rank: Rank, to: Rank) -> bool
+    ensures { IsTrue result ↔ ((to ≢ rank) × (to.0 < ranks)) }
+{
+    if to == rank {
+        return false;
+    }
+    usize::from(to.0) < ranks
+}
+
+// Whether an export of a leaf may start: the leaf is the rank's own and thawed, and none stands.
+fn may_start<S: Store + Drop>(tree: &RankedTree<S>, rank: Rank, ino: Ino, frag: Frag) -> bool
+    ensures { (grants : List Pin) (ranks : ℕ) → IsTrue result ↔ MayStart (sight_of tree.now grants ranks rank) (ino, frag) }
+{
+    if !is_mine(tree, rank, ino, frag) {
+        return false;
+    }
+    if tree.is_frozen(ino, frag) {
+        return false;
+    }
+    tree.exports().get(ino, frag).is_none()
 }
 
 // The effective pin of a directory.
@@ -147,14 +168,28 @@ fn unpinned_home(dirs: &Dirs, dir: Ino) -> Option<&Home>
 fn lesser(one: Option<Away>, other: Option<Away>) -> Option<Away>
     ensures { (s : Sight) (P Q : Leaf → Type 0) → IsFirstAway s P one → IsFirstAway s Q other → IsFirstAway s (λ (leaf : Leaf). P leaf ⊎ Q leaf) result }
 {
-    let Some(first) = one else {
-        return other;
-    };
-    let Some(second) = other else {
-        return one;
-    };
-    if second.0.cmp(&first.0).is_lt() {
-        return other;
+    match one {
+        None => other,
+        Some(first) => Some(lesser_of(first, other)),
     }
-    one
+}
+
+// The one at the lesser leaf of one and another, if there is another.
+fn lesser_of(first: Away, other: Option<Away>) -> Away
+    ensures { result ≡ lesser_of first other }
+{
+    match other {
+        None => first,
+        Some(second) => lesser_away(&first, &second),
+    }
+}
+
+fn lesser_away(one: &Away, other: &Away) -> Away
+    ensures { result ≡ lesser_away one.now other.now }
+{
+    if other.0.cmp(&one.0).is_lt() {
+        *other
+    } else {
+        *one
+    }
 }

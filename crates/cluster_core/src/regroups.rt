@@ -71,7 +71,10 @@ fn may_split<S: Store + Drop>(
 ) -> bool
     ensures { (ranks : ℕ) → IsTrue result ↔ ((length (leaves_of tree.now.tree.covers ino.0) ≤ 4089) × IsIdle (sight_of tree.now grants.now ranks rank) (ino, frag)) }
 {
-    tree.dirs().leaf_count(ino) <= MOST_LEAVES && is_idle(tree, grants, rank, ino, frag)
+    if tree.dirs().leaf_count(ino) > MOST_LEAVES {
+        return false;
+    }
+    is_idle(tree, grants, rank, ino, frag)
 }
 
 // Whether each of the eight children of a fragment is idle.
@@ -106,5 +109,11 @@ fn is_idle<S: Store + Drop>(
 ) -> bool
     ensures { (ranks : ℕ) → IsTrue result ↔ IsIdle (sight_of tree.now grants.now ranks rank) (ino, frag) }
 {
-    is_mine(tree, rank, ino, frag) && !tree.is_frozen(ino, frag) && !grants.is_pinned(ino, frag)
+    if !is_mine(tree, rank, ino, frag) {
+        return false;
+    }
+    if tree.is_frozen(ino, frag) {
+        return false;
+    }
+    !grants.is_pinned(ino, frag)
 }
