@@ -69,8 +69,8 @@ top_of_none roots top = same_map leaf-total leaf-exact roots new_roots at
       | inr apart ↦ other leaf apart (map.get roots leaf) refl ∙ sym (get_beside map.empty root_leaf (record { 0 = 0 }) leaf apart ∙ get-empty leaf_cmp leaf)
     ]
 
-module _ (objects : Objects) (ranks places : ℕ) (some : 0 < ranks) (tree : Tree) (c : Core) (roots : Roots) (sound : IsSoundCore c) (top : AreTopRoots c.covers roots) where
-  walked_held : IsMounted objects ranks places tree c → AreHeld (state_of c) c.caches roots
+module _ (limit : ℕ) (objects : Objects) (ranks places : ℕ) (some : 0 < ranks) (tree : Tree) (c : Core) (roots : Roots) (sound : IsSoundCore c) (top : AreTopRoots c.covers roots) where
+  walked_held : IsMounted limit objects ranks places tree c → AreHeld (state_of c) c.caches roots
   walked_held m = record {
     cached = none;
     placed = placed_at (state_of c) c.caches roots c.kept (record { only = sound.kept; coming = sound.coming }) none;
@@ -83,13 +83,13 @@ module _ (objects : Objects) (ranks places : ℕ) (some : 0 < ranks) (tree : Tre
       none : (leaf : Leaf) (a : At) → map.get c.caches.held leaf ≡ Some a → Rules (state_of c) roots leaf (record { 0 = a.rank })
       none leaf a is = let clash : None ≡ Some a = sym (ap (λ (cs : CacheMap). map.get cs.held leaf) m.caches ∙ get-empty leaf_cmp leaf) ∙ is in absurd cc
 
-  made_held : IsNew ranks places tree c → AreHeld (state_of c) c.caches roots
-  made_held new = new_are_held c roots ranks places some new.state new.caches (top_of_none roots (subst (λ (cs : Covers). AreTopRoots cs roots) (ap (λ (s : State). s.covers) new.state) top))
+  made_held : IsNew limit ranks places tree c → AreHeld (state_of c) c.caches roots
+  made_held new = new_are_held c roots limit ranks places some new.state new.caches (top_of_none roots (subst (λ (cs : Covers). AreTopRoots cs roots) (ap (λ (s : State). s.covers) new.state) top))
 
   -- a mounted tree with its roots
-  pub mounted_owned : Mounts objects ranks places tree c → IsOwned c roots
+  pub mounted_owned : Mounts limit objects ranks places tree c → IsOwned c roots
   mounted_owned m = record { sound = sound; valid = top_are_roots (state_of c) roots top; held = held m }
     where
-      held : Mounts objects ranks places tree c → AreHeld (state_of c) c.caches roots
+      held : Mounts limit objects ranks places tree c → AreHeld (state_of c) c.caches roots
       held (inl new) = made_held new.1
       held (inr walked) = walked_held walked.1

@@ -33,8 +33,8 @@ one_root leaf some = elim (same_or_apart leaf root_leaf) [
   | inr apart ↦ absurd (let none = get_beside map.empty root_leaf (record { 0 = 0 }) leaf apart ∙ get-empty _ leaf in let clash = sym (ap is_some none) ∙ some in cc)
 ]
 
-pub new_are_roots : AreRoots new_state new_roots
-new_are_roots = record {
+pub new_are_roots : (limit : ℕ) → AreRoots (new_state limit) new_roots
+new_are_roots limit = record {
   top = λ f has. ap is_some (ap (map.get new_roots) (live_root (record { 0 = 1 }, f) (record { known = refl; stands = has })) ∙ root_is);
   live = λ leaf some. subst (λ (l : Leaf). IsLive no_homes no_covers l) (sym (one_root leaf some)) root_live;
 }
@@ -44,8 +44,8 @@ new_are_roots = record {
 abbrev first_rank : Rank
 first_rank = record { 0 = 0 }
 
-root_rules : Rules new_state new_roots root_leaf first_rank
-root_rules = record { root = root_leaf; nearest = itself root_leaf first_rank root_is; ranked = root_is }
+root_rules : (limit : ℕ) → Rules (new_state limit) new_roots root_leaf first_rank
+root_rules limit = record { root = root_leaf; nearest = itself root_leaf first_rank root_is; ranked = root_is }
 
 -- nothing but the root's leaf is cached
 only_cached : (ranks places : ℕ) (leaf : Leaf) (a : At) → map.get (new_caches ranks places).held leaf ≡ Some a → (leaf ≡ root_leaf) × (a.rank ≡ 0)
@@ -55,9 +55,9 @@ only_cached ranks places leaf a is = go (leaf_is leaf root_leaf) refl (sym (get_
     go true one h = (one_leaf leaf root_leaf one, sym (ap (λ (k : At). k.rank) (same_Some (at 0 cached_root) a h)))
     go false apart h = let clash : None ≡ Some a = sym (get-empty _ leaf) ∙ h in absurd cc
 
-pub new_are_held : (core : Core) (roots : Roots) (ranks places : ℕ) → 0 < ranks → state_of core ≡ new_state → core.caches ≡ new_caches ranks places → roots ≡ new_roots → AreHeld (state_of core) core.caches roots
-new_are_held core roots ranks places some state caches is =
-    subst (λ (s : State). AreHeld s core.caches roots) (sym state) (subst (λ (cs : CacheMap). AreHeld new_state cs roots) (sym caches) (subst (λ (r : Roots). AreHeld new_state (new_caches ranks places) r) (sym is) here))
+pub new_are_held : (core : Core) (roots : Roots) (limit ranks places : ℕ) → 0 < ranks → state_of core ≡ new_state limit → core.caches ≡ new_caches ranks places → roots ≡ new_roots → AreHeld (state_of core) core.caches roots
+new_are_held core roots limit ranks places some state caches is =
+    subst (λ (s : State). AreHeld s core.caches roots) (sym state) (subst (λ (cs : CacheMap). AreHeld (new_state limit) cs roots) (sym caches) (subst (λ (r : Roots). AreHeld (new_state limit) (new_caches ranks places) r) (sym is) here))
   where
     many : length (new_caches ranks places).used ≡ ranks
     many = ranks_with_frag (no_caches ranks places) 0 root_leaf cached_root ∙ length-replicate ranks []
@@ -65,12 +65,12 @@ new_are_held core roots ranks places some state caches is =
     only : (leaf : Leaf) (rank : Rank) → map.get new_roots leaf ≡ Some rank → rank ≡ first_rank
     only leaf rank has = one_value (map.get new_roots root_leaf) rank first_rank (ap (map.get new_roots) (sym (one_root leaf (ap is_some has))) ∙ has) root_is
 
-    its : (leaf : Leaf) (a : At) → map.get (new_caches ranks places).held leaf ≡ Some a → Rules new_state new_roots leaf (record { 0 = a.rank })
-    its leaf a has = let w = only_cached ranks places leaf a has in subst (λ (n : ℕ). Rules new_state new_roots leaf (record { 0 = n })) (sym w.1) (subst (λ (l : Leaf). Rules new_state new_roots l first_rank) (sym w.0) root_rules)
+    its : (leaf : Leaf) (a : At) → map.get (new_caches ranks places).held leaf ≡ Some a → Rules (new_state limit) new_roots leaf (record { 0 = a.rank })
+    its leaf a has = let w = only_cached ranks places leaf a has in subst (λ (n : ℕ). Rules (new_state limit) new_roots leaf (record { 0 = n })) (sym w.1) (subst (λ (l : Leaf). Rules (new_state limit) new_roots l first_rank) (sym w.0) (root_rules limit))
 
-    here : AreHeld new_state (new_caches ranks places) new_roots
+    here : AreHeld (new_state limit) (new_caches ranks places) new_roots
     here = record {
       cached = its;
-      placed = placed_at new_state (new_caches ranks places) new_roots None (none_places None (new_caches ranks places) (new_none ranks places)) its;
+      placed = placed_at (new_state limit) (new_caches ranks places) new_roots None (none_places None (new_caches ranks places) (new_none ranks places)) its;
       ranks = λ leaf rank has. subst (λ (r : Rank). r.0 < length (new_caches ranks places).used) (sym (only leaf rank has)) (subst (λ (n : ℕ). 0 < n) (sym many) some);
     }

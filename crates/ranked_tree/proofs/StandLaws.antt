@@ -28,7 +28,7 @@ use Rattle.namespace_ops.proofs.Shapes.Shape.{add, move, remove, set}
 use Rattle.namespace_ops.specs.declared.plans.Change.{Change}
 use Rattle.subtree_map.specs.Authority.{HasAuthority, Leaf, Roots}
 use Rattle.subtree_map.specs.Changes.{HaveOneAuthority, Subtrees}
-use Rattle.mdcache.specs.Changes.{Makes, with_directory, without, without_leaves}
+use Rattle.mdcache.specs.Changes.{Alters, Makes, with_directory, without, without_leaves}
 use Rattle.mdcache.specs.Commits.{Begins, BeginsWith, Drops, Ends, leaf_of}
 use Rattle.mdcache.specs.Core.{Core, state_of}
 use Rattle.mdcache.specs.Shown.{shown_tree}
@@ -69,7 +69,7 @@ jobs_kept s None leaf job is = is
 jobs_kept s (Some dir) leaf job is = jobs_without s.jobs (leaves s.covers dir.0) leaf job is
 
 -- a change begins none
-by_shape : (change : Change) → Shape change → (old new : TreeState) → Makes change old new → FewerJobs old new
+by_shape : (change : Change) → Shape change → (old new : TreeState) → Alters change old new → FewerJobs old new
 by_shape _ (set spot inode) old new makes = same_jobs old new (ap (λ (s : TreeState). s.jobs) makes.2 ∙ ap (λ (s : TreeState). s.jobs) makes.1.left)
 by_shape _ (add spot inode) old new makes = same_jobs old new (ap (λ (s : TreeState). s.jobs) makes.2 ∙ go (is_dir_kind inode.kind) ∙ ap (λ (s : TreeState). s.jobs) makes.1.left)
   where
@@ -83,7 +83,8 @@ by_shape _ (move from to inode went) old new (left, is_left, (named, is_named, i
     (jobs_kept _ went leaf job (ap (λ (s : TreeState). map.get s.jobs leaf) (sym is) ∙ stands))
 
 pub change_jobs : (change : Change) (old new : TreeState) → MayChange (shown_tree old) old.covers change → Makes change old new → FewerJobs old new
-change_jobs change old new may makes = by_shape change (shape_of (shown_tree old) old.covers change may) old new makes
+change_jobs change old new may makes leaf job is =
+    by_shape change (shape_of (shown_tree old) old.covers change may) old makes.0 makes.1 leaf job (ap (λ (s : TreeState). map.get s.jobs leaf) (sym makes.2) ∙ is)
 
 -- the leaf of a job is live
 job_live : (s : TreeState) → IsSound s → (leaf : Leaf) (job : Job) → map.get s.jobs leaf ≡ Some job → IsLive s.homes s.covers leaf

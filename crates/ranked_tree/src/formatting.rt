@@ -9,7 +9,7 @@ ghost use Rattle.ranked_tree.specs.Ranked.{new_roots};
 use crate::ranked_tree::RankedTree;
 use crate::regions::Regions;
 use mdcache::MdCache;
-use mds_types::{Frag, Ino, Rank, Refusal};
+use mds_types::{Frag, Ino, Limit, Rank, Refusal};
 use objstore::Store;
 use std::alloc::{AllocError, Global};
 use subtree_map::Subtrees;
@@ -22,12 +22,13 @@ impl<S: Store + Drop> RankedTree<S> {
         store: S,
         ranks: u8,
         places: usize,
+        limit: Limit,
     ) -> Result<RankedTree<S>, (Refusal, S)>
         requires some { 0 < ranks }
         requires few { 512 ≤ places }
         requires many { places ≤ 65536 }
         ensures empty { OnOk result (S.objects store ≡ map.empty) }
-        ensures state { IfOk result (λ t. state_of t.tree ≡ new_state) }
+        ensures state { IfOk result (λ t. state_of t.tree ≡ new_state limit) }
         ensures roots { IfOk result (λ t. t.subtrees.roots ≡ new_roots) }
         ensures exports { IfOk result (λ t. t.exports ≡ map.empty) }
         ensures caches { IfOk result (λ t. t.tree.caches ≡ new_caches ranks places) }
@@ -38,7 +39,7 @@ impl<S: Store + Drop> RankedTree<S> {
     {
         match first_roots(alloc, ranks) {
             Err(_) => Err((Refusal::NoMemory, store)),
-            Ok(roots) => match MdCache::format(alloc, store, ranks, places) {
+            Ok(roots) => match MdCache::format(alloc, store, ranks, places, limit) {
                 Ok(tree) => Ok(RankedTree {
                     tree,
                     regions: Regions::new(alloc, roots),

@@ -120,6 +120,10 @@ impl<S: Store + Drop> Frags for RankedTree<S> {
         self.tree.is_above(dir, below)
     }
 
+    fn count(&self, dir: Ino) -> u64 {
+        self.tree.count(dir)
+    }
+
     fn locate(&self, rank: Rank, dir: Ino, hash: u32) -> Option<Dirfrag> {
         locate(&self.tree, &self.regions, rank, dir, hash)
     }

@@ -12,7 +12,7 @@ use crate::ranked_tree::RankedTree;
 use crate::regions::Regions;
 use inode_table::Dirs;
 use mdcache::{MdCache, Opening};
-use mds_types::{Ino, Rank, Refusal};
+use mds_types::{Ino, Limit, Rank, Refusal};
 use objstore::Store;
 use std::alloc::{AllocError, Global};
 use subtree_map::Subtrees;
@@ -25,12 +25,13 @@ impl<S: Store + Drop> RankedTree<S> {
         store: S,
         ranks: u8,
         places: usize,
+        limit: Limit,
     ) -> Result<(RankedTree<S>, Opening), (Refusal, S)>
         requires some { 0 < ranks }
         requires ranked { ranks ≤ 16 }
         requires few { 512 ≤ places }
         requires many { places ≤ 65536 }
-        ensures mounted { IfOk result (λ m. Mounts (S.objects store) ranks places (contents dentry_cmp m.1.entries) m.0.tree) }
+        ensures mounted { IfOk result (λ m. Mounts limit (S.objects store) ranks places (contents dentry_cmp m.1.entries) m.0.tree) }
         ensures cold { IfOk result (λ m. IsColdTree (S.objects store) (shown_in m.0.tree)) }
         ensures opening { IfOk result (λ m. contents dentry_cmp m.1.entries ≡ shown_in m.0.tree) }
         ensures numbers { IfOk result (λ m. AreNumbers (shown_in m.0.tree) ranks m.1.numbers.items) }
@@ -41,7 +42,7 @@ impl<S: Store + Drop> RankedTree<S> {
         ensures left { IfErr result (λ back. S.objects back.1 ≡ S.objects store) }
         ensures counted { IfErr result (λ back. S.faults back.1 ≡ S.faults store + faults_in back.0) }
     {
-        match MdCache::mount(alloc, store, ranks, places) {
+        match MdCache::mount(alloc, store, ranks, places, limit) {
             Err(back) => Err(back),
             Ok((tree, opening)) => match top_roots(alloc, ranks, tree.dirs()) {
                 Ok(roots) => {

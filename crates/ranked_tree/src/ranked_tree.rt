@@ -4,6 +4,7 @@ ghost use Rattle.std.specs.Prelude.{◌≡◌};
 use crate::regions::Regions;
 use export_steps::Exports;
 use mdcache::MdCache;
+use mds_types::Limit;
 use objstore::Store;
 use std::alloc::Global;
 use std::marker::Model;
@@ -38,6 +39,13 @@ impl<S: Store + Drop> Model for RankedTree<S> {
 }
 
 impl<S: Store + Drop> RankedTree<S> {
+    /// How many entries a directory may have.
+    pub fn limit(&self) -> Limit
+        ensures { result ≡ self.now.tree.limit }
+    {
+        self.tree.limit()
+    }
+
     /// The subtree roots with their ranks, to read.
     pub fn roots(&self) -> &Subtrees
         ensures { result.now ≡ self.now.subtrees }

@@ -12,6 +12,6 @@ use Rattle.ranked_tree.proofs.ranked_tree.RankedTree.format.Goals as goal
 pub invariant_of-result : goal.invariant_of-result
 invariant_of-result g c = stand_none c.in-Ok-format.tree c.new.result c.new.ensures.exports (subst (IsOwned c.in-Ok-format.tree) (ap (λ (s : Subtrees). s.roots) (sym c.new.ensures.roots)) (record {
   sound = c.in-Ok-format.ensures.sound;
-  valid = subst (AreRoots (state_of c.in-Ok-format.tree)) (sym c.in-Ok.ensures) (subst (λ (s : State). AreRoots s new_roots) (sym c.in-Ok-format.ensures.state) new_are_roots);
-  held = new_are_held c.in-Ok-format.tree c.in-Ok.roots.roots c.args.ranks c.args.places c.requires.some c.in-Ok-format.ensures.state c.in-Ok-format.ensures.caches c.in-Ok.ensures;
+  valid = subst (AreRoots (state_of c.in-Ok-format.tree)) (sym c.in-Ok.ensures) (subst (λ (s : State). AreRoots s new_roots) (sym c.in-Ok-format.ensures.state) (new_are_roots c.args.limit));
+  held = new_are_held c.in-Ok-format.tree c.in-Ok.roots.roots c.args.limit c.args.ranks c.args.places c.requires.some c.in-Ok-format.ensures.state c.in-Ok-format.ensures.caches c.in-Ok.ensures;
 }))
