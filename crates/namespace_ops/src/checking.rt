@@ -77,7 +77,7 @@ fn check_any<F: Frags>(
         } => {
             let new = New::file(number, *mode, *birth);
             make(frags, limit, op, dentry, &at, new)
-        },
+        }
         Op::Mkdir {
             dentry,
             mode,
@@ -85,7 +85,7 @@ fn check_any<F: Frags>(
         } => {
             let new = New::directory(number, *mode, *birth);
             make(frags, limit, op, dentry, &at, new)
-        },
+        }
         Op::Symlink {
             dentry,
             target,

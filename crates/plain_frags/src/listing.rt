@@ -45,6 +45,7 @@ fn copy_of(row: &(Dentry, Inode)) -> Result<(Name, Inode), AllocError>
 pub fn count_rows(mut rows: Iter<'_, Dentry, Inode>, dir: Ino) -> usize
     ensures { result ≡ length (run dir.0 rows.entry) }
 {
+    // no count is larger, so it fits a word
     let most = rows.len();
     let mut count = 0;
     while let Some(_row) = next_in(&mut rows, dir) {
