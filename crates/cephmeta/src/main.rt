@@ -24,11 +24,13 @@ fn main(rt: HostRuntime) -> io::Result<ExitCode> {
         Err(_) => return no_memory_for_words(&rt),
     };
     match settings(rt.alloc(), words.as_slice()) {
-        Ok(Options::Script {
-            ranks,
-            cache,
-            limit,
-        }) => script(&rt, rt.reader(), ranks, cache, limit),
+        Ok(
+            Options::Script {
+                ranks,
+                cache,
+                limit,
+            },
+        ) => script(&rt, rt.reader(), ranks, cache, limit),
         Ok(Options::Serve(load)) => {
             let is_watched = rt.stderr().is_terminal();
             served(&rt, serve(&rt, &mut io::writer(&rt), load, is_watched))

@@ -29,8 +29,11 @@ still_refused old mid new op Touch limit supply reason kept is touch refused = g
     go : LacksNumber (step limit (shown_tree (tree_state mid.tree)) op (number_or (offer supply))) (offer supply) reason ⊎ ((reason ≡ NoMemory) ⊎ MayRefuse mid new op reason)
         → IsUnready Touch (MayRefuse old new op) (step old.tree.limit (shown_tree (tree_state old.tree)) op (number_or (offer supply))) (offer supply) reason
     go (inl lacks) =
-        inr (inr (touch, inl (subst (λ (l : ℕ). LacksNumber (step l (shown_tree (tree_state old.tree)) op (number_or (offer supply))) (offer supply) reason) is
-        (subst (λ (s : State). LacksNumber (step limit (shown_tree s) op (number_or (offer supply))) (offer supply) reason) kept.tree.state lacks))))
+        inr (inr (
+          touch,
+          inl (subst (λ (l : ℕ). LacksNumber (step l (shown_tree (tree_state old.tree)) op (number_or (offer supply))) (offer supply) reason) is
+              (subst (λ (s : State). LacksNumber (step limit (shown_tree s) op (number_or (offer supply))) (offer supply) reason) kept.tree.state lacks)),
+        ))
     go (inr (inl memory)) = inl memory
     go (inr (inr may)) = inr (inr (touch, inr (ranked_later old mid new op reason kept may)))
 
