@@ -45,11 +45,11 @@ module _ (old new : Core) (rank : Rank) (leaf : Leaf) (may : MayHold old.caches 
       (λ r q is. subst (λ k. HasFragment old.caches k q) (sym is.0) (subst (HasFragment old.caches rank.0) (sym is.1) (has_fragment old.caches rank leaf may dirty))) (λ r q ends. ends) old.caches new.caches came
 
   -- what leaves all of the state but what isn't clean, objects, jobs and their numbers
-  keeps : new.homes ≡ old.homes → new.covers ≡ old.covers → shown_tree (state_of new) ≡ shown_tree (state_of old) → new.next_generation ≡ old.next_generation → new.next_version ≡ old.next_version → KeepsTree old new
-  keeps homes covers tree generation version = record { homes = homes; covers = covers; tree = tree; generation = generation; version = version; caches = came_there }
+  keeps : new.limit ≡ old.limit → new.homes ≡ old.homes → new.covers ≡ old.covers → new.counts ≡ old.counts → new.pins ≡ old.pins → shown_tree (state_of new) ≡ shown_tree (state_of old) → new.next_generation ≡ old.next_generation → new.next_version ≡ old.next_version → KeepsTree old new
+  keeps limit homes covers counts pins tree generation version = record { limit = limit; homes = homes; covers = covers; counts = counts; pins = pins; tree = tree; generation = generation; version = version; caches = came_there }
 
   keeps_all : state_of new ≡ state_of old → KeepsTree old new
-  keeps_all same = keeps (ap (λ (s : State). s.homes) same) (ap (λ (s : State). s.covers) same) (ap shown_tree same) (ap (λ (s : State). s.next_generation) same) (ap (λ (s : State). s.next_version) same)
+  keeps_all same = keeps (ap (λ (s : State). s.limit) same) (ap (λ (s : State). s.homes) same) (ap (λ (s : State). s.covers) same) (ap (λ (s : State). s.counts) same) (ap (λ (s : State). s.pins) same) (ap shown_tree same) (ap (λ (s : State). s.next_generation) same) (ap (λ (s : State). s.next_version) same)
 
   -- a commit begins, or doesn't
   pub begin_keeps : (job : Job) → Begins (state_of old) (state_of new) leaf (Ok (Some job)) → KeepsTree old new
@@ -57,7 +57,7 @@ module _ (old new : Core) (rank : Rank) (leaf : Leaf) (may : MayHold old.caches 
     where
       go : (o : Option Unsaved) → BeginsWith (state_of old) (state_of new) leaf o (Some job) → KeepsTree old new
       go None (none, same) = let clash : Some job ≡ None = none in absurd cc
-      go (Some u) (is, lacks, left) = keeps (ap (λ (s : State). s.homes) left) (ap (λ (s : State). s.covers) left) (ap shown_tree left) (ap (λ (s : State). s.next_generation) left) (ap (λ (s : State). s.next_version) left)
+      go (Some u) (is, lacks, left) = keeps (ap (λ (s : State). s.limit) left) (ap (λ (s : State). s.homes) left) (ap (λ (s : State). s.covers) left) (ap (λ (s : State). s.counts) left) (ap (λ (s : State). s.pins) left) (ap shown_tree left) (ap (λ (s : State). s.next_generation) left) (ap (λ (s : State). s.next_version) left)
 
   pub begins_some : Begins (state_of old) (state_of new) leaf (Ok None) → ⊥
   begins_some begun = go (map.get (unclean old.caches) leaf) refl begun.2
@@ -71,7 +71,7 @@ module _ (old new : Core) (rank : Rank) (leaf : Leaf) (may : MayHold old.caches 
 
   -- a commit ends, or doesn't
   end_keeps : (job : Job) → IsEnded (state_of old) (state_of new) job → KeepsTree old new
-  end_keeps job ended = keeps (ap (λ (s : State). s.homes) ended.left) (ap (λ (s : State). s.covers) ended.left) ended.tree (ap (λ (s : State). s.next_generation) ended.left) (ap (λ (s : State). s.next_version) ended.left)
+  end_keeps job ended = keeps (ap (λ (s : State). s.limit) ended.left) (ap (λ (s : State). s.homes) ended.left) (ap (λ (s : State). s.covers) ended.left) (ap (λ (s : State). s.counts) ended.left) (ap (λ (s : State). s.pins) ended.left) ended.tree (ap (λ (s : State). s.next_generation) ended.left) (ap (λ (s : State). s.next_version) ended.left)
 
   pub ends_keeps : (before after : ℕ) (job : Job) (result : Result (Unit {0}) Refusal) → Ends (state_of old) (state_of new) before after job result → KeepsTree old new
   ends_keeps before after job (Ok done) ended = end_keeps job ended

@@ -1,6 +1,7 @@
 -- The four changes are right.
 use Rattle.std.proofs.Common.{◌≡◌, ◌⊎◌, inl, inr, ℕ, zero, suc, ◌<◌, ◌^◌, Bool, true, false, cond, List, [], ◌∷◌, Option, Some, None, refl, sym, ap, subst, ◌∙◌, arith}
-use Rattle.std.specs.Prelude.{map as each}
+use Rattle.std.specs.Prelude.{is_some, map as each}
+use Rattle.std.specs.Ordering.{nat_cmp}
 use Rattle.std.specs.List.{Contains}
 use Rattle.std.specs.FinMap as map
 use Rattle.mds_types.specs.declared.ids.Ino.{Ino}
@@ -14,24 +15,27 @@ use Rattle.mds_types.proofs.DirectoryLaws.{entry_stands}
 use Rattle.mds_types.proofs.EntryLaws.{stands_after_removal}
 use Rattle.dentry_cache.specs.Cache.{Leaf, leaf_is}
 use Rattle.dentry_cache.proofs.LeafLaws.{leaf_or_apart}
-use Rattle.inode_table.specs.Dirs.{Covers, Homes, IsTable, MayCome, MayGo, MayMove as MayRelocate, is_known, leaves_of}
-use Rattle.inode_table.specs.TreeChanges.{MayRemove}
-use Rattle.inode_table.specs.TreeTable.{IsTabled, home_at, with_home, without_cover, without_home}
+use Rattle.inode_table.specs.Dirs.{Counts, Covers, DirPins, Homes, IsTable, one_less, MayCome, MayGo, MayMove as MayRelocate, is_known, leaves_of}
+use Rattle.inode_table.specs.TreeTable.{IsCounted, IsTabled, counts_moved, home_at, with_home, without_cover, without_home, without_row}
 use Rattle.inode_table.proofs.TableLaws.{added_tabled, dir_or_not, known_is, leaves_kept, may_come, may_drop, nothing_in, removed_tabled, set_tabled, with_dir, with_file}
+use Rattle.inode_table.proofs.NotedLaws.{added_counted, moved_counted, removed_counted, set_counted}
 use Rattle.inode_table.proofs.MoveLaws.{may_relocate, may_replace, moved_tabled, replaced_empty}
 use Rattle.fragtree.specs.FragTree.{HasLeaf}
 use Rattle.fragtree.proofs.TreeLaws.{first_or_later}
-use Rattle.namespace_ops.specs.Changes.{IsLeafAt, MayChange, adds, dentry_at, directory_at, fragments_of, in_directory, leaves, leaves_gone, moves, removes, sets}
+use Rattle.namespace_ops.specs.Changes.{IsLeafAt, MayChange, adds, changed, dentry_at, directory_at, fragments_of, in_directory, leaves, leaves_gone, moves, removes, sets}
 use Rattle.namespace_ops.specs.declared.plans.Spot.{Spot}
 use Rattle.namespace_ops.specs.declared.plans.Change.{Change}
-use Rattle.mdcache.specs.Changes.{IsNamed, Makes, with_directory, with_home_at, without, without_directory}
+use Rattle.namespace_ops.specs.Kept.{ChangesOnly}
+use Rattle.mdcache.specs.Going.{rows_but}
+use Rattle.mdcache.specs.Changes.{Alters, IsNamed, Makes, noted, with_directory, with_home_at, without, without_directory}
 use Rattle.namespace_ops.proofs.Shapes.{Shape, shape_of}
 use Rattle.namespace_ops.proofs.Shapes.Shape.{add, move, remove, set}
-use Rattle.mdcache.specs.Made.{ChangesAreRight, HasNumber, IsRight, StaysAsItIs}
+use Rattle.inode_table.specs.TreeChanges.{KeepLeaves, MayRemove}
+use Rattle.mdcache.specs.Made.{ChangesAreRight, HasNumber, IsRight, IsUntouched, StaysAsItIs}
 use Rattle.mdcache.specs.Shown.{shown_tree}
 use Rattle.mdcache.specs.Sound.{IsSound}
 use Rattle.mdcache.specs.State.{IsLive, State}
-use Rattle.mdcache.proofs.NamedLaws.{HasSoundLeaves, named_leaves, named_tree, shows_beside, sound_again, sound_leaves, with_at}
+use Rattle.mdcache.proofs.NamedLaws.{HasSoundLeaves, named_leaves, named_tree, recounted_leaves, shows_beside, sound_again, sound_leaves, with_at}
 use Rattle.mdcache.proofs.HomeLaws.{grown_leaves, grown_live, grown_names, grown_tree, moved_home, moved_known, rehomed_leaves, rehomed_live, rehomed_tree}
 use Rattle.mdcache.proofs.GoneLaws.{left_leaves, left_live, left_names, left_tree}
 
@@ -86,13 +90,42 @@ entry_known s dentry inode sound stands = dir_known s dentry sound (sound.tabled
 tabled_as : (old new : Tree) (homes now : Homes) → new ≡ old → now ≡ homes → IsTabled old homes → IsTabled new now
 tabled_as old new homes now tree same tabled = subst (λ (h : Homes). IsTabled new h) (sym same) (subst (λ (t : Tree). IsTabled t homes) (sym tree) tabled)
 
+-- ---- counts and pins
+
+-- all that a change makes right but the counts and the pins
+record IsAltered (change : Change) (old new : State) : Type 0 where
+  sound : HasSoundLeaves new
+  tabled : IsTabled (shown_tree new) new.homes
+  tree : shown_tree new ≡ changed (shown_tree old) change
+  leaves : KeepLeaves (shown_tree new) old.covers new.covers
+  frame : ChangesOnly (IsUntouched old new) (fragments_of old.covers change)
+
+-- and then all
+noted_right : (change : Change) (old new : State) (counts : Counts) (pins : DirPins) → IsAltered change old new → IsCounted (changed (shown_tree old) change) counts pins → IsRight change old (record new { counts = counts; pins = pins })
+noted_right change old new counts pins altered counted = record {
+  sound = sound_again (record new { counts = counts; pins = pins }) (recounted_leaves new counts pins altered.sound) altered.tabled (subst (λ (t : Tree). IsCounted t counts pins) (sym altered.tree) counted);
+  tree = altered.tree;
+  leaves = altered.leaves;
+  frame = λ leaf none live. let still = altered.frame leaf none live in record { live = still.live; names = still.names };
+}
+
+-- rows of directories without that of a directory that went
+row_gone : {X : Type 0} (rows : map.FinMap nat_cmp X) (found : Option Inode) → rows_but rows (directory_at found) ≡ without_row rows found
+row_gone rows None = refl
+row_gone rows (Some inode) = go (is_dir_kind inode.kind)
+  where
+    go : (b : Bool) → rows_but rows (cond b (Some inode.ino) None) ≡ cond b (map.remove rows inode.ino.0) rows
+    go true = refl
+    go false = refl
+
 -- ---- other attributes
 
-set_right : (spot : Spot) (inode : Inode) (old new : State) → IsSound old → MayChange (shown_tree old) old.covers (sets spot inode) → Makes (sets spot inode) old new → IsRight (sets spot inode) old new
-set_right spot inode old new sound may makes =
+set_altered : (spot : Spot) (inode : Inode) (old new : State) → IsSound old → MayChange (shown_tree old) old.covers (sets spot inode) → Alters (sets spot inode) old new → IsAltered (sets spot inode) old new
+set_altered spot inode old new sound may makes =
     let so = named_so old makes.0 (dentry_at spot) spot.at.frag (Some inode) (sound_leaves old sound) (entry_known old (dentry_at spot) may.takes.before sound may.takes.stands) may.carries.put makes.1 in
-    subst (IsRight (sets spot inode) old) (sym makes.2) (record {
-      sound = sound_again makes.0 so.leaves (tabled_as (map.insert (shown_tree old) (dentry_at spot) inode) (shown_tree makes.0) old.homes makes.0.homes so.tree so.homes (set_tabled (shown_tree old) old.homes (dentry_at spot) inode sound.tabled may.takes));
+    subst (IsAltered (sets spot inode) old) (sym makes.2) (record {
+      sound = so.leaves;
+      tabled = (tabled_as (map.insert (shown_tree old) (dentry_at spot) inode) (shown_tree makes.0) old.homes makes.0.homes so.tree so.homes (set_tabled (shown_tree old) old.homes (dentry_at spot) inode sound.tabled may.takes));
       tree = so.tree;
       leaves = λ d is. ap (λ (c : Covers). leaves_of c d) so.covers;
       frame = λ leaf none live. so.stays leaf (not_first leaf (leaf_of spot.at) [] none) live;
@@ -105,17 +138,19 @@ module _ (spot : Spot) (inode : Inode) (old named : State) (sound : IsSound old)
   grown_tabled : IsTabled (map.insert (shown_tree old) (dentry_at spot) inode) (with_home old.homes (dentry_at spot) inode)
   grown_tabled = added_tabled (shown_tree old) old.homes (dentry_at spot) inode sound.tabled may.takes
 
-  added_file : is_dir_kind inode.kind ≡ false → IsRight (adds spot inode) old named
+  added_file : is_dir_kind inode.kind ≡ false → IsAltered (adds spot inode) old named
   added_file kinded = record {
-    sound = sound_again named so.leaves (tabled_as (map.insert (shown_tree old) (dentry_at spot) inode) (shown_tree named) (with_home old.homes (dentry_at spot) inode) named.homes so.tree (so.homes ∙ sym (with_file old.homes (dentry_at spot) inode kinded)) grown_tabled);
+    sound = so.leaves;
+    tabled = tabled_as (map.insert (shown_tree old) (dentry_at spot) inode) (shown_tree named) (with_home old.homes (dentry_at spot) inode) named.homes so.tree (so.homes ∙ sym (with_file old.homes (dentry_at spot) inode kinded)) grown_tabled;
     tree = so.tree;
     leaves = λ d is. ap (λ (c : Covers). leaves_of c d) so.covers;
     frame = λ leaf none live. so.stays leaf (not_first leaf (leaf_of spot.at) [] none) live;
   }
 
-  added_dir : is_dir_kind inode.kind ≡ true → IsRight (adds spot inode) old (with_directory named (dentry_at spot) inode.ino)
+  added_dir : is_dir_kind inode.kind ≡ true → IsAltered (adds spot inode) old (with_directory named (dentry_at spot) inode.ino)
   added_dir kinded = record {
-    sound = sound_again grown (grown_leaves named so.leaves (dentry_at spot) inode.ino come fits) (tabled_as (map.insert (shown_tree old) (dentry_at spot) inode) (shown_tree grown) (with_home old.homes (dentry_at spot) inode) grown.homes tree homes grown_tabled);
+    sound = grown_leaves named so.leaves (dentry_at spot) inode.ino come fits;
+    tabled = tabled_as (map.insert (shown_tree old) (dentry_at spot) inode) (shown_tree grown) (with_home old.homes (dentry_at spot) inode) grown.homes tree homes grown_tabled;
     tree = tree;
     leaves = λ d is. ap (λ (c : Covers). leaves_of c d) so.covers;
     frame = λ leaf none live.
@@ -135,9 +170,9 @@ module _ (spot : Spot) (inode : Inode) (old named : State) (sound : IsSound old)
       homes : grown.homes ≡ with_home old.homes (dentry_at spot) inode
       homes = ap (λ (h : Homes). map.insert h inode.ino.0 (home_at (dentry_at spot))) so.homes ∙ sym (with_dir old.homes (dentry_at spot) inode kinded)
 
-add_right : (spot : Spot) (inode : Inode) (old new : State) → IsSound old → inode.ino.0 < 2 ^ 64 → MayChange (shown_tree old) old.covers (adds spot inode) → Makes (adds spot inode) old new
-    → IsRight (adds spot inode) old new
-add_right spot inode old new sound fits may makes = go (dir_or_not inode)
+add_altered : (spot : Spot) (inode : Inode) (old new : State) → IsSound old → inode.ino.0 < 2 ^ 64 → MayChange (shown_tree old) old.covers (adds spot inode) → Alters (adds spot inode) old new
+    → IsAltered (adds spot inode) old new
+add_altered spot inode old new sound fits may makes = go (dir_or_not inode)
   where
     so : IsNamedSo old makes.0 (dentry_at spot) spot.at.frag (Some inode)
     so = named_so old makes.0 (dentry_at spot) spot.at.frag (Some inode) (sound_leaves old sound) (dir_known old (dentry_at spot) sound may.takes.parent) may.carries.put makes.1
@@ -145,9 +180,9 @@ add_right spot inode old new sound fits may makes = go (dir_or_not inode)
     is_with : (b : Bool) → is_dir_kind inode.kind ≡ b → new ≡ cond b (with_directory makes.0 (dentry_at spot) inode.ino) makes.0
     is_with b is = makes.2 ∙ ap (λ (c : Bool). cond c (with_directory makes.0 (dentry_at spot) inode.ino) makes.0) is
 
-    go : (is_dir_kind inode.kind ≡ true) ⊎ (is_dir_kind inode.kind ≡ false) → IsRight (adds spot inode) old new
-    go (inl kinded) = subst (IsRight (adds spot inode) old) (sym (is_with true kinded)) (added_dir spot inode old makes.0 sound fits may so kinded)
-    go (inr kinded) = subst (IsRight (adds spot inode) old) (sym (is_with false kinded)) (added_file spot inode old makes.0 sound fits may so kinded)
+    go : (is_dir_kind inode.kind ≡ true) ⊎ (is_dir_kind inode.kind ≡ false) → IsAltered (adds spot inode) old new
+    go (inl kinded) = subst (IsAltered (adds spot inode) old) (sym (is_with true kinded)) (added_dir spot inode old makes.0 sound fits may so kinded)
+    go (inr kinded) = subst (IsAltered (adds spot inode) old) (sym (is_with false kinded)) (added_file spot inode old makes.0 sound fits may so kinded)
 
 -- ---- what goes
 
@@ -220,9 +255,10 @@ stands_known s dentry inode sound stands kinded = known_is (shown_tree s) s.home
 removed_empty : (tree : Tree) (dentry : Dentry) → IsWellFormed tree → (may : MayRemove tree dentry) → NothingIn (map.remove tree dentry) may.inode.ino.0
 removed_empty tree dentry whole may q x stands same = nothing_in tree dentry may.inode whole may.stands may.empty q x (stands_after_removal tree dentry q x stands).1 same
 
-remove_right : (spot : Spot) (gone : Option Ino) (old new : State) → IsSound old → MayChange (shown_tree old) old.covers (removes spot gone) → Makes (removes spot gone) old new → IsRight (removes spot gone) old new
-remove_right spot gone old new sound may makes = record {
-  sound = sound_again new its.leaves (tabled_as (map.remove (shown_tree old) (dentry_at spot)) (shown_tree new) (without_home old.homes found) new.homes tree homes tabled);
+remove_altered : (spot : Spot) (gone : Option Ino) (old new : State) → IsSound old → MayChange (shown_tree old) old.covers (removes spot gone) → Alters (removes spot gone) old new → IsAltered (removes spot gone) old new
+remove_altered spot gone old new sound may makes = record {
+  sound = its.leaves;
+  tabled = tabled_as (map.remove (shown_tree old) (dentry_at spot)) (shown_tree new) (without_home old.homes found) new.homes tree homes tabled;
   tree = tree;
   leaves = leaves_kept (shown_tree old) (shown_tree new) new.homes old.homes old.covers new.covers (dentry_at spot) found (tabled_as (map.remove (shown_tree old) (dentry_at spot)) (shown_tree new) (without_home old.homes found) new.homes tree homes tabled)
       sound.tabled.whole refl homes covers;
@@ -270,7 +306,7 @@ remove_right spot gone old new sound may makes = record {
 -- ---- a move
 
 module _ (source target : Spot) (inode : Inode) (gone : Option Ino) (old new : State) (sound : IsSound old) (may : MayChange (shown_tree old) old.covers (moves source target inode gone))
-    (makes : Makes (moves source target inode gone) old new) where
+    (makes : Alters (moves source target inode gone) old new) where
   abbrev out : State
   out = makes.0
 
@@ -367,9 +403,10 @@ module _ (source target : Spot) (inode : Inode) (gone : Option Ino) (old new : S
       others : Contains (leaves_gone there.covers gone) leaf → ⊥
       others has = not_later leaf (leaf_of target.at) rest not_from (subst (λ (c : Covers). Contains (leaves_gone c gone) leaf) same_covers has)
 
-  move_right : IsRight (moves source target inode gone) old new
-  move_right = record {
-    sound = sound_again new its.leaves tabled_now;
+  move_altered : IsAltered (moves source target inode gone) old new
+  move_altered = record {
+    sound = its.leaves;
+    tabled = tabled_now;
     tree = tree_is;
     leaves = leaves_kept (shown_tree old) (shown_tree new) new.homes (with_home old.homes (dentry_at target) inode) old.covers new.covers (dentry_at target) found tabled_now sound.tabled.whole refl homes_are covers_are;
     frame = untouched;
@@ -377,11 +414,41 @@ module _ (source target : Spot) (inode : Inode) (gone : Option Ino) (old new : S
 
 -- ---- every change
 
-right_by : (change : Change) → Shape change → (old new : State) → IsSound old → HasNumber change → MayChange (shown_tree old) old.covers change → Makes change old new → IsRight change old new
-right_by _ (add spot inode) old new sound fits may makes = add_right spot inode old new sound (fits refl) may makes
-right_by _ (set spot inode) old new sound fits may makes = set_right spot inode old new sound may makes
-right_by _ (remove spot gone) old new sound fits may makes = remove_right spot gone old new sound may makes
-right_by _ (move from to inode gone) old new sound fits may makes = move_right from to inode gone old new sound may makes
+altered_by : (change : Change) → Shape change → (old new : State) → IsSound old → HasNumber change → MayChange (shown_tree old) old.covers change → Alters change old new → IsAltered change old new
+altered_by _ (add spot inode) old new sound fits may makes = add_altered spot inode old new sound (fits refl) may makes
+altered_by _ (set spot inode) old new sound fits may makes = set_altered spot inode old new sound may makes
+altered_by _ (remove spot went) old new sound fits may makes = remove_altered spot went old new sound may makes
+altered_by _ (move from to inode went) old new sound fits may makes = move_altered from to inode went old new sound may makes
+
+-- the counts and the pins that a change makes are those of the changed tree
+counted_by : (change : Change) → Shape change → (old new : State) → IsSound old → MayChange (shown_tree old) old.covers change → IsCounted (changed (shown_tree old) change) (noted old change new).counts (noted old change new).pins
+counted_by _ (add spot inode) old new sound may = added_counted (shown_tree old) old.homes sound.tabled old.counts old.pins sound.counted (dentry_at spot) inode may.takes
+counted_by _ (set spot inode) old new sound may = set_counted (shown_tree old) old.homes sound.tabled old.counts old.pins sound.counted (dentry_at spot) inode may.takes
+counted_by _ (remove spot went) old new sound may =
+    subst (λ (g : Option Ino). IsCounted (map.remove (shown_tree old) (dentry_at spot)) (rows_but (one_less old.counts spot.at.dir.0) g) (rows_but old.pins g)) (sym may.carries.gone)
+    (subst (λ (c : Counts). IsCounted (map.remove (shown_tree old) (dentry_at spot)) c (rows_but old.pins (directory_at found))) (sym (row_gone (one_less old.counts spot.at.dir.0) found))
+    (subst (IsCounted (map.remove (shown_tree old) (dentry_at spot)) (without_row (one_less old.counts spot.at.dir.0) found)) (sym (row_gone old.pins found))
+    (removed_counted (shown_tree old) old.homes sound.tabled old.counts old.pins sound.counted (dentry_at spot) found refl may.takes)))
+  where
+    found : Option Inode
+    found = map.get (shown_tree old) (dentry_at spot)
+counted_by _ (move from to inode went) old new sound may =
+    subst (λ (g : Option Ino). IsCounted tree (rows_but counts g) (rows_but old.pins g)) (sym may.carries.gone)
+    (subst (λ (c : Counts). IsCounted tree c (rows_but old.pins (directory_at found))) (sym (row_gone counts found))
+    (subst (IsCounted tree (without_row counts found)) (sym (row_gone old.pins found))
+    (moved_counted (shown_tree old) old.homes sound.tabled old.counts old.pins sound.counted (dentry_at from) (dentry_at to) inode may.takes)))
+  where
+    found : Option Inode
+    found = map.get (shown_tree old) (dentry_at to)
+
+    tree : Tree
+    tree = with_moved (shown_tree old) (dentry_at from) (dentry_at to) inode
+
+    counts : Counts
+    counts = counts_moved old.counts from.at.dir.0 to.at.dir.0 (is_some found)
 
 pub changes_are_right : ChangesAreRight
-changes_are_right change old new sound fits may makes = right_by change (shape_of (shown_tree old) old.covers change may) old new sound fits may makes
+changes_are_right change old new sound fits may makes =
+    let shape = shape_of (shown_tree old) old.covers change may in
+    subst (IsRight change old) (sym makes.2)
+    (noted_right change old makes.0 (noted old change makes.0).counts (noted old change makes.0).pins (altered_by change shape old makes.0 sound fits may makes.1) (counted_by change shape old makes.0 sound may))

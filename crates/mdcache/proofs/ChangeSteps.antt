@@ -30,11 +30,11 @@ use Rattle.dentry_cache.proofs.StepLaws.{get_given_up, get_with_frag, has_with_m
 use Rattle.dentry_cache.proofs.UncleanLaws.{unclean_alike, unclean_given_up}
 use Rattle.dentry_cache.proofs.WholeLaws.{none_given_up}
 use Rattle.inode_table.specs.declared.dirs.Home.{Home}
-use Rattle.inode_table.specs.Dirs.{Homes, leaves_of, or_whole}
+use Rattle.inode_table.specs.Dirs.{Counts, DirPins, Homes, leaves_of, or_whole}
 use Rattle.namespace_ops.specs.Changes.{leaves}
 use Rattle.mdcache.specs.Changes.{IsNamed, with_objects, without, without_leaves}
 use Rattle.mdcache.specs.Core.{AreCached, Core, IsCachedIn, IsSoundCore, Rooms, made_frag, named, state_of, with_dir, without_dir}
-use Rattle.mdcache.specs.Going.{IsGoingOrNone, dir_going, leaves_going, leaves_in, texts_going}
+use Rattle.mdcache.specs.Going.{IsGoingOrNone, dir_going, leaves_going, leaves_in, rows_but, texts_going}
 use Rattle.mdcache.specs.Ranks.{KeepsOnlyAt}
 use Rattle.mdcache.specs.Sound.{IsSound}
 use Rattle.mdcache.specs.State.{IsLive, State, UnsavedLeaves}
@@ -117,6 +117,14 @@ module _ (Uses Ends : ℕ → Leaf → Type 0) (kept : Option (Rank × Leaf)) (o
         cached = cached_on (state_of c) (state_of (named c a name inode)) (named c a name inode).caches (λ leaf live. live) refl (omega arith) (put_cached c a name inode f seen before.cached);
         only = put_only c a name inode f seen before.cached kept before.only;
       }
+
+    -- entries were counted, or a pin set
+    pub made_noted : (counts : Counts) (pins : DirPins) → HasMade Uses Ends kept old (record c { counts = counts; pins = pins })
+    made_noted counts pins = record {
+      came = before.came;
+      cached = cached_on (state_of c) (state_of (record c { counts = counts; pins = pins })) c.caches (λ leaf live. live) refl (omega arith) before.cached;
+      only = before.only;
+    }
 
     -- a directory moved, or a file
     pub made_home : (homes : Homes) → ((leaf : Leaf) → IsLive c.homes c.covers leaf → IsLive homes c.covers leaf) → HasMade Uses Ends kept old (record c { homes = homes })
@@ -267,18 +275,24 @@ none_ended c leaf valid none = go (map.get c.held leaf) refl
 
 -- ---- a directory goes, or none
 
-module _ (c : Core) (going : Option Going) (prepared : IsGoingOrNone c.covers going) (room : Rooms) where
+module _ (c : Core) (counts : Counts) (going : Option Going) (prepared : IsGoingOrNone c.covers going) (room : Rooms) where
   abbrev pub left : Core
-  left = without_dir c (dir_going going) (leaves_going going) (texts_going going) room
+  left = without_dir (record c { counts = counts }) (dir_going going) (leaves_going going) (texts_going going) room
 
-  pub is_gone : state_of left ≡ without (state_of c) (dir_going going)
+  -- the state without the directory, but for the counts and the pins
+  abbrev without_by : Option Ino → State
+  without_by went = record (without (state_of c) went) { counts = rows_but counts went; pins = rows_but c.pins went }
+
+  pub is_gone : state_of left ≡ without_by (dir_going going)
   is_gone = go going prepared
     where
-      go : (went : Option Going) → IsGoingOrNone c.covers went → state_of (without_dir c (dir_going went) (leaves_going went) (texts_going went) room) ≡ without (state_of c) (dir_going went)
+      go : (went : Option Going) → IsGoingOrNone c.covers went → state_of (without_dir (record c { counts = counts }) (dir_going went) (leaves_going went) (texts_going went) room) ≡ without_by (dir_going went)
       go None prepared = refl
       go (Some went) prepared = λ i. record (state_of c) {
         homes = map.remove c.homes went.dir.0;
         covers = map.remove c.covers went.dir.0;
+        counts = map.remove counts went.dir.0;
+        pins = map.remove c.pins went.dir.0;
         unsaved = (unclean_ended c.caches (leaves_in went.dir went.leaves.items) ∙ ap (without_leaves (unclean c.caches)) prepared.parts) i;
         jobs = ap (without_leaves c.jobs) prepared.parts i;
         purge = with_objects (map.insert c.purge (prepared.tree i) tt) (prepared.texts i);
@@ -296,8 +310,8 @@ module _ (c : Core) (going : Option Going) (prepared : IsGoingOrNone c.covers go
         comes None named = before.came
         comes (Some went) named = ends_came Uses Ends old.caches c.caches went.dir went.leaves.items (λ r leaf is. named r leaf (ap (λ (d : Ino). Some d) (sym is))) before.came
 
-        stay : (went : Option Going) → IsGoingOrNone c.covers went → AreCached (without (state_of c) (dir_going went)) (ended_all c.caches (leaves_going went))
-        stay None prepared leaf a is = before.cached leaf a is
+        stay : (went : Option Going) → IsGoingOrNone c.covers went → AreCached (without_by (dir_going went)) (ended_all c.caches (leaves_going went))
+        stay None prepared leaf a is = let cached : IsCachedIn (state_of c) leaf a.frag = before.cached leaf a is in record { live = cached.live; tied = cached.tied; made = cached.made }
         stay (Some went) prepared leaf a is =
             let was = still_held c.caches (leaves_in went.dir went.leaves.items) leaf a is in
             let cached : IsCachedIn (state_of c) leaf a.frag = before.cached leaf a was.1 in

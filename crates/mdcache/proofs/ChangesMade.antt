@@ -1,13 +1,13 @@
 -- What a change makes, once its steps are known.
 use Rattle.std.proofs.Common.{◌≡◌, ◌<◌, ◌^◌, ℕ, Bool, true, false, cond, length, Option, Some, None, inl, inr, refl, sym, ap, subst, ◌∙◌, arith}
-use Rattle.std.specs.Prelude.{IfSome, List, string_bytes, ◌≤◌}
+use Rattle.std.specs.Prelude.{IfSome, List, is_some, string_bytes, ◌≤◌, ◌==◌, ◌-◌}
 use Rattle.std.specs.FinMap as map
 use Rattle.mds_types.specs.Frag.{root_fragment}
 use Rattle.mds_types.specs.Tree.{is_dir_kind}
 use Rattle.mds_types.specs.declared.dentries.Dentry.{Dentry}
 use Rattle.mds_types.specs.declared.ids.Ino.{Ino}
 use Rattle.mds_types.specs.declared.inodes.Inode.{Inode}
-use Rattle.mds_types.specs.Step.{IsMove}
+use Rattle.mds_types.specs.Step.{HasSpace, IsMove}
 use Rattle.mds_types.specs.Leaf.{leaf_of}
 use Rattle.cached_frag.specs.Cached.{Cached}
 use Rattle.dentry_cache.specs.Cache.{HasCached, HasRoom, IsThere, Leaf}
@@ -16,27 +16,29 @@ use Rattle.dentry_cache.specs.CacheMap.{here}
 use Rattle.dentry_cache.specs.Came.{Came}
 use Rattle.mds_types.specs.declared.dirfrags.Dirfrag.{Dirfrag}
 use Rattle.dentry_cache.proofs.UncleanLaws.{unclean_with}
-use Rattle.inode_table.specs.Dirs.{MayCome, MayGo, MayMove}
-use Rattle.inode_table.specs.TreeTable.{home_at, with_home}
+use Rattle.inode_table.specs.Dirs.{Counts, MayCome, MayGo, MayMove, count_of, is_known, one_less, one_more}
+use Rattle.inode_table.specs.TreeTable.{counts_moved, home_at, with_count, with_home, with_pin}
 use Rattle.inode_table.proofs.MoveLaws.{may_relocate, may_replace}
 use Rattle.inode_table.proofs.TableLaws.{may_come, may_drop}
 use Rattle.namespace_ops.specs.Changes.{MayChange, adds, dentry_at, directory_at, moves, removes, sets}
 use Rattle.namespace_ops.specs.declared.plans.Spot.{Spot}
 use Rattle.namespace_ops.specs.declared.plans.Change.{Change}
-use Rattle.mdcache.specs.Changes.{IsNamed, Makes, first_leaf, with_directory, with_new}
-use Rattle.mdcache.specs.Core.{Core, IsSoundCore, Rooms, made_frag, moved, named, shown_in, state_of, with_dir, without_dir}
+use Rattle.mdcache.specs.Changes.{IsNamed, Makes, first_leaf, with_directory, with_new, without}
+use Rattle.mdcache.specs.Core.{Core, IsSoundCore, Rooms, made_frag, moved, named, pinned, shown_in, shows, state_of, with_dir, with_entry, without_dir, without_entry}
 use Rattle.mdcache.specs.Frags.{IsForDirectory, IsForMove, IsForRemoval, IsReady}
-use Rattle.mdcache.specs.Going.{IsGoingOrNone, count_going, dir_going, leaves_going, texts_going}
+use Rattle.mdcache.specs.Going.{IsGoingOrNone, count_going, dir_going, leaves_going, rows_but, texts_going}
 use Rattle.mdcache.specs.Made.{HasNumber, IsRight}
 use Rattle.mdcache.specs.Ranks.{EndsWith, IsNamedIn, KeepsOnlyAt}
-use Rattle.mdcache.specs.State.{text_of}
+use Rattle.mdcache.specs.State.{State, text_of}
 use Rattle.mdcache.specs.declared.going.Going.{Going}
 use Rattle.mdcache.specs.declared.prepared.MovingEntry.{MovingEntry}
 use Rattle.mdcache.specs.declared.prepared.NewDirectory.{NewDirectory}
 use Rattle.mdcache.specs.declared.prepared.Prepared.{Prepared}
 use Rattle.mdcache.specs.declared.prepared.Prepared.TheVariants.{Directory, Move as Moving, Removal}
 use Rattle.mdcache.proofs.ChangeLaws.{changes_are_right}
-use Rattle.mdcache.proofs.ChangeSteps.{HasMade, cached_there, is_gone, is_named, kept_named, left, made_beside, made_dir, made_first, made_gone, made_home, made_named, roomy_there, sound_made, there_left}
+use Rattle.mdcache.proofs.CoreLaws.{dir_known, shows_names}
+use Rattle.mdcache.proofs.TreeLookups.{at_dentry}
+use Rattle.mdcache.proofs.ChangeSteps.{HasMade, cached_there, is_gone, is_named, kept_named, left, made_beside, made_dir, made_first, made_gone, made_home, made_named, made_noted, roomy_there, sound_made, there_left}
 use Rattle.mdcache.proofs.HomeLaws.{first_live, grown_live, moved_known}
 use Rattle.mdcache.proofs.NamedLaws.{sound_leaves}
 use Rattle.mdcache.proofs.NoneLaws.{only_none}
@@ -67,6 +69,25 @@ not_new clash = cc
 pub for_directory : (dentry : Dentry) (dir : Ino) (prepared : Prepared) (made : NewDirectory) → prepared ≡ Directory made → IsForDirectory dentry dir prepared → (made.name ≡ dentry.name) × (string_bytes made.object ≡ text_of (first_leaf dir))
 for_directory dentry dir prepared made was ready = subst (IsForDirectory dentry dir) was ready
 
+-- ---- counts and pins
+
+-- an entry that stands is in a directory that is known
+pub entry_known : (c : Core) → IsSoundCore c → (dentry : Dentry) (inode : Inode) → map.get (shown_in c) dentry ≡ Some inode → is_known c.homes dentry.dir.0 ≡ true
+entry_known c sound dentry inode stands = dir_known c sound dentry.dir.0 (sound.sound.tabled.whole.parents dentry.dir.0 dentry.name inode stands)
+
+-- one more fits where a new inode comes
+pub new_fits : (c : Core) → IsSoundCore c → (spot : Spot) (inode : Inode) → MayChange (shown_in c) c.covers (adds spot inode) → count_of c.counts spot.at.dir.0 < 2 ^ 64 - 1
+new_fits c sound spot inode may =
+    let few = may.takes.spaced in
+    let count = sound.sound.counted.each spot.at.dir.0 in
+    omega (arith, few, count)
+
+-- a directory that is altered is in the table
+pub set_listed : (c : Core) → IsSoundCore c → (spot : Spot) (inode : Inode) → MayChange (shown_in c) c.covers (sets spot inode) → is_dir_kind inode.kind ≡ true → is_some (map.get c.homes inode.ino.0) ≡ true
+set_listed c sound spot inode may kinded =
+    ap (λ (n : Ino). is_some (map.get c.homes n.0)) may.takes.number
+    ∙ ap is_some (sound.sound.tabled.holds.listed (dentry_at spot) may.takes.before may.takes.stands (sym (ap is_dir_kind may.takes.kind) ∙ kinded))
+
 module _ (old new : Core) (sound : IsSoundCore old) (spot : Spot) where
   abbrev place : Dirfrag
   place = spot.at
@@ -89,10 +110,10 @@ module _ (old new : Core) (sound : IsSoundCore old) (spot : Spot) where
       before_set : HasMade SetUses SetEnds None old old
       before_set = made_first SetUses SetEnds None old sound ready.kept
 
-      pub set_changed : MayChange (shown_in old) old.covers (sets spot inode) → new ≡ now → IsChanged (sets spot inode) old new
+      pub set_changed : MayChange (shown_in old) old.covers (sets spot inode) → new ≡ pinned now inode → IsChanged (sets spot inode) old new
       set_changed may is = subst (IsChanged (sets spot inode) old) (sym is)
-          (changed (sets spot inode) old now sound not_new may (state_of now, is_named SetUses SetEnds None old old before_set place spot.name (Some inode) (there ready.ready.0.room), refl)
-          (made_named SetUses SetEnds None old old before_set place spot.name (Some inode) (there ready.ready.0.room) (refl, refl)) sound.begun)
+          (changed (sets spot inode) old (pinned now inode) sound not_new may (state_of now, (state_of now, is_named SetUses SetEnds None old old before_set place spot.name (Some inode) (there ready.ready.0.room), refl), refl)
+          (made_noted SetUses SetEnds None old now (made_named SetUses SetEnds None old old before_set place spot.name (Some inode) (there ready.ready.0.room) (refl, refl)) old.counts (with_pin old.pins inode)) sound.begun)
 
     module _ (ready : IsReady old (adds spot inode)) where
       abbrev AddUses : ℕ → Leaf → Type 0
@@ -104,14 +125,18 @@ module _ (old new : Core) (sound : IsSoundCore old) (spot : Spot) where
       before_file : is_dir_kind inode.kind ≡ false → HasMade AddUses AddEnds None old old
       before_file file = made_first AddUses AddEnds None old sound (subst (λ (b : Bool). KeepsOnlyAt (cond b (Some (spot.at.rank, first_leaf inode.ino)) None) old.caches) file ready.kept)
 
-      pub file_changed : is_dir_kind inode.kind ≡ false → inode.ino.0 < 2 ^ 64 → MayChange (shown_in old) old.covers (adds spot inode) → new ≡ now → IsChanged (adds spot inode) old new
+      pub file_changed : is_dir_kind inode.kind ≡ false → inode.ino.0 < 2 ^ 64 → MayChange (shown_in old) old.covers (adds spot inode) → new ≡ with_entry now place.dir → IsChanged (adds spot inode) old new
       file_changed file number may is = subst (IsChanged (adds spot inode) old) (sym is)
-          (changed (adds spot inode) old now sound (λ new. number) may (
+          (changed (adds spot inode) old (with_entry now place.dir) sound (λ new. number) may (
             state_of now,
-            is_named AddUses AddEnds None old old (before_file file) place spot.name (Some inode) (there ready.ready.0.room),
-            sym (ap (λ (b : Bool). cond b (with_directory (state_of now) (dentry_at spot) inode.ino) (state_of now)) file),
+            (
+              state_of now,
+              is_named AddUses AddEnds None old old (before_file file) place spot.name (Some inode) (there ready.ready.0.room),
+              sym (ap (λ (b : Bool). cond b (with_directory (state_of now) (dentry_at spot) inode.ino) (state_of now)) file),
+            ),
+            ap (λ (b : Bool). record (state_of now) { counts = cond b (map.insert (one_more old.counts place.dir.0) inode.ino.0 0) (one_more old.counts place.dir.0) }) (sym file),
           )
-          (made_named AddUses AddEnds None old old (before_file file) place spot.name (Some inode) (there ready.ready.0.room) (inl (refl, refl))) sound.begun)
+          (made_noted AddUses AddEnds None old now (made_named AddUses AddEnds None old old (before_file file) place spot.name (Some inode) (there ready.ready.0.room) (inl (refl, refl))) (one_more old.counts place.dir.0) old.pins) sound.begun)
 
       abbrev first : Dirfrag
       first = record { dir = inode.ino; frag = root_fragment; rank = spot.at.rank }
@@ -119,7 +144,7 @@ module _ (old new : Core) (sound : IsSoundCore old) (spot : Spot) where
       -- a directory has its home, and its leaf
       module _ (kinded : is_dir_kind inode.kind ≡ true) (fits : inode.ino.0 < 2 ^ 64) (rank : spot.at.rank.0 < length old.caches.used) (may : MayChange (shown_in old) old.covers (adds spot inode)) (prepared : Prepared) (room : Rooms) where
         abbrev grown : Core
-        grown = with_dir now first (home_at (dentry_at spot)) (text_of (first_leaf inode.ino)) room
+        grown = with_dir (with_entry now place.dir) first (home_at (dentry_at spot)) (text_of (first_leaf inode.ino)) room
 
         pub dir_may_come : MayCome old.homes inode.ino.0 (home_at (dentry_at spot))
         dir_may_come = may_come (shown_in old) old.homes (dentry_at spot) inode sound.sound.tabled may.takes
@@ -127,34 +152,48 @@ module _ (old new : Core) (sound : IsSoundCore old) (spot : Spot) where
         before_dir : HasMade AddUses AddEnds (Some (spot.at.rank, first_leaf inode.ino)) old old
         before_dir = made_first AddUses AddEnds (Some (spot.at.rank, first_leaf inode.ino)) old sound (subst (λ (b : Bool). KeepsOnlyAt (cond b (Some (spot.at.rank, first_leaf inode.ino)) None) old.caches) kinded ready.kept)
 
-        dir_named : HasMade AddUses AddEnds (Some (spot.at.rank, first_leaf inode.ino)) old now
-        dir_named = made_named AddUses AddEnds (Some (spot.at.rank, first_leaf inode.ino)) old old before_dir place spot.name (Some inode) (there ready.ready.0.room) (inl (refl, refl))
+        dir_named : HasMade AddUses AddEnds (Some (spot.at.rank, first_leaf inode.ino)) old (with_entry now place.dir)
+        dir_named = made_noted AddUses AddEnds (Some (spot.at.rank, first_leaf inode.ino)) old now
+            (made_named AddUses AddEnds (Some (spot.at.rank, first_leaf inode.ino)) old old before_dir place spot.name (Some inode) (there ready.ready.0.room) (inl (refl, refl))) (one_more old.counts place.dir.0) old.pins
 
         dir_grown : HasMade AddUses AddEnds None old grown
-        dir_grown = made_dir AddUses AddEnds old now first dir_named
+        dir_grown = made_dir AddUses AddEnds old (with_entry now place.dir) first dir_named
             (kept_named old place spot.name (Some inode) (there ready.ready.0.room) (first_leaf inode.ino) (ready.ready.2 kinded).place rank).1 (home_at (dentry_at spot)) (text_of (first_leaf inode.ino)) room
             (first_live (state_of old) (sound_leaves (state_of old) sound.sound) (dentry_at spot) inode.ino dir_may_come fits)
             (grown_live (state_of old) (sound_leaves (state_of old) sound.sound) (dentry_at spot) inode.ino dir_may_come fits) (inr (refl, refl))
 
-        is_grown : state_of grown ≡ with_new (state_of now) (dentry_at spot) inode
-        is_grown =
-            (λ i. record (with_directory (state_of now) (dentry_at spot) inode.ino) { unsaved = unclean_with now.caches spot.at.rank.0 (first_leaf inode.ino) (made_frag now.next_generation) i })
-            ∙ sym (ap (λ (b : Bool). cond b (with_directory (state_of now) (dentry_at spot) inode.ino) (state_of now)) kinded)
+        abbrev with_leaf : State
+        with_leaf = record (with_directory (state_of now) (dentry_at spot) inode.ino) { counts = map.insert (one_more old.counts place.dir.0) inode.ino.0 0 }
+
+        is_with_leaf : state_of grown ≡ with_leaf
+        is_with_leaf = λ i. record with_leaf { unsaved = unclean_with now.caches spot.at.rank.0 (first_leaf inode.ino) (made_frag now.next_generation) i }
+
+        abbrev noted_new : State
+        noted_new = record (with_new (state_of now) (dentry_at spot) inode) { counts = with_count (one_more old.counts place.dir.0) inode; pins = old.pins }
+
+        is_noted : with_leaf ≡ noted_new
+        is_noted = sym (ap (λ (b : Bool). record (cond b (with_directory (state_of now) (dentry_at spot) inode.ino) (state_of now)) {
+          counts = cond b (map.insert (one_more old.counts place.dir.0) inode.ino.0 0) (one_more old.counts place.dir.0);
+          pins = old.pins;
+        }) kinded)
+
+        is_grown : state_of grown ≡ noted_new
+        is_grown = is_with_leaf ∙ is_noted
 
         dir_changed : new ≡ record grown { prepared = prepared; kept = None } → IsChanged (adds spot inode) old new
         dir_changed is = subst (IsChanged (adds spot inode) old) (sym is)
             (changed (adds spot inode) old (record grown { prepared = prepared; kept = None }) sound (λ new. fits) may
-            (state_of now, is_named AddUses AddEnds (Some (spot.at.rank, first_leaf inode.ino)) old old before_dir place spot.name (Some inode) (there ready.ready.0.room), is_grown)
+            (with_new (state_of now) (dentry_at spot) inode, (state_of now, is_named AddUses AddEnds (Some (spot.at.rank, first_leaf inode.ino)) old old before_dir place spot.name (Some inode) (there ready.ready.0.room), refl), is_grown)
             (made_beside AddUses AddEnds None None old grown prepared dir_grown) (let begun = sound.begun in omega (arith, begun)))
 
         pub directory_changed : (view : Core) → view ≡ old → (made : NewDirectory) → old.prepared ≡ Directory made
-            → new ≡ record (with_dir (named (record view { prepared = prepared }) place spot.name (Some inode)) first (record { parent = spot.at.dir; name = made.name }) (string_bytes made.object) room) { kept = None }
+            → new ≡ record (with_dir (with_entry (named (record view { prepared = prepared }) place spot.name (Some inode)) place.dir) first (record { parent = spot.at.dir; name = made.name }) (string_bytes made.object) room) { kept = None }
             → IsChanged (adds spot inode) old new
         directory_changed view same made was is =
             let for = for_directory (dentry_at spot) inode.ino old.prepared made was (ready.ready.2 kinded).prepared in
             dir_changed (is
-            ∙ ap (λ (k : Core). record (with_dir (named (record k { prepared = prepared }) place spot.name (Some inode)) first (record { parent = spot.at.dir; name = made.name }) (string_bytes made.object) room) { kept = None }) same
-            ∙ (λ i. record (with_dir (named (record old { prepared = prepared }) place spot.name (Some inode)) first (record { parent = spot.at.dir; name = for.0 i }) (for.1 i) room) { kept = None }))
+            ∙ ap (λ (k : Core). record (with_dir (with_entry (named (record k { prepared = prepared }) place spot.name (Some inode)) place.dir) first (record { parent = spot.at.dir; name = made.name }) (string_bytes made.object) room) { kept = None }) same
+            ∙ (λ i. record (with_dir (with_entry (named (record old { prepared = prepared }) place spot.name (Some inode)) place.dir) first (record { parent = spot.at.dir; name = for.0 i }) (for.1 i) room) { kept = None }))
 
   -- a name went, and the directory that stood there, if one did
   module _ (going : Option Going) (room : HasRoom (here old.caches spot.at.rank.0 (leaf_of place))) (only : KeepsOnlyAt None old.caches) (stands : IsGoingOrNone old.covers going)
@@ -169,7 +208,7 @@ module _ (old new : Core) (sound : IsSoundCore old) (spot : Spot) where
     erased = named old place spot.name None
 
     abbrev gone : Core
-    gone = left erased going stands rooms
+    gone = left erased (one_less old.counts place.dir.0) going stands rooms
 
     before_removal : HasMade RemoveUses RemoveEnds None old old
     before_removal = made_first RemoveUses RemoveEnds None old sound only
@@ -180,14 +219,14 @@ module _ (old new : Core) (sound : IsSoundCore old) (spot : Spot) where
     removal_changed : new ≡ record gone { prepared = prepared; kept = old.kept } → (KeepsNone old.caches → KeepsNone new.caches) → IsChanged (removes spot (dir_going going)) old new
     removal_changed is none = subst (IsChanged (removes spot (dir_going going)) old) (sym is)
         (changed (removes spot (dir_going going)) old (record gone { prepared = prepared; kept = old.kept }) sound not_new may
-        (state_of erased, is_named RemoveUses RemoveEnds None old old before_removal place spot.name None is_there, is_gone erased going stands rooms)
-        (made_beside RemoveUses RemoveEnds None old.kept old gone prepared (made_gone erased going stands rooms RemoveUses RemoveEnds old (λ r q is. is)
+        (without (state_of erased) (dir_going going), (state_of erased, is_named RemoveUses RemoveEnds None old old before_removal place spot.name None is_there, refl), is_gone erased (one_less old.counts place.dir.0) going stands rooms)
+        (made_beside RemoveUses RemoveEnds None old.kept old gone prepared (made_gone erased (one_less old.counts place.dir.0) going stands rooms RemoveUses RemoveEnds old (λ r q is. is)
         (made_named RemoveUses RemoveEnds None old old before_removal place spot.name None is_there (refl, refl)) (λ was. subst (λ (k : Core). KeepsNone k.caches) is (none (only_none old.caches only))))) sound.begun)
 
-    pub entry_gone : (view : Core) → view ≡ old → new ≡ without_dir (named (record view { prepared = prepared }) place spot.name None) (dir_going going) (leaves_going going) (texts_going going) rooms → (KeepsNone view.caches → KeepsNone new.caches)
+    pub entry_gone : (view : Core) → view ≡ old → new ≡ without_dir (without_entry (named (record view { prepared = prepared }) place spot.name None) place.dir) (dir_going going) (leaves_going going) (texts_going going) rooms → (KeepsNone view.caches → KeepsNone new.caches)
         → IsChanged (removes spot (dir_going going)) old new
     entry_gone view same is none =
-        removal_changed (is ∙ ap (λ (k : Core). without_dir (named (record k { prepared = prepared }) place spot.name None) (dir_going going) (leaves_going going) (texts_going going) rooms) same)
+        removal_changed (is ∙ ap (λ (k : Core). without_dir (without_entry (named (record k { prepared = prepared }) place spot.name None) place.dir) (dir_going going) (leaves_going going) (texts_going going) rooms) same)
         (subst (λ (k : Core). KeepsNone k.caches → KeepsNone new.caches) same none)
 
 -- a directory that goes with an entry may go
@@ -237,6 +276,20 @@ module _ (old new : Core) (sound : IsSoundCore old) (source target : Spot) (inod
       go None is = tt
       go (Some i) is = by i (is_dir_kind i.kind) is
 
+  -- its new name is shown where something stands there
+  pub stands_at_target : HasRoom (here old.caches target.at.rank.0 (leaf_of target.at)) → shows old target.at target.name ≡ is_some (map.get (shown_in old) (dentry_at target))
+  stands_at_target room =
+      shows_names old sound target.at target.name (roomy_there (here old.caches target.at.rank.0 (leaf_of target.at)) room)
+      ∙ ap is_some (sym (at_dentry (state_of old) sound.sound target.at.dir.0 target.name target.at.frag (dir_known old sound target.at.dir.0 is_move.parent) may.carries.put))
+
+  -- and what comes to another directory, where nothing does, can be counted there
+  pub counts_fit : HasRoom (here old.caches target.at.rank.0 (leaf_of target.at)) → shows old target.at target.name ≡ false → (source.at.dir.0 == target.at.dir.0) ≡ false → count_of old.counts target.at.dir.0 < 2 ^ 64 - 1
+  counts_fit room none apart = by (map.get (shown_in old) (dentry_at target)) (sym (stands_at_target room) ∙ none) is_move.spaced
+    where
+      by : (o : Option Inode) → is_some o ≡ false → HasSpace (shown_in old) (dentry_at source) (dentry_at target) o → count_of old.counts target.at.dir.0 < 2 ^ 64 - 1
+      by None is space = let few = space apart in let count = sound.sound.counted.each target.at.dir.0 in omega (arith, few, count)
+      by (Some i) is space = let clash : true ≡ false = is in cc
+
   module _ (two : HasCached (here old.caches source.at.rank.0 (leaf_of source.at)) (λ (f : Cached). 1 < f.room)) (one : HasRoom (here old.caches target.at.rank.0 (leaf_of target.at))) (only : KeepsOnlyAt None old.caches) (leaves_stand : IsGoingOrNone old.covers going) (prepared : Prepared) (rooms : Rooms) where
     abbrev MoveUses : ℕ → Leaf → Type 0
     MoveUses = IsNamedIn change
@@ -259,8 +312,14 @@ module _ (old new : Core) (sound : IsSoundCore old) (source target : Spot) (inod
     abbrev came_name : Core
     came_name = named housed second_place target.name (Some inode)
 
+    abbrev counts_now : Counts
+    counts_now = counts_moved old.counts source.at.dir.0 target.at.dir.0 (shows old second_place target.name)
+
     abbrev all_gone : Core
-    all_gone = left came_name going leaves_stand rooms
+    all_gone = left came_name counts_now going leaves_stand rooms
+
+    stood : shows old second_place target.name ≡ is_some (map.get (shown_in old) (dentry_at target))
+    stood = stands_at_target one
 
     before_move : HasMade MoveUses MoveEnds None old old
     before_move = made_first MoveUses MoveEnds None old sound only
@@ -289,11 +348,18 @@ module _ (old new : Core) (sound : IsSoundCore old) (source target : Spot) (inod
     move_changed : new ≡ record all_gone { prepared = prepared; kept = old.kept } → (KeepsNone old.caches → KeepsNone new.caches) → IsChanged change old new
     move_changed is none = subst (IsChanged change old) (sym is)
         (changed change old (record all_gone { prepared = prepared; kept = old.kept }) sound not_new may (
-          state_of left_name,
-          is_named MoveUses MoveEnds None old old before_move first_place source.name None there_first,
-          (record (state_of came_name) { homes = old.homes }, named_twice, is_gone came_name going leaves_stand rooms),
+          without (state_of came_name) (dir_going going),
+          (
+            state_of left_name,
+            is_named MoveUses MoveEnds None old old before_move first_place source.name None there_first,
+            (record (state_of came_name) { homes = old.homes }, named_twice, refl),
+          ),
+          is_gone came_name counts_now going leaves_stand rooms ∙ ap (λ (b : Bool). record (without (state_of came_name) (dir_going going)) {
+            counts = rows_but (counts_moved old.counts source.at.dir.0 target.at.dir.0 b) (dir_going going);
+            pins = rows_but old.pins (dir_going going);
+          }) stood,
         )
-        (made_beside MoveUses MoveEnds None old.kept old all_gone prepared (made_gone came_name going leaves_stand rooms MoveUses MoveEnds old (λ r q is. is) came_made (λ was. subst (λ (k : Core). KeepsNone k.caches) is (none (only_none old.caches only))))) sound.begun)
+        (made_beside MoveUses MoveEnds None old.kept old all_gone prepared (made_gone came_name counts_now going leaves_stand rooms MoveUses MoveEnds old (λ r q is. is) came_made (λ was. subst (λ (k : Core). KeepsNone k.caches) is (none (only_none old.caches only))))) sound.begun)
 
     pub entry_moved : (view : Core) → view ≡ old → (name : List ℕ) → name ≡ target.name
         → new ≡ without_dir (moved (record view { prepared = prepared }) first_place source.name second_place target.name name inode) (dir_going going) (leaves_going going) (texts_going going) rooms → (KeepsNone view.caches → KeepsNone new.caches)

@@ -1,6 +1,6 @@
 -- What reads and preparations leave of the tree over caches and a store, and what they find.
-use Rattle.std.proofs.Common.{◌≡◌, ◌⊎◌, inl, inr, ℕ, zero, suc, ◌+◌, ◌<◌, ◌≤◌, true, length, Option, Some, None, refl, sym, ap, subst, ◌∙◌, arith}
-use Rattle.std.specs.Prelude.{IfErr, IfOk, OnOk, Result, Ok, Err}
+use Rattle.std.proofs.Common.{◌≡◌, ◌⊎◌, inl, inr, ℕ, zero, suc, ◌+◌, ◌<◌, ◌≤◌, true, length, List, Option, Some, None, refl, sym, ap, subst, ◌∙◌, arith}
+use Rattle.std.specs.Prelude.{IfErr, IfOk, OnOk, Result, Ok, Err, is_some}
 use Rattle.std.specs.FinMap as map
 use Rattle.mds_types.specs.declared.dentries.Dentry.{Dentry}
 use Rattle.mds_types.specs.declared.ids.Ino.{Ino}
@@ -17,7 +17,7 @@ use Rattle.objstore.specs.Objects.{Objects, faults_told}
 use Rattle.cached_frag.specs.declared.bases.Base.{Base}
 use Rattle.cached_frag.specs.declared.bases.Base.TheVariants.{Fresh, Stored}
 use Rattle.cached_frag.specs.Cached.{Cached, shown}
-use Rattle.dentry_cache.specs.Cache.{HasCached, Leaf}
+use Rattle.dentry_cache.specs.Cache.{HasCached, IsThere, Leaf}
 use Rattle.dentry_cache.specs.CacheMap.{At, CacheMap, IsFree, at, here, unclean, unclean_of, unsaved_at, used_at}
 use Rattle.dentry_cache.specs.CacheCalls.{Edits, KeepsNone}
 use Rattle.dentry_cache.specs.CacheSplits.{IsKeptFor}
@@ -29,9 +29,9 @@ use Rattle.dentry_cache.specs.Ties.{IsTiedAt}
 use Rattle.mds_types.specs.declared.dirfrags.Dirfrag.{Dirfrag}
 use Rattle.dentry_cache.proofs.TieLaws.{fetched_are_tied}
 use Rattle.dentry_cache.proofs.UncleanLaws.{get_unclean}
-use Rattle.inode_table.specs.Dirs.{is_known, leaves_of}
+use Rattle.inode_table.specs.Dirs.{Counts, DirPins, is_known, leaves_of}
 use Rattle.inode_table.proofs.TableLaws.{known_is}
-use Rattle.mdcache.specs.Core.{AreCached, Core, IsCachedIn, IsNoLess, IsSoundCore, MayFetch, ReadsCore, Rooms, shown_in, state_of}
+use Rattle.mdcache.specs.Core.{AreCached, Core, IsCachedIn, IsNoLess, IsSoundCore, MayFetch, ReadsCore, Rooms, shown_in, shows, shows_in, state_of}
 use Rattle.mdcache.specs.Frags.{KeepsState}
 use Rattle.dirfrag_codec.specs.FragmentObject.{Names}
 use Rattle.mdcache.specs.CacheReads.{LacksPlacesIn}
@@ -237,6 +237,14 @@ module _ (c : Core) (sound : IsSoundCore c) where
       go None there h = absurd h
       go (Some f) there h = subst P (sym (shows_cached r leaf f there)) h
 
+  -- a cached fragment shows a name where its leaf does
+  pub shows_names : (a : Dirfrag) (name : List ℕ) → IsThere (here c.caches a.rank.0 (leaf_of a)) → shows c a name ≡ is_some (map.get (names_of (unclean c.caches) c.objects (leaf_of a)) name)
+  shows_names a name there = go (here c.caches a.rank.0 (leaf_of a)) refl there
+    where
+      go : (o : Option Cached) → here c.caches a.rank.0 (leaf_of a) ≡ o → IsThere o → shows_in o name ≡ is_some (map.get (names_of (unclean c.caches) c.objects (leaf_of a)) name)
+      go None is h = absurd h
+      go (Some f) is h = ap (λ (names : Names). is_some (map.get names name)) (sym (shows_cached a.rank.0 (leaf_of a) f is))
+
   -- what is found in the leaf of a dentry is what stands there
   pub found_there : (r : ℕ) (dentry : Dentry) (f : Fragment) (found : Option Inode) → is_known c.homes dentry.dir.0 ≡ true → IsPick (leaves_of c.covers dentry.dir.0) (hash_of dentry.name) f
       → HasCached (here c.caches r (dentry.dir, f)) (λ (g : Cached). found ≡ map.get (shown g) dentry.name) → found ≡ map.get (shown_in c) dentry
@@ -360,12 +368,12 @@ purge_grown Uses Ends old view is names room same more =
     first_step Uses Ends old view (record view { purge = names; room = record view.room { purge = room } }) (record { dirs = omega arith; jobs = omega arith; purge = more })
     (λ i. record view { purge = same i; room = record view.room { purge = room } }) is it_stays
 
-pub dirs_grown : (Uses Ends : ℕ → Leaf → Type 0) (old view : Core) (is : view ≡ old) (homes : Homes) (covers : Covers) (room : ℕ) → homes ≡ view.homes → covers ≡ view.covers → view.room.dirs ≤ room
-    → ReadsCore Uses Ends old (record view { homes = homes; covers = covers; room = record view.room { dirs = room } })
-dirs_grown Uses Ends old view is homes covers room same_homes same_covers more =
-    first_step Uses Ends old view (record view { homes = homes; covers = covers; room = record view.room { dirs = room } })
+pub dirs_grown : (Uses Ends : ℕ → Leaf → Type 0) (old view : Core) (is : view ≡ old) (homes : Homes) (covers : Covers) (counts : Counts) (pins : DirPins) (room : ℕ) → homes ≡ view.homes → covers ≡ view.covers → counts ≡ view.counts → pins ≡ view.pins → view.room.dirs ≤ room
+    → ReadsCore Uses Ends old (record view { homes = homes; covers = covers; counts = counts; pins = pins; room = record view.room { dirs = room } })
+dirs_grown Uses Ends old view is homes covers counts pins room same_homes same_covers same_counts same_pins more =
+    first_step Uses Ends old view (record view { homes = homes; covers = covers; counts = counts; pins = pins; room = record view.room { dirs = room } })
     (record { dirs = more; jobs = omega arith; purge = omega arith })
-    (λ i. record view { homes = same_homes i; covers = same_covers i; room = record view.room { dirs = room } }) is it_stays
+    (λ i. record view { homes = same_homes i; covers = same_covers i; counts = same_counts i; pins = same_pins i; room = record view.room { dirs = room } }) is it_stays
 
 -- room where nothing is done if it is there
 pub grows_by : (old new : ℕ) → (0 < old → new ≡ old) → old ≤ new

@@ -9,7 +9,7 @@ use Rattle.std.specs.FinMap.{empty_of_len}
 use Rattle.sorted_map.proofs.OverlayLaws.{none_entries}
 use Rattle.mds_types.specs.declared.inodes.Inode.{Inode}
 use Rattle.dirfrag_codec.proofs.ByteKeys.{get_beside, get_put, key_itself, key_tied}
-use Rattle.inode_table.specs.TreeTable.{IsTabled}
+use Rattle.inode_table.specs.TreeTable.{IsCounted, IsTabled}
 use Rattle.objstore.specs.Omap.{Omap, key_cmp}
 use Rattle.objstore.specs.Objects.{written}
 use Rattle.dirfrag_codec.specs.FragmentObject.{Names, SpellsFragment}
@@ -244,6 +244,7 @@ module _ (c : Core) (r : ℕ) (job : Job) (kept : IsSoundCore c) (stood : map.ge
     table = kept.sound.table;
     numbered = kept.sound.numbered;
     tabled = subst (λ tree. IsTabled tree s.homes) (sym tree_stays) kept.sound.tabled;
+    counted = subst (λ tree. IsCounted tree s.counts s.pins) (sym tree_stays) kept.sound.counted;
     placed = λ q name inode is has. kept.sound.placed q name inode is (ap (λ (n : Names). map.get n name) (sym (shows q is)) ∙ has);
     unsaved = unsaved_stays;
     saved = saved_stays;

@@ -22,7 +22,7 @@ use Rattle.dentry_cache.proofs.KeepingLaws.{all_from, all_of, by_keeping}
 use Rattle.dentry_cache.proofs.MoveLaws.{none_beside}
 use Rattle.dentry_cache.proofs.StepLaws.{cap_roomy}
 use Rattle.inode_table.specs.Dirs.{is_known}
-use Rattle.inode_table.specs.TreeTable.{IsTabled}
+use Rattle.inode_table.specs.TreeTable.{IsCounted, IsTabled}
 use Rattle.mdcache.specs.Core.{Core, IsCachedIn, IsSoundCore, shown_in, state_of}
 use Rattle.mdcache.specs.Given.{GivenOverIsRight, HaveNoJobs, IsGivenOver}
 use Rattle.mdcache.specs.Made.{IsUntouched}
@@ -109,6 +109,7 @@ module _ (old : State) (unsaved : UnsavedLeaves) (leaves : List Leaf) (sound : I
     table = sound.table;
     numbered = sound.numbered;
     tabled = subst (λ (t : Tree). IsTabled t old.homes) (sym tree_now) sound.tabled;
+    counted = subst (λ (t : Tree). IsCounted t old.counts old.pins) (sym tree_now) sound.counted;
     placed = λ leaf name inode live is. sound.placed leaf name inode live (ap (λ (names : Names). map.get names name) (sym (same_names leaf)) ∙ is);
     unsaved = unsaved_now;
     saved = λ leaf live none. sound.saved leaf live (none_before leaf none);

@@ -12,6 +12,7 @@ jobless_sound s sound = record {
   table = sound.table;
   numbered = sound.numbered;
   tabled = sound.tabled;
+  counted = sound.counted;
   placed = sound.placed;
   unsaved = λ q u is. let old = sound.unsaved q u is in record { live = old.live; made = old.made; young = old.young };
   saved = sound.saved;
@@ -42,6 +43,7 @@ numbered_sound s n sound = record {
   table = sound.table;
   numbered = sound.numbered;
   tabled = sound.tabled;
+  counted = sound.counted;
   placed = sound.placed;
   unsaved = λ q u is. let old = sound.unsaved q u is in record { live = old.live; made = old.made; young = old.young };
   saved = sound.saved;

@@ -44,12 +44,15 @@ module _ (old mid : CacheMap) (came : Came (HasFragment old) NoneEnds old mid) w
   came_on new more = came_then (HasFragment old) NoneEnds old mid new came (came_weaker (HasFragment mid) NoneEnds (HasFragment old) NoneEnds was_there (λ r q ends. ends) mid new more)
 
 pub kept_itself : (c : Core) → KeepsTree c c
-kept_itself c = record { homes = refl; covers = refl; tree = refl; generation = refl; version = refl; caches = it_stays }
+kept_itself c = record { limit = refl; homes = refl; covers = refl; counts = refl; pins = refl; tree = refl; generation = refl; version = refl; caches = it_stays }
 
 pub steps_keep_tree : StepsKeepTree
 steps_keep_tree old mid new first second = record {
+  limit = second.limit ∙ first.limit;
   homes = second.homes ∙ first.homes;
   covers = second.covers ∙ first.covers;
+  counts = second.counts ∙ first.counts;
+  pins = second.pins ∙ first.pins;
   tree = second.tree ∙ first.tree;
   generation = second.generation ∙ first.generation;
   version = second.version ∙ first.version;
@@ -60,8 +63,11 @@ steps_keep_tree old mid new first second = record {
 module _ (old new : Core) (caches : new.caches ≡ old.caches) where
   pub keeps_tree : (objects : Objects) (jobs : Jobs) (purge : Keys) (next : ℕ) → state_of new ≡ record (state_of old) { objects = objects; jobs = jobs; purge = purge; next_job = next } → shown_tree (state_of new) ≡ shown_tree (state_of old) → KeepsTree old new
   keeps_tree objects jobs purge next left tree = record {
+    limit = ap (λ (s : State). s.limit) left;
     homes = ap (λ (s : State). s.homes) left;
     covers = ap (λ (s : State). s.covers) left;
+    counts = ap (λ (s : State). s.counts) left;
+    pins = ap (λ (s : State). s.pins) left;
     tree = tree;
     generation = ap (λ (s : State). s.next_generation) left;
     version = ap (λ (s : State). s.next_version) left;

@@ -25,8 +25,8 @@ use Rattle.dentry_cache.specs.CacheMap.{CacheMap, no_caches, unclean}
 use Rattle.dentry_cache.specs.Loading.{IsSaved, object_of}
 use Rattle.dentry_cache.specs.Ties.{names_at}
 use Rattle.inode_table.specs.declared.dirs.Home.{Home}
-use Rattle.inode_table.specs.Dirs.{Covers, Homes, is_known, leaves_of}
-use Rattle.inode_table.specs.TreeTable.{IsTabled}
+use Rattle.inode_table.specs.Dirs.{Counts, Covers, DirPins, Homes, is_known, leaves_of}
+use Rattle.inode_table.specs.TreeTable.{IsCounted, IsTabled}
 use Rattle.cold_store.specs.ColdTree.{IsColdLeaf, IsColdTree, IsReached, IsRecord, SaysLeaves, tree_of}
 use Rattle.cold_store.specs.Walked.{IsReachedObject, IsWalked}
 pub use Rattle.cold_store.specs.Rows.{IsIn}
@@ -45,9 +45,9 @@ use Rattle.mdcache.proofs.NewLaws.{new_tree, none_held, none_kept, none_unclean}
 use Rattle.mdcache.proofs.NoneLaws.{none_coming, none_only}
 use Rattle.mdcache.proofs.ShownLaws.{found_at, found_nowhere}
 
-module _ (objects : Objects) (tree : Tree) (homes : Homes) (covers : Covers) (purge : Keys) (w : IsWalked objects tree homes covers purge) where
+module _ (limit : ℕ) (objects : Objects) (tree : Tree) (homes : Homes) (covers : Covers) (counts : Counts) (pins : DirPins) (purge : Keys) (w : IsWalked objects tree homes covers purge) where
   abbrev s : State
-  s = mounted objects homes covers purge
+  s = mounted limit objects homes covers counts pins purge
 
   -- ---- directories
 
@@ -195,11 +195,12 @@ module _ (objects : Objects) (tree : Tree) (homes : Homes) (covers : Covers) (pu
   nothing : {A : Type 0} {X : Type 0} (u : X) → None ≡ Some u → A
   nothing u clash = absurd cc
 
-  pub is_sound : IsSound s
-  is_sound = record {
+  pub is_sound : IsCounted tree counts pins → IsSound s
+  is_sound counted = record {
     table = (walked_is_tabled objects tree homes covers purge w).1;
     numbered = numbered;
     tabled = subst (λ t. IsTabled t homes) (sym shows) (walked_is_tabled objects tree homes covers purge w).0;
+    counted = subst (λ t. IsCounted t counts pins) (sym shows) counted;
     placed = placed;
     unsaved = λ leaf u is. nothing u (sym (get-empty _ leaf) ∙ is);
     saved = λ leaf live clean. saved leaf live;
@@ -216,10 +217,10 @@ none_cached ranks places s leaf a is = let clash : None ≡ Some a = sym (none_h
 
 -- ---- the tree over the store
 
-module _ (objects : Objects) (ranks places : ℕ) (tree : Tree) (c : Core) (m : IsMounted objects ranks places tree c) where
+module _ (limit : ℕ) (objects : Objects) (ranks places : ℕ) (tree : Tree) (c : Core) (m : IsMounted limit objects ranks places tree c) where
   pub mounted_core : IsSoundCore c
   mounted_core = record {
-    sound = subst IsSound (sym m.state) (is_sound objects tree c.homes c.covers c.purge m.walked);
+    sound = subst IsSound (sym m.state) (is_sound limit objects tree c.homes c.covers c.counts c.pins c.purge m.walked m.counted);
     begun = let first : c.next_generation ≡ 1 = ap (λ (s : State). s.next_generation) m.state in omega (arith, first);
     cached = subst (AreCached (state_of c)) (sym m.caches) (none_cached ranks places (state_of c));
     kept = none_only c.kept c.caches (subst KeepsNone (sym m.caches) (none_kept ranks places));
@@ -227,24 +228,26 @@ module _ (objects : Objects) (ranks places : ℕ) (tree : Tree) (c : Core) (m : 
   }
 
   pub mounted_shows : shown_in c ≡ tree
-  mounted_shows = ap shown_tree m.state ∙ shows objects tree c.homes c.covers c.purge m.walked
+  mounted_shows = ap shown_tree m.state ∙ shows limit objects tree c.homes c.covers c.counts c.pins c.purge m.walked
 
   pub mounted_cold : IsColdTree objects (shown_in c)
   mounted_cold = subst (IsColdTree objects) (sym mounted_shows) (is_cold objects tree c.homes c.covers c.purge m.walked)
 
 -- a new tree shows nothing
-pub new_shows : (ranks places : ℕ) (tree : Tree) (c : Core) → IsNew ranks places tree c → shown_in c ≡ map.empty
-new_shows ranks places tree c made = ap shown_tree made.state ∙ new_tree
+pub new_shows : (limit ranks places : ℕ) (tree : Tree) (c : Core) → IsNew limit ranks places tree c → shown_in c ≡ map.empty
+new_shows limit ranks places tree c made = ap shown_tree made.state ∙ new_tree limit
 
 -- what was put together of a walk's parts is such a tree
-pub is_mounted : (objects : Objects) (ranks places : ℕ) (tree found : Tree) (homes : Homes) (covers : Covers) (left : Keys) (caches : CacheMap) (c : Core) → IsWalked objects found homes covers left → tree ≡ found → caches ≡ no_caches ranks places → c.caches ≡ caches
-    → state_of c ≡ record (mounted objects homes covers left) { unsaved = unclean caches } → IsMounted objects ranks places tree c
-is_mounted objects ranks places tree found homes covers left caches c w same none its is =
+pub is_mounted : (limit : ℕ) (objects : Objects) (ranks places : ℕ) (tree found : Tree) (homes : Homes) (covers : Covers) (counts : Counts) (pins : DirPins) (left : Keys) (caches : CacheMap) (c : Core) → IsWalked objects found homes covers left → IsCounted found counts pins
+    → tree ≡ found → caches ≡ no_caches ranks places → c.caches ≡ caches → state_of c ≡ record (mounted limit objects homes covers counts pins left) { unsaved = unclean caches } → IsMounted limit objects ranks places tree c
+is_mounted limit objects ranks places tree found homes covers counts pins left caches c w counted same none its is =
     let parts : ◌≡◌ {A = Tree × Homes × Covers × Keys} (found, homes, covers, left) (tree, c.homes, c.covers, c.purge) = λ i. (sym same i, sym (ap (λ (s : State). s.homes) is) i, sym (ap (λ (s : State). s.covers) is) i, sym (ap (λ (s : State). s.purge) is) i) in
+    let notes : ◌≡◌ {A = Tree × Counts × DirPins} (found, counts, pins) (tree, c.counts, c.pins) = λ i. (sym same i, sym (ap (λ (s : State). s.counts) is) i, sym (ap (λ (s : State). s.pins) is) i) in
     let clean : unclean caches ≡ map.empty = ap unclean none ∙ none_unclean ranks places in
     record {
       walked = subst (λ (p : Tree × Homes × Covers × Keys). IsWalked objects p.0 p.1 p.2 p.3) parts w;
-      state = is ∙ (λ i. record (mounted objects (parts i).1 (parts i).2 (parts i).3) { unsaved = clean i });
+      counted = subst (λ (p : Tree × Counts × DirPins). IsCounted p.0 p.1 p.2) notes counted;
+      state = is ∙ (λ i. record (mounted limit objects (parts i).1 (parts i).2 (notes i).1 (notes i).2 (parts i).3) { unsaved = clean i });
       caches = its ∙ none;
     }
 

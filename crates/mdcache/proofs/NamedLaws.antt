@@ -28,8 +28,8 @@ use Rattle.dentry_cache.specs.Loading.{IsSaved, object_of}
 use Rattle.dentry_cache.specs.Cache.{Leaf, Unsaved, leaf_is}
 use Rattle.dentry_cache.specs.Ties.{Keeps, KeepsAt, names_at}
 use Rattle.dentry_cache.proofs.LeafLaws.{leaf-total, leaf_itself, leaf_or_apart, tied_leaf}
-use Rattle.inode_table.specs.Dirs.{Homes, IsTable, is_known, leaves_of}
-use Rattle.inode_table.specs.TreeTable.{IsTabled}
+use Rattle.inode_table.specs.Dirs.{Counts as Entries, DirPins, Homes, IsTable, is_known, leaves_of}
+use Rattle.inode_table.specs.TreeTable.{IsCounted, IsTabled}
 use Rattle.inode_table.proofs.Tables.{tree_of_row}
 use Rattle.namespace_ops.specs.Changes.{IsLeafAt}
 use Rattle.mdcache.specs.Changes.{Counts, IsAsItStands, dirtied, with_name}
@@ -54,11 +54,12 @@ pub record HasSoundLeaves (s : State) : Type 0 where
 pub sound_leaves : (s : State) → IsSound s → HasSoundLeaves s
 sound_leaves s sound = record { table = sound.table; numbered = sound.numbered; placed = sound.placed; unsaved = sound.unsaved; saved = sound.saved; owned = sound.owned; listed = sound.listed; standing = sound.standing; once = sound.once }
 
-pub sound_again : (s : State) → HasSoundLeaves s → IsTabled (shown_tree s) s.homes → IsSound s
-sound_again s leaves tabled = record {
+pub sound_again : (s : State) → HasSoundLeaves s → IsTabled (shown_tree s) s.homes → IsCounted (shown_tree s) s.counts s.pins → IsSound s
+sound_again s leaves tabled counted = record {
   table = leaves.table;
   numbered = leaves.numbered;
   tabled = tabled;
+  counted = counted;
   placed = leaves.placed;
   unsaved = leaves.unsaved;
   saved = leaves.saved;
@@ -67,6 +68,29 @@ sound_again s leaves tabled = record {
   standing = leaves.standing;
   once = leaves.once;
 }
+
+-- whatever the counts and the pins are
+module _ (s : State) (counts : Entries) (pins : DirPins) (sound : HasSoundLeaves s) where
+  abbrev recounted : State
+  recounted = record s { counts = counts; pins = pins }
+
+  owned_still : (name : List ℕ) → IsOwned s name → IsOwned recounted name
+  owned_still name (inl leaf) = inl leaf
+  owned_still name (inr (inl dir)) = inr (inl dir)
+  owned_still name (inr (inr listed)) = inr (inr listed)
+
+  pub recounted_leaves : HasSoundLeaves recounted
+  recounted_leaves = record {
+    table = sound.table;
+    numbered = sound.numbered;
+    placed = sound.placed;
+    unsaved = λ leaf u is. let old = sound.unsaved leaf u is in record { live = old.live; made = old.made; young = old.young };
+    saved = sound.saved;
+    owned = λ name there. owned_still name (sound.owned name there);
+    listed = sound.listed;
+    standing = λ leaf job is. let old = sound.standing leaf job is in record { mine = old.mine; given = old.given; young = old.young; unsaved = old.unsaved; beside = old.beside; taken = old.taken };
+    once = sound.once;
+  }
 
 -- ---- what stands in a tree whose leaves are sound
 

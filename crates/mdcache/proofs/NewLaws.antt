@@ -22,8 +22,9 @@ use Rattle.dentry_cache.specs.CacheMap.{CacheMap, IsFree, IsFreeFor, no_caches, 
 use Rattle.dentry_cache.proofs.LeafLaws.{leaf-exact, leaf-total, leaf_itself, one_leaf, tied_leaf}
 use Rattle.dentry_cache.proofs.UncleanLaws.{get_unclean, unclean_with}
 use Rattle.dentry_cache.proofs.WholeLaws.{none_with_frag}
-use Rattle.inode_table.specs.Dirs.{Covers, Homes, IsTable, is_known, leaves_of, or_whole}
-use Rattle.inode_table.specs.TreeTable.{IsTabled}
+use Rattle.inode_table.specs.Dirs.{Counts, Covers, DirPins, Homes, IsTable, is_known, leaves_of, or_whole}
+use Rattle.inode_table.specs.TreeTable.{IsCounted, IsTabled}
+use Rattle.inode_table.proofs.NotedLaws.{none_counted}
 use Rattle.inode_table.proofs.TableLaws.{empty_tabled}
 use Rattle.objstore.specs.Omap.{Keys}
 use Rattle.mdcache.specs.StandingJobs.{Jobs}
@@ -69,28 +70,6 @@ root_live = record { known = refl; stands = subst (λ fs. Contains fs root_fragm
 abbrev no_leaves : UnsavedLeaves
 no_leaves = map.empty
 
-its_unsaved : (q : Leaf) → map.get new_state.unsaved q ≡ cond (leaf_is q root_leaf) (Some new_root) None
-its_unsaved q = get-insert leaf-total no_leaves root_leaf new_root q ∙ ap (λ (b : Bool). cond b (Some new_root) (map.get no_leaves q)) (tied_leaf q root_leaf) ∙ ap (cond (leaf_is q root_leaf) (Some new_root)) (get-empty _ q)
-
-root_unsaved : map.get new_state.unsaved root_leaf ≡ Some new_root
-root_unsaved = its_unsaved root_leaf ∙ ap (λ (b : Bool). cond b (Some new_root) None) (leaf_itself root_leaf)
-
-no_names : names_of new_state.unsaved new_state.objects root_leaf ≡ map.empty
-unfolding names_of
-no_names = ap (λ u. shown_at u (object_of new_state.objects root_leaf.0 root_leaf.1)) root_unsaved ∙ nothing_patched map.empty map.empty (len-empty key_cmp Mark)
-
-no_entries : entries_in (names_of new_state.unsaved new_state.objects) no_covers (directories no_homes) ≡ []
-no_entries =
-    let names = names_of new_state.unsaved new_state.objects in
-    ap (λ ks. entries_in names no_covers (1 ∷ each (λ e. e.0) ks)) (none_entries no_homes refl)
-    ∙ ap (λ fs. entries_under names 1 fs ++ []) (one_leaf_each 1)
-    ∙ ap (λ (n : Names). (entries_of 1 (map.entries n) ++ []) ++ []) no_names
-    ∙ ap (λ es. (entries_of 1 es ++ []) ++ []) (none_entries {R = key_cmp} map.empty refl)
-
-pub new_tree : shown_tree new_state ≡ map.empty
-unfolding tree_of
-new_tree = ap (λ es. map.from_entries es) no_entries ∙ same_map dentry-total dentry-exact (map.from_entries []) map.empty (λ q. get-from_entries dentry-total [] q ∙ sym (get-empty dentry_cmp q))
-
 no_table : IsTable no_homes no_covers
 no_table = record {
   rooted = record {
@@ -101,34 +80,59 @@ no_table = record {
   covers = λ d leaves is. let clash : None ≡ Some leaves = sym (get-empty nat_cmp d) ∙ is in absurd cc;
 }
 
-unsaved_root : (leaf : Leaf) (u : Unsaved) → map.get new_state.unsaved leaf ≡ Some u → IsUnsaved new_state leaf u
-unsaved_root leaf u is = go (leaf_is leaf root_leaf) refl (sym (its_unsaved leaf) ∙ is)
-  where
-    go : (b : Bool) → leaf_is leaf root_leaf ≡ b → cond b (Some new_root) None ≡ Some u → IsUnsaved new_state leaf u
-    go true same h =
-        let its : new_root ≡ u = cc in
-        subst (λ (v : Unsaved). IsUnsaved new_state leaf v) its (subst (λ (l : Leaf). IsUnsaved new_state l new_root) (sym (one_leaf leaf root_leaf same)) (record {
-          live = root_live;
-          made = omega arith;
-          young = λ name mark has. let clash : None ≡ Some mark = sym (get-empty key_cmp name) ∙ has in absurd cc;
-        }))
-    go false apart h = let clash : None ≡ Some u = h in absurd cc
+-- where a directory may have so many entries
+module _ (limit : ℕ) where
+  its_unsaved : (q : Leaf) → map.get (new_state limit).unsaved q ≡ cond (leaf_is q root_leaf) (Some new_root) None
+  its_unsaved q = get-insert leaf-total no_leaves root_leaf new_root q ∙ ap (λ (b : Bool). cond b (Some new_root) (map.get no_leaves q)) (tied_leaf q root_leaf) ∙ ap (cond (leaf_is q root_leaf) (Some new_root)) (get-empty _ q)
 
-pub new_sound : IsSound new_state
-new_sound = record {
-  table = no_table;
-  numbered = λ d known. let root = root_known d known in omega (arith, root);
-  tabled = subst (λ tree. IsTabled tree no_homes) (sym new_tree) empty_tabled;
-  placed = λ leaf name inode live has.
-      let clash : None ≡ Some inode = sym (ap (λ (n : Names). map.get n name) (ap (names_of new_state.unsaved new_state.objects) (live_root leaf live) ∙ no_names) ∙ get-empty key_cmp name) ∙ has in
-      absurd cc;
-  unsaved = unsaved_root;
-  saved = λ leaf live clean. let clash : None ≡ Some new_root = sym clean ∙ ap (map.get new_state.unsaved) (live_root leaf live) ∙ root_unsaved in absurd cc;
-  owned = λ name has. let clash : false ≡ true = ap (λ (o : Option Omap). is_some o) (sym (get-empty key_cmp name)) ∙ has in absurd cc;
-  listed = λ leaf live. get-empty key_cmp (text_of leaf);
-  standing = λ leaf job is. let clash : None ≡ Some job = sym (get-empty leaf_cmp leaf) ∙ is in absurd cc;
-  once = λ a b i j p q same. let clash : None ≡ Some i = sym (get-empty leaf_cmp a) ∙ p in absurd cc;
-}
+  root_unsaved : map.get (new_state limit).unsaved root_leaf ≡ Some new_root
+  root_unsaved = its_unsaved root_leaf ∙ ap (λ (b : Bool). cond b (Some new_root) None) (leaf_itself root_leaf)
+
+  no_names : names_of (new_state limit).unsaved (new_state limit).objects root_leaf ≡ map.empty
+  unfolding names_of
+  no_names = ap (λ u. shown_at u (object_of (new_state limit).objects root_leaf.0 root_leaf.1)) root_unsaved ∙ nothing_patched map.empty map.empty (len-empty key_cmp Mark)
+
+  no_entries : entries_in (names_of (new_state limit).unsaved (new_state limit).objects) no_covers (directories no_homes) ≡ []
+  no_entries =
+      let names = names_of (new_state limit).unsaved (new_state limit).objects in
+      ap (λ ks. entries_in names no_covers (1 ∷ each (λ e. e.0) ks)) (none_entries no_homes refl)
+      ∙ ap (λ fs. entries_under names 1 fs ++ []) (one_leaf_each 1)
+      ∙ ap (λ (n : Names). (entries_of 1 (map.entries n) ++ []) ++ []) no_names
+      ∙ ap (λ es. (entries_of 1 es ++ []) ++ []) (none_entries {R = key_cmp} map.empty refl)
+
+  pub new_tree : shown_tree (new_state limit) ≡ map.empty
+  unfolding tree_of
+  new_tree = ap (λ es. map.from_entries es) no_entries ∙ same_map dentry-total dentry-exact (map.from_entries []) map.empty (λ q. get-from_entries dentry-total [] q ∙ sym (get-empty dentry_cmp q))
+
+  unsaved_root : (leaf : Leaf) (u : Unsaved) → map.get (new_state limit).unsaved leaf ≡ Some u → IsUnsaved (new_state limit) leaf u
+  unsaved_root leaf u is = go (leaf_is leaf root_leaf) refl (sym (its_unsaved leaf) ∙ is)
+    where
+      go : (b : Bool) → leaf_is leaf root_leaf ≡ b → cond b (Some new_root) None ≡ Some u → IsUnsaved (new_state limit) leaf u
+      go true same h =
+          let its : new_root ≡ u = cc in
+          subst (λ (v : Unsaved). IsUnsaved (new_state limit) leaf v) its (subst (λ (l : Leaf). IsUnsaved (new_state limit) l new_root) (sym (one_leaf leaf root_leaf same)) (record {
+            live = root_live;
+            made = omega arith;
+            young = λ name mark has. let clash : None ≡ Some mark = sym (get-empty key_cmp name) ∙ has in absurd cc;
+          }))
+      go false apart h = let clash : None ≡ Some u = h in absurd cc
+
+  pub new_sound : IsSound (new_state limit)
+  new_sound = record {
+    table = no_table;
+    numbered = λ d known. let root = root_known d known in omega (arith, root);
+    tabled = subst (λ tree. IsTabled tree no_homes) (sym new_tree) empty_tabled;
+    counted = subst (λ tree. IsCounted tree (map.insert map.empty 1 0) map.empty) (sym new_tree) none_counted;
+    placed = λ leaf name inode live has.
+        let clash : None ≡ Some inode = sym (ap (λ (n : Names). map.get n name) (ap (names_of (new_state limit).unsaved (new_state limit).objects) (live_root leaf live) ∙ no_names) ∙ get-empty key_cmp name) ∙ has in
+        absurd cc;
+    unsaved = unsaved_root;
+    saved = λ leaf live clean. let clash : None ≡ Some new_root = sym clean ∙ ap (map.get (new_state limit).unsaved) (live_root leaf live) ∙ root_unsaved in absurd cc;
+    owned = λ name has. let clash : false ≡ true = ap (λ (o : Option Omap). is_some o) (sym (get-empty key_cmp name)) ∙ has in absurd cc;
+    listed = λ leaf live. get-empty key_cmp (text_of leaf);
+    standing = λ leaf job is. let clash : None ≡ Some job = sym (get-empty leaf_cmp leaf) ∙ is in absurd cc;
+    once = λ a b i j p q same. let clash : None ≡ Some i = sym (get-empty leaf_cmp a) ∙ p in absurd cc;
+  }
 
 -- ---- the caches
 
@@ -154,21 +158,24 @@ module _ (ranks places : ℕ) where
   none_unclean = same_map leaf-total leaf-exact (unclean (no_caches ranks places)) map.empty
       (λ q. get_unclean (no_caches ranks places) q ∙ ap unsaved_at (none_held ranks places q) ∙ sym (get-empty leaf_cmp q))
 
-  pub new_unclean : unclean (new_caches ranks places) ≡ new_state.unsaved
+  pub new_unclean : unclean (new_caches ranks places) ≡ map.insert no_leaves root_leaf new_root
   new_unclean = unclean_with (no_caches ranks places) 0 root_leaf cached_root ∙ ap (λ (u : UnsavedLeaves). map.insert u root_leaf new_root) none_unclean
 
-  pub new_cached : AreCached new_state (new_caches ranks places)
-  new_cached = cached_with new_state (no_caches ranks places) 0 root_leaf cached_root (λ q a is. let clash : None ≡ Some a = sym (none_held ranks places q) ∙ is in absurd cc)
+  pub new_cached : (limit : ℕ) → AreCached (new_state limit) (new_caches ranks places)
+  new_cached limit = cached_with (new_state limit) (no_caches ranks places) 0 root_leaf cached_root (λ q a is. let clash : None ≡ Some a = sym (none_held ranks places q) ∙ is in absurd cc)
       (record { live = root_live; tied = tt; made = omega arith })
 
 -- ---- the whole
 
-module _ (ranks places : ℕ) (homes : Homes) (covers : Covers) (caches : CacheMap) (objects : Objects) (faults : ℕ) (room : Rooms) (prepared : Prepared) (no_dirs : homes ≡ map.empty) (no_trees : covers ≡ map.empty) (its : caches ≡ new_caches ranks places) (none : objects ≡ map.empty)
+module _ (limit ranks places : ℕ) (homes : Homes) (covers : Covers) (counts : Counts) (pins : DirPins) (caches : CacheMap) (objects : Objects) (faults : ℕ) (room : Rooms) (prepared : Prepared) (no_dirs : homes ≡ map.empty) (no_trees : covers ≡ map.empty) (no_entry : counts ≡ map.insert map.empty 1 0) (no_pins : pins ≡ map.empty) (its : caches ≡ new_caches ranks places) (none : objects ≡ map.empty)
     (jobs : Jobs) (purge : Keys) (no_jobs : jobs ≡ map.empty) (no_purge : purge ≡ map.empty) where
   abbrev made : Core
   made = record {
+    limit = limit;
     homes = homes;
     covers = covers;
+    counts = counts;
+    pins = pins;
     caches = caches;
     objects = objects;
     faults = faults;
@@ -182,14 +189,14 @@ module _ (ranks places : ℕ) (homes : Homes) (covers : Covers) (caches : CacheM
     kept = None;
   }
 
-  pub new_is : state_of made ≡ new_state
-  new_is = (λ i. record (state_of made) { homes = no_dirs i; covers = no_trees i; unsaved = unclean (its i); objects = none i; jobs = no_jobs i; purge = no_purge i }) ∙ (λ i. record new_state { unsaved = new_unclean ranks places i })
+  pub new_is : state_of made ≡ new_state limit
+  new_is = (λ i. record (state_of made) { homes = no_dirs i; covers = no_trees i; counts = no_entry i; pins = no_pins i; unsaved = unclean (its i); objects = none i; jobs = no_jobs i; purge = no_purge i }) ∙ (λ i. record (new_state limit) { unsaved = new_unclean ranks places i })
 
   pub new_core : IsSoundCore made
   new_core = record {
-    sound = subst IsSound (sym new_is) new_sound;
+    sound = subst IsSound (sym new_is) (new_sound limit);
     begun = omega arith;
-    cached = subst (λ (s : State). AreCached s caches) (sym new_is) (subst (AreCached new_state) (sym its) (new_cached ranks places));
+    cached = subst (λ (s : State). AreCached s caches) (sym new_is) (subst (AreCached (new_state limit)) (sym its) (new_cached ranks places limit));
     kept = none_only None caches now_none;
     coming = none_coming homes caches now_none;
   }

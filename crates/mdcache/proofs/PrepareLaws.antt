@@ -13,6 +13,7 @@ use Rattle.dentry_cache.specs.CacheMap.{At, CacheMap, unclean}
 use Rattle.dentry_cache.specs.Cache.{Leaf}
 use Rattle.dentry_cache.specs.Came.{IsThat}
 use Rattle.inode_table.specs.Dirs.{is_known}
+use Rattle.inode_table.proofs.TableLaws.{no_pin}
 use Rattle.inode_table.specs.TreeChanges.{MayAdd, MaySet}
 use Rattle.namespace_ops.specs.Changes.{IsLeafAt}
 use Rattle.mdcache.specs.Changes.{first_leaf}
@@ -26,7 +27,7 @@ use Rattle.mdcache.proofs.TreeLookups.{at_dentry}
 
 -- a new inode has a size and a pin of its kind
 pub new_recordable : (tree : Tree) (dentry : Dentry) (inode : Inode) → MayAdd tree dentry inode → IsRankNumber inode.ino.0 → inode.mode ≤ 4095 → HasTarget inode.kind → IsRecordable inode
-new_recordable tree dentry inode may number mode target = record { number = number; mode = mode; size = may.sized; target = target; pin = may.pinned }
+new_recordable tree dentry inode may number mode target = record { number = number; mode = mode; size = may.sized; target = target; pin = no_pin tree dentry inode may }
 
 -- an altered inode is allowed where it was before
 pub set_recordable : (tree : Tree) (dentry : Dentry) (inode : Inode) → MaySet tree dentry inode → IfSome (map.get tree dentry) IsRecordable → inode.mode ≤ 4095 → HasTarget inode.kind → IsRecordable inode

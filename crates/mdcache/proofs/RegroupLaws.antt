@@ -35,7 +35,7 @@ use Rattle.dentry_cache.specs.Cache.{Leaf, Unsaved, leaf_is}
 use Rattle.dentry_cache.specs.Ties.{names_at}
 use Rattle.dentry_cache.proofs.LeafLaws.{one_leaf}
 use Rattle.inode_table.specs.Dirs.{IsTable, is_known, leaves_of, or_whole}
-use Rattle.inode_table.specs.TreeTable.{IsTabled}
+use Rattle.inode_table.specs.TreeTable.{IsCounted, IsTabled}
 use Rattle.inode_table.proofs.Tables.{set_table, tree_of_row}
 use Rattle.namespace_ops.specs.Changes.{in_directory}
 use Rattle.mdcache.specs.Made.{StaysAsItIs}
@@ -430,7 +430,7 @@ module _ (s : State) (sound : IsSound s) (dir : Ino) (gone cover : List Fragment
 
   pub regroup_right : KeepsTree s t dir gone
   regroup_right = subst (λ (u : State). KeepsTree s u dir gone) (sym r.left) (record {
-    sound = sound_again n leaves_now (subst (λ (tree : Tree). IsTabled tree s.homes) (sym tree_now) sound.tabled);
+    sound = sound_again n leaves_now (subst (λ (tree : Tree). IsTabled tree s.homes) (sym tree_now) sound.tabled) (subst (λ (tree : Tree). IsCounted tree s.counts s.pins) (sym tree_now) sound.counted);
     tree = tree_now;
     frame = frame_now;
   })

@@ -3,7 +3,7 @@ use Rattle.std.proofs.Common.{◌≡◌, ◌⊎◌, inl, inr, ℕ, Bool, true, f
 use Rattle.std.specs.Prelude.{is_some}
 use Rattle.std.specs.FinMap as map
 use Rattle.std.specs.FinMap.{get-insert, get-remove}
-use Rattle.inode_table.specs.TreeTable.{IsTabled}
+use Rattle.inode_table.specs.TreeTable.{IsCounted, IsTabled}
 use Rattle.objstore.specs.Omap.{Keys}
 use Rattle.objstore.specs.Objects.{Objects}
 use Rattle.dirfrag_codec.specs.FragmentObject.{Names}
@@ -44,6 +44,7 @@ module _ (s : State) (objects : Objects) (purge : Keys) (sound : IsSound s) wher
       table = sound.table;
       numbered = sound.numbered;
       tabled = subst (λ t. IsTabled t s.homes) (sym other_objects_tree) sound.tabled;
+      counted = subst (λ t. IsCounted t s.counts s.pins) (sym other_objects_tree) sound.counted;
       placed = λ leaf name inode live has. sound.placed leaf name inode live (ap (λ (n : Names). map.get n name) (sym (names leaf live)) ∙ has);
       unsaved = λ leaf u is. let old = sound.unsaved leaf u is in record { live = old.live; made = old.made; young = old.young };
       saved = λ leaf live clean. subst (IsSaved leaf.1) (sym (same leaf live)) (sound.saved leaf live clean);
@@ -89,6 +90,7 @@ dropped_sound s leaf sound = record {
   table = sound.table;
   numbered = sound.numbered;
   tabled = sound.tabled;
+  counted = sound.counted;
   placed = sound.placed;
   unsaved = λ q u is. let old = sound.unsaved q u is in record { live = old.live; made = old.made; young = old.young };
   saved = sound.saved;
@@ -140,6 +142,7 @@ module _ (s : State) (job : Job) (u : Unsaved) (sound : IsSound s) (beside : map
     table = sound.table;
     numbered = sound.numbered;
     tabled = sound.tabled;
+    counted = sound.counted;
     placed = sound.placed;
     unsaved = λ q v is. let old = sound.unsaved q v is in record { live = old.live; made = old.made; young = old.young };
     saved = sound.saved;

@@ -57,16 +57,19 @@ housed_objects s None (Some put) false = refl
 housed_objects s (Some spot) (Some put) comes = refl
 
 pub made_objects : (change : Change) (old new : State) → Makes change old new → ObjectsStay old new
-made_objects change old new = first change.takes
+made_objects change old new makes = ap (λ (s : State). s.objects) makes.2 ∙ first change.takes makes.1
   where
-    ends : (left : State) (takes : Option Spot) (puts : Option (Spot × Inode)) → new ≡ without (housed left takes puts change.comes) change.gone → new.objects ≡ left.objects
+    altered : State
+    altered = makes.0
+
+    ends : (left : State) (takes : Option Spot) (puts : Option (Spot × Inode)) → altered ≡ without (housed left takes puts change.comes) change.gone → altered.objects ≡ left.objects
     ends left takes puts is = ap (λ (s : State). s.objects) is ∙ without_objects (housed left takes puts change.comes) change.gone ∙ housed_objects left takes puts change.comes
 
-    second : (left : State) (takes : Option Spot) (puts : Option (Spot × Inode)) → PutsThen left puts (λ named. new ≡ without (housed named takes puts change.comes) change.gone) → new.objects ≡ left.objects
+    second : (left : State) (takes : Option Spot) (puts : Option (Spot × Inode)) → PutsThen left puts (λ named. altered ≡ without (housed named takes puts change.comes) change.gone) → altered.objects ≡ left.objects
     second left takes None is = ends left takes None is
     second left takes (Some put) (named, is_named, is) = ends named takes (Some put) is ∙ ap (λ (s : State). s.objects) is_named.left
 
-    first : (takes : Option Spot) → TakesThen old takes (λ left. PutsThen left change.puts (λ named. new ≡ without (housed named takes change.puts change.comes) change.gone)) → new.objects ≡ old.objects
+    first : (takes : Option Spot) → TakesThen old takes (λ left. PutsThen left change.puts (λ named. altered ≡ without (housed named takes change.puts change.comes) change.gone)) → altered.objects ≡ old.objects
     first None makes = second old None change.puts makes
     first (Some spot) (left, is_named, makes) = second left (Some spot) change.puts makes ∙ ap (λ (s : State). s.objects) is_named.left
 

@@ -1,9 +1,9 @@
 -- What each change of the tree makes of the state.
-use Rattle.std.specs.Prelude.{◌≡◌, ℕ, ◌<◌, ◌+◌, Bool, true, false, cond, List, [], ◌∷◌, map as each, Option, Some, None}
+use Rattle.std.specs.Prelude.{◌≡◌, ℕ, ◌<◌, ◌+◌, Bool, true, false, cond, is_some, List, [], ◌∷◌, map as each, Option, Some, None}
 use Rattle.std.specs.FinMap as map
 use Rattle.mds_types.specs.Frag.{root_fragment}
 use Rattle.mds_types.specs.Leaf.{leaf_of}
-use Rattle.mds_types.specs.Tree.{is_dir_kind}
+use Rattle.mds_types.specs.Tree.{Tree, is_dir_kind}
 use Rattle.mds_types.specs.declared.ids.Ino.{Ino}
 use Rattle.mds_types.specs.declared.dentries.Dentry.{Dentry}
 use Rattle.mds_types.specs.declared.inodes.Inode.{Inode}
@@ -13,11 +13,14 @@ use Rattle.cached_frag.specs.declared.bases.Base.TheVariants.{Fresh, Stored}
 use Rattle.dentry_cache.specs.Loading.{object_of}
 use Rattle.dentry_cache.specs.Cache.{Leaf, Unsaved, leaf_cmp}
 use Rattle.dentry_cache.specs.Ties.{names_at}
-use Rattle.inode_table.specs.TreeTable.{home_at, with_home}
+use Rattle.inode_table.specs.Dirs.{Counts as Entries, DirPins, one_less, one_more}
+use Rattle.inode_table.specs.TreeTable.{counts_moved, home_at, with_count, with_home, with_pin}
 use Rattle.namespace_ops.specs.Changes.{dentry_at, leaves}
 use Rattle.namespace_ops.specs.declared.plans.Change.{Change}
 use Rattle.namespace_ops.specs.declared.plans.Spot.{Spot}
 use Rattle.mdcache.specs.Commits.{HasSpelled}
+use Rattle.mdcache.specs.Going.{rows_but}
+use Rattle.mdcache.specs.Shown.{shown_tree}
 use Rattle.mdcache.specs.State.{State, text_of, tree_text}
 
 -- ---- one name
@@ -103,6 +106,35 @@ without s (Some dir) = without_directory s dir
 abbrev pub with_home_at : State → Dentry → Inode → State
 with_home_at s to inode = record s { homes = with_home s.homes to inode }
 
+-- ---- counts and pins
+
+-- the counts where an entry comes, goes, or moves to where something stood or nothing; a directory that comes has no entry
+abbrev pub counts_by : Entries → (stood : Bool) → Option Spot → Option (Spot × Inode) → Bool → Entries
+counts_by counts stood None None comes = counts
+counts_by counts stood None (Some put) true = with_count (one_more counts put.0.at.dir.0) put.1
+counts_by counts stood None (Some put) false = counts
+counts_by counts stood (Some spot) None comes = one_less counts spot.at.dir.0
+counts_by counts stood (Some spot) (Some put) comes = counts_moved counts spot.at.dir.0 put.0.at.dir.0 stood
+
+-- the pins where an inode gets other attributes: a directory's may be another
+abbrev pub pins_by : DirPins → Option Spot → Option (Spot × Inode) → Bool → DirPins
+pins_by pins None None comes = pins
+pins_by pins None (Some put) true = pins
+pins_by pins None (Some put) false = with_pin pins put.1
+pins_by pins (Some spot) puts comes = pins
+
+-- something stands at the name that gets an inode
+abbrev pub stood_at : Tree → Option (Spot × Inode) → Bool
+stood_at tree None = false
+stood_at tree (Some put) = is_some (map.get tree (dentry_at put.0))
+
+-- what a change leaves, with the counts and the pins that it makes of those before; those of a directory that goes go with it
+abbrev pub noted : State → Change → State → State
+noted old change s = record s {
+  counts = rows_but (counts_by old.counts (stood_at (shown_tree old) change.puts) change.takes change.puts change.comes) change.gone;
+  pins = rows_but (pins_by old.pins change.takes change.puts change.comes) change.gone;
+}
+
 -- ---- a change
 
 -- a name loses its inode, if one does, and the rest is of the state then
@@ -124,5 +156,9 @@ housed s (Some spot) (Some put) comes = with_home_at s (dentry_at put.0) put.1
 
 -- first the name that loses its inode is dirty, then the one that gets it; the directory that is put is housed, and the one that is taken or
 -- replaced goes
+abbrev pub Alters : Change → State → State → Type 0
+Alters change old new = TakesThen old change.takes (λ left. PutsThen left change.puts (λ named. new ≡ without (housed named change.takes change.puts change.comes) change.gone))
+
+-- so it is, and with that the counts and the pins
 abbrev pub Makes : Change → State → State → Type 0
-Makes change old new = TakesThen old change.takes (λ left. PutsThen left change.puts (λ named. new ≡ without (housed named change.takes change.puts change.comes) change.gone))
+Makes change old new = (altered : State) × Alters change old altered × (new ≡ noted old change altered)

@@ -1,5 +1,5 @@
 -- What a contract sees of the tree over caches and a store, and what small steps make of it.
-use Rattle.std.specs.Prelude.{◌≡◌, ℕ, ◌+◌, ◌<◌, ◌≤◌, length, List, Option, Some, None}
+use Rattle.std.specs.Prelude.{◌≡◌, ℕ, ◌+◌, ◌<◌, ◌≤◌, Bool, false, is_some, length, List, Option, Some, None}
 use Rattle.std.specs.FinMap as map
 use Rattle.mds_types.specs.declared.ids.Ino.{Ino}
 use Rattle.mds_types.specs.declared.ids.Rank.{Rank}
@@ -10,16 +10,16 @@ use Rattle.objstore.specs.Omap.{Keys}
 use Rattle.objstore.specs.Objects.{Objects}
 use Rattle.cached_frag.specs.declared.bases.Base.TheVariants.{Fresh}
 use Rattle.cached_frag.specs.declared.jobs.Job.{Job}
-use Rattle.cached_frag.specs.Cached.{Cached, snapshot_of}
+use Rattle.cached_frag.specs.Cached.{Cached, shown, snapshot_of}
 use Rattle.dentry_cache.specs.Cache.{Leaf}
-use Rattle.dentry_cache.specs.CacheMap.{At, CacheMap, IsFreeFor, unclean, used_at, with_frag, with_mark}
+use Rattle.dentry_cache.specs.CacheMap.{At, CacheMap, IsFreeFor, here, unclean, used_at, with_frag, with_mark}
 use Rattle.dentry_cache.specs.Ended.{ended_all}
 use Rattle.dentry_cache.specs.Loading.{IsSaved, object_of}
 use Rattle.dentry_cache.specs.Ties.{IsTied}
 use Rattle.mds_types.specs.declared.dirfrags.Dirfrag.{Dirfrag}
 use Rattle.inode_table.specs.declared.dirs.Home.{Home}
-use Rattle.inode_table.specs.Dirs.{Covers, Homes}
-use Rattle.inode_table.specs.TreeTable.{with_home}
+use Rattle.inode_table.specs.Dirs.{Counts, Covers, DirPins, Homes, one_less, one_more}
+use Rattle.inode_table.specs.TreeTable.{counts_moved, with_home, with_pin}
 use Rattle.mdcache.specs.Changes.{with_objects, without_leaves}
 use Rattle.mdcache.specs.Going.{rows_but}
 use Rattle.dentry_cache.specs.Reads.{Reads}
@@ -37,12 +37,15 @@ pub record Rooms : Type 0 where
   pub jobs : ℕ
   pub purge : ℕ
 
--- the directory table; the caches of all ranks, with the order in which each used its leaves; the store's objects and its count of faults; the
--- jobs that stand, and the names of objects to be removed; the numbers that the next job, fragment and dirty name get; what fits with no
--- growth; and what was made ready for the next change, with the place that is kept for it
+-- how many entries a directory may have; the directory table; the caches of all ranks, with the order in which each used its leaves; the store's
+-- objects and its count of faults; the jobs that stand, and the names of objects to be removed; the numbers that the next job, fragment and dirty
+-- name get; what fits with no growth; and what was made ready for the next change, with the place that is kept for it
 pub record Core : Type 0 where
+  pub limit : ℕ
   pub homes : Homes
   pub covers : Covers
+  pub counts : Counts
+  pub pins : DirPins
   pub caches : CacheMap
   pub objects : Objects
   pub faults : ℕ
@@ -58,8 +61,11 @@ pub record Core : Type 0 where
 -- the state: of the caches what isn't clean
 abbrev pub state_of : Core → State
 state_of c = record {
+  limit = c.limit;
   homes = c.homes;
   covers = c.covers;
+  counts = c.counts;
+  pins = c.pins;
   unsaved = unclean c.caches;
   objects = c.objects;
   jobs = c.jobs;
@@ -129,20 +135,40 @@ named p a name inode = record p {
   next_version = p.next_version + 1;
 }
 
--- a directory came: it has its home, and a leaf just made at a rank, whose object isn't to be removed
+-- an entry came to a directory, or one went
+abbrev pub with_entry : Core → Ino → Core
+with_entry p dir = record p { counts = one_more p.counts dir.0 }
+
+abbrev pub without_entry : Core → Ino → Core
+without_entry p dir = record p { counts = one_less p.counts dir.0 }
+
+-- the pin of an inode is set, if it is a directory
+abbrev pub pinned : Core → Inode → Core
+pinned p inode = record p { pins = with_pin p.pins inode }
+
+-- a fragment that is there shows a name
+abbrev pub shows_in : Option Cached → List ℕ → Bool
+shows_in None name = false
+shows_in (Some f) name = is_some (map.get (shown f) name)
+
+abbrev pub shows : Core → Dirfrag → List ℕ → Bool
+shows p a name = shows_in (here p.caches a.rank.0 (leaf_of a)) name
+
+-- a directory came: it has its home, no entry, and a leaf just made at a rank, whose object isn't to be removed
 abbrev pub with_dir : Core → Dirfrag → Home → List ℕ → Rooms → Core
 with_dir p a home object room = record p {
   homes = map.insert p.homes a.dir.0 home;
+  counts = map.insert p.counts a.dir.0 0;
   caches = with_frag p.caches a.rank.0 (leaf_of a) (made_frag p.next_generation);
   purge = map.remove p.purge object;
   next_generation = p.next_generation + 1;
   room = room;
 }
 
--- an inode moved from one name to another, and has its home there, if it is a directory
+-- an inode moved from one name to another, where something was shown or nothing, and has its home there, if it is a directory
 abbrev pub moved : Core → Dirfrag → List ℕ → Dirfrag → List ℕ → List ℕ → Inode → Core
 moved c from source to target name inode =
-    named (record (named c from source None) { homes = with_home c.homes (record { dir = to.dir; name = name }) inode }) to target (Some inode)
+    named (record (named c from source None) { homes = with_home c.homes (record { dir = to.dir; name = name }) inode; counts = counts_moved c.counts from.dir.0 to.dir.0 (shows c to target) }) to target (Some inode)
 
 -- these leaves of a directory ended: their places and jobs are gone, and their objects are to be removed
 abbrev pub without_frags : Core → List Leaf → List (List ℕ) → Rooms → Core
@@ -155,7 +181,8 @@ without_frags p leaves texts room = record p {
 
 -- so did the directory itself
 abbrev pub without_dir : Core → Option Ino → List Leaf → List (List ℕ) → Rooms → Core
-without_dir p dir leaves texts room = record (without_frags p leaves texts room) { homes = rows_but p.homes dir; covers = rows_but p.covers dir }
+without_dir p dir leaves texts room =
+    record (without_frags p leaves texts room) { homes = rows_but p.homes dir; covers = rows_but p.covers dir; counts = rows_but p.counts dir; pins = rows_but p.pins dir }
 
 -- a leaf was used
 abbrev pub used_core : Core → Dirfrag → Rooms → Core

@@ -43,11 +43,14 @@ PurgedAreExact = (s : State) → IsSound s → IsFlushed s → s.purge ≡ map.e
 abbrev pub HasFragment : CacheMap → ℕ → Leaf → Type 0
 HasFragment caches rank leaf = IsThere (here caches rank leaf)
 
--- where each directory stands and its leaves, the shown tree, and the numbers of the next fragment and the next dirty name stay; only
--- fragments that are there are used, each at its rank
+-- how many entries a directory may have, where each directory stands, its leaves, its count and its pin, the shown tree, and the numbers of the
+-- next fragment and the next dirty name stay; only fragments that are there are used, each at its rank
 pub record KeepsTree (old new : Core) : Type 0 where
+  pub limit : new.limit ≡ old.limit
   pub homes : new.homes ≡ old.homes
   pub covers : new.covers ≡ old.covers
+  pub counts : new.counts ≡ old.counts
+  pub pins : new.pins ≡ old.pins
   pub tree : shown_in new ≡ shown_in old
   pub generation : new.next_generation ≡ old.next_generation
   pub version : new.next_version ≡ old.next_version

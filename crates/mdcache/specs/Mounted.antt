@@ -6,7 +6,8 @@ use Rattle.mds_types.specs.declared.refusals.Refusal.{Refusal}
 use Rattle.objstore.specs.Omap.{Keys}
 use Rattle.objstore.specs.Objects.{Objects}
 use Rattle.dentry_cache.specs.CacheMap.{no_caches}
-use Rattle.inode_table.specs.Dirs.{Covers, Homes}
+use Rattle.inode_table.specs.Dirs.{Counts, Covers, DirPins, Homes}
+use Rattle.inode_table.specs.TreeTable.{IsCounted}
 use Rattle.inode_table.specs.Numbers.{Supply}
 pub use Rattle.cold_store.specs.ColdTree.{IsColdTree, IsFaulty}
 pub use Rattle.cold_store.specs.Numbers.{IsNext, IsOfRank}
@@ -15,11 +16,15 @@ use Rattle.mdcache.specs.Core.{Core, state_of}
 use Rattle.mdcache.specs.New.{new_caches, new_state}
 use Rattle.mdcache.specs.State.{State}
 
--- the directories that a store has and the leaves of each, some of its objects to be removed, nothing that isn't clean, and nothing begun
-abbrev pub mounted : Objects → Homes → Covers → Keys → State
-mounted objects homes covers purge = record {
+-- the directories that a store has, with the leaves of each, its count and its pin, some of its objects to be removed, nothing that isn't clean,
+-- and nothing begun
+abbrev pub mounted : ℕ → Objects → Homes → Covers → Counts → DirPins → Keys → State
+mounted limit objects homes covers counts pins purge = record {
+  limit = limit;
   homes = homes;
   covers = covers;
+  counts = counts;
+  pins = pins;
   unsaved = map.empty;
   objects = objects;
   jobs = map.empty;
@@ -29,21 +34,23 @@ mounted objects homes covers purge = record {
   next_version = 1;
 }
 
--- the tree over a store that was walked: it has what the walk found, the objects that weren't reached are to be removed, and nothing is cached
-pub record IsMounted (objects : Objects) (ranks places : ℕ) (tree : Tree) (c : Core) : Type 0 where
+-- the tree over a store that was walked, where a directory may have so many entries, whatever they have: it has what the walk found, the objects
+-- that weren't reached are to be removed, and nothing is cached
+pub record IsMounted (limit : ℕ) (objects : Objects) (ranks places : ℕ) (tree : Tree) (c : Core) : Type 0 where
   pub walked : IsWalked objects tree c.homes c.covers c.purge
-  pub state : state_of c ≡ mounted objects c.homes c.covers c.purge
+  pub counted : IsCounted tree c.counts c.pins
+  pub state : state_of c ≡ mounted limit objects c.homes c.covers c.counts c.pins c.purge
   pub caches : c.caches ≡ no_caches ranks places
 
 -- the tree over a store that has no object, as `format` makes it
-pub record IsNew (ranks places : ℕ) (tree : Tree) (c : Core) : Type 0 where
+pub record IsNew (limit ranks places : ℕ) (tree : Tree) (c : Core) : Type 0 where
   pub none : tree ≡ map.empty
-  pub state : state_of c ≡ new_state
+  pub state : state_of c ≡ new_state limit
   pub caches : c.caches ≡ new_caches ranks places
 
 -- a store with no object is mounted as a new one; any other as a walk finds it
-abbrev pub Mounts : Objects → (ranks places : ℕ) → Tree → Core → Type 0
-Mounts objects ranks places tree c = ((objects ≡ map.empty) × IsNew ranks places tree c) ⊎ ((objects ≡ map.empty → ⊥) × IsMounted objects ranks places tree c)
+abbrev pub Mounts : ℕ → Objects → (ranks places : ℕ) → Tree → Core → Type 0
+Mounts limit objects ranks places tree c = ((objects ≡ map.empty) × IsNew limit ranks places tree c) ⊎ ((objects ≡ map.empty → ⊥) × IsMounted limit objects ranks places tree c)
 
 -- for each of so many ranks the number that it hands out next beside a tree
 pub record AreNumbers (tree : Tree) (ranks : ℕ) (numbers : List Supply) : Type 0 where

@@ -26,11 +26,14 @@ cached_root = record { base = Fresh; generation = 1; clean = map.empty; dirty = 
 abbrev pub new_caches : ℕ → ℕ → CacheMap
 new_caches ranks places = with_frag (no_caches ranks places) 0 root_leaf cached_root
 
--- the root directory alone, and nothing begun
-abbrev pub new_state : State
-new_state = record {
+-- the root directory alone, with no entry, and nothing begun, where a directory may have so many entries
+abbrev pub new_state : ℕ → State
+new_state limit = record {
+  limit = limit;
   homes = map.empty;
   covers = map.empty;
+  counts = map.insert map.empty 1 0;
+  pins = map.empty;
   unsaved = map.insert map.empty root_leaf new_root;
   objects = map.empty;
   jobs = map.empty;

@@ -15,7 +15,7 @@ use Rattle.dentry_cache.specs.Loading.{IsSaved, object_of}
 use Rattle.dentry_cache.specs.Cache.{Leaf, Unsaved}
 use Rattle.dentry_cache.specs.Ties.{Keeps, names_at}
 use Rattle.inode_table.specs.Dirs.{IsTable, is_known, leaves_of}
-use Rattle.inode_table.specs.TreeTable.{IsTabled}
+use Rattle.inode_table.specs.TreeTable.{IsCounted, IsTabled}
 use Rattle.mdcache.specs.Shown.{names_of, shown_tree}
 use Rattle.mdcache.specs.State.{IsLive, State, text_of, tree_text}
 
@@ -61,6 +61,8 @@ pub record IsSound (s : State) : Type 0 where
   pub numbered : (d : ℕ) → is_known s.homes d ≡ true → d < 2 ^ 64
   -- the shown tree is well formed, and the table has exactly the root and the tree's directories, each with its parent and name
   pub tabled : IsTabled (shown_tree s) s.homes
+  -- and for each of them how many entries it has, and its pin
+  pub counted : IsCounted (shown_tree s) s.counts s.pins
   -- a leaf shows only names whose pick it is
   pub placed : (leaf : Leaf) (name : List ℕ) (inode : Inode) → IsLive s.homes s.covers leaf → map.get (names_of s.unsaved s.objects leaf) name ≡ Some inode → IsPick (leaves_of s.covers leaf.0.0) (hash_of name) leaf.1
   -- what isn't clean is live

@@ -8,7 +8,7 @@ use Rattle.objstore.specs.Omap.{Keys}
 use Rattle.objstore.specs.Objects.{Objects}
 use Rattle.dentry_cache.specs.Cache.{Leaf, Unsaved, leaf_cmp}
 use Rattle.dentry_cache.specs.Commits.{leaf_text}
-use Rattle.inode_table.specs.Dirs.{Covers, Homes}
+use Rattle.inode_table.specs.Dirs.{Counts, Covers, DirPins, Homes}
 pub use Rattle.inode_table.specs.Dirs.{IsLive}
 use Rattle.mdcache.specs.StandingJobs.{Jobs}
 
@@ -16,11 +16,15 @@ use Rattle.mdcache.specs.StandingJobs.{Jobs}
 abbrev pub UnsavedLeaves : Type 0
 UnsavedLeaves = map.FinMap leaf_cmp Unsaved
 
--- all that a refused step leaves as it was: where each directory stands and its leaves, what isn't clean, the objects of the store, the
--- commits that were begun, the names of objects to be removed, and the numbers that the next job, fragment and dirty name get
+-- all that a refused step leaves as it was: how many entries a directory may have; where each directory stands, its leaves, how many entries it
+-- has and its pin; what isn't clean, the objects of the store, the commits that were begun, the names of objects to be removed, and the numbers
+-- that the next job, fragment and dirty name get
 pub record State : Type 0 where
+  pub limit : ℕ
   pub homes : Homes
   pub covers : Covers
+  pub counts : Counts
+  pub pins : DirPins
   pub unsaved : UnsavedLeaves
   pub objects : Objects
   pub jobs : Jobs

@@ -1,5 +1,5 @@
-//! Changes of names, and directories that come, move and go.
-ghost use Rattle.std.specs.Prelude.{◌≡◌, ◌+◌, ◌-◌, ◌<◌, ◌≤◌, ◌^◌, true, None, Some, IfSome, length, string_bytes, [], ◌∷◌};
+//! Changes of names and of the counts that go with them, and directories that come, move and go.
+ghost use Rattle.std.specs.Prelude.{◌≡◌, ◌==◌, ◌+◌, ◌-◌, ◌<◌, ◌≤◌, ◌^◌, is_some, true, false, None, Some, IfSome, length, string_bytes, [], ◌∷◌};
 ghost use Rattle.std.specs.FinMap as map;
 ghost use Rattle.mds_types.specs.Tree.{is_dir_kind};
 ghost use Rattle.mds_types.specs.Leaf.{leaf_of};
@@ -7,15 +7,16 @@ ghost use Rattle.dirfrag_codec.specs.EntryRecord.{IsRecordable};
 ghost use Rattle.dentry_cache.specs.Cache.{HasRoom};
 ghost use Rattle.dentry_cache.specs.CacheCalls.{KeepsNone};
 ghost use Rattle.dentry_cache.specs.CacheMap.{has_place, here};
-ghost use Rattle.inode_table.specs.Dirs.{MayCome, MayGo, MayMove};
-ghost use Rattle.inode_table.specs.TreeTable.{with_home};
+ghost use Rattle.inode_table.specs.Dirs.{MayCome, MayGo, MayMove, count_of, is_known};
+ghost use Rattle.inode_table.specs.TreeTable.{counts_moved, with_home};
 ghost use Rattle.mdcache.specs.Going.{count_going, dir_going, leaves_going, leaves_in, texts_going, texts_in};
-ghost use Rattle.mdcache.specs.Core.{named, with_dir, without_dir, without_frags};
+ghost use Rattle.mdcache.specs.Core.{named, pinned, shows_in, with_dir, with_entry, without_dir, without_entry, without_frags};
 
 use crate::going::{Going, GoingLeaf};
 use crate::mdcache::MdCache;
 use cached_frag::CachedFrag;
-use inode_table::Home;
+use dentry_cache::Caches;
+use inode_table::{Home, count_move};
 use mds_types::{Dirfrag, Ino, Inode, Name};
 use objstore::Store;
 use std::alloc::Global;
@@ -42,6 +43,43 @@ impl<S: Store + Drop> MdCache<S> {
     {
         self.caches.erase(at, name, self.next.version);
         self.next.version += 1;
+    }
+
+    /// An entry comes to a directory. Takes no memory.
+    pub(crate) fn entry_comes(&mut self, dir: Ino)
+        requires known { is_known self.old.homes dir.0 ≡ true }
+        requires few { count_of self.old.counts dir.0 < 2 ^ 64 - 1 }
+        ensures { self.new ≡ with_entry self.old dir }
+    {
+        self.dirs.entry_comes(dir);
+    }
+
+    /// An entry of a directory goes. Takes no memory.
+    pub(crate) fn entry_goes(&mut self, dir: Ino)
+        requires { is_known self.old.homes dir.0 ≡ true }
+        ensures { self.new ≡ without_entry self.old dir }
+    {
+        self.dirs.entry_goes(dir);
+    }
+
+    /// An entry moves from one directory to another, where something stood at its new name, or nothing. Takes no memory.
+    pub(crate) fn entry_moves(&mut self, from: Ino, to: Ino, stood: bool)
+        requires from { is_known self.old.homes from.0 ≡ true }
+        requires to { is_known self.old.homes to.0 ≡ true }
+        requires few { stood ≡ false → (from.0 == to.0) ≡ false → count_of self.old.counts to.0 < 2 ^ 64 - 1 }
+        ensures { self.new ≡ record self.old { counts = counts_moved self.old.counts from.0 to.0 stood } }
+    {
+        count_move(&mut self.dirs, from, to, stood);
+    }
+
+    /// An inode that was set has its pin in the directory table, if it is a directory. Takes no memory.
+    pub(crate) fn set_pin(&mut self, inode: &Inode)
+        requires { is_dir_kind inode.now.kind ≡ true → is_some (map.get self.old.homes inode.now.ino.0) ≡ true }
+        ensures { self.new ≡ pinned self.old inode.now }
+    {
+        if inode.kind.is_dir() {
+            self.dirs.set_pin(inode.ino, inode.pin);
+        }
     }
 
     /// A directory comes, with its one leaf, for which a place is kept; `object` is the name of the leaf's object, which isn't to
@@ -110,5 +148,16 @@ impl<S: Store + Drop> MdCache<S> {
         self.caches.end(dir, part.frag);
         self.jobs.end(dir, part.frag);
         self.purge.put(part.object);
+    }
+}
+
+/// Whether a fragment that is there shows a name. Takes no memory, and no note of the use.
+pub(crate) fn shows(caches: &Caches, at: &Dirfrag, name: &Name) -> bool
+    requires { at.now.rank.0 < length caches.now.used }
+    ensures { result ≡ shows_in (here caches.now at.now.rank.0 (leaf_of at.now)) name.now }
+{
+    match caches.get(*at) {
+        Some(fragment) => fragment.look(name).is_some(),
+        None => false,
     }
 }

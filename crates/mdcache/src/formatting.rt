@@ -16,7 +16,7 @@ use crate::standing_jobs::StandingJobs;
 use cached_frag::CachedFrag;
 use dentry_cache::Caches;
 use inode_table::Dirs;
-use mds_types::{Dirfrag, Frag, Ino, Rank, Refusal};
+use mds_types::{Dirfrag, Frag, Ino, Limit, Rank, Refusal};
 use objstore::{NamePage, Store};
 use std::alloc::Global;
 
@@ -31,12 +31,13 @@ impl<S: Store + Drop> MdCache<S> {
         mut store: S,
         ranks: u8,
         places: usize,
+        limit: Limit,
     ) -> Result<MdCache<S>, (Refusal, S)>
         requires some { 0 < ranks }
         requires few { 512 ≤ places }
         requires many { places ≤ 65536 }
         ensures empty { OnOk result (S.objects store ≡ map.empty) }
-        ensures state { IfOk result (λ m. state_of m ≡ new_state) }
+        ensures state { IfOk result (λ m. state_of m ≡ new_state limit) }
         ensures caches { IfOk result (λ m. m.caches ≡ new_caches ranks places) }
         ensures sound { IfOk result IsSoundCore }
         ensures refused { IfErr result (λ back. MayNotFormat (S.objects store) (S.faults store) (S.faults back.1) back.0) }
@@ -47,22 +48,29 @@ impl<S: Store + Drop> MdCache<S> {
         match has_objects(alloc, &mut store) {
             Err(refusal) => Err((refusal, store)),
             Ok(true) => Err((Refusal::NotClean, store)),
-            Ok(false) => match MdCache::new(alloc, store, ranks, places) {
+            Ok(false) => match MdCache::new(alloc, store, ranks, places, limit) {
                 Ok(made) => Ok(made),
                 Err(store) => Err((Refusal::NoMemory, store)),
             },
         }
     }
 
-    /// The empty tree over a store that has no object, with a cache of so many places for each of so many ranks. The root's
+    /// The empty tree over a store that has no object, with a cache of so many places for each of so many ranks, and a limit of the
+    /// entries of each directory. The root's
     /// leaf `*` is the first fragment made; it is cached at rank 0, and no object counts for it. Takes little memory; where
     /// that is refused the store is handed back as it was.
-    pub fn new(alloc: Global, store: S, ranks: u8, places: usize) -> Result<MdCache<S>, S>
+    pub fn new(
+        alloc: Global,
+        store: S,
+        ranks: u8,
+        places: usize,
+        limit: Limit,
+    ) -> Result<MdCache<S>, S>
         requires some { 0 < ranks }
         requires few { 512 ≤ places }
         requires many { places ≤ 65536 }
         requires empty { S.objects store ≡ map.empty }
-        ensures state { IfOk result (λ m. state_of m ≡ new_state) }
+        ensures state { IfOk result (λ m. state_of m ≡ new_state limit) }
         ensures caches { IfOk result (λ m. m.caches ≡ new_caches ranks places) }
         ensures sound { IfOk result IsSoundCore }
         ensures left { IfErr result (λ back. back ≡ store) }
@@ -70,6 +78,7 @@ impl<S: Store + Drop> MdCache<S> {
     {
         match root_caches(alloc, ranks, places) {
             Ok(caches) => Ok(MdCache {
+                limit,
                 dirs: Dirs::new(alloc),
                 caches,
                 store,

@@ -1,7 +1,6 @@
 //! `MdCache`, and what a contract sees of it.
 ghost use Rattle.std.specs.Prelude.{◌≡◌, length};
 ghost use Rattle.dentry_cache.specs.CacheMap.{AreCaches};
-ghost use Rattle.inode_table.specs.Dirs.{IsTable};
 
 use crate::counters::{Counters, Kept};
 use crate::prepared::Prepared;
@@ -9,15 +8,18 @@ use crate::purge_list::PurgeList;
 use crate::standing_jobs::StandingJobs;
 use dentry_cache::Caches;
 use inode_table::Dirs;
+use mds_types::Limit;
 use objstore::Store;
 use std::alloc::Global;
 use std::marker::Model;
 
-/// A directory table, a cache of fragments over a store for each rank, the commits that were begun, and the purge list.
+/// A directory table, a cache of fragments over a store for each rank, the commits that were begun, and the purge list; and how
+/// many entries a directory may have.
 ///
 /// Nothing is promised of these together: what a sound tree is (`IsSoundCore`) each call asks, and leaves.
 #[derive(Drop)]
 pub struct MdCache<S: Store + Drop> {
+    pub(crate) limit: Limit,
     pub(crate) dirs: Dirs,
     pub(crate) caches: Caches,
     pub(crate) store: S,
@@ -41,7 +43,7 @@ impl<S: Store + Drop> Model for MdCache<S> {
 
     ghost coded = { Prim.hlevel (codes, map.code) };
 
-    ghost view = { λ m. record { homes = m.dirs.homes; covers = m.dirs.trees; caches = m.caches; objects = S.objects m.store; faults = S.faults m.store; jobs = m.jobs.jobs; purge = m.purge.names; next_job = m.next.job; next_generation = m.next.generation; next_version = m.next.version; room = record { dirs = m.dirs.room; jobs = m.jobs.room; purge = m.purge.room }; prepared = m.prepared; kept = m.kept } };
+    ghost view = { λ m. record { limit = m.limit; homes = m.dirs.homes; covers = m.dirs.trees; counts = m.dirs.counts; pins = m.dirs.pins; caches = m.caches; objects = S.objects m.store; faults = S.faults m.store; jobs = m.jobs.jobs; purge = m.purge.names; next_job = m.next.job; next_generation = m.next.generation; next_version = m.next.version; room = record { dirs = m.dirs.room; jobs = m.jobs.room; purge = m.purge.room }; prepared = m.prepared; kept = m.kept } };
 }
 
 impl<S: Store + Drop> MdCache<S> {
@@ -51,6 +53,13 @@ impl<S: Store + Drop> MdCache<S> {
         ensures faults { S.faults result.now ≡ self.now.faults }
     {
         &self.store
+    }
+
+    /// How many entries a directory may have.
+    pub fn limit(&self) -> Limit
+        ensures { result ≡ self.now.limit }
+    {
+        self.limit
     }
 
     /// How many ranks there are. Of their caches it tells what `Caches::ranks` does.
@@ -68,10 +77,12 @@ impl<S: Store + Drop> MdCache<S> {
         &self.caches
     }
 
-    /// Which directories there are, and the leaves of each, to read.
+    /// Which directories there are, and the leaves, the count and the pin of each, to read.
     pub fn dirs(&self) -> &Dirs
         ensures homes { result.now.homes ≡ self.now.homes }
         ensures trees { result.now.trees ≡ self.now.covers }
+        ensures counts { result.now.counts ≡ self.now.counts }
+        ensures pins { result.now.pins ≡ self.now.pins }
     {
         &self.dirs
     }

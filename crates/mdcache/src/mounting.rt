@@ -7,6 +7,7 @@ ghost use Rattle.mds_types.specs.declared.refusals.Refusal.TheVariants.{NoMemory
 ghost use Rattle.objstore.specs.Omap.{key_cmp};
 ghost use Rattle.objstore.specs.Objects.{faults_in};
 ghost use Rattle.dentry_cache.specs.CacheMap.{no_caches, unclean};
+ghost use Rattle.inode_table.specs.TreeTable.{IsCounted};
 ghost use Rattle.cold_store.specs.ColdTree.{IsColdTree};
 ghost use Rattle.cold_store.specs.Walked.{IsWalked};
 ghost use Rattle.mdcache.specs.Core.{IsSoundCore, shown_in, state_of};
@@ -21,7 +22,7 @@ use crate::standing_jobs::StandingJobs;
 use cold_store::{Walked, walk};
 use dentry_cache::Caches;
 use inode_table::{Dirs, Numbers};
-use mds_types::{Dentry, Inode, Rank, Refusal};
+use mds_types::{Dentry, Inode, Limit, Rank, Refusal};
 use objstore::Store;
 use sorted_map::SortedMap;
 use std::alloc::{AllocError, Global};
@@ -35,8 +36,8 @@ pub struct Opening {
 
 impl<S: Store + Drop> MdCache<S> {
     /// The tree over a store as it is found: where the store has no object that of `format`; otherwise what `walk` finds, with
-    /// no fragment cached, and the objects that it doesn't reach on the purge list. Nothing is written. Memory is linear in the
-    /// names and the objects.
+    /// no fragment cached, and the objects that it doesn't reach on the purge list. Nothing is written, and a directory may have
+    /// more entries than the limit. Memory is linear in the names and the objects.
     ///
     /// Refused `Damaged`, with the name of a faulty object, where the store has objects; otherwise as the store refuses a call
     /// (`StoreFault`), and `NoMemory`; the store is handed back then, with its objects as they were.
@@ -45,12 +46,13 @@ impl<S: Store + Drop> MdCache<S> {
         mut store: S,
         ranks: u8,
         places: usize,
+        limit: Limit,
     ) -> Result<(MdCache<S>, Opening), (Refusal, S)>
         requires some { 0 < ranks }
         requires ranked { ranks ≤ 16 }
         requires few { 512 ≤ places }
         requires many { places ≤ 65536 }
-        ensures mounted { IfOk result (λ m. Mounts (S.objects store) ranks places (contents dentry_cmp m.1.entries) m.0) }
+        ensures mounted { IfOk result (λ m. Mounts limit (S.objects store) ranks places (contents dentry_cmp m.1.entries) m.0) }
         ensures cold { IfOk result (λ m. IsColdTree (S.objects store) (shown_in m.0)) }
         ensures opening { IfOk result (λ m. contents dentry_cmp m.1.entries ≡ shown_in m.0) }
         ensures numbers { IfOk result (λ m. AreNumbers (shown_in m.0) ranks m.1.numbers.items) }
@@ -62,9 +64,9 @@ impl<S: Store + Drop> MdCache<S> {
     {
         match has_objects(alloc, &mut store) {
             Err(refusal) => Err((refusal, store)),
-            Ok(false) => MdCache::mount_new(alloc, store, ranks, places),
+            Ok(false) => MdCache::mount_new(alloc, store, ranks, places, limit),
             Ok(true) => match walk(alloc, &mut store) {
-                Ok(walked) => MdCache::mount_walked(alloc, store, walked, ranks, places),
+                Ok(walked) => MdCache::mount_walked(alloc, store, walked, ranks, places, limit),
                 Err(refusal) => Err((refusal, store)),
             },
         }
@@ -76,6 +78,7 @@ impl<S: Store + Drop> MdCache<S> {
         ensures faults { S.faults result ≡ self.faults }
     {
         let MdCache {
+            limit: _,
             dirs,
             caches,
             store,
@@ -100,13 +103,14 @@ impl<S: Store + Drop> MdCache<S> {
         store: S,
         ranks: u8,
         places: usize,
+        limit: Limit,
     ) -> Result<(MdCache<S>, Opening), (Refusal, S)>
         requires some { 0 < ranks }
         requires ranked { ranks ≤ 16 }
         requires few { 512 ≤ places }
         requires many { places ≤ 65536 }
         requires empty { S.objects store ≡ map.empty }
-        ensures made { IfOk result (λ m. IsNew ranks places (contents dentry_cmp m.1.entries) m.0) }
+        ensures made { IfOk result (λ m. IsNew limit ranks places (contents dentry_cmp m.1.entries) m.0) }
         ensures numbers { IfOk result (λ m. AreNumbers (contents dentry_cmp m.1.entries) ranks m.1.numbers.items) }
         ensures sound { IfOk result (λ m. IsSoundCore m.0) }
         ensures faults { IfOk result (λ m. m.0.faults ≡ S.faults store) }
@@ -114,7 +118,7 @@ impl<S: Store + Drop> MdCache<S> {
     {
         match empty_opening(alloc, ranks) {
             Err(_) => Err((Refusal::NoMemory, store)),
-            Ok(opening) => match MdCache::new(alloc, store, ranks, places) {
+            Ok(opening) => match MdCache::new(alloc, store, ranks, places, limit) {
                 Ok(tree) => Ok((tree, opening)),
                 Err(store) => {
                     drop(opening);
@@ -131,12 +135,14 @@ impl<S: Store + Drop> MdCache<S> {
         walked: Walked,
         ranks: u8,
         places: usize,
+        limit: Limit,
     ) -> Result<(MdCache<S>, Opening), (Refusal, S)>
         requires ranked { ranks ≤ 16 }
         requires few { 512 ≤ places }
         requires many { places ≤ 65536 }
         requires walked { IsWalked (S.objects store) (contents dentry_cmp walked.entries) walked.dirs.homes walked.dirs.trees (contents key_cmp walked.left) }
-        ensures made { IfOk result (λ m. IsMounted (S.objects store) ranks places (contents dentry_cmp m.1.entries) m.0) }
+        requires counted { IsCounted (contents dentry_cmp walked.entries) walked.dirs.counts walked.dirs.pins }
+        ensures made { IfOk result (λ m. IsMounted limit (S.objects store) ranks places (contents dentry_cmp m.1.entries) m.0) }
         ensures numbers { IfOk result (λ m. AreNumbers (contents dentry_cmp m.1.entries) ranks m.1.numbers.items) }
         ensures faults { IfOk result (λ m. m.0.faults ≡ S.faults store) }
         ensures refused { IfErr result (λ back. back ≡ (NoMemory, store)) }
@@ -146,7 +152,9 @@ impl<S: Store + Drop> MdCache<S> {
                 drop(walked);
                 Err((Refusal::NoMemory, store))
             }
-            Ok((caches, numbers)) => Ok(MdCache::of_walked(alloc, store, walked, caches, numbers)),
+            Ok((caches, numbers)) => Ok(MdCache::of_walked(
+                alloc, store, walked, caches, numbers, limit,
+            )),
         }
     }
 
@@ -157,8 +165,9 @@ impl<S: Store + Drop> MdCache<S> {
         walked: Walked,
         caches: Caches,
         numbers: Vec<Numbers>,
+        limit: Limit,
     ) -> (MdCache<S>, Opening)
-        ensures state { state_of result.0 ≡ record (mounted (S.objects store) walked.dirs.homes walked.dirs.trees (contents key_cmp walked.left)) { unsaved = unclean caches } }
+        ensures state { state_of result.0 ≡ record (mounted limit (S.objects store) walked.dirs.homes walked.dirs.trees walked.dirs.counts walked.dirs.pins (contents key_cmp walked.left)) { unsaved = unclean caches } }
         ensures caches { result.0.caches ≡ caches }
         ensures faults { result.0.faults ≡ S.faults store }
         ensures entries { result.1.entries ≡ walked.entries }
@@ -170,6 +179,7 @@ impl<S: Store + Drop> MdCache<S> {
             left,
         } = walked;
         let tree = MdCache {
+            limit,
             dirs,
             caches,
             store,

@@ -2,7 +2,7 @@
 ghost use Rattle.std.specs.Prelude.{◌≡◌, ◌+◌, true, IfOk, IfErr, OnOk};
 ghost use Rattle.std.specs.Result.{result_err};
 ghost use Rattle.std.specs.FinMap as map;
-ghost use Rattle.mds_types.specs.Tree.{is_above, is_directory};
+ghost use Rattle.mds_types.specs.Tree.{entries_in, is_above, is_directory};
 ghost use Rattle.mds_types.specs.Leaf.{leaf_of};
 ghost use Rattle.fragtree.specs.FragTree.{IsPick};
 ghost use Rattle.namehash.specs.Rjenkins.{hash_of};
@@ -36,6 +36,14 @@ impl<S: Store + Drop> MdCache<S> {
         ensures { result ≡ is_above (shown_in self.now) dir.0 below.0 }
     {
         self.dirs.is_above(dir, below)
+    }
+
+    /// How many entries a directory has. Takes no memory, and fetches nothing.
+    pub fn count(&self, dir: Ino) -> u64
+        requires { IsSoundCore self.now }
+        ensures { result ≡ entries_in (shown_in self.now) dir.0 }
+    {
+        self.dirs.count(dir)
     }
 
     /// The inode that a name stands for in a leaf to which its hash belongs, copied. The leaf is fetched into the cache of the
