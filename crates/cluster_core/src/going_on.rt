@@ -1,6 +1,6 @@
 //! How a rank goes on with the exports of which it is the exporter. No memory is taken.
 ghost use Rattle.std.specs.Prelude.{◌↔◌, ℕ, List, IsTrue, MatchOption};
-ghost use Rattle.export_steps.specs.declared.exports.ExportState.TheVariants as state;
+ghost use Rattle.export_steps.specs.declared.exports.ExportState.TheVariants as at;
 ghost use Rattle.inboxes.specs.declared.pins.Pin.{Pin};
 ghost use Rattle.mds_types.specs.declared.ids.Rank.{Rank as RankNumber};
 ghost use Rattle.cluster_core.specs.declared.events.Event.{Event as Step};
@@ -72,8 +72,8 @@ fn begin<S: Store + Drop>(
     frag: Frag,
 ) -> Option<Event>
     ensures { (ranks : ℕ) → MatchOption result
-        ((event : Step) → IsNextStep (sight_of tree.now grants.now ranks rank) (ino, frag) state.Started event → ⊥)
-        (λ event. IsNextStep (sight_of tree.now grants.now ranks rank) (ino, frag) state.Started event) }
+        ((event : Step) → IsNextStep (sight_of tree.now grants.now ranks rank) (ino, frag) at.Started event → ⊥)
+        (λ event. IsNextStep (sight_of tree.now grants.now ranks rank) (ino, frag) at.Started event) }
 {
     if !is_mine(tree, rank, ino, frag) {
         return Some(Event::Cancel { ino, frag });
