@@ -6,6 +6,6 @@ returns-then-has_leaf g c = λ grants ranks. (λ told. record { live = c.has_lea
 
 pub returns-else-has_leaf : goal.returns-else-has_leaf
 returns-else-has_leaf g c = λ grants ranks. (
-  λ told. let clash : false ≡ true = told in cc,
+  λ told. let off : c.has_leaf.result ≡ false = search rules in let clash : true ≡ false = sym told ∙ off in cc,
   λ mine. let is : c.has_leaf.result ≡ true = c.has_leaf.ensures.1 mine.live in let not : c.has_leaf.result ≡ false = search rules in let clash : true ≡ false = sym is ∙ not in cc,
 )
