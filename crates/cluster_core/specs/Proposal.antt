@@ -252,6 +252,16 @@ pub record IsAwayTo (s : Sight) (leaf : Leaf) (to : Rank) : Type 0 where
   pub thawed : IsThawed s leaf
   pub none : map.get s.exports leaf ≡ None
 
+-- a subtree root, a leaf of a directory with a pin of its own, and either
+abbrev pub IsRootAt : Sight → Leaf → Type 0
+IsRootAt s leaf = IsSome (map.get s.roots leaf)
+
+abbrev pub IsOfPinned : Sight → Leaf → Type 0
+IsOfPinned s leaf = IsSome (map.get s.pins leaf.0.0)
+
+abbrev pub IsPlace : Sight → Leaf → Type 0
+IsPlace s leaf = IsRootAt s leaf ⊎ IsOfPinned s leaf
+
 -- the first leaf of these that would start, with the rank that it would start for
 abbrev pub IsFirstAway : Sight → (Leaf → Type 0) → Option (Leaf × Rank) → Type 0
 IsFirstAway s Place None = (leaf : Leaf) (to : Rank) → Place leaf → IsAwayTo s leaf to → ⊥

@@ -5,7 +5,7 @@ ghost use Rattle.inboxes.specs.declared.pins.Pin.{Pin};
 ghost use Rattle.mds_types.specs.Leaf.{Leaf};
 ghost use Rattle.mds_types.specs.declared.ids.Rank.{Rank as RankNumber};
 ghost use Rattle.cluster_core.specs.Pins.{HasPin};
-ghost use Rattle.cluster_core.specs.Proposal.{IsAwayTo, IsFirstAway, IsFirstStep, MayStart, OfPin, Sight, lesser_away, lesser_of, sight_of};
+ghost use Rattle.cluster_core.specs.Proposal.{IsAwayTo, IsFirstAway, IsFirstStep, IsOfPinned, IsPlace, IsRootAt, MayStart, OfPin, Sight, lesser_away, lesser_of, sight_of};
 
 use crate::events::Event;
 use crate::going_on::is_mine;
@@ -45,7 +45,7 @@ pub fn first_start<S: Store + Drop>(
 
 // The first subtree root that is to start.
 fn first_root<S: Store + Drop>(tree: &RankedTree<S>, ranks: usize, rank: Rank) -> Option<Away>
-    ensures { (grants : List Pin) → IsFirstAway (sight_of tree.now grants ranks rank) (λ (leaf : Leaf). IsSome (map.get tree.now.subtrees.roots leaf)) result }
+    ensures { (grants : List Pin) → IsFirstAway (sight_of tree.now grants ranks rank) (IsRootAt (sight_of tree.now grants ranks rank)) result }
 {
     let mut after = None;
     while let Some(root) = tree.roots().next_root(&after) {
@@ -59,7 +59,7 @@ fn first_root<S: Store + Drop>(tree: &RankedTree<S>, ranks: usize, rank: Rank) -
 
 // The first leaf of a directory with a pin that is to start.
 fn first_pinned<S: Store + Drop>(tree: &RankedTree<S>, ranks: usize, rank: Rank) -> Option<Away>
-    ensures { (grants : List Pin) → IsFirstAway (sight_of tree.now grants ranks rank) (λ (leaf : Leaf). IsSome (map.get tree.now.tree.pins leaf.0.0)) result }
+    ensures { (grants : List Pin) → IsFirstAway (sight_of tree.now grants ranks rank) (IsOfPinned (sight_of tree.now grants ranks rank)) result }
 {
     let mut after = None;
     while let Some(dir) = tree.dirs().next_pinned(after) {
@@ -166,7 +166,7 @@ fn unpinned_home(dirs: &Dirs, dir: Ino) -> Option<&Home>
 
 // The one at the lesser leaf.
 fn lesser(one: Option<Away>, other: Option<Away>) -> Option<Away>
-    ensures { (s : Sight) (P Q : Leaf → Type 0) → IsFirstAway s P one → IsFirstAway s Q other → IsFirstAway s (λ (leaf : Leaf). P leaf ⊎ Q leaf) result }
+    ensures { (s : Sight) → IsFirstAway s (IsRootAt s) one → IsFirstAway s (IsOfPinned s) other → IsFirstAway s (IsPlace s) result }
 {
     match one {
         None => other,

@@ -87,6 +87,7 @@ fn may_merge<S: Store + Drop>(
 ) -> bool
     ensures { (ranks : ℕ) → IsTrue result ↔ ((i : ℕ) → i < 8 → IsIdle (sight_of tree.now grants.now ranks rank) (child (ino, frag) i)) }
 {
+    tree.is_sound();
     for i in 0..8 {
         // what has more than 24 bits is no leaf
         let Some(child) = frag.child(i, 3) else {

@@ -2,7 +2,7 @@ use Rattle.std.proofs.Common.{◌⊎◌, Option, Some, None, IsSome, subst, rule
 use Rattle.std.specs.FinMap as map
 use Rattle.mds_types.specs.declared.ids.Rank.{Rank}
 use Rattle.mds_types.specs.Leaf.{Leaf}
-use Rattle.cluster_core.specs.Proposal.{IsFirstAway, sight_of}
+use Rattle.cluster_core.specs.Proposal.{IsFirstAway, IsPlace, sight_of}
 use Rattle.inode_table.specs.Dirs.{DirPins}
 use Rattle.inode_table.specs.Pinned.{IsNextPinned}
 use Rattle.cluster_core.proofs.AwayLaws.{start_none, start_of}
@@ -18,12 +18,12 @@ pub returns-in-Some : goal.returns-in-Some
 returns-in-Some g c = λ grants.
     let s = sight_of c.args.tree.now grants c.args.ranks c.args.rank in
     start_of s (c.in-Some.leaf, c.in-Some.to)
-    (subst (λ (o : Option (Leaf × Rank)). IsFirstAway s (λ (leaf : Leaf). IsSome (map.get s.roots leaf) ⊎ IsSome (map.get s.pins leaf.0.0)) o) c.in-Some.is
-    (c.lesser.ensures s (λ (leaf : Leaf). IsSome (map.get s.roots leaf)) (λ (leaf : Leaf). IsSome (map.get s.pins leaf.0.0)) (c.first_root-root.ensures grants) (c.first_pinned-pinned.ensures grants)))
+    (subst (λ (o : Option (Leaf × Rank)). IsFirstAway s (IsPlace s) o) c.in-Some.is
+    (c.lesser.ensures s (c.first_root-root.ensures grants) (c.first_pinned-pinned.ensures grants)))
 
 pub returns-in-None : goal.returns-in-None
 returns-in-None g c = λ grants.
     let s = sight_of c.args.tree.now grants c.args.ranks c.args.rank in
     start_none s
-    (subst (λ (o : Option (Leaf × Rank)). IsFirstAway s (λ (leaf : Leaf). IsSome (map.get s.roots leaf) ⊎ IsSome (map.get s.pins leaf.0.0)) o) c.in-None.is
-    (c.lesser.ensures s (λ (leaf : Leaf). IsSome (map.get s.roots leaf)) (λ (leaf : Leaf). IsSome (map.get s.pins leaf.0.0)) (c.first_root-root.ensures grants) (c.first_pinned-pinned.ensures grants)))
+    (subst (λ (o : Option (Leaf × Rank)). IsFirstAway s (IsPlace s) o) c.in-None.is
+    (c.lesser.ensures s (c.first_root-root.ensures grants) (c.first_pinned-pinned.ensures grants)))
