@@ -137,7 +137,10 @@ fn may_start<S: Store + Drop>(tree: &RankedTree<S>, rank: Rank, ino: Ino, frag: 
     if tree.is_frozen(ino, frag) {
         return false;
     }
-    tree.exports().get(ino, frag).is_none()
+    match tree.exports().get(ino, frag) {
+        Some(_) => false,
+        None => true,
+    }
 }
 
 // The effective pin of a directory.
