@@ -24,3 +24,6 @@ pub mod Stepped
 pub mod Supplies
 pub mod UsesLaws
 pub mod Worked
+pub mod MergeLaws
+pub mod ProposalLaws
+pub mod WalkLaws

@@ -19,3 +19,5 @@ pub mod Sound
 pub mod State
 pub mod Steps
 pub mod Uses
+pub mod Pins
+pub mod Proposal

@@ -16,6 +16,7 @@ mod mounting;
 mod parts;
 mod pinned;
 mod plain_trees;
+pub mod proposals;
 mod runs;
 mod serving;
 
