@@ -6,6 +6,7 @@ use Rattle.std.specs.Io.KnownBytes.{Appends, Keeps}
 use Rattle.std.specs.FinMap as map
 use Rattle.cluster_core.specs.State.{Kept}
 use Rattle.script_text.specs.Input.{lines_of, IsFirstLine, IsTooLong}
+use Rattle.cluster_core.specs.SentBytes.{none_sent}
 use Rattle.admin_cli.specs.declared.commands.Admin.{Admin}
 use Rattle.admin_cli.specs.declared.faults.ScriptFault.{ScriptFault}
 use Rattle.admin_cli.specs.declared.faults.FaultKind.{FaultKind}
@@ -414,6 +415,6 @@ module _ (old now new : Admin) (known left rest before mid after : Option (List 
 
 -- a script over a book that was made
 pub started : (ranks cache limit : ℕ) (known before after : Option (List ℕ)) (result : Result (Unit {0}) ScriptFault) (book : Kept) → IsFormatted ranks cache limit book
-    → RunsOrNot (record { book = book; operations = 0; jobs = map.empty; sent = map.empty }) known before after result → RunsNew ranks cache limit known before after result
+    → RunsOrNot (record { book = book; operations = 0; jobs = map.empty; sent = none_sent }) known before after result → RunsNew ranks cache limit known before after result
 started ranks cache limit known before after result book formatted (inl runs) = inl (record { book = book; formatted = formatted; runs = runs })
 started ranks cache limit known before after result book formatted (inr never) = inr never

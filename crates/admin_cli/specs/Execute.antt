@@ -9,13 +9,14 @@ use Rattle.cluster_core.specs.declared.events.Event.TheVariants.{Arrive, Serve a
 use Rattle.cluster_core.specs.Administers.{ListsLeaves}
 use Rattle.cluster_core.specs.State.{Kept}
 use Rattle.script_text.specs.declared.commands.Command.{Command}
-use Rattle.script_text.specs.declared.commands.Command.TheVariants.{Operation, Request, Serve, History, Split, Merge, Leaves, Grant, Subtrees, Authority, Export, Store}
+use Rattle.script_text.specs.declared.commands.Command.TheVariants.{Operation, Own, Request, Serve, History, Split, Merge, Leaves, Grant, Subtrees, Authority, Export, Store}
 use Rattle.script_output.specs.declared.lines.OutputLine.{OutputLine}
 use Rattle.script_output.specs.declared.lines.OutputLine.TheVariants.{Frags, History as HistoryLine, Refused}
 use Rattle.admin_cli.specs.declared.commands.Admin.{Admin}
 use Rattle.admin_cli.specs.StepLines.{Does, IsStep, StepsLine, arrived_line, shown_line}
 use Rattle.admin_cli.specs.Authorities.{ListsSubtrees, TellsLine}
 use Rattle.admin_cli.specs.ExportLines.{ExecutesExport, LacksForExport}
+use Rattle.admin_cli.specs.OwnLines.{LacksForTurn, TakesTurn}
 use Rattle.admin_cli.specs.StoreLines.{ExecutesStore, LacksForStore}
 
 -- an operation alone: it arrives at rank 0 as client 0 with this transaction number, and is served there if it wasn't refused
@@ -38,6 +39,7 @@ ListsLine book dir line =
 abbrev pub Executes : (old new : Admin) → Command → OutputLine → Type 0
 Executes old new (Operation op) line = (new.operations ≡ old.operations + 1) × (new.jobs ≡ old.jobs) × (new.sent ≡ old.sent) × OperatesLine old.book new.book new.operations op line
 Executes old new (Serve rank) line = Does old new (ServeEvent rank) line
+Executes old new (Own rank) line = TakesTurn old new rank line
 Executes old new (Request rank request) line = (new.operations ≡ old.operations) × (new.jobs ≡ old.jobs) × (new.sent ≡ old.sent) × StepsLine old.book new.book (Arrive rank request) arrived_line line
 Executes old new History line = (new ≡ old) × (line ≡ HistoryLine (length old.book.history))
 Executes old new (Split rank dir f nb) line = Does old new (SplitEvent rank dir f nb) line
@@ -53,6 +55,7 @@ Executes old new (Store command) line = ExecutesStore old new command line
 abbrev pub LacksFor : (old new : Admin) → Command → Type 0
 LacksFor old new (Operation op) = ⊥
 LacksFor old new (Serve rank) = ⊥
+LacksFor old new (Own rank) = LacksForTurn old new rank
 LacksFor old new (Request rank request) = ⊥
 LacksFor old new History = ⊥
 LacksFor old new (Split rank dir f nb) = ⊥

@@ -4,7 +4,8 @@ use Rattle.std.specs.FinMap as map
 use Rattle.mds_types.specs.declared.ids.Ino.{Ino}
 use Rattle.mds_types.specs.declared.refusals.Refusal.{Refusal}
 use Rattle.mds_types.specs.Frag.{Fragment}
-use Rattle.mds_types.specs.Leaf.{Leaf}
+use Rattle.mds_types.specs.Leaf.{Leaf, leaf_cmp}
+use Rattle.cluster_core.specs.SentBytes.{bytes_for}
 use Rattle.cluster_core.specs.declared.events.Answer.{Answer}
 use Rattle.cluster_core.specs.declared.events.Answer.TheVariants.{Deferred, Forwarded, Job, Nothing, Reply, Sent}
 use Rattle.cluster_core.specs.declared.events.Event.TheVariants.{Start as StartEvent, Freeze as FreezeEvent, Prep as PrepEvent, Send as SendEvent, Import as ImportEvent, Finish as FinishEvent, Cancel as CancelEvent}
@@ -12,11 +13,10 @@ use Rattle.script_text.specs.declared.exports.ExportCommand.{ExportCommand}
 use Rattle.script_text.specs.declared.exports.ExportCommand.TheVariants.{Dir, Freeze, Prep, Send, Import, Finish, Cancel}
 use Rattle.script_output.specs.declared.lines.OutputLine.{OutputLine}
 use Rattle.admin_cli.specs.declared.commands.Admin.{Admin}
-use Rattle.admin_cli.specs.SentBytes.{SentBytes, bytes_for}
 use Rattle.admin_cli.specs.StepLines.{Does, IsStep, shown_line}
 
 -- what was sent is kept under its root, in place of what was kept there
-abbrev pub with_sent : SentBytes → Leaf → Result Answer Refusal → SentBytes
+abbrev pub with_sent : map.FinMap leaf_cmp (List ℕ) → Leaf → Result Answer Refusal → map.FinMap leaf_cmp (List ℕ)
 with_sent sent root (Ok (Sent bytes)) = map.insert sent root bytes
 with_sent sent root (Ok Nothing) = sent
 with_sent sent root (Ok (Job job)) = sent
@@ -34,7 +34,7 @@ is_done (Err refusal) = false
 pub record SendsLine (old new : Admin) (dir : Ino) (f : Fragment) (line : OutputLine) : Type 0 where
   pub result : Result Answer Refusal
   pub stepped : IsStep old.book new.book result (SendEvent dir f)
-  pub sent : new.sent ≡ with_sent old.sent (dir, f) result
+  pub sent : new.sent.bytes ≡ with_sent old.sent.bytes (dir, f) result
   pub jobs : new.jobs ≡ old.jobs
   pub count : new.operations ≡ old.operations
   pub shown : line ≡ shown_line result
@@ -43,29 +43,25 @@ pub record SendsLine (old new : Admin) (dir : Ino) (f : Fragment) (line : Output
 pub record ImportsLine (old new : Admin) (dir : Ino) (f : Fragment) (line : OutputLine) : Type 0 where
   pub result : Result Answer Refusal
   pub stepped : IsStep old.book new.book result (ImportEvent dir f (bytes_for old.sent (dir, f)))
-  pub sent : new.sent ≡ cond (is_done result) (map.remove old.sent (dir, f)) old.sent
+  pub sent : new.sent.bytes ≡ cond (is_done result) (map.remove old.sent.bytes (dir, f)) old.sent.bytes
   pub jobs : new.jobs ≡ old.jobs
   pub count : new.operations ≡ old.operations
   pub shown : line ≡ shown_line result
 
--- an export was sent, and there was no memory to keep its bytes
-pub record LosesBytes (old new : Admin) (dir : Ino) (f : Fragment) : Type 0 where
-  pub bytes : List ℕ
-  pub stepped : IsStep old.book new.book (Ok (Sent bytes)) (SendEvent dir f)
-  pub sent : new.sent ≡ old.sent
-  pub jobs : new.jobs ≡ old.jobs
-  pub count : new.operations ≡ old.operations
+-- there was no room for the bytes of an export; all is left
+abbrev pub MakesNoRoom : (old new : Admin) → Type 0
+MakesNoRoom old new = new ≡ old
 
 -- there was no memory to copy the bytes kept under a root; all is left
 abbrev pub CopiesNoBytes : (old new : Admin) → Ino → Fragment → Type 0
-CopiesNoBytes old new dir f = (new ≡ old) × IsSome (map.get old.sent (dir, f))
+CopiesNoBytes old new dir f = (new ≡ old) × IsSome (map.get old.sent.bytes (dir, f))
 
 -- memory that the script itself needs for a command on an export was refused: for bytes that it keeps or copies, of no step's
 abbrev pub LacksForExport : (old new : Admin) → ExportCommand → Type 0
 LacksForExport old new (Dir from dir f to) = ⊥
 LacksForExport old new (Freeze dir f) = ⊥
 LacksForExport old new (Prep dir f) = ⊥
-LacksForExport old new (Send dir f) = LosesBytes old new dir f
+LacksForExport old new (Send dir f) = MakesNoRoom old new
 LacksForExport old new (Import dir f) = CopiesNoBytes old new dir f
 LacksForExport old new (Finish dir f) = ⊥
 LacksForExport old new (Cancel dir f) = ⊥

@@ -4,8 +4,8 @@ pub mod ExportLines
 pub mod FaultText
 pub mod Jobs
 pub mod OneLine
+pub mod OwnLines
 pub mod Scripts
-pub mod SentBytes
 pub mod Settings
 pub mod StepLines
 pub mod StoreLines

@@ -12,6 +12,7 @@ use Rattle.script_text.specs.Input.{lines_of}
 use Rattle.script_text.specs.Script.{line_of, TakesMemory}
 use Rattle.script_output.specs.Lines.{output_line}
 use Rattle.script_output.specs.Writing.{TakesText}
+use Rattle.cluster_core.specs.SentBytes.{none_sent}
 use Rattle.admin_cli.specs.declared.commands.Admin.{Admin}
 use Rattle.admin_cli.specs.declared.faults.ScriptFault.{ScriptFault}
 use Rattle.admin_cli.specs.declared.faults.FaultKind.{FaultKind}
@@ -126,7 +127,7 @@ pub record IsFormatted (ranks cache limit : ℕ) (book : Kept) : Type 0 where
 pub record RunsFormatted (ranks cache limit : ℕ) (known before after : Option (List ℕ)) (result : Result (Unit {0}) ScriptFault) : Type 0 where
   pub book : Kept
   pub formatted : IsFormatted ranks cache limit book
-  pub runs : RunsInput (record { book = book; operations = 0; jobs = map.empty; sent = map.empty }) known before after result
+  pub runs : RunsInput (record { book = book; operations = 0; jobs = map.empty; sent = none_sent }) known before after result
 
 -- memory for a book, or to read lines, was refused before the first line: nothing was written
 pub record NeverStarts (before after : Option (List ℕ)) (result : Result (Unit {0}) ScriptFault) : Type 0 where

@@ -93,7 +93,7 @@ Clients:
   req RANK CLIENT TID OLDEST OP     serve RANK
 Ranks:
   grant RANK CLIENT TID             get subtrees
-  authority INO FRAG
+  authority INO FRAG                own RANK
 Fragments:
   dirfrag split RANK INO FRAG NB    dirfrag merge RANK INO FRAG
   dirfrag ls INO

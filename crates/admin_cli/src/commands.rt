@@ -2,11 +2,11 @@
 
 ghost use Rattle.std.specs.Prelude.{◌≡◌, ◌+◌, ◌<◌, ◌≤◌, ◌^◌, IfOk, OnErr};
 ghost use Rattle.std.specs.FinMap as map;
+ghost use Rattle.cluster_core.specs.SentBytes.{none_sent};
 ghost use Rattle.admin_cli.specs.StepLines.{shown_line as line_of};
 
-use crate::kept_bytes::KeptBytes;
 use crate::kept_jobs::KeptJobs;
-use cluster_core::{Answer, Book, Event};
+use cluster_core::{Answer, Book, Event, KeptBytes};
 use mds_types::{Frag, Ino, Op, Rank, Refusal, Request};
 use objstore::MemStore;
 use script_output::{FragList, OutputLine};
@@ -30,7 +30,7 @@ impl Admin {
 
     /// An administrator of this book, who has read no line yet.
     pub fn new(alloc: Global, book: Book<MemStore>) -> Admin
-        ensures { result ≡ record { book = book; operations = 0; jobs = map.empty; sent = map.empty } }
+        ensures { result ≡ record { book = book; operations = 0; jobs = map.empty; sent = none_sent } }
     {
         Admin {
             book,
@@ -41,9 +41,9 @@ impl Admin {
     }
 
     /// Does what a command asks for, and answers the line to print. So many lines were read that one more fits 64 bits.
-    /// An error is want of memory that the script itself needs: for a job or the bytes of an export that it keeps, once the step
-    /// has given them; for a copy of what it kept; or for a list of the subtree map. No step's answer is lost by it but what it was
-    /// to keep.
+    /// An error is want of memory that the script itself needs: for a job that it keeps, once the step has given it; for room to keep
+    /// the bytes of an export, or for a copy of what it kept, before the step; or for a list of the subtree map. No step's answer is
+    /// lost by it but a job that it was to keep.
     pub fn execute(
         &mut self,
         rt: &(impl AllocGlobal + Threads + Sync),
@@ -80,6 +80,7 @@ impl Admin {
             Command::Operation(op) => Ok(self.operate(alloc, op)),
             Command::Request(rank, request) => Ok(self.arrive(alloc, rank, request)),
             Command::Serve(rank) => Ok(self.serve(alloc, rank)),
+            Command::Own(rank) => self.own_turn(alloc, rank),
             Command::History => Ok(OutputLine::History(self.book.history().len() as u64)),
             Command::Split {
                 rank,
@@ -152,7 +153,7 @@ impl Admin {
 
     // A leaf of a directory is split.
     #[inline(never)]
-    fn split(&mut self, alloc: Global, rank: Rank, ino: Ino, frag: Frag, bits: u8) -> OutputLine
+    pub(crate) fn split(&mut self, alloc: Global, rank: Rank, ino: Ino, frag: Frag, bits: u8) -> OutputLine
         ensures { Does self.old self.new (Split rank ino frag bits) result }
     {
         self.step(
@@ -168,7 +169,13 @@ impl Admin {
 
     // Leaves of a directory are merged.
     #[inline(never)]
-    fn merge(&mut self, alloc: Global, rank: Rank, ino: Ino, frag: Frag) -> OutputLine
+    pub(crate) fn merge(
+        &mut self,
+        alloc: Global,
+        rank: Rank,
+        ino: Ino,
+        frag: Frag,
+    ) -> OutputLine
         ensures { Does self.old self.new (Merge rank ino frag) result }
     {
         self.step(alloc, Event::Merge { rank, ino, frag })

@@ -1,6 +1,6 @@
 //! Commands on the exports of subtrees. What an export sends is kept here, between its `send` and its `import`.
 ghost use Rattle.std.specs.Prelude.{◌≡◌, IfOk, OnErr};
-ghost use Rattle.admin_cli.specs.ExportLines.{CopiesNoBytes, ExecutesExport, ImportsLine, LacksForExport, LosesBytes, SendsLine, is_done};
+ghost use Rattle.admin_cli.specs.ExportLines.{CopiesNoBytes, ExecutesExport, ImportsLine, LacksForExport, SendsLine, is_done};
 
 use crate::commands::{Admin, shown_line};
 use cluster_core::{Answer, Event};
@@ -51,18 +51,24 @@ impl Admin {
         }
     }
 
-    // `export send INO FRAG`: what the export hands over is kept. An error says that it was sent, and that there was no memory to
-    // keep it.
+    // `export send INO FRAG`: what the export hands over is kept. An error says that there was no room to keep it, so that nothing was
+    // sent.
     #[inline(never)]
-    fn send(&mut self, alloc: Global, ino: Ino, frag: Frag) -> Result<OutputLine, AllocError>
+    pub(crate) fn send(
+        &mut self,
+        alloc: Global,
+        ino: Ino,
+        frag: Frag,
+    ) -> Result<OutputLine, AllocError>
         ensures line { IfOk result (SendsLine self.old self.new ino frag) }
-        ensures err { OnErr result (LosesBytes self.old self.new ino frag) }
+        ensures err { OnErr result (self.new ≡ self.old) }
         ensures count { self.new.operations ≡ self.old.operations }
     {
+        self.sent.reserve()?;
         match self.step_book(alloc, Event::Send { ino, frag }) {
             Ok(Answer::Sent(bytes)) => {
                 let length = bytes.as_slice().len() as u64;
-                self.sent.keep(ino, frag, bytes)?;
+                self.sent.keep(ino, frag, bytes);
                 Ok(OutputLine::Sent(length))
             }
             other => Ok(shown_line(other)),
@@ -72,7 +78,12 @@ impl Admin {
     // `export import INO FRAG`: the importer takes a copy of the kept bytes. Once it has them they are kept no longer. An error says
     // that there was no memory to copy them.
     #[inline(never)]
-    fn import(&mut self, alloc: Global, ino: Ino, frag: Frag) -> Result<OutputLine, AllocError>
+    pub(crate) fn import(
+        &mut self,
+        alloc: Global,
+        ino: Ino,
+        frag: Frag,
+    ) -> Result<OutputLine, AllocError>
         ensures line { IfOk result (ImportsLine self.old self.new ino frag) }
         ensures err { OnErr result (CopiesNoBytes self.old self.new ino frag) }
         ensures count { self.new.operations ≡ self.old.operations }

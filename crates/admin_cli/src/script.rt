@@ -1,6 +1,7 @@
 //! Running a script.
 ghost use Rattle.std.specs.Prelude.{◌≡◌, ◌+◌, ◌<◌, ◌≤◌, ◌^◌, length, IfSome};
 ghost use Rattle.std.specs.FinMap as map;
+ghost use Rattle.cluster_core.specs.SentBytes.{none_sent};
 ghost use Rattle.admin_cli.specs.Scripts.{IsFormatted, RunsInput, RunsNew};
 ghost use Rattle.admin_cli.specs.OneLine.{AnswersLine, DoesBytes, HasReaderFailed, Prints, RunsOrNot};
 ghost use Rattle.admin_cli.specs.Waiting.{IsEmpty, PrintsAny, PrintsOutput, RunsWaiting};
@@ -66,7 +67,7 @@ fn run_book<R: Read + Drop, W: Write>(
     writer: &mut W,
     book: Book<MemStore>,
 ) -> Result<(), ScriptFault>
-    ensures { RunsOrNot (record { book = book; operations = 0; jobs = map.empty; sent = map.empty }) (R.remaining reader) (W.contents writer.old) (W.contents writer.new) result }
+    ensures { RunsOrNot (record { book = book; operations = 0; jobs = map.empty; sent = none_sent }) (R.remaining reader) (W.contents writer.old) (W.contents writer.new) result }
 {
     let mut admin = Admin::new(rt.alloc(), book);
     let ended = run_input(rt, reader, writer, &mut admin);

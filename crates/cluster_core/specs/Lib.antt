@@ -12,8 +12,11 @@ pub mod Grants
 pub mod Master
 pub mod Mounted
 pub mod Offer
+pub mod Pins
 pub mod Prepared
+pub mod Proposal
 pub mod Runs
+pub mod SentBytes
 pub mod Serve
 pub mod Sound
 pub mod State

@@ -1,14 +1,16 @@
 -- The proposal of a rank's own step (CephFS's balancer and its subtree pins, with this project's own order of steps): an export that it goes on
 -- with, a leaf that it splits, leaves that it merges, or a subtree that it begins to hand to the rank that the subtree is pinned to.
-use Rattle.std.specs.Prelude.{◌≡◌, ◌≢◌, ◌⊎◌, ℕ, ◌<◌, ◌≤◌, Bool, false, List, [], ◌∷◌, length, Option, Some, None, IsSome, Result, Ok, Err}
+use Rattle.std.specs.Prelude.{◌≡◌, ◌≢◌, ◌⊎◌, ℕ, ◌<◌, ◌≤◌, Bool, false, cond, List, [], ◌∷◌, length, Option, Some, None, IsSome, Result, Ok, Err}
 use Rattle.std.specs.List.{list_any}
 use Rattle.std.specs.declared.cmp.Ordering.TheVariants.{Less}
+use Rattle.std.specs.Ordering.{is_lt}
 use Rattle.std.specs.FinMap as map
 use Rattle.mds_types.specs.declared.ids.Rank.{Rank}
 use Rattle.mds_types.specs.declared.refusals.Refusal.{Refusal}
 use Rattle.mds_types.specs.declared.refusals.Refusal.TheVariants.{NoMemory, NotAuthority}
 use Rattle.mds_types.specs.Leaf.{Leaf, leaf_cmp}
 use Rattle.fragtree.specs.FragTree.{CanMerge, CanSplit, IsTree}
+use Rattle.inboxes.specs.declared.pins.Pin.{Pin}
 use Rattle.inboxes.specs.Pins.{is_on}
 use Rattle.inode_table.specs.Dirs.{Covers, DirPins, Homes, IsLive, leaves_of}
 use Rattle.subtree_map.specs.Authority.{HasAuthority, NearestRoot, Roots}
@@ -19,8 +21,9 @@ use Rattle.export_steps.specs.ByExporter.{IsNextOf}
 use Rattle.export_steps.specs.Holder.{IsFrozen}
 use Rattle.export_steps.specs.Standing.{Standing}
 use Rattle.dentry_cache.specs.Candidates.{IsLargeIn, IsNext, IsSmallIn, Sizes, child, sizes_at}
+use Rattle.ranked_tree.specs.Ranked.{Ranked}
 use Rattle.cluster_core.specs.declared.events.Event.{Event}
-use Rattle.cluster_core.specs.declared.events.Event.TheVariants.{Split, Merge, Start, Freeze, Prep, Send, Import, Finish, Cancel}
+use Rattle.cluster_core.specs.declared.events.Event.TheVariants.{Arrive, Serve, Grant, Split, Merge, CommitBegin, CommitEnd, CommitDrop, CommitTree, Purge, Evict, Start, Freeze, Prep, Send, Import, Finish, Cancel}
 use Rattle.cluster_core.specs.Pins.{HasPin}
 use Rattle.cluster_core.specs.State.{Core}
 
@@ -144,6 +147,27 @@ IsFirstOf s (kind ∷ others) (Some event) = IsLeast s kind event ⊎ (WouldNot 
 abbrev pub IsProposal : Sight → Option Event → Type 0
 IsProposal s event = IsFirstOf s kinds event
 
+-- the steps that a rank makes of its own
+abbrev pub IsOwnStep : Event → Type 0
+IsOwnStep (Arrive rank request) = ⊥
+IsOwnStep (Serve rank) = ⊥
+IsOwnStep (Grant rank client tid) = ⊥
+IsOwnStep (Split rank dir f bits) = Unit {0}
+IsOwnStep (Merge rank dir f) = Unit {0}
+IsOwnStep (CommitBegin rank dir f) = ⊥
+IsOwnStep (CommitEnd encoded) = ⊥
+IsOwnStep (CommitDrop job) = ⊥
+IsOwnStep (CommitTree dir) = ⊥
+IsOwnStep Purge = ⊥
+IsOwnStep (Evict rank) = ⊥
+IsOwnStep (Start from dir f to) = Unit {0}
+IsOwnStep (Freeze dir f) = Unit {0}
+IsOwnStep (Prep dir f) = Unit {0}
+IsOwnStep (Send dir f) = Unit {0}
+IsOwnStep (Import dir f bytes) = Unit {0}
+IsOwnStep (Finish dir f) = Unit {0}
+IsOwnStep (Cancel dir f) = Unit {0}
+
 -- ---- of a cluster
 
 -- what a rank of a cluster goes by
@@ -191,3 +215,64 @@ pub record NoCandidateNoProposal : Type 0 where
   pub exports : (s : Sight) → IsNextOf s.exports s.rank None None → WouldNot s OfExport
   pub large : (s : Sight) → IsNext (IsLargeIn s.cached) None None → WouldNot s OfLarge
   pub small : (s : Sight) → IsNext (IsSmallIn s.cached) None None → WouldNot s OfSmall
+
+-- ---- words of this crate's own contracts
+
+-- what a rank goes by, by the tree, the grants, and how many ranks there are
+abbrev pub sight_of : Ranked → List Pin → ℕ → Rank → Sight
+sight_of ranked grants ranks rank = record {
+  rank = rank;
+  ranks = ranks;
+  homes = ranked.tree.homes;
+  covers = ranked.tree.covers;
+  roots = ranked.subtrees.roots;
+  exports = ranked.exports;
+  pins = ranked.tree.pins;
+  granted = λ leaf. list_any (is_on leaf.0 leaf.1) grants;
+  cached = sizes_at ranked.tree.caches rank.0;
+}
+
+-- the step of a kind that it would make at the least leaf, if it would make one
+abbrev pub IsFirstStep : Sight → Kind → Option Event → Type 0
+IsFirstStep s kind None = WouldNot s kind
+IsFirstStep s kind (Some event) = IsLeast s kind event
+
+-- an export of a leaf may start
+pub record MayStart (s : Sight) (leaf : Leaf) : Type 0 where
+  pub own : IsMine s leaf
+  pub thawed : IsThawed s leaf
+  pub none : map.get s.exports leaf ≡ None
+
+-- the rank that a leaf would start for, which its directory is pinned to
+pub record IsAwayTo (s : Sight) (leaf : Leaf) (to : Rank) : Type 0 where
+  pub own : IsMine s leaf
+  pub pin : HasPin s.pins s.homes leaf.0.0 to
+  pub other : to ≢ s.rank
+  pub there : to.0 < s.ranks
+  pub thawed : IsThawed s leaf
+  pub none : map.get s.exports leaf ≡ None
+
+-- a subtree root, a leaf of a directory with a pin of its own, and either
+abbrev pub IsRootAt : Sight → Leaf → Type 0
+IsRootAt s leaf = IsSome (map.get s.roots leaf)
+
+abbrev pub IsOfPinned : Sight → Leaf → Type 0
+IsOfPinned s leaf = IsSome (map.get s.pins leaf.0.0)
+
+abbrev pub IsPlace : Sight → Leaf → Type 0
+IsPlace s leaf = IsRootAt s leaf ⊎ IsOfPinned s leaf
+
+-- the first leaf of these that would start, with the rank that it would start for
+abbrev pub IsFirstAway : Sight → (Leaf → Type 0) → Option (Leaf × Rank) → Type 0
+IsFirstAway s Place None = (leaf : Leaf) (to : Rank) → Place leaf → IsAwayTo s leaf to → ⊥
+IsFirstAway s Place (Some found) =
+    Place found.0 × IsAwayTo s found.0 found.1 × ((leaf : Leaf) (to : Rank) → Place leaf → IsAwayTo s leaf to → (leaf ≡ found.0) ⊎ (leaf_cmp found.0 leaf ≡ Less))
+
+-- the one at the lesser leaf
+abbrev pub lesser_away : Leaf × Rank → Leaf × Rank → Leaf × Rank
+lesser_away one other = cond (is_lt (leaf_cmp other.0 one.0)) other one
+
+-- of one and another, if there is another
+abbrev pub lesser_of : Leaf × Rank → Option (Leaf × Rank) → Leaf × Rank
+lesser_of one None = one
+lesser_of one (Some other) = lesser_away one other

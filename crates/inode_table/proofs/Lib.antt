@@ -6,6 +6,7 @@ pub mod MoveLaws
 pub mod NotedLaws
 pub mod OrderLaws
 pub mod PinLaws
+pub mod PinnedRows
 pub mod RowLaws
 pub mod TableLaws
 pub mod Tables

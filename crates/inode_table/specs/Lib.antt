@@ -1,6 +1,7 @@
 pub mod Dirs
 pub mod Numbers
 pub mod Order
+pub mod Pinned
 pub mod Rows
 pub mod TreeChanges
 pub mod TreeTable

@@ -36,7 +36,7 @@ pub(crate) struct Directory {
     home: Home,
     leaves: Option<FragTree>,
     entries: u64,
-    pin: Option<Rank>,
+    pub(crate) pin: Option<Rank>,
 }
 
 /// For each directory its parent and its name there, its leaves, how many entries it has, and the rank that it is pinned to,
@@ -51,7 +51,7 @@ pub(crate) struct Directory {
 pub struct Dirs {
     root: Option<FragTree>,
     in_root: u64,
-    below: SortedMap<u64, Directory>,
+    pub(crate) below: SortedMap<u64, Directory>,
 }
 
 impl Model for Dirs {

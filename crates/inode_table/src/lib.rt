@@ -3,6 +3,7 @@
 
 mod counting;
 mod dirs;
+mod next_pinned;
 mod numbers;
 mod table_changes;
 

@@ -5,15 +5,17 @@ use Rattle.mds_types.specs.declared.refusals.Refusal.{Refusal}
 use Rattle.cluster_core.specs.declared.events.Answer.{Answer}
 use Rattle.cluster_core.specs.declared.events.Answer.TheVariants.{Deferred, Forwarded, Job, Nothing, Reply, Sent}
 use Rattle.rank_threads.specs.declared.plans.Turn.{Turn}
-use Rattle.rank_threads.specs.declared.plans.Turn.TheVariants.{Step, Commit}
+use Rattle.rank_threads.specs.declared.plans.Turn.TheVariants.{Step, Commit, Own}
 use Rattle.rank_threads.specs.declared.receipts.Receipt.{Receipt}
 use Rattle.rank_threads.specs.Agreement.{first_places}
 
--- a commit's turn stands as Nothing or a refusal
+-- a commit's turn and a rank's own stand as Nothing or a refusal
 abbrev pub FitsTurn : Turn → Result Answer Refusal → Type 0
 FitsTurn (Step event) result = Unit {0}
 FitsTurn (Commit ino frag) (Ok answer) = answer ≡ Nothing
 FitsTurn (Commit ino frag) (Err reason) = Unit {0}
+FitsTurn Own (Ok answer) = answer ≡ Nothing
+FitsTurn Own (Err reason) = Unit {0}
 
 -- one result for each turn
 abbrev pub AreAnswered : List Turn → List (Result Answer Refusal) → Type 0

@@ -7,6 +7,7 @@ mod commits;
 mod desks;
 mod gates;
 mod outcomes;
+mod own_turns;
 mod plans;
 mod prepared;
 mod ranks;

@@ -10,4 +10,6 @@ pub enum Turn {
     Step(Event),
     /// A commit of a leaf begins at the thread's own rank, and its job goes to the workers.
     Commit { ino: Ino, frag: Frag },
+    /// The thread's own rank proposes a step, and makes it.
+    Own,
 }

@@ -4,6 +4,7 @@ ghost use Rattle.rank_threads.specs.Turns.{AreAnswered, FitsTurn, first_in, firs
 
 use crate::desks::{Desk, Handed};
 use crate::gates::Gate;
+use crate::own_turns::OwnTurns;
 use crate::plans::Turn;
 use cached_frag::Job;
 use cluster_core::Answer;
@@ -94,8 +95,9 @@ fn work_off<S: Store + Drop, L: Handed, G: Gate, R: Wait>(
         mut share,
         ..
     } = plan;
+    let mut own = OwnTurns::new(alloc, rank);
     for turn in turns {
-        let answer = take_turn(rt, alloc, desk, &jobs, gate, rank, &mut share, turn);
+        let answer = take_turn(rt, alloc, desk, &jobs, gate, &mut own, &mut share, turn);
         put(&mut answers, answer);
     }
     finished(answers, share)
@@ -127,7 +129,7 @@ fn take_turn<S: Store + Drop, L: Handed, G: Gate, R: Wait>(
     desk: &Mutex<Desk<S, L>>,
     jobs: &Sender<Job>,
     gate: &G,
-    rank: Rank,
+    own: &mut OwnTurns,
     mine: &mut Share<L>,
     turn: Turn,
 ) -> Answered
@@ -140,11 +142,17 @@ fn take_turn<S: Store + Drop, L: Handed, G: Gate, R: Wait>(
         Turn::Step(event) => {
             let answer = desk.lock(rt).step(alloc, mine, event);
             if let Ok(Answer::Reply { .. }) = &answer {
-                gate.answered(rank);
+                gate.answered(own.rank);
             }
             answer
         }
-        Turn::Commit { ino, frag } => match begin_commit(rt, alloc, desk, jobs, rank, ino, frag) {
+        Turn::Commit { ino, frag } => {
+            match begin_commit(rt, alloc, desk, jobs, own.rank, ino, frag) {
+                Ok(()) => Ok(Answer::Nothing),
+                Err(refusal) => Err(refusal),
+            }
+        }
+        Turn::Own => match desk.lock(rt).own(alloc, own) {
             Ok(()) => Ok(Answer::Nothing),
             Err(refusal) => Err(refusal),
         },

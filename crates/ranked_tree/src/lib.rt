@@ -24,6 +24,7 @@ mod reading;
 mod regions;
 mod regrouping;
 mod sending;
+mod sights;
 
 pub use inside::leaf_inside;
 pub use ranked_tree::RankedTree;

@@ -37,10 +37,11 @@ impl<S: Store + Drop> RankedTree<S> {
         self.tree.store()
     }
 
-    /// Which directories there are, and the leaves of each.
+    /// Which directories there are, and the leaves and the pin of each.
     pub fn dirs(&self) -> &Dirs
         ensures homes { result.now.homes ≡ self.now.tree.homes }
         ensures trees { result.now.trees ≡ self.now.tree.covers }
+        ensures pins { result.now.pins ≡ self.now.tree.pins }
     {
         self.tree.dirs()
     }

@@ -15,6 +15,7 @@ mod list_rows;
 mod lists;
 mod merges;
 mod moves;
+mod next_roots;
 mod promises;
 mod removals;
 mod roots;

@@ -8,7 +8,7 @@ use rank_threads::Turn;
 use std::alloc::Global;
 
 /// A plan for each rank: so many files are created in each directory of its, one in each before the next in any, and a commit of
-/// the directory follows each tenth.
+/// the directory follows each tenth, with a turn of the rank's own behind it.
 pub(crate) fn plans_of(
     alloc: Global,
     ranks: u8,
@@ -52,7 +52,7 @@ fn add_round(
     Some(())
 }
 
-// A create at the rank of its directory, and a commit after each tenth.
+// A create at the rank of its directory, and after each tenth a commit and a turn of the rank's own.
 fn add_create(alloc: Global, turns: &mut Vec<Turn>, home: Home, number: u16) -> Option<()> {
     let Home { client, dir, rank } = home;
     let tid = u64::from(number) + 2;
@@ -71,6 +71,7 @@ fn add_create(alloc: Global, turns: &mut Vec<Turn>, home: Home, number: u16) -> 
             frag: Frag::ROOT,
         };
         turns.push(commit).ok()?;
+        turns.push(Turn::Own).ok()?;
     }
     Some(())
 }

@@ -1,11 +1,16 @@
--- The bytes that exports sent, which a script keeps.
+-- The bytes that exports sent, kept until they are imported.
 use Rattle.std.specs.Prelude.{ℕ, List, [], Option, Some, None}
 use Rattle.std.specs.FinMap as map
 use Rattle.mds_types.specs.Leaf.{Leaf, leaf_cmp}
 
--- those of each export under its root
-abbrev pub SentBytes : Type 0
-SentBytes = map.FinMap leaf_cmp (List ℕ)
+-- those of each export under its root, and how many more fit with no growth
+pub record SentBytes : Type 0 where
+  pub bytes : map.FinMap leaf_cmp (List ℕ)
+  pub room : ℕ
+
+-- none of any export
+abbrev pub none_sent : SentBytes
+none_sent = record { bytes = map.empty; room = 0 }
 
 -- the bytes that are kept, or no bytes
 abbrev pub bytes_or_none : Option (List ℕ) → List ℕ
@@ -14,4 +19,4 @@ bytes_or_none (Some bytes) = bytes
 
 -- the bytes that the importer of an export is given
 abbrev pub bytes_for : SentBytes → Leaf → List ℕ
-bytes_for sent root = bytes_or_none (map.get sent root)
+bytes_for sent root = bytes_or_none (map.get sent.bytes root)

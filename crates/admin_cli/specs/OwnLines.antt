@@ -1,0 +1,103 @@
+-- What a rank's own turn does, and the line that it prints.
+use Rattle.std.specs.Prelude.{◌≡◌, Option, Some, None, Result, Ok, Err}
+use Rattle.mds_types.specs.declared.ids.Ino.{Ino}
+use Rattle.mds_types.specs.declared.ids.Rank.{Rank}
+use Rattle.mds_types.specs.declared.refusals.Refusal.{Refusal}
+use Rattle.mds_types.specs.Frag.{Fragment}
+use Rattle.cluster_core.specs.declared.events.Event.{Event}
+use Rattle.cluster_core.specs.declared.events.Event.TheVariants.{Arrive, Serve, Grant, Split, Merge, CommitBegin, CommitEnd, CommitDrop, CommitTree, Purge, Evict, Start, Freeze, Prep, Send, Import, Finish, Cancel}
+use Rattle.cluster_core.specs.Proposal.{Proposes}
+use Rattle.script_output.specs.declared.lines.OutputLine.{OutputLine}
+use Rattle.script_output.specs.declared.lines.OutputLine.TheVariants.{Reply, Forwarded, Deferred, Queued, Nothing, Flushed, Frags, Subtrees, Authority, Job, Sent, Object, Objects, Idle, Own, History, Refused, Errno}
+use Rattle.script_output.specs.declared.own_turns.OwnResult.{OwnResult}
+use Rattle.script_output.specs.declared.own_turns.OwnResult.TheVariants as came
+use Rattle.script_output.specs.declared.own_turns.OwnStep.{OwnStep}
+use Rattle.script_output.specs.declared.own_turns.OwnStep.TheVariants as own
+use Rattle.admin_cli.specs.declared.commands.Admin.{Admin}
+use Rattle.admin_cli.specs.ExportLines.{CopiesNoBytes, ImportsLine, MakesNoRoom, SendsLine}
+use Rattle.admin_cli.specs.StepLines.{Does}
+
+-- what came of a step, by the line that its own command prints; no command of a step of these prints another one
+abbrev pub came_of : OutputLine → OwnResult
+came_of (Reply client tid place first reply) = came.Nothing
+came_of (Forwarded rank) = came.Nothing
+came_of Deferred = came.Nothing
+came_of Queued = came.Nothing
+came_of Nothing = came.Nothing
+came_of (Flushed count) = came.Nothing
+came_of (Frags leaves) = came.Nothing
+came_of (Subtrees roots) = came.Nothing
+came_of (Authority rank) = came.Nothing
+came_of (Job number) = came.Nothing
+came_of (Sent length) = came.Sent length
+came_of (Object object) = came.Nothing
+came_of (Objects names) = came.Nothing
+came_of Idle = came.Nothing
+came_of (Own turn) = came.Nothing
+came_of (History length) = came.Nothing
+came_of (Refused refusal) = came.Refused refusal
+came_of (Errno errno) = came.Nothing
+
+-- the line of a step that was made: what it was, at which leaf, and what came of it
+abbrev pub told : OwnStep → Ino → Fragment → OutputLine → OutputLine
+told step dir f shown = Own (record { step = step; ino = dir; frag = f; result = came_of shown })
+
+-- the step that a rank proposed was made as its own command makes it, an Import with the bytes that are kept for it
+abbrev pub MakesStep : (old new : Admin) → Event → OutputLine → Type 0
+MakesStep old new (Arrive rank request) line = ⊥
+MakesStep old new (Serve rank) line = ⊥
+MakesStep old new (Grant rank client tid) line = ⊥
+MakesStep old new (Split rank dir f bits) line = (shown : OutputLine) × Does old new (Split rank dir f bits) shown × (line ≡ told own.Split dir f shown)
+MakesStep old new (Merge rank dir f) line = (shown : OutputLine) × Does old new (Merge rank dir f) shown × (line ≡ told own.Merge dir f shown)
+MakesStep old new (CommitBegin rank dir f) line = ⊥
+MakesStep old new (CommitEnd encoded) line = ⊥
+MakesStep old new (CommitDrop job) line = ⊥
+MakesStep old new (CommitTree dir) line = ⊥
+MakesStep old new Purge line = ⊥
+MakesStep old new (Evict rank) line = ⊥
+MakesStep old new (Start from dir f to) line = (shown : OutputLine) × Does old new (Start from dir f to) shown × (line ≡ told own.Start dir f shown)
+MakesStep old new (Freeze dir f) line = (shown : OutputLine) × Does old new (Freeze dir f) shown × (line ≡ told own.Freeze dir f shown)
+MakesStep old new (Prep dir f) line = (shown : OutputLine) × Does old new (Prep dir f) shown × (line ≡ told own.Prep dir f shown)
+MakesStep old new (Send dir f) line = (shown : OutputLine) × SendsLine old new dir f shown × (line ≡ told own.Send dir f shown)
+MakesStep old new (Import dir f bytes) line = (shown : OutputLine) × ImportsLine old new dir f shown × (line ≡ told own.Import dir f shown)
+MakesStep old new (Finish dir f) line = (shown : OutputLine) × Does old new (Finish dir f) shown × (line ≡ told own.Finish dir f shown)
+MakesStep old new (Cancel dir f) line = (shown : OutputLine) × Does old new (Cancel dir f) shown × (line ≡ told own.Cancel dir f shown)
+
+-- what the rank proposed was done: there was no step, or it was made, or the proposal was refused
+abbrev pub OwnLine : (old new : Admin) → Result (Option Event) Refusal → OutputLine → Type 0
+OwnLine old new (Ok None) line = (new ≡ old) × (line ≡ Idle)
+OwnLine old new (Ok (Some event)) line = MakesStep old new event line
+OwnLine old new (Err refusal) line = (new ≡ old) × (line ≡ Refused refusal)
+
+-- a rank's own turn: what it proposes is done
+pub record TakesTurn (old new : Admin) (rank : Rank) (line : OutputLine) : Type 0 where
+  pub found : Result (Option Event) Refusal
+  pub proposed : Proposes old.book.core rank found
+  pub done : OwnLine old new found line
+
+-- memory that the script itself needs for a step was refused: for room for the bytes of a Send, or for a copy of those kept for an Import. No step
+-- was made
+abbrev pub LacksForStep : (old new : Admin) → Event → Type 0
+LacksForStep old new (Arrive rank request) = ⊥
+LacksForStep old new (Serve rank) = ⊥
+LacksForStep old new (Grant rank client tid) = ⊥
+LacksForStep old new (Split rank dir f bits) = ⊥
+LacksForStep old new (Merge rank dir f) = ⊥
+LacksForStep old new (CommitBegin rank dir f) = ⊥
+LacksForStep old new (CommitEnd encoded) = ⊥
+LacksForStep old new (CommitDrop job) = ⊥
+LacksForStep old new (CommitTree dir) = ⊥
+LacksForStep old new Purge = ⊥
+LacksForStep old new (Evict rank) = ⊥
+LacksForStep old new (Start from dir f to) = ⊥
+LacksForStep old new (Freeze dir f) = ⊥
+LacksForStep old new (Prep dir f) = ⊥
+LacksForStep old new (Send dir f) = MakesNoRoom old new
+LacksForStep old new (Import dir f bytes) = CopiesNoBytes old new dir f
+LacksForStep old new (Finish dir f) = ⊥
+LacksForStep old new (Cancel dir f) = ⊥
+
+pub record LacksForTurn (old new : Admin) (rank : Rank) : Type 0 where
+  pub event : Event
+  pub proposed : Proposes old.book.core rank (Ok (Some event))
+  pub lacks : LacksForStep old new event

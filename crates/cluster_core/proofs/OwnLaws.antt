@@ -1,0 +1,62 @@
+-- What a rank proposes is an own step of a rank, which adds nothing to the history.
+use Rattle.std.proofs.Common.{◌≡◌, ◌⊎◌, inl, inr, List, [], ◌∷◌, Some, Ok, sym, subst}
+use Rattle.std.specs.Prelude.{Result}
+use Rattle.mds_types.specs.declared.entries.Entry.{Entry}
+use Rattle.mds_types.specs.declared.ids.Rank.{Rank}
+use Rattle.mds_types.specs.declared.refusals.Refusal.{Refusal}
+use Rattle.mds_types.specs.Leaf.{Leaf}
+use Rattle.export_steps.specs.declared.exports.ExportState.{ExportState}
+use Rattle.export_steps.specs.declared.exports.ExportState.TheVariants as at
+use Rattle.cluster_core.specs.declared.events.Answer.{Answer}
+use Rattle.cluster_core.specs.declared.events.Event.{Event}
+use Rattle.cluster_core.specs.declared.events.Event.TheVariants.{Arrive, Serve, Grant, Split, Merge, CommitBegin, CommitEnd, CommitDrop, CommitTree, Purge, Evict, Start, Freeze, Prep, Send, Import, Finish, Cancel}
+use Rattle.cluster_core.specs.Proposal.{IsFirstOf, IsNextStep, IsOwnStep, Kind, OfExport, OfLarge, OfSmall, OfPin, Proposes, Sight, Would}
+use Rattle.cluster_core.specs.Runs.{AddsAtServe, Records}
+use Rattle.cluster_core.specs.State.{Core}
+
+own_next : (s : Sight) (root : Leaf) (state : ExportState) (event : Event) → IsNextStep s root state event → IsOwnStep event
+own_next s root at.Started event (inl (is, may)) = subst IsOwnStep (sym is) tt
+own_next s root at.Started event (inr (is, none)) = subst IsOwnStep (sym is) tt
+own_next s root at.Frozen event is = subst IsOwnStep (sym is) tt
+own_next s root at.Prepared event is = subst IsOwnStep (sym is) tt
+own_next s root at.Sent event is = subst IsOwnStep (sym is) tt
+own_next s root at.Imported event is = subst IsOwnStep (sym is) tt
+
+own_kind : (s : Sight) (kind : Kind) (leaf : Leaf) (event : Event) → Would s kind leaf event → IsOwnStep event
+own_kind s OfExport leaf event on = own_next s leaf on.export.state event on.next
+own_kind s OfLarge leaf event is = subst IsOwnStep (sym is.is) tt
+own_kind s OfSmall leaf event is = subst IsOwnStep (sym is.is) tt
+own_kind s OfPin leaf event is = subst IsOwnStep (sym is.is) tt
+
+-- a proposal is an own step
+own_first : (s : Sight) (kinds : List Kind) (event : Event) → IsFirstOf s kinds (Some event) → IsOwnStep event
+own_first s [] event none = absurd none
+own_first s (kind ∷ others) event (inl least) = own_kind s kind least.leaf event least.would
+own_first s (kind ∷ others) event (inr (none, rest)) = own_first s others event rest
+
+pub own_step : (core : Core) (rank : Rank) (event : Event) → Proposes core rank (Ok (Some event)) → IsOwnStep event
+own_step core rank event proposed = own_first _ _ event proposed.1
+
+-- it adds nothing to the history
+stays : (event : Event) (past now : List Entry) → IsOwnStep event → AddsAtServe event past now → now ≡ past
+stays (Arrive rank request) past now own same = absurd own
+stays (Serve rank) past now own same = absurd own
+stays (Grant rank client tid) past now own same = absurd own
+stays (Split rank dir f bits) past now own same = same
+stays (Merge rank dir f) past now own same = same
+stays (CommitBegin rank dir f) past now own same = absurd own
+stays (CommitEnd encoded) past now own same = absurd own
+stays (CommitDrop job) past now own same = absurd own
+stays (CommitTree dir) past now own same = absurd own
+stays Purge past now own same = absurd own
+stays (Evict rank) past now own same = absurd own
+stays (Start from dir f to) past now own same = same
+stays (Freeze dir f) past now own same = same
+stays (Prep dir f) past now own same = same
+stays (Send dir f) past now own same = same
+stays (Import dir f bytes) past now own same = same
+stays (Finish dir f) past now own same = same
+stays (Cancel dir f) past now own same = same
+
+pub proposal_stays : (core : Core) (rank : Rank) (event : Event) (past now : List Entry) (result : Result Answer Refusal) → Proposes core rank (Ok (Some event)) → Records event past now result → now ≡ past
+proposal_stays core rank event past now result proposed recorded = stays event past now (own_step core rank event proposed) recorded.at_serve

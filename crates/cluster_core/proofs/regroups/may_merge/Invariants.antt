@@ -1,0 +1,8 @@
+-- The children before are idle.
+use Rattle.std.specs.Prelude.{ℕ, ◌<◌}
+use Rattle.dentry_cache.specs.Candidates.{child}
+use Rattle.cluster_core.specs.Proposal.{IsIdle, sight_of}
+use Rattle.cluster_core.proofs.regroups.may_merge.Given as goal
+
+abbrev pub invariant-loop-i : goal.invariant-loop-i
+invariant-loop-i g l = (ranks : ℕ) (j : ℕ) → j < l.i → IsIdle (sight_of l.tree l.grants ranks l.rank) (child (l.ino, l.frag) j)

@@ -1,0 +1,90 @@
+//! The bytes that exports sent: those of each stay under its root until they are imported.
+ghost use Rattle.std.specs.Prelude.{◌≡◌, ◌<◌, IfOk, IsSome, OnErr, OnOk, is_some, option_copied};
+ghost use Rattle.std.specs.FinMap as map;
+ghost use Rattle.cluster_core.specs.SentBytes.{bytes_for, none_sent};
+
+use mds_types::{Bytes, Frag, Ino};
+use sorted_map::SortedMap;
+use std::alloc::{AllocError, Global};
+use std::marker::Model;
+
+/// Bytes by the roots of their exports, with room for more. After a Send nothing ends an export but that its bytes are imported, so
+/// the room to keep them is made before it, and an Import is given a copy: what is kept goes once the importer has it.
+#[derive(Drop)]
+pub struct KeptBytes {
+    bytes: SortedMap<(Ino, Frag), Bytes>,
+}
+
+impl Model for KeptBytes {
+    ghost use Rattle.std.specs.Coded.{codes};
+    ghost use Rattle.std.specs.FinMap as map;
+    ghost use Rattle.mds_types.specs.Leaf.{leaf_cmp};
+    ghost use Rattle.sorted_map.specs.SortedMap.{contents};
+    ghost use Rattle.cluster_core.specs.SentBytes.{SentBytes};
+
+    ghost Value = { SentBytes };
+
+    ghost coded = { Prim.hlevel (codes, map.code) };
+
+    ghost view = { λ k. record { bytes = contents leaf_cmp k.bytes; room = k.bytes.room } };
+}
+
+impl KeptBytes {
+    /// No bytes of any export. Takes no memory.
+    pub fn new(alloc: Global) -> KeptBytes
+        ensures { result ≡ none_sent }
+    {
+        KeptBytes {
+            bytes: SortedMap::new(alloc),
+        }
+    }
+
+    /// Whether bytes are kept under a root.
+    pub fn has(&self, ino: Ino, frag: Frag) -> bool
+        ensures { result ≡ is_some (map.get self.now.bytes (ino, frag)) }
+    {
+        self.get(ino, frag).is_some()
+    }
+
+    // The bytes that are kept under a root.
+    fn get(&self, ino: Ino, frag: Frag) -> Option<&Bytes>
+        ensures { option_copied result ≡ map.get self.now.bytes (ino, frag) }
+    {
+        self.bytes.get(&(ino, frag))
+    }
+
+    /// A copy of the bytes that are kept under a root, or no bytes where none are. Takes memory for kept ones alone.
+    pub fn copy_of(&self, alloc: Global, ino: Ino, frag: Frag) -> Result<Bytes, AllocError>
+        ensures copied { IfOk result (λ copy. copy ≡ bytes_for self.now (ino, frag)) }
+        ensures err { OnErr result (IsSome (map.get self.now.bytes (ino, frag))) }
+    {
+        match self.get(ino, frag) {
+            Some(bytes) => bytes.try_clone(),
+            None => Ok(Bytes::empty(alloc)),
+        }
+    }
+
+    /// Makes room for the bytes of one more export. Where it is there already nothing is done.
+    pub fn reserve(&mut self) -> Result<(), AllocError>
+        ensures room { OnOk result (0 < self.new.room) }
+        ensures same { self.new.bytes ≡ self.old.bytes }
+        ensures err { OnErr result (self.new ≡ self.old) }
+    {
+        self.bytes.reserve(1)
+    }
+
+    /// Keeps bytes under a root, in place of those that were kept there. There has to be room. Takes no memory.
+    pub fn keep(&mut self, ino: Ino, frag: Frag, bytes: Bytes)
+        requires { 0 < self.old.room }
+        ensures { self.new.bytes ≡ map.insert self.old.bytes (ino, frag) bytes }
+    {
+        let _ = self.bytes.insert((ino, frag), bytes);
+    }
+
+    /// Keeps the bytes of a root no longer. Takes no memory.
+    pub fn forget(&mut self, ino: Ino, frag: Frag)
+        ensures { self.new.bytes ≡ map.remove self.old.bytes (ino, frag) }
+    {
+        let _ = self.bytes.remove(&(ino, frag));
+    }
+}

@@ -1,0 +1,134 @@
+-- The first row with a pin, of rows in order.
+use Rattle.std.specs.Prelude.{◌≡◌, ℕ, ◌<◌, ◌≤◌, Bool, true, false, cond, T, List, [], ◌∷◌, Option, Some, None, IsSome, is_some, refl}
+use Rattle.std.proofs.Common.{sym, ap, subst, ◌∙◌, arith}
+use Rattle.std.specs.declared.cmp.Ordering.{Ordering}
+use Rattle.std.specs.declared.cmp.Ordering.TheVariants.{Less, Equal, Greater}
+use Rattle.std.specs.Ordering.{MatchOrdering, eq_by_cmp, is_eq, is_lt, nat_cmp}
+use Rattle.std.specs.Cmp.{nat_cmp_total, tied_itself}
+use Rattle.std.specs.FinMap as map
+use Rattle.std.specs.FinMap.{entries_sorted, find, get-entries, is_sorted, nat_cmp-IsAntisymmetric}
+use Rattle.std.specs.FinMap.Entries.{below_all, find-where_key, is_sorted-where_key, where_key}
+use Rattle.std.proofs.lemmas.Cmp.{ranked}
+use Rattle.sorted_map.proofs.Bools.{left_of, right_of}
+use Rattle.sorted_map.proofs.MapLaws.{tie}
+use Rattle.sorted_map.proofs.PlaceLaws.{less as less_of}
+use Rattle.mds_types.specs.declared.ids.Ino.{Ino}
+use Rattle.mds_types.specs.declared.ids.Rank.{Rank}
+use Rattle.inode_table.specs.declared.dirs.Directory.{Directory}
+use Rattle.inode_table.specs.Pinned.{IsAfter, IsFirstPinned, IsNextPinned}
+use Rattle.inode_table.specs.Rows.{Rows, pin_in, pins_of}
+use Rattle.inode_table.proofs.CountRows.{get_pin}
+
+under : (x y : ℕ) → nat_cmp x y ≡ Less → x < y
+under x y is = go (nat_cmp x y) (ranked x y (nat_cmp x y) refl) is
+  where
+    go : (o : Ordering) → MatchOrdering o (x < y) (x ≡ y) (y < x) → o ≡ Less → x < y
+    go Less less _ = less
+    go Equal same is = let clash : Equal ≡ Less = is in cc
+    go Greater more is = let clash : Greater ≡ Less = is in cc
+
+-- a row that is found behind another has a greater number
+behind : (first : ℕ) (es : List (ℕ × Directory)) (d : ℕ) → T (below_all nat_cmp first es) → IsSome (find nat_cmp d es) → first < d
+behind first [] d below some = let clash : false ≡ true = some in cc
+behind first (e ∷ es) d below some = go (eq_by_cmp nat_cmp d e.0) refl some (behind first es d (right_of _ _ below))
+  where
+    go : (b : Bool) → eq_by_cmp nat_cmp d e.0 ≡ b → IsSome (cond b (Some e.1) (find nat_cmp d es)) → (IsSome (find nat_cmp d es) → first < d) → first < d
+    go true tied its more = subst (λ (n : ℕ). first < n) (sym (nat_cmp-IsAntisymmetric d e.0 (tie _ tied))) (under first e.0 (less_of _ (left_of _ _ below)))
+    go false apart its more = more its
+
+there : (o : Option Directory) → IsSome (pin_in o) → IsSome o
+there None none = none
+there (Some row) its = refl
+
+module _ (row : ℕ × Directory) (rest : List (ℕ × Directory)) (sorted : T (is_sorted nat_cmp (row ∷ rest))) where
+  itself : find nat_cmp row.0 (row ∷ rest) ≡ Some row.1
+  itself = ap (λ r. cond (is_eq r) (Some row.1) (find nat_cmp row.0 rest)) (tied_itself nat_cmp_total row.0)
+
+  -- the first row, if it has a pin
+  first_row : is_some row.1.pin ≡ true → IsFirstPinned (row ∷ rest) (Some (record { 0 = row.0 }))
+  first_row some = (ap (λ o. is_some (pin_in o)) itself ∙ some, λ d its. later d (eq_by_cmp nat_cmp d row.0) refl its)
+    where
+      later : (d : ℕ) (b : Bool) → eq_by_cmp nat_cmp d row.0 ≡ b → IsSome (pin_in (cond b (Some row.1) (find nat_cmp d rest))) → row.0 ≤ d
+      later d true tied its = let same : d ≡ row.0 = nat_cmp-IsAntisymmetric d row.0 (tie _ tied) in omega (arith, same)
+      later d false apart its = let more : row.0 < d = behind row.0 rest d (left_of _ _ sorted) (there (find nat_cmp d rest) its) in omega (arith, more)
+
+  -- the first row, if it has none, can be passed
+  passed : is_some row.1.pin ≡ false → (d : ℕ) → pin_in (find nat_cmp d rest) ≡ pin_in (find nat_cmp d (row ∷ rest))
+  passed none d = go (eq_by_cmp nat_cmp d row.0) refl
+    where
+      no_pin : (o : Option Rank) → is_some o ≡ false → o ≡ None
+      no_pin None is = refl
+      no_pin (Some r) is = let clash : true ≡ false = is in cc
+
+      absent : (o : Option Directory) → find nat_cmp d rest ≡ o → d ≡ row.0 → pin_in o ≡ row.1.pin
+      absent None is same = sym (no_pin row.1.pin none)
+      absent (Some e) is same = let more : row.0 < d = behind row.0 rest d (left_of _ _ sorted) (ap is_some is) in absurd (omega (arith, more, same))
+
+      go : (b : Bool) → eq_by_cmp nat_cmp d row.0 ≡ b → pin_in (find nat_cmp d rest) ≡ pin_in (cond b (Some row.1) (find nat_cmp d rest))
+      go true tied = absent (find nat_cmp d rest) refl (nat_cmp-IsAntisymmetric d row.0 (tie _ tied))
+      go false apart = refl
+
+pub first_here : (all left rest : List (ℕ × Directory)) (row : ℕ × Directory) → left ≡ row ∷ rest → T (is_sorted nat_cmp left) → ((d : ℕ) → pin_in (find nat_cmp d left) ≡ pin_in (find nat_cmp d all)) → is_some row.1.pin ≡ true
+    → IsFirstPinned all (Some (record { 0 = row.0 }))
+first_here all left rest row is sorted each some =
+    let here = first_row row rest (subst (λ es. T (is_sorted nat_cmp es)) is sorted) some in
+    let same : (d : ℕ) → pin_in (find nat_cmp d (row ∷ rest)) ≡ pin_in (find nat_cmp d all) = λ d. ap (λ es. pin_in (find nat_cmp d es)) (sym is) ∙ each d in
+    (ap is_some (sym (same row.0)) ∙ here.0, λ d its. here.1 d (ap is_some (same d) ∙ its))
+
+pub rest_sorted : (left rest : List (ℕ × Directory)) (row : ℕ × Directory) → left ≡ row ∷ rest → T (is_sorted nat_cmp left) → T (is_sorted nat_cmp rest)
+rest_sorted left rest row is sorted = right_of _ _ (subst (λ es. T (is_sorted nat_cmp es)) is sorted)
+
+pub rest_pins : (all left rest : List (ℕ × Directory)) (row : ℕ × Directory) → left ≡ row ∷ rest → T (is_sorted nat_cmp left) → ((d : ℕ) → pin_in (find nat_cmp d left) ≡ pin_in (find nat_cmp d all)) → is_some row.1.pin ≡ false
+    → (d : ℕ) → pin_in (find nat_cmp d rest) ≡ pin_in (find nat_cmp d all)
+rest_pins all left rest row is sorted each none d = passed row rest (subst (λ es. T (is_sorted nat_cmp es)) is sorted) none d ∙ ap (λ es. pin_in (find nat_cmp d es)) (sym is) ∙ each d
+
+-- ---- the rows behind a directory
+
+abbrev pub is_after : Option Ino → ℕ → Bool
+is_after None d = true
+is_after (Some last) d = is_lt (nat_cmp last.0 d)
+
+pub all_pass : (es : List (ℕ × Directory)) → es ≡ where_key nat_cmp (is_after None) es
+all_pass [] = refl
+all_pass (e ∷ es) = ap (λ t. e ∷ t) (all_pass es)
+
+after_is : (after : Option Ino) (d : ℕ) → IsAfter after d → is_after after d ≡ true
+after_is None d is = refl
+after_is (Some last) d is = go (nat_cmp last.0 d) (ranked last.0 d (nat_cmp last.0 d) refl)
+  where
+    go : (o : Ordering) → MatchOrdering o (last.0 < d) (last.0 ≡ d) (d < last.0) → is_lt o ≡ true
+    go Less less = refl
+    go Equal same = absurd (omega (arith, is, same))
+    go Greater more = absurd (omega (arith, is, more))
+
+is_behind : (after : Option Ino) (d : ℕ) → is_after after d ≡ true → IsAfter after d
+is_behind None d is = tt
+is_behind (Some last) d is = under last.0 d (go (nat_cmp last.0 d) is)
+  where
+    go : (o : Ordering) → is_lt o ≡ true → o ≡ Less
+    go Less is = refl
+    go Equal is = let clash : false ≡ true = is in cc
+    go Greater is = let clash : false ≡ true = is in cc
+
+module _ (rows : Rows) (after : Option Ino) (left : List (ℕ × Directory)) (is : left ≡ where_key nat_cmp (is_after after) (map.entries rows)) where
+  pub left_sorted : T (is_sorted nat_cmp left)
+  left_sorted = subst (λ es. T (is_sorted nat_cmp es)) (sym is) (is_sorted-where_key nat_cmp (is_after after) (map.entries rows) (entries_sorted rows))
+
+  found_left : (d : ℕ) → find nat_cmp d left ≡ cond (is_after after d) (map.get rows d) None
+  found_left d =
+      ap (find nat_cmp d) is
+      ∙ find-where_key nat_cmp (is_after after) d (λ x tied. ap (is_after after) (sym (nat_cmp-IsAntisymmetric d x tied))) (map.entries rows)
+      ∙ ap (λ o. cond (is_after after d) o None) (sym (get-entries rows d))
+
+  on_left : (d : ℕ) → is_after after d ≡ true → map.get (pins_of rows) d ≡ pin_in (find nat_cmp d left)
+  on_left d on = get_pin rows d ∙ ap pin_in (sym (found_left d ∙ ap (λ b. cond b (map.get rows d) None) on))
+
+  pub next_of_rows : (o : Option Ino) → IsFirstPinned left o → IsNextPinned (pins_of rows) after o
+  next_of_rows None none = λ d pinned behind. let clash : false ≡ true = ap is_some (sym (on_left d (after_is after d behind) ∙ none d)) ∙ pinned in cc
+  next_of_rows (Some dir) (some, least) =
+      let its = passes (is_after after dir.0) refl (ap (λ o. is_some (pin_in o)) (sym (found_left dir.0)) ∙ some) in
+      (ap is_some (on_left dir.0 its) ∙ some, is_behind after dir.0 its, λ d pinned behind. least d (ap is_some (sym (on_left d (after_is after d behind))) ∙ pinned))
+    where
+      passes : (b : Bool) → is_after after dir.0 ≡ b → IsSome (pin_in (cond b (map.get rows dir.0) None)) → is_after after dir.0 ≡ true
+      passes true is some = is
+      passes false is some = let clash : false ≡ true = some in cc

@@ -1,0 +1,87 @@
+//! The steps that a rank makes of its own.
+
+use crate::desks::{Desk, Handed};
+use cluster_core::{Answer, Event, KeptBytes};
+use mds_types::{Frag, Ino, Rank, Refusal};
+use objstore::Store;
+use std::alloc::Global;
+
+/// The rank whose turns a thread works off, with the bytes that its exports sent, between their Send and their Import.
+#[derive(Drop)]
+pub(crate) struct OwnTurns {
+    pub(crate) rank: Rank,
+    pub(crate) kept: KeptBytes,
+}
+
+impl OwnTurns {
+    /// A rank that has sent nothing. Takes no memory.
+    pub(crate) fn new(alloc: Global, rank: Rank) -> OwnTurns {
+        OwnTurns {
+            rank,
+            kept: KeptBytes::new(alloc),
+        }
+    }
+}
+
+impl<S: Store + Drop, L: Handed> Desk<S, L> {
+    /// A rank proposes a step of its own, and makes it, if there is one. An Import is given the bytes that the rank's thread keeps; one
+    /// whose bytes aren't kept there is passed over. The history stays.
+    #[tactic(auto, using(cluster_core::proofs::OwnLaws::proposal_stays))]
+    pub(crate) fn own(&mut self, alloc: Global, own: &mut OwnTurns) -> Result<(), Refusal> {
+        let Some(event) = self.book.propose(alloc, own.rank)? else {
+            return Ok(());
+        };
+        match event {
+            Event::Send { ino, frag } => self.send(alloc, &mut own.kept, ino, frag),
+            Event::Import { ino, frag, bytes } => {
+                drop(bytes);
+                self.import(alloc, &mut own.kept, ino, frag)
+            }
+            other => self.book.step(alloc, other).map(|_| ()),
+        }
+    }
+
+    // An export is sent, and what it hands over is kept. Room for it comes first: once it is sent, nothing but its Import ends it.
+    fn send(
+        &mut self,
+        alloc: Global,
+        kept: &mut KeptBytes,
+        ino: Ino,
+        frag: Frag,
+    ) -> Result<(), Refusal> {
+        if kept.reserve().is_err() {
+            return Err(Refusal::NoMemory);
+        }
+        match self.book.step(alloc, Event::Send { ino, frag }) {
+            Ok(Answer::Sent(bytes)) => {
+                kept.keep(ino, frag, bytes);
+                Ok(())
+            }
+            Ok(_) => Ok(()),
+            Err(refusal) => Err(refusal),
+        }
+    }
+
+    // An export is imported, if its bytes are kept. The importer is given a copy, since an Import that is refused has eaten its bytes.
+    fn import(
+        &mut self,
+        alloc: Global,
+        kept: &mut KeptBytes,
+        ino: Ino,
+        frag: Frag,
+    ) -> Result<(), Refusal> {
+        if !kept.has(ino, frag) {
+            return Ok(());
+        }
+        let Ok(bytes) = kept.copy_of(alloc, ino, frag) else {
+            return Err(Refusal::NoMemory);
+        };
+        match self.book.step(alloc, Event::Import { ino, frag, bytes }) {
+            Ok(_) => {
+                kept.forget(ino, frag);
+                Ok(())
+            }
+            Err(refusal) => Err(refusal),
+        }
+    }
+}
