@@ -153,7 +153,14 @@ impl Admin {
 
     // A leaf of a directory is split.
     #[inline(never)]
-    pub(crate) fn split(&mut self, alloc: Global, rank: Rank, ino: Ino, frag: Frag, bits: u8) -> OutputLine
+    pub(crate) fn split(
+        &mut self,
+        alloc: Global,
+        rank: Rank,
+        ino: Ino,
+        frag: Frag,
+        bits: u8,
+    ) -> OutputLine
         ensures { Does self.old self.new (Split rank ino frag bits) result }
     {
         self.step(
@@ -169,13 +176,7 @@ impl Admin {
 
     // Leaves of a directory are merged.
     #[inline(never)]
-    pub(crate) fn merge(
-        &mut self,
-        alloc: Global,
-        rank: Rank,
-        ino: Ino,
-        frag: Frag,
-    ) -> OutputLine
+    pub(crate) fn merge(&mut self, alloc: Global, rank: Rank, ino: Ino, frag: Frag) -> OutputLine
         ensures { Does self.old self.new (Merge rank ino frag) result }
     {
         self.step(alloc, Event::Merge { rank, ino, frag })

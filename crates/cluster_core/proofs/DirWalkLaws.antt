@@ -64,9 +64,9 @@ module _ (s : Sight) (dir : Ino) (tree : IsTree (leaves_of s.covers dir.0)) wher
       go : (leaf : Leaf) (other : Rank) → leaf.0.0 ≡ dir.0 → IsAwayTo s leaf other → HasLeaf (leaves_of s.covers dir.0) leaf.1 → (leaf ≡ (dir, frag)) ⊎ (leaf_cmp (dir, frag) leaf ≡ Less)
       go leaf other is its has = elim (cases_lt leaf.1.value end) [
         | inl under ↦ elim (up_to leaf.1 has under) [
-            | inl before ↦ absurd (done leaf.1 has before other (subst (λ (l : Leaf). IsAwayTo s l other) (here leaf is) its))
-            | inr same ↦ inl (here leaf is ∙ ap (λ (f : Fragment). (dir, f)) same)
-          ]
+          | inl before ↦ absurd (done leaf.1 has before other (subst (λ (l : Leaf). IsAwayTo s l other) (here leaf is) its))
+          | inr same ↦ inl (here leaf is ∙ ap (λ (f : Fragment). (dir, f)) same)
+        ]
         | inr beyond ↦ inr (subst (λ (l : Leaf). leaf_cmp (dir, frag) l ≡ Less) (sym (here leaf is)) (later_leaf dir frag leaf.1 (omega (arith, beyond, span_pos frag.bits))))
       ]
 

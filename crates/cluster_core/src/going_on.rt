@@ -85,12 +85,7 @@ fn begin<S: Store + Drop>(
 }
 
 // Whether no part of the region that a leaf of the rank's has as a root is frozen or granted.
-fn may_freeze<S: Store + Drop>(
-    tree: &RankedTree<S>,
-    grants: &Pins,
-    ino: Ino,
-    frag: Frag,
-) -> bool
+fn may_freeze<S: Store + Drop>(tree: &RankedTree<S>, grants: &Pins, ino: Ino, frag: Frag) -> bool
     ensures { (ranks : ℕ) (rank : RankNumber) → IsMine (sight_of tree.now grants.now ranks rank) (ino, frag) → IsTrue result ↔ MayFreeze (sight_of tree.now grants.now ranks rank) (ino, frag) }
 {
     if tree.is_frozen(ino, frag) {

@@ -20,11 +20,7 @@ type Away = ((Ino, Frag), Rank);
 
 /// The start of an export of the first leaf of a rank's that is pinned to another: a subtree root, or a leaf of a directory with a pin
 /// of its own.
-pub fn first_start<S: Store + Drop>(
-    tree: &RankedTree<S>,
-    ranks: usize,
-    rank: Rank,
-) -> Option<Event>
+pub fn first_start<S: Store + Drop>(tree: &RankedTree<S>, ranks: usize, rank: Rank) -> Option<Event>
     ensures { (grants : List Pin) → IsFirstStep (sight_of tree.now grants ranks rank) OfPin result }
 {
     if tree.dirs().next_pinned(None).is_none() {

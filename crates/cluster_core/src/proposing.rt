@@ -28,13 +28,7 @@ impl<S: Store + Drop> Cluster<S> {
             return Err(Refusal::NotAuthority);
         }
         let ranks = self.waiting.inboxes.ranks();
-        Ok(proposal(
-            alloc,
-            &self.tree,
-            &self.waiting.pins,
-            ranks,
-            rank,
-        ))
+        Ok(proposal(alloc, &self.tree, &self.waiting.pins, ranks, rank))
     }
 }
 

@@ -17,5 +17,5 @@ returns-clause-proposed g c =
     let numbers = subst (λ (core : Core). length core.state.inboxes ≡ length core.state.numbers) (sym c.self.view_is) c.requires.numbers in (
       omega (arith, ltb-true c.args.rank.0 (length c.args.self.now.state.inboxes) (sym c.is_rank.ensures ∙ c.if-not-is_rank.false), c.requires.numbers),
       subst (λ (core : Core). IsProposal (sight core c.args.rank) c.proposal.result) c.self.view_is
-      (subst (λ (n : ℕ). IsProposal (sight_of c.self.inside.tree c.self.inside.waiting.pins n c.args.rank) c.proposal.result) (c.ranks-ranks.ensures ∙ numbers) c.proposal.ensures),
+          (subst (λ (n : ℕ). IsProposal (sight_of c.self.inside.tree c.self.inside.waiting.pins n c.args.rank) c.proposal.result) (c.ranks-ranks.ensures ∙ numbers) c.proposal.ensures),
     )
