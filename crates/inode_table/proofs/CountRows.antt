@@ -9,8 +9,8 @@ use Rattle.sorted_map.specs.SortedMap.{contents, shown}
 use Rattle.sorted_map.proofs.NatKeys.{same_or_apart, get_put, get_beside, get_removed, get_left}
 use Rattle.inode_table.specs.declared.dirs.Directory.{Directory}
 use Rattle.inode_table.specs.Dirs.{Counts, count_of, or_zero, pinned_at}
-use Rattle.inode_table.specs.Rows.{Rows, counts_below, counts_of, has_pin, homes_of, or_first, pin_in, pins_of}
-use Rattle.inode_table.proofs.RowLaws.{get_home, get_taken, home_in, same}
+use Rattle.inode_table.specs.Rows.{Rows, counts_below, counts_of, has_pin, or_first, pin_in, pins_of}
+use Rattle.inode_table.proofs.RowLaws.{get_taken, same}
 
 -- ---- a map from the numbers of rows to a part of each
 

@@ -1,10 +1,7 @@
-use Rattle.std.proofs.Common.{Some, None, Option, sym, subst, ◌∙◌}
+use Rattle.std.proofs.Common.{Some, None, ◌∙◌}
 use Rattle.std.specs.Ordering.{nat_cmp}
 use Rattle.std.specs.FinMap as map
 use Rattle.sorted_map.specs.SortedMap.{contents}
-use Rattle.mds_types.specs.declared.ids.Ino.{Ino}
-use Rattle.inode_table.specs.Pinned.{IsNextPinned}
-use Rattle.inode_table.specs.Rows.{pins_of}
 use Rattle.inode_table.proofs.PinnedRows.{all_pass, left_sorted, next_of_rows}
 use Rattle.inode_table.proofs.dirs.Dirs.next_pinned.Goals as goal
 
@@ -16,10 +13,10 @@ first_pinned-requires-in-None c = left_sorted (contents nat_cmp c.self.inside.be
 
 pub returns-in-Some : goal.returns-in-Some
 returns-in-Some c =
-    subst (λ (o : Option Ino). IsNextPinned (pins_of (contents nat_cmp c.self.inside.below)) o c.first_pinned.result) (sym c.in-Some.is)
+    rw (← c.self.view_is, c.in-Some.is)
     (next_of_rows (contents nat_cmp c.self.inside.below) (Some c.in-Some.last) c.iter_after.result c.iter_after.ensures c.first_pinned.result c.first_pinned.ensures)
 
 pub returns-in-None : goal.returns-in-None
 returns-in-None c =
-    subst (λ (o : Option Ino). IsNextPinned (pins_of (contents nat_cmp c.self.inside.below)) o c.first_pinned-in-None.result) (sym c.in-None.is)
+    rw (← c.self.view_is, c.in-None.is)
     (next_of_rows (contents nat_cmp c.self.inside.below) None c.iter.result (c.iter.ensures ∙ all_pass (map.entries (contents nat_cmp c.self.inside.below))) c.first_pinned-in-None.result c.first_pinned-in-None.ensures)
