@@ -35,6 +35,3 @@ pub mod Supplies
 pub mod UsesLaws
 pub mod WalkLaws
 pub mod Worked
-pub mod MergeLaws
-pub mod ProposalLaws
-pub mod WalkLaws

@@ -22,5 +22,3 @@ pub mod Sound
 pub mod State
 pub mod Steps
 pub mod Uses
-pub mod Pins
-pub mod Proposal
