@@ -4,6 +4,7 @@ pub mod AwayLaws
 pub mod Carried
 pub mod Counted
 pub mod DirWalkLaws
+pub mod DirsStay
 pub mod Exported
 pub mod FirstLaws
 pub mod FlushedBook
@@ -24,11 +25,14 @@ pub mod NewBook
 pub mod Offered
 pub mod OwnLaws
 pub mod PinsLaws
+pub mod PlaceLaws
 pub mod ProposalLaws
 pub mod Recorded
 pub mod RunLaws
 pub mod SendLaws
 pub mod Served
+pub mod SettledLaws
+pub mod SettledStays
 pub mod Stays
 pub mod Stepped
 pub mod Supplies

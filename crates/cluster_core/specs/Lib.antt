@@ -18,6 +18,7 @@ pub mod Proposal
 pub mod Runs
 pub mod SentBytes
 pub mod Serve
+pub mod Settled
 pub mod Sound
 pub mod State
 pub mod Steps

@@ -12,6 +12,7 @@ ghost use Rattle.cluster_core.specs.Sound.{IsSoundBook};
 use crate::clusters::Cluster;
 use crate::events::{Answer, Event};
 use crate::plain_trees::PlainTree;
+use crate::settled::{Settled, has_unsettled, may_unsettle};
 use mds_types::{Entry, Limit, Rank, Refusal};
 use objstore::Store;
 use std::alloc::Global;
@@ -25,13 +26,15 @@ pub struct Book<S: Store + Drop> {
     pub(crate) cluster: Cluster<S>,
     pub(crate) history: Vec<Entry>,
     pub(crate) opening: PlainTree,
+    /// Whose subtrees none is pinned away.
+    pub(crate) settled: Settled,
 }
 
 impl<S: Store + Drop> Model for Book<S> {
     ghost use Rattle.std.specs.Coded.{codes};
     ghost use Rattle.std.specs.FinMap as map;
     ghost use Rattle.cluster_core.specs.State.{Kept};
-    ghost use Rattle.cluster_core.specs.Sound.{IsSoundBook};
+    ghost use Rattle.cluster_core.specs.Settled.{IsSettledBook};
 
     ghost Value = { Kept };
 
@@ -39,7 +42,7 @@ impl<S: Store + Drop> Model for Book<S> {
 
     ghost view = { λ b. record { opening = b.opening; history = b.history.items; core = b.cluster } };
 
-    ghost invariant = { λ b. IsSoundBook (record { opening = b.opening; history = b.history.items; core = b.cluster }) };
+    ghost invariant = { λ b. IsSettledBook (record { opening = b.opening; history = b.history.items; core = b.cluster }) b.settled.ranks.items };
 }
 
 impl<S: Store + Drop> Book<S> {
@@ -85,7 +88,13 @@ impl<S: Store + Drop> Book<S> {
         ensures sound { IsSoundBook self.new }
         ensures recorded { Records event self.old.history self.new.history result }
     {
-        self.cluster.step(alloc, &mut self.history, event)
+        let past = self.history.len();
+        let may = may_unsettle(&event);
+        let answer = self.cluster.step(alloc, &mut self.history, event);
+        if may || has_unsettled(self.history.as_slice(), past) {
+            self.settled.forget();
+        }
+        answer
     }
 
     /// Each rank's hint on each subtree root of another names this rank, be it right or wrong: no answer depends on hints. Takes no
@@ -130,6 +139,7 @@ pub fn format<S: Store + Drop>(
             cluster,
             history: Vec::new(alloc),
             opening: PlainTree::new(alloc),
+            settled: Settled::new(alloc),
         }),
         Err(back) => Err(back),
     }

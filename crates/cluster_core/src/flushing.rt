@@ -16,8 +16,8 @@ use std::alloc::Global;
 use std::thread::Threads;
 
 impl<S: Store + Drop> Cluster<S> {
-    // Whether no export stands.
-    fn has_no_export(&self) -> bool
+    /// Whether no export stands.
+    pub(crate) fn has_no_export(&self) -> bool
         ensures { IsTrue result ↔ (self.now.state.exports ≡ map.empty) }
     {
         self.tree.exports().len() == 0
@@ -67,5 +67,6 @@ pub fn flush<S: Store + Drop>(
     if !book.cluster.has_no_export() {
         return Err(Refusal::NotClean);
     }
+    book.settled.forget();
     book.cluster.flush(rt, alloc)
 }

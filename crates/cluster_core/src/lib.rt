@@ -24,6 +24,7 @@ mod proposing;
 mod regroups;
 mod runs;
 mod serving;
+mod settled;
 
 pub use books::{Book, format};
 pub use clusters::Cluster;

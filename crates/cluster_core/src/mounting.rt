@@ -18,6 +18,7 @@ use crate::books::Book;
 use crate::clusters::Cluster;
 use crate::parts::{Given, Waiting};
 use crate::plain_trees::PlainTree;
+use crate::settled::Settled;
 use mdcache::Opening;
 use mds_types::{Limit, Refusal};
 use objstore::Store;
@@ -124,6 +125,7 @@ pub fn mount<S: Store + Drop>(
             cluster,
             history: Vec::new(alloc),
             opening,
+            settled: Settled::new(alloc),
         }),
         Err(back) => Err(back),
     }

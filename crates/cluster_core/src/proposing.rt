@@ -1,6 +1,8 @@
 //! What a rank would do next on its own.
-ghost use Rattle.std.specs.Prelude.{◌≡◌, ◌<◌, length};
-ghost use Rattle.cluster_core.specs.Proposal.{IsProposal, Proposes, sight_of};
+ghost use Rattle.std.specs.Prelude.{◌≡◌, ◌∷◌, [], ◌<◌, true, List, length};
+ghost use Rattle.inboxes.specs.declared.pins.Pin.{Pin};
+ghost use Rattle.cluster_core.specs.Proposal.{IsFirstOf, IsFirstStep, IsProposal, OfLarge, OfPin, OfSmall, Proposes, WouldNot, sight, sight_of};
+ghost use Rattle.cluster_core.specs.Settled.{IsSettled};
 
 use crate::books::Book;
 use crate::clusters::Cluster;
@@ -15,20 +17,33 @@ use ranked_tree::RankedTree;
 use std::alloc::Global;
 
 impl<S: Store + Drop> Cluster<S> {
-    /// The rank's own next step, if it has one. Nothing changes.
-    ///
-    /// Refused `NotAuthority` exactly where there is no such rank.
-    pub fn propose(&mut self, alloc: Global, rank: Rank) -> Result<Option<Event>, Refusal>
-        requires numbers { length self.old.state.inboxes ≡ length self.old.state.numbers }
-        requires caches { length self.old.caches.used ≡ length self.old.state.numbers }
-        ensures same { self.new ≡ self.old }
-        ensures proposed { Proposes self.old rank result }
+    // The rank's own next step, if it has one. `is_settled` says that nothing of the rank's is known to be pinned to another, so that it
+    // isn't looked for.
+    //
+    // Refused `NotAuthority` exactly where there is no such rank.
+    fn propose(
+        &self,
+        alloc: Global,
+        rank: Rank,
+        is_settled: bool,
+    ) -> Result<Option<Event>, Refusal>
+        requires settled { is_settled ≡ true → IsSettled self.now.state rank }
+        requires numbers { length self.now.state.inboxes ≡ length self.now.state.numbers }
+        requires caches { length self.now.caches.used ≡ length self.now.state.numbers }
+        ensures proposed { Proposes self.now rank result }
     {
         if !self.is_rank(rank) {
             return Err(Refusal::NotAuthority);
         }
         let ranks = self.waiting.inboxes.ranks();
-        Ok(proposal(alloc, &self.tree, &self.waiting.pins, ranks, rank))
+        Ok(proposal(
+            alloc,
+            &self.tree,
+            &self.waiting.pins,
+            ranks,
+            rank,
+            is_settled,
+        ))
     }
 }
 
@@ -42,7 +57,25 @@ impl<S: Store + Drop> Book<S> {
         ensures same { self.new ≡ self.old }
         ensures proposed { Proposes self.old.core rank result }
     {
-        self.cluster.propose(alloc, rank)
+        let is_settled = self.settled.knows(rank);
+        let proposed = self.cluster.propose(alloc, rank, is_settled)?;
+        if !is_settled {
+            self.note_settled(rank, &proposed);
+        }
+        Ok(proposed)
+    }
+
+    // Where nothing was proposed and no export stands, nothing of the rank's is pinned away.
+    fn note_settled(&mut self, rank: Rank, proposed: &Option<Event>)
+        requires { IsProposal (sight self.old.core rank) proposed.now }
+        ensures { self.new ≡ self.old }
+    {
+        if proposed.is_some() {
+            return;
+        }
+        if self.cluster.has_no_export() {
+            self.settled.note(rank);
+        }
     }
 }
 
@@ -53,21 +86,68 @@ fn proposal<S: Store + Drop>(
     grants: &Pins,
     ranks: usize,
     rank: Rank,
+    is_settled: bool,
 ) -> Option<Event>
-    requires { rank.0 < length tree.now.tree.caches.used }
+    requires there { rank.0 < length tree.now.tree.caches.used }
+    requires settled { is_settled ≡ true → WouldNot (sight_of tree.now grants.now ranks rank) OfPin }
     ensures { IsProposal (sight_of tree.now grants.now ranks rank) result }
 {
     let going_on = next_of_exports(alloc, tree, grants, rank);
     if going_on.is_some() {
         return going_on;
     }
+    after_exports(tree, grants, ranks, rank, is_settled)
+}
+
+// The first that applies of a split, a merge and the start of an export.
+fn after_exports<S: Store + Drop>(
+    tree: &RankedTree<S>,
+    grants: &Pins,
+    ranks: usize,
+    rank: Rank,
+    is_settled: bool,
+) -> Option<Event>
+    requires there { rank.0 < length tree.now.tree.caches.used }
+    requires settled { is_settled ≡ true → WouldNot (sight_of tree.now grants.now ranks rank) OfPin }
+    ensures { IsFirstOf (sight_of tree.now grants.now ranks rank) (OfLarge ∷ OfSmall ∷ OfPin ∷ []) result }
+{
     let split = first_split(tree, grants, rank);
     if split.is_some() {
         return split;
     }
+    after_splits(tree, grants, ranks, rank, is_settled)
+}
+
+// The first that applies of a merge and the start of an export.
+fn after_splits<S: Store + Drop>(
+    tree: &RankedTree<S>,
+    grants: &Pins,
+    ranks: usize,
+    rank: Rank,
+    is_settled: bool,
+) -> Option<Event>
+    requires there { rank.0 < length tree.now.tree.caches.used }
+    requires settled { is_settled ≡ true → WouldNot (sight_of tree.now grants.now ranks rank) OfPin }
+    ensures { IsFirstOf (sight_of tree.now grants.now ranks rank) (OfSmall ∷ OfPin ∷ []) result }
+{
     let merge = first_merge(tree, grants, rank);
     if merge.is_some() {
         return merge;
+    }
+    start_unless(tree, ranks, rank, is_settled)
+}
+
+// The start of an export, unless it is known that none would start.
+fn start_unless<S: Store + Drop>(
+    tree: &RankedTree<S>,
+    ranks: usize,
+    rank: Rank,
+    is_settled: bool,
+) -> Option<Event>
+    ensures { (grants : List Pin) → (is_settled ≡ true → WouldNot (sight_of tree.now grants ranks rank) OfPin) → IsFirstStep (sight_of tree.now grants ranks rank) OfPin result }
+{
+    if is_settled {
+        return None;
     }
     first_start(tree, ranks, rank)
 }

@@ -1,0 +1,160 @@
+-- Directories, leaves, pins and subtree roots stay in each calm step that applies no request.
+use Rattle.std.proofs.Common.{◌≡◌, ◌⊎◌, ℕ, Bool, true, false, cond, nat_lt, inl, inr, MatchBool, List, [], ◌∷◌, length, Option, Some, None, Result, Ok, Err, refl, ap, ◌∙◌}
+use Rattle.mds_types.specs.declared.entries.Entry.{Entry}
+use Rattle.mds_types.specs.declared.ids.Ino.{Ino}
+use Rattle.mds_types.specs.declared.ids.Rank.{Rank}
+use Rattle.mds_types.specs.declared.operations.Op.{Op}
+use Rattle.mds_types.specs.declared.requests.Request.{Request}
+use Rattle.mds_types.specs.declared.refusals.Refusal.{Refusal}
+use Rattle.mds_types.specs.declared.refusals.Refusal.TheVariants.{NotAuthority}
+use Rattle.inboxes.specs.Inboxes.{first_waiting, waiting_at}
+use Rattle.cached_frag.specs.declared.jobs.Job.{Job}
+use Rattle.dentry_cache.specs.Cache.{Leaf, Unsaved}
+use Rattle.inode_table.specs.Dirs.{Covers, DirPins, Homes}
+use Rattle.mdcache.specs.Commits.{BeginsWith, Drops, Ends}
+use Rattle.mdcache.specs.Objects.{Purges, PurgesName, SavesTree}
+use Rattle.mdcache.specs.PurgeList.{first_name}
+use Rattle.mdcache.specs.State.{State as TreeState}
+use Rattle.cluster_core.specs.declared.events.Answer.{Answer}
+use Rattle.cluster_core.specs.declared.events.Event.{Event}
+use Rattle.cluster_core.specs.declared.events.Event.TheVariants.{Arrive, Grant, Serve, Split, Merge, CommitBegin, CommitEnd, CommitDrop, CommitTree, Purge, Evict, Start, Freeze, Prep, Send, Import, Finish, Cancel}
+use Rattle.cluster_core.specs.Exporting.{CancelsAt, Exports, ImportsExport, KeepsTree, Preps, SendsExport, Starts}
+use Rattle.cluster_core.specs.Administers.{AdministersTree, BeginsAt, EvictsOne, nothing, told_job}
+use Rattle.cluster_core.specs.Grants.{GrantsFirst}
+use Rattle.cluster_core.specs.Serve.{IsApplied, ServesInbox, ServesRequest}
+use Rattle.cluster_core.specs.Settled.{IsCalm}
+use Rattle.cluster_core.specs.State.{Core, State}
+use Rattle.cluster_core.specs.Steps.{ArrivesAt, MayRefuse, Steps}
+use Rattle.ranked_tree.specs.Subtrees.{KeepsAuthorities}
+
+-- the directories with their leaves and their pins
+pub record Tables : Type 0 where
+  pub homes : Homes
+  pub covers : Covers
+  pub pins : DirPins
+
+abbrev pub tables : TreeState → Tables
+tables tree = record { homes = tree.homes; covers = tree.covers; pins = tree.pins }
+
+-- they stay, and so do the subtree roots
+abbrev pub GroundStays : (old new : State) → Type 0
+GroundStays old new = (tables new.tree ≡ tables old.tree) × (new.roots ≡ old.roots)
+
+-- ---- commits, tree objects and the purge list
+
+begun : (old new : TreeState) (unsaved : Option Unsaved) (leaf : Leaf) (job : Option Job) → BeginsWith old new leaf unsaved job → tables new ≡ tables old
+begun old new None leaf job h = ap tables h.1
+begun old new (Some u) leaf None h = absurd h
+begun old new (Some u) leaf (Some job) h = ap tables h.2
+
+purged : (old new : TreeState) (before after : ℕ) (name : Option (List ℕ)) → PurgesName old new before after name (Ok tt) → tables new ≡ tables old
+purged old new before after None h = ap tables h.1
+purged old new before after (Some name) h = ap tables h.0
+
+-- ---- a step
+
+abbrev ground : State → Tables
+ground s = tables s.tree
+
+module _ (old new : State) (past now : List Entry) where
+  abbrev Stays : Type 0
+  Stays = GroundStays old new
+
+  arrived : (rank : Rank) (request : Request) (result : Result Answer Refusal) → ArrivesAt old new past now rank request result → Stays
+  arrived rank request (Ok answer) h = (ap ground h.2, ap (λ (s : State). s.roots) h.2)
+  arrived rank request (Err reason) h = (ap ground h.2.left, ap (λ (s : State). s.roots) h.2.left)
+
+  -- serving applies a request, or leaves the ground
+  pub served_request : (May : Op → Refusal → Type 0) (rank : Rank) (request : Request) (rest : List Request) (result : Result Answer Refusal) → ServesRequest old new past now May rank request rest result
+      → ((answer : Answer) × IsApplied old new past now rank request rest answer) ⊎ Stays
+  served_request May rank request rest (Ok answer) (inl h) = inl (answer, h)
+  served_request May rank request rest (Ok answer) (inr (inl h)) = inr (ap ground h.out.left, ap (λ (s : State). s.roots) h.out.left)
+  served_request May rank request rest (Ok answer) (inr (inr (inl h))) = inr (ap ground h.left, ap (λ (s : State). s.roots) h.left)
+  served_request May rank request rest (Ok answer) (inr (inr (inr h))) = inr (ap ground h.left, ap (λ (s : State). s.roots) h.left)
+  served_request May rank request rest (Err reason) (inl h) = inr (ap ground h.2.left, ap (λ (s : State). s.roots) h.2.left)
+  served_request May rank request rest (Err reason) (inr (inl h)) = inr (ap ground h.3.left, ap (λ (s : State). s.roots) h.3.left)
+  served_request May rank request rest (Err reason) (inr (inr (inl h))) = inr (ap ground h.2.left, ap (λ (s : State). s.roots) h.2.left)
+  served_request May rank request rest (Err reason) (inr (inr (inr (inl h)))) = inr (ap ground h.2.left, ap (λ (s : State). s.roots) h.2.left)
+  served_request May rank request rest (Err reason) (inr (inr (inr (inr h)))) = inr (ap ground h.3.left, ap (λ (s : State). s.roots) h.3.left)
+
+  granted : (May : Op → Refusal → Type 0) (rank : Rank) (client tid : ℕ) (result : Result Answer Refusal) (found : Option Request) → GrantsFirst old new past now May rank client tid result found → Stays
+  granted May rank client tid result None h = (ap ground h.1.left, ap (λ (s : State). s.roots) h.1.left)
+  granted May rank client tid (Ok answer) (Some request) h = (ap ground h.left, ap (λ (s : State). s.roots) h.left)
+  granted May rank client tid (Err reason) (Some request) h = (ap ground h.1.left, ap (λ (s : State). s.roots) h.1.left)
+
+module _ (past now : List Entry) (old new : Core) where
+  abbrev Kept : Type 0
+  Kept = GroundStays old.state new.state
+
+  all_left : new ≡ old → Kept
+  all_left same = (ap (λ (c : Core). tables c.state.tree) same, ap (λ (c : Core). c.state.roots) same)
+
+  state_left : new.state ≡ old.state → Kept
+  state_left same = (ap ground same, ap (λ (s : State). s.roots) same)
+
+  -- a rank that isn't there leaves all
+  at_rank : {Done : Type 0} (here : Bool) (result : Result Answer Refusal) → (Done → Kept) → MatchBool here Done ((result ≡ Err NotAuthority) × (new ≡ old) × (now ≡ past)) → Kept
+  at_rank true result so h = so h
+  at_rank false result so h = all_left h.1
+
+  -- so does an administrator's step that is refused; one that is done leaves the roots
+  worked : {X : Type 0} (told : X → Answer) (Did : Result X Refusal → Type 0) → ((given : X) → Did (Ok given) → tables new.state.tree ≡ tables old.state.tree) → (result : Result Answer Refusal)
+      → AdministersTree old.state new.state past now told Did result → Kept
+  worked told Did so (Ok answer) h = (so h.0.0 h.0.2, h.1)
+  worked told Did so (Err reason) h = state_left h.0.1.left
+
+  kept_tree : KeepsTree old.state new.state → Kept
+  kept_tree kept = (ap tables kept.tree, kept.roots)
+
+  exported : (Did : Result (Unit {0}) Refusal → Type 0) → (Did (Ok tt) → Kept) → (result : Result Answer Refusal) → Exports old new past now Did result → Kept
+  exported Did stays (Ok answer) h = stays h.1
+  exported Did stays (Err reason) h = state_left h.1.left
+
+  sent : (at : Leaf) (result : Result Answer Refusal) → SendsExport old new past now at result → Kept
+  sent at (Ok answer) h = kept_tree h.2.2
+  sent at (Err reason) h = state_left h.1.left
+
+  imported : (at : Leaf) (bytes : List ℕ) (result : Result Answer Refusal) → ImportsExport old new past now at bytes result → Kept
+  imported at bytes (Ok answer) h = (ap tables h.1.renewed.left, h.1.roots)
+  imported at bytes (Err reason) h = state_left h.1.left
+
+  -- a request was applied, at a rank that is there, and each leaf kept its authority
+  pub record Applied : Type 0 where
+    pub rank : Rank
+    pub here : nat_lt rank.0 (length old.state.inboxes) ≡ true
+    pub request : Request
+    pub rest : List Request
+    pub answer : Answer
+    pub applied : IsApplied old.state new.state past now rank request rest answer
+    pub authorities : KeepsAuthorities old.state.tree new.state.tree old.state.roots new.state.roots
+
+  serves : (rank : Rank) (result : Result Answer Refusal) (here : Bool) → nat_lt rank.0 (length old.state.inboxes) ≡ here → (inbox : List Request) → KeepsAuthorities old.state.tree new.state.tree old.state.roots new.state.roots
+      → (Uses : Type 0) → MatchBool here (ServesInbox old.state new.state past now (MayRefuse old new) rank result inbox × Uses) ((result ≡ Err NotAuthority) × (new ≡ old) × (now ≡ past)) → Kept ⊎ Applied
+  serves rank result false is inbox keeps Uses h = inl (all_left h.1)
+  serves rank result true is [] keeps Uses h = inl (state_left h.0.1.left)
+  serves rank result true is (request ∷ rest) keeps Uses h = go (served_request old.state new.state past now (MayRefuse old new) rank request rest result h.0)
+    where
+      go : ((answer : Answer) × IsApplied old.state new.state past now rank request rest answer) ⊎ Kept → Kept ⊎ Applied
+      go (inl (answer, its)) = inr (record { rank = rank; here = is; request = request; rest = rest; answer = answer; applied = its; authorities = keeps })
+      go (inr stays) = inl stays
+
+  -- a calm step leaves all this, but where it applies a request
+  pub ground_stays : (result : Result Answer Refusal) (event : Event) → IsCalm event → Steps old new past now result event → Kept ⊎ Applied
+  ground_stays result (Arrive rank request) calm steps = inl (at_rank (nat_lt rank.0 (length old.state.inboxes)) result (λ w. arrived old.state new.state past now rank request result w.0) steps.does)
+  ground_stays result (Serve rank) calm steps = serves rank result (nat_lt rank.0 (length old.state.inboxes)) refl (waiting_at old.state.inboxes rank) steps.authorities _ steps.does
+  ground_stays result (Grant rank client tid) calm steps = inl (at_rank (nat_lt rank.0 (length old.state.inboxes)) result (λ w. granted old.state new.state past now (MayRefuse old new) rank client tid result (first_waiting client tid old.state.inboxes) w.0) steps.does)
+  ground_stays result (Split rank dir f nb) calm steps = absurd calm
+  ground_stays result (Merge rank dir f) calm steps = absurd calm
+  ground_stays result (CommitBegin rank dir f) calm steps = inl (at_rank (nat_lt rank.0 (length old.state.inboxes)) result (λ w. worked told_job (BeginsAt old.state new.state rank (dir, f)) (λ given did. begun old.state.tree new.state.tree _ (dir, f) given did.2.2) result w.0) steps.does)
+  ground_stays result (CommitEnd encoded) calm steps = inl (worked nothing (Ends old.state.tree new.state.tree old.faults new.faults encoded.job) (λ done did. ap tables did.left) result steps.does.0)
+  ground_stays result (CommitDrop number) calm steps = inl (worked nothing (Drops old.state.tree new.state.tree number) (λ done did. ap tables did.left) result steps.does.0)
+  ground_stays result (CommitTree dir) calm steps = inl (worked nothing (SavesTree old.state.tree new.state.tree old.faults new.faults dir) (λ done did. ap tables did.1) result steps.does.0)
+  ground_stays result Purge calm steps = inl (worked nothing (Purges old.state.tree new.state.tree old.faults new.faults) (λ done did. purged old.state.tree new.state.tree old.faults new.faults (first_name old.state.tree.purge) did) result steps.does.0)
+  ground_stays result (Evict rank) calm steps = inl (at_rank (nat_lt rank.0 (length old.state.inboxes)) result (λ w. worked nothing (EvictsOne old new rank) (λ done did. ap ground did.1) result w) steps.does)
+  ground_stays result (Start from dir f to) calm steps = inl (at_rank (nat_lt from.0 (length old.state.inboxes)) result (λ w. at_rank (nat_lt to.0 (length old.state.inboxes)) result (λ done. exported (Starts old.state new.state from (dir, f) to) (λ did. kept_tree did.2) result done) w) steps.does)
+  ground_stays result (Freeze dir f) calm steps = absurd calm
+  ground_stays result (Prep dir f) calm steps = inl (exported (Preps old.state new.state (dir, f)) (λ did. kept_tree did.1) result steps.does)
+  ground_stays result (Send dir f) calm steps = inl (sent (dir, f) result steps.does)
+  ground_stays result (Import dir f bytes) calm steps = inl (imported (dir, f) bytes result steps.does)
+  ground_stays result (Finish dir f) calm steps = absurd calm
+  ground_stays result (Cancel dir f) calm steps = inl (exported (CancelsAt old.state new.state (dir, f)) (λ did. kept_tree did.2) result steps.does)

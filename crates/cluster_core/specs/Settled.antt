@@ -1,0 +1,73 @@
+-- The ranks of which nothing is pinned to another: a book remembers them, so that a proposal need not look again.
+use Rattle.std.specs.Prelude.{◌≡◌, ◌≢◌, ◌⊎◌, ◌<◌, List, length, IsSome}
+use Rattle.std.specs.List.{Contains}
+use Rattle.std.specs.FinMap as map
+use Rattle.mds_types.specs.declared.ids.Rank.{Rank}
+use Rattle.mds_types.specs.declared.inodes.Alteration.TheVariants.{Attributed, Pinned}
+use Rattle.mds_types.specs.declared.operations.Op.{Op}
+use Rattle.mds_types.specs.Leaf.{Leaf}
+use Rattle.mds_types.specs.Shape.{Shape, Looks, Lists, Makes, Sets, Unlinks, Removes, Moves, shape}
+use Rattle.inode_table.specs.Dirs.{IsLive}
+use Rattle.subtree_map.specs.Authority.{HasAuthority}
+use Rattle.cluster_core.specs.declared.events.Event.{Event}
+use Rattle.cluster_core.specs.declared.events.Event.TheVariants.{Arrive, Serve, Grant, Split, Merge, CommitBegin, CommitEnd, CommitDrop, CommitTree, Purge, Evict, Start, Freeze, Prep, Send, Import, Finish, Cancel}
+use Rattle.cluster_core.specs.Pins.{HasPin}
+use Rattle.cluster_core.specs.Sound.{IsSoundBook}
+use Rattle.cluster_core.specs.State.{Kept, State}
+
+-- a leaf is a rank's, a subtree root or of a directory with a pin of its own, and its directory is pinned to another rank of the book
+pub record IsAway (state : State) (rank : Rank) (leaf : Leaf) (to : Rank) : Type 0 where
+  pub live : IsLive state.tree.homes state.tree.covers leaf
+  pub mine : HasAuthority state.roots state.tree.homes state.tree.covers leaf rank
+  pub place : IsSome (map.get state.roots leaf) ⊎ IsSome (map.get state.tree.pins leaf.0.0)
+  pub pin : HasPin state.tree.pins state.tree.homes leaf.0.0 to
+  pub other : to ≢ rank
+  pub there : to.0 < length state.numbers
+
+-- no leaf of the rank's is
+abbrev pub IsSettled : State → Rank → Type 0
+IsSettled state rank = (leaf : Leaf) (to : Rank) → IsAway state rank leaf to → ⊥
+
+-- so it is with each of these ranks
+abbrev pub AreSettled : State → List Rank → Type 0
+AreSettled state ranks = (rank : Rank) → Contains ranks rank → IsSettled state rank
+
+-- a book is sound, and nothing of these ranks is pinned away
+pub record IsSettledBook (book : Kept) (ranks : List Rank) : Type 0 where
+  pub sound : IsSoundBook book
+  pub settled : AreSettled book.core.state ranks
+
+-- an operation that moves nothing and pins nothing
+abbrev pub IsCalmIn : Shape → Type 0
+IsCalmIn (Looks dentry answer) = Unit {0}
+IsCalmIn (Lists dir after max) = Unit {0}
+IsCalmIn (Makes dentry kind mode birth) = Unit {0}
+IsCalmIn (Sets dentry (Attributed given)) = Unit {0}
+IsCalmIn (Sets dentry (Pinned pin)) = ⊥
+IsCalmIn (Unlinks dentry) = Unit {0}
+IsCalmIn (Removes dentry) = Unit {0}
+IsCalmIn (Moves from to) = ⊥
+
+abbrev pub IsCalmOp : Op → Type 0
+IsCalmOp op = IsCalmIn (shape op)
+
+-- a step that changes no leaves, no subtree roots and no authority, whatever request it serves
+abbrev pub IsCalm : Event → Type 0
+IsCalm (Arrive rank request) = Unit {0}
+IsCalm (Serve rank) = Unit {0}
+IsCalm (Grant rank client tid) = Unit {0}
+IsCalm (Split rank dir f bits) = ⊥
+IsCalm (Merge rank dir f) = ⊥
+IsCalm (CommitBegin rank dir f) = Unit {0}
+IsCalm (CommitEnd encoded) = Unit {0}
+IsCalm (CommitDrop job) = Unit {0}
+IsCalm (CommitTree dir) = Unit {0}
+IsCalm Purge = Unit {0}
+IsCalm (Evict rank) = Unit {0}
+IsCalm (Start from dir f to) = Unit {0}
+IsCalm (Freeze dir f) = ⊥
+IsCalm (Prep dir f) = Unit {0}
+IsCalm (Send dir f) = Unit {0}
+IsCalm (Import dir f bytes) = Unit {0}
+IsCalm (Finish dir f) = ⊥
+IsCalm (Cancel dir f) = Unit {0}

@@ -1,0 +1,104 @@
+//! Of which ranks a book knows that nothing of theirs is pinned to another rank, and which steps may change that.
+ghost use Rattle.std.specs.Prelude.{◌≡◌, ◌⊎◌, ◌++◌, ◌∷◌, [], true, false, List, length};
+ghost use Rattle.std.specs.List.{Contains};
+ghost use Rattle.mds_types.specs.declared.entries.Entry.{Entry as Applied};
+ghost use Rattle.mds_types.specs.declared.ids.Rank.{Rank as RankNumber};
+ghost use Rattle.cluster_core.specs.Settled.{IsCalm, IsCalmOp};
+
+use crate::events::Event;
+use mds_types::{Entry, Op, Rank};
+use std::alloc::Global;
+
+/// The ranks of which it is known that none of their subtrees is pinned to another rank, so that no proposal looks again.
+#[derive(Drop)]
+pub(crate) struct Settled {
+    pub(crate) ranks: Vec<Rank>,
+}
+
+impl Settled {
+    /// It is known of none. Takes no memory.
+    pub(crate) fn new(alloc: Global) -> Settled
+        ensures { result.ranks.items ≡ [] }
+    {
+        Settled {
+            ranks: Vec::new(alloc),
+        }
+    }
+
+    /// Whether it is known of a rank.
+    pub(crate) fn knows(&self, rank: Rank) -> bool
+        ensures { result ≡ true → Contains self.now.ranks.items rank }
+    {
+        self.ranks.contains(&rank)
+    }
+
+    /// It is known of a rank; where there is no memory for that, it is forgotten at once.
+    pub(crate) fn note(&mut self, rank: Rank)
+        ensures { (other : RankNumber) → Contains self.new.ranks.items other → Contains self.old.ranks.items other ⊎ (other ≡ rank) }
+    {
+        let _ = self.ranks.push(rank);
+    }
+
+    /// It is known of none any more.
+    pub(crate) fn forget(&mut self)
+        ensures { self.new.ranks.items ≡ [] }
+    {
+        self.ranks.clear();
+    }
+}
+
+/// Whether a step may pin something away, or change whose it is, whatever request it serves.
+#[inline(always)]
+pub(crate) fn may_unsettle(event: &Event) -> bool
+    ensures { result ≡ false → IsCalm event.now }
+{
+    match event {
+        Event::Split { .. }
+        | Event::Merge { .. }
+        | Event::Freeze { .. }
+        | Event::Finish { .. } => true,
+        Event::Arrive { .. }
+        | Event::Serve { .. }
+        | Event::Grant { .. }
+        | Event::CommitBegin { .. }
+        | Event::CommitEnd(_)
+        | Event::CommitDrop { .. }
+        | Event::CommitTree { .. }
+        | Event::Purge
+        | Event::Evict { .. }
+        | Event::Start { .. }
+        | Event::Prep { .. }
+        | Event::Send { .. }
+        | Event::Import { .. }
+        | Event::Cancel { .. } => false,
+    }
+}
+
+/// Whether an operation that was applied behind so many moves something, or pins a directory.
+#[inline(always)]
+pub(crate) fn has_unsettled(history: &[Entry], past: usize) -> bool
+    ensures { result ≡ false → (before : List Applied) (e : Applied) → length before ≡ past → history.now ≡ before ++ e ∷ [] → IsCalmOp e.op }
+{
+    match history.get(past) {
+        Some(entry) => unsettles(&entry.op),
+        None => false,
+    }
+}
+
+// Whether an operation moves something, or pins a directory.
+fn unsettles(op: &Op) -> bool
+    ensures { result ≡ false → IsCalmOp op.now }
+{
+    match op {
+        Op::SetPin { .. } | Op::Rename { .. } => true,
+        Op::Lookup(_)
+        | Op::Readdir { .. }
+        | Op::Create { .. }
+        | Op::Mkdir { .. }
+        | Op::Readlink(_)
+        | Op::Symlink { .. }
+        | Op::Setattr { .. }
+        | Op::Unlink(_)
+        | Op::Rmdir(_) => false,
+    }
+}
