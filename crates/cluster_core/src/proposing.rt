@@ -21,12 +21,7 @@ impl<S: Store + Drop> Cluster<S> {
     // isn't looked for.
     //
     // Refused `NotAuthority` exactly where there is no such rank.
-    fn propose(
-        &self,
-        alloc: Global,
-        rank: Rank,
-        is_settled: bool,
-    ) -> Result<Option<Event>, Refusal>
+    fn propose(&self, alloc: Global, rank: Rank, is_settled: bool) -> Result<Option<Event>, Refusal>
         requires settled { is_settled ≡ true → IsSettled self.now.state rank }
         requires numbers { length self.now.state.inboxes ≡ length self.now.state.numbers }
         requires caches { length self.now.caches.used ≡ length self.now.state.numbers }

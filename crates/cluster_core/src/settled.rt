@@ -53,10 +53,8 @@ pub(crate) fn may_unsettle(event: &Event) -> bool
     ensures { result ≡ false → IsCalm event.now }
 {
     match event {
-        Event::Split { .. }
-        | Event::Merge { .. }
-        | Event::Freeze { .. }
-        | Event::Finish { .. } => true,
+        Event::Split { .. } | Event::Merge { .. } | Event::Freeze { .. } | Event::Finish { .. } =>
+            true,
         Event::Arrive { .. }
         | Event::Serve { .. }
         | Event::Grant { .. }
