@@ -13,7 +13,7 @@ use Rattle.mds_types.specs.Frag.{Fragment, frag_cmp, span}
 use Rattle.mds_types.specs.Leaf.{Leaf, leaf_cmp}
 use Rattle.fragtree.specs.FragTree.{HasLeaf, IsPick, IsTree}
 use Rattle.fragtree.proofs.Ranges.{span_pos}
-use Rattle.inode_table.specs.Dirs.{DirPins, leaves_of}
+use Rattle.inode_table.specs.Dirs.{leaves_of}
 use Rattle.inode_table.specs.Pinned.{IsAfter, IsNextPinned}
 use Rattle.cluster_core.specs.Proposal.{IsAwayTo, IsFirstAway, Sight}
 use Rattle.cluster_core.proofs.GrantLaws.{Done, ends_all, goes_on}

@@ -3,17 +3,14 @@
 use Rattle.std.proofs.Common.{◌≡◌, ◌⊎◌, ◌&&◌, ℕ, Bool, true, false, cond, Option, Some, None, inl, inr, refl, ap, subst, ◌∙◌}
 use Rattle.std.specs.FinMap as map
 use Rattle.mds_types.specs.declared.dentries.Dentry.{Dentry}
-use Rattle.mds_types.specs.declared.inodes.Alteration.{Alteration}
 use Rattle.mds_types.specs.declared.inodes.Alteration.TheVariants.{Attributed, Pinned}
 use Rattle.mds_types.specs.declared.inodes.Attributes.{Attributes}
-use Rattle.mds_types.specs.declared.inodes.Birth.{Birth}
 use Rattle.mds_types.specs.declared.inodes.Inode.{Inode}
-use Rattle.mds_types.specs.declared.inodes.Kind.{Kind}
 use Rattle.mds_types.specs.declared.replies.Reply.{Reply}
 use Rattle.mds_types.specs.declared.replies.Reply.TheVariants.{Done, Entry, Errno}
 use Rattle.mds_types.specs.Shape.{Shape, Looks, Lists, Makes, Sets, Unlinks, Removes, Moves, destination_in, directory_in}
 use Rattle.mds_types.specs.Step.{Outcome, altered_at, answers, dir_removed, done_in, full_errno, looked, made, new_inode, removal_errno, size_errno, step_in, unless, unlinked, with_attributes}
-use Rattle.mds_types.specs.Tree.{Tree, IsUnused, dentry_of, is_dir_kind, is_directory}
+use Rattle.mds_types.specs.Tree.{Tree, IsUnused, is_dir_kind, is_directory}
 use Rattle.cluster_core.specs.Settled.{IsCalmIn}
 use Rattle.mds_types.proofs.EntryLaws.{stands_after_put, stands_after_removal}
 

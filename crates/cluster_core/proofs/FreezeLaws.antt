@@ -1,5 +1,5 @@
 -- Whether a leaf of the region that a leaf has as a root is granted.
-use Rattle.std.proofs.Common.{◌≡◌, ◌⊎◌, inl, inr, ℕ, Bool, true, false, ◌||◌, List, [], ◌∷◌, Some, None, refl, sym, ap, subst, ◌∙◌}
+use Rattle.std.proofs.Common.{◌≡◌, ◌⊎◌, inl, inr, Bool, true, false, ◌||◌, List, [], ◌∷◌, Some, None, refl, sym, ap, subst, ◌∙◌}
 use Rattle.std.specs.List.{Contains, list_any}
 use Rattle.std.specs.FinMap as map
 use Rattle.std.proofs.lemmas.Bool.{false_from_ne_true}
@@ -8,7 +8,6 @@ use Rattle.mds_types.specs.Leaf.{Leaf}
 use Rattle.mds_types.proofs.LeafLaws.{get_beside, get_put, leaf_itself, one_leaf}
 use Rattle.inboxes.specs.declared.pins.Pin.{Pin}
 use Rattle.inboxes.specs.Pins.{is_on}
-use Rattle.inode_table.specs.declared.dirs.Home.{Home}
 use Rattle.inode_table.specs.Dirs.{Covers, Homes}
 use Rattle.namespace_ops.proofs.Members.{first, first_or_later, later, none_in}
 use Rattle.subtree_map.specs.Authority.{NearestRoot, Roots, inherited, itself}

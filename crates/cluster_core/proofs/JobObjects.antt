@@ -23,7 +23,7 @@ use Rattle.mdcache.proofs.StandingObjects.{ObjectsStay, begun_objects, dropped_o
 use Rattle.cluster_core.specs.declared.events.Answer.{Answer}
 use Rattle.cluster_core.specs.declared.events.Event.{Event}
 use Rattle.cluster_core.specs.declared.events.Event.TheVariants.{Arrive, Grant, Serve, Split, Merge, CommitBegin, CommitEnd, CommitDrop, CommitTree, Purge, Evict, Start, Freeze, Prep, Send, Import, Finish, Cancel}
-use Rattle.cluster_core.specs.Exporting.{CancelsAt, Exports, Finishes, Freezes, ImportsExport, KeepsTree, Preps, SendsExport, Starts}
+use Rattle.cluster_core.specs.Exporting.{CancelsAt, Exports, Finishes, Freezes, ImportsExport, Preps, SendsExport, Starts}
 use Rattle.cluster_core.specs.Administers.{Administers, BeginsAt, EvictsOne, MergesLeaves, SplitsLeaf, nothing, told_job}
 use Rattle.cluster_core.specs.Commits.{JobsKeepObjects, JobsTakeWhatIsShown}
 use Rattle.cluster_core.specs.Grants.{GrantsFirst}

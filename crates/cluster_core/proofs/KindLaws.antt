@@ -1,5 +1,5 @@
 -- A walk over the candidates of a kind ends at the least leaf at which a rank would make a step of it.
-use Rattle.std.proofs.Common.{◌≡◌, ◌⊎◌, inl, inr, ℕ, ◌<◌, ◌≤◌, true, false, length, Option, Some, None, MatchOption, refl, subst}
+use Rattle.std.proofs.Common.{◌≡◌, ℕ, ◌<◌, ◌≤◌, true, false, length, Option, Some, None, MatchOption, refl, subst}
 use Rattle.std.specs.Prelude.{is_some}
 use Rattle.inode_table.specs.Dirs.{leaves_of}
 use Rattle.std.specs.FinMap as map

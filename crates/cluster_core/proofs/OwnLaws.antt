@@ -1,5 +1,5 @@
 -- What a rank proposes is an own step of a rank, which adds nothing to the history.
-use Rattle.std.proofs.Common.{◌≡◌, ◌⊎◌, inl, inr, List, [], ◌∷◌, Some, Ok, sym, subst}
+use Rattle.std.proofs.Common.{◌≡◌, inl, inr, List, [], ◌∷◌, Some, Ok, sym, subst}
 use Rattle.std.specs.Prelude.{Result}
 use Rattle.mds_types.specs.declared.entries.Entry.{Entry}
 use Rattle.mds_types.specs.declared.ids.Rank.{Rank}
@@ -10,7 +10,7 @@ use Rattle.export_steps.specs.declared.exports.ExportState.TheVariants as at
 use Rattle.cluster_core.specs.declared.events.Answer.{Answer}
 use Rattle.cluster_core.specs.declared.events.Event.{Event}
 use Rattle.cluster_core.specs.declared.events.Event.TheVariants.{Arrive, Serve, Grant, Split, Merge, CommitBegin, CommitEnd, CommitDrop, CommitTree, Purge, Evict, Start, Freeze, Prep, Send, Import, Finish, Cancel}
-use Rattle.cluster_core.specs.Proposal.{IsFirstOf, IsNextStep, IsOwnStep, Kind, OfExport, OfLarge, OfSmall, OfPin, Proposes, Sight, Would}
+use Rattle.cluster_core.specs.Proposal.{IsFirstOf, IsNextStep, IsOwnStep, Kind, OfExport, OfLarge, OfPin, OfSmall, Proposes, Sight, Would, kinds, sight}
 use Rattle.cluster_core.specs.Runs.{AddsAtServe, Records}
 use Rattle.cluster_core.specs.State.{Core}
 
@@ -35,7 +35,7 @@ own_first s (kind ∷ others) event (inl least) = own_kind s kind least.leaf eve
 own_first s (kind ∷ others) event (inr (none, rest)) = own_first s others event rest
 
 pub own_step : (core : Core) (rank : Rank) (event : Event) → Proposes core rank (Ok (Some event)) → IsOwnStep event
-own_step core rank event proposed = own_first _ _ event proposed.1
+own_step core rank event proposed = own_first (sight core rank) kinds event proposed.1
 
 -- it adds nothing to the history
 stays : (event : Event) (past now : List Entry) → IsOwnStep event → AddsAtServe event past now → now ≡ past

@@ -1,5 +1,5 @@
 -- What a leaf has once an operation was applied which moves and pins nothing it had before: its authority, its place and its effective pin.
-use Rattle.std.proofs.Common.{◌≡◌, ◌⊎◌, ◌==◌, ℕ, Bool, true, false, cond, is_some, List, [], ◌∷◌, Option, Some, None, inl, inr, ⊎_elim, refl, sym, ap, subst, ◌∙◌}
+use Rattle.std.proofs.Common.{◌≡◌, ◌⊎◌, ◌==◌, ℕ, true, false, cond, is_some, List, [], ◌∷◌, Option, Some, None, inl, inr, refl, sym, ap, subst, ◌∙◌}
 use Rattle.std.specs.Prelude.{IsSome}
 use Rattle.std.specs.FinMap as map
 use Rattle.std.proofs.lemmas.Bool.{or_right}
@@ -12,7 +12,6 @@ use Rattle.mds_types.specs.Leaf.{Leaf}
 use Rattle.mds_types.specs.Tree.{Tree, IsUnused, dentry_of, is_dir_kind, is_directory}
 use Rattle.mds_types.proofs.DirectoryLaws.{StandsAs, directory_stands}
 use Rattle.fragtree.specs.FragTree.{HasLeaf}
-use Rattle.inode_table.specs.declared.dirs.Home.{Home}
 use Rattle.inode_table.specs.Dirs.{Covers, DirPins, Homes, IsLive, IsTable, is_known, leaves_of}
 use Rattle.inode_table.specs.TreeTable.{HoldsPins, IsTabled}
 use Rattle.inode_table.proofs.TableLaws.{known_is}

@@ -1,5 +1,5 @@
 -- A rank of which nothing is pinned away stays so in each calm step; and one that would start no export where none stands is such a rank.
-use Rattle.std.proofs.Common.{◌≡◌, ◌⊎◌, ◌++◌, ◌∷◌, [], ◌<◌, ℕ, Bool, true, false, nat_lt, inl, inr, List, length, Option, Some, None, Result, refl, sym, ap, subst, ◌∙◌, arith}
+use Rattle.std.proofs.Common.{◌≡◌, ◌⊎◌, ◌++◌, ◌∷◌, [], ◌<◌, Bool, true, false, inl, inr, List, length, Option, Some, None, Result, refl, sym, ap, subst, ◌∙◌, arith}
 use Rattle.std.specs.Prelude.{IsSome, is_some}
 use Rattle.std.specs.List.{Contains}
 use Rattle.std.specs.FinMap as map
@@ -19,7 +19,6 @@ use Rattle.dirfrag_codec.specs.EntryRecord.{IsRankNumber}
 use Rattle.inode_table.specs.Dirs.{IsLive, is_known}
 use Rattle.inode_table.specs.Numbers.{offer}
 use Rattle.subtree_map.specs.Authority.{HasAuthority, Roots}
-use Rattle.subtree_map.specs.Changes.{AreGone}
 use Rattle.export_steps.specs.Standing.{Standing}
 use Rattle.namespace_ops.specs.Changes.{IsChangeIn, IsOffered}
 use Rattle.namespace_ops.specs.Planned.{IsOneOf}
@@ -33,7 +32,7 @@ use Rattle.cluster_core.specs.declared.events.Event.TheVariants.{Start}
 use Rattle.cluster_core.specs.Pins.{HasPin}
 use Rattle.cluster_core.specs.Proposal.{IsProposal, OfPin, WouldNot, sight}
 use Rattle.cluster_core.specs.Serve.{FollowPlanned, outcome_of}
-use Rattle.cluster_core.specs.Settled.{AreSettled, IsAway, IsCalm, IsCalmIn, IsCalmOp, IsSettled}
+use Rattle.cluster_core.specs.Settled.{AreSettled, IsAway, IsCalm, IsCalmIn, IsCalmOp, IsSettled, KeepsSettled}
 use Rattle.cluster_core.specs.Sound.{IsSound}
 use Rattle.cluster_core.specs.State.{Core, State, shown, supply_of}
 use Rattle.cluster_core.specs.Steps.{Steps}
@@ -41,6 +40,10 @@ use Rattle.cluster_core.proofs.DirsStay.{DirsStay, calm_step}
 use Rattle.cluster_core.proofs.Offered.{offer_unused, there_of}
 use Rattle.cluster_core.proofs.PlaceLaws.{has_pin, live_was, mine_was, place_known, place_was}
 use Rattle.cluster_core.proofs.SettledStays.{Applied, GroundStays, Tables, ground_stays}
+
+-- of none it is known
+pub none_known : (state : State) (ranks : List Rank) → ranks ≡ [] → AreSettled state ranks
+none_known state ranks none = subst (AreSettled state) (sym none) (λ rank has. absurd (omega (arith, has.1)))
 
 -- ---- the roots afterwards were roots
 
@@ -143,12 +146,18 @@ module _ (opening : Tree) (past now : List Entry) (old new : Core) (sound : IsSo
       go (inl stays) = settled leaf to (same_away ranks rank leaf to away stays)
       go (inr a) = settled leaf to (away_was ranks rank leaf to away a (entry _ a.applied.appended))
 
+  -- what is known after a step
+  pub known_after : (result : Result Answer Refusal) (event : Event) (before after : List Rank) (may : Bool) → Steps old new past now result event → (may ≡ false → IsCalm event) → KeepsSettled before after may now (length past)
+      → AreSettled old.state before → AreSettled new.state after
+  known_after result event before after may steps calm (inl none) settled rank has = none_known new.state after none rank has
+  known_after result event before after may steps calm (inr (same, not, entry)) settled rank has =
+      settled_stays result event steps (calm not) (λ e is. entry past e refl is) rank (settled rank (subst (λ (rs : List Rank). Contains rs rank) same has))
+
 -- ---- what is known of a rank
 
 -- where nothing is proposed, and no export stands, nothing is pinned away
-pub none_away : (core : Core) (rank : Rank) (proposed : Option Event) → IsProposal (sight core rank) proposed → is_some proposed ≡ false → core.state.exports ≡ map.empty → IsSettled core.state rank
-none_away core rank (Some event) its is empty leaf to away = let clash : true ≡ false = is in cc
-none_away core rank None none is empty leaf to away =
+pub none_away : (core : Core) (rank : Rank) → IsProposal (sight core rank) None → core.state.exports ≡ map.empty → IsSettled core.state rank
+none_away core rank none empty leaf to away =
     none.1.1.1.0 leaf (Start rank leaf.0 leaf.1 to)
     (record {
       to = to;
@@ -176,7 +185,3 @@ noted state before after rank settled its either other has = go (either other ha
     go : Contains before other ⊎ (other ≡ rank) → IsSettled state other
     go (inl had) = settled other had
     go (inr same) = subst (λ (r : Rank). IsSettled state r) (sym same) its
-
--- of none it is known
-pub none_known : (state : State) → AreSettled state []
-none_known state rank (k, below, is) = absurd (omega (arith, below))

@@ -1,7 +1,8 @@
 -- The ranks of which nothing is pinned to another: a book remembers them, so that a proposal need not look again.
-use Rattle.std.specs.Prelude.{◌≡◌, ◌≢◌, ◌⊎◌, ◌<◌, List, length, IsSome}
+use Rattle.std.specs.Prelude.{◌≡◌, ◌≢◌, ◌⊎◌, ◌++◌, ◌∷◌, [], ◌<◌, ℕ, Bool, false, List, length, IsSome}
 use Rattle.std.specs.List.{Contains}
 use Rattle.std.specs.FinMap as map
+use Rattle.mds_types.specs.declared.entries.Entry.{Entry}
 use Rattle.mds_types.specs.declared.ids.Rank.{Rank}
 use Rattle.mds_types.specs.declared.inodes.Alteration.TheVariants.{Attributed, Pinned}
 use Rattle.mds_types.specs.declared.operations.Op.{Op}
@@ -71,3 +72,8 @@ IsCalm (Send dir f) = Unit {0}
 IsCalm (Import dir f bytes) = Unit {0}
 IsCalm (Finish dir f) = ⊥
 IsCalm (Cancel dir f) = Unit {0}
+
+-- what is known afterwards: all of it, where the step was calm and so is what it applied behind so many entries; otherwise nothing
+abbrev pub KeepsSettled : (before after : List Rank) → (may : Bool) → (history : List Entry) → (past : ℕ) → Type 0
+KeepsSettled before after may history past =
+    (after ≡ []) ⊎ ((after ≡ before) × (may ≡ false) × ((earlier : List Entry) (e : Entry) → length earlier ≡ past → history ≡ earlier ++ e ∷ [] → IsCalmOp e.op))

@@ -12,7 +12,7 @@ ghost use Rattle.cluster_core.specs.Sound.{IsSoundBook};
 use crate::clusters::Cluster;
 use crate::events::{Answer, Event};
 use crate::plain_trees::PlainTree;
-use crate::settled::{Settled, has_unsettled, may_unsettle};
+use crate::settled::{Settled, keep_settled, may_unsettle};
 use mds_types::{Entry, Limit, Rank, Refusal};
 use objstore::Store;
 use std::alloc::Global;
@@ -91,9 +91,7 @@ impl<S: Store + Drop> Book<S> {
         let past = self.history.len();
         let may = may_unsettle(&event);
         let answer = self.cluster.step(alloc, &mut self.history, event);
-        if may || has_unsettled(self.history.as_slice(), past) {
-            self.settled.forget();
-        }
+        keep_settled(&mut self.settled, may, self.history.as_slice(), past);
         answer
     }
 

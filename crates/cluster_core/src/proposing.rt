@@ -1,5 +1,5 @@
 //! What a rank would do next on its own.
-ghost use Rattle.std.specs.Prelude.{◌≡◌, ◌∷◌, [], ◌<◌, true, List, length};
+ghost use Rattle.std.specs.Prelude.{◌≡◌, ◌∷◌, [], ◌<◌, true, List, None, Ok, length};
 ghost use Rattle.inboxes.specs.declared.pins.Pin.{Pin};
 ghost use Rattle.cluster_core.specs.Proposal.{IsFirstOf, IsFirstStep, IsProposal, OfLarge, OfPin, OfSmall, Proposes, WouldNot, sight, sight_of};
 ghost use Rattle.cluster_core.specs.Settled.{IsSettled};
@@ -53,24 +53,32 @@ impl<S: Store + Drop> Book<S> {
         ensures proposed { Proposes self.old.core rank result }
     {
         let is_settled = self.settled.knows(rank);
-        let proposed = self.cluster.propose(alloc, rank, is_settled)?;
-        if !is_settled {
-            self.note_settled(rank, &proposed);
+        let proposed = self.cluster.propose(alloc, rank, is_settled);
+        if is_nothing(&proposed) {
+            self.note_settled(rank);
         }
-        Ok(proposed)
+        proposed
     }
 
-    // Where nothing was proposed and no export stands, nothing of the rank's is pinned away.
-    fn note_settled(&mut self, rank: Rank, proposed: &Option<Event>)
-        requires { IsProposal (sight self.old.core rank) proposed.now }
+    // Where nothing is proposed to a rank and no export stands, nothing of the rank's is pinned away.
+    fn note_settled(&mut self, rank: Rank)
+        requires { IsProposal (sight self.old.core rank) None }
         ensures { self.new ≡ self.old }
     {
-        if proposed.is_some() {
-            return;
-        }
         if self.cluster.has_no_export() {
             self.settled.note(rank);
         }
+    }
+}
+
+// Whether nothing was proposed.
+fn is_nothing(proposed: &Result<Option<Event>, Refusal>) -> bool
+    ensures { result ≡ true → proposed.now ≡ Ok None }
+{
+    match proposed {
+        Ok(None) => true,
+        Ok(Some(_)) => false,
+        Err(_) => false,
     }
 }
 

@@ -3,7 +3,7 @@ ghost use Rattle.std.specs.Prelude.{◌≡◌, ◌⊎◌, ◌++◌, ◌∷◌, [
 ghost use Rattle.std.specs.List.{Contains};
 ghost use Rattle.mds_types.specs.declared.entries.Entry.{Entry as Applied};
 ghost use Rattle.mds_types.specs.declared.ids.Rank.{Rank as RankNumber};
-ghost use Rattle.cluster_core.specs.Settled.{IsCalm, IsCalmOp};
+ghost use Rattle.cluster_core.specs.Settled.{IsCalm, IsCalmOp, KeepsSettled};
 
 use crate::events::Event;
 use mds_types::{Entry, Op, Rank};
@@ -36,7 +36,9 @@ impl Settled {
     pub(crate) fn note(&mut self, rank: Rank)
         ensures { (other : RankNumber) → Contains self.new.ranks.items other → Contains self.old.ranks.items other ⊎ (other ≡ rank) }
     {
-        let _ = self.ranks.push(rank);
+        if !self.knows(rank) {
+            let _ = self.ranks.push(rank);
+        }
     }
 
     /// It is known of none any more.
@@ -72,9 +74,20 @@ pub(crate) fn may_unsettle(event: &Event) -> bool
     }
 }
 
-/// Whether an operation that was applied behind so many moves something, or pins a directory.
+/// What is known stays, unless the step may have changed it, or an operation that was applied behind so many moves something or pins
+/// a directory.
 #[inline(always)]
-pub(crate) fn has_unsettled(history: &[Entry], past: usize) -> bool
+pub(crate) fn keep_settled(settled: &mut Settled, may: bool, history: &[Entry], past: usize)
+    ensures { KeepsSettled settled.old.ranks.items settled.new.ranks.items may history.now past }
+{
+    if may || has_unsettled(history, past) {
+        settled.forget();
+    }
+}
+
+// Whether an operation that was applied behind so many moves something, or pins a directory.
+#[inline(always)]
+fn has_unsettled(history: &[Entry], past: usize) -> bool
     ensures { result ≡ false → (before : List Applied) (e : Applied) → length before ≡ past → history.now ≡ before ++ e ∷ [] → IsCalmOp e.op }
 {
     match history.get(past) {

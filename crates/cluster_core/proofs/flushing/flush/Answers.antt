@@ -1,11 +1,15 @@
 -- A flush leaves a sound book.
 use Rattle.cluster_core.proofs.FlushedBook.{flushed_sound}
+use Rattle.cluster_core.proofs.SettledLaws.{none_known}
 use Rattle.cluster_core.proofs.flushing.flush.Goals as goal
 
 pub invariant_of-book : goal.invariant_of-book
 invariant_of-book g c =
     let b = c.book.inside in
-    flushed_sound (record { opening = b.opening; history = b.history.items; core = b.cluster }) c.flush.new.self c.book.invariant c.flush.ensures.left c.flush.ensures.kept c.flush.ensures.cached c.flush.ensures.exported
+    record {
+      sound = flushed_sound (record { opening = b.opening; history = b.history.items; core = b.cluster }) c.flush.new.self c.book.invariant.sound c.flush.ensures.left c.flush.ensures.kept c.flush.ensures.cached c.flush.ensures.exported;
+      settled = none_known c.flush.new.self.state c.forget.new.self.ranks.items c.forget.ensures;
+    }
 
 pub returns-clause-sound : goal.returns-clause-sound
-returns-clause-sound g c = invariant_of-book g c
+returns-clause-sound g c = (invariant_of-book g c).sound

@@ -1,4 +1,4 @@
-use Rattle.std.proofs.Common.{◌≡◌, Some, None, subst, rules, arith}
+use Rattle.std.proofs.Common.{Some, None, subst, rules, arith}
 use Rattle.export_steps.specs.ByExporter.{IsNextOf}
 use Rattle.export_steps.specs.Standing.{Standing}
 use Rattle.cluster_core.specs.Proposal.{sight_of}

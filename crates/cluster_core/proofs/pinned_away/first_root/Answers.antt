@@ -1,4 +1,4 @@
-use Rattle.std.proofs.Common.{[], Some, None, subst, arith}
+use Rattle.std.proofs.Common.{Some, None, subst, arith}
 use Rattle.subtree_map.specs.Changes.{Subtrees}
 use Rattle.subtree_map.specs.Lists.{is_after}
 use Rattle.subtree_map.specs.Rows.{IsFirst}

@@ -1,5 +1,4 @@
-use Rattle.std.proofs.Common.{◌⊎◌, Option, Some, None, IsSome, subst, rules}
-use Rattle.std.specs.FinMap as map
+use Rattle.std.proofs.Common.{Option, None, subst, rules}
 use Rattle.mds_types.specs.declared.ids.Rank.{Rank}
 use Rattle.mds_types.specs.Leaf.{Leaf}
 use Rattle.cluster_core.specs.Proposal.{IsFirstAway, IsPlace, sight_of}

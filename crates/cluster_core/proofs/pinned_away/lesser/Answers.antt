@@ -1,6 +1,4 @@
-use Rattle.std.proofs.Common.{◌⊎◌, Option, Some, None, subst, sym}
-use Rattle.mds_types.specs.declared.ids.Rank.{Rank}
-use Rattle.mds_types.specs.Leaf.{Leaf}
+use Rattle.std.proofs.Common.{subst}
 use Rattle.cluster_core.specs.Proposal.{IsFirstAway, IsOfPinned, IsRootAt}
 use Rattle.cluster_core.proofs.AwayLaws.{first_of_both, no_first}
 use Rattle.cluster_core.proofs.pinned_away.lesser.Goals as goal

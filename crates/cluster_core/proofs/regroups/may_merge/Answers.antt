@@ -1,7 +1,6 @@
-use Rattle.std.proofs.Common.{◌≡◌, ◌⊎◌, inl, inr, ℕ, ◌<◌, true, false, rules, refl, sym, subst, ◌∙◌, arith}
+use Rattle.std.proofs.Common.{◌≡◌, inl, inr, ℕ, true, false, rules, refl, sym, subst, ◌∙◌, arith}
 use Rattle.std.proofs.lemmas.Bool.{cases_lt}
 use Rattle.mds_types.specs.Frag.{Fragment, child_of}
-use Rattle.mds_types.specs.Leaf.{Leaf}
 use Rattle.inode_table.specs.Dirs.{leaves_of}
 use Rattle.inode_table.proofs.Tables.{tree_of_row}
 use Rattle.subtree_map.proofs.Covers.{is_fragment}

@@ -1,4 +1,4 @@
-use Rattle.std.proofs.Common.{◌≡◌, ◌≤◌, true, false, length, rules, sym, subst, arith}
+use Rattle.std.proofs.Common.{◌≡◌, ◌≤◌, true, false, length, sym, subst, arith}
 use Rattle.inode_table.specs.Dirs.{Covers, leaves_of}
 use Rattle.cluster_core.proofs.regroups.may_split.Goals as goal
 

@@ -1,5 +1,4 @@
 use Rattle.std.proofs.Common.{◌≢◌, List, Err, rules, subst, sym}
-use Rattle.mds_types.specs.declared.ids.Rank.{Rank}
 use Rattle.mds_types.specs.declared.requests.Request.{Request}
 use Rattle.mds_types.specs.declared.refusals.Refusal.TheVariants.{Trimmed}
 use Rattle.inboxes.specs.Inboxes.{Inboxes, waiting_at}

@@ -1,4 +1,4 @@
-use Rattle.std.proofs.Common.{sym, subst}
+use Rattle.std.proofs.Common.{None, sym, subst}
 use Rattle.cluster_core.specs.Proposal.{IsProposal, sight}
 use Rattle.cluster_core.specs.State.{Kept}
 use Rattle.cluster_core.proofs.SettledLaws.{none_away, noted}
@@ -7,9 +7,9 @@ use Rattle.cluster_core.proofs.books.Book.note_settled.Goals as goal
 pub invariant_of-self : goal.invariant_of-self
 invariant_of-self g c =
     let book = c.self.inside in
-    let proposed = subst (λ (k : Kept). IsProposal (sight k.core c.args.rank) c.args.proposed.now) (sym c.self.view_is) c.requires in
+    let none = subst (λ (k : Kept). IsProposal (sight k.core c.args.rank) None) (sym c.self.view_is) c.requires in
     record {
       sound = c.self.invariant.sound;
       settled = noted book.cluster.state book.settled.ranks.items c.note.new.self.ranks.items c.args.rank c.self.invariant.settled
-          (none_away book.cluster c.args.rank c.args.proposed.now proposed (sym c.if-is_some.ensures) (c.has_no_export.ensures.0 c.if-has_no_export.true)) c.note.ensures;
+          (none_away book.cluster c.args.rank none (c.has_no_export.ensures.0 c.if-has_no_export.true)) c.note.ensures;
     }

@@ -1,13 +1,18 @@
-use Rattle.std.proofs.Common.{subst}
-use Rattle.cluster_core.specs.Proposal.{Proposes}
+use Rattle.std.proofs.Common.{None, subst}
+use Rattle.cluster_core.specs.Proposal.{IsProposal, Proposes, sight}
 use Rattle.cluster_core.specs.State.{Kept}
 use Rattle.cluster_core.proofs.books.Book.propose.Goals as goal
 
-pub propose-requires-numbers : goal.propose-requires-numbers
-propose-requires-numbers g c = c.self.invariant.ranks.inboxes
+pub propose-proposed-requires-clause-settled : goal.propose-proposed-requires-clause-settled
+propose-proposed-requires-clause-settled g c = λ told. c.self.invariant.settled c.args.rank (c.knows-is_settled.ensures told)
 
-pub propose-requires-caches : goal.propose-requires-caches
-propose-requires-caches g c = c.self.invariant.ranks.caches
+pub propose-proposed-requires-clause-numbers : goal.propose-proposed-requires-clause-numbers
+propose-proposed-requires-clause-numbers g c = c.self.invariant.sound.ranks.inboxes
 
-pub returns-clause-proposed : goal.returns-clause-proposed
-returns-clause-proposed g c = subst (λ (k : Kept). Proposes k.core c.args.rank c.propose.result) c.self.view_is c.propose.ensures.proposed
+pub propose-proposed-requires-clause-caches : goal.propose-proposed-requires-clause-caches
+propose-proposed-requires-clause-caches g c = c.self.invariant.sound.ranks.caches
+
+pub note_settled-requires : goal.note_settled-requires
+note_settled-requires g c =
+    subst (λ (k : Kept). IsProposal (sight k.core c.args.rank) None) c.self.view_is
+    (subst (Proposes c.self.inside.cluster c.args.rank) (c.is_nothing.ensures c.if-is_nothing.true) c.propose-proposed.ensures.proposed).1
