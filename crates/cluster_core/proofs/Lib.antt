@@ -32,6 +32,7 @@ pub mod RunLaws
 pub mod SendLaws
 pub mod Served
 pub mod SettledLaws
+pub mod SettledRegroups
 pub mod SettledStays
 pub mod Stays
 pub mod Stepped

@@ -36,10 +36,13 @@ use Rattle.cluster_core.specs.Settled.{AreSettled, IsAway, IsCalm, IsCalmIn, IsC
 use Rattle.cluster_core.specs.Sound.{IsSound}
 use Rattle.cluster_core.specs.State.{Core, State, shown, supply_of}
 use Rattle.cluster_core.specs.Steps.{Steps}
+use Rattle.cluster_core.specs.Flush.{KeepsCore}
+use Rattle.cluster_core.proofs.AdminLaws.{one_of_all}
 use Rattle.cluster_core.proofs.DirsStay.{DirsStay, calm_step}
 use Rattle.cluster_core.proofs.Offered.{offer_unused, there_of}
 use Rattle.cluster_core.proofs.PlaceLaws.{has_pin, live_was, mine_was, place_known, place_was}
-use Rattle.cluster_core.proofs.SettledStays.{Applied, GroundStays, Tables, ground_stays}
+use Rattle.cluster_core.proofs.SettledStays.{Applied, Came, GroundStays, Tables, ground_stays, tables}
+use Rattle.cluster_core.proofs.SettledRegroups.{merge_away, split_away}
 
 -- of none it is known
 pub none_known : (state : State) (ranks : List Rank) → ranks ≡ [] → AreSettled state ranks
@@ -73,6 +76,22 @@ moves_none (Unlinks dentry) change calm its = inr its.removal.puts
 moves_none (Removes dentry) change calm its = inr its.puts
 moves_none (Moves from to) change calm its = absurd calm
 
+-- where directories, leaves, pins and roots stay, so does what is pinned away
+pub same_away : (old new : State) → length new.numbers ≡ length old.numbers → GroundStays old new → (rank : Rank) (leaf : Leaf) (to : Rank) → IsAway new rank leaf to → IsAway old rank leaf to
+same_away old new ranks stays rank leaf to away = record {
+  live = subst (λ (t : Tables). IsLive t.homes t.covers leaf) stays.0 away.live;
+  mine = subst (λ (r : Roots). HasAuthority r old.tree.homes old.tree.covers leaf rank) stays.1 (subst (λ (t : Tables). HasAuthority new.roots t.homes t.covers leaf rank) stays.0 away.mine);
+  place = subst (λ (r : Roots). IsSome (map.get r leaf) ⊎ IsSome (map.get old.tree.pins leaf.0.0)) stays.1 (subst (λ (t : Tables). IsSome (map.get new.roots leaf) ⊎ IsSome (map.get t.pins leaf.0.0)) stays.0 away.place);
+  pin = subst (λ (t : Tables). HasPin t.pins t.homes leaf.0.0 to) stays.0 away.pin;
+  other = away.other;
+  there = subst (λ n. to.0 < n) ranks away.there;
+}
+
+-- a flush leaves all this
+pub flushed_settled : (old new : Core) (known : List Rank) → KeepsCore old new → AreSettled old.state known → AreSettled new.state known
+flushed_settled old new known kept settled rank has leaf to away =
+    settled rank has leaf to (same_away old.state new.state (ap (λ (s : State). length s.numbers) kept.left) (ap (λ (s : State). tables s.tree) kept.left, ap (λ (s : State). s.roots) kept.left) rank leaf to away)
+
 module _ (opening : Tree) (past now : List Entry) (old new : Core) (sound : IsSound opening past old) (still : IsSound opening now new) where
   ranks_stay : length new.caches.used ≡ length old.caches.used → length new.state.numbers ≡ length old.state.numbers
   ranks_stay same = sym still.ranks.caches ∙ same ∙ sound.ranks.caches
@@ -80,17 +99,6 @@ module _ (opening : Tree) (past now : List Entry) (old new : Core) (sound : IsSo
   module _ (ranks : length new.state.numbers ≡ length old.state.numbers) (rank : Rank) (leaf : Leaf) (to : Rank) (away : IsAway new.state rank leaf to) where
     there_was : to.0 < length old.state.numbers
     there_was = subst (λ n. to.0 < n) ranks away.there
-
-    -- where directories, leaves, pins and roots stay, so does what is pinned away
-    same_away : GroundStays old.state new.state → IsAway old.state rank leaf to
-    same_away stays = record {
-      live = subst (λ (t : Tables). IsLive t.homes t.covers leaf) stays.0 away.live;
-      mine = subst (λ (r : Roots). HasAuthority r old.state.tree.homes old.state.tree.covers leaf rank) stays.1 (subst (λ (t : Tables). HasAuthority new.state.roots t.homes t.covers leaf rank) stays.0 away.mine);
-      place = subst (λ (r : Roots). IsSome (map.get r leaf) ⊎ IsSome (map.get old.state.tree.pins leaf.0.0)) stays.1 (subst (λ (t : Tables). IsSome (map.get new.state.roots leaf) ⊎ IsSome (map.get t.pins leaf.0.0)) stays.0 away.place);
-      pin = subst (λ (t : Tables). HasPin t.pins t.homes leaf.0.0 to) stays.0 away.pin;
-      other = away.other;
-      there = there_was;
-    }
 
     module _ (a : Applied past now old new) (calm : IsCalmOp a.request.op) where
       unused : (outcome_of old.state a.rank a.request).takes ≡ true → IsUnused (shown old.state) (number_or (offer (supply_of old.state a.rank)))
@@ -142,9 +150,16 @@ module _ (opening : Tree) (past now : List Entry) (old new : Core) (sound : IsSo
       ranks : length new.state.numbers ≡ length old.state.numbers
       ranks = ranks_stay steps.ranks
 
-      go : GroundStays old.state new.state ⊎ Applied past now old new → ⊥
-      go (inl stays) = settled leaf to (same_away ranks rank leaf to away stays)
-      go (inr a) = settled leaf to (away_was ranks rank leaf to away a (entry _ a.applied.appended))
+      go : Came past now old new → ⊥
+      go (inl stays) = settled leaf to (same_away old.state new.state ranks stays rank leaf to away)
+      go (inr (inl a)) = settled leaf to (away_was ranks rank leaf to away a (entry _ a.applied.appended))
+      go (inr (inr (inl w))) =
+          let at = split_away opening past old new sound ranks w.authorities rank leaf to away w.dir w.frag w.bits w.split w.roots in
+          settled at.0 to at.1
+      go (inr (inr (inr w))) =
+          let at = merge_away opening past old new sound ranks w.authorities rank leaf to away w.dir w.frag w.merge w.roots
+          (one_of_all old.state.tree.homes old.state.tree.covers old.state.roots w.dir w.frag w.rank w.all) in
+          settled at.0 to at.1
 
   -- what is known after a step
   pub known_after : (result : Result Answer Refusal) (event : Event) (before after : List Rank) (may : Bool) → Steps old new past now result event → (may ≡ false → IsCalm event) → KeepsSettled before after may now (length past)

@@ -1,24 +1,28 @@
 -- Directories, leaves, pins and subtree roots stay in each calm step that applies no request.
 use Rattle.std.proofs.Common.{◌≡◌, ◌⊎◌, ℕ, Bool, true, false, nat_lt, inl, inr, MatchBool, List, [], ◌∷◌, length, Option, Some, None, Result, Ok, Err, refl, ap}
 use Rattle.mds_types.specs.declared.entries.Entry.{Entry}
+use Rattle.mds_types.specs.declared.ids.Ino.{Ino}
 use Rattle.mds_types.specs.declared.ids.Rank.{Rank}
 use Rattle.mds_types.specs.declared.operations.Op.{Op}
 use Rattle.mds_types.specs.declared.requests.Request.{Request}
 use Rattle.mds_types.specs.declared.refusals.Refusal.{Refusal}
 use Rattle.mds_types.specs.declared.refusals.Refusal.TheVariants.{NotAuthority}
+use Rattle.mds_types.specs.Frag.{Fragment}
 use Rattle.inboxes.specs.Inboxes.{first_waiting, waiting_at}
 use Rattle.cached_frag.specs.declared.jobs.Job.{Job}
 use Rattle.dentry_cache.specs.Cache.{Leaf, Unsaved}
 use Rattle.inode_table.specs.Dirs.{Covers, DirPins, Homes}
+use Rattle.subtree_map.specs.Changes.{IsRootMerge, IsRootSplit}
 use Rattle.mdcache.specs.Commits.{BeginsWith, Drops, Ends}
 use Rattle.mdcache.specs.Objects.{Purges, PurgesName, SavesTree}
 use Rattle.mdcache.specs.PurgeList.{first_name}
+use Rattle.mdcache.specs.Splits.{IsMergedInto, IsSplitInto}
 use Rattle.mdcache.specs.State.{State as TreeState}
 use Rattle.cluster_core.specs.declared.events.Answer.{Answer}
 use Rattle.cluster_core.specs.declared.events.Event.{Event}
 use Rattle.cluster_core.specs.declared.events.Event.TheVariants.{Arrive, Grant, Serve, Split, Merge, CommitBegin, CommitEnd, CommitDrop, CommitTree, Purge, Evict, Start, Freeze, Prep, Send, Import, Finish, Cancel}
 use Rattle.cluster_core.specs.Exporting.{CancelsAt, Exports, ImportsExport, KeepsTree, Preps, SendsExport, Starts}
-use Rattle.cluster_core.specs.Administers.{AdministersTree, BeginsAt, EvictsOne, nothing, told_job}
+use Rattle.cluster_core.specs.Administers.{AdministersTree, BeginsAt, EvictsOne, HoldsInside, Merges, Splits, nothing, told_job}
 use Rattle.cluster_core.specs.Grants.{GrantsFirst}
 use Rattle.cluster_core.specs.Serve.{IsApplied, ServesInbox, ServesRequest}
 use Rattle.cluster_core.specs.Settled.{IsCalm}
@@ -137,13 +141,51 @@ module _ (past now : List Entry) (old new : Core) where
       go (inl (answer, its)) = inr (record { rank = rank; here = is; request = request; rest = rest; answer = answer; applied = its; authorities = keeps })
       go (inr stays) = inl stays
 
-  -- a calm step leaves all this, but where it applies a request
-  pub ground_stays : (result : Result Answer Refusal) (event : Event) → IsCalm event → Steps old new past now result event → Kept ⊎ Applied
+  -- a leaf was split, and each leaf that stayed kept its authority
+  pub record WasSplit : Type 0 where
+    pub dir : Ino
+    pub frag : Fragment
+    pub bits : ℕ
+    pub split : IsSplitInto old.state.tree new.state.tree dir frag bits
+    pub roots : IsRootSplit old.state.roots new.state.roots dir.0 frag bits
+    pub authorities : KeepsAuthorities old.state.tree new.state.tree old.state.roots new.state.roots
+
+  -- leaves of one rank were merged, and so it is
+  pub record WasMerged : Type 0 where
+    pub rank : Rank
+    pub dir : Ino
+    pub frag : Fragment
+    pub all : HoldsInside old.state rank dir frag
+    pub merge : IsMergedInto old.state.tree new.state.tree dir frag
+    pub roots : IsRootMerge old.state.roots new.state.roots dir.0 frag
+    pub authorities : KeepsAuthorities old.state.tree new.state.tree old.state.roots new.state.roots
+
+  abbrev pub Came : Type 0
+  Came = Kept ⊎ Applied ⊎ WasSplit ⊎ WasMerged
+
+  splits : (rank : Rank) (dir : Ino) (f : Fragment) (nb : ℕ) (result : Result Answer Refusal) (here : Bool) → KeepsAuthorities old.state.tree new.state.tree old.state.roots new.state.roots
+      → MatchBool here (Splits old new past now rank dir f nb result) ((result ≡ Err NotAuthority) × (new ≡ old) × (now ≡ past)) → Came
+  splits rank dir f nb result false keeps h = inl (all_left h.1)
+  splits rank dir f nb (Ok answer) true keeps h = inr (inr (inl (record { dir = dir; frag = f; bits = nb; split = h.0.2.3; roots = h.0.2.4; authorities = keeps })))
+  splits rank dir f nb (Err reason) true keeps h = inl (state_left h.0.1.left)
+
+  merges : (rank : Rank) (dir : Ino) (f : Fragment) (result : Result Answer Refusal) (here : Bool) → KeepsAuthorities old.state.tree new.state.tree old.state.roots new.state.roots
+      → MatchBool here (Merges old new past now rank dir f result) ((result ≡ Err NotAuthority) × (new ≡ old) × (now ≡ past)) → Came
+  merges rank dir f result false keeps h = inl (all_left h.1)
+  merges rank dir f (Ok answer) true keeps h = inr (inr (inr (record { rank = rank; dir = dir; frag = f; all = h.0.2.0; merge = h.0.2.3; roots = h.0.2.4; authorities = keeps })))
+  merges rank dir f (Err reason) true keeps h = inl (state_left h.0.1.left)
+
+  served_or : Kept ⊎ Applied → Came
+  served_or (inl kept) = inl kept
+  served_or (inr applied) = inr (inl applied)
+
+  -- a calm step leaves all this, but where it applies a request, splits or merges
+  pub ground_stays : (result : Result Answer Refusal) (event : Event) → IsCalm event → Steps old new past now result event → Came
   ground_stays result (Arrive rank request) calm steps = inl (at_rank (nat_lt rank.0 (length old.state.inboxes)) result (λ w. arrived old.state new.state past now rank request result w.0) steps.does)
-  ground_stays result (Serve rank) calm steps = serves rank result (nat_lt rank.0 (length old.state.inboxes)) refl (waiting_at old.state.inboxes rank) steps.authorities _ steps.does
+  ground_stays result (Serve rank) calm steps = served_or (serves rank result (nat_lt rank.0 (length old.state.inboxes)) refl (waiting_at old.state.inboxes rank) steps.authorities _ steps.does)
   ground_stays result (Grant rank client tid) calm steps = inl (at_rank (nat_lt rank.0 (length old.state.inboxes)) result (λ w. granted old.state new.state past now (MayRefuse old new) rank client tid result (first_waiting client tid old.state.inboxes) w.0) steps.does)
-  ground_stays result (Split rank dir f nb) calm steps = absurd calm
-  ground_stays result (Merge rank dir f) calm steps = absurd calm
+  ground_stays result (Split rank dir f nb) calm steps = splits rank dir f nb result (nat_lt rank.0 (length old.state.inboxes)) steps.authorities steps.does
+  ground_stays result (Merge rank dir f) calm steps = merges rank dir f result (nat_lt rank.0 (length old.state.inboxes)) steps.authorities steps.does
   ground_stays result (CommitBegin rank dir f) calm steps = inl (at_rank (nat_lt rank.0 (length old.state.inboxes)) result (λ w. worked told_job (BeginsAt old.state new.state rank (dir, f)) (λ given did. begun old.state.tree new.state.tree _ (dir, f) given did.2.2) result w.0) steps.does)
   ground_stays result (CommitEnd encoded) calm steps = inl (worked nothing (Ends old.state.tree new.state.tree old.faults new.faults encoded.job) (λ done did. ap tables did.left) result steps.does.0)
   ground_stays result (CommitDrop number) calm steps = inl (worked nothing (Drops old.state.tree new.state.tree number) (λ done did. ap tables did.left) result steps.does.0)

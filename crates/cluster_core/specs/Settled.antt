@@ -52,13 +52,13 @@ IsCalmIn (Moves from to) = ⊥
 abbrev pub IsCalmOp : Op → Type 0
 IsCalmOp op = IsCalmIn (shape op)
 
--- a step that changes no leaves, no subtree roots and no authority, whatever request it serves
+-- a step that makes no subtree root and hands no authority on, whatever request it serves
 abbrev pub IsCalm : Event → Type 0
 IsCalm (Arrive rank request) = Unit {0}
 IsCalm (Serve rank) = Unit {0}
 IsCalm (Grant rank client tid) = Unit {0}
-IsCalm (Split rank dir f bits) = ⊥
-IsCalm (Merge rank dir f) = ⊥
+IsCalm (Split rank dir f bits) = Unit {0}
+IsCalm (Merge rank dir f) = Unit {0}
 IsCalm (CommitBegin rank dir f) = Unit {0}
 IsCalm (CommitEnd encoded) = Unit {0}
 IsCalm (CommitDrop job) = Unit {0}

@@ -67,6 +67,5 @@ pub fn flush<S: Store + Drop>(
     if !book.cluster.has_no_export() {
         return Err(Refusal::NotClean);
     }
-    book.settled.forget();
     book.cluster.flush(rt, alloc)
 }

@@ -49,7 +49,7 @@ impl Settled {
     }
 }
 
-/// Whether a step may pin something away, or change whose it is, whatever request it serves.
+/// Whether a step makes a subtree root or hands an authority on, whatever request it serves.
 #[inline(always)]
 pub(crate) fn may_unsettle(event: &Event) -> bool
     ensures { result ≡ false → IsCalm event.now }

@@ -76,12 +76,13 @@ impl<S: Store + Drop, L: Handed> Desk<S, L> {
         let Ok(bytes) = kept.copy_of(alloc, ino, frag) else {
             return Err(Refusal::NoMemory);
         };
-        match self.book.step(alloc, Event::Import { ino, frag, bytes }) {
-            Ok(_) => {
-                kept.forget(ino, frag);
-                Ok(())
-            }
-            Err(refusal) => Err(refusal),
+        let imported = self
+            .book
+            .step(alloc, Event::Import { ino, frag, bytes })
+            .map(|_| ());
+        if imported.is_ok() {
+            kept.forget(ino, frag);
         }
+        imported
     }
 }
