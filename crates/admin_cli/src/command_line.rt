@@ -158,7 +158,7 @@ fn ranks<'a>(alloc: Global) -> Arg<'a> {
         .value_name("N")
         .value_parser(value_parser!(u8).range(1..=16))
         .default_value("1")
-        .help("Metadata server ranks in the cluster")
+        .help("Metadata server ranks in the cluster, 1 to 16")
 }
 
 fn cache<'a>(alloc: Global) -> Arg<'a> {
@@ -167,7 +167,7 @@ fn cache<'a>(alloc: Global) -> Arg<'a> {
         .value_name("M")
         .value_parser(value_parser!(u32).range(512..=65536))
         .default_value("4096")
-        .help("Fragments that a rank may cache")
+        .help("Fragments that a rank may cache, 512 to 65536")
 }
 
 fn limit<'a>(alloc: Global) -> Arg<'a> {
@@ -176,7 +176,7 @@ fn limit<'a>(alloc: Global) -> Arg<'a> {
         .value_name("L")
         .value_parser(value_parser!(u32).range(1..=1_048_576))
         .default_value("1048576")
-        .help("Entries that a directory may have")
+        .help("Entries that a directory may have, 1 to 1048576")
 }
 
 fn workers<'a>(alloc: Global) -> Arg<'a> {
@@ -185,7 +185,7 @@ fn workers<'a>(alloc: Global) -> Arg<'a> {
         .value_name("W")
         .value_parser(value_parser!(u8).range(1..=16))
         .default_value("1")
-        .help("Threads that encode commits")
+        .help("Threads that encode commits, 1 to 16")
 }
 
 fn clients<'a>(alloc: Global) -> Arg<'a> {
@@ -194,7 +194,7 @@ fn clients<'a>(alloc: Global) -> Arg<'a> {
         .value_name("C")
         .value_parser(value_parser!(u8).range(1..=64))
         .default_value("8")
-        .help("Clients, each with a directory")
+        .help("Clients, each with a directory, 1 to 64")
 }
 
 fn creates<'a>(alloc: Global) -> Arg<'a> {
@@ -203,5 +203,5 @@ fn creates<'a>(alloc: Global) -> Arg<'a> {
         .value_name("K")
         .value_parser(value_parser!(u16).range(0..=1000))
         .default_value("50")
-        .help("Files that each client creates")
+        .help("Files that each client creates, 0 to 1000")
 }
