@@ -24,7 +24,7 @@ came_of (Forwarded rank) = came.Nothing
 came_of Deferred = came.Nothing
 came_of Queued = came.Nothing
 came_of Nothing = came.Nothing
-came_of (Flushed count) = came.Nothing
+came_of Flushed = came.Nothing
 came_of (Frags leaves) = came.Nothing
 came_of (Subtrees roots) = came.Nothing
 came_of (Authority rank) = came.Nothing
@@ -42,26 +42,30 @@ came_of (Errno errno) = came.Nothing
 abbrev pub told : OwnStep → Ino → Fragment → OutputLine → OutputLine
 told step dir f shown = Own (record { step = step; ino = dir; frag = f; result = came_of shown })
 
+-- a step was made, and told so
+abbrev pub MakesOne : (old new : Admin) → OwnStep → Ino → Fragment → Event → OutputLine → Type 0
+MakesOne old new step dir f event line = (shown : OutputLine) × Does old new event shown × (line ≡ told step dir f shown)
+
 -- the step that a rank proposed was made as its own command makes it, an Import with the bytes that are kept for it
 abbrev pub MakesStep : (old new : Admin) → Event → OutputLine → Type 0
 MakesStep old new (Arrive rank request) line = ⊥
 MakesStep old new (Serve rank) line = ⊥
 MakesStep old new (Grant rank client tid) line = ⊥
-MakesStep old new (Split rank dir f bits) line = (shown : OutputLine) × Does old new (Split rank dir f bits) shown × (line ≡ told own.Split dir f shown)
-MakesStep old new (Merge rank dir f) line = (shown : OutputLine) × Does old new (Merge rank dir f) shown × (line ≡ told own.Merge dir f shown)
+MakesStep old new (Split rank dir f bits) line = MakesOne old new own.Split dir f (Split rank dir f bits) line
+MakesStep old new (Merge rank dir f) line = MakesOne old new own.Merge dir f (Merge rank dir f) line
 MakesStep old new (CommitBegin rank dir f) line = ⊥
 MakesStep old new (CommitEnd encoded) line = ⊥
 MakesStep old new (CommitDrop job) line = ⊥
 MakesStep old new (CommitTree dir) line = ⊥
 MakesStep old new Purge line = ⊥
 MakesStep old new (Evict rank) line = ⊥
-MakesStep old new (Start from dir f to) line = (shown : OutputLine) × Does old new (Start from dir f to) shown × (line ≡ told own.Start dir f shown)
-MakesStep old new (Freeze dir f) line = (shown : OutputLine) × Does old new (Freeze dir f) shown × (line ≡ told own.Freeze dir f shown)
-MakesStep old new (Prep dir f) line = (shown : OutputLine) × Does old new (Prep dir f) shown × (line ≡ told own.Prep dir f shown)
+MakesStep old new (Start from dir f to) line = MakesOne old new own.Start dir f (Start from dir f to) line
+MakesStep old new (Freeze dir f) line = MakesOne old new own.Freeze dir f (Freeze dir f) line
+MakesStep old new (Prep dir f) line = MakesOne old new own.Prep dir f (Prep dir f) line
 MakesStep old new (Send dir f) line = (shown : OutputLine) × SendsLine old new dir f shown × (line ≡ told own.Send dir f shown)
 MakesStep old new (Import dir f bytes) line = (shown : OutputLine) × ImportsLine old new dir f shown × (line ≡ told own.Import dir f shown)
-MakesStep old new (Finish dir f) line = (shown : OutputLine) × Does old new (Finish dir f) shown × (line ≡ told own.Finish dir f shown)
-MakesStep old new (Cancel dir f) line = (shown : OutputLine) × Does old new (Cancel dir f) shown × (line ≡ told own.Cancel dir f shown)
+MakesStep old new (Finish dir f) line = MakesOne old new own.Finish dir f (Finish dir f) line
+MakesStep old new (Cancel dir f) line = MakesOne old new own.Cancel dir f (Cancel dir f) line
 
 -- what the rank proposed was done: there was no step, or it was made, or the proposal was refused
 abbrev pub OwnLine : (old new : Admin) → Result (Option Event) Refusal → OutputLine → Type 0

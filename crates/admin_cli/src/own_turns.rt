@@ -1,7 +1,7 @@
 //! The line `own RANK`: a rank proposes a step of its own, and makes it.
 ghost use Rattle.std.specs.Prelude.{◌≡◌, IfOk, OnErr};
 ghost use Rattle.cluster_core.specs.Proposal.{IsOwnStep};
-ghost use Rattle.admin_cli.specs.OwnLines.{LacksForStep, LacksForTurn, MakesStep, TakesTurn, came_of, told};
+ghost use Rattle.admin_cli.specs.OwnLines.{LacksForStep, LacksForTurn, MakesOne, MakesStep, TakesTurn, came_of, told};
 
 use crate::commands::Admin;
 use cluster_core::Event;
@@ -33,19 +33,6 @@ impl Admin {
         ensures count { self.new.operations ≡ self.old.operations }
     {
         match event {
-            Event::Split {
-                rank,
-                ino,
-                frag,
-                bits,
-            } => {
-                let shown = self.split(alloc, rank, ino, frag, bits);
-                Ok(told(OwnStep::Split, ino, frag, shown))
-            }
-            Event::Merge { rank, ino, frag } => {
-                let shown = self.merge(alloc, rank, ino, frag);
-                Ok(told(OwnStep::Merge, ino, frag, shown))
-            }
             Event::Send { ino, frag } => {
                 let shown = self.send(alloc, ino, frag)?;
                 Ok(told(OwnStep::Send, ino, frag, shown))
@@ -55,49 +42,82 @@ impl Admin {
                 let shown = self.import(alloc, ino, frag)?;
                 Ok(told(OwnStep::Import, ino, frag, shown))
             }
-            other => Ok(self.own_export(alloc, other)),
-        }
-    }
-
-    // Makes a step of an export that sends and imports nothing.
-    fn own_export(&mut self, alloc: Global, event: Event) -> OutputLine
-        requires { IsOwnStep event }
-        ensures line { MakesStep self.old self.new event result }
-        ensures count { self.new.operations ≡ self.old.operations }
-    {
-        match event {
+            Event::Split {
+                rank,
+                ino,
+                frag,
+                bits,
+            } => {
+                let step = Event::Split {
+                    rank,
+                    ino,
+                    frag,
+                    bits,
+                };
+                Ok(self.own_one(alloc, OwnStep::Split, ino, frag, step))
+            }
+            Event::Merge { rank, ino, frag } => {
+                let step = Event::Merge { rank, ino, frag };
+                Ok(self.own_one(alloc, OwnStep::Merge, ino, frag, step))
+            }
             Event::Start {
                 from,
                 ino,
                 frag,
                 to,
             } => {
-                let event = Event::Start {
+                let step = Event::Start {
                     from,
                     ino,
                     frag,
                     to,
                 };
-                told(OwnStep::Start, ino, frag, self.step(alloc, event))
+                Ok(self.own_one(alloc, OwnStep::Start, ino, frag, step))
             }
             Event::Freeze { ino, frag } => {
-                let shown = self.step(alloc, Event::Freeze { ino, frag });
-                told(OwnStep::Freeze, ino, frag, shown)
+                let step = Event::Freeze { ino, frag };
+                Ok(self.own_one(alloc, OwnStep::Freeze, ino, frag, step))
             }
             Event::Prep { ino, frag } => {
-                let shown = self.step(alloc, Event::Prep { ino, frag });
-                told(OwnStep::Prep, ino, frag, shown)
+                let step = Event::Prep { ino, frag };
+                Ok(self.own_one(alloc, OwnStep::Prep, ino, frag, step))
             }
             Event::Finish { ino, frag } => {
-                let shown = self.step(alloc, Event::Finish { ino, frag });
-                told(OwnStep::Finish, ino, frag, shown)
+                let step = Event::Finish { ino, frag };
+                Ok(self.own_one(alloc, OwnStep::Finish, ino, frag, step))
             }
             Event::Cancel { ino, frag } => {
-                let shown = self.step(alloc, Event::Cancel { ino, frag });
-                told(OwnStep::Cancel, ino, frag, shown)
+                let step = Event::Cancel { ino, frag };
+                Ok(self.own_one(alloc, OwnStep::Cancel, ino, frag, step))
             }
-            _ => unreachable!(),
+            // none of these is a rank's own
+            Event::Arrive { .. } => unreachable!(),
+            Event::Serve { .. } => unreachable!(),
+            Event::Grant { .. } => unreachable!(),
+            Event::CommitBegin { .. } => unreachable!(),
+            Event::CommitEnd(_) => unreachable!(),
+            Event::CommitDrop { .. } => unreachable!(),
+            Event::CommitTree { .. } => unreachable!(),
+            Event::Purge => unreachable!(),
+            Event::Evict { .. } => unreachable!(),
         }
+    }
+
+    // Makes a step that needs no memory of the script's own.
+    #[inline(never)]
+    fn own_one(
+        &mut self,
+        alloc: Global,
+        step: OwnStep,
+        ino: Ino,
+        frag: Frag,
+        event: Event,
+    ) -> OutputLine
+        ensures line { MakesOne self.old self.new step ino frag event result }
+        ensures count { self.new.operations ≡ self.old.operations }
+    {
+        let shown = self.step(alloc, event);
+        told(step, ino, frag, shown)
     }
 }
 

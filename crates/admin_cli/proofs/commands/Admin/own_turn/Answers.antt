@@ -1,0 +1,22 @@
+use Rattle.std.proofs.Common.{Option, Some, Result, Ok, Err, IfOk, subst}
+use Rattle.std.specs.declared.alloc.AllocError.{AllocError}
+use Rattle.cluster_core.specs.declared.events.Event.{Event}
+use Rattle.cluster_core.specs.Proposal.{Proposes}
+use Rattle.cluster_core.specs.State.{Kept}
+use Rattle.script_output.specs.declared.lines.OutputLine.{OutputLine}
+use Rattle.admin_cli.specs.OwnLines.{MakesStep, TakesTurn}
+use Rattle.admin_cli.proofs.commands.Admin.own_turn.Goals as goal
+
+pub returns-in-Ok-Some-clause-line : goal.returns-in-Ok-Some-clause-line
+returns-in-Ok-Some-clause-line c = go c.own_step.result c.own_step.ensures.line
+  where
+    proposed : Proposes c.args.self.now.book.core c.args.rank (Ok (Some c.in-Ok-Some.event))
+    proposed = subst (λ (o : Option Event). Proposes c.args.self.now.book.core c.args.rank (Ok o)) c.in-Ok-Some.field-0-is c.in-Ok-Some.ensures.proposed
+
+    go : (r : Result OutputLine AllocError) → IfOk r (MakesStep (record c.args.self.now { book = c.propose.new.self }) c.own_step.new.self c.in-Ok-Some.event) → IfOk r (TakesTurn c.args.self.now c.own_step.new.self c.args.rank)
+    go (Err error) made = tt
+    go (Ok line) made = record {
+      found = Ok (Some c.in-Ok-Some.event);
+      proposed = proposed;
+      done = subst (λ (b : Kept). MakesStep (record c.args.self.now { book = b }) c.own_step.new.self c.in-Ok-Some.event line) c.propose.ensures.same made;
+    }
