@@ -28,10 +28,10 @@ pub record KeepsBook (old new : Kept) : Type 0 where
   pub history : new.history ≡ old.history
   pub core : KeepsCore old.core new.core
 
--- why not all is written: the next version of a fragment that isn't clean is used up, or fewer than 1,024 numbers are left for jobs; otherwise
+-- why not all is written: the next version of a fragment that isn't clean is used up, or fewer than 256 numbers are left for jobs; otherwise
 -- want of memory, or a fault of the store
 abbrev pub MayNotFlush : (old new : Core) → Refusal → Type 0
-MayNotFlush old new reason = MayNotCommit 1024 (record old.state.tree { jobs = map.empty }) old.faults new.faults reason
+MayNotFlush old new reason = MayNotCommit 256 (record old.state.tree { jobs = map.empty }) old.faults new.faults reason
 
 -- while an export stands nothing is flushed, and all is left
 pub record IsHindered (old new : Kept) (result : Result (Unit {0}) Refusal) : Type 0 where

@@ -23,6 +23,10 @@ use rayon::prelude::*;
 use std::alloc::Global;
 use std::thread::Threads;
 
+/// The most fragments that a flush commits at once: enough for all processors to encode side by side, and few enough that their snapshots
+/// and writes are small beside a large store.
+const BATCH: usize = 256;
+
 /// A job that was begun, and the rank that has its fragment.
 #[derive(Drop)]
 pub(crate) struct Begun {
@@ -51,10 +55,10 @@ impl Begun {
 }
 
 impl<S: Store + Drop> MdCache<S> {
-    /// Commits each fragment that isn't clean, while no job stands. No more than 1,024 of them are begun at once, and no job stands
+    /// Commits each fragment that isn't clean, while no job stands. No more than 256 of them are begun at once, and no job stands
     /// afterwards; the next one gets the number that it would have got before. Takes memory for the snapshots and writes of so many.
     ///
-    /// Refused `NoInodes` where a fragment's version is used up, or fewer than 1,024 numbers are left for jobs; otherwise as the store
+    /// Refused `NoInodes` where a fragment's version is used up, or fewer than 256 numbers are left for jobs; otherwise as the store
     /// refuses, and `NoMemory`. What was committed until then is so, and all else is as it was.
     pub fn commit_all(&mut self, rt: &(impl Threads + Sync), alloc: Global) -> Result<(), Refusal>
         requires sound { IsSoundCore self.old }
@@ -65,14 +69,14 @@ impl<S: Store + Drop> MdCache<S> {
         ensures jobs { self.new.jobs ≡ map.empty }
         ensures number { self.new.next_job ≡ self.old.next_job }
         ensures tree { KeepsTree self.old self.new }
-        ensures refused { IfErr result (MayNotCommit 1024 (state_of self.old) self.old.faults self.new.faults) }
+        ensures refused { IfErr result (MayNotCommit 256 (state_of self.old) self.old.faults self.new.faults) }
         ensures counted { self.new.faults ≡ self.old.faults + faults_told (result_err result) }
         ensures sound { IsSoundCore self.new }
     {
         commit_batches(self, rt, alloc)
     }
 
-    // Commits some leaves that aren't clean, no more than 1,024, and tells whether there were any. Takes memory for them at once.
+    // Commits some leaves that aren't clean, no more than 256, and tells whether there were any. Takes memory for them at once.
     fn commit_some(&mut self, rt: &(impl Threads + Sync), alloc: Global) -> Result<bool, Refusal>
         requires sound { IsSoundCore self.old }
         requires none { self.old.jobs ≡ map.empty }
@@ -83,7 +87,7 @@ impl<S: Store + Drop> MdCache<S> {
         ensures jobs { self.new.jobs ≡ map.empty }
         ensures number { self.new.next_job ≡ self.old.next_job }
         ensures tree { KeepsTree self.old self.new }
-        ensures refused { IfErr result (MayNotCommit 1024 (state_of self.old) self.old.faults self.new.faults) }
+        ensures refused { IfErr result (MayNotCommit 256 (state_of self.old) self.old.faults self.new.faults) }
         ensures counted { self.new.faults ≡ self.old.faults + faults_told (result_err result) }
         ensures sound { IsSoundCore self.new }
     {
@@ -102,16 +106,16 @@ impl<S: Store + Drop> MdCache<S> {
         }
     }
 
-    // The next leaves to commit: some that aren't clean, where any is, and no more than 1,024. Takes memory for them.
+    // The next leaves to commit: some that aren't clean, where any is, and no more than 256. Takes memory for them.
     fn next_batch(&self, alloc: Global) -> Result<Vec<Dirfrag>, Refusal>
         requires { length self.now.caches.used ≤ 256 }
         ensures unclean { IfOk result (λ leaves. AllByRecursion (IsUncleanAt self.now.caches) leaves.items) }
         ensures apart { IfOk result (λ leaves. AreApart (leaves_at leaves.items)) }
-        ensures few { IfOk result (λ leaves. length leaves.items ≤ 1024) }
+        ensures few { IfOk result (λ leaves. length leaves.items ≤ 256) }
         ensures none { IfOk result (λ leaves. leaves.items ≡ [] → unclean self.now.caches ≡ map.empty) }
         ensures refused { IfErr result (λ reason. reason ≡ NoMemory) }
     {
-        match self.caches.unclean_leaves(alloc, 1024) {
+        match self.caches.unclean_leaves(alloc, BATCH) {
             Ok(leaves) => Ok(leaves),
             Err(_) => Err(Refusal::NoMemory),
         }
@@ -322,7 +326,7 @@ fn commit_batches<S: Store + Drop>(
     ensures jobs { tree.new.jobs ≡ map.empty }
     ensures number { tree.new.next_job ≡ tree.old.next_job }
     ensures tree { KeepsTree tree.old tree.new }
-    ensures refused { IfErr result (MayNotCommit 1024 (state_of tree.old) tree.old.faults tree.new.faults) }
+    ensures refused { IfErr result (MayNotCommit 256 (state_of tree.old) tree.old.faults tree.new.faults) }
     ensures counted { tree.new.faults ≡ tree.old.faults + faults_told (result_err result) }
     ensures sound { IsSoundCore tree.new }
 {

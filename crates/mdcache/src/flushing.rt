@@ -70,9 +70,9 @@ impl<S: Store + Drop> MdCache<S> {
     /// Writes all that isn't in the store: gives up the commits that were begun, commits each fragment that isn't clean, brings the
     /// objects of directories' trees up to date and removes what is to be removed. The store's cold tree is the shown tree then, and
     /// its objects are exactly those of live leaves and of trees of several leaves. Whatever it answers, the shown tree is as it
-    /// was, no commit is begun any more, and no next number is another. Takes memory for the snapshots and writes of 1,024 fragments.
+    /// was, no commit is begun any more, and no next number is another. Takes memory for the snapshots and writes of 256 fragments.
     ///
-    /// Refused `NoInodes` where a fragment's version is used up, or fewer than 1,024 numbers are left for jobs; otherwise as the store
+    /// Refused `NoInodes` where a fragment's version is used up, or fewer than 256 numbers are left for jobs; otherwise as the store
     /// refuses, and `NoMemory`. Part of it may be done then, and another flush goes on with the rest.
     pub fn flush(&mut self, rt: &(impl Threads + Sync), alloc: Global) -> Result<(), Refusal>
         requires sound { IsSoundCore self.old }
@@ -84,7 +84,7 @@ impl<S: Store + Drop> MdCache<S> {
         ensures jobs { self.new.jobs ≡ map.empty }
         ensures number { self.new.next_job ≡ self.old.next_job }
         ensures tree { KeepsTree self.old self.new }
-        ensures refused { IfErr result (MayNotCommit 1024 (record (state_of self.old) { jobs = map.empty }) self.old.faults self.new.faults) }
+        ensures refused { IfErr result (MayNotCommit 256 (record (state_of self.old) { jobs = map.empty }) self.old.faults self.new.faults) }
         ensures counted { self.new.faults ≡ self.old.faults + faults_told (result_err result) }
         ensures sound { IsSoundCore self.new }
     {

@@ -31,8 +31,8 @@ returns-in-Err-clause-tree g c = steps_keep_tree c.args.tree.now c.loop-more.tre
 
 pub returns-in-Err-clause-refused : goal.returns-in-Err-clause-refused
 returns-in-Err-clause-refused g c =
-    subst (λ n. MayNotCommit 1024 (state_of c.args.tree.now) n c.commit_some.new.self.faults c.in-Err.refusal) c.loop-more.invariant.faults
-    (lacked_before 1024 (state_of c.args.tree.now) (state_of c.loop-more.tree) c.loop-more.tree.faults c.commit_some.new.self.faults c.in-Err.refusal c.loop-more.invariant.whole c.loop-more.invariant.sound.sound c.loop-more.invariant.number c.in-Err.ensures.refused)
+    subst (λ n. MayNotCommit 256 (state_of c.args.tree.now) n c.commit_some.new.self.faults c.in-Err.refusal) c.loop-more.invariant.faults
+    (lacked_before 256 (state_of c.args.tree.now) (state_of c.loop-more.tree) c.loop-more.tree.faults c.commit_some.new.self.faults c.in-Err.refusal c.loop-more.invariant.whole c.loop-more.invariant.sound.sound c.loop-more.invariant.number c.in-Err.ensures.refused)
 
 pub loop-more-smaller : goal.loop-more-smaller
 loop-more-smaller g c =
