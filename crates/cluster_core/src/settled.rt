@@ -52,14 +52,16 @@ impl Settled {
 /// Whether a step makes a subtree root or hands an authority on, whatever request it serves.
 #[inline(always)]
 pub(crate) fn may_unsettle(event: &Event) -> bool
-    ensures { result ≡ false → IsCalm event.now }
+    ensures calm { result ≡ false → IsCalm event.now }
+    ensures other { result ≡ true → IsCalm event.now → ⊥ }
 {
     match event {
-        Event::Split { .. } | Event::Merge { .. } | Event::Freeze { .. } | Event::Finish { .. } =>
-            true,
+        Event::Freeze { .. } | Event::Finish { .. } => true,
         Event::Arrive { .. }
         | Event::Serve { .. }
         | Event::Grant { .. }
+        | Event::Split { .. }
+        | Event::Merge { .. }
         | Event::CommitBegin { .. }
         | Event::CommitEnd(_)
         | Event::CommitDrop { .. }
@@ -98,7 +100,8 @@ fn has_unsettled(history: &[Entry], past: usize) -> bool
 
 // Whether an operation moves something, or pins a directory.
 fn unsettles(op: &Op) -> bool
-    ensures { result ≡ false → IsCalmOp op.now }
+    ensures calm { result ≡ false → IsCalmOp op.now }
+    ensures other { result ≡ true → IsCalmOp op.now → ⊥ }
 {
     match op {
         Op::SetPin { .. } | Op::Rename { .. } => true,

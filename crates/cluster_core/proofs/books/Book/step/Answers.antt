@@ -17,5 +17,5 @@ invariant_of-self g c =
     record {
       sound = still;
       settled = known_after b.opening b.history.items c.step-answer.new.history.items b.cluster c.step-answer.new.self c.self.invariant.sound still
-          c.step-answer.result c.args.event b.settled.ranks.items c.keep_settled.new.settled.ranks.items c.may_unsettle-may.result c.step-answer.ensures.stepped c.may_unsettle-may.ensures keeps c.self.invariant.settled;
+          c.step-answer.result c.args.event b.settled.ranks.items c.keep_settled.new.settled.ranks.items c.may_unsettle-may.result c.step-answer.ensures.stepped c.may_unsettle-may.ensures.calm keeps c.self.invariant.settled;
     }
