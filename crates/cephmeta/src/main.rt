@@ -2,10 +2,12 @@
 #![tactic(auto)]
 
 ghost use Rattle.std.specs.Prelude.{◌≤◌};
+ghost use Rattle.admin_cli.specs.Settings.{AreInRange};
 
 use admin_cli::{Limit, Options, ServeFault, run_script, serve, settings};
 use std::io::{IsTerminal, Read};
 use std::process::ExitCode;
+use std::sync::Wait;
 use std::thread::Threads;
 use std::{env, io};
 
@@ -24,17 +26,7 @@ fn main(rt: HostRuntime) -> io::Result<ExitCode> {
         Err(_) => return no_memory_for_words(&rt),
     };
     match settings(rt.alloc(), words.as_slice()) {
-        Ok(
-            Options::Script {
-                ranks,
-                cache,
-                limit,
-            },
-        ) => script(&rt, rt.reader(), ranks, cache, limit),
-        Ok(Options::Serve(load)) => {
-            let is_watched = rt.stderr().is_terminal();
-            served(&rt, serve(&rt, &mut io::writer(&rt), load, is_watched))
-        }
+        Ok(options) => run(&rt, rt.reader(), rt.stderr().is_terminal(), &options),
         Err(error) => {
             error.print(&rt)?;
             Ok(ExitCode::from(if error.use_stderr() {
@@ -42,6 +34,28 @@ fn main(rt: HostRuntime) -> io::Result<ExitCode> {
             } else {
                 0
             }))
+        }
+    }
+}
+
+// Does what the command line asks for. `is_watched` says that somebody sees what goes wrong, as it does.
+fn run<H: AllocGlobal + Threads + Wait + Sync + Print + Eprint, I: Read + Drop>(
+    rt: &H,
+    input: I,
+    is_watched: bool,
+    options: &Options,
+) -> io::Result<ExitCode>
+    requires { AreInRange options.now }
+{
+    match options {
+        Options::Script {
+            ranks,
+            cache,
+            limit,
+        } => script(rt, input, *ranks, *cache, *limit),
+        Options::Serve(load) => {
+            let ended = serve(rt, &mut io::writer(rt), *load, is_watched);
+            served(rt, ended)
         }
     }
 }
