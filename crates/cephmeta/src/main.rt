@@ -28,7 +28,10 @@ fn main(rt: HostRuntime) -> io::Result<ExitCode> {
     match settings(rt.alloc(), words.as_slice()) {
         Ok(options) => run(&rt, rt.reader(), rt.stderr().is_terminal(), &options),
         Err(error) => {
-            error.print(&rt)?;
+            if error.print(&rt).is_err() {
+                eprintln!(rt; "cephmeta: write fault")?;
+                return Ok(ExitCode::from(FAULT));
+            }
             Ok(ExitCode::from(if error.use_stderr() {
                 BAD_COMMAND_LINE
             } else {
