@@ -1,4 +1,4 @@
-# make                    proves every crate that the program stands on and builds it as ./cephmeta
+# make                    proves every crate that the program stands on and builds it as ./cephmeta, where one of their files is newer
 # make run                does so, and runs a script from standard input
 # make test               is the gate: every proof from nothing, the edits that must fail, the tests and the programs
 # make install            puts the program with its man page and completions below PREFIX, /usr/local if none is given
@@ -9,9 +9,15 @@
 
 PREFIX ?= /usr/local
 
-all:
+# what the program is made of; `out` has what the prover leaves
+SOURCES := crates.txt HANDLES $(shell find crates -name out -prune -o -type f \( -name '*.rt' -o -name '*.antt' \) -print)
+
+all: cephmeta
+
+cephmeta: $(SOURCES)
 	@cd crates/cephmeta && rt run -- script < /dev/null >&2
 	@cp crates/cephmeta/out/cephmeta cephmeta
+	@echo 'cephmeta is proved and built' >&2
 
 run: all
 	@./cephmeta script
