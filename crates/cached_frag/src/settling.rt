@@ -56,6 +56,8 @@ fn settle_all(
 {
     if are_these(dirty, names) {
         make_clean(clean, dirty.take());
+        // names that came in their order took half of the chunks that were made ready for any order
+        clean.give_back();
         return;
     }
     settle_each(clean, dirty, names);

@@ -30,6 +30,16 @@ impl<K: ExactOrd + Drop, V: Drop> SortedMap<K, V> {
         mem::replace(self, empty)
     }
 
+    /// Gives back the memory of the room of a large map, but for the places behind its last pairs. A small one keeps its room.
+    pub fn give_back(&mut self)
+        ensures same { contents K.cmp self.new ≡ contents K.cmp self.old }
+    {
+        match &mut self.store {
+            Store::Flat(_) => {}
+            Store::Chunked(chunked) => chunked.give_back(),
+        }
+    }
+
     /// Takes out each pair whose key the other map has.
     pub fn remove_all<W>(&mut self, keys: &SortedMap<K, W>)
         ensures kept { contents K.cmp self.new ≡ without_keys (contents K.cmp self.old) (contents K.cmp keys.now) }

@@ -19,6 +19,13 @@ impl<K: ExactOrd + Drop, V: Drop> ChunkMap<K, V> {
         }
     }
 
+    /// Gives back the memory of all room but that in its last chunks.
+    pub fn give_back(&mut self)
+        ensures same { contents K.cmp self.new ≡ contents K.cmp self.old }
+    {
+        self.chunks.give_back();
+    }
+
     /// Takes out each pair whose key the other map has.
     pub fn remove_all<W>(&mut self, keys: &SortedMap<K, W>)
         ensures kept { contents K.cmp self.new ≡ without_keys (contents K.cmp self.old) (contents K.cmp keys.now) }

@@ -168,6 +168,15 @@ impl<K: Drop, V: Drop> Chunks<K, V> {
         self.row
     }
 
+    /// Gives back the memory of all empty chunks.
+    pub(crate) fn give_back(&mut self)
+        ensures lists { self.new.lists ≡ self.old.lists }
+        ensures spare { self.new.spare ≡ 0 }
+    {
+        self.spare.clear();
+        self.ready = 0;
+    }
+
     /// Puts a pair in at a place of a chunk that isn't full.
     pub(crate) fn put_at(&mut self, home: usize, at: usize, pair: (K, V))
         requires home { home < length self.old.lists }

@@ -19,12 +19,12 @@ returns-then-are_these-clause-dirty c = c.take.ensures.empty ∙ sym (all_settle
 
 pub returns-then-are_these-clause-shown : goal.returns-then-are_these-clause-shown
 returns-then-are_these-clause-shown c =
-    only_below (contents key_cmp c.make_clean.new.clean) (contents key_cmp c.take.new.self) c.take.ensures.empty
-    ∙ c.make_clean.ensures ∙ ap (λ s. patched (contents key_cmp c.args.clean.now) (contents key_cmp s)) c.take.ensures.taken
+    only_below (contents key_cmp c.give_back.new.self) (contents key_cmp c.take.new.self) c.take.ensures.empty
+    ∙ c.give_back.ensures.same ∙ c.make_clean.ensures ∙ ap (λ s. patched (contents key_cmp c.args.clean.now) (contents key_cmp s)) c.take.ensures.taken
 
 pub returns-then-are_these-clause-entries : goal.returns-then-are_these-clause-entries
 returns-then-are_these-clause-entries c =
-    let is = c.make_clean.ensures ∙ ap (λ s. patched (contents key_cmp c.args.clean.now) (contents key_cmp s)) c.take.ensures.taken in
+    let is = c.give_back.ensures.same ∙ c.make_clean.ensures ∙ ap (λ s. patched (contents key_cmp c.args.clean.now) (contents key_cmp s)) c.take.ensures.taken in
     subst AreEntries (sym is) (shown_entries (Stored 0) (contents key_cmp c.args.clean.now) (contents key_cmp c.args.dirty.now) tt c.requires.entries c.requires.marks)
 
 pub returns-then-are_these-clause-marks : goal.returns-then-are_these-clause-marks
