@@ -164,7 +164,7 @@ module _ (opening : Tree) (past now : List Entry) (old new : Core) (sound : IsSo
   -- what is known after a step
   pub known_after : (result : Result Answer Refusal) (event : Event) (before after : List Rank) (may : Bool) → Steps old new past now result event → (may ≡ false → IsCalm event) → KeepsSettled before after may now (length past)
       → AreSettled old.state before → AreSettled new.state after
-  known_after result event before after may steps calm (inl none) settled rank has = none_known new.state after none rank has
+  known_after result event before after may steps calm (inl (none, why)) settled rank has = none_known new.state after none rank has
   known_after result event before after may steps calm (inr (same, not, entry)) settled rank has =
       settled_stays result event steps (calm not) (λ e is. entry past e refl is) rank (settled rank (subst (λ (rs : List Rank). Contains rs rank) same has))
 

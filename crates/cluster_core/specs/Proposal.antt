@@ -7,7 +7,7 @@ use Rattle.std.specs.Ordering.{is_lt}
 use Rattle.std.specs.FinMap as map
 use Rattle.mds_types.specs.declared.ids.Rank.{Rank}
 use Rattle.mds_types.specs.declared.refusals.Refusal.{Refusal}
-use Rattle.mds_types.specs.declared.refusals.Refusal.TheVariants.{NoMemory, NotAuthority}
+use Rattle.mds_types.specs.declared.refusals.Refusal.TheVariants.{NotAuthority}
 use Rattle.mds_types.specs.Leaf.{Leaf, leaf_cmp}
 use Rattle.fragtree.specs.FragTree.{CanMerge, CanSplit, IsTree}
 use Rattle.inboxes.specs.declared.pins.Pin.{Pin}
@@ -184,10 +184,10 @@ sight core rank = record {
   cached = sizes_at core.caches rank.0;
 }
 
--- what a rank proposes; a rank that isn't there is refused NotAuthority, and want of memory comes where it is
+-- what a rank proposes; refused is a rank that isn't there, and no other
 abbrev pub Proposes : Core → Rank → Result (Option Event) Refusal → Type 0
 Proposes core rank (Ok event) = (rank.0 < length core.state.numbers) × IsProposal (sight core rank) event
-Proposes core rank (Err reason) = ((reason ≡ NotAuthority) × (length core.state.numbers ≤ rank.0)) ⊎ ((reason ≡ NoMemory) × (rank.0 < length core.state.numbers))
+Proposes core rank (Err reason) = (reason ≡ NotAuthority) × (length core.state.numbers ≤ rank.0)
 
 -- ---- what its laws say
 

@@ -1,5 +1,5 @@
 -- The ranks of which nothing is pinned to another: a book remembers them, so that a proposal need not look again.
-use Rattle.std.specs.Prelude.{◌≡◌, ◌≢◌, ◌⊎◌, ◌++◌, ◌∷◌, [], ◌<◌, ℕ, Bool, false, List, length, IsSome}
+use Rattle.std.specs.Prelude.{◌≡◌, ◌≢◌, ◌⊎◌, ◌++◌, ◌∷◌, [], ◌<◌, ℕ, Bool, true, false, List, length, slice_index_or, IsSome}
 use Rattle.std.specs.List.{Contains}
 use Rattle.std.specs.FinMap as map
 use Rattle.mds_types.specs.declared.entries.Entry.{Entry}
@@ -73,7 +73,11 @@ IsCalm (Import dir f bytes) = Unit {0}
 IsCalm (Finish dir f) = ⊥
 IsCalm (Cancel dir f) = Unit {0}
 
--- what is known afterwards: all of it, where the step was calm and so is what it applied behind so many entries; otherwise nothing
+-- an operation was applied behind so many entries that isn't calm
+abbrev pub HasUnsettled : (history : List Entry) → (past : ℕ) → Type 0
+HasUnsettled history past = (past < length history) × ((e : Entry) → IsCalmOp (slice_index_or history past e).op → ⊥)
+
+-- what is known afterwards: nothing, where the step wasn't calm or applied what isn't, behind so many entries; otherwise all of it
 abbrev pub KeepsSettled : (before after : List Rank) → (may : Bool) → (history : List Entry) → (past : ℕ) → Type 0
 KeepsSettled before after may history past =
-    (after ≡ []) ⊎ ((after ≡ before) × (may ≡ false) × ((earlier : List Entry) (e : Entry) → length earlier ≡ past → history ≡ earlier ++ e ∷ [] → IsCalmOp e.op))
+    ((after ≡ []) × ((may ≡ true) ⊎ HasUnsettled history past)) ⊎ ((after ≡ before) × (may ≡ false) × ((earlier : List Entry) (e : Entry) → length earlier ≡ past → history ≡ earlier ++ e ∷ [] → IsCalmOp e.op))

@@ -26,7 +26,7 @@ pub struct Book<S: Store + Drop> {
     pub(crate) cluster: Cluster<S>,
     pub(crate) history: Vec<Entry>,
     pub(crate) opening: PlainTree,
-    /// Whose subtrees none is pinned away.
+    /// The ranks of which it is known that nothing of theirs is pinned to another.
     pub(crate) settled: Settled,
 }
 

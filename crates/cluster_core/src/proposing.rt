@@ -1,5 +1,5 @@
 //! What a rank would do next on its own.
-ghost use Rattle.std.specs.Prelude.{◌≡◌, ◌∷◌, [], ◌<◌, true, List, None, Ok, length};
+ghost use Rattle.std.specs.Prelude.{◌≡◌, ◌↔◌, ◌∷◌, [], ◌<◌, true, IsTrue, List, None, Ok, length};
 ghost use Rattle.inboxes.specs.declared.pins.Pin.{Pin};
 ghost use Rattle.cluster_core.specs.Proposal.{IsFirstOf, IsFirstStep, IsProposal, OfLarge, OfPin, OfSmall, Proposes, WouldNot, sight, sight_of};
 ghost use Rattle.cluster_core.specs.Settled.{IsSettled};
@@ -73,7 +73,7 @@ impl<S: Store + Drop> Book<S> {
 
 // Whether nothing was proposed.
 fn is_nothing(proposed: &Result<Option<Event>, Refusal>) -> bool
-    ensures { result ≡ true → proposed.now ≡ Ok None }
+    ensures { IsTrue result ↔ (proposed.now ≡ Ok None) }
 {
     match proposed {
         Ok(None) => true,

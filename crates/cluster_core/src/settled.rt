@@ -1,9 +1,9 @@
 //! Of which ranks a book knows that nothing of theirs is pinned to another rank, and which steps may change that.
-ghost use Rattle.std.specs.Prelude.{◌≡◌, ◌⊎◌, ◌++◌, ◌∷◌, [], true, false, List, length};
+ghost use Rattle.std.specs.Prelude.{◌≡◌, ◌↔◌, ◌⊎◌, ◌++◌, ◌∷◌, [], true, false, IsTrue, List, length};
 ghost use Rattle.std.specs.List.{Contains};
 ghost use Rattle.mds_types.specs.declared.entries.Entry.{Entry as Applied};
 ghost use Rattle.mds_types.specs.declared.ids.Rank.{Rank as RankNumber};
-ghost use Rattle.cluster_core.specs.Settled.{IsCalm, IsCalmOp, KeepsSettled};
+ghost use Rattle.cluster_core.specs.Settled.{HasUnsettled, IsCalm, IsCalmOp, KeepsSettled};
 
 use crate::events::Event;
 use mds_types::{Entry, Op, Rank};
@@ -27,14 +27,15 @@ impl Settled {
 
     /// Whether it is known of a rank.
     pub(crate) fn knows(&self, rank: Rank) -> bool
-        ensures { result ≡ true → Contains self.now.ranks.items rank }
+        ensures { IsTrue result ↔ Contains self.now.ranks.items rank }
     {
         self.ranks.contains(&rank)
     }
 
     /// It is known of a rank; where there is no memory for that, it is forgotten at once.
     pub(crate) fn note(&mut self, rank: Rank)
-        ensures { (other : RankNumber) → Contains self.new.ranks.items other → Contains self.old.ranks.items other ⊎ (other ≡ rank) }
+        ensures most { (other : RankNumber) → Contains self.new.ranks.items other → Contains self.old.ranks.items other ⊎ (other ≡ rank) }
+        ensures least { (other : RankNumber) → Contains self.old.ranks.items other → Contains self.new.ranks.items other }
     {
         if !self.knows(rank) {
             let _ = self.ranks.push(rank);
@@ -90,7 +91,8 @@ pub(crate) fn keep_settled(settled: &mut Settled, may: bool, history: &[Entry], 
 // Whether an operation that was applied behind so many moves something, or pins a directory.
 #[inline(always)]
 fn has_unsettled(history: &[Entry], past: usize) -> bool
-    ensures { result ≡ false → (before : List Applied) (e : Applied) → length before ≡ past → history.now ≡ before ++ e ∷ [] → IsCalmOp e.op }
+    ensures calm { result ≡ false → (before : List Applied) (e : Applied) → length before ≡ past → history.now ≡ before ++ e ∷ [] → IsCalmOp e.op }
+    ensures other { result ≡ true → HasUnsettled history.now past }
 {
     match history.get(past) {
         Some(entry) => unsettles(&entry.op),

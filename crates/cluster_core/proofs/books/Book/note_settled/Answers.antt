@@ -11,5 +11,5 @@ invariant_of-self g c =
     record {
       sound = c.self.invariant.sound;
       settled = noted book.cluster.state book.settled.ranks.items c.note.new.self.ranks.items c.args.rank c.self.invariant.settled
-          (none_away book.cluster c.args.rank none (c.has_no_export.ensures.0 c.if-has_no_export.true)) c.note.ensures;
+          (none_away book.cluster c.args.rank none (c.has_no_export.ensures.0 c.if-has_no_export.true)) c.note.ensures.most;
     }

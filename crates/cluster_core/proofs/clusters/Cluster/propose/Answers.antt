@@ -1,4 +1,4 @@
-use Rattle.std.proofs.Common.{◌≡◌, ◌<◌, ℕ, inl, length, refl, sym, subst, ◌∙◌, arith}
+use Rattle.std.proofs.Common.{◌≡◌, ◌<◌, ℕ, length, refl, sym, subst, ◌∙◌, arith}
 use Rattle.std.proofs.lemmas.Bool.{ltb-false, ltb-true}
 use Rattle.cluster_core.specs.Proposal.{IsProposal, OfPin, WouldNot, sight, sight_of}
 use Rattle.cluster_core.specs.State.{Core}
@@ -7,7 +7,7 @@ use Rattle.cluster_core.proofs.clusters.Cluster.propose.Goals as goal
 
 pub returns-then-not-is_rank : goal.returns-then-not-is_rank
 returns-then-not-is_rank g c =
-    record { proposed = inl (refl, omega (arith, ltb-false c.args.rank.0 (length c.args.self.now.state.inboxes) (sym c.is_rank.ensures ∙ c.if-not-is_rank.true), c.requires.numbers)) }
+    record { proposed = (refl, omega (arith, ltb-false c.args.rank.0 (length c.args.self.now.state.inboxes) (sym c.is_rank.ensures ∙ c.if-not-is_rank.true), c.requires.numbers)) }
 
 pub proposal-requires-clause-there : goal.proposal-requires-clause-there
 proposal-requires-clause-there g c =
