@@ -1,6 +1,7 @@
 //! Commits that are ended.
 
 use crate::desks::{Desk, Handed};
+use crate::locking::lock;
 use crate::workers::Finished;
 use cached_frag::Encoded;
 use crossbeam_channel::Receiver;
@@ -46,7 +47,7 @@ fn end<S: Store + Drop, L: Handed, R: Wait>(
     match finished {
         Finished::Encoded(encoded) => end_encoded(rt, alloc, desk, encoded),
         Finished::Failed { job, refusal } => {
-            desk.lock(rt).give_up(alloc, job);
+            lock(desk, rt).give_up(alloc, job);
             Commit {
                 job,
                 ended: Err(refusal),
@@ -63,10 +64,10 @@ fn end_encoded<S: Store + Drop, L: Handed, R: Wait>(
     encoded: Encoded,
 ) -> Commit {
     let job = encoded.job().number;
-    let ended = desk.lock(rt).end(alloc, encoded);
+    let ended = lock(desk, rt).end(alloc, encoded);
     if let Err(refusal) = &ended {
         if *refusal != Refusal::StaleJob {
-            desk.lock(rt).give_up(alloc, job);
+            lock(desk, rt).give_up(alloc, job);
         }
     }
     Commit { job, ended }

@@ -6,6 +6,7 @@
 mod commits;
 mod desks;
 mod gates;
+mod locking;
 mod outcomes;
 mod own_turns;
 mod plans;

@@ -4,6 +4,7 @@ ghost use Rattle.rank_threads.specs.Turns.{AreAnswered, FitsTurn, first_in, firs
 
 use crate::desks::{Desk, Handed};
 use crate::gates::Gate;
+use crate::locking::lock;
 use crate::own_turns::OwnTurns;
 use crate::plans::Turn;
 use cached_frag::Job;
@@ -140,7 +141,7 @@ fn take_turn<S: Store + Drop, L: Handed, G: Gate, R: Wait>(
 {
     match turn {
         Turn::Step(event) => {
-            let answer = desk.lock(rt).step(alloc, mine, event);
+            let answer = lock(desk, rt).step(alloc, mine, event);
             if let Ok(Answer::Reply { .. }) = &answer {
                 gate.answered(own.rank);
             }
@@ -152,7 +153,7 @@ fn take_turn<S: Store + Drop, L: Handed, G: Gate, R: Wait>(
                 Err(refusal) => Err(refusal),
             }
         }
-        Turn::Own => match desk.lock(rt).own(alloc, own) {
+        Turn::Own => match lock(desk, rt).own(alloc, own) {
             Ok(()) => Ok(Answer::Nothing),
             Err(refusal) => Err(refusal),
         },
@@ -170,13 +171,13 @@ fn begin_commit<S: Store + Drop, L: Handed, R: Wait>(
     frag: Frag,
 ) -> Result<(), Refusal> {
     // the lock is let go before the job is sent
-    let begun = desk.lock(rt).begin(alloc, rank, ino, frag)?;
+    let begun = lock(desk, rt).begin(alloc, rank, ino, frag)?;
     let Some(job) = begun else {
         return Ok(());
     };
     let number = job.number;
     if jobs.send(rt, job).is_err() {
-        desk.lock(rt).give_up(alloc, number);
+        lock(desk, rt).give_up(alloc, number);
         return Err(Refusal::NoMemory);
     }
     Ok(())

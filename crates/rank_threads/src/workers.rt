@@ -2,6 +2,7 @@
 
 use crate::desks::{Desk, Handed};
 use crate::gates::Gate;
+use crate::locking::lock;
 use cached_frag::{Encoded, Job};
 use crossbeam_channel::{Receiver, Sender};
 use mds_types::Refusal;
@@ -31,7 +32,7 @@ pub(crate) fn encode_all<S: Store + Drop, L: Handed, G: Gate, R: Wait>(
         let number = job.number;
         gate.encoding(number);
         if results.send(rt, encoded(alloc, job)).is_err() {
-            desk.lock(rt).give_up(alloc, number);
+            lock(desk, rt).give_up(alloc, number);
         }
     }
 }
