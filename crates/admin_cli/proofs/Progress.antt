@@ -1,10 +1,13 @@
 -- A script so far, and what its next line or its end makes of it.
-use Rattle.std.proofs.Common.{◌≡◌, ℕ, suc, ◌+◌, ◌-◌, ◌<◌, ◌≤◌, Bool, true, false, cond, ltb, List, [], ◌∷◌, ◌++◌, length, take, drop, replicate, Option, Some, None, IfSome, Result, Ok, Err, refl, sym, ap, subst, ◌∙◌, inl, inr, arith, append_assoc, append-nil, length-append, length-drop, le-ltb, lt-ltb, ltb-false, ltb-true, take-append-drop}
+use Rattle.std.proofs.Common.{◌≡◌, ℕ, suc, ◌+◌, ◌-◌, ◌<◌, ◌≤◌, Bool, true, false, cond, ltb, List, [], ◌∷◌, ◌++◌, length, take, drop, replicate, Option, Some, None, IfSome, IfOk, OnErr, Result, Ok, Err, refl, sym, ap, subst, ◌∙◌, inl, inr, arith, append_assoc, append-nil, length-append, length-drop, le-ltb, lt-ltb, ltb-false, ltb-true, take-append-drop}
 use Rattle.std.proofs.lemmas.List.{length-replicate, take-append-le}
 use Rattle.std.proofs.KnownBytes.{Appends-nil, Appends-trans}
 use Rattle.std.specs.Io.KnownBytes.{Appends, Keeps}
 use Rattle.std.specs.FinMap as map
 use Rattle.cluster_core.specs.State.{Kept}
+use Rattle.script_text.specs.declared.commands.Command.{Command}
+use Rattle.script_text.specs.declared.lines.Line.TheVariants as line
+use Rattle.admin_cli.specs.Execute.{Executes, LacksFor}
 use Rattle.script_text.specs.Input.{lines_of, IsFirstLine, IsTooLong}
 use Rattle.cluster_core.specs.SentBytes.{none_sent}
 use Rattle.admin_cli.specs.declared.commands.Admin.{Admin}
@@ -15,8 +18,8 @@ use Rattle.admin_cli.specs.declared.waiting.Mark.{Mark}
 use Rattle.admin_cli.specs.declared.waiting.Waiting.{Waiting}
 use Rattle.script_output.specs.declared.lines.OutputLine.{OutputLine}
 use Rattle.admin_cli.specs.Scripts.{text_of, BreaksOff, RunsLine, RunsLines, IsFormatted, StopsAt, StopsBefore, Ends, RunsInput, RunsNew}
-use Rattle.admin_cli.specs.OneLine.{DoesBytes, Prints, RunsOrNot}
-use Rattle.admin_cli.specs.Waiting.{Breaks, IsEmpty, MayFlush, PrintsAny, PrintsOwn, RunsWaiting, line_at}
+use Rattle.admin_cli.specs.OneLine.{AnswersLine, DoesBytes, Prints, RunsOrNot}
+use Rattle.admin_cli.specs.Waiting.{Breaks, IsEmpty, MayFlush, PrintsAny, PrintsOwn, PrintsCame, PrintsOf, RunsWaiting, line_at}
 
 -- these lines were taken from the known bytes
 abbrev pub TakesLines : Option (List ℕ) → Option (List ℕ) → List (List ℕ) → Type 0
@@ -412,6 +415,27 @@ module _ (old now new : Admin) (known left rest before mid after : Option (List 
   stop_printing None fault run (same, kept, never) = cc
   stop_printing (Some printed) fault run (empty, inl b) = ended old known before after waiting' (Err fault) empty (break_off old now known left before mid after waiting number fault r b)
   stop_printing (Some printed) fault run (empty, inr own) = ended old known before after waiting' (Err fault) empty (own_ends printed fault run own)
+
+  -- the next line was taken and done, and its text, if it has any, waits or is written
+  pub line_on : (done : Unit {0}) → PrintsOf (DoesBytes now new line) waiting waiting' number mid after (Ok done) → IsReached old new known rest before after waiting'.bytes.items waiting'.marks.items (number + 1)
+  line_on done (inl (printed, run, prints)) = printed_on printed done run prints
+  line_on done (inr (kind, stops, unprinted)) = let clash : ◌≡◌ {A = Result (Unit {0}) ScriptFault} (Ok done) (Err (record { line = number; kind = kind })) = unprinted.told in cc
+
+  -- the script ends at the next line
+  pub line_stops : (fault : ScriptFault) → PrintsOf (DoesBytes now new line) waiting waiting' number mid after (Err fault) → RunsWaiting old waiting' known before after (Err fault)
+  line_stops fault (inl (printed, run, prints)) = stop_printing printed fault run prints
+  line_stops fault (inr (kind, stops, unprinted)) =
+      subst (λ (result : Result (Unit {0}) ScriptFault). RunsWaiting old waiting' known before after result) (sym unprinted.told)
+      (subst (λ (w : Waiting). RunsWaiting old w known before after (Err (record { line = number; kind = kind }))) (sym unprinted.waits)
+      (subst (λ (k : Option (List ℕ)). RunsWaiting old waiting known before k (Err (record { line = number; kind = kind }))) (sym unprinted.kept)
+      (stop_line old now new known left rest before mid waiting number line kind r next stops)))
+
+-- a command was done and its line is printed, or there was no memory for what the script keeps of it
+pub command_printed : (old new : Admin) (command : Command) (waiting waiting' : Waiting) (number : ℕ) (before after : Option (List ℕ)) (result : Result (Unit {0}) ScriptFault) {E : Type 0} (came : Result OutputLine E)
+    → IfOk came (Executes old new command) → OnErr came (LacksFor old new command) → PrintsCame came waiting waiting' number before after result
+    → PrintsOf (AnswersLine old new (line.Command command)) waiting waiting' number before after result
+command_printed old new command waiting waiting' number before after result (Ok printed) executes lacks prints = inl (Some printed, (printed, executes, refl), prints)
+command_printed old new command waiting waiting' number before after result (Err refused) executes lacks prints = inr (OutOfMemory, inr (lacks, refl), prints)
 
 -- a script over a book that was made
 pub started : (ranks cache limit : ℕ) (known before after : Option (List ℕ)) (result : Result (Unit {0}) ScriptFault) (book : Kept) → IsFormatted ranks cache limit book

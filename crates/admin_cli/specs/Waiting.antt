@@ -5,7 +5,7 @@ use Rattle.script_output.specs.declared.lines.OutputLine.{OutputLine}
 use Rattle.admin_cli.specs.declared.commands.Admin.{Admin}
 use Rattle.admin_cli.specs.declared.faults.ScriptFault.{ScriptFault}
 use Rattle.admin_cli.specs.declared.faults.FaultKind.{FaultKind}
-use Rattle.admin_cli.specs.declared.faults.FaultKind.TheVariants.{WriteFault}
+use Rattle.admin_cli.specs.declared.faults.FaultKind.TheVariants.{OutOfMemory, WriteFault}
 use Rattle.admin_cli.specs.declared.waiting.Mark.{Mark}
 use Rattle.admin_cli.specs.declared.waiting.Waiting.{Waiting}
 use Rattle.admin_cli.specs.OneLine.{Prints}
@@ -59,6 +59,22 @@ PrintsOutput old new line printed before after (Err fault) = IsEmpty new × (Bre
 abbrev pub PrintsAny : (old new : Waiting) → (line : ℕ) → Option OutputLine → (before after : Option (List ℕ)) → Result (Unit {0}) ScriptFault → Type 0
 PrintsAny old new line None before after result = (new ≡ old) × (after ≡ before) × (result ≡ Ok tt)
 PrintsAny old new line (Some printed) before after result = PrintsOutput old new line printed before after result
+
+-- the script ended at this line before it was printed
+pub record StopsUnprinted (old new : Waiting) (line : ℕ) (kind : FaultKind) (before after : Option (List ℕ)) (result : Result (Unit {0}) ScriptFault) : Type 0 where
+  pub waits : new ≡ old
+  pub kept : after ≡ before
+  pub told : result ≡ Err (record { line = line; kind = kind })
+
+-- a line that came to this, which is printed, if anything is; or the script ended at it before
+abbrev pub PrintsOf : (CameTo : Result (Option OutputLine) FaultKind → Type 0) → (old new : Waiting) → (line : ℕ) → (before after : Option (List ℕ)) → Result (Unit {0}) ScriptFault → Type 0
+PrintsOf CameTo old new line before after result =
+    ((printed : Option OutputLine) × CameTo (Ok printed) × PrintsAny old new line printed before after result) ⊎ ((kind : FaultKind) × CameTo (Err kind) × StopsUnprinted old new line kind before after result)
+
+-- the line of a command is printed; or there was no memory for what the script keeps of it
+abbrev pub PrintsCame : {E : Type 0} → Result OutputLine E → (old new : Waiting) → (line : ℕ) → (before after : Option (List ℕ)) → Result (Unit {0}) ScriptFault → Type 0
+PrintsCame (Ok printed) old new line before after result = PrintsOutput old new line printed before after result
+PrintsCame (Err refused) old new line before after result = StopsUnprinted old new line OutOfMemory before after result
 
 -- a script ended so; what waits is to be written, or a beginning of it, and then it is the whole script that did
 pub record RunsWaiting (old : Admin) (waiting : Waiting) (known before middle : Option (List ℕ)) (result : Result (Unit {0}) ScriptFault) : Type 0 where

@@ -4,7 +4,7 @@ ghost use Rattle.std.specs.FinMap as map;
 ghost use Rattle.cluster_core.specs.SentBytes.{none_sent};
 ghost use Rattle.admin_cli.specs.Scripts.{IsFormatted, RunsInput, RunsNew};
 ghost use Rattle.admin_cli.specs.OneLine.{AnswersLine, DoesBytes, HasReaderFailed, Prints, RunsOrNot};
-ghost use Rattle.admin_cli.specs.Waiting.{IsEmpty, PrintsAny, PrintsOutput, RunsWaiting};
+ghost use Rattle.admin_cli.specs.Waiting.{IsEmpty, PrintsCame, PrintsOf, PrintsOutput, RunsWaiting};
 
 use crate::commands::Admin;
 use crate::faults::{FaultKind, ScriptFault};
@@ -14,7 +14,7 @@ use mds_types::Limit;
 use objstore::MemStore;
 use script_output::{OutputFault, OutputLine, write_line};
 use script_text::{Line, LineBuffer, LineFault, NextLine, next_line, read_line};
-use std::alloc::Global;
+use std::alloc::{AllocError, Global};
 use std::io::{BufRead, BufReader, Read, Write};
 use std::thread::Threads;
 
@@ -149,11 +149,7 @@ fn run_lines<R: ReadAhead, W: Write>(
                 kind: FaultKind::ReadFault,
             }),
         }
-        let printed = match run_line(rt, buffer.as_bytes(), admin) {
-            Ok(printed) => printed,
-            Err(kind) => return Err(ScriptFault { line, kind }),
-        };
-        if let Err(fault) = print_any(rt.alloc(), line, printed, waiting, writer) {
+        if let Err(fault) = run_line(rt, line, buffer.as_bytes(), admin, waiting, writer) {
             return Err(fault);
         }
     }
@@ -163,58 +159,77 @@ fn run_lines<R: ReadAhead, W: Write>(
     })
 }
 
-// Runs one line, and answers the line to print, if it prints one.
-fn run_line(
+// Runs the line of this number, and puts what it prints behind what waits.
+fn run_line<W: Write>(
     rt: &(impl AllocGlobal + Threads + Sync),
+    line: u64,
     bytes: &[u8],
     admin: &mut Admin,
-) -> Result<Option<OutputLine>, FaultKind>
-    requires room { admin.old.operations + 1 < 2 ^ 64 }
-    requires short { length bytes.now ≤ 16384 }
-    ensures count { admin.new.operations ≤ admin.old.operations + 1 }
-    ensures does { DoesBytes admin.old admin.new bytes.now result }
-{
-    let Ok(line) = read_line(rt.alloc(), bytes) else {
-        return Err(FaultKind::OutOfMemory);
-    };
-    do_line(rt, line, admin)
-}
-
-// Does what one line asks for, and answers the line to print, if it prints one.
-fn do_line(
-    rt: &(impl AllocGlobal + Threads + Sync),
-    line: Line,
-    admin: &mut Admin,
-) -> Result<Option<OutputLine>, FaultKind>
-    requires { admin.old.operations + 1 < 2 ^ 64 }
-    ensures count { admin.new.operations ≤ admin.old.operations + 1 }
-    ensures answers { AnswersLine admin.old admin.new line result }
-{
-    match line {
-        Line::Nothing => Ok(None),
-        Line::NotCommand => Err(FaultKind::NotCommand),
-        Line::BadWord(errno) => Ok(Some(OutputLine::Errno(errno))),
-        Line::Command(command) => match admin.execute(rt, command) {
-            Ok(output) => Ok(Some(output)),
-            Err(_) => Err(FaultKind::OutOfMemory),
-        },
-    }
-}
-
-// Puts what a line prints behind what waits, if it prints anything.
-fn print_any<W: Write>(
-    alloc: Global,
-    line: u64,
-    printed: Option<OutputLine>,
     waiting: &mut Waiting,
     writer: &mut W,
 ) -> Result<(), ScriptFault>
-    ensures { PrintsAny waiting.old waiting.new line printed (W.contents writer.old) (W.contents writer.new) result }
+    requires room { admin.old.operations + 1 < 2 ^ 64 }
+    requires short { length bytes.now ≤ 16384 }
+    ensures count { admin.new.operations ≤ admin.old.operations + 1 }
+    ensures runs { PrintsOf (DoesBytes admin.old admin.new bytes.now) waiting.old waiting.new line (W.contents writer.old) (W.contents writer.new) result }
 {
-    match printed {
-        Some(printed) => print(alloc, line, &printed, waiting, writer),
-        None => Ok(()),
+    let Ok(found) = read_line(rt.alloc(), bytes) else {
+        return Err(at(line, FaultKind::OutOfMemory));
+    };
+    do_line(rt, line, found, admin, waiting, writer)
+}
+
+// Does what a line asks for, and puts what it prints behind what waits.
+fn do_line<W: Write>(
+    rt: &(impl AllocGlobal + Threads + Sync),
+    line: u64,
+    found: Line,
+    admin: &mut Admin,
+    waiting: &mut Waiting,
+    writer: &mut W,
+) -> Result<(), ScriptFault>
+    requires { admin.old.operations + 1 < 2 ^ 64 }
+    ensures count { admin.new.operations ≤ admin.old.operations + 1 }
+    ensures prints { PrintsOf (AnswersLine admin.old admin.new found) waiting.old waiting.new line (W.contents writer.old) (W.contents writer.new) result }
+{
+    match found {
+        Line::Nothing => Ok(()),
+        Line::NotCommand => Err(at(line, FaultKind::NotCommand)),
+        Line::BadWord(errno) => {
+            print(rt.alloc(), line, &OutputLine::Errno(errno), waiting, writer)
+        }
+        Line::Command(command) => {
+            // printed where it stands: each hand that a line goes through copies it
+            let came = admin.execute(rt, command);
+            let printed = print_came(rt.alloc(), line, &came, waiting, writer);
+            drop(came);
+            printed
+        }
     }
+}
+
+// Puts what a command came to behind what waits.
+#[inline(always)]
+fn print_came<W: Write>(
+    alloc: Global,
+    line: u64,
+    came: &Result<OutputLine, AllocError>,
+    waiting: &mut Waiting,
+    writer: &mut W,
+) -> Result<(), ScriptFault>
+    ensures { PrintsCame came.now waiting.old waiting.new line (W.contents writer.old) (W.contents writer.new) result }
+{
+    match came {
+        Ok(printed) => print(alloc, line, printed, waiting, writer),
+        Err(_) => Err(at(line, FaultKind::OutOfMemory)),
+    }
+}
+
+// A fault of the script's line of this number.
+fn at(line: u64, kind: FaultKind) -> ScriptFault
+    ensures { result ≡ record { line = line; kind = kind } }
+{
+    ScriptFault { line, kind }
 }
 
 // Puts what a line prints behind what waits. Where there is no memory for that, all is written, and then the line, whose text

@@ -1,6 +1,7 @@
-use Rattle.std.proofs.Common.{◌≡◌, ℕ, List, Ok, arith, subst}
-use Rattle.admin_cli.proofs.Progress.{begin, finish, printed_on, settled, stop_line, stop_long, stop_printing, stop_reading, stop_settling}
+use Rattle.std.proofs.Common.{◌≡◌, ℕ, List, Err, Ok, arith, subst}
+use Rattle.admin_cli.proofs.Progress.{begin, finish, line_on, line_stops, settled, stop_long, stop_reading, stop_settling}
 use Rattle.admin_cli.specs.OneLine.{DoesBytes}
+use Rattle.admin_cli.specs.Waiting.{PrintsOf}
 use Rattle.admin_cli.proofs.script.run_lines.Goals as goal
 
 pub loop-line-init : goal.loop-line-init
@@ -25,15 +26,10 @@ returns-in-Err-Fault-clause-runs g c =
 
 pub returns-in-Err-run_line-clause-runs : goal.returns-in-Err-run_line-clause-runs
 returns-in-Err-run_line-clause-runs g c =
-    stop_line _ _ c.run_line.new.admin _ _ _ _ _ c.settle.new.self _ c.next_line.new.line.line c.in-Err-run_line.kind
+    line_stops _ _ c.run_line.new.admin _ _ _ _ _ _ c.settle.new.self c.run_line.new.waiting _ c.next_line.new.line.line
     (settled _ _ _ _ _ _ _ c.loop-line.waiting c.settle.new.self _ c.loop-line.invariant.reached c.in_default.field-0 c.in_default.ensures) (rw c.in-Ok-Read.field-0-is at c.in-Ok-Read.ensures.line)
-    (rw (← c.as_bytes.ensures.bytes) c.in-Err-run_line.ensures.does)
-
-pub returns-in-Err-print_any-clause-runs : goal.returns-in-Err-print_any-clause-runs
-returns-in-Err-print_any-clause-runs g c =
-    stop_printing _ _ c.run_line.new.admin _ _ _ _ _ _ c.settle.new.self c.print_any.new.waiting _ c.next_line.new.line.line
-    (settled _ _ _ _ _ _ _ c.loop-line.waiting c.settle.new.self _ c.loop-line.invariant.reached c.in_default.field-0 c.in_default.ensures) (rw c.in-Ok-Read.field-0-is at c.in-Ok-Read.ensures.line)
-    c.in-Ok.printed c.in-Err-print_any.fault (subst (λ (b : List ℕ). DoesBytes c.loop-line.admin c.run_line.new.admin b (Ok c.in-Ok.printed)) c.as_bytes.ensures.bytes c.in-Ok.ensures.does) c.in-Err-print_any.ensures
+    c.in-Err-run_line.fault
+    (subst (λ (b : List ℕ). PrintsOf (DoesBytes c.loop-line.admin c.run_line.new.admin b) c.settle.new.self c.run_line.new.waiting c.loop-line.line (g.W.Write.contents c.settle.new.writer) (g.W.Write.contents c.run_line.new.writer) (Err c.in-Err-run_line.fault)) c.as_bytes.ensures.bytes c.in-Err-run_line.ensures.runs)
 
 pub returns-clause-runs : goal.returns-clause-runs
 returns-clause-runs g c =
@@ -44,7 +40,8 @@ returns-clause-runs g c =
 pub loop-line-preserved : goal.loop-line-preserved
 loop-line-preserved g c = record {
   few = omega (arith, c.run_line.ensures.count, c.loop-line.invariant.few);
-  reached = printed_on _ _ _ _ _ _ _ _ _ c.settle.new.self c.print_any.new.waiting _ c.next_line.new.line.line
+  reached = line_on _ _ _ _ _ _ _ _ _ c.settle.new.self c.run_line.new.waiting _ c.next_line.new.line.line
       (settled _ _ _ _ _ _ _ c.loop-line.waiting c.settle.new.self _ c.loop-line.invariant.reached c.in_default.field-0 c.in_default.ensures) (rw c.in-Ok-Read.field-0-is at c.in-Ok-Read.ensures.line)
-      c.in-Ok.printed c.in_default-print_any.field-0 (subst (λ (b : List ℕ). DoesBytes c.loop-line.admin c.run_line.new.admin b (Ok c.in-Ok.printed)) c.as_bytes.ensures.bytes c.in-Ok.ensures.does) c.in_default-print_any.ensures;
+      c.in_default-run_line.field-0
+      (subst (λ (b : List ℕ). PrintsOf (DoesBytes c.loop-line.admin c.run_line.new.admin b) c.settle.new.self c.run_line.new.waiting c.loop-line.line (g.W.Write.contents c.settle.new.writer) (g.W.Write.contents c.run_line.new.writer) (Ok c.in_default-run_line.field-0)) c.as_bytes.ensures.bytes c.in_default-run_line.ensures.runs);
 }
