@@ -18,7 +18,7 @@ mod renaming;
 mod serving;
 
 pub use changing::changes;
-pub use checking::check;
+pub use checking::{check, check_lookup};
 pub use frags::Frags;
 pub use laws::{
     above_is_a_chain, errno_leaves_tree, making_takes_number, names_are_listed,

@@ -22,6 +22,7 @@ use mds_types::{Ino, Limit, Op, Refusal, Reply};
 /// may be touched. A new inode takes the number given, which has to
 /// be unused and one that a new inode may have; where the table takes one and none is given, the operation is refused `NoInodes`.
 /// Any other refusal is one of the fragments', or want of memory.
+#[inline(always)]
 pub fn plan_checked<F: Frags>(
     frags: &mut F,
     limit: Limit,

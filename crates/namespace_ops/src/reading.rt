@@ -19,6 +19,7 @@ use mds_types::{Dentry, Dirfrag, EINVAL, ENOENT, Ino, Kind, Name, Op, PageSize, 
 use std::alloc::Global;
 
 /// The inode at a dentry.
+#[inline(always)]
 pub fn lookup<F: Frags>(
     frags: &mut F,
     op: &Op,
