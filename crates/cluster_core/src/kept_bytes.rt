@@ -1,5 +1,5 @@
 //! The bytes that exports sent: those of each stay under its root until they are imported.
-ghost use Rattle.std.specs.Prelude.{◌≡◌, ◌<◌, IfOk, IsSome, OnErr, OnOk, is_some, option_copied};
+ghost use Rattle.std.specs.Prelude.{◌≡◌, ◌<◌, IfOk, IsOk, IsSome, OnErr, OnOk, is_some, option_copied};
 ghost use Rattle.std.specs.FinMap as map;
 ghost use Rattle.cluster_core.specs.SentBytes.{bytes_for, none_sent};
 
@@ -68,6 +68,7 @@ impl KeptBytes {
     pub fn reserve(&mut self) -> Result<(), AllocError>
         ensures room { OnOk result (0 < self.new.room) }
         ensures same { self.new.bytes ≡ self.old.bytes }
+        ensures ready { 0 < self.old.room → IsOk result × (self.new ≡ self.old) }
         ensures err { OnErr result (self.new ≡ self.old) }
     {
         self.bytes.reserve(1)

@@ -1,5 +1,5 @@
 //! `Caches`: a contract sees one map of the fragments that are there, each with its rank, and each rank's leaves by use.
-ghost use Rattle.std.specs.Prelude.{◌≡◌, ◌<◌, ◌≤◌, ◌+◌, ◌^◌, true, false, Some, None, [], length, replicate, OnOk, OnErr, IfOk, IfErr, option_copied};
+ghost use Rattle.std.specs.Prelude.{◌≡◌, ◌<◌, ◌≤◌, ◌+◌, ◌^◌, true, false, Some, None, [], length, replicate, IsOk, OnOk, OnErr, IfOk, IfErr, option_copied};
 ghost use Rattle.std.specs.FinMap as map;
 ghost use Rattle.std.specs.Result.{result_err};
 ghost use Rattle.lru.specs.LruCache.{lru_cache};
@@ -118,6 +118,7 @@ impl Caches {
         requires cached { IsThere (here self.old at.rank.0 (leaf_of at)) }
         ensures same { Edits (λ (f now : Cached). (now ≡ record f { room = now.room }) × (f.room ≤ now.room)) at.rank.0 (leaf_of at) self.old self.new }
         ensures room { OnOk result (Edits (λ (f now : Cached). changes ≤ now.room) at.rank.0 (leaf_of at) self.old self.new) }
+        ensures ready { HasCached (here self.old at.rank.0 (leaf_of at)) (λ (f : Cached). changes ≤ f.room) → IsOk result }
     {
         self.caches[at.rank.0 as usize].reserve(at.dir, at.frag, changes)
     }

@@ -1,5 +1,5 @@
 //! Commits of cached fragments.
-ghost use Rattle.std.specs.Prelude.{◌≡◌, ◌+◌, ◌≤◌, ◌↔◌, IsTrue, Option, None, OnOk, OnErr, IfOk, IfErr, IfSome};
+ghost use Rattle.std.specs.Prelude.{◌≡◌, ◌+◌, ◌≤◌, ◌↔◌, IsTrue, IsOk, Option, None, OnOk, OnErr, IfOk, IfErr, IfSome};
 ghost use Rattle.std.specs.FinMap as map;
 ghost use Rattle.objstore.specs.Objects.{MayRefuse, faults_told, written};
 ghost use Rattle.std.specs.Result.{result_err};
@@ -76,6 +76,7 @@ impl Cache {
         requires { IsThere (cached self.old.entries (dir, frag)) }
         ensures same { IsChanged (cached self.old.entries (dir, frag)) (λ (f now : Cached). now ≡ record f { places = now.places }) (dir, frag) self.old self.new }
         ensures room { OnOk result (HasCached (cached self.new.entries (dir, frag)) (λ (f : Cached). names ≤ f.places)) }
+        ensures ready { HasCached (cached self.old.entries (dir, frag)) (λ (f : Cached). names ≤ f.places) → IsOk result }
     {
         let _ = self.touch(dir, frag);
         let Some(place) = self.places.peek_mut(&(dir, frag)) else {

@@ -1,8 +1,8 @@
 //! Names of cached fragments, changed. Each use makes its fragment the most recently used.
-ghost use Rattle.std.specs.Prelude.{◌≡◌, ◌≤◌, Some, None, OnOk, OnErr};
+ghost use Rattle.std.specs.Prelude.{◌≡◌, ◌≤◌, IsOk, Some, None, OnOk, OnErr};
 ghost use Rattle.dirfrag_codec.specs.EntryRecord.{IsRecordable};
 ghost use Rattle.cached_frag.specs.Cached.{Cached, marked};
-ghost use Rattle.dentry_cache.specs.Cache.{HasRoom, IsChanged, IsThere, cached};
+ghost use Rattle.dentry_cache.specs.Cache.{HasCached, HasRoom, IsChanged, IsThere, cached};
 
 use crate::cache::Cache;
 use mds_types::{Frag, Ino, Inode, Name};
@@ -46,6 +46,7 @@ impl Cache {
         requires { IsThere (cached self.old.entries (dir, frag)) }
         ensures same { IsChanged (cached self.old.entries (dir, frag)) (λ (f now : Cached). (now ≡ record f { room = now.room }) × (f.room ≤ now.room)) (dir, frag) self.old self.new }
         ensures room { OnOk result (IsChanged (cached self.old.entries (dir, frag)) (λ (f now : Cached). changes ≤ now.room) (dir, frag) self.old self.new) }
+        ensures ready { HasCached (cached self.old.entries (dir, frag)) (λ (f : Cached). changes ≤ f.room) → IsOk result }
     {
         let _ = self.touch(dir, frag);
         let Some(place) = self.places.peek_mut(&(dir, frag)) else {

@@ -1,9 +1,7 @@
 -- What the checks of an operation find.
 use Rattle.std.specs.Prelude.{◌≡◌, ℕ, true}
-use Rattle.mds_types.specs.declared.dentries.Dentry.{Dentry}
 use Rattle.mds_types.specs.declared.dirfrags.Dirfrag.{Dirfrag}
 use Rattle.mds_types.specs.declared.operations.Op.{Op}
-use Rattle.mds_types.specs.declared.operations.Op.TheVariants.{Lookup}
 use Rattle.mds_types.specs.Tree.{Tree, IsUnused}
 use Rattle.mds_types.specs.Step.{Outcome, answers}
 use Rattle.inode_table.specs.Dirs.{Covers}
@@ -23,10 +21,6 @@ pub record IsChecked (tree : Tree) (covers : Covers) (Holds : Dirfrag → Type 0
   pub carries : Carries tree covers change
   pub held : LieHeld Holds change
   pub takes : (outcome.takes ≡ true → IsUnused tree n) → Takes tree change
-
--- the operation is a look-up
-abbrev pub IsLookup : Op → Type 0
-IsLookup op = (dentry : Dentry) × (op ≡ Lookup dentry)
 
 -- what was found: a reply alone, of an operation that changes nothing, or a change
 abbrev pub Checks : Tree → Covers → (Dirfrag → Type 0) → Op → ℕ → Outcome → Checked → Type 0

@@ -4,7 +4,7 @@ ghost use Rattle.std.specs.Result.{result_err};
 ghost use Rattle.mds_types.specs.declared.refusals.Refusal.TheVariants.{NoInodes};
 ghost use Rattle.mds_types.specs.Step.{step};
 ghost use Rattle.namespace_ops.specs.Kept.{KeepsAll};
-ghost use Rattle.namespace_ops.specs.Checked.{Checks, IsLookup};
+ghost use Rattle.namespace_ops.specs.Checked.{Checks};
 ghost use Rattle.namespace_ops.specs.Places.{AreLocated};
 ghost use Rattle.namespace_ops.specs.Reasons.{Refuses};
 
@@ -83,24 +83,5 @@ pub fn check<F: Frags>(
             Some(source) => rename(frags, limit, op, from, to, &(source, at)),
             None => Ok(Checked::Answers(Reply::Errno(ESTALE))),
         },
-    }
-}
-
-/// `check` of a look-up alone. Most requests are look-ups, and who serves one so has no room to clear that only changes need.
-#[inline(always)]
-pub fn check_lookup<F: Frags>(frags: &mut F, op: &Op, places: Places) -> Result<Checked, Refusal>
-    requires located { AreLocated (F.content frags.old) (F.covers frags.old) (F.Holds frags.old) op.now places }
-    requires lookup { IsLookup op.now }
-    ensures checked { (limit n : ℕ) → IfOk result (Checks (F.content frags.old) (F.covers frags.old) (F.Holds frags.old) op.now n (step limit (F.content frags.old) op.now n)) }
-    ensures kept { KeepsAll (F.content frags.old) (F.content frags.new) (F.covers frags.old) (F.covers frags.new) (F.Follows frags.old frags.new op.now (result_err result)) }
-    ensures err { IfErr result (Refuses (F.MayRefuse frags.old frags.new op.now)) }
-    ensures numbers { IfErr result (λ reason. reason ≢ NoInodes) }
-{
-    let Some(at) = places.main else {
-        return Ok(Checked::Answers(Reply::Errno(ESTALE)));
-    };
-    match op {
-        Op::Lookup(dentry) => lookup(frags, op, dentry, &at),
-        _ => unreachable!(),
     }
 }

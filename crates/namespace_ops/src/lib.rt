@@ -18,13 +18,13 @@ mod renaming;
 mod serving;
 
 pub use changing::changes;
-pub use checking::{check, check_lookup};
+pub use checking::check;
 pub use frags::Frags;
 pub use laws::{
     above_is_a_chain, errno_leaves_tree, making_takes_number, names_are_listed,
     number_leaves_errno, numbers_stay, pages_make_up_listing, step_keeps_well_formed,
 };
 pub use locating::{Places, locate};
-pub use planning::plan_checked;
+pub use planning::{plan_change, plan_checked};
 pub use plans::{Change, Checked, Plan, Spot, carry_out};
 pub use serving::serve_op;

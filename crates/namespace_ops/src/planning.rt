@@ -22,7 +22,6 @@ use mds_types::{Ino, Limit, Op, Refusal, Reply};
 /// may be touched. A new inode takes the number given, which has to
 /// be unused and one that a new inode may have; where the table takes one and none is given, the operation is refused `NoInodes`.
 /// Any other refusal is one of the fragments', or want of memory.
-#[inline(always)]
 pub fn plan_checked<F: Frags>(
     frags: &mut F,
     limit: Limit,
@@ -49,8 +48,8 @@ pub fn plan_checked<F: Frags>(
     }
 }
 
-// Plans the change that the checks found.
-fn plan_change<F: Frags>(
+/// Plans the change that the checks of an operation found, as `plan_checked` does.
+pub fn plan_change<F: Frags>(
     frags: &mut F,
     limit: Limit,
     op: &Op,

@@ -228,9 +228,9 @@ module _ {A : Type 0} where
   put_in_new cs opened new n x len is put =
       put ∙ ap (λ l. set l n (insert (get_or l n []) 0 x)) is ∙ ap (λ c. set (cs ++ [] ∷ []) n (insert c 0 x)) (get_end cs n [] len) ∙ set_end cs n [] (x ∷ []) len
 
-  pub flat_in_new : (cs new : List (List A)) (i : ℕ) (x : A) → i + 1 ≡ length cs → length (get_or cs i []) ≡ 64 → new ≡ cs ++ (x ∷ []) ∷ [] → flat new ≡ insert (flat cs) (start cs i + 64) x
-  flat_in_new cs new i x last full is =
-      ap flat is ∙ flat_end cs (x ∷ []) ∙ sym (insert_end (flat cs) (start cs i + 64) x (omega (arith, start_end cs i last, full)))
+  pub flat_in_new : (cs new : List (List A)) (i : ℕ) (x : A) → i + 1 ≡ length cs → new ≡ cs ++ (x ∷ []) ∷ [] → flat new ≡ insert (flat cs) (start cs i + length (get_or cs i [])) x
+  flat_in_new cs new i x last is =
+      ap flat is ∙ flat_end cs (x ∷ []) ∙ sym (insert_end (flat cs) (start cs i + length (get_or cs i [])) x (omega (arith, start_end cs i last)))
 
   pub some_in_new : (cs new : List (List A)) (x : A) → AllSome cs → new ≡ cs ++ (x ∷ []) ∷ [] → AllSome new
   some_in_new cs new x all is = subst AllSome (sym is) (some_end cs (x ∷ []) all (omega arith))

@@ -70,6 +70,17 @@ module _ {A : Type 0} where
   pub full_spare : (s : ℕ) (cs : List (List A)) (i : ℕ) → i < length cs → length (get_or cs i []) ≡ 64 → 0 < room_by s (load cs) → 0 < s
   full_spare s cs i lt full some = omega (arith, full_load cs i lt full, some)
 
+  -- and so it is where the last chunk is more than half full
+  last_load : (cs : List (List A)) (i : ℕ) → i + 1 ≡ length cs → 32 ≤ length (get_or cs i []) → 32 ≤ load cs
+  last_load [] i last half = absurd (omega (arith, last))
+  last_load (x ∷ []) zero last half = omega (arith, half)
+  last_load (x ∷ []) (suc i) last half = absurd (omega (arith, last))
+  last_load (x ∷ y ∷ cs) zero last half = absurd (omega (arith, last))
+  last_load (x ∷ y ∷ cs) (suc i) last half = omega (arith, last_load (y ∷ cs) i (omega (arith, last)) half)
+
+  pub last_spare : (s : ℕ) (cs : List (List A)) (i : ℕ) → i + 1 ≡ length cs → 32 ≤ length (get_or cs i []) → 0 < room_by s (load cs) → 0 < s
+  last_spare s cs i last half some = omega (arith, last_load cs i last half, some)
+
   halved_load : (cs : List (List A)) (i j : ℕ) (a b : List A) → j ≡ i + 1 → i < length cs → length (get_or cs i []) ≡ 64 → length a ≡ 32 → length b ≡ 32 → load (insert (set cs i a) j b) + 32 ≡ load cs
   halved_load [] i j a b next lt full la lb = absurd (omega (arith, lt))
   halved_load cs i zero a b next lt full la lb = absurd (omega (arith, next))
@@ -118,16 +129,16 @@ module _ {A : Type 0} where
       let within : i < length (y ∷ z ∷ cs) = omega (arith, lt) in
       omega (arith, load_more x (remove (y ∷ z ∷ cs) i) (omega (arith, length-remove (y ∷ z ∷ cs) i within)), aside_load (y ∷ z ∷ cs) i within)
 
-  -- an item in a new chunk, behind a full one
-  behind_load : (cs : List (List A)) (i : ℕ) (x : A) → i + 1 ≡ length cs → length (get_or cs i []) ≡ 64 → load (cs ++ (x ∷ []) ∷ []) + 31 ≡ load cs
-  behind_load [] i x last full = absurd (omega (arith, last))
-  behind_load (c ∷ []) zero x last full = omega (arith, full)
-  behind_load (c ∷ []) (suc i) x last full = absurd (omega (arith, last))
-  behind_load (c ∷ d ∷ cs) zero x last full = absurd (omega (arith, last))
-  behind_load (c ∷ d ∷ cs) (suc i) x last full = omega (arith, behind_load (d ∷ cs) i x (omega (arith, last)) full)
+  -- an item in a new chunk, behind one that is half full
+  behind_load : (cs : List (List A)) (i : ℕ) (x : A) → i + 1 ≡ length cs → 32 ≤ length (get_or cs i []) → load (cs ++ (x ∷ []) ∷ []) + 31 ≡ load cs
+  behind_load [] i x last half = absurd (omega (arith, last))
+  behind_load (c ∷ []) zero x last half = omega (arith, half)
+  behind_load (c ∷ []) (suc i) x last half = absurd (omega (arith, last))
+  behind_load (c ∷ d ∷ cs) zero x last half = absurd (omega (arith, last))
+  behind_load (c ∷ d ∷ cs) (suc i) x last half = omega (arith, behind_load (d ∷ cs) i x (omega (arith, last)) half)
 
-  pub new_load : (cs new : List (List A)) (i : ℕ) (x : A) → i + 1 ≡ length cs → length (get_or cs i []) ≡ 64 → new ≡ cs ++ (x ∷ []) ∷ [] → load new + 31 ≡ load cs
-  new_load cs new i x last full is = ap (λ l. load l + 31) is ∙ behind_load cs i x last full
+  pub new_load : (cs new : List (List A)) (i : ℕ) (x : A) → i + 1 ≡ length cs → 32 ≤ length (get_or cs i []) → new ≡ cs ++ (x ∷ []) ∷ [] → load new + 31 ≡ load cs
+  new_load cs new i x last half is = ap (λ l. load l + 31) is ∙ behind_load cs i x last half
 
   -- and in the first chunk
   pub first_load : (cs new : List (List A)) (x : A) → length cs ≡ 0 → new ≡ cs ++ (x ∷ []) ∷ [] → load new + 31 ≡ load cs

@@ -223,8 +223,15 @@ fn reserve_more(lists: &mut [Rows], room: usize, more: usize) -> Result<(), Allo
     ensures ok { OnOk result (AreEach (λ i. HasGrown (room + more)) lists.old lists.new) }
     ensures left { OnErr result (AreEach (λ i. HasSame) lists.old lists.new) }
 {
-    let all = room.checked_add(more).ok_or(AllocError)?;
-    reserve_each(lists, all)
+    reserve_each(lists, in_all(room, more)?)
+}
+
+// So many rows and so many besides. An error says that they are more than can be counted.
+fn in_all(room: usize, more: usize) -> Result<usize, AllocError>
+    ensures ok { IfOk result (λ all. all ≡ room + more) }
+    ensures err { OnErr result (2 ^ 64 ≤ room + more) }
+{
+    room.checked_add(more).ok_or(AllocError)
 }
 
 // So many lists with no row.

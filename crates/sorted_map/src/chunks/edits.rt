@@ -2,7 +2,7 @@
 ghost use Rattle.std.specs.Prelude.{◌≡◌, ◌+◌, ◌-◌, ◌<◌, ◌≤◌, ◌∷◌, [], length, slice_index_or, slice_set, insert, remove};
 ghost use Rattle.sorted_map.specs.Chunks.{flat, load, start, room_in, AllSome};
 
-use crate::chunks::chunk::{HALF, MOST};
+use crate::chunks::chunk::{FILLED, HALF, MOST};
 use crate::chunks::row::Chunks;
 
 /// Puts a pair in at a place of chunk `home`, for which there is room. Takes no memory, and at most one of the room.
@@ -19,12 +19,14 @@ pub fn put_new<K: Drop, V: Drop>(chunks: &mut Chunks<K, V>, home: usize, at: usi
         put_first(chunks, pair);
         return;
     }
-    if chunks.row()[home].len() < MOST {
-        put_within(chunks, home, at, pair);
+    let row = chunks.row();
+    let (len, behind) = (row[home].len(), row.len() - home);
+    if FILLED <= len && at == len && behind == 1 {
+        put_behind(chunks, home, pair);
         return;
     }
-    if at == MOST && home + 1 == chunks.row().len() {
-        put_behind(chunks, home, pair);
+    if len < MOST {
+        put_within(chunks, home, at, pair);
         return;
     }
     put_apart(chunks, home, at, pair);
@@ -46,13 +48,13 @@ fn put_first<K: Drop, V: Drop>(chunks: &mut Chunks<K, V>, pair: (K, V))
     chunks.put_at(0, 0, pair);
 }
 
-// Puts a pair behind all others, in a chunk of its own. The last chunk is full, and stays so.
+// Puts a pair behind all others, in a chunk of its own. The last chunk is more than half full, and stays as it is.
 fn put_behind<K: Drop, V: Drop>(chunks: &mut Chunks<K, V>, home: usize, pair: (K, V))
     requires some { AllSome chunks.old.lists }
     requires last { home + 1 ≡ length chunks.old.lists }
-    requires full { length (slice_index_or chunks.old.lists home []) ≡ 64 }
+    requires half { 32 ≤ length (slice_index_or chunks.old.lists home []) }
     requires room { 0 < room_in chunks.old }
-    ensures items { flat chunks.new.lists ≡ insert (flat chunks.old.lists) (start chunks.old.lists home + 64) pair }
+    ensures items { flat chunks.new.lists ≡ insert (flat chunks.old.lists) (start chunks.old.lists home + length (slice_index_or chunks.old.lists home [])) pair }
     ensures some { AllSome chunks.new.lists }
     ensures room { room_in chunks.old ≤ room_in chunks.new + 1 }
 {

@@ -1,11 +1,11 @@
 use Rattle.std.proofs.Common.{◌≡◌, ◌∷◌, [], length, get_or, ap, ◌∙◌, arith, length-append}
 use Rattle.sorted_map.specs.Chunks.{load}
 use Rattle.sorted_map.proofs.FlatLaws.{get_end, put_in_new, flat_in_new, some_in_new}
-use Rattle.sorted_map.proofs.RoomLaws.{full_spare, room_apart, new_load}
+use Rattle.sorted_map.proofs.RoomLaws.{last_spare, room_apart, new_load}
 use Rattle.sorted_map.proofs.chunks.edits.put_behind.Goals as goal
 
 pub open-requires : goal.open-requires
-open-requires g c = full_spare c.args.chunks.now.spare c.args.chunks.now.lists c.args.home (omega (arith, c.requires.last)) c.requires.full c.requires.room
+open-requires g c = last_spare c.args.chunks.now.spare c.args.chunks.now.lists c.args.home c.requires.last c.requires.half c.requires.room
 
 pub put_at-requires-clause-home : goal.put_at-requires-clause-home
 put_at-requires-clause-home g c = omega (arith, ap length c.row-next.ensures.row, ap length c.open.ensures.lists, length-append c.args.chunks.now.lists ([] ∷ []))
@@ -18,7 +18,7 @@ put_at-requires-clause-room g c =
 pub returns-clause-items : goal.returns-clause-items
 returns-clause-items g c =
     let cs = c.args.chunks.now.lists in
-    flat_in_new cs _ c.args.home c.args.pair c.requires.last c.requires.full (put_in_new cs _ _ (length c.row-next.result.now) c.args.pair (ap length c.row-next.ensures.row) c.open.ensures.lists c.put_at.ensures.lists)
+    flat_in_new cs _ c.args.home c.args.pair c.requires.last (put_in_new cs _ _ (length c.row-next.result.now) c.args.pair (ap length c.row-next.ensures.row) c.open.ensures.lists c.put_at.ensures.lists)
 
 pub returns-clause-some : goal.returns-clause-some
 returns-clause-some g c =
@@ -30,4 +30,4 @@ returns-clause-room g c =
     let old = c.args.chunks.now in
     let new = c.put_at.new.self in
     let is = put_in_new old.lists _ _ (length c.row-next.result.now) c.args.pair (ap length c.row-next.ensures.row) c.open.ensures.lists c.put_at.ensures.lists in
-    room_apart old.spare new.spare (load old.lists) (load new.lists) (omega (arith, c.open.ensures.spare, c.put_at.ensures.spare)) (omega (arith, new_load old.lists new.lists c.args.home c.args.pair c.requires.last c.requires.full is))
+    room_apart old.spare new.spare (load old.lists) (load new.lists) (omega (arith, c.open.ensures.spare, c.put_at.ensures.spare)) (omega (arith, new_load old.lists new.lists c.args.home c.args.pair c.requires.last c.requires.half is))
