@@ -124,9 +124,8 @@ impl Caches {
     }
 
     /// Makes sure that a fragment is there, and makes it the most recently used of its rank. One that isn't there is read
-    /// from the store: one call for the header, and one for each 64 names or less. Where no place of the rank is free the
-    /// least recently used of its clean fragments goes, but for the one that is to stay. Takes memory for a fragment that is
-    /// read.
+    /// from the store (`load`). Where no place of the rank is free the least recently used of its clean fragments goes, but
+    /// for the one that is to stay. Takes memory for a fragment that is read.
     ///
     /// Refused `NothingToEvict` where no fragment can go, `Damaged` where the object is absent or isn't one that spells a
     /// fragment of this leaf, `StoreFault` and `NoMemory`. The fragment isn't there then; a clean one may have gone.

@@ -29,8 +29,7 @@ pub enum PageEnd {
     More(Bytes),
 }
 
-/// The fragment of a leaf, read from its object: one call for the header, and one for each 64 pairs or less. Takes memory
-/// for the names.
+/// The fragment of a leaf, read from its object: the header, and then its pairs by pages of 64. Takes memory for the names.
 ///
 /// Refused `Damaged`, with the object's name, where the object is absent or isn't one that spells a fragment with no name
 /// of another leaf, and otherwise as the store refuses a call (`StoreFault`), or `NoMemory`. The objects stay as they are.

@@ -20,7 +20,7 @@ use std::alloc::Global;
 
 impl<S: Store + Drop> MdCache<S> {
     /// Makes sure that a leaf is cached at its rank, and makes it the most recently used there. A clean one that isn't there is
-    /// read from the store: one call for the header, and one for each 64 names or less. Takes memory for a leaf that is read.
+    /// read from the store. Takes memory for a leaf that is read.
     ///
     /// Refused `NothingToEvict` where no place of the rank is free and no fragment can go, `StoreFault`, and `NoMemory`.
     pub(crate) fn fetch(&mut self, alloc: Global, at: &Dirfrag) -> Result<(), Refusal>
