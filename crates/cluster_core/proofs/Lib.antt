@@ -12,6 +12,7 @@ pub mod FragmentLaws
 pub mod FreezeLaws
 pub mod GrantLaws
 pub mod HeldLaws
+pub mod Idle
 pub mod ImportLaws
 pub mod JobObjects
 pub mod KindLaws

@@ -1,5 +1,6 @@
 -- What serving makes of the tree and of what stands beside it, said of the cluster's state.
-use Rattle.std.proofs.Common.{◌≡◌, ◌≢◌, ◌<◌, ℕ, true, List, [], ◌∷◌, ◌++◌, Option, Some, None, Result, Ok, Err, length, set, false, inl, inr, ◌⊎◌, refl, sym, ap, subst, ◌∙◌, arith}
+use Rattle.std.proofs.Common.{◌≡◌, ◌≢◌, ◌<◌, ℕ, cond, true, List, [], ◌∷◌, ◌++◌, Option, Some, None, Result, Ok, Err, length, set, false, inl, inr, ◌⊎◌, refl, sym, ap, subst, ◌∙◌, arith}
+use Rattle.std.proofs.lemmas.List.{set-get_or}
 use Rattle.std.specs.List.{slice_index_or}
 use Rattle.mds_types.specs.declared.ids.Ino.{Ino}
 use Rattle.mds_types.specs.declared.ids.Rank.{Rank}
@@ -9,17 +10,20 @@ use Rattle.mds_types.specs.declared.replies.Reply.{Reply as Replied}
 use Rattle.mds_types.specs.declared.requests.Request.{Request}
 use Rattle.mds_types.specs.declared.refusals.Refusal.{Refusal}
 use Rattle.mds_types.specs.declared.refusals.Refusal.TheVariants.{InboxEmpty, NoMemory, NoInodes, Trimmed}
+use Rattle.mds_types.specs.Frag.{root_fragment}
+use Rattle.mds_types.specs.Step.{Outcome, answers, number_or, step}
 use Rattle.mds_types.specs.History.{IsKeptAt, IsNew, IsTrimmed}
 use Rattle.dentry_cache.specs.Cache.{Leaf}
 use Rattle.export_steps.specs.Standing.{Standing}
 use Rattle.inboxes.specs.declared.pins.Pin.{Pin}
 use Rattle.inboxes.specs.Inboxes.{Inboxes, IsOut, TakesAt, waiting_at, with_first, with_last}
 use Rattle.inboxes.proofs.OutLaws.{goes_behind, out_again, waits_elsewhere, waits_first}
+use Rattle.inode_table.specs.Dirs.{leaves_of}
 use Rattle.inode_table.specs.Numbers.{Supply, offer}
 use Rattle.sessions.specs.Table.{Table, noted, trimmed}
 use Rattle.subtree_map.specs.Authority.{Roots}
 use Rattle.namespace_ops.specs.declared.plans.Change.{Change}
-use Rattle.namespace_ops.specs.Changes.{fragments_in}
+use Rattle.namespace_ops.specs.Changes.{fragments_in, is_idle}
 use Rattle.namespace_ops.specs.Kept.{ChangesOnly}
 use Rattle.namespace_ops.specs.Planned.{after_plan}
 use Rattle.namespace_ops.specs.Served.{LacksNumber}
@@ -29,11 +33,12 @@ use Rattle.mdcache.specs.State.{State as TreeState}
 use Rattle.cluster_core.specs.declared.events.Answer.{Answer}
 use Rattle.cluster_core.specs.declared.events.Answer.TheVariants.{Deferred, Reply}
 use Rattle.cluster_core.specs.declared.applying.Prepared.{Prepared}
-use Rattle.cluster_core.specs.State.{State, state_of, supply_of}
+use Rattle.cluster_core.specs.State.{State, no_supply, state_of, supply_of}
 use Rattle.cluster_core.specs.Master.{IsMasterIn, MayTouchAllIn, MustWaitIn}
 use Rattle.cluster_core.specs.Offer.{after_taking}
 use Rattle.cluster_core.specs.Prepared.{IsPrepared, IsUnready, outcome_with}
-use Rattle.cluster_core.specs.Serve.{CarryLeaves, FollowPlanned, ForwardsTo, IsLeft, IsTakenOut, MakesPlanned, Repeats, ServesInbox, entry_of, number_of, went_with, with_entry, without_gone, without_request}
+use Rattle.cluster_core.specs.Serve.{CarryLeaves, FollowPlanned, ForwardsTo, IsLeft, IsTakenOut, MakesPlanned, Repeats, Replies, ServesInbox, entry_of, number_of, went_with, with_entry, without_gone, without_request}
+use Rattle.cluster_core.proofs.Idle.{idle_fragments}
 
 -- a new request is not trimmed
 not_trimmed : (past : List Entry) (client tid oldest : ℕ) → IsNew past client tid oldest → IsTrimmed past client tid oldest → ⊥
@@ -220,3 +225,48 @@ module _ (f : TreeState) (roots : Roots) (exports : Standing) (numbers : List Su
               (subst (λ (s : TreeState). ChangesOnly (IsUntouched s h) (fragments_in s.covers prepared.plan.change)) follows frame);
           left = λ i. record { tree = h; roots = roots_now; exports = (stand ∙ stood) i; numbers = num i; inboxes = sym (out_again mid rank request) i; pins = pins_now; sessions = ses i };
         })
+
+      -- a request that changes nothing, and was answered or put back
+      module _ (limit n : ℕ) (limit_is : limit ≡ f.limit) (n_is : n ≡ number_or (offer (supply_of old rank))) (said : Replied)
+          (is : step limit (shown_tree f) request.op n ≡ answers (shown_tree f) said) (idle : is_idle request.op said ≡ true) where
+        outcome_is : outcome_with f (supply_of old rank) request.op ≡ answers (shown_tree f) said
+        outcome_is = (λ i. step (sym limit_is i) (shown_tree f) request.op (sym n_is i)) ∙ is
+
+        -- nothing more is to be made ready
+        readily : Prepared
+        readily = record { plan = record { reply = said; change = None; number = None }; answer = said; kept = said; numbers = supply_of old rank }
+
+        planned_so : IsPrepared f.limit (shown_tree f) f.covers (λ (change : Change). Unit {0}) request.op (outcome_with f (supply_of old rank) request.op) (supply_of old rank) readily
+        planned_so = record {
+          planned = record {
+            replied = sym (ap (λ (o : Outcome). o.reply) outcome_is);
+            leads = sym (ap (λ (o : Outcome). o.tree) outcome_is);
+            ready = tt;
+            took = sym (ap (λ (o : Outcome). cond o.takes (offer (supply_of old rank)) None) outcome_is);
+            numbered = λ none. ap (λ (o : Outcome). o.takes) outcome_is;
+            one_of = tt;
+            idle = λ still. refl;
+            fragments = sym (idle_fragments f.limit f.covers (shown_tree f) request.op (number_or (offer (supply_of old rank))) said outcome_is idle);
+          };
+          copied = refl;
+          kept = refl;
+          drawn = refl;
+        }
+
+        pub replied : (inboxes_now : Inboxes) (pins_now : List Pin) (sessions_now : Table) (now : List Entry) (numbers_after : List Supply) (result : Result Answer Refusal)
+            → MayTouchAllIn f roots exports pins rank request.client request.tid request.op → numbers_after ≡ numbers_now
+            → Replies mid inboxes_now pins pins_now between sessions_now middle now rank request said result
+            → ServesInbox old (state_of g between_roots between_exports numbers_after inboxes_now pins_now sessions_now) past now MayRefuse rank result (request ∷ rest)
+        replied inboxes_now pins_now sessions_now now numbers_after (Ok answer) may same h =
+            subst (λ (o : Inboxes). ServesInbox old (state_of g between_roots between_exports numbers_after o pins_now sessions_now) past now MayRefuse rank (Ok answer) (request ∷ rest)) (sym h.inboxes)
+            (served_new g between_roots between_exports refl numbers_after pins_now sessions_now now (λ (change : Change). Unit {0}) readily answer may planned_so
+            refl refl (λ d there. sym (ap (λ b. cond b (leaves_of g.covers d) (root_fragment ∷ [])) there)) (λ leaf out live. record { live = live; names = refl }) refl h.pins h.appended
+            (same ∙ unused ∙ sym (set-get_or numbers rank.0 no_supply) ∙ ap (λ (l : List Supply). set l rank.0 (supply_of old rank)) (sym unused)) h.noted h.answered)
+        replied inboxes_now pins_now sessions_now now numbers_after (Err reason) may same h = inr (inr (inr (inl (
+          h.named,
+          inr (record { is_new = new; master = master }),
+          record {
+            same = h.same ∙ past_is;
+            left = λ i. record { tree = follows i; roots = rooted i; exports = stood i; numbers = (same ∙ unused) i; inboxes = h.inboxes i; pins = h.pins i; sessions = (h.known_still ∙ known) i };
+          },
+        ))))

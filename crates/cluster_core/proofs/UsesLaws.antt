@@ -1,8 +1,10 @@
 -- What serving and granting make of the caches, from what their parts did.
-use Rattle.std.proofs.Common.{◌≡◌, ◌⊎◌, inl, inr, ℕ, true, false, List, [], ◌∷◌, Option, Some, None, Result, Ok, Err, refl, sym, subst}
+use Rattle.std.proofs.Common.{◌≡◌, ◌⊎◌, inl, inr, ℕ, true, false, List, [], ◌∷◌, Option, Some, None, Result, Ok, Err, length, refl, sym, subst}
 use Rattle.std.specs.Prelude.{slice_get}
 use Rattle.std.proofs.lemmas.Option.{same_Some}
+use Rattle.mds_types.specs.declared.entries.Entry.{Entry}
 use Rattle.mds_types.specs.declared.ids.Ino.{Ino}
+use Rattle.mds_types.specs.declared.ids.Rank.{Rank}
 use Rattle.mds_types.specs.declared.operations.Op.{Op}
 use Rattle.mds_types.specs.declared.replies.Reply.{Reply as Replied}
 use Rattle.mds_types.specs.declared.requests.Request.{Request}
@@ -16,6 +18,9 @@ use Rattle.dentry_cache.specs.Came.{Came}
 use Rattle.dentry_cache.specs.Came.Came.{stays as nothing_came}
 use Rattle.dentry_cache.specs.Reads.Reads.{stays as nothing_read}
 use Rattle.dentry_cache.proofs.FrameLaws.{came_weaker}
+use Rattle.inboxes.specs.declared.pins.Pin.{Pin}
+use Rattle.inboxes.specs.Inboxes.{Inboxes}
+use Rattle.sessions.specs.Table.{Table}
 use Rattle.namespace_ops.specs.Planned.{IsOneOf}
 use Rattle.namespace_ops.specs.Reasons.{IsOfFragments}
 use Rattle.namespace_ops.specs.declared.plans.Change.{Change}
@@ -28,6 +33,7 @@ use Rattle.ranked_tree.proofs.ReadsForLaws.{change_concerns}
 use Rattle.cluster_core.specs.declared.events.Answer.{Answer}
 use Rattle.cluster_core.specs.declared.events.Answer.TheVariants.{Deferred, Forwarded, Job, Nothing, Reply, Sent}
 use Rattle.cluster_core.specs.Prepared.{IsUnready}
+use Rattle.cluster_core.specs.Serve.{Replies}
 use Rattle.cluster_core.specs.Uses.{Asks, CamePlanned, ChangesOp, ReadsOp, UsesFront, UsesRequest}
 
 module _ (tree new : TreeState) (roots : Roots) where
@@ -62,6 +68,13 @@ module _ (tree new : TreeState) (roots : Roots) where
       late : (reason ≡ Trimmed) ⊎ (reason ≡ InboxFull) → after ≡ before
       late (inl is) = absurd (subst IsOfFragments is of)
       late (inr is) = absurd (subst IsOfFragments is of)
+
+  -- a request that changes nothing
+  pub replied_uses : (op : Op) (before after : CacheMap) (inboxes now : Inboxes) (pins pins_now : List Pin) (known sessions : Table) (past past_now : List Entry) (rank : Rank) (request : Request) (said : Replied) (result : Result Answer Refusal)
+      → Replies inboxes now pins pins_now known sessions past past_now rank request said result → ReadsOp tree roots op before after → UsesRequest tree new roots op before after result
+  replied_uses op before after inboxes now pins pins_now known sessions past past_now rank request said (Ok answer) h reads =
+      applied_uses op before after answer request.client request.tid (length past) said h.answered (after, reads, nothing_came)
+  replied_uses op before after inboxes now pins pins_now known sessions past past_now rank request said (Err reason) h reads = unready_uses op before after reason (subst IsOfFragments (sym h.named) tt) reads
 
 -- a request isn't made ready for a reason of the tree
 pub unready_of : (Touch : Type 0) (MayRefuse : Refusal → Type 0) → ((reason : Refusal) → MayRefuse reason → IsOfFragments reason) → (outcome : Outcome) (offered : Option Ino) (reason : Refusal) → IsUnready Touch MayRefuse outcome offered reason → IsOfFragments reason

@@ -210,6 +210,26 @@ Repeats old new before after rank request at said (Ok answer) =
     (answer ≡ Reply request.client request.tid at false said) × (new ≡ old) × (after ≡ without_request before request)
 Repeats old new before after rank request at said (Err reason) = (reason ≡ NoMemory) × (new ≡ with_first old rank request) × (after ≡ before)
 
+-- a new request that changes nothing was answered with this reply: one entry more, which its client's session keeps, and its grants end
+pub record IsReplied (old new : Inboxes) (before after : List Pin) (known sessions : Table) (past now : List Entry) (request : Request) (said : Replied) (answer : Answer) : Type 0 where
+  pub answered : answer ≡ Reply request.client request.tid (length past) true said
+  pub inboxes : new ≡ old
+  pub pins : after ≡ without_request before request
+  pub appended : now ≡ past ++ record { client = request.client; tid = request.tid; oldest = request.oldest; op = request.op; number = None; reply = said } ∷ []
+  pub noted : sessions ≡ trimmed (noted known request.client request.tid request.oldest (length past) said) request.client
+
+-- for want of memory it was put back
+pub record IsPutBack (old new : Inboxes) (before after : List Pin) (known sessions : Table) (past now : List Entry) (rank : Rank) (request : Request) (reason : Refusal) : Type 0 where
+  pub named : reason ≡ NoMemory
+  pub inboxes : new ≡ with_first old rank request
+  pub pins : after ≡ before
+  pub same : now ≡ past
+  pub known_still : sessions ≡ known
+
+abbrev pub Replies : (old new : Inboxes) → (before after : List Pin) → (known sessions : Table) → (past now : List Entry) → Rank → Request → Replied → Result Answer Refusal → Type 0
+Replies old new before after known sessions past now rank request said (Ok answer) = IsReplied old new before after known sessions past now request said answer
+Replies old new before after known sessions past now rank request said (Err reason) = IsPutBack old new before after known sessions past now rank request reason
+
 -- a request that was taken out goes to the back of another inbox; where that is full it is put back
 abbrev pub ForwardsTo : (old new : Inboxes) → (rank master : Rank) → Request → Result Answer Refusal → Type 0
 ForwardsTo old new rank master request (Ok answer) = (answer ≡ Forwarded master) × (length (waiting_at old master) < 1024) × (new ≡ with_last old master request)

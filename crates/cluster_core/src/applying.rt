@@ -2,7 +2,6 @@
 ghost use Rattle.std.specs.Prelude.{◌≡◌, ◌<◌, ◌++◌, ◌∷◌, [], true, length, set, vec_len, vec_capacity, IsSome, MatchResult, OnOk};
 ghost use Rattle.std.specs.List.{Contains};
 ghost use Rattle.std.specs.Result.{result_err};
-ghost use Rattle.std.specs.Option.{option_copied};
 ghost use Rattle.mds_types.specs.Leaf.{Leaf};
 ghost use Rattle.mds_types.specs.Step.{step, number_or};
 ghost use Rattle.inode_table.specs.Numbers.{offer};
@@ -11,7 +10,7 @@ ghost use Rattle.inboxes.specs.Pins.{is_for, left_without};
 ghost use Rattle.namespace_ops.specs.ChangedFragments.{changed_fragments};
 ghost use Rattle.namespace_ops.specs.Changes.{IsOffered, fragments_in};
 ghost use Rattle.namespace_ops.specs.Kept.{ChangesOnly, KeepsAll};
-ghost use Rattle.namespace_ops.specs.Checked.{Checks};
+ghost use Rattle.namespace_ops.specs.Checked.{IsChecked};
 ghost use Rattle.namespace_ops.specs.Planned.{IsReadyToChange, after_plan};
 ghost use Rattle.namespace_ops.specs.Served.{IsRefused};
 ghost use Rattle.sessions.specs.Table.{noted, trimmed};
@@ -26,12 +25,13 @@ ghost use Rattle.cluster_core.specs.Uses.{CamePlanned};
 ghost use Rattle.ranked_tree.specs.Ranked.{IsReady as IsReadyIn, held_roots};
 ghost use Rattle.ranked_tree.specs.Subtrees.{KeepsRoots};
 
+use crate::answering::make_room;
 use crate::events::Answer;
 use crate::parts::{Asked, Given};
 use inboxes::Pins;
 use inode_table::Numbers;
 use mds_types::{Entry, Ino, Refusal, Reply, Request};
-use namespace_ops::{Change, Checked, Frags, Plan, plan_checked};
+use namespace_ops::{Change, Frags, Plan, plan_change};
 use objstore::Store;
 use ranked_tree::RankedTree;
 use std::alloc::Global;
@@ -48,28 +48,20 @@ pub struct Prepared {
     numbers: Numbers,
 }
 
-impl Prepared {
-    /// The change that was planned, if there is one.
-    pub fn change(&self) -> Option<&Change>
-        ensures { option_copied result ≡ self.now.plan.change }
-    {
-        self.plan.change.as_ref()
-    }
-}
-
-/// Makes everything that applying a request needs of which this was found: room for its entry in the history and for
+/// Makes everything that applying a request needs that makes this change: room for its entry in the history and for
 /// its reply in the sessions, its plan, the copies of its reply.
+#[inline(never)]
 pub(crate) fn prepare<F: Frags>(
     alloc: Global,
     frags: &mut F,
     given: &mut Given,
     history: &mut Vec<Entry>,
     asked: &Asked,
-    checked: Checked,
+    change: Change,
 ) -> Result<Prepared, Refusal>
     requires session { IsSessionOf given.old.sessions asked.now.request.client asked.now.session }
     requires offered { IsOffered (F.content frags.old) F.IsNumber (offer asked.now.supply) }
-    requires checked { Checks (F.content frags.old) (F.covers frags.old) (F.Holds frags.old) asked.now.request.op (number_or (offer asked.now.supply)) (step asked.now.limit (F.content frags.old) asked.now.request.op (number_or (offer asked.now.supply))) checked }
+    requires checked { IsChecked (F.content frags.old) (F.covers frags.old) (F.Holds frags.old) asked.now.request.op (number_or (offer asked.now.supply)) (step asked.now.limit (F.content frags.old) asked.now.request.op (number_or (offer asked.now.supply))) change }
     requires touch { (leaf : Leaf) → Contains (changed_fragments asked.now.limit (F.covers frags.old) (F.content frags.old) asked.now.request.op) leaf → F.MayTouch frags.old leaf }
     ensures prepared { let outcome = step asked.now.limit (F.content frags.old) asked.now.request.op (number_or (offer asked.now.supply)) in
         MatchResult result
@@ -83,13 +75,12 @@ pub(crate) fn prepare<F: Frags>(
     ensures known { table given.new.sessions ≡ table given.old.sessions }
     ensures kept { KeepsAll (F.content frags.old) (F.content frags.new) (F.covers frags.old) (F.covers frags.new) (F.Follows frags.old frags.new asked.now.request.op (result_err result)) }
 {
-    history.reserve(1)?;
-    given.sessions.reserve(alloc, &asked.session)?;
-    let plan = plan_checked(
+    make_room(alloc, given, history, &asked.session)?;
+    let plan = plan_change(
         frags,
         asked.limit,
         &asked.request.op,
-        checked,
+        change,
         asked.supply.peek(),
     )?;
     // in place, since a plan is large and each call that it goes through copies it
@@ -112,6 +103,7 @@ pub(crate) fn prepare<F: Frags>(
 }
 
 /// Applies a request for which everything was prepared. It can't fail.
+#[inline(never)]
 pub(crate) fn commit<S: Store + Drop>(
     tree: &mut RankedTree<S>,
     pins: &mut Pins,

@@ -2,6 +2,7 @@
 #![tactic(auto)]
 
 mod administering;
+mod answering;
 mod applying;
 mod barred;
 mod books;

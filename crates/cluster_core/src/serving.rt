@@ -18,6 +18,7 @@ ghost use Rattle.cluster_core.specs.Uses.{UsesFront};
 ghost use Rattle.ranked_tree.specs.Ranked.{held_roots, MayRefuse};
 ghost use Rattle.ranked_tree.specs.Subtrees.{AreRoots, KeepsRoots};
 
+use crate::answering::answer;
 use crate::applying::{commit, prepare};
 use crate::barred::must_wait;
 use crate::events::Answer;
@@ -25,7 +26,7 @@ use crate::masters::{correct_hint, locate_master};
 use crate::parts::{Asked, Given, Waiting};
 use inboxes::{Inboxes, Pins};
 use mds_types::{Entry, Ino, Rank, Refusal, Reply, Request};
-use namespace_ops::check;
+use namespace_ops::{Checked, check};
 use objstore::Store;
 use ranked_tree::RankedTree;
 use sessions::Seen;
@@ -130,16 +131,19 @@ fn serve_new<S: Store + Drop>(
         waiting.inboxes.put(asked.rank, asked.request);
         return Ok(Answer::Deferred);
     }
-    match prepare(alloc, tree, given, history, &asked, checked) {
-        Ok(prepared) => Ok(commit(tree, &mut waiting.pins, given, history, asked, prepared)),
-        Err(Refusal::NoInodes) => {
-            end_request(&mut waiting.pins, asked.request);
-            Err(Refusal::NoInodes)
-        }
-        Err(refusal) => {
-            waiting.inboxes.put_back(asked.rank, asked.request);
-            Err(refusal)
-        }
+    match checked {
+        Checked::Answers(reply) => answer(alloc, waiting, given, history, asked, reply),
+        Checked::Changes(change) => match prepare(alloc, tree, given, history, &asked, change) {
+            Ok(prepared) => Ok(commit(tree, &mut waiting.pins, given, history, asked, prepared)),
+            Err(Refusal::NoInodes) => {
+                end_request(&mut waiting.pins, asked.request);
+                Err(Refusal::NoInodes)
+            }
+            Err(refusal) => {
+                waiting.inboxes.put_back(asked.rank, asked.request);
+                Err(refusal)
+            }
+        },
     }
 }
 

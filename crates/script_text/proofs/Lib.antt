@@ -1,3 +1,4 @@
+pub mod FirstLf
 pub mod LineLemmas
 pub mod TextNames
 pub mod FormLemmas

@@ -1,5 +1,5 @@
 //! Memory for one line.
-ghost use Rattle.std.specs.Prelude.{◌≡◌, ◌+◌, ◌≤◌, length, [], ◌++◌, true, false, IfOk, vec_len, vec_capacity};
+ghost use Rattle.std.specs.Prelude.{◌≡◌, ◌+◌, ◌≤◌, length, [], ◌++◌, true, false, IfOk};
 
 use std::alloc::{AllocError, Global};
 use std::io;
@@ -17,7 +17,7 @@ pub struct LineBuffer {
 }
 
 impl Model for LineBuffer {
-    ghost use Rattle.std.specs.Prelude.{◌≡◌, ◌≤◌, length, vec_capacity};
+    ghost use Rattle.std.specs.Prelude.{◌≤◌, length, vec_capacity};
     ghost use Rattle.std.specs.Coded.{codes};
     ghost use Rattle.script_text.specs.Input.{Buffered};
 
@@ -27,7 +27,7 @@ impl Model for LineBuffer {
 
     ghost view = { λ line. record { line = line.bytes.items; failed = line.has_failed } };
 
-    ghost invariant = { λ line. (length line.bytes.items ≤ 16384) × (vec_capacity line.bytes ≡ 16384) };
+    ghost invariant = { λ line. (length line.bytes.items ≤ 16384) × (16384 ≤ vec_capacity line.bytes) };
 }
 
 impl LineBuffer {
@@ -68,17 +68,7 @@ impl LineBuffer {
         requires { length self.old.line + length bytes.now ≤ 16384 }
         ensures { self.new ≡ record self.old { line = self.old.line ++ bytes.now } }
     {
-        push_all(&mut self.bytes, bytes);
-    }
-}
-
-// Puts bytes at the end, where there is room for them.
-fn push_all(line: &mut Vec<u8>, bytes: &[u8])
-    requires { vec_len line.old + length bytes.now ≤ vec_capacity line.old }
-    ensures items { line.new.items ≡ line.old.items ++ bytes.now }
-    ensures capacity { vec_capacity line.new ≡ vec_capacity line.old }
-{
-    for byte in bytes {
-        line.push_reserved(*byte);
+        // (there is room: it can't be refused)
+        let _ = self.bytes.extend_from_slice(bytes);
     }
 }

@@ -5,6 +5,7 @@ ghost use Rattle.script_text.specs.Input.{GivesLine};
 ghost use Rattle.script_text.specs.Looks.{is_not_lf, Moves, Overflows};
 
 use crate::reading::buffer::{LineBuffer, MAX_LINE_LEN};
+use memchr::memchr;
 use std::io::BufRead;
 
 /// What a call for the next line found.
@@ -95,5 +96,8 @@ fn len_before_lf(bytes: &[u8]) -> usize
     ensures value { result ≡ prefix_len is_not_lf bytes.now }
     ensures bound { result ≤ length bytes.now }
 {
-    bytes.iter().take_while(|byte| **byte != b'\n').count()
+    match memchr(b'\n', bytes) {
+        Some(place) => place,
+        None => bytes.len(),
+    }
 }

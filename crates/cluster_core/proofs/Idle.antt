@@ -1,0 +1,33 @@
+-- An operation that changes nothing changes no leaf.
+use Rattle.std.proofs.Common.{◌≡◌, ℕ, Bool, true, false, cond, ◌||◌, List, [], ◌∷◌, sym, ap, refl, ◌∙◌}
+use Rattle.mds_types.specs.declared.operations.Op.{Op}
+use Rattle.mds_types.specs.declared.replies.Reply.{Reply}
+use Rattle.mds_types.specs.Leaf.{Leaf}
+use Rattle.mds_types.specs.Outcomes.{is_errno}
+use Rattle.mds_types.specs.Shape.{Shape, Looks, Lists, Makes, Sets, Unlinks, Removes, Moves, shape}
+use Rattle.mds_types.specs.Step.{Outcome, answers, step}
+use Rattle.mds_types.specs.Tree.{Tree}
+use Rattle.mds_types.proofs.StepLaws.{errno_of_any_number}
+use Rattle.inode_table.specs.Dirs.{Covers}
+use Rattle.namespace_ops.specs.Changes.{is_idle, stays, stays_in}
+use Rattle.namespace_ops.specs.ChangedFragments.{changed_fragments, fragment_of, leaves_at, touched, touched_in}
+use Rattle.std.specs.FinMap as map
+
+touched_none : (covers : Covers) (tree : Tree) (s : Shape) → stays_in s ≡ true → touched_in covers tree s ≡ []
+touched_none covers tree (Looks dentry answer) is = refl
+touched_none covers tree (Lists dir after max) is = refl
+touched_none covers tree (Makes dentry kind mode birth) is = cc
+touched_none covers tree (Sets dentry alteration) is = cc
+touched_none covers tree (Unlinks dentry) is = cc
+touched_none covers tree (Removes dentry) is = cc
+touched_none covers tree (Moves from to) is = ap (λ b. cond b [] (fragment_of covers from ∷ fragment_of covers to ∷ leaves_at covers (map.get tree to))) is
+
+pub idle_fragments : (limit : ℕ) (covers : Covers) (tree : Tree) (op : Op) (n : ℕ) (said : Reply) → step limit tree op n ≡ answers tree said → is_idle op said ≡ true → changed_fragments limit covers tree op ≡ []
+idle_fragments limit covers tree op n said is idle = go (is_errno said) refl
+  where
+    told : is_errno (step limit tree op 0).reply ≡ is_errno said
+    told = errno_of_any_number limit tree op 0 n ∙ ap (λ (o : Outcome). is_errno o.reply) is
+
+    go : (b : Bool) → is_errno said ≡ b → changed_fragments limit covers tree op ≡ []
+    go true e = ap (λ b. cond b [] (touched covers tree op)) (told ∙ e)
+    go false e = ap (λ b. cond b [] (touched covers tree op)) (told ∙ e) ∙ touched_none covers tree (shape op) (sym (ap (λ b. b || stays op) e) ∙ idle)
