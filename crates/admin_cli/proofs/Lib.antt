@@ -1,3 +1,4 @@
 pub mod Committed
 pub mod Operated
+pub mod PathLines
 pub mod Progress

@@ -3,8 +3,10 @@ pub mod Execute
 pub mod ExportLines
 pub mod FaultText
 pub mod Jobs
+pub mod Loads
 pub mod OneLine
 pub mod OwnLines
+pub mod Reports
 pub mod Scripts
 pub mod Settings
 pub mod StepLines

@@ -1,6 +1,6 @@
 -- The numbers of a command line.
 use Rattle.std.specs.Prelude.{◌≤◌}
-use Rattle.workload.specs.Loads.{IsLoad}
+use Rattle.admin_cli.specs.Loads.{IsLoad}
 use Rattle.admin_cli.specs.declared.command_line.Options.{Options}
 use Rattle.admin_cli.specs.declared.command_line.Options.TheVariants.{Script, Serve}
 

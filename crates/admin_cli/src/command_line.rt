@@ -2,11 +2,11 @@
 ghost use Rattle.std.specs.Prelude.{IfOk, IfSome};
 ghost use Rattle.admin_cli.specs.Settings.{AreInRange};
 
+use crate::workload::Load;
 use clap::error::ErrorKind;
 use clap::{Arg, ArgMatches, Command, Error, value_parser};
 use mds_types::Limit;
 use std::alloc::{AllocError, Global};
-use workload::Load;
 
 /// What the command line asks for.
 #[derive(Clone, Copy, Debug, PartialEq, Eq)]

@@ -12,10 +12,11 @@ mod script;
 mod serving;
 mod store_commands;
 mod waiting;
+mod workload;
 
 pub use command_line::{Options, settings};
 pub use faults::{FaultKind, ScriptFault};
 pub use mds_types::Limit;
 pub use script::run_script;
 pub use serving::serve;
-pub use workload::{Load, ServeFault};
+pub use workload::{Load, ServeFault, run_serve, run_watched};

@@ -1,11 +1,11 @@
 //! What `cephmeta serve` runs.
-ghost use Rattle.workload.specs.Loads.{IsLoad};
-ghost use Rattle.workload.specs.Reports.{ServesOut};
+ghost use Rattle.admin_cli.specs.Loads.{IsLoad};
+ghost use Rattle.admin_cli.specs.Reports.{ServesOut};
 
+use crate::workload::{Load, Progress, ServeFault, run_serve, run_watched};
 use std::io::Write;
 use std::sync::Wait;
 use std::thread::Threads;
-use workload::{Load, Progress, ServeFault, run_serve, run_watched};
 
 /// Serves a load, as `run_serve` does, and tells on standard error how far it has come where somebody looks on.
 pub fn serve<W: Write, H: Threads + Wait + Sync + AllocGlobal + Eprint>(

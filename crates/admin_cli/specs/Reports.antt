@@ -1,0 +1,46 @@
+-- What a run prints.
+use Rattle.std.specs.Prelude.{◌≡◌, ◌⊎◌, ℕ, Bool, true, false, List, [], ◌∷◌, ◌++◌, length, codes, IsSorted, Option, Result, Ok, Err}
+use Rattle.std.specs.Ordering.{nat_cmp}
+use Rattle.std.specs.Cmp.Lexicographic.{slice_cmp}
+use Rattle.std.specs.Fmt.{decimal}
+use Rattle.std.specs.FinMap as map
+use Rattle.std.specs.Io.KnownBytes.{Appends, Keeps}
+use Rattle.cluster_core.specs.Sound.{IsSoundBook}
+use Rattle.cluster_core.specs.State.{Kept}
+use Rattle.script_output.specs.Writing.{AppendsBeginning}
+use Rattle.admin_cli.specs.declared.workload.serving.ServeFault.{ServeFault}
+use Rattle.admin_cli.specs.declared.workload.serving.ServeFault.TheVariants.{Fault, Write}
+
+-- paths stand in the order of their bytes
+abbrev pub AreInOrder : List (List ℕ) → Type 0
+AreInOrder paths = IsSorted (slice_cmp nat_cmp) paths
+
+-- a line for each path
+abbrev pub path_lines : List (List ℕ) → List ℕ
+path_lines [] = []
+path_lines (path ∷ paths) = path ++ codes "\n" ++ path_lines paths
+
+-- the lines before the paths: the length of the history, and whether the receipts agree with it
+abbrev pub head_text : ℕ → Bool → List ℕ
+head_text served true = codes "served " ++ decimal served ++ codes "\naudit ok\n"
+head_text served false = codes "served " ++ decimal served ++ codes "\naudit failed\n"
+
+-- the text of a run whose history is so long: its first lines, and paths in the order of their bytes
+pub record Reports (served : ℕ) (agrees : Bool) (text : List ℕ) : Type 0 where
+  pub paths : List (List ℕ)
+  pub in_order : AreInOrder paths
+  pub whole : text ≡ head_text served agrees ++ path_lines paths
+
+-- so it is of a sound book that opened with the empty tree
+pub record IsText (agrees : Bool) (text : List ℕ) : Type 0 where
+  pub book : Kept
+  pub sound : IsSoundBook book
+  pub opening : book.opening ≡ map.empty
+  pub reports : Reports (length book.history) agrees text
+
+-- what is written: all of the text, at a write fault a beginning of it, and nothing where there is no text
+abbrev pub ServesOut : (before after : Option (List ℕ)) → Result (Unit {0}) ServeFault → Type 0
+ServesOut before after (Ok done) = (text : List ℕ) × IsText true text × Appends before after text
+ServesOut before after (Err (Fault number)) =
+    (((number ≡ 1) ⊎ (number ≡ 2)) × Keeps before after) ⊎ ((number ≡ 3) × ((text : List ℕ) × IsText false text × Appends before after text))
+ServesOut before after (Err Write) = (agrees : Bool) × (text : List ℕ) × IsText agrees text × AppendsBeginning before after text

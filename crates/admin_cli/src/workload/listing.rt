@@ -1,0 +1,104 @@
+//! The paths of the tree, read by requests.
+ghost use Rattle.std.specs.Prelude.{◌≡◌, IfSome};
+ghost use Rattle.admin_cli.specs.Reports.{AreInOrder};
+
+use crate::workload::asking::ask;
+use cluster_core::Book;
+use mds_types::{Bytes, Ino, Inode, Kind, Name, Op, PageSize, Reply, Request};
+use objstore::MemStore;
+use std::alloc::Global;
+
+/// The client that reads.
+const READER: u64 = 0;
+
+/// The paths of what stands in the root and in the directories there, in the order of bytes.
+pub(crate) fn all_paths(alloc: Global, book: &mut Book<MemStore>) -> Option<Vec<Bytes>>
+    ensures { IfSome result (λ paths. AreInOrder paths.items) }
+{
+    let top = names_in(alloc, book, Ino::ROOT, 1)?;
+    let mut paths = Vec::new(alloc);
+    let mut tid: u64 = 1;
+    for (name, inode) in &top {
+        tid = tid.wrapping_add(1);
+        add_entry(alloc, book, tid, name, inode, &mut paths)?;
+    }
+    sorted(paths)
+}
+
+// In the order of bytes.
+fn sorted(paths: Vec<Bytes>) -> Option<Vec<Bytes>>
+    ensures { IfSome result (λ paths. AreInOrder paths.items) }
+{
+    let mut paths = paths;
+    match paths.sort() {
+        Ok(()) => Some(paths),
+        Err(_) => None,
+    }
+}
+
+// An entry of the root, and what stands in it if it is a directory.
+fn add_entry(
+    alloc: Global,
+    book: &mut Book<MemStore>,
+    tid: u64,
+    name: &Name,
+    inode: &Inode,
+    paths: &mut Vec<Bytes>,
+) -> Option<()> {
+    let path = Bytes::from_slice(alloc, name.as_bytes()).ok()?;
+    paths.push(path).ok()?;
+    if inode.kind != Kind::Dir {
+        return Some(());
+    }
+    let names = names_in(alloc, book, inode.ino, tid)?;
+    add_names(alloc, name, &names, paths)
+}
+
+// What stands in a directory of the root.
+fn add_names(
+    alloc: Global,
+    dir: &Name,
+    names: &Vec<(Name, Inode)>,
+    paths: &mut Vec<Bytes>,
+) -> Option<()> {
+    for (name, _) in names {
+        paths.push(path(alloc, dir, name)?).ok()?;
+    }
+    Some(())
+}
+
+// The path of a name in a directory of the root.
+fn path(alloc: Global, dir: &Name, name: &Name) -> Option<Bytes> {
+    let mut bytes = Vec::new(alloc);
+    bytes.extend_from_slice(dir.as_bytes()).ok()?;
+    bytes.push(b'/').ok()?;
+    bytes.extend_from_slice(name.as_bytes()).ok()?;
+    Some(Bytes::from_vec(bytes))
+}
+
+// The names in a directory with their inodes. One page has them all: it holds 1024, and no directory of a run has more than 1000.
+fn names_in(
+    alloc: Global,
+    book: &mut Book<MemStore>,
+    dir: Ino,
+    tid: u64,
+) -> Option<Vec<(Name, Inode)>> {
+    let op = Op::Readdir {
+        dir,
+        after: None,
+        max: PageSize::MAX,
+    };
+    let request = Request {
+        client: READER,
+        tid,
+        oldest: tid,
+        op,
+    };
+    match ask(alloc, book, request)? {
+        Reply::Entries { list, more: false } => Some(list.into_vec()),
+        other => {
+            drop(other);
+            None
+        }
+    }
+}

@@ -1,0 +1,45 @@
+//! What a run prints.
+ghost use Rattle.std.specs.Prelude.{◌≡◌, ◌++◌, IfOk, IfSome, OnOk, length};
+ghost use Rattle.admin_cli.specs.Reports.{Reports, head_text, path_lines};
+
+use crate::workload::listing::all_paths;
+use cluster_core::Book;
+use mds_types::Bytes;
+use objstore::MemStore;
+use std::alloc::{AllocError, Global};
+
+/// The text of a run: how many requests were applied, whether the receipts agree, and the paths of the tree. Nothing where
+/// memory is refused or the tree can't be read.
+pub(crate) fn report(alloc: Global, book: &mut Book<MemStore>, agrees: bool) -> Option<Vec<u8>>
+    ensures { IfSome result (λ text. Reports (length book.old.history) agrees text.items) }
+{
+    let served = book.history().len();
+    let paths = all_paths(alloc, book)?;
+    let mut text = head(alloc, served, agrees).ok()?;
+    add_lines(&mut text, &paths).ok()?;
+    Some(text)
+}
+
+// The lines before the paths.
+fn head(alloc: Global, served: usize, agrees: bool) -> Result<Vec<u8>, AllocError>
+    ensures { IfOk result (λ text. text.items ≡ head_text served agrees) }
+{
+    let text = if agrees {
+        format!(in alloc; "served {served}\naudit ok\n")?
+    } else {
+        format!(in alloc; "served {served}\naudit failed\n")?
+    };
+    Ok(text.into_bytes())
+}
+
+// A line for each path.
+#[tactic(auto, using(crate::proofs::PathLines::lines_more))]
+fn add_lines(text: &mut Vec<u8>, paths: &Vec<Bytes>) -> Result<(), AllocError>
+    ensures { OnOk result (text.new.items ≡ text.old.items ++ path_lines paths.now.items) }
+{
+    for path in paths {
+        text.extend_from_slice(path.as_slice())?;
+        text.push(b'\n')?;
+    }
+    Ok(())
+}

@@ -1,8 +1,0 @@
--- Lines of paths, one after the other.
-use Rattle.std.proofs.Common.{◌≡◌, ℕ, ◌+◌, ◌<◌, List, ◌++◌, drop, get_or, length, codes, ap}
-use Rattle.std.proofs.lemmas.List.{drop_more}
-use Rattle.workload.specs.Reports.{path_lines}
-
--- the lines of those from a path on
-pub lines_more : (paths : List (List ℕ)) (i : ℕ) (d : List ℕ) → i < length paths → path_lines (drop i paths) ≡ get_or paths i d ++ codes "\n" ++ path_lines (drop (i + 1) paths)
-lines_more paths i d below = ap path_lines (drop_more paths i d below)

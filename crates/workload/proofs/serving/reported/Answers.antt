@@ -1,5 +1,0 @@
-use Rattle.workload.proofs.serving.reported.Goals as goal
-
--- the book that was handed over is the sound one
-pub returns-in-Some-clause-ok : goal.returns-in-Some-clause-ok
-returns-in-Some-clause-ok c = record { book = c.args.book; sound = c.requires.sound; opening = c.requires.opening; reports = c.in-Some.ensures }
