@@ -1,5 +1,5 @@
 //! `Lists`: for each rank a list of what it knows of leaves. A contract sees the roots, which are what all of them claim.
-ghost use Rattle.std.specs.Prelude.{◌≡◌, ◌+◌, ◌<◌, ◌≤◌, None, Some, IsOk, IsSome, IfErr, IfOk, IfSome, OnErr, OnOk, is_some, length};
+ghost use Rattle.std.specs.Prelude.{◌^◌, ◌≡◌, ◌+◌, ◌<◌, ◌≤◌, None, Some, IsOk, IsSome, IfErr, IfOk, IfSome, OnErr, OnOk, is_some, length};
 ghost use Rattle.std.specs.FinMap as map;
 ghost use Rattle.mds_types.specs.declared.refusals.Refusal.TheVariants.{NoMemory};
 ghost use Rattle.subtree_map.specs.Changes.{AreGone};
