@@ -10,6 +10,7 @@ use Rattle.mds_types.specs.declared.replies.Reply.{Reply as Replied}
 use Rattle.mds_types.specs.declared.requests.Request.{Request}
 use Rattle.mds_types.specs.declared.refusals.Refusal.{Refusal}
 use Rattle.mds_types.specs.declared.refusals.Refusal.TheVariants.{InboxEmpty, NoMemory, NoInodes, Trimmed}
+use Rattle.mds_types.specs.declared.dirfrags.Dirfrag.{Dirfrag}
 use Rattle.mds_types.specs.Frag.{root_fragment}
 use Rattle.mds_types.specs.Step.{Outcome, answers, number_or, step}
 use Rattle.mds_types.specs.History.{IsKeptAt, IsNew, IsTrimmed}
@@ -23,6 +24,9 @@ use Rattle.inode_table.specs.Numbers.{Supply, offer}
 use Rattle.sessions.specs.Table.{Table, noted, trimmed}
 use Rattle.subtree_map.specs.Authority.{Roots}
 use Rattle.namespace_ops.specs.declared.plans.Change.{Change}
+use Rattle.namespace_ops.specs.declared.plans.Checked.{Checked}
+use Rattle.namespace_ops.specs.declared.plans.Checked.TheVariants.{Answers}
+use Rattle.namespace_ops.specs.Checked.{Checks}
 use Rattle.namespace_ops.specs.Changes.{fragments_in, is_idle}
 use Rattle.namespace_ops.specs.Kept.{ChangesOnly}
 use Rattle.namespace_ops.specs.Planned.{after_plan}
@@ -227,13 +231,16 @@ module _ (f : TreeState) (roots : Roots) (exports : Standing) (numbers : List Su
         })
 
       -- a request that changes nothing, and was answered or put back
-      module _ (limit n : ℕ) (limit_is : limit ≡ f.limit) (n_is : n ≡ number_or (offer (supply_of old rank))) (said : Replied)
-          (is : step limit (shown_tree f) request.op n ≡ answers (shown_tree f) said) (idle : is_idle request.op said ≡ true) where
+      module _ (Holds : Dirfrag → Type 0) (limit n : ℕ) (supply : Supply) (checked : Checked) (said : Replied) (limit_is : limit ≡ f.limit) (n_is : n ≡ number_or (offer supply)) (left : supply ≡ supply_of old rank)
+          (answers_so : checked ≡ Answers said) (found : Checks (shown_tree f) f.covers Holds request.op n (step limit (shown_tree f) request.op n) checked) where
+        told : (step limit (shown_tree f) request.op n ≡ answers (shown_tree f) said) × (is_idle request.op said ≡ true)
+        told = subst (λ (k : Checked). Checks (shown_tree f) f.covers Holds request.op n (step limit (shown_tree f) request.op n) k) answers_so found
+
         outcome_is : outcome_with f (supply_of old rank) request.op ≡ answers (shown_tree f) said
-        outcome_is = (λ i. step (sym limit_is i) (shown_tree f) request.op (sym n_is i)) ∙ is
+        outcome_is = (λ i. step (sym limit_is i) (shown_tree f) request.op (sym (n_is ∙ ap (λ (s : Supply). number_or (offer s)) left) i)) ∙ told.0
 
         -- nothing more is to be made ready
-        readily : Prepared
+        abbrev readily : Prepared
         readily = record { plan = record { reply = said; change = None; number = None }; answer = said; kept = said; numbers = supply_of old rank }
 
         planned_so : IsPrepared f.limit (shown_tree f) f.covers (λ (change : Change). Unit {0}) request.op (outcome_with f (supply_of old rank) request.op) (supply_of old rank) readily
@@ -246,7 +253,7 @@ module _ (f : TreeState) (roots : Roots) (exports : Standing) (numbers : List Su
             numbered = λ none. ap (λ (o : Outcome). o.takes) outcome_is;
             one_of = tt;
             idle = λ still. refl;
-            fragments = sym (idle_fragments f.limit f.covers (shown_tree f) request.op (number_or (offer (supply_of old rank))) said outcome_is idle);
+            fragments = sym (idle_fragments f.limit f.covers (shown_tree f) request.op (number_or (offer (supply_of old rank))) said outcome_is told.1);
           };
           copied = refl;
           kept = refl;

@@ -1,5 +1,5 @@
 //! Answering a request that changes nothing. It has a way of its own, since most requests are look-ups: no change is carried along, and no number.
-ghost use Rattle.std.specs.Prelude.{◌≡◌, ◌<◌, Err, IfErr, OnOk, vec_len, vec_capacity};
+ghost use Rattle.std.specs.Prelude.{◌≡◌, ◌<◌, Err, OnOk, vec_len, vec_capacity};
 ghost use Rattle.std.specs.Result.{result_err};
 ghost use Rattle.objstore.specs.Objects.{faults_told};
 ghost use Rattle.inboxes.specs.Inboxes.{with_first};
@@ -11,7 +11,7 @@ use crate::events::Answer;
 use crate::parts::{Asked, Given, Waiting};
 use mds_types::{Entry, Refusal, Reply, Request};
 use sessions::SessionAt;
-use std::alloc::Global;
+use std::alloc::{AllocError, Global};
 
 /// Answers a new request, which was taken out at its master, with the reply that was found, and notes it in the history and in its client's
 /// session. Refused `NoMemory`: the request is put back.
@@ -76,7 +76,7 @@ pub(crate) fn make_room(
     given: &mut Given,
     history: &mut Vec<Entry>,
     session: &SessionAt,
-) -> Result<(), Refusal>
+) -> Result<(), AllocError>
     requires { IsSessionAt given.old.sessions session.now }
     ensures room { OnOk result (vec_len history.new < vec_capacity history.new) }
     ensures reserved { OnOk result (IsReady given.new.sessions session.now.client) }
@@ -84,10 +84,12 @@ pub(crate) fn make_room(
     ensures numbers { given.new.numbers.items ≡ given.old.numbers.items }
     ensures past { history.new.items ≡ history.old.items }
     ensures known { table given.new.sessions ≡ table given.old.sessions }
-    ensures err { IfErr result (λ reason. reason ≡ Refusal.NoMemory) }
 {
     history.reserve(1)?;
-    given.sessions.reserve(alloc, session)
+    match given.sessions.reserve(alloc, session) {
+        Ok(()) => Ok(()),
+        Err(_) => Err(AllocError),
+    }
 }
 
 // A request for whose answer there is no memory goes back to the front of its inbox.

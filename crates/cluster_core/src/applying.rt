@@ -75,7 +75,10 @@ pub(crate) fn prepare<F: Frags>(
     ensures known { table given.new.sessions ≡ table given.old.sessions }
     ensures kept { KeepsAll (F.content frags.old) (F.content frags.new) (F.covers frags.old) (F.covers frags.new) (F.Follows frags.old frags.new asked.now.request.op (result_err result)) }
 {
-    make_room(alloc, given, history, &asked.session)?;
+    if make_room(alloc, given, history, &asked.session).is_err() {
+        drop(change);
+        return Err(Refusal::NoMemory);
+    }
     let plan = plan_change(
         frags,
         asked.limit,

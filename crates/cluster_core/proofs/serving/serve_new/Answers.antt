@@ -12,15 +12,18 @@ use Rattle.mdcache.specs.State.{State as TreeState}
 use Rattle.mdcache.proofs.FragsLaws.{refused_so}
 use Rattle.namespace_ops.specs.ChangedFragments.{changed_fragments}
 use Rattle.namespace_ops.specs.Changes.{Concerns}
+use Rattle.namespace_ops.specs.Checked.{Checks}
+use Rattle.namespace_ops.specs.declared.plans.Checked.{Checked}
 use Rattle.ranked_tree.specs.Held.{LacksPlacesAsked}
 use Rattle.ranked_tree.specs.Ranked.{IsReady as IsReadyIn, MayRefuse, held_roots}
+use Rattle.ranked_tree.specs.Subtrees.{HoldsAt}
 use Rattle.ranked_tree.proofs.AskLaws.{held_still}
 use Rattle.ranked_tree.proofs.ReadsForLaws.{keeps_ranked_on}
 use Rattle.cluster_core.specs.Master.{MayTouchAllIn, MustWaitIn}
 use Rattle.cluster_core.specs.Prepared.{IsPrepared, IsUnready, outcome_with}
 use Rattle.cluster_core.proofs.MadeReady.{checked_later, still_refused, waits_before}
-use Rattle.cluster_core.proofs.Served.{deferred, lacks_number, refused_there, served_new}
-use Rattle.cluster_core.proofs.UsesLaws.{applied_uses, planned_came, unready_of, unready_uses}
+use Rattle.cluster_core.proofs.Served.{deferred, lacks_number, refused_there, replied, served_new}
+use Rattle.cluster_core.proofs.UsesLaws.{applied_uses, planned_came, replied_uses, unready_of, unready_uses}
 use Rattle.cluster_core.proofs.serving.serve_new.Goals as goal
 
 pub must_wait-requires : goal.must_wait-requires
@@ -46,7 +49,11 @@ returns-then-must_wait-clause-served g c =
 
 pub prepare-requires-clause-checked : goal.prepare-requires-clause-checked
 prepare-requires-clause-checked g c =
-    checked_later c.args.tree.now c.check.new.frags c.args.asked.request.op c.args.asked.limit _ _ _ c.in-Ok.checked c.in-Ok.ensures.kept.follows refl (search rules) c.in-Ok.ensures.checked
+    let m = c.check.new.frags in
+    let q = c.args.asked.request in
+    let n = number_or (offer c.args.asked.supply) in
+    subst (λ (k : Checked). Checks (shown_tree (tree_state m.tree)) m.tree.covers (HoldsAt (tree_state m.tree) (held_roots m)) q.op n (step c.args.asked.limit (shown_tree (tree_state m.tree)) q.op n) k) c.in-Changes.is
+    (checked_later c.args.tree.now m q.op c.args.asked.limit _ _ n c.in-Ok.checked c.in-Ok.ensures.kept.follows refl (search rules) c.in-Ok.ensures.checked)
 
 pub prepare-requires-clause-touch : goal.prepare-requires-clause-touch
 prepare-requires-clause-touch g c leaf has =
@@ -99,7 +106,31 @@ returns-in-Err-NoInodes-clause-served g c =
     c.in-Err-NoInodes.ensures.prepared))
     c.end_request.ensures
 
+-- a request that changes nothing is answered, or put back
+pub returns-in-Answers-clause-served : goal.returns-in-Answers-clause-served
+returns-in-Answers-clause-served g c =
+    let f = tree_state c.args.tree.now.tree in
+    let r = c.args.tree.now.subtrees.roots in
+    let e = c.args.tree.now.exports in
+    let q = c.args.asked.request in
+    let rank = c.args.asked.rank in
+    let pins = c.args.waiting.now.pins in
+    let kept = c.in-Ok.ensures.kept.follows in
+    replied f r e c.args.given.now.numbers.items c.args.waiting.now.inboxes pins (table c.args.given.now.sessions) c.args.history.now.items rank (MayRefuse c.args.tree.now c.check.new.frags) q
+    (tree_state c.check.new.frags.tree) c.check.new.frags.subtrees.roots c.check.new.frags.exports (table c.args.given.now.sessions) c.args.history.now.items c.args.given.now.numbers.items
+    kept.tree.state kept.roots kept.exports refl refl refl c.requires.asked.is_new c.requires.asked.master
+    (HoldsAt f (held_roots c.args.tree.now)) c.args.asked.limit _ c.args.asked.supply c.in-Ok.checked c.in-Answers.reply c.requires.asked.limit (search rules) c.requires.asked.left c.in-Answers.is c.in-Ok.ensures.checked
+    c.answer.new.waiting.inboxes c.answer.new.waiting.pins (table c.answer.new.given.sessions) c.answer.new.history.items c.answer.new.given.numbers.items c.answer.result
+    (subst (λ (b : Bool). MatchBool b (MustWaitIn f r e pins rank q.client q.tid q.op) (MayTouchAllIn f r e pins rank q.client q.tid q.op)) c.if-must_wait.false
+    (waits_before c.args.tree.now c.check.new.frags pins rank q.client q.tid q.op _ kept c.must_wait.ensures))
+    c.answer.ensures.numbers c.answer.ensures.replies
+
 -- ---- what it makes of the caches
+
+pub returns-in-Answers-clause-uses : goal.returns-in-Answers-clause-uses
+returns-in-Answers-clause-uses g c =
+    replied_uses (tree_state c.args.tree.now.tree) (tree_state c.check.new.frags.tree) (held_roots c.args.tree.now) c.args.asked.request.op c.args.tree.now.tree.caches c.check.new.frags.tree.caches
+    _ _ _ _ _ _ _ _ _ _ _ c.answer.result c.answer.ensures.replies c.in-Ok.ensures.kept.follows.reads
 
 pub returns-in-Ok-prepare-clause-uses : goal.returns-in-Ok-prepare-clause-uses
 returns-in-Ok-prepare-clause-uses g c =
