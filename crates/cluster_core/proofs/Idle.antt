@@ -1,8 +1,7 @@
 -- An operation that changes nothing changes no leaf.
-use Rattle.std.proofs.Common.{◌≡◌, ℕ, Bool, true, false, cond, ◌||◌, List, [], ◌∷◌, sym, ap, refl, ◌∙◌}
+use Rattle.std.proofs.Common.{◌≡◌, ℕ, Bool, true, false, cond, ◌||◌, [], ◌∷◌, sym, ap, refl, ◌∙◌}
 use Rattle.mds_types.specs.declared.operations.Op.{Op}
 use Rattle.mds_types.specs.declared.replies.Reply.{Reply}
-use Rattle.mds_types.specs.Leaf.{Leaf}
 use Rattle.mds_types.specs.Outcomes.{is_errno}
 use Rattle.mds_types.specs.Shape.{Shape, Looks, Lists, Makes, Sets, Unlinks, Removes, Moves, shape}
 use Rattle.mds_types.specs.Step.{Outcome, answers, step}

@@ -42,7 +42,9 @@ pub(crate) fn answer(
     };
     let place = history.len();
     let Asked {
-        request, session, ..
+        request,
+        session,
+        ..
     } = asked;
     let Request {
         client,
