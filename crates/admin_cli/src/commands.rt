@@ -43,27 +43,10 @@ impl Admin {
     /// Does what a command asks for, and answers the line to print. So many lines were read that one more fits 64 bits.
     /// An error is want of memory that the script itself needs: for a job that it keeps, once the step has given it; for room to keep
     /// the bytes of an export, or for a copy of what it kept, before the step; or for a list of the subtree map. No step's answer is
-    /// lost by it but a job that it was to keep.
-    pub fn execute(
-        &mut self,
-        rt: &(impl AllocGlobal + Threads + Sync),
-        command: Command,
-    ) -> Result<OutputLine, AllocError>
-        requires { self.old.operations + 1 < 2 ^ 64 }
-        ensures line { IfOk result (Executes self.old self.new command) }
-        ensures err { OnErr result (LacksFor self.old self.new command) }
-        ensures count { self.new.operations ≤ self.old.operations + 1 }
-    {
-        match command {
-            Command::Operation(op) => Ok(self.operate(rt.alloc(), op)),
-            other => self.execute_any(rt, other),
-        }
-    }
-
-    // Does what any command asks for. It is a function of its own, so that an operation, as most lines are, has no room to clear that
-    // only other commands need.
+    /// lost by it but a job that it was to keep. It isn't put into its caller, so that an operation, as most lines are, has no room to clear
+    /// that only other commands need: `operate` does one by itself.
     #[inline(never)]
-    fn execute_any(
+    pub fn execute(
         &mut self,
         rt: &(impl AllocGlobal + Threads + Sync),
         command: Command,
@@ -96,11 +79,11 @@ impl Admin {
         }
     }
 
-    // An operation alone arrives at rank 0 as client 0, with the number of such lines so far as its transaction number and
-    // its oldest, and is served there. This and the next four are functions of their own, since `execute`, through which each line
-    // goes, would clear the room for all that any of them needs.
+    /// An operation alone arrives at rank 0 as client 0, with the number of such lines so far as its transaction number and
+    /// its oldest, and is served there. This and the next four are functions of their own: else each line would clear the room for all that
+    /// any of them needs.
     #[inline(never)]
-    fn operate(&mut self, alloc: Global, op: Op) -> OutputLine
+    pub fn operate(&mut self, alloc: Global, op: Op) -> OutputLine
         requires { self.old.operations + 1 < 2 ^ 64 }
         ensures count { self.new.operations ≡ self.old.operations + 1 }
         ensures jobs { self.new.jobs ≡ self.old.jobs }

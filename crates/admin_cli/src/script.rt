@@ -13,7 +13,7 @@ use cluster_core::{Book, format};
 use mds_types::Limit;
 use objstore::MemStore;
 use script_output::{OutputFault, OutputLine, write_line};
-use script_text::{Line, LineBuffer, LineFault, NextLine, next_line, read_line};
+use script_text::{Command, Line, LineBuffer, LineFault, NextLine, next_line, read_line};
 use std::alloc::{AllocError, Global};
 use std::io::{BufRead, BufReader, Read, Write};
 use std::thread::Threads;
@@ -198,13 +198,21 @@ fn do_line<W: Write>(
         Line::BadWord(errno) => {
             print(rt.alloc(), line, &OutputLine::Errno(errno), waiting, writer)
         }
-        Line::Command(command) => {
-            // printed where it stands: each hand that a line goes through copies it
-            let came = admin.execute(rt, command);
-            let printed = print_came(rt.alloc(), line, &came, waiting, writer);
-            drop(came);
-            printed
-        }
+        // what a command came to is printed where it stands: each hand that a line goes through copies it
+        Line::Command(command) => match command {
+            Command::Operation(op) => {
+                let came = admin.operate(rt.alloc(), op);
+                let printed = print(rt.alloc(), line, &came, waiting, writer);
+                drop(came);
+                printed
+            }
+            other => {
+                let came = admin.execute(rt, other);
+                let printed = print_came(rt.alloc(), line, &came, waiting, writer);
+                drop(came);
+                printed
+            }
+        },
     }
 }
 
