@@ -1,7 +1,8 @@
 -- Splits by 1 bit round each leaf spell the leaves.
-use Rattle.std.proofs.Common.{◌≡◌, ◌⊎◌, inl, inr, ℕ, zero, suc, ◌+◌, ◌^◌, ◌<◌, ◌≤◌, List, length, Option, Some, None, refl, sym, ap, subst, ◌∙◌, arith}
+use Rattle.std.proofs.Common.{◌≡◌, ◌⊎◌, inl, inr, ℕ, zero, suc, ◌+◌, ◌^◌, ◌<◌, ◌≤◌, List, [], ◌∷◌, length, Option, Some, None, Result, Ok, Err, refl, sym, ap, subst, ◌∙◌, arith}
 use Rattle.std.proofs.lemmas.Bool.{cases_lt}
 use Rattle.std.proofs.lemmas.List.{get_or_default}
+use Rattle.std.specs.Prelude.{OnErr}
 use Rattle.std.specs.FinMap as map
 use Rattle.std.specs.FinMap.{get-empty}
 use Rattle.mds_types.specs.Frag.{Fragment, IsFragment, frag_cmp, root_fragment, span}
@@ -10,10 +11,11 @@ use Rattle.fragtree.proofs.Places.{leaf_at}
 use Rattle.fragtree.specs.Descents.{Splits, Descends, there, on, Ends, IsLedTo, IsSplitRound, Spells, frag_at, splits_round}
 use Rattle.fragtree.proofs.DescentLaws.{joined}
 use Rattle.fragtree.proofs.Entries.{get_beside, get_put, one_or_other}
-use Rattle.fragtree.proofs.Ranges.{span_pos, ends_before, ends_low, ends_within}
+use Rattle.fragtree.proofs.Ranges.{span_pos, span_falls, ends_before, ends_low, ends_within}
 use Rattle.fragtree.proofs.Rounds.{frag_at-IsFragment, frag_at-alike, round_it}
 use Rattle.fragtree.proofs.Spelled.{one_leaf}
 use Rattle.fragtree.proofs.Tilings.{between}
+use Rattle.fragtree.proofs.TreeLaws.{only_leaf}
 
 -- all splits are by 1 bit, of fragments round one of the leaves
 abbrev pub AreRound : Splits → List Fragment → Type 0
@@ -96,3 +98,17 @@ one_more old s leaf bits w = record { led = led; kept = kept; fewer = fewer }
         | inr now ↦ inr (now.0, omega (arith, now.1), now.2)
       ]
     ]
+
+-- a tree of which a leaf fixes some bits has two leaves or more: one alone fixes none
+pub several : (xs : List Fragment) (leaf : Fragment) → IsTree xs → HasLeaf xs leaf → 0 < leaf.bits → 2 ≤ length xs
+several [] leaf tree (k, stands, is) some = absurd (omega (arith, stands))
+several (f ∷ []) leaf tree has some =
+    let same : leaf.bits ≡ f.bits = ap (λ (g : Fragment). g.bits) (only_leaf f leaf has) in
+    let whole : 0 + span f.bits ≡ 2 ^ 24 = tree.tiles.2 in
+    let half : span f.bits ≤ 2 ^ 23 = span_falls 1 f.bits (omega (arith, some, same)) in
+    absurd (omega (arith, whole, half))
+several (f ∷ g ∷ fs) leaf tree has some = omega arith
+
+pub on_err : {A E : Type 0} (result : Result A E) {P : Type 0} → P → OnErr result P
+on_err (Ok x) is = tt
+on_err (Err error) is = is

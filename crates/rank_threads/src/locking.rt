@@ -4,12 +4,12 @@ use std::sync::{Mutex, MutexGuard, Wait};
 use std::thread::yield_now;
 
 // How often a thread looks whether the lock is free before it sleeps.
-const LOOKS: u32 = 24;
+const LOOKS: u32 = 16;
 
 // How long it pauses between two looks: shortest at first, then twice as long each time.
 const SHORTEST: u32 = 16;
 
-const LONGEST: u32 = 4096;
+const LONGEST: u32 = 32_768;
 
 /// Takes a lock. It is held for a turn, less than a microsecond, and sleeping and waking take longer than several turns. So a thread looks again and
 /// again first, at distances that grow: whoever has the lock meanwhile takes it again for turns of its own, whose data its processor has at hand.

@@ -1,35 +1,81 @@
--- Memory for names and targets is wanted only where all words of a command have their form.
-use Rattle.std.proofs.Common.{◌≡◌, ℕ, List, Option, Result, Ok, Err, sym, subst}
+-- Memory for names and targets is wanted only where all words of a command have their form, and for a command that holds some.
+use Rattle.std.proofs.Common.{◌≡◌, ℕ, Bool, true, false, cond, List, Option, Some, None, Result, Ok, Err, sym, ap, subst}
 use Rattle.std.specs.Result.{IsErr, IsErrAnd}
 use Rattle.script_words.specs.declared.faults.Fault.{Fault}
+use Rattle.script_words.specs.declared.faults.Fault.TheVariants.{NotCommand, BadWord}
 use Rattle.script_words.specs.declared.faults.ReadError.{ReadError}
-use Rattle.script_words.specs.Reading.{Fails, Gives, ◌>>=◌}
-use Rattle.script_words.specs.Arguments.{after_name_of, after_text_of, name_of, target_of, text_of, two_texts_of}
-use Rattle.script_words.proofs.FormLemmas.{fails_on, form_of_after, form_of_name, form_of_target, form_on}
+use Rattle.script_words.specs.declared.faults.ReadError.TheVariants as errors
+use Rattle.script_words.specs.Reading.{Fails, Gives, HasForm, ◌>>=◌}
+use Rattle.script_words.specs.Arguments.{after_name_of, after_text_of, is_dash, name_of, target_of, text_of, two_texts_of}
+use Rattle.script_words.proofs.FormLemmas.{fails_on, form_of_name, form_of_target, form_on}
+use Rattle.script_text.specs.Texts.{FailsForText, GivesText, HasText}
 
 module _ {B : Type 0} (error : ReadError) where
   pub name_fails : (word : List ℕ) (made : List ℕ → B) → Fails error (text_of word) → Fails error (text_of word >>= λ bytes. (name_of bytes >>= λ name. Ok (made name)))
   name_fails word made fails = fails_on error (text_of word) (λ bytes. (name_of bytes >>= λ name. Ok (made name))) fails (λ bytes. form_on (name_of bytes) (λ name. Ok (made name)) (form_of_name bytes) (λ name. tt))
 
-  pub after_fails : (word : List ℕ) (made : Option (List ℕ) → B) → Fails error (after_text_of word) → Fails error (after_text_of word >>= λ bytes. (after_name_of bytes >>= λ name. Ok (made name)))
-  after_fails word made fails =
-      fails_on error (after_text_of word) (λ bytes. (after_name_of bytes >>= λ name. Ok (made name))) fails (λ bytes. form_on (after_name_of bytes) (λ name. Ok (made name)) (form_of_after bytes) (λ name. tt))
+-- what has a form, and what follows it holds text
+text_on : {A B : Type 0} (Holds : B → Type 0) (read : Result A Fault) (next : A → Result B Fault) → HasForm read → ((x : A) → HasText Holds (next x)) → HasText Holds (read >>= next)
+text_on Holds (Ok x) next form others = others x
+text_on Holds (Err NotCommand) next form others = absurd form
+text_on Holds (Err (BadWord errno)) next form others = tt
 
-  pub target_fails : (word other : List ℕ) (made : List ℕ → List ℕ → B) → Fails error (two_texts_of word other)
-      → Fails error (two_texts_of word other >>= λ both. (name_of both.0 >>= λ name. (target_of both.1 >>= λ target. Ok (made name target))))
-  target_fails word other made fails =
-      fails_on error (two_texts_of word other) (λ both. (name_of both.0 >>= λ name. (target_of both.1 >>= λ target. Ok (made name target)))) fails
-      (λ both. form_on (name_of both.0) (λ name. (target_of both.1 >>= λ target. Ok (made name target))) (form_of_name both.0)
-      (λ name. form_on (target_of both.1) (λ target. Ok (made name target)) (form_of_target both.1) (λ target. tt)))
+-- a fault of what was read is one of all, where what follows always holds text
+fails_text_on : {A B : Type 0} (Holds : B → Type 0) (error : ReadError) (read : Result A Fault) (next : A → Result B Fault) → Fails error read → ((x : A) → HasText Holds (next x)) → FailsForText Holds error (read >>= next)
+fails_text_on Holds errors.NoMemory read next form others = text_on Holds read next form others
+fails_text_on Holds (errors.Fault fault) read next is others = ap (λ r. r >>= next) is
 
-  pub names_fail : (word other : List ℕ) (made : List ℕ → List ℕ → B) → Fails error (two_texts_of word other)
-      → Fails error (two_texts_of word other >>= λ both. (name_of both.0 >>= λ name. (name_of both.1 >>= λ to. Ok (made name to))))
-  names_fail word other made fails =
-      fails_on error (two_texts_of word other) (λ both. (name_of both.0 >>= λ name. (name_of both.1 >>= λ to. Ok (made name to)))) fails
-      (λ both. form_on (name_of both.0) (λ name. (name_of both.1 >>= λ to. Ok (made name to))) (form_of_name both.0)
-      (λ name. form_on (name_of both.1) (λ to. Ok (made name to)) (form_of_name both.1) (λ to. tt)))
+module _ {B : Type 0} (Holds : B → Type 0) (error : ReadError) where
+  pub name_text_fails : (word : List ℕ) (made : List ℕ → B) → ((name : List ℕ) → Holds (made name)) → Fails error (text_of word)
+      → FailsForText Holds error (text_of word >>= λ bytes. (name_of bytes >>= λ name. Ok (made name)))
+  name_text_fails word made holds fails =
+      fails_text_on Holds error (text_of word) (λ bytes. (name_of bytes >>= λ name. Ok (made name))) fails (λ bytes. text_on Holds (name_of bytes) (λ name. Ok (made name)) (form_of_name bytes) holds)
+
+  pub target_fails : (word other : List ℕ) (made : List ℕ → List ℕ → B) → ((name target : List ℕ) → Holds (made name target)) → Fails error (two_texts_of word other)
+      → FailsForText Holds error (two_texts_of word other >>= λ both. (name_of both.0 >>= λ name. (target_of both.1 >>= λ target. Ok (made name target))))
+  target_fails word other made holds fails =
+      fails_text_on Holds error (two_texts_of word other) (λ both. (name_of both.0 >>= λ name. (target_of both.1 >>= λ target. Ok (made name target)))) fails
+      (λ both. text_on Holds (name_of both.0) (λ name. (target_of both.1 >>= λ target. Ok (made name target))) (form_of_name both.0)
+      (λ name. text_on Holds (target_of both.1) (λ target. Ok (made name target)) (form_of_target both.1) (holds name)))
+
+  pub names_fail : (word other : List ℕ) (made : List ℕ → List ℕ → B) → ((name to : List ℕ) → Holds (made name to)) → Fails error (two_texts_of word other)
+      → FailsForText Holds error (two_texts_of word other >>= λ both. (name_of both.0 >>= λ name. (name_of both.1 >>= λ to. Ok (made name to))))
+  names_fail word other made holds fails =
+      fails_text_on Holds error (two_texts_of word other) (λ both. (name_of both.0 >>= λ name. (name_of both.1 >>= λ to. Ok (made name to)))) fails
+      (λ both. text_on Holds (name_of both.0) (λ name. (name_of both.1 >>= λ to. Ok (made name to))) (form_of_name both.0)
+      (λ name. text_on Holds (name_of both.1) (λ to. Ok (made name to)) (form_of_name both.1) (holds name)))
+
+-- AFTER is a name, as it isn't `-`
+module _ {B : Type 0} (Holds : B → Type 0) (made : Option (List ℕ) → B) (holds : (name : List ℕ) → Holds (made (Some name))) where
+  abbrev made_after : Option (List ℕ) → Result B Fault
+  made_after bytes = after_name_of bytes >>= λ name. Ok (made name)
+
+  named : (read : Result (List ℕ) Fault) → HasForm read → HasText Holds ((read >>= λ name. Ok (Some name)) >>= λ name. Ok (made name))
+  named (Ok name) form = holds name
+  named (Err NotCommand) form = absurd form
+  named (Err (BadWord errno)) form = tt
+
+  abbrev after_read : Bool → Result (List ℕ) Fault → Result (Option (List ℕ)) Fault
+  after_read dash text = cond dash (Ok None) (text >>= λ bytes. Ok (Some bytes))
+
+  after_at : (error : ReadError) (dash : Bool) (text : Result (List ℕ) Fault) → dash ≡ false → Fails error (after_read dash text) → FailsForText Holds error (after_read dash text >>= made_after)
+  unfolding after_name_of
+  after_at error true text other fails = absurd cc
+  after_at errors.NoMemory false (Ok bytes) other form = named (name_of bytes) (form_of_name bytes)
+  after_at errors.NoMemory false (Err NotCommand) other form = absurd form
+  after_at errors.NoMemory false (Err (BadWord errno)) other form = tt
+  after_at (errors.Fault fault) false text other is = ap (λ r. r >>= made_after) is
+
+  pub after_fails : (error : ReadError) (word : List ℕ) → is_dash word ≡ false → Fails error (after_text_of word) → FailsForText Holds error (after_text_of word >>= λ bytes. (after_name_of bytes >>= λ name. Ok (made name)))
+  unfolding after_text_of
+  after_fails error word other fails = after_at error (is_dash word) (text_of word) other fails
 
 -- what `?` hands on
 pub gives_fault : {A B : Type 0} (view : A → B) (result : Result A ReadError) (error : ReadError) (read : Result B Fault) → IsErr result → IsErrAnd result (λ e. e ≡ error) → Fails error read → Gives view result read
 gives_fault view (Ok x) error read is and fails = cc
 gives_fault view (Err e) error read is and fails = subst (λ x. Fails x read) (sym and) fails
+
+pub gives_text_fault : {A : Type 0} (Holds : A → Type 0) (result : Result A ReadError) (error : ReadError) (read : Result A Fault) → IsErr result → IsErrAnd result (λ e. e ≡ error) → FailsForText Holds error read
+    → GivesText Holds result read
+gives_text_fault Holds (Ok x) error read is and fails = cc
+gives_text_fault Holds (Err e) error read is and fails = subst (λ x. FailsForText Holds x read) (sym and) fails

@@ -7,3 +7,4 @@ pub mod Script
 pub mod Input
 pub mod Looks
 pub mod StoreCommands
+pub mod Texts

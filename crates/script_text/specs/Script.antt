@@ -15,6 +15,7 @@ use Rattle.script_text.specs.Authorities.{grant_of, get_of, authority_of}
 use Rattle.script_text.specs.Dirfrags.{dirfrag_of}
 use Rattle.script_text.specs.Exports.{export_of}
 use Rattle.script_text.specs.StoreCommands.{is_store_verb, store_command_of}
+use Rattle.script_text.specs.Texts.{HoldsText}
 
 -- `serve RANK`
 unfoldable pub serve_of : List (List ℕ) → Result Command Fault
@@ -80,13 +81,13 @@ line_of_words (verb ∷ args) = line_from (command_of verb args)
 unfoldable pub line_of : List ℕ → Line
 line_of bytes = if is_comment bytes then line.Nothing else (if list_all is_printable bytes then line_of_words (words_of bytes) else line.NotCommand)
 
--- a line of a command, or of one with a name or a target outside its rules
-abbrev pub HasLineForm : Line → Type 0
-HasLineForm line.Nothing = ⊥
-HasLineForm (line.Command command) = Unit {0}
-HasLineForm (line.BadWord errno) = Unit {0}
-HasLineForm line.NotCommand = ⊥
+-- a line of a command that holds text, or of one with a name or a target outside its rules
+abbrev pub HasLineText : Line → Type 0
+HasLineText line.Nothing = ⊥
+HasLineText (line.Command command) = HoldsText command
+HasLineText (line.BadWord errno) = Unit {0}
+HasLineText line.NotCommand = ⊥
 
--- a line that memory may be wanted for: one that has a command's form, be a name or a target in it outside its rules or not
+-- a line that memory may be wanted for: one that has a command's form, with a name, a target or an object's name in it
 abbrev pub TakesMemory : List ℕ → Type 0
-TakesMemory bytes = HasLineForm (line_of bytes)
+TakesMemory bytes = HasLineText (line_of bytes)

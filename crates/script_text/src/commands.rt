@@ -1,7 +1,8 @@
 //! Commands, by their first word.
 ghost use Rattle.script_words.specs.Words.{words_of};
-ghost use Rattle.script_words.specs.Reading.{Gives, Reads};
+ghost use Rattle.script_words.specs.Reading.{Reads};
 ghost use Rattle.script_text.specs.Script.{command_of, history_of, own_of, req_of, serve_of};
+ghost use Rattle.script_text.specs.Texts.{GivesText, HoldsText};
 
 use crate::authorities::{authority, get, grant};
 use crate::dirfrags::dirfrag;
@@ -62,7 +63,7 @@ pub enum Command {
 /// The command of this first word, with the arguments in these words.
 #[tactic(auto, unfolding(crate::specs::Script::command_of))]
 pub fn read_command(alloc: Global, verb: &[u8], args: &[u8]) -> Result<Command, ReadError>
-    ensures { Gives (λ command. command) result (command_of verb.now (words_of args.now)) }
+    ensures { GivesText HoldsText result (command_of verb.now (words_of args.now)) }
 {
     if verb == b"serve".as_slice() {
         return serve(args);
@@ -118,7 +119,7 @@ fn own(args: &[u8]) -> Result<Command, ReadError>
 // `req RANK CLIENT TID OLDEST OP`
 #[tactic(auto, unfolding(crate::specs::Script::req_of))]
 fn req(alloc: Global, args: &[u8]) -> Result<Command, ReadError>
-    ensures { Gives (λ command. command) result (req_of (words_of args.now)) }
+    ensures { GivesText HoldsText result (req_of (words_of args.now)) }
 {
     let (at, rest) = first(args)?;
     let (from, rest) = first(rest)?;

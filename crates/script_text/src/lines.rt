@@ -19,7 +19,7 @@ pub enum Line {
 }
 
 /// What the line asks for. Its bytes are those without the LF. Takes memory for names, targets and names of
-/// objects: an error comes only of a line that has a command's form.
+/// objects: an error comes only of a line that has a command's form and holds one of them.
 #[tactic(auto, unfolding(crate::specs::Script::line_of))]
 pub fn read_line(alloc: Global, bytes: &[u8]) -> Result<Line, AllocError>
     ensures line { IfOk result (λ line. line ≡ line_of bytes.now) }

@@ -2,6 +2,7 @@
 ghost use Rattle.script_words.specs.Words.{words_of};
 ghost use Rattle.script_words.specs.Reading.{Gives};
 ghost use Rattle.script_text.specs.Operations.{dentry_of, made_of, readdir_of, symlink_of, setattr_of, setpin_of, rename_of, operation_of};
+ghost use Rattle.script_text.specs.Texts.{GivesText, HoldsName};
 
 use crate::attributes::{given_attributes, given_birth};
 use mds_types::{Birth, Dentry, Mode, Op};
@@ -14,7 +15,7 @@ use std::alloc::Global;
 /// The operation of this first word, with the arguments in these words.
 #[tactic(auto, unfolding(crate::specs::Operations::operation_of))]
 pub fn read_operation(alloc: Global, verb: &[u8], args: &[u8]) -> Result<Op, ReadError>
-    ensures { Gives (λ op. op) result (operation_of verb.now (words_of args.now)) }
+    ensures { GivesText HoldsName result (operation_of verb.now (words_of args.now)) }
 {
     if verb == b"lookup".as_slice() {
         return Ok(Op::Lookup(dentry(alloc, args)?));
@@ -93,7 +94,7 @@ fn made(alloc: Global, args: &[u8]) -> Result<(Dentry, Mode, Birth), ReadError>
 // `readdir INO AFTER MAX`
 #[tactic(auto, unfolding(crate::specs::Operations::readdir_of))]
 fn readdir(alloc: Global, args: &[u8]) -> Result<Op, ReadError>
-    ensures { Gives (λ op. op) result (readdir_of (words_of args.now)) }
+    ensures { GivesText HoldsName result (readdir_of (words_of args.now)) }
 {
     let (dir, after, max) = three(args)?;
     let dir = ino(dir)?;
@@ -106,7 +107,7 @@ fn readdir(alloc: Global, args: &[u8]) -> Result<Op, ReadError>
 // `symlink INO NAME TARGET [uid N] [gid N]`
 #[tactic(auto, unfolding(crate::specs::Operations::symlink_of))]
 fn symlink(alloc: Global, args: &[u8]) -> Result<Op, ReadError>
-    ensures { Gives (λ op. op) result (symlink_of (words_of args.now)) }
+    ensures { GivesText HoldsName result (symlink_of (words_of args.now)) }
 {
     let (dir, rest) = first(args)?;
     let (word, rest) = first(rest)?;
@@ -126,7 +127,7 @@ fn symlink(alloc: Global, args: &[u8]) -> Result<Op, ReadError>
 // `setattr INO NAME [mode MODE] [size N] [mtime N] [uid N] [gid N]`
 #[tactic(auto, unfolding(crate::specs::Operations::setattr_of))]
 fn setattr(alloc: Global, args: &[u8]) -> Result<Op, ReadError>
-    ensures { Gives (λ op. op) result (setattr_of (words_of args.now)) }
+    ensures { GivesText HoldsName result (setattr_of (words_of args.now)) }
 {
     let (dir, rest) = first(args)?;
     let (word, rest) = first(rest)?;
@@ -143,7 +144,7 @@ fn setattr(alloc: Global, args: &[u8]) -> Result<Op, ReadError>
 // `setpin INO NAME RANK`, or `-1` in place of RANK
 #[tactic(auto, unfolding(crate::specs::Operations::setpin_of))]
 fn setpin(alloc: Global, args: &[u8]) -> Result<Op, ReadError>
-    ensures { Gives (λ op. op) result (setpin_of (words_of args.now)) }
+    ensures { GivesText HoldsName result (setpin_of (words_of args.now)) }
 {
     let (dir, word, pinned) = three(args)?;
     let dir = ino(dir)?;
@@ -159,7 +160,7 @@ fn setpin(alloc: Global, args: &[u8]) -> Result<Op, ReadError>
 // `rename INO NAME INO NAME`
 #[tactic(auto, unfolding(crate::specs::Operations::rename_of))]
 fn rename(alloc: Global, args: &[u8]) -> Result<Op, ReadError>
-    ensures { Gives (λ op. op) result (rename_of (words_of args.now)) }
+    ensures { GivesText HoldsName result (rename_of (words_of args.now)) }
 {
     let (dir, word, to_dir, to_word) = four(args)?;
     let dir = ino(dir)?;

@@ -3,6 +3,7 @@ ghost use Rattle.std.specs.Prelude.{◌≡◌};
 ghost use Rattle.script_words.specs.Words.{words_of};
 ghost use Rattle.script_words.specs.Reading.{Gives, Reads};
 ghost use Rattle.script_text.specs.StoreCommands.{begin_of, commit_of, drop_of, end_of, evict_of, flush_of, is_store_verb, leaf_of, object_of, objects_of, purge_of, store_command_of, text_name_of, tree_of};
+ghost use Rattle.script_text.specs.Texts.{GivesText, HoldsObject};
 
 use mds_types::{Frag, Ino, Rank, Text};
 use script_words::{NOT_COMMAND, ReadError, decimal, frag, ino, none, one, rank, three};
@@ -56,7 +57,7 @@ pub fn read_store_command(
     verb: &[u8],
     args: &[u8],
 ) -> Result<StoreCommand, ReadError>
-    ensures { Gives (λ command. command) result (store_command_of verb.now (words_of args.now)) }
+    ensures { GivesText HoldsObject result (store_command_of verb.now (words_of args.now)) }
 {
     if verb == b"begin".as_slice() {
         return begin(args);
@@ -178,7 +179,7 @@ fn evict(args: &[u8]) -> Result<StoreCommand, ReadError>
 // `object NAME`
 #[tactic(auto, unfolding(crate::specs::StoreCommands::object_of))]
 fn object(alloc: Global, args: &[u8]) -> Result<StoreCommand, ReadError>
-    ensures { Gives (λ command. command) result (object_of (words_of args.now)) }
+    ensures { GivesText HoldsObject result (object_of (words_of args.now)) }
 {
     let word = one(args)?;
     Ok(StoreCommand::Object(text_name(alloc, word)?))

@@ -1,5 +1,5 @@
 -- Which words have a command's form.
-use Rattle.std.proofs.Common.{◌≡◌, ℕ, ◌<◌, Bool, true, false, cond, nat_lt, ◌==◌, List, length, Option, Some, None, is_some, Result, Ok, Err, refl, ap, subst}
+use Rattle.std.proofs.Common.{◌≡◌, ℕ, Bool, true, false, cond, nat_lt, ◌==◌, List, length, Option, Some, None, is_some, Result, Ok, Err, refl, ap}
 use Rattle.std.specs.List.{list_all}
 use Rattle.mds_types.specs.Name.{fits_target}
 use Rattle.script_words.specs.declared.faults.Fault.{Fault}
@@ -8,7 +8,7 @@ use Rattle.script_words.specs.Escapes.{bytes_of}
 use Rattle.script_words.specs.declared.faults.ReadError.{ReadError}
 use Rattle.script_words.specs.declared.faults.ReadError.TheVariants as errors
 use Rattle.script_words.specs.Reading.{Fails, HasForm, wanted, ◌>>=◌}
-use Rattle.script_words.specs.Arguments.{after_name_of, is_plain_name, name_of, target_of, text_of, two_texts_of}
+use Rattle.script_words.specs.Arguments.{is_plain_name, name_of, target_of, text_of, two_texts_of}
 
 -- what has a form, and what follows it has one
 pub form_on : {A B : Type 0} (read : Result A Fault) (next : A → Result B Fault) → HasForm read → ((x : A) → HasForm (next x)) → HasForm (read >>= next)
@@ -34,11 +34,6 @@ form_of_name bytes = at (nat_lt 255 (length bytes)) (is_plain_name bytes)
     at true plain = tt
     at false true = tt
     at false false = tt
-
-pub form_of_after : (bytes : Option (List ℕ)) → HasForm (after_name_of bytes)
-unfolding after_name_of
-form_of_after None = tt
-form_of_after (Some bytes) = form_on (name_of bytes) (λ name. Ok (Some name)) (form_of_name bytes) (λ name. tt)
 
 pub form_of_target : (bytes : List ℕ) → HasForm (target_of bytes)
 unfolding target_of

@@ -1,5 +1,5 @@
 //! The words after a command's first.
-ghost use Rattle.std.specs.Prelude.{◌≡◌, option_map};
+ghost use Rattle.std.specs.Prelude.{◌≡◌, OnErr, false, option_map};
 ghost use Rattle.script_words.specs.Reading.{Gives, Reads};
 ghost use Rattle.script_words.specs.Arguments.{ino_of, rank_of, pin_of, client_of, decimal_of, id_of, mode_of, page_size_of, text_of, two_texts_of, after_text_of, name_of, after_name_of, target_of, is_dash};
 
@@ -139,7 +139,8 @@ pub fn two_texts(alloc: Global, word: &[u8], other: &[u8]) -> Result<(Vec<u8>, V
 /// AFTER: none for `-` alone, else the bytes that the word stands for.
 #[tactic(auto, unfolding(crate::specs::Arguments::after_text_of))]
 pub fn after_text(alloc: Global, word: &[u8]) -> Result<Option<Vec<u8>>, ReadError>
-    ensures { Gives (option_map (λ bytes. bytes.items)) result (after_text_of word.now) }
+    ensures bytes { Gives (option_map (λ bytes. bytes.items)) result (after_text_of word.now) }
+    ensures dash { OnErr result (is_dash word.now ≡ false) }
 {
     if is_dash(word) {
         return Ok(None);

@@ -1,6 +1,6 @@
 -- The bounds of a region, listed one after the other.
-use Rattle.std.specs.Prelude.{◌≡◌, ◌⊎◌, ◌↔◌, zero, suc, true, false, cond, List, [], ◌∷◌, ◌++◌, Some, IsSome, is_some}
-use Rattle.std.proofs.Common.{inl, inr, sym, ap, subst, ◌∙◌, arith}
+use Rattle.std.specs.Prelude.{◌≡◌, ◌⊎◌, ◌↔◌, ◌==◌, zero, suc, true, false, cond, List, [], ◌∷◌, ◌++◌, length, Some, IsSome, is_some}
+use Rattle.std.proofs.Common.{inl, inr, refl, sym, ap, subst, ◌∙◌, arith}
 use Rattle.std.proofs.lemmas.List.Elements.{Contains-append_cases, Contains-append_left, Contains-append_right}
 use Rattle.std.specs.List as list
 use Rattle.std.specs.FinMap as map
@@ -51,6 +51,10 @@ module _ (roots : Roots) (homes : Homes) (covers : Covers) (root : Leaf) where
       | inr apart ↦ ap is_some (behind bound apart) ∙ some
     ]
 
+    -- the first row is a bound, if it is next below
+    pub bound_here : IsNextBelow roots homes covers root row.0 → IsBound roots homes covers root row.0
+    bound_here below = (so_far row.0).0 (inl (here row.0 refl, below))
+
     pub listed_push : (now : List Leaf) → now ≡ listed ++ row.0 ∷ [] → IsNextBelow roots homes covers root row.0 → AreListed more now
     listed_push now is below bound = (is_bound, to_come)
       where
@@ -95,3 +99,8 @@ module _ (roots : Roots) (homes : Homes) (covers : Covers) (root : Leaf) where
       at_end : (IsSome (find leaf_cmp bound rest) × IsNextBelow roots homes covers root bound) ⊎ list.Contains listed bound → list.Contains listed bound
       at_end (inl (some, below)) = let clash : false ≡ true = ap (λ r. is_some (find leaf_cmp bound r)) (sym none) ∙ some in absurd cc
       at_end (inr has) = has
+
+  -- a list that isn't empty has a bound
+  pub some_bound : (listed : List Leaf) → (length listed == 0) ≡ false → ((bound : Leaf) → list.Contains listed bound ↔ IsBound roots homes covers root bound) → (bound : Leaf) × IsBound roots homes covers root bound
+  some_bound [] some are = cc
+  some_bound (leaf ∷ rest) some are = (leaf, (are leaf).0 (zero, omega arith, refl))

@@ -1,5 +1,5 @@
 //! The bounds of a region.
-ghost use Rattle.std.specs.Prelude.{◌≡◌, ◌↔◌, IfOk, IsTrue, Some, option_map};
+ghost use Rattle.std.specs.Prelude.{◌≡◌, ◌↔◌, IfOk, IsTrue, OnErr, Some, option_map};
 ghost use Rattle.std.specs.List as list;
 ghost use Rattle.std.specs.List.Sorted.{IsStrictlySortedBy};
 ghost use Rattle.std.specs.FinMap as map;
@@ -15,7 +15,7 @@ use std::alloc::{AllocError, Global};
 
 impl Subtrees {
     /// The bounds of a root's region: the roots next below, by directory and then as fragments, each once. Takes memory
-    /// for them, and asks each root once.
+    /// for them, so there is an error only where there is one, and asks each root once.
     pub fn bounds(
         &self,
         alloc: Global,
@@ -25,6 +25,7 @@ impl Subtrees {
     ) -> Result<Vec<(Ino, Frag)>, AllocError>
         ensures bounds { IfOk result (λ bounds. (bound : Leaf) → list.Contains bounds.items bound ↔ IsBound self.now.roots dirs.now.homes dirs.now.trees (dir, frag) bound) }
         ensures order { IfOk result (λ bounds. IsStrictlySortedBy leaf_cmp bounds.items) }
+        ensures memory { OnErr result ((bound : Leaf) × IsBound self.now.roots dirs.now.homes dirs.now.trees (dir, frag) bound) }
     {
         let mut bounds = Vec::new(alloc);
         for row in self.iter() {

@@ -1,6 +1,8 @@
 //! What ranks last heard of each other's roots. No answer depends on it.
-ghost use Rattle.std.specs.Prelude.{◌≡◌, IfErr};
+ghost use Rattle.std.specs.Prelude.{◌≡◌, IfErr, OnErr};
+ghost use Rattle.mds_types.specs.Leaf.{Leaf};
 ghost use Rattle.mds_types.specs.declared.refusals.Refusal.TheVariants.{NoMemory};
+ghost use Rattle.subtree_map.specs.Authority.{IsBound};
 
 use crate::subtrees::Subtrees;
 use inode_table::Dirs;
@@ -16,7 +18,7 @@ impl Subtrees {
     }
 
     /// A rank hears the bounds of a root's region: it has a hint on each that is another's. Takes memory for the bounds and the
-    /// hints. Refused for want of memory alone.
+    /// hints. Refused for want of memory alone, and only where there is a bound.
     pub fn tell_bounds(
         &mut self,
         alloc: Global,
@@ -27,10 +29,14 @@ impl Subtrees {
     ) -> Result<(), Refusal>
         ensures same { self.new ≡ self.old }
         ensures err { IfErr result (λ reason. reason ≡ NoMemory) }
+        ensures memory { OnErr result ((bound : Leaf) × IsBound self.old.roots dirs.now.homes dirs.now.trees (dir, frag) bound) }
     {
         let Ok(bounds) = self.bounds(alloc, dirs, dir, frag) else {
             return Err(Refusal::NoMemory);
         };
+        if bounds.is_empty() {
+            return Ok(());
+        }
         self.lists.learn(rank, &bounds)
     }
 

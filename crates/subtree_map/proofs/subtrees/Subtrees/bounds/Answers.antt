@@ -1,5 +1,6 @@
 use Rattle.std.proofs.Common.{◌≡◌, true, false, sym, ◌∙◌}
-use Rattle.subtree_map.proofs.Listed.{listed_all, listed_first, listed_push, listed_skip}
+use Rattle.subtree_map.proofs.Listed.{bound_here, listed_all, listed_first, listed_push, listed_skip}
+use Rattle.subtree_map.proofs.ListsLaws.{on_err}
 use Rattle.subtree_map.proofs.Rising.{rise_all, rise_first, rise_push, rise_skip}
 use Rattle.subtree_map.proofs.subtrees.Subtrees.bounds.Goals as goal
 
@@ -29,4 +30,13 @@ pub returns : goal.returns
 returns c = record {
   bounds = listed_all c.args.self.now.roots c.args.dirs.now.homes c.args.dirs.now.trees (c.args.dir, c.args.frag) c.loop-row.row-iterator c.loop-row.bounds.items c.in-None.ensures.steps.0 c.loop-row.invariant.listed;
   order = rise_all c.loop-row.row-iterator c.loop-row.bounds.items c.in-None.ensures.steps.0 c.loop-row.invariant.rise;
+  memory = tt;
 }
+
+pub returns-in_err-push-clause-memory : goal.returns-in_err-push-clause-memory
+returns-in_err-push-clause-memory c =
+    on_err c.from_residual.result (
+      c.in-Some.row.0,
+      bound_here c.args.self.now.roots c.args.dirs.now.homes c.args.dirs.now.trees (c.args.dir, c.args.frag) c.loop-row.row-iterator c.next.new.self c.in-Some.row c.loop-row.bounds.items c.in-Some.ensures.steps c.loop-row.invariant.listed
+          (c.is_next_below.ensures.0 c.if-is_next_below.true),
+    )
