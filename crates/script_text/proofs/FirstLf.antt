@@ -1,8 +1,7 @@
 -- Where the first LF stands.
-use Rattle.std.proofs.Common.{◌≡◌, ℕ, zero, suc, ◌+◌, ◌<◌, ◌==◌, Bool, true, false, not, cond, List, [], ◌∷◌, length, Option, Some, None, refl, sym, ap, arith}
+use Rattle.std.proofs.Common.{◌≡◌, ℕ, zero, suc, ◌+◌, ◌<◌, ◌==◌, Bool, true, false, not, cond, List, [], ◌∷◌, length, refl, sym, ap, arith}
 use Rattle.std.specs.Prelude.{slice_index}
 use Rattle.std.specs.List.{prefix_len}
-use Rattle.memchr.specs.Find.{IsFirstByte, is_byte}
 use Rattle.script_text.specs.Looks.{is_not_lf}
 
 not_lf : (b : Bool) → (b ≡ true → ⊥) → b ≡ false

@@ -1,5 +1,5 @@
 //! Memory for one line.
-ghost use Rattle.std.specs.Prelude.{◌≡◌, ◌+◌, ◌≤◌, length, [], ◌++◌, true, false, IfOk};
+ghost use Rattle.std.specs.Prelude.{◌≡◌, ◌+◌, ◌≤◌, length, take, drop, [], ◌++◌, true, false, IfOk};
 
 use std::alloc::{AllocError, Global};
 use std::io;
@@ -12,12 +12,14 @@ pub const MAX_LINE_LEN: usize = 16_384;
 /// grows.
 #[derive(Drop)]
 pub struct LineBuffer {
-    bytes: Vec<u8>,
+    // as many bytes as the longest line has; the line is the first `len` of them
+    room: Vec<u8>,
+    len: usize,
     has_failed: bool,
 }
 
 impl Model for LineBuffer {
-    ghost use Rattle.std.specs.Prelude.{◌≤◌, length, vec_capacity};
+    ghost use Rattle.std.specs.Prelude.{◌≡◌, ◌≤◌, length, take};
     ghost use Rattle.std.specs.Coded.{codes};
     ghost use Rattle.script_text.specs.Input.{Buffered};
 
@@ -25,9 +27,9 @@ impl Model for LineBuffer {
 
     ghost coded = { Prim.hlevel codes };
 
-    ghost view = { λ line. record { line = line.bytes.items; failed = line.has_failed } };
+    ghost view = { λ line. record { line = take line.len line.room.items; failed = line.has_failed } };
 
-    ghost invariant = { λ line. (length line.bytes.items ≤ 16384) × (16384 ≤ vec_capacity line.bytes) };
+    ghost invariant = { λ line. (line.len ≤ 16384) × (length line.room.items ≡ 16384) };
 }
 
 impl LineBuffer {
@@ -35,8 +37,11 @@ impl LineBuffer {
     pub fn new(alloc: Global) -> Result<LineBuffer, AllocError>
         ensures { IfOk result (λ buffer. buffer ≡ record { line = []; failed = false }) }
     {
+        let mut room = Vec::new(alloc);
+        room.resize(MAX_LINE_LEN, 0)?;
         Ok(LineBuffer {
-            bytes: Vec::with_capacity(alloc, MAX_LINE_LEN)?,
+            room,
+            len: 0,
             has_failed: false,
         })
     }
@@ -46,14 +51,14 @@ impl LineBuffer {
         ensures bytes { result.now ≡ self.now.line }
         ensures short { length self.now.line ≤ 16384 }
     {
-        self.bytes.as_slice()
+        &self.room[..self.len]
     }
 
     /// Makes the line empty.
     pub(crate) fn clear(&mut self)
         ensures { self.new ≡ record self.old { line = [] } }
     {
-        self.bytes.clear();
+        self.len = 0;
     }
 
     /// Notes that the reader has failed, with this error of its own.
@@ -68,7 +73,17 @@ impl LineBuffer {
         requires { length self.old.line + length bytes.now ≤ 16384 }
         ensures { self.new ≡ record self.old { line = self.old.line ++ bytes.now } }
     {
-        // (there is room: it can't be refused)
-        let _ = self.bytes.extend_from_slice(bytes);
+        put_in(self.room.as_mut_slice(), self.len, bytes);
+        self.len += bytes.len();
     }
+}
+
+// Puts bytes at a place of the room, in place of as many.
+fn put_in(room: &mut [u8], at: usize, bytes: &[u8])
+    requires { at + length bytes.now ≤ length room.old }
+    ensures { room.new ≡ take at room.old ++ bytes.now ++ drop (at + length bytes.now) room.old }
+{
+    let (_, behind) = room.split_at_mut(at);
+    let (place, _) = behind.split_at_mut(bytes.len());
+    place.copy_from_slice(bytes);
 }
