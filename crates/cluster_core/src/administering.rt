@@ -18,7 +18,7 @@ use crate::events::Answer;
 use crate::pinned::is_any_pinned;
 use cached_frag::{Encoded, Job};
 use inboxes::Pins;
-use mds_types::{Frag, Ino, Rank, Refusal};
+use mds_types::{Dirfrag, Frag, Ino, Rank, Refusal};
 use objstore::Store;
 use ranked_tree::RankedTree;
 use std::alloc::Global;
@@ -34,7 +34,6 @@ impl<S: Store + Drop> Cluster<S> {
         frag: Frag,
         bits: u8,
     ) -> Result<Answer, Refusal>
-        requires { AreRoots self.old.state.tree self.old.state.roots }
         ensures split { (past : List Applied) → AtRank self.old self.new past past rank result (Splits self.old self.new past past rank ino frag bits result) }
         ensures kept { KeepsRoots self.old.state.tree self.new.state.tree self.old.state.roots self.new.state.roots self.old.state.exports self.new.state.exports }
         ensures count { length self.new.caches.used ≡ length self.old.caches.used }
@@ -44,15 +43,12 @@ impl<S: Store + Drop> Cluster<S> {
         if !self.is_rank(rank) {
             return Err(Refusal::NotAuthority);
         }
-        split_at(
-            alloc,
-            &mut self.tree,
-            &self.waiting.pins,
-            rank,
-            ino,
+        let asked = Dirfrag {
+            dir: ino,
             frag,
-            bits,
-        )
+            rank,
+        };
+        split_at(alloc, &mut self.tree, &self.waiting.pins, &asked, bits)
     }
 
     // Leaves of a directory are merged.
@@ -168,31 +164,36 @@ fn split_at<S: Store + Drop>(
     alloc: Global,
     tree: &mut RankedTree<S>,
     pins: &Pins,
-    rank: Rank,
-    ino: Ino,
-    frag: Frag,
+    asked: &Dirfrag,
     bits: u8,
 ) -> Result<Answer, Refusal>
-    requires { AreRoots (tree_state tree.old.tree) tree.old.subtrees.roots }
-    ensures split { (numbers : List Supply) (inboxes : Waiting) (sessions : Table) (past : List Applied) → Splits (core_of tree.old.tree tree.old.subtrees.roots tree.old.exports numbers inboxes pins.now sessions) (core_of tree.new.tree tree.new.subtrees.roots tree.new.exports numbers inboxes pins.now sessions) past past rank ino frag bits result }
+    ensures split { (numbers : List Supply) (inboxes : Waiting) (sessions : Table) (past : List Applied) → Splits (core_of tree.old.tree tree.old.subtrees.roots tree.old.exports numbers inboxes pins.now sessions) (core_of tree.new.tree tree.new.subtrees.roots tree.new.exports numbers inboxes pins.now sessions) past past asked.now.rank asked.now.dir asked.now.frag bits result }
     ensures kept { KeepsRoots (tree_state tree.old.tree) (tree_state tree.new.tree) tree.old.subtrees.roots tree.new.subtrees.roots tree.old.exports tree.new.exports }
     ensures count { length tree.new.tree.caches.used ≡ length tree.old.tree.caches.used }
     ensures cap { tree.new.tree.caches.cap ≡ tree.old.tree.caches.cap }
     ensures counted { tree.new.tree.faults ≡ tree.old.tree.faults + faults_told (result_err result) }
 {
-    if let Err(refusal) = tree.check_split(ino, frag, bits) {
+    if let Err(refusal) = tree.check_split(asked.dir, asked.frag, bits) {
         return Err(refusal);
     }
-    if !tree.is_authority(rank, ino, frag) {
+    let Some(rank) = tree.holder(asked.rank, asked.dir, asked.frag) else {
+        unreachable!()
+    };
+    let at = Dirfrag {
+        dir: asked.dir,
+        frag: asked.frag,
+        rank,
+    };
+    if !tree.has_authority(&at, asked.rank) {
         return Err(Refusal::NotAuthority);
     }
-    if tree.is_frozen(ino, frag) {
+    if tree.is_frozen(at.dir, at.frag) {
         return Err(Refusal::Frozen);
     }
-    if pins.is_pinned(ino, frag) {
+    if pins.is_pinned(at.dir, at.frag) {
         return Err(Refusal::Pinned);
     }
-    if let Err(refusal) = tree.split(alloc, ino, frag, bits) {
+    if let Err(refusal) = tree.split(alloc, &at, bits) {
         return Err(refusal);
     }
     Ok(Answer::Nothing)
@@ -245,16 +246,21 @@ fn begin_at<S: Store + Drop>(
     ensures faults { tree.new.tree.faults ≡ tree.old.tree.faults }
     ensures counted { tree.new.tree.faults ≡ tree.old.tree.faults + faults_told (result_err result) }
 {
-    if !tree.has_leaf(ino, frag) {
+    let Some(holder) = tree.holder(rank, ino, frag) else {
         return Err(Refusal::NoSuchFrag);
-    }
-    if !tree.is_authority(rank, ino, frag) {
+    };
+    let at = Dirfrag {
+        dir: ino,
+        frag,
+        rank: holder,
+    };
+    if !tree.has_authority(&at, rank) {
         return Err(Refusal::NotAuthority);
     }
     if tree.is_frozen(ino, frag) {
         return Err(Refusal::Frozen);
     }
-    let job = match tree.begin(ino, frag) {
+    let job = match tree.begin(&at) {
         Ok(job) => job,
         Err(refusal) => return Err(refusal),
     };

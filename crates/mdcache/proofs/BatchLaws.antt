@@ -77,16 +77,20 @@ module _ (old new : Core) (rank : Rank) (leaf : Leaf) (may : MayHold old.caches 
   ends_keeps before after job (Ok done) ended = end_keeps job ended
   ends_keeps before after job (Err reason) refused = keeps_all refused.1
 
--- a leaf that isn't clean is there, so it isn't refused as absent
+-- a leaf that isn't clean is there
+pub unclean_live : (s : State) (leaf : Leaf) → IsSound s → is_some (map.get s.unsaved leaf) ≡ true → IsLive s.homes s.covers leaf
+unclean_live s leaf sound dirty = go (map.get s.unsaved leaf) refl dirty
+  where
+    go : (o : Option Unsaved) → map.get s.unsaved leaf ≡ o → is_some o ≡ true → IsLive s.homes s.covers leaf
+    go None is some = absurd cc
+    go (Some u) is some = (sound.unsaved leaf u is).live
+
+-- so it isn't refused as absent
 pub begin_refused : (s : State) (new : State) (leaf : Leaf) (reason : Refusal) → IsSound s → is_some (map.get s.unsaved leaf) ≡ true → map.get s.jobs leaf ≡ None → Begins s new leaf (Err reason) → MayNotBeginOne s leaf reason
 begin_refused s new leaf reason sound dirty free refused = go refused.0
   where
-    live : (o : Option Unsaved) → map.get s.unsaved leaf ≡ o → is_some o ≡ true → IsLive s.homes s.covers leaf
-    live None is some = absurd cc
-    live (Some u) is some = (sound.unsaved leaf u is).live
-
     go : MayNotBegin s leaf reason → MayNotBeginOne s leaf reason
-    go (inl (is, absent)) = absurd (absent (live (map.get s.unsaved leaf) refl dirty))
+    go (inl (is, absent)) = absurd (absent (unclean_live s leaf sound dirty))
     go (inr (inl (is, there, stands))) = let clash : false ≡ true = ap is_some (sym free) ∙ stands in absurd cc
     go (inr (inr (there, none, u, is, inl (no_number, lacks)))) = inr (no_number, (u, is, lacks))
     go (inr (inr (there, none, u, is, inr (no_memory, lacks)))) = inl no_memory

@@ -263,7 +263,7 @@ impl<S: Store + Drop> MdCache<S> {
         ensures faults { self.new.faults ≡ self.old.faults }
         ensures sound { IsSoundCore self.new }
     {
-        match self.begin(at.rank, at.dir, at.frag) {
+        match self.begin(at) {
             Ok(Some(job)) => Ok(job),
             Ok(None) => unreachable!(),
             Err(refusal) => Err(refusal),

@@ -4,6 +4,7 @@ ghost use Rattle.std.specs.Option.{option_map};
 ghost use Rattle.std.specs.FinMap as map;
 ghost use Rattle.mds_types.specs.declared.refusals.Refusal.TheVariants.{NoInodes, NoMemory};
 ghost use Rattle.mds_types.specs.Leaf.{leaf_of};
+ghost use Rattle.inode_table.specs.Dirs.{IsLive};
 ghost use Rattle.cached_frag.specs.Snap.{IsBelowEnd, IsSnap};
 ghost use Rattle.cached_frag.specs.Cached.{Cached, is_clean};
 ghost use Rattle.dentry_cache.specs.Cache.{HasCached, Unsaved, unsaved_in};
@@ -17,39 +18,25 @@ use crate::mdcache::MdCache;
 use crate::standing_jobs::StandingJobs;
 use cached_frag::{Base, Job, Snapshot};
 use dentry_cache::Caches;
-use mds_types::{Dirfrag, Frag, Ino, Rank, Refusal};
+use mds_types::{Dirfrag, Refusal};
 use objstore::Store;
 use std::alloc::AllocError;
 
 impl<S: Store + Drop> MdCache<S> {
-    /// Begins a commit of a leaf, which the rank holds: gives the job of its snapshot, which stands from now on; none, exactly
-    /// where the leaf is clean. Takes memory for the snapshot, twice.
+    /// Begins a commit of a leaf that is there, at the rank that holds it: gives the job of its snapshot, which stands from now on;
+    /// none, exactly where the leaf is clean. Takes memory for the snapshot, twice.
     ///
-    /// Refused `NoSuchFrag` where there is no such leaf, `JobOutstanding` where a job stands for it, `NoInodes` where no
-    /// number is left for the job or for the version that the commit writes, and `NoMemory`.
-    pub fn begin(&mut self, rank: Rank, dir: Ino, frag: Frag) -> Result<Option<Job>, Refusal>
+    /// Refused `JobOutstanding` where a job stands for it, `NoInodes` where no number is left for the job or for the version that
+    /// the commit writes, and `NoMemory`.
+    pub fn begin(&mut self, at: &Dirfrag) -> Result<Option<Job>, Refusal>
         requires sound { IsSoundCore self.old }
-        requires holds { MayHold self.old.caches rank (dir, frag) }
-        ensures begun { Begins (state_of self.old) (state_of self.new) (dir, frag) result }
-        ensures came { Came (IsThat rank.0 (dir, frag)) NoneEnds self.old.caches self.new.caches }
-        ensures faults { self.new.faults ≡ self.old.faults }
-        ensures sound { IsSoundCore self.new }
-    {
-        self.begin_of(&Dirfrag { dir, frag, rank })
-    }
-
-    // As `begin`.
-    fn begin_of(&mut self, at: &Dirfrag) -> Result<Option<Job>, Refusal>
-        requires sound { IsSoundCore self.old }
+        requires live { IsLive self.old.homes self.old.covers (leaf_of at.now) }
         requires holds { MayHold self.old.caches at.now.rank (leaf_of at.now) }
         ensures begun { Begins (state_of self.old) (state_of self.new) (leaf_of at.now) result }
         ensures came { Came (IsThat at.now.rank.0 (leaf_of at.now)) NoneEnds self.old.caches self.new.caches }
         ensures faults { self.new.faults ≡ self.old.faults }
         ensures sound { IsSoundCore self.new }
     {
-        if !self.has_leaf(at.dir, at.frag) {
-            return Err(Refusal::NoSuchFrag);
-        }
         if self.jobs.get(at.dir, at.frag).is_some() {
             return Err(Refusal::JobOutstanding);
         }

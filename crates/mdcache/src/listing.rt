@@ -26,7 +26,7 @@ ghost use Rattle.mdcache.specs.State.{IsLive};
 use crate::mdcache::MdCache;
 use crate::page::Page;
 use dentry_cache::Caches;
-use mds_types::{Dirfrag, Frag, Ino, Name, Rank, Refusal};
+use mds_types::{Dirfrag, Name, Refusal};
 use objstore::Store;
 use std::alloc::Global;
 
@@ -39,24 +39,22 @@ impl<S: Store + Drop> MdCache<S> {
     pub fn gather(
         &mut self,
         alloc: Global,
-        rank: Rank,
-        dir: Ino,
-        frag: Frag,
+        at: &Dirfrag,
         after: Option<&Name>,
         page: &mut Page,
     ) -> Result<(), Refusal>
         requires sound { IsSoundCore self.old }
-        requires live { IsLive self.old.homes self.old.covers (dir, frag) }
-        requires holds { MayHold self.old.caches rank (dir, frag) }
-        ensures page { (whole : List Row) → IsPageOf whole page.old → OnOk result (IsPageOf (puts key_cmp whole (rows_after (option_copied after.entry) (map.entries (names_of (unclean self.old.caches) self.old.objects (dir, frag))))) page.new) }
+        requires live { IsLive self.old.homes self.old.covers (leaf_of at.now) }
+        requires holds { MayHold self.old.caches at.now.rank (leaf_of at.now) }
+        ensures page { (whole : List Row) → IsPageOf whole page.old → OnOk result (IsPageOf (puts key_cmp whole (rows_after (option_copied after.entry) (map.entries (names_of (unclean self.old.caches) self.old.objects (leaf_of at.now))))) page.new) }
         ensures most { page.new.most ≡ page.old.most }
-        ensures reads { ReadsCore (IsThat rank.0 (dir, frag)) (IsKeptFor self.old.caches) self.old self.new }
+        ensures reads { ReadsCore (IsThat at.now.rank.0 (leaf_of at.now)) (IsKeptFor self.old.caches) self.old self.new }
         ensures sound { IsSoundCore self.new }
         ensures counted { self.new.faults ≡ self.old.faults + faults_told (result_err result) }
-        ensures refused { IfErr result (MayNotFind (LacksPlacesAt 1 self.old rank) self.old.faults self.new.faults) }
+        ensures refused { IfErr result (MayNotFind (LacksPlacesAt 1 self.old at.now.rank) self.old.faults self.new.faults) }
     {
         self.give_up();
-        self.gather_at(alloc, &Dirfrag { dir, frag, rank }, after, page)
+        self.gather_at(alloc, at, after, page)
     }
 
     // Takes the names of a leaf, which is fetched, into a page.

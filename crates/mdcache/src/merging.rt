@@ -25,7 +25,7 @@ use crate::merge_plan::MergePlan;
 use crate::regrouping::take_counts;
 use cached_frag::CachedFrag;
 use inode_table::Dirs;
-use mds_types::{Dirfrag, Frag, Ino, Rank, Refusal};
+use mds_types::{Dirfrag, Frag, Ino, Refusal};
 use objstore::Store;
 use std::alloc::Global;
 
@@ -37,11 +37,10 @@ pub struct Merge {
 }
 
 impl<S: Store + Drop> MdCache<S> {
-    /// Whether there is such a directory, and leaves of it lie properly inside the fragment, not too many to merge them: what
-    /// `merge` asks first. Takes no memory.
+    /// Whether there is such a directory, and leaves of it lie properly inside the fragment, not too many to merge them: as `merge`
+    /// asks for. Takes no memory.
     ///
-    /// Refused as `merge` is: `NoSuchFrag` where no leaf lies properly inside the fragment, and `TooManyFrags` where too many
-    /// do.
+    /// Refused `NoSuchFrag` where no leaf lies properly inside the fragment, and `TooManyFrags` where too many do.
     pub fn check_merge(&self, dir: Ino, frag: Frag) -> Result<(), Refusal>
         ensures known { OnOk result (is_known self.now.homes dir.0 ≡ true) }
         ensures can { OnOk result (CanMerge (leaves_of self.now.covers dir.0) frag) }
@@ -50,30 +49,29 @@ impl<S: Store + Drop> MdCache<S> {
         can_merge(&self.dirs, dir, frag)
     }
 
-    /// Merges the leaves of a directory properly inside a fragment: it stands in their place, with all their names. It is of
-    /// the next generation, no object counts for it, and its names are dirty, all at the next version. The jobs of the leaves
-    /// end, and their objects are to be removed. The leaves are fetched one after the other. Takes memory for copies of their
-    /// names, and for a leaf that is read. All this is in the cache of the one rank that holds the leaves.
+    /// Merges the leaves of a directory properly inside a fragment, which can be merged, at the one rank that holds them: the
+    /// fragment stands in their place, with all their names. It is of the next generation, no object counts for it, and its names
+    /// are dirty, all at the next version. The jobs of the leaves end, and their objects are to be removed. The leaves are fetched
+    /// one after the other. Takes memory for copies of their names, and for a leaf that is read. All this is in the cache of that
+    /// rank.
     ///
-    /// Refused `NoSuchFrag` where no leaf lies properly inside the fragment, and `TooManyFrags` where too many do; otherwise
-    /// `NoInodes` exactly where no numbers are left, and then `NothingToEvict` where no place of the cache is free and none can
-    /// become so, `StoreFault`, and `NoMemory`.
-    pub fn merge(&mut self, alloc: Global, rank: Rank, dir: Ino, frag: Frag) -> Result<(), Refusal>
+    /// Refused `NoInodes` exactly where no numbers are left, and then `NothingToEvict` where no place of the cache is free and
+    /// none can become so, `StoreFault`, and `NoMemory`.
+    pub fn merge(&mut self, alloc: Global, at: &Dirfrag) -> Result<(), Refusal>
         requires sound { IsSoundCore self.old }
-        requires there { rank.0 < length self.old.caches.used }
-        requires holds { (q : Leaf) → Contains (ending_at self.old (record { dir = dir; frag = frag; rank = rank })) q → MayHold self.old.caches rank q }
-        ensures merged { MergesLeaves (LacksPlacesAt 1 self.old rank) self.old self.new dir frag result }
-        ensures came { Came (IsAmongOr rank.0 (ending_at self.old (record { dir = dir; frag = frag; rank = rank })) (dir, frag)) (λ r q. IsKeptFor self.old.caches r q ⊎ Contains (ending_at self.old (record { dir = dir; frag = frag; rank = rank })) q) self.old.caches self.new.caches }
+        requires there { at.now.rank.0 < length self.old.caches.used }
+        requires holds { (q : Leaf) → Contains (ending_at self.old at.now) q → MayHold self.old.caches at.now.rank q }
+        requires known { is_known self.old.homes at.now.dir.0 ≡ true }
+        requires can { CanMerge (leaves_of self.old.covers at.now.dir.0) at.now.frag }
+        ensures merged { MergesLeaves (LacksPlacesAt 1 self.old at.now.rank) self.old self.new at.now.dir at.now.frag result }
+        ensures came { Came (IsAmongOr at.now.rank.0 (ending_at self.old at.now) (leaf_of at.now)) (λ r q. IsKeptFor self.old.caches r q ⊎ Contains (ending_at self.old at.now) q) self.old.caches self.new.caches }
         ensures counted { self.new.faults ≡ self.old.faults + faults_told (result_err result) }
         ensures sound { IsSoundCore self.new }
     {
-        if let Err(refusal) = self.check_merge(dir, frag) {
-            return Err(refusal);
-        }
         if let Err(refusal) = self.check_numbers(1) {
             return Err(refusal);
         }
-        self.merge_leaves(alloc, &Dirfrag { dir, frag, rank })
+        self.merge_leaves(alloc, at)
     }
 
     // Merges leaves that can be merged, where numbers are left.

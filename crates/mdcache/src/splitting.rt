@@ -31,7 +31,7 @@ use crate::regrouping::{child_count, take_counts};
 use crate::split_plan::SplitPlan;
 use dentry_cache::Parts;
 use inode_table::Dirs;
-use mds_types::{Dirfrag, Frag, Ino, Rank, Refusal};
+use mds_types::{Dirfrag, Frag, Ino, Refusal};
 use objstore::Store;
 use std::alloc::Global;
 
@@ -43,10 +43,10 @@ pub struct Split {
 }
 
 impl<S: Store + Drop> MdCache<S> {
-    /// Whether there is such a leaf, and it can be split by so many bits: what `split` asks first. Takes no memory.
+    /// Whether there is such a leaf, and it can be split by so many bits, as `split` asks for. Takes no memory.
     ///
-    /// Refused as `split` is: `NoSuchFrag` where there is no such leaf, `BadSplit` where it can't be split by so many bits, and
-    /// `TooManyFrags` where there would be too many leaves.
+    /// Refused `NoSuchFrag` where there is no such leaf, `BadSplit` where it can't be split by so many bits, and `TooManyFrags`
+    /// where there would be too many leaves.
     pub fn check_split(&self, dir: Ino, frag: Frag, nb: u8) -> Result<(), Refusal>
         ensures known { OnOk result (is_known self.now.homes dir.0 ≡ true) }
         ensures can { OnOk result (CanSplit (leaves_of self.now.covers dir.0) frag nb) }
@@ -55,37 +55,27 @@ impl<S: Store + Drop> MdCache<S> {
         can_split(&self.dirs, dir, frag, nb)
     }
 
-    /// Splits a leaf of a directory by so many bits: its children stand in its place, each with those of its names that it
-    /// contains. They are fragments of the next generations, for which no object counts, and their names are dirty, all at
-    /// the next version. The leaf's job ends, and its object is to be removed. Takes memory for the children and their
-    /// names, and for the leaf, if it is read. All this is in the cache of the rank that holds the leaf.
+    /// Splits a leaf that can be split by so many bits, at the rank that holds it: its children stand in its place, each with those of
+    /// its names that it contains. They are fragments of the next generations, for which no object counts, and their names are
+    /// dirty, all at the next version. The leaf's job ends, and its object is to be removed. Takes memory for the children and
+    /// their names, and for the leaf, if it is read. All this is in the cache of that rank.
     ///
-    /// Refused `NoSuchFrag` where there is no such leaf, `BadSplit` where it can't be split by so many bits, and
-    /// `TooManyFrags` where there would be too many leaves; otherwise `NoInodes` exactly where no numbers are left, and then
-    /// `NothingToEvict` where no more places of the cache are free or can become so than there would be children,
-    /// `StoreFault`, and `NoMemory`.
-    pub fn split(
-        &mut self,
-        alloc: Global,
-        rank: Rank,
-        dir: Ino,
-        frag: Frag,
-        nb: u8,
-    ) -> Result<(), Refusal>
+    /// Refused `NoInodes` exactly where no numbers are left, and then `NothingToEvict` where no more places of the cache are free
+    /// or can become so than there would be children, `StoreFault`, and `NoMemory`.
+    pub fn split(&mut self, alloc: Global, at: &Dirfrag, nb: u8) -> Result<(), Refusal>
         requires sound { IsSoundCore self.old }
-        requires holds { MayHold self.old.caches rank (dir, frag) }
-        ensures split { SplitsLeaf (LacksPlacesAt (2 ^ nb + 1) self.old rank) self.old self.new dir frag nb result }
-        ensures came { Came (IsFamilyAt rank.0 dir frag nb) (λ r q. IsKeptFor self.old.caches r q ⊎ IsFamilyAt rank.0 dir frag nb r q) self.old.caches self.new.caches }
+        requires holds { MayHold self.old.caches at.now.rank (leaf_of at.now) }
+        requires known { is_known self.old.homes at.now.dir.0 ≡ true }
+        requires can { CanSplit (leaves_of self.old.covers at.now.dir.0) at.now.frag nb }
+        ensures split { SplitsLeaf (LacksPlacesAt (2 ^ nb + 1) self.old at.now.rank) self.old self.new at.now.dir at.now.frag nb result }
+        ensures came { Came (IsFamilyAt at.now.rank.0 at.now.dir at.now.frag nb) (λ r q. IsKeptFor self.old.caches r q ⊎ IsFamilyAt at.now.rank.0 at.now.dir at.now.frag nb r q) self.old.caches self.new.caches }
         ensures counted { self.new.faults ≡ self.old.faults + faults_told (result_err result) }
         ensures sound { IsSoundCore self.new }
     {
-        if let Err(refusal) = self.check_split(dir, frag, nb) {
-            return Err(refusal);
-        }
         if let Err(refusal) = self.check_numbers(u64::from(child_count(nb))) {
             return Err(refusal);
         }
-        self.split_leaf(alloc, &Dirfrag { dir, frag, rank }, nb)
+        self.split_leaf(alloc, at, nb)
     }
 
     // Splits a leaf that can be split, where numbers are left.

@@ -33,6 +33,25 @@ impl<S: Store + Drop> RankedTree<S> {
         is_authority(&self.tree, &self.regions.roots, rank, dir, frag)
     }
 
+    /// The rank that holds a leaf; none exactly where there is no such leaf. `rank` is asked first: it holds a leaf of which it has a
+    /// place. Takes no memory, one search of the directory table, and for a leaf that the rank doesn't cache one more for each
+    /// directory up to the nearest root.
+    pub fn holder(&self, rank: Rank, dir: Ino, frag: Frag) -> Option<Rank>
+        ensures { MatchOption result (IsLive self.now.tree.homes self.now.tree.covers (dir, frag) → ⊥) (λ holder. IsLive self.now.tree.homes self.now.tree.covers (dir, frag) × Rules (state_of self.now.tree) (held_roots self.now) (dir, frag) holder) }
+    {
+        holder_at(&self.tree, &self.regions, rank, dir, frag)
+    }
+
+    /// Whether a rank is the authority of a leaf, which another or the same holds: the one that holds it, unless an export stands.
+    /// Takes no memory.
+    pub fn has_authority(&self, at: &Dirfrag, rank: Rank) -> bool
+        requires live { IsLive self.now.tree.homes self.now.tree.covers (leaf_of at.now) }
+        requires held { HoldsAt (state_of self.now.tree) (held_roots self.now) at.now }
+        ensures { IsTrue result ↔ Rules (state_of self.now.tree) self.now.subtrees.roots (leaf_of at.now) rank }
+    {
+        has_authority(&self.tree, &self.regions, at, rank)
+    }
+
     /// Whether a leaf is frozen: it changes no more until the export of its region ends. Takes no memory.
     pub fn is_frozen(&self, dir: Ino, frag: Frag) -> bool
         ensures { IsTrue result ↔ IsFrozenLeaf self.now (dir, frag) }
@@ -113,6 +132,27 @@ pub(crate) fn locate<S: Store + Drop>(
     Some(Dirfrag { dir, frag, rank })
 }
 
+/// The rank that holds a leaf; none exactly where there is no such leaf. `rank` is asked first.
+pub(crate) fn holder_at<S: Store + Drop>(
+    tree: &MdCache<S>,
+    regions: &Regions,
+    rank: Rank,
+    dir: Ino,
+    frag: Frag,
+) -> Option<Rank>
+    requires { IsOwned tree.now (held_in regions.now) }
+    ensures { MatchOption result (IsLive tree.now.homes tree.now.covers (dir, frag) → ⊥) (λ holder. IsLive tree.now.homes tree.now.covers (dir, frag) × Rules (state_of tree.now) (held_in regions.now) (dir, frag) holder) }
+{
+    // a leaf contains the hash that its value is, and no other leaf does
+    let Some(at) = locate(tree, regions, rank, dir, frag.value()) else {
+        return None;
+    };
+    if at.frag != frag {
+        return None;
+    }
+    Some(at.rank)
+}
+
 // Whether a rank is the authority of a leaf.
 fn is_authority<S: Store + Drop>(
     tree: &MdCache<S>,
@@ -170,6 +210,21 @@ fn authority_at<S: Store + Drop>(tree: &MdCache<S>, regions: &Regions, at: &Dirf
         return at.rank;
     }
     regions.roots.authority(tree.dirs(), at.dir, at.frag)
+}
+
+// Whether a rank is the authority of a leaf that is held so.
+fn has_authority<S: Store + Drop>(
+    tree: &MdCache<S>,
+    regions: &Regions,
+    at: &Dirfrag,
+    rank: Rank,
+) -> bool
+    requires live { IsLive tree.now.homes tree.now.covers (leaf_of at.now) }
+    requires valid { AreRoots (state_of tree.now) regions.now.roots.roots }
+    requires held { HoldsAt (state_of tree.now) (held_in regions.now) at.now }
+    ensures { IsTrue result ↔ Rules (state_of tree.now) regions.now.roots.roots (leaf_of at.now) rank }
+{
+    authority_at(tree, regions, at) == rank
 }
 
 // Whether each leaf of a directory that lies properly inside a fragment has this rank as its authority.

@@ -1,46 +1,50 @@
 //! Commits, objects and places: none of it changes what leaves there are, nor whose, nor which are frozen.
 ghost use Rattle.std.specs.Prelude.{◌≡◌, ◌+◌, ◌<◌, None, Some, OnOk, OnErr, IfErr, length};
+ghost use Rattle.mds_types.specs.Leaf.{leaf_of};
+ghost use Rattle.inode_table.specs.Dirs.{IsLive};
 ghost use Rattle.objstore.specs.Objects.{faults_told};
 ghost use Rattle.std.specs.Result.{result_err};
 ghost use Rattle.mds_types.specs.declared.refusals.Refusal.TheVariants.{NothingToEvict};
 ghost use Rattle.dentry_cache.specs.CacheMap.{evicted};
 ghost use Rattle.mdcache.specs.Core.{state_of};
-ghost use Rattle.mdcache.specs.Commits.{Begins, Drops, Ends, leaf_of};
+ghost use Rattle.mdcache.specs.Commits.{Begins, Drops, Ends, leaf_of as job_leaf};
 ghost use Rattle.mdcache.specs.Frags.{KeepsState};
 ghost use Rattle.mdcache.specs.Objects.{Purges, SavesTree};
-ghost use Rattle.ranked_tree.specs.Subtrees.{Rules};
+ghost use Rattle.ranked_tree.specs.Subtrees.{HoldsAt, Rules};
 ghost use Rattle.ranked_tree.specs.Held.{UsesAt};
 ghost use Rattle.ranked_tree.specs.Exported.{IsDivided, IsFrozenIn, held_in};
 ghost use Rattle.ranked_tree.specs.Ranked.{IsFrozenLeaf, held_roots};
 
-use crate::holding::holder_of;
+use crate::authorities::holder_at;
 use crate::ranked_tree::RankedTree;
 use crate::regions::Regions;
 use cached_frag::{Encoded, Job};
 use mdcache::MdCache;
-use mds_types::{Frag, Ino, Rank, Refusal};
+use mds_types::{Dirfrag, Ino, Rank, Refusal};
 use objstore::Store;
 use std::alloc::Global;
 
 impl<S: Store + Drop> RankedTree<S> {
-    /// Begins a commit of a leaf that isn't frozen, as `MdCache::begin` does and refuses.
-    pub fn begin(&mut self, dir: Ino, frag: Frag) -> Result<Option<Job>, Refusal>
-        requires thawed { IsFrozenLeaf self.old (dir, frag) → ⊥ }
-        ensures begun { Begins (state_of self.old.tree) (state_of self.new.tree) (dir, frag) result }
-        ensures came { UsesAt (Rules (state_of self.old.tree) (held_roots self.old) (dir, frag)) (dir, frag) self.old.tree.caches self.new.tree.caches }
+    /// Begins a commit of a leaf that isn't frozen, at the rank that holds it, as `MdCache::begin` does and refuses.
+    pub fn begin(&mut self, at: &Dirfrag) -> Result<Option<Job>, Refusal>
+        requires live { IsLive self.old.tree.homes self.old.tree.covers (leaf_of at.now) }
+        requires held { HoldsAt (state_of self.old.tree) (held_roots self.old) at.now }
+        requires thawed { IsFrozenLeaf self.old (leaf_of at.now) → ⊥ }
+        ensures begun { Begins (state_of self.old.tree) (state_of self.new.tree) (leaf_of at.now) result }
+        ensures came { UsesAt (Rules (state_of self.old.tree) (held_roots self.old) (leaf_of at.now)) (leaf_of at.now) self.old.tree.caches self.new.tree.caches }
         ensures roots { self.new.subtrees ≡ self.old.subtrees }
         ensures exports { self.new.exports ≡ self.old.exports }
         ensures count { length self.new.tree.caches.used ≡ length self.old.tree.caches.used }
         ensures cap { self.new.tree.caches.cap ≡ self.old.tree.caches.cap }
         ensures faults { self.new.tree.faults ≡ self.old.tree.faults }
     {
-        begin(&mut self.tree, &self.regions, dir, frag)
+        begin(&mut self.tree, &self.regions, at)
     }
 
     /// Ends a commit, as `MdCache::end` does and refuses.
     pub fn end(&mut self, alloc: Global, encoded: &Encoded) -> Result<(), Refusal>
         ensures ended { Ends (state_of self.old.tree) (state_of self.new.tree) self.old.tree.faults self.new.tree.faults encoded.now.job result }
-        ensures came { UsesAt (Rules (state_of self.old.tree) (held_roots self.old) (leaf_of encoded.now.job)) (leaf_of encoded.now.job) self.old.tree.caches self.new.tree.caches }
+        ensures came { UsesAt (Rules (state_of self.old.tree) (held_roots self.old) (job_leaf encoded.now.job)) (job_leaf encoded.now.job) self.old.tree.caches self.new.tree.caches }
         ensures roots { self.new.subtrees ≡ self.old.subtrees }
         ensures exports { self.new.exports ≡ self.old.exports }
         ensures count { length self.new.tree.caches.used ≡ length self.old.tree.caches.used }
@@ -108,23 +112,20 @@ impl<S: Store + Drop> RankedTree<S> {
 fn begin<S: Store + Drop>(
     tree: &mut MdCache<S>,
     regions: &Regions,
-    dir: Ino,
-    frag: Frag,
+    at: &Dirfrag,
 ) -> Result<Option<Job>, Refusal>
     requires divided { IsDivided tree.old regions.now }
-    requires thawed { IsFrozenIn (state_of tree.old) regions.now (dir, frag) → ⊥ }
-    ensures begun { Begins (state_of tree.old) (state_of tree.new) (dir, frag) result }
-    ensures came { UsesAt (Rules (state_of tree.old) (held_in regions.now) (dir, frag)) (dir, frag) tree.old.caches tree.new.caches }
+    requires live { IsLive tree.old.homes tree.old.covers (leaf_of at.now) }
+    requires held { HoldsAt (state_of tree.old) (held_in regions.now) at.now }
+    requires thawed { IsFrozenIn (state_of tree.old) regions.now (leaf_of at.now) → ⊥ }
+    ensures begun { Begins (state_of tree.old) (state_of tree.new) (leaf_of at.now) result }
+    ensures came { UsesAt (Rules (state_of tree.old) (held_in regions.now) (leaf_of at.now)) (leaf_of at.now) tree.old.caches tree.new.caches }
     ensures count { length tree.new.caches.used ≡ length tree.old.caches.used }
     ensures cap { tree.new.caches.cap ≡ tree.old.caches.cap }
     ensures faults { tree.new.faults ≡ tree.old.faults }
     ensures divided { IsDivided tree.new regions.now }
 {
-    if !tree.has_leaf(dir, frag) {
-        return Err(Refusal::NoSuchFrag);
-    }
-    let rank = holder_of(tree, regions, dir, frag);
-    tree.begin(rank, dir, frag)
+    tree.begin(at)
 }
 
 // Ends a commit at the rank that holds its leaf. Where there is no such leaf no job of it stands.
@@ -136,16 +137,15 @@ fn end<S: Store + Drop>(
 ) -> Result<(), Refusal>
     requires divided { IsDivided tree.old regions.now }
     ensures ended { Ends (state_of tree.old) (state_of tree.new) tree.old.faults tree.new.faults encoded.now.job result }
-    ensures came { UsesAt (Rules (state_of tree.old) (held_in regions.now) (leaf_of encoded.now.job)) (leaf_of encoded.now.job) tree.old.caches tree.new.caches }
+    ensures came { UsesAt (Rules (state_of tree.old) (held_in regions.now) (job_leaf encoded.now.job)) (job_leaf encoded.now.job) tree.old.caches tree.new.caches }
     ensures count { length tree.new.caches.used ≡ length tree.old.caches.used }
     ensures cap { tree.new.caches.cap ≡ tree.old.caches.cap }
     ensures counted { tree.new.faults ≡ tree.old.faults + faults_told (result_err result) }
     ensures divided { IsDivided tree.new regions.now }
 {
     let job = encoded.job();
-    if !tree.has_leaf(job.ino, job.frag) {
+    let Some(rank) = holder_at(tree, regions, Rank(0), job.ino, job.frag) else {
         return Err(Refusal::StaleJob);
-    }
-    let rank = holder_of(tree, regions, job.ino, job.frag);
+    };
     tree.end(alloc, rank, encoded)
 }

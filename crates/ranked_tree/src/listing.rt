@@ -6,11 +6,10 @@ ghost use Rattle.std.specs.FinMap as map;
 ghost use Rattle.mds_types.specs.Frag.{Fragment};
 ghost use Rattle.mds_types.specs.Step.{names_after};
 ghost use Rattle.mds_types.specs.Tree.{is_directory};
-ghost use Rattle.fragtree.specs.FragTree.{HasLeaf};
 ghost use Rattle.objstore.specs.Omap.{key_cmp};
 ghost use Rattle.sorted_map.specs.Places.{puts};
 ghost use Rattle.cached_frag.specs.Rows.{Row, rows_after};
-ghost use Rattle.inode_table.specs.Dirs.{IsLive};
+ghost use Rattle.inode_table.specs.Dirs.{IsLive, is_known, leaves_of};
 ghost use Rattle.dentry_cache.specs.CacheMap.{unclean};
 ghost use Rattle.mdcache.specs.Frags.{KeepsState};
 ghost use Rattle.mdcache.specs.Pages.{IsPageOf, gathered};
@@ -22,9 +21,8 @@ ghost use Rattle.ranked_tree.specs.Exported.{held_in};
 
 use crate::holding::holder_of;
 use crate::regions::Regions;
-use fragtree::FragTree;
 use mdcache::{MdCache, Page};
-use mds_types::{Frag, Ino, Listing, Name, PageSize, Refusal};
+use mds_types::{Dirfrag, Frag, Ino, Listing, Name, PageSize, Refusal};
 use objstore::Store;
 use std::alloc::Global;
 
@@ -50,59 +48,34 @@ pub(crate) fn list_dir<S: Store + Drop>(
     ensures owned { IsOwned tree.new (held_in regions.now) }
     ensures refused { IfErr result (MayNotFind (LacksPlacesDir 1 tree.old (held_in regions.now) dir) tree.old.faults tree.new.faults) }
 {
-    match tree.dirs().tree(alloc, dir) {
-        Ok(leaves) => list_leaves(alloc, tree, regions, dir, &leaves, after, max),
-        Err(_) => Err(Refusal::NoMemory),
-    }
-}
-
-// The first names of these leaves of a directory greater than `after`, and whether more follow.
-fn list_leaves<S: Store + Drop>(
-    alloc: Global,
-    tree: &mut MdCache<S>,
-    regions: &Regions,
-    dir: Ino,
-    leaves: &FragTree,
-    after: Option<&Name>,
-    max: PageSize,
-) -> Result<(Listing, bool), Refusal>
-    requires live { (f : Fragment) → HasLeaf leaves.now f → IsLive tree.old.homes tree.old.covers (dir, f) }
-    requires owned { IsOwned tree.old (held_in regions.now) }
-    ensures listed { IfOk result (λ page. page.0 ≡ take max (gathered (λ (f : Fragment). names_of (unclean tree.old.caches) tree.old.objects (dir, f)) (option_copied after.entry) [] leaves.now)) }
-    ensures more { IfOk result (λ page. page.1 ≡ nat_lt max (length (gathered (λ (f : Fragment). names_of (unclean tree.old.caches) tree.old.objects (dir, f)) (option_copied after.entry) [] leaves.now))) }
-    ensures kept { KeepsState tree.old tree.new (result_err result) }
-    ensures reads { ReadsDir (held_in regions.now) dir tree.old tree.new }
-    ensures owned { IsOwned tree.new (held_in regions.now) }
-    ensures refused { IfErr result (MayNotFind (LacksPlacesDir 1 tree.old (held_in regions.now) dir) tree.old.faults tree.new.faults) }
-{
     let mut page = Page::new(alloc, max);
-    if let Err(refusal) = gather_leaves(alloc, tree, regions, dir, leaves, after, &mut page) {
+    if let Err(refusal) = gather_leaves(alloc, tree, regions, dir, after, &mut page) {
         return Err(refusal);
     }
     Ok(page.into_listing())
 }
 
-// Takes the names of these leaves of a directory greater than `after` into a page, leaf by leaf.
+// Takes the names of a directory greater than `after` into a page, leaf by leaf.
 fn gather_leaves<S: Store + Drop>(
     alloc: Global,
     tree: &mut MdCache<S>,
     regions: &Regions,
     dir: Ino,
-    leaves: &FragTree,
     after: Option<&Name>,
     page: &mut Page,
 ) -> Result<(), Refusal>
-    requires live { (f : Fragment) → HasLeaf leaves.now f → IsLive tree.old.homes tree.old.covers (dir, f) }
+    requires known { is_known tree.old.homes dir.0 ≡ true }
     requires owned { IsOwned tree.old (held_in regions.now) }
-    ensures page { (whole : List Row) → IsPageOf whole page.old → OnOk result (IsPageOf (gathered (λ (f : Fragment). names_of (unclean tree.old.caches) tree.old.objects (dir, f)) (option_copied after.entry) whole leaves.now) page.new) }
+    ensures page { (whole : List Row) → IsPageOf whole page.old → OnOk result (IsPageOf (gathered (λ (f : Fragment). names_of (unclean tree.old.caches) tree.old.objects (dir, f)) (option_copied after.entry) whole (leaves_of tree.old.covers dir.0)) page.new) }
     ensures most { page.new.most ≡ page.old.most }
     ensures kept { KeepsState tree.old tree.new (result_err result) }
     ensures reads { ReadsDir (held_in regions.now) dir tree.old tree.new }
     ensures owned { IsOwned tree.new (held_in regions.now) }
     ensures refused { IfErr result (MayNotFind (LacksPlacesDir 1 tree.old (held_in regions.now) dir) tree.old.faults tree.new.faults) }
 {
-    for leaf in leaves {
-        match gather_leaf(alloc, tree, regions, dir, leaf, after, page) {
+    let leaves = tree.dirs().tree(alloc, dir)?;
+    for frag in &leaves {
+        match gather_leaf(alloc, tree, regions, (dir, frag), after, page) {
             Ok(()) => {}
             Err(refusal) => return Err(refusal),
         }
@@ -115,20 +88,20 @@ fn gather_leaf<S: Store + Drop>(
     alloc: Global,
     tree: &mut MdCache<S>,
     regions: &Regions,
-    dir: Ino,
-    frag: Frag,
+    leaf: (Ino, Frag),
     after: Option<&Name>,
     page: &mut Page,
 ) -> Result<(), Refusal>
-    requires live { IsLive tree.old.homes tree.old.covers (dir, frag) }
+    requires live { IsLive tree.old.homes tree.old.covers leaf }
     requires owned { IsOwned tree.old (held_in regions.now) }
-    ensures page { (whole : List Row) → IsPageOf whole page.old → OnOk result (IsPageOf (puts key_cmp whole (rows_after (option_copied after.entry) (map.entries (names_of (unclean tree.old.caches) tree.old.objects (dir, frag))))) page.new) }
+    ensures page { (whole : List Row) → IsPageOf whole page.old → OnOk result (IsPageOf (puts key_cmp whole (rows_after (option_copied after.entry) (map.entries (names_of (unclean tree.old.caches) tree.old.objects leaf)))) page.new) }
     ensures most { page.new.most ≡ page.old.most }
     ensures kept { KeepsState tree.old tree.new (result_err result) }
-    ensures reads { ReadsDir (held_in regions.now) dir tree.old tree.new }
+    ensures reads { ReadsDir (held_in regions.now) leaf.0 tree.old tree.new }
     ensures owned { IsOwned tree.new (held_in regions.now) }
-    ensures refused { IfErr result (MayNotFind (LacksPlacesFor 1 tree.old (held_in regions.now) (dir, frag)) tree.old.faults tree.new.faults) }
+    ensures refused { IfErr result (MayNotFind (LacksPlacesFor 1 tree.old (held_in regions.now) leaf) tree.old.faults tree.new.faults) }
 {
+    let (dir, frag) = leaf;
     let rank = holder_of(tree, regions, dir, frag);
-    tree.gather(alloc, rank, dir, frag, after, page)
+    tree.gather(alloc, &Dirfrag { dir, frag, rank }, after, page)
 }

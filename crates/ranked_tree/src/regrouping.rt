@@ -3,7 +3,8 @@ ghost use Rattle.std.specs.Prelude.{◌≡◌, ◌+◌, ◌<◌, ◌≤◌, ◌^
 ghost use Rattle.objstore.specs.Objects.{faults_told};
 ghost use Rattle.std.specs.Result.{result_err};
 ghost use Rattle.std.specs.List.{Contains};
-ghost use Rattle.fragtree.specs.FragTree.{CanMerge, FitsSplit, leaves_inside};
+ghost use Rattle.mds_types.specs.Leaf.{leaf_of};
+ghost use Rattle.fragtree.specs.FragTree.{CanMerge, CanSplit, leaves_inside};
 ghost use Rattle.inode_table.specs.Dirs.{IsLive, is_known, leaves_of};
 ghost use Rattle.namespace_ops.specs.Changes.{in_directory};
 ghost use Rattle.subtree_map.specs.Authority.{Leaf};
@@ -13,43 +14,48 @@ ghost use Rattle.mdcache.specs.Ranks.{MayHold};
 ghost use Rattle.mdcache.specs.SplitsAndMerges.{MayNotMerge, MayNotSplit, MergesLeaves, SplitsLeaf};
 ghost use Rattle.ranked_tree.specs.Exported.{AreThawed, IsDivided, IsFrozenIn, held_in};
 ghost use Rattle.ranked_tree.specs.Held.{CameAt, IsFamilyOf, IsMergedHere, IsOwned, LacksPlacesFor, LacksPlacesInside};
-ghost use Rattle.ranked_tree.specs.Ranked.{IsFrozenLeaf};
-ghost use Rattle.ranked_tree.specs.Subtrees.{AllHave, GivesToChildren, KeepsRoots, Rules, TakesOver};
+ghost use Rattle.ranked_tree.specs.Ranked.{IsFrozenLeaf, held_roots};
+ghost use Rattle.ranked_tree.specs.Subtrees.{AllHave, GivesToChildren, HoldsAt, KeepsRoots, Rules, TakesOver};
 
 use crate::holding::holder_of;
 use crate::inside::leaf_inside;
 use crate::ranked_tree::RankedTree;
 use crate::regions::Regions;
 use mdcache::MdCache;
-use mds_types::{Frag, Ino, Rank, Refusal};
+use mds_types::{Dirfrag, Frag, Ino, Rank, Refusal};
 use objstore::Store;
 use std::alloc::Global;
 use subtree_map::Subtrees;
 
 impl<S: Store + Drop> RankedTree<S> {
-    /// Splits a leaf of a directory that isn't frozen by so many bits, as `MdCache::split` does and refuses; where it is a root its children are
-    /// roots of its rank then, and where it inherits they do. Takes memory for those roots first. Of the caches only places of
-    /// the leaf and of its children are used, at the rank that holds it.
-    pub fn split(&mut self, alloc: Global, dir: Ino, frag: Frag, bits: u8) -> Result<(), Refusal>
-        requires thawed { IsFrozenLeaf self.old (dir, frag) → ⊥ }
-        ensures split { SplitsLeaf (LacksPlacesFor (2 ^ bits + 1) self.old.tree self.old.subtrees.roots (dir, frag)) self.old.tree self.new.tree dir frag bits result }
-        ensures came { CameAt (Rules (state_of self.old.tree) self.old.subtrees.roots (dir, frag)) (IsFamilyOf dir frag bits) self.old.tree.caches self.new.tree.caches }
-        ensures roots { OnOk result (IsRootSplit self.old.subtrees.roots self.new.subtrees.roots dir.0 frag bits) }
+    /// Splits a leaf that can be split and isn't frozen by so many bits, at the rank that holds it, as `MdCache::split` does and refuses;
+    /// where it is a root its children are roots of its rank then, and where it inherits they do. Takes memory for those roots
+    /// first. Of the caches only places of the leaf and of its children are used, at that rank.
+    pub fn split(&mut self, alloc: Global, at: &Dirfrag, bits: u8) -> Result<(), Refusal>
+        requires known { is_known self.old.tree.homes at.now.dir.0 ≡ true }
+        requires can { CanSplit (leaves_of self.old.tree.covers at.now.dir.0) at.now.frag bits }
+        requires held { HoldsAt (state_of self.old.tree) (held_roots self.old) at.now }
+        requires thawed { IsFrozenLeaf self.old (leaf_of at.now) → ⊥ }
+        ensures split { SplitsLeaf (LacksPlacesFor (2 ^ bits + 1) self.old.tree self.old.subtrees.roots (leaf_of at.now)) self.old.tree self.new.tree at.now.dir at.now.frag bits result }
+        ensures came { CameAt (Rules (state_of self.old.tree) self.old.subtrees.roots (leaf_of at.now)) (IsFamilyOf at.now.dir at.now.frag bits) self.old.tree.caches self.new.tree.caches }
+        ensures roots { OnOk result (IsRootSplit self.old.subtrees.roots self.new.subtrees.roots at.now.dir.0 at.now.frag bits) }
         ensures left { OnErr result (self.new.subtrees.roots ≡ self.old.subtrees.roots) }
         ensures promises { self.new.subtrees.promises ≡ self.old.subtrees.promises }
         ensures count { length self.new.tree.caches.used ≡ length self.old.tree.caches.used }
         ensures cap { self.new.tree.caches.cap ≡ self.old.tree.caches.cap }
         ensures counted { self.new.tree.faults ≡ self.old.tree.faults + faults_told (result_err result) }
-        ensures children { OnOk result (GivesToChildren (state_of self.old.tree) (state_of self.new.tree) self.old.subtrees.roots self.new.subtrees.roots dir frag bits) }
+        ensures children { OnOk result (GivesToChildren (state_of self.old.tree) (state_of self.new.tree) self.old.subtrees.roots self.new.subtrees.roots at.now.dir at.now.frag bits) }
         ensures kept { KeepsRoots (state_of self.old.tree) (state_of self.new.tree) self.old.subtrees.roots self.new.subtrees.roots self.old.exports self.new.exports }
     {
-        split_with_roots(alloc, &mut self.tree, &mut self.regions, dir, frag, bits)
+        split_with_roots(alloc, &mut self.tree, &mut self.regions, at, bits)
     }
 
-    /// Merges the leaves of a directory properly inside a fragment, which have one authority and aren't frozen, as `MdCache::merge` does and
-    /// refuses; where one of them is a root the merged leaf is a root of that rank then. Takes memory for that root first. Of the
+    /// Merges the leaves of a directory properly inside a fragment, which can be merged, have one authority and aren't frozen, as
+    /// `MdCache::merge` does and refuses; where one of them is a root the merged leaf is a root of that rank then. Takes memory for that root first. Of the
     /// caches only places of those leaves and of the merged one are used, at the rank that holds them.
     pub fn merge(&mut self, alloc: Global, dir: Ino, frag: Frag) -> Result<(), Refusal>
+        requires known { is_known self.old.tree.homes dir.0 ≡ true }
+        requires can { CanMerge (leaves_of self.old.tree.covers dir.0) frag }
         requires one { HaveOneAuthority self.old.subtrees.roots self.old.tree.homes self.old.tree.covers dir.0 frag }
         requires thawed { AreThawed self.old.exports self.old.subtrees.roots self.old.tree.homes self.old.tree.covers dir frag }
         ensures merged { MergesLeaves (LacksPlacesInside 1 self.old.tree self.old.subtrees.roots dir frag) self.old.tree self.new.tree dir frag result }
@@ -67,42 +73,44 @@ impl<S: Store + Drop> RankedTree<S> {
     }
 }
 
-// Splits a leaf of a directory by so many bits, as `MdCache::split` does and refuses; where it is a root its children are
-// roots of its rank then, and where it inherits they do. Takes memory for those roots first.
+// Splits a leaf that can be split by so many bits, at the rank that holds it, as `MdCache::split` does and refuses; where it is a root
+// its children are roots of its rank then, and where it inherits they do. Takes memory for those roots first.
 fn split_with_roots<S: Store + Drop>(
     alloc: Global,
     tree: &mut MdCache<S>,
     regions: &mut Regions,
-    dir: Ino,
-    frag: Frag,
+    at: &Dirfrag,
     bits: u8,
 ) -> Result<(), Refusal>
     requires divided { IsDivided tree.old regions.old }
-    requires thawed { IsFrozenIn (state_of tree.old) regions.old (dir, frag) → ⊥ }
-    ensures split { SplitsLeaf (LacksPlacesFor (2 ^ bits + 1) tree.old regions.old.roots.roots (dir, frag)) tree.old tree.new dir frag bits result }
-    ensures came { CameAt (Rules (state_of tree.old) regions.old.roots.roots (dir, frag)) (IsFamilyOf dir frag bits) tree.old.caches tree.new.caches }
-    ensures roots { OnOk result (IsRootSplit regions.old.roots.roots regions.new.roots.roots dir.0 frag bits) }
+    requires known { is_known tree.old.homes at.now.dir.0 ≡ true }
+    requires can { CanSplit (leaves_of tree.old.covers at.now.dir.0) at.now.frag bits }
+    requires held { HoldsAt (state_of tree.old) (held_in regions.old) at.now }
+    requires thawed { IsFrozenIn (state_of tree.old) regions.old (leaf_of at.now) → ⊥ }
+    ensures split { SplitsLeaf (LacksPlacesFor (2 ^ bits + 1) tree.old regions.old.roots.roots (leaf_of at.now)) tree.old tree.new at.now.dir at.now.frag bits result }
+    ensures came { CameAt (Rules (state_of tree.old) regions.old.roots.roots (leaf_of at.now)) (IsFamilyOf at.now.dir at.now.frag bits) tree.old.caches tree.new.caches }
+    ensures roots { OnOk result (IsRootSplit regions.old.roots.roots regions.new.roots.roots at.now.dir.0 at.now.frag bits) }
     ensures left { OnErr result (regions.new.roots.roots ≡ regions.old.roots.roots) }
     ensures promises { regions.new.roots.promises ≡ regions.old.roots.promises }
     ensures count { length tree.new.caches.used ≡ length tree.old.caches.used }
     ensures cap { tree.new.caches.cap ≡ tree.old.caches.cap }
     ensures counted { tree.new.faults ≡ tree.old.faults + faults_told (result_err result) }
-    ensures children { OnOk result (GivesToChildren (state_of tree.old) (state_of tree.new) regions.old.roots.roots regions.new.roots.roots dir frag bits) }
+    ensures children { OnOk result (GivesToChildren (state_of tree.old) (state_of tree.new) regions.old.roots.roots regions.new.roots.roots at.now.dir at.now.frag bits) }
     ensures kept { KeepsRoots (state_of tree.old) (state_of tree.new) regions.old.roots.roots regions.new.roots.roots regions.old.exports regions.new.exports }
     ensures divided { IsDivided tree.new regions.new }
 {
-    if let Err(refusal) = reserve_split(tree, &mut regions.roots, dir, frag, bits) {
+    if let Err(refusal) = reserve_split(tree, &mut regions.roots, at, bits) {
         return Err(refusal);
     }
-    if let Err(refusal) = split_held(alloc, tree, regions, dir, frag, bits) {
+    if let Err(refusal) = split_held(alloc, tree, regions, at, bits) {
         return Err(refusal);
     }
-    regions.roots.split_root(dir, frag, bits);
+    regions.roots.split_root(at.dir, at.frag, bits);
     Ok(())
 }
 
-// Merges the leaves of a directory properly inside a fragment, which have one authority, as `MdCache::merge` does and
-// refuses; where one of them is a root the merged leaf is a root of that rank then. Takes memory for that root first.
+// Merges the leaves of a directory properly inside a fragment, which can be merged and have one authority, as
+// `MdCache::merge` does and refuses; where one of them is a root the merged leaf is a root of that rank then. Takes memory for that root first.
 fn merge_with_roots<S: Store + Drop>(
     alloc: Global,
     tree: &mut MdCache<S>,
@@ -111,6 +119,8 @@ fn merge_with_roots<S: Store + Drop>(
     frag: Frag,
 ) -> Result<(), Refusal>
     requires divided { IsDivided tree.old regions.old }
+    requires known { is_known tree.old.homes dir.0 ≡ true }
+    requires can { CanMerge (leaves_of tree.old.covers dir.0) frag }
     requires one { HaveOneAuthority regions.old.roots.roots tree.old.homes tree.old.covers dir.0 frag }
     requires thawed { AreThawed regions.old.exports regions.old.roots.roots tree.old.homes tree.old.covers dir frag }
     ensures merged { MergesLeaves (LacksPlacesInside 1 tree.old regions.old.roots.roots dir frag) tree.old tree.new dir frag result }
@@ -140,22 +150,22 @@ fn split_held<S: Store + Drop>(
     alloc: Global,
     tree: &mut MdCache<S>,
     regions: &Regions,
-    dir: Ino,
-    frag: Frag,
+    at: &Dirfrag,
     bits: u8,
 ) -> Result<(), Refusal>
-    requires live { IsLive tree.old.homes tree.old.covers (dir, frag) }
+    requires known { is_known tree.old.homes at.now.dir.0 ≡ true }
+    requires can { CanSplit (leaves_of tree.old.covers at.now.dir.0) at.now.frag bits }
     requires owned { IsOwned tree.old (held_in regions.now) }
-    requires thawed { IsFrozenIn (state_of tree.old) regions.now (dir, frag) → ⊥ }
-    ensures split { SplitsLeaf (LacksPlacesFor (2 ^ bits + 1) tree.old regions.now.roots.roots (dir, frag)) tree.old tree.new dir frag bits result }
+    requires held { HoldsAt (state_of tree.old) (held_in regions.now) at.now }
+    requires thawed { IsFrozenIn (state_of tree.old) regions.now (leaf_of at.now) → ⊥ }
+    ensures split { SplitsLeaf (LacksPlacesFor (2 ^ bits + 1) tree.old regions.now.roots.roots (leaf_of at.now)) tree.old tree.new at.now.dir at.now.frag bits result }
     ensures count { length tree.new.caches.used ≡ length tree.old.caches.used }
     ensures cap { tree.new.caches.cap ≡ tree.old.caches.cap }
     ensures counted { tree.new.faults ≡ tree.old.faults + faults_told (result_err result) }
-    ensures came { CameAt (Rules (state_of tree.old) regions.now.roots.roots (dir, frag)) (IsFamilyOf dir frag bits) tree.old.caches tree.new.caches }
+    ensures came { CameAt (Rules (state_of tree.old) regions.now.roots.roots (leaf_of at.now)) (IsFamilyOf at.now.dir at.now.frag bits) tree.old.caches tree.new.caches }
     ensures sound { IsSoundCore tree.new }
 {
-    let rank = holder_of(tree, regions, dir, frag);
-    tree.split(alloc, rank, dir, frag, bits)
+    tree.split(alloc, at, bits)
 }
 
 // Merges leaves in the cache of the one rank that holds them.
@@ -179,7 +189,7 @@ fn merge_held<S: Store + Drop>(
     ensures sound { IsSoundCore tree.new }
 {
     let rank = holder_of_all(tree, regions, dir, frag);
-    tree.merge(alloc, rank, dir, frag)
+    tree.merge(alloc, &Dirfrag { dir, frag, rank })
 }
 
 // The rank that holds the leaves of a directory properly inside a fragment, which have one authority.
@@ -204,24 +214,20 @@ fn holder_of_all<S: Store + Drop>(
     }
 }
 
-// Makes room for the roots of a leaf's children, if it can be split.
+// Makes room for the roots of the children of a leaf that can be split.
 fn reserve_split<S: Store + Drop>(
     tree: &MdCache<S>,
     roots: &mut Subtrees,
-    dir: Ino,
-    frag: Frag,
+    at: &Dirfrag,
     bits: u8,
 ) -> Result<(), Refusal>
-    ensures live { OnOk result (IsLive tree.now.homes tree.now.covers (dir, frag)) }
-    ensures fits { OnOk result (FitsSplit frag bits) }
+    requires known { is_known tree.now.homes at.now.dir.0 ≡ true }
+    requires can { CanSplit (leaves_of tree.now.covers at.now.dir.0) at.now.frag bits }
     ensures room { OnOk result (2 ^ bits ≤ roots.new.room) }
-    ensures refused { IfErr result (MayNotSplit ⊥ tree.now tree.now dir frag bits) }
+    ensures refused { IfErr result (MayNotSplit ⊥ tree.now tree.now at.now.dir at.now.frag bits) }
     ensures same { roots.new.roots ≡ roots.old.roots }
     ensures promises { roots.new.promises ≡ roots.old.promises }
 {
-    if let Err(refusal) = tree.check_split(dir, frag, bits) {
-        return Err(refusal);
-    }
     let count: u16 = 1 << bits;
     if let Err(refusal) = tree.check_numbers(u64::from(count)) {
         return Err(refusal);
@@ -232,23 +238,20 @@ fn reserve_split<S: Store + Drop>(
     Ok(())
 }
 
-// Makes room for the root that a merged leaf may be, if leaves can be merged.
+// Makes room for the root that a merged leaf may be, where leaves can be merged.
 fn reserve_merge<S: Store + Drop>(
     tree: &MdCache<S>,
     roots: &mut Subtrees,
     dir: Ino,
     frag: Frag,
 ) -> Result<(), Refusal>
-    ensures known { OnOk result (is_known tree.now.homes dir.0 ≡ true) }
-    ensures can { OnOk result (CanMerge (leaves_of tree.now.covers dir.0) frag) }
+    requires known { is_known tree.now.homes dir.0 ≡ true }
+    requires can { CanMerge (leaves_of tree.now.covers dir.0) frag }
     ensures room { OnOk result (1 ≤ roots.new.room) }
     ensures refused { IfErr result (MayNotMerge ⊥ tree.now tree.now dir frag) }
     ensures same { roots.new.roots ≡ roots.old.roots }
     ensures promises { roots.new.promises ≡ roots.old.promises }
 {
-    if let Err(refusal) = tree.check_merge(dir, frag) {
-        return Err(refusal);
-    }
     if let Err(refusal) = tree.check_numbers(1) {
         return Err(refusal);
     }

@@ -11,11 +11,11 @@ returns-in-Err-clause-counted g c =
     let none = begun_free old new (c.args.ino, c.args.frag) (Err c.in-Err.refusal) c.in-Err.ensures.begun in
     omega (arith, c.begin.ensures.faults, none)
 
-pub returns-then-not-is_authority-clause-begun : goal.returns-then-not-is_authority-clause-begun
-returns-then-not-is_authority-clause-begun g c numbers inboxes pins sessions past = (search rules, stays)
+pub returns-then-not-has_authority-clause-begun : goal.returns-then-not-has_authority-clause-begun
+returns-then-not-has_authority-clause-begun g c numbers inboxes pins sessions past = (search rules, stays)
 
-pub returns-then-not-has_leaf-clause-begun : goal.returns-then-not-has_leaf-clause-begun
-returns-then-not-has_leaf-clause-begun g c numbers inboxes pins sessions past = (search rules, stays)
+pub returns-in_default-clause-begun : goal.returns-in_default-clause-begun
+returns-in_default-clause-begun g c numbers inboxes pins sessions past = (search rules, stays)
 
 pub returns-then-is_frozen-clause-begun : goal.returns-then-is_frozen-clause-begun
 returns-then-is_frozen-clause-begun g c numbers inboxes pins sessions past = (search rules, stays)

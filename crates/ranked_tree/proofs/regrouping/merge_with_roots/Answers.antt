@@ -68,7 +68,7 @@ returns-in-Err-merge_held-clause-divided g c = record {
   owned = record {
     sound = c.in-Err-merge_held.ensures.sound;
     valid = subst (AreRoots (state_of c.merge_held.new.tree)) (sym (ap (λ (r : Roots). holding c.args.regions.now.exports r) c.reserve_merge.ensures.same)) (subst (λ (s : State). AreRoots s (held_in c.args.regions.now)) (sym c.in-Err-merge_held.ensures.merged.1.0) c.requires.divided.owned.valid);
-    held = unmerged_held c.args.tree.now c.merge_held.new.tree (held_in c.args.regions.now) (holding c.args.regions.now.exports c.reserve_merge.new.roots.roots) c.requires.divided.owned c.in-Err-merge_held.ensures.count c.in-Err-merge_held.ensures.sound c.args.dir c.args.frag c.in_default.ensures.known c.in_default.ensures.can
+    held = unmerged_held c.args.tree.now c.merge_held.new.tree (held_in c.args.regions.now) (holding c.args.regions.now.exports c.reserve_merge.new.roots.roots) c.requires.divided.owned c.in-Err-merge_held.ensures.count c.in-Err-merge_held.ensures.sound c.args.dir c.args.frag c.requires.known c.requires.can
         (merged_held c.args.regions.now.exports c.args.regions.now.roots.roots c.args.tree.now c.args.dir c.args.frag c.merge_held.new.tree.caches c.requires.thawed (returns-in-Err-merge_held-clause-came g c)) c.in-Err-merge_held.ensures.merged.1.0 (ap (λ (r : Roots). holding c.args.regions.now.exports r) c.reserve_merge.ensures.same);
   };
   stand = stand_undone c.args.tree.now c.merge_held.new.tree c.args.regions.now.roots c.reserve_merge.new.roots c.args.regions.now.exports c.requires.divided.stand c.in-Err-merge_held.ensures.merged.1.0 c.in-Err-merge_held.ensures.count c.reserve_merge.ensures.same c.reserve_merge.ensures.promises;
@@ -91,10 +91,10 @@ returns-clause-one g c =
     takes_over (state_of c.args.tree.now) (state_of c.merge_held.new.tree) c.args.regions.now.roots.roots c.merge_roots.new.self.roots c.requires.divided.owned.sound.sound c.requires.divided.stand.valid c.args.dir c.args.frag c.in_default-merge_held.ensures.merged.0 (returns-clause-roots g c) c.requires.one
 
 pub returns-clause-kept : goal.returns-clause-kept
-returns-clause-kept g c = merge_keeps_roots c.args.tree.now c.merge_held.new.tree c.args.regions.now.roots c.merge_roots.new.self c.args.regions.now.exports c.requires.divided.owned c.requires.divided.stand c.in_default-merge_held.ensures.sound c.in_default-merge_held.ensures.count c.args.dir c.args.frag c.in_default-merge_held.ensures.merged.0 (returns-clause-roots g c) (returns-clause-promises g c) c.requires.one c.requires.thawed c.in_default.ensures.known (returns-clause-came g c)
+returns-clause-kept g c = merge_keeps_roots c.args.tree.now c.merge_held.new.tree c.args.regions.now.roots c.merge_roots.new.self c.args.regions.now.exports c.requires.divided.owned c.requires.divided.stand c.in_default-merge_held.ensures.sound c.in_default-merge_held.ensures.count c.args.dir c.args.frag c.in_default-merge_held.ensures.merged.0 (returns-clause-roots g c) (returns-clause-promises g c) c.requires.one c.requires.thawed c.requires.known (returns-clause-came g c)
 
 pub returns-clause-divided : goal.returns-clause-divided
 returns-clause-divided g c = record {
-  owned = merge_owned c.args.tree.now c.merge_held.new.tree c.args.regions.now.roots c.merge_roots.new.self c.args.regions.now.exports c.requires.divided.owned c.requires.divided.stand c.in_default-merge_held.ensures.sound c.in_default-merge_held.ensures.count c.args.dir c.args.frag c.in_default-merge_held.ensures.merged.0 (returns-clause-roots g c) (returns-clause-promises g c) c.requires.one c.requires.thawed c.in_default.ensures.known (returns-clause-came g c);
-  stand = merge_stands c.args.tree.now c.merge_held.new.tree c.args.regions.now.roots c.merge_roots.new.self c.args.regions.now.exports c.requires.divided.owned c.requires.divided.stand c.in_default-merge_held.ensures.sound c.in_default-merge_held.ensures.count c.args.dir c.args.frag c.in_default-merge_held.ensures.merged.0 (returns-clause-roots g c) (returns-clause-promises g c) c.requires.one c.requires.thawed c.in_default.ensures.known (returns-clause-came g c);
+  owned = merge_owned c.args.tree.now c.merge_held.new.tree c.args.regions.now.roots c.merge_roots.new.self c.args.regions.now.exports c.requires.divided.owned c.requires.divided.stand c.in_default-merge_held.ensures.sound c.in_default-merge_held.ensures.count c.args.dir c.args.frag c.in_default-merge_held.ensures.merged.0 (returns-clause-roots g c) (returns-clause-promises g c) c.requires.one c.requires.thawed c.requires.known (returns-clause-came g c);
+  stand = merge_stands c.args.tree.now c.merge_held.new.tree c.args.regions.now.roots c.merge_roots.new.self c.args.regions.now.exports c.requires.divided.owned c.requires.divided.stand c.in_default-merge_held.ensures.sound c.in_default-merge_held.ensures.count c.args.dir c.args.frag c.in_default-merge_held.ensures.merged.0 (returns-clause-roots g c) (returns-clause-promises g c) c.requires.one c.requires.thawed c.requires.known (returns-clause-came g c);
 }

@@ -1,21 +1,14 @@
 use Rattle.std.proofs.Common.{◌≡◌, ◌^◌, ℕ, inl, inr, subst, rules}
-use Rattle.fragtree.specs.FragTree.{CanSplit, RefusesSplit}
-use Rattle.inode_table.specs.Dirs.{leaves_of}
 use Rattle.mdcache.specs.Regroups.{LacksCounts}
-use Rattle.ranked_tree.proofs.HeldRegroups.{not_begun}
 use Rattle.mdcache.specs.Core.{state_of}
 use Rattle.ranked_tree.proofs.regrouping.reserve_split.Goals as goal
 
 pub returns-in-Err-clause-refused : goal.returns-in-Err-clause-refused
 returns-in-Err-clause-refused g c =
-    not_begun (CanSplit (leaves_of c.args.tree.now.covers c.args.dir.0) c.args.frag c.args.bits) (RefusesSplit (leaves_of c.args.tree.now.covers c.args.dir.0) c.args.frag c.args.bits) (state_of c.args.tree.now) c.args.dir (2 ^ c.args.bits) _ c.args.tree.now.faults c.args.tree.now.faults c.in-Err.refusal c.in-Err.ensures.refused
-
-pub returns-in-Err-check_numbers-clause-refused : goal.returns-in-Err-check_numbers-clause-refused
-returns-in-Err-check_numbers-clause-refused g c =
     let many : c.from.result ≡ 2 ^ c.args.bits = search rules in
-    inr (inr (c.in_default.ensures.known, c.in_default.ensures.can, inl (c.in-Err-check_numbers.ensures.err.0, subst (λ (n : ℕ). LacksCounts n (state_of c.args.tree.now)) many c.in-Err-check_numbers.ensures.err.1)))
+    inr (inr (c.requires.known, c.requires.can, inl (c.in-Err.ensures.err.0, subst (λ (n : ℕ). LacksCounts n (state_of c.args.tree.now)) many c.in-Err.ensures.err.1)))
 
 pub returns-in-Err-reserve-clause-refused : goal.returns-in-Err-reserve-clause-refused
 returns-in-Err-reserve-clause-refused g c =
     let many : c.from.result ≡ 2 ^ c.args.bits = search rules in
-    inr (inr (c.in_default.ensures.known, c.in_default.ensures.can, inr (subst (λ (n : ℕ). LacksCounts n (state_of c.args.tree.now) → ⊥) many c.in_default-check_numbers.ensures.ok, inl c.in-Err-reserve.ensures.err)))
+    inr (inr (c.requires.known, c.requires.can, inr (subst (λ (n : ℕ). LacksCounts n (state_of c.args.tree.now) → ⊥) many c.in_default.ensures.ok, inl c.in-Err-reserve.ensures.err)))

@@ -9,14 +9,14 @@ use Rattle.ranked_tree.proofs.StandLaws.{thawed_rules}
 use Rattle.ranked_tree.proofs.regrouping.split_held.Goals as goal
 
 pub returns-clause-split : goal.returns-clause-split
-returns-clause-split g c = split_on (LacksPlacesAt (2 ^ c.args.bits + 1) c.args.tree.now c.holder_of-rank.result) (LacksPlacesFor (2 ^ c.args.bits + 1) c.args.tree.now c.args.regions.now.roots.roots (c.args.dir, c.args.frag)) c.args.tree.now c.split.new.self c.args.dir c.args.frag c.args.bits c.split.result (λ lacks. (c.holder_of-rank.result, thawed_rules c.args.regions.now.exports c.args.regions.now.roots.roots c.args.tree.now.homes c.args.tree.now.covers (c.args.dir, c.args.frag) c.holder_of-rank.result c.requires.thawed c.holder_of-rank.ensures.rules, lacks)) c.split.ensures.split
+returns-clause-split g c = split_on (LacksPlacesAt (2 ^ c.args.bits + 1) c.args.tree.now c.args.at.now.rank) (LacksPlacesFor (2 ^ c.args.bits + 1) c.args.tree.now c.args.regions.now.roots.roots (c.args.at.now.dir, c.args.at.now.frag)) c.args.tree.now c.split.new.self c.args.at.now.dir c.args.at.now.frag c.args.bits c.split.result (λ lacks. (c.args.at.now.rank, thawed_rules c.args.regions.now.exports c.args.regions.now.roots.roots c.args.tree.now.homes c.args.tree.now.covers (c.args.at.now.dir, c.args.at.now.frag) c.args.at.now.rank c.requires.thawed c.requires.held, lacks)) c.split.ensures.split
 
 pub returns-clause-count : goal.returns-clause-count
-returns-clause-count g c = came_ranks (IsFamilyAt c.holder_of-rank.result.0 c.args.dir c.args.frag c.args.bits) (λ (r : ℕ) (q : Leaf). IsKeptFor c.args.tree.now.caches r q ⊎ IsFamilyAt c.holder_of-rank.result.0 c.args.dir c.args.frag c.args.bits r q) c.args.tree.now.caches c.split.new.self.caches c.split.ensures.came
+returns-clause-count g c = came_ranks (IsFamilyAt c.args.at.now.rank.0 c.args.at.now.dir c.args.at.now.frag c.args.bits) (λ (r : ℕ) (q : Leaf). IsKeptFor c.args.tree.now.caches r q ⊎ IsFamilyAt c.args.at.now.rank.0 c.args.at.now.dir c.args.at.now.frag c.args.bits r q) c.args.tree.now.caches c.split.new.self.caches c.split.ensures.came
 
 pub returns-clause-cap : goal.returns-clause-cap
-returns-clause-cap g c = came_cap (IsFamilyAt c.holder_of-rank.result.0 c.args.dir c.args.frag c.args.bits) (λ (r : ℕ) (q : Leaf). IsKeptFor c.args.tree.now.caches r q ⊎ IsFamilyAt c.holder_of-rank.result.0 c.args.dir c.args.frag c.args.bits r q) c.args.tree.now.caches c.split.new.self.caches c.split.ensures.came
+returns-clause-cap g c = came_cap (IsFamilyAt c.args.at.now.rank.0 c.args.at.now.dir c.args.at.now.frag c.args.bits) (λ (r : ℕ) (q : Leaf). IsKeptFor c.args.tree.now.caches r q ⊎ IsFamilyAt c.args.at.now.rank.0 c.args.at.now.dir c.args.at.now.frag c.args.bits r q) c.args.tree.now.caches c.split.new.self.caches c.split.ensures.came
 
 pub returns-clause-came : goal.returns-clause-came
-returns-clause-came g c = family_came (state_of c.args.tree.now) c.args.regions.now.roots.roots c.holder_of-rank.result c.args.dir c.args.frag c.args.bits
-    (thawed_rules c.args.regions.now.exports c.args.regions.now.roots.roots c.args.tree.now.homes c.args.tree.now.covers (c.args.dir, c.args.frag) c.holder_of-rank.result c.requires.thawed c.holder_of-rank.ensures.rules) c.args.tree.now.caches c.split.new.self.caches c.split.ensures.came
+returns-clause-came g c = family_came (state_of c.args.tree.now) c.args.regions.now.roots.roots c.args.at.now.rank c.args.at.now.dir c.args.at.now.frag c.args.bits
+    (thawed_rules c.args.regions.now.exports c.args.regions.now.roots.roots c.args.tree.now.homes c.args.tree.now.covers (c.args.at.now.dir, c.args.at.now.frag) c.args.at.now.rank c.requires.thawed c.requires.held) c.args.tree.now.caches c.split.new.self.caches c.split.ensures.came

@@ -2,8 +2,11 @@ use Rattle.std.proofs.Common.{Ok, subst}
 use Rattle.mds_types.specs.Leaf.{leaf_of}
 use Rattle.mdcache.specs.Commits.{Begins}
 use Rattle.mdcache.specs.Core.{state_of}
-use Rattle.mdcache.proofs.BatchLaws.{begin_keeps, begin_refused, refused_keeps}
+use Rattle.mdcache.proofs.BatchLaws.{begin_keeps, begin_refused, refused_keeps, unclean_live}
 use Rattle.mdcache.proofs.mdcache.MdCache.begin_one.Goals as goal
+
+pub begin-requires-clause-live : goal.begin-requires-clause-live
+begin-requires-clause-live g c = unclean_live (state_of c.args.self.now) (leaf_of c.args.at.now) c.requires.sound.sound c.requires.unclean.dirty
 
 pub returns-in-Ok-Some-clause-tree : goal.returns-in-Ok-Some-clause-tree
 returns-in-Ok-Some-clause-tree g c =

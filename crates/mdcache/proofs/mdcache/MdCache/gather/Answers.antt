@@ -1,5 +1,6 @@
 use Rattle.std.specs.FinMap as map
 use Rattle.std.specs.Option.{option_copied}
+use Rattle.mds_types.specs.Leaf.{leaf_of}
 use Rattle.objstore.specs.Omap.{key_cmp}
 use Rattle.sorted_map.specs.Places.{puts}
 use Rattle.cached_frag.specs.Rows.{rows_after}
@@ -17,18 +18,18 @@ gather_at-requires-clause-may g c = given_may c.args.self.now c.give_up.new.self
 
 pub returns-clause-page : goal.returns-clause-page
 returns-clause-page g c whole is = on_ok c.gather_at.result (λ has.
-    given_names (IsThat c.args.rank.0 (c.args.dir, c.args.frag)) c.args.self.now c.give_up.new.self c.gather_at.new.self c.give_up.ensures.reads c.gather_at.ensures.reads c.requires.sound c.gather_at.ensures.none
-    (that_live c.args.self.now c.args.rank.0 (c.args.dir, c.args.frag) c.requires.live)
-    (λ (names : Names). IsPageOf (puts key_cmp whole (rows_after (option_copied c.args.after) (map.entries names))) c.gather_at.new.page) c.args.rank.0 (c.args.dir, c.args.frag) (cached_so _ _ (here c.gather_at.new.self.caches c.args.rank.0 (c.args.dir, c.args.frag)) (λ f each. each whole is) has)) c.gather_at.ensures.page
+    given_names (IsThat c.args.at.now.rank.0 (leaf_of c.args.at.now)) c.args.self.now c.give_up.new.self c.gather_at.new.self c.give_up.ensures.reads c.gather_at.ensures.reads c.requires.sound c.gather_at.ensures.none
+    (that_live c.args.self.now c.args.at.now.rank.0 (leaf_of c.args.at.now) c.requires.live)
+    (λ (names : Names). IsPageOf (puts key_cmp whole (rows_after (option_copied c.args.after) (map.entries names))) c.gather_at.new.page) c.args.at.now.rank.0 (leaf_of c.args.at.now) (cached_so _ _ (here c.gather_at.new.self.caches c.args.at.now.rank.0 (leaf_of c.args.at.now)) (λ f each. each whole is) has)) c.gather_at.ensures.page
 
 pub returns-clause-reads : goal.returns-clause-reads
-returns-clause-reads g c = given_reads (IsThat c.args.rank.0 (c.args.dir, c.args.frag)) c.args.self.now c.give_up.new.self c.gather_at.new.self c.give_up.ensures.reads c.gather_at.ensures.reads
+returns-clause-reads g c = given_reads (IsThat c.args.at.now.rank.0 (leaf_of c.args.at.now)) c.args.self.now c.give_up.new.self c.gather_at.new.self c.give_up.ensures.reads c.gather_at.ensures.reads
 
 pub returns-clause-sound : goal.returns-clause-sound
 returns-clause-sound g c =
-    given_sound (IsThat c.args.rank.0 (c.args.dir, c.args.frag)) c.args.self.now c.give_up.new.self c.gather_at.new.self c.give_up.ensures.reads c.gather_at.ensures.reads c.requires.sound c.gather_at.ensures.none
-    (that_live c.args.self.now c.args.rank.0 (c.args.dir, c.args.frag) c.requires.live)
+    given_sound (IsThat c.args.at.now.rank.0 (leaf_of c.args.at.now)) c.args.self.now c.give_up.new.self c.gather_at.new.self c.give_up.ensures.reads c.gather_at.ensures.reads c.requires.sound c.gather_at.ensures.none
+    (that_live c.args.self.now c.args.at.now.rank.0 (leaf_of c.args.at.now) c.requires.live)
 
 pub returns-clause-refused : goal.returns-clause-refused
 returns-clause-refused g c =
-    if_err _ _ c.gather_at.result (λ reason is. not_found_before NoneUsed (IsKeptFor c.args.self.now.caches) c.args.self.now c.give_up.new.self c.give_up.ensures.reads 1 c.args.rank.0 c.gather_at.new.self.faults reason c.give_up.ensures.faults is) c.gather_at.ensures.refused
+    if_err _ _ c.gather_at.result (λ reason is. not_found_before NoneUsed (IsKeptFor c.args.self.now.caches) c.args.self.now c.give_up.new.self c.give_up.ensures.reads 1 c.args.at.now.rank.0 c.gather_at.new.self.faults reason c.give_up.ensures.faults is) c.gather_at.ensures.refused

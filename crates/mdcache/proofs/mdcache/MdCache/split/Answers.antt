@@ -3,6 +3,3 @@ use Rattle.mdcache.proofs.mdcache.MdCache.split.Goals as goal
 
 pub returns-in-Err-clause-came : goal.returns-in-Err-clause-came
 returns-in-Err-clause-came g c = stays
-
-pub returns-in-Err-check_numbers-clause-came : goal.returns-in-Err-check_numbers-clause-came
-returns-in-Err-check_numbers-clause-came g c = stays
