@@ -1,10 +1,10 @@
 -- Whose a leaf is that was found.
-use Rattle.std.proofs.Common.{◌≡◌, ◌↔◌, ◌∙◌, ℕ, List, refl, sym, Bool, true, false, Option, Some, None, IsTrue, MatchOption, ap, subst}
+use Rattle.std.proofs.Common.{◌≡◌, ◌↔◌, ◌∙◌, ℕ, refl, sym, Bool, true, false, Option, Some, None, IsTrue, MatchOption, ap, subst}
 use Rattle.std.proofs.lemmas.Option.{none-some, same_Some}
 use Rattle.mds_types.specs.declared.ids.Rank.{Rank}
 use Rattle.mds_types.specs.declared.ids.Ino.{Ino}
 use Rattle.mds_types.specs.declared.dirfrags.Dirfrag.{Dirfrag}
-use Rattle.mds_types.specs.Frag.{Fragment, IsFragment}
+use Rattle.mds_types.specs.Frag.{Fragment}
 use Rattle.mds_types.specs.Leaf.{leaf_of}
 use Rattle.mds_types.specs.Tree.{is_directory}
 use Rattle.fragtree.specs.FragTree.{HasLeaf, IsPick}
@@ -17,7 +17,6 @@ use Rattle.ranked_tree.specs.Held.{IsOwned}
 use Rattle.ranked_tree.specs.Subtrees.{HoldsAt, Rules}
 use Rattle.namespace_ops.specs.Places.{IsAt}
 use Rattle.subtree_map.specs.Authority.{HasAuthority, IsLocated, Leaf, Roots}
-use Rattle.subtree_map.proofs.Covers.{contains_start}
 use Rattle.subtree_map.proofs.Nearest.{one_authority}
 
 -- whether the authority that was found is this rank
@@ -56,10 +55,6 @@ leaf_authority roots homes covers dir frag found rank same is = (
   subst (λ (f : Fragment). HasAuthority roots homes covers (dir, f) rank) same is.has,
 )
 
--- the leaf that the value of a leaf picks is that leaf
-pub is_picked : (leaves : List Fragment) (frag found : Fragment) → IsFragment frag → IsPick leaves frag.value found → HasLeaf leaves frag → found ≡ frag
-is_picked leaves frag found valid pick leaf = sym (pick.alone frag leaf (contains_start frag valid))
-
 -- a leaf is held by the rank at which it was found so
 module _ (core : Core) (roots : Roots) (owned : IsOwned core roots) (dir : Ino) (frag : Fragment) (at : Dirfrag) (is : IsAt (shown_tree (state_of core)) core.covers (HoldsAt (state_of core) roots) dir.0 frag.value at) where
   pub found_held : at.frag ≡ frag → IsLive core.homes core.covers (dir, frag) × Rules (state_of core) roots (dir, frag) at.rank
@@ -68,10 +63,6 @@ module _ (core : Core) (roots : Roots) (owned : IsOwned core roots) (dir : Ino) 
         record { known = known_is (shown_tree (state_of core)) core.homes owned.sound.sound.tabled dir.0 ∙ is.stands; stands = subst (HasLeaf (leaves_of core.covers dir.0)) same is.leaf.stands },
         subst (λ (leaf : Leaf). Rules (state_of core) roots leaf at.rank) here is.held,
       )
-
-  -- where another leaf was found, that isn't one
-  pub found_other : IsFragment frag → (at.frag ≡ frag → ⊥) → IsLive core.homes core.covers (dir, frag) → ⊥
-  found_other valid other live = other (is_picked (leaves_of core.covers dir.0) frag at.frag valid is.leaf live.stands)
 
 -- no leaf is in a directory that isn't there
 pub none_held : (core : Core) (roots : Roots) → IsOwned core roots → (dir : Ino) (frag : Fragment) → is_directory (shown_tree (state_of core)) dir.0 ≡ false → IsLive core.homes core.covers (dir, frag) → ⊥

@@ -14,7 +14,7 @@ use Rattle.dentry_cache.specs.Reads.{Reads}
 use Rattle.dentry_cache.proofs.ReadsLaws.{reads_then, reads_weaker}
 use Rattle.inode_table.specs.Dirs.{is_known}
 use Rattle.inode_table.proofs.TableLaws.{may_come}
-use Rattle.namespace_ops.specs.Changes.{Concerns, ConcernsIn, IsChangeIn, IsChangeOf, MayChange, PutsAt, TakesAt, dentry_at}
+use Rattle.namespace_ops.specs.Changes.{Concerns, ConcernsIn, IsChangeIn, MayChange, PutsAt, TakesAt, dentry_at}
 use Rattle.namespace_ops.proofs.Shapes.{Shape, shape_of}
 use Rattle.namespace_ops.proofs.Shapes.Shape.{add, move, remove, set}
 use Rattle.namespace_ops.specs.declared.plans.Change.{Change}

@@ -1,10 +1,16 @@
-use Rattle.std.proofs.Common.{rules}
+use Rattle.std.proofs.Common.{◌≡◌, ℕ, subst, rules}
+use Rattle.namespace_ops.specs.Places.{IsAt}
+use Rattle.mdcache.specs.Core.{state_of}
+use Rattle.mdcache.specs.Shown.{shown_tree}
+use Rattle.ranked_tree.specs.Subtrees.{HoldsAt}
 use Rattle.ranked_tree.specs.Exported.{held_in}
-use Rattle.ranked_tree.proofs.AuthorityLaws.{found_held, found_other, none_held}
+use Rattle.ranked_tree.proofs.AuthorityLaws.{found_held, none_held}
 use Rattle.ranked_tree.proofs.authorities.holder_at.Goals as goal
 
 pub returns-in_default : goal.returns-in_default
-returns-in_default g c = none_held c.args.tree.now (held_in c.args.regions.now) c.requires c.args.dir c.args.frag ?
+returns-in_default g c = none_held c.args.tree.now (held_in c.args.regions.now) c.requires c.args.dir c.args.frag c.in_default.ensures
 
 pub returns : goal.returns
-returns g c = ?
+returns g c =
+    let same : c.in-Some.at.frag ≡ c.args.frag = search rules in
+    found_held c.args.tree.now (held_in c.args.regions.now) c.requires c.args.dir c.args.frag c.in-Some.at (subst (λ (n : ℕ). IsAt (shown_tree (state_of c.args.tree.now)) c.args.tree.now.covers (HoldsAt (state_of c.args.tree.now) (held_in c.args.regions.now)) c.args.dir.0 n c.in-Some.at) c.value.ensures.value c.in-Some.ensures) same

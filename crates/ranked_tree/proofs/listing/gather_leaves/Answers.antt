@@ -1,6 +1,9 @@
-use Rattle.std.proofs.Common.{ℕ, refl, rules, ◌≡◌, None, ap, ◌∙◌}
+use Rattle.std.proofs.Common.{List, ℕ, refl, ◌≡◌, None, ap, subst, ◌∙◌}
 use Rattle.std.specs.Option.{option_copied}
 use Rattle.mds_types.specs.Frag.{Fragment}
+use Rattle.fragtree.specs.FragTree.{HasLeaf}
+use Rattle.inode_table.specs.Dirs.{Covers, leaves_of}
+use Rattle.mdcache.specs.Pages.{gathered}
 use Rattle.mdcache.specs.Shown.{names_of}
 use Rattle.mdcache.specs.State.{State as TreeState}
 use Rattle.mdcache.proofs.FragsLaws.{keeps_itself, keeps_on}
@@ -15,31 +18,43 @@ use Rattle.ranked_tree.proofs.listing.gather_leaves.Goals as goal
 
 pub gather_leaf-requires-clause-live : goal.gather_leaf-requires-clause-live
 gather_leaf-requires-clause-live g c =
-    live_still c.args.tree.now c.loop-leaf.tree (c.args.dir, c.in-Some.leaf) c.loop-leaf.invariant.kept (c.requires.live c.in-Some.leaf (first_within c.in-Some.leaf c.next.new.self c.loop-leaf.leaf-iterator c.args.leaves.now c.in-Some.ensures.steps c.loop-leaf.invariant.within))
+    live_still c.args.tree.now c.loop-frag.tree (c.args.dir, c.in-Some.frag) c.loop-frag.invariant.kept (record { known = c.requires.known; stands = first_within c.in-Some.frag c.next.new.self c.loop-frag.frag-iterator (leaves_of c.args.tree.now.covers c.args.dir.0) c.in-Some.ensures.steps c.loop-frag.invariant.within })
 
-pub loop-leaf-preserved : goal.loop-leaf-preserved
-loop-leaf-preserved g c =
-    let inv = c.loop-leaf.invariant in
+pub loop-frag-preserved : goal.loop-frag-preserved
+loop-frag-preserved g c =
+    let inv = c.loop-frag.invariant in
     let steps = c.in-Some.ensures.steps in
-    let told : names_of (unclean c.loop-leaf.tree.caches) c.loop-leaf.tree.objects (c.args.dir, c.in-Some.leaf) ≡ names_of (unclean c.args.tree.now.caches) c.args.tree.now.objects (c.args.dir, c.in-Some.leaf) = ap (λ (s : TreeState). names_of s.unsaved s.objects (c.args.dir, c.in-Some.leaf)) inv.kept.state in
+    let told : names_of (unclean c.loop-frag.tree.caches) c.loop-frag.tree.objects (c.args.dir, c.in-Some.frag) ≡ names_of (unclean c.args.tree.now.caches) c.args.tree.now.objects (c.args.dir, c.in-Some.frag) = ap (λ (s : TreeState). names_of s.unsaved s.objects (c.args.dir, c.in-Some.frag)) inv.kept.state in
     record {
-      kept = keeps_on c.args.tree.now c.loop-leaf.tree c.gather_leaf.new.tree None inv.kept c.in-Ok.ensures.kept;
-      reads = reads_on (held_in c.args.regions.now) (λ (d : ℕ). d ≡ c.args.dir.0) c.args.tree.now c.loop-leaf.tree c.gather_leaf.new.tree inv.kept inv.reads c.in-Ok.ensures.reads;
+      kept = keeps_on c.args.tree.now c.loop-frag.tree c.gather_leaf.new.tree None inv.kept c.in-Ok.ensures.kept;
+      reads = reads_on (held_in c.args.regions.now) (λ (d : ℕ). d ≡ c.args.dir.0) c.args.tree.now c.loop-frag.tree c.gather_leaf.new.tree inv.kept inv.reads c.in-Ok.ensures.reads;
       owned = c.in-Ok.ensures.owned;
-      within = rest_within c.in-Some.leaf c.next.new.self c.loop-leaf.leaf-iterator c.args.leaves.now steps inv.within;
+      within = rest_within c.in-Some.frag c.next.new.self c.loop-frag.frag-iterator (leaves_of c.args.tree.now.covers c.args.dir.0) steps inv.within;
       most = c.in-Ok.ensures.most ∙ inv.most;
       page = λ whole is.
           let w = inv.page whole is in
-          leaf_more (λ (f : Fragment). names_of (unclean c.args.tree.now.caches) c.args.tree.now.objects (c.args.dir, f)) (option_copied c.args.after) c.in-Some.leaf c.next.new.self c.loop-leaf.leaf-iterator c.args.leaves.now w.0 whole c.loop-leaf.page c.gather_leaf.new.page
-          (names_of (unclean c.loop-leaf.tree.caches) c.loop-leaf.tree.objects (c.args.dir, c.in-Some.leaf)) told steps w.1 w.2 c.in-Ok.ensures.page;
+          leaf_more (λ (f : Fragment). names_of (unclean c.args.tree.now.caches) c.args.tree.now.objects (c.args.dir, f)) (option_copied c.args.after) c.in-Some.frag c.next.new.self c.loop-frag.frag-iterator (leaves_of c.args.tree.now.covers c.args.dir.0) w.0 whole c.loop-frag.page c.gather_leaf.new.page
+          (names_of (unclean c.loop-frag.tree.caches) c.loop-frag.tree.objects (c.args.dir, c.in-Some.frag)) told steps w.1 w.2 c.in-Ok.ensures.page;
     }
 
 pub returns-in-Err-clause-refused : goal.returns-in-Err-clause-refused
 returns-in-Err-clause-refused g c =
-    refused_before c.args.tree.now c.loop-leaf.tree (held_in c.args.regions.now) (c.args.dir, c.in-Some.leaf) c.gather_leaf.new.tree.faults c.in-Err.refusal c.loop-leaf.invariant.kept c.in-Err.ensures.refused
+    refused_before c.args.tree.now c.loop-frag.tree (held_in c.args.regions.now) (c.args.dir, c.in-Some.frag) c.gather_leaf.new.tree.faults c.in-Err.refusal c.loop-frag.invariant.kept c.in-Err.ensures.refused
 
 pub returns-in-Err-clause-reads : goal.returns-in-Err-clause-reads
-returns-in-Err-clause-reads g c = reads_on (held_in c.args.regions.now) (λ (d : ℕ). d ≡ c.args.dir.0) c.args.tree.now c.loop-leaf.tree c.gather_leaf.new.tree c.loop-leaf.invariant.kept c.loop-leaf.invariant.reads c.gather_leaf.ensures.reads
+returns-in-Err-clause-reads g c = reads_on (held_in c.args.regions.now) (λ (d : ℕ). d ≡ c.args.dir.0) c.args.tree.now c.loop-frag.tree c.gather_leaf.new.tree c.loop-frag.invariant.kept c.loop-frag.invariant.reads c.gather_leaf.ensures.reads
 
-pub loop-leaf-init : goal.loop-leaf-init
-loop-leaf-init g c = record { kept = keeps_itself c.args.tree.now; reads = stays; owned = c.requires.owned; within = search rules; most = refl; page = λ whole is. (whole, is, search rules) }
+pub loop-frag-init : goal.loop-frag-init
+loop-frag-init g c =
+    let same : c.into_iter-frag-iterator.result ≡ leaves_of c.args.tree.now.covers c.args.dir.0 = c.into_iter-frag-iterator.ensures.into_iter_gives ∙ c.in_ok-leaves.ensures.leaves ∙ ap (λ (cs : Covers). leaves_of cs c.args.dir.0) c.dirs.ensures.trees in
+    record {
+      kept = keeps_itself c.args.tree.now;
+      reads = stays;
+      owned = c.requires.owned;
+      within = λ f has. subst (λ (fs : List Fragment). HasLeaf fs f) same has;
+      most = refl;
+      page = λ whole is. (whole, is, ap (λ (fs : List Fragment). gathered (λ (f : Fragment). names_of (unclean c.args.tree.now.caches) c.args.tree.now.objects (c.args.dir, f)) (option_copied c.args.after) whole fs) same);
+    }
+
+pub returns-in_err-leaves-clause-reads : goal.returns-in_err-leaves-clause-reads
+returns-in_err-leaves-clause-reads g c = stays

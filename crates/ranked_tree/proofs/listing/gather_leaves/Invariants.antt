@@ -3,6 +3,7 @@ use Rattle.std.proofs.Common.{◌≡◌, List, None}
 use Rattle.std.specs.Option.{option_copied}
 use Rattle.mds_types.specs.Frag.{Fragment}
 use Rattle.cached_frag.specs.Rows.{Row}
+use Rattle.inode_table.specs.Dirs.{leaves_of}
 use Rattle.mdcache.specs.Frags.{KeepsState}
 use Rattle.mdcache.specs.Pages.{IsPageOf, gathered}
 use Rattle.mdcache.specs.Shown.{names_of}
@@ -12,15 +13,15 @@ use Rattle.ranked_tree.specs.Held.{IsOwned, ReadsDir}
 use Rattle.dentry_cache.specs.CacheMap.{unclean}
 use Rattle.ranked_tree.proofs.listing.gather_leaves.Given as goal
 
-abbrev pub invariant-loop-leaf : goal.invariant-loop-leaf
-invariant-loop-leaf g l = record {
+abbrev pub invariant-loop-frag : goal.invariant-loop-frag
+invariant-loop-frag g l = record {
   kept : KeepsState l.fn.tree l.tree None;
   reads : ReadsDir (held_in l.regions) l.dir l.fn.tree l.tree;
   owned : IsOwned l.tree (held_in l.regions);
-  within : AreWithin l.leaf-iterator l.leaves;
+  within : AreWithin l.frag-iterator (leaves_of l.fn.tree.covers l.dir.0);
   most : l.page.most ≡ l.fn.page.most;
   page : (whole : List Row) → IsPageOf whole l.fn.page
       → (now : List Row) × IsPageOf now l.page
-      × (gathered (λ (f : Fragment). names_of (unclean l.fn.tree.caches) l.fn.tree.objects (l.dir, f)) (option_copied l.after) now l.leaf-iterator
-      ≡ gathered (λ (f : Fragment). names_of (unclean l.fn.tree.caches) l.fn.tree.objects (l.dir, f)) (option_copied l.after) whole l.leaves);
+      × (gathered (λ (f : Fragment). names_of (unclean l.fn.tree.caches) l.fn.tree.objects (l.dir, f)) (option_copied l.after) now l.frag-iterator
+      ≡ gathered (λ (f : Fragment). names_of (unclean l.fn.tree.caches) l.fn.tree.objects (l.dir, f)) (option_copied l.after) whole (leaves_of l.fn.tree.covers l.dir.0));
 }

@@ -4,9 +4,15 @@ use Rattle.dentry_cache.proofs.FrameLaws.{came_cap, came_ranks}
 use Rattle.subtree_map.specs.Authority.{Leaf}
 use Rattle.mdcache.specs.Core.{LacksPlacesAt, state_of}
 use Rattle.ranked_tree.specs.Held.{LacksPlacesFor}
+use Rattle.mds_types.specs.Leaf.{leaf_of}
+use Rattle.ranked_tree.specs.Exported.{held_in}
+use Rattle.ranked_tree.proofs.HeldLaws.{may_hold}
 use Rattle.ranked_tree.proofs.HeldRegroups.{family_came, split_on}
 use Rattle.ranked_tree.proofs.StandLaws.{thawed_rules}
 use Rattle.ranked_tree.proofs.regrouping.split_held.Goals as goal
+
+pub split-requires-clause-holds : goal.split-requires-clause-holds
+split-requires-clause-holds g c = may_hold (state_of c.args.tree.now) c.args.tree.now.caches (held_in c.args.regions.now) c.requires.owned.held (leaf_of c.args.at.now) c.args.at.now.rank c.requires.held
 
 pub returns-clause-split : goal.returns-clause-split
 returns-clause-split g c = split_on (LacksPlacesAt (2 ^ c.args.bits + 1) c.args.tree.now c.args.at.now.rank) (LacksPlacesFor (2 ^ c.args.bits + 1) c.args.tree.now c.args.regions.now.roots.roots (c.args.at.now.dir, c.args.at.now.frag)) c.args.tree.now c.split.new.self c.args.at.now.dir c.args.at.now.frag c.args.bits c.split.result (λ lacks. (c.args.at.now.rank, thawed_rules c.args.regions.now.exports c.args.regions.now.roots.roots c.args.tree.now.homes c.args.tree.now.covers (c.args.at.now.dir, c.args.at.now.frag) c.args.at.now.rank c.requires.thawed c.requires.held, lacks)) c.split.ensures.split
