@@ -34,6 +34,7 @@ impl<S: Store + Drop> Cluster<S> {
         frag: Frag,
         bits: u8,
     ) -> Result<Answer, Refusal>
+        requires { AreRoots self.old.state.tree self.old.state.roots }
         ensures split { (past : List Applied) → AtRank self.old self.new past past rank result (Splits self.old self.new past past rank ino frag bits result) }
         ensures kept { KeepsRoots self.old.state.tree self.new.state.tree self.old.state.roots self.new.state.roots self.old.state.exports self.new.state.exports }
         ensures count { length self.new.caches.used ≡ length self.old.caches.used }
@@ -167,6 +168,7 @@ fn split_at<S: Store + Drop>(
     asked: &Dirfrag,
     bits: u8,
 ) -> Result<Answer, Refusal>
+    requires { AreRoots (tree_state tree.old.tree) tree.old.subtrees.roots }
     ensures split { (numbers : List Supply) (inboxes : Waiting) (sessions : Table) (past : List Applied) → Splits (core_of tree.old.tree tree.old.subtrees.roots tree.old.exports numbers inboxes pins.now sessions) (core_of tree.new.tree tree.new.subtrees.roots tree.new.exports numbers inboxes pins.now sessions) past past asked.now.rank asked.now.dir asked.now.frag bits result }
     ensures kept { KeepsRoots (tree_state tree.old.tree) (tree_state tree.new.tree) tree.old.subtrees.roots tree.new.subtrees.roots tree.old.exports tree.new.exports }
     ensures count { length tree.new.tree.caches.used ≡ length tree.old.tree.caches.used }

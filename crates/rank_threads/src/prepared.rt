@@ -23,12 +23,20 @@ pub(crate) struct Ends {
 /// All that a run needs. It keeps no sending end but those of its plans and workers, so each channel ends with them.
 #[derive(Drop)]
 pub(crate) struct Needs<L: Handed> {
-    pub(crate) plans: Vec<Plan<L>>,
+    pub(crate) starts: Starts<L>,
     pub(crate) workers: Vec<Ends>,
     pub(crate) results: Receiver<Finished>,
-    pub(crate) handles: Vec<Working<L>>,
     pub(crate) answers: Vec<Vec<Answered>>,
     pub(crate) commits: Vec<Commit>,
+    /// What the plans leave of the share.
+    pub(crate) all: Share<L>,
+}
+
+/// The plans of the ranks' threads, and room for a handle of each.
+#[derive(Drop)]
+pub(crate) struct Starts<L: Handed> {
+    pub(crate) plans: Vec<Plan<L>>,
+    pub(crate) handles: Vec<Working<L>>,
 }
 
 /// All that a run needs: a plan for each list of turns, which takes a part of the share, and room for all results.
@@ -36,29 +44,30 @@ pub(crate) fn prepare<L: Handed>(
     alloc: Global,
     lists: Vec<Vec<Turn>>,
     workers: u8,
-    all: &mut Share<L>,
+    share: Share<L>,
 ) -> Result<Needs<L>, AllocError>
-    requires { vec_len lists < all.old.parts }
-    ensures turns { IfOk result (λ r. map (λ p. p.turns.items) r.plans.items ≡ lists_of lists.items) }
-    ensures count { IfOk result (λ r. vec_len r.plans ≡ vec_len lists) }
-    ensures empty { IfOk result (λ r. (r.handles.items ≡ []) × (r.answers.items ≡ [])) }
-    ensures parts { IfOk result (λ r. all.new.parts + vec_len lists ≡ all.old.parts) }
-    ensures amount { IfOk result (λ r. all.new.amount ≡ all.old.amount) }
+    requires { vec_len lists < share.parts }
+    ensures turns { IfOk result (λ r. map (λ p. p.turns.items) r.starts.plans.items ≡ lists_of lists.items) }
+    ensures count { IfOk result (λ r. vec_len r.starts.plans ≡ vec_len lists) }
+    ensures empty { IfOk result (λ r. (r.starts.handles.items ≡ []) × (r.answers.items ≡ [])) }
+    ensures parts { IfOk result (λ r. r.all.parts + vec_len lists ≡ share.parts) }
+    ensures amount { IfOk result (λ r. r.all.amount ≡ share.amount) }
 {
+    let mut all = share;
     let handles = Vec::with_capacity(alloc, lists.len())?;
     let answers = Vec::with_capacity(alloc, lists.len())?;
     let commits = Vec::with_capacity(alloc, count_commits(&lists))?;
     let (jobs, from) = crossbeam_channel::unbounded(alloc)?;
     let (to, results) = crossbeam_channel::unbounded(alloc)?;
     let workers = ends_of(alloc, workers, &from, &to)?;
-    let plans = plans_of(alloc, lists, &jobs, all)?;
+    let plans = plans_of(alloc, lists, &jobs, &mut all)?;
     Ok(Needs {
-        plans,
+        starts: Starts { plans, handles },
         workers,
         results,
-        handles,
         answers,
         commits,
+        all,
     })
 }
 

@@ -10,7 +10,7 @@ use crate::plans::Turn;
 use cached_frag::Job;
 use cluster_core::Answer;
 use crossbeam_channel::Sender;
-use mds_types::{Frag, Ino, Rank, Refusal};
+use mds_types::{Dirfrag, Rank, Refusal};
 use objstore::Store;
 use std::alloc::Global;
 use std::snapshot::Snapshot;
@@ -42,6 +42,14 @@ pub(crate) struct Work<L: Handed> {
     pub(crate) share: Share<L>,
     pub(crate) ghost one_part: { share.parts ≡ 1 },
     pub(crate) ghost counted: { share.amount ≡ firsts answers.items },
+}
+
+/// What a rank's thread has of its own while it works: the steps that its rank makes by itself, an end of the channel of jobs, and its share.
+#[derive(Drop)]
+struct Mine<L: Handed> {
+    own: OwnTurns,
+    jobs: Sender<Job>,
+    share: Share<L>,
 }
 
 /// That work has a result for each of these turns.
@@ -93,14 +101,19 @@ fn work_off<S: Store + Drop, L: Handed, G: Gate, R: Wait>(
         turns,
         mut answers,
         jobs,
-        mut share,
+        share,
         ..
     } = plan;
-    let mut own = OwnTurns::new(alloc, rank);
+    let mut mine = Mine {
+        own: OwnTurns::new(alloc, rank),
+        jobs,
+        share,
+    };
     for turn in turns {
-        let answer = take_turn(rt, alloc, desk, &jobs, gate, &mut own, &mut share, turn);
+        let answer = take_turn(rt, alloc, desk, gate, &mut mine, turn);
         put(&mut answers, answer);
     }
+    let Mine { share, .. } = mine;
     finished(answers, share)
 }
 
@@ -128,50 +141,52 @@ fn take_turn<S: Store + Drop, L: Handed, G: Gate, R: Wait>(
     rt: &R,
     alloc: Global,
     desk: &Mutex<Desk<S, L>>,
-    jobs: &Sender<Job>,
     gate: &G,
-    own: &mut OwnTurns,
-    mine: &mut Share<L>,
+    mine: &mut Mine<L>,
     turn: Turn,
 ) -> Answered
-    requires { mine.old.parts ≡ 1 }
-    ensures parts { mine.new.parts ≡ 1 }
-    ensures amount { mine.new.amount ≡ mine.old.amount + first_in result }
+    requires { mine.old.share.parts ≡ 1 }
+    ensures parts { mine.new.share.parts ≡ 1 }
+    ensures amount { mine.new.share.amount ≡ mine.old.share.amount + first_in result }
     ensures fits { FitsTurn turn result }
 {
+    let rank = mine.own.rank;
     match turn {
         Turn::Step(event) => {
-            let answer = lock(desk, rt).step(alloc, mine, event);
+            let answer = lock(desk, rt).step(alloc, &mut mine.share, event);
             if let Ok(Answer::Reply { .. }) = &answer {
-                gate.answered(own.rank);
+                gate.answered(rank);
             }
             answer
         }
         Turn::Commit { ino, frag } => {
-            match begin_commit(rt, alloc, desk, jobs, own.rank, ino, frag) {
+            let leaf = Dirfrag {
+                dir: ino,
+                frag,
+                rank,
+            };
+            match begin_commit(rt, alloc, desk, &mine.jobs, &leaf) {
                 Ok(()) => Ok(Answer::Nothing),
                 Err(refusal) => Err(refusal),
             }
         }
-        Turn::Own => match lock(desk, rt).own(alloc, own) {
+        Turn::Own => match lock(desk, rt).own(alloc, &mut mine.own) {
             Ok(()) => Ok(Answer::Nothing),
             Err(refusal) => Err(refusal),
         },
     }
 }
 
-// Begins a commit and hands its job to the workers. Where it can't be handed on, the commit is given up.
+// Begins a commit of a leaf at a rank, and hands its job to the workers. Where it can't be handed on, the commit is given up.
 fn begin_commit<S: Store + Drop, L: Handed, R: Wait>(
     rt: &R,
     alloc: Global,
     desk: &Mutex<Desk<S, L>>,
     jobs: &Sender<Job>,
-    rank: Rank,
-    ino: Ino,
-    frag: Frag,
+    leaf: &Dirfrag,
 ) -> Result<(), Refusal> {
     // the lock is let go before the job is sent
-    let begun = lock(desk, rt).begin(alloc, rank, ino, frag)?;
+    let begun = lock(desk, rt).begin(alloc, leaf.rank, leaf.dir, leaf.frag)?;
     let Some(job) = begun else {
         return Ok(());
     };

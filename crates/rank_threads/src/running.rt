@@ -54,7 +54,15 @@ where
     ensures agree { IfOk result (λ o. Agree o.book.history (length book.history) o.receipts.items) }
 {
     let blank = Blank::new(plans.len() as u64 + 1);
-    run_as::<S, Brand, G, R>(rt, alloc, book, blank, plans, workers, gate)
+    let asked = Asked { plans, workers };
+    run_as::<S, Brand, G, R>(rt, alloc, book, blank, asked, gate)
+}
+
+// What is asked of a run: the turns of each rank's thread, and how many workers there are.
+#[derive(Drop)]
+struct Asked {
+    plans: Vec<Vec<Turn>>,
+    workers: u8,
 }
 
 // A run of a book under a ledger that was picked for it.
@@ -63,8 +71,7 @@ fn run_as<S, L, G, R>(
     alloc: Global,
     book: Book<S>,
     blank: Blank,
-    lists: Vec<Vec<Turn>>,
-    workers: u8,
+    asked: Asked,
     gate: &G,
 ) -> Result<Outcome<S>, RunError<S>>
 where
@@ -74,26 +81,27 @@ where
     R: Threads + Wait + Sync,
     requires name { blank.name ≡ L.name }
     requires parts { blank.parts ≡ L.parts }
-    requires each { blank.parts ≡ vec_len lists + 1 }
+    requires each { blank.parts ≡ vec_len asked.plans + 1 }
     requires begun { L.begun ≡ book.history }
     requires opened { L.opened ≡ book.opening }
     ensures ok { IfOk result (λ o. Continues book.opening book.history o.book) }
     ensures err { IfErr result (λ e. Continues book.opening book.history e.book) }
-    ensures answered { IfOk result (λ o. PlansAnswered (lists_of lists.items) (lists_of o.answers.items)) }
+    ensures answered { IfOk result (λ o. PlansAnswered (lists_of asked.plans.items) (lists_of o.answers.items)) }
     ensures told { IfOk result (λ o. o.receipts.items ≡ receipts_of_all (lists_of o.answers.items)) }
     ensures agree { IfOk result (λ o. Agree o.book.history (length book.history) o.receipts.items) }
 {
     let from = book.history().len();
     let (mut total, mut all) = blank.open::<L>();
     total.add(&mut all, from as u64);
-    let Ok(needs) = prepare(alloc, lists, workers, &mut all) else {
+    let Asked { plans, workers } = asked;
+    let Ok(needs) = prepare(alloc, plans, workers, all) else {
         return Err(RunError {
             fault: RunFault::NoMemory,
             book,
         });
     };
     let desk = Mutex::new(Desk { book, total });
-    let ran = run_all(rt, alloc, &desk, gate, needs, all);
+    let ran = run_all(rt, alloc, &desk, gate, needs);
     let desk = desk.into_inner();
     match ran {
         Ok(ran) => settled(alloc, desk, from, ran),

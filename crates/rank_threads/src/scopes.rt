@@ -1,13 +1,13 @@
 //! The threads of a run, from their start to their ends.
-ghost use Rattle.std.specs.Prelude.{◌≡◌, ◌+◌, [], IfOk, OnOk, OnSome, map, vec_len};
+ghost use Rattle.std.specs.Prelude.{◌≡◌, ◌+◌, [], IfOk, IfSome, OnOk, map, vec_len};
 ghost use Rattle.rank_threads.specs.Turns.{PlansAnswered, firsts_of_all, lists_of};
 
 use crate::commits::{Commit, end_all};
 use crate::desks::{Desk, Handed};
 use crate::gates::Gate;
 use crate::outcomes::RunFault;
-use crate::prepared::{Ends, Needs};
-use crate::ranks::{Answered, Plan, Work, Working, start};
+use crate::prepared::{Ends, Needs, Starts};
+use crate::ranks::{Answered, Work, Working, start};
 use crate::workers::encode_all;
 use objstore::Store;
 use std::alloc::{AllocError, Global};
@@ -31,29 +31,28 @@ pub(crate) fn run_all<S, L, G, R>(
     desk: &Mutex<Desk<S, L>>,
     gate: &G,
     needs: Needs<L>,
-    all: Share<L>,
 ) -> Result<Ran<L>, RunFault>
 where
     S: Store + Drop + Send,
     L: Handed + Send + Sync,
     G: Gate,
     R: Threads + Wait + Sync,
-    requires { (needs.handles.items ≡ []) × (needs.answers.items ≡ []) }
+    requires { (needs.starts.handles.items ≡ []) × (needs.answers.items ≡ []) }
     ensures answered { IfOk result (λ r.
-        PlansAnswered (map (λ p. p.turns.items) needs.plans.items) (lists_of r.answers.items)) }
-    ensures parts { IfOk result (λ r. r.all.parts ≡ all.parts + vec_len needs.plans) }
-    ensures amount { IfOk result (λ r. r.all.amount ≡ all.amount + firsts_of_all (lists_of r.answers.items)) }
+        PlansAnswered (map (λ p. p.turns.items) needs.starts.plans.items) (lists_of r.answers.items)) }
+    ensures parts { IfOk result (λ r. r.all.parts ≡ needs.all.parts + vec_len needs.starts.plans) }
+    ensures amount { IfOk result (λ r. r.all.amount ≡ needs.all.amount + firsts_of_all (lists_of r.answers.items)) }
 {
     thread::scope(
         thread::scope_env(),
         rt,
         move |scope| -> Result<Ran<L>, RunFault>
-            requires { (needs.handles.items ≡ []) × (needs.answers.items ≡ []) }
+            requires { (needs.starts.handles.items ≡ []) × (needs.answers.items ≡ []) }
             ensures { IfOk result (λ r.
-                PlansAnswered (map (λ p. p.turns.items) needs.plans.items) (lists_of r.answers.items)
-                × (r.all.parts ≡ all.parts + vec_len needs.plans)
-                × (r.all.amount ≡ all.amount + firsts_of_all (lists_of r.answers.items))) }
-        { run_in(scope, rt, alloc, desk, gate, needs, all) },
+                PlansAnswered (map (λ p. p.turns.items) needs.starts.plans.items) (lists_of r.answers.items)
+                × (r.all.parts ≡ needs.all.parts + vec_len needs.starts.plans)
+                × (r.all.amount ≡ needs.all.amount + firsts_of_all (lists_of r.answers.items))) }
+        { run_in(scope, rt, alloc, desk, gate, needs) },
     )
 }
 
@@ -65,38 +64,35 @@ fn run_in<'s, E, S, L, G, R>(
     desk: &'s Mutex<Desk<S, L>>,
     gate: &'s G,
     needs: Needs<L>,
-    all: Share<L>,
 ) -> Result<Ran<L>, RunFault>
 where
     S: Store + Drop + Send + 's,
     L: Handed + Send + Sync + 's,
     G: Gate + 's,
     R: Threads + Wait + Sync + 's,
-    requires { (needs.handles.items ≡ []) × (needs.answers.items ≡ []) }
+    requires { (needs.starts.handles.items ≡ []) × (needs.answers.items ≡ []) }
     ensures answered { IfOk result (λ r.
-        PlansAnswered (map (λ p. p.turns.items) needs.plans.items) (lists_of r.answers.items)) }
-    ensures parts { IfOk result (λ r. r.all.parts ≡ all.parts + vec_len needs.plans) }
-    ensures amount { IfOk result (λ r. r.all.amount ≡ all.amount + firsts_of_all (lists_of r.answers.items)) }
+        PlansAnswered (map (λ p. p.turns.items) needs.starts.plans.items) (lists_of r.answers.items)) }
+    ensures parts { IfOk result (λ r. r.all.parts ≡ needs.all.parts + vec_len needs.starts.plans) }
+    ensures amount { IfOk result (λ r. r.all.amount ≡ needs.all.amount + firsts_of_all (lists_of r.answers.items)) }
 {
     let Needs {
-        plans,
+        starts,
         workers,
         results,
-        mut handles,
         mut answers,
         mut commits,
-        ..
+        mut all,
     } = needs;
-    let mut all = all;
     if !start_workers(scope, rt, alloc, desk, gate, workers) {
         return Err(RunFault::Spawn);
     }
-    let started = start_all(scope, rt, alloc, desk, gate, plans, &mut handles);
+    let started = start_all(scope, rt, alloc, desk, gate, starts);
     // All threads run to their ends, also where one couldn't be made.
     let listed = end_all(rt, alloc, desk, &results, &mut commits);
-    if started.is_none() {
+    let Some(handles) = started else {
         return Err(RunFault::Spawn);
-    }
+    };
     if gather(rt, handles, &mut answers, &mut all).is_err() || !listed {
         return Err(RunFault::NoMemory);
     }
@@ -107,31 +103,31 @@ where
     })
 }
 
-// Starts a thread for each plan, until one can't be made: then none is answered.
+// Starts a thread for each plan, until one can't be made: then none is answered, and those that were made run on.
 fn start_all<'s, E, S, L, G, R>(
     scope: &Scope<'s, E>,
     rt: &'s R,
     alloc: Global,
     desk: &'s Mutex<Desk<S, L>>,
     gate: &'s G,
-    plans: Vec<Plan<L>>,
-    handles: &mut Vec<Working<L>>,
-) -> Option<()>
+    starts: Starts<L>,
+) -> Option<Vec<Working<L>>>
 where
     S: Store + Drop + Send + 's,
     L: Handed + Send + Sync + 's,
     G: Gate + 's,
     R: Threads + Wait + Sync + 's,
-    requires empty { handles.old.items ≡ [] }
-    ensures { OnSome result (
-        map (λ h. h.promise.0.value.items) handles.new.items ≡ map (λ p. p.turns.items) plans.items) }
+    requires empty { starts.handles.items ≡ [] }
+    ensures { IfSome result (λ handles.
+        map (λ h. h.promise.0.value.items) handles.items ≡ map (λ p. p.turns.items) starts.plans.items) }
 {
+    let Starts { plans, mut handles } = starts;
     for plan in plans {
         handles
             .push(start(scope, rt, alloc, desk, gate, plan)?)
             .ok()?;
     }
-    Some(())
+    Some(handles)
 }
 
 // Joins all threads, and gathers their answers and shares.

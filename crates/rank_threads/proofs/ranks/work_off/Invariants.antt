@@ -6,8 +6,8 @@ use Rattle.rank_threads.proofs.ranks.work_off.Given as goal
 -- a result for each turn so far, and room for one of each that is left
 abbrev pub invariant-loop-turn : goal.invariant-loop-turn
 invariant-loop-turn g l = record {
-  parts : l.share.parts ≡ 1;
-  amount : l.share.amount ≡ firsts l.answers.items;
+  parts : l.mine.share.parts ≡ 1;
+  amount : l.mine.share.amount ≡ firsts l.answers.items;
   answered : AreAnswered l.yielded l.answers.items;
   room : vec_len l.answers + into_iter_len l.turn-iterator ≤ vec_capacity l.answers;
 }
