@@ -15,6 +15,8 @@ merge-requires g c =
     let mine : c.is_all_of.result ≡ true = search rules in
     let thawed : c.is_any_frozen.result ≡ false = search rules in
     record {
+      known = c.in_default.ensures.known;
+      can = c.in_default.ensures.can;
       one = one_of_all c.args.tree.now.tree.homes c.args.tree.now.tree.covers c.args.tree.now.subtrees.roots c.args.ino c.args.frag c.args.rank (c.is_all_of.ensures.0 mine);
       thawed = λ leaf inside live frozen. let clash : true ≡ false = sym (c.is_any_frozen.ensures.1 (leaf, live, inside, frozen)) ∙ thawed in cc;
     }
