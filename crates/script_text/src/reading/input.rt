@@ -37,11 +37,13 @@ pub enum Shown {
     InputEnd,
 }
 
-/// Reads the next line into the buffer, without its LF; the last line may have none. Takes no memory. After a fault
-/// the buffer holds a part of a line.
+/// Reads the next line into the buffer, without its LF; the last line may have none. Takes no memory. A failure of the reader is noted
+/// in the buffer where it is answered, and not otherwise. After a fault the buffer holds a part of a line.
 pub fn next_line<R: BufRead>(reader: &mut R, line: &mut LineBuffer) -> Result<NextLine, LineFault>
     ensures line { IfSome (R.remaining reader.old) (λ bytes. GivesLine bytes line.new.line (R.remaining reader.new) result) }
     ensures failed { IfErr result (λ fault. fault ≡ LineFault.Fault → line.new.failed ≡ true) }
+    ensures kept { OnOk result (line.new.failed ≡ line.old.failed) }
+    ensures too_long { IfErr result (λ fault. fault ≡ LineFault.TooLong → line.new.failed ≡ line.old.failed) }
 {
     line.clear();
     'looks: loop {
@@ -65,6 +67,8 @@ fn take_shown<R: BufRead>(reader: &mut R, line: &mut LineBuffer) -> Result<Shown
     ensures short { OnOk result (length line.new.line ≤ 16384) }
     ensures long { IfErr result (λ fault. fault ≡ LineFault.TooLong → IfSome (R.remaining reader.old) (λ bytes. Overflows bytes line.old.line)) }
     ensures failed { IfErr result (λ fault. fault ≡ LineFault.Fault → line.new.failed ≡ true) }
+    ensures kept { OnOk result (line.new.failed ≡ line.old.failed) }
+    ensures too_long { IfErr result (λ fault. fault ≡ LineFault.TooLong → line.new.failed ≡ line.old.failed) }
 {
     let shown = match reader.fill_buf() {
         Ok(shown) => shown,
