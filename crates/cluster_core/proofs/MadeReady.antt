@@ -1,28 +1,50 @@
 -- What was found and why a request isn't made ready, said of the tree before its checks or after them.
-use Rattle.std.proofs.Common.{◌≡◌, ◌⊎◌, ℕ, Bool, MatchBool, List, None, inl, inr, sym, subst}
+use Rattle.std.proofs.Common.{◌≡◌, ◌⊎◌, ℕ, Bool, MatchBool, List, Option, None, Some, inl, inr, refl, sym, ap, subst, ◌∙◌}
 use Rattle.mds_types.specs.declared.ids.Rank.{Rank}
 use Rattle.mds_types.specs.declared.operations.Op.{Op}
 use Rattle.mds_types.specs.declared.refusals.Refusal.{Refusal}
 use Rattle.mds_types.specs.declared.refusals.Refusal.TheVariants.{NoMemory}
-use Rattle.mds_types.specs.Step.{number_or, step}
+use Rattle.mds_types.specs.declared.dirfrags.Dirfrag.{Dirfrag}
+use Rattle.mds_types.specs.declared.ids.Ino.{Ino}
+use Rattle.mds_types.specs.Step.{Outcome, number_or, step}
+use Rattle.objstore.specs.Objects.{faults_in}
+use Rattle.dentry_cache.specs.Reads.Reads.{stays}
 use Rattle.export_steps.specs.Standing.{Standing}
 use Rattle.inboxes.specs.declared.pins.Pin.{Pin}
 use Rattle.inode_table.specs.Numbers.{Supply, offer}
-use Rattle.namespace_ops.specs.Checked.{Checks}
+use Rattle.namespace_ops.specs.Checked.{Checks, IsChecked}
+use Rattle.namespace_ops.specs.declared.plans.Change.{Change}
 use Rattle.namespace_ops.specs.declared.plans.Checked.{Checked}
-use Rattle.namespace_ops.specs.Served.{IsRefused, LacksNumber}
+use Rattle.namespace_ops.specs.Served.{LacksNumber}
 use Rattle.subtree_map.specs.Authority.{Roots}
 use Rattle.mdcache.specs.Core.{state_of as tree_state}
 use Rattle.mdcache.specs.Shown.{shown_tree}
 use Rattle.mdcache.specs.State.{State}
+use Rattle.mdcache.proofs.FragsLaws.{keeps_itself, keeps_refused}
 use Rattle.ranked_tree.specs.Subtrees.{HoldsAt}
 use Rattle.ranked_tree.specs.Ranked.{KeepsRanked, MayRefuse, Ranked, held_roots}
 use Rattle.ranked_tree.proofs.AskLaws.{held_still, ranked_later}
 use Rattle.cluster_core.specs.Master.{MayTouchAllIn, MustWaitIn}
-use Rattle.cluster_core.specs.Prepared.{IsUnready}
+use Rattle.cluster_core.specs.Prepared.{IsUnready, RefusesChange, WhyUnprepared}
+
+-- nothing was prepared: nothing was read, and a number lacks, or memory
+pub unprepared : (old : Ranked) (op : Op) (change : Change) (n : ℕ) (outcome : Outcome) (offered : Option Ino) (Holds : Dirfrag → Type 0) (reason : Refusal) → IsChecked (shown_tree (tree_state old.tree)) old.tree.covers Holds op n outcome change → WhyUnprepared change offered reason
+    → RefusesChange old old op outcome offered reason
+unprepared old op change n outcome offered Holds reason checked why = record { kept = go why; because = told why }
+  where
+    itself : faults_in reason ≡ 0 → KeepsRanked old old op (Some reason)
+    itself none = record { tree = keeps_refused old.tree old.tree reason none (keeps_itself old.tree); roots = refl; exports = refl; reads = stays }
+
+    go : WhyUnprepared change offered reason → KeepsRanked old old op (Some reason)
+    go (inl memory) = itself (ap faults_in memory)
+    go (inr lacks) = itself (ap faults_in lacks.0)
+
+    told : WhyUnprepared change offered reason → LacksNumber outcome offered reason ⊎ ((reason ≡ NoMemory) ⊎ MayRefuse old old op reason)
+    told (inl memory) = inr (inl memory)
+    told (inr lacks) = inl (record { named = lacks.0; absent = lacks.1; taken = checked.number ∙ lacks.2 })
 
 pub still_refused : (old mid new : Ranked) (op : Op) (Touch : Type 0) (limit : ℕ) (supply : Supply) (reason : Refusal) → KeepsRanked old mid op None → limit ≡ old.tree.limit → Touch
-    → IsRefused (shown_tree (tree_state mid.tree)) (shown_tree (tree_state new.tree)) (MayRefuse mid new op) (step limit (shown_tree (tree_state mid.tree)) op (number_or (offer supply))) (offer supply) reason
+    → RefusesChange mid new op (step limit (shown_tree (tree_state mid.tree)) op (number_or (offer supply))) (offer supply) reason
     → IsUnready Touch (MayRefuse old new op) (step old.tree.limit (shown_tree (tree_state old.tree)) op (number_or (offer supply))) (offer supply) reason
 still_refused old mid new op Touch limit supply reason kept is touch refused = go refused.because
   where

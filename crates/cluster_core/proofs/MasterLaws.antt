@@ -12,6 +12,7 @@ use Rattle.mds_types.specs.Shape.{Shape, Looks, Lists, Makes, Sets, Unlinks, Rem
 use Rattle.mds_types.specs.Tree.{Tree}
 use Rattle.fragtree.specs.FragTree.{IsPick}
 use Rattle.inode_table.specs.Dirs.{Covers, leaves_of}
+use Rattle.namespace_ops.specs.declared.locating.Located.{Located}
 use Rattle.namespace_ops.specs.Changes.{in_directory}
 use Rattle.namespace_ops.specs.Picks.{pick_of}
 use Rattle.namespace_ops.specs.Places.{IsAt, Locates, hash_at, main_hash}
@@ -43,17 +44,18 @@ main_located covers op dir f there pick =
     ap (λ (g : Fragment). (dir, g)) (sym (picked (leaves_of covers dir.0) (main_hash op) f pick)) ∙ ap (λ (d : ℕ). in_directory d (pick_of (leaves_of covers d) (main_hash op))) there ∙ sym (main_picked covers (shape op))
 
 -- the authority of the leaf in which that hash falls is the master; where there is no such directory the rank itself is
-pub master_located : (tree : TreeState) (roots held : Roots) (rank : Rank) (op : Op) (found : Option Dirfrag) (master : Rank) → Locates (shown_tree tree) tree.covers (HoldsAt tree held) (destination_of op) (main_hash op) found
-    → MatchOption found (master ≡ rank) (λ at. Rules tree roots (leaf_of at) master) → IsMasterIn tree roots rank op master
+pub master_located : (tree : TreeState) (roots held : Roots) (rank : Rank) (op : Op) (found : Option Located) (master : Rank) → Locates (shown_tree tree) tree.covers (HoldsAt tree held) (destination_of op) (main_hash op) found
+    → MatchOption found (master ≡ rank) (λ located. Rules tree roots (leaf_of located.at) master) → IsMasterIn tree roots rank op master
 master_located tree roots held rank op None master h is = subst (λ (b : Bool). MatchBool b (Rules tree roots (main_leaf tree.covers op) master) (master ≡ rank)) (sym h) is
-master_located tree roots held rank op (Some at) master h is =
-    subst (λ (b : Bool). MatchBool b (Rules tree roots (main_leaf tree.covers op) master) (master ≡ rank)) (sym h.stands)
-    (subst (λ (l : Leaf). Rules tree roots l master) (main_located tree.covers op at.dir at.frag h.dir (subst (λ (d : ℕ). IsPick (leaves_of tree.covers d) (main_hash op) at.frag) (sym h.dir) h.leaf)) is)
+master_located tree roots held rank op (Some located) master h is =
+    let at = located.at in
+    subst (λ (b : Bool). MatchBool b (Rules tree roots (main_leaf tree.covers op) master) (master ≡ rank)) (sym h.at.stands)
+    (subst (λ (l : Leaf). Rules tree roots l master) (main_located tree.covers op at.dir at.frag h.at.dir (subst (λ (d : ℕ). IsPick (leaves_of tree.covers d) (main_hash op) at.frag) (sym h.at.dir) h.at.leaf)) is)
 
 -- a leaf that was found is where a hash falls
-pub where_found : (tree : Tree) (covers : Covers) (Holds : Dirfrag → Type 0) (dir hash : ℕ) (found : Option Dirfrag) → Locates tree covers Holds dir hash found → IfSome found (λ at. (d h : ℕ) × IsAt tree covers Holds d h at)
+pub where_found : (tree : Tree) (covers : Covers) (Holds : Dirfrag → Type 0) (dir hash : ℕ) (found : Option Located) → Locates tree covers Holds dir hash found → IfSome found (λ located. (d h : ℕ) × IsAt tree covers Holds d h located.at)
 where_found tree covers Holds dir hash None h = tt
-where_found tree covers Holds dir hash (Some at) h = (dir, hash, h)
+where_found tree covers Holds dir hash (Some located) h = (dir, hash, h.at)
 
 -- those that are held among some leaves
 pub held_exactly : (tree : TreeState) (roots : Roots) (rank : Rank) (leaves held : List Leaf) → AreHeldAmong tree roots rank leaves held → (leaf : Leaf) → Contains held leaf ↔ (Contains leaves leaf × Rules tree roots leaf rank)

@@ -145,7 +145,7 @@ module _ (limit : ℕ) (objects : Objects) (ranks places : ℕ) (t : TreeCore) (
     replayed = sym opens;
     tree = record { sound = owned.sound.sound; begun = owned.sound.begun; cached = owned.sound.cached };
     subtrees = owned.valid;
-    cached = record { unsaved = refl; places = (t.kept, owned.sound.kept); held = subst (AreHeld (state_of t) t.caches) (sym (none_stand finmap.empty roots refl)) owned.held; orders = caches };
+    cached = record { unsaved = refl; places = owned.sound.none; held = subst (AreHeld (state_of t) t.caches) (sym (none_stand finmap.empty roots refl)) owned.held; orders = caches };
     exported = stand_alone core refl owned.held.ranks;
     ranks = record {
       some = let count = given.count in omega (arith, count, some);

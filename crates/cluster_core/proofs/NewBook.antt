@@ -10,7 +10,7 @@ use Rattle.mds_types.specs.Leaf.{Leaf, leaf_cmp}
 use Rattle.mds_types.specs.declared.ids.Rank.{Rank}
 use Rattle.export_steps.specs.declared.exports.StandingExport.{StandingExport}
 use Rattle.export_steps.specs.Standing.{Standing}
-use Rattle.inode_table.specs.Numbers.{Supply, first_number}
+use Rattle.inode_table.specs.Numbers.{first_number}
 use Rattle.dentry_cache.specs.CacheMap.{first, no_caches, order}
 use Rattle.mdcache.specs.New.{new_caches, root_leaf}
 use Rattle.mdcache.proofs.NewLaws.{new_tree}
@@ -30,9 +30,6 @@ unused-empty n low (inr (inl (k, below, is))) =
 unused-empty n low (inr (inr (k, x, below, is, took))) = omega arith
 
 -- ---- supplies
-
-supply_at : ℕ → Supply
-supply_at rank = record { rank = rank; next = first_number rank }
 
 as_many : (first count : ℕ) → length (whole_supplies first count) ≡ count
 as_many first zero = refl

@@ -1,7 +1,6 @@
 -- What serving makes of the tree and of what stands beside it, said of the cluster's state.
-use Rattle.std.proofs.Common.{◌≡◌, ◌≢◌, ◌<◌, ℕ, cond, true, List, [], ◌∷◌, ◌++◌, Option, Some, None, Result, Ok, Err, length, set, false, inl, inr, ◌⊎◌, refl, sym, ap, subst, ◌∙◌, arith}
+use Rattle.std.proofs.Common.{◌≡◌, ◌≢◌, ◌<◌, ℕ, Bool, cond, true, List, [], ◌∷◌, ◌++◌, Option, Some, None, Result, Ok, Err, length, set, false, inl, inr, ◌⊎◌, refl, sym, ap, subst, ◌∙◌}
 use Rattle.std.proofs.lemmas.List.{set-get_or}
-use Rattle.std.specs.List.{slice_index_or}
 use Rattle.mds_types.specs.declared.ids.Ino.{Ino}
 use Rattle.mds_types.specs.declared.ids.Rank.{Rank}
 use Rattle.mds_types.specs.declared.entries.Entry.{Entry}
@@ -9,28 +8,31 @@ use Rattle.mds_types.specs.declared.operations.Op.{Op}
 use Rattle.mds_types.specs.declared.replies.Reply.{Reply as Replied}
 use Rattle.mds_types.specs.declared.requests.Request.{Request}
 use Rattle.mds_types.specs.declared.refusals.Refusal.{Refusal}
-use Rattle.mds_types.specs.declared.refusals.Refusal.TheVariants.{InboxEmpty, NoMemory, NoInodes, Trimmed}
+use Rattle.mds_types.specs.declared.refusals.Refusal.TheVariants.{NoMemory, NoInodes}
 use Rattle.mds_types.specs.declared.dirfrags.Dirfrag.{Dirfrag}
 use Rattle.mds_types.specs.Frag.{root_fragment}
+use Rattle.mds_types.specs.Tree.{Tree}
 use Rattle.mds_types.specs.Step.{Outcome, answers, number_or, step}
-use Rattle.mds_types.specs.History.{IsKeptAt, IsNew, IsTrimmed}
+use Rattle.mds_types.specs.History.{IsNew}
 use Rattle.dentry_cache.specs.Cache.{Leaf}
 use Rattle.export_steps.specs.Standing.{Standing}
 use Rattle.inboxes.specs.declared.pins.Pin.{Pin}
-use Rattle.inboxes.specs.Inboxes.{Inboxes, IsOut, TakesAt, waiting_at, with_first, with_last}
+use Rattle.inboxes.specs.Inboxes.{Inboxes, IsOut, waiting_at, with_first, with_last}
 use Rattle.inboxes.proofs.OutLaws.{goes_behind, out_again, waits_elsewhere, waits_first}
-use Rattle.inode_table.specs.Dirs.{leaves_of}
+use Rattle.inode_table.specs.Dirs.{Covers, leaves_of}
 use Rattle.inode_table.specs.Numbers.{Supply, offer}
 use Rattle.sessions.specs.Table.{Table, noted, trimmed}
 use Rattle.subtree_map.specs.Authority.{Roots}
 use Rattle.namespace_ops.specs.declared.plans.Change.{Change}
 use Rattle.namespace_ops.specs.declared.plans.Checked.{Checked}
 use Rattle.namespace_ops.specs.declared.plans.Checked.TheVariants.{Answers}
-use Rattle.namespace_ops.specs.Checked.{Checks}
+use Rattle.namespace_ops.specs.ChangedFragments.{changed_fragments}
+use Rattle.namespace_ops.specs.Checked.{Checks, IsChecked}
 use Rattle.namespace_ops.specs.Changes.{fragments_in, is_idle}
 use Rattle.namespace_ops.specs.Kept.{ChangesOnly}
-use Rattle.namespace_ops.specs.Planned.{after_plan}
+use Rattle.namespace_ops.specs.Planned.{IsOneOf, after_plan}
 use Rattle.namespace_ops.specs.Served.{LacksNumber}
+use Rattle.namespace_ops.proofs.ChangedLaws.{fragments_are}
 use Rattle.mdcache.specs.Made.{IsUntouched}
 use Rattle.mdcache.specs.Shown.{shown_tree}
 use Rattle.mdcache.specs.State.{State as TreeState}
@@ -41,25 +43,45 @@ use Rattle.cluster_core.specs.State.{State, no_supply, state_of, supply_of}
 use Rattle.cluster_core.specs.Master.{IsMasterIn, MayTouchAllIn, MustWaitIn}
 use Rattle.cluster_core.specs.Offer.{after_taking}
 use Rattle.cluster_core.specs.Prepared.{IsPrepared, IsUnready, outcome_with}
-use Rattle.cluster_core.specs.Serve.{CarryLeaves, FollowPlanned, ForwardsTo, IsLeft, IsTakenOut, MakesPlanned, Repeats, Replies, ServesInbox, entry_of, number_of, went_with, with_entry, without_gone, without_request}
+use Rattle.cluster_core.specs.Serve.{CarryLeaves, FollowPlanned, ForwardsTo, IsLeft, IsTakenOut, MakesPlanned, Replies, ServesInbox, entry_of, number_of, went_with, with_entry, without_gone, without_request}
 use Rattle.cluster_core.proofs.Idle.{idle_fragments}
-
--- a new request is not trimmed
-not_trimmed : (past : List Entry) (client tid oldest : ℕ) → IsNew past client tid oldest → IsTrimmed past client tid oldest → ⊥
-not_trimmed past client tid oldest new (inl below) = omega (arith, below, new.marked)
-not_trimmed past client tid oldest new (inr below) = omega (arith, below, new.own)
 
 -- what was taken out is said of the inboxes before
 pub before_taking : (P : Inboxes → List Request → Type 0) (old mid : Inboxes) (rank : Rank) (request : Request) → IsOut old mid rank request → P (with_first mid rank request) (request ∷ waiting_at mid rank) → P old (waiting_at old rank)
 before_taking P old mid rank request out h =
     subst (λ (o : Inboxes). P o (waiting_at o rank)) out.back (subst (P (with_first mid rank request)) (sym (waits_first mid rank request out.there)) h)
 
-module _ (f : TreeState) (roots : Roots) (exports : Standing) (numbers : List Supply) (mid : Inboxes) (pins : List Pin) (sessions : Table) (past : List Entry) (rank : Rank) (MayRefuse : Op → Refusal → Type 0) where
-  -- nothing waits
-  pub nothing_waits : (now : Inboxes) (w : List Request) (front : Option Request) → front ≡ None → TakesAt mid now rank front w → ServesInbox (state_of f roots exports numbers mid pins sessions) (state_of f roots exports numbers now pins sessions) past past MayRefuse rank (Err InboxEmpty) w
-  nothing_waits now [] front none taken = (refl, record { same = refl; left = λ i. record { tree = f; roots = roots; exports = exports; numbers = numbers; inboxes = taken.1 i; pins = pins; sessions = sessions } })
-  nothing_waits now (request ∷ rest) front none taken = let clash : None ≡ Some request = sym none ∙ taken.0 in absurd cc
+-- what stands beside the tree is what the table answers and takes, and the change, if there is one, leads to the table's tree
+pub record IsOutcome (limit : ℕ) (tree : Tree) (covers : Covers) (op : Op) (outcome : Outcome) (numbers : Supply) (change : Option Change) (prepared : Prepared) : Type 0 where
+  pub replied : prepared.reply ≡ outcome.reply
+  pub copied : prepared.answer ≡ outcome.reply
+  pub kept : prepared.kept ≡ outcome.reply
+  pub took : prepared.number ≡ cond outcome.takes (offer numbers) None
+  pub numbered : offer numbers ≡ None → outcome.takes ≡ false
+  pub drawn : prepared.numbers ≡ after_taking numbers prepared.number
+  pub went : prepared.went ≡ went_with change
+  pub leads : after_plan tree change ≡ outcome.tree
+  pub one_of : IsOneOf op change
+  pub fragments : fragments_in covers change ≡ changed_fragments limit covers tree op
 
+-- so it is of a change that the checks found
+pub outcome_of_change : (limit : ℕ) (tree : Tree) (covers : Covers) (Holds : Dirfrag → Type 0) (op : Op) (numbers : Supply) (change : Change) (prepared : Prepared)
+    → IsChecked tree covers Holds op (number_or (offer numbers)) (step limit tree op (number_or (offer numbers))) change → IsPrepared change numbers prepared
+    → IsOutcome limit tree covers op (step limit tree op (number_or (offer numbers))) numbers (Some change) prepared
+outcome_of_change limit tree covers Holds op numbers change prepared checked is = record {
+  replied = is.replied ∙ sym checked.replied;
+  copied = is.copied ∙ sym checked.replied;
+  kept = is.kept ∙ sym checked.replied;
+  took = is.took ∙ ap (λ (b : Bool). cond b (offer numbers) None) (sym checked.number);
+  numbered = λ none. checked.number ∙ is.given none;
+  drawn = is.drawn;
+  went = is.went;
+  leads = sym checked.leads;
+  one_of = checked.one_of;
+  fragments = fragments_are limit tree covers Holds op (number_or (offer numbers)) change checked;
+}
+
+module _ (f : TreeState) (roots : Roots) (exports : Standing) (numbers : List Supply) (mid : Inboxes) (pins : List Pin) (sessions : Table) (past : List Entry) (rank : Rank) (MayRefuse : Op → Refusal → Type 0) where
   -- one request was taken out
   module _ (request : Request) where
     abbrev before : Inboxes
@@ -74,34 +96,6 @@ module _ (f : TreeState) (roots : Roots) (exports : Standing) (numbers : List Su
     -- another rank's inbox is as it was before
     elsewhere : (master : Rank) → master ≢ rank → waiting_at before master ≡ waiting_at mid master
     elsewhere master other = waits_elsewhere mid rank request master (λ e. other (λ i. record { 0 = e i }))
-
-    -- ---- before it is told whether the request is new
-
-    pub trimmed_out : (pins_now : List Pin) → IsTrimmed past request.client request.tid request.oldest → pins_now ≡ without_request pins request
-        → ServesInbox old (state_of f roots exports numbers mid pins_now sessions) past past MayRefuse rank (Err Trimmed) (request ∷ rest)
-    trimmed_out pins_now late ends = inl (
-      refl,
-      late,
-      record {
-        same = refl;
-        left = λ i. record { tree = f; roots = roots; exports = exports; numbers = numbers; inboxes = sym (out_again mid rank request) i; pins = ends i; sessions = sessions };
-      },
-    )
-
-    pub answered_again : (inboxes_now : Inboxes) (pins_now : List Pin) (place : ℕ) (said : Replied) (result : Result Answer Refusal)
-        → IsKeptAt past request.client request.tid request.oldest place → ((e : Entry) → said ≡ (slice_index_or past place e).reply)
-        → Repeats mid inboxes_now pins pins_now rank request place said result → ServesInbox old (state_of f roots exports numbers inboxes_now pins_now sessions) past past MayRefuse rank result (request ∷ rest)
-    answered_again inboxes_now pins_now place said (Ok answer) kept is h = inr (inl (record {
-      place = place;
-      kept = kept;
-      answered = λ e. h.0 ∙ ap (λ (r : Replied). Reply request.client request.tid place false r) (is e);
-      out = record {
-        same = refl;
-        left = λ i. record { tree = f; roots = roots; exports = exports; numbers = numbers; inboxes = (h.1 ∙ sym (out_again mid rank request)) i; pins = h.2 i; sessions = sessions };
-      };
-    }))
-    answered_again inboxes_now pins_now place said (Err reason) kept is h =
-        inr (inr (inr (inl (h.0, inl (place, kept), record { same = refl; left = λ i. record { tree = f; roots = roots; exports = exports; numbers = numbers; inboxes = h.1 i; pins = h.2 i; sessions = sessions } }))))
 
     -- ---- a new request
 
@@ -172,17 +166,17 @@ module _ (f : TreeState) (roots : Roots) (exports : Standing) (numbers : List Su
         left = λ i. record { tree = follows i; roots = rooted i; exports = stood i; numbers = unused i; inboxes = (turned ∙ goes_behind mid rank request) i; pins = pins; sessions = known i };
       })))
 
-      -- a request that was prepared, and then applied
-      module _ (h : TreeState) (roots_now : Roots) (exports_now : Standing) (stand : exports_now ≡ between_exports) (numbers_after : List Supply) (pins_now : List Pin) (sessions_now : Table) (now : List Entry) (IsReady : Change → Type 0) (prepared : Prepared) (answer : Answer)
+      -- a request whose change was made, or that makes none, and that was applied then
+      module _ (h : TreeState) (roots_now : Roots) (exports_now : Standing) (stand : exports_now ≡ between_exports) (numbers_after : List Supply) (pins_now : List Pin) (sessions_now : Table) (now : List Entry) (change : Option Change) (prepared : Prepared) (answer : Answer)
           (may : MayTouchAllIn f roots exports pins rank request.client request.tid request.op)
-          (planned : IsPrepared f.limit (shown_tree f) f.covers IsReady request.op (outcome_with f (supply_of old rank) request.op) (supply_of old rank) prepared)
-          (tree : shown_tree h ≡ after_plan (shown_tree g) prepared.plan.change)
-          (made : MakesPlanned prepared.plan.change g h)
+          (is : IsOutcome f.limit (shown_tree f) f.covers request.op (outcome_with f (supply_of old rank) request.op) (supply_of old rank) change prepared)
+          (tree : shown_tree h ≡ after_plan (shown_tree g) change)
+          (made : MakesPlanned change g h)
           (leaves : CarryLeaves (shown_tree g) (shown_tree h) g.covers h.covers)
-          (frame : ChangesOnly (IsUntouched g h) (fragments_in g.covers prepared.plan.change))
-          (followed : FollowPlanned prepared.plan.change g between_roots roots_now)
-          (ended : pins_now ≡ without_gone (without_request pins request) (went_with prepared.plan.change))
-          (appended : now ≡ middle ++ record { client = request.client; tid = request.tid; oldest = request.oldest; op = request.op; number = prepared.plan.number; reply = prepared.plan.reply } ∷ [])
+          (frame : ChangesOnly (IsUntouched g h) (fragments_in g.covers change))
+          (followed : FollowPlanned change g between_roots roots_now)
+          (ended : pins_now ≡ without_gone (without_request pins request) prepared.went)
+          (appended : now ≡ middle ++ record { client = request.client; tid = request.tid; oldest = request.oldest; op = request.op; number = prepared.number; reply = prepared.reply } ∷ [])
           (drawn : numbers_after ≡ set numbers_now rank.0 prepared.numbers)
           (noted_now : sessions_now ≡ trimmed (noted between request.client request.tid request.oldest (length middle) prepared.kept) request.client)
           (answered : answer ≡ Reply request.client request.tid (length middle) true prepared.answer) where
@@ -192,14 +186,14 @@ module _ (f : TreeState) (roots : Roots) (exports : Standing) (numbers : List Su
         num : numbers_after ≡ set numbers rank.0 (after_taking (supply_of old rank) (number_of old rank request))
         num =
             drawn ∙ ap (λ (n : List Supply). set n rank.0 prepared.numbers) unused
-            ∙ ap (set numbers rank.0) (planned.drawn ∙ ap (after_taking (supply_of old rank)) planned.planned.took)
+            ∙ ap (set numbers rank.0) (is.drawn ∙ ap (after_taking (supply_of old rank)) is.took)
 
         ses : sessions_now ≡ with_entry sessions (length past) (entry_of old rank request)
         ses =
             noted_now
             ∙ ap (λ t. trimmed (noted t request.client request.tid request.oldest (length middle) prepared.kept) request.client) known
             ∙ ap (λ m. trimmed (noted sessions request.client request.tid request.oldest (length m) prepared.kept) request.client) past_is
-            ∙ ap (λ r. trimmed (noted sessions request.client request.tid request.oldest (length past) r) request.client) (planned.kept ∙ planned.planned.replied)
+            ∙ ap (λ r. trimmed (noted sessions request.client request.tid request.oldest (length past) r) request.client) is.kept
 
         pub served_new : ServesInbox old (state_of h roots_now exports_now numbers_after mid pins_now sessions_now) past now MayRefuse rank (Ok answer) (request ∷ rest)
         served_new = inl (record {
@@ -208,25 +202,25 @@ module _ (f : TreeState) (roots : Roots) (exports : Standing) (numbers : List Su
           may = may;
           answered =
               answered ∙ ap (λ m. Reply request.client request.tid (length m) true prepared.answer) past_is
-              ∙ ap (λ r. Reply request.client request.tid (length past) true r) (planned.copied ∙ planned.planned.replied);
-          numbered = planned.planned.numbered;
+              ∙ ap (λ r. Reply request.client request.tid (length past) true r) is.copied;
+          numbered = is.numbered;
           appended =
-              appended ∙ ap (λ n. middle ++ entry n prepared.plan.reply ∷ []) planned.planned.took ∙ ap (λ r. middle ++ entry (number_of old rank request) r ∷ []) planned.planned.replied
+              appended ∙ ap (λ n. middle ++ entry n prepared.reply ∷ []) is.took ∙ ap (λ r. middle ++ entry (number_of old rank request) r ∷ []) is.replied
               ∙ ap (λ m. m ++ entry_of old rank request ∷ []) past_is;
-          tree = tree ∙ ap (λ s. after_plan (shown_tree s) prepared.plan.change) follows ∙ planned.planned.leads;
+          tree = tree ∙ ap (λ s. after_plan (shown_tree s) change) follows ∙ is.leads;
           made = record {
-            change = prepared.plan.change;
-            one_of = planned.planned.one_of;
-            leads = planned.planned.leads;
-            fragments = planned.planned.fragments;
-            made = subst (λ (s : TreeState). MakesPlanned prepared.plan.change s h) follows made;
-            roots = subst (λ (s : TreeState). FollowPlanned prepared.plan.change s roots roots_now) follows (subst (λ (r : Roots). FollowPlanned prepared.plan.change g r roots_now) rooted followed);
-            pins = ended;
+            change = change;
+            one_of = is.one_of;
+            leads = is.leads;
+            fragments = is.fragments;
+            made = subst (λ (s : TreeState). MakesPlanned change s h) follows made;
+            roots = subst (λ (s : TreeState). FollowPlanned change s roots roots_now) follows (subst (λ (r : Roots). FollowPlanned change g r roots_now) rooted followed);
+            pins = ended ∙ ap (without_gone (without_request pins request)) is.went;
           };
           leaves = subst (λ (s : TreeState). CarryLeaves (shown_tree s) (shown_tree h) s.covers h.covers) follows leaves;
           frame =
-              subst (λ (leaves : List Leaf). ChangesOnly (IsUntouched f h) leaves) planned.planned.fragments
-              (subst (λ (s : TreeState). ChangesOnly (IsUntouched s h) (fragments_in s.covers prepared.plan.change)) follows frame);
+              subst (λ (leaves : List Leaf). ChangesOnly (IsUntouched f h) leaves) is.fragments
+              (subst (λ (s : TreeState). ChangesOnly (IsUntouched s h) (fragments_in s.covers change)) follows frame);
           left = λ i. record { tree = h; roots = roots_now; exports = (stand ∙ stood) i; numbers = num i; inboxes = sym (out_again mid rank request) i; pins = pins_now; sessions = ses i };
         })
 
@@ -239,25 +233,22 @@ module _ (f : TreeState) (roots : Roots) (exports : Standing) (numbers : List Su
         outcome_is : outcome_with f (supply_of old rank) request.op ≡ answers (shown_tree f) said
         outcome_is = (λ i. step (sym limit_is i) (shown_tree f) request.op (sym (n_is ∙ ap (λ (s : Supply). number_or (offer s)) left) i)) ∙ told.0
 
-        -- nothing more is to be made ready
+        -- nothing changes, and no number is taken
         abbrev readily : Prepared
-        readily = record { plan = record { reply = said; change = None; number = None }; answer = said; kept = said; numbers = supply_of old rank }
+        readily = record { reply = said; answer = said; kept = said; number = None; numbers = supply_of old rank; went = None }
 
-        planned_so : IsPrepared f.limit (shown_tree f) f.covers (λ (change : Change). Unit {0}) request.op (outcome_with f (supply_of old rank) request.op) (supply_of old rank) readily
-        planned_so = record {
-          planned = record {
-            replied = sym (ap (λ (o : Outcome). o.reply) outcome_is);
-            leads = sym (ap (λ (o : Outcome). o.tree) outcome_is);
-            ready = tt;
-            took = sym (ap (λ (o : Outcome). cond o.takes (offer (supply_of old rank)) None) outcome_is);
-            numbered = λ none. ap (λ (o : Outcome). o.takes) outcome_is;
-            one_of = tt;
-            idle = λ still. refl;
-            fragments = sym (idle_fragments f.limit f.covers (shown_tree f) request.op (number_or (offer (supply_of old rank))) said outcome_is told.1);
-          };
-          copied = refl;
-          kept = refl;
+        outcome_so : IsOutcome f.limit (shown_tree f) f.covers request.op (outcome_with f (supply_of old rank) request.op) (supply_of old rank) None readily
+        outcome_so = record {
+          replied = sym (ap (λ (o : Outcome). o.reply) outcome_is);
+          copied = sym (ap (λ (o : Outcome). o.reply) outcome_is);
+          kept = sym (ap (λ (o : Outcome). o.reply) outcome_is);
+          took = sym (ap (λ (o : Outcome). cond o.takes (offer (supply_of old rank)) None) outcome_is);
+          numbered = λ none. ap (λ (o : Outcome). o.takes) outcome_is;
           drawn = refl;
+          went = refl;
+          leads = sym (ap (λ (o : Outcome). o.tree) outcome_is);
+          one_of = tt;
+          fragments = sym (idle_fragments f.limit f.covers (shown_tree f) request.op (number_or (offer (supply_of old rank))) said outcome_is told.1);
         }
 
         pub replied : (inboxes_now : Inboxes) (pins_now : List Pin) (sessions_now : Table) (now : List Entry) (numbers_after : List Supply) (result : Result Answer Refusal)
@@ -266,7 +257,7 @@ module _ (f : TreeState) (roots : Roots) (exports : Standing) (numbers : List Su
             → ServesInbox old (state_of g between_roots between_exports numbers_after inboxes_now pins_now sessions_now) past now MayRefuse rank result (request ∷ rest)
         replied inboxes_now pins_now sessions_now now numbers_after (Ok answer) may same h =
             subst (λ (o : Inboxes). ServesInbox old (state_of g between_roots between_exports numbers_after o pins_now sessions_now) past now MayRefuse rank (Ok answer) (request ∷ rest)) (sym h.inboxes)
-            (served_new g between_roots between_exports refl numbers_after pins_now sessions_now now (λ (change : Change). Unit {0}) readily answer may planned_so
+            (served_new g between_roots between_exports refl numbers_after pins_now sessions_now now None readily answer may outcome_so
             refl refl (λ d there. sym (ap (λ b. cond b (leaves_of g.covers d) (root_fragment ∷ [])) there)) (λ leaf out live. record { live = live; names = refl }) refl h.pins h.appended
             (same ∙ unused ∙ sym (set-get_or numbers rank.0 no_supply) ∙ ap (λ (l : List Supply). set l rank.0 (supply_of old rank)) (sym unused)) h.noted h.answered)
         replied inboxes_now pins_now sessions_now now numbers_after (Err reason) may same h = inr (inr (inr (inl (

@@ -14,27 +14,29 @@ use Rattle.mds_types.specs.Shape.{shape}
 use Rattle.mds_types.specs.Step.{Outcome}
 use Rattle.dentry_cache.specs.Cache.{Leaf}
 use Rattle.dentry_cache.specs.CacheMap.{CacheMap}
-use Rattle.dentry_cache.specs.Came.{Came}
+use Rattle.dentry_cache.specs.Came.{Came, NoneEnds}
 use Rattle.dentry_cache.specs.Came.Came.{stays as nothing_came}
 use Rattle.dentry_cache.specs.Reads.Reads.{stays as nothing_read}
 use Rattle.dentry_cache.proofs.FrameLaws.{came_weaker}
+use Rattle.dentry_cache.proofs.ReadsLaws.{reads_then, reads_weaker}
 use Rattle.inboxes.specs.declared.pins.Pin.{Pin}
 use Rattle.inboxes.specs.Inboxes.{Inboxes}
 use Rattle.sessions.specs.Table.{Table}
-use Rattle.namespace_ops.specs.Planned.{IsOneOf}
+use Rattle.namespace_ops.specs.Changes.{IsChangeOf}
 use Rattle.namespace_ops.specs.Reasons.{IsOfFragments}
 use Rattle.namespace_ops.specs.declared.plans.Change.{Change}
 use Rattle.subtree_map.specs.Authority.{Roots}
 use Rattle.mdcache.specs.Core.{Core as TreeCore, state_of as tree_state}
 use Rattle.mdcache.specs.Shown.{shown_tree}
 use Rattle.mdcache.specs.State.{State as TreeState}
+use Rattle.ranked_tree.specs.Changing.{IsChangedHeld}
 use Rattle.ranked_tree.specs.Held.{AsksFor, IsGone, NamesDir}
 use Rattle.ranked_tree.proofs.ReadsForLaws.{change_concerns}
 use Rattle.cluster_core.specs.declared.events.Answer.{Answer}
 use Rattle.cluster_core.specs.declared.events.Answer.TheVariants.{Deferred, Forwarded, Job, Nothing, Reply, Sent}
 use Rattle.cluster_core.specs.Prepared.{IsUnready}
 use Rattle.cluster_core.specs.Serve.{Replies}
-use Rattle.cluster_core.specs.Uses.{Asks, CamePlanned, ChangesOp, ReadsOp, UsesFront, UsesRequest}
+use Rattle.cluster_core.specs.Uses.{Asks, ChangesOp, ReadsOp, UsesFront, UsesRequest}
 
 module _ (tree new : TreeState) (roots : Roots) where
   -- nothing was read
@@ -83,14 +85,19 @@ unready_of Touch MayRefuse so outcome offered reason (inr (inl may)) = so reason
 unready_of Touch MayRefuse so outcome offered reason (inr (inr (touch, inl lacks))) = subst IsOfFragments (sym lacks.named) tt
 unready_of Touch MayRefuse so outcome offered reason (inr (inr (touch, inr may))) = so reason may
 
--- a planned change of an operation uses what that asks for
-pub planned_came : (old mid new : TreeCore) (roots between : Roots) (op : Op) (change : Option Change) → tree_state mid ≡ tree_state old → between ≡ roots → IsOneOf op change → CamePlanned between change mid new
-    → Came (Asks (tree_state old) roots op) (IsGone (shown_tree (tree_state new))) mid.caches new.caches
-planned_came old mid new roots between op None same rooted one came = subst (λ (c : CacheMap). Came (Asks (tree_state old) roots op) (IsGone (shown_tree (tree_state new))) mid.caches c) (sym came) nothing_came
-planned_came old mid new roots between op (Some change) same rooted one came =
-    subst (λ (s : TreeState). Came (Asks s roots op) (IsGone (shown_tree (tree_state new))) mid.caches new.caches) same
-    (subst (λ (r : Roots). Came (Asks (tree_state mid) r op) (IsGone (shown_tree (tree_state new))) mid.caches new.caches) rooted
-    (came_weaker (AsksFor (tree_state mid) between (NamesDir change)) (IsGone (shown_tree (tree_state new))) (Asks (tree_state mid) between op) (IsGone (shown_tree (tree_state new))) asks (λ r q gone. gone) mid.caches new.caches came))
+-- a change of an operation, made after reads for it, uses what that asks for
+pub changed_uses : (old mid new : TreeCore) (roots between : Roots) (op : Op) (change : Change) → tree_state mid ≡ tree_state old → between ≡ roots → IsChangeOf op change → ReadsOp (tree_state old) roots op old.caches mid.caches → IsChangedHeld between change mid new
+    → ChangesOp (tree_state old) (tree_state new) roots op old.caches new.caches
+changed_uses old mid new roots between op change same rooted one reads is = (
+  is.between,
+  reads_then (Asks (tree_state old) roots op) NoneEnds old.objects old.caches mid.caches is.between reads
+      (subst (λ (s : TreeState). ReadsOp s roots op mid.caches is.between) same
+      (subst (λ (r : Roots). ReadsOp (tree_state mid) r op mid.caches is.between) rooted
+      (reads_weaker (AsksFor (tree_state mid) between (NamesDir change)) NoneEnds (Asks (tree_state mid) between op) NoneEnds asks (λ r q none. none) mid.objects mid.caches is.between is.read))),
+  subst (λ (s : TreeState). Came (Asks s roots op) (IsGone (shown_tree (tree_state new))) is.between new.caches) same
+      (subst (λ (r : Roots). Came (Asks (tree_state mid) r op) (IsGone (shown_tree (tree_state new))) is.between new.caches) rooted
+      (came_weaker (AsksFor (tree_state mid) between (NamesDir change)) (IsGone (shown_tree (tree_state new))) (Asks (tree_state mid) between op) (IsGone (shown_tree (tree_state new))) asks (λ r q gone. gone) is.between new.caches is.came)),
+)
   where
     asks : (r : ℕ) (q : Leaf) → AsksFor (tree_state mid) between (NamesDir change) r q → Asks (tree_state mid) between op r q
     asks r q (inl held) = inl (change_concerns (shown_tree (tree_state mid)) (shape op) change one q.0.0 held.0, held.1)

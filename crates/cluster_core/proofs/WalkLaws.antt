@@ -20,10 +20,6 @@ module _ (Candidate Passes : Leaf → Type 0) (is : (leaf : Leaf) → Passes lea
       go other passes (inl same) = absurd (not (subst Passes same passes))
       go other passes (inr less) = less
 
-  -- so are those up to a later leaf of which none passes
-  pub passed_to : (after : Option Leaf) (last : Leaf) → IsWalked Passes after → ((leaf : Leaf) → IsBehind after leaf → Passes leaf → leaf_cmp last leaf ≡ Less) → IsWalked Passes (Some last)
-  passed_to after last walked none = record { behind = λ leaf passes. none leaf (walked.behind leaf passes) passes }
-
   -- one that passes is the least
   pub found : (after : Option Leaf) (leaf : Leaf) → IsWalked Passes after → IsNext Candidate after (Some leaf) → (other : Leaf) → Passes other → (other ≡ leaf) ⊎ (leaf_cmp leaf other ≡ Less)
   found after leaf walked next other passes = next.least other (is other passes) (walked.behind other passes)

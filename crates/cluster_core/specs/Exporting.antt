@@ -149,14 +149,14 @@ pub record IsImport (old new : Core) (leaf : Leaf) (bytes : List ℕ) : Type 0 w
   pub region : SpellsRegion old.state.tree old.state.roots leaf step.export bytes
   pub renewed : IsRenewed (IsInRegionOf old.state.tree old.state.roots leaf) old.state.tree new.state.tree
   pub roots : new.state.roots ≡ old.state.roots
-  pub caches : HandsRegion (IsInRegionOf old.state.tree old.state.roots leaf) old.state.tree.objects step.export old.caches new.caches
+  pub caches : HandsRegion (IsInRegionOf old.state.tree old.state.roots leaf) step.export old.caches new.caches
 
 -- refused where none of this root stands sent; where one does, for other bytes, for want of places of the importer, or of memory
 abbrev pub ImportsExport : (old new : Core) → (past now : List Entry) → Leaf → (bytes : List ℕ) → Result Answer Refusal → Type 0
 ImportsExport old new past now leaf bytes (Ok answer) = (answer ≡ Nothing) × IsImport old new leaf bytes × IsUnseenStep old.state new.state past now
 ImportsExport old new past now leaf bytes (Err reason) =
     RefusesImport (λ count rank. LacksPlacesAt count old rank) old.state.tree old.state.roots old.state.exports leaf bytes reason
-    × IsLeft old.state new.state past now × LeavesCaches old.state.tree.objects old.state.exports leaf old.caches new.caches reason
+    × IsLeft old.state new.state past now × LeavesCaches old.state.exports leaf old.caches new.caches reason
 
 -- ---- Finish
 

@@ -1,5 +1,5 @@
 -- What every book keeps.
-use Rattle.std.specs.Prelude.{◌≡◌, ℕ, ◌<◌, ◌≤◌, true, List, Option, Some, get_or, length}
+use Rattle.std.specs.Prelude.{◌≡◌, ℕ, ◌<◌, ◌≤◌, true, List, Some, get_or, length}
 use Rattle.std.specs.FinMap as map
 use Rattle.mds_types.specs.declared.entries.Entry.{Entry}
 use Rattle.mds_types.specs.declared.ids.Rank.{Rank}
@@ -8,11 +8,11 @@ use Rattle.mds_types.specs.History.{after, IsLegal, IsUsed}
 use Rattle.inode_table.specs.Numbers.{Supply, IsSupply, first_number, end_number}
 use Rattle.cached_frag.specs.declared.jobs.Job.{Job}
 use Rattle.dentry_cache.specs.Cache.{Leaf}
+use Rattle.dentry_cache.specs.CacheCalls.{KeepsNone}
 use Rattle.dentry_cache.specs.CacheMap.{AreCaches, CacheMap, unclean}
 use Rattle.export_steps.specs.declared.exports.StandingExport.{StandingExport}
 use Rattle.export_steps.specs.Standing.{is_freezing}
 use Rattle.mdcache.specs.Core.{AreCached as AreCachedIn}
-use Rattle.mdcache.specs.Ranks.{KeepsOnlyAt}
 use Rattle.mdcache.specs.Sound.{IsSound as IsSoundTree}
 use Rattle.mdcache.specs.State.{State as TreeState}
 use Rattle.sessions.specs.Table.{IsTableOf}
@@ -47,13 +47,12 @@ pub record IsKept (tree : TreeState) (caches : CacheMap) : Type 0 where
   pub begun : 0 < tree.next_generation
   pub cached : AreCachedIn tree caches
 
--- what isn't clean is what the ranks' fragments have beyond their objects; each place is that of a fragment which the rank has, but for one
--- that may be kept for a fragment which will be made, so no leaf has places at two ranks; a rank caches only what it holds, and has a place
--- of no other live leaf; and a fragment that a rank has stands in its order of use, where no leaf stands twice, and no more than
--- the rank has places
+-- what isn't clean is what the ranks' fragments have beyond their objects; each place is that of a fragment which the rank has, so no leaf has
+-- places at two ranks; a rank caches only what it holds, and has a place of no other live leaf; and a fragment that a rank has stands in its order
+-- of use, where no leaf stands twice, and no more than the rank has places
 pub record AreCached (core : Core) : Type 0 where
   pub unsaved : core.state.tree.unsaved ≡ unclean core.caches
-  pub places : (kept : Option (Rank × Leaf)) × KeepsOnlyAt kept core.caches
+  pub places : KeepsNone core.caches
   pub held : AreHeld core.state.tree core.caches (held_roots core.state)
   pub orders : AreCaches core.caches
 

@@ -6,25 +6,23 @@ use Rattle.mds_types.specs.declared.refusals.Refusal.{Refusal}
 use Rattle.mds_types.specs.declared.refusals.Refusal.TheVariants.{InboxFull, Trimmed}
 use Rattle.dentry_cache.specs.Cache.{Leaf}
 use Rattle.dentry_cache.specs.CacheMap.{CacheMap}
-use Rattle.dentry_cache.specs.Came.{Came}
+use Rattle.dentry_cache.specs.Came.{Came, NoneEnds}
 use Rattle.dentry_cache.specs.Reads.{Reads}
 use Rattle.namespace_ops.specs.Changes.{Concerns}
-use Rattle.namespace_ops.specs.declared.plans.Change.{Change}
 use Rattle.subtree_map.specs.Authority.{Roots}
-use Rattle.mdcache.specs.Core.{Core as TreeCore}
 use Rattle.mdcache.specs.Shown.{shown_tree}
 use Rattle.mdcache.specs.State.{State as TreeState}
 use Rattle.cluster_core.specs.declared.events.Answer.{Answer}
 use Rattle.cluster_core.specs.declared.events.Answer.TheVariants.{Deferred, Forwarded, Job, Nothing, Reply, Sent}
-use Rattle.ranked_tree.specs.Held.{AnyPlace, AsksFor, CameFor, IsGone}
+use Rattle.ranked_tree.specs.Held.{AsksFor, IsGone}
 
 -- a leaf that an operation asks for at a rank: one of a directory that it concerns, at the rank that holds it, or the first leaf of a directory that comes
 abbrev pub Asks : TreeState → Roots → Op → ℕ → Leaf → Type 0
 Asks tree roots op = AsksFor tree roots (Concerns (shown_tree tree) op)
 
--- of the caches such leaves were read at most, each of which came to the front of its rank's order, and kept places were given up
+-- of the caches such leaves were read at most, each of which came to the front of its rank's order
 abbrev pub ReadsOp : TreeState → Roots → Op → (before after : CacheMap) → Type 0
-ReadsOp tree roots op before after = Reads (Asks tree roots op) AnyPlace tree.objects before after
+ReadsOp tree roots op before after = Reads (Asks tree roots op) NoneEnds tree.objects before after
 
 -- they were read, and then used and changed at most; and leaves of directories that aren't there any more ended
 abbrev pub ChangesOp : (tree new : TreeState) → Roots → Op → (before after : CacheMap) → Type 0
@@ -51,10 +49,3 @@ UsesFront tree new roots before after result (request ∷ rest) = UsesRequest tr
 abbrev pub UsesWaiting : TreeState → Roots → (before after : CacheMap) → Option Request → Type 0
 UsesWaiting tree roots before after None = after ≡ before
 UsesWaiting tree roots before after (Some request) = ReadsOp tree roots request.op before after
-
--- ---- words of this crate's own contracts
-
--- what a planned change makes of the caches; with none they stay
-abbrev pub CamePlanned : Roots → Option Change → (old new : TreeCore) → Type 0
-CamePlanned roots None old new = new.caches ≡ old.caches
-CamePlanned roots (Some change) old new = CameFor roots change old new

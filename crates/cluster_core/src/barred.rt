@@ -133,13 +133,13 @@ fn lacks_leaf<S: Store + Drop>(
     tree.is_sound();
     let mut hash = 0;
     while hash < 1 << 24 {
-        let Some(at) = tree.locate(rank, dir, hash) else {
+        let Some(located) = tree.locate(rank, dir, hash) else {
             unreachable!()
         };
-        if !may_touch(tree, pins, rank, request, &at) {
+        if !may_touch(tree, pins, rank, request, &located.at) {
             return true;
         }
-        hash = end_of(at.frag);
+        hash = end_of(located.at.frag);
     }
     false
 }

@@ -8,8 +8,8 @@ ghost use Rattle.ranked_tree.specs.Ranked.{held_roots};
 ghost use Rattle.ranked_tree.specs.Subtrees.{HoldsAt, Rules};
 ghost use Rattle.cluster_core.specs.Master.{IsMasterIn};
 
-use mds_types::{Dirfrag, Op, Rank};
-use namespace_ops::{Places, locate};
+use mds_types::{Op, Rank};
+use namespace_ops::{Located, Places, locate};
 use objstore::Store;
 use ranked_tree::RankedTree;
 
@@ -27,18 +27,18 @@ pub fn locate_master<S: Store + Drop>(tree: &RankedTree<S>, rank: Rank, op: &Op)
 pub fn correct_hint<S: Store + Drop>(tree: &mut RankedTree<S>, rank: Rank, places: &Places)
     ensures { tree.new ≡ tree.old }
 {
-    if let Some(at) = places.main {
-        tree.correct_hint(rank, &at);
+    if let Some(located) = places.main {
+        tree.correct_hint(rank, &located.at);
     }
 }
 
 // The authority of the leaf which was found, or the rank that serves.
-fn master_of<S: Store + Drop>(tree: &RankedTree<S>, rank: Rank, found: Option<Dirfrag>) -> Rank
-    requires { IfSome found (λ at. (dir hash : ℕ) × IsAt (shown_tree (tree_state tree.now.tree)) tree.now.tree.covers (HoldsAt (tree_state tree.now.tree) (held_roots tree.now)) dir hash at) }
-    ensures { MatchOption found (result ≡ rank) (λ at. Rules (tree_state tree.now.tree) tree.now.subtrees.roots (leaf_of at) result) }
+fn master_of<S: Store + Drop>(tree: &RankedTree<S>, rank: Rank, found: Option<Located>) -> Rank
+    requires { IfSome found (λ located. (dir hash : ℕ) × IsAt (shown_tree (tree_state tree.now.tree)) tree.now.tree.covers (HoldsAt (tree_state tree.now.tree) (held_roots tree.now)) dir hash located.at) }
+    ensures { MatchOption found (result ≡ rank) (λ located. Rules (tree_state tree.now.tree) tree.now.subtrees.roots (leaf_of located.at) result) }
 {
     match found {
-        Some(at) => tree.authority_at(&at),
+        Some(located) => tree.authority_at(&located.at),
         None => rank,
     }
 }

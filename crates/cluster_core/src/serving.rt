@@ -19,7 +19,7 @@ ghost use Rattle.ranked_tree.specs.Ranked.{held_roots, MayRefuse};
 ghost use Rattle.ranked_tree.specs.Subtrees.{AreRoots, KeepsRoots};
 
 use crate::answering::answer;
-use crate::applying::{commit, prepare};
+use crate::applying::{commit, make_change};
 use crate::barred::must_wait;
 use crate::events::Answer;
 use crate::masters::{correct_hint, locate_master};
@@ -133,8 +133,8 @@ fn serve_new<S: Store + Drop>(
     }
     match checked {
         Checked::Answers(reply) => answer(alloc, waiting, given, history, asked, reply),
-        Checked::Changes(change) => match prepare(alloc, tree, given, history, &asked, change) {
-            Ok(prepared) => Ok(commit(tree, &mut waiting.pins, given, history, asked, prepared)),
+        Checked::Changes(change) => match make_change(alloc, tree, given, history, &asked, change) {
+            Ok(prepared) => Ok(commit(&mut waiting.pins, given, history, asked, prepared)),
             Err(Refusal::NoInodes) => {
                 end_request(&mut waiting.pins, asked.request);
                 Err(Refusal::NoInodes)

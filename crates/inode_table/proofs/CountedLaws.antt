@@ -6,7 +6,7 @@ use Rattle.std.specs.FinMap as map
 use Rattle.std.specs.FinMap.{get-empty}
 use Rattle.mds_types.specs.declared.dentries.Dentry.{Dentry}
 use Rattle.mds_types.specs.declared.inodes.Inode.{Inode}
-use Rattle.mds_types.specs.Tree.{Tree, entries_in, is_dir_kind, is_in, is_directory, IsUnused, IsWellFormed, NothingIn}
+use Rattle.mds_types.specs.Tree.{Tree, entries_in, is_in, is_directory, IsUnused, IsWellFormed, NothingIn}
 use Rattle.mds_types.specs.Step.{IsMove, with_moved}
 use Rattle.mds_types.proofs.CountLaws.{entries_come, entries_go, entries_set, none_in, none_in_empty, some_in}
 use Rattle.mds_types.proofs.DirectoryLaws.{StandsAs, directory_stands}

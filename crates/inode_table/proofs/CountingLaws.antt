@@ -1,5 +1,5 @@
 -- Entries that are counted one by one, and their pins.
-use Rattle.std.proofs.Common.{◌≡◌, ℕ, zero, suc, ◌+◌, ◌-◌, ◌<◌, ◌≤◌, ◌^◌, Bool, true, false, cond, T, is_some, length, List, [], ◌∷◌, Option, Some, None, ◌⊎◌, inl, inr, ⊎_elim, refl, sym, ap, subst, ◌∙◌, arith}
+use Rattle.std.proofs.Common.{◌≡◌, ℕ, ◌+◌, ◌-◌, ◌<◌, ◌≤◌, ◌^◌, Bool, true, false, cond, T, is_some, length, List, [], ◌∷◌, Some, None, ◌⊎◌, inl, inr, ⊎_elim, refl, sym, ap, subst, ◌∙◌, arith}
 use Rattle.std.specs.Prelude.{filter}
 use Rattle.std.proofs.lemmas.Bool.{eqb-true}
 use Rattle.std.specs.Ordering.{is_eq}
@@ -18,8 +18,8 @@ use Rattle.mds_types.proofs.EntryLaws.{get_left, same_or_apart, stands_after_rem
 use Rattle.mds_types.proofs.OrderLaws.{dentry-total}
 use Rattle.sorted_map.proofs.ContentLaws.{first_taken, len_shown, retained}
 use Rattle.sorted_map.proofs.NatKeys.{same_or_apart as same_number}
-use Rattle.inode_table.specs.Dirs.{Counts, DirPins, Homes, count_of, is_known, one_more, pinned_at}
-use Rattle.inode_table.specs.TreeTable.{HoldsPins, IsCounted, IsTabled, with_pin}
+use Rattle.inode_table.specs.Dirs.{Counts, DirPins, Homes, count_of, is_known, one_more}
+use Rattle.inode_table.specs.TreeTable.{IsCounted, IsTabled, with_pin}
 use Rattle.inode_table.proofs.CountedLaws.{count_set}
 use Rattle.inode_table.proofs.PinLaws.{Stands, pinned_beside, pinned_here, with_dir_pin, with_file_pin}
 use Rattle.inode_table.proofs.TableLaws.{dir_or_not, home_of, known_is}

@@ -1,10 +1,10 @@
 //! The directory table.
-ghost use Rattle.std.specs.Prelude.{◌≡◌, ◌≢◌, ◌+◌, ◌-◌, ◌<◌, ◌≤◌, ◌↔◌, ◌^◌, is_some, ◌∷◌, [], length, true, IsOk, IsSome, IsTrue, IfOk, OnOk, OnErr, IfErr, MatchOption, false, slice_get};
+ghost use Rattle.std.specs.Prelude.{◌≡◌, ◌≢◌, ◌+◌, ◌-◌, ◌<◌, ◌≤◌, ◌↔◌, ◌^◌, is_some, ◌∷◌, [], length, true, IsOk, IsSome, IsTrue, IfOk, OnOk, OnErr, IfErr, IfSome, MatchOption, false, slice_get};
 ghost use Rattle.std.specs.Option.{option_copied, option_map};
 ghost use Rattle.std.specs.FinMap as map;
 ghost use Rattle.mds_types.specs.declared.refusals.Refusal.TheVariants.{NoMemory};
 ghost use Rattle.mds_types.specs.Frag.{root_fragment};
-ghost use Rattle.fragtree.specs.FragTree.{CanMerge, CanSplit, IsPick, RefusesMerge, RefusesSplit};
+ghost use Rattle.fragtree.specs.FragTree.{CanMerge, CanSplit, IsPick, IsSplit, IsTree, RefusesMerge, RefusesSplit};
 ghost use Rattle.mds_types.specs.declared.ids.Ino.{Ino};
 ghost use Rattle.inode_table.specs.Order.{dirs_after, trees_after};
 ghost use Rattle.inode_table.specs.Dirs.{IsAbove, IsLeafAt, IsLive, IsTable, MayCome, MayGo, MayMove, count_of, is_known, leaves_of, one_less, one_more, or_whole, pinned_at};
@@ -22,11 +22,14 @@ pub struct Home {
     pub name: Name,
 }
 
-/// Where a hash falls in a directory: the leaf that it picks. `home` is where the directory itself stands, and none of the root.
+/// Where a hash falls in a directory: the leaf that it picks. `home` is where the directory itself stands, and none of the root;
+/// `entries` is how many entries it has, and `leaves` are all its leaves, if they were ever set.
 #[derive(Clone, Copy, Debug)]
 pub struct LeafAt<'a> {
     pub frag: Frag,
     pub home: Option<&'a Home>,
+    pub entries: u64,
+    pub leaves: Option<&'a FragTree>,
 }
 
 /// What the table keeps of a directory below the root: where it stands, its leaves if they were ever set, how many entries it
@@ -142,21 +145,29 @@ impl Dirs {
         picked(self.leaves(dir), hash)
     }
 
-    /// The leaf of a directory that a hash picks, and where the directory itself stands; none exactly where there is no such
-    /// directory. Takes no memory, and one search.
+    /// The leaf of a directory that a hash picks, and what else its row tells; none exactly where there is no such directory. Takes
+    /// no memory, and one search.
     pub fn leaf_at(&self, dir: Ino, hash: u32) -> Option<LeafAt<'_>>
-        ensures { MatchOption result (is_known self.now.homes dir.0 ≡ false) (λ at. IsLeafAt self.now.homes self.now.trees dir.0 hash at.frag (option_copied at.home)) }
+        ensures at { MatchOption result (is_known self.now.homes dir.0 ≡ false) (λ at. IsLeafAt self.now.homes self.now.trees dir.0 hash at.frag (option_copied at.home)) }
+        ensures entries { IfSome result (λ at. at.entries ≡ count_of self.now.counts dir.0) }
+        ensures leaves { IfSome result (λ at. or_whole (option_copied at.leaves) ≡ leaves_of self.now.trees dir.0) }
     {
         if dir == Ino::ROOT {
+            let leaves = self.root.as_ref();
             return Some(LeafAt {
-                frag: picked(self.root.as_ref(), hash),
+                frag: picked(leaves, hash),
                 home: None,
+                entries: self.in_root,
+                leaves,
             });
         }
         let row = self.below.get(&dir.0)?;
+        let leaves = row.leaves.as_ref();
         Some(LeafAt {
-            frag: picked(row.leaves.as_ref(), hash),
+            frag: picked(leaves, hash),
             home: Some(&row.home),
+            entries: row.entries,
+            leaves,
         })
     }
 
@@ -227,10 +238,7 @@ impl Dirs {
         ensures err { IfErr result (λ reason. RefusesSplit (leaves_of self.now.trees dir.0) frag bits reason) }
         ensures memory { IfErr result (λ reason. reason ≢ NoMemory) }
     {
-        match self.leaves(dir) {
-            Some(tree) => tree.check_split(frag, bits),
-            None => check_split_of_whole(frag, bits),
-        }
+        check_split_of(self.leaves(dir), frag, bits)
     }
 
     /// Whether leaves of a directory can be merged into a fragment. Refused as the merge is where they can't be. Takes
@@ -281,6 +289,26 @@ impl Dirs {
             unreachable!()
         };
         row.leaves = Some(tree);
+    }
+
+    /// Splits a leaf of a directory that can be split by so many bits. Takes memory, and one search. Refused for want of memory alone,
+    /// and then all is left as it was.
+    pub fn split(&mut self, alloc: Global, dir: Ino, frag: Frag, bits: u8) -> Result<(), Refusal>
+        requires known { is_known self.old.homes dir.0 ≡ true }
+        requires can { CanSplit (leaves_of self.old.trees dir.0) frag bits }
+        ensures split { OnOk result (IsSplit (leaves_of self.old.trees dir.0) (leaves_of self.new.trees dir.0) frag bits) }
+        ensures others { OnOk result (self.new ≡ record self.old { trees = map.insert self.old.trees dir.0 (leaves_of self.new.trees dir.0) }) }
+        ensures left { OnErr result (self.new ≡ self.old) }
+        ensures refused { IfErr result (λ reason. reason ≡ NoMemory) }
+        ensures valid { IsTable self.new.homes self.new.trees }
+    {
+        if dir == Ino::ROOT {
+            return split_in(alloc, &mut self.root, frag, bits);
+        }
+        let Some(row) = self.below.get_mut(&dir.0) else {
+            unreachable!()
+        };
+        split_in(alloc, &mut row.leaves, frag, bits)
     }
 
     /// An entry comes to a directory. Takes no memory, and one search.
@@ -413,6 +441,19 @@ fn picked(leaves: Option<&FragTree>, hash: u32) -> Frag
     }
 }
 
+/// Whether a fragment of leaves that were set, and of the one leaf `*` where none were, can be split by so many bits. Refused as the
+/// split is where it can't be. Takes no memory.
+pub fn check_split_of(leaves: Option<&FragTree>, frag: Frag, bits: u8) -> Result<(), Refusal>
+    ensures ok { OnOk result (CanSplit (or_whole (option_copied leaves.entry)) frag bits) }
+    ensures err { IfErr result (RefusesSplit (or_whole (option_copied leaves.entry)) frag bits) }
+    ensures memory { IfErr result (λ reason. reason ≢ NoMemory) }
+{
+    match leaves {
+        Some(tree) => tree.check_split(frag, bits),
+        None => check_split_of_whole(frag, bits),
+    }
+}
+
 // Whether the one leaf `*` can be split at a fragment by so many bits.
 fn check_split_of_whole(frag: Frag, bits: u8) -> Result<(), Refusal>
     ensures ok { OnOk result (CanSplit (root_fragment ∷ []) frag bits) }
@@ -426,4 +467,34 @@ fn check_split_of_whole(frag: Frag, bits: u8) -> Result<(), Refusal>
         return Err(Refusal::BadSplit);
     }
     Ok(())
+}
+
+// Splits one of leaves that were set, or the one leaf `*` where none were.
+fn split_in(
+    alloc: Global,
+    leaves: &mut Option<FragTree>,
+    frag: Frag,
+    bits: u8,
+) -> Result<(), Refusal>
+    requires { CanSplit (or_whole leaves.old) frag bits }
+    ensures split { OnOk result (IsSplit (or_whole leaves.old) (or_whole leaves.new) frag bits) }
+    ensures set { OnOk result (leaves.new ≡ Some (or_whole leaves.new)) }
+    ensures whole { OnOk result (IsTree (or_whole leaves.new)) }
+    ensures left { OnErr result (leaves.new ≡ leaves.old) }
+    ensures refused { IfErr result (λ reason. reason ≡ NoMemory) }
+{
+    if let Some(tree) = leaves {
+        return tree.split(frag, bits);
+    }
+    let mut tree = FragTree::whole(alloc);
+    match tree.split(frag, bits) {
+        Ok(()) => {
+            *leaves = Some(tree);
+            Ok(())
+        }
+        Err(refusal) => {
+            drop(tree);
+            Err(refusal)
+        }
+    }
 }

@@ -1,24 +1,23 @@
 -- Commits of whole fragments, several at once.
-use Rattle.std.proofs.Common.{◌≡◌, ◌⊎◌, inl, inr, ℕ, zero, suc, cond, ◌-◌, ◌+◌, ◌<◌, arith, true, false, List, [], ◌∷◌, ◌++◌, map as list_map, drop, get_or, ◌≤◌, Option, Some, None, Result, Ok, Err, refl, sym, ap, subst, ◌∙◌}
+use Rattle.std.proofs.Common.{◌≡◌, ◌⊎◌, inl, inr, ℕ, zero, suc, cond, ◌-◌, ◌+◌, ◌<◌, arith, true, false, List, [], ◌∷◌, ◌++◌, map as list_map, drop, get_or, Option, Some, None, Result, Ok, Err, refl, sym, ap, subst, ◌∙◌}
 use Rattle.std.specs.Prelude.{is_some, length}
 use Rattle.std.specs.List.{AllByRecursion}
-use Rattle.std.proofs.lemmas.List.{append-nil, drop_all, drop_more}
+use Rattle.std.proofs.lemmas.List.{drop_more}
 use Rattle.std.specs.FinMap as map
 use Rattle.mds_types.specs.Leaf.{leaf_of as leaf_at}
 use Rattle.mds_types.specs.declared.dirfrags.Dirfrag.{Dirfrag}
 use Rattle.mds_types.specs.declared.ids.Rank.{Rank}
 use Rattle.mds_types.specs.declared.refusals.Refusal.{Refusal}
-use Rattle.objstore.specs.Objects.{MayRefuse}
 use Rattle.cached_frag.specs.declared.jobs.Job.{Job}
 use Rattle.dentry_cache.specs.Cache.{IsThere, Leaf, Unsaved}
 use Rattle.dentry_cache.specs.CacheMap.{At, CacheMap, IsFree, at_rank, unclean, unsaved_at}
 use Rattle.dentry_cache.specs.Came.{Came, IsThat, NoneEnds}
 use Rattle.dentry_cache.proofs.FrameLaws.{came_held, came_ranks, came_weaker}
 use Rattle.dentry_cache.proofs.UncleanLaws.{get_unclean}
-use Rattle.mdcache.specs.Batches.{AreApart, IsBegunAt, IsUncleanAt, MayNotBeginAll, MayNotBeginOne, MayNotCommit, NotAmong, IsReadyAt, leaves_at, leaves_of_jobs, leaves_of_writes, ready_of}
+use Rattle.mdcache.specs.Batches.{AreApart, IsBegunAt, IsUncleanAt, MayNotBeginAll, MayNotBeginOne, NotAmong, IsReadyAt, leaves_at, leaves_of_jobs, leaves_of_writes, ready_of}
 use Rattle.mdcache.specs.Commits.{Begins, BeginsWith, Ends, IsEnded, MayNotBegin, leaf_of, with_job}
 use Rattle.mdcache.specs.Core.{Core, state_of}
-use Rattle.mdcache.specs.Flushed.{HasFragment, IsAtHand, KeepsTree}
+use Rattle.mdcache.specs.Flushed.{HasFragment, KeepsTree}
 use Rattle.mdcache.specs.Ranks.{MayHold}
 use Rattle.mdcache.specs.Shown.{shown_tree}
 use Rattle.mdcache.specs.Sound.{IsSound}
@@ -59,13 +58,6 @@ module _ (old new : Core) (rank : Rank) (leaf : Leaf) (may : MayHold old.caches 
       go None (none, same) = let clash : Some job ≡ None = none in absurd cc
       go (Some u) (is, lacks, left) = keeps (ap (λ (s : State). s.limit) left) (ap (λ (s : State). s.homes) left) (ap (λ (s : State). s.covers) left) (ap (λ (s : State). s.counts) left) (ap (λ (s : State). s.pins) left) (ap shown_tree left) (ap (λ (s : State). s.next_generation) left) (ap (λ (s : State). s.next_version) left)
 
-  pub begins_some : Begins (state_of old) (state_of new) leaf (Ok None) → ⊥
-  begins_some begun = go (map.get (unclean old.caches) leaf) refl begun.2
-    where
-      go : (o : Option Unsaved) → map.get (unclean old.caches) leaf ≡ o → BeginsWith (state_of old) (state_of new) leaf o None → ⊥
-      go None none (is, same) = let clash : false ≡ true = ap is_some (sym none) ∙ dirty in cc
-      go (Some u) is none = none
-
   pub refused_keeps : (reason : Refusal) → Begins (state_of old) (state_of new) leaf (Err reason) → KeepsTree old new
   refused_keeps reason refused = keeps_all refused.1
 
@@ -94,11 +86,6 @@ begin_refused s new leaf reason sound dirty free refused = go refused.0
     go (inr (inl (is, there, stands))) = let clash : false ≡ true = ap is_some (sym free) ∙ stands in absurd cc
     go (inr (inr (there, none, u, is, inl (no_number, lacks)))) = inr (no_number, (u, is, lacks))
     go (inr (inr (there, none, u, is, inr (no_memory, lacks)))) = inl no_memory
-
--- a job at hand stands
-pub end_refused : (s new : State) (before after : ℕ) (job : Job) (reason : Refusal) → IsAtHand s job → Ends s new before after job (Err reason) → MayRefuse before after reason
-end_refused s new before after job reason hand (inl (is, off), same) = absurd (off hand.stands)
-end_refused s new before after job reason hand (inr (stands, may), same) = may
 
 -- ---- others, while one begins
 
@@ -212,10 +199,6 @@ module _ (all : List Dirfrag) (i : ℕ) (at : Dirfrag) (within : i < length all)
   pub rest_listed : (begun : List Begun) → leaves_of_jobs begun ++ leaves_at (drop i all) ≡ leaves_at all → leaves_of_jobs begun ++ leaf_at at ∷ leaves_at (drop (i + 1) all) ≡ leaves_at all
   rest_listed begun listed = ap (λ ds. leaves_of_jobs begun ++ leaves_at ds) (sym rest_is) ∙ listed
 
--- at the end all were begun
-pub all_listed : (all : List Dirfrag) (i : ℕ) (begun : List Begun) → length all ≤ i → leaves_of_jobs begun ++ leaves_at (drop i all) ≡ leaves_at all → leaves_of_jobs begun ≡ leaves_at all
-all_listed all i begun past listed = sym (append-nil (leaves_of_jobs begun)) ∙ ap (λ ds. leaves_of_jobs begun ++ leaves_at ds) (sym (drop_all i all past)) ∙ listed
-
 -- ---- others, while one ends
 
 -- a map that has a key isn't empty
@@ -258,9 +241,3 @@ begun_ready core (b ∷ begun) (one, all) = (one, begun_ready core begun all)
 pub leaves_ready : (begun : List Begun) → leaves_of_writes (list_map ready_of begun) ≡ leaves_of_jobs begun
 leaves_ready [] = refl
 leaves_ready (b ∷ begun) = ap (λ ls. leaf_of b.job ∷ ls) (leaves_ready begun)
-
--- more leaves may lack what fewer lack
-pub more_lack : (n m : ℕ) (s : State) (before after : ℕ) (reason : Refusal) → n ≤ m → MayNotCommit n s before after reason → MayNotCommit m s before after reason
-more_lack n m s before after reason less (inl may) = inl may
-more_lack n m s before after reason less (inr (no_number, inl lacks)) = inr (no_number, inl (omega (arith, less, lacks)))
-more_lack n m s before after reason less (inr (no_number, inr version)) = inr (no_number, inr version)

@@ -1,5 +1,5 @@
 -- What the beginning of a commit leaves, done or not.
-use Rattle.std.proofs.Common.{◌≡◌, ◌⊎◌, inl, inr, Bor, ℕ, ◌+◌, Bool, true, false, cond, Option, Some, None, refl, sym, ap, subst, ◌∙◌}
+use Rattle.std.proofs.Common.{◌≡◌, inl, inr, Bor, ℕ, ◌+◌, Bool, true, false, cond, Option, Some, None, refl, sym, ap, subst, ◌∙◌}
 use Rattle.std.specs.Prelude.{Ok, Err, is_some}
 use Rattle.std.specs.Option.{option_copied, option_map}
 use Rattle.std.specs.FinMap as map
@@ -14,24 +14,21 @@ use Rattle.cached_frag.specs.declared.marks.Mark.{Mark}
 use Rattle.cached_frag.specs.Snap.{IsBelowEnd, IsSnap, counts_of}
 use Rattle.cached_frag.specs.Cached.{Cached, is_clean, shown}
 use Rattle.dentry_cache.specs.Cache.{HasCached, IsThere, Leaf, Unsaved, unsaved_in}
-use Rattle.dentry_cache.specs.CacheMap.{At, CacheMap, IsFree, IsFreeFor, at, at_rank, has_place, here, unclean, unsaved_at, used_at}
+use Rattle.dentry_cache.specs.CacheMap.{At, CacheMap, IsFree, IsFreeFor, at, at_rank, here, unclean, unsaved_at, used_at}
 use Rattle.dentry_cache.specs.Loading.{object_of}
 use Rattle.dentry_cache.specs.Ties.{KeepsAt}
 use Rattle.mds_types.specs.declared.dirfrags.Dirfrag.{Dirfrag}
 use Rattle.dentry_cache.proofs.CameLaws.{used_unclean}
 use Rattle.dentry_cache.proofs.ReadsLaws.{here_is}
-use Rattle.dentry_cache.proofs.StepLaws.{placed_used}
 use Rattle.dentry_cache.proofs.TieLaws.{tied_show}
 use Rattle.dentry_cache.proofs.UncleanLaws.{get_unclean}
-use Rattle.mds_types.specs.declared.ids.Rank.{Rank}
 use Rattle.mdcache.specs.Commits.{Begins, BeginsWith, IsAtEnd, job_for, leaf_of, with_job}
 use Rattle.mdcache.specs.Core.{AreCached, Core, IsJobOf, IsSoundCore, Rooms, state_of, used_core, with_job_in}
-use Rattle.mdcache.specs.Ranks.{KeepsOnlyAt}
 use Rattle.mdcache.specs.Shown.{shown_at}
 use Rattle.mdcache.specs.Sound.{AreYoung, IsOf, IsSound}
 use Rattle.mdcache.specs.State.{IsLive, State}
 use Rattle.mdcache.proofs.SoundLaws.{begun_sound}
-use Rattle.mdcache.proofs.NoneLaws.{used_more}
+use Rattle.mdcache.proofs.NoneLaws.{none_used}
 
 -- ---- what is told of a fragment
 
@@ -65,14 +62,6 @@ pub none_found : (o : Option (Bor Job)) (r : Option Job) (b : Bool) → option_c
 none_found None r b is told apart = sym is
 none_found (Some x) r b is told apart = let clash : true ≡ false = sym told ∙ apart in cc
 
--- and one stands where one is
-pub some_found : (o : Option (Bor Job)) (r : Option Job) (b : Bool) → option_copied o ≡ r → b ≡ is_some o → b ≡ true → is_some r ≡ true
-some_found o r b is told there = sym (ap (λ (x : Option Job). is_some x) is) ∙ go o ∙ sym told ∙ there
-  where
-    go : (o : Option (Bor Job)) → is_some (option_copied o) ≡ is_some o
-    go None = refl
-    go (Some x) = refl
-
 -- a snapshot has the dirty names that it was taken of
 keeps_itself : (m : Option Mark) → KeepsAt m m
 keeps_itself None = tt
@@ -85,14 +74,6 @@ unclean_here c r leaf free = get_unclean c leaf ∙ go (map.get c.held leaf) fre
     go : (o : Option At) → IsFree r o → unsaved_at o ≡ unsaved_in (at_rank r o)
     go None is = refl
     go (Some a) is = ap (λ (b : Bool). unsaved_in (cond b (Some a.frag) None)) (sym (is_same a.rank r is))
-
--- a leaf that is there is used: a place that is kept stays so
-pub only_used : (kept : Option (Rank × Leaf)) (c : CacheMap) (r : ℕ) (leaf : Leaf) → IsThere (here c r leaf) → KeepsOnlyAt kept c → KeepsOnlyAt kept (used_at c r leaf)
-only_used kept c r leaf there only s q placed = go (placed_used c r leaf s q placed)
-  where
-    go : (has_place c s q ≡ true) ⊎ ((s ≡ r) × (q ≡ leaf)) → IsThere (here c s q) ⊎ ((map.get c.held q ≡ None) × (kept ≡ Some (record { 0 = s }, q)))
-    go (inl was) = only s q was
-    go (inr one) = inl (subst (λ (n : ℕ). IsThere (here c n q)) (sym one.0) (subst (λ (l : Leaf). IsThere (here c r l)) (sym one.1) there))
 
 module _ (c : Core) (sound : IsSoundCore c) (a : Dirfrag) (free : IsFreeFor c.caches a.rank.0 (leaf_at a)) (live : IsLive c.homes c.covers (leaf_at a)) (none : map.get c.jobs (leaf_at a) ≡ None) where
   abbrev leaf : Leaf
@@ -141,8 +122,7 @@ module _ (c : Core) (sound : IsSoundCore c) (a : Dirfrag) (free : IsFreeFor c.ca
         sound = subst IsSound (sym used_state) sound.sound;
         begun = sound.begun;
         cached = subst (λ (t : State). AreCached t (used_at c.caches r leaf)) (sym used_state) sound.cached;
-        kept = only_used c.kept c.caches r leaf there sound.kept;
-        coming = λ s q kept. sound.coming s q (used_more c.caches r leaf there s q kept);
+        none = none_used c.caches r leaf sound.none (used_at c.caches r leaf) there refl;
       }
 
       module _ (lacks : IsAtEnd s.next_job u.base → ⊥) where
@@ -198,8 +178,7 @@ module _ (c : Core) (sound : IsSoundCore c) (a : Dirfrag) (free : IsFreeFor c.ca
             sound = subst IsSound (sym begun_state) (begun_sound s job u sound.sound (ap (map.get s.unsaved) one_leaf ∙ beside) (ap (λ (j : Job). j.number) job_is) young (subst (λ (l : Leaf). IsOf job u (object_of s.objects l.0 l.1)) (sym one_leaf) is_of));
             begun = sound.begun;
             cached = λ q b is. let was = used_sound.cached q b is in record { live = was.live; tied = was.tied; made = was.made };
-            kept = used_sound.kept;
-            coming = used_sound.coming;
+            none = used_sound.none;
           }
             where
               young : AreYoung job.snapshot.names s.next_version

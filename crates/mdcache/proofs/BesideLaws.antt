@@ -1,5 +1,5 @@
 -- What is left by calls that change no name: of jobs, objects of no live leaf, and places.
-use Rattle.std.proofs.Common.{◌≡◌, ◌⊎◌, inl, inr, ℕ, ◌<◌, true, length, List, Option, Some, None, Result, Ok, Err, refl, sym, ap, subst, ◌∙◌}
+use Rattle.std.proofs.Common.{◌≡◌, ℕ, ◌<◌, true, length, List, Option, Some, None, Result, Ok, Err, refl, sym, ap, subst, ◌∙◌}
 use Rattle.std.specs.Prelude.{OnOk, OnErr, not}
 use Rattle.std.specs.FinMap as map
 use Rattle.std.specs.Option.{option_map}
@@ -9,18 +9,17 @@ use Rattle.mds_types.specs.declared.refusals.Refusal.{Refusal}
 use Rattle.objstore.specs.Omap.{Keys}
 use Rattle.objstore.specs.Objects.{Objects}
 use Rattle.cached_frag.specs.declared.jobs.Job.{Job}
-use Rattle.dentry_cache.specs.Cache.{IsThere, Leaf, stays}
-use Rattle.dentry_cache.specs.CacheMap.{AreCaches, At, CacheMap, at_rank, evicted, given_up, goes, has_place, here, order, unclean, victim}
-use Rattle.dentry_cache.specs.CacheSplits.{IsKeptFor}
+use Rattle.dentry_cache.specs.Cache.{Leaf, stays}
+use Rattle.dentry_cache.specs.CacheMap.{AreCaches, CacheMap, evicted, given_up, goes, order, unclean, victim}
+use Rattle.dentry_cache.specs.CacheCalls.{KeepsNone}
 use Rattle.dentry_cache.proofs.UncleanLaws.{clean_there, last_passes, unclean_gone}
-use Rattle.dentry_cache.proofs.StepLaws.{held_given_up, placed_given_up}
+use Rattle.dentry_cache.proofs.StepLaws.{held_given_up}
 use Rattle.dentry_cache.proofs.WholeLaws.{whole_given_up}
 use Rattle.inode_table.specs.Dirs.{is_known, leaves_of}
 use Rattle.mdcache.specs.Commits.{IsDropped}
 use Rattle.mdcache.specs.Core.{AreCached, Core, IsSoundCore, Rooms, state_of}
 use Rattle.mdcache.specs.Objects.{Purges, PurgesName, purged, tree_saved, with_tree_at}
 use Rattle.mdcache.specs.PurgeList.{first_name}
-use Rattle.mdcache.specs.Ranks.{KeepsComing, KeepsOnlyAt}
 use Rattle.mdcache.specs.Shown.{shown_tree}
 use Rattle.mdcache.specs.Sound.{IsSound}
 use Rattle.mdcache.specs.StandingJobs.{Jobs}
@@ -35,7 +34,7 @@ module _ (old view : Core) (is : view ≡ old) (sound : IsSoundCore old) where
   -- nothing that is sound is changed
   pub faults_sound : (objects : Objects) (faults : ℕ) → objects ≡ view.objects → IsSoundCore (record view { objects = objects; faults = faults })
   faults_sound objects faults same =
-      subst (λ (o : Objects). IsSoundCore (record view { objects = o; faults = faults })) (sym same) (record { sound = now.sound; begun = now.begun; cached = now.cached; kept = now.kept; coming = now.coming })
+      subst (λ (o : Objects). IsSoundCore (record view { objects = o; faults = faults })) (sym same) (record { sound = now.sound; begun = now.begun; cached = now.cached; none = now.none })
 
   -- a job is given up
   module _ (leaf : Leaf) (jobs : Jobs) (ended : jobs ≡ map.remove view.jobs leaf) where
@@ -48,8 +47,7 @@ module _ (old view : Core) (is : view ≡ old) (sound : IsSoundCore old) where
       sound = subst (λ (j : Jobs). IsSound (record (state_of view) { jobs = j })) (sym ended) (dropped_sound (state_of view) leaf now.sound);
       begun = now.begun;
       cached = λ q a at. let was = now.cached q a at in record { live = was.live; tied = was.tied; made = was.made };
-      kept = now.kept;
-      coming = now.coming;
+      none = now.none;
     }
 
   -- an object that nothing owns is removed
@@ -65,8 +63,7 @@ module _ (old view : Core) (is : view ≡ old) (sound : IsSoundCore old) where
       sound = subst IsSound (sym is_purged) (purged_sound (state_of view) name now.sound first);
       begun = now.begun;
       cached = subst (λ (s : State). AreCached s view.caches) (sym is_purged) (purged_cached (state_of view) name now.sound first view.caches now.cached);
-      kept = now.kept;
-      coming = now.coming;
+      none = now.none;
     }
 
     pub purge_purged : (before after : ℕ) → Purges (state_of old) (state_of less) before after (Ok tt)
@@ -86,8 +83,7 @@ module _ (old view : Core) (is : view ≡ old) (sound : IsSoundCore old) where
       sound = subst IsSound (sym is_written) (tree_saved_sound (state_of view) dir now.sound known);
       begun = now.begun;
       cached = subst (λ (s : State). AreCached s view.caches) (sym is_written) (tree_saved_cached (state_of view) dir now.sound known view.caches now.cached);
-      kept = now.kept;
-      coming = now.coming;
+      none = now.none;
     }
 
     pub tree_is : (is_known old.homes dir.0 ≡ true) × (state_of written ≡ tree_saved (state_of old) dir) × (shown_tree (state_of written) ≡ shown_tree (state_of old))
@@ -110,24 +106,8 @@ module _ (old view : Core) (is : view ≡ old) (sound : IsSoundCore old) where
     evicted_cached : evicted view.caches r None ≡ Some caches → AreCached (state_of view) caches
     evicted_cached = by_victim (λ (k : CacheMap). AreCached (state_of view) k) (λ v passes q a at. now.cached q a (held_given_up view.caches r v q a at))
 
-    evicted_only : evicted view.caches r None ≡ Some caches → KeepsOnlyAt view.kept caches
-    evicted_only = by_victim (λ (k : CacheMap). KeepsOnlyAt view.kept k) (λ v passes s q placed. on v s q placed (now.kept s q (placed_given_up view.caches r v s q placed)))
-      where
-        still : (v : Leaf) (q : Leaf) → map.get view.caches.held q ≡ None → (o : Option At) → map.get (given_up view.caches r v).held q ≡ o → o ≡ None
-        still v q none None at = refl
-        still v q none (Some a) at = let clash : None ≡ Some a = sym none ∙ held_given_up view.caches r v q a at in absurd cc
-
-        on : (v : Leaf) (s : ℕ) (q : Leaf) → has_place (given_up view.caches r v) s q ≡ true → IsThere (here view.caches s q) ⊎ ((map.get view.caches.held q ≡ None) × (view.kept ≡ Some (record { 0 = s }, q)))
-            → IsThere (here (given_up view.caches r v) s q) ⊎ ((map.get (given_up view.caches r v).held q ≡ None) × (view.kept ≡ Some (record { 0 = s }, q)))
-        on v s q placed (inl was) = inl (whole_given_up view.caches r v s q there (valid.distinct r) (λ before. was) placed)
-        on v s q placed (inr kept) = inr (still v q kept.0 (map.get (given_up view.caches r v).held q) refl, kept.1)
-
-    evicted_coming : evicted view.caches r None ≡ Some caches → KeepsComing view.homes caches
-    evicted_coming = by_victim (KeepsComing view.homes) (λ v passes s q kept. now.coming s q (was v s q kept (now.kept s q (placed_given_up view.caches r v s q kept.0))))
-      where
-        was : (v : Leaf) (s : ℕ) (q : Leaf) → IsKeptFor (given_up view.caches r v) s q → IsThere (here view.caches s q) ⊎ ((map.get view.caches.held q ≡ None) × (view.kept ≡ Some (record { 0 = s }, q))) → IsKeptFor view.caches s q
-        was v s q kept (inl there_is) = absurd (subst IsThere (ap (at_rank s) kept.1) (whole_given_up view.caches r v s q there (valid.distinct r) (λ before. there_is) kept.0))
-        was v s q kept (inr none) = (placed_given_up view.caches r v s q kept.0, none.0)
+    evicted_none : evicted view.caches r None ≡ Some caches → KeepsNone caches
+    evicted_none = by_victim KeepsNone (λ v passes s q placed. whole_given_up view.caches r v s q there (valid.distinct r) (now.none s q) placed)
 
     went_state : evicted view.caches r None ≡ Some caches → state_of (record view { caches = caches }) ≡ state_of view
     went_state gone = λ i. record (state_of view) { unsaved = evicted_unclean gone i }
@@ -141,7 +121,6 @@ module _ (old view : Core) (is : view ≡ old) (sound : IsSoundCore old) where
       sound = subst IsSound (sym (went_state gone)) now.sound;
       begun = now.begun;
       cached = subst (λ (s : State). AreCached s caches) (sym (went_state gone)) (evicted_cached gone);
-      kept = evicted_only gone;
-      coming = evicted_coming gone;
+      none = evicted_none gone;
     }
     evict_sound (Err reason) gone left = subst (λ (k : CacheMap). IsSoundCore (record view { caches = k })) (sym left) now

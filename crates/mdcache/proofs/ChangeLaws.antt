@@ -27,7 +27,7 @@ use Rattle.namespace_ops.specs.declared.plans.Spot.{Spot}
 use Rattle.namespace_ops.specs.declared.plans.Change.{Change}
 use Rattle.namespace_ops.specs.Kept.{ChangesOnly}
 use Rattle.mdcache.specs.Going.{rows_but}
-use Rattle.mdcache.specs.Changes.{Alters, IsNamed, Makes, noted, with_directory, with_home_at, without, without_directory}
+use Rattle.mdcache.specs.Changes.{Alters, IsNamed, noted, with_directory, with_home_at, without, without_directory}
 use Rattle.namespace_ops.proofs.Shapes.{Shape, shape_of}
 use Rattle.namespace_ops.proofs.Shapes.Shape.{add, move, remove, set}
 use Rattle.inode_table.specs.TreeChanges.{KeepLeaves, MayRemove}

@@ -40,9 +40,8 @@ use Rattle.mdcache.specs.Sound.{IsSound}
 use Rattle.mdcache.specs.State.{IsLive, State, UnsavedLeaves}
 use Rattle.mdcache.specs.declared.going.Going.{Going}
 use Rattle.mdcache.specs.declared.going.GoingLeaf.{GoingLeaf}
-use Rattle.mdcache.specs.declared.prepared.Prepared.{Prepared}
 use Rattle.mdcache.proofs.GoneLaws.{among}
-use Rattle.mdcache.proofs.NoneLaws.{none_coming, none_only, only_none}
+use Rattle.mdcache.proofs.NoneLaws.{none_only, only_none}
 use Rattle.mdcache.proofs.PutLaws.{cached_with, mark, marked_is, put_cached, put_named, put_only}
 
 -- the fragment that is there
@@ -90,12 +89,11 @@ pub record HasMade (Uses Ends : ℕ → Leaf → Type 0) (kept : Option (Rank ×
 -- so all is sound where none is kept
 pub sound_made : (Uses Ends : ℕ → Leaf → Type 0) (old new : Core) → HasMade Uses Ends None old new → IsSound (state_of new) → 0 < new.next_generation → IsSoundCore new
 sound_made Uses Ends old new made sound begun =
-    let none : KeepsNone new.caches = only_none new.caches made.only in
-    record { sound = sound; begun = begun; cached = made.cached; kept = none_only new.kept new.caches none; coming = none_coming new.homes new.caches none }
+    record { sound = sound; begun = begun; cached = made.cached; none = only_none new.caches made.only }
 
 module _ (Uses Ends : ℕ → Leaf → Type 0) (kept : Option (Rank × Leaf)) (old : Core) where
-  pub made_first : IsSoundCore old → KeepsOnlyAt kept old.caches → HasMade Uses Ends kept old old
-  made_first sound only = record { came = stays; cached = sound.cached; only = only }
+  pub made_first : AreCached (state_of old) old.caches → KeepsOnlyAt kept old.caches → HasMade Uses Ends kept old old
+  made_first cached only = record { came = stays; cached = cached; only = only }
 
   module _ (c : Core) (before : HasMade Uses Ends kept old c) where
     -- a name of a leaf changed
@@ -346,7 +344,3 @@ room_left c r s source target name mark two one = by (here c r source) refl two
 -- so it is there
 pub there_left : (c : CacheMap) (r s : ℕ) (source target : Leaf) (name : List ℕ) (mark : Mark) → HasCached (here c r source) (λ (f : Cached). 1 < f.room) → HasRoom (here c s target) → IsThere (here (with_mark c r source name mark) s target)
 there_left c r s source target name mark two one = roomy_there (here (with_mark c r source name mark) s target) (room_left c r s source target name mark two one)
-
--- nothing else of the fragments is seen
-pub made_beside : (Uses Ends : ℕ → Leaf → Type 0) (kept other : Option (Rank × Leaf)) (old c : Core) (prepared : Prepared) → HasMade Uses Ends kept old c → HasMade Uses Ends kept old (record c { prepared = prepared; kept = other })
-made_beside Uses Ends kept other old c prepared made = record { came = made.came; cached = made.cached; only = made.only }

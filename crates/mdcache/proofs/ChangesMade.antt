@@ -1,11 +1,12 @@
 -- What a change makes, once its steps are known.
 use Rattle.std.proofs.Common.{◌≡◌, ◌<◌, ◌^◌, ℕ, Bool, true, false, cond, length, Option, Some, None, inl, inr, refl, sym, ap, subst, ◌∙◌, arith}
-use Rattle.std.specs.Prelude.{IfSome, List, is_some, string_bytes, ◌≤◌, ◌==◌, ◌-◌}
+use Rattle.std.specs.Prelude.{IfSome, List, is_some, string_bytes, ◌==◌, ◌-◌}
 use Rattle.std.specs.FinMap as map
 use Rattle.mds_types.specs.Frag.{root_fragment}
 use Rattle.mds_types.specs.Tree.{is_dir_kind}
 use Rattle.mds_types.specs.declared.dentries.Dentry.{Dentry}
 use Rattle.mds_types.specs.declared.ids.Ino.{Ino}
+use Rattle.mds_types.specs.declared.ids.Rank.{Rank}
 use Rattle.mds_types.specs.declared.inodes.Inode.{Inode}
 use Rattle.mds_types.specs.Step.{HasSpace, IsMove}
 use Rattle.mds_types.specs.Leaf.{leaf_of}
@@ -13,7 +14,8 @@ use Rattle.cached_frag.specs.Cached.{Cached}
 use Rattle.dentry_cache.specs.Cache.{HasCached, HasRoom, IsThere, Leaf}
 use Rattle.dentry_cache.specs.CacheCalls.{KeepsNone}
 use Rattle.dentry_cache.specs.CacheMap.{here}
-use Rattle.dentry_cache.specs.Came.{Came}
+use Rattle.dentry_cache.specs.CacheSplits.{IsKeptFor}
+use Rattle.dentry_cache.specs.Came.{Came, NoneEnds}
 use Rattle.mds_types.specs.declared.dirfrags.Dirfrag.{Dirfrag}
 use Rattle.dentry_cache.proofs.UncleanLaws.{unclean_with}
 use Rattle.inode_table.specs.Dirs.{Counts, MayCome, MayGo, MayMove, count_of, is_known, one_less, one_more}
@@ -24,36 +26,35 @@ use Rattle.namespace_ops.specs.Changes.{MayChange, adds, dentry_at, directory_at
 use Rattle.namespace_ops.specs.declared.plans.Spot.{Spot}
 use Rattle.namespace_ops.specs.declared.plans.Change.{Change}
 use Rattle.mdcache.specs.Changes.{IsNamed, Makes, first_leaf, with_directory, with_new, without}
-use Rattle.mdcache.specs.Core.{Core, IsSoundCore, Rooms, made_frag, moved, named, pinned, shown_in, shows, state_of, with_dir, with_entry, without_dir, without_entry}
-use Rattle.mdcache.specs.Frags.{IsForDirectory, IsForMove, IsForRemoval, IsReady}
-use Rattle.mdcache.specs.Going.{IsGoingOrNone, count_going, dir_going, leaves_going, rows_but, texts_going}
+use Rattle.mdcache.specs.Core.{AreCached, Core, IsSoundCore, ReadsCore, Rooms, made_frag, moved, named, pinned, shown_in, shows, state_of, with_dir, with_entry, without_dir, without_entry}
+use Rattle.mdcache.specs.Changing.{IsChanged}
+use Rattle.mdcache.specs.Going.{IsGoingOrNone, dir_going, leaves_going, rows_but, texts_going}
 use Rattle.mdcache.specs.Made.{HasNumber, IsRight}
 use Rattle.mdcache.specs.Ranks.{EndsWith, IsNamedIn, KeepsOnlyAt}
+use Rattle.mdcache.specs.Shown.{shown_tree}
+use Rattle.mdcache.specs.Sound.{IsSound}
 use Rattle.mdcache.specs.State.{State, text_of}
 use Rattle.mdcache.specs.declared.going.Going.{Going}
-use Rattle.mdcache.specs.declared.prepared.MovingEntry.{MovingEntry}
 use Rattle.mdcache.specs.declared.prepared.NewDirectory.{NewDirectory}
-use Rattle.mdcache.specs.declared.prepared.Prepared.{Prepared}
-use Rattle.mdcache.specs.declared.prepared.Prepared.TheVariants.{Directory, Move as Moving, Removal}
 use Rattle.mdcache.proofs.ChangeLaws.{changes_are_right}
-use Rattle.mdcache.proofs.CoreLaws.{dir_known, shows_names}
+use Rattle.mdcache.proofs.CoreLaws.{dir_known, reads_state, shows_names}
 use Rattle.mdcache.proofs.TreeLookups.{at_dentry}
-use Rattle.mdcache.proofs.ChangeSteps.{HasMade, cached_there, is_gone, is_named, kept_named, left, made_beside, made_dir, made_first, made_gone, made_home, made_named, made_noted, roomy_there, sound_made, there_left}
+use Rattle.mdcache.proofs.ChangeSteps.{HasMade, cached_there, is_gone, is_named, kept_named, left, made_dir, made_first, made_gone, made_home, made_named, made_noted, roomy_there, sound_made, there_left}
 use Rattle.mdcache.proofs.HomeLaws.{first_live, grown_live, moved_known}
 use Rattle.mdcache.proofs.NamedLaws.{sound_leaves}
-use Rattle.mdcache.proofs.NoneLaws.{only_none}
+use Rattle.mdcache.proofs.NoneLaws.{none_only}
 
--- all that a change leaves
-pub record IsChanged (change : Change) (old new : Core) : Type 0 where
+-- all that the steps of a change leave
+pub record IsDone (change : Change) (old new : Core) : Type 0 where
   pub made : Makes change (state_of old) (state_of new)
   pub right : IsRight change (state_of old) (state_of new)
   pub came : Came (IsNamedIn change) (EndsWith change) old.caches new.caches
   pub sound : IsSoundCore new
 
-changed : (change : Change) (old new : Core) → IsSoundCore old → HasNumber change → MayChange (shown_in old) old.covers change → Makes change (state_of old) (state_of new)
-    → HasMade (IsNamedIn change) (EndsWith change) None old new → 0 < new.next_generation → IsChanged change old new
-changed change old new sound number may made has begun =
-    let right : IsRight change (state_of old) (state_of new) = changes_are_right change (state_of old) (state_of new) sound.sound number may made in
+done : (change : Change) (old new : Core) → IsSound (state_of old) → HasNumber change → MayChange (shown_in old) old.covers change → Makes change (state_of old) (state_of new)
+    → HasMade (IsNamedIn change) (EndsWith change) None old new → 0 < new.next_generation → IsDone change old new
+done change old new sound number may made has begun =
+    let right : IsRight change (state_of old) (state_of new) = changes_are_right change (state_of old) (state_of new) sound number may made in
     record {
       made = made;
       right = right;
@@ -65,9 +66,23 @@ changed change old new sound number may made has begun =
 not_new : {P : Type 0} → false ≡ true → P
 not_new clash = cc
 
--- what a directory was made ready with
-pub for_directory : (dentry : Dentry) (dir : Ino) (prepared : Prepared) (made : NewDirectory) → prepared ≡ Directory made → IsForDirectory dentry dir prepared → (made.name ≡ dentry.name) × (string_bytes made.object ≡ text_of (first_leaf dir))
-for_directory dentry dir prepared made was ready = subst (IsForDirectory dentry dir) was ready
+-- ---- after reads
+
+-- what was read for a change before its steps changed nothing else
+pub after_reads : (change : Change) (old mid new : Core) → ReadsCore (IsNamedIn change) NoneEnds old mid → IsDone change mid new → IsChanged change old new
+after_reads change old mid new reads is =
+    let same : state_of mid ≡ state_of old = reads_state (IsNamedIn change) NoneEnds old mid reads in
+    record {
+      made = subst (λ (s : State). Makes change s (state_of new)) same is.made;
+      right = subst (λ (s : State). IsRight change s (state_of new)) same is.right;
+      between = mid.caches;
+      read = reads.caches;
+      came = is.came;
+    }
+
+-- and it may be made still
+pub may_still : (Uses : ℕ → Leaf → Type 0) (change : Change) (old mid : Core) → ReadsCore Uses NoneEnds old mid → MayChange (shown_in old) old.covers change → MayChange (shown_in mid) mid.covers change
+may_still Uses change old mid reads may = subst (λ (s : State). MayChange (shown_tree s) s.covers change) (sym (reads_state Uses NoneEnds old mid reads)) may
 
 -- ---- counts and pins
 
@@ -76,10 +91,10 @@ pub entry_known : (c : Core) → IsSoundCore c → (dentry : Dentry) (inode : In
 entry_known c sound dentry inode stands = dir_known c sound dentry.dir.0 (sound.sound.tabled.whole.parents dentry.dir.0 dentry.name inode stands)
 
 -- one more fits where a new inode comes
-pub new_fits : (c : Core) → IsSoundCore c → (spot : Spot) (inode : Inode) → MayChange (shown_in c) c.covers (adds spot inode) → count_of c.counts spot.at.dir.0 < 2 ^ 64 - 1
-new_fits c sound spot inode may =
+pub new_fits : (s : State) → IsSound s → (spot : Spot) (inode : Inode) → MayChange (shown_tree s) s.covers (adds spot inode) → count_of s.counts spot.at.dir.0 < 2 ^ 64 - 1
+new_fits s sound spot inode may =
     let few = may.takes.spaced in
-    let count = sound.sound.counted.each spot.at.dir.0 in
+    let count = sound.counted.each spot.at.dir.0 in
     omega (arith, few, count)
 
 -- a directory that is altered is in the table
@@ -88,116 +103,110 @@ set_listed c sound spot inode may kinded =
     ap (λ (n : Ino). is_some (map.get c.homes n.0)) may.takes.number
     ∙ ap is_some (sound.sound.tabled.holds.listed (dentry_at spot) may.takes.before may.takes.stands (sym (ap is_dir_kind may.takes.kind) ∙ kinded))
 
-module _ (old new : Core) (sound : IsSoundCore old) (spot : Spot) where
+module _ (old new : Core) (sound : IsSound (state_of old)) (begun : 0 < old.next_generation) (cached : AreCached (state_of old) old.caches) (spot : Spot) (room : HasRoom (here old.caches spot.at.rank.0 (leaf_of spot.at))) where
   abbrev place : Dirfrag
   place = spot.at
+
+  there : IsThere (here old.caches place.rank.0 (leaf_of place))
+  there = roomy_there (here old.caches place.rank.0 (leaf_of place)) room
 
   -- a name got an inode
   module _ (inode : Inode) where
     abbrev now : Core
     now = named old place spot.name (Some inode)
 
-    there : HasRoom (here old.caches place.rank.0 (leaf_of place)) → IsThere (here old.caches place.rank.0 (leaf_of place))
-    there = roomy_there (here old.caches place.rank.0 (leaf_of place))
+    abbrev SetUses : ℕ → Leaf → Type 0
+    SetUses = IsNamedIn (sets spot inode)
 
-    module _ (ready : IsReady old (sets spot inode)) where
-      abbrev SetUses : ℕ → Leaf → Type 0
-      SetUses = IsNamedIn (sets spot inode)
+    abbrev SetEnds : ℕ → Leaf → Type 0
+    SetEnds = EndsWith (sets spot inode)
 
-      abbrev SetEnds : ℕ → Leaf → Type 0
-      SetEnds = EndsWith (sets spot inode)
+    before_set : KeepsNone old.caches → HasMade SetUses SetEnds None old old
+    before_set none = made_first SetUses SetEnds None old cached (none_only None old.caches none)
 
-      before_set : HasMade SetUses SetEnds None old old
-      before_set = made_first SetUses SetEnds None old sound ready.kept
+    pub set_done : KeepsNone old.caches → MayChange (shown_in old) old.covers (sets spot inode) → new ≡ pinned now inode → IsDone (sets spot inode) old new
+    set_done none may is = subst (IsDone (sets spot inode) old) (sym is)
+        (done (sets spot inode) old (pinned now inode) sound not_new may (state_of now, (state_of now, is_named SetUses SetEnds None old old (before_set none) place spot.name (Some inode) there, refl), refl)
+        (made_noted SetUses SetEnds None old now (made_named SetUses SetEnds None old old (before_set none) place spot.name (Some inode) there (refl, refl)) old.counts (with_pin old.pins inode)) begun)
 
-      pub set_changed : MayChange (shown_in old) old.covers (sets spot inode) → new ≡ pinned now inode → IsChanged (sets spot inode) old new
-      set_changed may is = subst (IsChanged (sets spot inode) old) (sym is)
-          (changed (sets spot inode) old (pinned now inode) sound not_new may (state_of now, (state_of now, is_named SetUses SetEnds None old old before_set place spot.name (Some inode) (there ready.ready.0.room), refl), refl)
-          (made_noted SetUses SetEnds None old now (made_named SetUses SetEnds None old old before_set place spot.name (Some inode) (there ready.ready.0.room) (refl, refl)) old.counts (with_pin old.pins inode)) sound.begun)
+    abbrev AddUses : ℕ → Leaf → Type 0
+    AddUses = IsNamedIn (adds spot inode)
 
-    module _ (ready : IsReady old (adds spot inode)) where
-      abbrev AddUses : ℕ → Leaf → Type 0
-      AddUses = IsNamedIn (adds spot inode)
+    abbrev AddEnds : ℕ → Leaf → Type 0
+    AddEnds = EndsWith (adds spot inode)
 
-      abbrev AddEnds : ℕ → Leaf → Type 0
-      AddEnds = EndsWith (adds spot inode)
+    before_file : KeepsNone old.caches → HasMade AddUses AddEnds None old old
+    before_file none = made_first AddUses AddEnds None old cached (none_only None old.caches none)
 
-      before_file : is_dir_kind inode.kind ≡ false → HasMade AddUses AddEnds None old old
-      before_file file = made_first AddUses AddEnds None old sound (subst (λ (b : Bool). KeepsOnlyAt (cond b (Some (spot.at.rank, first_leaf inode.ino)) None) old.caches) file ready.kept)
-
-      pub file_changed : is_dir_kind inode.kind ≡ false → inode.ino.0 < 2 ^ 64 → MayChange (shown_in old) old.covers (adds spot inode) → new ≡ with_entry now place.dir → IsChanged (adds spot inode) old new
-      file_changed file number may is = subst (IsChanged (adds spot inode) old) (sym is)
-          (changed (adds spot inode) old (with_entry now place.dir) sound (λ new. number) may (
+    pub file_done : KeepsNone old.caches → is_dir_kind inode.kind ≡ false → inode.ino.0 < 2 ^ 64 → MayChange (shown_in old) old.covers (adds spot inode) → new ≡ with_entry now place.dir → IsDone (adds spot inode) old new
+    file_done none file number may is = subst (IsDone (adds spot inode) old) (sym is)
+        (done (adds spot inode) old (with_entry now place.dir) sound (λ new. number) may (
+          state_of now,
+          (
             state_of now,
-            (
-              state_of now,
-              is_named AddUses AddEnds None old old (before_file file) place spot.name (Some inode) (there ready.ready.0.room),
-              sym (ap (λ (b : Bool). cond b (with_directory (state_of now) (dentry_at spot) inode.ino) (state_of now)) file),
-            ),
-            ap (λ (b : Bool). record (state_of now) { counts = cond b (map.insert (one_more old.counts place.dir.0) inode.ino.0 0) (one_more old.counts place.dir.0) }) (sym file),
-          )
-          (made_noted AddUses AddEnds None old now (made_named AddUses AddEnds None old old (before_file file) place spot.name (Some inode) (there ready.ready.0.room) (inl (refl, refl))) (one_more old.counts place.dir.0) old.pins) sound.begun)
+            is_named AddUses AddEnds None old old (before_file none) place spot.name (Some inode) there,
+            sym (ap (λ (b : Bool). cond b (with_directory (state_of now) (dentry_at spot) inode.ino) (state_of now)) file),
+          ),
+          ap (λ (b : Bool). record (state_of now) { counts = cond b (map.insert (one_more old.counts place.dir.0) inode.ino.0 0) (one_more old.counts place.dir.0) }) (sym file),
+        )
+        (made_noted AddUses AddEnds None old now (made_named AddUses AddEnds None old old (before_file none) place spot.name (Some inode) there (inl (refl, refl))) (one_more old.counts place.dir.0) old.pins) begun)
 
-      abbrev first : Dirfrag
-      first = record { dir = inode.ino; frag = root_fragment; rank = spot.at.rank }
+    abbrev first : Dirfrag
+    first = record { dir = inode.ino; frag = root_fragment; rank = spot.at.rank }
 
-      -- a directory has its home, and its leaf
-      module _ (kinded : is_dir_kind inode.kind ≡ true) (fits : inode.ino.0 < 2 ^ 64) (rank : spot.at.rank.0 < length old.caches.used) (may : MayChange (shown_in old) old.covers (adds spot inode)) (prepared : Prepared) (room : Rooms) where
-        abbrev grown : Core
-        grown = with_dir (with_entry now place.dir) first (home_at (dentry_at spot)) (text_of (first_leaf inode.ino)) room
+    abbrev kept : Option (Rank × Leaf)
+    kept = Some (spot.at.rank, first_leaf inode.ino)
 
-        pub dir_may_come : MayCome old.homes inode.ino.0 (home_at (dentry_at spot))
-        dir_may_come = may_come (shown_in old) old.homes (dentry_at spot) inode sound.sound.tabled may.takes
+    -- a directory has its home, and its leaf, for which a place is kept
+    module _ (only : KeepsOnlyAt kept old.caches) (kept_place : IsKeptFor old.caches spot.at.rank.0 (first_leaf inode.ino)) (kinded : is_dir_kind inode.kind ≡ true) (fits : inode.ino.0 < 2 ^ 64) (rank : spot.at.rank.0 < length old.caches.used)
+        (may : MayChange (shown_in old) old.covers (adds spot inode)) (rooms : Rooms) where
+      abbrev grown : Core
+      grown = with_dir (with_entry now place.dir) first (home_at (dentry_at spot)) (text_of (first_leaf inode.ino)) rooms
 
-        before_dir : HasMade AddUses AddEnds (Some (spot.at.rank, first_leaf inode.ino)) old old
-        before_dir = made_first AddUses AddEnds (Some (spot.at.rank, first_leaf inode.ino)) old sound (subst (λ (b : Bool). KeepsOnlyAt (cond b (Some (spot.at.rank, first_leaf inode.ino)) None) old.caches) kinded ready.kept)
+      pub dir_may_come : MayCome old.homes inode.ino.0 (home_at (dentry_at spot))
+      dir_may_come = may_come (shown_in old) old.homes (dentry_at spot) inode sound.tabled may.takes
 
-        dir_named : HasMade AddUses AddEnds (Some (spot.at.rank, first_leaf inode.ino)) old (with_entry now place.dir)
-        dir_named = made_noted AddUses AddEnds (Some (spot.at.rank, first_leaf inode.ino)) old now
-            (made_named AddUses AddEnds (Some (spot.at.rank, first_leaf inode.ino)) old old before_dir place spot.name (Some inode) (there ready.ready.0.room) (inl (refl, refl))) (one_more old.counts place.dir.0) old.pins
+      before_dir : HasMade AddUses AddEnds kept old old
+      before_dir = made_first AddUses AddEnds kept old cached only
 
-        dir_grown : HasMade AddUses AddEnds None old grown
-        dir_grown = made_dir AddUses AddEnds old (with_entry now place.dir) first dir_named
-            (kept_named old place spot.name (Some inode) (there ready.ready.0.room) (first_leaf inode.ino) (ready.ready.2 kinded).place rank).1 (home_at (dentry_at spot)) (text_of (first_leaf inode.ino)) room
-            (first_live (state_of old) (sound_leaves (state_of old) sound.sound) (dentry_at spot) inode.ino dir_may_come fits)
-            (grown_live (state_of old) (sound_leaves (state_of old) sound.sound) (dentry_at spot) inode.ino dir_may_come fits) (inr (refl, refl))
+      dir_named : HasMade AddUses AddEnds kept old (with_entry now place.dir)
+      dir_named = made_noted AddUses AddEnds kept old now
+          (made_named AddUses AddEnds kept old old before_dir place spot.name (Some inode) there (inl (refl, refl))) (one_more old.counts place.dir.0) old.pins
 
-        abbrev with_leaf : State
-        with_leaf = record (with_directory (state_of now) (dentry_at spot) inode.ino) { counts = map.insert (one_more old.counts place.dir.0) inode.ino.0 0 }
+      dir_grown : HasMade AddUses AddEnds None old grown
+      dir_grown = made_dir AddUses AddEnds old (with_entry now place.dir) first dir_named
+          (kept_named old place spot.name (Some inode) there (first_leaf inode.ino) kept_place rank).1 (home_at (dentry_at spot)) (text_of (first_leaf inode.ino)) rooms
+          (first_live (state_of old) (sound_leaves (state_of old) sound) (dentry_at spot) inode.ino dir_may_come fits)
+          (grown_live (state_of old) (sound_leaves (state_of old) sound) (dentry_at spot) inode.ino dir_may_come fits) (inr (refl, refl))
 
-        is_with_leaf : state_of grown ≡ with_leaf
-        is_with_leaf = λ i. record with_leaf { unsaved = unclean_with now.caches spot.at.rank.0 (first_leaf inode.ino) (made_frag now.next_generation) i }
+      abbrev with_leaf : State
+      with_leaf = record (with_directory (state_of now) (dentry_at spot) inode.ino) { counts = map.insert (one_more old.counts place.dir.0) inode.ino.0 0 }
 
-        abbrev noted_new : State
-        noted_new = record (with_new (state_of now) (dentry_at spot) inode) { counts = with_count (one_more old.counts place.dir.0) inode; pins = old.pins }
+      is_with_leaf : state_of grown ≡ with_leaf
+      is_with_leaf = λ i. record with_leaf { unsaved = unclean_with now.caches spot.at.rank.0 (first_leaf inode.ino) (made_frag now.next_generation) i }
 
-        is_noted : with_leaf ≡ noted_new
-        is_noted = sym (ap (λ (b : Bool). record (cond b (with_directory (state_of now) (dentry_at spot) inode.ino) (state_of now)) {
-          counts = cond b (map.insert (one_more old.counts place.dir.0) inode.ino.0 0) (one_more old.counts place.dir.0);
-          pins = old.pins;
-        }) kinded)
+      abbrev noted_new : State
+      noted_new = record (with_new (state_of now) (dentry_at spot) inode) { counts = with_count (one_more old.counts place.dir.0) inode; pins = old.pins }
 
-        is_grown : state_of grown ≡ noted_new
-        is_grown = is_with_leaf ∙ is_noted
+      is_noted : with_leaf ≡ noted_new
+      is_noted = sym (ap (λ (b : Bool). record (cond b (with_directory (state_of now) (dentry_at spot) inode.ino) (state_of now)) {
+        counts = cond b (map.insert (one_more old.counts place.dir.0) inode.ino.0 0) (one_more old.counts place.dir.0);
+        pins = old.pins;
+      }) kinded)
 
-        dir_changed : new ≡ record grown { prepared = prepared; kept = None } → IsChanged (adds spot inode) old new
-        dir_changed is = subst (IsChanged (adds spot inode) old) (sym is)
-            (changed (adds spot inode) old (record grown { prepared = prepared; kept = None }) sound (λ new. fits) may
-            (with_new (state_of now) (dentry_at spot) inode, (state_of now, is_named AddUses AddEnds (Some (spot.at.rank, first_leaf inode.ino)) old old before_dir place spot.name (Some inode) (there ready.ready.0.room), refl), is_grown)
-            (made_beside AddUses AddEnds None None old grown prepared dir_grown) (let begun = sound.begun in omega (arith, begun)))
+      dir_done : new ≡ grown → IsDone (adds spot inode) old new
+      dir_done is = subst (IsDone (adds spot inode) old) (sym is)
+          (done (adds spot inode) old grown sound (λ new. fits) may
+          (with_new (state_of now) (dentry_at spot) inode, (state_of now, is_named AddUses AddEnds kept old old before_dir place spot.name (Some inode) there, refl), is_with_leaf ∙ is_noted)
+          dir_grown (omega (arith, begun)))
 
-        pub directory_changed : (view : Core) → view ≡ old → (made : NewDirectory) → old.prepared ≡ Directory made
-            → new ≡ record (with_dir (with_entry (named (record view { prepared = prepared }) place spot.name (Some inode)) place.dir) first (record { parent = spot.at.dir; name = made.name }) (string_bytes made.object) room) { kept = None }
-            → IsChanged (adds spot inode) old new
-        directory_changed view same made was is =
-            let for = for_directory (dentry_at spot) inode.ino old.prepared made was (ready.ready.2 kinded).prepared in
-            dir_changed (is
-            ∙ ap (λ (k : Core). record (with_dir (with_entry (named (record k { prepared = prepared }) place spot.name (Some inode)) place.dir) first (record { parent = spot.at.dir; name = made.name }) (string_bytes made.object) room) { kept = None }) same
-            ∙ (λ i. record (with_dir (with_entry (named (record old { prepared = prepared }) place spot.name (Some inode)) place.dir) first (record { parent = spot.at.dir; name = for.0 i }) (for.1 i) room) { kept = None }))
+      pub directory_done : (made : NewDirectory) → made.name ≡ spot.name → string_bytes made.object ≡ text_of (first_leaf inode.ino)
+          → new ≡ with_dir (with_entry now place.dir) first (record { parent = spot.at.dir; name = made.name }) (string_bytes made.object) rooms → IsDone (adds spot inode) old new
+      directory_done made name object is =
+          dir_done (is ∙ (λ i. with_dir (with_entry now place.dir) first (record { parent = spot.at.dir; name = name i }) (object i) rooms))
 
   -- a name went, and the directory that stood there, if one did
-  module _ (going : Option Going) (room : HasRoom (here old.caches spot.at.rank.0 (leaf_of place))) (only : KeepsOnlyAt None old.caches) (stands : IsGoingOrNone old.covers going)
-      (may : MayChange (shown_in old) old.covers (removes spot (dir_going going))) (prepared : Prepared) (rooms : Rooms) where
+  module _ (going : Option Going) (none : KeepsNone old.caches) (stands : IsGoingOrNone old.covers going) (may : MayChange (shown_in old) old.covers (removes spot (dir_going going))) (rooms : Rooms) where
     abbrev RemoveUses : ℕ → Leaf → Type 0
     RemoveUses = IsNamedIn (removes spot (dir_going going))
 
@@ -211,23 +220,14 @@ module _ (old new : Core) (sound : IsSoundCore old) (spot : Spot) where
     gone = left erased (one_less old.counts place.dir.0) going stands rooms
 
     before_removal : HasMade RemoveUses RemoveEnds None old old
-    before_removal = made_first RemoveUses RemoveEnds None old sound only
+    before_removal = made_first RemoveUses RemoveEnds None old cached (none_only None old.caches none)
 
-    is_there : IsThere (here old.caches place.rank.0 (leaf_of place))
-    is_there = roomy_there (here old.caches place.rank.0 (leaf_of place)) room
-
-    removal_changed : new ≡ record gone { prepared = prepared; kept = old.kept } → (KeepsNone old.caches → KeepsNone new.caches) → IsChanged (removes spot (dir_going going)) old new
-    removal_changed is none = subst (IsChanged (removes spot (dir_going going)) old) (sym is)
-        (changed (removes spot (dir_going going)) old (record gone { prepared = prepared; kept = old.kept }) sound not_new may
-        (without (state_of erased) (dir_going going), (state_of erased, is_named RemoveUses RemoveEnds None old old before_removal place spot.name None is_there, refl), is_gone erased (one_less old.counts place.dir.0) going stands rooms)
-        (made_beside RemoveUses RemoveEnds None old.kept old gone prepared (made_gone erased (one_less old.counts place.dir.0) going stands rooms RemoveUses RemoveEnds old (λ r q is. is)
-        (made_named RemoveUses RemoveEnds None old old before_removal place spot.name None is_there (refl, refl)) (λ was. subst (λ (k : Core). KeepsNone k.caches) is (none (only_none old.caches only))))) sound.begun)
-
-    pub entry_gone : (view : Core) → view ≡ old → new ≡ without_dir (without_entry (named (record view { prepared = prepared }) place spot.name None) place.dir) (dir_going going) (leaves_going going) (texts_going going) rooms → (KeepsNone view.caches → KeepsNone new.caches)
-        → IsChanged (removes spot (dir_going going)) old new
-    entry_gone view same is none =
-        removal_changed (is ∙ ap (λ (k : Core). without_dir (without_entry (named (record k { prepared = prepared }) place spot.name None) place.dir) (dir_going going) (leaves_going going) (texts_going going) rooms) same)
-        (subst (λ (k : Core). KeepsNone k.caches → KeepsNone new.caches) same none)
+    pub removal_done : new ≡ without_dir (without_entry erased place.dir) (dir_going going) (leaves_going going) (texts_going going) rooms → (KeepsNone old.caches → KeepsNone new.caches) → IsDone (removes spot (dir_going going)) old new
+    removal_done is stays_none = subst (IsDone (removes spot (dir_going going)) old) (sym is)
+        (done (removes spot (dir_going going)) old gone sound not_new may
+        (without (state_of erased) (dir_going going), (state_of erased, is_named RemoveUses RemoveEnds None old old before_removal place spot.name None there, refl), is_gone erased (one_less old.counts place.dir.0) going stands rooms)
+        (made_gone erased (one_less old.counts place.dir.0) going stands rooms RemoveUses RemoveEnds old (λ r q is. is)
+        (made_named RemoveUses RemoveEnds None old old before_removal place spot.name None there (refl, refl)) (λ was. subst (λ (k : Core). KeepsNone k.caches) is (stays_none none))) begun)
 
 -- a directory that goes with an entry may go
 pub may_go : (c : Core) → IsSoundCore c → (spot : Spot) (went : Option Ino) → MayChange (shown_in c) c.covers (removes spot went) → IfSome went (λ (dir : Ino). MayGo c.homes dir.0)
@@ -240,16 +240,6 @@ may_go c sound spot went may = subst (λ (d : Option Ino). IfSome d (λ (dir : I
     go : (o : Option Inode) → map.get (shown_in c) (dentry_at spot) ≡ o → IfSome (directory_at o) (λ (dir : Ino). MayGo c.homes dir.0)
     go None is = tt
     go (Some inode) is = by inode (is_dir_kind inode.kind) is refl
-
--- what a removal was made ready with
-pub removal_of : (old : Core) (went : Option Ino) (going : Option Going) → old.prepared ≡ Removal going → IsForRemoval old.covers old.room.purge went old.prepared
-    → (dir_going going ≡ went) × IsGoingOrNone old.covers going × (count_going going ≤ old.room.purge)
-removal_of old went going was ready = subst (IsForRemoval old.covers old.room.purge went) was ready
-
--- what a move was made ready with
-pub move_of : (old : Core) (name : List ℕ) (went : Option Ino) (moving : MovingEntry) → old.prepared ≡ Moving moving → IsForMove old.covers old.room.purge name went old.prepared
-    → (moving.name ≡ name) × (dir_going moving.going ≡ went) × IsGoingOrNone old.covers moving.going × (count_going moving.going ≤ old.room.purge)
-move_of old name went moving was ready = subst (IsForMove old.covers old.room.purge name went) was ready
 
 -- ---- an entry moves
 
@@ -290,7 +280,7 @@ module _ (old new : Core) (sound : IsSoundCore old) (source target : Spot) (inod
       by None is space = let few = space apart in let count = sound.sound.counted.each target.at.dir.0 in omega (arith, few, count)
       by (Some i) is space = let clash : true ≡ false = is in cc
 
-  module _ (two : HasCached (here old.caches source.at.rank.0 (leaf_of source.at)) (λ (f : Cached). 1 < f.room)) (one : HasRoom (here old.caches target.at.rank.0 (leaf_of target.at))) (only : KeepsOnlyAt None old.caches) (leaves_stand : IsGoingOrNone old.covers going) (prepared : Prepared) (rooms : Rooms) where
+  module _ (two : HasCached (here old.caches source.at.rank.0 (leaf_of source.at)) (λ (f : Cached). 1 < f.room)) (one : HasRoom (here old.caches target.at.rank.0 (leaf_of target.at))) (leaves_stand : IsGoingOrNone old.covers going) (rooms : Rooms) where
     abbrev MoveUses : ℕ → Leaf → Type 0
     MoveUses = IsNamedIn change
 
@@ -322,7 +312,7 @@ module _ (old new : Core) (sound : IsSoundCore old) (source target : Spot) (inod
     stood = stands_at_target one
 
     before_move : HasMade MoveUses MoveEnds None old old
-    before_move = made_first MoveUses MoveEnds None old sound only
+    before_move = made_first MoveUses MoveEnds None old sound.cached (none_only None old.caches sound.none)
 
     there_first : IsThere (here old.caches first_place.rank.0 (leaf_of first_place))
     there_first = cached_there (λ (f : Cached). 1 < f.room) (here old.caches first_place.rank.0 (leaf_of first_place)) two
@@ -345,9 +335,9 @@ module _ (old new : Core) (sound : IsSoundCore old) (source target : Spot) (inod
         let named = is_named MoveUses MoveEnds None old housed housed_made second_place target.name (Some inode) there_second in
         record { before = named.before; stands = named.stands; left = λ i. record (named.left i) { homes = old.homes } }
 
-    move_changed : new ≡ record all_gone { prepared = prepared; kept = old.kept } → (KeepsNone old.caches → KeepsNone new.caches) → IsChanged change old new
-    move_changed is none = subst (IsChanged change old) (sym is)
-        (changed change old (record all_gone { prepared = prepared; kept = old.kept }) sound not_new may (
+    move_done : new ≡ all_gone → (KeepsNone old.caches → KeepsNone new.caches) → IsDone change old new
+    move_done is none = subst (IsDone change old) (sym is)
+        (done change old all_gone sound.sound not_new may (
           without (state_of came_name) (dir_going going),
           (
             state_of left_name,
@@ -359,13 +349,10 @@ module _ (old new : Core) (sound : IsSoundCore old) (source target : Spot) (inod
             pins = rows_but old.pins (dir_going going);
           }) stood,
         )
-        (made_beside MoveUses MoveEnds None old.kept old all_gone prepared (made_gone came_name counts_now going leaves_stand rooms MoveUses MoveEnds old (λ r q is. is) came_made (λ was. subst (λ (k : Core). KeepsNone k.caches) is (none (only_none old.caches only))))) sound.begun)
+        (made_gone came_name counts_now going leaves_stand rooms MoveUses MoveEnds old (λ r q is. is) came_made (λ was. subst (λ (k : Core). KeepsNone k.caches) is (none sound.none))) sound.begun)
 
-    pub entry_moved : (view : Core) → view ≡ old → (name : List ℕ) → name ≡ target.name
-        → new ≡ without_dir (moved (record view { prepared = prepared }) first_place source.name second_place target.name name inode) (dir_going going) (leaves_going going) (texts_going going) rooms → (KeepsNone view.caches → KeepsNone new.caches)
-        → IsChanged change old new
-    entry_moved view same name its is none =
-        move_changed (is
-        ∙ ap (λ (k : Core). without_dir (moved (record k { prepared = prepared }) first_place source.name second_place target.name name inode) (dir_going going) (leaves_going going) (texts_going going) rooms) same
-        ∙ ap (λ (n : List ℕ). without_dir (moved (record old { prepared = prepared }) first_place source.name second_place target.name n inode) (dir_going going) (leaves_going going) (texts_going going) rooms) its)
-        (subst (λ (k : Core). KeepsNone k.caches → KeepsNone new.caches) same none)
+    pub entry_moved : (name : List ℕ) → name ≡ target.name
+        → new ≡ without_dir (moved old first_place source.name second_place target.name name inode) (dir_going going) (leaves_going going) (texts_going going) rooms → (KeepsNone old.caches → KeepsNone new.caches)
+        → IsDone change old new
+    entry_moved name its is none =
+        move_done (is ∙ ap (λ (n : List ℕ). without_dir (moved old first_place source.name second_place target.name n inode) (dir_going going) (leaves_going going) (texts_going going) rooms) its) none

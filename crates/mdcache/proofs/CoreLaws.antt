@@ -1,10 +1,9 @@
 -- What reads and preparations leave of the tree over caches and a store, and what they find.
 use Rattle.std.proofs.Common.{◌≡◌, ◌⊎◌, inl, inr, ℕ, zero, suc, ◌+◌, ◌<◌, ◌≤◌, true, length, List, Option, Some, None, refl, sym, ap, subst, ◌∙◌, arith}
-use Rattle.std.specs.Prelude.{IfErr, IfOk, OnOk, Result, Ok, Err, is_some}
+use Rattle.std.specs.Prelude.{IfErr, IfOk, OnErr, OnOk, Result, Ok, Err, is_some}
 use Rattle.std.specs.FinMap as map
 use Rattle.mds_types.specs.declared.dentries.Dentry.{Dentry}
 use Rattle.mds_types.specs.declared.ids.Ino.{Ino}
-use Rattle.mds_types.specs.declared.ids.Rank.{Rank}
 use Rattle.mds_types.specs.declared.inodes.Inode.{Inode}
 use Rattle.mds_types.specs.declared.refusals.Refusal.{Refusal}
 use Rattle.mds_types.specs.Frag.{Fragment}
@@ -20,7 +19,6 @@ use Rattle.cached_frag.specs.Cached.{Cached, shown}
 use Rattle.dentry_cache.specs.Cache.{HasCached, IsThere, Leaf}
 use Rattle.dentry_cache.specs.CacheMap.{At, CacheMap, IsFree, at, here, unclean, unclean_of, unsaved_at, used_at}
 use Rattle.dentry_cache.specs.CacheCalls.{Edits, KeepsNone}
-use Rattle.dentry_cache.specs.CacheSplits.{IsKeptFor}
 use Rattle.dentry_cache.specs.Came.{Came, IsThat, NoneEnds}
 use Rattle.dentry_cache.specs.Loading.{IsSaved, Loads, object_of}
 use Rattle.dentry_cache.specs.Reads.{IsButRoom, IsReadOf, Reads}
@@ -35,11 +33,10 @@ use Rattle.mdcache.specs.Core.{AreCached, Core, IsCachedIn, IsNoLess, IsSoundCor
 use Rattle.mdcache.specs.Frags.{KeepsState}
 use Rattle.dirfrag_codec.specs.FragmentObject.{Names}
 use Rattle.mdcache.specs.CacheReads.{LacksPlacesIn}
-use Rattle.mdcache.specs.Ranks.{KeepsComing, MayHold, NoneUsed}
+use Rattle.mdcache.specs.Ranks.{MayHold}
 use Rattle.objstore.specs.Omap.{Keys}
 use Rattle.inode_table.specs.Dirs.{Covers, Homes}
 use Rattle.mdcache.specs.Ready.{MayNotBeReady}
-use Rattle.mdcache.specs.declared.prepared.Prepared.{Prepared}
 use Rattle.mdcache.specs.Reads.{MayNotFind}
 use Rattle.mdcache.specs.Shown.{names_of, shown_at}
 use Rattle.mdcache.specs.Sound.{IsSound}
@@ -47,7 +44,6 @@ use Rattle.mdcache.specs.State.{IsLive, State, UnsavedLeaves}
 use Rattle.mdcache.proofs.EndLaws.{cached_shows}
 use Rattle.dentry_cache.proofs.FrameLaws.{came_cap, came_ranks}
 use Rattle.dentry_cache.proofs.ReadsLaws.{edits_reads, here_is, reads_came, reads_held, reads_then, reads_unclean, reads_weaker, used_reads}
-use Rattle.mdcache.proofs.NoneLaws.{KeepsPlace, none_places}
 use Rattle.mdcache.proofs.UncleanOf.{reads_unclean_of}
 use Rattle.mdcache.proofs.TreeLookups.{at_dentry}
 
@@ -95,20 +91,15 @@ module _ (Uses Ends : ℕ → Leaf → Type 0) (old new : Core) (reads : ReadsCo
       go (inl was) = cached_but (state_of old) leaf was.0 a.frag was.2 (sound.cached leaf (at a.rank was.0) was.1)
       go (inr came) = cached_but (state_of old) leaf came.1 a.frag came.3 (loaded_cached (state_of old) leaf came.1 sound.begun (live a.rank leaf came.0 a is) came.2)
 
-  pub reads_cached : IsSoundCore old → ((r : ℕ) (q : Leaf) → Uses r q → IsLive old.homes old.covers q) → (leaf : Leaf) (a : At) → map.get new.caches.held leaf ≡ Some a
-      → IsCachedIn (state_of new) leaf a.frag
-  reads_cached sound live = reads_cached_so sound (λ r q uses a is. live r q uses)
-
-  pub reads_sound_so : IsSoundCore old → AreLive → KeepsPlace old.homes new.kept new.caches → IsSoundCore new
-  reads_sound_so sound live places = record {
+  pub reads_sound_so : IsSoundCore old → AreLive → KeepsNone new.caches → IsSoundCore new
+  reads_sound_so sound live none = record {
     sound = subst IsSound (sym reads_state) sound.sound;
     begun = subst (λ (s : State). 0 < s.next_generation) (sym reads_state) sound.begun;
     cached = reads_cached_so sound live;
-    kept = places.only;
-    coming = subst (λ (s : State). KeepsComing s.homes new.caches) (sym reads_state) places.coming;
+    none = none;
   }
 
-  pub reads_sound : IsSoundCore old → ((r : ℕ) (q : Leaf) → Uses r q → IsLive old.homes old.covers q) → KeepsPlace old.homes new.kept new.caches → IsSoundCore new
+  pub reads_sound : IsSoundCore old → ((r : ℕ) (q : Leaf) → Uses r q → IsLive old.homes old.covers q) → KeepsNone new.caches → IsSoundCore new
   reads_sound sound live = reads_sound_so sound (λ r q uses a is. live r q uses)
 
   pub reads_keeps : (told : Option Refusal) → new.faults ≡ old.faults + faults_told told → KeepsState old new told
@@ -163,7 +154,7 @@ reads_core_on Uses Ends old mid new first second = record {
   caches = reads_then Uses Ends old.objects old.caches mid.caches new.caches first.caches
       (subst (λ (o : Objects). Reads Uses Ends o mid.caches new.caches) (ap (λ (c : Core). c.objects) first.beside) second.caches);
   room = no_less_on old.room mid.room new.room first.room second.room;
-  beside = second.beside ∙ ap (λ (c : Core). record c { caches = new.caches; faults = new.faults; room = new.room; prepared = new.prepared; kept = new.kept }) first.beside;
+  beside = second.beside ∙ ap (λ (c : Core). record c { caches = new.caches; faults = new.faults; room = new.room }) first.beside;
 }
 
 pub no_less_itself : (a : Rooms) → IsNoLess a a
@@ -178,7 +169,7 @@ there_after Uses Ends old new r reads there =
 
 -- a step of the caches, of what is seen of the parts that are there: the first one, and one after others
 module _ (Uses Ends : ℕ → Leaf → Type 0) (old view new : Core) (room : IsNoLess view.room new.room)
-    (beside : new ≡ record view { caches = new.caches; faults = new.faults; room = new.room; prepared = new.prepared; kept = new.kept }) where
+    (beside : new ≡ record view { caches = new.caches; faults = new.faults; room = new.room }) where
   pub first_step : view ≡ old → Reads Uses Ends view.objects view.caches new.caches → ReadsCore Uses Ends old new
   first_step is reads = subst (λ (k : Core). ReadsCore Uses Ends k new) is (record { caches = reads; room = room; beside = beside })
 
@@ -202,10 +193,6 @@ reads_core_wider Few Many FewEnd ManyEnd old new more more_end reads =
     record { caches = reads_weaker Few FewEnd Many ManyEnd more more_end old.objects old.caches new.caches reads.caches; room = reads.room; beside = reads.beside }
 
 -- ---- what a sound core tells
-
--- of the place that is kept
-pub keeps_place : (c : Core) → IsSoundCore c → KeepsPlace c.homes c.kept c.caches
-keeps_place c sound = record { only = sound.kept; coming = sound.coming }
 
 -- a cached fragment shows the names of its leaf
 pub shows_so : (c : Core) → AreCached (state_of c) c.caches → (r : ℕ) (leaf : Leaf) (f : Cached) → here c.caches r leaf ≡ Some f → names_of (unclean c.caches) c.objects leaf ≡ shown f
@@ -261,6 +248,10 @@ pub if_err : {A E : Type 0} (P Q : E → Type 0) (r : Result A E) → ((e : E) �
 if_err P Q (Ok x) f h = tt
 if_err P Q (Err e) f h = f e h
 
+pub on_err_so : {A E P : Type 0} (r : Result A E) → P → OnErr r P
+on_err_so (Ok x) p = tt
+on_err_so (Err e) p = p
+
 pub ok_so : {A E P : Type 0} (r : Result A E) → P → OnOk r P
 ok_so (Ok x) p = p
 ok_so (Err e) p = tt
@@ -299,34 +290,21 @@ not_found_pair Uses Ends old mid reads count r t after reason same is = subst (�
     go (inl lacks) = inl (lacks_before Uses Ends old mid reads count r lacks)
     go (inr lacks) = inr (lacks_before Uses Ends old mid reads count t lacks)
 
--- ---- a read, once the place that was kept is given up
+-- ---- a read of leaves that are live
 
-module _ (Uses : ℕ → Leaf → Type 0) (old mid new : Core) (given : ReadsCore NoneUsed (IsKeptFor old.caches) old mid) (read : ReadsCore Uses NoneEnds mid new) where
-  pub given_reads : ReadsCore Uses (IsKeptFor old.caches) old new
-  given_reads = reads_core_on Uses (IsKeptFor old.caches) old mid new
-      (reads_core_wider NoneUsed Uses (IsKeptFor old.caches) (IsKeptFor old.caches) old mid (λ r q no_use. absurd no_use) (λ r q is. is) given)
-      (reads_core_wider Uses Uses NoneEnds (IsKeptFor old.caches) mid new (λ r q is. is) (λ r q no_end. absurd no_end) read)
+module _ (Uses : ℕ → Leaf → Type 0) (old new : Core) (read : ReadsCore Uses NoneEnds old new) (sound : IsSoundCore old) (none : KeepsNone new.caches) (live : (r : ℕ) (q : Leaf) → Uses r q → IsLive old.homes old.covers q) where
+  pub read_sound : IsSoundCore new
+  read_sound = reads_sound Uses NoneEnds old new read sound live none
 
-  module _ (sound : IsSoundCore old) (none : KeepsNone new.caches) (live : (r : ℕ) (q : Leaf) → Uses r q → IsLive old.homes old.covers q) where
-    pub given_sound : IsSoundCore new
-    given_sound = reads_sound Uses (IsKeptFor old.caches) old new given_reads sound live (none_places new.kept new.caches none)
+  -- what holds of the shown names of a cached fragment holds of those of its leaf
+  pub read_names : (P : Names → Type 0) (r : ℕ) (leaf : Leaf) → HasCached (here new.caches r leaf) (λ (f : Cached). P (shown f)) → P (names_of (unclean old.caches) old.objects leaf)
+  read_names P r leaf has = subst P (ap (λ (s : State). names_of s.unsaved s.objects leaf) (reads_state Uses NoneEnds old new read)) (of_names new read_sound P r leaf has)
 
-    given_state : state_of new ≡ state_of old
-    given_state = reads_state Uses (IsKeptFor old.caches) old new given_reads
-
-    -- what holds of the shown names of a cached fragment holds of those of its leaf
-    pub given_names : (P : Names → Type 0) (r : ℕ) (leaf : Leaf) → HasCached (here new.caches r leaf) (λ (f : Cached). P (shown f)) → P (names_of (unclean old.caches) old.objects leaf)
-    given_names P r leaf has = subst P (ap (λ (s : State). names_of s.unsaved s.objects leaf) given_state) (of_names new given_sound P r leaf has)
-
-    pub given_found : (r : ℕ) (dentry : Dentry) (f : Fragment) (found : Option Inode) → is_directory (shown_in old) dentry.dir.0 ≡ true → IsPick (leaves_of old.covers dentry.dir.0) (hash_of dentry.name) f
-        → HasCached (here new.caches r (dentry.dir, f)) (λ (g : Cached). found ≡ map.get (shown g) dentry.name) → found ≡ map.get (shown_in old) dentry
-    given_found r dentry f found known pick has =
-        given_names (λ (names : Names). found ≡ map.get names dentry.name) r (dentry.dir, f) has
-        ∙ sym (at_dentry (state_of old) sound.sound dentry.dir.0 dentry.name f (dir_known old sound dentry.dir.0 known) pick)
-
--- a leaf can be fetched once the place that was kept is given up
-pub given_may : (old mid : Core) → ReadsCore NoneUsed (IsKeptFor old.caches) old mid → (a : Dirfrag) → IsSoundCore old → MayHold old.caches a.rank (leaf_of a) → IsLive old.homes old.covers (leaf_of a) → MayFetch mid a
-given_may old mid given a sound holds live = may_fetch_on NoneUsed (IsKeptFor old.caches) old mid given a (λ r no_use. absurd no_use) (may_fetch old sound a holds live)
+  pub read_found : (r : ℕ) (dentry : Dentry) (f : Fragment) (found : Option Inode) → is_directory (shown_in old) dentry.dir.0 ≡ true → IsPick (leaves_of old.covers dentry.dir.0) (hash_of dentry.name) f
+      → HasCached (here new.caches r (dentry.dir, f)) (λ (g : Cached). found ≡ map.get (shown g) dentry.name) → found ≡ map.get (shown_in old) dentry
+  read_found r dentry f found known pick has =
+      read_names (λ (names : Names). found ≡ map.get names dentry.name) r (dentry.dir, f) has
+      ∙ sym (at_dentry (state_of old) sound.sound dentry.dir.0 dentry.name f (dir_known old sound dentry.dir.0 known) pick)
 
 -- one leaf that is live
 pub that_live : (c : Core) (r : ℕ) (leaf : Leaf) → IsLive c.homes c.covers leaf → (s : ℕ) (q : Leaf) → IsThat r leaf s q → IsLive c.homes c.covers q
@@ -335,29 +313,6 @@ that_live c r leaf live s q is = subst (IsLive c.homes c.covers) (sym is.1) live
 pub two_live : (c : Core) (a b : ℕ) (one two : Leaf) → IsLive c.homes c.covers one → IsLive c.homes c.covers two → (s : ℕ) (q : Leaf) → IsThat a one s q ⊎ IsThat b two s q → IsLive c.homes c.covers q
 two_live c a b one two first second s q (inl is) = that_live c a one first s q is
 two_live c a b one two first second s q (inr is) = that_live c b two second s q is
-
--- the leaves of a pair, which are one at one rank alone, are used at their ranks
-pub two_ranks : (a b : Dirfrag) → (◌≡◌ {A = Leaf} (leaf_of a) (leaf_of b) → a.rank ≡ b.rank)
-    → ((r : ℕ) → IsThat a.rank.0 (leaf_of a) r (leaf_of a) ⊎ IsThat b.rank.0 (leaf_of b) r (leaf_of a) → r ≡ a.rank.0)
-    × ((r : ℕ) → IsThat a.rank.0 (leaf_of a) r (leaf_of b) ⊎ IsThat b.rank.0 (leaf_of b) r (leaf_of b) → r ≡ b.rank.0)
-two_ranks a b one = (first, second)
-  where
-    first : (r : ℕ) → IsThat a.rank.0 (leaf_of a) r (leaf_of a) ⊎ IsThat b.rank.0 (leaf_of b) r (leaf_of a) → r ≡ a.rank.0
-    first r (inl is) = is.0
-    first r (inr is) = is.0 ∙ ap (λ (k : Rank). k.0) (sym (one is.1))
-
-    second : (r : ℕ) → IsThat a.rank.0 (leaf_of a) r (leaf_of b) ⊎ IsThat b.rank.0 (leaf_of b) r (leaf_of b) → r ≡ b.rank.0
-    second r (inl is) = is.0 ∙ ap (λ (k : Rank). k.0) (one (sym is.1))
-    second r (inr is) = is.0
-
--- what holds of the names of a leaf holds of what a fragment shows that is cached of it
-pub cached_of_names : (c : Core) → IsSoundCore c → (P : Names → Type 0) (Q : Cached → Type 0) (r : ℕ) (leaf : Leaf) → HasCached (here c.caches r leaf) Q → P (names_of (unclean c.caches) c.objects leaf)
-    → HasCached (here c.caches r leaf) (λ (f : Cached). P (shown f))
-cached_of_names c sound P Q r leaf has is = go (here c.caches r leaf) refl has
-  where
-    go : (o : Option Cached) → here c.caches r leaf ≡ o → HasCached o Q → HasCached o (λ (f : Cached). P (shown f))
-    go None there h = absurd h
-    go (Some f) there h = subst P (shows_cached c sound r leaf f there) is
 
 -- ---- a change is made ready
 
@@ -380,27 +335,22 @@ pub grows_by : (old new : ℕ) → (0 < old → new ≡ old) → old ≤ new
 grows_by zero new ready = omega arith
 grows_by (suc n) new ready = let same = ready (omega arith) in omega (arith, same)
 
--- what was made ready is remembered
-pub remembered : (Uses Ends : ℕ → Leaf → Type 0) (old mid view : Core) (is : view ≡ mid) (prepared : Prepared) (kept : Option (Rank × Leaf)) → ReadsCore Uses Ends old mid → ReadsCore Uses Ends old (record view { prepared = prepared; kept = kept })
-remembered Uses Ends old mid view is prepared kept before = next_step Uses Ends old view (record view { prepared = prepared; kept = kept }) (no_less_itself view.room) refl mid before is it_stays
-
 -- why it isn't, once numbers are known to be left
 pub not_ready : (Lacks P : Type 0) (before after : ℕ) (reason : Refusal) → (Lacks → ⊥) → MayNotFind P before after reason → MayNotBeReady Lacks P before after reason
 not_ready Lacks P before after reason left is = inr (left, is)
 
--- after room was made, the place that was kept is given up, and leaves are read
-module _ (Uses : ℕ → Leaf → Type 0) (old grown mid new : Core) (room : ReadsCore Uses (IsKeptFor old.caches) old grown) (same : grown.caches ≡ old.caches) (given : ReadsCore NoneUsed (IsKeptFor grown.caches) grown mid) (read : ReadsCore Uses NoneEnds mid new) where
-  given_old : ReadsCore NoneUsed (IsKeptFor old.caches) grown mid
-  given_old = subst (λ (c : CacheMap). ReadsCore NoneUsed (IsKeptFor c) grown mid) same given
+-- so where more may lack, but of the numbers no more
+pub not_ready_wider : (Few Many Less More : Type 0) (before after : ℕ) (reason : Refusal) → (Few → Many) → (Many → Few) → (Less → More) → MayNotBeReady Few Less before after reason → MayNotBeReady Many More before after reason
+not_ready_wider Few Many Less More before after reason more few wider (inl lacks) = inl (lacks.0, more lacks.1)
+not_ready_wider Few Many Less More before after reason more few wider (inr why) = inr (λ lacks. why.0 (few lacks), not_found_weaker Less More before after reason wider why.1)
 
-  pub grown_reads : ReadsCore Uses (IsKeptFor old.caches) old new
-  grown_reads = reads_core_on Uses (IsKeptFor old.caches) old grown new room (reads_core_on Uses (IsKeptFor old.caches) grown mid new
-      (reads_core_wider NoneUsed Uses (IsKeptFor old.caches) (IsKeptFor old.caches) grown mid (λ r q no_use. absurd no_use) (λ r q is. is) given_old)
-      (reads_core_wider Uses Uses NoneEnds (IsKeptFor old.caches) mid new (λ r q is. is) (λ r q no_end. absurd no_end) read))
+-- room grew alone
+module _ (old grown : Core) (room : (Uses Ends : ℕ → Leaf → Type 0) → ReadsCore Uses Ends old grown) (sound : IsSoundCore old) where
+  pub grown_sound : grown.caches ≡ old.caches → IsSoundCore grown
+  grown_sound same = reads_sound NoneEnds NoneEnds old grown (room NoneEnds NoneEnds) sound (λ r q no_use. absurd no_use) (subst KeepsNone (sym same) sound.none)
 
-  -- of what was before all that
-  pub grown_given : ReadsCore NoneUsed (IsKeptFor old.caches) old grown → ReadsCore NoneUsed (IsKeptFor old.caches) old mid
-  grown_given alone = reads_core_on NoneUsed (IsKeptFor old.caches) old grown mid alone given_old
+  pub grown_may : (a : Dirfrag) → MayHold old.caches a.rank (leaf_of a) → IsLive old.homes old.covers (leaf_of a) → MayFetch grown a
+  grown_may a holds live = may_fetch_on NoneEnds NoneEnds old grown (room NoneEnds NoneEnds) a (λ r no_use. absurd no_use) (may_fetch old sound a holds live)
 
-  pub grown_may : (a : Dirfrag) → ((r : ℕ) → Uses r (leaf_of a) → r ≡ a.rank.0) → MayFetch old a → MayFetch mid a
-  grown_may a mine may = may_fetch_on NoneUsed (IsKeptFor grown.caches) grown mid given a (λ r no_use. absurd no_use) (may_fetch_on Uses (IsKeptFor old.caches) old grown room a mine may)
+  pub grown_refused : (count r after : ℕ) (reason : Refusal) → grown.faults ≡ old.faults → MayNotFind (LacksPlacesIn count grown.caches r) grown.faults after reason → MayNotFind (LacksPlacesIn count old.caches r) old.faults after reason
+  grown_refused count r after reason same is = not_found_before NoneEnds NoneEnds old grown (room NoneEnds NoneEnds) count r after reason same is

@@ -1,5 +1,5 @@
 -- Refusals that are no fault of a store: a call that is refused so tells none.
-use Rattle.std.specs.Prelude.{◌≡◌, ◌⊎◌, ℕ, Option, Result, Ok, Err, IfErr, refl}
+use Rattle.std.specs.Prelude.{◌≡◌, ℕ, Option, Result, Ok, Err, IfErr, refl}
 use Rattle.std.proofs.Common.{inl, inr, ap, subst, ◌∙◌, arith}
 use Rattle.std.specs.Result.{result_err}
 use Rattle.mds_types.specs.declared.ids.Ino.{Ino}
@@ -9,7 +9,7 @@ use Rattle.objstore.specs.Objects.{faults_in, faults_told}
 use Rattle.cached_frag.specs.declared.jobs.Job.{Job}
 use Rattle.dentry_cache.specs.Cache.{Leaf}
 use Rattle.inode_table.specs.Dirs.{Homes}
-use Rattle.mdcache.specs.Commits.{Begins, Drops, MayNotBegin}
+use Rattle.mdcache.specs.Commits.{Begins, MayNotBegin}
 use Rattle.mdcache.specs.Ready.{MayNotBeReady}
 use Rattle.mdcache.specs.Regroups.{LacksCounts, MayNotRegroup, RefusesLeaves}
 use Rattle.mdcache.specs.State.{State}
@@ -47,17 +47,6 @@ pub no_fault : (X : Type 0) (result : Result X Refusal) (only : Refusal) → fau
 no_fault X (Ok x) only none h = refl
 no_fault X (Err reason) only none h = ap faults_in h ∙ none
 
--- refused for want of memory, or of places
-pub kept_free : (reason : Refusal) (NoPlace : Type 0) → (reason ≡ NoMemory) ⊎ ((reason ≡ NothingToEvict) × NoPlace)
-    → faults_in reason ≡ 0
-kept_free reason NoPlace (inl memory) = ap faults_in memory
-kept_free reason NoPlace (inr lacks) = ap faults_in lacks.0
-
-pub no_fault_kept : (X : Type 0) (result : Result X Refusal) (NoPlace : Type 0)
-    → IfErr result (λ reason. (reason ≡ NoMemory) ⊎ ((reason ≡ NothingToEvict) × NoPlace)) → faults_told (result_err result) ≡ 0
-no_fault_kept X (Ok x) NoPlace h = refl
-no_fault_kept X (Err reason) NoPlace h = kept_free reason NoPlace h
-
 -- refused by the leaves of a directory
 pub leaves_free : (Refuses : Refusal → Type 0) → (Refuses StoreFault → ⊥) → (homes : Homes) (dir : Ino) (reason : Refusal)
     → RefusesLeaves Refuses homes dir reason → faults_in reason ≡ 0
@@ -88,9 +77,3 @@ pub begun_free : (old new : State) (leaf : Leaf) (result : Result (Option Job) R
     → faults_told (result_err result) ≡ 0
 begun_free old new leaf (Ok job) h = refl
 begun_free old new leaf (Err reason) h = begin_free old leaf reason h.0
-
--- no commit is dropped
-pub dropped_free : (old new : State) (number : ℕ) (result : Result (Unit {0}) Refusal) → Drops old new number result
-    → faults_told (result_err result) ≡ 0
-dropped_free old new number (Ok done) h = refl
-dropped_free old new number (Err reason) h = ap faults_in h.0

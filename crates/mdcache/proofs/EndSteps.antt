@@ -7,7 +7,7 @@ use Rattle.cached_frag.specs.declared.jobs.Job.{Job}
 use Rattle.cached_frag.specs.Commit.{write_of}
 use Rattle.cached_frag.specs.Cached.{Cached}
 use Rattle.dentry_cache.specs.Cache.{IsThere, Leaf, Unsaved, unsaved_in}
-use Rattle.dentry_cache.specs.CacheCalls.{Edits}
+use Rattle.dentry_cache.specs.CacheCalls.{Edits, KeepsNone}
 use Rattle.dentry_cache.specs.CacheMap.{At, CacheMap, IsFree, IsFreeFor, at_rank, here, unsaved_at, with_frag}
 use Rattle.dentry_cache.specs.Came.{Came, IsThat, NoneEnds}
 use Rattle.dentry_cache.specs.Came.Came.{has, stays}
@@ -18,14 +18,13 @@ use Rattle.dentry_cache.proofs.StepLaws.{by_edits}
 use Rattle.dentry_cache.proofs.UncleanLaws.{get_unclean}
 use Rattle.mdcache.specs.Commits.{IsEnded, leaf_of}
 use Rattle.mdcache.specs.Core.{AreCached, Core, IsSoundCore, Rooms, state_of}
-use Rattle.mdcache.specs.Ranks.{KeepsComing, KeepsOnlyAt}
 use Rattle.mdcache.specs.Sound.{IsSound}
 use Rattle.mdcache.specs.StandingJobs.{Jobs}
 use Rattle.mdcache.specs.State.{State}
 use Rattle.mdcache.proofs.CoreLaws.{cached_but}
 use Rattle.mdcache.proofs.EndLaws.{ended, ended_cached, ended_sound, now_unclean, t}
-use Rattle.mdcache.proofs.NoneLaws.{with_more}
-use Rattle.mdcache.proofs.PutLaws.{cached_with, only_with}
+use Rattle.mdcache.proofs.NoneLaws.{none_edits}
+use Rattle.mdcache.proofs.PutLaws.{cached_with}
 use Rattle.dentry_cache.proofs.ReadsLaws.{here_is}
 
 module _ (old view : Core) (is : view ≡ old) (sound : IsSoundCore old) (r : ℕ) (job : Job) (stood : map.get view.jobs (leaf_of job) ≡ Some job) (free : IsFreeFor view.caches r (leaf_of job)) where
@@ -54,11 +53,8 @@ module _ (old view : Core) (is : view ≡ old) (sound : IsSoundCore old) (r : �
     pub edits_came : Came (IsThat r leaf) NoneEnds view.caches caches
     edits_came = by_edits r leaf Change view.caches caches edits (λ (k : CacheMap). Came (IsThat r leaf) NoneEnds view.caches k) (λ f then seen change. has view.caches r leaf then stays (refl, refl))
 
-    pub edits_only : KeepsOnlyAt view.kept caches
-    edits_only = by_edits r leaf Change view.caches caches edits (KeepsOnlyAt view.kept) (λ f then seen change. only_with view.kept view.caches r leaf then free (subst IsThere (sym seen) tt) now_sound.kept)
-
-    pub edits_coming : KeepsComing view.homes caches
-    edits_coming = by_edits r leaf Change view.caches caches edits (KeepsComing view.homes) (λ f then seen change s q kept. now_sound.coming s q (with_more view.caches r leaf then s q kept))
+    pub edits_none : KeepsNone caches
+    edits_none = none_edits view.caches r leaf now_sound.none Change caches edits
 
   -- it was refused
   module _ (caches : CacheMap) (objects : Objects) (faults : ℕ) (edits : Edits (λ (f then : Cached). then ≡ record f { places = then.places }) r leaf view.caches caches) (same : objects ≡ view.objects) where
@@ -81,8 +77,7 @@ module _ (old view : Core) (is : view ≡ old) (sound : IsSoundCore old) (r : �
       cached = subst (λ (s : State). AreCached s caches) (sym left_view) (by_edits r leaf (λ (f then : Cached). then ≡ record f { places = then.places }) view.caches caches edits (AreCached (state_of view))
           (λ f then seen change. cached_with (state_of view) view.caches r leaf then now_sound.cached (cached_but (state_of view) leaf f then (change ∙ (λ i. record f { room = sym (ap (λ (k : Cached). k.room) change) i; places = then.places }))
           (now_sound.cached leaf (record { rank = r; frag = f }) (here_is r (map.get view.caches.held leaf) f seen)))));
-      kept = edits_only (λ (f then : Cached). then ≡ record f { places = then.places }) caches edits;
-      coming = edits_coming (λ (f then : Cached). then ≡ record f { places = then.places }) caches edits;
+      none = edits_none (λ (f then : Cached). then ≡ record f { places = then.places }) caches edits;
     }
 
   -- it is done
@@ -110,6 +105,5 @@ module _ (old view : Core) (is : view ≡ old) (sound : IsSoundCore old) (r : �
       begun = now_sound.begun;
       cached = by_edits r leaf (IsCommitted job.snapshot) view.caches caches settled (λ (k : CacheMap). AreCached (state_of (with_caches k)) k)
           (λ f now seen change. subst (λ (u : State). AreCached u (with_frag view.caches r leaf now)) (sym (is_after f now seen change)) (ended_cached view r job now_sound stood f now seen change));
-      kept = edits_only (IsCommitted job.snapshot) caches settled;
-      coming = edits_coming (IsCommitted job.snapshot) caches settled;
+      none = edits_none (IsCommitted job.snapshot) caches settled;
     }

@@ -12,8 +12,9 @@ use Rattle.cached_frag.specs.declared.bases.Base.TheVariants.{Fresh, Stored}
 use Rattle.cached_frag.specs.declared.jobs.Job.{Job}
 use Rattle.cached_frag.specs.Cached.{Cached, imported}
 use Rattle.dentry_cache.specs.Cache.{IsThere, Leaf, Unsaved, leaf_is}
-use Rattle.dentry_cache.specs.CacheCalls.{unclean_in}
-use Rattle.dentry_cache.specs.CacheMap.{AreCaches, At, CacheMap, given_up, has_place, here, at_rank, unclean}
+use Rattle.dentry_cache.specs.CacheCalls.{KeepsNone, unclean_in}
+use Rattle.dentry_cache.specs.Came.{NoneEnds}
+use Rattle.dentry_cache.specs.CacheMap.{AreCaches, At, CacheMap, given_up, has_place, here, unclean}
 use Rattle.dentry_cache.specs.Handing.{AreCleanAt, AreHanded, AreUncleanAt, HandsOver, HaveNoPlace, MayNotHandOver, WantsPlace, handed, kept_all, moved, moved_all, moved_as, without_all}
 use Rattle.dentry_cache.specs.Loading.{object_of}
 use Rattle.dentry_cache.specs.Ties.{IsTied, IsTiedAt}
@@ -21,12 +22,10 @@ use Rattle.dentry_cache.proofs.HandedLaws.{IsFrom, IsWholeBut, handed_from, rank
 use Rattle.dentry_cache.proofs.KeepingLaws.{all_from, all_of, by_keeping}
 use Rattle.dentry_cache.proofs.MoveLaws.{none_beside}
 use Rattle.dentry_cache.proofs.StepLaws.{cap_roomy}
-use Rattle.inode_table.specs.Dirs.{is_known}
 use Rattle.inode_table.specs.TreeTable.{IsCounted, IsTabled}
 use Rattle.mdcache.specs.Core.{Core, IsCachedIn, IsSoundCore, shown_in, state_of}
 use Rattle.mdcache.specs.Given.{GivenOverIsRight, HaveNoJobs, IsGivenOver}
 use Rattle.mdcache.specs.Made.{IsUntouched}
-use Rattle.mdcache.specs.Ranks.{KeepsComing, KeepsOnlyAt}
 use Rattle.mdcache.specs.Shown.{names_of, shown_at, shown_tree}
 use Rattle.mdcache.specs.Sound.{IsSound, IsStanding, IsUnsaved}
 use Rattle.mdcache.specs.State.{State, UnsavedLeaves}
@@ -168,31 +167,16 @@ tied_imported g object is = go g.base object is
     go (Stored version) (Some x) is = is
 
 module _ (c : Core) (sound : IsSoundCore c) (from to : ℕ) (apart : from ≢ to) (there : from < length c.caches.used) (other : to < length c.caches.used) (leaves clean : List Leaf) (cached : AreUncleanAt c.caches from leaves) where
-  -- a place that was kept
-  abbrev Kept : ℕ → Leaf → Type 0
-  Kept r q = (has_place c.caches r q ≡ true) × (map.get c.caches.held q ≡ None) × (c.kept ≡ Some (record { 0 = r }, q))
-
-  whole_first : IsWholeBut Kept c.caches
-  whole_first r q placed = go (sound.kept r q placed)
-    where
-      go : IsThere (here c.caches r q) ⊎ ((map.get c.caches.held q ≡ None) × (c.kept ≡ Some (record { 0 = r }, q))) → IsThere (here c.caches r q) ⊎ Kept r q
-      go (inl is) = inl is
-      go (inr kept) = inr (placed, kept.0, kept.1)
+  whole_first : IsWholeBut NoneEnds c.caches
+  whole_first r q placed = inl (sound.none r q placed)
 
   -- these leaves have no place at the other rank
   no_places : HaveNoPlace c.caches to leaves
   no_places = all_from (λ (leaf : Leaf). has_place c.caches to leaf ≡ false) leaves (λ q among. none q (all_of (λ (l : Leaf). unclean_in (here c.caches from l) ≡ true) q leaves cached among) (has_place c.caches to q) refl)
     where
-      some : (o : Option Cached) → unclean_in o ≡ true → (f : Cached) × (o ≡ Some f)
-      some None is = let clash : false ≡ true = is in absurd cc
-      some (Some f) is = (f, refl)
-
-      on : (q : Leaf) → unclean_in (here c.caches from q) ≡ true → IsThere (here c.caches to q) ⊎ Kept to q → ⊥
+      on : (q : Leaf) → unclean_in (here c.caches from q) ≡ true → IsThere (here c.caches to q) ⊎ NoneEnds to q → ⊥
       on q dirty (inl is) = subst IsThere (none_beside c.caches from to q apart dirty) is
-      on q dirty (inr kept) =
-          let d = some (here c.caches from q) dirty in
-          let clash : None ≡ Some d.0 = ap (at_rank from) (sym kept.1) ∙ d.1 in
-          cc
+      on q dirty (inr never) = absurd never
 
       none : (q : Leaf) → unclean_in (here c.caches from q) ≡ true → (b : Bool) → has_place c.caches to q ≡ b → b ≡ false
       none q dirty false seen = refl
@@ -202,11 +186,7 @@ module _ (c : Core) (sound : IsSoundCore c) (from to : ℕ) (apart : from ≢ to
     abbrev after : Core
     after = record c { caches = caches }
 
-    module _ (each : (q : Leaf) (a : At) → map.get caches.held q ≡ Some a → IsFrom (map.get c.caches.held q) a) (whole : IsWholeBut Kept caches) where
-      still_none : (q : Leaf) → map.get c.caches.held q ≡ None → (o : Option At) → map.get caches.held q ≡ o → o ≡ None
-      still_none q none None seen = refl
-      still_none q none (Some a) seen = let f = each q a seen in let clash : None ≡ Some f.was = sym none ∙ f.held in absurd cc
-
+    module _ (each : (q : Leaf) (a : At) → map.get caches.held q ≡ Some a → IsFrom (map.get c.caches.held q) a) (whole : IsWholeBut NoneEnds caches) where
       cached_so : (q : Leaf) (a : At) → map.get caches.held q ≡ Some a → IsCachedIn (state_of c) q a.frag
       cached_so q a seen = let f = each q a seen in go f.was.frag (sound.cached q f.was f.held) f.frag
         where
@@ -214,27 +194,20 @@ module _ (c : Core) (sound : IsSoundCore c) (from to : ℕ) (apart : from ≢ to
           go g was (inl same) = subst (IsCachedIn (state_of c) q) (sym same) was
           go g was (inr same) = subst (IsCachedIn (state_of c) q) (sym same) (record { live = was.live; tied = tied_imported g (object_of c.objects q.0 q.1) was.tied; made = sound.begun })
 
-      kept_so : KeepsOnlyAt c.kept caches
-      kept_so r q placed = go (whole r q placed)
+      none_so : KeepsNone caches
+      none_so r q placed = go (whole r q placed)
         where
-          go : IsThere (here caches r q) ⊎ Kept r q → IsThere (here caches r q) ⊎ ((map.get caches.held q ≡ None) × (c.kept ≡ Some (record { 0 = r }, q)))
-          go (inl is) = inl is
-          go (inr kept) = inr (still_none q kept.1 (map.get caches.held q) refl, kept.2)
-
-      coming_so : KeepsComing c.homes caches
-      coming_so r q kept = go (whole r q kept.0)
-        where
-          go : IsThere (here caches r q) ⊎ Kept r q → is_known c.homes q.0.0 ≡ false
-          go (inl is) = absurd (subst IsThere (ap (at_rank r) kept.1) is)
-          go (inr was) = sound.coming r q (was.0, was.1)
+          go : IsThere (here caches r q) ⊎ NoneEnds r q → IsThere (here caches r q)
+          go (inl is) = is
+          go (inr never) = absurd never
 
       core_sound : IsSound (state_of after) → IsSoundCore after
-      core_sound state = record { sound = state; begun = sound.begun; cached = λ q a seen. let w = cached_so q a seen in record { live = w.live; tied = w.tied; made = w.made }; kept = kept_so; coming = coming_so }
+      core_sound state = record { sound = state; begun = sound.begun; cached = λ q a seen. let w = cached_so q a seen in record { live = w.live; tied = w.tied; made = w.made }; none = none_so }
 
     -- handed over
     module _ (jobless : HaveNoJobs c.jobs leaves) (h : HandsOver from to leaves clean c.caches caches) (given : AreHanded leaves (unclean c.caches) (unclean caches)) where
       pub handed_sound : IsSoundCore after
-      handed_sound = core_sound (handed_from from to apart leaves clean c.caches caches cached h) (whole_handed from to apart leaves clean c.caches caches cached h valid there other Kept whole_first) (sound_now (state_of c) (unclean caches) leaves sound.sound jobless given)
+      handed_sound = core_sound (handed_from from to apart leaves clean c.caches caches cached h) (whole_handed from to apart leaves clean c.caches caches cached h valid there other NoneEnds whole_first) (sound_now (state_of c) (unclean caches) leaves sound.sound jobless given)
 
       pub handed_shown : shown_in after ≡ shown_in c
       handed_shown = tree_now (state_of c) (unclean caches) leaves sound.sound jobless given
@@ -253,7 +226,7 @@ module _ (c : Core) (sound : IsSoundCore c) (from to : ℕ) (apart : from ≢ to
       pub left_sound : (reason : Refusal) → MayNotHandOver to leaves c.caches caches reason → IsSoundCore after
       left_sound reason (inl none) = subst (λ (k : CacheMap). IsSoundCore (record c { caches = k })) (sym none.2) sound
       left_sound reason (inr wants) =
-          core_sound (λ q a seen. record { was = a; held = wants_from from to apart leaves c.caches caches cached wants.2 q a seen; frag = inl refl }) (whole_wants from to apart leaves c.caches caches cached wants.2 valid other Kept whole_first)
+          core_sound (λ q a seen. record { was = a; held = wants_from from to apart leaves c.caches caches cached wants.2 q a seen; frag = inl refl }) (whole_wants from to apart leaves c.caches caches cached wants.2 valid other NoneEnds whole_first)
           (subst IsSound (sym left_state) sound.sound)
 
 -- ---- a call
@@ -306,11 +279,11 @@ module _ (old view : Core) (is : view ≡ old) (sound : IsSoundCore old) (from t
     module _ {A : Type 0} where
       pub call_count : (res : Result A Refusal) → OnOk res (HandsOver from to leaves clean view.caches caches) → IfErr res (MayNotHandOver to leaves view.caches caches) → length caches.used ≡ length old.caches.used
       call_count (Ok a) handed refused =
-          ranks_handed from to apart leaves clean view.caches caches cached_view handed valid there_view other_view (Kept view sound_view from to apart there_view other_view leaves clean cached_view)
+          ranks_handed from to apart leaves clean view.caches caches cached_view handed valid there_view other_view NoneEnds
           (whole_first view sound_view from to apart there_view other_view leaves clean cached_view) ∙ ap (λ (k : Core). length k.caches.used) is
       call_count (Err e) handed (inl none) = ap (λ (k : CacheMap). length k.used) none.2 ∙ ap (λ (k : Core). length k.caches.used) is
       call_count (Err e) handed (inr wants) =
-          ranks_wants from to apart leaves view.caches caches cached_view wants.2 valid other_view (Kept view sound_view from to apart there_view other_view leaves clean cached_view)
+          ranks_wants from to apart leaves view.caches caches cached_view wants.2 valid other_view NoneEnds
           (whole_first view sound_view from to apart there_view other_view leaves clean cached_view) ∙ ap (λ (k : Core). length k.caches.used) is
 
       pub call_cap : (res : Result A Refusal) → OnOk res (HandsOver from to leaves clean view.caches caches) → IfErr res (MayNotHandOver to leaves view.caches caches) → caches.cap ≡ old.caches.cap

@@ -33,8 +33,7 @@ module _ (old view : Core) (is : view ≡ old) (jobs : Jobs) (none : jobs ≡ ma
         sound = subst (λ (j : Jobs). IsSound (record (state_of view) { jobs = j })) (sym none) (jobless_sound (state_of view) now.sound);
         begun = now.begun;
         cached = λ q a at. let was = now.cached q a at in record { live = was.live; tied = was.tied; made = was.made };
-        kept = now.kept;
-        coming = now.coming;
+        none = now.none;
       }
 
 -- and the next one gets a number again
@@ -64,6 +63,5 @@ module _ (old view : Core) (is : view ≡ old) (jobs : Jobs) (none : jobs ≡ ma
         sound = subst (λ (j : Jobs). IsSound (record (state_of view) { jobs = j; next_job = n })) (sym none) (numbered_sound (state_of view) n now.sound);
         begun = now.begun;
         cached = λ q a at. let was = now.cached q a at in record { live = was.live; tied = was.tied; made = was.made };
-        kept = now.kept;
-        coming = now.coming;
+        none = now.none;
       }

@@ -1,7 +1,7 @@
 -- The names of leaves, taken into a fragment one leaf after the other; and the leaves that end with a merge.
-use Rattle.std.proofs.Common.{◌≡◌, ℕ, zero, suc, ◌+◌, ◌/◌, ◌<◌, ◌≤◌, ◌&&◌, ◌||◌, ◌++◌, Bool, true, false, cond, List, [], ◌∷◌, length, drop, drop-cons, get_or, refl, sym, ap, subst, ◌∙◌, arith}
+use Rattle.std.proofs.Common.{◌≡◌, ℕ, zero, suc, ◌+◌, ◌/◌, ◌<◌, ◌≤◌, ◌&&◌, ◌++◌, Bool, true, false, cond, List, [], ◌∷◌, length, drop, drop-cons, get_or, refl, sym, ap, subst, ◌∙◌, arith}
 use Rattle.std.specs.Prelude.{map as each, nat_lt, ◌==◌, ◌↔◌, IsTrue}
-use Rattle.std.specs.List.{Contains, list_any}
+use Rattle.std.specs.List.{Contains}
 use Rattle.std.specs.FinMap as map
 use Rattle.std.proofs.lemmas.Bool.Decides.{nat_tests}
 use Rattle.mds_types.specs.declared.ids.Ino.{Ino}
@@ -10,8 +10,7 @@ use Rattle.fragtree.specs.FragTree.{HasLeaf, leaves_inside, lies_inside}
 use Rattle.dirfrag_codec.specs.FragmentObject.{Names}
 use Rattle.cached_frag.specs.Cached.{Cached}
 use Rattle.cached_frag.specs.Moving.{TakesIn, marked_as}
-use Rattle.dentry_cache.specs.Cache.{Leaf, leaf_is}
-use Rattle.dentry_cache.proofs.LeafLaws.{one_leaf}
+use Rattle.dentry_cache.specs.Cache.{Leaf}
 use Rattle.namespace_ops.specs.Changes.{in_directory}
 use Rattle.mdcache.specs.declared.going.GoingLeaf.{GoingLeaf}
 use Rattle.mdcache.specs.Going.{leaves_in}
@@ -112,15 +111,6 @@ inside_one h g frag f old new x inside pushed same =
 pub mapped_twice : {A B C : Type 0} (h : B → C) (g : A → B) (xs : List A) → each h (each g xs) ≡ each (λ x. h (g x)) xs
 mapped_twice h g [] = refl
 mapped_twice h g (x ∷ xs) = ap (λ l. h (g x) ∷ l) (mapped_twice h g xs)
-
--- a leaf that is one of some is among them
-any_contains : (q : Leaf) (ls : List Leaf) → list_any (leaf_is q) ls ≡ true → Contains ls q
-any_contains q [] is = let clash : false ≡ true = is in absurd cc
-any_contains q (l ∷ ls) is = go (leaf_is q l) refl is (any_contains q ls)
-  where
-    go : (b : Bool) → leaf_is q l ≡ b → (b || list_any (leaf_is q) ls) ≡ true → (list_any (leaf_is q) ls ≡ true → Contains ls q) → Contains (l ∷ ls) q
-    go true here h next = (zero, omega arith, sym (one_leaf q l here))
-    go false here h next = let rest = next h in (suc rest.0, omega (arith, rest.1), rest.2)
 
 -- a fragment isn't among the leaves properly inside it
 pub itself_apart : (dir : Ino) (frag : Fragment) (row : List Fragment) → Contains (each (in_directory dir.0) (leaves_inside frag row)) (dir, frag) → ⊥

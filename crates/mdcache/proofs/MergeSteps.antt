@@ -57,7 +57,6 @@ use Rattle.mdcache.proofs.ListedLaws.{beside_on, texts_on}
 use Rattle.mdcache.proofs.MergeNames.{joined_is, merged_is_new, pick_inside}
 use Rattle.mdcache.proofs.NamedLaws.{pick_at, sound_leaves, stands_at}
 use Rattle.mdcache.proofs.NoNames.{all_pass, no_name, some_fails, some_name}
-use Rattle.mdcache.proofs.NoneLaws.{none_coming, none_only}
 use Rattle.mdcache.proofs.RegroupLaws.{apart_live, came_live, dirty_shows, unmapped, which}
 use Rattle.mdcache.proofs.SplitLaws.{has_inside, inside_has, merge_ends, merge_stood, merges_right, not_itself}
 
@@ -367,7 +366,7 @@ module _ (old mid : Core) (sound : IsSoundCore old) (a : Dirfrag) (merge : Merge
   -- ---- of what was before
 
   pub merge_sound : IsSoundCore new
-  merge_sound = subst IsSoundCore (sym left) (record { sound = keeps.sound; begun = begun; cached = now_cached; kept = none_only made.kept made.caches now_none; coming = none_coming made.homes made.caches now_none })
+  merge_sound = subst IsSoundCore (sym left) (record { sound = keeps.sound; begun = begun; cached = now_cached; none = now_none })
     where
       now_none : KeepsNone made.caches
       now_none = subst (λ (k : Core). KeepsNone k.caches) left none

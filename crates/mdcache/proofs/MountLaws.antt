@@ -42,7 +42,6 @@ use Rattle.mdcache.specs.Sound.{IsOwned, IsSound}
 use Rattle.mdcache.specs.State.{IsLive, State, text_of}
 use Rattle.mdcache.proofs.CoverRows.{several_in_row}
 use Rattle.mdcache.proofs.NewLaws.{new_tree, none_held, none_kept, none_unclean}
-use Rattle.mdcache.proofs.NoneLaws.{none_coming, none_only}
 use Rattle.mdcache.proofs.ShownLaws.{found_at, found_nowhere}
 
 module _ (limit : ℕ) (objects : Objects) (tree : Tree) (homes : Homes) (covers : Covers) (counts : Counts) (pins : DirPins) (purge : Keys) (w : IsWalked objects tree homes covers purge) where
@@ -223,8 +222,7 @@ module _ (limit : ℕ) (objects : Objects) (ranks places : ℕ) (tree : Tree) (c
     sound = subst IsSound (sym m.state) (is_sound limit objects tree c.homes c.covers c.counts c.pins c.purge m.walked m.counted);
     begun = let first : c.next_generation ≡ 1 = ap (λ (s : State). s.next_generation) m.state in omega (arith, first);
     cached = subst (AreCached (state_of c)) (sym m.caches) (none_cached ranks places (state_of c));
-    kept = none_only c.kept c.caches (subst KeepsNone (sym m.caches) (none_kept ranks places));
-    coming = none_coming c.homes c.caches (subst KeepsNone (sym m.caches) (none_kept ranks places));
+    none = (subst KeepsNone (sym m.caches) (none_kept ranks places));
   }
 
   pub mounted_shows : shown_in c ≡ tree

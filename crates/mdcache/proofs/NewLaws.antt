@@ -30,11 +30,9 @@ use Rattle.objstore.specs.Omap.{Keys}
 use Rattle.mdcache.specs.StandingJobs.{Jobs}
 use Rattle.mdcache.specs.Core.{AreCached, Core, IsSoundCore, Rooms, state_of}
 use Rattle.mdcache.specs.New.{cached_root, new_caches, new_root, new_state, root_leaf}
-use Rattle.mdcache.specs.declared.prepared.Prepared.{Prepared}
 use Rattle.mdcache.specs.Shown.{directories, entries_in, entries_of, entries_under, names_of, shown_at, shown_tree, tree_of}
 use Rattle.mdcache.specs.Sound.{IsSound, IsUnsaved}
 use Rattle.mdcache.specs.State.{IsLive, State, UnsavedLeaves, text_of}
-use Rattle.mdcache.proofs.NoneLaws.{none_coming, none_only}
 use Rattle.mdcache.proofs.PutLaws.{cached_with}
 use Rattle.mdcache.proofs.EndLaws.{nothing_patched}
 
@@ -167,7 +165,7 @@ module _ (ranks places : ℕ) where
 
 -- ---- the whole
 
-module _ (limit ranks places : ℕ) (homes : Homes) (covers : Covers) (counts : Counts) (pins : DirPins) (caches : CacheMap) (objects : Objects) (faults : ℕ) (room : Rooms) (prepared : Prepared) (no_dirs : homes ≡ map.empty) (no_trees : covers ≡ map.empty) (no_entry : counts ≡ map.insert map.empty 1 0) (no_pins : pins ≡ map.empty) (its : caches ≡ new_caches ranks places) (none : objects ≡ map.empty)
+module _ (limit ranks places : ℕ) (homes : Homes) (covers : Covers) (counts : Counts) (pins : DirPins) (caches : CacheMap) (objects : Objects) (faults : ℕ) (room : Rooms) (no_dirs : homes ≡ map.empty) (no_trees : covers ≡ map.empty) (no_entry : counts ≡ map.insert map.empty 1 0) (no_pins : pins ≡ map.empty) (its : caches ≡ new_caches ranks places) (none : objects ≡ map.empty)
     (jobs : Jobs) (purge : Keys) (no_jobs : jobs ≡ map.empty) (no_purge : purge ≡ map.empty) where
   abbrev made : Core
   made = record {
@@ -185,8 +183,6 @@ module _ (limit ranks places : ℕ) (homes : Homes) (covers : Covers) (counts : 
     next_generation = 2;
     next_version = 1;
     room = room;
-    prepared = prepared;
-    kept = None;
   }
 
   pub new_is : state_of made ≡ new_state limit
@@ -197,8 +193,7 @@ module _ (limit ranks places : ℕ) (homes : Homes) (covers : Covers) (counts : 
     sound = subst IsSound (sym new_is) (new_sound limit);
     begun = omega arith;
     cached = subst (λ (s : State). AreCached s caches) (sym new_is) (subst (AreCached (new_state limit)) (sym its) (new_cached ranks places limit));
-    kept = none_only None caches now_none;
-    coming = none_coming homes caches now_none;
+    none = now_none;
   }
     where
       now_none : KeepsNone caches

@@ -1,9 +1,5 @@
 -- Which places are kept, after each call of the caches.
-use Rattle.std.proofs.Common.{◌≡◌, ◌⊎◌, inl, inr, ℕ, ◌<◌, ◌≤◌, [], Bool, true, false, cond, ◌&&◌, length, is_some, Option, Some, None, refl, sym, ap, subst, ◌∙◌}
-use Rattle.std.specs.Prelude.{◌==◌}
-use Rattle.std.proofs.lemmas.Option.{same_Some}
-use Rattle.std.specs.List.{IsDistinct, list_any}
-use Rattle.std.proofs.lemmas.List.{get_or_past}
+use Rattle.std.proofs.Common.{◌≡◌, ◌⊎◌, inl, inr, ℕ, ◌<◌, Bool, true, false, cond, ◌&&◌, length, is_some, Option, Some, None, refl, sym, ap, subst, ◌∙◌}
 use Rattle.std.specs.FinMap as finmap
 use Rattle.sorted_map.proofs.NatKeys.{is_same}
 use Rattle.mds_types.specs.declared.ids.Rank.{Rank}
@@ -11,16 +7,14 @@ use Rattle.objstore.specs.Omap.{Omap}
 use Rattle.cached_frag.specs.Cached.{Cached}
 use Rattle.dentry_cache.specs.Cache.{IsThere, Leaf, leaf_is}
 use Rattle.dentry_cache.specs.CacheCalls.{Edits, FetchesAt, IsEdited, KeepsAt, KeepsNone, MakesRoomAt}
-use Rattle.dentry_cache.specs.CacheMap.{AreCaches, CacheMap, IsFree, IsFreeFor, at, at_rank, given_up, has_place, here, order, roomy, used_at, with_frag}
-use Rattle.dentry_cache.specs.CacheSplits.{IsKeptFor}
+use Rattle.dentry_cache.specs.CacheMap.{AreCaches, CacheMap, IsFree, IsFreeFor, at_rank, has_place, here, roomy, used_at, with_frag}
 use Rattle.dentry_cache.proofs.CameLaws.{absent_roomy}
 use Rattle.dentry_cache.proofs.KeptLaws.{roomy_stays}
 use Rattle.dentry_cache.proofs.LeafLaws.{leaf_itself}
 use Rattle.dentry_cache.proofs.MapLaws.{here_free}
-use Rattle.dentry_cache.proofs.StepLaws.{get_with_frag, has_given_up, has_used, here_given_up, placed_used, ranks_roomy}
+use Rattle.dentry_cache.proofs.StepLaws.{has_used, placed_used, ranks_roomy}
 use Rattle.dentry_cache.proofs.WholeLaws.{whole_roomy, whole_used, whole_with_frag}
-use Rattle.inode_table.specs.Dirs.{Homes, is_known}
-use Rattle.mdcache.specs.Ranks.{KeepsComing, KeepsNoMore, KeepsOnlyAt}
+use Rattle.mdcache.specs.Ranks.{KeepsOnlyAt}
 
 -- what is there is some
 pub there_some : (o : Option Cached) → IsThere o → is_some o ≡ true
@@ -89,103 +83,9 @@ kept_stays c new r leaf one there k = ap (λ (d : CacheMap). finmap.get d.held o
 pub none_only : (kept : Option (Rank × Leaf)) (c : CacheMap) → KeepsNone c → KeepsOnlyAt kept c
 none_only kept c none r leaf placed = inl (none r leaf placed)
 
-pub none_coming : (homes : Homes) (c : CacheMap) → KeepsNone c → KeepsComing homes c
-none_coming homes c none r leaf kept = absurd (subst IsThere (ap (at_rank r) kept.1) (none r leaf kept.0))
-
--- the place that is kept is the one that is remembered, for a leaf of a directory that isn't there
-pub record KeepsPlace (homes : Homes) (kept : Option (Rank × Leaf)) (c : CacheMap) : Type 0 where
-  pub only : KeepsOnlyAt kept c
-  pub coming : KeepsComing homes c
-
-pub none_places : {homes : Homes} → (kept : Option (Rank × Leaf)) (c : CacheMap) → KeepsNone c → KeepsPlace homes kept c
-none_places {homes} kept c none = record { only = none_only kept c none; coming = none_coming homes c none }
-
--- no more places are kept where a leaf that is there is used,
-pub used_more : (c : CacheMap) (r : ℕ) (leaf : Leaf) → IsThere (here c r leaf) → KeepsNoMore c (used_at c r leaf)
-used_more c r leaf there s q kept = go (placed_used c r leaf s q kept.0)
-  where
-    go : (has_place c s q ≡ true) ⊎ ((s ≡ r) × (q ≡ leaf)) → IsKeptFor c s q
-    go (inl was) = (was, kept.1)
-    go (inr one) = absurd (subst IsThere (ap (at_rank r) (ap (finmap.get c.held) (sym one.1) ∙ kept.1)) there)
-
--- or its fragment comes
-pub with_more : (c : CacheMap) (r : ℕ) (leaf : Leaf) (f : Cached) → KeepsNoMore c (with_frag c r leaf f)
-with_more c r leaf f s q kept = on (leaf_is q leaf) refl (sym (get_with_frag c r leaf f q) ∙ kept.1)
-  where
-    on : (b : Bool) → leaf_is q leaf ≡ b → cond b (Some (at r f)) (finmap.get c.held q) ≡ None → IsKeptFor c s q
-    on true one is = let clash : Some (at r f) ≡ None = is in absurd cc
-    on false apart is = go (placed_used c r leaf s q kept.0)
-      where
-        go : (has_place c s q ≡ true) ⊎ ((s ≡ r) × (q ≡ leaf)) → IsKeptFor c s q
-        go (inl was) = (was, is)
-        go (inr one) = let clash : false ≡ true = sym apart ∙ ap (λ (l : Leaf). leaf_is l leaf) one.1 ∙ leaf_itself leaf in absurd cc
-
 pub only_none : (c : CacheMap) → KeepsOnlyAt None c → KeepsNone c
 only_none c only r leaf placed = go (only r leaf placed)
   where
     go : IsThere (here c r leaf) ⊎ ((finmap.get c.held leaf ≡ None) × (◌≡◌ {A = Option (Rank × Leaf)} None (Some (record { 0 = r }, leaf)))) → IsThere (here c r leaf)
     go (inl there) = there
     go (inr kept) = let clash = kept.1 in absurd cc
-
--- one may be
-module _ (c : CacheMap) (rank : Rank) (leaf : Leaf) (only : KeepsOnlyAt (Some (rank, leaf)) c) where
-  its_own : (s : ℕ) (q : Leaf) → ◌≡◌ {A = Option (Rank × Leaf)} (Some (rank, leaf)) (Some (record { 0 = s }, q)) → (rank.0 ≡ s) × (leaf ≡ q)
-  its_own s q is =
-      let both : ◌≡◌ {A = Rank × Leaf} (rank, leaf) (record { 0 = s }, q) = same_Some (rank, leaf) (record { 0 = s }, q) is in
-      (ap (λ (p : Rank × Leaf). p.0.0) both, ap (λ (p : Rank × Leaf). p.1) both)
-
-  -- for a leaf of a directory that isn't there
-  pub one_place : (homes : Homes) → is_known homes leaf.0.0 ≡ false → KeepsPlace homes (Some (rank, leaf)) c
-  one_place homes unknown = record { only = only; coming = λ s q kept. go s q kept.1 (only s q kept.0) }
-    where
-      go : (s : ℕ) (q : Leaf) → finmap.get c.held q ≡ None → IsThere (here c s q) ⊎ ((finmap.get c.held q ≡ None) × (◌≡◌ {A = Option (Rank × Leaf)} (Some (rank, leaf)) (Some (record { 0 = s }, q)))) → is_known homes q.0.0 ≡ false
-      go s q absent (inl here_is) = absurd (subst IsThere (ap (at_rank s) absent) here_is)
-      go s q absent (inr kept) = subst (λ (l : Leaf). is_known homes l.0.0 ≡ false) (its_own s q kept.1).1 unknown
-
-  -- which is given up
-  pub none_freed : (new : CacheMap) → rank.0 < length c.used → IsDistinct leaf_is (order c rank.0) → new ≡ given_up c rank.0 leaf → KeepsNone new
-  none_freed new there distinct is = subst KeepsNone (sym is) (λ s q placed.
-      subst IsThere (sym (here_given_up c rank.0 leaf s q))
-      (go s q (rank.0 == s) (leaf_is q leaf) refl refl (sym (has_given_up c rank.0 leaf s q there distinct) ∙ placed)))
-    where
-      by : (s : ℕ) (q : Leaf) (a b : Bool) → (rank.0 == s) ≡ a → leaf_is q leaf ≡ b → (a && b) ≡ false → IsThere (here c s q) ⊎ ((finmap.get c.held q ≡ None) × (◌≡◌ {A = Option (Rank × Leaf)} (Some (rank, leaf)) (Some (record { 0 = s }, q)))) → IsThere (here c s q)
-      by s q a b same one apart (inl here_is) = here_is
-      by s q a b same one apart (inr kept) =
-          let own = its_own s q kept.1 in
-          let yes_rank : true ≡ a = sym (is_same rank.0 s own.0) ∙ same in
-          let yes_leaf : true ≡ b = sym (ap (λ (l : Leaf). leaf_is q l) own.1 ∙ leaf_itself q) ∙ one in
-          let clash : true ≡ false = (λ i. yes_rank i && yes_leaf i) ∙ apart in absurd cc
-
-      go : (s : ℕ) (q : Leaf) (a b : Bool) → (rank.0 == s) ≡ a → leaf_is q leaf ≡ b → cond (a && b) false (has_place c s q) ≡ true → IsThere (cond (b && a) None (here c s q))
-      go s q true true same one placed = let clash : false ≡ true = placed in absurd cc
-      go s q true false same one placed = by s q true false same one refl (only s q placed)
-      go s q false true same one placed = by s q false true same one refl (only s q placed)
-      go s q false false same one placed = by s q false false same one refl (only s q placed)
-
-  -- nothing is kept for it where its fragment is there
-  pub none_there : IsThere (here c rank.0 leaf) → KeepsNone c
-  none_there there s q placed = go (only s q placed)
-    where
-      go : IsThere (here c s q) ⊎ ((finmap.get c.held q ≡ None) × (◌≡◌ {A = Option (Rank × Leaf)} (Some (rank, leaf)) (Some (record { 0 = s }, q)))) → IsThere (here c s q)
-      go (inl here_is) = here_is
-      go (inr kept) = absurd (subst IsThere (ap (at_rank rank.0) (ap (finmap.get c.held) (its_own s q kept.1).1 ∙ kept.0)) there)
-
-  pub none_placed : has_place c rank.0 leaf ≡ false → KeepsNone c
-  none_placed absent s q placed = go (only s q placed)
-    where
-      go : IsThere (here c s q) ⊎ ((finmap.get c.held q ≡ None) × (◌≡◌ {A = Option (Rank × Leaf)} (Some (rank, leaf)) (Some (record { 0 = s }, q)))) → IsThere (here c s q)
-      go (inl here_is) = here_is
-      go (inr kept) =
-          let own = its_own s q kept.1 in
-          let clash : false ≡ true = sym absent ∙ ap (λ (n : ℕ). has_place c n leaf) own.0 ∙ ap (has_place c s) own.1 ∙ placed in absurd cc
-
-  pub its_place : has_place c rank.0 leaf ≡ true → here c rank.0 leaf ≡ None → IsKeptFor c rank.0 leaf
-  its_place placed empty = go (only rank.0 leaf placed)
-    where
-      go : IsThere (here c rank.0 leaf) ⊎ ((finmap.get c.held leaf ≡ None) × (◌≡◌ {A = Option (Rank × Leaf)} (Some (rank, leaf)) (Some (record { 0 = rank.0 }, leaf)))) → IsKeptFor c rank.0 leaf
-      go (inl here_is) = absurd (subst IsThere empty here_is)
-      go (inr kept) = (placed, kept.0)
-
--- a rank that isn't there has no places
-pub past_place : (c : CacheMap) (r : ℕ) (leaf : Leaf) → length c.used ≤ r → has_place c r leaf ≡ false
-past_place c r leaf past = ap (list_any (leaf_is leaf)) (get_or_past c.used r [] past)

@@ -1,12 +1,13 @@
 -- What a change that may be made tells of its leaves and inodes.
-use Rattle.std.proofs.Common.{◌≡◌, ◌⊎◌, inl, inr, ℕ, ◌+◌, ◌<◌, ◌≤◌, true, false, Option, Some, None, Result, Ok, Err, OnOk, refl, sym, ap, subst, ◌∙◌, arith}
+use Rattle.std.proofs.Common.{◌≡◌, ◌⊎◌, inl, inr, ℕ, ◌+◌, ◌<◌, ◌≤◌, true, false, Option, Some, None, refl, sym, ap, subst, ◌∙◌, arith}
 use Rattle.std.specs.Prelude.{IfSome}
 use Rattle.std.specs.FinMap as map
 use Rattle.mds_types.specs.declared.dentries.Dentry.{Dentry}
 use Rattle.mds_types.specs.declared.ids.Ino.{Ino}
+use Rattle.mds_types.specs.declared.ids.Rank.{Rank}
 use Rattle.mds_types.specs.declared.inodes.Inode.{Inode}
 use Rattle.mds_types.specs.Frag.{Fragment}
-use Rattle.mds_types.specs.Tree.{Tree, is_directory}
+use Rattle.mds_types.specs.Tree.{Tree, is_dir_kind, is_directory}
 use Rattle.namehash.specs.Rjenkins.{hash_of}
 use Rattle.dirfrag_codec.specs.EntryRecord.{HasTarget, IsRankNumber, IsRecordable}
 use Rattle.dentry_cache.specs.CacheMap.{At, CacheMap, unclean}
@@ -17,7 +18,7 @@ use Rattle.inode_table.proofs.TableLaws.{no_pin}
 use Rattle.inode_table.specs.TreeChanges.{MayAdd, MaySet}
 use Rattle.namespace_ops.specs.Changes.{IsLeafAt}
 use Rattle.mdcache.specs.Changes.{first_leaf}
-use Rattle.mdcache.specs.Core.{Core, IsSoundCore, shown_in, state_of}
+use Rattle.mdcache.specs.Core.{Core, IsSoundCore, LacksPlacesAt, shown_in, state_of}
 use Rattle.mdcache.specs.Shown.{names_of}
 use Rattle.mdcache.specs.State.{IsLive}
 use Rattle.mdcache.proofs.CoreLaws.{dir_known, pick_live}
@@ -54,11 +55,25 @@ module _ (c : Core) (sound : IsSoundCore c) (dentry : Dentry) (leaf : Fragment) 
     pub shows_entry : map.get (shown_in c) dentry ≡ map.get (names_of (unclean c.caches) c.objects (dentry.dir, leaf)) dentry.name
     shows_entry = at_dentry (state_of c) sound.sound dentry.dir.0 dentry.name leaf (dir_known c sound dentry.dir.0 parent) pick
 
--- ---- several clauses of one outcome
+-- ---- what lacks
 
-pub ok_two : {A E : Type 0} (P Q : Type 0) (r : Result A E) → OnOk r P → OnOk r Q → OnOk r (P × Q)
-ok_two P Q (Ok x) p q = (p, q)
-ok_two P Q (Err e) p q = tt
+-- for a new inode that is no directory a version alone
+pub file_lacks : {P Q : Type 0} (inode : Inode) → is_dir_kind inode.kind ≡ false → P ⊎ ((is_dir_kind inode.kind ≡ true) × Q) → P
+file_lacks inode file (inl lacks) = lacks
+file_lacks inode file (inr (dir, other)) = let clash : true ≡ false = sym dir ∙ file in absurd cc
+
+-- for a directory a generation too
+pub directory_lacks : {P Q : Type 0} (inode : Inode) → is_dir_kind inode.kind ≡ true → P ⊎ Q → P ⊎ ((is_dir_kind inode.kind ≡ true) × Q)
+directory_lacks inode dir (inl lacks) = inl lacks
+directory_lacks inode dir (inr lacks) = inr (dir, lacks)
+
+pub directory_needs : {P Q : Type 0} (inode : Inode) → P ⊎ ((is_dir_kind inode.kind ≡ true) × Q) → P ⊎ Q
+directory_needs inode (inl lacks) = inl lacks
+directory_needs inode (inr (dir, lacks)) = inr lacks
+
+-- where one place lacks two do
+pub one_or_two : (c : Core) (rank : Rank) → LacksPlacesAt 1 c rank → LacksPlacesAt 2 c rank
+one_or_two c rank lacks = omega (arith, lacks)
 
 -- ---- the first leaf of a directory that comes
 
@@ -75,11 +90,6 @@ pub first_live_so : (c : Core) (r : ℕ) (leaf first : Leaf) (caches : CacheMap)
     → (s : ℕ) (q : Leaf) → IsThat r leaf s q ⊎ IsThat r first s q → (a : At) → map.get caches.held q ≡ Some a → IsLive c.homes c.covers q
 first_live_so c r leaf first caches live absent s q (inl is) a at = subst (IsLive c.homes c.covers) (sym is.1) live
 first_live_so c r leaf first caches live absent s q (inr is) a at = let clash : None ≡ Some a = sym absent ∙ ap (map.get caches.held) (sym is.1) ∙ at in absurd cc
-
--- the dentry's leaf is another, so it is used at its rank alone
-pub first_apart : (c : Core) (r : ℕ) (leaf : Leaf) (dir : Ino) → IsLive c.homes c.covers leaf → is_known c.homes dir.0 ≡ false → (s : ℕ) → IsThat r leaf s leaf ⊎ IsThat r (first_leaf dir) s leaf → s ≡ r
-first_apart c r leaf dir live unknown s (inl is) = is.0
-first_apart c r leaf dir live unknown s (inr is) = is.0
 
 pub two_left : (version generation : ℕ) → version < 18446744073709551615 → generation < 18446744073709551615 → (18446744073709551615 < version + 1) ⊎ (18446744073709551615 < generation + 1) → ⊥
 two_left version generation first second (inl lacks) = omega (arith, first, lacks)

@@ -16,9 +16,6 @@ use Rattle.mdcache.specs.Shown.{shown_tree}
 use Rattle.mdcache.specs.State.{State}
 use Rattle.mdcache.proofs.ObjectLaws.{first_stands}
 
-pub purged_none : (s : State) → ArePurged s s
-purged_none s = record { left = refl; tree = refl; others = λ name none. (refl, none); gone = λ name off. inl off }
-
 -- where a name waits there is a first one
 none_first : (names : Keys) → first_name names ≡ None → map.len names ≡ 0
 none_first names none = len-entries names ∙ go (map.entries names) none

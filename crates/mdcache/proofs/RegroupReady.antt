@@ -1,18 +1,18 @@
 -- What is made ready for a split or a merge: first room and names are planned, then the place that was kept is given up, then leaves are read.
 use Rattle.std.proofs.Common.{◌≡◌, ◌⊎◌, inl, inr, ℕ, ◌+◌, ◌<◌, ◌≤◌, ◌^◌, true, false, length, List, Option, Some, None, refl, sym, ap, subst, ◌∙◌, arith}
-use Rattle.std.specs.Prelude.{map as each, OnOk, OnErr, IfErr, Result, Ok, Err}
+use Rattle.std.specs.Prelude.{OnOk, OnErr, IfErr, Result, Ok, Err}
 use Rattle.std.specs.List.{IsDistinct}
 use Rattle.std.specs.FinMap as map
 use Rattle.mds_types.specs.declared.refusals.Refusal.{Refusal}
 use Rattle.mds_types.specs.Frag.{child_of}
 use Rattle.mds_types.specs.Leaf.{leaf_of}
-use Rattle.fragtree.specs.FragTree.{CanMerge, CanSplit, IsMerge, IsSplit, leaves_inside}
+use Rattle.fragtree.specs.FragTree.{CanMerge, CanSplit}
 use Rattle.mds_types.specs.declared.dirfrags.Dirfrag.{Dirfrag}
 use Rattle.cached_frag.specs.Cached.{Cached}
 use Rattle.dentry_cache.specs.Cache.{HasCached, IsThere, Leaf, leaf_is}
 use Rattle.dentry_cache.specs.CacheCalls.{IsWhole, KeepsNone, kept_at, unclean_at}
-use Rattle.dentry_cache.specs.CacheMap.{AreCaches, At, CacheMap, at_rank, here, order, unclean_of}
-use Rattle.dentry_cache.specs.CacheSplits.{AreAbsent, IsButPlaces, IsChildAt, IsFamilyAt, IsKeptFor, MayNotKeepAll, ReadsFamily, StaysAt}
+use Rattle.dentry_cache.specs.CacheMap.{AreCaches, At, CacheMap, here, order, unclean_of}
+use Rattle.dentry_cache.specs.CacheSplits.{AreAbsent, IsButPlaces, IsChildAt, IsFamilyAt, MayNotKeepAll, ReadsFamily, StaysAt}
 use Rattle.dentry_cache.specs.Came.{IsThat, NoneEnds}
 use Rattle.dentry_cache.specs.Reads.{Reads}
 use Rattle.dentry_cache.specs.Reads.Reads.{stays as it_stays}
@@ -21,31 +21,19 @@ use Rattle.dentry_cache.proofs.NameParts.{no_child}
 use Rattle.dentry_cache.proofs.LeafLaws.{leaf_itself}
 use Rattle.dentry_cache.proofs.ReadsLaws.{reads_then, reads_weaker}
 use Rattle.dentry_cache.proofs.WholeLaws.{readies_whole, refused_whole}
-use Rattle.inode_table.specs.Dirs.{Covers, is_known, leaves_of}
-use Rattle.namespace_ops.specs.Changes.{in_directory}
-use Rattle.mdcache.specs.declared.merge_plan.MergePlan.{MergePlan}
-use Rattle.mdcache.specs.declared.split_plan.SplitPlan.{SplitPlan}
+use Rattle.inode_table.specs.Dirs.{is_known, leaves_of}
 use Rattle.mdcache.specs.CacheReads.{LacksPlacesIn}
-use Rattle.mdcache.specs.Core.{Core, IsNoLess, IsSoundCore, MayFetch, ReadsCore, state_of}
+use Rattle.mdcache.specs.Core.{Core, IsNoLess, IsSoundCore, MayFetch, ReadsCore}
 use Rattle.mdcache.specs.Joining.{IsAmongOr}
-use Rattle.mdcache.specs.Ranks.{KeepsNoMore, MayHold, NoneUsed}
+use Rattle.mdcache.specs.Ranks.{MayHold}
 use Rattle.mdcache.specs.Reads.{MayNotFind}
-use Rattle.mdcache.specs.Regrouping.{IsMergePlanned, IsSplitPlanned, ending_at}
-use Rattle.mdcache.specs.SplitsAndMerges.{IsUndone}
-use Rattle.mdcache.specs.State.{IsLive, text_of}
-use Rattle.mdcache.proofs.CoreLaws.{first_step, given_may, next_step, no_less_itself, not_found_before, reads_core_on, reads_core_wider, reads_sound, reads_state, still_absent, there_after}
+use Rattle.mdcache.specs.Regrouping.{ending_at}
+use Rattle.mdcache.specs.State.{IsLive}
+use Rattle.mdcache.proofs.CoreLaws.{first_step, may_fetch, may_fetch_on, next_step, no_less_itself, not_found_before, reads_core_on, reads_core_wider, still_absent, there_after}
 use Rattle.mdcache.proofs.JoinSteps.{hold_on, live_on}
 use Rattle.mdcache.proofs.MergeSteps.{ending_live}
-use Rattle.mdcache.proofs.NoneLaws.{none_absent, none_places}
+use Rattle.mdcache.proofs.NoneLaws.{none_absent}
 use Rattle.mdcache.proofs.UncleanOf.{kept_none, unclean_few}
-
--- where no place is kept, none more is
-pub no_more : (old new : CacheMap) → KeepsNone new → KeepsNoMore old new
-no_more old new none r leaf kept = absurd (subst IsThere (ap (at_rank r) kept.1) (none r leaf kept.0))
-
--- reads that leave no place kept leave all undone
-pub reads_undone : (Uses Ends : ℕ → Leaf → Type 0) (old new : Core) → ReadsCore Uses Ends old new → KeepsNone new.caches → IsUndone old new
-reads_undone Uses Ends old new reads none = (reads_state Uses Ends old new reads, no_more old.caches new.caches none)
 
 -- what stays where it is is there
 stays_there : (was now : Option Cached) → HasCached was (λ (f : Cached). HasCached now (IsButPlaces f)) → IsThere now
@@ -60,76 +48,29 @@ module _ (old new : Core) (left : new ≡ record old { room = new.room }) (less 
   room_reads Uses Ends = subst (ReadsCore Uses Ends old) (sym left) (first_step Uses Ends old old (record old { room = new.room }) less refl refl it_stays)
 
   pub room_sound : IsSoundCore old → IsSoundCore new
-  room_sound sound = subst IsSoundCore (sym left) (record { sound = sound.sound; begun = sound.begun; cached = sound.cached; kept = sound.kept; coming = sound.coming })
+  room_sound sound = subst IsSoundCore (sym left) (record { sound = sound.sound; begun = sound.begun; cached = sound.cached; none = sound.none })
 
-  pub room_undone : IsUndone old new
-  room_undone = (ap state_of left, λ r leaf kept. subst (λ (c : Core). IsKeptFor c.caches r leaf) left kept)
+  pub room_fetch : (a : Dirfrag) → IsSoundCore old → MayHold old.caches a.rank (leaf_of a) → IsLive old.homes old.covers (leaf_of a) → MayFetch new a
+  room_fetch a sound holds live = may_fetch_on NoneEnds NoneEnds old new (room_reads NoneEnds NoneEnds) a (λ r no_use. absurd no_use) (may_fetch old sound a holds live)
 
-  room_caches : new.caches ≡ old.caches
-  room_caches = ap (λ (c : Core). c.caches) left
+  pub room_holds : (a : Dirfrag) → IsSoundCore old → IsLive old.homes old.covers (leaf_of a) → MayHold old.caches a.rank (leaf_of a) → IsLive new.homes new.covers (leaf_of a) × MayHold new.caches a.rank (leaf_of a)
+  room_holds a sound live holds =
+      let all : ReadsCore NoneEnds NoneEnds old new = room_reads NoneEnds NoneEnds in
+      (live_on NoneEnds NoneEnds old new all (leaf_of a) live, hold_on NoneEnds NoneEnds old new all sound a (λ r no_use. absurd no_use) live holds)
 
-  -- then the place that was kept is given up
-  module _ (mid : Core) (given : ReadsCore NoneUsed (IsKeptFor new.caches) new mid) where
-    pub given_all : (Uses Ends : ℕ → Leaf → Type 0) → ((r : ℕ) (q : Leaf) → IsKeptFor old.caches r q → Ends r q) → ReadsCore Uses Ends old mid
-    given_all Uses Ends wider = reads_core_on Uses Ends old new mid (room_reads Uses Ends)
-        (reads_core_wider NoneUsed Uses (IsKeptFor new.caches) Ends new mid (λ r q no_use. absurd no_use) (λ r q kept. wider r q (subst (λ (c : CacheMap). IsKeptFor c r q) room_caches kept)) given)
+  pub room_there : (r : ℕ) → r < length old.caches.used → r < length new.caches.used
+  room_there r there = there_after NoneEnds NoneEnds old new r (room_reads NoneEnds NoneEnds) there
 
-    pub given_whole : IsSoundCore old → KeepsNone mid.caches → IsSoundCore mid
-    given_whole sound none = reads_sound NoneUsed (IsKeptFor old.caches) old mid (given_all NoneUsed (IsKeptFor old.caches) (λ r q is. is)) sound (λ r q no_use. absurd no_use) (none_places mid.kept mid.caches none)
+  pub room_absent : (q : Leaf) → map.get old.caches.held q ≡ None → map.get new.caches.held q ≡ None
+  room_absent q none = still_absent NoneEnds NoneEnds old new q (room_reads NoneEnds NoneEnds) (λ r no_use. no_use) none
 
-    pub given_fetch : (a : Dirfrag) → IsSoundCore old → MayHold old.caches a.rank (leaf_of a) → IsLive old.homes old.covers (leaf_of a) → MayFetch mid a
-    given_fetch a sound holds live = given_may old mid (given_all NoneUsed (IsKeptFor old.caches) (λ r q is. is)) a sound holds live
+  -- then leaves are read
+  pub last_reads : (Uses Ends : ℕ → Leaf → Type 0) (last : Core) → ReadsCore Uses Ends new last → ReadsCore Uses Ends old last
+  last_reads Uses Ends last reads = reads_core_on Uses Ends old new last (room_reads Uses Ends) reads
 
-    pub given_holds : (a : Dirfrag) → IsSoundCore old → IsLive old.homes old.covers (leaf_of a) → MayHold old.caches a.rank (leaf_of a) → IsLive mid.homes mid.covers (leaf_of a) × MayHold mid.caches a.rank (leaf_of a)
-    given_holds a sound live holds =
-        let all : ReadsCore NoneUsed (IsKeptFor old.caches) old mid = given_all NoneUsed (IsKeptFor old.caches) (λ r q is. is) in
-        (live_on NoneUsed (IsKeptFor old.caches) old mid all (leaf_of a) live, hold_on NoneUsed (IsKeptFor old.caches) old mid all sound a (λ r no_use. absurd no_use) live holds)
-
-    pub given_there : (r : ℕ) → r < length old.caches.used → r < length mid.caches.used
-    given_there r there = there_after NoneUsed (IsKeptFor old.caches) old mid r (given_all NoneUsed (IsKeptFor old.caches) (λ r q is. is)) there
-
-    pub given_absent : (q : Leaf) → map.get old.caches.held q ≡ None → map.get mid.caches.held q ≡ None
-    given_absent q none = still_absent NoneUsed (IsKeptFor old.caches) old mid q (given_all NoneUsed (IsKeptFor old.caches) (λ r q is. is)) (λ r no_use. no_use) none
-
-    -- then leaves are read
-    module _ (Uses Ends Wider : ℕ → Leaf → Type 0) (last : Core) (reads : ReadsCore Uses Ends mid last) (more : (r : ℕ) (q : Leaf) → IsKeptFor old.caches r q → Wider r q) (ends : (r : ℕ) (q : Leaf) → Ends r q → Wider r q) where
-      pub last_reads : ReadsCore Uses Wider old last
-      last_reads = reads_core_on Uses Wider old mid last (given_all Uses Wider more) (reads_core_wider Uses Uses Ends Wider mid last (λ r q is. is) ends reads)
-
-    -- and why that is refused
-    pub last_refused : (count r after : ℕ) (reason : Refusal) → mid.faults ≡ new.faults → MayNotFind (LacksPlacesIn count mid.caches r) mid.faults after reason → MayNotFind (LacksPlacesIn count old.caches r) old.faults after reason
-    last_refused count r after reason same is =
-        not_found_before NoneUsed (IsKeptFor old.caches) old mid (given_all NoneUsed (IsKeptFor old.caches) (λ r q is. is)) count r after reason (same ∙ ap (λ (c : Core). c.faults) left) is
-
--- ---- what was planned stays
-
-module _ (Uses Ends : ℕ → Leaf → Type 0) (p q : Core) (reads : ReadsCore Uses Ends p q) where
-  covers_on : q.covers ≡ p.covers
-  covers_on = ap (λ (c : Core). c.covers) reads.beside
-
-  pub split_planned_on : (a : Dirfrag) (nb : ℕ) (plan : SplitPlan) → IsSplitPlanned p a nb plan → IsSplitPlanned q a nb plan
-  split_planned_on a nb plan was =
-      let list = was.list in let purge = reads.room.purge in
-      record {
-        cover = subst (λ (c : Covers). IsSplit (leaves_of c a.dir.0) plan.cover a.frag nb) (sym covers_on) was.cover;
-        whole = was.whole;
-        object = was.object;
-        children = was.children;
-        list = omega (arith, list, purge);
-      }
-
-  pub merge_planned_on : (a : Dirfrag) (plan : MergePlan) → IsMergePlanned p a plan → IsMergePlanned q a plan
-  merge_planned_on a plan was =
-      let list = was.list in let purge = reads.room.purge in
-      let ending : ending_at p a ≡ ending_at q a = ap (λ (c : Covers). each (in_directory a.dir.0) (leaves_inside a.frag (leaves_of c a.dir.0))) (sym covers_on) in
-      record {
-        leaves = was.leaves ∙ ending;
-        texts = was.texts ∙ ap (each text_of) ending;
-        list = omega (arith, list, purge);
-        cover = subst (λ (c : Covers). IsMerge (leaves_of c a.dir.0) plan.cover a.frag) (sym covers_on) was.cover;
-        whole = was.whole;
-        object = was.object;
-      }
+  -- and why that is refused
+  pub last_refused : (count r after : ℕ) (reason : Refusal) → MayNotFind (LacksPlacesIn count new.caches r) new.faults after reason → MayNotFind (LacksPlacesIn count old.caches r) old.faults after reason
+  last_refused count r after reason is = not_found_before NoneEnds NoneEnds old new (room_reads NoneEnds NoneEnds) count r after reason (ap (λ (c : Core). c.faults) left) is
 
 -- the leaf of a split, and its children, are live where they are cached, as long as no child is
 pub family_live : (c : Core) (a : Dirfrag) (nb : ℕ) → is_known c.homes a.dir.0 ≡ true → CanSplit (leaves_of c.covers a.dir.0) a.frag nb → (caches : CacheMap)

@@ -54,7 +54,6 @@ use Rattle.mdcache.proofs.ChangeSteps.{cached_there, its}
 use Rattle.mdcache.proofs.CoreLaws.{reads_cached_so, reads_state, shows_so, there_after}
 use Rattle.mdcache.proofs.ListedLaws.{listed_anew}
 use Rattle.mdcache.proofs.NamedLaws.{pick_at, sound_leaves, stands_at}
-use Rattle.mdcache.proofs.NoneLaws.{none_coming, none_only}
 use Rattle.mdcache.proofs.RegroupLaws.{apart_live, came_live, which}
 use Rattle.mdcache.proofs.SplitLaws.{split_ends, split_stood, splits_right}
 
@@ -354,7 +353,7 @@ module _ (old mid : Core) (sound : IsSoundCore old) (a : Dirfrag) (nb : ℕ) (sp
   -- ---- of what was before
 
   pub split_sound : IsSoundCore new
-  split_sound = subst IsSoundCore (sym left.2) (record { sound = keeps.sound; begun = begun; cached = now_cached; kept = none_only made.kept new.caches now_whole; coming = none_coming made.homes new.caches now_whole })
+  split_sound = subst IsSoundCore (sym left.2) (record { sound = keeps.sound; begun = begun; cached = now_cached; none = now_whole })
     where
       begun : 0 < t.next_generation
       begun = let before : 0 < s.next_generation = subst (λ (u : State). 0 < u.next_generation) (sym was) sound.begun in omega (arith, before)

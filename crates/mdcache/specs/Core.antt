@@ -12,6 +12,7 @@ use Rattle.cached_frag.specs.declared.bases.Base.TheVariants.{Fresh}
 use Rattle.cached_frag.specs.declared.jobs.Job.{Job}
 use Rattle.cached_frag.specs.Cached.{Cached, shown, snapshot_of}
 use Rattle.dentry_cache.specs.Cache.{Leaf}
+use Rattle.dentry_cache.specs.CacheCalls.{KeepsNone}
 use Rattle.dentry_cache.specs.CacheMap.{At, CacheMap, IsFreeFor, here, unclean, used_at, with_frag, with_mark}
 use Rattle.dentry_cache.specs.Ended.{ended_all}
 use Rattle.dentry_cache.specs.Loading.{IsSaved, object_of}
@@ -24,12 +25,10 @@ use Rattle.mdcache.specs.Changes.{with_objects, without_leaves}
 use Rattle.mdcache.specs.Going.{rows_but}
 use Rattle.dentry_cache.specs.Reads.{Reads}
 use Rattle.mdcache.specs.CacheReads.{LacksPlacesIn}
-use Rattle.mdcache.specs.Ranks.{KeepsComing, KeepsOnlyAt}
 use Rattle.mdcache.specs.Shown.{shown_tree}
 use Rattle.mdcache.specs.Sound.{IsSound}
 use Rattle.mdcache.specs.State.{IsLive, State}
 use Rattle.mdcache.specs.StandingJobs.{Jobs}
-use Rattle.mdcache.specs.declared.prepared.Prepared.{Prepared}
 
 -- how many more directories, jobs, and names of objects to be removed fit with no growth
 pub record Rooms : Type 0 where
@@ -39,7 +38,7 @@ pub record Rooms : Type 0 where
 
 -- how many entries a directory may have; the directory table; the caches of all ranks, with the order in which each used its leaves; the store's
 -- objects and its count of faults; the jobs that stand, and the names of objects to be removed; the numbers that the next job, fragment and dirty
--- name get; what fits with no growth; and what was made ready for the next change, with the place that is kept for it
+-- name get; and what fits with no growth
 pub record Core : Type 0 where
   pub limit : ℕ
   pub homes : Homes
@@ -55,8 +54,6 @@ pub record Core : Type 0 where
   pub next_generation : ℕ
   pub next_version : ℕ
   pub room : Rooms
-  pub prepared : Prepared
-  pub kept : Option (Rank × Leaf)
 
 -- the state: of the caches what isn't clean
 abbrev pub state_of : Core → State
@@ -94,14 +91,12 @@ pub record IsCachedIn (s : State) (leaf : Leaf) (f : Cached) : Type 0 where
 abbrev pub AreCached : State → CacheMap → Type 0
 AreCached s caches = (leaf : Leaf) (a : At) → map.get caches.held leaf ≡ Some a → IsCachedIn s leaf a.frag
 
--- the state is sound, and so is each cached fragment; a place that is kept is the one that is remembered, for a leaf of a directory that isn't
--- there yet
+-- the state is sound, and so is each cached fragment; no place is kept
 pub record IsSoundCore (c : Core) : Type 0 where
   pub sound : IsSound (state_of c)
   pub begun : 0 < c.next_generation
   pub cached : AreCached (state_of c) c.caches
-  pub kept : KeepsOnlyAt c.kept c.caches
-  pub coming : KeepsComing c.homes c.caches
+  pub none : KeepsNone c.caches
 
 -- no less room than before
 pub record IsNoLess (old new : Rooms) : Type 0 where
@@ -109,12 +104,11 @@ pub record IsNoLess (old new : Rooms) : Type 0 where
   pub jobs : old.jobs ≤ new.jobs
   pub purge : old.purge ≤ new.purge
 
--- what reads and preparations leave: of the caches what was read for leaves that are named, the count of faults, room, and whether a place is
--- kept
+-- what reads and preparations leave: of the caches what was read for leaves that are named, the count of faults, and room
 pub record ReadsCore (Uses Ends : ℕ → Leaf → Type 0) (old new : Core) : Type 0 where
   pub caches : Reads Uses Ends old.objects old.caches new.caches
   pub room : IsNoLess old.room new.room
-  pub beside : new ≡ record old { caches = new.caches; faults = new.faults; room = new.room; prepared = new.prepared; kept = new.kept }
+  pub beside : new ≡ record old { caches = new.caches; faults = new.faults; room = new.room }
 
 -- a leaf can be fetched at the rank that holds it: there is the rank, no other has the leaf, and if it is clean its object spells it
 pub record MayFetch (p : Core) (a : Dirfrag) : Type 0 where

@@ -1,5 +1,5 @@
--- The tree over caches and a store as operations see it: what reads keep, why a call is refused, and what is ready for a change.
-use Rattle.std.specs.Prelude.{◌≡◌, ◌⊎◌, ℕ, ◌+◌, ◌-◌, ◌<◌, ◌≤◌, ◌^◌, Bool, true, false, cond, List, Option, Some, None, length, string_bytes}
+-- The tree over caches and a store as operations see it: what reads keep, why a call is refused, and what a change takes.
+use Rattle.std.specs.Prelude.{◌≡◌, ◌⊎◌, ℕ, ◌+◌, ◌-◌, ◌<◌, ◌≤◌, ◌^◌, Bool, true, false, List, Option, Some, None, length, string_bytes}
 use Rattle.mds_types.specs.declared.dentries.Dentry.{Dentry}
 use Rattle.mds_types.specs.declared.ids.Ino.{Ino}
 use Rattle.mds_types.specs.declared.ids.Rank.{Rank}
@@ -7,24 +7,21 @@ use Rattle.mds_types.specs.declared.operations.Op.{Op}
 use Rattle.mds_types.specs.declared.refusals.Refusal.{Refusal}
 use Rattle.mds_types.specs.declared.refusals.Refusal.TheVariants.{NoInodes, NoMemory, NothingToEvict, StoreFault}
 use Rattle.mds_types.specs.declared.inodes.Inode.{Inode}
-use Rattle.mds_types.specs.Leaf.{leaf_of}
 use Rattle.mds_types.specs.Shape.{Shape, Looks, Lists, Makes, Sets, Unlinks, Removes, Moves, shape}
 use Rattle.mds_types.specs.Tree.{is_dir_kind}
-use Rattle.dirfrag_codec.specs.EntryRecord.{IsRecordable}
 use Rattle.objstore.specs.Objects.{faults_told}
-use Rattle.cached_frag.specs.Cached.{Cached}
-use Rattle.dentry_cache.specs.Cache.{HasCached, HasRoom, Leaf}
+use Rattle.dentry_cache.specs.Cache.{HasRoom, Leaf}
 use Rattle.dentry_cache.specs.CacheMap.{here, unclean_of}
 use Rattle.dentry_cache.specs.CacheSplits.{IsKeptFor}
 use Rattle.inode_table.specs.Dirs.{Covers}
-use Rattle.namespace_ops.specs.Changes.{dentry_at, directory_at}
+use Rattle.namespace_ops.specs.Changes.{directory_at}
 use Rattle.namespace_ops.specs.declared.plans.Spot.{Spot}
 use Rattle.namespace_ops.specs.declared.plans.Change.{Change}
-use Rattle.mdcache.specs.declared.prepared.Prepared.{Prepared}
-use Rattle.mdcache.specs.declared.prepared.Prepared.TheVariants.{Nothing, Directory, Removal, Move as Moving}
+use Rattle.mdcache.specs.declared.going.Going.{Going}
+use Rattle.mdcache.specs.declared.prepared.MovingEntry.{MovingEntry}
+use Rattle.mdcache.specs.declared.prepared.NewDirectory.{NewDirectory}
 use Rattle.mdcache.specs.Core.{Core, LacksPlacesAt, state_of}
 use Rattle.mdcache.specs.Changes.{first_leaf}
-use Rattle.mdcache.specs.Ranks.{KeepsOnlyAt}
 use Rattle.mdcache.specs.Going.{IsGoingOrNone, count_going, dir_going}
 use Rattle.mdcache.specs.Ready.{LacksNumbers}
 use Rattle.mdcache.specs.State.{State, text_of}
@@ -80,73 +77,29 @@ LacksPlacesBy core (Some spot) (Some put) = LacksPlacesAt 2 core spot.at.rank �
 abbrev pub LacksPlacesOf : Core → Change → Type 0
 LacksPlacesOf core change = LacksPlacesBy core change.takes change.puts
 
--- ---- what is ready
+-- ---- what is ready for a change, within its call
 
 -- a leaf is cached at a rank and has room for a change of a name, and a version is left for it
 pub record IsNameReady (core : Core) (rank : Rank) (leaf : Leaf) : Type 0 where
   pub room : HasRoom (here core.caches rank.0 leaf)
   pub number : core.next_version < 2 ^ 64 - 1
 
--- this was prepared for a directory that comes: its name, and the name of its leaf's object
-abbrev pub IsForDirectory : Dentry → Ino → Prepared → Type 0
-IsForDirectory dentry dir Nothing = ⊥
-IsForDirectory dentry dir (Directory made) = (made.name ≡ dentry.name) × (string_bytes made.object ≡ text_of (first_leaf dir))
-IsForDirectory dentry dir (Removal going) = ⊥
-IsForDirectory dentry dir (Moving moving) = ⊥
-
--- a place is kept at a rank for the leaf of a directory that comes, a generation is left for it, and there is room for the directory
-pub record IsDirectoryReady (core : Core) (rank : Rank) (dentry : Dentry) (dir : Ino) : Type 0 where
+-- a place is kept at a rank for the leaf of a directory that comes, a generation is left for it, and there is room for the directory, its
+-- name, and the name of its leaf's object
+pub record IsDirectoryReady (core : Core) (rank : Rank) (dentry : Dentry) (dir : Ino) (made : NewDirectory) : Type 0 where
   pub place : IsKeptFor core.caches rank.0 (first_leaf dir)
   pub home : 0 < core.room.dirs
   pub generation : core.next_generation < 2 ^ 64 - 1
-  pub prepared : IsForDirectory dentry dir core.prepared
+  pub name : made.name ≡ dentry.name
+  pub object : string_bytes made.object ≡ text_of (first_leaf dir)
 
--- this was prepared for an entry that goes: the names of the objects, where it is a directory, for which the purge list has room
-abbrev pub IsForRemoval : Covers → ℕ → Option Ino → Prepared → Type 0
-IsForRemoval covers room went Nothing = ⊥
-IsForRemoval covers room went (Directory made) = ⊥
-IsForRemoval covers room went (Removal going) = (dir_going going ≡ went) × IsGoingOrNone covers going × (count_going going ≤ room)
-IsForRemoval covers room went (Moving moving) = ⊥
+-- what an entry takes that goes: the names of the objects, where it is a directory, for which the purge list has room
+abbrev pub IsForRemoval : Covers → ℕ → Option Ino → Option Going → Type 0
+IsForRemoval covers room went going = (dir_going going ≡ went) × IsGoingOrNone covers going × (count_going going ≤ room)
 
--- this was prepared for an entry that moves: its new name, and what what it replaces takes
-abbrev pub IsForMove : Covers → ℕ → List ℕ → Option Ino → Prepared → Type 0
-IsForMove covers room name went Nothing = ⊥
-IsForMove covers room name went (Directory made) = ⊥
-IsForMove covers room name went (Removal going) = ⊥
-IsForMove covers room name went (Moving moving) = (moving.name ≡ name) × (dir_going moving.going ≡ went) × IsGoingOrNone covers moving.going × (count_going moving.going ≤ room)
-
--- both leaves of an entry that moves are cached, each at its rank, the first with room for two changes, and two versions are left
-pub record IsMoveReady (core : Core) (from to : Spot) (inode : Inode) (went : Option Ino) : Type 0 where
-  pub source_room : HasCached (here core.caches from.at.rank.0 (leaf_of from.at)) (λ (f : Cached). 1 < f.room)
-  pub target_room : HasRoom (here core.caches to.at.rank.0 (leaf_of to.at))
-  pub number : core.next_version < 2 ^ 64 - 2
-  pub recordable : IsRecordable inode
-  pub prepared : IsForMove core.covers core.room.purge to.name went core.prepared
-
--- the place that is kept for a change: that of a directory that comes
-abbrev pub kept_by : Option (Spot × Inode) → Bool → Option (Rank × Leaf)
-kept_by None comes = None
-kept_by (Some put) true = cond (is_dir_kind put.1.kind) (Some (put.0.at.rank, first_leaf put.1.ino)) None
-kept_by (Some put) false = None
-
-abbrev pub kept_for : Change → Option (Rank × Leaf)
-kept_for change = kept_by change.puts change.comes
-
-abbrev pub IsReadyBy : Core → Option Spot → Option (Spot × Inode) → Bool → Option Ino → Type 0
-IsReadyBy core None None comes went = ⊥
-IsReadyBy core None (Some put) true went =
-    IsNameReady core put.0.at.rank (leaf_of put.0.at) × IsRecordable put.1 × (is_dir_kind put.1.kind ≡ true → IsDirectoryReady core put.0.at.rank (dentry_at put.0) put.1.ino)
-IsReadyBy core None (Some put) false went = IsNameReady core put.0.at.rank (leaf_of put.0.at) × IsRecordable put.1
-IsReadyBy core (Some spot) None comes went = IsNameReady core spot.at.rank (leaf_of spot.at) × IsForRemoval core.covers core.room.purge went core.prepared
-IsReadyBy core (Some spot) (Some put) comes went = IsMoveReady core spot put.0 put.1 went
-
-abbrev pub IsReadyFor : Core → Change → Type 0
-IsReadyFor core change = IsReadyBy core change.takes change.puts change.comes change.gone
-
--- a change can be made in the caches of its ranks with no growth
-pub record IsReady (core : Core) (change : Change) : Type 0 where
-  pub ready : IsReadyFor core change
-  pub kept : KeepsOnlyAt (kept_for change) core.caches
+-- what an entry takes that moves: its new name, and what what it replaces takes
+abbrev pub IsForMove : Covers → ℕ → List ℕ → Option Ino → MovingEntry → Type 0
+IsForMove covers room name went moving = (moving.name ≡ name) × IsForRemoval covers room went moving.going
 
 -- the directory that a change moves, if it moves one
 abbrev pub dir_moved : Option Spot → Option (Spot × Inode) → Option Ino

@@ -1,6 +1,7 @@
 pub mod Batches
 pub mod CacheReads
 pub mod Changes
+pub mod Changing
 pub mod Commits
 pub mod Core
 pub mod Flushed

@@ -5,9 +5,7 @@ use Rattle.mds_types.specs.declared.ids.Rank.{Rank}
 use Rattle.mds_types.specs.Leaf.{leaf_of}
 use Rattle.dentry_cache.specs.Cache.{IsThere, Leaf}
 use Rattle.dentry_cache.specs.CacheMap.{CacheMap, IsFreeFor, has_place, here}
-use Rattle.dentry_cache.specs.CacheSplits.{IsKeptFor}
 use Rattle.dentry_cache.specs.Came.{IsThat}
-use Rattle.inode_table.specs.Dirs.{Homes, is_known}
 use Rattle.mds_types.specs.declared.inodes.Inode.{Inode}
 use Rattle.namespace_ops.specs.declared.plans.Change.{Change}
 use Rattle.namespace_ops.specs.declared.plans.Spot.{Spot}
@@ -21,18 +19,6 @@ pub record MayHold (caches : CacheMap) (rank : Rank) (leaf : Leaf) : Type 0 wher
 -- if a place is kept for a fragment that will be made, it is that of this leaf at this rank
 abbrev pub KeepsOnlyAt : Option (Rank × Leaf) → CacheMap → Type 0
 KeepsOnlyAt kept c = (r : ℕ) (leaf : Leaf) → has_place c r leaf ≡ true → IsThere (here c r leaf) ⊎ ((map.get c.held leaf ≡ None) × (kept ≡ Some (record { 0 = r }, leaf)))
-
--- the leaf of a place that is kept is one of a directory that isn't there
-abbrev pub KeepsComing : Homes → CacheMap → Type 0
-KeepsComing homes c = (r : ℕ) (leaf : Leaf) → IsKeptFor c r leaf → is_known homes leaf.0.0 ≡ false
-
--- a place that is kept was so before
-abbrev pub KeepsNoMore : (old new : CacheMap) → Type 0
-KeepsNoMore old new = (r : ℕ) (leaf : Leaf) → IsKeptFor new r leaf → IsKeptFor old r leaf
-
--- no leaf
-abbrev pub NoneUsed : ℕ → Leaf → Type 0
-NoneUsed r leaf = ⊥
 
 -- ---- the ranks of a change
 

@@ -5,14 +5,13 @@ use Rattle.mds_types.specs.declared.refusals.Refusal.{Refusal}
 use Rattle.mds_types.specs.Frag.{Fragment}
 use Rattle.fragtree.specs.FragTree.{CanMerge, CanSplit, RefusesMerge, RefusesSplit, leaves_inside}
 use Rattle.inode_table.specs.Dirs.{leaves_of}
-use Rattle.mdcache.specs.Ranks.{KeepsNoMore}
 use Rattle.mdcache.specs.Regroups.{MayNotRegroup}
 use Rattle.mdcache.specs.Splits.{IsMergedInto, IsSplitInto, KeepsTree}
 use Rattle.mdcache.specs.Core.{Core, state_of}
 
--- nothing was done, but that clean fragments came or went: no place is kept that wasn't
+-- nothing was done, but that clean fragments came or went
 abbrev pub IsUndone : (old new : Core) → Type 0
-IsUndone old new = (state_of new ≡ state_of old) × KeepsNoMore old.caches new.caches
+IsUndone old new = state_of new ≡ state_of old
 
 -- a leaf was split by so many bits; where it wasn't, either its directory's leaves refuse that, or places lack at the rank that holds it
 -- (`NoPlace`), or numbers, or the store or memory refused

@@ -7,7 +7,6 @@ ghost use Rattle.cached_frag.specs.Cached.{Cached, shown};
 ghost use Rattle.dentry_cache.specs.Cache.{HasCached, IsThere};
 ghost use Rattle.dentry_cache.specs.CacheCalls.{KeepsNone};
 ghost use Rattle.dentry_cache.specs.CacheMap.{here, unclean};
-ghost use Rattle.dentry_cache.specs.CacheSplits.{IsKeptFor};
 ghost use Rattle.dentry_cache.specs.Came.{IsThat, NoneEnds};
 ghost use Rattle.mdcache.specs.CacheReads.{LacksPlacesIn};
 ghost use Rattle.mdcache.specs.Core.{IsSoundCore, LacksPlacesAt, MayFetch, ReadsCore};
@@ -38,12 +37,11 @@ impl<S: Store + Drop> MdCache<S> {
         requires live { IsLive self.old.homes self.old.covers (dir, frag) }
         requires holds { MayHold self.old.caches rank (dir, frag) }
         ensures found { IfOk result (λ empty. empty ≡ has_none (names_of (unclean self.old.caches) self.old.objects (dir, frag))) }
-        ensures reads { ReadsCore (IsThat rank.0 (dir, frag)) (IsKeptFor self.old.caches) self.old self.new }
+        ensures reads { ReadsCore (IsThat rank.0 (dir, frag)) NoneEnds self.old self.new }
         ensures sound { IsSoundCore self.new }
         ensures counted { self.new.faults ≡ self.old.faults + faults_told (result_err result) }
         ensures refused { IfErr result (MayNotFind (LacksPlacesAt 1 self.old rank) self.old.faults self.new.faults) }
     {
-        self.give_up();
         self.is_empty_at(alloc, &Dirfrag { dir, frag, rank })
     }
 

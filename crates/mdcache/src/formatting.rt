@@ -10,7 +10,6 @@ ghost use Rattle.mdcache.specs.New.{MayNotFormat, cached_root, new_caches, new_s
 
 use crate::counters::Counters;
 use crate::mdcache::MdCache;
-use crate::prepared::Prepared;
 use crate::purge_list::PurgeList;
 use crate::standing_jobs::StandingJobs;
 use cached_frag::CachedFrag;
@@ -89,9 +88,7 @@ impl<S: Store + Drop> MdCache<S> {
                     generation: 2,
                     version: 1,
                 },
-                prepared: Prepared::Nothing,
                 alloc,
-                kept: None,
             }),
             Err(_) => Err(store),
         }

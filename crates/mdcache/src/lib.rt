@@ -24,12 +24,12 @@ mod listing;
 mod page;
 mod reading;
 
-// changes: what is made ready for them, and what they do
+// changes: what is made ready for them, and their steps
 mod applying;
 mod changes;
+mod changing;
 mod going;
 mod prepared;
-mod preparing;
 mod readies;
 mod readying;
 

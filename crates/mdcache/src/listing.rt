@@ -13,7 +13,6 @@ ghost use Rattle.cached_frag.specs.Rows.{Row, rows_after};
 ghost use Rattle.dentry_cache.specs.Cache.{HasCached, IsThere};
 ghost use Rattle.dentry_cache.specs.CacheCalls.{KeepsNone};
 ghost use Rattle.dentry_cache.specs.CacheMap.{here, unclean};
-ghost use Rattle.dentry_cache.specs.CacheSplits.{IsKeptFor};
 ghost use Rattle.dentry_cache.specs.Came.{IsThat, NoneEnds};
 ghost use Rattle.mdcache.specs.CacheReads.{LacksPlacesIn};
 ghost use Rattle.mdcache.specs.Core.{IsSoundCore, LacksPlacesAt, MayFetch, ReadsCore};
@@ -48,12 +47,11 @@ impl<S: Store + Drop> MdCache<S> {
         requires holds { MayHold self.old.caches at.now.rank (leaf_of at.now) }
         ensures page { (whole : List Row) → IsPageOf whole page.old → OnOk result (IsPageOf (puts key_cmp whole (rows_after (option_copied after.entry) (map.entries (names_of (unclean self.old.caches) self.old.objects (leaf_of at.now))))) page.new) }
         ensures most { page.new.most ≡ page.old.most }
-        ensures reads { ReadsCore (IsThat at.now.rank.0 (leaf_of at.now)) (IsKeptFor self.old.caches) self.old self.new }
+        ensures reads { ReadsCore (IsThat at.now.rank.0 (leaf_of at.now)) NoneEnds self.old self.new }
         ensures sound { IsSoundCore self.new }
         ensures counted { self.new.faults ≡ self.old.faults + faults_told (result_err result) }
         ensures refused { IfErr result (MayNotFind (LacksPlacesAt 1 self.old at.now.rank) self.old.faults self.new.faults) }
     {
-        self.give_up();
         self.gather_at(alloc, at, after, page)
     }
 

@@ -2,8 +2,7 @@
 ghost use Rattle.std.specs.Prelude.{◌≡◌, length};
 ghost use Rattle.dentry_cache.specs.CacheMap.{AreCaches};
 
-use crate::counters::{Counters, Kept};
-use crate::prepared::Prepared;
+use crate::counters::Counters;
 use crate::purge_list::PurgeList;
 use crate::standing_jobs::StandingJobs;
 use dentry_cache::Caches;
@@ -26,12 +25,8 @@ pub struct MdCache<S: Store + Drop> {
     pub(crate) jobs: StandingJobs,
     pub(crate) purge: PurgeList,
     pub(crate) next: Counters,
-    /// What was made ready for the next change beside room.
-    pub(crate) prepared: Prepared,
-    /// For leaves that are fetched, and for what is made ready.
+    /// For the leaves of directories that come.
     pub(crate) alloc: Global,
-    // the leaf that a place is kept for, if one is, and the rank
-    pub(crate) kept: Option<Kept>,
 }
 
 impl<S: Store + Drop> Model for MdCache<S> {
@@ -43,7 +38,7 @@ impl<S: Store + Drop> Model for MdCache<S> {
 
     ghost coded = { Prim.hlevel (codes, map.code) };
 
-    ghost view = { λ m. record { limit = m.limit; homes = m.dirs.homes; covers = m.dirs.trees; counts = m.dirs.counts; pins = m.dirs.pins; caches = m.caches; objects = S.objects m.store; faults = S.faults m.store; jobs = m.jobs.jobs; purge = m.purge.names; next_job = m.next.job; next_generation = m.next.generation; next_version = m.next.version; room = record { dirs = m.dirs.room; jobs = m.jobs.room; purge = m.purge.room }; prepared = m.prepared; kept = m.kept } };
+    ghost view = { λ m. record { limit = m.limit; homes = m.dirs.homes; covers = m.dirs.trees; counts = m.dirs.counts; pins = m.dirs.pins; caches = m.caches; objects = S.objects m.store; faults = S.faults m.store; jobs = m.jobs.jobs; purge = m.purge.names; next_job = m.next.job; next_generation = m.next.generation; next_version = m.next.version; room = record { dirs = m.dirs.room; jobs = m.jobs.room; purge = m.purge.room } } };
 }
 
 impl<S: Store + Drop> MdCache<S> {

@@ -9,7 +9,7 @@ ghost use Rattle.fragtree.specs.FragTree.{CanMerge, RefusesMerge};
 ghost use Rattle.dentry_cache.specs.Cache.{Leaf};
 ghost use Rattle.dentry_cache.specs.CacheCalls.{KeepsNone};
 ghost use Rattle.dentry_cache.specs.CacheSplits.{IsKeptFor};
-ghost use Rattle.dentry_cache.specs.Came.{Came};
+ghost use Rattle.dentry_cache.specs.Came.{Came, NoneEnds};
 ghost use Rattle.inode_table.specs.Dirs.{is_known, leaves_of};
 ghost use Rattle.mdcache.specs.Core.{IsSoundCore, LacksPlacesAt, ReadsCore, state_of};
 ghost use Rattle.mdcache.specs.Joining.{IsAmongOr};
@@ -64,7 +64,7 @@ impl<S: Store + Drop> MdCache<S> {
         requires known { is_known self.old.homes at.now.dir.0 ≡ true }
         requires can { CanMerge (leaves_of self.old.covers at.now.dir.0) at.now.frag }
         ensures merged { MergesLeaves (LacksPlacesAt 1 self.old at.now.rank) self.old self.new at.now.dir at.now.frag result }
-        ensures came { Came (IsAmongOr at.now.rank.0 (ending_at self.old at.now) (leaf_of at.now)) (λ r q. IsKeptFor self.old.caches r q ⊎ Contains (ending_at self.old at.now) q) self.old.caches self.new.caches }
+        ensures came { Came (IsAmongOr at.now.rank.0 (ending_at self.old at.now) (leaf_of at.now)) (λ r q. Contains (ending_at self.old at.now) q) self.old.caches self.new.caches }
         ensures counted { self.new.faults ≡ self.old.faults + faults_told (result_err result) }
         ensures sound { IsSoundCore self.new }
     {
@@ -86,7 +86,7 @@ impl<S: Store + Drop> MdCache<S> {
         ensures merged { OnOk result (IsMergedInto (state_of self.old) (state_of self.new) at.now.dir at.now.frag) }
         ensures tree { OnOk result (KeepsTree (state_of self.old) (state_of self.new) at.now.dir (merged_leaves self.old at.now.dir at.now.frag)) }
         ensures undone { OnErr result (IsUndone self.old self.new) }
-        ensures came { Came (IsAmongOr at.now.rank.0 (ending_at self.old at.now) (leaf_of at.now)) (λ r q. IsKeptFor self.old.caches r q ⊎ Contains (ending_at self.old at.now) q) self.old.caches self.new.caches }
+        ensures came { Came (IsAmongOr at.now.rank.0 (ending_at self.old at.now) (leaf_of at.now)) (λ r q. Contains (ending_at self.old at.now) q) self.old.caches self.new.caches }
         ensures refused { IfErr result (MayNotFind (LacksPlacesAt 1 self.old at.now.rank) self.old.faults self.new.faults) }
         ensures counted { self.new.faults ≡ self.old.faults + faults_told (result_err result) }
         ensures sound { IsSoundCore self.new }
@@ -111,7 +111,7 @@ impl<S: Store + Drop> MdCache<S> {
         requires can { CanMerge (leaves_of self.old.covers at.now.dir.0) at.now.frag }
         ensures ready { IfOk result (IsMergeReady self.new at.now) }
         ensures only { OnOk result (KeepsOnlyAt (Some (at.now.rank, leaf_of at.now)) self.new.caches) }
-        ensures reads { ReadsCore (IsAmongOr at.now.rank.0 (ending_at self.old at.now) (leaf_of at.now)) (IsKeptFor self.old.caches) self.old self.new }
+        ensures reads { ReadsCore (IsAmongOr at.now.rank.0 (ending_at self.old at.now) (leaf_of at.now)) NoneEnds self.old self.new }
         ensures sound { OnErr result (IsSoundCore self.new) }
         ensures undone { OnErr result (IsUndone self.old self.new) }
         ensures refused { IfErr result (MayNotFind (LacksPlacesAt 1 self.old at.now.rank) self.old.faults self.new.faults) }
@@ -121,7 +121,6 @@ impl<S: Store + Drop> MdCache<S> {
             Ok(plan) => plan,
             Err(refusal) => return Err(refusal),
         };
-        self.give_up();
         match self.join_names(alloc, at, &plan.leaves) {
             Ok(joined) => Ok(Merge { plan, joined }),
             Err(refusal) => {

@@ -16,7 +16,6 @@ ghost use Rattle.mdcache.specs.Mounted.{AreNumbers, IsMounted, IsNew, MayNotMoun
 use crate::counters::Counters;
 use crate::formatting::has_objects;
 use crate::mdcache::MdCache;
-use crate::prepared::Prepared;
 use crate::purge_list::PurgeList;
 use crate::standing_jobs::StandingJobs;
 use cold_store::{Walked, walk};
@@ -85,15 +84,12 @@ impl<S: Store + Drop> MdCache<S> {
             jobs,
             purge,
             next: _,
-            prepared,
             alloc: _,
-            kept: _,
         } = self;
         drop(dirs);
         drop(caches);
         drop(jobs);
         drop(purge);
-        drop(prepared);
         store
     }
 
@@ -190,9 +186,7 @@ impl<S: Store + Drop> MdCache<S> {
                 generation: 1,
                 version: 1,
             },
-            prepared: Prepared::Nothing,
             alloc,
-            kept: None,
         };
         (tree, Opening { entries, numbers })
     }

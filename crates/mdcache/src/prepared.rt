@@ -1,20 +1,7 @@
-//! What was made ready for a change, beside room: it is kept until the change is made.
+//! What a change takes beside its spots and its inode, made before the first of its steps.
 
 use crate::going::Going;
 use mds_types::Name;
-
-/// What a change takes beside itself.
-#[derive(Debug, Drop)]
-pub(crate) enum Prepared {
-    /// Nothing, for other attributes, and for a new inode that is no directory.
-    Nothing,
-    /// What a directory takes that comes.
-    Directory(NewDirectory),
-    /// What an entry takes that goes: something only if it is a directory.
-    Removal(Option<Going>),
-    /// What an entry takes that moves.
-    Move(MovingEntry),
-}
 
 /// What a directory takes that comes, beside its dentry and its inode.
 #[derive(Debug, Drop)]

@@ -3,21 +3,19 @@ ghost use Rattle.std.specs.Prelude.{◌≡◌, ◌+◌, ◌⊎◌, ◌<◌, ◌�
 ghost use Rattle.std.specs.Result.{result_err};
 ghost use Rattle.std.specs.FinMap as map;
 ghost use Rattle.mds_types.specs.Leaf.{leaf_of};
-ghost use Rattle.objstore.specs.Objects.{Objects, faults_told};
+ghost use Rattle.objstore.specs.Objects.{faults_told};
 ghost use Rattle.cached_frag.specs.Cached.{Cached};
-ghost use Rattle.dentry_cache.specs.Cache.{HasCached, HasRoom, IsThere, Leaf};
+ghost use Rattle.dentry_cache.specs.Cache.{HasCached, HasRoom, Leaf};
 ghost use Rattle.dentry_cache.specs.CacheCalls.{KeepsNone};
 ghost use Rattle.dentry_cache.specs.CacheMap.{here};
 ghost use Rattle.dentry_cache.specs.CacheSplits.{IsKeptFor};
 ghost use Rattle.dentry_cache.specs.Came.{IsThat, NoneEnds};
-ghost use Rattle.dentry_cache.specs.Reads.{Reads};
 ghost use Rattle.mdcache.specs.CacheReads.{LacksPlacesIn};
-ghost use Rattle.mdcache.specs.Core.{IsSoundCore, MayFetch, ReadsCore};
-ghost use Rattle.mdcache.specs.Ranks.{KeepsOnlyAt, NoneUsed};
+ghost use Rattle.mdcache.specs.Core.{MayFetch, ReadsCore};
+ghost use Rattle.mdcache.specs.Ranks.{KeepsOnlyAt};
 ghost use Rattle.mdcache.specs.Reads.{MayNotFind};
 
 use crate::mdcache::MdCache;
-use dentry_cache::Caches;
 use mds_types::{Dirfrag, Refusal};
 use objstore::Store;
 use std::alloc::Global;
@@ -123,46 +121,5 @@ impl<S: Store + Drop> MdCache<S> {
             return Err(refusal);
         }
         self.caches.keep(alloc, *first, Some((at.dir, at.frag)))
-    }
-
-    /// Gives up the place that is kept for a leaf that didn't come, if one is. What is cached stays. Takes no memory.
-    pub fn give_up(&mut self)
-        requires { KeepsOnlyAt self.old.kept self.old.caches }
-        ensures none { KeepsNone self.new.caches }
-        ensures reads { ReadsCore NoneUsed (IsKeptFor self.old.caches) self.old self.new }
-        ensures faults { self.new.faults ≡ self.old.faults }
-        ensures kept { self.new.kept ≡ None }
-        ensures sound { IsSoundCore self.old → IsSoundCore self.new }
-    {
-        if let Some((rank, (dir, frag))) = self.kept {
-            self.free(&Dirfrag { dir, frag, rank });
-        }
-    }
-
-    // Gives up the place that is kept for this leaf.
-    fn free(&mut self, at: &Dirfrag)
-        requires { KeepsOnlyAt (Some (at.now.rank, leaf_of at.now)) self.old.caches }
-        ensures none { KeepsNone self.new.caches }
-        ensures reads { ReadsCore NoneUsed (IsKeptFor self.old.caches) self.old self.new }
-        ensures faults { self.new.faults ≡ self.old.faults }
-        ensures kept { self.new.kept ≡ None }
-    {
-        forget_kept(&mut self.caches, at);
-        self.kept = None;
-    }
-}
-
-// Gives up a place in which no fragment is, which is the only one.
-fn forget_kept(caches: &mut Caches, at: &Dirfrag)
-    requires { KeepsOnlyAt (Some (at.now.rank, leaf_of at.now)) caches.old }
-    ensures none { KeepsNone caches.new }
-    ensures reads { (objects : Objects) → Reads NoneUsed (IsKeptFor caches.old) objects caches.old caches.new }
-{
-    // there is no place at a rank that isn't there
-    if at.rank.0 as usize >= caches.ranks() {
-        return;
-    }
-    if caches.has_place(*at) && caches.get(*at).is_none() {
-        caches.forget(*at);
     }
 }

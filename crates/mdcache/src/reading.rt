@@ -2,13 +2,12 @@
 ghost use Rattle.std.specs.Prelude.{◌≡◌, ◌+◌, true, IfOk, IfErr, OnOk};
 ghost use Rattle.std.specs.Result.{result_err};
 ghost use Rattle.std.specs.FinMap as map;
-ghost use Rattle.mds_types.specs.Tree.{entries_in, is_above, is_directory};
+ghost use Rattle.mds_types.specs.Tree.{is_above, is_directory};
 ghost use Rattle.mds_types.specs.Leaf.{leaf_of};
 ghost use Rattle.fragtree.specs.FragTree.{IsPick};
 ghost use Rattle.namehash.specs.Rjenkins.{hash_of};
 ghost use Rattle.objstore.specs.Objects.{faults_told};
-ghost use Rattle.dentry_cache.specs.CacheSplits.{IsKeptFor};
-ghost use Rattle.dentry_cache.specs.Came.{IsThat};
+ghost use Rattle.dentry_cache.specs.Came.{IsThat, NoneEnds};
 ghost use Rattle.inode_table.specs.Dirs.{leaves_of};
 ghost use Rattle.mdcache.specs.CacheReads.{IsNewest};
 ghost use Rattle.mdcache.specs.Core.{IsSoundCore, LacksPlacesAt, ReadsCore, shown_in};
@@ -38,14 +37,6 @@ impl<S: Store + Drop> MdCache<S> {
         self.dirs.is_above(dir, below)
     }
 
-    /// How many entries a directory has. Takes no memory, and fetches nothing.
-    pub fn count(&self, dir: Ino) -> u64
-        requires { IsSoundCore self.now }
-        ensures { result ≡ entries_in (shown_in self.now) dir.0 }
-    {
-        self.dirs.count(dir)
-    }
-
     /// The inode that a name stands for in a leaf to which its hash belongs, copied. The leaf is fetched into the cache of the
     /// rank that holds it, where it isn't cached. Takes memory for a leaf that is read, and for a link's target.
     ///
@@ -62,12 +53,11 @@ impl<S: Store + Drop> MdCache<S> {
         requires leaf { IsPick (leaves_of self.old.covers at.now.dir.0) (hash_of name.now) at.now.frag }
         ensures found { IfOk result (λ found. found ≡ map.get (shown_in self.old) (record { dir = at.now.dir; name = name.now })) }
         ensures newest { OnOk result (IsNewest self.new.caches at.now.rank.0 (leaf_of at.now)) }
-        ensures reads { ReadsCore (IsThat at.now.rank.0 (leaf_of at.now)) (IsKeptFor self.old.caches) self.old self.new }
+        ensures reads { ReadsCore (IsThat at.now.rank.0 (leaf_of at.now)) NoneEnds self.old self.new }
         ensures sound { IsSoundCore self.new }
         ensures counted { self.new.faults ≡ self.old.faults + faults_told (result_err result) }
         ensures refused { IfErr result (MayNotFind (LacksPlacesAt 1 self.old at.now.rank) self.old.faults self.new.faults) }
     {
-        self.give_up();
         self.find(alloc, at, name)
     }
 }

@@ -1,5 +1,5 @@
 //! What each kind of change needs is made ready: numbers, leaves, places and room.
-ghost use Rattle.std.specs.Prelude.{◌≡◌, ◌⊎◌, ◌+◌, ◌-◌, ◌<◌, ◌≤◌, ◌^◌, true, false, Some, None, string_bytes, length, OnOk, IfOk, IfErr, IfSome};
+ghost use Rattle.std.specs.Prelude.{◌≡◌, ◌⊎◌, ◌+◌, ◌-◌, ◌<◌, ◌≤◌, ◌^◌, true, false, Some, None, string_bytes, length, OnErr, OnOk, IfOk, IfErr, IfSome};
 ghost use Rattle.std.specs.Result.{result_err};
 ghost use Rattle.std.specs.FinMap as map;
 ghost use Rattle.mds_types.specs.declared.refusals.Refusal.TheVariants.{NoInodes, NoMemory};
@@ -8,16 +8,14 @@ ghost use Rattle.objstore.specs.Objects.{faults_told};
 ghost use Rattle.dirfrag_codec.specs.EntryRecord.{IsRecordable};
 ghost use Rattle.cached_frag.specs.Cached.{Cached, shown};
 ghost use Rattle.dentry_cache.specs.Cache.{HasCached, HasRoom, IsThere, Leaf};
-ghost use Rattle.dentry_cache.specs.CacheCalls.{KeepsNone};
 ghost use Rattle.dentry_cache.specs.CacheMap.{here, unclean};
-ghost use Rattle.dentry_cache.specs.CacheSplits.{IsKeptFor};
-ghost use Rattle.dentry_cache.specs.Came.{IsThat};
+ghost use Rattle.dentry_cache.specs.Came.{IsThat, NoneEnds};
 ghost use Rattle.inode_table.specs.Dirs.{is_known};
 ghost use Rattle.namespace_ops.specs.Changes.{dentry_at};
 ghost use Rattle.mdcache.specs.Changes.{first_leaf};
-ghost use Rattle.mdcache.specs.Core.{IsSoundCore, LacksPlacesAt, ReadsCore};
+ghost use Rattle.mdcache.specs.Core.{AreCached, IsSoundCore, LacksPlacesAt, ReadsCore, state_of};
 ghost use Rattle.mdcache.specs.Frags.{IsDirectoryReady, IsForMove, IsForRemoval, IsNameReady};
-ghost use Rattle.mdcache.specs.Going.{IsGoing, IsGoingOrNone, count_going, dir_going};
+ghost use Rattle.mdcache.specs.Going.{IsGoing};
 ghost use Rattle.mdcache.specs.Ranks.{KeepsOnlyAt, MayHold};
 ghost use Rattle.mdcache.specs.Ready.{LacksNumbers, MayNotBeReady};
 ghost use Rattle.mdcache.specs.Shown.{names_of};
@@ -25,7 +23,7 @@ ghost use Rattle.mdcache.specs.State.{IsLive, text_of};
 
 use crate::going::{Going, going_of};
 use crate::mdcache::MdCache;
-use crate::prepared::{MovingEntry, NewDirectory, Prepared};
+use crate::prepared::{MovingEntry, NewDirectory};
 use crate::purge_list::PurgeList;
 use dentry_cache::Caches;
 use inode_table::Dirs;
@@ -45,16 +43,14 @@ impl<S: Store + Drop> MdCache<S> {
         requires live { IsLive self.old.homes self.old.covers (leaf_of at.now) }
         requires holds { MayHold self.old.caches at.now.rank (leaf_of at.now) }
         ensures ready { OnOk result (IsNameReady self.new at.now.rank (leaf_of at.now)) }
-        ensures reads { ReadsCore (IsThat at.now.rank.0 (leaf_of at.now)) (IsKeptFor self.old.caches) self.old self.new }
+        ensures reads { ReadsCore (IsThat at.now.rank.0 (leaf_of at.now)) NoneEnds self.old self.new }
         ensures sound { IsSoundCore self.new }
-        ensures none { OnOk result (KeepsNone self.new.caches) }
         ensures counted { self.new.faults ≡ self.old.faults + faults_told (result_err result) }
         ensures refused { IfErr result (MayNotBeReady (LacksNumbers 1 self.old.next_version) (LacksPlacesAt 1 self.old at.now.rank) self.old.faults self.new.faults) }
     {
         if let Err(refusal) = check_left(self.next.version) {
             return Err(refusal);
         }
-        self.give_up();
         self.ready_names(alloc, at, 1)
     }
 
@@ -70,16 +66,17 @@ impl<S: Store + Drop> MdCache<S> {
         alloc: Global,
         spot: &Spot,
         dir: Ino,
-    ) -> Result<(), Refusal>
+    ) -> Result<NewDirectory, Refusal>
         requires sound { IsSoundCore self.old }
         requires live { IsLive self.old.homes self.old.covers (leaf_of spot.now.at) }
         requires holds { MayHold self.old.caches spot.now.at.rank (leaf_of spot.now.at) }
         requires unused { is_known self.old.homes dir.0 ≡ false }
         ensures ready { OnOk result (IsNameReady self.new spot.now.at.rank (leaf_of spot.now.at)) }
-        ensures place { OnOk result (IsDirectoryReady self.new spot.now.at.rank (dentry_at spot.now) dir) }
+        ensures place { IfOk result (IsDirectoryReady self.new spot.now.at.rank (dentry_at spot.now) dir) }
         ensures only { OnOk result (KeepsOnlyAt (Some (spot.now.at.rank, first_leaf dir)) self.new.caches) }
-        ensures reads { ReadsCore (λ r q. IsThat spot.now.at.rank.0 (leaf_of spot.now.at) r q ⊎ IsThat spot.now.at.rank.0 (first_leaf dir) r q) (IsKeptFor self.old.caches) self.old self.new }
-        ensures sound { IsSoundCore self.new }
+        ensures cached { OnOk result (AreCached (state_of self.new) self.new.caches) }
+        ensures reads { ReadsCore (λ r q. IsThat spot.now.at.rank.0 (leaf_of spot.now.at) r q ⊎ IsThat spot.now.at.rank.0 (first_leaf dir) r q) NoneEnds self.old self.new }
+        ensures sound { OnErr result (IsSoundCore self.new) }
         ensures counted { self.new.faults ≡ self.old.faults + faults_told (result_err result) }
         ensures refused { IfErr result (MayNotBeReady (LacksNumbers 1 self.old.next_version ⊎ LacksNumbers 1 self.old.next_generation) (LacksPlacesAt 2 self.old spot.now.at.rank) self.old.faults self.new.faults) }
     {
@@ -89,22 +86,22 @@ impl<S: Store + Drop> MdCache<S> {
         if let Err(refusal) = check_left(self.next.generation) {
             return Err(refusal);
         }
-        let made = new_directory(alloc, &spot.name, dir)?;
         if let Err(refusal) = self.dirs.reserve() {
             return Err(refusal);
         }
-        self.give_up();
+        let made = new_directory(alloc, &spot.name, dir)?;
         let first = Dirfrag {
             dir,
             frag: Frag::ROOT,
             rank: spot.at.rank,
         };
-        if let Err(refusal) = self.ready_first(alloc, &spot.at, &first) {
-            return Err(refusal);
+        match self.ready_first(alloc, &spot.at, &first) {
+            Ok(()) => Ok(made),
+            Err(refusal) => {
+                drop(made);
+                Err(refusal)
+            }
         }
-        self.kept = Some((spot.at.rank, (dir, Frag::ROOT)));
-        self.prepared = Prepared::Directory(made);
-        Ok(())
     }
 
     /// Makes ready that the entry of a name gets other attributes, and tells that a record allows the inode that stands there, so
@@ -115,8 +112,7 @@ impl<S: Store + Drop> MdCache<S> {
         requires holds { MayHold self.old.caches spot.now.at.rank (leaf_of spot.now.at) }
         ensures ready { OnOk result (IsNameReady self.new spot.now.at.rank (leaf_of spot.now.at)) }
         ensures recorded { OnOk result (IfSome (map.get (names_of (unclean self.old.caches) self.old.objects (leaf_of spot.now.at)) spot.now.name) IsRecordable) }
-        ensures reads { ReadsCore (IsThat spot.now.at.rank.0 (leaf_of spot.now.at)) (IsKeptFor self.old.caches) self.old self.new }
-        ensures none { OnOk result (KeepsNone self.new.caches) }
+        ensures reads { ReadsCore (IsThat spot.now.at.rank.0 (leaf_of spot.now.at)) NoneEnds self.old self.new }
         ensures sound { IsSoundCore self.new }
         ensures counted { self.new.faults ≡ self.old.faults + faults_told (result_err result) }
         ensures refused { IfErr result (MayNotBeReady (LacksNumbers 1 self.old.next_version) (LacksPlacesAt 1 self.old spot.now.at.rank) self.old.faults self.new.faults) }
@@ -135,14 +131,13 @@ impl<S: Store + Drop> MdCache<S> {
         alloc: Global,
         at: &Dirfrag,
         gone: Option<Ino>,
-    ) -> Result<(), Refusal>
+    ) -> Result<Option<Going>, Refusal>
         requires sound { IsSoundCore self.old }
         requires live { IsLive self.old.homes self.old.covers (leaf_of at.now) }
         requires holds { MayHold self.old.caches at.now.rank (leaf_of at.now) }
         ensures ready { OnOk result (IsNameReady self.new at.now.rank (leaf_of at.now)) }
-        ensures going { OnOk result (IsForRemoval self.new.covers self.new.room.purge gone self.new.prepared) }
-        ensures reads { ReadsCore (IsThat at.now.rank.0 (leaf_of at.now)) (IsKeptFor self.old.caches) self.old self.new }
-        ensures none { OnOk result (KeepsNone self.new.caches) }
+        ensures going { IfOk result (IsForRemoval self.new.covers self.new.room.purge gone) }
+        ensures reads { ReadsCore (IsThat at.now.rank.0 (leaf_of at.now)) NoneEnds self.old self.new }
         ensures sound { IsSoundCore self.new }
         ensures counted { self.new.faults ≡ self.old.faults + faults_told (result_err result) }
         ensures refused { IfErr result (MayNotBeReady (LacksNumbers 1 self.old.next_version) (LacksPlacesAt 1 self.old at.now.rank) self.old.faults self.new.faults) }
@@ -151,12 +146,13 @@ impl<S: Store + Drop> MdCache<S> {
             return Err(refusal);
         }
         let going = ready_going(alloc, &self.dirs, &mut self.purge, gone)?;
-        self.give_up();
-        if let Err(refusal) = self.ready_names(alloc, at, 1) {
-            return Err(refusal);
+        match self.ready_names(alloc, at, 1) {
+            Ok(()) => Ok(going),
+            Err(refusal) => {
+                drop(going);
+                Err(refusal)
+            }
         }
-        self.prepared = Prepared::Removal(going);
-        Ok(())
     }
 
     /// Makes ready that the inode of one name moves to another, in a leaf that may be the same: the first has room for two changes
@@ -172,7 +168,7 @@ impl<S: Store + Drop> MdCache<S> {
         from: &Spot,
         to: &Spot,
         gone: Option<Ino>,
-    ) -> Result<(), Refusal>
+    ) -> Result<MovingEntry, Refusal>
         requires sound { IsSoundCore self.old }
         requires from_live { IsLive self.old.homes self.old.covers (leaf_of from.now.at) }
         requires from_holds { MayHold self.old.caches from.now.at.rank (leaf_of from.now.at) }
@@ -182,9 +178,8 @@ impl<S: Store + Drop> MdCache<S> {
         ensures source { OnOk result (HasCached (here self.new.caches from.now.at.rank.0 (leaf_of from.now.at)) (λ (f : Cached). 1 < f.room)) }
         ensures target { OnOk result (HasRoom (here self.new.caches to.now.at.rank.0 (leaf_of to.now.at))) }
         ensures number { OnOk result (self.new.next_version < 2 ^ 64 - 2) }
-        ensures moving { OnOk result (IsForMove self.new.covers self.new.room.purge to.now.name gone self.new.prepared) }
-        ensures reads { ReadsCore (λ r q. IsThat from.now.at.rank.0 (leaf_of from.now.at) r q ⊎ IsThat to.now.at.rank.0 (leaf_of to.now.at) r q) (IsKeptFor self.old.caches) self.old self.new }
-        ensures none { OnOk result (KeepsNone self.new.caches) }
+        ensures moving { IfOk result (IsForMove self.new.covers self.new.room.purge to.now.name gone) }
+        ensures reads { ReadsCore (λ r q. IsThat from.now.at.rank.0 (leaf_of from.now.at) r q ⊎ IsThat to.now.at.rank.0 (leaf_of to.now.at) r q) NoneEnds self.old self.new }
         ensures sound { IsSoundCore self.new }
         ensures counted { self.new.faults ≡ self.old.faults + faults_told (result_err result) }
         ensures refused { IfErr result (MayNotBeReady (LacksNumbers 2 self.old.next_version) (LacksPlacesAt 2 self.old from.now.at.rank ⊎ LacksPlacesAt 2 self.old to.now.at.rank) self.old.faults self.new.faults) }
@@ -192,14 +187,14 @@ impl<S: Store + Drop> MdCache<S> {
         if let Err(refusal) = check_two_left(self.next.version) {
             return Err(refusal);
         }
-        let name = to.name.try_clone()?;
-        let going = ready_going(alloc, &self.dirs, &mut self.purge, gone)?;
-        self.give_up();
-        if let Err(refusal) = self.ready_pair(alloc, &from.at, &to.at) {
-            return Err(refusal);
+        let moving = moving_entry(alloc, &self.dirs, &mut self.purge, &to.name, gone)?;
+        match self.ready_pair(alloc, &from.at, &to.at) {
+            Ok(()) => Ok(moving),
+            Err(refusal) => {
+                drop(moving);
+                Err(refusal)
+            }
         }
-        self.prepared = Prepared::Move(MovingEntry { name, going });
-        Ok(())
     }
 }
 
@@ -248,6 +243,29 @@ pub(crate) fn is_recorded(caches: &Caches, at: &Dirfrag, name: &Name)
     }
 }
 
+// What an entry takes that moves: a copy of the name that it gets, and what goes, if a directory is replaced.
+fn moving_entry(
+    alloc: Global,
+    dirs: &Dirs,
+    purge: &mut PurgeList,
+    name: &Name,
+    gone: Option<Ino>,
+) -> Result<MovingEntry, Refusal>
+    ensures moving { IfOk result (IsForMove dirs.now.trees purge.new.room name.now gone) }
+    ensures same { purge.new.names ≡ purge.old.names }
+    ensures grows { purge.old.room ≤ purge.new.room }
+    ensures refused { IfErr result (λ reason. reason ≡ NoMemory) }
+{
+    let going = ready_going(alloc, dirs, purge, gone)?;
+    match name.try_clone() {
+        Ok(name) => Ok(MovingEntry { name, going }),
+        Err(_) => {
+            drop(going);
+            Err(Refusal::NoMemory)
+        }
+    }
+}
+
 // Where a directory goes: the names of its objects, for which there is room on the purge list then. Takes memory for both.
 // Refused for want of memory alone.
 fn ready_going(
@@ -256,8 +274,7 @@ fn ready_going(
     purge: &mut PurgeList,
     gone: Option<Ino>,
 ) -> Result<Option<Going>, Refusal>
-    ensures going { IfOk result (λ going. (dir_going going ≡ gone) × IsGoingOrNone dirs.now.trees going) }
-    ensures room { IfOk result (λ going. count_going going ≤ purge.new.room) }
+    ensures going { IfOk result (IsForRemoval dirs.now.trees purge.new.room gone) }
     ensures same { purge.new.names ≡ purge.old.names }
     ensures grows { purge.old.room ≤ purge.new.room }
     ensures refused { IfErr result (λ reason. reason ≡ NoMemory) }

@@ -11,7 +11,7 @@ ghost use Rattle.cached_frag.specs.Cached.{Cached, shown};
 ghost use Rattle.dentry_cache.specs.Cache.{HasCached, Leaf, leaf_is};
 ghost use Rattle.dentry_cache.specs.CacheCalls.{IsWhole, KeepsNone};
 ghost use Rattle.dentry_cache.specs.CacheMap.{here, order};
-ghost use Rattle.dentry_cache.specs.CacheSplits.{AreKept, IsChildAt, IsFamilyAt, IsKeptFor, IsReadyAt, SplitsInto};
+ghost use Rattle.dentry_cache.specs.CacheSplits.{AreKept, IsChildAt, IsFamilyAt, IsReadyAt, SplitsInto};
 ghost use Rattle.dentry_cache.specs.Came.{Came};
 ghost use Rattle.dentry_cache.specs.Divided.{AreNumbered};
 ghost use Rattle.inode_table.specs.Dirs.{is_known, leaves_of};
@@ -68,7 +68,7 @@ impl<S: Store + Drop> MdCache<S> {
         requires known { is_known self.old.homes at.now.dir.0 ≡ true }
         requires can { CanSplit (leaves_of self.old.covers at.now.dir.0) at.now.frag nb }
         ensures split { SplitsLeaf (LacksPlacesAt (2 ^ nb + 1) self.old at.now.rank) self.old self.new at.now.dir at.now.frag nb result }
-        ensures came { Came (IsFamilyAt at.now.rank.0 at.now.dir at.now.frag nb) (λ r q. IsKeptFor self.old.caches r q ⊎ IsFamilyAt at.now.rank.0 at.now.dir at.now.frag nb r q) self.old.caches self.new.caches }
+        ensures came { Came (IsFamilyAt at.now.rank.0 at.now.dir at.now.frag nb) (IsFamilyAt at.now.rank.0 at.now.dir at.now.frag nb) self.old.caches self.new.caches }
         ensures counted { self.new.faults ≡ self.old.faults + faults_told (result_err result) }
         ensures sound { IsSoundCore self.new }
     {
@@ -89,7 +89,7 @@ impl<S: Store + Drop> MdCache<S> {
         ensures split { OnOk result (IsSplitInto (state_of self.old) (state_of self.new) at.now.dir at.now.frag nb) }
         ensures tree { OnOk result (KeepsTree (state_of self.old) (state_of self.new) at.now.dir (at.now.frag ∷ [])) }
         ensures undone { OnErr result (IsUndone self.old self.new) }
-        ensures came { Came (IsFamilyAt at.now.rank.0 at.now.dir at.now.frag nb) (λ r q. IsKeptFor self.old.caches r q ⊎ IsFamilyAt at.now.rank.0 at.now.dir at.now.frag nb r q) self.old.caches self.new.caches }
+        ensures came { Came (IsFamilyAt at.now.rank.0 at.now.dir at.now.frag nb) (IsFamilyAt at.now.rank.0 at.now.dir at.now.frag nb) self.old.caches self.new.caches }
         ensures refused { IfErr result (MayNotFind (LacksPlacesAt (2 ^ nb + 1) self.old at.now.rank) self.old.faults self.new.faults) }
         ensures counted { self.new.faults ≡ self.old.faults + faults_told (result_err result) }
         ensures sound { IsSoundCore self.new }
@@ -116,7 +116,7 @@ impl<S: Store + Drop> MdCache<S> {
         ensures ready { IfOk result (IsSplitReady self.new at.now nb) }
         ensures only { OnOk result ((r : ℕ) (q : Leaf) → IsWhole self.new.caches r q ⊎ IsChildAt at.now.rank.0 at.now.dir at.now.frag nb r q) }
         ensures distinct { OnOk result (IsDistinct leaf_is (order self.new.caches at.now.rank.0)) }
-        ensures reads { ReadsCore (IsFamilyAt at.now.rank.0 at.now.dir at.now.frag nb) (λ r q. IsKeptFor self.old.caches r q ⊎ IsFamilyAt at.now.rank.0 at.now.dir at.now.frag nb r q) self.old self.new }
+        ensures reads { ReadsCore (IsFamilyAt at.now.rank.0 at.now.dir at.now.frag nb) (IsFamilyAt at.now.rank.0 at.now.dir at.now.frag nb) self.old self.new }
         ensures sound { OnErr result (IsSoundCore self.new) }
         ensures undone { OnErr result (IsUndone self.old self.new) }
         ensures refused { IfErr result (MayNotFind (LacksPlacesAt (2 ^ nb + 1) self.old at.now.rank) self.old.faults self.new.faults) }
@@ -126,7 +126,6 @@ impl<S: Store + Drop> MdCache<S> {
             Ok(plan) => plan,
             Err(refusal) => return Err(refusal),
         };
-        self.give_up();
         match self.ready_children(alloc, at, nb) {
             Ok(parts) => Ok(Split { plan, parts }),
             Err(refusal) => {

@@ -1,5 +1,5 @@
 -- What the checks of each kind of operation find.
-use Rattle.std.proofs.Common.{◌≡◌, ℕ, ◌<◌, ◌^◌, nat_le, Bool, true, false, not, cond, ◌&&◌, is_some, IfOk, IfSome, Option, Some, None, Result, Ok, Err, refl, sym, ap, subst, ◌∙◌}
+use Rattle.std.proofs.Common.{◌≡◌, ℕ, ◌<◌, ◌^◌, nat_le, Bool, true, false, cond, ◌&&◌, IfOk, IfSome, Option, Some, None, Result, Ok, Err, refl, sym, ap, subst, ◌∙◌}
 use Rattle.std.specs.Ordering.{eq_by_cmp}
 use Rattle.std.specs.FinMap as map
 use Rattle.mds_types.specs.declared.ids.Ino.{Ino}
@@ -23,24 +23,20 @@ use Rattle.mds_types.proofs.WellFormedLaws.{new_sized, may_go}
 use Rattle.namehash.specs.Rjenkins.{hash_of}
 use Rattle.inode_table.specs.Dirs.{Covers}
 use Rattle.inode_table.specs.TreeChanges.{MayAdd, MayRemove, MaySet}
+use Rattle.namespace_ops.specs.declared.locating.Located.{Located}
 use Rattle.namespace_ops.specs.declared.locating.Places.{Places}
 use Rattle.namespace_ops.specs.declared.plans.Spot.{Spot}
 use Rattle.namespace_ops.specs.declared.plans.Checked.{Checked}
 use Rattle.namespace_ops.specs.declared.plans.Checked.TheVariants.{Answers, Changes}
 use Rattle.namespace_ops.specs.Changes.{Concerns, IsChangeOf, IsLeafAt, IsSpot, Reads, adds, dentry_at, directory_at, moves, removes, sets}
 use Rattle.namespace_ops.specs.Checked.{Checks, IsChecked}
-use Rattle.namespace_ops.specs.Places.{AreLocated, IsAt, LiesAt, Locates, LocatesAt, main_hash}
+use Rattle.namespace_ops.specs.Places.{AreLocated, IsLocated, IsLocatedAt, LiesAt, Locates, LocatesAt, main_hash}
 
 -- what the test of a kind told
 pub no_dir : (kind : Kind) (told : Bool) → (kind ≡ Dir → told ≡ true) → told ≡ false → is_dir_kind kind ≡ false
 no_dir File told meets failed = refl
 no_dir (Link target) told meets failed = refl
 no_dir Dir told meets failed = let clash : true ≡ false = sym (meets refl) ∙ failed in absurd cc
-
-pub none_given : (b : Bool) (number : Option Ino) → (b && not (is_some number)) ≡ false → number ≡ None → b ≡ false
-none_given true None given none = cc
-none_given true (Some n) given none = cc
-none_given false number given none = refl
 
 pub none_clash : (b : Bool) → b ≡ true → b ≡ false → ⊥
 none_clash b held failed = let clash : true ≡ false = sym held ∙ failed in cc
@@ -193,13 +189,6 @@ module _ (tree : Tree) (covers : Covers) (Holds : Dirfrag → Type 0) (op : Op) 
 pub replaced_told : (tree mid : Tree) (inode : Inode) (to : Dentry) (copied found : Option Inode) (told : Option ℕ) → mid ≡ tree → copied ≡ found → found ≡ map.get tree to → told ≡ replace_errno mid inode copied → told ≡ replace_errno tree inode (map.get tree to)
 replaced_told tree mid inode to copied found told same copy there is = is ∙ (λ i. replace_errno (same i) inode (copy i)) ∙ ap (replace_errno tree inode) there
 
--- so the errno of a directory that is full, and that it is none
-pub room_told : (limit : ℕ) (tree mid : Tree) (from to : Dentry) (copied found : Option Inode) (told : Option ℕ) → mid ≡ tree → copied ≡ found → found ≡ map.get tree to → told ≡ room_errno limit mid from to copied → told ≡ room_errno limit tree from to (map.get tree to)
-room_told limit tree mid from to copied found told same copy there is = is ∙ (λ i. room_errno limit (same i) from to (copy i)) ∙ ap (room_errno limit tree from to) there
-
-pub space_told : (tree mid : Tree) (from to : Dentry) (copied found : Option Inode) → mid ≡ tree → copied ≡ found → found ≡ map.get tree to → HasSpace mid from to copied → HasSpace tree from to (map.get tree to)
-space_told tree mid from to copied found same copy there space = subst (HasSpace tree from to) (copy ∙ there) (subst (λ t. HasSpace t from to copied) same space)
-
 -- what was found from a later state, at which the tree and the leaves were the same, was found from the earlier
 pub checks_from : (tree mid : Tree) (covers later : Covers) (Holds Held : Dirfrag → Type 0) (op : Op) (n : ℕ) (outcome here : Outcome) (result : Result Checked Refusal) → mid ≡ tree → later ≡ covers → ((at : Dirfrag) → Held at → Holds at) → outcome ≡ here
     → IfOk result (Checks mid later Held op n outcome) → IfOk result (Checks tree covers Holds op n here)
@@ -234,14 +223,14 @@ module _ (tree : Tree) (covers : Covers) (Holds : Dirfrag → Type 0) (op is : O
       (subst (λ b. IfOk result (Checks tree covers Holds op n (cond b (done_in limit tree (shape is) n) (answers tree (Errno 116))))) (sym ((λ i. here i && there i))) found)
 
   -- where its main name lies
-  pub main_at : (places : Places) (at : Dirfrag) → AreLocated tree covers Holds op places → places.main ≡ Some at → IsAt tree covers Holds (destination_of is) (main_hash is) at
-  main_at places at located stands = subst (λ (o : Op). IsAt tree covers Holds (destination_of o) (main_hash o) at) same (subst (Locates tree covers Holds (destination_of op) (main_hash op)) stands located.main)
+  pub main_at : (places : Places) (at : Located) → AreLocated tree covers Holds op places → places.main ≡ Some at → IsLocated tree covers Holds (destination_of is) (main_hash is) at
+  main_at places at located stands = subst (λ (o : Op). IsLocated tree covers Holds (destination_of o) (main_hash o) at) same (subst (Locates tree covers Holds (destination_of op) (main_hash op)) stands located.main)
 
-  pub step_at : (limit n : ℕ) (result : Result Checked Refusal) (places : Places) (at : Dirfrag) → AreLocated tree covers Holds op places → places.main ≡ Some at → directory_of is ≡ destination_of is → IfOk result (Checks tree covers Holds op n (done_in limit tree (shape is) n)) → IfOk result (Checks tree covers Holds op n (step limit tree op n))
-  step_at limit n result places at located stands one found = let there = main_at places at located stands in step_from limit n result (ap (is_directory tree) one ∙ there.stands) there.stands found
+  pub step_at : (limit n : ℕ) (result : Result Checked Refusal) (places : Places) (at : Located) → AreLocated tree covers Holds op places → places.main ≡ Some at → directory_of is ≡ destination_of is → IfOk result (Checks tree covers Holds op n (done_in limit tree (shape is) n)) → IfOk result (Checks tree covers Holds op n (step limit tree op n))
+  step_at limit n result places at located stands one found = let there = main_at places at located stands in step_from limit n result (ap (is_directory tree) one ∙ there.at.stands) there.at.stands found
 
 -- where the source of a rename lies
-pub source_at : (tree : Tree) (covers : Covers) (Holds : Dirfrag → Type 0) (op : Op) (from to : Dentry) (places : Places) (at : Dirfrag) → op ≡ Rename from to → AreLocated tree covers Holds op places → places.source ≡ Some at → LiesAt tree covers Holds from at
+pub source_at : (tree : Tree) (covers : Covers) (Holds : Dirfrag → Type 0) (op : Op) (from to : Dentry) (places : Places) (at : Located) → op ≡ Rename from to → AreLocated tree covers Holds op places → places.source ≡ Some at → IsLocatedAt tree covers Holds from at
 source_at tree covers Holds op from to places at same located stands =
     subst (Locates tree covers Holds from.dir.0 (hash_of from.name)) stands (subst (λ (o : Op). LocatesAt tree covers Holds (source_of o) places.source) same located.source)
 

@@ -19,8 +19,7 @@ use Rattle.namespace_ops.specs.declared.plans.Change.{Change}
 use Rattle.namespace_ops.specs.declared.plans.Spot.{Spot}
 use Rattle.mds_types.specs.Leaf.{Leaf, leaf_of}
 use Rattle.namespace_ops.specs.Kept.{IsStanding, ShowsTheSame, OthersShowTheSame}
-use Rattle.namespace_ops.specs.Changes.{IsLeafAt, IsSpot, MayChange, changed, dentry_at, directory_at, fragments_in, fragments_of, in_directory, leaf_put, leaf_taken, leaves, leaves_gone, put, taken}
-use Rattle.namespace_ops.specs.Planned.{IsReadyToChange, after_plan}
+use Rattle.namespace_ops.specs.Changes.{IsLeafAt, IsSpot, MayChange, changed, dentry_at, directory_at, fragments_of, in_directory, leaf_put, leaf_taken, leaves, leaves_gone, put, taken}
 use Rattle.namespace_ops.proofs.Members.{first, first_or_later, later}
 use Rattle.namespace_ops.proofs.Shapes.{Shape, shape_of}
 use Rattle.namespace_ops.proofs.Shapes.Shape.{add, move, remove, set}
@@ -125,12 +124,11 @@ kept_others tree new covers now leaves same keep leaf elsewhere stood =
       names = λ name inside. ap (λ t. at t leaf.0.0 name) same;
     }
 
--- the tree that a planned change leads to, if there is one
-pub others_after_plan : (tree new : Tree) (covers now : Covers) (IsReady : Change → Type 0) (change : Option Change) → IsWellFormed tree → IsReadyToChange tree covers IsReady change
-    → new ≡ after_plan tree change → KeepLeaves new covers now → OthersShowTheSame tree new covers now (fragments_in covers change)
-others_after_plan tree new covers now IsReady None whole ready is keep = kept_others tree new covers now [] is keep
-others_after_plan tree new covers now IsReady (Some change) whole ready is keep =
-    subst (λ t. KeepLeaves t covers now → OthersShowTheSame tree t covers now (fragments_of covers change)) (sym is) (others_show_the_same tree covers now change whole ready.1) keep
+-- the tree that a change led to
+pub others_stay : (tree new : Tree) (covers now : Covers) (change : Change) → IsWellFormed tree → MayChange tree covers change → new ≡ changed tree change → KeepLeaves new covers now
+    → OthersShowTheSame tree new covers now (fragments_of covers change)
+others_stay tree new covers now change whole may leads keep =
+    subst (λ t. KeepLeaves t covers now → OthersShowTheSame tree t covers now (fragments_of covers change)) (sym leads) (others_show_the_same tree covers now change whole may) keep
 
 -- a leaf that stood, where the tree and each directory's leaves stayed
 pub kept_shows : (old new : Tree) (covers now : Covers) (leaf : Leaf) → new ≡ old → now ≡ covers → IsStanding old covers leaf → ShowsTheSame old new now leaf

@@ -1,19 +1,17 @@
--- A plan, part by part.
-use Rattle.std.proofs.Common.{◌≡◌, ℕ, true, false, cond, IfSome, Option, Some, None, refl, sym, ap, subst, ◌∙◌}
+-- The change that the checks of an operation found may be made, once the number that it takes is offered.
+use Rattle.std.proofs.Common.{◌≡◌, ℕ, false, IfSome, Option, Some, None, refl, sym, subst, ◌∙◌}
 use Rattle.mds_types.specs.declared.ids.Ino.{Ino}
 use Rattle.mds_types.specs.declared.dirfrags.Dirfrag.{Dirfrag}
 use Rattle.mds_types.specs.declared.operations.Op.{Op}
-use Rattle.mds_types.specs.declared.replies.Reply.{Reply}
 use Rattle.mds_types.specs.Tree.{Tree, IsUnused}
 use Rattle.mds_types.specs.Step.{step, number_or}
 use Rattle.inode_table.specs.Dirs.{Covers}
 use Rattle.mds_types.specs.declared.inodes.Inode.{Inode}
 use Rattle.namespace_ops.specs.declared.plans.Change.{Change}
 use Rattle.namespace_ops.specs.declared.plans.Spot.{Spot}
-use Rattle.namespace_ops.specs.Changes.{IsNumbered, IsOffered, MayChange, reply_of}
+use Rattle.namespace_ops.specs.Changes.{IsNumbered, IsOffered, MayChange}
 use Rattle.namespace_ops.specs.Checked.{IsChecked}
-use Rattle.namespace_ops.specs.Planned.{IsPlanned}
-use Rattle.namespace_ops.proofs.ChangedLaws.{busy, fragments_are}
+use Rattle.namespace_ops.proofs.CheckedParts.{none_clash}
 
 -- a number that the operation takes was offered
 offered_unused : (tree : Tree) (IsNumber : ℕ → Type 0) (number : Option Ino) → IsOffered tree IsNumber number → (number ≡ None → ⊥) → IsUnused tree (number_or number)
@@ -26,28 +24,15 @@ offered_number tree IsNumber None offered some = absurd (some refl)
 offered_number tree IsNumber (Some ino) offered some = offered.1
 
 module _ (limit : ℕ) (tree : Tree) (covers : Covers) (Holds : Dirfrag → Type 0) (op : Op) (number : Option Ino) (change : Change) (checked : IsChecked tree covers Holds op (number_or number) (step limit tree op (number_or number)) change) where
-  pub may_change : (IsNumber : ℕ → Type 0) → IsOffered tree IsNumber number → (change.comes ≡ true → number ≡ None → ⊥) → MayChange tree covers change
+  pub may_change : (IsNumber : ℕ → Type 0) → IsOffered tree IsNumber number → (number ≡ None → change.comes ≡ false) → MayChange tree covers change
   may_change IsNumber offered given = record {
     carries = checked.carries;
-    takes = checked.takes (λ taken. offered_unused tree IsNumber number offered (given (sym checked.number ∙ taken)));
+    takes = checked.takes (λ taken. offered_unused tree IsNumber number offered (λ none. none_clash change.comes (sym checked.number ∙ taken) (given none)));
   }
 
-  pub numbered_so : (IsNumber : ℕ → Type 0) → IsOffered tree IsNumber number → (change.comes ≡ true → number ≡ None → ⊥) → IsNumbered IsNumber change
+  pub numbered_so : (IsNumber : ℕ → Type 0) → IsOffered tree IsNumber number → (number ≡ None → change.comes ≡ false) → IsNumbered IsNumber change
   numbered_so IsNumber offered given comes = go change.puts (checked.numbered comes)
     where
       go : (puts : Option (Spot × Inode)) → IfSome puts (λ put. put.1.ino.0 ≡ number_or number) → IfSome puts (λ put. IsNumber put.1.ino.0)
       go None is = tt
-      go (Some put) is = subst IsNumber (sym is) (offered_number tree IsNumber number offered (given comes))
-
-  pub planned_change : (IsReady : Change → Type 0) (reply : Reply) (taken : Option Ino) → reply ≡ reply_of change → taken ≡ cond (change.comes) number None → (number ≡ None → change.comes ≡ false) → IsReady change → MayChange tree covers change
-      → IsPlanned limit tree covers IsReady op (step limit tree op (number_or number)) number (record { reply = reply; change = Some change; number = taken })
-  planned_change IsReady reply taken replied took numbered ready may = record {
-    replied = replied ∙ sym checked.replied;
-    leads = sym checked.leads;
-    ready = (ready, may);
-    took = took ∙ ap (λ b. cond b number None) (sym checked.number);
-    numbered = λ none. checked.number ∙ numbered none;
-    one_of = checked.one_of;
-    idle = λ still. let clash : true ≡ false = sym still ∙ busy limit tree covers Holds op (number_or number) change checked in absurd cc;
-    fragments = fragments_are limit tree covers Holds op (number_or number) change checked;
-  }
+      go (Some put) is = subst IsNumber (sym is) (offered_number tree IsNumber number offered (λ none. none_clash change.comes comes (given none)))

@@ -42,9 +42,9 @@ pub fn check<F: Frags>(
         return Ok(Checked::Answers(Reply::Errno(ESTALE)));
     };
     match op {
-        Op::Lookup(dentry) => lookup(frags, op, dentry, &at),
+        Op::Lookup(dentry) => lookup(frags, op, dentry, &at.at),
         Op::Readdir { dir, after, max } => read_dir(alloc, frags, op, *dir, after.as_ref(), *max),
-        Op::Readlink(dentry) => read_link(frags, op, dentry, &at),
+        Op::Readlink(dentry) => read_link(frags, op, dentry, &at.at),
         Op::Create {
             dentry,
             mode,
@@ -71,14 +71,14 @@ pub fn check<F: Frags>(
         }
         Op::Setattr { dentry, attributes } => {
             let alteration = Alteration::Attributed(*attributes);
-            alter(frags, op, dentry, &at, &alteration)
+            alter(frags, op, dentry, &at.at, &alteration)
         }
         Op::SetPin { dentry, pin } => {
             let alteration = Alteration::Pinned(*pin);
-            alter(frags, op, dentry, &at, &alteration)
+            alter(frags, op, dentry, &at.at, &alteration)
         }
-        Op::Unlink(dentry) => unlink(frags, op, dentry, &at),
-        Op::Rmdir(dentry) => remove_dir(frags, op, dentry, &at),
+        Op::Unlink(dentry) => unlink(frags, op, dentry, &at.at),
+        Op::Rmdir(dentry) => remove_dir(frags, op, dentry, &at.at),
         Op::Rename { from, to } => match source {
             Some(source) => rename(frags, limit, op, from, to, &(source, at)),
             None => Ok(Checked::Answers(Reply::Errno(ESTALE))),

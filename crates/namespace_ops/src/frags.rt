@@ -1,5 +1,5 @@
 //! What operations need of a directory's fragments.
-ghost use Rattle.std.specs.Prelude.{◌≡◌, ◌≢◌, ◌↔◌, ℕ, Option, None, Some, true, not, IfOk, IfErr, OnOk, take, length, nat_lt};
+ghost use Rattle.std.specs.Prelude.{◌≡◌, ◌≢◌, ◌↔◌, ℕ, Option, None, Some, true, not, IfOk, IfErr, OnErr, OnOk, take, length, nat_lt};
 ghost use Rattle.std.specs.Result.{result_err};
 ghost use Rattle.std.specs.Option.{option_copied};
 ghost use Rattle.mds_types.specs.declared.refusals.Refusal.{Refusal as Reason};
@@ -10,7 +10,7 @@ ghost use Rattle.std.specs.FinMap as map;
 ghost use Rattle.std.specs.List.{Contains};
 ghost use Rattle.fragtree.specs.FragTree.{IsTree};
 ghost use Rattle.inode_table.specs.Dirs.{Covers, leaves_of};
-ghost use Rattle.mds_types.specs.Tree.{Tree, is_directory, is_above, entries_in, has_entries};
+ghost use Rattle.mds_types.specs.Tree.{Tree, is_directory, is_above, has_entries};
 ghost use Rattle.mds_types.specs.Step.{names_after};
 ghost use Rattle.inode_table.specs.TreeChanges.{KeepLeaves};
 ghost use Rattle.namespace_ops.specs.declared.plans.Change.{Change as Alteration};
@@ -20,6 +20,7 @@ ghost use Rattle.namespace_ops.specs.Changes.{IsChangeOf, IsNumbered, LieHeld, M
 ghost use Rattle.namespace_ops.specs.Places.{LiesAt, Locates};
 ghost use Rattle.namespace_ops.specs.Reasons.{IsOfFragments};
 
+use crate::locating::Located;
 use crate::plans::Change;
 use mds_types::{Dentry, Dirfrag, Frag, Ino, Inode, Listing, Name, Op, PageSize, Rank, Refusal};
 use std::alloc::Global;
@@ -27,10 +28,8 @@ use std::alloc::Global;
 /// The fragments that operations read and change. Together they show one plain tree, whatever they are kept in.
 ///
 /// A read may have to fetch what it reads, and can then be refused; it keeps all, and so does a refusal. Which leaves a
-/// directory has, where they lie, and how many entries it has, is told with no fetch. A read is told for which operation it is asked, and asks of a directory of that. It takes
-/// no number, and is never refused for want of one.
-/// All growth that a change needs is made by `ready`, which is asked of a change of leaves that may be touched; the change that follows
-/// can't fail.
+/// directory has, where they lie, and how many entries it has, is told with no fetch. A read is told for which operation it is asked, and asks of a
+/// directory of that. It takes no number, and is never refused for want of one. A change is made in one call, whole or not at all.
 pub trait Frags {
     /// The plain tree that the fragments show.
     ghost content: { Self → Tree };
@@ -46,9 +45,6 @@ pub trait Frags {
 
     /// A change may touch this leaf now.
     ghost MayTouch: { Self → Leaf → Type 0 };
-
-    /// The change can be made with no further growth.
-    ghost IsReady: { Self → Alteration → Type 0 };
 
     /// What reads for an operation and refusals keep beside the tree and the leaves of each directory, by the refusal that they
     /// answer, if any.
@@ -69,14 +65,10 @@ pub trait Frags {
         requires { is_directory (content self.now) below.0 ≡ true }
         ensures { result ≡ is_above (content self.now) dir.0 below.0 };
 
-    /// How many entries a directory has, told with no fetch.
-    fn count(&self, dir: Ino) -> u64
-        requires { is_directory (content self.now) dir.0 ≡ true }
-        ensures { result ≡ entries_in (content self.now) dir.0 };
-
-    /// Where a hash falls in a directory: the leaf that it picks, and the rank that holds it; nowhere exactly where there is no
-    /// such directory. `rank` is asked first whether it holds the leaf. Takes no memory.
-    fn locate(&self, rank: Rank, dir: Ino, hash: u32) -> Option<Dirfrag>
+    /// Where a hash falls in a directory: the leaf that it picks, with the rank that holds it, and how many entries the directory has;
+    /// nowhere exactly where there is no such directory. `rank` is asked first whether it holds the leaf. Takes no memory, and fetches
+    /// nothing.
+    fn locate(&self, rank: Rank, dir: Ino, hash: u32) -> Option<Located>
         ensures { Locates (content self.now) (covers self.now) (Holds self.now) dir.0 hash result };
 
     /// The leaves of a directory by value, which cover every hash once.
@@ -118,25 +110,20 @@ pub trait Frags {
         ensures err { IfErr result (MayRefuse self.old self.new op.now) }
         ensures numbers { IfErr result (λ reason. reason ≢ NoInodes) };
 
-    /// Makes every growth that a change needs, which is one of the operation.
-    fn ready(&mut self, op: &Op, change: &Change) -> Result<(), Refusal>
-        requires may { MayChange (content self.old) (covers self.old) change.now }
-        requires of_op { IsChangeOf op.now change.now }
-        requires held { LieHeld (Holds self.old) change.now }
-        requires numbered { IsNumbered IsNumber change.now }
-        requires touch { (leaf : Leaf) → Contains (fragments_of (covers self.old) change.now) leaf → MayTouch self.old leaf }
-        ensures ready { OnOk result (IsReady self.new change.now) }
-        ensures kept { KeepsAll (content self.old) (content self.new) (covers self.old) (covers self.new) (Follows self.old self.new op.now (result_err result)) }
-        ensures err { IfErr result (MayRefuse self.old self.new op.now) };
-
-    /// Makes a change that may be made and was made ready. Each directory that stands then has the leaves that it had; of
-    /// one that comes no leaves were set. A leaf that is none of those that change keeps its names.
-    fn change(&mut self, change: Change)
-        requires ready { IsReady self.old change }
+    /// Makes a change that may be made, which is one of the operation, of leaves that may be touched. Each directory that stands then
+    /// has the leaves that it had; of one that comes no leaves were set. A leaf that is none of those that change keeps its names.
+    /// All growth comes first, and a refusal keeps all as a read does.
+    fn change(&mut self, op: &Op, change: Change) -> Result<(), Refusal>
         requires may { MayChange (content self.old) (covers self.old) change }
-        ensures changed { content self.new ≡ changed (content self.old) change }
-        ensures leaves { KeepLeaves (content self.new) (covers self.old) (covers self.new) }
-        ensures frame { ChangesOnly (Unchanged self.old self.new) (fragments_of (covers self.old) change) };
+        requires of_op { IsChangeOf op.now change }
+        requires held { LieHeld (Holds self.old) change }
+        requires numbered { IsNumbered IsNumber change }
+        requires touch { (leaf : Leaf) → Contains (fragments_of (covers self.old) change) leaf → MayTouch self.old leaf }
+        ensures changed { OnOk result (content self.new ≡ changed (content self.old) change) }
+        ensures leaves { OnOk result (KeepLeaves (content self.new) (covers self.old) (covers self.new)) }
+        ensures frame { OnOk result (ChangesOnly (Unchanged self.old self.new) (fragments_of (covers self.old) change)) }
+        ensures kept { OnErr result (KeepsAll (content self.old) (content self.new) (covers self.old) (covers self.new) (Follows self.old self.new op.now (result_err result))) }
+        ensures err { IfErr result (MayRefuse self.old self.new op.now) };
 
     /// Fragments refuse for these reasons alone.
     ghost refused_for: { (a b : Self) (op : Operation) (reason : Reason) → MayRefuse a b op reason → IsOfFragments reason };

@@ -10,7 +10,6 @@ mod frags;
 mod laws;
 mod locating;
 mod making;
-mod planning;
 mod plans;
 mod reading;
 mod removing;
@@ -24,7 +23,6 @@ pub use laws::{
     above_is_a_chain, errno_leaves_tree, making_takes_number, names_are_listed,
     number_leaves_errno, numbers_stay, pages_make_up_listing, step_keeps_well_formed,
 };
-pub use locating::{Places, locate};
-pub use planning::{plan_change, plan_checked};
-pub use plans::{Change, Checked, Plan, Spot, carry_out};
+pub use locating::{Located, Places, locate};
+pub use plans::{Change, Checked, Spot};
 pub use serving::serve_op;

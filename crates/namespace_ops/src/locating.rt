@@ -7,12 +7,19 @@ use crate::frags::Frags;
 use mds_types::{Dirfrag, Op, Rank};
 use namehash::rjenkins;
 
+/// Where a dentry lies, and how many entries its directory has.
+#[derive(Clone, Copy, Debug)]
+pub struct Located {
+    pub at: Dirfrag,
+    pub entries: u64,
+}
+
 /// Where the names of an operation lie: its own, of a rename the destination, of a readdir the first leaf of its directory; and of
 /// a rename the source. Nowhere where the directory isn't there.
 #[derive(Clone, Copy, Debug)]
 pub struct Places {
-    pub main: Option<Dirfrag>,
-    pub source: Option<Dirfrag>,
+    pub main: Option<Located>,
+    pub source: Option<Located>,
 }
 
 /// Finds where the names of an operation lie. `rank` is asked first whether it holds a leaf. Takes no memory.
@@ -26,7 +33,7 @@ pub fn locate<F: Frags>(frags: &F, rank: Rank, op: &Op) -> Places
 }
 
 // Where the source of a rename lies.
-fn locate_source<F: Frags>(frags: &F, rank: Rank, op: &Op) -> Option<Dirfrag>
+fn locate_source<F: Frags>(frags: &F, rank: Rank, op: &Op) -> Option<Located>
     ensures { LocatesAt (F.content frags.now) (F.covers frags.now) (F.Holds frags.now) (source_of op.now) result }
 {
     let from = op.source()?;

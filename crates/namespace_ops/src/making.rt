@@ -11,15 +11,15 @@ ghost use Rattle.namespace_ops.specs.declared.plans.Spot.{Spot as Place};
 ghost use Rattle.namespace_ops.specs.Kept.{KeepsAll};
 ghost use Rattle.namespace_ops.specs.Changes.{IsChangeOf, Reads, adds, dentry_at};
 ghost use Rattle.namespace_ops.specs.Checked.{Checks};
-ghost use Rattle.namespace_ops.specs.Places.{LiesAt};
+ghost use Rattle.namespace_ops.specs.Places.{IsLocatedAt};
 ghost use Rattle.namespace_ops.specs.Reasons.{Refuses};
 
 use crate::filling::is_full;
 use crate::frags::Frags;
+use crate::locating::Located;
 use crate::plans::{Change, Checked, Spot};
 use mds_types::{
-    Birth, Dentry, Dirfrag, EEXIST, ENOSPC, Ino, Inode, Kind, Limit, Mode, Op, Refusal, Reply,
-    Target,
+    Birth, Dentry, EEXIST, ENOSPC, Ino, Inode, Kind, Limit, Mode, Op, Refusal, Reply, Target,
 };
 
 /// What a new inode is, beside its size.
@@ -73,11 +73,11 @@ pub fn make<F: Frags>(
     limit: Limit,
     op: &Op,
     dentry: &Dentry,
-    at: &Dirfrag,
+    at: &Located,
     new: New,
 ) -> Result<Checked, Refusal>
     requires reads { Reads (F.content frags.old) op.now dentry.now.dir.0 }
-    requires at { LiesAt (F.content frags.old) (F.covers frags.old) (F.Holds frags.old) dentry.now at.now }
+    requires at { IsLocatedAt (F.content frags.old) (F.covers frags.old) (F.Holds frags.old) dentry.now at.now }
     requires makes { (spot : Place) (inode : Node) → dentry_at spot ≡ dentry.now → inode.kind ≡ new.kind → IsChangeOf op.now (adds spot inode) }
     ensures checked { let inode = new_inode new.ino.0 new.kind new.mode new.birth in
         IfOk result (Checks (F.content frags.old) (F.covers frags.old) (F.Holds frags.old) op.now new.ino.0 (made limit (F.content frags.old) dentry.now inode (map.get (F.content frags.old) dentry.now))) }
@@ -85,13 +85,13 @@ pub fn make<F: Frags>(
     ensures err { IfErr result (Refuses (F.MayRefuse frags.old frags.new op.now)) }
     ensures numbers { IfErr result (λ reason. reason ≢ NoInodes) }
 {
-    if frags.look(op, dentry, at)?.is_some() {
+    if frags.look(op, dentry, &at.at)?.is_some() {
         return Ok(Checked::Answers(Reply::Errno(EEXIST)));
     }
-    if is_full(frags, limit, dentry.dir) {
+    if is_full(limit, at.entries) {
         return Ok(Checked::Answers(Reply::Errno(ENOSPC)));
     }
-    let spot = Spot::of(dentry, *at)?;
+    let spot = Spot::of(dentry, at.at)?;
     let inode = new.inode();
     Ok(Checked::Changes(Change {
         takes: None,

@@ -1,12 +1,9 @@
 //! What an operation comes to, before it is done.
-ghost use Rattle.std.specs.Prelude.{◌≡◌, None, IfOk};
-ghost use Rattle.inode_table.specs.TreeChanges.{KeepLeaves};
-ghost use Rattle.namespace_ops.specs.Kept.{ChangesOnly};
-ghost use Rattle.namespace_ops.specs.Changes.{dentry_at, fragments_in, reply_of};
-ghost use Rattle.namespace_ops.specs.Planned.{after_plan, IsReadyToChange};
+ghost use Rattle.std.specs.Prelude.{◌≡◌, true, false, cond, None, IfErr, IfOk, OnOk};
+ghost use Rattle.mds_types.specs.declared.refusals.Refusal.TheVariants.{NoInodes};
+ghost use Rattle.namespace_ops.specs.Changes.{dentry_at, reply_of};
 
-use crate::frags::Frags;
-use mds_types::{Dentry, Dirfrag, Ino, Inode, Name, Reply};
+use mds_types::{Dentry, Dirfrag, Ino, Inode, Name, Refusal, Reply};
 use std::alloc::AllocError;
 
 /// A dentry where it lies: its name, in a leaf of its directory at the rank that holds the leaf.
@@ -60,6 +57,22 @@ impl Change {
             _ => Ok(Reply::Done),
         }
     }
+
+    /// The number that it takes of one that is offered: a new inode's. Refused `NoInodes` exactly where a new inode comes for which
+    /// none is offered.
+    pub fn number(&self, offered: Option<Ino>) -> Result<Option<Ino>, Refusal>
+        ensures taken { IfOk result (λ number. number ≡ cond self.now.comes offered None) }
+        ensures given { OnOk result (offered ≡ None → self.now.comes ≡ false) }
+        ensures refused { IfErr result (λ reason. (reason ≡ NoInodes) × (offered ≡ None) × (self.now.comes ≡ true)) }
+    {
+        if !self.comes {
+            return Ok(None);
+        }
+        if offered.is_none() {
+            return Err(Refusal::NoInodes);
+        }
+        Ok(offered)
+    }
 }
 
 /// What the checks of an operation find.
@@ -69,27 +82,4 @@ pub enum Checked {
     Answers(Reply),
     /// It makes this change.
     Changes(Change),
-}
-
-/// What an operation comes to.
-#[derive(Debug, Drop)]
-pub struct Plan {
-    /// What it answers.
-    pub reply: Reply,
-    /// The change that it makes; none, if it only reads, answers an errno or leads to where it is.
-    pub change: Option<Change>,
-    /// The number that it took for a new inode.
-    pub number: Option<Ino>,
-}
-
-/// Makes a change that was planned. It can't fail. Leaves that are none of those that change keep their names.
-pub fn carry_out<F: Frags>(frags: &mut F, change: Option<Change>)
-    requires { IsReadyToChange (F.content frags.old) (F.covers frags.old) (F.IsReady frags.old) change }
-    ensures done { F.content frags.new ≡ after_plan (F.content frags.old) change }
-    ensures leaves { KeepLeaves (F.content frags.new) (F.covers frags.old) (F.covers frags.new) }
-    ensures frame { ChangesOnly (F.Unchanged frags.old frags.new) (fragments_in (F.covers frags.old) change) }
-{
-    if let Some(change) = change {
-        frags.change(change);
-    }
 }

@@ -15,15 +15,15 @@ ghost use Rattle.namespace_ops.specs.declared.plans.Spot.{Spot as Place};
 ghost use Rattle.namespace_ops.specs.Kept.{KeepsAll};
 ghost use Rattle.namespace_ops.specs.Changes.{IsChangeOf, Reads, dentry_at, directory_at, moves as moves_to, stays};
 ghost use Rattle.namespace_ops.specs.Checked.{Checks};
-ghost use Rattle.namespace_ops.specs.Places.{LiesAt};
+ghost use Rattle.namespace_ops.specs.Places.{IsLocatedAt};
 ghost use Rattle.namespace_ops.specs.Reasons.{Refuses};
 
 use crate::filling::room_errno;
 use crate::frags::Frags;
+use crate::locating::Located;
 use crate::plans::{Change, Checked, Spot};
 use mds_types::{
-    Dentry, Dirfrag, EINVAL, EISDIR, ENOENT, ENOTDIR, ENOTEMPTY, Ino, Inode, Limit, Op, Refusal,
-    Reply,
+    Dentry, EINVAL, EISDIR, ENOENT, ENOTDIR, ENOTEMPTY, Ino, Inode, Limit, Op, Refusal, Reply,
 };
 
 /// Moves the entry at one dentry to another. What is absent there comes to a directory that may take a further entry.
@@ -34,10 +34,10 @@ pub fn rename<F: Frags>(
     op: &Op,
     from: &Dentry,
     to: &Dentry,
-    at: &(Dirfrag, Dirfrag),
+    at: &(Located, Located),
 ) -> Result<Checked, Refusal>
-    requires from { LiesAt (F.content frags.old) (F.covers frags.old) (F.Holds frags.old) from.now at.now.0 }
-    requires to { LiesAt (F.content frags.old) (F.covers frags.old) (F.Holds frags.old) to.now at.now.1 }
+    requires from { IsLocatedAt (F.content frags.old) (F.covers frags.old) (F.Holds frags.old) from.now at.now.0 }
+    requires to { IsLocatedAt (F.content frags.old) (F.covers frags.old) (F.Holds frags.old) to.now at.now.1 }
     requires reads { Reads (F.content frags.old) op.now from.now.dir.0 }
     requires leads { Reads (F.content frags.old) op.now to.now.dir.0 }
     requires inside { (inode : Node) → map.get (F.content frags.old) to.now ≡ Some inode → inode.kind ≡ Dir → Reads (F.content frags.old) op.now inode.ino.0 }
@@ -49,7 +49,7 @@ pub fn rename<F: Frags>(
     ensures err { IfErr result (Refuses (F.MayRefuse frags.old frags.new op.now)) }
     ensures numbers { IfErr result (λ reason. reason ≢ NoInodes) }
 {
-    let Some(inode) = frags.look(op, from, &at.0)? else {
+    let Some(inode) = frags.look(op, from, &at.0.at)? else {
         return Ok(Checked::Answers(Reply::Errno(ENOENT)))
     };
     if from.cmp(to).is_eq() {
@@ -58,16 +58,16 @@ pub fn rename<F: Frags>(
     if leads_to(frags, &inode, to.dir) {
         return Ok(Checked::Answers(Reply::Errno(EINVAL)));
     }
-    let replaced = frags.look(op, to, &at.1)?;
+    let replaced = frags.look(op, to, &at.1.at)?;
     if let Some(errno) = replace_errno(frags, op, &inode, replaced.as_ref())? {
         return Ok(Checked::Answers(Reply::Errno(errno)));
     }
-    if let Some(errno) = room_errno(frags, limit, from, to, replaced.as_ref()) {
+    if let Some(errno) = room_errno(limit, from, to, at.1.entries, replaced.as_ref()) {
         return Ok(Checked::Answers(Reply::Errno(errno)));
     }
     let gone = directory_of(replaced.as_ref());
-    let source = Spot::of(from, at.0)?;
-    let target = Spot::of(to, at.1)?;
+    let source = Spot::of(from, at.0.at)?;
+    let target = Spot::of(to, at.1.at)?;
     Ok(Checked::Changes(Change {
         takes: Some(source),
         puts: Some((target, inode)),

@@ -1,5 +1,5 @@
 //! Serving one operation.
-ghost use Rattle.std.specs.Prelude.{MatchResult, OnErr};
+ghost use Rattle.std.specs.Prelude.{MatchResult, OnErr, OnOk};
 ghost use Rattle.std.specs.List.{Contains};
 ghost use Rattle.std.specs.Result.{result_err};
 ghost use Rattle.mds_types.specs.Leaf.{Leaf};
@@ -9,13 +9,13 @@ ghost use Rattle.inode_table.specs.TreeChanges.{KeepLeaves};
 ghost use Rattle.namespace_ops.specs.Kept.{ChangesOnly, KeepsAll, OthersShowTheSame};
 ghost use Rattle.namespace_ops.specs.ChangedFragments.{changed_fragments};
 ghost use Rattle.namespace_ops.specs.Changes.{IsOffered};
+ghost use Rattle.namespace_ops.specs.Checked.{IsChecked};
 ghost use Rattle.namespace_ops.specs.Served.{IsServed, IsRefused};
 
 use crate::checking::check;
 use crate::frags::Frags;
 use crate::locating::locate;
-use crate::planning::plan_checked;
-use crate::plans::carry_out;
+use crate::plans::{Change, Checked};
 use mds_types::{Ino, Limit, Op, Rank, Refusal, Reply};
 use std::alloc::Global;
 
@@ -43,8 +43,43 @@ pub fn serve_op<F: Frags>(
     ensures kept { OnErr result (KeepsAll (F.content frags.old) (F.content frags.new) (F.covers frags.old) (F.covers frags.new) (F.Follows frags.old frags.new op.now (result_err result))) }
 {
     let places = locate(frags, Rank(0), op);
-    let checked = check(alloc, frags, limit, op, places, number.unwrap_or(Ino(0)))?;
-    let plan = plan_checked(frags, limit, op, checked, number)?;
-    carry_out(frags, plan.change);
-    Ok(plan.reply)
+    match check(alloc, frags, limit, op, places, number.unwrap_or(Ino(0)))? {
+        Checked::Answers(reply) => Ok(reply),
+        Checked::Changes(change) => make_change(frags, limit, op, change, number),
+    }
+}
+
+// Makes the change that the checks of an operation found, which had the same limit and were offered the same number.
+fn make_change<F: Frags>(
+    frags: &mut F,
+    limit: Limit,
+    op: &Op,
+    change: Change,
+    number: Option<Ino>,
+) -> Result<Reply, Refusal>
+    requires offered { IsOffered (F.content frags.old) F.IsNumber number }
+    requires checked { IsChecked (F.content frags.old) (F.covers frags.old) (F.Holds frags.old) op.now (number_or number) (step limit (F.content frags.old) op.now (number_or number)) change }
+    requires touch { (leaf : Leaf) → Contains (changed_fragments limit (F.covers frags.old) (F.content frags.old) op.now) leaf → F.MayTouch frags.old leaf }
+    ensures served { let outcome = step limit (F.content frags.old) op.now (number_or number) in
+        MatchResult result
+        (IsServed (F.content frags.new) outcome number)
+        (IsRefused (F.content frags.old) (F.content frags.new) (F.MayRefuse frags.old frags.new op.now) outcome number) }
+    ensures leaves { OnOk result (KeepLeaves (F.content frags.new) (F.covers frags.old) (F.covers frags.new)) }
+    ensures frame { OnOk result (ChangesOnly (F.Unchanged frags.old frags.new) (changed_fragments limit (F.covers frags.old) (F.content frags.old) op.now)) }
+    ensures others { OnOk result (IsWellFormed (F.content frags.old) → OthersShowTheSame (F.content frags.old) (F.content frags.new) (F.covers frags.old) (F.covers frags.new) (changed_fragments limit (F.covers frags.old) (F.content frags.old) op.now)) }
+    ensures kept { OnErr result (KeepsAll (F.content frags.old) (F.content frags.new) (F.covers frags.old) (F.covers frags.new) (F.Follows frags.old frags.new op.now (result_err result))) }
+{
+    if let Err(refusal) = change.number(number) {
+        drop(change);
+        return Err(refusal);
+    }
+    let Ok(reply) = change.reply() else {
+        drop(change);
+        return Err(Refusal::NoMemory);
+    };
+    if let Err(refusal) = frags.change(op, change) {
+        drop(reply);
+        return Err(refusal);
+    }
+    Ok(reply)
 }

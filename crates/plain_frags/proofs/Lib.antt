@@ -1,4 +1,3 @@
 pub mod Counted
-pub mod Frames
 pub mod Rows
 pub mod Unused

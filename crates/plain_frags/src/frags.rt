@@ -1,5 +1,5 @@
 //! Fragments kept in the plainest way: one ordered map of all entries.
-ghost use Rattle.std.specs.Prelude.{◌≡◌, ◌<◌, [], take, length, nat_lt, not, true, false, is_some, Some, IfOk, ◌↔◌};
+ghost use Rattle.std.specs.Prelude.{◌≡◌, ◌<◌, [], take, length, nat_lt, not, true, false, is_some, Some, IfErr, IfOk, OnOk, ◌↔◌};
 ghost use Rattle.std.specs.List.{list_any};
 ghost use Rattle.std.specs.Option.{option_copied};
 ghost use Rattle.std.specs.FinMap as map;
@@ -7,13 +7,17 @@ ghost use Rattle.sorted_map.specs.SortedMap.{contents};
 ghost use Rattle.mds_types.specs.Tree.{dentry_cmp, entries_in, has_entries, IsUnused};
 ghost use Rattle.mds_types.specs.Step.{names_after};
 ghost use Rattle.plain_frags.specs.Run.{run};
-ghost use Rattle.plain_frags.specs.PlainFrags.{Kept, is_numbered};
+ghost use Rattle.mds_types.specs.declared.refusals.Refusal.TheVariants.{NoMemory};
+ghost use Rattle.inode_table.specs.TreeChanges.{KeepLeaves};
+ghost use Rattle.namespace_ops.specs.Changes.{MayChange, changed, fragments_of};
+ghost use Rattle.namespace_ops.specs.Kept.{ChangesOnly};
+ghost use Rattle.plain_frags.specs.PlainFrags.{IsReady, Kept, LeafStays, is_numbered};
 
 use super::changes::{move_entry, put_entry, remove_entry};
 use super::listing::{count_rows, first_rows, next_in};
 use inode_table::Dirs;
 use mds_types::{Dentry, Dirfrag, Frag, Ino, Inode, Listing, Name, Op, PageSize, Rank, Refusal};
-use namespace_ops::{Change, Frags};
+use namespace_ops::{Change, Frags, Located};
 use sorted_map::{Iter, Probe, SortedMap};
 use std::alloc::{AllocError, Global};
 use std::cmp::Ordering;
@@ -127,7 +131,7 @@ impl Frags for PlainFrags {
     ghost use Rattle.std.proofs.Common.{◌∙◌};
     ghost use Rattle.mds_types.specs.declared.refusals.Refusal.TheVariants.{NoMemory};
     ghost use Rattle.namespace_ops.proofs.ReasonLaws.{refused_for_memory};
-    ghost use Rattle.plain_frags.specs.PlainFrags.{IsReady as IsReadyFor, KeepsShown, LeafStays};
+    ghost use Rattle.plain_frags.specs.PlainFrags.{KeepsShown, LeafStays};
     ghost use Rattle.namespace_ops.proofs.OtherLeaves.{kept_shows, shows_on};
 
     ghost content = { λ f. f.tree };
@@ -139,8 +143,6 @@ impl Frags for PlainFrags {
     ghost Holds = { λ f at. Unit {0} };
 
     ghost MayTouch = { λ f leaf. Unit {0} };
-
-    ghost IsReady = { λ f change. IsReadyFor f change };
 
     ghost Follows = { λ a b op told. KeepsShown a b };
 
@@ -178,19 +180,17 @@ impl Frags for PlainFrags {
         self.dirs.is_above(dir, below)
     }
 
-    fn count(&self, dir: Ino) -> u64 {
-        entries_of(&self.entries, dir) as u64
-    }
-
-    fn locate(&self, _rank: Rank, dir: Ino, hash: u32) -> Option<Dirfrag> {
-        let Some(at) = self.dirs.leaf_at(dir, hash) else {
+    fn locate(&self, _rank: Rank, dir: Ino, hash: u32) -> Option<Located> {
+        let Some(leaf) = self.dirs.leaf_at(dir, hash) else {
             return None;
         };
-        Some(Dirfrag {
+        let at = Dirfrag {
             dir,
-            frag: at.frag,
+            frag: leaf.frag,
             rank: Rank(0),
-        })
+        };
+        let entries = entries_of(&self.entries, dir) as u64;
+        Some(Located { at, entries })
     }
 
     fn leaves(&self, alloc: Global, dir: Ino) -> Result<Vec<Frag>, Refusal> {
@@ -221,7 +221,25 @@ impl Frags for PlainFrags {
         Ok(nothing_in(&self.entries, dir))
     }
 
-    fn ready(&mut self, _op: &Op, change: &Change) -> Result<(), Refusal> {
+    fn change(&mut self, _op: &Op, change: Change) -> Result<(), Refusal> {
+        if let Err(refusal) = self.ready(&change) {
+            drop(change);
+            return Err(refusal);
+        }
+        self.make(change);
+        Ok(())
+    }
+}
+
+impl PlainFrags {
+    // Makes every growth that a change needs.
+    fn ready(&mut self, change: &Change) -> Result<(), Refusal>
+        ensures ready { OnOk result (IsReady self.new change.now) }
+        ensures tree { self.new.tree ≡ self.old.tree }
+        ensures homes { self.new.homes ≡ self.old.homes }
+        ensures covers { self.new.covers ≡ self.old.covers }
+        ensures refused { IfErr result (λ reason. reason ≡ NoMemory) }
+    {
         match (&change.takes, &change.puts) {
             (None, Some((spot, inode))) => {
                 if change.comes {
@@ -241,7 +259,14 @@ impl Frags for PlainFrags {
         Ok(())
     }
 
-    fn change(&mut self, change: Change) {
+    // Makes a change for which there is room.
+    fn make(&mut self, change: Change)
+        requires ready { IsReady self.old change }
+        requires may { MayChange self.old.tree self.old.covers change }
+        ensures changed { self.new.tree ≡ changed self.old.tree change }
+        ensures leaves { KeepLeaves self.new.tree self.old.covers self.new.covers }
+        ensures frame { ChangesOnly (LeafStays self.old self.new) (fragments_of self.old.covers change) }
+    {
         let PlainFrags {
             entries,
             dirs,

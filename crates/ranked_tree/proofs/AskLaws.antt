@@ -9,7 +9,7 @@ use Rattle.mds_types.specs.Frag.{Fragment}
 use Rattle.mds_types.specs.Leaf.{Leaf, leaf_of}
 use Rattle.mds_types.specs.Tree.{is_directory}
 use Rattle.fragtree.specs.FragTree.{HasLeaf}
-use Rattle.export_steps.specs.Holder.{IsFrozen, holding}
+use Rattle.export_steps.specs.Holder.{holding}
 use Rattle.export_steps.specs.Standing.{Standing}
 use Rattle.inode_table.specs.Dirs.{IsLive, is_known, leaves_of}
 use Rattle.inode_table.proofs.TableLaws.{known_is}
@@ -28,7 +28,7 @@ use Rattle.mdcache.specs.State.{State as TreeState}
 use Rattle.mdcache.proofs.FragsLaws.{lacked_at, refused_later}
 use Rattle.subtree_map.specs.Authority.{Roots}
 use Rattle.ranked_tree.specs.Held.{AreHeldAt, LacksPlacesAsked, LacksPlacesDir, LacksPlacesFor, NamesBy, NamesDir}
-use Rattle.ranked_tree.specs.Ranked.{IsFrozenLeaf, KeepsRanked, MayRefuse, Ranked, held_roots}
+use Rattle.ranked_tree.specs.Ranked.{KeepsRanked, MayRefuse, Ranked, held_roots}
 use Rattle.ranked_tree.specs.Subtrees.{HoldsAt, Rules}
 
 -- what lacks at the rank that holds a leaf
@@ -58,12 +58,6 @@ refused_before a b roots leaf after reason kept (inr (inr (is, lacks))) = inr (i
 -- the rank that holds each region,
 pub held_still : (a b : Ranked) (op : Op) (told : Option Refusal) → KeepsRanked a b op told → held_roots b ≡ held_roots a
 held_still a b op told kept = ap (λ (r : Roots). holding b.exports r) kept.roots ∙ ap (λ (e : Standing). holding e a.subtrees.roots) kept.exports
-
--- and what isn't frozen
-pub thawed_still : (a b : Ranked) (op : Op) (told : Option Refusal) (leaf : Leaf) → KeepsRanked a b op told → (IsFrozenLeaf a leaf → ⊥) → IsFrozenLeaf b leaf → ⊥
-thawed_still a b op told leaf kept thawed frozen =
-    thawed (subst (λ (e : Standing). IsFrozen e a.subtrees.roots a.tree.homes a.tree.covers leaf) kept.exports
-    (subst (λ (r : Roots). IsFrozen b.exports r a.tree.homes a.tree.covers leaf) kept.roots (subst (λ (s : TreeState). IsFrozen b.exports b.subtrees.roots s.homes s.covers leaf) kept.tree.state frozen)))
 
 -- ---- why an operation is refused
 

@@ -1,5 +1,5 @@
 -- Whose a leaf is that was found.
-use Rattle.std.proofs.Common.{◌≡◌, ◌↔◌, ◌∙◌, ℕ, refl, sym, Bool, true, false, Option, Some, None, IsTrue, MatchOption, ap, subst}
+use Rattle.std.proofs.Common.{◌≡◌, ◌↔◌, ◌∙◌, ℕ, sym, Bool, true, false, Option, Some, None, IsTrue, MatchOption, ap, subst}
 use Rattle.std.proofs.lemmas.Option.{none-some, same_Some}
 use Rattle.mds_types.specs.declared.ids.Rank.{Rank}
 use Rattle.mds_types.specs.declared.ids.Ino.{Ino}
@@ -16,7 +16,7 @@ use Rattle.mdcache.specs.Shown.{shown_tree}
 use Rattle.ranked_tree.specs.Held.{IsOwned}
 use Rattle.ranked_tree.specs.Subtrees.{HoldsAt, Rules}
 use Rattle.namespace_ops.specs.Places.{IsAt}
-use Rattle.subtree_map.specs.Authority.{HasAuthority, IsLocated, Leaf, Roots}
+use Rattle.subtree_map.specs.Authority.{HasAuthority, Leaf, Roots}
 use Rattle.subtree_map.proofs.Nearest.{one_authority}
 
 -- whether the authority that was found is this rank
@@ -40,20 +40,25 @@ module _ (core : Core) (roots : Roots) (owned : IsOwned core roots) (dir : Ino) 
   pub nowhere : is_known homes dir.0 ≡ false → is_directory (shown_tree (state_of core)) dir.0 ≡ false
   nowhere none = sym (known_is (shown_tree (state_of core)) core.homes owned.sound.sound.tabled dir.0) ∙ subst (λ (hs : Homes). is_known hs dir.0 ≡ false) same none
 
-  -- it lies at a rank that is the authority of the leaf, as that is live
-  pub located : (frag : Fragment) (rank : Rank) (above : Option Home) → IsLeafAt homes covers dir.0 hash frag above → (IsLive core.homes core.covers (dir, frag) → Rules (state_of core) roots (dir, frag) rank)
-      → IsAt (shown_tree (state_of core)) core.covers (HoldsAt (state_of core) roots) dir.0 hash (record { dir = dir; frag = frag; rank = rank })
-  located frag rank above is held =
-      let known : is_known core.homes dir.0 ≡ true = subst (λ (hs : Homes). is_known hs dir.0 ≡ true) same is.known in
-      let pick : IsPick (leaves_of core.covers dir.0) hash frag = subst (λ (cs : Covers). IsPick (leaves_of cs dir.0) hash frag) alike is.pick in
-      record { dir = refl; stands = sym (known_is (shown_tree (state_of core)) core.homes owned.sound.sound.tabled dir.0) ∙ known; leaf = pick; held = held (record { known = known; stands = pick.stands }) }
+  module _ (frag : Fragment) (above : Option Home) (is : IsLeafAt homes covers dir.0 hash frag above) where
+    known : is_known core.homes dir.0 ≡ true
+    known = subst (λ (hs : Homes). is_known hs dir.0 ≡ true) same is.known
 
--- the authority of a leaf, found by the hash that its value is
-pub leaf_authority : (roots : Roots) (homes : Homes) (covers : Covers) (dir : Ino) (frag found : Fragment) (rank : Rank) → found ≡ frag → IsLocated roots homes covers dir frag.value found rank → IsLive homes covers (dir, frag) × HasAuthority roots homes covers (dir, frag) rank
-leaf_authority roots homes covers dir frag found rank same is = (
-  record { known = is.known; stands = subst (HasLeaf (leaves_of covers dir.0)) same is.pick.stands },
-  subst (λ (f : Fragment). HasAuthority roots homes covers (dir, f) rank) same is.has,
-)
+    pick : IsPick (leaves_of core.covers dir.0) hash frag
+    pick = subst (λ (cs : Covers). IsPick (leaves_of cs dir.0) hash frag) alike is.pick
+
+    -- the leaf is live
+    pub there_live : IsLive core.homes core.covers (dir, frag)
+    there_live = record { known = known; stands = pick.stands }
+
+    -- and it lies at the rank that holds it
+    pub located : (at : Dirfrag) → at.dir ≡ dir → at.frag ≡ frag → HoldsAt (state_of core) roots at → IsAt (shown_tree (state_of core)) core.covers (HoldsAt (state_of core) roots) dir.0 hash at
+    located at here this held = record {
+      dir = ap (λ (d : Ino). d.0) here;
+      stands = sym (known_is (shown_tree (state_of core)) core.homes owned.sound.sound.tabled dir.0) ∙ known;
+      leaf = subst (IsPick (leaves_of core.covers dir.0) hash) (sym this) pick;
+      held = held;
+    }
 
 -- a leaf is held by the rank at which it was found so
 module _ (core : Core) (roots : Roots) (owned : IsOwned core roots) (dir : Ino) (frag : Fragment) (at : Dirfrag) (is : IsAt (shown_tree (state_of core)) core.covers (HoldsAt (state_of core) roots) dir.0 frag.value at) where

@@ -7,21 +7,24 @@ use Rattle.sorted_map.proofs.NatKeys as nat
 use Rattle.inode_table.specs.Dirs.{Homes, MayGo, is_known}
 use Rattle.inode_table.specs.TreeTable.{with_home}
 use Rattle.inode_table.proofs.TableLaws.{known_is}
-use Rattle.dentry_cache.specs.Came.{Came}
-use Rattle.dentry_cache.proofs.FrameLaws.{came_weaker}
+use Rattle.dentry_cache.specs.Came.{Came, NoneEnds}
+use Rattle.dentry_cache.proofs.FrameLaws.{came_then, came_weaker}
+use Rattle.dentry_cache.proofs.ReadsLaws.{reads_came, reads_weaker}
 use Rattle.namespace_ops.specs.Changes.{MayChange, dentry_at}
 use Rattle.namespace_ops.proofs.Shapes.{Shape, shape_of}
 use Rattle.namespace_ops.proofs.Shapes.Shape.{add, move, remove, set}
 use Rattle.namespace_ops.specs.declared.plans.Change.{Change}
 use Rattle.subtree_map.specs.Authority.{Leaf, Roots}
 use Rattle.mdcache.specs.Changes.{Makes}
+use Rattle.mdcache.specs.Changing.{IsChanged}
 use Rattle.mdcache.specs.Core.{Core, state_of}
 use Rattle.mdcache.specs.Going.{rows_but}
 use Rattle.mdcache.specs.Ranks.{EndsWith, IsNamedIn}
 use Rattle.mdcache.specs.Shown.{shown_tree}
 use Rattle.mdcache.specs.Sound.{IsSound}
 use Rattle.mdcache.specs.State.{State as TreeState}
-use Rattle.ranked_tree.specs.Held.{AreHeldAt, AsksFor, CameFor, IsGone, NamesDir}
+use Rattle.ranked_tree.specs.Changing.{IsChangedHeld}
+use Rattle.ranked_tree.specs.Held.{AreHeldAt, AsksFor, IsGone, NamesDir}
 use Rattle.ranked_tree.proofs.ChangedTables.{moved_tables, removed_tables}
 use Rattle.ranked_tree.proofs.MoveLaws.{replaces}
 use Rattle.ranked_tree.proofs.ReadsForLaws.{asks_change}
@@ -47,11 +50,22 @@ gone_unknown _ (move source target inode went) old new sound may makes dir is =
     let tables = moved_tables old new source target inode went makes in
     subst (λ (h : Homes). is_known h dir.0 ≡ false) (sym tables.0) (row_gone (with_home old.homes (dentry_at target) inode) went dir (replaces old sound source target inode went may) is)
 
--- the leaves that a change names, each at its rank, and those of the directory that went
-pub came_for : (old new : Core) (roots : Roots) (change : Change) → IsSound (state_of old) → IsSound (state_of new) → MayChange (shown_tree (state_of old)) old.covers change → AreHeldAt (state_of old) roots change
-    → Makes change (state_of old) (state_of new) → Came (IsNamedIn change) (EndsWith change) old.caches new.caches → CameFor roots change old new
-came_for old new roots change sound now may holders makes came =
-    came_weaker (IsNamedIn change) (EndsWith change) (AsksFor (state_of old) roots (NamesDir change)) (IsGone (shown_tree (state_of new))) (asks_change old roots change sound may holders) gone old.caches new.caches came
+-- what a change that was made makes of the caches, with its reads
+pub whole_came : (change : Change) (old new : Core) → IsChanged change old new → Came (IsNamedIn change) (EndsWith change) old.caches new.caches
+whole_came change old new is =
+    came_then (IsNamedIn change) (EndsWith change) old.caches is.between new.caches
+    (came_weaker (IsNamedIn change) NoneEnds (IsNamedIn change) (EndsWith change) (λ r q uses. uses) (λ r q none. absurd none) old.caches is.between (reads_came (IsNamedIn change) NoneEnds old.objects old.caches is.between is.read)) is.came
+
+-- a change that was made names leaves of directories, each at its rank, and those of the directory that went
+pub changed_held : (old new : Core) (roots : Roots) (change : Change) → IsSound (state_of old) → IsSound (state_of new) → MayChange (shown_tree (state_of old)) old.covers change → AreHeldAt (state_of old) roots change
+    → IsChanged change old new → IsChangedHeld roots change old new
+changed_held old new roots change sound now may holders is = record {
+  made = is.made;
+  right = is.right;
+  between = is.between;
+  read = reads_weaker (IsNamedIn change) NoneEnds (AsksFor (state_of old) roots (NamesDir change)) NoneEnds (asks_change old roots change sound may holders) (λ r q none. none) old.objects old.caches is.between is.read;
+  came = came_weaker (IsNamedIn change) (EndsWith change) (AsksFor (state_of old) roots (NamesDir change)) (IsGone (shown_tree (state_of new))) (asks_change old roots change sound may holders) gone is.between new.caches is.came;
+}
   where
     gone : (r : ℕ) (q : Leaf) → EndsWith change r q → IsGone (shown_tree (state_of new)) r q
-    gone r q ends = sym (known_is (shown_tree (state_of new)) new.homes now.tabled q.0.0) ∙ gone_unknown change (shape_of (shown_tree (state_of old)) old.covers change may) (state_of old) (state_of new) sound may makes q.0 ends
+    gone r q ends = sym (known_is (shown_tree (state_of new)) new.homes now.tabled q.0.0) ∙ gone_unknown change (shape_of (shown_tree (state_of old)) old.covers change may) (state_of old) (state_of new) sound may is.made q.0 ends

@@ -1,29 +1,24 @@
 -- What calls for an operation keep, and why they are refused, in the words of the operation.
-use Rattle.std.specs.Prelude.{◌≡◌, ◌⊎◌, ℕ, Bool, true, false, Option, Some, None, Result, Ok, Err, IfErr}
+use Rattle.std.specs.Prelude.{◌≡◌, ◌⊎◌, ℕ, Bool, true, false, Option, Some, None, Result, Ok, Err, IfErr, OnErr, OnOk}
 use Rattle.std.proofs.Common.{inl, inr, refl, sym, ap, subst, ◌∙◌}
-use Rattle.std.specs.List.{Contains}
 use Rattle.std.specs.Result.{result_err}
 use Rattle.mds_types.specs.declared.ids.Ino.{Ino}
 use Rattle.mds_types.specs.declared.operations.Op.{Op}
 use Rattle.mds_types.specs.declared.refusals.Refusal.{Refusal}
-use Rattle.mds_types.specs.declared.refusals.Refusal.TheVariants.{NoMemory}
 use Rattle.mds_types.specs.Leaf.{leaf_of}
 use Rattle.mds_types.specs.Shape.{Shape, Looks, Lists, Makes, Sets, Unlinks, Removes, Moves, shape}
 use Rattle.mds_types.specs.Tree.{is_dir_kind, is_directory}
 use Rattle.mds_types.specs.declared.dirfrags.Dirfrag.{Dirfrag}
-use Rattle.objstore.specs.Objects.{faults_in}
-use Rattle.export_steps.specs.Holder.{IsFrozen, holding}
 use Rattle.fragtree.specs.FragTree.{IsPick}
 use Rattle.inode_table.specs.Dirs.{IsLive, leaves_of}
 use Rattle.namespace_ops.specs.Places.{IsAt}
-use Rattle.namespace_ops.specs.Changes.{Concerns, IsChangeIn, IsChangeOf, PutsAt, TakesAt, fragments_of}
+use Rattle.namespace_ops.specs.Changes.{Concerns, IsChangeIn, IsChangeOf, PutsAt, TakesAt}
 use Rattle.namespace_ops.specs.Kept.{KeepsAll}
 use Rattle.mds_types.specs.declared.dentries.Dentry.{Dentry}
 use Rattle.mds_types.specs.declared.inodes.Inode.{Inode}
 use Rattle.namespace_ops.specs.declared.plans.Change.{Change}
 use Rattle.namespace_ops.specs.declared.plans.Spot.{Spot}
-use Rattle.subtree_map.specs.Authority.{Leaf, Roots}
-use Rattle.subtree_map.specs.Changes.{Subtrees}
+use Rattle.subtree_map.specs.Authority.{Leaf}
 use Rattle.mdcache.specs.Core.{Core, state_of}
 use Rattle.mdcache.specs.Frags.{KeepsState, LacksBy, LacksForIn, LacksToMake}
 use Rattle.mdcache.specs.Reads.{MayNotFind}
@@ -31,12 +26,12 @@ use Rattle.mdcache.specs.Ready.{LacksNumbers, MayNotBeReady}
 use Rattle.mdcache.specs.Shown.{shown_tree}
 use Rattle.mdcache.specs.Sound.{IsSound}
 use Rattle.mdcache.specs.State.{State as TreeState}
-use Rattle.mdcache.proofs.FragsLaws.{keeps_refused}
 use Rattle.ranked_tree.specs.declared.regions.Regions.{Regions}
+use Rattle.ranked_tree.specs.Changing.{ChangesHeld, FollowsChange, IsChangedHeld}
 use Rattle.ranked_tree.specs.Exported.{held_in}
 use Rattle.ranked_tree.specs.Held.{LacksPlacesAsked, LacksPlacesDir, LacksPlacesFor, NamesDir, ReadsFor}
-use Rattle.ranked_tree.specs.Ranked.{IsFrozenLeaf, IsReady, IsReadyHeld, KeepsRanked, MayRefuse, Ranked, held_roots}
-use Rattle.ranked_tree.specs.Subtrees.{HasRoomFor, HoldsAt}
+use Rattle.ranked_tree.specs.Ranked.{KeepsRanked, MayRefuse, Ranked, held_roots}
+use Rattle.ranked_tree.specs.Subtrees.{HoldsAt}
 use Rattle.ranked_tree.proofs.HolderLaws.{pick_live}
 use Rattle.ranked_tree.proofs.AskLaws.{asked_dir, asked_for}
 use Rattle.ranked_tree.proofs.ReadsForLaws.{change_concerns, reads_less}
@@ -117,48 +112,52 @@ numbers_lack s (Unlinks dentry) change of lacks = lack_taken s dentry change.tak
 numbers_lack s (Removes dentry) change of lacks = lack_taken s dentry change.takes change.puts change.comes of.takes of.puts lacks
 numbers_lack s (Moves from to) change of lacks = lack_moved s from to _ change.takes change.puts change.comes of.takes of.puts lacks
 
--- ---- a change is made ready
+-- ---- a change
 
-module _ (tree new : Core) (regions : Regions) (now : Ranked) (is : over tree regions ≡ now) (op : Op) (change : Change) (of : IsChangeOf op change) where
-  -- it reads what the change names
-  pub keeps_named : (told : Option Refusal) → KeepsState tree new told → ReadsFor (held_in regions) (NamesDir change) tree new
-      → KeepsAll (shown_tree (state_of now.tree)) (shown_tree (state_of new)) now.tree.covers new.covers (KeepsRanked now (over new regions) op told)
-  keeps_named told kept reads = keeps_all tree new regions now is op (NamesDir change) told (λ d named. change_concerns (shown_tree (state_of now.tree)) (shape op) change of d named) kept reads
-
-  -- and why it may not be
-  pub ready_refused : (reason : Refusal) → MayNotBeReady (LacksToMake change (state_of tree)) (LacksPlacesAsked 2 tree (held_in regions) (NamesDir change)) tree.faults new.faults reason → MayRefuse now (over new regions) op reason
-  ready_refused reason h = subst (λ (n : Ranked). MayRefuse n (over new regions) op reason) is (go h)
+module _ (old new : Ranked) (op : Op) (change : Change) (of : IsChangeOf op change) (result : Result (Unit {0}) Refusal) (changes : ChangesHeld (held_roots old) change old.tree new.tree result) where
+  -- where it was made
+  pub where_made : {P : Type 0} → (IsChangedHeld (held_roots old) change old.tree new.tree → P) → OnOk result P
+  where_made {P} so = go result changes
     where
-      go : MayNotBeReady (LacksToMake change (state_of tree)) (LacksPlacesAsked 2 tree (held_in regions) (NamesDir change)) tree.faults new.faults reason → MayRefuse (over tree regions) (over new regions) op reason
-      go (inl (told, numbers)) = inr (inr (inr (told, numbers_lack (state_of tree) (shape op) change of numbers)))
-      go (inr (none, inl memory)) = inl memory
-      go (inr (none, inr (inl fault))) = inr (inl fault)
-      go (inr (none, inr (inr (told, (leaf, named, lacks))))) = inr (inr (inl (told, (leaf, change_concerns (shown_tree (state_of tree)) (shape op) change of leaf.0.0 named, lacks))))
+      go : (r : Result (Unit {0}) Refusal) → ChangesHeld (held_roots old) change old.tree new.tree r → OnOk r P
+      go (Ok done) is = so is
+      go (Err reason) is = tt
 
--- roots that were made ready with it, or for want of memory were not, are the same
-pub reserved_keeps : (now : Ranked) (new : Core) (regions : Regions) (after : Subtrees) (op : Op) (result : Result (Unit {0}) Refusal) → after.roots ≡ regions.roots.roots → IfErr result (λ reason. reason ≡ NoMemory)
-    → KeepsAll (shown_tree (state_of now.tree)) (shown_tree (state_of new)) now.tree.covers new.covers (KeepsRanked now (over new regions) op None)
-    → KeepsAll (shown_tree (state_of now.tree)) (shown_tree (state_of new)) now.tree.covers new.covers (KeepsRanked now (over new (record { roots = after; exports = regions.exports })) op (result_err result))
-reserved_keeps now new regions after op (Ok done) same err kept = record { tree = kept.tree; leaves = kept.leaves; follows = record { tree = kept.follows.tree; roots = same ∙ kept.follows.roots; exports = kept.follows.exports; reads = kept.follows.reads } }
-reserved_keeps now new regions after op (Err reason) same err kept = record {
-  tree = kept.tree;
-  leaves = kept.leaves;
-  follows = record { tree = keeps_refused now.tree new reason (ap faults_in err) kept.follows.tree; roots = same ∙ kept.follows.roots; exports = kept.follows.exports; reads = kept.follows.reads };
-}
+  -- where it wasn't, leaves of directories that the operation concerns were read
+  pub where_refused : FollowsChange change (state_of old.tree) old.subtrees new.subtrees result → new.exports ≡ old.exports
+      → OnErr result (KeepsAll (shown_tree (state_of old.tree)) (shown_tree (state_of new.tree)) old.tree.covers new.tree.covers (KeepsRanked old new op (result_err result)))
+  where_refused follows exports = go result changes follows
+    where
+      go : (r : Result (Unit {0}) Refusal) → ChangesHeld (held_roots old) change old.tree new.tree r → FollowsChange change (state_of old.tree) old.subtrees new.subtrees r
+          → OnErr r (KeepsAll (shown_tree (state_of old.tree)) (shown_tree (state_of new.tree)) old.tree.covers new.tree.covers (KeepsRanked old new op (result_err r)))
+      go (Ok done) is roots = tt
+      go (Err reason) is roots = record {
+        tree = ap (λ (s : TreeState). shown_tree s) is.0.state;
+        leaves = ap (λ (s : TreeState). s.covers) is.0.state;
+        follows = record {
+          tree = is.0;
+          roots = roots.0;
+          exports = exports;
+          reads = reads_less (held_roots old) (NamesDir change) (Concerns (shown_tree (state_of old.tree)) op) old.tree new.tree (λ d named. change_concerns (shown_tree (state_of old.tree)) (shape op) change of d named) is.1;
+        };
+      }
 
--- no leaf that a change names is frozen, where none was before it was made ready
-pub ready_held : (tree new : Core) (regions : Regions) (after : Subtrees) (now : Ranked) (is : over tree regions ≡ now) (change : Change) → after.roots ≡ regions.roots.roots → KeepsState tree new None → IsReadyHeld new (held_in regions) change
-    → ((leaf : Leaf) → Contains (fragments_of now.tree.covers change) leaf → IsFrozenLeaf now leaf → ⊥) → HasRoomFor change (state_of new) after.roots after.room → IsReady (over new (record { roots = after; exports = regions.exports })) change
-ready_held tree new regions after now is change same kept ready touch room = record {
-  tree = subst (λ (r : Roots). IsReadyHeld new (holding regions.exports r) change) (sym same) ready;
-  thawed = λ leaf has frozen.
-      before leaf (subst (λ (s : TreeState). Contains (fragments_of s.covers change) leaf) kept.state has)
-      (subst (λ (s : TreeState). IsFrozen regions.exports regions.roots.roots s.homes s.covers leaf) kept.state (subst (λ (r : Roots). IsFrozen regions.exports r new.homes new.covers leaf) same frozen));
-  roots = room;
-}
-  where
-    before : (leaf : Leaf) → Contains (fragments_of tree.covers change) leaf → IsFrozen regions.exports regions.roots.roots tree.homes tree.covers leaf → ⊥
-    before = subst (λ (n : Ranked). (leaf : Leaf) → Contains (fragments_of n.tree.covers change) leaf → IsFrozenLeaf n leaf → ⊥) (sym is) touch
+  -- and why it wasn't
+  pub because : IfErr result (MayRefuse old new op)
+  because = go result changes
+    where
+      why : (reason : Refusal) → MayNotBeReady (LacksToMake change (state_of old.tree)) (LacksPlacesAsked 2 old.tree (held_roots old) (NamesDir change)) old.tree.faults new.tree.faults reason → MayRefuse old new op reason
+      why reason (inl (told, numbers)) = inr (inr (inr (told, numbers_lack (state_of old.tree) (shape op) change of numbers)))
+      why reason (inr (none, inl memory)) = inl memory
+      why reason (inr (none, inr (inl fault))) = inr (inl fault)
+      why reason (inr (none, inr (inr (told, (leaf, named, lacks))))) = inr (inr (inl (told, (leaf, change_concerns (shown_tree (state_of old.tree)) (shape op) change of leaf.0.0 named, lacks))))
+
+      go : (r : Result (Unit {0}) Refusal) → ChangesHeld (held_roots old) change old.tree new.tree r → IfErr r (MayRefuse old new op)
+      go (Ok done) is = tt
+      go (Err reason) is = elim is.2 [
+        | inl memory ↦ inl memory
+        | inr ready ↦ why reason ready
+      ]
 
 -- a leaf where a hash falls is live
 pub found_live : (tree : Core) (regions : Regions) (now : Ranked) → over tree regions ≡ now → IsSound (state_of tree) → (at : Dirfrag) → (dir hash : ℕ) × IsAt (shown_tree (state_of now.tree)) now.tree.covers (HoldsAt (state_of now.tree) (held_roots now)) dir hash at

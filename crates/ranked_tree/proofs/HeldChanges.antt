@@ -34,7 +34,6 @@ use Rattle.mdcache.specs.Ranks.{EndsWith, IsNamedIn}
 use Rattle.mdcache.specs.Shown.{shown_tree}
 use Rattle.mdcache.specs.Sound.{IsSound}
 use Rattle.mdcache.specs.State.{State as TreeState}
-use Rattle.mdcache.proofs.CoreLaws.{keeps_place}
 use Rattle.mdcache.proofs.HomeLaws.{moved_known}
 use Rattle.ranked_tree.proofs.MoveLaws.{relocates, replaces}
 use Rattle.ranked_tree.specs.Held.{AreHeld, AreHeldAt, IsOwned}
@@ -197,7 +196,7 @@ module _ (old new : Core) (before after : Roots) (owned : IsOwned old before) (n
   pub change_held : (change : Change) → AreHeldAt (state_of old) before change → MayChange (shown_in old) old.covers change → Makes change (state_of old) (state_of new) → (change.comes ≡ true → after ≡ before) → HaveCaches after new.caches
       → Came (IsNamedIn change) (EndsWith change) old.caches new.caches → AreHeld (state_of new) new.caches after
   change_held change holders may makes follow have came =
-      held_after (state_of new) new.caches after have (keeps_place new now_sound)
+      held_after (state_of new) new.caches after have now_sound.none
       (λ leaf a is. go leaf a (now_sound.cached leaf a is).live (came_held (IsNamedIn change) (EndsWith change) old.caches new.caches came leaf a is))
     where
       go : (leaf : Leaf) (a : At) → IsLive new.homes new.covers leaf → (map.get old.caches.held leaf ≡ Some a) ⊎ IsNamedIn change a.rank leaf → Rules (state_of new) after leaf (record { 0 = a.rank })

@@ -1,10 +1,11 @@
 -- Each cached fragment stays at the rank that holds its leaf. Here the roots are those with the ranks that hold their regions.
-use Rattle.std.specs.Prelude.{◌≡◌, ◌<◌, ℕ, true, false, length, Option, Some, None}
-use Rattle.std.proofs.Common.{◌⊎◌, inl, inr, refl, sym, ap, subst, ◌∙◌}
+use Rattle.std.specs.Prelude.{◌≡◌, ◌<◌, ℕ, true, length, Option, Some, None}
+use Rattle.std.proofs.Common.{◌⊎◌, inl, inr, refl, sym, ap, subst}
 use Rattle.std.specs.FinMap as map
 use Rattle.mds_types.specs.declared.ids.Rank.{Rank}
 use Rattle.cached_frag.specs.Cached.{Cached}
 use Rattle.dentry_cache.specs.Cache.{IsThere}
+use Rattle.dentry_cache.specs.CacheCalls.{KeepsNone}
 use Rattle.dentry_cache.specs.CacheMap.{At, CacheMap, IsFree, has_place, here}
 use Rattle.dentry_cache.specs.Came.{Came, IsThat, NoneEnds}
 use Rattle.dentry_cache.proofs.FrameLaws.{came_held, came_ranks, came_weaker}
@@ -15,8 +16,7 @@ use Rattle.subtree_map.proofs.Nearest.{one_authority}
 use Rattle.mdcache.specs.Core.{Core, IsSoundCore, ReadsCore, state_of}
 use Rattle.mdcache.specs.Ranks.{MayHold}
 use Rattle.mdcache.specs.State.{State as TreeState}
-use Rattle.mdcache.proofs.CoreLaws.{keeps_place, reads_state}
-use Rattle.mdcache.proofs.NoneLaws.{KeepsPlace}
+use Rattle.mdcache.proofs.CoreLaws.{reads_state}
 use Rattle.ranked_tree.specs.Held.{AreHeld, IsOwned, UsedAt, UsesAt}
 use Rattle.ranked_tree.specs.Subtrees.{Rules}
 
@@ -33,28 +33,24 @@ module _ (tree : TreeState) (caches : CacheMap) (roots : Roots) (held : AreHeld 
       alone_at None is = tt
       alone_at (Some a) is = ap (λ (r : Rank). r.0) (one_authority roots tree.homes tree.covers leaf (record { 0 = a.rank }) rank (held.cached leaf a is) rules)
 
--- the directory of a place that is kept isn't there, so each place of a live leaf is that of its fragment
-pub placed_at : (tree : TreeState) (caches : CacheMap) (roots : Roots) (kept : Option (Rank × Leaf)) → KeepsPlace tree.homes kept caches → ((leaf : Leaf) (a : At) → map.get caches.held leaf ≡ Some a → Rules tree roots leaf (record { 0 = a.rank }))
+-- each place is that of a cached fragment
+pub placed_at : (tree : TreeState) (caches : CacheMap) (roots : Roots) → KeepsNone caches → ((leaf : Leaf) (a : At) → map.get caches.held leaf ≡ Some a → Rules tree roots leaf (record { 0 = a.rank }))
     → (r : ℕ) (leaf : Leaf) → has_place caches r leaf ≡ true → IsLive tree.homes tree.covers leaf → Rules tree roots leaf (record { 0 = r })
-placed_at tree caches roots kept places cached r leaf placed live = go (places.only r leaf placed)
+placed_at tree caches roots none cached r leaf placed live = of_frag (here caches r leaf) refl (none r leaf placed)
   where
     of_frag : (o : Option Cached) → here caches r leaf ≡ o → IsThere o → Rules tree roots leaf (record { 0 = r })
     of_frag None is h = absurd h
     of_frag (Some f) is h = cached leaf (record { rank = r; frag = f }) (here_is r (map.get caches.held leaf) f is)
 
-    go : IsThere (here caches r leaf) ⊎ ((map.get caches.held leaf ≡ None) × (kept ≡ Some (record { 0 = r }, leaf))) → Rules tree roots leaf (record { 0 = r })
-    go (inl there) = of_frag (here caches r leaf) refl there
-    go (inr none) = let clash : true ≡ false = sym live.known ∙ places.coming r leaf (placed, none.0) in absurd cc
-
 -- the ranks of roots have caches
 abbrev pub HaveCaches : Roots → CacheMap → Type 0
 HaveCaches roots caches = (leaf : Leaf) (rank : Rank) → map.get roots leaf ≡ Some rank → rank.0 < length caches.used
 
-pub held_after : (new : TreeState) (later : CacheMap) (after : Roots) → HaveCaches after later → {kept : Option (Rank × Leaf)} → KeepsPlace new.homes kept later
+pub held_after : (new : TreeState) (later : CacheMap) (after : Roots) → HaveCaches after later → KeepsNone later
     → ((leaf : Leaf) (a : At) → map.get later.held leaf ≡ Some a → Rules new after leaf (record { 0 = a.rank })) → AreHeld new later after
-held_after new later after ranks {kept} places cached = record {
+held_after new later after ranks none cached = record {
   cached = cached;
-  placed = placed_at new later after kept places cached;
+  placed = placed_at new later after none cached;
   ranks = ranks;
 }
 
@@ -82,7 +78,7 @@ module _ (Uses Ends : ℕ → Leaf → Type 0) (old new : Core) (roots : Roots) 
   owned_came = record {
     sound = sound;
     valid = rw (homes, covers) owned.valid;
-    held = held_after (state_of new) new.caches roots (still_have (state_of old) old.caches new.caches roots owned.held (came_ranks Uses Ends old.caches new.caches came)) (keeps_place new sound)
+    held = held_after (state_of new) new.caches roots (still_have (state_of old) old.caches new.caches roots owned.held (came_ranks Uses Ends old.caches new.caches came)) sound.none
         (λ leaf a is. rw (homes, covers) (at leaf a is (came_held Uses Ends old.caches new.caches came leaf a is)));
   }
 
@@ -103,6 +99,6 @@ pub owned_same : (old new : Core) (roots : Roots) → new.homes ≡ old.homes �
 owned_same old new roots homes covers caches sound owned = record {
   sound = sound;
   valid = rw (homes, covers) owned.valid;
-  held = held_after (state_of new) new.caches roots (still_have (state_of old) old.caches new.caches roots owned.held (ap (λ (k : CacheMap). length k.used) caches)) (keeps_place new sound)
+  held = held_after (state_of new) new.caches roots (still_have (state_of old) old.caches new.caches roots owned.held (ap (λ (k : CacheMap). length k.used) caches)) sound.none
       (λ leaf a is. rw (homes, covers) (owned.held.cached leaf a (rw (← caches) is)));
 }

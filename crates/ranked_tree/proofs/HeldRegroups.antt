@@ -13,7 +13,7 @@ use Rattle.fragtree.proofs.Ranges.{range_from_inside}
 use Rattle.inode_table.specs.Dirs.{IsLive, is_known, leaves_of}
 use Rattle.inode_table.proofs.Tables.{tree_of_row}
 use Rattle.dentry_cache.specs.CacheMap.{At, CacheMap}
-use Rattle.dentry_cache.specs.CacheSplits.{IsFamilyAt, IsKeptFor}
+use Rattle.dentry_cache.specs.CacheSplits.{IsFamilyAt}
 use Rattle.dentry_cache.specs.Came.{Came}
 use Rattle.dentry_cache.proofs.FrameLaws.{came_held, came_weaker}
 use Rattle.namespace_ops.specs.Changes.{in_directory}
@@ -29,11 +29,9 @@ use Rattle.mdcache.specs.Regroups.{MayNotRegroup, RefusesLeaves}
 use Rattle.mdcache.specs.SplitsAndMerges.{MergesLeaves, SplitsLeaf}
 use Rattle.mdcache.specs.Sound.{IsSound}
 use Rattle.mdcache.specs.State.{State as TreeState}
-use Rattle.mdcache.proofs.CoreLaws.{keeps_place}
 use Rattle.mdcache.proofs.JoinLaws.{from_mapped}
-use Rattle.mdcache.proofs.NoneLaws.{KeepsPlace}
 use Rattle.mdcache.proofs.SplitLaws.{has_inside}
-use Rattle.ranked_tree.specs.Held.{AreHeld, CameAt, EndsOf, IsFamilyOf, IsMergedHere, IsOwned, UsedAt}
+use Rattle.ranked_tree.specs.Held.{AreHeld, CameAt, IsFamilyOf, IsMergedHere, IsOwned, UsedAt}
 use Rattle.ranked_tree.specs.Subtrees.{AllHave, AreRoots, GivesToChildren, KeepsAuthorities, Rules, TakesOver}
 use Rattle.ranked_tree.proofs.HeldLaws.{HaveCaches, held_after, may_hold, still_have}
 
@@ -98,23 +96,19 @@ all_as_one s roots dir frag rank one sound valid alike within lives rules leaf l
 -- ---- which fragments come
 
 pub family_came : (s : TreeState) (roots : Roots) (rank : Rank) (dir : Ino) (frag : Fragment) (nb : ℕ) → Rules s roots (dir, frag) rank → (old new : CacheMap)
-    → Came (IsFamilyAt rank.0 dir frag nb) (λ (r : ℕ) (q : Leaf). IsKeptFor old r q ⊎ IsFamilyAt rank.0 dir frag nb r q) old new → CameAt (Rules s roots (dir, frag)) (IsFamilyOf dir frag nb) old new
+    → Came (IsFamilyAt rank.0 dir frag nb) (IsFamilyAt rank.0 dir frag nb) old new → CameAt (Rules s roots (dir, frag)) (IsFamilyOf dir frag nb) old new
 family_came s roots rank dir frag nb rules old new came =
-    came_weaker (IsFamilyAt rank.0 dir frag nb) (λ (r : ℕ) (q : Leaf). IsKeptFor old r q ⊎ IsFamilyAt rank.0 dir frag nb r q) (UsedAt (Rules s roots (dir, frag)) (IsFamilyOf dir frag nb)) (EndsOf old (IsFamilyOf dir frag nb)) used ended old new came
+    came_weaker (IsFamilyAt rank.0 dir frag nb) (IsFamilyAt rank.0 dir frag nb) (UsedAt (Rules s roots (dir, frag)) (IsFamilyOf dir frag nb)) (λ r q. IsFamilyOf dir frag nb q) used (λ r q it. (used r q it).1) old new came
   where
     used : (r : ℕ) (q : Leaf) → IsFamilyAt rank.0 dir frag nb r q → UsedAt (Rules s roots (dir, frag)) (IsFamilyOf dir frag nb) r q
     used r q (inl it) = (subst (λ (n : ℕ). Rules s roots (dir, frag) (record { 0 = n })) (sym it.0) rules, inl it.1)
     used r q (inr child) = (subst (λ (n : ℕ). Rules s roots (dir, frag) (record { 0 = n })) (sym child.0) rules, inr (child.1, child.2, child.3))
 
-    ended : (r : ℕ) (q : Leaf) → IsKeptFor old r q ⊎ IsFamilyAt rank.0 dir frag nb r q → EndsOf old (IsFamilyOf dir frag nb) r q
-    ended r q (inl kept) = inl kept
-    ended r q (inr it) = inr (used r q it).1
-
 pub merged_came : (core : Core) (roots : Roots) (rank : Rank) (dir : Ino) (frag : Fragment) → AllHave core.homes core.covers roots dir frag rank → (new : CacheMap)
-    → Came (IsAmongOr rank.0 (ending_at core (record { dir = dir; frag = frag; rank = rank })) (dir, frag)) (λ (r : ℕ) (q : Leaf). IsKeptFor core.caches r q ⊎ Contains (ending_at core (record { dir = dir; frag = frag; rank = rank })) q) core.caches new
+    → Came (IsAmongOr rank.0 (ending_at core (record { dir = dir; frag = frag; rank = rank })) (dir, frag)) (λ (r : ℕ) (q : Leaf). Contains (ending_at core (record { dir = dir; frag = frag; rank = rank })) q) core.caches new
     → CameAt (AllHave core.homes core.covers roots dir frag) (IsMergedHere core.covers dir frag) core.caches new
 merged_came core roots rank dir frag all new came =
-    came_weaker (IsAmongOr rank.0 ending (dir, frag)) (λ (r : ℕ) (q : Leaf). IsKeptFor core.caches r q ⊎ Contains ending q) (UsedAt (AllHave core.homes core.covers roots dir frag) (IsMergedHere core.covers dir frag)) (EndsOf core.caches (IsMergedHere core.covers dir frag)) used ended core.caches new came
+    came_weaker (IsAmongOr rank.0 ending (dir, frag)) (λ (r : ℕ) (q : Leaf). Contains ending q) (UsedAt (AllHave core.homes core.covers roots dir frag) (IsMergedHere core.covers dir frag)) (λ r q. IsMergedHere core.covers dir frag q) used (λ r q contains. inl contains) core.caches new came
   where
     ending : List Leaf
     ending = ending_at core (record { dir = dir; frag = frag; rank = rank })
@@ -122,10 +116,6 @@ merged_came core roots rank dir frag all new came =
     used : (r : ℕ) (q : Leaf) → IsAmongOr rank.0 ending (dir, frag) r q → UsedAt (AllHave core.homes core.covers roots dir frag) (IsMergedHere core.covers dir frag) r q
     used r q (inl among) = (subst (λ (n : ℕ). AllHave core.homes core.covers roots dir frag (record { 0 = n })) (sym among.0) all, inl among.1)
     used r q (inr it) = (subst (λ (n : ℕ). AllHave core.homes core.covers roots dir frag (record { 0 = n })) (sym it.0) all, inr it.1)
-
-    ended : (r : ℕ) (q : Leaf) → IsKeptFor core.caches r q ⊎ Contains ending q → EndsOf core.caches (IsMergedHere core.covers dir frag) r q
-    ended r q (inl kept) = inl kept
-    ended r q (inr contains) = inr (inl contains)
 
 -- ---- what is cached afterwards
 
@@ -136,7 +126,7 @@ module _ (old new : Core) (before after : Roots) (owned : IsOwned old before) (c
   -- a leaf was split
   module _ (nb : ℕ) (live : IsLive old.homes old.covers (dir, frag)) (came : CameAt (Rules (state_of old) before (dir, frag)) (IsFamilyOf dir frag nb) old.caches new.caches) where
     pub split_held : KeepsAuthorities (state_of old) (state_of new) before after → HaveCaches after new.caches → GivesToChildren (state_of old) (state_of new) before after dir frag nb → AreHeld (state_of new) new.caches after
-    split_held keeps have gives = held_after (state_of new) new.caches after have (keeps_place new now_sound) (λ leaf a is. go leaf a (now_sound.cached leaf a is).live (came_held (UsedAt (Rules (state_of old) before (dir, frag)) (IsFamilyOf dir frag nb)) (EndsOf old.caches (IsFamilyOf dir frag nb)) old.caches new.caches came leaf a is))
+    split_held keeps have gives = held_after (state_of new) new.caches after have now_sound.none (λ leaf a is. go leaf a (now_sound.cached leaf a is).live (came_held (UsedAt (Rules (state_of old) before (dir, frag)) (IsFamilyOf dir frag nb)) (λ r q. IsFamilyOf dir frag nb q) old.caches new.caches came leaf a is))
       where
         of_family : (rank : Rank) (leaf : Leaf) → IsLive new.homes new.covers leaf → Rules (state_of old) before (dir, frag) rank → IsFamilyOf dir frag nb leaf → Rules (state_of new) after leaf rank
         of_family rank leaf lives rules (inl same) = keeps leaf rank (subst (IsLive old.homes old.covers) (sym same) live) lives (subst (λ (l : Leaf). Rules (state_of old) before l rank) (sym same) rules)
@@ -150,8 +140,8 @@ module _ (old new : Core) (before after : Roots) (owned : IsOwned old before) (c
     pub unsplit_held : state_of new ≡ state_of old → after ≡ before → FitsSplit frag nb → AreHeld (state_of new) new.caches after
     unsplit_held same still fits =
         subst (λ (s : TreeState). AreHeld s new.caches after) (sym same) (subst (λ (r : Roots). AreHeld (state_of old) new.caches r) (sym still)
-        (held_after (state_of old) new.caches before (still_have (state_of old) old.caches new.caches before owned.held count) (subst (λ (s : TreeState). KeepsPlace s.homes new.kept new.caches) same (keeps_place new now_sound))
-        (λ leaf a is. go leaf a (subst (λ (s : TreeState). IsLive s.homes s.covers leaf) same (now_sound.cached leaf a is).live) (came_held (UsedAt (Rules (state_of old) before (dir, frag)) (IsFamilyOf dir frag nb)) (EndsOf old.caches (IsFamilyOf dir frag nb)) old.caches new.caches came leaf a is))))
+        (held_after (state_of old) new.caches before (still_have (state_of old) old.caches new.caches before owned.held count) now_sound.none
+        (λ leaf a is. go leaf a (subst (λ (s : TreeState). IsLive s.homes s.covers leaf) same (now_sound.cached leaf a is).live) (came_held (UsedAt (Rules (state_of old) before (dir, frag)) (IsFamilyOf dir frag nb)) (λ r q. IsFamilyOf dir frag nb q) old.caches new.caches came leaf a is))))
       where
         of_family : (rank : Rank) (leaf : Leaf) → IsLive old.homes old.covers leaf → Rules (state_of old) before (dir, frag) rank → IsFamilyOf dir frag nb leaf → Rules (state_of old) before leaf rank
         of_family rank leaf lives rules (inl here) = subst (λ (l : Leaf). Rules (state_of old) before l rank) (sym here) rules
@@ -166,7 +156,7 @@ module _ (old new : Core) (before after : Roots) (owned : IsOwned old before) (c
   -- leaves were merged
   module _ (known : is_known old.homes dir.0 ≡ true) (can : CanMerge (leaves_of old.covers dir.0) frag) (came : CameAt (AllHave old.homes old.covers before dir frag) (IsMergedHere old.covers dir frag) old.caches new.caches) where
     pub merge_held : KeepsAuthorities (state_of old) (state_of new) before after → HaveCaches after new.caches → TakesOver (state_of old) (state_of new) before after dir frag → AreHeld (state_of new) new.caches after
-    merge_held keeps have takes = held_after (state_of new) new.caches after have (keeps_place new now_sound) (λ leaf a is. go leaf a (now_sound.cached leaf a is).live (came_held (UsedAt (AllHave old.homes old.covers before dir frag) (IsMergedHere old.covers dir frag)) (EndsOf old.caches (IsMergedHere old.covers dir frag)) old.caches new.caches came leaf a is))
+    merge_held keeps have takes = held_after (state_of new) new.caches after have now_sound.none (λ leaf a is. go leaf a (now_sound.cached leaf a is).live (came_held (UsedAt (AllHave old.homes old.covers before dir frag) (IsMergedHere old.covers dir frag)) (λ r q. IsMergedHere old.covers dir frag q) old.caches new.caches came leaf a is))
       where
         of_merged : (rank : Rank) (leaf : Leaf) → IsLive new.homes new.covers leaf → AllHave old.homes old.covers before dir frag rank → IsMergedHere old.covers dir frag leaf → Rules (state_of new) after leaf rank
         of_merged rank leaf lives all (inl contains) = let its = inside_live (state_of old) dir frag known leaf contains in keeps leaf rank its.0 lives (all leaf its.0 its.1)
@@ -180,8 +170,8 @@ module _ (old new : Core) (before after : Roots) (owned : IsOwned old before) (c
     pub unmerged_held : state_of new ≡ state_of old → after ≡ before → AreHeld (state_of new) new.caches after
     unmerged_held same still =
         subst (λ (s : TreeState). AreHeld s new.caches after) (sym same) (subst (λ (r : Roots). AreHeld (state_of old) new.caches r) (sym still)
-        (held_after (state_of old) new.caches before (still_have (state_of old) old.caches new.caches before owned.held count) (subst (λ (s : TreeState). KeepsPlace s.homes new.kept new.caches) same (keeps_place new now_sound))
-        (λ leaf a is. go leaf a (subst (λ (s : TreeState). IsLive s.homes s.covers leaf) same (now_sound.cached leaf a is).live) (came_held (UsedAt (AllHave old.homes old.covers before dir frag) (IsMergedHere old.covers dir frag)) (EndsOf old.caches (IsMergedHere old.covers dir frag)) old.caches new.caches came leaf a is))))
+        (held_after (state_of old) new.caches before (still_have (state_of old) old.caches new.caches before owned.held count) now_sound.none
+        (λ leaf a is. go leaf a (subst (λ (s : TreeState). IsLive s.homes s.covers leaf) same (now_sound.cached leaf a is).live) (came_held (UsedAt (AllHave old.homes old.covers before dir frag) (IsMergedHere old.covers dir frag)) (λ r q. IsMergedHere old.covers dir frag q) old.caches new.caches came leaf a is))))
       where
         of_merged : (rank : Rank) (leaf : Leaf) → IsLive old.homes old.covers leaf → AllHave old.homes old.covers before dir frag rank → IsMergedHere old.covers dir frag leaf → Rules (state_of old) before leaf rank
         of_merged rank leaf lives all (inl contains) = let its = inside_live (state_of old) dir frag known leaf contains in all leaf its.0 its.1

@@ -1,6 +1,7 @@
 -- The leaves that a change names, and the ranks that hold them.
 use Rattle.std.specs.Prelude.{◌≡◌, ◌||◌, ℕ, true, false, is_some, Option, Some, None, IfSome}
 use Rattle.std.proofs.Common.{inl, inr, sym, subst, ◌∙◌}
+use Rattle.std.proofs.lemmas.Option.{same_Some}
 use Rattle.std.specs.FinMap as map
 use Rattle.mds_types.specs.declared.dentries.Dentry.{Dentry}
 use Rattle.mds_types.specs.declared.ids.Ino.{Ino}
@@ -66,6 +67,25 @@ module _ (s : TreeState) (sound : IsSound s) where
 
   pub target_live : (source target : Spot) (inode : Inode) (went : Option Ino) → MayChange (shown_tree s) s.covers (moves source target inode went) → IsLive s.homes s.covers (leaf_of target.at)
   target_live source target inode went may = spot_live target may.takes.parent may.carries.put
+
+  -- so is the leaf of a name that goes, and that of one that gets an inode
+  pub taken_live : (change : Change) → MayChange (shown_tree s) s.covers change → (from : Spot) → change.takes ≡ Some from → IsLive s.homes s.covers (leaf_of from.at)
+  taken_live change may from is = go change (shape_of (shown_tree s) s.covers change may) may is
+    where
+      go : (made : Change) → Shape made → MayChange (shown_tree s) s.covers made → made.takes ≡ Some from → IsLive s.homes s.covers (leaf_of from.at)
+      go _ (add spot inode) able takes = let clash : None ≡ Some from = takes in absurd cc
+      go _ (set spot inode) able takes = let clash : None ≡ Some from = takes in absurd cc
+      go _ (remove spot went) able takes = subst (λ (p : Spot). IsLive s.homes s.covers (leaf_of p.at)) (same_Some spot from takes) (removed_live spot went able)
+      go _ (move source target inode went) able takes = subst (λ (p : Spot). IsLive s.homes s.covers (leaf_of p.at)) (same_Some source from takes) (source_live source target inode went able)
+
+  pub put_live : (change : Change) → MayChange (shown_tree s) s.covers change → (put : Spot × Inode) → change.puts ≡ Some put → IsLive s.homes s.covers (leaf_of put.0.at)
+  put_live change may put is = go change (shape_of (shown_tree s) s.covers change may) may is
+    where
+      go : (made : Change) → Shape made → MayChange (shown_tree s) s.covers made → made.puts ≡ Some put → IsLive s.homes s.covers (leaf_of put.0.at)
+      go _ (add spot inode) able puts = subst (λ (p : Spot × Inode). IsLive s.homes s.covers (leaf_of p.0.at)) (same_Some (spot, inode) put puts) (added_live spot inode able)
+      go _ (set spot inode) able puts = subst (λ (p : Spot × Inode). IsLive s.homes s.covers (leaf_of p.0.at)) (same_Some (spot, inode) put puts) (set_live spot inode able)
+      go _ (remove spot went) able puts = let clash : None ≡ Some put = puts in absurd cc
+      go _ (move source target inode went) able puts = subst (λ (p : Spot × Inode). IsLive s.homes s.covers (leaf_of p.0.at)) (same_Some (target, inode) put puts) (target_live source target inode went able)
 
   -- the leaf of a directory that comes isn't live
   pub new_is_not_live : (spot : Spot) (inode : Inode) → MayChange (shown_tree s) s.covers (adds spot inode) → IsLive s.homes s.covers (first_leaf inode.ino) → ⊥

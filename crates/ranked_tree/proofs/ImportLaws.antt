@@ -1,7 +1,6 @@
 -- What Import makes of a tree that is divided among ranks: the importer of a sent region holds it, and has what isn't clean of it.
 use Rattle.export_regions.proofs.ManyLaws.{all_so}
 use Rattle.export_regions.proofs.NameLaws.{how_many}
-use Rattle.dentry_cache.specs.Reads.{IsReadOf}
 use Rattle.std.proofs.lemmas.Bool.Decides.{nat_tests}
 use Rattle.std.proofs.lemmas.Bool.{and_parts}
 use Rattle.std.proofs.lemmas.Option.{same_Some}
@@ -20,13 +19,11 @@ use Rattle.mds_types.proofs.LeafLaws.{same_or_apart}
 use Rattle.cached_frag.specs.declared.jobs.Job.{Job}
 use Rattle.cached_frag.specs.Cached.{Cached, is_clean}
 use Rattle.dentry_cache.specs.Cache.{Unsaved, leaf_is}
-use Rattle.dentry_cache.specs.CacheCalls.{KeepsNone, unclean_in}
+use Rattle.dentry_cache.specs.CacheCalls.{unclean_in}
 use Rattle.dentry_cache.specs.CacheMap.{AreCaches, At, CacheMap, at, at_rank, clean_in, here, order, unclean}
-use Rattle.dentry_cache.specs.CacheSplits.{IsKeptFor}
 use Rattle.dentry_cache.specs.Handing.{AreCleanAt, AreUncleanAt, HandsOver, MayNotHandOver, handed, moved_all}
 use Rattle.dentry_cache.proofs.HandedLaws.{handed_where, wants_from}
 use Rattle.dentry_cache.proofs.MoveLaws.{all_left_at, left_by}
-use Rattle.dentry_cache.proofs.ReadsLaws.{reads_held}
 use Rattle.export_bytes.specs.declared.exports.Export.{Export}
 use Rattle.export_bytes.specs.declared.exports.SentFrag.{SentFrag}
 use Rattle.export_bytes.specs.Export.{SpellsExport, export_bytes, is_base_of, is_frag_before, is_name_before, is_sendable, is_sent_frag, is_sent_name, rise}
@@ -48,26 +45,22 @@ use Rattle.subtree_map.specs.Authority.{Leaf, NearestRoot}
 use Rattle.subtree_map.specs.Changes.{Subtrees}
 use Rattle.subtree_map.proofs.Nearest.{one_authority, one_root}
 use Rattle.subtree_map.proofs.Options.{one_value}
-use Rattle.mdcache.specs.Core.{Core, IsSoundCore, LacksPlacesAt, ReadsCore, state_of}
-use Rattle.mdcache.specs.Frags.{KeepsState}
+use Rattle.mdcache.specs.Core.{Core, IsSoundCore, LacksPlacesAt, state_of}
 use Rattle.mdcache.specs.Given.{HaveNoJobs, IsGivenOver}
-use Rattle.mdcache.specs.Ranks.{NoneUsed}
 use Rattle.mdcache.specs.State.{State as TreeState}
-use Rattle.mdcache.proofs.CoreLaws.{keeps_place, reads_keeps, reads_state}
-use Rattle.mdcache.proofs.FragsLaws.{lacked_at}
 use Rattle.mdcache.proofs.UncleanOf.{few_lack}
 use Rattle.ranked_tree.specs.declared.regions.Regions.{Regions}
 use Rattle.ranked_tree.specs.Exported.{IsDivided, StandSoundly, held_in}
-use Rattle.ranked_tree.specs.Importing.{ComeToImporter, HandsRegion, Imports, IsRenewed, IsSpelledBy, KeepsRegion, MayNotImport, StaysAtOnce, Takes, TakesAtOnce, imported_unsaved}
+use Rattle.ranked_tree.specs.Importing.{ComeToImporter, HandsRegion, Imports, IsRenewed, IsSpelledBy, KeepsRegion, MayNotImport, Takes, imported_unsaved}
 use Rattle.ranked_tree.specs.Sending.{IsInRegionOf, SpellsRegion}
 use Rattle.ranked_tree.specs.Subtrees.{KeepsOutside}
-use Rattle.ranked_tree.proofs.HeldLaws.{held_after, owned_reads}
+use Rattle.ranked_tree.proofs.HeldLaws.{held_after}
 use Rattle.ranked_tree.proofs.SendLaws.{region_held, region_here, have_versions}
 use Rattle.ranked_tree.proofs.StandLaws.{divided_still, held_bound, same_jobs}
 use Rattle.ranked_tree.proofs.StepLaws.{AreThere, step_there}
 use Rattle.ranked_tree.proofs.SubtreeLaws.{over}
 
--- ---- the region of a sent export, where no place is kept
+-- ---- the region of a sent export
 
 module _ (core : Core) (regions : Regions) (divided : IsDivided core regions) (root : Leaf) (export : StandingExport) (stands : map.get regions.exports root ≡ Some export) (sent : export.state ≡ Sent) where
   abbrev In : Leaf → Type 0
@@ -266,23 +259,25 @@ module _ (core : Core) (regions : Regions) (root : Leaf) (export : StandingExpor
       (subst (λ (k : CacheMap). HasTooMany (InAt core.homes core.covers) (unclean k)) these
       (over (λ (h : Homes) (cs : Covers). HasTooMany (InAt h cs) (unclean caches)) core.homes homes core.covers covers (sym same) (sym alike) many))
 
--- ---- the region is taken, where no place is kept
+-- ---- the region is taken
 
-module _ (core new : Core) (regions : Regions) (divided : IsDivided core regions) (none : KeepsNone core.caches) (root : Leaf) (export : StandingExport) (stands : map.get regions.exports root ≡ Some export) (sent : export.state ≡ Sent) (apart : export.exporter.0 ≢ export.importer.0)
+module _ (core new : Core) (regions : Regions) (divided : IsDivided core regions) (root : Leaf) (export : StandingExport) (stands : map.get regions.exports root ≡ Some export) (sent : export.state ≡ Sent) (apart : export.exporter.0 ≢ export.importer.0)
     (bytes : List ℕ) (leaves : RegionLeaves) (cached : AreCachedOf (IsInRegionOf (state_of core) regions.roots.roots root) core.caches export.exporter.0 leaves) (valid : AreCaches core.caches)
     (spelled : IsSpelledBy (state_of core) regions.roots.roots root export bytes (length leaves.unclean)) (result : Result (Unit {0}) Refusal) where
-  pub took : OnOk result (HandsOver export.exporter.0 export.importer.0 leaves.unclean leaves.clean core.caches new.caches) → OnOk result (IsGivenOver leaves.unclean (state_of core) (state_of new)) → OnOk result (TakesAtOnce core new regions root export bytes)
+  pub took : OnOk result (HandsOver export.exporter.0 export.importer.0 leaves.unclean leaves.clean core.caches new.caches) → OnOk result (IsGivenOver leaves.unclean (state_of core) (state_of new)) → OnOk result (Takes core new regions root export bytes)
   took handed given = go result handed given
     where
-      go : (r : Result (Unit {0}) Refusal) → OnOk r (HandsOver export.exporter.0 export.importer.0 leaves.unclean leaves.clean core.caches new.caches) → OnOk r (IsGivenOver leaves.unclean (state_of core) (state_of new)) → OnOk r (TakesAtOnce core new regions root export bytes)
+      go : (r : Result (Unit {0}) Refusal) → OnOk r (HandsOver export.exporter.0 export.importer.0 leaves.unclean leaves.clean core.caches new.caches) → OnOk r (IsGivenOver leaves.unclean (state_of core) (state_of new)) → OnOk r (Takes core new regions root export bytes)
       go (Err reason) h g = tt
       go (Ok done) h g = record {
         region = spelled.0;
         renewed = renewed core regions divided root export stands sent leaves cached valid new g;
-        leaves = leaves;
-        cached = cached;
-        handed = h;
-        came = came core regions divided root export stands sent leaves cached valid new.caches apart h;
+        caches = record {
+          leaves = leaves;
+          cached = cached;
+          handed = h;
+          came = came core regions divided root export stands sent leaves cached valid new.caches apart h;
+        };
       }
 
   pub may_not : IfErr result (MayNotHandOver export.importer.0 leaves.unclean core.caches new.caches) → IfErr result (MayNotImport (λ count rank. LacksPlacesAt count core rank) (state_of core) regions.roots.roots root export bytes)
@@ -291,12 +286,12 @@ module _ (core new : Core) (regions : Regions) (divided : IsDivided core regions
       go : (r : Result (Unit {0}) Refusal) → IfErr r (MayNotHandOver export.importer.0 leaves.unclean core.caches new.caches) → IfErr r (MayNotImport (λ count rank. LacksPlacesAt count core rank) (state_of core) regions.roots.roots root export bytes)
       go (Ok done) h = tt
       go (Err reason) (inr memory) = inl memory.0
-      go (Err reason) (inl full) = inr (inr (full.0, spelled.0, subst (λ (n : ℕ). LacksPlacesAt n core export.importer) (sym spelled.1) (few_lack (length leaves.unclean) core.caches export.importer.0 valid none full.1)))
+      go (Err reason) (inl full) = inr (inr (full.0, spelled.0, subst (λ (n : ℕ). LacksPlacesAt n core export.importer) (sym spelled.1) (few_lack (length leaves.unclean) core.caches export.importer.0 valid divided.owned.sound.none full.1)))
 
-  pub stays_so : IfErr result (MayNotHandOver export.importer.0 leaves.unclean core.caches new.caches) → IfErr result (StaysAtOnce export.importer core.caches new.caches)
+  pub stays_so : IfErr result (MayNotHandOver export.importer.0 leaves.unclean core.caches new.caches) → IfErr result (KeepsRegion export.importer core.caches new.caches)
   stays_so refused = go result refused
     where
-      go : (r : Result (Unit {0}) Refusal) → IfErr r (MayNotHandOver export.importer.0 leaves.unclean core.caches new.caches) → IfErr r (StaysAtOnce export.importer core.caches new.caches)
+      go : (r : Result (Unit {0}) Refusal) → IfErr r (MayNotHandOver export.importer.0 leaves.unclean core.caches new.caches) → IfErr r (KeepsRegion export.importer core.caches new.caches)
       go (Ok done) h = tt
       go (Err reason) (inl full) = inl full.2
       go (Err reason) (inr memory) = inr (memory.0, leaves.unclean, memory.2)
@@ -317,65 +312,9 @@ module _ (core new : Core) (regions : Regions) (divided : IsDivided core regions
           divided_still core new regions divided (record {
             sound = sound;
             valid = rw (homes, covers) divided.owned.valid;
-            held = held_after (state_of new) new.caches (held_in regions) (λ leaf rank is. subst (λ (n : ℕ). rank.0 < n) (sym count) (divided.owned.held.ranks leaf rank is)) (keeps_place new sound)
+            held = held_after (state_of new) new.caches (held_in regions) (λ leaf rank is. subst (λ (n : ℕ). rank.0 < n) (sym count) (divided.owned.held.ranks leaf rank is)) sound.none
                 (λ leaf a is. rw (homes, covers) (divided.owned.held.cached leaf a (was reason h leaf a is)));
           }) count (same_jobs (state_of core) (state_of new) (ap (λ (s : TreeState). s.jobs) l)) homes covers
-
--- ---- once a place that was kept is given up
-
-pub where_err : {A E P Q : Type 0} (result : Result A E) → (P → Q) → OnErr result P → OnErr result Q
-where_err (Ok x) so is = tt
-where_err (Err e) so is = so is
-
-module _ (old mid : Core) (regions : Regions) (reads : ReadsCore NoneUsed (IsKeptFor old.caches) old mid) where
-  same_state : state_of mid ≡ state_of old
-  same_state = reads_state NoneUsed (IsKeptFor old.caches) old mid reads
-
-  pub keeps : mid.faults ≡ old.faults → KeepsState old mid None
-  keeps faults = reads_keeps NoneUsed (IsKeptFor old.caches) old mid reads None (let none : mid.faults ≡ old.faults = faults in omega (arith, none))
-
-  pub freed_divided : IsDivided old regions → mid.faults ≡ old.faults → IsSoundCore mid → IsDivided mid regions
-  freed_divided divided faults sound =
-      divided_still old mid regions divided (owned_reads NoneUsed (IsKeptFor old.caches) old mid (held_in regions) reads sound (λ r q none live. absurd none) divided.owned) (keeps faults).count
-      (same_jobs (state_of old) (state_of mid) (ap (λ (s : TreeState). s.jobs) same_state)) (ap (λ (s : TreeState). s.homes) same_state) (ap (λ (s : TreeState). s.covers) same_state)
-
-  pub freed_takes : (new : Core) (root : Leaf) (export : StandingExport) (bytes : List ℕ) → TakesAtOnce mid new regions root export bytes → Takes old new regions root export bytes
-  freed_takes new root export bytes t = record {
-    region = subst (λ (s : TreeState). SpellsRegion s regions.roots.roots root export bytes) same_state t.region;
-    renewed = subst (λ (s : TreeState). IsRenewed (IsInRegionOf s regions.roots.roots root) s (state_of new)) same_state t.renewed;
-    caches = record {
-      mid = mid.caches;
-      freed = reads.caches;
-      leaves = t.leaves;
-      cached = subst (λ (s : TreeState). AreCachedOf (IsInRegionOf s regions.roots.roots root) mid.caches export.exporter.0 t.leaves) same_state t.cached;
-      handed = t.handed;
-      came = subst (λ (s : TreeState). ComeToImporter (IsInRegionOf s regions.roots.roots root) export.importer old.caches new.caches) same_state (λ leaf a is. go leaf a (t.came leaf a is));
-    };
-  }
-    where
-      back : (leaf : Leaf) (rank : ℕ) (f : Cached) → IsReadOf NoneUsed old.objects leaf (map.get old.caches.held leaf) (at rank f) → (g : Cached) × (map.get old.caches.held leaf ≡ Some (at rank g))
-      back leaf rank f (inl was) = (was.0, was.1)
-      back leaf rank f (inr other) = absurd other.0
-
-      go : (leaf : Leaf) (a : At) → (IsInRegionOf (state_of mid) regions.roots.roots root leaf × (a.rank ≡ export.importer.0)) ⊎ ((IsInRegionOf (state_of mid) regions.roots.roots root leaf → ⊥) × (f : Cached) × (map.get mid.caches.held leaf ≡ Some (at a.rank f)))
-          → (IsInRegionOf (state_of mid) regions.roots.roots root leaf × (a.rank ≡ export.importer.0)) ⊎ ((IsInRegionOf (state_of mid) regions.roots.roots root leaf → ⊥) × (f : Cached) × (map.get old.caches.held leaf ≡ Some (at a.rank f)))
-      go leaf a (inl there) = inl there
-      go leaf a (inr was) = let b = back leaf a.rank was.1 (reads_held NoneUsed (IsKeptFor old.caches) old.objects old.caches mid.caches reads.caches leaf (at a.rank was.1) was.2) in inr (was.0, b.0, b.1)
-
-  pub freed_refused : (root : Leaf) (export : StandingExport) (bytes : List ℕ) (reason : Refusal) → mid.faults ≡ old.faults → MayNotImport (λ count rank. LacksPlacesAt count mid rank) (state_of mid) regions.roots.roots root export bytes reason
-      → MayNotImport (λ count rank. LacksPlacesAt count old rank) (state_of old) regions.roots.roots root export bytes reason
-  freed_refused root export bytes reason faults (inl memory) = inl memory
-  freed_refused root export bytes reason faults (inr (inl wrong)) = inr (inl (wrong.0, λ spells. wrong.1 (subst (λ (s : TreeState). SpellsRegion s regions.roots.roots root export bytes) (sym same_state) spells)))
-  freed_refused root export bytes reason faults (inr (inr full)) = inr (inr (full.0, spells full.1, lacks full.1 (lacked_at (length full.1.export.frags) old mid export.importer (keeps faults) full.2)))
-    where
-      spells : SpellsRegion (state_of mid) regions.roots.roots root export bytes → SpellsRegion (state_of old) regions.roots.roots root export bytes
-      spells s = record { export = s.export; spelled = s.spelled; handed = subst (λ (t : TreeState). IsExportOf (IsInRegionOf t regions.roots.roots root) t.unsaved (record { dir = root.0; frag = root.1; rank = export.exporter }) export.importer s.export) same_state s.handed }
-
-      lacks : (s : SpellsRegion (state_of mid) regions.roots.roots root export bytes) → LacksPlacesAt (length s.export.frags) old export.importer → LacksPlacesAt (length (spells s).export.frags) old export.importer
-      lacks s is = is
-
-  pub freed_caches : (importer : Rank) (new : CacheMap) (reason : Refusal) → StaysAtOnce importer mid.caches new reason → KeepsRegion old.objects importer old.caches new reason
-  freed_caches importer new reason stays = record { mid = mid.caches; freed = reads.caches; left = stays }
 
 -- ---- Import
 
@@ -398,7 +337,7 @@ module _ (old new : Core) (regions : Regions) (later : Standing) (root : Leaf) (
     step = step;
     region = subst (λ (e : StandingExport). SpellsRegion (state_of old) regions.roots.roots root e bytes) (sym this) takes.region;
     renewed = takes.renewed;
-    caches = subst (λ (e : StandingExport). HandsRegion (IsInRegionOf (state_of old) regions.roots.roots root) old.objects e old.caches new.caches) (sym this) takes.caches;
+    caches = subst (λ (e : StandingExport). HandsRegion (IsInRegionOf (state_of old) regions.roots.roots root) e old.caches new.caches) (sym this) takes.caches;
   }
 
   abbrev now : Regions
@@ -429,7 +368,7 @@ module _ (old new : Core) (regions : Regions) (later : Standing) (root : Leaf) (
       owned = record {
         sound = sound;
         valid = (valid_so later regions.roots.roots new.homes new.covers).0 stand_now.valid;
-        held = held_after (state_of new) new.caches (held_in now) (held_bound (state_of new) (length new.caches.used) regions.roots later stand_now) (keeps_place new sound)
+        held = held_after (state_of new) new.caches (held_in now) (held_bound (state_of new) (length new.caches.used) regions.roots later stand_now) sound.none
             (λ leaf a is. rw (homes_stay, covers_stay) ((holder_is later regions.roots.roots old.homes old.covers leaf (record { 0 = a.rank })).0 (holds_now leaf a is)));
       };
       stand = stand_now;

@@ -5,7 +5,7 @@ use Rattle.mds_types.specs.declared.ids.Ino.{Ino}
 use Rattle.mds_types.specs.Frag.{Contains, Fragment, IsFragment, span}
 use Rattle.fragtree.specs.FragTree.{HasLeaf, IsPick, IsTree, lies_inside}
 use Rattle.fragtree.proofs.Ranges.{Contains-from_range, ends_before, ends_low, ends_within, lies_inside-true, range_from_Contains, range_from_inside}
-use Rattle.inode_table.specs.Dirs.{Covers, Homes, IsLive, is_known, leaves_of}
+use Rattle.inode_table.specs.Dirs.{Covers, Homes, IsLive, leaves_of}
 use Rattle.mds_types.specs.Leaf.{Leaf}
 use Rattle.subtree_map.specs.Changes.{is_inside}
 use Rattle.subtree_map.proofs.Covers.{contains_start, is_fragment, one_leaf}
@@ -108,11 +108,3 @@ of_all homes covers dir f P all leaf live inside =
 -- one of them is a live leaf inside
 pub is_within : (dir : Ino) (f g : Fragment) → lies_inside f g ≡ true → is_inside dir.0 f (dir, g) ≡ true
 is_within dir f g inside = and_from (dir.0 == dir.0) (lies_inside f g) (eq-eqb dir.0 dir.0 refl) inside
-
--- of what is no directory no leaf is live
-pub none_live : (homes : Homes) (covers : Covers) (dir : Ino) (f : Fragment) (leaf : Leaf) → is_known homes dir.0 ≡ false → IsLive homes covers leaf → is_inside dir.0 f leaf ≡ true → ⊥
-none_live homes covers dir f leaf unknown live inside =
-    let both = and_parts (leaf.0.0 == dir.0) (lies_inside f leaf.1) inside in
-    let here : leaf.0.0 ≡ dir.0 = eqb-true _ _ both.0 in
-    let clash : true ≡ false = sym live.known ∙ ap (is_known homes) here ∙ unknown in
-    cc

@@ -19,7 +19,3 @@ keeps_tables old new before after exports later homes covers still stand valid =
 -- where the tree and its roots stay
 pub keeps_same : (old new : TreeState) (before after : Roots) (exports later : Standing) → new ≡ old → after ≡ before → later ≡ exports → AreRoots old before → KeepsRoots old new before after exports later
 keeps_same old new before after exports later same still stand valid = keeps_tables old new before after exports later (ap (λ (s : TreeState). s.homes) same) (ap (λ (s : TreeState). s.covers) same) still stand valid
-
--- so it is where one step keeps all before another
-pub keeps_after : (old middle new : TreeState) (before between after : Roots) (exports later : Standing) → middle ≡ old → between ≡ before → KeepsRoots middle new between after exports later → KeepsRoots old new before after exports later
-keeps_after old middle new before between after exports later same still keeps = rw (← same, ← still) keeps

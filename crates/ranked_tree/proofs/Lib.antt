@@ -20,6 +20,7 @@ pub mod MountedRoots
 pub mod MoveLaws
 pub mod NewLaws
 pub mod ReadsForLaws
+pub mod RenameLaws
 pub mod RootLaws
 pub mod SendLaws
 pub mod StandLaws

@@ -73,7 +73,7 @@ module _ (limit : ℕ) (objects : Objects) (ranks places : ℕ) (some : 0 < rank
   walked_held : IsMounted limit objects ranks places tree c → AreHeld (state_of c) c.caches roots
   walked_held m = record {
     cached = none;
-    placed = placed_at (state_of c) c.caches roots c.kept (record { only = sound.kept; coming = sound.coming }) none;
+    placed = placed_at (state_of c) c.caches roots sound.none none;
     ranks = λ leaf rank has.
         let zeroth = first_ranked c.covers roots top leaf rank has in
         let many : length c.caches.used ≡ ranks = ap (λ (cs : CacheMap). length cs.used) m.caches ∙ length-replicate ranks [] in

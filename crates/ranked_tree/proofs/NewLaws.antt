@@ -18,7 +18,6 @@ use Rattle.mdcache.specs.Core.{Core, state_of}
 use Rattle.mdcache.specs.New.{cached_root, new_caches, new_state, root_leaf}
 use Rattle.mdcache.specs.State.{State}
 use Rattle.mdcache.proofs.NewLaws.{live_root, new_none, no_covers, no_homes, root_live}
-use Rattle.mdcache.proofs.NoneLaws.{none_places}
 use Rattle.ranked_tree.proofs.HeldLaws.{placed_at}
 use Rattle.ranked_tree.specs.Held.{AreHeld}
 use Rattle.ranked_tree.specs.Ranked.{new_roots}
@@ -71,6 +70,6 @@ new_are_held core roots limit ranks places some state caches is =
     here : AreHeld (new_state limit) (new_caches ranks places) new_roots
     here = record {
       cached = its;
-      placed = placed_at (new_state limit) (new_caches ranks places) new_roots None (none_places None (new_caches ranks places) (new_none ranks places)) its;
+      placed = placed_at (new_state limit) (new_caches ranks places) new_roots (new_none ranks places) its;
       ranks = λ leaf rank has. subst (λ (r : Rank). r.0 < length (new_caches ranks places).used) (sym (only leaf rank has)) (subst (λ (n : ℕ). 0 < n) (sym many) some);
     }

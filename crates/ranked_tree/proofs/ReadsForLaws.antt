@@ -9,7 +9,7 @@ use Rattle.mds_types.specs.declared.refusals.Refusal.{Refusal}
 use Rattle.mds_types.specs.Shape.{Shape as OpShape, Looks, Lists, Makes, Sets, Unlinks, Removes, Moves}
 use Rattle.mds_types.specs.Tree.{Tree}
 use Rattle.mds_types.specs.Leaf.{leaf_of}
-use Rattle.dentry_cache.specs.Came.{IsThat}
+use Rattle.dentry_cache.specs.Came.{IsThat, NoneEnds}
 use Rattle.dentry_cache.specs.Reads.{Reads}
 use Rattle.dentry_cache.proofs.ReadsLaws.{reads_then, reads_weaker}
 use Rattle.inode_table.specs.Dirs.{is_known}
@@ -26,7 +26,7 @@ use Rattle.mdcache.specs.Sound.{IsSound}
 use Rattle.mdcache.specs.Core.{Core, ReadsCore, state_of}
 use Rattle.mdcache.specs.Frags.{KeepsState}
 use Rattle.mdcache.specs.State.{State as TreeState}
-use Rattle.ranked_tree.specs.Held.{AnyPlace, AreHeldAt, AsksFor, NamesBy, NamesDir, ReadsDir, ReadsFor}
+use Rattle.ranked_tree.specs.Held.{AreHeldAt, AsksFor, NamesBy, NamesDir, ReadsDir, ReadsFor}
 use Rattle.mdcache.proofs.FragsLaws.{keeps_on}
 use Rattle.ranked_tree.specs.Ranked.{KeepsRanked, Ranked, held_roots}
 use Rattle.ranked_tree.proofs.AskLaws.{held_still}
@@ -35,20 +35,20 @@ use Rattle.ranked_tree.proofs.HeldLaws.{is_that}
 use Rattle.ranked_tree.proofs.HolderLaws.{is_unknown}
 
 -- a leaf at the rank that holds it
-pub reads_one : (Ends : ℕ → Leaf → Type 0) (old new : Core) (roots : Roots) (leaf : Leaf) (rank : Rank) → Rules (state_of old) roots leaf rank → ReadsCore (IsThat rank.0 leaf) Ends old new → ReadsDir roots leaf.0 old new
-reads_one Ends old new roots leaf rank rules reads =
-    reads_weaker (IsThat rank.0 leaf) Ends (AsksFor (state_of old) roots (λ (d : ℕ). d ≡ leaf.0.0)) AnyPlace
-    (λ r q that. inl (ap (λ (l : Leaf). l.0.0) that.1, is_that (state_of old) roots leaf rank rules r q that)) (λ r q ends. tt) old.objects old.caches new.caches reads.caches
+pub reads_one : (old new : Core) (roots : Roots) (leaf : Leaf) (rank : Rank) → Rules (state_of old) roots leaf rank → ReadsCore (IsThat rank.0 leaf) NoneEnds old new → ReadsDir roots leaf.0 old new
+reads_one old new roots leaf rank rules reads =
+    reads_weaker (IsThat rank.0 leaf) NoneEnds (AsksFor (state_of old) roots (λ (d : ℕ). d ≡ leaf.0.0)) NoneEnds
+    (λ r q that. inl (ap (λ (l : Leaf). l.0.0) that.1, is_that (state_of old) roots leaf rank rules r q that)) (λ r q none. none) old.objects old.caches new.caches reads.caches
 
 -- reads after others
 pub reads_on : (roots : Roots) (Asked : ℕ → Type 0) (a b c : Core) → KeepsState a b None → ReadsFor roots Asked a b → ReadsFor roots Asked b c → ReadsFor roots Asked a c
 reads_on roots Asked a b c kept first second =
-    reads_then (AsksFor (state_of a) roots Asked) AnyPlace a.objects a.caches b.caches c.caches first
-    (subst (λ (s : TreeState). Reads (AsksFor s roots Asked) AnyPlace s.objects b.caches c.caches) kept.state second)
+    reads_then (AsksFor (state_of a) roots Asked) NoneEnds a.objects a.caches b.caches c.caches first
+    (subst (λ (s : TreeState). Reads (AsksFor s roots Asked) NoneEnds s.objects b.caches c.caches) kept.state second)
 
 -- reads of no more than these
 pub reads_less : (roots : Roots) (Asked More : ℕ → Type 0) (old new : Core) → ((d : ℕ) → Asked d → More d) → ReadsFor roots Asked old new → ReadsFor roots More old new
-reads_less roots Asked More old new more reads = reads_weaker (AsksFor (state_of old) roots Asked) AnyPlace (AsksFor (state_of old) roots More) AnyPlace asks (λ r q place. place) old.objects old.caches new.caches reads
+reads_less roots Asked More old new more reads = reads_weaker (AsksFor (state_of old) roots Asked) NoneEnds (AsksFor (state_of old) roots More) NoneEnds asks (λ r q none. none) old.objects old.caches new.caches reads
   where
     asks : (r : ℕ) (q : Leaf) → AsksFor (state_of old) roots Asked r q → AsksFor (state_of old) roots More r q
     asks r q (inl held) = inl (more q.0.0 held.0, held.1)
@@ -82,10 +82,10 @@ module _ (old : Core) (roots : Roots) where
       go _ (move source target inode went) able at (inr that) = let there = at_spot target at.put r q that in inl (inr there.0, there.1)
 
 -- reads of them
-pub reads_change : (Ends : ℕ → Leaf → Type 0) (old new : Core) (roots : Roots) (change : Change) → IsSound (state_of old) → MayChange (shown_tree (state_of old)) old.covers change → AreHeldAt (state_of old) roots change → ReadsCore (IsNamedIn change) Ends old new
+pub reads_change : (old new : Core) (roots : Roots) (change : Change) → IsSound (state_of old) → MayChange (shown_tree (state_of old)) old.covers change → AreHeldAt (state_of old) roots change → ReadsCore (IsNamedIn change) NoneEnds old new
     → ReadsFor roots (NamesDir change) old new
-reads_change Ends old new roots change sound may held reads =
-    reads_weaker (IsNamedIn change) Ends (AsksFor (state_of old) roots (NamesDir change)) AnyPlace (asks_change old roots change sound may held) (λ r q ends. tt) old.objects old.caches new.caches reads.caches
+reads_change old new roots change sound may held reads =
+    reads_weaker (IsNamedIn change) NoneEnds (AsksFor (state_of old) roots (NamesDir change)) NoneEnds (asks_change old roots change sound may held) (λ r q none. none) old.objects old.caches new.caches reads.caches
 
 -- the directories of a change are those that its operation concerns
 of_put : (dentry : Dentry) (Is : Inode → Type 0) (takes : Option Spot) (puts : Option (Spot × Inode)) → takes ≡ None → PutsAt dentry Is puts → (d : ℕ) → NamesBy takes puts d → d ≡ dentry.dir.0

@@ -38,7 +38,7 @@ use Rattle.mdcache.specs.StandingJobs.{Jobs}
 use Rattle.mdcache.proofs.GoneLaws.{get_without}
 use Rattle.ranked_tree.specs.declared.regions.Regions.{Regions}
 use Rattle.ranked_tree.specs.Exported.{AreThawed, IsDivided, IsFrozenIn, StandSoundly, held_in}
-use Rattle.ranked_tree.specs.Held.{CameAt, EndsOf, IsFamilyOf, IsMergedHere, IsOwned, UsedAt}
+use Rattle.ranked_tree.specs.Held.{CameAt, IsFamilyOf, IsMergedHere, IsOwned, UsedAt}
 use Rattle.ranked_tree.specs.Subtrees.{AllHave, AreRoots, KeepsAuthorities, KeepsHolders, NoNewRank, Rules}
 
 -- ---- jobs
@@ -278,10 +278,10 @@ all_held exports roots homes covers dir frag rank thawed all leaf live inside = 
 module _ (exports : Standing) (roots : Roots) (old : Core) (dir : Ino) (frag : Fragment) where
   pub family_held : (nb : ℕ) (new : CacheMap) → (IsFrozen exports roots old.homes old.covers (dir, frag) → ⊥) → CameAt (Rules (state_of old) roots (dir, frag)) (IsFamilyOf dir frag nb) old.caches new → CameAt (Rules (state_of old) (holding exports roots) (dir, frag)) (IsFamilyOf dir frag nb) old.caches new
   family_held nb new thawed came =
-      came_weaker (UsedAt (Rules (state_of old) roots (dir, frag)) (IsFamilyOf dir frag nb)) (EndsOf old.caches (IsFamilyOf dir frag nb)) (UsedAt (Rules (state_of old) (holding exports roots) (dir, frag)) (IsFamilyOf dir frag nb)) (EndsOf old.caches (IsFamilyOf dir frag nb))
+      came_weaker (UsedAt (Rules (state_of old) roots (dir, frag)) (IsFamilyOf dir frag nb)) (λ r q. IsFamilyOf dir frag nb q) (UsedAt (Rules (state_of old) (holding exports roots) (dir, frag)) (IsFamilyOf dir frag nb)) (λ r q. IsFamilyOf dir frag nb q)
       (λ r q used. (thawed_held exports roots old.homes old.covers (dir, frag) (record { 0 = r }) thawed used.0, used.1)) (λ r q ends. ends) old.caches new came
 
   pub merged_held : (new : CacheMap) → AreThawed exports roots old.homes old.covers dir frag → CameAt (AllHave old.homes old.covers roots dir frag) (IsMergedHere old.covers dir frag) old.caches new → CameAt (AllHave old.homes old.covers (holding exports roots) dir frag) (IsMergedHere old.covers dir frag) old.caches new
   merged_held new thawed came =
-      came_weaker (UsedAt (AllHave old.homes old.covers roots dir frag) (IsMergedHere old.covers dir frag)) (EndsOf old.caches (IsMergedHere old.covers dir frag)) (UsedAt (AllHave old.homes old.covers (holding exports roots) dir frag) (IsMergedHere old.covers dir frag)) (EndsOf old.caches (IsMergedHere old.covers dir frag))
+      came_weaker (UsedAt (AllHave old.homes old.covers roots dir frag) (IsMergedHere old.covers dir frag)) (λ r q. IsMergedHere old.covers dir frag q) (UsedAt (AllHave old.homes old.covers (holding exports roots) dir frag) (IsMergedHere old.covers dir frag)) (λ r q. IsMergedHere old.covers dir frag q)
       (λ r q used. (all_held exports roots old.homes old.covers dir frag (record { 0 = r }) thawed used.0, used.1)) (λ r q ends. ends) old.caches new came

@@ -22,7 +22,6 @@ use Rattle.subtree_map.specs.Changes.{Subtrees}
 use Rattle.subtree_map.proofs.Options.{not_none, one_value}
 use Rattle.mdcache.specs.Core.{Core, IsSoundCore, state_of}
 use Rattle.mdcache.specs.State.{State as TreeState}
-use Rattle.mdcache.proofs.CoreLaws.{keeps_place}
 use Rattle.ranked_tree.specs.declared.regions.Regions.{Regions}
 use Rattle.ranked_tree.specs.Exported.{EndsRegion, IsDivided, IsFrozenIn, StandSoundly, held_in}
 use Rattle.ranked_tree.specs.Held.{IsOwned}
@@ -223,7 +222,7 @@ module _ (old new : Core) (was now : Regions) (root : Leaf) (divided : IsDivided
       owned = record {
         sound = sound;
         valid = (valid_so now.exports now.roots.roots new.homes new.covers).0 freeze_stands.valid;
-        held = held_after (state_of new) new.caches (held_in now) (held_bound (state_of new) (length new.caches.used) now.roots now.exports freeze_stands) (keeps_place new sound)
+        held = held_after (state_of new) new.caches (held_in now) (held_bound (state_of new) (length new.caches.used) now.roots now.exports freeze_stands) sound.none
             (λ leaf a at. held_still leaf (record { 0 = a.rank }) (divided.owned.held.cached leaf a (ap (λ (k : CacheMap). map.get k.held leaf) (sym caches) ∙ at)));
       };
       stand = freeze_stands;

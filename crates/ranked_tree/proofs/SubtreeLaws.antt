@@ -17,7 +17,7 @@ use Rattle.namespace_ops.specs.declared.plans.Change.{Change}
 use Rattle.namespace_ops.specs.declared.plans.Spot.{Spot}
 use Rattle.subtree_map.specs.Authority.{HasAuthority, IsSubtrees, Roots}
 use Rattle.subtree_map.specs.Changes.{HaveOneAuthority, IsRootMerge, IsRootSplit}
-use Rattle.subtree_map.specs.Moves.{HasRoomToMove, IsSettled}
+use Rattle.subtree_map.specs.Moves.{IsSettled}
 use Rattle.std.proofs.lemmas.Option.{same_Some}
 use Rattle.mdcache.specs.Changes.{Makes}
 use Rattle.mdcache.specs.Frags.{dir_moved, dir_moving}
@@ -28,7 +28,7 @@ use Rattle.mdcache.specs.Splits.{IsMergedInto, IsSplitInto}
 use Rattle.mdcache.specs.State.{State}
 use Rattle.mdcache.proofs.HomeLaws.{moved_home, moved_known}
 use Rattle.ranked_tree.proofs.MoveLaws.{relocates, replaces}
-use Rattle.ranked_tree.specs.Subtrees.{AreRoots, FollowChange, GivesToChildren, HasRoomBy, HasRoomFor, LoseDirectory, SettleBy, SettleMove, SettleMoving, TakesOver}
+use Rattle.ranked_tree.specs.Subtrees.{AreRoots, FollowChange, GivesToChildren, LoseDirectory, SettleBy, SettleMove, SettleMoving, TakesOver}
 use Rattle.ranked_tree.proofs.ChangedTables.{TablesAre, added_tables, grown_tables, moved_tables, removed_tables, set_tables}
 use Rattle.ranked_tree.proofs.RootLaws.{IsSoundChange, child_authority, divided_soundly, grown, lost, merged_authority, merged_soundly, rehomed, sound_on, unchanged}
 
@@ -138,40 +138,6 @@ module _ (tree : State) where
           by true kinded = relocates tree sound source target inode went able kinded
           by false kinded = tt
 
-  -- there is room for it, where there is for the change
-  pub room_at : (change : Change) (put : Spot × Inode) → change.puts ≡ Some put → (roots : Roots) (room : ℕ) → HasRoomFor change tree roots room → IfSome (dir_moving change) (λ (dir : Ino). HasRoomToMove roots room tree.homes tree.covers dir.0 (home_at (dentry_at put.0)))
-  room_at change put is roots room = go change.takes change.puts is
-    where
-      go : (takes : Option Spot) (puts : Option (Spot × Inode)) → puts ≡ Some put → HasRoomBy takes puts tree roots room → IfSome (dir_moved takes puts) (λ (dir : Ino). HasRoomToMove roots room tree.homes tree.covers dir.0 (home_at (dentry_at put.0)))
-      go None puts same has = tt
-      go (Some spot) None same has = tt
-      go (Some spot) (Some to) same has =
-          subst (λ (p : Spot × Inode). IfSome (directory_at (Some to.1)) (λ (dir : Ino). HasRoomToMove roots room tree.homes tree.covers dir.0 (home_at (dentry_at p.0)))) (same_Some to put same) (by (is_dir_kind to.1.kind) refl)
-        where
-          by : (b : Bool) → is_dir_kind to.1.kind ≡ b → IfSome (cond b (Some to.1.ino) None) (λ (dir : Ino). HasRoomToMove roots room tree.homes tree.covers dir.0 (home_at (dentry_at to.0)))
-          by true kinded = has kinded
-          by false kinded = tt
-
-  -- and there is for the change, where there is for it
-  pub room_for : (change : Change) (put : Spot × Inode) → change.puts ≡ Some put → (roots : Roots) (room : ℕ) → IfSome (dir_moving change) (λ (dir : Ino). HasRoomToMove roots room tree.homes tree.covers dir.0 (home_at (dentry_at put.0))) → HasRoomFor change tree roots room
-  room_for change put is roots room = go change.takes change.puts is
-    where
-      go : (takes : Option Spot) (puts : Option (Spot × Inode)) → puts ≡ Some put → IfSome (dir_moved takes puts) (λ (dir : Ino). HasRoomToMove roots room tree.homes tree.covers dir.0 (home_at (dentry_at put.0))) → HasRoomBy takes puts tree roots room
-      go None puts same has = tt
-      go (Some spot) None same has = tt
-      go (Some spot) (Some to) same has = λ kinded.
-          subst (λ (p : Spot × Inode). HasRoomToMove roots room tree.homes tree.covers to.1.ino.0 (home_at (dentry_at p.0))) (sym (same_Some to put same))
-          (subst (λ (d : Option Ino). IfSome d (λ (dir : Ino). HasRoomToMove roots room tree.homes tree.covers dir.0 (home_at (dentry_at put.0)))) (ap (λ (b : Bool). cond {A = Option Ino} b (Some to.1.ino) None) kinded) has)
-
-  -- without a name that gets an inode nothing moves
-  pub room_for_none : (change : Change) → change.puts ≡ None → (roots : Roots) (room : ℕ) → HasRoomFor change tree roots room
-  room_for_none change is roots room = go change.takes change.puts is
-    where
-      go : (takes : Option Spot) (puts : Option (Spot × Inode)) → puts ≡ None → HasRoomBy takes puts tree roots room
-      go None puts same = tt
-      go (Some spot) None same = tt
-      go (Some spot) (Some to) same = let clash : Some to ≡ None = same in cc
-
   -- it is settled, where it is a directory
   pub settled_at : (change : Change) (put : Spot × Inode) → change.puts ≡ Some put → (before after : Roots) → MatchOption (dir_moving change) (after ≡ before) (λ (dir : Ino). IsSettled before after tree.homes tree.covers dir.0 (home_at (dentry_at put.0))) → SettleMoving change tree before after
   settled_at change put is before after = go change.takes change.puts is
@@ -197,11 +163,6 @@ module _ (tree : State) where
       go (Some spot) (Some to) same roots = let clash : Some to ≡ None = same in cc
 
 -- ---- splits and merges
-
--- nothing was done
-pub undone_soundly : (old new : State) (before after : Roots) → IsSound old → AreRoots old before → new ≡ old → after ≡ before → IsSoundChange before after old.homes new.homes old.covers new.covers
-undone_soundly old new before after sound valid same roots =
-    at_table before after old.homes new.homes old.homes old.covers new.covers old.covers (ap (λ (s : State). s.homes) same) (ap (λ (s : State). s.covers) same) (unchanged before after old.homes old.covers sound.table valid roots)
 
 module _ (old new : State) (before after : Roots) (sound : IsSound old) (valid : AreRoots old before) (dir : Ino) (frag : Fragment) where
   -- a leaf was split, with its root, if it is one

@@ -14,18 +14,16 @@ use Rattle.mds_types.specs.declared.inodes.Inode.{Inode}
 use Rattle.namespace_ops.specs.declared.plans.Change.{Change}
 use Rattle.namespace_ops.specs.declared.plans.Spot.{Spot}
 use Rattle.dentry_cache.specs.CacheMap.{At, CacheMap, has_place}
-use Rattle.dentry_cache.specs.CacheSplits.{IsKeptFor}
 use Rattle.dentry_cache.specs.Came.{Came, NoneEnds}
 use Rattle.dentry_cache.specs.Reads.{Reads}
 use Rattle.subtree_map.specs.Authority.{Leaf, Roots}
 use Rattle.subtree_map.specs.Changes.{is_inside}
 use Rattle.mdcache.specs.CacheReads.{IsNewest}
 use Rattle.mdcache.specs.Core.{Core, IsSoundCore, LacksPlacesAt, state_of}
-use Rattle.mdcache.specs.Shown.{shown_tree}
 use Rattle.mdcache.specs.State.{State as TreeState}
 use Rattle.ranked_tree.specs.Subtrees.{AreRoots, HoldsAt, Rules}
 
--- each cached fragment is at its leaf's authority, and so is each place of a live leaf, kept or not; each root's rank is one of those that
+-- each cached fragment is at its leaf's authority, and so is each place of a live leaf; each root's rank is one of those that
 -- have a cache
 pub record AreHeld (tree : TreeState) (caches : CacheMap) (roots : Roots) : Type 0 where
   pub cached : (leaf : Leaf) (a : At) → map.get caches.held leaf ≡ Some a → Rules tree roots leaf (record { 0 = a.rank })
@@ -48,13 +46,9 @@ AreHeldAt tree roots change = LieHeld (HoldsAt tree roots) change
 abbrev pub AsksFor : TreeState → Roots → (Asked : ℕ → Type 0) → ℕ → Leaf → Type 0
 AsksFor tree roots Asked rank leaf = (Asked leaf.0.0 × Rules tree roots leaf (record { 0 = rank })) ⊎ ((is_known tree.homes leaf.0.0 ≡ false) × (leaf.1 ≡ root_fragment))
 
--- any leaf, of which a kept place was given up
-abbrev pub AnyPlace : ℕ → Leaf → Type 0
-AnyPlace rank leaf = Unit {0}
-
--- these leaves were read at most, and kept places given up
+-- these leaves were read at most
 abbrev pub ReadsFor : Roots → (Asked : ℕ → Type 0) → (old new : Core) → Type 0
-ReadsFor roots Asked old new = Reads (AsksFor (state_of old) roots Asked) AnyPlace old.objects old.caches new.caches
+ReadsFor roots Asked old new = Reads (AsksFor (state_of old) roots Asked) NoneEnds old.objects old.caches new.caches
 
 -- the directories of the dentries that a change names
 abbrev pub NamesBy : Option Spot → Option (Spot × Inode) → ℕ → Type 0
@@ -80,11 +74,6 @@ IsNewestHeld tree roots caches leaf = (rank : Rank) × Rules tree roots leaf ran
 abbrev pub IsGone : Tree → ℕ → Leaf → Type 0
 IsGone tree rank leaf = is_directory tree leaf.0.0 ≡ false
 
--- leaves of the directories that a change names were used and changed at most, each at the rank that holds it, and the first leaf of a
--- directory that comes; those of a directory that went ended
-abbrev pub CameFor : Roots → Change → (old new : Core) → Type 0
-CameFor roots change old new = Came (AsksFor (state_of old) roots (NamesDir change)) (IsGone (shown_tree (state_of new))) old.caches new.caches
-
 -- ---- whose places lack
 
 -- so many places lack at the rank that holds a leaf
@@ -109,13 +98,9 @@ LacksPlacesInside count core roots dir frag = (leaf : Leaf) × IsLive core.homes
 abbrev pub UsedAt : (Holds : Rank → Type 0) (Named : Leaf → Type 0) → ℕ → Leaf → Type 0
 UsedAt Holds Named rank leaf = Holds (record { 0 = rank }) × Named leaf
 
--- one of these leaves, or a place that was kept
-abbrev pub EndsOf : CacheMap → (Named : Leaf → Type 0) → ℕ → Leaf → Type 0
-EndsOf caches Named rank leaf = IsKeptFor caches rank leaf ⊎ Named leaf
-
--- these caches came from others by uses and ends of those leaves at the ranks that hold them, and kept places given up
+-- these caches came from others by uses and ends of those leaves at the ranks that hold them
 abbrev pub CameAt : (Holds : Rank → Type 0) (Named : Leaf → Type 0) → (old new : CacheMap) → Type 0
-CameAt Holds Named old new = Came (UsedAt Holds Named) (EndsOf old Named) old new
+CameAt Holds Named old new = Came (UsedAt Holds Named) (λ rank leaf. Named leaf) old new
 
 -- so by uses of one leaf alone
 abbrev pub UsesAt : (Holds : Rank → Type 0) → Leaf → (old new : CacheMap) → Type 0

@@ -7,20 +7,16 @@ use Rattle.mds_types.specs.declared.ids.Rank.{Rank}
 use Rattle.mds_types.specs.declared.object_names.ObjName.TheVariants.{Frag as FragOf}
 use Rattle.mds_types.specs.declared.refusals.Refusal.{Refusal}
 use Rattle.mds_types.specs.declared.refusals.Refusal.TheVariants.{Damaged, NoMemory, NothingToEvict, WrongExportState}
-use Rattle.objstore.specs.Objects.{Objects}
 use Rattle.cached_frag.specs.Cached.{Cached}
 use Rattle.dentry_cache.specs.Cache.{Unsaved}
 use Rattle.dentry_cache.specs.CacheMap.{At, CacheMap, at}
-use Rattle.dentry_cache.specs.CacheSplits.{IsKeptFor}
 use Rattle.dentry_cache.specs.Handing.{HandsOver, WantsPlace}
-use Rattle.dentry_cache.specs.Reads.{Reads}
 use Rattle.export_regions.specs.Regions.{AreCachedOf, RegionLeaves}
 use Rattle.export_steps.specs.declared.exports.ExportState.TheVariants.{Imported, Sent}
 use Rattle.export_steps.specs.declared.exports.StandingExport.{StandingExport}
 use Rattle.export_steps.specs.Standing.{ComesTo, Standing, state_at}
 use Rattle.subtree_map.specs.Authority.{Leaf, Roots}
 use Rattle.mdcache.specs.Core.{Core, state_of}
-use Rattle.mdcache.specs.Ranks.{NoneUsed}
 use Rattle.mdcache.specs.State.{State as TreeState}
 use Rattle.ranked_tree.specs.declared.regions.Regions.{Regions}
 use Rattle.ranked_tree.specs.Ranked.{Ranked}
@@ -36,36 +32,28 @@ pub record IsRenewed (In : Leaf → Type 0) (old new : TreeState) : Type 0 where
   pub others : (leaf : Leaf) → (In leaf → ⊥) → map.get new.unsaved leaf ≡ map.get old.unsaved leaf
   pub left : new ≡ record old { unsaved = new.unsaved }
 
--- a place that was kept for a fragment that didn't come is given up, if one was
-abbrev pub GivesUp : Objects → (old new : CacheMap) → Type 0
-GivesUp objects old new = Reads NoneUsed (IsKeptFor old) objects old new
-
 -- each cached fragment of a region is at its importer, and each other one is at the rank where it was
 abbrev pub ComeToImporter : (In : Leaf → Type 0) → Rank → (old new : CacheMap) → Type 0
 ComeToImporter In importer old new =
     (leaf : Leaf) (a : At) → map.get new.held leaf ≡ Some a → (In leaf × (a.rank ≡ importer.0)) ⊎ ((In leaf → ⊥) × (f : Cached) × (map.get old.held leaf ≡ Some (at a.rank f)))
 
 -- what the exporter caches of a region goes to the importer: each fragment that isn't clean is there, and those that are clean are cached no more
-pub record HandsRegion (In : Leaf → Type 0) (objects : Objects) (export : StandingExport) (old new : CacheMap) : Type 0 where
-  pub mid : CacheMap
-  pub freed : GivesUp objects old mid
+pub record HandsRegion (In : Leaf → Type 0) (export : StandingExport) (old new : CacheMap) : Type 0 where
   pub leaves : RegionLeaves
-  pub cached : AreCachedOf In mid export.exporter.0 leaves
-  pub handed : HandsOver export.exporter.0 export.importer.0 leaves.unclean leaves.clean mid new
+  pub cached : AreCachedOf In old export.exporter.0 leaves
+  pub handed : HandsOver export.exporter.0 export.importer.0 leaves.unclean leaves.clean old new
   pub came : ComeToImporter In export.importer old new
 
 -- where a region isn't taken the caches stay, but that for want of memory clean fragments of the importer may have gone
-pub record KeepsRegion (objects : Objects) (importer : Rank) (old new : CacheMap) (reason : Refusal) : Type 0 where
-  pub mid : CacheMap
-  pub freed : GivesUp objects old mid
-  pub left : (new ≡ mid) ⊎ ((reason ≡ NoMemory) × (leaves : List Leaf) × WantsPlace importer.0 leaves mid new)
+abbrev pub KeepsRegion : (importer : Rank) → (old new : CacheMap) → Refusal → Type 0
+KeepsRegion importer old new reason = (new ≡ old) ⊎ ((reason ≡ NoMemory) × (leaves : List Leaf) × WantsPlace importer.0 leaves old new)
 
 -- Import: the export of a root goes from sent to imported, the bytes are those of its region, which the importer has now
 pub record Imports (old new : Ranked) (root : Leaf) (bytes : List ℕ) : Type 0 where
   pub step : ComesTo old.exports new.exports root Sent Imported
   pub region : SpellsRegion (state_of old.tree) old.subtrees.roots root step.export bytes
   pub renewed : IsRenewed (IsInRegionOf (state_of old.tree) old.subtrees.roots root) (state_of old.tree) (state_of new.tree)
-  pub caches : HandsRegion (IsInRegionOf (state_of old.tree) old.subtrees.roots root) old.tree.objects step.export old.tree.caches new.tree.caches
+  pub caches : HandsRegion (IsInRegionOf (state_of old.tree) old.subtrees.roots root) step.export old.tree.caches new.tree.caches
 
 -- why the region of a sent export isn't taken: want of memory; bytes that aren't those of the region; or fewer places of the importer that are
 -- free or can become so than fragments that were sent
@@ -82,9 +70,9 @@ RefusesImport Lacks tree roots exports root bytes reason =
     ⊎ ((export : StandingExport) × (map.get exports root ≡ Some export) × (export.state ≡ Sent) × MayNotImport Lacks tree roots root export bytes reason)
 
 -- the caches stay, or are those of a region that isn't taken
-abbrev pub LeavesCaches : Objects → Standing → (root : Leaf) → (old new : CacheMap) → Refusal → Type 0
-LeavesCaches objects exports root old new reason =
-    (new ≡ old) ⊎ ((export : StandingExport) × (map.get exports root ≡ Some export) × KeepsRegion objects export.importer old new reason)
+abbrev pub LeavesCaches : Standing → (root : Leaf) → (old new : CacheMap) → Refusal → Type 0
+LeavesCaches exports root old new reason =
+    (new ≡ old) ⊎ ((export : StandingExport) × (map.get exports root ≡ Some export) × KeepsRegion export.importer old new reason)
 
 -- ---- words of this crate's own contracts
 
@@ -92,20 +80,7 @@ LeavesCaches objects exports root old new reason =
 pub record Takes (old new : Core) (regions : Regions) (root : Leaf) (export : StandingExport) (bytes : List ℕ) : Type 0 where
   pub region : SpellsRegion (state_of old) regions.roots.roots root export bytes
   pub renewed : IsRenewed (IsInRegionOf (state_of old) regions.roots.roots root) (state_of old) (state_of new)
-  pub caches : HandsRegion (IsInRegionOf (state_of old) regions.roots.roots root) old.objects export old.caches new.caches
-
--- so it was where no place was kept
-pub record TakesAtOnce (old new : Core) (regions : Regions) (root : Leaf) (export : StandingExport) (bytes : List ℕ) : Type 0 where
-  pub region : SpellsRegion (state_of old) regions.roots.roots root export bytes
-  pub renewed : IsRenewed (IsInRegionOf (state_of old) regions.roots.roots root) (state_of old) (state_of new)
-  pub leaves : RegionLeaves
-  pub cached : AreCachedOf (IsInRegionOf (state_of old) regions.roots.roots root) old.caches export.exporter.0 leaves
-  pub handed : HandsOver export.exporter.0 export.importer.0 leaves.unclean leaves.clean old.caches new.caches
-  pub came : ComeToImporter (IsInRegionOf (state_of old) regions.roots.roots root) export.importer old.caches new.caches
-
--- and where it wasn't
-abbrev pub StaysAtOnce : Rank → (old new : CacheMap) → Refusal → Type 0
-StaysAtOnce importer old new reason = (new ≡ old) ⊎ ((reason ≡ NoMemory) × (leaves : List Leaf) × WantsPlace importer.0 leaves old new)
+  pub caches : HandsRegion (IsInRegionOf (state_of old) regions.roots.roots root) export old.caches new.caches
 
 -- bytes are those of the region of an export, of which so many fragments aren't clean
 abbrev pub IsSpelledBy : TreeState → Roots → (root : Leaf) → StandingExport → (bytes : List ℕ) → ℕ → Type 0

@@ -1,3 +1,4 @@
+pub mod Changing
 pub mod Exported
 pub mod Held
 pub mod Importing

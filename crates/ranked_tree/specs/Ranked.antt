@@ -1,21 +1,18 @@
--- The tree with its subtrees as contracts see it, what reads keep of it, and what is ready for a change.
+-- The tree with its subtrees as contracts see it, and what reads keep of it.
 use Rattle.std.specs.Prelude.{◌≡◌, Option}
-use Rattle.std.specs.List.{Contains}
 use Rattle.std.specs.FinMap as map
 use Rattle.mds_types.specs.declared.refusals.Refusal.{Refusal}
 use Rattle.mds_types.specs.declared.operations.Op.{Op}
 use Rattle.export_steps.specs.Holder.{IsFrozen, holding}
 use Rattle.export_steps.specs.Standing.{Standing}
-use Rattle.namespace_ops.specs.Changes.{Concerns, fragments_of}
-use Rattle.namespace_ops.specs.declared.plans.Change.{Change}
+use Rattle.namespace_ops.specs.Changes.{Concerns}
 use Rattle.subtree_map.specs.Authority.{Leaf, Roots}
 use Rattle.subtree_map.specs.Changes.{Subtrees}
 use Rattle.mdcache.specs.Core.{Core, state_of}
-use Rattle.mdcache.specs.Frags.{KeepsState, IsReady as IsReadyIn, MayRefuse as MayRefuseIn}
+use Rattle.mdcache.specs.Frags.{KeepsState, MayRefuse as MayRefuseIn}
 use Rattle.mdcache.specs.New.{root_leaf}
 use Rattle.mdcache.specs.Shown.{shown_tree}
-use Rattle.ranked_tree.specs.Held.{AreHeldAt, LacksPlacesAsked, ReadsFor}
-use Rattle.ranked_tree.specs.Subtrees.{HasRoomFor}
+use Rattle.ranked_tree.specs.Held.{LacksPlacesAsked, ReadsFor}
 
 -- the tree over its caches and store, its subtree roots, and the exports that stand
 pub record Ranked : Type 0 where
@@ -44,18 +41,6 @@ pub record KeepsRanked (old new : Ranked) (op : Op) (told : Option Refusal) : Ty
 -- become so, at a rank that holds a leaf of a directory which the operation concerns, or where a counter is at its end
 abbrev pub MayRefuse : (old new : Ranked) → Op → Refusal → Type 0
 MayRefuse old new op reason = MayRefuseIn (LacksPlacesAsked 2 old.tree (held_roots old) (Concerns (shown_tree (state_of old.tree)) op)) old.tree new.tree op reason
-
--- the tree is ready for a change in the caches of the ranks that hold its leaves
-pub record IsReadyHeld (core : Core) (roots : Roots) (change : Change) : Type 0 where
-  pub held : AreHeldAt (state_of core) roots change
-  pub ready : IsReadyIn core change
-
--- a change can be made with no growth: the tree is ready for it, no leaf that it changes is frozen, and there is room for the roots that
--- it makes
-pub record IsReady (ranked : Ranked) (change : Change) : Type 0 where
-  pub tree : IsReadyHeld ranked.tree (held_roots ranked) change
-  pub thawed : (leaf : Leaf) → Contains (fragments_of ranked.tree.covers change) leaf → IsFrozenLeaf ranked leaf → ⊥
-  pub roots : HasRoomFor change (state_of ranked.tree) ranked.subtrees.roots ranked.subtrees.room
 
 -- the one subtree root of a new tree: the root directory's leaf is rank 0's
 abbrev pub new_roots : Roots

@@ -19,7 +19,7 @@ use Rattle.export_steps.specs.Holder.{holding}
 use Rattle.export_steps.specs.Standing.{Standing}
 use Rattle.subtree_map.specs.Authority.{HasAuthority, IsSubtrees, Leaf, NearestRoot, Roots}
 use Rattle.subtree_map.specs.Changes.{AreGone, is_inside}
-use Rattle.subtree_map.specs.Moves.{HasRoomToMove, IsSettled}
+use Rattle.subtree_map.specs.Moves.{IsSettled}
 use Rattle.mdcache.specs.State.{State as TreeState}
 
 -- the authority of a leaf in a tree with these roots
@@ -69,15 +69,6 @@ SettleMoving change tree before after = SettleBy change.takes change.puts tree b
 -- what a change makes of the roots: those of a directory that moves are settled first, and a directory that goes loses its own
 abbrev pub FollowChange : Change → TreeState → (before after : Roots) → Type 0
 FollowChange change tree before after = (settled : Roots) × SettleMoving change tree before settled × LoseDirectory settled after change.gone
-
--- there is room for the roots that a change makes: for those of a directory that moves
-abbrev pub HasRoomBy : Option Spot → Option (Spot × Inode) → TreeState → Roots → ℕ → Type 0
-HasRoomBy None puts tree roots room = Unit {0}
-HasRoomBy (Some spot) None tree roots room = Unit {0}
-HasRoomBy (Some spot) (Some put) tree roots room = is_dir_kind put.1.kind ≡ true → HasRoomToMove roots room tree.homes tree.covers put.1.ino.0 (home_at (dentry_at put.0))
-
-abbrev pub HasRoomFor : Change → TreeState → Roots → ℕ → Type 0
-HasRoomFor change tree roots room = HasRoomBy change.takes change.puts tree roots room
 
 -- ---- splits and merges
 

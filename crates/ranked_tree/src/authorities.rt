@@ -1,5 +1,7 @@
 //! Whose a leaf is.
 ghost use Rattle.std.specs.Prelude.{◌≡◌, ◌↔◌, ℕ, false, IsTrue, MatchOption};
+ghost use Rattle.std.specs.FinMap as map;
+ghost use Rattle.std.specs.Option.{option_copied};
 ghost use Rattle.mds_types.specs.Leaf.{leaf_of};
 ghost use Rattle.inode_table.specs.Dirs.{IsLive};
 ghost use Rattle.namespace_ops.specs.Places.{IsAt, Locates};
@@ -13,8 +15,10 @@ ghost use Rattle.ranked_tree.specs.Subtrees.{AllHave, AreRoots, HoldsAt, Rules};
 use crate::inside::{all_have, some_frozen};
 use crate::ranked_tree::RankedTree;
 use crate::regions::Regions;
+use inode_table::LeafAt;
 use mdcache::MdCache;
 use mds_types::{Dirfrag, Frag, Ino, Rank};
+use namespace_ops::Located;
 use objstore::Store;
 use subtree_map::Subtrees;
 
@@ -115,21 +119,41 @@ pub(crate) fn locate<S: Store + Drop>(
     rank: Rank,
     dir: Ino,
     hash: u32,
-) -> Option<Dirfrag>
+) -> Option<Located>
     requires { IsOwned tree.now (held_in regions.now) }
     ensures { Locates (shown_tree (state_of tree.now)) tree.now.covers (HoldsAt (state_of tree.now) (held_in regions.now)) dir.0 hash result }
 {
     let dirs = tree.dirs();
-    let Some(at) = dirs.leaf_at(dir, hash) else {
+    let Some(leaf) = dirs.leaf_at(dir, hash) else {
         return None;
     };
-    let frag = at.frag;
+    let entries = leaf.entries;
+    let at = held_leaf(tree, regions, rank, dir, leaf);
+    Some(Located { at, entries })
+}
+
+// A leaf that was found, with the rank that holds it. `rank` is asked first.
+fn held_leaf<S: Store + Drop>(
+    tree: &MdCache<S>,
+    regions: &Regions,
+    rank: Rank,
+    dir: Ino,
+    leaf: LeafAt<'_>,
+) -> Dirfrag
+    requires owned { IsOwned tree.now (held_in regions.now) }
+    requires live { IsLive tree.now.homes tree.now.covers (dir, leaf.frag) }
+    requires home { option_copied leaf.home ≡ map.get tree.now.homes dir.0 }
+    ensures held { HoldsAt (state_of tree.now) (held_in regions.now) result }
+    ensures dir { result.dir ≡ dir }
+    ensures frag { result.frag ≡ leaf.entry.frag }
+{
+    let frag = leaf.frag;
     let here = Dirfrag { dir, frag, rank };
     if tree.has_place(&here) {
-        return Some(here);
+        return here;
     }
-    let rank = regions.holder_by(rank, dirs, (dir, frag), at.home);
-    Some(Dirfrag { dir, frag, rank })
+    let rank = regions.holder_by(rank, tree.dirs(), (dir, frag), leaf.home);
+    Dirfrag { dir, frag, rank }
 }
 
 /// The rank that holds a leaf; none exactly where there is no such leaf. `rank` is asked first.
@@ -144,13 +168,13 @@ pub(crate) fn holder_at<S: Store + Drop>(
     ensures { MatchOption result (IsLive tree.now.homes tree.now.covers (dir, frag) → ⊥) (λ holder. IsLive tree.now.homes tree.now.covers (dir, frag) × Rules (state_of tree.now) (held_in regions.now) (dir, frag) holder) }
 {
     // a leaf contains the hash that its value is, and no other leaf does
-    let Some(at) = locate(tree, regions, rank, dir, frag.value()) else {
+    let Some(located) = locate(tree, regions, rank, dir, frag.value()) else {
         return None;
     };
-    if at.frag != frag {
+    if located.at.frag != frag {
         return None;
     }
-    Some(at.rank)
+    Some(located.at.rank)
 }
 
 // Whether a rank is the authority of a leaf.
@@ -199,8 +223,12 @@ fn is_any_frozen<S: Store + Drop>(
     some_frozen(tree.dirs(), regions, dir, frag)
 }
 
-// The authority of a leaf that lies here.
-fn authority_at<S: Store + Drop>(tree: &MdCache<S>, regions: &Regions, at: &Dirfrag) -> Rank
+/// The authority of a leaf that lies here.
+pub(crate) fn authority_at<S: Store + Drop>(
+    tree: &MdCache<S>,
+    regions: &Regions,
+    at: &Dirfrag,
+) -> Rank
     requires live { IsLive tree.now.homes tree.now.covers (leaf_of at.now) }
     requires valid { AreRoots (state_of tree.now) regions.now.roots.roots }
     requires held { HoldsAt (state_of tree.now) (held_in regions.now) at.now }

@@ -1,112 +1,114 @@
-//! Changes of the tree, made ready and then made, with what they make of the roots.
-ghost use Rattle.std.specs.Prelude.{◌≡◌, MatchOption, IfSome, OnOk, OnErr, IfErr, length};
+//! Changes of the tree, with what they make of the subtree roots.
+ghost use Rattle.std.specs.Prelude.{◌≡◌, ◌≤◌, ◌+◌, IsSome, IfSome, MatchOption, OnOk, OnErr, IfErr, length};
 ghost use Rattle.std.specs.List.{Contains};
+ghost use Rattle.std.specs.Result.{result_err};
+ghost use Rattle.mds_types.specs.declared.inodes.Inode.{Inode as Node};
 ghost use Rattle.mds_types.specs.declared.refusals.Refusal.TheVariants.{NoMemory};
-ghost use Rattle.inode_table.specs.Dirs.{MayMove};
+ghost use Rattle.objstore.specs.Objects.{faults_told};
+ghost use Rattle.dirfrag_codec.specs.EntryRecord.{IsRankNumber};
+ghost use Rattle.inode_table.specs.declared.dirs.Home.{Home};
+ghost use Rattle.inode_table.specs.Dirs.{Covers, Homes, MayMove, leaves_of};
 ghost use Rattle.inode_table.specs.TreeTable.{home_at};
-ghost use Rattle.namespace_ops.specs.Changes.{MayChange, dentry_at, fragments_of};
-ghost use Rattle.subtree_map.specs.Authority.{IsSubtrees, Leaf};
-ghost use Rattle.subtree_map.specs.Moves.{HasRoomToMove, IsSettled};
-ghost use Rattle.mdcache.specs.Changes.{Makes};
+ghost use Rattle.namespace_ops.specs.declared.plans.Spot.{Spot as Place};
+ghost use Rattle.namespace_ops.specs.Changes.{IsNumbered, MayChange, dentry_at, fragments_of};
+ghost use Rattle.subtree_map.specs.Authority.{Leaf};
+ghost use Rattle.subtree_map.specs.Moves.{IsLostRank, IsSettled};
 ghost use Rattle.mdcache.specs.Core.{state_of};
 ghost use Rattle.mdcache.specs.Frags.{dir_moving};
-ghost use Rattle.mdcache.specs.Made.{IsRight};
 ghost use Rattle.mdcache.specs.Shown.{shown_tree};
 ghost use Rattle.mdcache.specs.Sound.{IsSound};
+ghost use Rattle.ranked_tree.specs.Changing.{ChangesHeld, FollowsChange};
 ghost use Rattle.ranked_tree.specs.Exported.{IsDivided, IsFrozenIn, held_in};
-ghost use Rattle.ranked_tree.specs.Held.{CameFor};
-ghost use Rattle.ranked_tree.specs.Ranked.{IsReady, IsReadyHeld, held_roots};
-ghost use Rattle.ranked_tree.specs.Subtrees.{AreRoots, FollowChange, HasRoomFor, KeepsRoots, LoseDirectory, SettleMoving};
+ghost use Rattle.ranked_tree.specs.Held.{AreHeldAt};
+ghost use Rattle.ranked_tree.specs.Ranked.{IsFrozenLeaf, held_roots};
+ghost use Rattle.ranked_tree.specs.Subtrees.{AreRoots, KeepsRoots, LoseDirectory};
 
+use crate::authorities::authority_at;
 use crate::ranked_tree::RankedTree;
 use crate::regions::Regions;
 use inode_table::Dirs;
 use mdcache::MdCache;
-use mds_types::{Ino, Refusal};
-use namespace_ops::{Change, Spot};
+use mds_types::{Ino, Rank, Refusal};
+use namespace_ops::Change;
 use objstore::Store;
+use std::alloc::Global;
 use subtree_map::Subtrees;
 
 impl<S: Store + Drop> RankedTree<S> {
-    /// Makes a change that may be made and was made ready, of which no leaf is frozen, with the roots: before a directory moves, those of its leaves that
-    /// would inherit another rank become roots of the one that they have; a directory that goes has none any more. Takes no
-    /// memory.
-    pub fn apply(&mut self, change: Change)
-        requires ready { IsReady self.old change }
+    /// Makes a change that may be made, of leaves that aren't frozen, each at the rank that holds it, as `MdCache::change` does and
+    /// refuses. Where a directory moves, those of its leaves that would inherit another rank there become roots of the one that
+    /// they have; a directory that goes has none any more. A new inode has a number of a rank. Takes memory for such roots first.
+    pub fn make_change(&mut self, change: Change) -> Result<(), Refusal>
         requires may { MayChange (shown_tree (state_of self.old.tree)) self.old.tree.covers change }
-        ensures made { Makes change (state_of self.old.tree) (state_of self.new.tree) }
-        ensures right { IsRight change (state_of self.old.tree) (state_of self.new.tree) }
+        requires held { AreHeldAt (state_of self.old.tree) (held_roots self.old) change }
+        requires numbered { IsNumbered IsRankNumber change }
+        requires thawed { (leaf : Leaf) → Contains (fragments_of self.old.tree.covers change) leaf → IsFrozenLeaf self.old leaf → ⊥ }
+        ensures changed { ChangesHeld (held_roots self.old) change self.old.tree self.new.tree result }
+        ensures followed { FollowsChange change (state_of self.old.tree) self.old.subtrees self.new.subtrees result }
+        ensures kept { KeepsRoots (state_of self.old.tree) (state_of self.new.tree) self.old.subtrees.roots self.new.subtrees.roots self.old.exports self.new.exports }
         ensures count { length self.new.tree.caches.used ≡ length self.old.tree.caches.used }
         ensures cap { self.new.tree.caches.cap ≡ self.old.tree.caches.cap }
-        ensures faults { self.new.tree.faults ≡ self.old.tree.faults }
-        ensures came { CameFor (held_roots self.old) change self.old.tree self.new.tree }
-        ensures roots { FollowChange change (state_of self.old.tree) self.old.subtrees.roots self.new.subtrees.roots }
-        ensures promises { LoseDirectory self.old.subtrees.promises self.new.subtrees.promises change.gone }
-        ensures kept { KeepsRoots (state_of self.old.tree) (state_of self.new.tree) self.old.subtrees.roots self.new.subtrees.roots self.old.exports self.new.exports }
+        ensures counted { self.new.tree.faults ≡ self.old.tree.faults + faults_told (result_err result) }
     {
-        change_tree(&mut self.tree, &mut self.regions, change);
+        change_tree(self.alloc, &mut self.tree, &mut self.regions, change)
     }
 }
 
-/// Makes room for the roots that a change makes, which was made ready, so that it can't fail. Refused for want of memory
-/// alone, and the roots are as they were then.
-pub(crate) fn reserve_roots<S: Store + Drop>(
-    tree: &MdCache<S>,
-    roots: &mut Subtrees,
-    change: &Change,
+// Makes a change, with the roots.
+fn change_tree<S: Store + Drop>(
+    alloc: Global,
+    tree: &mut MdCache<S>,
+    regions: &mut Regions,
+    change: Change,
 ) -> Result<(), Refusal>
-    requires sound { IsSound (state_of tree.now) }
-    requires may { MayChange (shown_tree (state_of tree.now)) tree.now.covers change.now }
-    ensures room { OnOk result (HasRoomFor change.now (state_of tree.now) roots.new.roots roots.new.room) }
-    ensures same { roots.new.roots ≡ roots.old.roots }
-    ensures promises { roots.new.promises ≡ roots.old.promises }
-    ensures refused { IfErr result (λ reason. reason ≡ NoMemory) }
-    ensures left { OnErr result (roots.new ≡ roots.old) }
-{
-    match &change.puts {
-        Some(put) => reserve_move(tree.dirs(), roots, moving(change), &put.0),
-        None => Ok(()),
-    }
-}
-
-// Makes a change that was made ready, with the roots: before a directory moves, those of its leaves that would inherit
-// another rank become roots of the one that they have; a directory that goes has none any more, and no promise of one is
-// left. Takes no memory.
-fn change_tree<S: Store + Drop>(tree: &mut MdCache<S>, regions: &mut Regions, change: Change)
-    requires ready { IsReadyHeld tree.old (held_in regions.old) change }
-    requires thawed { (leaf : Leaf) → Contains (fragments_of tree.old.covers change) leaf → IsFrozenIn (state_of tree.old) regions.old leaf → ⊥ }
-    requires may { MayChange (shown_tree (state_of tree.old)) tree.old.covers change }
-    requires room { HasRoomFor change (state_of tree.old) regions.old.roots.roots regions.old.roots.room }
     requires divided { IsDivided tree.old regions.old }
-    ensures made { Makes change (state_of tree.old) (state_of tree.new) }
-    ensures right { IsRight change (state_of tree.old) (state_of tree.new) }
+    requires may { MayChange (shown_tree (state_of tree.old)) tree.old.covers change }
+    requires held { AreHeldAt (state_of tree.old) (held_in regions.old) change }
+    requires numbered { IsNumbered IsRankNumber change }
+    requires thawed { (leaf : Leaf) → Contains (fragments_of tree.old.covers change) leaf → IsFrozenIn (state_of tree.old) regions.old leaf → ⊥ }
+    ensures changed { ChangesHeld (held_in regions.old) change tree.old tree.new result }
+    ensures followed { FollowsChange change (state_of tree.old) regions.old.roots regions.new.roots result }
+    ensures kept { KeepsRoots (state_of tree.old) (state_of tree.new) regions.old.roots.roots regions.new.roots.roots regions.old.exports regions.new.exports }
     ensures count { length tree.new.caches.used ≡ length tree.old.caches.used }
     ensures cap { tree.new.caches.cap ≡ tree.old.caches.cap }
-    ensures faults { tree.new.faults ≡ tree.old.faults }
-    ensures came { CameFor (held_in regions.old) change tree.old tree.new }
-    ensures roots { FollowChange change (state_of tree.old) regions.old.roots.roots regions.new.roots.roots }
-    ensures promises { LoseDirectory regions.old.roots.promises regions.new.roots.promises change.gone }
-    ensures kept { KeepsRoots (state_of tree.old) (state_of tree.new) regions.old.roots.roots regions.new.roots.roots regions.old.exports regions.new.exports }
+    ensures counted { tree.new.faults ≡ tree.old.faults + faults_told (result_err result) }
     ensures divided { IsDivided tree.new regions.new }
 {
-    settle(tree, &mut regions.roots, &change);
+    let lost = lost_rank(tree, regions, &change);
+    let moves = moving(&change);
     let went = change.gone;
-    tree.apply(change);
+    if let Err(refusal) = reserve_lost(tree.dirs(), &mut regions.roots, moves, lost) {
+        drop(change);
+        return Err(refusal);
+    }
+    if let Err(refusal) = tree.change(alloc, change) {
+        return Err(refusal);
+    }
+    settle(tree.dirs(), &mut regions.roots, moves, lost);
     lose(&mut regions.roots, went);
+    Ok(())
 }
 
-// Before a change makes a directory move, its roots are settled.
-fn settle<S: Store + Drop>(tree: &MdCache<S>, roots: &mut Subtrees, change: &Change)
-    requires sound { IsSound (state_of tree.now) }
-    requires valid { AreRoots (state_of tree.now) roots.old.roots }
+// The rank that the leaves of a directory inherit that a change moves, if they would inherit another at its new place: those of the
+// leaves that hold its dentries, of which it is known where they lie.
+fn lost_rank<S: Store + Drop>(tree: &MdCache<S>, regions: &Regions, change: &Change) -> Option<Rank>
+    requires divided { IsDivided tree.now regions.now }
     requires may { MayChange (shown_tree (state_of tree.now)) tree.now.covers change.now }
-    requires room { HasRoomFor change.now (state_of tree.now) roots.old.roots roots.old.room }
-    ensures settled { SettleMoving change.now (state_of tree.now) roots.old.roots roots.new.roots }
-    ensures promises { roots.new.promises ≡ roots.old.promises }
+    requires held { AreHeldAt (state_of tree.now) (held_in regions.now) change.now }
+    ensures { (put : Place × Node) → change.now.puts ≡ Some put → IfSome (dir_moving change.now) (λ dir. IsLostRank regions.now.roots.roots tree.now.homes tree.now.covers dir.0 (home_at (dentry_at put.0)) result) }
 {
-    if let Some(put) = &change.puts {
-        settle_move(tree.dirs(), roots, moving(change), &put.0);
+    let Some(from) = &change.takes else {
+        return None;
+    };
+    let Some(put) = &change.puts else {
+        return None;
+    };
+    let was = authority_at(tree, regions, &from.at);
+    let other = authority_at(tree, regions, &put.0.at);
+    if other == was {
+        return None;
     }
+    Some(was)
 }
 
 // The number of the directory that a change moves, if it moves one.
@@ -125,36 +127,32 @@ fn moving(change: &Change) -> Option<Ino>
     }
 }
 
-// Makes room for what the move of a directory to a dentry makes, if one moves.
-fn reserve_move(
+// Makes room for the leaves of a directory that moves, where they lose their rank.
+fn reserve_lost(
     dirs: &Dirs,
     roots: &mut Subtrees,
-    moving: Option<Ino>,
-    to: &Spot,
+    moves: Option<Ino>,
+    lost: Option<Rank>,
 ) -> Result<(), Refusal>
-    requires may { IfSome moving (λ dir. MayMove dirs.now.homes dir.0 (home_at (dentry_at to.now))) }
-    ensures room { OnOk result (IfSome moving (λ dir. HasRoomToMove roots.new.roots roots.new.room dirs.now.homes dirs.now.trees dir.0 (home_at (dentry_at to.now)))) }
+    ensures room { OnOk result (IfSome moves (λ dir. IsSome lost → length (leaves_of dirs.now.trees dir.0) ≤ roots.new.room)) }
     ensures same { roots.new.roots ≡ roots.old.roots }
     ensures promises { roots.new.promises ≡ roots.old.promises }
     ensures refused { IfErr result (λ reason. reason ≡ NoMemory) }
-    ensures left { OnErr result (roots.new ≡ roots.old) }
 {
-    let Some(dir) = moving else {
-        return Ok(());
-    };
-    roots.reserve_rename(dirs, dir, to.at.dir, &to.name)
+    match (moves, lost) {
+        (Some(dir), Some(_)) => roots.reserve(dirs.leaf_count(dir)),
+        _ => Ok(()),
+    }
 }
 
-// Settles the roots of a directory that is about to move to a dentry, if one is.
-fn settle_move(dirs: &Dirs, roots: &mut Subtrees, moving: Option<Ino>, to: &Spot)
-    requires may { IfSome moving (λ dir. MayMove dirs.now.homes dir.0 (home_at (dentry_at to.now))) }
-    requires room { IfSome moving (λ dir. HasRoomToMove roots.old.roots roots.old.room dirs.now.homes dirs.now.trees dir.0 (home_at (dentry_at to.now))) }
-    requires valid { IsSubtrees roots.old.roots dirs.now.homes dirs.now.trees }
-    ensures settled { MatchOption moving (roots.new.roots ≡ roots.old.roots) (λ dir. IsSettled roots.old.roots roots.new.roots dirs.now.homes dirs.now.trees dir.0 (home_at (dentry_at to.now))) }
+// The leaves of a directory that moved become roots of the rank that they lost, but for those that are roots.
+fn settle(dirs: &Dirs, roots: &mut Subtrees, moves: Option<Ino>, lost: Option<Rank>)
+    requires room { IfSome moves (λ dir. IsSome lost → length (leaves_of dirs.now.trees dir.0) ≤ roots.old.room) }
+    ensures settled { (homes : Homes) (covers : Covers) (home : Home) → MatchOption moves (roots.new.roots ≡ roots.old.roots) (λ dir. leaves_of covers dir.0 ≡ leaves_of dirs.now.trees dir.0 → MayMove homes dir.0 home → IsLostRank roots.old.roots homes covers dir.0 home lost → IsSettled roots.old.roots roots.new.roots homes covers dir.0 home) }
     ensures promises { roots.new.promises ≡ roots.old.promises }
 {
-    if let Some(dir) = moving {
-        roots.after_rename(dirs, dir, to.at.dir, &to.name);
+    if let Some(dir) = moves {
+        roots.after_rename(dirs, dir, lost);
     }
 }
 

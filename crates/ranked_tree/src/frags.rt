@@ -1,31 +1,25 @@
-//! Operations run over the tree that is shown: each leaf is asked, and made ready, at the rank that holds it. What a change needs
-//! of the roots is made ready with it.
+//! Operations run over the tree that is shown: each leaf is asked, and changed, at the rank that holds it.
 ghost use Rattle.std.specs.Prelude.{◌≡◌, true, IfOk, IfErr, OnOk};
 ghost use Rattle.std.specs.Result.{result_err};
 ghost use Rattle.std.specs.FinMap as map;
 ghost use Rattle.mds_types.specs.Leaf.{leaf_of};
-ghost use Rattle.dirfrag_codec.specs.EntryRecord.{IsRankNumber};
-ghost use Rattle.namespace_ops.specs.Changes.{IsNumbered, MayChange};
 ghost use Rattle.namespace_ops.specs.Places.{LiesAt};
-ghost use Rattle.mdcache.specs.Frags.{KeepsState, LacksToMake};
+ghost use Rattle.mdcache.specs.Frags.{KeepsState};
 ghost use Rattle.mdcache.specs.Core.{state_of};
 ghost use Rattle.mdcache.specs.Reads.{MayNotFind};
-ghost use Rattle.mdcache.specs.Ready.{MayNotBeReady};
 ghost use Rattle.mdcache.specs.Shown.{shown_tree};
-ghost use Rattle.ranked_tree.specs.Held.{AreHeldAt, IsNewestHeld, IsOwned, LacksPlacesAsked, LacksPlacesFor, NamesDir, ReadsDir, ReadsFor};
+ghost use Rattle.ranked_tree.specs.Held.{IsNewestHeld, IsOwned, LacksPlacesFor, ReadsDir};
 ghost use Rattle.ranked_tree.specs.Exported.{held_in};
-ghost use Rattle.ranked_tree.specs.Ranked.{IsReadyHeld};
 ghost use Rattle.ranked_tree.specs.Subtrees.{HoldsAt};
 
 use crate::authorities::locate;
-use crate::changing::reserve_roots;
 use crate::emptiness::is_dir_empty;
 use crate::listing::list_dir;
 use crate::ranked_tree::RankedTree;
 use crate::regions::Regions;
 use mdcache::MdCache;
 use mds_types::{Dentry, Dirfrag, Frag, Ino, Inode, Listing, Name, Op, PageSize, Rank, Refusal};
-use namespace_ops::{Change, Frags};
+use namespace_ops::{Change, Frags, Located};
 use objstore::Store;
 use std::alloc::Global;
 
@@ -33,6 +27,7 @@ impl<S: Store + Drop> Frags for RankedTree<S> {
     ghost use Rattle.std.specs.Prelude.{refl};
     ghost use Rattle.dirfrag_codec.specs.EntryRecord.{IsRankNumber};
     ghost use Rattle.std.proofs.Common.{◌∙◌, ap, subst, sym};
+    ghost use Rattle.dentry_cache.specs.Came.{NoneEnds};
     ghost use Rattle.dentry_cache.specs.Reads.{Reads};
     ghost use Rattle.dentry_cache.specs.Reads.Reads.{stays};
     ghost use Rattle.dentry_cache.proofs.ReadsLaws.{reads_then};
@@ -40,14 +35,14 @@ impl<S: Store + Drop> Frags for RankedTree<S> {
     ghost use Rattle.subtree_map.specs.Authority.{Leaf, Roots};
     ghost use Rattle.mdcache.specs.State.{State as TreeState};
     ghost use Rattle.mdcache.proofs.FragsLaws.{keeps_itself, keeps_on, keeps_refused, lacked_asked, refused_later, refused_so, untouched_by, untouched_on};
-    ghost use Rattle.ranked_tree.specs.Held.{AnyPlace, AsksFor, LacksPlacesAsked, ReadsFor};
+    ghost use Rattle.ranked_tree.specs.Held.{AsksFor, LacksPlacesAsked, ReadsFor};
     ghost use Rattle.ranked_tree.specs.Subtrees.{HoldsAt, Rules};
     ghost use Rattle.mds_types.specs.declared.ids.Rank.{Rank as RankNumber};
     ghost use Rattle.std.specs.Prelude.{None, ℕ};
     ghost use Rattle.mds_types.specs.declared.refusals.Refusal.TheVariants.{NoInodes, NoMemory};
     ghost use Rattle.mdcache.specs.Made.{IsUntouched};
     ghost use Rattle.mdcache.specs.Shown.{shown_tree};
-    ghost use Rattle.ranked_tree.specs.Ranked.{IsFrozenLeaf, IsReady as IsRankedReady, KeepsRanked, MayRefuse, held_roots};
+    ghost use Rattle.ranked_tree.specs.Ranked.{IsFrozenLeaf, KeepsRanked, MayRefuse, held_roots};
     ghost use Rattle.export_steps.specs.Holder.{IsFrozen, holding};
     ghost use Rattle.export_steps.specs.Standing.{Standing};
 
@@ -61,8 +56,6 @@ impl<S: Store + Drop> Frags for RankedTree<S> {
 
     ghost MayTouch = { λ t leaf. (IsFrozenLeaf t leaf → ⊥) };
 
-    ghost IsReady = { λ t change. IsRankedReady t change };
-
     ghost Follows = { λ a b op told. KeepsRanked a b op told };
 
     ghost Unchanged = { λ a b leaf. IsUntouched (state_of a.tree) (state_of b.tree) leaf };
@@ -75,8 +68,8 @@ impl<S: Store + Drop> Frags for RankedTree<S> {
       tree = keeps_on a.tree b.tree c.tree told p.tree q.tree;
       roots = q.roots ∙ p.roots;
       exports = q.exports ∙ p.exports;
-      reads = reads_then (AsksFor (state_of a.tree) (held_roots a) (Concerns (shown_tree (state_of a.tree)) op)) AnyPlace a.tree.objects a.tree.caches b.tree.caches c.tree.caches p.reads
-          (subst (λ (s : TreeState). Reads (AsksFor s (held_roots a) (Concerns (shown_tree s) op)) AnyPlace s.objects b.tree.caches c.tree.caches) p.tree.state
+      reads = reads_then (AsksFor (state_of a.tree) (held_roots a) (Concerns (shown_tree (state_of a.tree)) op)) NoneEnds a.tree.objects a.tree.caches b.tree.caches c.tree.caches p.reads
+          (subst (λ (s : TreeState). Reads (AsksFor s (held_roots a) (Concerns (shown_tree s) op)) NoneEnds s.objects b.tree.caches c.tree.caches) p.tree.state
           (subst (λ (r : Roots). ReadsFor r (Concerns (shown_tree (state_of b.tree)) op) b.tree c.tree) (ap (λ (r : Roots). holding b.exports r) p.roots ∙ ap (λ (e : Standing). holding e a.subtrees.roots) p.exports) q.reads));
     } };
 
@@ -120,11 +113,7 @@ impl<S: Store + Drop> Frags for RankedTree<S> {
         self.tree.is_above(dir, below)
     }
 
-    fn count(&self, dir: Ino) -> u64 {
-        self.tree.count(dir)
-    }
-
-    fn locate(&self, rank: Rank, dir: Ino, hash: u32) -> Option<Dirfrag> {
+    fn locate(&self, rank: Rank, dir: Ino, hash: u32) -> Option<Located> {
         locate(&self.tree, &self.regions, rank, dir, hash)
     }
 
@@ -151,15 +140,8 @@ impl<S: Store + Drop> Frags for RankedTree<S> {
         is_dir_empty(self.alloc, &mut self.tree, &self.regions, dir)
     }
 
-    fn ready(&mut self, _op: &Op, change: &Change) -> Result<(), Refusal> {
-        if let Err(refusal) = prepare(self.alloc, &mut self.tree, &self.regions, change) {
-            return Err(refusal);
-        }
-        reserve_roots(&self.tree, &mut self.regions.roots, change)
-    }
-
-    fn change(&mut self, change: Change) {
-        self.apply(change);
+    fn change(&mut self, _op: &Op, change: Change) -> Result<(), Refusal> {
+        self.make_change(change)
     }
 }
 
@@ -181,24 +163,4 @@ fn look<S: Store + Drop>(
     ensures refused { IfErr result (MayNotFind (LacksPlacesFor 1 tree.old (held_in regions.now) (leaf_of at.now)) tree.old.faults tree.new.faults) }
 {
     tree.look(alloc, at, &dentry.name)
-}
-
-// Makes a change ready in the caches of the ranks that hold its leaves.
-fn prepare<S: Store + Drop>(
-    alloc: Global,
-    tree: &mut MdCache<S>,
-    regions: &Regions,
-    change: &Change,
-) -> Result<(), Refusal>
-    requires may { MayChange (shown_tree (state_of tree.old)) tree.old.covers change.now }
-    requires held { AreHeldAt (state_of tree.old) (held_in regions.now) change.now }
-    requires numbered { IsNumbered IsRankNumber change.now }
-    requires owned { IsOwned tree.old (held_in regions.now) }
-    ensures ready { OnOk result (IsReadyHeld tree.new (held_in regions.now) change.now) }
-    ensures kept { KeepsState tree.old tree.new (result_err result) }
-    ensures reads { ReadsFor (held_in regions.now) (NamesDir change.now) tree.old tree.new }
-    ensures owned { IsOwned tree.new (held_in regions.now) }
-    ensures refused { IfErr result (MayNotBeReady (LacksToMake change.now (state_of tree.old)) (LacksPlacesAsked 2 tree.old (held_in regions.now) (NamesDir change.now)) tree.old.faults tree.new.faults) }
-{
-    tree.prepare(alloc, change)
 }

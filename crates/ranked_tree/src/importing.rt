@@ -3,14 +3,13 @@ ghost use Rattle.std.specs.Prelude.{◌≡◌, ◌↔◌, Some, IfErr, IfOk, IsT
 ghost use Rattle.std.specs.FinMap as map;
 ghost use Rattle.mds_types.specs.declared.object_names.ObjName.TheVariants.{Frag as FragOf};
 ghost use Rattle.mds_types.specs.declared.refusals.Refusal.TheVariants.{Damaged};
-ghost use Rattle.dentry_cache.specs.CacheCalls.{KeepsNone};
 ghost use Rattle.dentry_cache.specs.CacheMap.{AreCaches};
 ghost use Rattle.export_regions.specs.Regions.{AreCachedOf};
 ghost use Rattle.export_steps.specs.declared.exports.ExportState.TheVariants as state;
 ghost use Rattle.export_steps.specs.Standing.{IsBetweenRanks};
 ghost use Rattle.mdcache.specs.Core.{IsSoundCore, LacksPlacesAt, shown_in, state_of};
 ghost use Rattle.ranked_tree.specs.Exported.{IsDivided};
-ghost use Rattle.ranked_tree.specs.Importing.{Imports, IsSpelledBy, IsWrong, KeepsRegion, LeavesCaches, MayNotImport, RefusesImport, StaysAtOnce, Takes, TakesAtOnce};
+ghost use Rattle.ranked_tree.specs.Importing.{Imports, IsSpelledBy, IsWrong, KeepsRegion, LeavesCaches, MayNotImport, RefusesImport, Takes};
 ghost use Rattle.ranked_tree.specs.Ranked.{held_roots};
 ghost use Rattle.ranked_tree.specs.Sending.{IsInRegionOf};
 ghost use Rattle.ranked_tree.specs.Subtrees.{KeepsOutside};
@@ -46,7 +45,7 @@ impl<S: Store + Drop> RankedTree<S> {
         ensures refused { IfErr result (RefusesImport (λ count rank. LacksPlacesAt count self.old.tree rank) (state_of self.old.tree) self.old.subtrees.roots self.old.exports (dir, frag) bytes.now) }
         ensures left { OnErr result (state_of self.new.tree ≡ state_of self.old.tree) }
         ensures stands { OnErr result (self.new.exports ≡ self.old.exports) }
-        ensures caches { IfErr result (LeavesCaches self.old.tree.objects self.old.exports (dir, frag) self.old.tree.caches self.new.tree.caches) }
+        ensures caches { IfErr result (LeavesCaches self.old.exports (dir, frag) self.old.tree.caches self.new.tree.caches) }
         ensures shown { shown_in self.new.tree ≡ shown_in self.old.tree }
         ensures roots { self.new.subtrees ≡ self.old.subtrees }
         ensures others { KeepsOutside (Some (dir, frag)) (state_of self.old.tree) (state_of self.new.tree) (held_roots self.old) (held_roots self.new) }
@@ -75,8 +74,7 @@ impl<S: Store + Drop> RankedTree<S> {
     }
 }
 
-// Takes the region of a sent export over from its exporter to its importer, where the bytes are the region's. What was made ready for
-// a change that didn't come is given up first, so that its place is free.
+// Takes the region of a sent export over from its exporter to its importer, where the bytes are the region's.
 fn take_region<S: Store + Drop>(
     alloc: Global,
     tree: &mut MdCache<S>,
@@ -92,36 +90,7 @@ fn take_region<S: Store + Drop>(
     ensures taken { OnOk result (Takes tree.old tree.new regions.now root.now export bytes.now) }
     ensures refused { IfErr result (MayNotImport (λ count rank. LacksPlacesAt count tree.old rank) (state_of tree.old) regions.now.roots.roots root.now export bytes.now) }
     ensures left { OnErr result (state_of tree.new ≡ state_of tree.old) }
-    ensures caches { IfErr result (KeepsRegion tree.old.objects export.importer tree.old.caches tree.new.caches) }
-    ensures still { OnErr result (IsDivided tree.new regions.now) }
-    ensures shown { shown_in tree.new ≡ shown_in tree.old }
-    ensures count { length tree.new.caches.used ≡ length tree.old.caches.used }
-    ensures cap { tree.new.caches.cap ≡ tree.old.caches.cap }
-    ensures faults { tree.new.faults ≡ tree.old.faults }
-    ensures sound { IsSoundCore tree.new }
-{
-    tree.give_up();
-    take_at_once(alloc, tree, regions, root, export, bytes)
-}
-
-// So it is where no place is kept.
-fn take_at_once<S: Store + Drop>(
-    alloc: Global,
-    tree: &mut MdCache<S>,
-    regions: &Regions,
-    root: &(Ino, Frag),
-    export: StandingExport,
-    bytes: &[u8],
-) -> Result<(), Refusal>
-    requires divided { IsDivided tree.old regions.now }
-    requires none { KeepsNone tree.old.caches }
-    requires stands { map.get regions.now.exports root.now ≡ Some export }
-    requires sent { export.state ≡ state.Sent }
-    requires ranks { IsBetweenRanks export }
-    ensures taken { OnOk result (TakesAtOnce tree.old tree.new regions.now root.now export bytes.now) }
-    ensures refused { IfErr result (MayNotImport (λ count rank. LacksPlacesAt count tree.old rank) (state_of tree.old) regions.now.roots.roots root.now export bytes.now) }
-    ensures left { OnErr result (state_of tree.new ≡ state_of tree.old) }
-    ensures caches { IfErr result (StaysAtOnce export.importer tree.old.caches tree.new.caches) }
+    ensures caches { IfErr result (KeepsRegion export.importer tree.old.caches tree.new.caches) }
     ensures still { OnErr result (IsDivided tree.new regions.now) }
     ensures shown { shown_in tree.new ≡ shown_in tree.old }
     ensures beside { tree.new ≡ record tree.old { caches = tree.new.caches } }

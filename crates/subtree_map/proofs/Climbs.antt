@@ -7,13 +7,12 @@ use Rattle.mds_types.specs.declared.ids.Ino.{Ino}
 use Rattle.mds_types.specs.declared.ids.Rank.{Rank}
 use Rattle.mds_types.specs.Frag.{Fragment}
 use Rattle.mds_types.specs.Leaf.{Leaf}
-use Rattle.fragtree.specs.FragTree.{HasLeaf, IsPick}
+use Rattle.fragtree.specs.FragTree.{IsPick}
 use Rattle.namehash.specs.Rjenkins.{hash_of}
 use Rattle.inode_table.specs.declared.dirs.Home.{Home}
 use Rattle.inode_table.specs.Dirs.{Homes, Covers, IsLeafAt, IsLive, IsTable, is_known, leaves_of}
 use Rattle.subtree_map.specs.Authority.{Roots, HoldsDentry, IsLocated, IsSubtrees, NearestRoot}
 use Rattle.subtree_map.specs.Climb.{FindsAbove, FindsRow, IsNearestRow}
-use Rattle.subtree_map.specs.Moves.{IsInheritedAt}
 use Rattle.subtree_map.proofs.Nearest.{one_holder, one_root, parent_known, some_root}
 
 module _ (homes : Homes) (covers : Covers) where
@@ -35,22 +34,6 @@ module _ (homes : Homes) (covers : Covers) where
     located dir hash leaf above row at near = record { known = at.known; pick = at.pick; has = record { root = row.0; nearest = near.nearest; ranked = near.ranked } }
 
     module _ (home : Home) where
-      -- the rank that is found above is the one that is inherited, and where none is found none is
-      pub inherited_above : (row : Leaf × Rank) → FindsAbove roots homes covers home (Some row) → IsInheritedAt roots homes covers home row.1
-      inherited_above row (holder, holds, near) = record { holder = holder; holds = holds; has = record { root = row.0; nearest = near.nearest; ranked = near.ranked } }
-
-      pub none_above : FindsAbove roots homes covers home None → (rank : Rank) → IsInheritedAt roots homes covers home rank → ⊥
-      none_above (holder, holds, none) rank is = none is.has.root (subst (λ k. NearestRoot roots homes covers k is.has.root) (one_holder covers home is.holder holder is.holds holds) is.has.nearest)
-
-      -- one is found where the parent stands
-      pub finds_above : IsTable homes covers → IsSubtrees roots homes covers → is_known homes home.parent.0 ≡ true → FindsAbove roots homes covers home None → ⊥
-      finds_above table valid known (holder, holds, none) =
-          let stands : IsLive homes covers holder = record {
-            known = subst (λ (d : Ino). is_known homes d.0 ≡ true) (sym holds.parent) known;
-            stands = subst (λ (d : Ino). HasLeaf (leaves_of covers d.0) holder.1) (sym holds.parent) holds.pick.stands;
-          } in
-          finds_some table valid holder stands None none refl
-
       -- the row that is found above is that of a root exactly where the leaf that holds the dentry is in its region
       pub row_above : (found : Option (Leaf × Rank)) (root : Leaf) → FindsAbove roots homes covers home found → (option_map (λ (row : Leaf × Rank). row.0) found ≡ Some root)
           ↔ ((holder : Leaf) × HoldsDentry covers home holder × NearestRoot roots homes covers holder root)

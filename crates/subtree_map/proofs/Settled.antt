@@ -31,13 +31,6 @@ inherits roots homes covers leaf was rank none stands has = go leaf has.root non
       has = record { root = root; nearest = rest; ranked = ranked };
     }
 
--- a rank isn't both kept and lost
-pub not_both : (roots : Roots) (homes : Homes) (covers : Covers) (d : ℕ) (home : Home) (rank : Rank) → IsLostRank roots homes covers d home None → IsLostRank roots homes covers d home (Some rank) → ⊥
-not_both roots homes covers d home rank (was, kept, stands, before, after) (also, other, there, lost, gets, apart) =
-    let same : also ≡ was = one_value _ also was there stands in
-    let own : rank ≡ kept = one_inherited roots homes covers was rank kept (subst (λ (h : Home). IsInheritedAt roots homes covers h rank) same lost) before in
-    apart (own ∙ one_inherited roots homes covers home kept other after gets)
-
 module _ (old : Roots) (homes : Homes) (covers : Covers) (d : ℕ) (home : Home) where
   -- where the rank stays nothing changes
   pub settled_none : (new : Roots) → new ≡ old → IsLostRank old homes covers d home None → IsSettled old new homes covers d home

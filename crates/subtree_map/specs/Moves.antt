@@ -1,9 +1,9 @@
 -- What a directory's move makes of the authority of every leaf: nothing.
-use Rattle.std.specs.Prelude.{◌≡◌, ◌≢◌, ◌⊎◌, ℕ, ◌≤◌, Option, Some, None, IsSome, length}
+use Rattle.std.specs.Prelude.{◌≡◌, ◌≢◌, ◌⊎◌, ℕ, Option, Some, None, IsSome}
 use Rattle.std.specs.FinMap as map
 use Rattle.mds_types.specs.declared.ids.Rank.{Rank}
 use Rattle.inode_table.specs.declared.dirs.Home.{Home}
-use Rattle.inode_table.specs.Dirs.{Homes, Covers, IsLive, leaves_of}
+use Rattle.inode_table.specs.Dirs.{Homes, Covers, IsLive}
 use Rattle.mds_types.specs.Leaf.{Leaf}
 use Rattle.subtree_map.specs.Authority.{Roots, HoldsDentry, HasAuthority, IsSubtrees}
 use Rattle.subtree_map.specs.Changes.{KeepAuthority, Stays}
@@ -19,10 +19,6 @@ abbrev pub IsLostRank : Roots → Homes → Covers → ℕ → Home → Option R
 IsLostRank roots homes covers d home None = (was : Home) × (rank : Rank) × (map.get homes d ≡ Some was) × IsInheritedAt roots homes covers was rank × IsInheritedAt roots homes covers home rank
 IsLostRank roots homes covers d home (Some rank) =
     (was : Home) × (other : Rank) × (map.get homes d ≡ Some was) × IsInheritedAt roots homes covers was rank × IsInheritedAt roots homes covers home other × (rank ≢ other)
-
--- there is room for what a move makes: where its leaves would inherit another rank, for each of them
-abbrev pub HasRoomToMove : Roots → ℕ → Homes → Covers → ℕ → Home → Type 0
-HasRoomToMove roots room homes covers d home = (rank : Rank) → IsLostRank roots homes covers d home (Some rank) → length (leaves_of covers d) ≤ room
 
 -- before a directory moves: those of its leaves that inherit, and would inherit another rank at the new place, become roots of the rank that they have; no other root changes
 pub record IsSettled (old new : Roots) (homes : Homes) (covers : Covers) (d : ℕ) (home : Home) : Type 0 where

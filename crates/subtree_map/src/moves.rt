@@ -1,82 +1,35 @@
 //! The roots where a directory moves.
-ghost use Rattle.std.specs.Prelude.{◌≡◌, ◌≢◌, ◌+◌, ◌^◌, ◌<◌, ◌≤◌, ◌⊎◌, Some, None, IsOk, IsSome, IfSome, IfNone, OnOk, OnErr, IfErr, length};
-ghost use Rattle.std.specs.FinMap as map;
-ghost use Rattle.mds_types.specs.declared.ids.Rank.{Rank as RankNumber};
-ghost use Rattle.mds_types.specs.declared.refusals.Refusal.TheVariants.{NoMemory};
+ghost use Rattle.std.specs.Prelude.{◌≡◌, ◌+◌, ◌^◌, ◌<◌, ◌≤◌, IsSome, length};
 ghost use Rattle.mds_types.specs.Frag.{IsFragment, span};
-ghost use Rattle.inode_table.specs.Dirs.{MayMove, leaves_of};
+ghost use Rattle.inode_table.specs.declared.dirs.Home.{Home};
+ghost use Rattle.inode_table.specs.Dirs.{Covers, Homes, IsTable, MayMove, leaves_of};
 ghost use Rattle.subtree_map.specs.Authority.{IsSubtrees};
 ghost use Rattle.subtree_map.specs.Changes.{AreFilled};
-ghost use Rattle.subtree_map.specs.Moves.{HasRoomToMove, IsLostRank, IsSettled, MovesSoundly};
+ghost use Rattle.subtree_map.specs.Moves.{IsLostRank, IsSettled, MovesSoundly};
 ghost use Rattle.subtree_map.specs.Rows.{IsFilled};
 
 use crate::lists::Lists;
 use crate::subtrees::Subtrees;
 use inode_table::Dirs;
-use mds_types::{Frag, Ino, Name, Rank, Refusal};
+use mds_types::{Frag, Ino, Rank};
 
 impl Subtrees {
-    /// Makes room for what a directory's move to another place makes, so that `after_rename` can't fail. Where the room
-    /// is there already nothing is done, so not where the directory's leaves would inherit the same rank there. Refused
-    /// for want of memory alone, and then all is left as it was.
-    pub fn reserve_rename(
-        &mut self,
-        dirs: &Dirs,
-        dir: Ino,
-        parent: Ino,
-        name: &Name,
-    ) -> Result<(), Refusal>
-        requires may { MayMove dirs.now.homes dir.0 (record { parent = parent; name = name.now }) }
-        ensures ok { OnOk result (HasRoomToMove self.new.roots self.new.room dirs.now.homes dirs.now.trees dir.0 (record { parent = parent; name = name.now })) }
-        ensures roots { self.new.roots ≡ self.old.roots }
-        ensures promises { self.new.promises ≡ self.old.promises }
-        ensures grows { self.old.room ≤ self.new.room }
-        ensures ready { HasRoomToMove self.old.roots self.old.room dirs.now.homes dirs.now.trees dir.0 (record { parent = parent; name = name.now }) → IsOk result × (self.new ≡ self.old) }
-        ensures err { IfErr result (λ reason. reason ≡ NoMemory) }
-        ensures left { OnErr result (self.new ≡ self.old) }
-    {
-        match self.lost_rank(dirs, dir, parent, name) {
-            Some(_) => self.reserve(dirs.leaf_count(dir)),
-            None => Ok(()),
-        }
-    }
-
-    /// A directory is about to move to another place: those of its leaves that inherit their rank, and would inherit
-    /// another there, become roots of the rank that they have, so that the move changes the authority of no leaf. There
-    /// has to be room. Takes no memory.
+    /// A directory has moved to another place, and keeps its leaves. `lost` is the rank that they inherited, if they would inherit
+    /// another there (`IsLostRank`): those of them that are no roots become roots of it then, so that the move changed the authority
+    /// of no leaf. There has to be room for them. Takes no memory.
     ///
-    /// It is called before the directory table is told, since it asks whose the leaves are.
-    pub fn after_rename(&mut self, dirs: &Dirs, dir: Ino, parent: Ino, name: &Name)
-        requires may { MayMove dirs.now.homes dir.0 (record { parent = parent; name = name.now }) }
-        requires room { HasRoomToMove self.old.roots self.old.room dirs.now.homes dirs.now.trees dir.0 (record { parent = parent; name = name.now }) }
-        ensures roots { IsSubtrees self.old.roots dirs.now.homes dirs.now.trees → IsSettled self.old.roots self.new.roots dirs.now.homes dirs.now.trees dir.0 (record { parent = parent; name = name.now }) }
-        ensures authority { IsSubtrees self.old.roots dirs.now.homes dirs.now.trees → MovesSoundly self.old.roots self.new.roots dirs.now.homes dirs.now.trees dir.0 (record { parent = parent; name = name.now }) }
+    /// `dirs` is the table after the move, of which the directory's leaves are asked.
+    pub fn after_rename(&mut self, dirs: &Dirs, dir: Ino, lost: Option<Rank>)
+        requires room { IsSome lost → length (leaves_of dirs.now.trees dir.0) ≤ self.old.room }
+        ensures roots { (homes : Homes) (covers : Covers) (home : Home) → leaves_of covers dir.0 ≡ leaves_of dirs.now.trees dir.0 → MayMove homes dir.0 home → IsLostRank self.old.roots homes covers dir.0 home lost → IsSettled self.old.roots self.new.roots homes covers dir.0 home }
+        ensures authority { (homes : Homes) (covers : Covers) (home : Home) → leaves_of covers dir.0 ≡ leaves_of dirs.now.trees dir.0 → MayMove homes dir.0 home → IsLostRank self.old.roots homes covers dir.0 home lost → IsTable homes covers → IsSubtrees self.old.roots homes covers
+            → MovesSoundly self.old.roots self.new.roots homes covers dir.0 home }
         ensures promises { self.new.promises ≡ self.old.promises }
         ensures room { self.old.room ≤ self.new.room + length (leaves_of dirs.now.trees dir.0) }
     {
-        dirs.is_table();
-        if let Some(rank) = self.lost_rank(dirs, dir, parent, name) {
+        if let Some(rank) = lost {
             fill(&mut self.lists, dirs, dir, rank);
         }
-    }
-
-    // The rank that a directory's leaves inherit, if they would inherit another at another place.
-    fn lost_rank(&self, dirs: &Dirs, dir: Ino, parent: Ino, name: &Name) -> Option<Rank>
-        requires { MayMove dirs.now.homes dir.0 (record { parent = parent; name = name.now }) }
-        ensures lost { IfSome result (λ rank. IsLostRank self.now.roots dirs.now.homes dirs.now.trees dir.0 (record { parent = parent; name = name.now }) (Some rank)) }
-        ensures none { IfNone result ((rank : RankNumber) → IsLostRank self.now.roots dirs.now.homes dirs.now.trees dir.0 (record { parent = parent; name = name.now }) (Some rank) → ⊥) }
-        ensures kept { IfNone result (IsSubtrees self.now.roots dirs.now.homes dirs.now.trees → IsLostRank self.now.roots dirs.now.homes dirs.now.trees dir.0 (record { parent = parent; name = name.now }) None) }
-    {
-        dirs.is_table();
-        let Some(home) = dirs.get(dir) else {
-            unreachable!();
-        };
-        let (_, rank) = self.root_above(dirs, home.parent, &home.name)?;
-        let (_, other) = self.root_above(dirs, parent, name)?;
-        if other == rank {
-            return None;
-        }
-        Some(rank)
     }
 }
 

@@ -36,7 +36,7 @@ returns-in-Err-merge-clause-merged g c numbers inboxes sessions past =
           (merge_on (LacksPlacesInside 1 c.args.tree.now.tree c.args.tree.now.subtrees.roots c.args.ino c.args.frag) (LacksPlacesAt 1 c.args.tree.now.tree c.args.rank) c.args.tree.now.tree c.merge.new.self.tree c.args.ino c.args.frag (Err c.in-Err-merge.refusal)
               (lacks_inside 1 c.args.tree.now.tree c.args.tree.now.subtrees.roots c.args.ino c.args.frag c.args.rank (c.is_all_of.ensures.0 mine)) c.in-Err-merge.ensures.merged).0,
         ))))),
-        left (tree_state c.args.tree.now.tree) (tree_state c.merge.new.self.tree) c.args.tree.now.subtrees.roots c.merge.new.self.subtrees.roots c.args.tree.now.exports c.merge.new.self.exports c.in-Err-merge.ensures.kept.stand numbers inboxes c.args.pins.now sessions past c.in-Err-merge.ensures.merged.1.0 c.in-Err-merge.ensures.left,
+        left (tree_state c.args.tree.now.tree) (tree_state c.merge.new.self.tree) c.args.tree.now.subtrees.roots c.merge.new.self.subtrees.roots c.args.tree.now.exports c.merge.new.self.exports c.in-Err-merge.ensures.kept.stand numbers inboxes c.args.pins.now sessions past c.in-Err-merge.ensures.merged.1 c.in-Err-merge.ensures.left,
       ),
       c.in-Err-merge.ensures.came,
     )

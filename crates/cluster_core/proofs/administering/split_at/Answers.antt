@@ -25,7 +25,7 @@ returns-in-Err-split-clause-split g c numbers inboxes sessions past =
           (split_on (LacksPlacesFor (2 ^ c.args.bits + 1) c.args.tree.now.tree c.args.tree.now.subtrees.roots (c.args.asked.now.dir, c.args.asked.now.frag)) (LacksPlacesAt (2 ^ c.args.bits + 1) c.args.tree.now.tree c.args.asked.now.rank) c.args.tree.now.tree c.split.new.self.tree c.args.asked.now.dir c.args.asked.now.frag c.args.bits (Err c.in-Err-split.refusal)
               (lacks_here (2 ^ c.args.bits + 1) c.args.tree.now.tree c.args.tree.now.subtrees.roots (c.args.asked.now.dir, c.args.asked.now.frag) c.args.asked.now.rank (c.has_authority.ensures.0 mine)) c.in-Err-split.ensures.split).0,
         ))))),
-        left (tree_state c.args.tree.now.tree) (tree_state c.split.new.self.tree) c.args.tree.now.subtrees.roots c.split.new.self.subtrees.roots c.args.tree.now.exports c.split.new.self.exports c.in-Err-split.ensures.kept.stand numbers inboxes c.args.pins.now sessions past c.in-Err-split.ensures.split.1.0 c.in-Err-split.ensures.left,
+        left (tree_state c.args.tree.now.tree) (tree_state c.split.new.self.tree) c.args.tree.now.subtrees.roots c.split.new.self.subtrees.roots c.args.tree.now.exports c.split.new.self.exports c.in-Err-split.ensures.kept.stand numbers inboxes c.args.pins.now sessions past c.in-Err-split.ensures.split.1 c.in-Err-split.ensures.left,
       ),
       c.in-Err-split.ensures.came,
     )

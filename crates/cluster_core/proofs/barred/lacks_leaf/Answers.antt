@@ -13,24 +13,24 @@ loop-hash-init g c = λ f has before. absurd (omega (arith, before))
 
 pub returns-then-not-may_touch : goal.returns-then-not-may_touch
 returns-then-not-may_touch g c =
-    let there : leaf_of c.in-Some.at ≡ in_directory c.args.dir.0 c.in-Some.at.frag = λ i. (record { 0 = c.in-Some.ensures.dir i }, c.in-Some.at.frag) in
+    let there : leaf_of c.in-Some.located.at ≡ in_directory c.args.dir.0 c.in-Some.located.at.frag = λ i. (record { 0 = c.in-Some.ensures.at.dir i }, c.in-Some.located.at.frag) in
     record {
-      leaf = in_directory c.args.dir.0 c.in-Some.at.frag;
-      changes = is_among c.args.dir.0 (leaves_of c.args.tree.now.tree.covers c.args.dir.0) c.in-Some.at.frag c.in-Some.ensures.leaf.stands;
+      leaf = in_directory c.args.dir.0 c.in-Some.located.at.frag;
+      changes = is_among c.args.dir.0 (leaves_of c.args.tree.now.tree.covers c.args.dir.0) c.in-Some.located.at.frag c.in-Some.ensures.at.leaf.stands;
       barred = λ may. denied c.may_touch.result c.may_touch.ensures c.if-not-may_touch.true (subst (MayTouchIn (tree_state c.args.tree.now.tree) c.args.tree.now.subtrees.roots c.args.tree.now.exports c.args.pins.now c.args.rank c.args.request.now.client c.args.request.now.tid) (sym there) may);
     }
 
 pub loop-hash-smaller : goal.loop-hash-smaller
 loop-hash-smaller g c =
     let cover = tree_of_row c.args.tree.now.tree.homes c.args.tree.now.tree.covers c.is_sound.ensures.owned.sound.sound.table c.args.dir.0 in
-    let on = nearer (leaves_of c.args.tree.now.tree.covers c.args.dir.0) cover (λ f. MayTouchIn (tree_state c.args.tree.now.tree) c.args.tree.now.subtrees.roots c.args.tree.now.exports c.args.pins.now c.args.rank c.args.request.now.client c.args.request.now.tid (in_directory c.args.dir.0 f)) c.loop-hash.hash c.in-Some.at.frag c.end_of-hash.result (omega (arith, c.loop-hash-test.true)) c.in-Some.ensures.leaf c.end_of-hash.ensures.end in
+    let on = nearer (leaves_of c.args.tree.now.tree.covers c.args.dir.0) cover (λ f. MayTouchIn (tree_state c.args.tree.now.tree) c.args.tree.now.subtrees.roots c.args.tree.now.exports c.args.pins.now c.args.rank c.args.request.now.client c.args.request.now.tid (in_directory c.args.dir.0 f)) c.loop-hash.hash c.in-Some.located.at.frag c.end_of-hash.result (omega (arith, c.loop-hash-test.true)) c.in-Some.ensures.at.leaf c.end_of-hash.ensures.end in
     omega (arith, on.0, on.1)
 
 pub loop-hash-preserved : goal.loop-hash-preserved
 loop-hash-preserved g c =
     let cover = tree_of_row c.args.tree.now.tree.homes c.args.tree.now.tree.covers c.is_sound.ensures.owned.sound.sound.table c.args.dir.0 in
-    let there : leaf_of c.in-Some.at ≡ in_directory c.args.dir.0 c.in-Some.at.frag = λ i. (record { 0 = c.in-Some.ensures.dir i }, c.in-Some.at.frag) in
-    goes_on (leaves_of c.args.tree.now.tree.covers c.args.dir.0) cover (λ f. MayTouchIn (tree_state c.args.tree.now.tree) c.args.tree.now.subtrees.roots c.args.tree.now.exports c.args.pins.now c.args.rank c.args.request.now.client c.args.request.now.tid (in_directory c.args.dir.0 f)) c.loop-hash.hash c.in-Some.at.frag c.end_of-hash.result (omega (arith, c.loop-hash-test.true)) c.loop-hash.invariant c.in-Some.ensures.leaf
+    let there : leaf_of c.in-Some.located.at ≡ in_directory c.args.dir.0 c.in-Some.located.at.frag = λ i. (record { 0 = c.in-Some.ensures.at.dir i }, c.in-Some.located.at.frag) in
+    goes_on (leaves_of c.args.tree.now.tree.covers c.args.dir.0) cover (λ f. MayTouchIn (tree_state c.args.tree.now.tree) c.args.tree.now.subtrees.roots c.args.tree.now.exports c.args.pins.now c.args.rank c.args.request.now.client c.args.request.now.tid (in_directory c.args.dir.0 f)) c.loop-hash.hash c.in-Some.located.at.frag c.end_of-hash.result (omega (arith, c.loop-hash-test.true)) c.loop-hash.invariant c.in-Some.ensures.at.leaf
     (subst (MayTouchIn (tree_state c.args.tree.now.tree) c.args.tree.now.subtrees.roots c.args.tree.now.exports c.args.pins.now c.args.rank c.args.request.now.client c.args.request.now.tid) there (c.may_touch.ensures.0 c.if-not-may_touch.false)) c.end_of-hash.ensures.end
 
 pub returns : goal.returns

@@ -1,7 +1,6 @@
 -- What serving made of the parts, said of the cluster's state.
-use Rattle.std.proofs.Common.{◌≢◌, ℕ, Bool, MatchBool, ap, refl, rules, subst, sym, ◌∙◌}
+use Rattle.std.proofs.Common.{◌≢◌, ℕ, Bool, MatchBool, None, Some, ap, refl, rules, subst, sym, ◌∙◌}
 use Rattle.std.specs.List.{Contains}
-use Rattle.std.specs.Result.{result_err}
 use Rattle.mds_types.specs.declared.refusals.Refusal.TheVariants.{NoInodes}
 use Rattle.mds_types.specs.Step.{number_or, step}
 use Rattle.inode_table.specs.Numbers.{Supply, offer}
@@ -15,15 +14,15 @@ use Rattle.namespace_ops.specs.Changes.{Concerns}
 use Rattle.namespace_ops.specs.Checked.{Checks}
 use Rattle.namespace_ops.specs.declared.plans.Checked.{Checked}
 use Rattle.ranked_tree.specs.Held.{LacksPlacesAsked}
-use Rattle.ranked_tree.specs.Ranked.{IsReady as IsReadyIn, MayRefuse, held_roots}
+use Rattle.ranked_tree.specs.Ranked.{MayRefuse, held_roots}
 use Rattle.ranked_tree.specs.Subtrees.{HoldsAt}
 use Rattle.ranked_tree.proofs.AskLaws.{held_still}
 use Rattle.ranked_tree.proofs.ReadsForLaws.{keeps_ranked_on}
 use Rattle.cluster_core.specs.Master.{MayTouchAllIn, MustWaitIn}
-use Rattle.cluster_core.specs.Prepared.{IsPrepared, IsUnready, outcome_with}
+use Rattle.cluster_core.specs.Prepared.{IsUnready, outcome_with}
 use Rattle.cluster_core.proofs.MadeReady.{checked_later, still_refused, waits_before}
-use Rattle.cluster_core.proofs.Served.{deferred, lacks_number, refused_there, replied, served_new}
-use Rattle.cluster_core.proofs.UsesLaws.{applied_uses, planned_came, replied_uses, unready_of, unready_uses}
+use Rattle.cluster_core.proofs.Served.{IsOutcome, deferred, lacks_number, outcome_of_change, refused_there, replied, served_new}
+use Rattle.cluster_core.proofs.UsesLaws.{applied_uses, changed_uses, replied_uses, unready_of, unready_uses}
 use Rattle.cluster_core.proofs.serving.serve_new.Goals as goal
 
 pub must_wait-requires : goal.must_wait-requires
@@ -47,16 +46,16 @@ returns-then-must_wait-clause-served g c =
     (waits_before c.args.tree.now c.check.new.frags pins rank q.client q.tid q.op _ kept c.must_wait.ensures))
     c.put.ensures
 
-pub prepare-requires-clause-checked : goal.prepare-requires-clause-checked
-prepare-requires-clause-checked g c =
+pub make_change-requires-clause-checked : goal.make_change-requires-clause-checked
+make_change-requires-clause-checked g c =
     let m = c.check.new.frags in
     let q = c.args.asked.request in
     let n = number_or (offer c.args.asked.supply) in
     subst (λ (k : Checked). Checks (shown_tree (tree_state m.tree)) m.tree.covers (HoldsAt (tree_state m.tree) (held_roots m)) q.op n (step c.args.asked.limit (shown_tree (tree_state m.tree)) q.op n) k) c.in-Changes.is
     (checked_later c.args.tree.now m q.op c.args.asked.limit _ _ n c.in-Ok.checked c.in-Ok.ensures.kept.follows refl (search rules) c.in-Ok.ensures.checked)
 
-pub prepare-requires-clause-touch : goal.prepare-requires-clause-touch
-prepare-requires-clause-touch g c leaf has =
+pub make_change-requires-clause-touch : goal.make_change-requires-clause-touch
+make_change-requires-clause-touch g c leaf has =
     let m = c.check.new.frags in
     let q = c.args.asked.request in
     let pins = c.args.waiting.now.pins in
@@ -64,26 +63,32 @@ prepare-requires-clause-touch g c leaf has =
     c.must_wait.ensures) leaf
     (subst (λ (l : ℕ). Contains (changed_fragments l m.tree.covers (shown_tree (tree_state m.tree)) q.op) leaf) (c.requires.asked.limit ∙ ap (λ (s : TreeState). s.limit) (sym c.in-Ok.ensures.kept.follows.tree.state)) has)).0
 
-pub returns-in-Ok-prepare-clause-served : goal.returns-in-Ok-prepare-clause-served
-returns-in-Ok-prepare-clause-served g c =
+pub returns-in-Ok-make_change-clause-served : goal.returns-in-Ok-make_change-clause-served
+returns-in-Ok-make_change-clause-served g c =
     let f = tree_state c.args.tree.now.tree in
     let r = c.args.tree.now.subtrees.roots in
     let e = c.args.tree.now.exports in
     let q = c.args.asked.request in
     let rank = c.args.asked.rank in
     let pins = c.args.waiting.now.pins in
+    let m = c.check.new.frags in
+    let n = c.make_change.new.tree in
     let first = c.in-Ok.ensures.kept.follows in
-    let kept = keeps_ranked_on c.args.tree.now c.check.new.frags c.prepare.new.frags q.op (result_err c.prepare.result) first c.prepare.ensures.kept.follows in
-    served_new f r e c.args.given.now.numbers.items c.args.waiting.now.inboxes pins (table c.args.given.now.sessions) c.args.history.now.items rank (MayRefuse c.args.tree.now c.commit.new.tree) q
-    (tree_state c.prepare.new.frags.tree) c.prepare.new.frags.subtrees.roots c.prepare.new.frags.exports (table c.prepare.new.given.sessions) c.prepare.new.history.items c.prepare.new.given.numbers.items
-    kept.tree.state kept.roots kept.exports c.prepare.ensures.known c.prepare.ensures.past c.prepare.ensures.numbers c.requires.asked.is_new c.requires.asked.master
-    (tree_state c.commit.new.tree.tree) c.commit.new.tree.subtrees.roots c.commit.new.tree.exports c.commit.ensures.kept.stand c.commit.new.given.numbers.items c.commit.new.pins (table c.commit.new.given.sessions) c.commit.new.history.items (IsReadyIn c.prepare.new.frags) c.in-Ok-prepare.prepared c.commit.result
+    let made = c.in-Ok-make_change.ensures.made in
+    let prepared = c.in-Ok-make_change.prepared in
+    let checked = subst (λ (k : Checked). Checks (shown_tree (tree_state m.tree)) m.tree.covers (HoldsAt (tree_state m.tree) (held_roots m)) q.op (number_or (offer c.args.asked.supply)) (step c.args.asked.limit (shown_tree (tree_state m.tree)) q.op (number_or (offer c.args.asked.supply))) k) c.in-Changes.is
+    (checked_later c.args.tree.now m q.op c.args.asked.limit _ _ (number_or (offer c.args.asked.supply)) c.in-Ok.checked c.in-Ok.ensures.kept.follows refl (search rules) c.in-Ok.ensures.checked) in
+    let outcome = outcome_of_change c.args.asked.limit (shown_tree (tree_state m.tree)) m.tree.covers (HoldsAt (tree_state m.tree) (held_roots m)) q.op c.args.asked.supply c.in-Changes.change prepared checked made.beside in
+    served_new f r e c.args.given.now.numbers.items c.args.waiting.now.inboxes pins (table c.args.given.now.sessions) c.args.history.now.items rank (MayRefuse c.args.tree.now n) q
+    (tree_state m.tree) m.subtrees.roots m.exports (table c.make_change.new.given.sessions) c.make_change.new.history.items c.make_change.new.given.numbers.items
+    first.tree.state first.roots first.exports c.make_change.ensures.known c.make_change.ensures.past c.make_change.ensures.numbers c.requires.asked.is_new c.requires.asked.master
+    (tree_state n.tree) n.subtrees.roots n.exports c.make_change.ensures.kept.stand c.commit.new.given.numbers.items c.commit.new.pins (table c.commit.new.given.sessions) c.commit.new.history.items (Some c.in-Changes.change) prepared c.commit.result
     (subst (λ (b : Bool). MatchBool b (MustWaitIn f r e pins rank q.client q.tid q.op) (MayTouchAllIn f r e pins rank q.client q.tid q.op)) c.if-must_wait.false
-    (waits_before c.args.tree.now c.check.new.frags pins rank q.client q.tid q.op _ first c.must_wait.ensures))
-    (subst (λ (s : Supply). IsPrepared f.limit (shown_tree f) c.args.tree.now.tree.covers (IsReadyIn c.prepare.new.frags) q.op (outcome_with f s q.op) s c.in-Ok-prepare.prepared) c.requires.asked.left
-    (subst (λ (l : ℕ). IsPrepared l (shown_tree f) f.covers (IsReadyIn c.prepare.new.frags) q.op (step l (shown_tree f) q.op (number_or (offer c.args.asked.supply))) c.args.asked.supply c.in-Ok-prepare.prepared) c.requires.asked.limit
-    (subst (λ (s : TreeState). IsPrepared c.args.asked.limit (shown_tree s) s.covers (IsReadyIn c.prepare.new.frags) q.op (step c.args.asked.limit (shown_tree s) q.op (number_or (offer c.args.asked.supply))) c.args.asked.supply c.in-Ok-prepare.prepared) first.tree.state c.in-Ok-prepare.ensures.prepared)))
-    c.commit.ensures.tree c.commit.ensures.made c.commit.ensures.leaves c.commit.ensures.frame c.commit.ensures.followed c.commit.ensures.pins c.commit.ensures.appended c.commit.ensures.drawn c.commit.ensures.known c.commit.ensures.answer
+    (waits_before c.args.tree.now m pins rank q.client q.tid q.op _ first c.must_wait.ensures))
+    (subst (λ (s : Supply). IsOutcome f.limit (shown_tree f) f.covers q.op (outcome_with f s q.op) s (Some c.in-Changes.change) prepared) c.requires.asked.left
+    (subst (λ (l : ℕ). IsOutcome l (shown_tree f) f.covers q.op (step l (shown_tree f) q.op (number_or (offer c.args.asked.supply))) c.args.asked.supply (Some c.in-Changes.change) prepared) c.requires.asked.limit
+    (subst (λ (s : TreeState). IsOutcome c.args.asked.limit (shown_tree s) s.covers q.op (step c.args.asked.limit (shown_tree s) q.op (number_or (offer c.args.asked.supply))) c.args.asked.supply (Some c.in-Changes.change) prepared) first.tree.state outcome)))
+    made.changed.right.tree made.changed.made made.leaves made.changed.right.frame made.roots c.commit.ensures.pins c.commit.ensures.appended c.commit.ensures.drawn c.commit.ensures.known c.commit.ensures.answer
 
 pub returns-in-Err-NoInodes-clause-served : goal.returns-in-Err-NoInodes-clause-served
 returns-in-Err-NoInodes-clause-served g c =
@@ -93,18 +98,45 @@ returns-in-Err-NoInodes-clause-served g c =
     let q = c.args.asked.request in
     let rank = c.args.asked.rank in
     let pins = c.args.waiting.now.pins in
+    let m = c.check.new.frags in
+    let n = c.make_change.new.tree in
     let first = c.in-Ok.ensures.kept.follows in
-    let kept = keeps_ranked_on c.args.tree.now c.check.new.frags c.prepare.new.frags q.op (result_err c.prepare.result) first c.prepare.ensures.kept.follows in
-    lacks_number f r e c.args.given.now.numbers.items c.args.waiting.now.inboxes pins (table c.args.given.now.sessions) c.args.history.now.items rank (MayRefuse c.args.tree.now c.prepare.new.frags) q
-    (tree_state c.prepare.new.frags.tree) c.prepare.new.frags.subtrees.roots c.prepare.new.frags.exports (table c.prepare.new.given.sessions) c.prepare.new.history.items c.prepare.new.given.numbers.items
-    kept.tree.state kept.roots kept.exports c.prepare.ensures.known c.prepare.ensures.past c.prepare.ensures.numbers c.requires.asked.is_new c.requires.asked.master
+    let made = c.in-Err-NoInodes.ensures.made in
+    let kept = keeps_ranked_on c.args.tree.now m n q.op (Some c.in-Err-NoInodes.field-0) first made.kept in
+    lacks_number f r e c.args.given.now.numbers.items c.args.waiting.now.inboxes pins (table c.args.given.now.sessions) c.args.history.now.items rank (MayRefuse c.args.tree.now n) q
+    (tree_state n.tree) n.subtrees.roots n.exports (table c.make_change.new.given.sessions) c.make_change.new.history.items c.make_change.new.given.numbers.items
+    kept.tree.state kept.roots kept.exports c.make_change.ensures.known c.make_change.ensures.past c.make_change.ensures.numbers c.requires.asked.is_new c.requires.asked.master
     c.in-Err-NoInodes.field-0 c.end_request.new.pins c.in-Err-NoInodes.field-0-is
-    (subst (λ (s : Supply). IsUnready (MayTouchAllIn f r e pins rank q.client q.tid q.op) (MayRefuse c.args.tree.now c.prepare.new.frags q.op) (outcome_with f s q.op) (offer s) c.in-Err-NoInodes.field-0) c.requires.asked.left
-    (still_refused c.args.tree.now c.check.new.frags c.prepare.new.frags q.op (MayTouchAllIn f r e pins rank q.client q.tid q.op) c.args.asked.limit c.args.asked.supply c.in-Err-NoInodes.field-0 first c.requires.asked.limit
+    (subst (λ (s : Supply). IsUnready (MayTouchAllIn f r e pins rank q.client q.tid q.op) (MayRefuse c.args.tree.now n q.op) (outcome_with f s q.op) (offer s) c.in-Err-NoInodes.field-0) c.requires.asked.left
+    (still_refused c.args.tree.now m n q.op (MayTouchAllIn f r e pins rank q.client q.tid q.op) c.args.asked.limit c.args.asked.supply c.in-Err-NoInodes.field-0 first c.requires.asked.limit
     (subst (λ (b : Bool). MatchBool b (MustWaitIn f r e pins rank q.client q.tid q.op) (MayTouchAllIn f r e pins rank q.client q.tid q.op)) c.if-must_wait.false
-    (waits_before c.args.tree.now c.check.new.frags pins rank q.client q.tid q.op _ first c.must_wait.ensures))
-    c.in-Err-NoInodes.ensures.prepared))
+    (waits_before c.args.tree.now m pins rank q.client q.tid q.op _ first c.must_wait.ensures))
+    made))
     c.end_request.ensures
+
+pub returns-in-Err-make_change-clause-served : goal.returns-in-Err-make_change-clause-served
+returns-in-Err-make_change-clause-served g c =
+    let f = tree_state c.args.tree.now.tree in
+    let r = c.args.tree.now.subtrees.roots in
+    let e = c.args.tree.now.exports in
+    let q = c.args.asked.request in
+    let rank = c.args.asked.rank in
+    let pins = c.args.waiting.now.pins in
+    let m = c.check.new.frags in
+    let n = c.make_change.new.tree in
+    let first = c.in-Ok.ensures.kept.follows in
+    let made = c.in-Err-make_change.ensures.made in
+    let kept = keeps_ranked_on c.args.tree.now m n q.op (Some c.in-Err-make_change.refusal) first made.kept in
+    let isnt : c.in-Err-make_change.refusal ≢ NoInodes = search rules in
+    refused_there f r e c.args.given.now.numbers.items c.args.waiting.now.inboxes pins (table c.args.given.now.sessions) c.args.history.now.items rank (MayRefuse c.args.tree.now n) q
+    (tree_state n.tree) n.subtrees.roots n.exports (table c.make_change.new.given.sessions) c.make_change.new.history.items c.make_change.new.given.numbers.items
+    kept.tree.state kept.roots kept.exports c.make_change.ensures.known c.make_change.ensures.past c.make_change.ensures.numbers c.requires.asked.is_new c.requires.asked.master
+    c.put_back-in-Err-make_change.new.self c.in-Err-make_change.refusal c.put_back-in-Err-make_change.ensures isnt
+    (subst (λ (s : Supply). IsUnready (MayTouchAllIn f r e pins rank q.client q.tid q.op) (MayRefuse c.args.tree.now n q.op) (outcome_with f s q.op) (offer s) c.in-Err-make_change.refusal) c.requires.asked.left
+    (still_refused c.args.tree.now m n q.op (MayTouchAllIn f r e pins rank q.client q.tid q.op) c.args.asked.limit c.args.asked.supply c.in-Err-make_change.refusal first c.requires.asked.limit
+    (subst (λ (b : Bool). MatchBool b (MustWaitIn f r e pins rank q.client q.tid q.op) (MayTouchAllIn f r e pins rank q.client q.tid q.op)) c.if-must_wait.false
+    (waits_before c.args.tree.now m pins rank q.client q.tid q.op _ first c.must_wait.ensures))
+    made))
 
 -- a request that changes nothing is answered, or put back
 pub returns-in-Answers-clause-served : goal.returns-in-Answers-clause-served
@@ -132,64 +164,43 @@ returns-in-Answers-clause-uses g c =
     replied_uses (tree_state c.args.tree.now.tree) (tree_state c.check.new.frags.tree) (held_roots c.args.tree.now) c.args.asked.request.op c.args.tree.now.tree.caches c.check.new.frags.tree.caches
     _ _ _ _ _ _ _ _ _ _ _ c.answer.result c.answer.ensures.replies c.in-Ok.ensures.kept.follows.reads
 
-pub returns-in-Ok-prepare-clause-uses : goal.returns-in-Ok-prepare-clause-uses
-returns-in-Ok-prepare-clause-uses g c =
-    let f = tree_state c.args.tree.now.tree in
-    let r = c.args.tree.now.subtrees.roots in
-    let e = c.args.tree.now.exports in
+pub returns-in-Ok-make_change-clause-uses : goal.returns-in-Ok-make_change-clause-uses
+returns-in-Ok-make_change-clause-uses g c =
     let q = c.args.asked.request in
+    let m = c.check.new.frags in
+    let n = c.make_change.new.tree in
     let first = c.in-Ok.ensures.kept.follows in
-    let kept = keeps_ranked_on c.args.tree.now c.check.new.frags c.prepare.new.frags q.op (result_err c.prepare.result) first c.prepare.ensures.kept.follows in
-    applied_uses f (tree_state c.commit.new.tree.tree) (held_roots c.args.tree.now) q.op c.args.tree.now.tree.caches c.commit.new.tree.tree.caches c.commit.result _ _ _ _ c.commit.ensures.answer (
-      c.prepare.new.frags.tree.caches,
-      kept.reads,
-      planned_came c.args.tree.now.tree c.prepare.new.frags.tree c.commit.new.tree.tree (held_roots c.args.tree.now) (held_roots c.prepare.new.frags) q.op c.in-Ok-prepare.prepared.plan.change
-          kept.tree.state (held_still c.args.tree.now c.prepare.new.frags q.op (result_err c.prepare.result) kept) c.in-Ok-prepare.ensures.prepared.planned.one_of c.commit.ensures.came,
-    )
+    let checked = subst (λ (k : Checked). Checks (shown_tree (tree_state m.tree)) m.tree.covers (HoldsAt (tree_state m.tree) (held_roots m)) q.op (number_or (offer c.args.asked.supply)) (step c.args.asked.limit (shown_tree (tree_state m.tree)) q.op (number_or (offer c.args.asked.supply))) k) c.in-Changes.is
+    (checked_later c.args.tree.now m q.op c.args.asked.limit _ _ (number_or (offer c.args.asked.supply)) c.in-Ok.checked c.in-Ok.ensures.kept.follows refl (search rules) c.in-Ok.ensures.checked) in
+    applied_uses (tree_state c.args.tree.now.tree) (tree_state n.tree) (held_roots c.args.tree.now) q.op c.args.tree.now.tree.caches n.tree.caches c.commit.result _ _ _ _ c.commit.ensures.answer
+    (changed_uses c.args.tree.now.tree m.tree n.tree (held_roots c.args.tree.now) (held_roots m) q.op c.in-Changes.change first.tree.state (held_still c.args.tree.now m q.op None first)
+    checked.one_of first.reads c.in-Ok-make_change.ensures.made.changed)
 
 pub returns-in-Err-NoInodes-clause-uses : goal.returns-in-Err-NoInodes-clause-uses
 returns-in-Err-NoInodes-clause-uses g c =
-    let f = tree_state c.args.tree.now.tree in
     let q = c.args.asked.request in
-    let kept = keeps_ranked_on c.args.tree.now c.check.new.frags c.prepare.new.frags q.op (result_err c.prepare.result) c.in-Ok.ensures.kept.follows c.prepare.ensures.kept.follows in
-    unready_uses f (tree_state c.prepare.new.frags.tree) (held_roots c.args.tree.now) q.op c.args.tree.now.tree.caches c.prepare.new.frags.tree.caches NoInodes tt kept.reads
+    let n = c.make_change.new.tree in
+    let kept = keeps_ranked_on c.args.tree.now c.check.new.frags n q.op (Some c.in-Err-NoInodes.field-0) c.in-Ok.ensures.kept.follows c.in-Err-NoInodes.ensures.made.kept in
+    unready_uses (tree_state c.args.tree.now.tree) (tree_state n.tree) (held_roots c.args.tree.now) q.op c.args.tree.now.tree.caches n.tree.caches NoInodes tt kept.reads
 
-pub returns-in-Err-prepare-clause-served : goal.returns-in-Err-prepare-clause-served
-returns-in-Err-prepare-clause-served g c =
+pub returns-in-Err-make_change-clause-uses : goal.returns-in-Err-make_change-clause-uses
+returns-in-Err-make_change-clause-uses g c =
     let f = tree_state c.args.tree.now.tree in
     let r = c.args.tree.now.subtrees.roots in
     let e = c.args.tree.now.exports in
     let q = c.args.asked.request in
     let rank = c.args.asked.rank in
     let pins = c.args.waiting.now.pins in
+    let m = c.check.new.frags in
+    let n = c.make_change.new.tree in
     let first = c.in-Ok.ensures.kept.follows in
-    let kept = keeps_ranked_on c.args.tree.now c.check.new.frags c.prepare.new.frags q.op (result_err c.prepare.result) first c.prepare.ensures.kept.follows in
-    let isnt : c.in-Err-prepare.refusal ≢ NoInodes = search rules in
-    refused_there f r e c.args.given.now.numbers.items c.args.waiting.now.inboxes pins (table c.args.given.now.sessions) c.args.history.now.items rank (MayRefuse c.args.tree.now c.prepare.new.frags) q
-    (tree_state c.prepare.new.frags.tree) c.prepare.new.frags.subtrees.roots c.prepare.new.frags.exports (table c.prepare.new.given.sessions) c.prepare.new.history.items c.prepare.new.given.numbers.items
-    kept.tree.state kept.roots kept.exports c.prepare.ensures.known c.prepare.ensures.past c.prepare.ensures.numbers c.requires.asked.is_new c.requires.asked.master
-    c.put_back-in-Err-prepare.new.self c.in-Err-prepare.refusal c.put_back-in-Err-prepare.ensures isnt
-    (subst (λ (s : Supply). IsUnready (MayTouchAllIn f r e pins rank q.client q.tid q.op) (MayRefuse c.args.tree.now c.prepare.new.frags q.op) (outcome_with f s q.op) (offer s) c.in-Err-prepare.refusal) c.requires.asked.left
-    (still_refused c.args.tree.now c.check.new.frags c.prepare.new.frags q.op (MayTouchAllIn f r e pins rank q.client q.tid q.op) c.args.asked.limit c.args.asked.supply c.in-Err-prepare.refusal first c.requires.asked.limit
+    let made = c.in-Err-make_change.ensures.made in
+    let kept = keeps_ranked_on c.args.tree.now m n q.op (Some c.in-Err-make_change.refusal) first made.kept in
+    unready_uses f (tree_state n.tree) (held_roots c.args.tree.now) q.op c.args.tree.now.tree.caches n.tree.caches c.in-Err-make_change.refusal
+    (unready_of (MayTouchAllIn f r e pins rank q.client q.tid q.op) (MayRefuse c.args.tree.now n q.op)
+    (λ reason may. refused_so (LacksPlacesAsked 2 c.args.tree.now.tree (held_roots c.args.tree.now) (Concerns (shown_tree f) q.op)) c.args.tree.now.tree n.tree q.op reason may)
+    (outcome_with f c.args.asked.supply q.op) (offer c.args.asked.supply) c.in-Err-make_change.refusal
+    (still_refused c.args.tree.now m n q.op (MayTouchAllIn f r e pins rank q.client q.tid q.op) c.args.asked.limit c.args.asked.supply c.in-Err-make_change.refusal first c.requires.asked.limit
     (subst (λ (b : Bool). MatchBool b (MustWaitIn f r e pins rank q.client q.tid q.op) (MayTouchAllIn f r e pins rank q.client q.tid q.op)) c.if-must_wait.false
-    (waits_before c.args.tree.now c.check.new.frags pins rank q.client q.tid q.op _ first c.must_wait.ensures))
-    c.in-Err-prepare.ensures.prepared))
-
-pub returns-in-Err-prepare-clause-uses : goal.returns-in-Err-prepare-clause-uses
-returns-in-Err-prepare-clause-uses g c =
-    let f = tree_state c.args.tree.now.tree in
-    let r = c.args.tree.now.subtrees.roots in
-    let e = c.args.tree.now.exports in
-    let q = c.args.asked.request in
-    let rank = c.args.asked.rank in
-    let pins = c.args.waiting.now.pins in
-    let first = c.in-Ok.ensures.kept.follows in
-    let kept = keeps_ranked_on c.args.tree.now c.check.new.frags c.prepare.new.frags q.op (result_err c.prepare.result) first c.prepare.ensures.kept.follows in
-    unready_uses f (tree_state c.prepare.new.frags.tree) (held_roots c.args.tree.now) q.op c.args.tree.now.tree.caches c.prepare.new.frags.tree.caches c.in-Err-prepare.refusal
-    (unready_of (MayTouchAllIn f r e pins rank q.client q.tid q.op) (MayRefuse c.args.tree.now c.prepare.new.frags q.op)
-    (λ reason may. refused_so (LacksPlacesAsked 2 c.args.tree.now.tree (held_roots c.args.tree.now) (Concerns (shown_tree f) q.op)) c.args.tree.now.tree c.prepare.new.frags.tree q.op reason may)
-    (outcome_with f c.args.asked.supply q.op) (offer c.args.asked.supply) c.in-Err-prepare.refusal
-    (still_refused c.args.tree.now c.check.new.frags c.prepare.new.frags q.op (MayTouchAllIn f r e pins rank q.client q.tid q.op) c.args.asked.limit c.args.asked.supply c.in-Err-prepare.refusal first c.requires.asked.limit
-    (subst (λ (b : Bool). MatchBool b (MustWaitIn f r e pins rank q.client q.tid q.op) (MayTouchAllIn f r e pins rank q.client q.tid q.op)) c.if-must_wait.false
-    (waits_before c.args.tree.now c.check.new.frags pins rank q.client q.tid q.op _ first c.must_wait.ensures))
-    c.in-Err-prepare.ensures.prepared)) kept.reads
+    (waits_before c.args.tree.now m pins rank q.client q.tid q.op _ first c.must_wait.ensures))
+    made)) kept.reads

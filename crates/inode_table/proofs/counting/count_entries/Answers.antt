@@ -1,10 +1,10 @@
 -- One entry after the other is counted.
-use Rattle.std.proofs.Common.{◌≡◌, ◌<◌, ◌^◌, ap, subst, sym, refl, true, arith, ◌∙◌}
+use Rattle.std.proofs.Common.{◌≡◌, ap, subst, sym, refl, true, arith, ◌∙◌}
 use Rattle.std.specs.Prelude.{is_some}
 use Rattle.std.specs.FinMap as map
 use Rattle.sorted_map.specs.SortedMap.{contents}
 use Rattle.mds_types.specs.Tree.{dentry_cmp, is_dir_kind}
-use Rattle.inode_table.specs.Dirs.{Table, count_of, is_known, one_more}
+use Rattle.inode_table.specs.Dirs.{Table, is_known, one_more}
 use Rattle.inode_table.specs.TreeTable.{with_pin}
 use Rattle.inode_table.proofs.CountingLaws.{IsCountedTo, counted_all, counted_next, counted_none, next_few, next_known, next_listed}
 use Rattle.inode_table.proofs.counting.count_entries.Goals as goal

@@ -42,4 +42,4 @@ returns-in-Some-source-clause-checked g c =
     let op = Rename c.in-Rename.from c.in-Rename.to in
     let there = main_at _ _ _ _ op c.in-Rename.is c.args.places c.in-Some.at c.requires c.in-Some.is in
     let from = source_at _ _ _ _ c.in-Rename.from c.in-Rename.to c.args.places c.in-Some-source.source c.in-Rename.is c.requires c.in-Some-source.is in
-    step_from _ _ _ _ op c.in-Rename.is c.args.limit c.args.number.0 _ from.stands there.stands (c.rename.ensures.checked c.args.number.0)
+    step_from _ _ _ _ op c.in-Rename.is c.args.limit c.args.number.0 _ from.at.stands there.at.stands (c.rename.ensures.checked c.args.number.0)

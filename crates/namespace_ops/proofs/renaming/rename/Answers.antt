@@ -1,8 +1,9 @@
-use Rattle.std.proofs.Common.{None, ap, rules, sym, ◌∙◌}
+use Rattle.std.proofs.Common.{None, ap, rules, subst, sym, ◌∙◌}
 use Rattle.mds_types.specs.Tree.{Tree}
+use Rattle.mds_types.specs.Step.{HasSpace, room_errno}
 use Rattle.std.specs.FinMap as map
 use Rattle.namespace_ops.specs.Changes.{directory_at}
-use Rattle.namespace_ops.proofs.CheckedParts.{moved_checked, replaced_told, room_told, space_told}
+use Rattle.namespace_ops.proofs.CheckedParts.{moved_checked, replaced_told}
 use Rattle.namespace_ops.proofs.renaming.rename.Goals as goal
 
 pub returns-clause-checked : goal.returns-clause-checked
@@ -10,11 +11,11 @@ returns-clause-checked g c n =
     let tree = g.F.Frags.content c.args.frags.now in
     let mid = c.in_ok-replaced.ensures.kept.tree ∙ c.in_ok-inode.ensures.kept.tree in
     let there = c.in_ok-replaced.ensures.found ∙ ap (λ (t : Tree). map.get t c.args.to.now) c.in_ok-inode.ensures.kept.tree in
-    moved_checked tree _ _ _ n c.args.limit c.args.from.now c.args.to.now c.args.at.now _ _ _ c.in-Some.inode c.requires.from c.requires.to c.in_ok-source.ensures c.in_ok-target.ensures
+    moved_checked tree _ _ _ n c.args.limit c.args.from.now c.args.to.now (c.args.at.now.0.at, c.args.at.now.1.at) _ _ _ c.in-Some.inode c.requires.from.at c.requires.to.at c.in_ok-source.ensures c.in_ok-target.ensures
     (sym c.in_ok-inode.ensures.found ∙ c.in-Some.is) (search rules) (search rules)
     (sym (replaced_told tree _ c.in-Some.inode c.args.to.now _ _ _ mid c.as_ref.ensures.value there c.in_ok-errno.ensures.found) ∙ c.in_default-2.is)
-    (sym (room_told c.args.limit tree _ c.args.from.now c.args.to.now _ _ _ (c.in_ok-errno.ensures.kept.tree ∙ mid) c.as_ref-2.ensures.value there c.room_errno.ensures.told) ∙ c.in_default-room_errno.is)
-    (space_told tree _ c.args.from.now c.args.to.now _ _ (c.in_ok-errno.ensures.kept.tree ∙ mid) c.as_ref-2.ensures.value there (c.room_errno.ensures.space c.in_default-room_errno.is))
+    (sym (c.room_errno.ensures.told tree c.requires.to.entries ∙ ap (room_errno c.args.limit tree c.args.from.now c.args.to.now) (c.as_ref-2.ensures.value ∙ there)) ∙ c.in_default-room_errno.is)
+    (subst (HasSpace tree c.args.from.now c.args.to.now) (c.as_ref-2.ensures.value ∙ there) (c.room_errno.ensures.space tree c.requires.to.entries c.in_default-room_errno.is))
     (c.directory_of-gone.ensures ∙ ap directory_at (c.as_ref-3.ensures.value ∙ there)) c.requires.moves
 
 pub returns-clause-kept : goal.returns-clause-kept

@@ -1,7 +1,5 @@
-use Rattle.std.proofs.Common.{rules, subst}
+use Rattle.std.proofs.Common.{rules}
 use Rattle.mds_types.specs.Leaf.{leaf_of}
-use Rattle.mdcache.specs.Core.{state_of}
-use Rattle.subtree_map.proofs.Nearest.{one_authority}
 use Rattle.ranked_tree.proofs.AuthorityLaws.{authority_same}
 use Rattle.ranked_tree.proofs.authorities.has_authority.Goals as goal
 

@@ -1,46 +1,102 @@
-use Rattle.std.proofs.Common.{subst}
-use Rattle.subtree_map.specs.Authority.{Roots}
-use Rattle.ranked_tree.specs.Subtrees.{LoseDirectory}
+use Rattle.std.proofs.Common.{◌≡◌, ◌≤◌, ap, inl, inr, sym, subst, ◌∙◌, IsSome, length, List, Option, Some, Err}
+use Rattle.std.specs.Prelude.{IfSome}
+use Rattle.mds_types.specs.declared.ids.Ino.{Ino}
+use Rattle.mds_types.specs.Frag.{Fragment}
+use Rattle.objstore.specs.Objects.{faults_in}
+use Rattle.dentry_cache.specs.Came.{NoneEnds}
+use Rattle.dentry_cache.specs.Reads.Reads.{stays}
 use Rattle.dentry_cache.proofs.FrameLaws.{came_cap, came_ranks}
+use Rattle.export_steps.specs.Holder.{holding}
+use Rattle.inode_table.specs.Dirs.{Covers, leaves_of}
+use Rattle.subtree_map.specs.Authority.{Roots}
 use Rattle.mdcache.specs.Core.{state_of}
+use Rattle.mdcache.specs.Frags.{LacksToMake}
 use Rattle.mdcache.specs.Ranks.{EndsWith, IsNamedIn}
+use Rattle.mdcache.proofs.CoreLaws.{reads_keeps, reads_state}
+use Rattle.mdcache.proofs.FragsLaws.{keeps_itself, keeps_refused}
 use Rattle.ranked_tree.specs.Exported.{held_in}
-use Rattle.ranked_tree.proofs.CameForLaws.{came_for}
+use Rattle.ranked_tree.specs.Held.{IsOwned}
+use Rattle.ranked_tree.specs.Subtrees.{LoseDirectory}
+use Rattle.ranked_tree.proofs.AskLaws.{told_change}
+use Rattle.ranked_tree.proofs.CameForLaws.{changed_held, whole_came}
 use Rattle.ranked_tree.proofs.DividedLaws.{change_keeps_roots, change_owned, change_stands}
-use Rattle.ranked_tree.proofs.HolderLaws.{hold_each}
+use Rattle.ranked_tree.proofs.HeldLaws.{owned_reads}
+use Rattle.ranked_tree.proofs.HolderLaws.{hold_each, named_held}
+use Rattle.ranked_tree.proofs.ReadsForLaws.{reads_change}
+use Rattle.ranked_tree.proofs.RenameLaws.{Settles, leaves_stay, room_still, settles}
+use Rattle.ranked_tree.proofs.StandLaws.{stand_undone}
 use Rattle.ranked_tree.proofs.changing.change_tree.Goals as goal
 
-pub apply-requires-clause-holds : goal.apply-requires-clause-holds
-apply-requires-clause-holds g c = hold_each (state_of c.args.tree.now) c.requires.divided.owned.sound.sound (held_in c.args.regions.now) c.args.tree.now.caches c.requires.divided.owned.held c.args.change c.requires.ready.held
+pub returns-in-Err-clause-changed : goal.returns-in-Err-clause-changed
+returns-in-Err-clause-changed g c = (keeps_refused c.args.tree.now c.args.tree.now c.in-Err.refusal (ap faults_in c.in-Err.ensures.refused) (keeps_itself c.args.tree.now), stays, inl c.in-Err.ensures.refused)
 
-pub returns-clause-roots : goal.returns-clause-roots
-returns-clause-roots g c = (
-  c.settle.new.roots.roots,
-  c.settle.ensures.settled,
-  c.lose.ensures.roots,
+pub change-requires-clause-holds : goal.change-requires-clause-holds
+change-requires-clause-holds g c = hold_each (state_of c.args.tree.now) c.requires.divided.owned.sound.sound (held_in c.args.regions.now) c.args.tree.now.caches c.requires.divided.owned.held c.args.change c.requires.held
+
+-- where the change isn't made, leaves were read
+pub returns-in-Err-change-clause-changed : goal.returns-in-Err-change-clause-changed
+returns-in-Err-change-clause-changed g c = (
+  reads_keeps (IsNamedIn c.args.change) NoneEnds c.args.tree.now c.change.new.self c.in-Err-change.ensures.changed.0 (Some c.in-Err-change.refusal) c.in-Err-change.ensures.counted,
+  reads_change c.args.tree.now c.change.new.self (held_in c.args.regions.now) c.args.change c.requires.divided.owned.sound.sound c.requires.may c.requires.held c.in-Err-change.ensures.changed.0,
+  inr (told_change (Unit {0}) (LacksToMake c.args.change (state_of c.args.tree.now)) (Err c.in-Err-change.refusal) c.args.tree.now (held_in c.args.regions.now) c.args.change c.change.new.self.faults c.requires.held c.in-Err-change.ensures.changed.1),
 )
 
-pub returns-clause-promises : goal.returns-clause-promises
-returns-clause-promises g c = subst (λ (p : Roots). LoseDirectory p c.lose.new.roots.promises c.args.change.gone) c.settle.ensures.promises c.lose.ensures.promises
+pub returns-in-Err-change-clause-count : goal.returns-in-Err-change-clause-count
+returns-in-Err-change-clause-count g c = (returns-in-Err-change-clause-changed g c).0.count
+
+pub returns-in-Err-change-clause-cap : goal.returns-in-Err-change-clause-cap
+returns-in-Err-change-clause-cap g c = (returns-in-Err-change-clause-changed g c).0.cap
+
+pub returns-in-Err-change-clause-divided : goal.returns-in-Err-change-clause-divided
+returns-in-Err-change-clause-divided g c = record {
+  owned = subst (IsOwned c.change.new.self) (sym (ap (λ (r : Roots). holding c.args.regions.now.exports r) c.reserve_lost.ensures.same))
+      (owned_reads (IsNamedIn c.args.change) NoneEnds c.args.tree.now c.change.new.self (held_in c.args.regions.now) c.in-Err-change.ensures.changed.0 c.in-Err-change.ensures.sound
+      (named_held (state_of c.args.tree.now) c.requires.divided.owned.sound.sound (held_in c.args.regions.now) c.args.change c.requires.may c.requires.held) c.requires.divided.owned);
+  stand = stand_undone c.args.tree.now c.change.new.self c.args.regions.now.roots c.reserve_lost.new.roots c.args.regions.now.exports c.requires.divided.stand (reads_state (IsNamedIn c.args.change) NoneEnds c.args.tree.now c.change.new.self c.in-Err-change.ensures.changed.0) (returns-in-Err-change-clause-count g c) c.reserve_lost.ensures.same c.reserve_lost.ensures.promises;
+}
+
+-- where it is made, a directory that moved has the leaves that it had
+pub settle-requires : goal.settle-requires
+settle-requires g c =
+    let stay = subst (λ (d : Option Ino). IfSome d (λ (dir : Ino). leaves_of c.args.tree.now.covers dir.0 ≡ leaves_of c.change.new.self.covers dir.0)) (sym c.moving-moves.ensures) (leaves_stay (state_of c.args.tree.now) (state_of c.change.new.self) c.args.change c.requires.may c.in_default-change.ensures.changed.right) in
+    let has = subst (λ (cs : Covers). IfSome c.moving-moves.result (λ (dir : Ino). IsSome c.lost_rank-lost.result → length (leaves_of cs dir.0) ≤ c.reserve_lost.new.roots.room)) c.dirs.ensures.trees c.in_default.ensures.room in
+    record {
+      room = subst (λ (cs : Covers). IfSome c.moving-moves.result (λ (dir : Ino). IsSome c.lost_rank-lost.result → length (leaves_of cs dir.0) ≤ c.reserve_lost.new.roots.room)) (sym c.dirs-2.ensures.trees)
+          (room_still c.moving-moves.result c.args.tree.now.covers c.change.new.self.covers (λ (dir : Ino) (cs : Covers). IsSome c.lost_rank-lost.result → length (leaves_of cs dir.0) ≤ c.reserve_lost.new.roots.room)
+          (λ dir same fits some. subst (λ (fs : List Fragment). length fs ≤ c.reserve_lost.new.roots.room) same (fits some)) stay has);
+    }
+
+pub returns-clause-changed : goal.returns-clause-changed
+returns-clause-changed g c = changed_held c.args.tree.now c.change.new.self (held_in c.args.regions.now) c.args.change c.requires.divided.owned.sound.sound c.in_default-change.ensures.sound.sound c.requires.may c.requires.held c.in_default-change.ensures.changed
+
+pub returns-clause-followed : goal.returns-clause-followed
+returns-clause-followed g c =
+    let told = subst (λ (d : Option Ino). Settles d c.change.new.self.covers c.args.regions.now.roots.roots c.settle.new.roots.roots c.lost_rank-lost.result) c.moving-moves.ensures
+    (subst (λ (cs : Covers). Settles c.moving-moves.result cs c.args.regions.now.roots.roots c.settle.new.roots.roots c.lost_rank-lost.result) c.dirs-2.ensures.trees
+    (subst (λ (r : Roots). Settles c.moving-moves.result c.dirs-2.result.now.trees r c.settle.new.roots.roots c.lost_rank-lost.result) c.reserve_lost.ensures.same c.settle.ensures.settled)) in (
+      (
+        c.settle.new.roots.roots,
+        settles (state_of c.args.tree.now) (state_of c.change.new.self) c.requires.divided.owned.sound.sound c.args.change c.requires.may c.in_default-change.ensures.changed.right c.args.regions.now.roots.roots c.settle.new.roots.roots c.lost_rank-lost.result c.lost_rank-lost.ensures told,
+        c.lose.ensures.roots,
+      ),
+      subst (λ (p : Roots). LoseDirectory p c.lose.new.roots.promises c.args.change.gone) (c.settle.ensures.promises ∙ c.reserve_lost.ensures.promises) c.lose.ensures.promises,
+    )
 
 pub returns-clause-count : goal.returns-clause-count
-returns-clause-count g c = came_ranks (IsNamedIn c.args.change) (EndsWith c.args.change) c.args.tree.now.caches c.apply.new.self.caches c.apply.ensures.came
+returns-clause-count g c = came_ranks (IsNamedIn c.args.change) (EndsWith c.args.change) c.args.tree.now.caches c.change.new.self.caches (whole_came c.args.change c.args.tree.now c.change.new.self c.in_default-change.ensures.changed)
 
 pub returns-clause-cap : goal.returns-clause-cap
-returns-clause-cap g c = came_cap (IsNamedIn c.args.change) (EndsWith c.args.change) c.args.tree.now.caches c.apply.new.self.caches c.apply.ensures.came
-
-pub returns-clause-came : goal.returns-clause-came
-returns-clause-came g c = came_for c.args.tree.now c.apply.new.self (held_in c.args.regions.now) c.args.change c.requires.divided.owned.sound.sound c.apply.ensures.sound.sound c.requires.may c.requires.ready.held c.apply.ensures.made c.apply.ensures.came
+returns-clause-cap g c = came_cap (IsNamedIn c.args.change) (EndsWith c.args.change) c.args.tree.now.caches c.change.new.self.caches (whole_came c.args.change c.args.tree.now c.change.new.self c.in_default-change.ensures.changed)
 
 pub returns-clause-kept : goal.returns-clause-kept
 returns-clause-kept g c =
-    change_keeps_roots c.args.tree.now c.apply.new.self c.args.regions.now.roots c.lose.new.roots c.args.regions.now.exports c.requires.divided.owned c.requires.divided.stand c.apply.ensures.sound (returns-clause-count g c) c.args.change c.requires.ready.held c.requires.may c.apply.ensures.made
-    (returns-clause-roots g c) (returns-clause-promises g c) c.requires.thawed c.apply.ensures.came
+    change_keeps_roots c.args.tree.now c.change.new.self c.args.regions.now.roots c.lose.new.roots c.args.regions.now.exports c.requires.divided.owned c.requires.divided.stand c.in_default-change.ensures.sound (returns-clause-count g c) c.args.change c.requires.held c.requires.may c.in_default-change.ensures.changed.made
+    (returns-clause-followed g c).0 (returns-clause-followed g c).1 c.requires.thawed (whole_came c.args.change c.args.tree.now c.change.new.self c.in_default-change.ensures.changed)
 
 pub returns-clause-divided : goal.returns-clause-divided
 returns-clause-divided g c = record {
-  owned = change_owned c.args.tree.now c.apply.new.self c.args.regions.now.roots c.lose.new.roots c.args.regions.now.exports c.requires.divided.owned c.requires.divided.stand c.apply.ensures.sound (returns-clause-count g c) c.args.change c.requires.ready.held c.requires.may c.apply.ensures.made
-      (returns-clause-roots g c) (returns-clause-promises g c) c.requires.thawed c.apply.ensures.came;
-  stand = change_stands c.args.tree.now c.apply.new.self c.args.regions.now.roots c.lose.new.roots c.args.regions.now.exports c.requires.divided.owned c.requires.divided.stand c.apply.ensures.sound (returns-clause-count g c) c.args.change c.requires.ready.held c.requires.may c.apply.ensures.made
-      (returns-clause-roots g c) (returns-clause-promises g c) c.requires.thawed c.apply.ensures.came;
+  owned = change_owned c.args.tree.now c.change.new.self c.args.regions.now.roots c.lose.new.roots c.args.regions.now.exports c.requires.divided.owned c.requires.divided.stand c.in_default-change.ensures.sound (returns-clause-count g c) c.args.change c.requires.held c.requires.may c.in_default-change.ensures.changed.made
+      (returns-clause-followed g c).0 (returns-clause-followed g c).1 c.requires.thawed (whole_came c.args.change c.args.tree.now c.change.new.self c.in_default-change.ensures.changed);
+  stand = change_stands c.args.tree.now c.change.new.self c.args.regions.now.roots c.lose.new.roots c.args.regions.now.exports c.requires.divided.owned c.requires.divided.stand c.in_default-change.ensures.sound (returns-clause-count g c) c.args.change c.requires.held c.requires.may c.in_default-change.ensures.changed.made
+      (returns-clause-followed g c).0 (returns-clause-followed g c).1 c.requires.thawed (whole_came c.args.change c.args.tree.now c.change.new.self c.in_default-change.ensures.changed);
 }

@@ -1,6 +1,5 @@
 use Rattle.mdcache.proofs.CoreLaws.{reads_keeps}
-use Rattle.dentry_cache.specs.CacheSplits.{IsKeptFor}
-use Rattle.dentry_cache.specs.Came.{IsThat}
+use Rattle.dentry_cache.specs.Came.{IsThat, NoneEnds}
 use Rattle.ranked_tree.specs.Exported.{held_in}
 use Rattle.ranked_tree.proofs.AskLaws.{told_for}
 use Rattle.ranked_tree.proofs.HeldLaws.{owned_read}
@@ -9,13 +8,13 @@ use Rattle.ranked_tree.proofs.ReadsForLaws.{reads_one}
 use Rattle.ranked_tree.proofs.emptiness.is_leaf_empty.Goals as goal
 
 pub returns-clause-kept : goal.returns-clause-kept
-returns-clause-kept g c = reads_keeps (IsThat c.holder_of-rank.result.0 (c.args.dir, c.args.frag)) (IsKeptFor c.args.tree.now.caches) c.args.tree.now c.is_leaf_empty.new.self c.is_leaf_empty.ensures.reads (result_err c.is_leaf_empty.result) c.is_leaf_empty.ensures.counted
+returns-clause-kept g c = reads_keeps (IsThat c.holder_of-rank.result.0 (c.args.dir, c.args.frag)) NoneEnds c.args.tree.now c.is_leaf_empty.new.self c.is_leaf_empty.ensures.reads (result_err c.is_leaf_empty.result) c.is_leaf_empty.ensures.counted
 
 pub returns-clause-owned : goal.returns-clause-owned
-returns-clause-owned g c = owned_read (IsKeptFor c.args.tree.now.caches) c.args.tree.now c.is_leaf_empty.new.self (held_in c.args.regions.now) (c.args.dir, c.args.frag) c.holder_of-rank.result c.holder_of-rank.ensures.rules c.is_leaf_empty.ensures.reads c.is_leaf_empty.ensures.sound c.requires.owned
+returns-clause-owned g c = owned_read NoneEnds c.args.tree.now c.is_leaf_empty.new.self (held_in c.args.regions.now) (c.args.dir, c.args.frag) c.holder_of-rank.result c.holder_of-rank.ensures.rules c.is_leaf_empty.ensures.reads c.is_leaf_empty.ensures.sound c.requires.owned
 
 pub returns-clause-refused : goal.returns-clause-refused
 returns-clause-refused g c = told_for _ c.is_leaf_empty.result c.args.tree.now (held_in c.args.regions.now) (c.args.dir, c.args.frag) c.is_leaf_empty.new.self.faults c.holder_of-rank.result c.holder_of-rank.ensures.rules c.is_leaf_empty.ensures.refused
 
 pub returns-clause-reads : goal.returns-clause-reads
-returns-clause-reads g c = reads_one (IsKeptFor c.args.tree.now.caches) c.args.tree.now c.is_leaf_empty.new.self (held_in c.args.regions.now) (c.args.dir, c.args.frag) c.holder_of-rank.result c.holder_of-rank.ensures.rules c.is_leaf_empty.ensures.reads
+returns-clause-reads g c = reads_one c.args.tree.now c.is_leaf_empty.new.self (held_in c.args.regions.now) (c.args.dir, c.args.frag) c.holder_of-rank.result c.holder_of-rank.ensures.rules c.is_leaf_empty.ensures.reads

@@ -9,8 +9,7 @@ use Rattle.mds_types.specs.Leaf.{leaf_of}
 use Rattle.mds_types.specs.Tree.{is_directory}
 use Rattle.fragtree.specs.FragTree.{IsPick}
 use Rattle.namehash.specs.Rjenkins.{hash_of}
-use Rattle.dentry_cache.specs.CacheSplits.{IsKeptFor}
-use Rattle.dentry_cache.specs.Came.{IsThat}
+use Rattle.dentry_cache.specs.Came.{IsThat, NoneEnds}
 use Rattle.inode_table.specs.Dirs.{leaves_of}
 use Rattle.mdcache.specs.Core.{state_of}
 use Rattle.mdcache.specs.Shown.{shown_tree}
@@ -36,10 +35,10 @@ returns-clause-found g c =
     subst (λ (d : Dentry). IfOk c.look.result (λ found. found ≡ map.get (shown_tree (state_of c.args.tree.now)) d)) (λ i. record { dir = record { 0 = c.requires.at.dir i }; name = c.args.dentry.now.name }) c.look.ensures.found
 
 pub returns-clause-kept : goal.returns-clause-kept
-returns-clause-kept g c = reads_keeps (IsThat c.args.at.now.rank.0 (leaf_of c.args.at.now)) (IsKeptFor c.args.tree.now.caches) c.args.tree.now c.look.new.self c.look.ensures.reads (result_err c.look.result) c.look.ensures.counted
+returns-clause-kept g c = reads_keeps (IsThat c.args.at.now.rank.0 (leaf_of c.args.at.now)) NoneEnds c.args.tree.now c.look.new.self c.look.ensures.reads (result_err c.look.result) c.look.ensures.counted
 
 pub returns-clause-owned : goal.returns-clause-owned
-returns-clause-owned g c = owned_read (IsKeptFor c.args.tree.now.caches) c.args.tree.now c.look.new.self (held_in c.args.regions.now) (leaf_of c.args.at.now) c.args.at.now.rank c.requires.at.held c.look.ensures.reads c.look.ensures.sound c.requires.owned
+returns-clause-owned g c = owned_read NoneEnds c.args.tree.now c.look.new.self (held_in c.args.regions.now) (leaf_of c.args.at.now) c.args.at.now.rank c.requires.at.held c.look.ensures.reads c.look.ensures.sound c.requires.owned
 
 pub returns-clause-refused : goal.returns-clause-refused
 returns-clause-refused g c = told_for _ c.look.result c.args.tree.now (held_in c.args.regions.now) (leaf_of c.args.at.now) c.look.new.self.faults c.args.at.now.rank c.requires.at.held c.look.ensures.refused
@@ -47,7 +46,7 @@ returns-clause-refused g c = told_for _ c.look.result c.args.tree.now (held_in c
 pub returns-clause-reads : goal.returns-clause-reads
 returns-clause-reads g c =
     subst (λ (d : Ino). ReadsDir (held_in c.args.regions.now) d c.args.tree.now c.look.new.self) (λ i. record { 0 = c.requires.at.dir i })
-    (reads_one (IsKeptFor c.args.tree.now.caches) c.args.tree.now c.look.new.self (held_in c.args.regions.now) (leaf_of c.args.at.now) c.args.at.now.rank c.requires.at.held c.look.ensures.reads)
+    (reads_one c.args.tree.now c.look.new.self (held_in c.args.regions.now) (leaf_of c.args.at.now) c.args.at.now.rank c.requires.at.held c.look.ensures.reads)
 
 pub returns-clause-newest : goal.returns-clause-newest
 returns-clause-newest g c = on_ok_weaker c.look.result (λ newest. (c.args.at.now.rank, c.requires.at.held, newest)) c.look.ensures.newest

@@ -1,32 +1,45 @@
-use Rattle.std.proofs.Common.{ap, ◌∙◌}
-use Rattle.dentry_cache.specs.CacheSplits.{IsKeptFor}
-use Rattle.mdcache.specs.Ranks.{NoneUsed}
-use Rattle.mdcache.specs.Shown.{shown_tree}
-use Rattle.mdcache.specs.State.{State as TreeState}
-use Rattle.mdcache.proofs.CoreLaws.{if_err, on_ok, reads_state}
-use Rattle.ranked_tree.proofs.ImportLaws.{freed_caches, freed_divided, freed_refused, freed_takes, keeps, where_err}
+use Rattle.std.proofs.Common.{length, sym, subst}
+use Rattle.export_regions.specs.Regions.{AreCachedOf, RegionLeaves}
+use Rattle.mdcache.specs.Core.{state_of}
+use Rattle.ranked_tree.specs.Importing.{IsSpelledBy}
+use Rattle.ranked_tree.specs.Sending.{IsInRegionOf}
+use Rattle.ranked_tree.proofs.ImportLaws.{clean_there, dirty_there, distinct, jobless, may_not, still_divided, took}
 use Rattle.ranked_tree.proofs.importing.take_region.Goals as goal
 
-pub take_at_once-requires-clause-divided : goal.take_at_once-requires-clause-divided
-take_at_once-requires-clause-divided g c = freed_divided c.args.tree.now c.give_up.new.self c.args.regions.now c.give_up.ensures.reads c.requires.divided c.give_up.ensures.faults (c.give_up.ensures.sound c.requires.divided.owned.sound)
+pub hand_over-requires-clause-cached : goal.hand_over-requires-clause-cached
+hand_over-requires-clause-cached g c =
+    let cached = subst (λ (l : RegionLeaves). AreCachedOf (IsInRegionOf (state_of c.args.tree.now) c.args.regions.now.roots.roots c.args.root.now) c.args.tree.now.caches c.args.export.exporter.0 l) (λ i. record { unclean = sym c.unclean.ensures i; clean = sym c.clean.ensures i }) c.in-Ok.ensures.cached in
+    dirty_there c.args.tree.now c.args.regions.now c.requires.divided c.args.root.now c.args.export c.requires.stands c.requires.sent (record { unclean = c.unclean.result.now; clean = c.clean.result.now }) cached
 
-pub returns-clause-taken : goal.returns-clause-taken
-returns-clause-taken g c = on_ok c.take_at_once.result (freed_takes c.args.tree.now c.give_up.new.self c.args.regions.now c.give_up.ensures.reads c.take_at_once.new.tree c.args.root.now c.args.export c.args.bytes.now) c.take_at_once.ensures.taken
+pub hand_over-requires-clause-saved : goal.hand_over-requires-clause-saved
+hand_over-requires-clause-saved g c =
+    let cached = subst (λ (l : RegionLeaves). AreCachedOf (IsInRegionOf (state_of c.args.tree.now) c.args.regions.now.roots.roots c.args.root.now) c.args.tree.now.caches c.args.export.exporter.0 l) (λ i. record { unclean = sym c.unclean.ensures i; clean = sym c.clean.ensures i }) c.in-Ok.ensures.cached in
+    clean_there c.args.tree.now c.args.regions.now c.requires.divided c.args.root.now c.args.export c.requires.stands c.requires.sent (record { unclean = c.unclean.result.now; clean = c.clean.result.now }) cached
 
-pub returns-clause-refused : goal.returns-clause-refused
-returns-clause-refused g c = if_err _ _ c.take_at_once.result (λ reason is. freed_refused c.args.tree.now c.give_up.new.self c.args.regions.now c.give_up.ensures.reads c.args.root.now c.args.export c.args.bytes.now reason c.give_up.ensures.faults is) c.take_at_once.ensures.refused
+pub hand_over-requires-clause-once : goal.hand_over-requires-clause-once
+hand_over-requires-clause-once g c =
+    let cached = subst (λ (l : RegionLeaves). AreCachedOf (IsInRegionOf (state_of c.args.tree.now) c.args.regions.now.roots.roots c.args.root.now) c.args.tree.now.caches c.args.export.exporter.0 l) (λ i. record { unclean = sym c.unclean.ensures i; clean = sym c.clean.ensures i }) c.in-Ok.ensures.cached in
+    distinct c.args.tree.now c.args.regions.now c.requires.divided c.args.root.now c.args.export c.requires.stands c.requires.sent (record { unclean = c.unclean.result.now; clean = c.clean.result.now }) cached c.in-Ok.ensures.valid
 
-pub returns-clause-left : goal.returns-clause-left
-returns-clause-left g c = where_err c.take_at_once.result (λ same. same ∙ (reads_state NoneUsed (IsKeptFor c.args.tree.now.caches) c.args.tree.now c.give_up.new.self c.give_up.ensures.reads)) c.take_at_once.ensures.left
+pub hand_over-requires-clause-jobless : goal.hand_over-requires-clause-jobless
+hand_over-requires-clause-jobless g c =
+    let cached = subst (λ (l : RegionLeaves). AreCachedOf (IsInRegionOf (state_of c.args.tree.now) c.args.regions.now.roots.roots c.args.root.now) c.args.tree.now.caches c.args.export.exporter.0 l) (λ i. record { unclean = sym c.unclean.ensures i; clean = sym c.clean.ensures i }) c.in-Ok.ensures.cached in
+    jobless c.args.tree.now c.args.regions.now c.requires.divided c.args.root.now c.args.export c.requires.stands c.requires.sent (record { unclean = c.unclean.result.now; clean = c.clean.result.now }) cached
 
-pub returns-clause-caches : goal.returns-clause-caches
-returns-clause-caches g c = if_err _ _ c.take_at_once.result (λ reason is. freed_caches c.args.tree.now c.give_up.new.self c.args.regions.now c.give_up.ensures.reads c.args.export.importer c.take_at_once.new.tree.caches reason is) c.take_at_once.ensures.caches
+pub returns-in-Ok-clause-taken : goal.returns-in-Ok-clause-taken
+returns-in-Ok-clause-taken g c =
+    let cached = subst (λ (l : RegionLeaves). AreCachedOf (IsInRegionOf (state_of c.args.tree.now) c.args.regions.now.roots.roots c.args.root.now) c.args.tree.now.caches c.args.export.exporter.0 l) (λ i. record { unclean = sym c.unclean.ensures i; clean = sym c.clean.ensures i }) c.in-Ok.ensures.cached in
+    let spelled = subst (λ (l : RegionLeaves). IsSpelledBy (state_of c.args.tree.now) c.args.regions.now.roots.roots c.args.root.now c.args.export c.args.bytes.now (length l.unclean)) (λ i. record { unclean = sym c.unclean.ensures i; clean = sym c.clean.ensures i }) c.in-Ok.ensures.spelled in
+    took c.args.tree.now c.hand_over.new.self c.args.regions.now c.requires.divided c.args.root.now c.args.export c.requires.stands c.requires.sent c.requires.ranks.apart c.args.bytes.now (record { unclean = c.unclean.result.now; clean = c.clean.result.now }) cached c.in-Ok.ensures.valid spelled c.hand_over.result c.hand_over.ensures.handed c.hand_over.ensures.given
 
-pub returns-clause-shown : goal.returns-clause-shown
-returns-clause-shown g c = c.take_at_once.ensures.shown ∙ ap (λ (s : TreeState). shown_tree s) (reads_state NoneUsed (IsKeptFor c.args.tree.now.caches) c.args.tree.now c.give_up.new.self c.give_up.ensures.reads)
+pub returns-in-Ok-clause-refused : goal.returns-in-Ok-clause-refused
+returns-in-Ok-clause-refused g c =
+    let cached = subst (λ (l : RegionLeaves). AreCachedOf (IsInRegionOf (state_of c.args.tree.now) c.args.regions.now.roots.roots c.args.root.now) c.args.tree.now.caches c.args.export.exporter.0 l) (λ i. record { unclean = sym c.unclean.ensures i; clean = sym c.clean.ensures i }) c.in-Ok.ensures.cached in
+    let spelled = subst (λ (l : RegionLeaves). IsSpelledBy (state_of c.args.tree.now) c.args.regions.now.roots.roots c.args.root.now c.args.export c.args.bytes.now (length l.unclean)) (λ i. record { unclean = sym c.unclean.ensures i; clean = sym c.clean.ensures i }) c.in-Ok.ensures.spelled in
+    may_not c.args.tree.now c.hand_over.new.self c.args.regions.now c.requires.divided c.args.root.now c.args.export c.requires.stands c.requires.sent c.requires.ranks.apart c.args.bytes.now (record { unclean = c.unclean.result.now; clean = c.clean.result.now }) cached c.in-Ok.ensures.valid spelled c.hand_over.result c.hand_over.ensures.refused
 
-pub returns-clause-count : goal.returns-clause-count
-returns-clause-count g c = c.take_at_once.ensures.count ∙ (keeps c.args.tree.now c.give_up.new.self c.args.regions.now c.give_up.ensures.reads c.give_up.ensures.faults).count
-
-pub returns-clause-cap : goal.returns-clause-cap
-returns-clause-cap g c = c.take_at_once.ensures.cap ∙ (keeps c.args.tree.now c.give_up.new.self c.args.regions.now c.give_up.ensures.reads c.give_up.ensures.faults).cap
+pub returns-in-Ok-clause-still : goal.returns-in-Ok-clause-still
+returns-in-Ok-clause-still g c =
+    let cached = subst (λ (l : RegionLeaves). AreCachedOf (IsInRegionOf (state_of c.args.tree.now) c.args.regions.now.roots.roots c.args.root.now) c.args.tree.now.caches c.args.export.exporter.0 l) (λ i. record { unclean = sym c.unclean.ensures i; clean = sym c.clean.ensures i }) c.in-Ok.ensures.cached in
+    let spelled = subst (λ (l : RegionLeaves). IsSpelledBy (state_of c.args.tree.now) c.args.regions.now.roots.roots c.args.root.now c.args.export c.args.bytes.now (length l.unclean)) (λ i. record { unclean = sym c.unclean.ensures i; clean = sym c.clean.ensures i }) c.in-Ok.ensures.spelled in
+    still_divided c.args.tree.now c.hand_over.new.self c.args.regions.now c.requires.divided c.args.root.now c.args.export c.requires.stands c.requires.sent c.requires.ranks.apart c.args.bytes.now (record { unclean = c.unclean.result.now; clean = c.clean.result.now }) cached c.in-Ok.ensures.valid spelled c.hand_over.result c.hand_over.ensures.refused c.hand_over.ensures.left c.hand_over.ensures.count c.hand_over.ensures.sound

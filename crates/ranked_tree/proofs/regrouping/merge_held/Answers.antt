@@ -1,6 +1,5 @@
-use Rattle.std.proofs.Common.{◌⊎◌, ℕ}
+use Rattle.std.proofs.Common.{ℕ}
 use Rattle.std.specs.List.{Contains}
-use Rattle.dentry_cache.specs.CacheSplits.{IsKeptFor}
 use Rattle.dentry_cache.proofs.FrameLaws.{came_cap, came_ranks}
 use Rattle.subtree_map.specs.Authority.{Leaf}
 use Rattle.mdcache.specs.Core.{LacksPlacesAt}
@@ -15,10 +14,10 @@ pub returns-clause-merged : goal.returns-clause-merged
 returns-clause-merged g c = let some = c.holder_of_all-rank.ensures.inside in merge_on (LacksPlacesAt 1 c.args.tree.now c.holder_of_all-rank.result) (LacksPlacesInside 1 c.args.tree.now c.args.regions.now.roots.roots c.args.dir c.args.frag) c.args.tree.now c.merge.new.self c.args.dir c.args.frag c.merge.result (λ lacks. (some.0, some.1, some.2, (c.holder_of_all-rank.result, all_rule c.args.regions.now.exports c.args.regions.now.roots.roots c.args.tree.now.homes c.args.tree.now.covers c.args.dir c.args.frag c.holder_of_all-rank.result c.requires.thawed c.holder_of_all-rank.ensures.all some.0 some.1 some.2, lacks))) c.merge.ensures.merged
 
 pub returns-clause-count : goal.returns-clause-count
-returns-clause-count g c = came_ranks (IsAmongOr c.holder_of_all-rank.result.0 (ending_at c.args.tree.now (record { dir = c.args.dir; frag = c.args.frag; rank = c.holder_of_all-rank.result })) (c.args.dir, c.args.frag)) (λ (r : ℕ) (q : Leaf). IsKeptFor c.args.tree.now.caches r q ⊎ Contains (ending_at c.args.tree.now (record { dir = c.args.dir; frag = c.args.frag; rank = c.holder_of_all-rank.result })) q) c.args.tree.now.caches c.merge.new.self.caches c.merge.ensures.came
+returns-clause-count g c = came_ranks (IsAmongOr c.holder_of_all-rank.result.0 (ending_at c.args.tree.now (record { dir = c.args.dir; frag = c.args.frag; rank = c.holder_of_all-rank.result })) (c.args.dir, c.args.frag)) (λ (r : ℕ) (q : Leaf). Contains (ending_at c.args.tree.now (record { dir = c.args.dir; frag = c.args.frag; rank = c.holder_of_all-rank.result })) q) c.args.tree.now.caches c.merge.new.self.caches c.merge.ensures.came
 
 pub returns-clause-cap : goal.returns-clause-cap
-returns-clause-cap g c = came_cap (IsAmongOr c.holder_of_all-rank.result.0 (ending_at c.args.tree.now (record { dir = c.args.dir; frag = c.args.frag; rank = c.holder_of_all-rank.result })) (c.args.dir, c.args.frag)) (λ (r : ℕ) (q : Leaf). IsKeptFor c.args.tree.now.caches r q ⊎ Contains (ending_at c.args.tree.now (record { dir = c.args.dir; frag = c.args.frag; rank = c.holder_of_all-rank.result })) q) c.args.tree.now.caches c.merge.new.self.caches c.merge.ensures.came
+returns-clause-cap g c = came_cap (IsAmongOr c.holder_of_all-rank.result.0 (ending_at c.args.tree.now (record { dir = c.args.dir; frag = c.args.frag; rank = c.holder_of_all-rank.result })) (c.args.dir, c.args.frag)) (λ (r : ℕ) (q : Leaf). Contains (ending_at c.args.tree.now (record { dir = c.args.dir; frag = c.args.frag; rank = c.holder_of_all-rank.result })) q) c.args.tree.now.caches c.merge.new.self.caches c.merge.ensures.came
 
 pub returns-clause-came : goal.returns-clause-came
 returns-clause-came g c = merged_came c.args.tree.now c.args.regions.now.roots.roots c.holder_of_all-rank.result c.args.dir c.args.frag

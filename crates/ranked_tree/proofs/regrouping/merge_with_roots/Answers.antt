@@ -23,7 +23,7 @@ use Rattle.ranked_tree.proofs.regrouping.merge_with_roots.Goals as goal
 pub returns-in-Err-clause-merged : goal.returns-in-Err-clause-merged
 returns-in-Err-clause-merged g c = (
   regroup_on (CanMerge (leaves_of c.args.tree.now.covers c.args.dir.0) c.args.frag) (RefusesMerge (leaves_of c.args.tree.now.covers c.args.dir.0) c.args.frag) (state_of c.args.tree.now) c.args.dir 1 ⊥ (LacksPlacesInside 1 c.args.tree.now c.args.regions.now.roots.roots c.args.dir c.args.frag) c.args.tree.now.faults c.args.tree.now.faults c.in-Err.refusal (λ never. absurd never) c.in-Err.ensures.refused,
-  (refl, λ r leaf kept. kept),
+  refl,
 )
 
 pub returns-in-Err-clause-counted : goal.returns-in-Err-clause-counted
@@ -61,17 +61,17 @@ returns-in-Err-merge_held-clause-came g c = subst (λ (r : Roots). CameAt (AllHa
 
 pub returns-in-Err-merge_held-clause-kept : goal.returns-in-Err-merge_held-clause-kept
 returns-in-Err-merge_held-clause-kept g c =
-    keeps_same (state_of c.args.tree.now) (state_of c.merge_held.new.tree) c.args.regions.now.roots.roots c.reserve_merge.new.roots.roots c.args.regions.now.exports c.args.regions.now.exports c.in-Err-merge_held.ensures.merged.1.0 c.reserve_merge.ensures.same refl c.requires.divided.stand.valid
+    keeps_same (state_of c.args.tree.now) (state_of c.merge_held.new.tree) c.args.regions.now.roots.roots c.reserve_merge.new.roots.roots c.args.regions.now.exports c.args.regions.now.exports c.in-Err-merge_held.ensures.merged.1 c.reserve_merge.ensures.same refl c.requires.divided.stand.valid
 
 pub returns-in-Err-merge_held-clause-divided : goal.returns-in-Err-merge_held-clause-divided
 returns-in-Err-merge_held-clause-divided g c = record {
   owned = record {
     sound = c.in-Err-merge_held.ensures.sound;
-    valid = subst (AreRoots (state_of c.merge_held.new.tree)) (sym (ap (λ (r : Roots). holding c.args.regions.now.exports r) c.reserve_merge.ensures.same)) (subst (λ (s : State). AreRoots s (held_in c.args.regions.now)) (sym c.in-Err-merge_held.ensures.merged.1.0) c.requires.divided.owned.valid);
+    valid = subst (AreRoots (state_of c.merge_held.new.tree)) (sym (ap (λ (r : Roots). holding c.args.regions.now.exports r) c.reserve_merge.ensures.same)) (subst (λ (s : State). AreRoots s (held_in c.args.regions.now)) (sym c.in-Err-merge_held.ensures.merged.1) c.requires.divided.owned.valid);
     held = unmerged_held c.args.tree.now c.merge_held.new.tree (held_in c.args.regions.now) (holding c.args.regions.now.exports c.reserve_merge.new.roots.roots) c.requires.divided.owned c.in-Err-merge_held.ensures.count c.in-Err-merge_held.ensures.sound c.args.dir c.args.frag c.requires.known c.requires.can
-        (merged_held c.args.regions.now.exports c.args.regions.now.roots.roots c.args.tree.now c.args.dir c.args.frag c.merge_held.new.tree.caches c.requires.thawed (returns-in-Err-merge_held-clause-came g c)) c.in-Err-merge_held.ensures.merged.1.0 (ap (λ (r : Roots). holding c.args.regions.now.exports r) c.reserve_merge.ensures.same);
+        (merged_held c.args.regions.now.exports c.args.regions.now.roots.roots c.args.tree.now c.args.dir c.args.frag c.merge_held.new.tree.caches c.requires.thawed (returns-in-Err-merge_held-clause-came g c)) c.in-Err-merge_held.ensures.merged.1 (ap (λ (r : Roots). holding c.args.regions.now.exports r) c.reserve_merge.ensures.same);
   };
-  stand = stand_undone c.args.tree.now c.merge_held.new.tree c.args.regions.now.roots c.reserve_merge.new.roots c.args.regions.now.exports c.requires.divided.stand c.in-Err-merge_held.ensures.merged.1.0 c.in-Err-merge_held.ensures.count c.reserve_merge.ensures.same c.reserve_merge.ensures.promises;
+  stand = stand_undone c.args.tree.now c.merge_held.new.tree c.args.regions.now.roots c.reserve_merge.new.roots c.args.regions.now.exports c.requires.divided.stand c.in-Err-merge_held.ensures.merged.1 c.in-Err-merge_held.ensures.count c.reserve_merge.ensures.same c.reserve_merge.ensures.promises;
 }
 
 pub returns-clause-merged : goal.returns-clause-merged

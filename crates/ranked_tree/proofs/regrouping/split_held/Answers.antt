@@ -1,7 +1,6 @@
-use Rattle.std.proofs.Common.{◌⊎◌, ℕ, ◌+◌, ◌^◌}
-use Rattle.dentry_cache.specs.CacheSplits.{IsFamilyAt, IsKeptFor}
+use Rattle.std.proofs.Common.{◌+◌, ◌^◌}
+use Rattle.dentry_cache.specs.CacheSplits.{IsFamilyAt}
 use Rattle.dentry_cache.proofs.FrameLaws.{came_cap, came_ranks}
-use Rattle.subtree_map.specs.Authority.{Leaf}
 use Rattle.mdcache.specs.Core.{LacksPlacesAt, state_of}
 use Rattle.ranked_tree.specs.Held.{LacksPlacesFor}
 use Rattle.mds_types.specs.Leaf.{leaf_of}
@@ -18,10 +17,10 @@ pub returns-clause-split : goal.returns-clause-split
 returns-clause-split g c = split_on (LacksPlacesAt (2 ^ c.args.bits + 1) c.args.tree.now c.args.at.now.rank) (LacksPlacesFor (2 ^ c.args.bits + 1) c.args.tree.now c.args.regions.now.roots.roots (c.args.at.now.dir, c.args.at.now.frag)) c.args.tree.now c.split.new.self c.args.at.now.dir c.args.at.now.frag c.args.bits c.split.result (λ lacks. (c.args.at.now.rank, thawed_rules c.args.regions.now.exports c.args.regions.now.roots.roots c.args.tree.now.homes c.args.tree.now.covers (c.args.at.now.dir, c.args.at.now.frag) c.args.at.now.rank c.requires.thawed c.requires.held, lacks)) c.split.ensures.split
 
 pub returns-clause-count : goal.returns-clause-count
-returns-clause-count g c = came_ranks (IsFamilyAt c.args.at.now.rank.0 c.args.at.now.dir c.args.at.now.frag c.args.bits) (λ (r : ℕ) (q : Leaf). IsKeptFor c.args.tree.now.caches r q ⊎ IsFamilyAt c.args.at.now.rank.0 c.args.at.now.dir c.args.at.now.frag c.args.bits r q) c.args.tree.now.caches c.split.new.self.caches c.split.ensures.came
+returns-clause-count g c = came_ranks (IsFamilyAt c.args.at.now.rank.0 c.args.at.now.dir c.args.at.now.frag c.args.bits) (IsFamilyAt c.args.at.now.rank.0 c.args.at.now.dir c.args.at.now.frag c.args.bits) c.args.tree.now.caches c.split.new.self.caches c.split.ensures.came
 
 pub returns-clause-cap : goal.returns-clause-cap
-returns-clause-cap g c = came_cap (IsFamilyAt c.args.at.now.rank.0 c.args.at.now.dir c.args.at.now.frag c.args.bits) (λ (r : ℕ) (q : Leaf). IsKeptFor c.args.tree.now.caches r q ⊎ IsFamilyAt c.args.at.now.rank.0 c.args.at.now.dir c.args.at.now.frag c.args.bits r q) c.args.tree.now.caches c.split.new.self.caches c.split.ensures.came
+returns-clause-cap g c = came_cap (IsFamilyAt c.args.at.now.rank.0 c.args.at.now.dir c.args.at.now.frag c.args.bits) (IsFamilyAt c.args.at.now.rank.0 c.args.at.now.dir c.args.at.now.frag c.args.bits) c.args.tree.now.caches c.split.new.self.caches c.split.ensures.came
 
 pub returns-clause-came : goal.returns-clause-came
 returns-clause-came g c = family_came (state_of c.args.tree.now) c.args.regions.now.roots.roots c.args.at.now.rank c.args.at.now.dir c.args.at.now.frag c.args.bits

@@ -23,7 +23,7 @@ use Rattle.ranked_tree.proofs.regrouping.split_with_roots.Goals as goal
 pub returns-in-Err-clause-split : goal.returns-in-Err-clause-split
 returns-in-Err-clause-split g c = (
   regroup_on (CanSplit (leaves_of c.args.tree.now.covers c.args.at.now.dir.0) c.args.at.now.frag c.args.bits) (RefusesSplit (leaves_of c.args.tree.now.covers c.args.at.now.dir.0) c.args.at.now.frag c.args.bits) (state_of c.args.tree.now) c.args.at.now.dir (2 ^ c.args.bits) ⊥ (LacksPlacesFor (2 ^ c.args.bits + 1) c.args.tree.now c.args.regions.now.roots.roots (c.args.at.now.dir, c.args.at.now.frag)) c.args.tree.now.faults c.args.tree.now.faults c.in-Err.refusal (λ never. absurd never) c.in-Err.ensures.refused,
-  (refl, λ r leaf kept. kept),
+  refl,
 )
 
 pub returns-in-Err-clause-counted : goal.returns-in-Err-clause-counted
@@ -58,17 +58,17 @@ returns-in-Err-split_held-clause-came g c = subst (λ (r : Roots). CameAt (Rules
 
 pub returns-in-Err-split_held-clause-kept : goal.returns-in-Err-split_held-clause-kept
 returns-in-Err-split_held-clause-kept g c =
-    keeps_same (state_of c.args.tree.now) (state_of c.split_held.new.tree) c.args.regions.now.roots.roots c.reserve_split.new.roots.roots c.args.regions.now.exports c.args.regions.now.exports c.in-Err-split_held.ensures.split.1.0 c.reserve_split.ensures.same refl c.requires.divided.stand.valid
+    keeps_same (state_of c.args.tree.now) (state_of c.split_held.new.tree) c.args.regions.now.roots.roots c.reserve_split.new.roots.roots c.args.regions.now.exports c.args.regions.now.exports c.in-Err-split_held.ensures.split.1 c.reserve_split.ensures.same refl c.requires.divided.stand.valid
 
 pub returns-in-Err-split_held-clause-divided : goal.returns-in-Err-split_held-clause-divided
 returns-in-Err-split_held-clause-divided g c = record {
   owned = record {
     sound = c.in-Err-split_held.ensures.sound;
-    valid = subst (AreRoots (state_of c.split_held.new.tree)) (sym (ap (λ (r : Roots). holding c.args.regions.now.exports r) c.reserve_split.ensures.same)) (subst (λ (s : State). AreRoots s (held_in c.args.regions.now)) (sym c.in-Err-split_held.ensures.split.1.0) c.requires.divided.owned.valid);
+    valid = subst (AreRoots (state_of c.split_held.new.tree)) (sym (ap (λ (r : Roots). holding c.args.regions.now.exports r) c.reserve_split.ensures.same)) (subst (λ (s : State). AreRoots s (held_in c.args.regions.now)) (sym c.in-Err-split_held.ensures.split.1) c.requires.divided.owned.valid);
     held = unsplit_held c.args.tree.now c.split_held.new.tree (held_in c.args.regions.now) (holding c.args.regions.now.exports c.reserve_split.new.roots.roots) c.requires.divided.owned c.in-Err-split_held.ensures.count c.in-Err-split_held.ensures.sound c.args.at.now.dir c.args.at.now.frag c.args.bits (record { known = c.requires.known; stands = c.requires.can.stands })
-        (family_held c.args.regions.now.exports c.args.regions.now.roots.roots c.args.tree.now c.args.at.now.dir c.args.at.now.frag c.args.bits c.split_held.new.tree.caches c.requires.thawed (returns-in-Err-split_held-clause-came g c)) c.in-Err-split_held.ensures.split.1.0 (ap (λ (r : Roots). holding c.args.regions.now.exports r) c.reserve_split.ensures.same) c.requires.can.fits;
+        (family_held c.args.regions.now.exports c.args.regions.now.roots.roots c.args.tree.now c.args.at.now.dir c.args.at.now.frag c.args.bits c.split_held.new.tree.caches c.requires.thawed (returns-in-Err-split_held-clause-came g c)) c.in-Err-split_held.ensures.split.1 (ap (λ (r : Roots). holding c.args.regions.now.exports r) c.reserve_split.ensures.same) c.requires.can.fits;
   };
-  stand = stand_undone c.args.tree.now c.split_held.new.tree c.args.regions.now.roots c.reserve_split.new.roots c.args.regions.now.exports c.requires.divided.stand c.in-Err-split_held.ensures.split.1.0 c.in-Err-split_held.ensures.count c.reserve_split.ensures.same c.reserve_split.ensures.promises;
+  stand = stand_undone c.args.tree.now c.split_held.new.tree c.args.regions.now.roots c.reserve_split.new.roots c.args.regions.now.exports c.requires.divided.stand c.in-Err-split_held.ensures.split.1 c.in-Err-split_held.ensures.count c.reserve_split.ensures.same c.reserve_split.ensures.promises;
 }
 
 pub returns-clause-split : goal.returns-clause-split

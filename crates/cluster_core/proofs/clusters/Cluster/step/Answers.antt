@@ -9,7 +9,7 @@ pub returns-clause-sound : goal.returns-clause-sound
 returns-clause-sound g c opening sound =
     let s = c.is_sound.ensures.owned in
     let kept = subst (λ (core : Core). IsKept core.state.tree core.caches) c.self.view_is (record { sound = s.sound.sound; begun = s.sound.begun; cached = s.sound.cached }) in
-    let cached = subst AreCached c.self.view_is (record { unsaved = refl; places = (_, s.sound.kept); held = s.held; orders = c.is_sound.ensures.caches }) in
+    let cached = subst AreCached c.self.view_is (record { unsaved = refl; places = s.sound.none; held = s.held; orders = c.is_sound.ensures.caches }) in
     let stand = c.is_sound.ensures.stand in
     let exported = subst AreExported c.self.view_is (record { placed = stand.placed.ranked; ranked = stand.ranked; there = stand.there; unbegun = stand.unbegun }) in
     sound-step opening _ _ _ _ sound kept cached exported c.choose-answer.ensures.stepped.ranks c.choose-answer.ensures.valid

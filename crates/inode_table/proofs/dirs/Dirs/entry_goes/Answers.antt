@@ -1,13 +1,12 @@
 -- The root's count is lowered beside the rows, that of another directory in its row.
-use Rattle.std.proofs.Common.{◌-◌, ℕ, refl, sym, ap, subst, ◌∙◌}
-use Rattle.std.specs.Prelude.{Some}
+use Rattle.std.proofs.Common.{◌-◌, ℕ, refl, sym, ap, ◌∙◌}
 use Rattle.std.specs.Ordering.{nat_cmp}
 use Rattle.sorted_map.specs.SortedMap.{contents}
 use Rattle.inode_table.specs.declared.dirs.Directory.{Directory}
-use Rattle.inode_table.specs.Dirs.{Counts, Table, count_of, one_less, or_zero}
-use Rattle.inode_table.specs.Rows.{Rows, counts_of, covers_of, homes_of, pins_of}
+use Rattle.inode_table.specs.Dirs.{Counts, Table, one_less}
+use Rattle.inode_table.specs.Rows.{Rows, covers_of, homes_of, pins_of}
 use Rattle.inode_table.proofs.Chains.{are_same, are_apart}
-use Rattle.inode_table.proofs.CountRows.{count_at_root, count_at_row, count_in, count_set_in, pins_unwritten, root_set}
+use Rattle.inode_table.proofs.CountRows.{count_set_in, pins_unwritten, root_set}
 use Rattle.inode_table.proofs.RowLaws.{has_known_row, homes_unwritten, leaves_unwritten}
 use Rattle.inode_table.proofs.dirs.Dirs.entry_goes.Goals as goal
 

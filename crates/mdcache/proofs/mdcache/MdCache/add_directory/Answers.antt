@@ -1,20 +1,60 @@
-use Rattle.std.proofs.Common.{◌≡◌, true, None, ap, subst, sym, ◌∙◌}
-use Rattle.std.specs.FinMap as map
-use Rattle.dentry_cache.specs.CacheMap.{has_place}
+use Rattle.std.proofs.Common.{◌⊎◌, ◌<◌, ℕ, List, ap, subst, sym, ◌∙◌}
 use Rattle.mds_types.specs.Leaf.{leaf_of}
+use Rattle.dentry_cache.specs.Cache.{Leaf}
+use Rattle.dentry_cache.specs.Came.{IsThat, NoneEnds}
+use Rattle.inode_table.specs.Dirs.{MayCome}
+use Rattle.inode_table.proofs.TableLaws.{known_is, may_come}
+use Rattle.namespace_ops.specs.Changes.{adds, dentry_at}
 use Rattle.mdcache.specs.Changes.{first_leaf}
-use Rattle.mdcache.specs.Core.{Core, with_entry}
-use Rattle.mdcache.proofs.ChangeSteps.{kept_named, roomy_there}
-use Rattle.dentry_cache.specs.CacheMap.{here}
-use Rattle.std.specs.Prelude.{Some}
+use Rattle.mdcache.specs.Core.{Core, shown_in, state_of}
+use Rattle.mdcache.specs.Sound.{IsSound}
+use Rattle.mdcache.specs.State.{State}
+use Rattle.mdcache.proofs.ChangesMade.{after_reads, directory_done, may_still, new_fits}
+use Rattle.mdcache.proofs.CoreLaws.{not_ready_wider, reads_state, there_after}
+use Rattle.mdcache.proofs.PrepareLaws.{dir_live, directory_lacks, directory_needs, new_recordable}
 use Rattle.mdcache.proofs.mdcache.MdCache.add_directory.Goals as goal
 
-pub add_dir-requires-clause-place : goal.add_dir-requires-clause-place
-add_dir-requires-clause-place g c = subst (λ (k : Core). has_place k.caches c.args.spot.at.rank.0 (first_leaf c.args.inode.ino) ≡ true) (sym (c.entry_comes.ensures ∙ ap (λ (k : Core). with_entry k c.args.spot.at.dir) c.put.ensures))
-    (kept_named c.args.self.now c.args.spot.at c.args.spot.name (Some c.args.inode)
-    (roomy_there (here c.args.self.now.caches c.args.spot.at.rank.0 (leaf_of c.args.spot.at)) c.requires.room) (first_leaf c.args.inode.ino) c.requires.place c.requires.there).0
+pub ready_directory-requires-clause-live : goal.ready_directory-requires-clause-live
+ready_directory-requires-clause-live g c = dir_live c.args.self.now c.requires.sound (dentry_at c.args.spot) c.args.spot.at.frag c.requires.may.takes.parent c.requires.may.carries.put
 
-pub add_dir-requires-clause-absent : goal.add_dir-requires-clause-absent
-add_dir-requires-clause-absent g c = subst (λ (k : Core). map.get k.caches.held (first_leaf c.args.inode.ino) ≡ None) (sym (c.entry_comes.ensures ∙ ap (λ (k : Core). with_entry k c.args.spot.at.dir) c.put.ensures))
-    (kept_named c.args.self.now c.args.spot.at c.args.spot.name (Some c.args.inode)
-    (roomy_there (here c.args.self.now.caches c.args.spot.at.rank.0 (leaf_of c.args.spot.at)) c.requires.room) (first_leaf c.args.inode.ino) c.requires.place c.requires.there).1
+pub come_directory-requires-clause-there : goal.come_directory-requires-clause-there
+come_directory-requires-clause-there g c = there_after (λ (r : ℕ) (q : Leaf). IsThat c.args.spot.at.rank.0 (leaf_of c.args.spot.at) r q ⊎ IsThat c.args.spot.at.rank.0 (first_leaf c.args.inode.ino) r q) NoneEnds c.args.self.now c.ready_directory.new.self c.args.spot.at.rank.0 c.ready_directory.ensures.reads c.requires.holds.put.there
+
+pub come_directory-requires-clause-recordable : goal.come_directory-requires-clause-recordable
+come_directory-requires-clause-recordable g c = new_recordable (shown_in c.args.self.now) (dentry_at c.args.spot) c.args.inode c.requires.may.takes c.requires.number c.has_parts.ensures.mode c.has_parts.ensures.target
+
+pub come_directory-requires-clause-known : goal.come_directory-requires-clause-known
+come_directory-requires-clause-known g c = known_is (shown_in c.ready_directory.new.self) c.ready_directory.new.self.homes (subst IsSound (sym (reads_state (λ (r : ℕ) (q : Leaf). IsThat c.args.spot.at.rank.0 (leaf_of c.args.spot.at) r q ⊎ IsThat c.args.spot.at.rank.0 (first_leaf c.args.inode.ino) r q) NoneEnds c.args.self.now c.ready_directory.new.self c.ready_directory.ensures.reads)) c.requires.sound.sound).tabled c.args.spot.at.dir.0 ∙ (may_still (λ (r : ℕ) (q : Leaf). IsThat c.args.spot.at.rank.0 (leaf_of c.args.spot.at) r q ⊎ IsThat c.args.spot.at.rank.0 (first_leaf c.args.inode.ino) r q) (adds c.args.spot c.args.inode) c.args.self.now c.ready_directory.new.self c.ready_directory.ensures.reads c.requires.may).takes.parent
+
+pub come_directory-requires-clause-few : goal.come_directory-requires-clause-few
+come_directory-requires-clause-few g c = new_fits (state_of c.ready_directory.new.self) (subst IsSound (sym (reads_state (λ (r : ℕ) (q : Leaf). IsThat c.args.spot.at.rank.0 (leaf_of c.args.spot.at) r q ⊎ IsThat c.args.spot.at.rank.0 (first_leaf c.args.inode.ino) r q) NoneEnds c.args.self.now c.ready_directory.new.self c.ready_directory.ensures.reads)) c.requires.sound.sound) c.args.spot c.args.inode (may_still (λ (r : ℕ) (q : Leaf). IsThat c.args.spot.at.rank.0 (leaf_of c.args.spot.at) r q ⊎ IsThat c.args.spot.at.rank.0 (first_leaf c.args.inode.ino) r q) (adds c.args.spot c.args.inode) c.args.self.now c.ready_directory.new.self c.ready_directory.ensures.reads c.requires.may)
+
+pub come_directory-requires-clause-may : goal.come_directory-requires-clause-may
+come_directory-requires-clause-may g c =
+    subst (λ (name : List ℕ). MayCome c.ready_directory.new.self.homes c.args.inode.ino.0 (record { parent = c.args.spot.at.dir; name = name })) (sym c.in-Ok.ensures.place.name)
+    (may_come (shown_in c.ready_directory.new.self) c.ready_directory.new.self.homes (dentry_at c.args.spot) c.args.inode (subst IsSound (sym (reads_state (λ (r : ℕ) (q : Leaf). IsThat c.args.spot.at.rank.0 (leaf_of c.args.spot.at) r q ⊎ IsThat c.args.spot.at.rank.0 (first_leaf c.args.inode.ino) r q) NoneEnds c.args.self.now c.ready_directory.new.self c.ready_directory.ensures.reads)) c.requires.sound.sound).tabled (may_still (λ (r : ℕ) (q : Leaf). IsThat c.args.spot.at.rank.0 (leaf_of c.args.spot.at) r q ⊎ IsThat c.args.spot.at.rank.0 (first_leaf c.args.inode.ino) r q) (adds c.args.spot c.args.inode) c.args.self.now c.ready_directory.new.self c.ready_directory.ensures.reads c.requires.may).takes)
+
+pub returns-in-Ok-clause-changed : goal.returns-in-Ok-clause-changed
+returns-in-Ok-clause-changed g c =
+    let done =
+    directory_done c.ready_directory.new.self c.come_directory.new.self (subst IsSound (sym (reads_state (λ (r : ℕ) (q : Leaf). IsThat c.args.spot.at.rank.0 (leaf_of c.args.spot.at) r q ⊎ IsThat c.args.spot.at.rank.0 (first_leaf c.args.inode.ino) r q) NoneEnds c.args.self.now c.ready_directory.new.self c.ready_directory.ensures.reads)) c.requires.sound.sound) (subst (λ (s : State). 0 < s.next_generation) (sym (reads_state (λ (r : ℕ) (q : Leaf). IsThat c.args.spot.at.rank.0 (leaf_of c.args.spot.at) r q ⊎ IsThat c.args.spot.at.rank.0 (first_leaf c.args.inode.ino) r q) NoneEnds c.args.self.now c.ready_directory.new.self c.ready_directory.ensures.reads)) c.requires.sound.begun) c.in-Ok.ensures.cached c.args.spot c.in-Ok.ensures.ready.room c.args.inode c.in-Ok.ensures.only c.in-Ok.ensures.place.place c.requires.directory c.has_parts.ensures.number
+    (there_after (λ (r : ℕ) (q : Leaf). IsThat c.args.spot.at.rank.0 (leaf_of c.args.spot.at) r q ⊎ IsThat c.args.spot.at.rank.0 (first_leaf c.args.inode.ino) r q) NoneEnds c.args.self.now c.ready_directory.new.self c.args.spot.at.rank.0 c.ready_directory.ensures.reads c.requires.holds.put.there) (may_still (λ (r : ℕ) (q : Leaf). IsThat c.args.spot.at.rank.0 (leaf_of c.args.spot.at) r q ⊎ IsThat c.args.spot.at.rank.0 (first_leaf c.args.inode.ino) r q) (adds c.args.spot c.args.inode) c.args.self.now c.ready_directory.new.self c.ready_directory.ensures.reads c.requires.may) c.come_directory.new.self.room c.in-Ok.made c.in-Ok.ensures.place.name c.in-Ok.ensures.place.object c.come_directory.ensures
+    in
+    after_reads (adds c.args.spot c.args.inode) c.args.self.now c.ready_directory.new.self c.come_directory.new.self c.ready_directory.ensures.reads done
+
+pub returns-in-Ok-clause-sound : goal.returns-in-Ok-clause-sound
+returns-in-Ok-clause-sound g c =
+    let done =
+    directory_done c.ready_directory.new.self c.come_directory.new.self (subst IsSound (sym (reads_state (λ (r : ℕ) (q : Leaf). IsThat c.args.spot.at.rank.0 (leaf_of c.args.spot.at) r q ⊎ IsThat c.args.spot.at.rank.0 (first_leaf c.args.inode.ino) r q) NoneEnds c.args.self.now c.ready_directory.new.self c.ready_directory.ensures.reads)) c.requires.sound.sound) (subst (λ (s : State). 0 < s.next_generation) (sym (reads_state (λ (r : ℕ) (q : Leaf). IsThat c.args.spot.at.rank.0 (leaf_of c.args.spot.at) r q ⊎ IsThat c.args.spot.at.rank.0 (first_leaf c.args.inode.ino) r q) NoneEnds c.args.self.now c.ready_directory.new.self c.ready_directory.ensures.reads)) c.requires.sound.begun) c.in-Ok.ensures.cached c.args.spot c.in-Ok.ensures.ready.room c.args.inode c.in-Ok.ensures.only c.in-Ok.ensures.place.place c.requires.directory c.has_parts.ensures.number
+    (there_after (λ (r : ℕ) (q : Leaf). IsThat c.args.spot.at.rank.0 (leaf_of c.args.spot.at) r q ⊎ IsThat c.args.spot.at.rank.0 (first_leaf c.args.inode.ino) r q) NoneEnds c.args.self.now c.ready_directory.new.self c.args.spot.at.rank.0 c.ready_directory.ensures.reads c.requires.holds.put.there) (may_still (λ (r : ℕ) (q : Leaf). IsThat c.args.spot.at.rank.0 (leaf_of c.args.spot.at) r q ⊎ IsThat c.args.spot.at.rank.0 (first_leaf c.args.inode.ino) r q) (adds c.args.spot c.args.inode) c.args.self.now c.ready_directory.new.self c.ready_directory.ensures.reads c.requires.may) c.come_directory.new.self.room c.in-Ok.made c.in-Ok.ensures.place.name c.in-Ok.ensures.place.object c.come_directory.ensures
+    in
+    done.sound
+
+pub returns-in-Ok-clause-counted : goal.returns-in-Ok-clause-counted
+returns-in-Ok-clause-counted g c = ap (λ (k : Core). k.faults) c.come_directory.ensures ∙ c.in-Ok.ensures.counted
+
+pub returns-in-Err-clause-changed : goal.returns-in-Err-clause-changed
+returns-in-Err-clause-changed g c = (
+  c.ready_directory.ensures.reads,
+  not_ready_wider _ _ _ _ _ _ c.in-Err.refusal (directory_lacks c.args.inode c.requires.directory) (directory_needs c.args.inode) (λ lacks. lacks) c.in-Err.ensures.refused,
+)

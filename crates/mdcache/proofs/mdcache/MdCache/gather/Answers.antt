@@ -6,30 +6,21 @@ use Rattle.sorted_map.specs.Places.{puts}
 use Rattle.cached_frag.specs.Rows.{rows_after}
 use Rattle.dentry_cache.specs.CacheMap.{here}
 use Rattle.dentry_cache.specs.Came.{IsThat}
-use Rattle.dentry_cache.specs.CacheSplits.{IsKeptFor}
 use Rattle.dirfrag_codec.specs.FragmentObject.{Names}
-use Rattle.mdcache.specs.Ranks.{NoneUsed}
 use Rattle.mdcache.specs.Pages.{IsPageOf}
-use Rattle.mdcache.proofs.CoreLaws.{cached_so, given_may, given_names, given_reads, given_sound, if_err, not_found_before, on_ok, that_live}
+use Rattle.mdcache.proofs.CoreLaws.{cached_so, may_fetch, read_names, read_sound, on_ok, that_live}
 use Rattle.mdcache.proofs.mdcache.MdCache.gather.Goals as goal
 
 pub gather_at-requires-clause-may : goal.gather_at-requires-clause-may
-gather_at-requires-clause-may g c = given_may c.args.self.now c.give_up.new.self c.give_up.ensures.reads _ c.requires.sound c.requires.holds c.requires.live
+gather_at-requires-clause-may g c = may_fetch c.args.self.now c.requires.sound _ c.requires.holds c.requires.live
 
 pub returns-clause-page : goal.returns-clause-page
 returns-clause-page g c whole is = on_ok c.gather_at.result (λ has.
-    given_names (IsThat c.args.at.now.rank.0 (leaf_of c.args.at.now)) c.args.self.now c.give_up.new.self c.gather_at.new.self c.give_up.ensures.reads c.gather_at.ensures.reads c.requires.sound c.gather_at.ensures.none
+    read_names (IsThat c.args.at.now.rank.0 (leaf_of c.args.at.now)) c.args.self.now c.gather_at.new.self c.gather_at.ensures.reads c.requires.sound c.gather_at.ensures.none
     (that_live c.args.self.now c.args.at.now.rank.0 (leaf_of c.args.at.now) c.requires.live)
     (λ (names : Names). IsPageOf (puts key_cmp whole (rows_after (option_copied c.args.after) (map.entries names))) c.gather_at.new.page) c.args.at.now.rank.0 (leaf_of c.args.at.now) (cached_so _ _ (here c.gather_at.new.self.caches c.args.at.now.rank.0 (leaf_of c.args.at.now)) (λ f each. each whole is) has)) c.gather_at.ensures.page
 
-pub returns-clause-reads : goal.returns-clause-reads
-returns-clause-reads g c = given_reads (IsThat c.args.at.now.rank.0 (leaf_of c.args.at.now)) c.args.self.now c.give_up.new.self c.gather_at.new.self c.give_up.ensures.reads c.gather_at.ensures.reads
-
 pub returns-clause-sound : goal.returns-clause-sound
 returns-clause-sound g c =
-    given_sound (IsThat c.args.at.now.rank.0 (leaf_of c.args.at.now)) c.args.self.now c.give_up.new.self c.gather_at.new.self c.give_up.ensures.reads c.gather_at.ensures.reads c.requires.sound c.gather_at.ensures.none
+    read_sound (IsThat c.args.at.now.rank.0 (leaf_of c.args.at.now)) c.args.self.now c.gather_at.new.self c.gather_at.ensures.reads c.requires.sound c.gather_at.ensures.none
     (that_live c.args.self.now c.args.at.now.rank.0 (leaf_of c.args.at.now) c.requires.live)
-
-pub returns-clause-refused : goal.returns-clause-refused
-returns-clause-refused g c =
-    if_err _ _ c.gather_at.result (λ reason is. not_found_before NoneUsed (IsKeptFor c.args.self.now.caches) c.args.self.now c.give_up.new.self c.give_up.ensures.reads 1 c.args.at.now.rank.0 c.gather_at.new.self.faults reason c.give_up.ensures.faults is) c.gather_at.ensures.refused

@@ -1,36 +1,34 @@
-use Rattle.std.proofs.Common.{◌⊎◌, ℕ, ◌+◌, ◌^◌, inl, inr}
+use Rattle.std.proofs.Common.{◌+◌, ◌^◌}
 use Rattle.mds_types.specs.Frag.{child_of}
-use Rattle.dentry_cache.specs.Cache.{Leaf}
-use Rattle.dentry_cache.specs.CacheSplits.{IsFamilyAt, IsKeptFor}
-use Rattle.mdcache.proofs.CoreLaws.{reads_sound_so}
-use Rattle.mdcache.proofs.NoneLaws.{none_places}
-use Rattle.mdcache.proofs.RegroupReady.{family_live, given_absent, given_fetch, last_reads, last_refused, reads_undone, room_reads, room_sound}
+use Rattle.dentry_cache.specs.CacheSplits.{IsFamilyAt}
+use Rattle.mdcache.proofs.CoreLaws.{reads_sound_so, reads_state}
+use Rattle.mdcache.proofs.RegroupReady.{family_live, room_absent, room_fetch, last_reads, last_refused, room_reads, room_sound}
 use Rattle.mdcache.proofs.SplitSteps.{no_child_cached}
 use Rattle.mdcache.proofs.mdcache.MdCache.prepare_split.Goals as goal
 
 pub returns-in-Err-clause-reads : goal.returns-in-Err-clause-reads
-returns-in-Err-clause-reads g c = room_reads c.args.self.now c.plan_split.new.self c.plan_split.ensures.left c.plan_split.ensures.room (IsFamilyAt c.args.at.now.rank.0 c.args.at.now.dir c.args.at.now.frag c.args.nb) (λ (r : ℕ) (q : Leaf). IsKeptFor c.args.self.now.caches r q ⊎ IsFamilyAt c.args.at.now.rank.0 c.args.at.now.dir c.args.at.now.frag c.args.nb r q)
+returns-in-Err-clause-reads g c = room_reads c.args.self.now c.plan_split.new.self c.plan_split.ensures.left c.plan_split.ensures.room (IsFamilyAt c.args.at.now.rank.0 c.args.at.now.dir c.args.at.now.frag c.args.nb) (IsFamilyAt c.args.at.now.rank.0 c.args.at.now.dir c.args.at.now.frag c.args.nb)
 
 pub returns-in-Err-clause-sound : goal.returns-in-Err-clause-sound
 returns-in-Err-clause-sound g c = room_sound c.args.self.now c.plan_split.new.self c.plan_split.ensures.left c.plan_split.ensures.room c.requires.sound
 
 pub ready_children-requires-clause-may : goal.ready_children-requires-clause-may
-ready_children-requires-clause-may g c = given_fetch c.args.self.now c.plan_split.new.self c.plan_split.ensures.left c.plan_split.ensures.room c.give_up.new.self c.give_up.ensures.reads c.args.at.now c.requires.sound c.requires.holds (record { known = c.requires.known; stands = c.requires.can.stands })
+ready_children-requires-clause-may g c = room_fetch c.args.self.now c.plan_split.new.self c.plan_split.ensures.left c.plan_split.ensures.room c.args.at.now c.requires.sound c.requires.holds (record { known = c.requires.known; stands = c.requires.can.stands })
 
 pub ready_children-requires-clause-absent : goal.ready_children-requires-clause-absent
-ready_children-requires-clause-absent g c = λ i below. given_absent c.args.self.now c.plan_split.new.self c.plan_split.ensures.left c.plan_split.ensures.room c.give_up.new.self c.give_up.ensures.reads (c.args.at.now.dir, child_of c.args.at.now.frag i c.args.nb) (no_child_cached c.args.self.now c.requires.sound c.args.at.now.dir c.args.at.now.frag c.args.nb c.requires.can i below)
+ready_children-requires-clause-absent g c = λ i below. room_absent c.args.self.now c.plan_split.new.self c.plan_split.ensures.left c.plan_split.ensures.room (c.args.at.now.dir, child_of c.args.at.now.frag i c.args.nb) (no_child_cached c.args.self.now c.requires.sound c.args.at.now.dir c.args.at.now.frag c.args.nb c.requires.can i below)
 
 pub returns-in-Ok-ready_children-clause-reads : goal.returns-in-Ok-ready_children-clause-reads
-returns-in-Ok-ready_children-clause-reads g c = last_reads c.args.self.now c.plan_split.new.self c.plan_split.ensures.left c.plan_split.ensures.room c.give_up.new.self c.give_up.ensures.reads (IsFamilyAt c.args.at.now.rank.0 c.args.at.now.dir c.args.at.now.frag c.args.nb) (IsFamilyAt c.args.at.now.rank.0 c.args.at.now.dir c.args.at.now.frag c.args.nb) (λ (r : ℕ) (q : Leaf). IsKeptFor c.args.self.now.caches r q ⊎ IsFamilyAt c.args.at.now.rank.0 c.args.at.now.dir c.args.at.now.frag c.args.nb r q) c.ready_children.new.self c.ready_children.ensures.reads (λ r q is. inl is) (λ r q is. inr is)
+returns-in-Ok-ready_children-clause-reads g c = last_reads c.args.self.now c.plan_split.new.self c.plan_split.ensures.left c.plan_split.ensures.room (IsFamilyAt c.args.at.now.rank.0 c.args.at.now.dir c.args.at.now.frag c.args.nb) (IsFamilyAt c.args.at.now.rank.0 c.args.at.now.dir c.args.at.now.frag c.args.nb) c.ready_children.new.self c.ready_children.ensures.reads
 
 pub returns-in-Err-ready_children-clause-reads : goal.returns-in-Err-ready_children-clause-reads
-returns-in-Err-ready_children-clause-reads g c = last_reads c.args.self.now c.plan_split.new.self c.plan_split.ensures.left c.plan_split.ensures.room c.give_up.new.self c.give_up.ensures.reads (IsFamilyAt c.args.at.now.rank.0 c.args.at.now.dir c.args.at.now.frag c.args.nb) (IsFamilyAt c.args.at.now.rank.0 c.args.at.now.dir c.args.at.now.frag c.args.nb) (λ (r : ℕ) (q : Leaf). IsKeptFor c.args.self.now.caches r q ⊎ IsFamilyAt c.args.at.now.rank.0 c.args.at.now.dir c.args.at.now.frag c.args.nb r q) c.ready_children.new.self c.ready_children.ensures.reads (λ r q is. inl is) (λ r q is. inr is)
+returns-in-Err-ready_children-clause-reads g c = last_reads c.args.self.now c.plan_split.new.self c.plan_split.ensures.left c.plan_split.ensures.room (IsFamilyAt c.args.at.now.rank.0 c.args.at.now.dir c.args.at.now.frag c.args.nb) (IsFamilyAt c.args.at.now.rank.0 c.args.at.now.dir c.args.at.now.frag c.args.nb) c.ready_children.new.self c.ready_children.ensures.reads
 
 pub returns-in-Err-ready_children-clause-sound : goal.returns-in-Err-ready_children-clause-sound
-returns-in-Err-ready_children-clause-sound g c = reads_sound_so (IsFamilyAt c.args.at.now.rank.0 c.args.at.now.dir c.args.at.now.frag c.args.nb) (λ (r : ℕ) (q : Leaf). IsKeptFor c.args.self.now.caches r q ⊎ IsFamilyAt c.args.at.now.rank.0 c.args.at.now.dir c.args.at.now.frag c.args.nb r q) c.args.self.now c.ready_children.new.self (last_reads c.args.self.now c.plan_split.new.self c.plan_split.ensures.left c.plan_split.ensures.room c.give_up.new.self c.give_up.ensures.reads (IsFamilyAt c.args.at.now.rank.0 c.args.at.now.dir c.args.at.now.frag c.args.nb) (IsFamilyAt c.args.at.now.rank.0 c.args.at.now.dir c.args.at.now.frag c.args.nb) (λ (r : ℕ) (q : Leaf). IsKeptFor c.args.self.now.caches r q ⊎ IsFamilyAt c.args.at.now.rank.0 c.args.at.now.dir c.args.at.now.frag c.args.nb r q) c.ready_children.new.self c.ready_children.ensures.reads (λ r q is. inl is) (λ r q is. inr is)) c.requires.sound (family_live c.args.self.now c.args.at.now c.args.nb c.requires.known c.requires.can c.ready_children.new.self.caches c.in-Err-ready_children.ensures.absent) (none_places c.ready_children.new.self.kept c.ready_children.new.self.caches c.in-Err-ready_children.ensures.none)
+returns-in-Err-ready_children-clause-sound g c = reads_sound_so (IsFamilyAt c.args.at.now.rank.0 c.args.at.now.dir c.args.at.now.frag c.args.nb) (IsFamilyAt c.args.at.now.rank.0 c.args.at.now.dir c.args.at.now.frag c.args.nb) c.args.self.now c.ready_children.new.self (last_reads c.args.self.now c.plan_split.new.self c.plan_split.ensures.left c.plan_split.ensures.room (IsFamilyAt c.args.at.now.rank.0 c.args.at.now.dir c.args.at.now.frag c.args.nb) (IsFamilyAt c.args.at.now.rank.0 c.args.at.now.dir c.args.at.now.frag c.args.nb) c.ready_children.new.self c.ready_children.ensures.reads) c.requires.sound (family_live c.args.self.now c.args.at.now c.args.nb c.requires.known c.requires.can c.ready_children.new.self.caches c.in-Err-ready_children.ensures.absent) c.in-Err-ready_children.ensures.none
 
 pub returns-in-Err-ready_children-clause-undone : goal.returns-in-Err-ready_children-clause-undone
-returns-in-Err-ready_children-clause-undone g c = reads_undone (IsFamilyAt c.args.at.now.rank.0 c.args.at.now.dir c.args.at.now.frag c.args.nb) (λ (r : ℕ) (q : Leaf). IsKeptFor c.args.self.now.caches r q ⊎ IsFamilyAt c.args.at.now.rank.0 c.args.at.now.dir c.args.at.now.frag c.args.nb r q) c.args.self.now c.ready_children.new.self (last_reads c.args.self.now c.plan_split.new.self c.plan_split.ensures.left c.plan_split.ensures.room c.give_up.new.self c.give_up.ensures.reads (IsFamilyAt c.args.at.now.rank.0 c.args.at.now.dir c.args.at.now.frag c.args.nb) (IsFamilyAt c.args.at.now.rank.0 c.args.at.now.dir c.args.at.now.frag c.args.nb) (λ (r : ℕ) (q : Leaf). IsKeptFor c.args.self.now.caches r q ⊎ IsFamilyAt c.args.at.now.rank.0 c.args.at.now.dir c.args.at.now.frag c.args.nb r q) c.ready_children.new.self c.ready_children.ensures.reads (λ r q is. inl is) (λ r q is. inr is)) c.in-Err-ready_children.ensures.none
+returns-in-Err-ready_children-clause-undone g c = reads_state (IsFamilyAt c.args.at.now.rank.0 c.args.at.now.dir c.args.at.now.frag c.args.nb) (IsFamilyAt c.args.at.now.rank.0 c.args.at.now.dir c.args.at.now.frag c.args.nb) c.args.self.now c.ready_children.new.self (last_reads c.args.self.now c.plan_split.new.self c.plan_split.ensures.left c.plan_split.ensures.room (IsFamilyAt c.args.at.now.rank.0 c.args.at.now.dir c.args.at.now.frag c.args.nb) (IsFamilyAt c.args.at.now.rank.0 c.args.at.now.dir c.args.at.now.frag c.args.nb) c.ready_children.new.self c.ready_children.ensures.reads)
 
 pub returns-in-Err-ready_children-clause-refused : goal.returns-in-Err-ready_children-clause-refused
-returns-in-Err-ready_children-clause-refused g c = last_refused c.args.self.now c.plan_split.new.self c.plan_split.ensures.left c.plan_split.ensures.room c.give_up.new.self c.give_up.ensures.reads (2 ^ c.args.nb + 1) c.args.at.now.rank.0 c.ready_children.new.self.faults c.in-Err-ready_children.refusal c.give_up.ensures.faults c.in-Err-ready_children.ensures.refused
+returns-in-Err-ready_children-clause-refused g c = last_refused c.args.self.now c.plan_split.new.self c.plan_split.ensures.left c.plan_split.ensures.room (2 ^ c.args.nb + 1) c.args.at.now.rank.0 c.ready_children.new.self.faults c.in-Err-ready_children.refusal c.in-Err-ready_children.ensures.refused

@@ -1,33 +1,10 @@
-use Rattle.std.proofs.Common.{refl, rules, subst}
-use Rattle.mds_types.specs.Tree.{IsWellFormed}
-use Rattle.inode_table.proofs.TableLaws.{leaves_same}
-use Rattle.plain_frags.specs.PlainFrags.{Kept}
-use Rattle.plain_frags.proofs.Frames.{others_stay}
-use Rattle.plain_frags.proofs.frags.PlainFragsFrags.change.Goals.{in-None-Some, in-None-None, in-Some-None, in-Some-Some}
+use Rattle.std.proofs.Common.{subst₂}
+use Rattle.mds_types.specs.Tree.{Tree}
+use Rattle.inode_table.specs.Dirs.{Covers}
+use Rattle.namespace_ops.specs.Changes.{fragments_of}
+use Rattle.namespace_ops.specs.Kept.{ChangesOnly, IsStanding, ShowsTheSame}
 use Rattle.plain_frags.proofs.frags.PlainFragsFrags.change.Goals as goal
-
-pub invariant_of-self : goal.invariant_of-self
-invariant_of-self c =
-    elim c.match-takes.branch [
-      | in-None-Some w ↦ rw w.self-inside-is w.put_entry.ensures.tabled
-      | in-None-None w ↦ rw w.self-inside-is c.self.invariant
-      | in-Some-None w ↦ rw w.self-inside-is w.remove_entry.ensures.tabled
-      | in-Some-Some w ↦ rw w.self-inside-is w.move_entry.ensures.tabled
-    ]
-
-pub returns-clause-changed : goal.returns-clause-changed
-returns-clause-changed c = search rules
-
-pub returns-clause-leaves : goal.returns-clause-leaves
-returns-clause-leaves c =
-    rw (← c.self.view_is)
-    (elim c.match-takes.branch [
-      | in-None-Some w ↦ rw w.self-inside-is w.put_entry.ensures.leaves
-      | in-None-None w ↦ rw w.self-inside-is (leaves_same _ _ _ refl)
-      | in-Some-None w ↦ rw w.self-inside-is w.remove_entry.ensures.leaves
-      | in-Some-Some w ↦ rw w.self-inside-is w.move_entry.ensures.leaves
-    ])
 
 pub returns-clause-frame : goal.returns-clause-frame
 returns-clause-frame c =
-    others_stay c.args.self.now.tree _ c.args.self.now.covers _ c.args.change (subst (λ (k : Kept). IsWellFormed k.tree) c.self.view_is c.self.invariant.whole) c.requires.may (returns-clause-changed c) (returns-clause-leaves c)
+    subst₂ (λ (t : Tree) (k : Covers). ChangesOnly (λ leaf. IsStanding t k leaf → ShowsTheSame t c.make.new.self.tree c.make.new.self.covers leaf) (fragments_of k c.args.change)) c.ready.ensures.tree c.ready.ensures.covers c.make.ensures.frame

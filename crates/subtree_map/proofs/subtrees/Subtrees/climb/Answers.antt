@@ -26,7 +26,7 @@ returns-in_err-above c =
 pub returns-in_default-leaf_at : goal.returns-in_default-leaf_at
 returns-in_default-leaf_at c root near =
     no_stranger c.args.dirs.now.homes c.args.dirs.now.trees c.loop-rank.invariant.table c.loop-rank.leaf.0.0 c.in_ok-above.above.now
-    (sym c.loop-rank.invariant.stands ∙ ap option_copied c.in_ok-above.was) c.in_default-leaf_at.ensures
+    (sym c.loop-rank.invariant.stands ∙ ap option_copied c.in_ok-above.was) c.in_default-leaf_at.ensures.at
 
 pub loop-rank-smaller : goal.loop-rank-smaller
 loop-rank-smaller c =
@@ -36,7 +36,7 @@ pub loop-rank-preserved : goal.loop-rank-preserved
 loop-rank-preserved c =
     let none = sym c.rank_for.ensures ∙ c.in_default.is in
     let stands = sym c.loop-rank.invariant.stands ∙ ap option_copied c.in_ok-above.was in
-    let at = c.in-Some-leaf_at.ensures in
+    let at = c.in-Some-leaf_at.ensures.at in
     let holds = holds_at c.args.dirs.now.homes c.args.dirs.now.trees c.in_ok-above.above.now c.rjenkins.result c.in-Some-leaf_at.at.frag _ (c.rjenkins.ensures ∙ ap hash_of c.as_bytes.ensures.bytes) at in
     record {
       table = c.loop-rank.invariant.table;

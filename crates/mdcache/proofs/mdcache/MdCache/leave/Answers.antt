@@ -1,0 +1,11 @@
+use Rattle.std.proofs.Common.{ap, subst, sym}
+use Rattle.std.specs.Prelude.{None}
+use Rattle.dentry_cache.proofs.WholeLaws.{none_with_mark}
+use Rattle.mds_types.specs.Leaf.{leaf_of}
+use Rattle.dentry_cache.specs.CacheCalls.{KeepsNone}
+use Rattle.mdcache.specs.Core.{Core}
+use Rattle.mdcache.proofs.mdcache.MdCache.leave.Goals as goal
+
+pub returns-clause-none : goal.returns-clause-none
+returns-clause-none g c none = c.remove_dir.ensures.none
+    (subst KeepsNone (sym (ap (λ (k : Core). k.caches) c.entry_goes.ensures)) (none_with_mark c.args.self.now.caches c.erase.new.self.caches c.args.spot.at.rank.0 (leaf_of c.args.spot.at) c.args.spot.name (record { version = c.args.self.now.next_version; inode = None }) none (ap (λ (k : Core). k.caches) c.erase.ensures)))

@@ -1,0 +1,120 @@
+-- What a directory's move needs of the roots: it keeps its leaves, and the rank that they inherit is known at both its dentries.
+use Rattle.std.specs.Prelude.{◌≡◌, ◌≢◌, Bool, true, false, cond, [], Option, Some, None, IfSome, MatchOption}
+use Rattle.std.proofs.Common.{refl, sym, subst}
+use Rattle.std.proofs.lemmas.Option.{same_Some}
+use Rattle.std.specs.FinMap as map
+use Rattle.mds_types.specs.declared.ids.Ino.{Ino}
+use Rattle.mds_types.specs.declared.ids.Rank.{Rank}
+use Rattle.mds_types.specs.declared.inodes.Inode.{Inode}
+use Rattle.mds_types.specs.Leaf.{leaf_of}
+use Rattle.mds_types.specs.Tree.{Tree, is_dir_kind, is_directory}
+use Rattle.mds_types.proofs.DirectoryLaws.{entry_stands}
+use Rattle.mds_types.proofs.EntryLaws.{get_put}
+use Rattle.inode_table.specs.declared.dirs.Home.{Home}
+use Rattle.inode_table.specs.Dirs.{Covers, Homes, MayMove, leaves_of}
+use Rattle.inode_table.specs.TreeTable.{home_at}
+use Rattle.namespace_ops.specs.Changes.{IsSpot, MayChange, changed, dentry_at, directory_at, moves, taken}
+use Rattle.namespace_ops.specs.declared.plans.Change.{Change}
+use Rattle.namespace_ops.specs.declared.plans.Spot.{Spot}
+use Rattle.namespace_ops.proofs.Shapes.{Shape, shape_of}
+use Rattle.namespace_ops.proofs.Shapes.Shape.{add, move, remove, set}
+use Rattle.subtree_map.specs.Authority.{Roots}
+use Rattle.subtree_map.specs.Moves.{IsInheritedAt, IsLostRank, IsSettled}
+use Rattle.mdcache.specs.Frags.{dir_moved, dir_moving}
+use Rattle.mdcache.specs.Made.{IsRight}
+use Rattle.mdcache.specs.Shown.{shown_tree}
+use Rattle.mdcache.specs.Sound.{IsSound}
+use Rattle.mdcache.specs.State.{State}
+use Rattle.ranked_tree.specs.Subtrees.{Rules, SettleMoving}
+use Rattle.ranked_tree.proofs.SubtreeLaws.{moves_there, settled_at, settled_none}
+
+-- nothing moves without a name that goes, or without one that gets an inode
+pub none_taken : (P : Ino → Type 0) (takes : Option Spot) (puts : Option (Spot × Inode)) → takes ≡ None → IfSome (dir_moved takes puts) P
+none_taken P None puts is = tt
+none_taken P (Some spot) puts is = let clash : Some spot ≡ None = is in absurd cc
+
+pub none_put : (takes : Option Spot) (puts : Option (Spot × Inode)) → puts ≡ None → dir_moved takes puts ≡ None
+none_put None puts is = refl
+none_put (Some spot) None is = refl
+none_put (Some spot) (Some put) is = let clash : Some put ≡ None = is in absurd cc
+
+-- the rank that is lost, where the directory's dentry is at a leaf of one rank and the new one at a leaf of another
+abbrev pub IsLost : (was other : Rank) → Option Rank → Type 0
+IsLost was other None = was ≡ other
+IsLost was other (Some rank) = (rank ≡ was) × (was ≢ other)
+
+module _ (s : State) (sound : IsSound s) (roots : Roots) where
+  inherited : (spot : Spot) → IsSpot s.covers spot → (rank : Rank) → Rules s roots (leaf_of spot.at) rank → IsInheritedAt roots s.homes s.covers (home_at (dentry_at spot)) rank
+  inherited spot pick rank rules = record { holder = leaf_of spot.at; holds = record { parent = refl; pick = pick }; has = rules }
+
+  pub lost_at : (change : Change) → MayChange (shown_tree s) s.covers change → (from : Spot) (to : Spot × Inode) → change.takes ≡ Some from → change.puts ≡ Some to → (was other : Rank) → Rules s roots (leaf_of from.at) was → Rules s roots (leaf_of to.0.at) other
+      → (lost : Option Rank) → IsLost was other lost → (put : Spot × Inode) → change.puts ≡ Some put → IfSome (dir_moving change) (λ (dir : Ino). IsLostRank roots s.homes s.covers dir.0 (home_at (dentry_at put.0)) lost)
+  lost_at change may from to takes puts was other here there lost is put named = go change (shape_of (shown_tree s) s.covers change may) may takes puts named
+    where
+      go : (made : Change) → Shape made → MayChange (shown_tree s) s.covers made → made.takes ≡ Some from → made.puts ≡ Some to → made.puts ≡ Some put → IfSome (dir_moving made) (λ (dir : Ino). IsLostRank roots s.homes s.covers dir.0 (home_at (dentry_at put.0)) lost)
+      go _ (add spot inode) able t p n = tt
+      go _ (set spot inode) able t p n = tt
+      go _ (remove spot went) able t p n = tt
+      go _ (move source target inode went) able t p n =
+          subst (λ (q : Spot × Inode). IfSome (directory_at (Some inode)) (λ (dir : Ino). IsLostRank roots s.homes s.covers dir.0 (home_at (dentry_at q.0)) lost)) (same_Some (target, inode) put n) (by (is_dir_kind inode.kind) refl)
+        where
+          stood : is_dir_kind inode.kind ≡ true → map.get s.homes inode.ino.0 ≡ Some (home_at (dentry_at source))
+          stood kinded = sound.tabled.holds.listed (dentry_at source) inode able.takes.stands kinded
+
+          before : IsInheritedAt roots s.homes s.covers (home_at (dentry_at source)) was
+          before = inherited source able.carries.taken was (subst (λ (q : Spot). Rules s roots (leaf_of q.at) was) (sym (same_Some source from t)) here)
+
+          after : IsInheritedAt roots s.homes s.covers (home_at (dentry_at target)) other
+          after = inherited target able.carries.put other (subst (λ (q : Spot × Inode). Rules s roots (leaf_of q.0.at) other) (sym (same_Some (target, inode) to p)) there)
+
+          at : (o : Option Rank) → IsLost was other o → is_dir_kind inode.kind ≡ true → IsLostRank roots s.homes s.covers inode.ino.0 (home_at (dentry_at target)) o
+          at None same kinded = (home_at (dentry_at source), was, stood kinded, before, subst (IsInheritedAt roots s.homes s.covers (home_at (dentry_at target))) (sym same) after)
+          at (Some rank) (that, apart) kinded = subst (λ (r : Rank). IsLostRank roots s.homes s.covers inode.ino.0 (home_at (dentry_at target)) (Some r)) (sym that) (home_at (dentry_at source), other, stood kinded, before, after, apart)
+
+          by : (b : Bool) → is_dir_kind inode.kind ≡ b → IfSome (cond b (Some inode.ino) None) (λ (dir : Ino). IsLostRank roots s.homes s.covers dir.0 (home_at (dentry_at target)) lost)
+          by true kinded = at lost is kinded
+          by false kinded = tt
+
+-- a directory that moved has the leaves that it had
+pub leaves_stay : (old new : State) (change : Change) → MayChange (shown_tree old) old.covers change → IsRight change old new → IfSome (dir_moving change) (λ (dir : Ino). leaves_of old.covers dir.0 ≡ leaves_of new.covers dir.0)
+leaves_stay old new change may right = go change (shape_of (shown_tree old) old.covers change may) right
+  where
+    go : (made : Change) → Shape made → IsRight made old new → IfSome (dir_moving made) (λ (dir : Ino). leaves_of old.covers dir.0 ≡ leaves_of new.covers dir.0)
+    go _ (add spot inode) is = tt
+    go _ (set spot inode) is = tt
+    go _ (remove spot went) is = tt
+    go _ (move source target inode went) is = by (is_dir_kind inode.kind) refl
+      where
+        left : Tree
+        left = taken (shown_tree old) (Some source)
+
+        by : (b : Bool) → is_dir_kind inode.kind ≡ b → IfSome (cond b (Some inode.ino) None) (λ (dir : Ino). leaves_of old.covers dir.0 ≡ leaves_of new.covers dir.0)
+        by true kinded =
+            sym (is.leaves inode.ino.0 (subst (λ (t : Tree). is_directory t inode.ino.0 ≡ true) (sym is.tree)
+            (entry_stands (changed (shown_tree old) (moves source target inode went)) (dentry_at target) inode (get_put left (dentry_at target) inode) kinded)))
+        by false kinded = tt
+
+-- so there is room for as many as before
+pub room_still : (d : Option Ino) (covers now : Covers) (P : Ino → Covers → Type 0) → ((dir : Ino) → leaves_of covers dir.0 ≡ leaves_of now dir.0 → P dir covers → P dir now)
+    → IfSome d (λ (dir : Ino). leaves_of covers dir.0 ≡ leaves_of now dir.0) → IfSome d (λ (dir : Ino). P dir covers) → IfSome d (λ (dir : Ino). P dir now)
+room_still None covers now P keeps same has = tt
+room_still (Some dir) covers now P keeps same has = keeps dir same has
+
+-- what is known of the roots of a directory, if one moved, that has the leaves of this table
+abbrev pub Settles : Option Ino → Covers → (before after : Roots) → Option Rank → Type 0
+Settles d now before after lost = (homes : Homes) (covers : Covers) (home : Home) → MatchOption d (after ≡ before) (λ (dir : Ino). leaves_of covers dir.0 ≡ leaves_of now dir.0 → MayMove homes dir.0 home → IsLostRank before homes covers dir.0 home lost → IsSettled before after homes covers dir.0 home)
+
+-- and its roots are settled
+module _ (old new : State) (sound : IsSound old) (change : Change) (may : MayChange (shown_tree old) old.covers change) (right : IsRight change old new) (before after : Roots) (lost : Option Rank)
+    (known : (put : Spot × Inode) → change.puts ≡ Some put → IfSome (dir_moving change) (λ (dir : Ino). IsLostRank before old.homes old.covers dir.0 (home_at (dentry_at put.0)) lost)) where
+  pub settles : Settles (dir_moving change) new.covers before after lost → SettleMoving change old before after
+  settles told = go change.puts refl
+    where
+      by : (d : Option Ino) (home : Home) → IfSome d (λ (dir : Ino). leaves_of old.covers dir.0 ≡ leaves_of new.covers dir.0) → IfSome d (λ (dir : Ino). MayMove old.homes dir.0 home) → IfSome d (λ (dir : Ino). IsLostRank before old.homes old.covers dir.0 home lost) → Settles d new.covers before after lost
+          → MatchOption d (after ≡ before) (λ (dir : Ino). IsSettled before after old.homes old.covers dir.0 home)
+      by None home same moved is its = its old.homes old.covers home
+      by (Some dir) home same moved is its = its old.homes old.covers home same moved is
+
+      go : (puts : Option (Spot × Inode)) → change.puts ≡ puts → SettleMoving change old before after
+      go None is = settled_none old change is before after (subst (λ (d : Option Ino). Settles d new.covers before after lost) (none_put change.takes change.puts is) told old.homes old.covers (record { parent = record { 0 = 0 }; name = [] }))
+      go (Some put) is = settled_at old change put is before after (by (dir_moving change) (home_at (dentry_at put.0)) (leaves_stay old new change may right) (moves_there old change sound may put is) (known put is) told)

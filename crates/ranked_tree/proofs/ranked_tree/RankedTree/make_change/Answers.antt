@@ -1,0 +1,9 @@
+use Rattle.std.proofs.Common.{sym, subst}
+use Rattle.std.specs.List.{Contains}
+use Rattle.namespace_ops.specs.Changes.{fragments_of}
+use Rattle.subtree_map.specs.Authority.{Leaf}
+use Rattle.ranked_tree.specs.Ranked.{IsFrozenLeaf, Ranked}
+use Rattle.ranked_tree.proofs.ranked_tree.RankedTree.make_change.Goals as goal
+
+pub change_tree-requires-clause-thawed : goal.change_tree-requires-clause-thawed
+change_tree-requires-clause-thawed g c = subst (λ (r : Ranked). (leaf : Leaf) → Contains (fragments_of r.tree.covers c.args.change) leaf → IsFrozenLeaf r leaf → ⊥) (sym c.self.view_is) c.requires.thawed
