@@ -1,13 +1,5 @@
 -- A commit that began is ended at once.
-use Rattle.std.proofs.Common.{◌≡◌, ℕ, Option, Some, None, Result, Ok, Err, IfOk, OnErr, inr, refl, subst}
-use Rattle.mds_types.specs.declared.ids.Ino.{Ino}
-use Rattle.mds_types.specs.declared.ids.Rank.{Rank}
-use Rattle.mds_types.specs.declared.refusals.Refusal.{Refusal}
-use Rattle.mds_types.specs.Frag.{Fragment}
-use Rattle.script_output.specs.declared.lines.OutputLine.{OutputLine}
-use Rattle.script_output.specs.declared.lines.OutputLine.TheVariants.{Nothing, Refused}
-use Rattle.admin_cli.specs.declared.commands.Admin.{Admin}
-use Rattle.admin_cli.specs.StoreLines.{BeginsCommit, CommitsLine, CopiesNone, EndsLine, LacksForCommit}
+use Rattle.admin_cli.proofs.Common.{Admin, BeginsCommit, CommitsLine, CopiesNone, EndsLine, Err, Fragment, IfOk, Ino, LacksForCommit, None, Nothing, Ok, OnErr, Option, OutputLine, Rank, Refusal, Refused, Result, Some, inr, refl, subst, ℕ, ◌≡◌}
 
 -- what is known is known of an error too
 pub on_err : {A E : Type 0} {P : Type 0} (result : Result A E) → P → OnErr result P

@@ -1,12 +1,5 @@
 -- An operation that has arrived is served.
-use Rattle.std.proofs.Common.{◌≡◌, Result, Ok, Err, refl}
-use Rattle.mds_types.specs.declared.refusals.Refusal.{Refusal}
-use Rattle.cluster_core.specs.declared.events.Answer.{Answer}
-use Rattle.cluster_core.specs.State.{Kept}
-use Rattle.script_output.specs.declared.lines.OutputLine.{OutputLine}
-use Rattle.cluster_core.specs.declared.events.Event.TheVariants.{Serve}
-use Rattle.admin_cli.specs.Execute.{OperatesAfter}
-use Rattle.admin_cli.specs.StepLines.{StepsLine, shown_line}
+use Rattle.admin_cli.proofs.Common.{Answer, Err, Kept, Ok, OperatesAfter, OutputLine, Refusal, Result, Serve, StepsLine, refl, shown_line, ◌≡◌}
 
 pub served_after : (middle new : Kept) (arrived : Result Answer Refusal) (line : OutputLine) → ((refusal : Refusal) → arrived ≡ Err refusal → ⊥) → StepsLine middle new (Serve (record { 0 = 0 })) shown_line line → OperatesAfter middle new arrived line
 served_after middle new (Ok answer) line came served = served

@@ -1,7 +1,5 @@
 -- Lines of paths, one after the other.
-use Rattle.std.proofs.Common.{◌≡◌, ℕ, ◌+◌, ◌<◌, List, ◌++◌, drop, get_or, length, codes, ap}
-use Rattle.std.proofs.lemmas.List.{drop_more}
-use Rattle.admin_cli.specs.Reports.{path_lines}
+use Rattle.admin_cli.proofs.Common.{List, ap, codes, drop, drop_more, get_or, length, path_lines, ℕ, ◌++◌, ◌+◌, ◌<◌, ◌≡◌}
 
 -- the lines of those from a path on
 pub lines_more : (paths : List (List ℕ)) (i : ℕ) (d : List ℕ) → i < length paths → path_lines (drop i paths) ≡ get_or paths i d ++ codes "\n" ++ path_lines (drop (i + 1) paths)

@@ -1,25 +1,7 @@
 -- A script so far, and what its next line or its end makes of it.
-use Rattle.std.proofs.Common.{◌≡◌, ℕ, suc, ◌+◌, ◌-◌, ◌<◌, ◌≤◌, Bool, true, false, cond, ltb, List, [], ◌∷◌, ◌++◌, length, take, drop, replicate, Option, Some, None, IfSome, IfOk, OnErr, Result, Ok, Err, refl, sym, ap, subst, ◌∙◌, inl, inr, arith, append_assoc, append-nil, length-append, length-drop, le-ltb, lt-ltb, ltb-false, ltb-true, take-append-drop}
-use Rattle.std.proofs.lemmas.List.{length-replicate, take-append-le}
-use Rattle.std.proofs.KnownBytes.{Appends-nil, Appends-trans}
-use Rattle.std.specs.Io.KnownBytes.{Appends, Keeps}
+use Rattle.admin_cli.proofs.Common.{Admin, AnswersLine, Appends, Appends-nil, Appends-trans, Bool, Breaks, BreaksOff, Command, DoesBytes, Ends, Err, Executes, FaultKind, IfOk, IfSome, IsEmpty, IsFirstLine, IsFormatted, IsTooLong, Keeps, Kept, LacksFor, List, Mark, MayFlush, None, NotCommand, Ok, OnErr, Option, OutOfMemory, OutputLine, Prints, PrintsAny, PrintsCame, PrintsOf, PrintsOwn, ReadFault, Result, RunsInput, RunsLine, RunsLines, RunsNew, RunsOrNot, RunsWaiting, ScriptFault, Some, StopsAt, StopsBefore, TooLong, Waiting, WriteFault, [], ap, append-nil, append_assoc, arith, cond, drop, false, inl, inr, le-ltb, length, length-append, length-drop, length-replicate, line_at, lines_of, lt-ltb, ltb, ltb-false, ltb-true, none_sent, refl, replicate, subst, suc, sym, take, take-append-drop, take-append-le, text_of, true, ℕ, ◌++◌, ◌+◌, ◌-◌, ◌<◌, ◌∙◌, ◌∷◌, ◌≡◌, ◌≤◌}
 use Rattle.std.specs.FinMap as map
-use Rattle.cluster_core.specs.State.{Kept}
-use Rattle.script_text.specs.declared.commands.Command.{Command}
 use Rattle.script_text.specs.declared.lines.Line.TheVariants as line
-use Rattle.admin_cli.specs.Execute.{Executes, LacksFor}
-use Rattle.script_text.specs.Input.{lines_of, IsFirstLine, IsTooLong}
-use Rattle.cluster_core.specs.SentBytes.{none_sent}
-use Rattle.admin_cli.specs.declared.commands.Admin.{Admin}
-use Rattle.admin_cli.specs.declared.faults.ScriptFault.{ScriptFault}
-use Rattle.admin_cli.specs.declared.faults.FaultKind.{FaultKind}
-use Rattle.admin_cli.specs.declared.faults.FaultKind.TheVariants.{NotCommand, TooLong, ReadFault, WriteFault, OutOfMemory}
-use Rattle.admin_cli.specs.declared.waiting.Mark.{Mark}
-use Rattle.admin_cli.specs.declared.waiting.Waiting.{Waiting}
-use Rattle.script_output.specs.declared.lines.OutputLine.{OutputLine}
-use Rattle.admin_cli.specs.Scripts.{text_of, BreaksOff, RunsLine, RunsLines, IsFormatted, StopsAt, StopsBefore, Ends, RunsInput, RunsNew}
-use Rattle.admin_cli.specs.OneLine.{AnswersLine, DoesBytes, Prints, RunsOrNot}
-use Rattle.admin_cli.specs.Waiting.{Breaks, IsEmpty, MayFlush, PrintsAny, PrintsOwn, PrintsCame, PrintsOf, RunsWaiting, line_at}
 
 -- these lines were taken from the known bytes
 abbrev pub TakesLines : Option (List ℕ) → Option (List ℕ) → List (List ℕ) → Type 0

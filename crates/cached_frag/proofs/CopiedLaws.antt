@@ -1,15 +1,6 @@
 -- Names that are copied from one fragment into another.
-use Rattle.std.proofs.Common.{◌≡◌, ℕ, List, sym, ap, subst, ◌∙◌}
-use Rattle.std.specs.Prelude.{Result, Ok, Err, IfOk}
+use Rattle.cached_frag.proofs.Common.{AreEntries, Base, Cached, Err, IfOk, Inode, IsBased, Joins, List, Marks, Names, Ok, Result, Shown, TakesIn, ap, contents, key_cmp, marked_as, patched, shown, shown_as, shown_over, subst, sym, ℕ, ◌∙◌, ◌≡◌}
 use Rattle.std.specs.FinMap as map
-use Rattle.mds_types.specs.declared.inodes.Inode.{Inode}
-use Rattle.objstore.specs.Omap.{key_cmp}
-use Rattle.sorted_map.specs.SortedMap.{Shown, contents}
-use Rattle.dirfrag_codec.specs.FragmentObject.{Names}
-use Rattle.cached_frag.specs.declared.bases.Base.{Base}
-use Rattle.cached_frag.specs.Marks.{Marks, patched}
-use Rattle.cached_frag.specs.Cached.{AreEntries, Cached, IsBased, shown, shown_over}
-use Rattle.cached_frag.specs.Moving.{Joins, TakesIn, marked_as, shown_as}
 use Rattle.cached_frag.proofs.ShownLaws.{below_is}
 
 pub copied : {E : Type 0} (r : Result (Shown (List ℕ) Inode) E) (base : Base) (clean : Names) (dirty : Marks) (f : Cached) → IsBased base clean → shown_over base clean dirty ≡ shown f → IfOk r (λ names. contents key_cmp names ≡ patched clean dirty)

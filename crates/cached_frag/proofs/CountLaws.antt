@@ -1,16 +1,6 @@
 -- The entries of names that lie over nothing are the present ones.
-use Rattle.std.proofs.Common.{◌≡◌, ℕ, ◌+◌, ◌≤◌, Bool, true, false, cond, not, List, [], ◌∷◌, length, Option, Some, None, refl, sym, ap, ◌∙◌, arith}
-use Rattle.std.specs.Prelude.{filter}
+use Rattle.cached_frag.proofs.Common.{Bool, EntryCounts, Inode, List, Mark, Marks, None, Option, Some, [], ap, arith, cond, counts_of, dirs_among, dirs_in, false, files_among, files_in, filter, is_dir, is_dir_kind, is_file, len-entries, length, not, patched, refl, sym, true, ℕ, ◌+◌, ◌∙◌, ◌∷◌, ◌≡◌, ◌≤◌}
 use Rattle.std.specs.FinMap as map
-use Rattle.std.specs.FinMap.{len-entries}
-use Rattle.mds_types.specs.Tree.{is_dir_kind}
-use Rattle.mds_types.specs.declared.inodes.Inode.{Inode}
-use Rattle.dirfrag_codec.specs.FragmentObject.{files_in, dirs_in}
-use Rattle.cached_frag.specs.declared.bases.EntryCounts.{EntryCounts}
-use Rattle.cached_frag.specs.declared.marks.Mark.{Mark}
-use Rattle.cached_frag.specs.Counting.{dirs_among, files_among, is_dir, is_file}
-use Rattle.cached_frag.specs.Marks.{Marks, patched}
-use Rattle.cached_frag.specs.Snap.{counts_of}
 use Rattle.cached_frag.proofs.MarkLaws.{entries-fresh, present, with_present}
 
 counted_one : {A : Type 0} (b : Bool) (x : A) (rest : List A) (n : ℕ) → length rest ≡ n → length (cond b (x ∷ rest) rest) ≡ cond b 1 0 + n

@@ -1,24 +1,6 @@
 -- Entry counts once one name has another inode.
-use Rattle.std.proofs.Common.{◌≡◌, ℕ, ◌+◌, ◌≤◌, ◌⊎◌, inl, inr, Bool, true, false, cond, not, List, [], ◌∷◌, length, Option, Some, None, refl, sym, ap, ◌∙◌, arith}
-use Rattle.std.proofs.lemmas.List.{nil_from_length}
-use Rattle.std.specs.Prelude.{T, filter}
-use Rattle.std.specs.declared.cmp.Ordering.{Ordering}
-use Rattle.std.specs.declared.cmp.Ordering.TheVariants.{Less, Equal, Greater}
-use Rattle.std.specs.Ordering.{is_eq}
-use Rattle.std.specs.Cmp.Lexicographic.{nat_list_cmp_total}
+use Rattle.cached_frag.proofs.Common.{Bool, Equal, Greater, Inode, Less, List, Names, None, Option, Ordering, Some, T, [], ap, arith, by_order, cond, counts_of, dirs_in, entries-insert, entries_sorted, false, files_in, filter, find, get-entries, get_beside, get_left, get_put, get_removed, inl, inr, is_dir, is_dir_kind, is_eq, is_file, is_sorted, key_cmp, left_of, len-empty, len-entries, length, nat_list_cmp_total, nil_from_length, not, not_found_below, one_map, put, refl, right_of, same_or_apart, sym, true, with_mark, ℕ, ◌+◌, ◌∙◌, ◌∷◌, ◌≡◌, ◌≤◌, ◌⊎◌}
 use Rattle.std.specs.FinMap as map
-use Rattle.std.specs.FinMap.{find, is_sorted, entries_sorted, entries-insert, get-entries, len-empty, len-entries}
-use Rattle.std.specs.FinMap.Entries.{by_order, put}
-use Rattle.sorted_map.proofs.Bools.{left_of, right_of}
-use Rattle.mds_types.proofs.EntrySearch.{not_found_below}
-use Rattle.mds_types.specs.Tree.{is_dir_kind}
-use Rattle.mds_types.specs.declared.inodes.Inode.{Inode}
-use Rattle.objstore.specs.Omap.{key_cmp}
-use Rattle.dirfrag_codec.specs.FragmentObject.{Names, files_in, dirs_in}
-use Rattle.dirfrag_codec.proofs.ByteKeys.{get_beside, get_left, get_put, get_removed, one_map, same_or_apart}
-use Rattle.cached_frag.specs.Counting.{is_dir, is_file}
-use Rattle.cached_frag.specs.Marks.{with_mark}
-use Rattle.cached_frag.specs.Snap.{counts_of}
 use Rattle.cached_frag.proofs.RowLaws.{below_chain}
 
 module _ (p : Inode → Bool) where

@@ -1,18 +1,7 @@
 -- What each fragment keeps, once it is made and once a name has changed.
-use Rattle.std.proofs.Common.{◌≡◌, ℕ, ◌+◌, ◌-◌, ◌^◌, ◌<◌, ◌≤◌, List, Option, Some, None, refl, sym, ap, subst, ◌∙◌, arith}
+use Rattle.cached_frag.proofs.Common.{AreDirtyNames, AreEntries, Cached, EntryCounts, Fresh, IsBased, IsDirtyName, IsKept, List, Mark, Marks, Names, None, Option, Some, Stored, ap, arith, counted, counted_or, counts_of, get-empty, inode_or, key_cmp, marked, refl, shown, shown_over, subst, sym, with_mark, ℕ, ◌+◌, ◌-◌, ◌<◌, ◌^◌, ◌∙◌, ◌≡◌, ◌≤◌}
 use Rattle.std.specs.FinMap as map
-use Rattle.std.specs.FinMap.{get-empty}
-use Rattle.objstore.specs.Omap.{key_cmp}
-use Rattle.dirfrag_codec.specs.FragmentObject.{Names}
-use Rattle.cached_frag.specs.declared.bases.Base.TheVariants.{Fresh, Stored}
-use Rattle.cached_frag.specs.declared.bases.EntryCounts.{EntryCounts}
-use Rattle.cached_frag.specs.declared.marks.Mark.{Mark}
-use Rattle.cached_frag.specs.Marks.{AreDirtyNames, IsDirtyName, Marks, inode_or, with_mark}
-use Rattle.cached_frag.specs.Snap.{counts_of}
 use Rattle.cached_frag.proofs.MarkLaws.{none_dirty, one_dirty}
-use Rattle.cached_frag.specs.Cached.{AreEntries, Cached, IsBased, marked, shown, shown_over}
-use Rattle.cached_frag.specs.Counted.{counted, counted_or}
-use Rattle.cached_frag.specs.Kept.{IsKept}
 use Rattle.cached_frag.proofs.CountedLaws.{all_counted, dirs_marked, dirs_some, files_marked, files_some, nothing_counted}
 use Rattle.cached_frag.proofs.ShownLaws.{get-shown, nothing_shown, only_below, shown_marked}
 

@@ -1,4 +1,5 @@
 pub mod CommitLaws
+pub mod Common
 pub mod CopiedLaws
 pub mod CountLaws
 pub mod CountedLaws

@@ -1,26 +1,8 @@
 -- Two lists of rows in the order of their names, merged.
-use Rattle.std.proofs.Common.{◌≡◌, ℕ, Bool, true, false, cond, ◌⊎◌, inl, inr, List, [], ◌∷◌, Option, Some, None, refl, sym, ap, subst, ◌∙◌}
-use Rattle.std.specs.Prelude.{T}
-use Rattle.std.specs.declared.cmp.Ordering.{Ordering}
-use Rattle.std.specs.declared.cmp.Ordering.TheVariants.{Less, Equal, Greater}
-use Rattle.std.specs.Ordering.{is_lt, eq_by_cmp, ordering_reverse}
-use Rattle.std.specs.Cmp.Lexicographic.{nat_list_cmp_total}
+use Rattle.cached_frag.proofs.Common.{Bool, Change, Equal, Greater, Inode, Less, List, Mark, Marks, Names, None, Option, Ordering, Row, Some, T, [], all_kept, ap, below_all, both_of, by_order, changed_rows, cond, entries_sorted, eq_by_cmp, exact_bytes, false, find, find-where_key, first_of, get-entries, inl, inode_or, inr, is_after, is_lt, is_sorted, is_sorted-where_key, key_apart, key_cmp, key_same, key_tied, left_of, merged, merged_one, nat_list_cmp_total, not_found, ordering_reverse, patched, refl, right_of, rows_after, same_entries, same_or_apart, subst, sym, true, where_key, with_change, ℕ, ◌∙◌, ◌∷◌, ◌≡◌, ◌⊎◌}
 use Rattle.std.specs.FinMap as map
-use Rattle.std.specs.FinMap.{find, is_sorted, entries_sorted, get-entries}
-use Rattle.std.specs.FinMap.Entries.{below_all, by_order, find-where_key, is_sorted-where_key, same_entries, where_key}
-use Rattle.std.proofs.lemmas.Map.Lookups.{exact_bytes}
-use Rattle.sorted_map.proofs.Bools.{both_of, left_of, right_of}
-use Rattle.sorted_map.proofs.Filters.{all_kept}
 use Rattle.sorted_map.proofs.PlaceLaws.{less as less_of}
-use Rattle.mds_types.specs.Step.{is_after}
-use Rattle.mds_types.specs.declared.inodes.Inode.{Inode}
-use Rattle.objstore.specs.Omap.{key_cmp}
-use Rattle.dirfrag_codec.specs.FragmentObject.{Names}
-use Rattle.dirfrag_codec.proofs.ByteKeys.{key_apart, key_same, key_tied, not_found, same_or_apart}
-use Rattle.cached_frag.specs.declared.marks.Mark.{Mark}
-use Rattle.cached_frag.specs.Marks.{Marks, inode_or, patched}
 use Rattle.cached_frag.proofs.MarkLaws.{get-patched}
-use Rattle.cached_frag.specs.Rows.{Change, Row, changed_rows, first_of, merged, merged_one, rows_after, with_change}
 
 is_less : (r : Ordering) → r ≡ Less → T (is_lt r)
 is_less Less h = tt

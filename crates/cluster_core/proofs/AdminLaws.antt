@@ -1,15 +1,7 @@
 -- What an administrator's steps ask of the subtree roots.
-use Rattle.std.proofs.Common.{ℕ, subst, sym, ◌∙◌}
-use Rattle.mds_types.specs.declared.ids.Ino.{Ino}
-use Rattle.mds_types.specs.declared.ids.Rank.{Rank}
-use Rattle.mds_types.specs.Frag.{Fragment}
-use Rattle.inode_table.specs.Dirs.{Covers, Homes}
-use Rattle.mdcache.specs.Core.{Core, LacksPlacesAt, state_of as tree_state}
-use Rattle.subtree_map.specs.Authority.{Leaf, Roots}
-use Rattle.subtree_map.specs.Changes.{HaveOneAuthority}
-use Rattle.subtree_map.proofs.Nearest.{one_authority}
-use Rattle.ranked_tree.specs.Held.{LacksPlacesFor, LacksPlacesInside}
-use Rattle.ranked_tree.specs.Subtrees.{AllHave, Rules}
+use Rattle.cluster_core.proofs.Common.{AllHave, Covers, Fragment, HaveOneAuthority, Homes, Ino, LacksPlacesAt, LacksPlacesFor, LacksPlacesInside, Rank, Roots, Rules, one_authority, subst, sym, ℕ, ◌∙◌}
+use Rattle.mdcache.specs.Core.{Core, state_of as tree_state}
+use Rattle.subtree_map.specs.Authority.{Leaf}
 
 -- leaves that all have one rank have one authority
 pub one_of_all : (homes : Homes) (covers : Covers) (roots : Roots) (dir : Ino) (f : Fragment) (rank : Rank) → AllHave homes covers roots dir f rank → HaveOneAuthority roots homes covers dir.0 f

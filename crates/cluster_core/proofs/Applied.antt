@@ -1,26 +1,7 @@
 -- A book stays sound where a request is applied.
-use Rattle.std.proofs.Common.{◌≡◌, ◌≢◌, ℕ, ◌<◌, ◌≤◌, Bool, true, false, cond, is_some, nat_lt, eqb, get_or, set, List, [], ◌∷◌, ◌++◌, length, Option, Some, None, refl, sym, ap, ◌∙◌, ⊎_elim, arith}
-use Rattle.std.proofs.lemmas.Bool.Decides.{nat_tests}
-use Rattle.std.proofs.lemmas.Bool.{eqb-false, eqb-true, true≢false}
-use Rattle.std.proofs.lemmas.List.{get_or-set_other, get_or-set_same, length-set}
-use Rattle.mds_types.specs.declared.ids.Ino.{Ino}
-use Rattle.mds_types.specs.declared.ids.Rank.{Rank}
-use Rattle.mds_types.specs.declared.entries.Entry.{Entry}
-use Rattle.mds_types.specs.declared.requests.Request.{Request}
-use Rattle.mds_types.specs.Tree.{Tree}
-use Rattle.mds_types.specs.Step.{Outcome, step, number_or}
-use Rattle.mds_types.proofs.StepLaws.{unused}
-use Rattle.mds_types.specs.History.{after, IsNext, IsLawful}
-use Rattle.mds_types.proofs.HistoryLaws.{after-push, legal-push, used-push}
-use Rattle.inboxes.specs.Inboxes.{with_waiting}
-use Rattle.inode_table.specs.Numbers.{Supply, IsSupply, offer, first_number, end_number}
-use Rattle.sessions.proofs.TableLaws.{table-push}
-use Rattle.cluster_core.specs.State.{Core, State, no_supply, shown, supply_of}
-use Rattle.cluster_core.specs.declared.events.Answer.{Answer}
-use Rattle.cluster_core.specs.Offer.{after_taking}
-use Rattle.cluster_core.specs.Serve.{IsApplied, entry_of, number_of, outcome_of, with_entry}
-use Rattle.cluster_core.specs.Sound.{AreCached, AreExported, AreSupplied, IsFresh, IsKept, IsSound, IsSupplied}
-use Rattle.ranked_tree.specs.Subtrees.{AreRoots}
+use Rattle.cluster_core.proofs.Common.{Answer, AreCached, AreExported, AreRoots, AreSupplied, Bool, Core, Entry, Ino, IsApplied, IsFresh, IsKept, IsLawful, IsSound, IsSupplied, IsSupply, List, None, Option, Outcome, Rank, Request, Some, State, Supply, Tree, [], after, after-push, after_taking, ap, arith, cond, end_number, entry_of, eqb, eqb-false, eqb-true, false, first_number, get_or, get_or-set_other, get_or-set_same, legal-push, length, length-set, nat_lt, nat_tests, no_supply, number_of, number_or, offer, outcome_of, refl, set, shown, step, supply_of, sym, table-push, true, true≢false, unused, used-push, with_entry, with_waiting, ℕ, ⊎_elim, ◌++◌, ◌<◌, ◌∙◌, ◌∷◌, ◌≡◌, ◌≢◌, ◌≤◌}
+use Rattle.std.proofs.Common.{is_some}
+use Rattle.mds_types.specs.History.{IsNext}
 
 -- what an offer of a number comes to: the table took it, or it took none and the outcome is that of any number
 pub record IsTaking (limit : ℕ) (tree : Tree) (request : Request) (s : Supply) (number : Option Ino) (outcome : Outcome) : Type 0 where

@@ -1,19 +1,6 @@
 -- The first of the leaves that are to start for another rank.
-use Rattle.std.proofs.Common.{◌≡◌, ◌⊎◌, inl, inr, true, false, cond, Option, Some, None, IsSome, refl, sym, ap, subst, ◌∙◌}
-use Rattle.std.specs.Prelude.{is_some}
-use Rattle.std.specs.declared.cmp.Ordering.{Ordering}
-use Rattle.std.specs.declared.cmp.Ordering.TheVariants.{Less, Equal, Greater}
-use Rattle.std.specs.Ordering.{is_lt, ordering_reverse}
+use Rattle.cluster_core.proofs.Common.{Equal, Greater, IsAwayTo, IsBehind, IsFirst, IsFirstAway, IsFirstStep, IsLeast, IsNext, IsPlace, IsSome, Leaf, Less, None, OfPin, Option, Ordering, Rank, Roots, Sight, Some, Start, ap, cond, false, inl, inr, is_after, is_lt, is_some, leaf-exact, leaf-total, leaf_cmp, lesser_of, ordering_reverse, refl, subst, sym, true, ◌∙◌, ◌≡◌, ◌⊎◌}
 use Rattle.std.specs.FinMap as map
-use Rattle.mds_types.specs.declared.ids.Rank.{Rank}
-use Rattle.mds_types.specs.Leaf.{Leaf, leaf_cmp}
-use Rattle.mds_types.proofs.LeafLaws.{leaf-exact, leaf-total}
-use Rattle.dentry_cache.specs.Candidates.{IsBehind, IsNext}
-use Rattle.subtree_map.specs.Authority.{Roots}
-use Rattle.subtree_map.specs.Lists.{is_after}
-use Rattle.subtree_map.specs.Rows.{IsFirst}
-use Rattle.cluster_core.specs.declared.events.Event.TheVariants.{Start}
-use Rattle.cluster_core.specs.Proposal.{IsAwayTo, IsFirstAway, IsFirstStep, IsLeast, IsPlace, OfPin, Sight, lesser_of}
 use Rattle.cluster_core.proofs.WalkLaws.{IsWalked, ended, found, passed}
 
 -- a leaf of these is to start

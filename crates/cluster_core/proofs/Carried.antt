@@ -1,15 +1,8 @@
 -- A change of a sound tree carries the leaves of its directories on.
-use Rattle.std.proofs.Common.{◌≡◌, ℕ, Bool, true, false, cond, List, [], ◌∷◌, Option, Some, None, refl, sym, ap, ◌∙◌}
+use Rattle.cluster_core.proofs.Common.{Bool, CarryLeaves, Covers, Fragment, KeepLeaves, List, None, Option, Some, Tree, [], ap, cond, false, is_directory, is_known, known_is, leaves_of, or_whole, refl, root_fragment, shown_tree, sym, true, ℕ, ◌∙◌, ◌∷◌, ◌≡◌}
 use Rattle.std.specs.FinMap as map
-use Rattle.mds_types.specs.Frag.{Fragment, root_fragment}
-use Rattle.mds_types.specs.Tree.{Tree, is_directory}
-use Rattle.inode_table.specs.Dirs.{Covers, is_known, leaves_of, or_whole}
-use Rattle.inode_table.specs.TreeChanges.{KeepLeaves}
-use Rattle.inode_table.proofs.TableLaws.{known_is}
-use Rattle.mdcache.specs.Shown.{shown_tree}
 use Rattle.mdcache.specs.Sound.{IsSound}
 use Rattle.mdcache.specs.State.{State}
-use Rattle.cluster_core.specs.Serve.{CarryLeaves}
 
 module _ (s : State) (sound : IsSound s) where
   -- a directory that comes had no leaves of its own before

@@ -1,21 +1,7 @@
 -- The first leaf of a directory, and of the directories with a pin, that is to start for another rank.
-use Rattle.std.proofs.Common.{◌≡◌, ◌⊎◌, inl, inr, ℕ, ◌+◌, ◌-◌, ◌^◌, ◌<◌, ◌≤◌, Option, Some, None, IsSome, is_some, true, false, refl, sym, ap, subst, ◌∙◌, arith}
-use Rattle.std.specs.declared.cmp.Ordering.{Ordering}
-use Rattle.std.specs.declared.cmp.Ordering.TheVariants.{Less, Equal, Greater}
-use Rattle.std.specs.Ordering.{MatchOrdering, nat_cmp, ordering_then}
-use Rattle.std.specs.Cmp.{nat_cmp_total, tied_itself}
+use Rattle.cluster_core.proofs.Common.{Equal, Fragment, Greater, HasLeaf, Ino, IsAfter, IsAwayTo, IsFirstAway, IsNextPinned, IsPick, IsSome, IsTree, Leaf, Less, MatchOrdering, None, Option, Ordering, Rank, Sight, Some, ap, arith, cases_lt, false, frag_cmp, inl, inr, leaf_cmp, leaves_of, nat_cmp, nat_cmp_total, ordering_then, ranked, refl, span, span_pos, subst, sym, tied_itself, true, ℕ, ◌+◌, ◌-◌, ◌<◌, ◌^◌, ◌∙◌, ◌≡◌, ◌≤◌, ◌⊎◌}
+use Rattle.std.proofs.Common.{is_some}
 use Rattle.std.specs.FinMap as map
-use Rattle.std.proofs.lemmas.Bool.{cases_lt}
-use Rattle.std.proofs.lemmas.Cmp.{ranked}
-use Rattle.mds_types.specs.declared.ids.Ino.{Ino}
-use Rattle.mds_types.specs.declared.ids.Rank.{Rank}
-use Rattle.mds_types.specs.Frag.{Fragment, frag_cmp, span}
-use Rattle.mds_types.specs.Leaf.{Leaf, leaf_cmp}
-use Rattle.fragtree.specs.FragTree.{HasLeaf, IsPick, IsTree}
-use Rattle.fragtree.proofs.Ranges.{span_pos}
-use Rattle.inode_table.specs.Dirs.{leaves_of}
-use Rattle.inode_table.specs.Pinned.{IsAfter, IsNextPinned}
-use Rattle.cluster_core.specs.Proposal.{IsAwayTo, IsFirstAway, Sight}
 use Rattle.cluster_core.proofs.GrantLaws.{Done, ends_all, goes_on}
 
 less_is : (x y : ℕ) → x < y → nat_cmp x y ≡ Less

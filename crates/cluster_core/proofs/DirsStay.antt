@@ -1,18 +1,9 @@
 -- The directories of the plain tree where an operation neither moves nor pins one: each stands where it stood with the pin that it had, or is new and
 -- has none.
-use Rattle.std.proofs.Common.{◌≡◌, ◌⊎◌, ◌&&◌, ℕ, Bool, true, false, cond, Option, Some, None, inl, inr, refl, ap, subst, ◌∙◌}
+use Rattle.cluster_core.proofs.Common.{Attributed, Attributes, Bool, Dentry, Errno, Inode, IsCalmIn, IsUnused, Lists, Looks, Makes, Moves, None, Option, Outcome, Pinned, Removes, Sets, Shape, Some, Tree, Unlinks, altered_at, answers, ap, cond, destination_in, dir_removed, directory_in, done_in, false, full_errno, inl, inr, is_dir_kind, is_directory, looked, made, new_inode, refl, removal_errno, size_errno, stands_after_put, stands_after_removal, step_in, subst, true, unless, unlinked, with_attributes, ℕ, ◌&&◌, ◌∙◌, ◌≡◌, ◌⊎◌}
 use Rattle.std.specs.FinMap as map
-use Rattle.mds_types.specs.declared.dentries.Dentry.{Dentry}
-use Rattle.mds_types.specs.declared.inodes.Alteration.TheVariants.{Attributed, Pinned}
-use Rattle.mds_types.specs.declared.inodes.Attributes.{Attributes}
-use Rattle.mds_types.specs.declared.inodes.Inode.{Inode}
 use Rattle.mds_types.specs.declared.replies.Reply.{Reply}
-use Rattle.mds_types.specs.declared.replies.Reply.TheVariants.{Done, Entry, Errno}
-use Rattle.mds_types.specs.Shape.{Shape, Looks, Lists, Makes, Sets, Unlinks, Removes, Moves, destination_in, directory_in}
-use Rattle.mds_types.specs.Step.{Outcome, altered_at, answers, dir_removed, done_in, full_errno, looked, made, new_inode, removal_errno, size_errno, step_in, unless, unlinked, with_attributes}
-use Rattle.mds_types.specs.Tree.{Tree, IsUnused, is_dir_kind, is_directory}
-use Rattle.cluster_core.specs.Settled.{IsCalmIn}
-use Rattle.mds_types.proofs.EntryLaws.{stands_after_put, stands_after_removal}
+use Rattle.mds_types.specs.declared.replies.Reply.TheVariants.{Done, Entry}
 
 -- a directory of the tree afterwards: it stood there with this pin, or is new
 pub data CameOf (old : Tree) (dentry : Dentry) (inode : Inode) : Type 0 where

@@ -1,10 +1,6 @@
 -- What a step of an export leaves where the tree and the roots stay: whose each leaf is, and which rank holds it.
-use Rattle.std.proofs.Common.{◌≡◌, ◌≤◌, ◌<◌, ℕ, zero, suc, List, length, arith}
-use Rattle.mds_types.specs.declared.entries.Entry.{Entry}
-use Rattle.mds_types.specs.Tree.{Tree}
-use Rattle.cluster_core.specs.Sound.{IsSound}
-use Rattle.cluster_core.specs.State.{Core, held_roots}
-use Rattle.ranked_tree.specs.Subtrees.{AreRoots, KeepsAuthorities, KeepsHolders}
+use Rattle.cluster_core.proofs.Common.{AreRoots, Core, Entry, IsSound, KeepsAuthorities, KeepsHolders, List, Tree, arith, length, suc, zero, ℕ, ◌<◌, ◌≡◌, ◌≤◌}
+use Rattle.cluster_core.specs.State.{held_roots}
 
 module _ (old new : Core) (tree : new.state.tree ≡ old.state.tree) where
   pub roots_stay : new.state.roots ≡ old.state.roots → KeepsAuthorities old.state.tree new.state.tree old.state.roots new.state.roots

@@ -1,8 +1,5 @@
 -- The first step of several kinds.
-use Rattle.std.proofs.Common.{◌≡◌, inl, inr, true, false, List, [], ◌∷◌, Option, Some, None}
-use Rattle.std.specs.Prelude.{is_some}
-use Rattle.cluster_core.specs.declared.events.Event.{Event}
-use Rattle.cluster_core.specs.Proposal.{IsFirstOf, IsFirstStep, Kind, Sight}
+use Rattle.cluster_core.proofs.Common.{Event, IsFirstOf, IsFirstStep, Kind, List, None, Option, Sight, Some, [], false, inl, inr, is_some, true, ◌∷◌, ◌≡◌}
 
 -- there is one of the first kind
 pub first_found : (s : Sight) (kind : Kind) (others : List Kind) (found : Option Event) → IsFirstStep s kind found → is_some found ≡ true → IsFirstOf s (kind ∷ others) found

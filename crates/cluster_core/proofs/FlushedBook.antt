@@ -1,12 +1,5 @@
 -- A flush leaves a sound book.
-use Rattle.std.proofs.Common.{ℕ, zero, suc, ◌<◌, ◌≤◌, length, refl, ap, arith}
-use Rattle.dentry_cache.specs.Came.{NoneEnds}
-use Rattle.dentry_cache.proofs.FrameLaws.{came_ranks}
-use Rattle.mdcache.specs.Flushed.{HasFragment}
-use Rattle.ranked_tree.proofs.Kept.{keeps_tables}
-use Rattle.cluster_core.specs.Flush.{KeepsCore}
-use Rattle.cluster_core.specs.Sound.{AreCached, AreExported, IsKept, IsSoundBook}
-use Rattle.cluster_core.specs.State.{Core, Kept, State}
+use Rattle.cluster_core.proofs.Common.{AreCached, AreExported, Core, HasFragment, IsKept, IsSoundBook, KeepsCore, Kept, NoneEnds, State, ap, arith, came_ranks, keeps_tables, length, refl, suc, zero, ℕ, ◌<◌, ◌≤◌}
 use Rattle.cluster_core.proofs.Stepped.{sound-same}
 
 -- each rank has a range of numbers, so there are no more than the ranges

@@ -1,18 +1,8 @@
 -- Where fragments are cached: what a sound cluster keeps of it, said of fragments.
-use Rattle.std.proofs.Common.{◌≡◌, Option, Some, None, cond, refl, sym, ap, subst, ◌∙◌}
+use Rattle.cluster_core.proofs.Common.{AreCached, At, Cached, Core, HasCached, IsHolder, LieAtHolder, None, Option, Rank, Some, Unsaved, ap, at, at_rank, cond, get_unclean, here, here_is, is_same, one_authority, refl, subst, sym, unsaved_at, unsaved_of, ◌∙◌, ◌≡◌}
 use Rattle.std.specs.FinMap as map
-use Rattle.mds_types.specs.declared.ids.Rank.{Rank}
-use Rattle.sorted_map.proofs.NatKeys.{is_same}
-use Rattle.cached_frag.specs.Cached.{Cached}
-use Rattle.dentry_cache.specs.Cache.{HasCached, Leaf, Unsaved, unsaved_of}
-use Rattle.dentry_cache.specs.CacheMap.{At, at, at_rank, here, unsaved_at}
-use Rattle.dentry_cache.proofs.ReadsLaws.{here_is}
-use Rattle.dentry_cache.proofs.UncleanLaws.{get_unclean}
-use Rattle.subtree_map.proofs.Nearest.{one_authority}
-use Rattle.cluster_core.specs.Fragments.{LieAtHolder}
-use Rattle.cluster_core.specs.Master.{IsHolder}
-use Rattle.cluster_core.specs.Sound.{AreCached}
-use Rattle.cluster_core.specs.State.{Core, held_roots}
+use Rattle.dentry_cache.specs.Cache.{Leaf}
+use Rattle.cluster_core.specs.State.{held_roots}
 
 module _ (core : Core) (all : AreCached core) where
   held_there : (rank : Rank) (leaf : Leaf) (f : Cached) → here core.caches rank.0 leaf ≡ Some f → IsHolder core.state leaf rank

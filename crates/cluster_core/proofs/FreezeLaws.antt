@@ -1,17 +1,7 @@
 -- Whether a leaf of the region that a leaf has as a root is granted.
-use Rattle.std.proofs.Common.{◌≡◌, ◌⊎◌, inl, inr, Bool, true, false, ◌||◌, List, [], ◌∷◌, Some, None, refl, sym, ap, subst, ◌∙◌}
-use Rattle.std.specs.List.{Contains, list_any}
+use Rattle.cluster_core.proofs.Common.{Bool, Contains, Covers, HasPinnedUnder, Homes, Leaf, List, NearestRoot, None, Pin, Rank, Roots, Some, [], ap, false, false_from_ne_true, first, first_or_later, get_beside, get_put, inl, inr, is_on, itself, later, leaf_itself, list_any, none_in, one_leaf, refl, subst, sym, true, ◌||◌, ◌∙◌, ◌∷◌, ◌≡◌, ◌⊎◌}
 use Rattle.std.specs.FinMap as map
-use Rattle.std.proofs.lemmas.Bool.{false_from_ne_true}
-use Rattle.mds_types.specs.declared.ids.Rank.{Rank}
-use Rattle.mds_types.specs.Leaf.{Leaf}
-use Rattle.mds_types.proofs.LeafLaws.{get_beside, get_put, leaf_itself, one_leaf}
-use Rattle.inboxes.specs.declared.pins.Pin.{Pin}
-use Rattle.inboxes.specs.Pins.{is_on}
-use Rattle.inode_table.specs.Dirs.{Covers, Homes}
-use Rattle.namespace_ops.proofs.Members.{first, first_or_later, later, none_in}
-use Rattle.subtree_map.specs.Authority.{NearestRoot, Roots, inherited, itself}
-use Rattle.cluster_core.specs.Exporting.{HasPinnedUnder}
+use Rattle.subtree_map.specs.Authority.{inherited}
 
 module _ (roots : Roots) (homes : Homes) (covers : Covers) (root : Leaf) where
   -- whose root it is plays no part

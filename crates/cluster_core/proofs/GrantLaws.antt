@@ -1,35 +1,10 @@
 -- Whether a rank may change the leaves of a change, from leaf to leaf.
-use Rattle.std.proofs.Common.{◌≡◌, ◌↔◌, ◌⊎◌, inl, inr, ℕ, ◌+◌, ◌%◌, ◌^◌, ◌<◌, ◌≤◌, Bool, true, false, cond, List, [], ◌∷◌, ◌++◌, map, Option, Some, None, IfSome, IsTrue, MatchBool, refl, sym, ◌∙◌, subst, arith}
-use Rattle.std.specs.List.{Contains, list_any}
+use Rattle.cluster_core.proofs.Common.{Bool, Carries, Change, Contains, Contains-from_range, Covers, Dentry, Dirfrag, Fragment, HasLeaf, HoldsAt, IfSome, Ino, Inode, IsFragment, IsFrozen, IsPick, IsTree, IsTrue, LacksOneOf, List, MatchBool, MayTouchEach, MayTouchIn, None, Option, Pin, Rank, Roots, Some, Spot, Standing, Tree, [], arith, cases_lt, cond, contains_start, dentry_at, directory_at, directory_gone, ends_low, entry_stands, false, first, first_or_later, grant_of, holding, in_directory, inl, inr, is_dir_kind, is_directory, is_fragment, is_pin, later, leaf_of, list_any, map, none_in, one_authority, range_from_Contains, refl, span, subst, sym, thawed_rules, true, ℕ, ◌%◌, ◌++◌, ◌+◌, ◌<◌, ◌^◌, ◌↔◌, ◌∙◌, ◌∷◌, ◌≡◌, ◌≤◌, ◌⊎◌}
 use Rattle.std.specs.FinMap as map_of
-use Rattle.std.proofs.lemmas.Bool.{cases_lt}
-use Rattle.mds_types.specs.declared.dirfrags.Dirfrag.{Dirfrag}
-use Rattle.mds_types.specs.declared.ids.Ino.{Ino}
-use Rattle.mds_types.specs.declared.ids.Rank.{Rank}
-use Rattle.mds_types.specs.declared.inodes.Inode.{Inode}
-use Rattle.mds_types.specs.Frag.{Contains as ContainsHash, Fragment, IsFragment, span}
-use Rattle.mds_types.specs.Leaf.{leaf_of}
-use Rattle.mds_types.specs.Tree.{Tree, is_dir_kind, is_directory}
-use Rattle.mds_types.specs.declared.dentries.Dentry.{Dentry}
-use Rattle.mds_types.proofs.DirectoryLaws.{entry_stands}
-use Rattle.inboxes.specs.declared.pins.Pin.{Pin}
-use Rattle.inboxes.specs.Pins.{is_pin}
-use Rattle.export_steps.specs.Holder.{IsFrozen, holding}
-use Rattle.export_steps.specs.Standing.{Standing}
-use Rattle.fragtree.specs.FragTree.{HasLeaf, IsPick, IsTree}
-use Rattle.fragtree.proofs.Ranges.{Contains-from_range, ends_low, range_from_Contains}
-use Rattle.inode_table.specs.Dirs.{Covers}
-use Rattle.namespace_ops.specs.Changes.{Carries, dentry_at, directory_at, directory_gone, in_directory}
-use Rattle.namespace_ops.specs.declared.plans.Change.{Change}
-use Rattle.namespace_ops.specs.declared.plans.Spot.{Spot}
-use Rattle.namespace_ops.proofs.Members.{first, first_or_later, later, none_in}
-use Rattle.subtree_map.specs.Authority.{Leaf, Roots}
-use Rattle.subtree_map.proofs.Covers.{contains_start, is_fragment, one_leaf}
-use Rattle.subtree_map.proofs.Nearest.{one_authority}
+use Rattle.mds_types.specs.Frag.{Contains as ContainsHash}
+use Rattle.subtree_map.specs.Authority.{Leaf}
+use Rattle.subtree_map.proofs.Covers.{one_leaf}
 use Rattle.mdcache.specs.State.{State as TreeState}
-use Rattle.ranked_tree.specs.Subtrees.{HoldsAt}
-use Rattle.ranked_tree.proofs.StandLaws.{thawed_rules}
-use Rattle.cluster_core.specs.Master.{LacksOneOf, MayTouchEach, MayTouchIn, grant_of}
 
 -- the directory that goes with a change stands
 pub gone_stands : (tree : Tree) (covers : Covers) (change : Change) → Carries tree covers change → IfSome change.gone (λ dir. is_directory tree dir.0 ≡ true)

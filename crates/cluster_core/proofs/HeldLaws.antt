@@ -1,30 +1,9 @@
 -- The list of the leaves that a rank holds, and what a grant makes of it.
-use Rattle.std.proofs.Common.{◌≡◌, ◌↔◌, inl, inr, ℕ, ◌+◌, ◌<◌, ◌≤◌, List, [], ◌∷◌, ◌++◌, drop, length, Some, Err, Ok, refl, sym, ap, ◌∙◌, subst}
-use Rattle.std.specs.List.{Contains}
-use Rattle.std.specs.Prelude.{OnErr, Result, get_or}
-use Rattle.std.proofs.lemmas.List.{append-nil, append_assoc, drop_all}
-use Rattle.std.proofs.lemmas.List.Elements.{Contains-get_or}
-use Rattle.mds_types.specs.declared.entries.Entry.{Entry}
-use Rattle.mds_types.specs.declared.ids.Rank.{Rank}
-use Rattle.mds_types.specs.declared.operations.Op.{Op}
-use Rattle.mds_types.specs.declared.requests.Request.{Request}
-use Rattle.mds_types.specs.declared.refusals.Refusal.{Refusal}
-use Rattle.mds_types.specs.declared.refusals.Refusal.TheVariants.{Frozen, NoMemory, NotAuthority}
-use Rattle.export_steps.specs.Holder.{IsFrozen}
-use Rattle.export_steps.specs.Standing.{Standing}
-use Rattle.inboxes.specs.declared.pins.Pin.{Pin}
-use Rattle.inboxes.specs.Inboxes.{Inboxes, first_waiting}
-use Rattle.inode_table.specs.Numbers.{Supply}
-use Rattle.namespace_ops.specs.ChangedFragments.{NamesOnce, changed_fragments}
-use Rattle.sessions.specs.Table.{Table}
-use Rattle.subtree_map.specs.Authority.{Leaf, Roots}
-use Rattle.mdcache.specs.Shown.{shown_tree}
+use Rattle.cluster_core.proofs.Common.{AreHeldAmong, AreThawedEach, Contains, Contains-get_or, Entry, Err, FindsNone, Frozen, GrantsFirst, GrantsWaiting, HoldsOne, Inboxes, IsFrozen, IsFrozenAt, IsGranted, IsOneFrozen, List, NamesOnce, NoMemory, NotAuthority, Nothing, Ok, OnErr, Op, Pin, Rank, Refusal, Request, Roots, Rules, Some, Standing, State, Supply, Table, [], ap, append-nil, changed_fragments, drop, drop_all, first_waiting, inl, inr, length, refl, shown_tree, state_of, subst, sym, with_grants, ℕ, ◌++◌, ◌+◌, ◌<◌, ◌↔◌, ◌∙◌, ◌∷◌, ◌≡◌, ◌≤◌}
+use Rattle.std.specs.Prelude.{Result, get_or}
+use Rattle.std.proofs.lemmas.List.{append_assoc}
+use Rattle.subtree_map.specs.Authority.{Leaf}
 use Rattle.mdcache.specs.State.{State as TreeState}
-use Rattle.cluster_core.specs.declared.events.Answer.TheVariants.{Nothing}
-use Rattle.cluster_core.specs.Grants.{AreHeldAmong, AreThawedEach, FindsNone, GrantsFirst, GrantsWaiting, HoldsOne, IsGranted, IsOneFrozen, with_grants}
-use Rattle.cluster_core.specs.Master.{IsFrozenAt}
-use Rattle.cluster_core.specs.State.{State, state_of}
-use Rattle.ranked_tree.specs.Subtrees.{Rules}
 use Rattle.cluster_core.proofs.MasterLaws.{held_exactly, not_in_none}
 
 -- ---- a walk

@@ -1,15 +1,7 @@
 -- An operation that changes nothing changes no leaf.
-use Rattle.std.proofs.Common.{◌≡◌, ℕ, Bool, true, false, cond, ◌||◌, [], ◌∷◌, sym, ap, refl, ◌∙◌}
-use Rattle.mds_types.specs.declared.operations.Op.{Op}
+use Rattle.cluster_core.proofs.Common.{Bool, Covers, Lists, Looks, Makes, Moves, Op, Outcome, Removes, Sets, Shape, Tree, Unlinks, [], answers, ap, changed_fragments, cond, errno_of_any_number, false, fragment_of, is_errno, is_idle, leaves_at, refl, shape, stays_in, step, sym, touched, touched_in, true, ℕ, ◌||◌, ◌∙◌, ◌∷◌, ◌≡◌}
 use Rattle.mds_types.specs.declared.replies.Reply.{Reply}
-use Rattle.mds_types.specs.Outcomes.{is_errno}
-use Rattle.mds_types.specs.Shape.{Shape, Looks, Lists, Makes, Sets, Unlinks, Removes, Moves, shape}
-use Rattle.mds_types.specs.Step.{Outcome, answers, step}
-use Rattle.mds_types.specs.Tree.{Tree}
-use Rattle.mds_types.proofs.StepLaws.{errno_of_any_number}
-use Rattle.inode_table.specs.Dirs.{Covers}
-use Rattle.namespace_ops.specs.Changes.{is_idle, stays, stays_in}
-use Rattle.namespace_ops.specs.ChangedFragments.{changed_fragments, fragment_of, leaves_at, touched, touched_in}
+use Rattle.namespace_ops.specs.Changes.{stays}
 use Rattle.std.specs.FinMap as map
 
 touched_none : (covers : Covers) (tree : Tree) (s : Shape) → stays_in s ≡ true → touched_in covers tree s ≡ []

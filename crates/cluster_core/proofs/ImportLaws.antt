@@ -1,22 +1,6 @@
 -- What Import of the tree with its ranks is to the cluster.
-use Rattle.std.proofs.Common.{◌≡◌, ℕ, List, Result, Ok, Err, refl, ap, sym, subst}
-use Rattle.std.specs.Prelude.{IsErr, IsErrAnd}
-use Rattle.mds_types.specs.declared.entries.Entry.{Entry}
-use Rattle.mds_types.specs.declared.refusals.Refusal.{Refusal}
-use Rattle.mds_types.specs.Leaf.{Leaf}
-use Rattle.inboxes.specs.Inboxes.{Inboxes}
-use Rattle.inboxes.specs.declared.pins.Pin.{Pin}
-use Rattle.inode_table.specs.Numbers.{Supply}
-use Rattle.sessions.specs.Table.{Table}
-use Rattle.subtree_map.specs.Changes.{Subtrees}
-use Rattle.mdcache.specs.Core.{LacksPlacesAt as LacksPlacesIn, shown_in, state_of as tree_state}
-use Rattle.ranked_tree.specs.Importing.{Imports, LeavesCaches, RefusesImport}
-use Rattle.ranked_tree.specs.Ranked.{Ranked}
-use Rattle.ranked_tree.specs.Subtrees.{KeepsAuthorities}
-use Rattle.cluster_core.specs.declared.events.Answer.{Answer}
-use Rattle.cluster_core.specs.declared.events.Answer.TheVariants.{Nothing}
-use Rattle.cluster_core.specs.Exporting.{ImportsExport}
-use Rattle.cluster_core.specs.State.{Core, core_of, state_of}
+use Rattle.cluster_core.proofs.Common.{Answer, Core, Entry, Err, Imports, ImportsExport, Inboxes, IsErr, IsErrAnd, KeepsAuthorities, Leaf, LeavesCaches, List, Nothing, Ok, Pin, Ranked, Refusal, RefusesImport, Result, Subtrees, Supply, Table, ap, core_of, refl, shown_in, state_of, subst, sym, ℕ, ◌≡◌}
+use Rattle.mdcache.specs.Core.{LacksPlacesAt as LacksPlacesIn, state_of as tree_state}
 
 module _ (old new : Ranked) (subtrees : new.subtrees ≡ old.subtrees) where
   roots_same : new.subtrees.roots ≡ old.subtrees.roots

@@ -1,36 +1,9 @@
 -- A step leaves the object of each fragment for which a job stands before and after it.
-use Rattle.std.proofs.Common.{◌≡◌, ℕ, Bool, true, false, nat_lt, inl, inr, MatchBool, List, [], ◌∷◌, length, Option, Some, None, Result, Ok, Err, refl, sym, ap}
+use Rattle.cluster_core.proofs.Common.{Administers, Answer, Arrive, ArrivesAt, BeginsAt, Bool, Cancel, CancelsAt, Change, CommitBegin, CommitDrop, CommitEnd, CommitTree, Core, Does, Drops, Ends, Entry, Err, Event, Evict, EvictsOne, Exports, Finish, Finishes, Freeze, Freezes, Grant, GrantsFirst, Import, ImportsExport, IsSound, Job, JobsKeepObjects, JobsTakeWhatIsShown, List, MakesPlanned, MatchBool, MayRefuse, Merge, MergesLeaves, None, NotAuthority, Objects, ObjectsStay, Ok, Op, Option, Prep, Preps, Purge, Purges, Rank, Refusal, Request, Result, SavesTree, Send, SendsExport, Serve, ServesInbox, ServesRequest, Some, Split, SplitsLeaf, Start, Starts, State, Tree, Unsaved, [], ap, begun_objects, dropped_objects, ended_object, false, first_name, first_waiting, inl, inr, length, made_objects, nat_lt, nothing, object_of, purged_object, refl, regrouped_objects, same_state, saved_object, shown_at, sym, told_job, true, waiting_at, ℕ, ◌∷◌, ◌≡◌}
 use Rattle.std.specs.FinMap as map
-use Rattle.mds_types.specs.declared.entries.Entry.{Entry}
-use Rattle.mds_types.specs.declared.operations.Op.{Op}
-use Rattle.mds_types.specs.declared.ids.Rank.{Rank}
-use Rattle.mds_types.specs.declared.requests.Request.{Request}
-use Rattle.mds_types.specs.declared.refusals.Refusal.{Refusal}
-use Rattle.mds_types.specs.declared.refusals.Refusal.TheVariants.{NotAuthority}
-use Rattle.mds_types.specs.Tree.{Tree}
-use Rattle.objstore.specs.Objects.{Objects}
-use Rattle.inboxes.specs.Inboxes.{first_waiting, waiting_at}
-use Rattle.cached_frag.specs.declared.jobs.Job.{Job}
-use Rattle.dentry_cache.specs.Cache.{Leaf, Unsaved}
-use Rattle.dentry_cache.specs.Loading.{object_of}
-use Rattle.namespace_ops.specs.declared.plans.Change.{Change}
-use Rattle.mdcache.specs.Commits.{Drops, Ends}
-use Rattle.mdcache.specs.Objects.{Purges, SavesTree}
-use Rattle.mdcache.specs.PurgeList.{first_name}
-use Rattle.mdcache.specs.Shown.{names_of, shown_at}
+use Rattle.dentry_cache.specs.Cache.{Leaf}
+use Rattle.mdcache.specs.Shown.{names_of}
 use Rattle.mdcache.specs.State.{State as TreeState}
-use Rattle.mdcache.proofs.StandingObjects.{ObjectsStay, begun_objects, dropped_objects, ended_object, made_objects, purged_object, regrouped_objects, same_state, saved_object}
-use Rattle.cluster_core.specs.declared.events.Answer.{Answer}
-use Rattle.cluster_core.specs.declared.events.Event.{Event}
-use Rattle.cluster_core.specs.declared.events.Event.TheVariants.{Arrive, Grant, Serve, Split, Merge, CommitBegin, CommitEnd, CommitDrop, CommitTree, Purge, Evict, Start, Freeze, Prep, Send, Import, Finish, Cancel}
-use Rattle.cluster_core.specs.Exporting.{CancelsAt, Exports, Finishes, Freezes, ImportsExport, Preps, SendsExport, Starts}
-use Rattle.cluster_core.specs.Administers.{Administers, BeginsAt, EvictsOne, MergesLeaves, SplitsLeaf, nothing, told_job}
-use Rattle.cluster_core.specs.Commits.{JobsKeepObjects, JobsTakeWhatIsShown}
-use Rattle.cluster_core.specs.Grants.{GrantsFirst}
-use Rattle.cluster_core.specs.Serve.{MakesPlanned, ServesInbox, ServesRequest}
-use Rattle.cluster_core.specs.Sound.{IsSound}
-use Rattle.cluster_core.specs.State.{Core, State}
-use Rattle.cluster_core.specs.Steps.{ArrivesAt, Does, MayRefuse}
 
 -- a step that leaves all leaves the objects
 left : (old new : State) → new ≡ old → ObjectsStay old.tree new.tree

@@ -1,17 +1,7 @@
 -- A walk over the candidates of a kind ends at the least leaf at which a rank would make a step of it.
-use Rattle.std.proofs.Common.{◌≡◌, ℕ, ◌<◌, ◌≤◌, true, false, length, Option, Some, None, MatchOption, refl, subst}
-use Rattle.std.specs.Prelude.{is_some}
-use Rattle.inode_table.specs.Dirs.{leaves_of}
+use Rattle.cluster_core.proofs.Common.{Event, IsBehind, IsFirstStep, IsIdle, IsLargeIn, IsLeast, IsNext, IsNextOf, IsNextStep, IsSmallIn, Kind, Leaf, MatchOption, Merge, None, OfExport, OfLarge, OfSmall, Option, Sight, Some, Split, StandingExport, Would, WouldNot, child, false, is_some, leaves_of, length, one_value, refl, subst, true, ℕ, ◌<◌, ◌≡◌, ◌≤◌}
 use Rattle.std.specs.FinMap as map
-use Rattle.mds_types.specs.Leaf.{Leaf}
-use Rattle.export_steps.specs.declared.exports.StandingExport.{StandingExport}
-use Rattle.export_steps.specs.ByExporter.{IsNextOf}
 use Rattle.export_steps.specs.ByExporter as by
-use Rattle.dentry_cache.specs.Candidates.{IsBehind, IsLargeIn, IsNext, IsSmallIn, child}
-use Rattle.cluster_core.specs.declared.events.Event.{Event}
-use Rattle.cluster_core.specs.declared.events.Event.TheVariants.{Merge, Split}
-use Rattle.subtree_map.proofs.Options.{one_value}
-use Rattle.cluster_core.specs.Proposal.{IsFirstStep, IsIdle, IsLeast, IsNextStep, Kind, OfExport, OfLarge, OfSmall, Sight, Would, WouldNot}
 use Rattle.cluster_core.proofs.WalkLaws.{IsWalked, ended, found, passed}
 
 -- it would make a step of a kind at a leaf

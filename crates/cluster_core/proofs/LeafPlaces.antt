@@ -1,12 +1,5 @@
 -- Leaves in order, as numbers: a walk along them ends.
-use Rattle.std.proofs.Common.{◌≡◌, ◌⊎◌, inl, inr, ℕ, ◌+◌, ◌*◌, ◌-◌, ◌%◌, ◌^◌, ◌<◌, Option, Some, None, refl, arith}
-use Rattle.std.specs.declared.cmp.Ordering.{Ordering}
-use Rattle.std.specs.declared.cmp.Ordering.TheVariants.{Less, Equal, Greater}
-use Rattle.std.specs.Ordering.{MatchOrdering, nat_cmp, ordering_then}
-use Rattle.std.proofs.lemmas.Cmp.{ranked}
-use Rattle.mds_types.specs.Frag.{frag_cmp}
-use Rattle.mds_types.specs.Leaf.{Leaf}
-use Rattle.dentry_cache.specs.Candidates.{IsBehind}
+use Rattle.cluster_core.proofs.Common.{Equal, Greater, IsBehind, Leaf, Less, MatchOrdering, None, Option, Ordering, Some, arith, frag_cmp, inl, inr, nat_cmp, ordering_then, ranked, refl, ℕ, ◌%◌, ◌*◌, ◌+◌, ◌-◌, ◌<◌, ◌^◌, ◌≡◌, ◌⊎◌}
 
 -- the place of a leaf in their order
 abbrev place : Leaf → ℕ

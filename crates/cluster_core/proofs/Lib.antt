@@ -2,6 +2,7 @@ pub mod AdminLaws
 pub mod Applied
 pub mod AwayLaws
 pub mod Carried
+pub mod Common
 pub mod Counted
 pub mod DirWalkLaws
 pub mod DirsStay

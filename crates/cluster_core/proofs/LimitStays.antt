@@ -1,35 +1,8 @@
 -- No step changes how many entries a directory may have.
-use Rattle.std.proofs.Common.{◌≡◌, ℕ, Bool, true, false, cond, nat_lt, inl, inr, MatchBool, List, [], ◌∷◌, length, Option, Some, None, Result, Ok, Err, refl, ap, ◌∙◌}
-use Rattle.mds_types.specs.declared.dentries.Dentry.{Dentry}
-use Rattle.mds_types.specs.declared.entries.Entry.{Entry}
-use Rattle.mds_types.specs.declared.ids.Ino.{Ino}
-use Rattle.mds_types.specs.declared.ids.Rank.{Rank}
-use Rattle.mds_types.specs.declared.inodes.Inode.{Inode}
-use Rattle.mds_types.specs.declared.operations.Op.{Op}
-use Rattle.mds_types.specs.declared.requests.Request.{Request}
-use Rattle.mds_types.specs.declared.refusals.Refusal.{Refusal}
-use Rattle.mds_types.specs.declared.refusals.Refusal.TheVariants.{NotAuthority}
-use Rattle.mds_types.specs.Tree.{is_dir_kind}
-use Rattle.inboxes.specs.Inboxes.{first_waiting, waiting_at}
-use Rattle.cached_frag.specs.declared.jobs.Job.{Job}
-use Rattle.dentry_cache.specs.Cache.{Leaf, Unsaved}
-use Rattle.namespace_ops.specs.Changes.{dentry_at}
-use Rattle.namespace_ops.specs.declared.plans.Change.{Change}
-use Rattle.namespace_ops.specs.declared.plans.Spot.{Spot}
-use Rattle.mdcache.specs.Changes.{Makes, PutsThen, TakesThen, housed, with_directory, with_new, without}
-use Rattle.mdcache.specs.Commits.{BeginsWith, Drops, Ends}
-use Rattle.mdcache.specs.Objects.{Purges, PurgesName, SavesTree}
-use Rattle.mdcache.specs.PurgeList.{first_name}
+use Rattle.cluster_core.proofs.Common.{Administers, Answer, Arrive, ArrivesAt, BeginsAt, BeginsWith, Bool, Cancel, CancelsAt, Change, CommitBegin, CommitDrop, CommitEnd, CommitTree, Core, Dentry, Does, Drops, Ends, Entry, Err, Event, Evict, EvictsOne, Exports, Finish, Finishes, Freeze, Freezes, Grant, GrantsFirst, Import, ImportsExport, Ino, Inode, Job, List, MakesPlanned, MatchBool, MayRefuse, Merge, MergesLeaves, None, NotAuthority, Ok, Op, Option, Prep, Preps, Purge, Purges, PurgesName, PutsThen, Rank, Refusal, Request, Result, SavesTree, Send, SendsExport, Serve, ServesInbox, ServesRequest, Some, Split, SplitsLeaf, Spot, Start, Starts, State, TakesThen, Unsaved, [], ap, cond, dentry_at, false, first_name, first_waiting, housed, inl, inr, is_dir_kind, length, nat_lt, nothing, refl, told_job, true, waiting_at, with_directory, with_new, without, ℕ, ◌∙◌, ◌∷◌, ◌≡◌}
+use Rattle.dentry_cache.specs.Cache.{Leaf}
+use Rattle.mdcache.specs.Changes.{Makes}
 use Rattle.mdcache.specs.State.{State as TreeState}
-use Rattle.cluster_core.specs.declared.events.Answer.{Answer}
-use Rattle.cluster_core.specs.declared.events.Event.{Event}
-use Rattle.cluster_core.specs.declared.events.Event.TheVariants.{Arrive, Grant, Serve, Split, Merge, CommitBegin, CommitEnd, CommitDrop, CommitTree, Purge, Evict, Start, Freeze, Prep, Send, Import, Finish, Cancel}
-use Rattle.cluster_core.specs.Exporting.{CancelsAt, Exports, Finishes, Freezes, ImportsExport, Preps, SendsExport, Starts}
-use Rattle.cluster_core.specs.Administers.{Administers, BeginsAt, EvictsOne, MergesLeaves, SplitsLeaf, nothing, told_job}
-use Rattle.cluster_core.specs.Grants.{GrantsFirst}
-use Rattle.cluster_core.specs.Serve.{MakesPlanned, ServesInbox, ServesRequest}
-use Rattle.cluster_core.specs.State.{Core, State}
-use Rattle.cluster_core.specs.Steps.{ArrivesAt, Does, MayRefuse}
 
 -- the limit is what it was
 abbrev LimitStays : (old new : TreeState) → Type 0

@@ -1,31 +1,9 @@
 -- What was found and why a request isn't made ready, said of the tree before its checks or after them.
-use Rattle.std.proofs.Common.{◌≡◌, ◌⊎◌, ℕ, Bool, MatchBool, List, Option, None, Some, inl, inr, refl, sym, ap, subst, ◌∙◌}
-use Rattle.mds_types.specs.declared.ids.Rank.{Rank}
-use Rattle.mds_types.specs.declared.operations.Op.{Op}
-use Rattle.mds_types.specs.declared.refusals.Refusal.{Refusal}
-use Rattle.mds_types.specs.declared.refusals.Refusal.TheVariants.{NoMemory}
-use Rattle.mds_types.specs.declared.dirfrags.Dirfrag.{Dirfrag}
-use Rattle.mds_types.specs.declared.ids.Ino.{Ino}
-use Rattle.mds_types.specs.Step.{Outcome, number_or, step}
-use Rattle.objstore.specs.Objects.{faults_in}
+use Rattle.cluster_core.proofs.Common.{Bool, Change, Checked, Checks, Dirfrag, HoldsAt, Ino, IsChecked, IsUnready, KeepsRanked, LacksNumber, List, MatchBool, MayTouchAllIn, MustWaitIn, NoMemory, None, Op, Option, Outcome, Pin, Rank, Ranked, Refusal, RefusesChange, Roots, Some, Standing, Supply, WhyUnprepared, ap, faults_in, held_roots, held_still, inl, inr, keeps_itself, keeps_refused, number_or, offer, ranked_later, refl, shown_tree, step, subst, sym, ℕ, ◌∙◌, ◌≡◌, ◌⊎◌}
 use Rattle.dentry_cache.specs.Reads.Reads.{stays}
-use Rattle.export_steps.specs.Standing.{Standing}
-use Rattle.inboxes.specs.declared.pins.Pin.{Pin}
-use Rattle.inode_table.specs.Numbers.{Supply, offer}
-use Rattle.namespace_ops.specs.Checked.{Checks, IsChecked}
-use Rattle.namespace_ops.specs.declared.plans.Change.{Change}
-use Rattle.namespace_ops.specs.declared.plans.Checked.{Checked}
-use Rattle.namespace_ops.specs.Served.{LacksNumber}
-use Rattle.subtree_map.specs.Authority.{Roots}
 use Rattle.mdcache.specs.Core.{state_of as tree_state}
-use Rattle.mdcache.specs.Shown.{shown_tree}
 use Rattle.mdcache.specs.State.{State}
-use Rattle.mdcache.proofs.FragsLaws.{keeps_itself, keeps_refused}
-use Rattle.ranked_tree.specs.Subtrees.{HoldsAt}
-use Rattle.ranked_tree.specs.Ranked.{KeepsRanked, MayRefuse, Ranked, held_roots}
-use Rattle.ranked_tree.proofs.AskLaws.{held_still, ranked_later}
-use Rattle.cluster_core.specs.Master.{MayTouchAllIn, MustWaitIn}
-use Rattle.cluster_core.specs.Prepared.{IsUnready, RefusesChange, WhyUnprepared}
+use Rattle.ranked_tree.specs.Ranked.{MayRefuse}
 
 -- nothing was prepared: nothing was read, and a number lacks, or memory
 pub unprepared : (old : Ranked) (op : Op) (change : Change) (n : ℕ) (outcome : Outcome) (offered : Option Ino) (Holds : Dirfrag → Type 0) (reason : Refusal) → IsChecked (shown_tree (tree_state old.tree)) old.tree.covers Holds op n outcome change → WhyUnprepared change offered reason

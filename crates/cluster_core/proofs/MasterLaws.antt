@@ -1,29 +1,8 @@
 -- Which leaves an operation changes, and which of them a rank may change.
-use Rattle.std.proofs.Common.{◌≡◌, ◌↔◌, inl, inr, ℕ, Bool, List, [], ◌∷◌, Option, Some, None, refl, sym, ap, ◌∙◌, subst, MatchBool, MatchOption, arith}
-use Rattle.std.specs.List.{Contains}
+use Rattle.cluster_core.proofs.Common.{AreHeldAmong, Bool, Contains, Covers, Dirfrag, Fragment, HoldsAt, Ino, IsAt, IsMasterIn, IsPick, List, Lists, Located, Locates, Looks, Makes, MatchBool, MatchOption, Moves, None, Op, Option, Rank, Removes, Roots, Rules, Sets, Shape, Some, Tree, Unlinks, [], ap, arith, destination_in, destination_of, first, first_or_later, hash_at, in_directory, inl, inr, later, leaf_at, leaf_of, leaves_of, main_hash, main_in, main_leaf, pick_of, picked, refl, shape, shown_tree, subst, sym, ℕ, ◌↔◌, ◌∙◌, ◌∷◌, ◌≡◌}
 use Rattle.std.specs.Prelude.{IfSome}
-use Rattle.mds_types.specs.declared.dirfrags.Dirfrag.{Dirfrag}
-use Rattle.mds_types.specs.declared.ids.Ino.{Ino}
-use Rattle.mds_types.specs.declared.ids.Rank.{Rank}
-use Rattle.mds_types.specs.Frag.{Fragment}
-use Rattle.mds_types.specs.declared.operations.Op.{Op}
-use Rattle.mds_types.specs.Leaf.{leaf_of}
-use Rattle.mds_types.specs.Shape.{Shape, Looks, Lists, Makes, Sets, Unlinks, Removes, Moves, destination_in, destination_of, main_in, shape}
-use Rattle.mds_types.specs.Tree.{Tree}
-use Rattle.fragtree.specs.FragTree.{IsPick}
-use Rattle.inode_table.specs.Dirs.{Covers, leaves_of}
-use Rattle.namespace_ops.specs.declared.locating.Located.{Located}
-use Rattle.namespace_ops.specs.Changes.{in_directory}
-use Rattle.namespace_ops.specs.Picks.{pick_of}
-use Rattle.namespace_ops.specs.Places.{IsAt, Locates, hash_at, main_hash}
-use Rattle.namespace_ops.proofs.PickLaws.{picked}
-use Rattle.namespace_ops.proofs.Members.{first, first_or_later, later}
-use Rattle.subtree_map.specs.Authority.{Leaf, Roots}
-use Rattle.mdcache.specs.Shown.{shown_tree}
+use Rattle.subtree_map.specs.Authority.{Leaf}
 use Rattle.mdcache.specs.State.{State as TreeState}
-use Rattle.cluster_core.specs.Grants.{AreHeldAmong}
-use Rattle.cluster_core.specs.Master.{IsMasterIn, leaf_at, main_leaf}
-use Rattle.ranked_tree.specs.Subtrees.{HoldsAt, Rules}
 
 -- nothing is in an empty list
 pub not_in_none : {A : Type 0} (x : A) → Contains {X = A} [] x → ⊥

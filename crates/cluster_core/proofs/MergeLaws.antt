@@ -1,13 +1,5 @@
 -- Eight leaves that are the children of a fragment are all that lie inside it.
-use Rattle.std.proofs.Common.{◌≡◌, ℕ, zero, suc, ◌+◌, ◌*◌, ◌%◌, ◌^◌, ◌<◌, ◌≤◌, List, length, subst, arith}
-use Rattle.std.proofs.Math.Nat.{mod-eq_of_lt, mul-le-mul_left}
-use Rattle.mds_types.specs.Frag.{Fragment, IsFragment, child_of, span}
-use Rattle.mds_types.proofs.Fragments.{span-split}
-use Rattle.fragtree.specs.FragTree.{CanMerge, HasLeaf, IsPick, IsTree, leaves_inside}
-use Rattle.fragtree.proofs.Counted.{Counts, all_counted, first_counted, next_counted}
-use Rattle.fragtree.proofs.Ranges.{Contains-from_range, ends_low, span_pos}
-use Rattle.fragtree.proofs.Tilings.{between}
-use Rattle.fragtree.proofs.TreeLaws.{pick_from_leaf}
+use Rattle.cluster_core.proofs.Common.{CanMerge, Contains-from_range, Counts, Fragment, HasLeaf, IsFragment, IsPick, IsTree, List, all_counted, arith, between, child_of, ends_low, first_counted, leaves_inside, length, mod-eq_of_lt, mul-le-mul_left, next_counted, pick_from_leaf, span, span-split, span_pos, subst, suc, zero, ℕ, ◌%◌, ◌*◌, ◌+◌, ◌<◌, ◌^◌, ◌≡◌, ◌≤◌}
 
 module _ (xs : List Fragment) (tree : IsTree xs) (f : Fragment) (whole : IsFragment f) (each : (i : ℕ) → i < 8 → HasLeaf xs (child_of f i 3)) where
   fragment : (i : ℕ) → i < 8 → IsFragment (child_of f i 3)

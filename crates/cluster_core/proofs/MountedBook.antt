@@ -1,30 +1,10 @@
 -- A cluster over a store as it is found is sound from the tree that it opens with.
-use Rattle.std.proofs.Common.{◌≡◌, inl, inr, ℕ, zero, suc, ◌+◌, ◌<◌, ◌≤◌, ◌⊎◌, List, [], ◌∷◌, replicate, map, length, get_or, Some, None, refl, sym, ap, subst, ◌∙◌, arith}
-use Rattle.std.specs.Prelude.{slice_get, Contains}
+use Rattle.cluster_core.proofs.Common.{AreCaches, AreHeld, AreNumbers, AreTopRoots, CacheMap, Core, Covers, Dentry, Inode, IsFresh, IsIn, IsOfRank, IsOwned, IsSound, IsSupplied, IsSupply, List, Mounts, MountsCore, None, Objects, Roots, Some, Supply, Tree, [], ap, arith, core_of, dentry-total, dentry_cmp, first_number, get-empty, get_entry, get_or, inl, inr, length, length-replicate, map, no_supply, none_stand, refl, replicate, shown_in, slice_get, subst, suc, sym, table-none, top_of_none, whole_supplies, zero, ℕ, ◌+◌, ◌<◌, ◌∙◌, ◌∷◌, ◌≡◌, ◌≤◌, ◌⊎◌}
+use Rattle.std.specs.Prelude.{Contains}
 use Rattle.std.specs.FinMap as finmap
-use Rattle.std.specs.FinMap.{get-empty}
-use Rattle.std.proofs.lemmas.List.{length-replicate}
-use Rattle.mds_types.specs.declared.dentries.Dentry.{Dentry}
-use Rattle.mds_types.specs.declared.inodes.Inode.{Inode}
-use Rattle.mds_types.specs.Tree.{Tree, dentry_cmp}
-use Rattle.mds_types.proofs.OrderLaws.{dentry-total}
-use Rattle.objstore.specs.Objects.{Objects}
-use Rattle.inode_table.specs.Dirs.{Covers}
-use Rattle.inode_table.specs.Numbers.{IsSupply, Supply, first_number}
-use Rattle.dentry_cache.specs.CacheMap.{AreCaches, CacheMap}
-use Rattle.mdcache.specs.Core.{Core as TreeCore, shown_in, state_of}
-use Rattle.mdcache.specs.Mounted.{AreNumbers, IsNext, IsOfRank, Mounts}
+use Rattle.mdcache.specs.Core.{Core as TreeCore, state_of}
+use Rattle.mdcache.specs.Mounted.{IsNext}
 use Rattle.mdcache.specs.State.{State as TreeState}
-use Rattle.mdcache.proofs.MountLaws.{IsIn, get_entry}
-use Rattle.sessions.proofs.TableLaws.{table-none}
-use Rattle.subtree_map.specs.Authority.{Roots}
-use Rattle.ranked_tree.specs.Held.{AreHeld, IsOwned}
-use Rattle.ranked_tree.proofs.StandLaws.{none_stand}
-use Rattle.ranked_tree.specs.Mounted.{AreTopRoots}
-use Rattle.ranked_tree.proofs.MountedRoots.{top_of_none}
-use Rattle.cluster_core.specs.Mounted.{MountsCore}
-use Rattle.cluster_core.specs.Sound.{IsFresh, IsSound, IsSupplied}
-use Rattle.cluster_core.specs.State.{Core, core_of, no_supply, whole_supplies}
 use Rattle.cluster_core.proofs.NewBook.{new_count, stand_alone}
 
 -- ---- numbers

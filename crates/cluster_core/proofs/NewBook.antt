@@ -1,25 +1,7 @@
 -- A book begins sound.
-use Rattle.std.proofs.Common.{◌≡◌, ℕ, zero, suc, ◌+◌, ◌^◌, ◌<◌, ◌≤◌, inl, inr, None, Some, [], replicate, map, length, get_or, refl, sym, ap, subst, ◌∙◌, arith}
+use Rattle.cluster_core.proofs.Common.{AreCached, AreExported, AreSupplied, Core, IsKept, IsSound, IsSupplied, IsUsed, Leaf, None, Rank, Roots, Some, Standing, StandingExport, State, [], ap, arith, entries-empty, first_number, get-empty, get_or, inl, inr, leaf_cmp, length, length-replicate, length-set, map, new_are_roots, new_caches, new_state, new_tree, no_caches, no_supply, none_stand, numbers, order, refl, replicate, root_leaf, shown, subst, suc, sym, table-none, whole_supplies, zero, ℕ, ◌+◌, ◌<◌, ◌^◌, ◌∙◌, ◌≡◌, ◌≤◌}
 use Rattle.std.specs.FinMap as finmap
-use Rattle.std.specs.FinMap.{get-empty}
-use Rattle.std.proofs.lemmas.List.{length-replicate, length-set}
-use Rattle.mds_types.specs.Tree.{numbers}
-use Rattle.mds_types.proofs.TreeLaws.{entries-empty}
-use Rattle.mds_types.specs.History.{IsUsed}
-use Rattle.mds_types.specs.Leaf.{Leaf, leaf_cmp}
-use Rattle.mds_types.specs.declared.ids.Rank.{Rank}
-use Rattle.export_steps.specs.declared.exports.StandingExport.{StandingExport}
-use Rattle.export_steps.specs.Standing.{Standing}
-use Rattle.inode_table.specs.Numbers.{first_number}
-use Rattle.dentry_cache.specs.CacheMap.{first, no_caches, order}
-use Rattle.mdcache.specs.New.{new_caches, root_leaf}
-use Rattle.mdcache.proofs.NewLaws.{new_tree}
-use Rattle.ranked_tree.proofs.NewLaws.{new_are_roots}
-use Rattle.ranked_tree.proofs.StandLaws.{none_stand}
-use Rattle.subtree_map.specs.Authority.{Roots}
-use Rattle.sessions.proofs.TableLaws.{table-none}
-use Rattle.cluster_core.specs.State.{Core, State, new_state, no_supply, shown, whole_supplies}
-use Rattle.cluster_core.specs.Sound.{AreCached, AreExported, AreSupplied, IsKept, IsSound, IsSupplied}
+use Rattle.dentry_cache.specs.CacheMap.{first}
 
 -- no number of a rank is used in an empty book
 unused-empty : (n : ℕ) → 2 ^ 40 ≤ n → IsUsed finmap.empty [] n → ⊥

@@ -1,21 +1,6 @@
 -- The number that a rank offers next is unused in the tree that a sound cluster shows, and in a rank's range.
-use Rattle.std.proofs.Common.{◌≡◌, ◌<◌, Bool, true, false, nat_lt, cond, length, MatchBool, List, Option, Some, None, refl, ap, ◌∙◌, sym, arith}
-use Rattle.std.proofs.lemmas.Bool.{ltb-true}
-use Rattle.std.proofs.lemmas.Bool.Decides.{nat_tests}
+use Rattle.cluster_core.proofs.Common.{AreMastersThere, AreRanks, Bool, Core, Entry, Ino, IsOffered, IsRankNumber, IsSound, IsSupplied, IsUnused, List, MatchBool, None, Option, Rank, Rules, Some, Supply, Tree, ap, arith, cond, dentry_of, destination_of, end_number, false, is_directory, length, ltb-true, main_leaf, nat_lt, nat_tests, numbers_used, offer, refl, shown, supply_of, sym, true, ◌<◌, ◌∙◌, ◌≡◌}
 use Rattle.std.specs.FinMap as map
-use Rattle.mds_types.specs.declared.ids.Ino.{Ino}
-use Rattle.mds_types.specs.declared.ids.Rank.{Rank}
-use Rattle.mds_types.specs.declared.entries.Entry.{Entry}
-use Rattle.mds_types.specs.Shape.{destination_of}
-use Rattle.mds_types.specs.Tree.{Tree, dentry_of, is_directory, IsUnused}
-use Rattle.mds_types.proofs.UsedLaws.{numbers_used}
-use Rattle.dirfrag_codec.specs.EntryRecord.{IsRankNumber}
-use Rattle.inode_table.specs.Numbers.{Supply, offer, end_number}
-use Rattle.namespace_ops.specs.Changes.{IsOffered}
-use Rattle.cluster_core.specs.Master.{AreMastersThere, main_leaf}
-use Rattle.cluster_core.specs.State.{Core, shown, supply_of}
-use Rattle.cluster_core.specs.Sound.{AreRanks, IsSound, IsSupplied}
-use Rattle.ranked_tree.specs.Subtrees.{Rules}
 
 -- a rank that is there has its supply
 pub there_of : (core : Core) → AreRanks core → (rank : Rank) → nat_lt rank.0 (length core.state.inboxes) ≡ true → rank.0 < length core.state.numbers

@@ -1,18 +1,7 @@
 -- What a rank proposes is an own step of a rank, which adds nothing to the history.
-use Rattle.std.proofs.Common.{◌≡◌, inl, inr, List, [], ◌∷◌, Some, Ok, sym, subst}
+use Rattle.cluster_core.proofs.Common.{AddsAtServe, Answer, Arrive, Cancel, CommitBegin, CommitDrop, CommitEnd, CommitTree, Core, Entry, Event, Evict, ExportState, Finish, Freeze, Grant, Import, IsFirstOf, IsNextStep, IsOwnStep, Kind, Leaf, List, Merge, OfExport, OfLarge, OfPin, OfSmall, Ok, Prep, Proposes, Purge, Rank, Records, Refusal, Send, Serve, Sight, Some, Split, Start, Would, [], inl, inr, kinds, sight, subst, sym, ◌∷◌, ◌≡◌}
 use Rattle.std.specs.Prelude.{Result}
-use Rattle.mds_types.specs.declared.entries.Entry.{Entry}
-use Rattle.mds_types.specs.declared.ids.Rank.{Rank}
-use Rattle.mds_types.specs.declared.refusals.Refusal.{Refusal}
-use Rattle.mds_types.specs.Leaf.{Leaf}
-use Rattle.export_steps.specs.declared.exports.ExportState.{ExportState}
 use Rattle.export_steps.specs.declared.exports.ExportState.TheVariants as at
-use Rattle.cluster_core.specs.declared.events.Answer.{Answer}
-use Rattle.cluster_core.specs.declared.events.Event.{Event}
-use Rattle.cluster_core.specs.declared.events.Event.TheVariants.{Arrive, Serve, Grant, Split, Merge, CommitBegin, CommitEnd, CommitDrop, CommitTree, Purge, Evict, Start, Freeze, Prep, Send, Import, Finish, Cancel}
-use Rattle.cluster_core.specs.Proposal.{IsFirstOf, IsNextStep, IsOwnStep, Kind, OfExport, OfLarge, OfPin, OfSmall, Proposes, Sight, Would, kinds, sight}
-use Rattle.cluster_core.specs.Runs.{AddsAtServe, Records}
-use Rattle.cluster_core.specs.State.{Core}
 
 own_next : (s : Sight) (root : Leaf) (state : ExportState) (event : Event) → IsNextStep s root state event → IsOwnStep event
 own_next s root at.Started event (inl (is, may)) = subst IsOwnStep (sym is) tt

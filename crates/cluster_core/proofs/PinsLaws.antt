@@ -1,14 +1,6 @@
 -- The effective pin of a directory, by the way up.
-use Rattle.std.proofs.Common.{◌≡◌, ◌⊎◌, ◌↔◌, inl, inr, ℕ, true, false, Option, Some, None, IsSome, MatchOption, sym, ap, subst, ◌∙◌}
-use Rattle.std.specs.Prelude.{is_none, is_some}
+use Rattle.cluster_core.proofs.Common.{DirPins, HasPin, Home, Homes, Ino, IsNextPinned, IsSome, MatchOption, None, Option, Rank, Some, ap, false, inherited, inl, inr, is_none, is_some, not_none, one_value, own, subst, sym, true, ℕ, ◌↔◌, ◌∙◌, ◌≡◌, ◌⊎◌}
 use Rattle.std.specs.FinMap as map
-use Rattle.mds_types.specs.declared.ids.Ino.{Ino}
-use Rattle.mds_types.specs.declared.ids.Rank.{Rank}
-use Rattle.inode_table.specs.declared.dirs.Home.{Home}
-use Rattle.inode_table.specs.Dirs.{DirPins, Homes}
-use Rattle.inode_table.specs.Pinned.{IsNextPinned}
-use Rattle.subtree_map.proofs.Options.{not_none, one_value}
-use Rattle.cluster_core.specs.Pins.{HasPin, inherited, own}
 
 module _ (pins : DirPins) (homes : Homes) where
   -- without a pin of its own a directory has that of its parent

@@ -1,23 +1,8 @@
 -- What a leaf has once an operation was applied which moves and pins nothing it had before: its authority, its place and its effective pin.
-use Rattle.std.proofs.Common.{◌≡◌, ◌⊎◌, ◌==◌, ℕ, true, false, cond, is_some, List, [], ◌∷◌, Option, Some, None, inl, inr, refl, sym, ap, subst, ◌∙◌}
+use Rattle.cluster_core.proofs.Common.{Covers, Dentry, DirPins, Fragment, HasAuthority, HasLeaf, HasPin, HoldsPins, Homes, Ino, Inode, IsLive, IsSubtrees, IsTable, IsTabled, IsUnused, Leaf, List, None, Option, Rank, Roots, Some, StandsAs, Tree, [], ap, cond, dentry_of, directory_stands, false, inherited, inl, inr, is_dir_kind, is_directory, is_known, known_is, leaves_of, one_authority, or_right, own, refl, root_fragment, some_authority, subst, sym, true, ℕ, ◌==◌, ◌∙◌, ◌∷◌, ◌≡◌, ◌⊎◌}
+use Rattle.std.proofs.Common.{is_some}
 use Rattle.std.specs.Prelude.{IsSome}
 use Rattle.std.specs.FinMap as map
-use Rattle.std.proofs.lemmas.Bool.{or_right}
-use Rattle.mds_types.specs.declared.dentries.Dentry.{Dentry}
-use Rattle.mds_types.specs.declared.ids.Ino.{Ino}
-use Rattle.mds_types.specs.declared.ids.Rank.{Rank}
-use Rattle.mds_types.specs.declared.inodes.Inode.{Inode}
-use Rattle.mds_types.specs.Frag.{Fragment, root_fragment}
-use Rattle.mds_types.specs.Leaf.{Leaf}
-use Rattle.mds_types.specs.Tree.{Tree, IsUnused, dentry_of, is_dir_kind, is_directory}
-use Rattle.mds_types.proofs.DirectoryLaws.{StandsAs, directory_stands}
-use Rattle.fragtree.specs.FragTree.{HasLeaf}
-use Rattle.inode_table.specs.Dirs.{Covers, DirPins, Homes, IsLive, IsTable, is_known, leaves_of}
-use Rattle.inode_table.specs.TreeTable.{HoldsPins, IsTabled}
-use Rattle.inode_table.proofs.TableLaws.{known_is}
-use Rattle.subtree_map.specs.Authority.{HasAuthority, IsSubtrees, Roots}
-use Rattle.subtree_map.proofs.Nearest.{one_authority, some_authority}
-use Rattle.cluster_core.specs.Pins.{HasPin, own, inherited}
 use Rattle.cluster_core.proofs.DirsStay.{CameOf, DirsStay, fresh, stood}
 
 value_of : (o : Option Rank) → IsSome o → (rank : Rank) × (o ≡ Some rank)

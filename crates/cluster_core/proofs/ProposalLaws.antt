@@ -1,22 +1,6 @@
 -- Proposals: there is one at most, and its split passes the checks of splits.
-use Rattle.std.proofs.Common.{◌≡◌, ◌⊎◌, inl, inr, ℕ, List, [], ◌∷◌, Option, Some, None, refl, sym, ap, subst, ◌∙◌, arith}
-use Rattle.std.specs.declared.cmp.Ordering.TheVariants.{Less, Greater}
-use Rattle.std.specs.Ordering.{ordering_reverse}
-use Rattle.mds_types.specs.declared.ids.Rank.{Rank}
-use Rattle.mds_types.specs.Leaf.{Leaf, leaf_cmp}
-use Rattle.mds_types.proofs.LeafLaws.{leaf-total}
-use Rattle.fragtree.specs.FragTree.{CanSplit}
-use Rattle.inode_table.specs.declared.dirs.Home.{Home}
-use Rattle.inode_table.specs.Dirs.{DirPins, Homes, leaves_of}
-use Rattle.export_steps.specs.declared.exports.ExportState.{ExportState}
+use Rattle.cluster_core.proofs.Common.{CanSplit, DirPins, Event, ExportState, Greater, HasPin, Home, Homes, IsFirstOf, IsLarge, IsLargeIn, IsLeast, IsNext, IsNextOf, IsNextStep, IsSmallIn, Kind, Leaf, Less, List, None, OfExport, OfLarge, OfPin, OfSmall, Option, Rank, Sight, Some, Start, Would, WouldNot, [], ap, arith, inherited, inl, inr, leaf-total, leaf_cmp, leaves_of, not_none, one_value, ordering_reverse, own, refl, subst, sym, ℕ, ◌∙◌, ◌∷◌, ◌≡◌, ◌⊎◌}
 use Rattle.export_steps.specs.declared.exports.ExportState.TheVariants as at
-use Rattle.export_steps.specs.ByExporter.{IsNextOf}
-use Rattle.subtree_map.proofs.Options.{not_none, one_value}
-use Rattle.dentry_cache.specs.Candidates.{IsLargeIn, IsNext, IsSmallIn}
-use Rattle.cluster_core.specs.declared.events.Event.{Event}
-use Rattle.cluster_core.specs.declared.events.Event.TheVariants.{Start}
-use Rattle.cluster_core.specs.Pins.{HasPin, own, inherited}
-use Rattle.cluster_core.specs.Proposal.{IsFirstOf, IsLarge, IsLeast, IsNextStep, Kind, OfExport, OfLarge, OfSmall, OfPin, Sight, Would, WouldNot}
 
 -- a directory has at most one effective pin
 pub one_pin : (pins : DirPins) (homes : Homes) (d : ℕ) (a b : Rank) → HasPin pins homes d a → HasPin pins homes d b → a ≡ b

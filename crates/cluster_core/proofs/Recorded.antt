@@ -1,24 +1,5 @@
 -- What each event makes of the history.
-use Rattle.std.proofs.Common.{ap, ◌≡◌, ℕ, Bool, true, false, nat_lt, List, length, Option, Some, None, MatchBool, Result, Ok, Err}
-use Rattle.mds_types.specs.declared.entries.Entry.{Entry}
-use Rattle.mds_types.specs.declared.operations.Op.{Op}
-use Rattle.mds_types.specs.declared.requests.Request.{Request}
-use Rattle.mds_types.specs.declared.ids.Rank.{Rank}
-use Rattle.mds_types.specs.declared.refusals.Refusal.{Refusal}
-use Rattle.mds_types.specs.declared.refusals.Refusal.TheVariants.{NotAuthority}
-use Rattle.inboxes.specs.Inboxes.{first_waiting}
-use Rattle.mdcache.specs.Commits.{Drops, Ends}
-use Rattle.mdcache.specs.Objects.{Purges, SavesTree}
-use Rattle.mds_types.specs.Leaf.{Leaf}
-use Rattle.cluster_core.specs.declared.events.Answer.{Answer}
-use Rattle.cluster_core.specs.declared.events.Event.{Event}
-use Rattle.cluster_core.specs.declared.events.Event.TheVariants.{Arrive, Grant, Serve, Split, Merge, CommitBegin, CommitEnd, CommitDrop, CommitTree, Purge, Evict, Start, Freeze, Prep, Send, Import, Finish, Cancel}
-use Rattle.cluster_core.specs.State.{Core, State}
-use Rattle.cluster_core.specs.Grants.{GrantsFirst}
-use Rattle.cluster_core.specs.Exporting.{CancelsAt, Exports, Finishes, Freezes, ImportsExport, Preps, SendsExport, Starts}
-use Rattle.cluster_core.specs.Administers.{Administers, BeginsAt, EvictsOne, MergesLeaves, SplitsLeaf, nothing, told_job}
-use Rattle.cluster_core.specs.Steps.{ArrivesAt, Does, MayRefuse, Steps}
-use Rattle.cluster_core.specs.Runs.{AddsAtServe, Records}
+use Rattle.cluster_core.proofs.Common.{AddsAtServe, Administers, Answer, Arrive, ArrivesAt, BeginsAt, Bool, Cancel, CancelsAt, CommitBegin, CommitDrop, CommitEnd, CommitTree, Core, Does, Drops, Ends, Entry, Err, Event, Evict, EvictsOne, Exports, Finish, Finishes, Freeze, Freezes, Grant, GrantsFirst, Import, ImportsExport, Leaf, List, MatchBool, MayRefuse, Merge, MergesLeaves, None, NotAuthority, Ok, Op, Option, Prep, Preps, Purge, Purges, Rank, Records, Refusal, Request, Result, SavesTree, Send, SendsExport, Serve, Some, Split, SplitsLeaf, Start, Starts, State, Steps, ap, false, first_waiting, length, nat_lt, nothing, told_job, true, ℕ, ◌≡◌}
 use Rattle.cluster_core.proofs.RunLaws.{step_of}
 
 module _ (old new : State) (past now : List Entry) where

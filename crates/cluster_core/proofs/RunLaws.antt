@@ -1,33 +1,9 @@
 -- Whole runs: the history grows, and each reply that was handed out stands in it.
-use Rattle.std.proofs.Common.{◌≡◌, ℕ, ◌+◌, ◌<◌, ◌≤◌, Bool, true, false, nat_lt, List, [], ◌∷◌, ◌++◌, Option, Some, None, take, drop, get_or, length, suc, ◌-◌, MatchBool, Result, Ok, Err, inl, inr, refl, sym, ap, subst, ◌∙◌, append_assoc, arith}
-use Rattle.std.proofs.Math.Seq.{get_or-append_seam}
-use Rattle.std.proofs.lemmas.List.{append-nil, length-append, length-drop, get_or_append_left, drop_more, take_more, take_all}
-use Rattle.std.proofs.lemmas.Bool.{eqb-true, and_parts}
-use Rattle.std.specs.List.{slice_index_or}
-use Rattle.mds_types.specs.declared.entries.Entry.{Entry}
-use Rattle.mds_types.specs.declared.ids.Rank.{Rank}
-use Rattle.mds_types.specs.declared.requests.Request.{Request}
+use Rattle.cluster_core.proofs.Common.{AddsTo, Administers, Answer, Arrive, ArrivesAt, BeginsAt, Bool, Cancel, CancelsAt, CommitBegin, CommitDrop, CommitEnd, CommitTree, Core, Deferred, Does, Drops, Ends, Entry, Err, Event, Evict, EvictsOne, Exports, Finish, Finishes, Forwarded, Freeze, Freezes, Grant, GrantsFirst, Import, ImportsExport, InboxEmpty, IsApplied, IsLeft, IsOfHistory, IsRepeated, IsRun, IsSoundBook, Kept, Leaf, List, MatchBool, MayRefuse, Merge, MergesLeaves, None, NotAuthority, Nothing, Ok, Op, Option, Prep, Preps, Purge, Purges, Rank, Refusal, Reply, Request, Result, Runs, SavesTree, Send, SendsExport, Sent, Serve, ServesInbox, ServesRequest, Some, Split, SplitsLeaf, StandsAt, Start, Starts, State, StepsBook, [], and_parts, ap, append-nil, append_assoc, arith, drop, drop_more, entry_of, eqb-true, false, first_waiting, get_or, get_or-append_seam, get_or_append_left, inl, inr, length, length-append, length-drop, nat_lt, nothing, refl, slice_index_or, subst, suc, sym, take, take_all, take_more, told_job, true, waiting_at, ℕ, ◌++◌, ◌+◌, ◌-◌, ◌<◌, ◌∙◌, ◌∷◌, ◌≡◌, ◌≤◌}
 use Rattle.mds_types.specs.declared.replies.Reply.{Reply as Replied}
-use Rattle.mds_types.specs.declared.operations.Op.{Op}
-use Rattle.mds_types.specs.declared.refusals.Refusal.{Refusal}
-use Rattle.mds_types.specs.declared.refusals.Refusal.TheVariants.{NotAuthority, InboxEmpty}
-use Rattle.mds_types.specs.Leaf.{Leaf}
-use Rattle.cluster_core.specs.declared.events.Answer.{Answer}
 use Rattle.cached_frag.specs.declared.jobs.Job.{Job as Begun}
-use Rattle.cluster_core.specs.declared.events.Answer.TheVariants.{Deferred, Forwarded, Job, Nothing, Reply, Sent}
-use Rattle.cluster_core.specs.declared.events.Event.{Event}
-use Rattle.cluster_core.specs.declared.events.Event.TheVariants.{Arrive, Grant, Serve, Split, Merge, CommitBegin, CommitEnd, CommitDrop, CommitTree, Purge, Evict, Start, Freeze, Prep, Send, Import, Finish, Cancel}
-use Rattle.cluster_core.specs.State.{Core, Kept, State}
-use Rattle.cluster_core.specs.Serve.{IsApplied, IsRepeated, IsLeft, ServesRequest, ServesInbox, entry_of}
-use Rattle.cluster_core.specs.Grants.{GrantsFirst}
-use Rattle.inboxes.specs.Inboxes.{first_waiting, waiting_at}
-use Rattle.mdcache.specs.Commits.{Drops, Ends}
-use Rattle.mdcache.specs.Objects.{Purges, SavesTree}
-use Rattle.cluster_core.specs.Exporting.{CancelsAt, Exports, Finishes, Freezes, ImportsExport, Preps, SendsExport, Starts}
-use Rattle.cluster_core.specs.Administers.{Administers, BeginsAt, EvictsOne, MergesLeaves, SplitsLeaf, nothing, told_job}
-use Rattle.cluster_core.specs.Steps.{ArrivesAt, Does, MayRefuse}
-use Rattle.cluster_core.specs.Sound.{IsSoundBook}
-use Rattle.cluster_core.specs.Runs.{StepsBook, Runs, IsRun, StandsAt, IsOfHistory, BeginsWith, AddsTo}
+use Rattle.cluster_core.specs.declared.events.Answer.TheVariants.{Job}
+use Rattle.cluster_core.specs.Runs.{BeginsWith}
 
 -- what one step leaves of the history, and what its answer says of it
 pub record IsStepOf (past now : List Entry) (result : Result Answer Refusal) : Type 0 where

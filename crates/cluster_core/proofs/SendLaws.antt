@@ -1,19 +1,6 @@
 -- What Send of the tree with its ranks is to the cluster.
-use Rattle.std.proofs.Common.{◌≡◌, ℕ, List, Ok, refl, ap}
-use Rattle.mds_types.specs.declared.entries.Entry.{Entry}
-use Rattle.mds_types.specs.Leaf.{Leaf}
-use Rattle.inboxes.specs.Inboxes.{Inboxes}
-use Rattle.inboxes.specs.declared.pins.Pin.{Pin}
-use Rattle.inode_table.specs.Numbers.{Supply}
-use Rattle.sessions.specs.Table.{Table}
-use Rattle.subtree_map.specs.Changes.{Subtrees}
+use Rattle.cluster_core.proofs.Common.{Core, Entry, Inboxes, IsUnseenStep, KeepsTree, Leaf, List, Ok, Pin, Ranked, Sends, SendsExport, Sent, Subtrees, Supply, Table, ap, core_of, refl, shown_tree, ℕ, ◌≡◌}
 use Rattle.mdcache.specs.Core.{Core as TreeCore, state_of as tree_state}
-use Rattle.mdcache.specs.Shown.{shown_tree}
-use Rattle.ranked_tree.specs.Ranked.{Ranked}
-use Rattle.ranked_tree.specs.Sending.{Sends}
-use Rattle.cluster_core.specs.declared.events.Answer.TheVariants.{Sent}
-use Rattle.cluster_core.specs.Exporting.{IsUnseenStep, KeepsTree, SendsExport}
-use Rattle.cluster_core.specs.State.{Core, core_of}
 
 module _ (old new : Ranked) (numbers : List Supply) (inboxes : Inboxes) (pins : List Pin) (sessions : Table) (past : List Entry) (leaf : Leaf) (tree : new.tree ≡ old.tree) (subtrees : new.subtrees ≡ old.subtrees) where
   abbrev was : Core

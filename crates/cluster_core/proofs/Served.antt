@@ -1,49 +1,8 @@
 -- What serving makes of the tree and of what stands beside it, said of the cluster's state.
-use Rattle.std.proofs.Common.{◌≡◌, ◌≢◌, ◌<◌, ℕ, Bool, cond, true, List, [], ◌∷◌, ◌++◌, Option, Some, None, Result, Ok, Err, length, set, false, inl, inr, ◌⊎◌, refl, sym, ap, subst, ◌∙◌}
-use Rattle.std.proofs.lemmas.List.{set-get_or}
-use Rattle.mds_types.specs.declared.ids.Ino.{Ino}
-use Rattle.mds_types.specs.declared.ids.Rank.{Rank}
-use Rattle.mds_types.specs.declared.entries.Entry.{Entry}
-use Rattle.mds_types.specs.declared.operations.Op.{Op}
+use Rattle.cluster_core.proofs.Common.{Answer, Answers, Bool, CarryLeaves, Change, ChangesOnly, Checked, Checks, Covers, Deferred, Dirfrag, Entry, Err, FollowPlanned, ForwardsTo, Inboxes, Ino, IsChecked, IsLeft, IsMasterIn, IsNew, IsOneOf, IsOut, IsPrepared, IsTakenOut, IsUnready, IsUntouched, LacksNumber, List, MakesPlanned, MayTouchAllIn, MustWaitIn, NoInodes, NoMemory, None, Ok, Op, Option, Outcome, Pin, Prepared, Rank, Refusal, Replies, Reply, Request, Result, Roots, ServesInbox, Some, Standing, State, Supply, Table, Tree, [], after_plan, after_taking, answers, ap, changed_fragments, cond, entry_of, false, fragments_are, fragments_in, goes_behind, inl, inr, is_idle, leaves_of, length, no_supply, noted, number_of, number_or, offer, out_again, outcome_with, refl, root_fragment, set, set-get_or, shown_tree, state_of, step, subst, supply_of, sym, trimmed, true, waiting_at, waits_elsewhere, waits_first, went_with, with_entry, with_first, with_last, without_gone, without_request, ℕ, ◌++◌, ◌<◌, ◌∙◌, ◌∷◌, ◌≡◌, ◌≢◌, ◌⊎◌}
 use Rattle.mds_types.specs.declared.replies.Reply.{Reply as Replied}
-use Rattle.mds_types.specs.declared.requests.Request.{Request}
-use Rattle.mds_types.specs.declared.refusals.Refusal.{Refusal}
-use Rattle.mds_types.specs.declared.refusals.Refusal.TheVariants.{NoMemory, NoInodes}
-use Rattle.mds_types.specs.declared.dirfrags.Dirfrag.{Dirfrag}
-use Rattle.mds_types.specs.Frag.{root_fragment}
-use Rattle.mds_types.specs.Tree.{Tree}
-use Rattle.mds_types.specs.Step.{Outcome, answers, number_or, step}
-use Rattle.mds_types.specs.History.{IsNew}
 use Rattle.dentry_cache.specs.Cache.{Leaf}
-use Rattle.export_steps.specs.Standing.{Standing}
-use Rattle.inboxes.specs.declared.pins.Pin.{Pin}
-use Rattle.inboxes.specs.Inboxes.{Inboxes, IsOut, waiting_at, with_first, with_last}
-use Rattle.inboxes.proofs.OutLaws.{goes_behind, out_again, waits_elsewhere, waits_first}
-use Rattle.inode_table.specs.Dirs.{Covers, leaves_of}
-use Rattle.inode_table.specs.Numbers.{Supply, offer}
-use Rattle.sessions.specs.Table.{Table, noted, trimmed}
-use Rattle.subtree_map.specs.Authority.{Roots}
-use Rattle.namespace_ops.specs.declared.plans.Change.{Change}
-use Rattle.namespace_ops.specs.declared.plans.Checked.{Checked}
-use Rattle.namespace_ops.specs.declared.plans.Checked.TheVariants.{Answers}
-use Rattle.namespace_ops.specs.ChangedFragments.{changed_fragments}
-use Rattle.namespace_ops.specs.Checked.{Checks, IsChecked}
-use Rattle.namespace_ops.specs.Changes.{fragments_in, is_idle}
-use Rattle.namespace_ops.specs.Kept.{ChangesOnly}
-use Rattle.namespace_ops.specs.Planned.{IsOneOf, after_plan}
-use Rattle.namespace_ops.specs.Served.{LacksNumber}
-use Rattle.namespace_ops.proofs.ChangedLaws.{fragments_are}
-use Rattle.mdcache.specs.Made.{IsUntouched}
-use Rattle.mdcache.specs.Shown.{shown_tree}
 use Rattle.mdcache.specs.State.{State as TreeState}
-use Rattle.cluster_core.specs.declared.events.Answer.{Answer}
-use Rattle.cluster_core.specs.declared.events.Answer.TheVariants.{Deferred, Reply}
-use Rattle.cluster_core.specs.declared.applying.Prepared.{Prepared}
-use Rattle.cluster_core.specs.State.{State, no_supply, state_of, supply_of}
-use Rattle.cluster_core.specs.Master.{IsMasterIn, MayTouchAllIn, MustWaitIn}
-use Rattle.cluster_core.specs.Offer.{after_taking}
-use Rattle.cluster_core.specs.Prepared.{IsPrepared, IsUnready, outcome_with}
-use Rattle.cluster_core.specs.Serve.{CarryLeaves, FollowPlanned, ForwardsTo, IsLeft, IsTakenOut, MakesPlanned, Replies, ServesInbox, entry_of, number_of, went_with, with_entry, without_gone, without_request}
 use Rattle.cluster_core.proofs.Idle.{idle_fragments}
 
 -- what was taken out is said of the inboxes before

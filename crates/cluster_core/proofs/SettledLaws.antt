@@ -1,42 +1,8 @@
 -- A rank of which nothing is pinned away stays so in each calm step; and one that would start no export where none stands is such a rank.
-use Rattle.std.proofs.Common.{◌≡◌, ◌⊎◌, ◌++◌, ◌∷◌, [], ◌<◌, Bool, true, false, inl, inr, List, length, Option, Some, None, Result, refl, sym, ap, subst, ◌∙◌, arith}
-use Rattle.std.specs.Prelude.{IsSome, is_some}
-use Rattle.std.specs.List.{Contains}
+use Rattle.cluster_core.proofs.Common.{Answer, AreSettled, Attributed, Bool, Change, Contains, Core, Entry, Event, FollowPlanned, HasAuthority, HasPin, Ino, Inode, IsAway, IsCalm, IsCalmIn, IsCalmOp, IsChangeIn, IsLive, IsOffered, IsOneOf, IsProposal, IsRankNumber, IsSettled, IsSound, IsUnused, KeepsCore, KeepsSettled, Leaf, List, Lists, Looks, LoseDirectory, Makes, Moves, None, OfPin, Option, Pinned, Rank, Refusal, Removes, Result, Roots, Sets, SettleBy, Shape, Some, Spot, Standing, Start, State, Steps, Tree, Unlinks, WouldNot, [], ap, arith, false, get-empty, inl, inr, is_known, is_some, leaf_cmp, length, number_or, offer, outcome_of, refl, same_or_apart, shape, shown, sight, subst, supply_of, sym, true, ◌++◌, ◌<◌, ◌∙◌, ◌∷◌, ◌≡◌, ◌⊎◌}
+use Rattle.std.specs.Prelude.{IsSome}
 use Rattle.std.specs.FinMap as map
-use Rattle.std.specs.FinMap.{get-empty}
-use Rattle.sorted_map.proofs.NatKeys.{same_or_apart}
-use Rattle.mds_types.specs.declared.entries.Entry.{Entry}
-use Rattle.mds_types.specs.declared.ids.Ino.{Ino}
-use Rattle.mds_types.specs.declared.ids.Rank.{Rank}
-use Rattle.mds_types.specs.declared.inodes.Alteration.TheVariants.{Attributed, Pinned}
-use Rattle.mds_types.specs.declared.inodes.Inode.{Inode}
-use Rattle.mds_types.specs.declared.refusals.Refusal.{Refusal}
-use Rattle.mds_types.specs.Leaf.{Leaf, leaf_cmp}
-use Rattle.mds_types.specs.Shape.{Shape, Looks, Lists, Makes, Sets, Unlinks, Removes, Moves, shape}
-use Rattle.mds_types.specs.Step.{number_or}
-use Rattle.mds_types.specs.Tree.{Tree, IsUnused}
-use Rattle.dirfrag_codec.specs.EntryRecord.{IsRankNumber}
-use Rattle.inode_table.specs.Dirs.{IsLive, is_known}
-use Rattle.inode_table.specs.Numbers.{offer}
-use Rattle.subtree_map.specs.Authority.{HasAuthority, Roots}
-use Rattle.export_steps.specs.Standing.{Standing}
-use Rattle.namespace_ops.specs.Changes.{IsChangeIn, IsOffered}
-use Rattle.namespace_ops.specs.Planned.{IsOneOf}
-use Rattle.namespace_ops.specs.declared.plans.Change.{Change}
-use Rattle.namespace_ops.specs.declared.plans.Spot.{Spot}
 use Rattle.mdcache.specs.State.{State as TreeState}
-use Rattle.ranked_tree.specs.Subtrees.{LoseDirectory, SettleBy}
-use Rattle.cluster_core.specs.declared.events.Answer.{Answer}
-use Rattle.cluster_core.specs.declared.events.Event.{Event}
-use Rattle.cluster_core.specs.declared.events.Event.TheVariants.{Start}
-use Rattle.cluster_core.specs.Pins.{HasPin}
-use Rattle.cluster_core.specs.Proposal.{IsProposal, OfPin, WouldNot, sight}
-use Rattle.cluster_core.specs.Serve.{FollowPlanned, outcome_of}
-use Rattle.cluster_core.specs.Settled.{AreSettled, IsAway, IsCalm, IsCalmIn, IsCalmOp, IsSettled, KeepsSettled}
-use Rattle.cluster_core.specs.Sound.{IsSound}
-use Rattle.cluster_core.specs.State.{Core, State, shown, supply_of}
-use Rattle.cluster_core.specs.Steps.{Steps}
-use Rattle.cluster_core.specs.Flush.{KeepsCore}
 use Rattle.cluster_core.proofs.AdminLaws.{one_of_all}
 use Rattle.cluster_core.proofs.DirsStay.{DirsStay, calm_step}
 use Rattle.cluster_core.proofs.Offered.{offer_unused, there_of}

@@ -1,30 +1,11 @@
 -- What is pinned away once a leaf was split, or leaves were merged, was pinned away before, it or one of the leaves that it came of.
-use Rattle.std.proofs.Common.{◌≡◌, ◌⊎◌, ◌<◌, ℕ, true, false, List, length, Option, Some, None, inl, inr, refl, sym, ap, subst, ◌∙◌}
-use Rattle.std.specs.Prelude.{IsSome, is_some}
+use Rattle.cluster_core.proofs.Common.{Core, Covers, DirPins, Entry, Fragment, HasAuthority, HasLeaf, HasPin, HaveOneAuthority, Homes, Ino, IsAway, IsChild, IsLive, IsMergedInto, IsRootMerge, IsRootSplit, IsSound, IsSplitInto, KeepsAuthorities, Leaf, List, None, Option, Rank, Rules, Some, Tree, ap, children_have, elsewhere_out, false, here_out, inl, inr, inside_at, is_inside, is_some, leaves_of, length, lies_inside, one_authority, or_whole, refl, same_or_apart, some_authority, some_inside, subst, sym, takes_over, true, ℕ, ◌<◌, ◌∙◌, ◌≡◌, ◌⊎◌}
+use Rattle.std.specs.Prelude.{IsSome}
 use Rattle.std.specs.FinMap as map
-use Rattle.sorted_map.proofs.NatKeys.{get_beside, get_put, same_or_apart}
-use Rattle.mds_types.specs.declared.entries.Entry.{Entry}
-use Rattle.mds_types.specs.declared.ids.Ino.{Ino}
-use Rattle.mds_types.specs.declared.ids.Rank.{Rank}
-use Rattle.mds_types.specs.Frag.{Fragment}
-use Rattle.mds_types.specs.Leaf.{Leaf}
-use Rattle.mds_types.specs.Tree.{Tree}
+use Rattle.sorted_map.proofs.NatKeys.{get_beside, get_put}
 use Rattle.mds_types.proofs.LeafLaws.{same_or_apart as same_leaf_or_apart}
-use Rattle.fragtree.specs.FragTree.{HasLeaf, IsChild, lies_inside}
-use Rattle.inode_table.specs.Dirs.{Covers, DirPins, Homes, IsLive, leaves_of, or_whole}
-use Rattle.subtree_map.specs.Authority.{HasAuthority}
-use Rattle.subtree_map.specs.Changes.{HaveOneAuthority, IsRootMerge, IsRootSplit, is_inside}
-use Rattle.subtree_map.proofs.Covers.{some_inside}
-use Rattle.subtree_map.proofs.Merged.{elsewhere_out, here_out, inside_at, is_within}
-use Rattle.subtree_map.proofs.Nearest.{one_authority, some_authority}
-use Rattle.mdcache.specs.Splits.{IsMergedInto, IsSplitInto}
+use Rattle.subtree_map.proofs.Merged.{is_within}
 use Rattle.mdcache.specs.State.{State as TreeState}
-use Rattle.ranked_tree.specs.Subtrees.{KeepsAuthorities, Rules}
-use Rattle.ranked_tree.proofs.SubtreeLaws.{children_have, takes_over}
-use Rattle.cluster_core.specs.Pins.{HasPin}
-use Rattle.cluster_core.specs.Settled.{IsAway}
-use Rattle.cluster_core.specs.Sound.{IsSound}
-use Rattle.cluster_core.specs.State.{Core}
 
 module _ (opening : Tree) (past : List Entry) (old new : Core) (sound : IsSound opening past old) (ranks : length new.state.numbers ≡ length old.state.numbers)
     (authorities : KeepsAuthorities old.state.tree new.state.tree old.state.roots new.state.roots)

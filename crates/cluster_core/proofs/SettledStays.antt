@@ -1,34 +1,7 @@
 -- Directories, leaves, pins and subtree roots stay in each calm step that applies no request.
-use Rattle.std.proofs.Common.{◌≡◌, ◌⊎◌, ℕ, Bool, true, false, nat_lt, inl, inr, MatchBool, List, [], ◌∷◌, length, Option, Some, None, Result, Ok, Err, refl, ap}
-use Rattle.mds_types.specs.declared.entries.Entry.{Entry}
-use Rattle.mds_types.specs.declared.ids.Ino.{Ino}
-use Rattle.mds_types.specs.declared.ids.Rank.{Rank}
-use Rattle.mds_types.specs.declared.operations.Op.{Op}
-use Rattle.mds_types.specs.declared.requests.Request.{Request}
-use Rattle.mds_types.specs.declared.refusals.Refusal.{Refusal}
-use Rattle.mds_types.specs.declared.refusals.Refusal.TheVariants.{NotAuthority}
-use Rattle.mds_types.specs.Frag.{Fragment}
-use Rattle.inboxes.specs.Inboxes.{first_waiting, waiting_at}
-use Rattle.cached_frag.specs.declared.jobs.Job.{Job}
-use Rattle.dentry_cache.specs.Cache.{Leaf, Unsaved}
-use Rattle.inode_table.specs.Dirs.{Covers, DirPins, Homes}
-use Rattle.subtree_map.specs.Changes.{IsRootMerge, IsRootSplit}
-use Rattle.mdcache.specs.Commits.{BeginsWith, Drops, Ends}
-use Rattle.mdcache.specs.Objects.{Purges, PurgesName, SavesTree}
-use Rattle.mdcache.specs.PurgeList.{first_name}
-use Rattle.mdcache.specs.Splits.{IsMergedInto, IsSplitInto}
+use Rattle.cluster_core.proofs.Common.{AdministersTree, Answer, Arrive, ArrivesAt, BeginsAt, BeginsWith, Bool, Cancel, CancelsAt, CommitBegin, CommitDrop, CommitEnd, CommitTree, Core, Covers, DirPins, Drops, Ends, Entry, Err, Event, Evict, EvictsOne, Exports, Finish, Fragment, Freeze, Grant, GrantsFirst, HoldsInside, Homes, Import, ImportsExport, Ino, IsApplied, IsCalm, IsMergedInto, IsRootMerge, IsRootSplit, IsSplitInto, Job, KeepsAuthorities, KeepsTree, List, MatchBool, MayRefuse, Merge, Merges, None, NotAuthority, Ok, Op, Option, Prep, Preps, Purge, Purges, PurgesName, Rank, Refusal, Request, Result, SavesTree, Send, SendsExport, Serve, ServesInbox, ServesRequest, Some, Split, Splits, Start, Starts, State, Steps, Unsaved, [], ap, false, first_name, first_waiting, inl, inr, length, nat_lt, nothing, refl, told_job, true, waiting_at, ℕ, ◌∷◌, ◌≡◌, ◌⊎◌}
+use Rattle.dentry_cache.specs.Cache.{Leaf}
 use Rattle.mdcache.specs.State.{State as TreeState}
-use Rattle.cluster_core.specs.declared.events.Answer.{Answer}
-use Rattle.cluster_core.specs.declared.events.Event.{Event}
-use Rattle.cluster_core.specs.declared.events.Event.TheVariants.{Arrive, Grant, Serve, Split, Merge, CommitBegin, CommitEnd, CommitDrop, CommitTree, Purge, Evict, Start, Freeze, Prep, Send, Import, Finish, Cancel}
-use Rattle.cluster_core.specs.Exporting.{CancelsAt, Exports, ImportsExport, KeepsTree, Preps, SendsExport, Starts}
-use Rattle.cluster_core.specs.Administers.{AdministersTree, BeginsAt, EvictsOne, HoldsInside, Merges, Splits, nothing, told_job}
-use Rattle.cluster_core.specs.Grants.{GrantsFirst}
-use Rattle.cluster_core.specs.Serve.{IsApplied, ServesInbox, ServesRequest}
-use Rattle.cluster_core.specs.Settled.{IsCalm}
-use Rattle.cluster_core.specs.State.{Core, State}
-use Rattle.cluster_core.specs.Steps.{ArrivesAt, MayRefuse, Steps}
-use Rattle.ranked_tree.specs.Subtrees.{KeepsAuthorities}
 
 -- the directories with their leaves and their pins
 pub record Tables : Type 0 where

@@ -1,21 +1,7 @@
 -- What an administrator's step on the tree leaves: each leaf keeps its authority.
-use Rattle.std.proofs.Common.{◌≡◌, ℕ, Bool, true, false, inl, inr, MatchBool, List, Option, Result, Ok, Err, ap}
-use Rattle.mds_types.specs.declared.entries.Entry.{Entry}
-use Rattle.mds_types.specs.declared.ids.Ino.{Ino}
-use Rattle.mds_types.specs.declared.ids.Rank.{Rank}
-use Rattle.mds_types.specs.declared.refusals.Refusal.{Refusal}
-use Rattle.mds_types.specs.declared.refusals.Refusal.TheVariants.{NotAuthority}
-use Rattle.mdcache.specs.PurgeList.{first_name}
+use Rattle.cluster_core.proofs.Common.{AdministersTree, AllStay, Answer, AreRoots, BeginsAt, Bool, Core, Drops, Ends, Entry, Err, EvictsOne, Ino, KeepsRoots, List, MatchBool, NotAuthority, Ok, Option, Purges, Rank, Refusal, Result, SavesTree, State, TablesStay, ap, begun, dropped, ended, false, first_name, inl, inr, keeps_same, keeps_tables, nothing, purged, same_tables, saved, told_job, true, ℕ, ◌≡◌}
 use Rattle.cached_frag.specs.declared.jobs.Job.{Job as Begun}
 use Rattle.dentry_cache.specs.Cache.{Leaf}
-use Rattle.mdcache.specs.Commits.{Drops, Ends}
-use Rattle.mdcache.specs.Objects.{Purges, SavesTree}
-use Rattle.cluster_core.specs.declared.events.Answer.{Answer}
-use Rattle.cluster_core.specs.Administers.{AdministersTree, BeginsAt, EvictsOne, nothing, told_job}
-use Rattle.cluster_core.specs.State.{Core, State}
-use Rattle.ranked_tree.specs.Subtrees.{AreRoots, KeepsRoots}
-use Rattle.ranked_tree.proofs.Kept.{keeps_same, keeps_tables}
-use Rattle.ranked_tree.proofs.Stays.{AllStay, TablesStay, begun, dropped, ended, purged, same_tables, saved}
 
 module _ (old new : State) (past now : List Entry) (valid : AreRoots old.tree old.roots) where
   -- a step whose work leaves directories and leaves

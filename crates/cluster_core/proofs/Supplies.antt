@@ -1,7 +1,5 @@
 -- The whole range of numbers for each of some ranks, one rank more.
-use Rattle.std.proofs.Common.{◌≡◌, ℕ, zero, suc, ◌+◌, List, [], ◌∷◌, ◌++◌, ap, ◌∙◌, arith}
-use Rattle.inode_table.specs.Numbers.{Supply, first_number}
-use Rattle.cluster_core.specs.State.{whole_supplies}
+use Rattle.cluster_core.proofs.Common.{List, Supply, [], ap, arith, first_number, suc, whole_supplies, zero, ℕ, ◌++◌, ◌+◌, ◌∙◌, ◌∷◌, ◌≡◌}
 
 -- all numbers of a rank
 abbrev pub whole_supply : ℕ → Supply

@@ -1,42 +1,12 @@
 -- What serving and granting make of the caches, from what their parts did.
-use Rattle.std.proofs.Common.{◌≡◌, ◌⊎◌, inl, inr, ℕ, true, false, List, [], ◌∷◌, Option, Some, None, Result, Ok, Err, length, refl, sym, subst}
-use Rattle.std.specs.Prelude.{slice_get}
-use Rattle.std.proofs.lemmas.Option.{same_Some}
-use Rattle.mds_types.specs.declared.entries.Entry.{Entry}
-use Rattle.mds_types.specs.declared.ids.Ino.{Ino}
-use Rattle.mds_types.specs.declared.ids.Rank.{Rank}
-use Rattle.mds_types.specs.declared.operations.Op.{Op}
+use Rattle.cluster_core.proofs.Common.{Answer, Asks, AsksFor, CacheMap, Came, Change, ChangesOp, Deferred, Entry, Err, Forwarded, InboxFull, Inboxes, Ino, IsChangeOf, IsChangedHeld, IsGone, IsOfFragments, IsUnready, List, NamesDir, None, NoneEnds, Nothing, Ok, Op, Option, Outcome, Pin, Rank, ReadsOp, Refusal, Replies, Reply, Request, Result, Roots, Sent, Some, Table, Trimmed, UsesFront, UsesRequest, [], came_weaker, change_concerns, false, inl, inr, length, reads_then, reads_weaker, refl, same_Some, shape, shown_tree, slice_get, subst, sym, true, ℕ, ◌∷◌, ◌≡◌, ◌⊎◌}
 use Rattle.mds_types.specs.declared.replies.Reply.{Reply as Replied}
-use Rattle.mds_types.specs.declared.requests.Request.{Request}
-use Rattle.mds_types.specs.declared.refusals.Refusal.{Refusal}
-use Rattle.mds_types.specs.declared.refusals.Refusal.TheVariants.{InboxFull, Trimmed}
-use Rattle.mds_types.specs.Shape.{shape}
-use Rattle.mds_types.specs.Step.{Outcome}
 use Rattle.dentry_cache.specs.Cache.{Leaf}
-use Rattle.dentry_cache.specs.CacheMap.{CacheMap}
-use Rattle.dentry_cache.specs.Came.{Came, NoneEnds}
 use Rattle.dentry_cache.specs.Came.Came.{stays as nothing_came}
 use Rattle.dentry_cache.specs.Reads.Reads.{stays as nothing_read}
-use Rattle.dentry_cache.proofs.FrameLaws.{came_weaker}
-use Rattle.dentry_cache.proofs.ReadsLaws.{reads_then, reads_weaker}
-use Rattle.inboxes.specs.declared.pins.Pin.{Pin}
-use Rattle.inboxes.specs.Inboxes.{Inboxes}
-use Rattle.sessions.specs.Table.{Table}
-use Rattle.namespace_ops.specs.Changes.{IsChangeOf}
-use Rattle.namespace_ops.specs.Reasons.{IsOfFragments}
-use Rattle.namespace_ops.specs.declared.plans.Change.{Change}
-use Rattle.subtree_map.specs.Authority.{Roots}
 use Rattle.mdcache.specs.Core.{Core as TreeCore, state_of as tree_state}
-use Rattle.mdcache.specs.Shown.{shown_tree}
 use Rattle.mdcache.specs.State.{State as TreeState}
-use Rattle.ranked_tree.specs.Changing.{IsChangedHeld}
-use Rattle.ranked_tree.specs.Held.{AsksFor, IsGone, NamesDir}
-use Rattle.ranked_tree.proofs.ReadsForLaws.{change_concerns}
-use Rattle.cluster_core.specs.declared.events.Answer.{Answer}
-use Rattle.cluster_core.specs.declared.events.Answer.TheVariants.{Deferred, Forwarded, Job, Nothing, Reply, Sent}
-use Rattle.cluster_core.specs.Prepared.{IsUnready}
-use Rattle.cluster_core.specs.Serve.{Replies}
-use Rattle.cluster_core.specs.Uses.{Asks, ChangesOp, ReadsOp, UsesFront, UsesRequest}
+use Rattle.cluster_core.specs.declared.events.Answer.TheVariants.{Job}
 
 module _ (tree new : TreeState) (roots : Roots) where
   -- nothing was read

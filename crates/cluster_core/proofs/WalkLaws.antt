@@ -1,8 +1,5 @@
 -- A walk over candidates, one after the other, ends at the least of which something more holds.
-use Rattle.std.proofs.Common.{◌≡◌, ◌⊎◌, inl, inr, Option, Some, None, subst}
-use Rattle.std.specs.declared.cmp.Ordering.TheVariants.{Less}
-use Rattle.mds_types.specs.Leaf.{Leaf, leaf_cmp}
-use Rattle.dentry_cache.specs.Candidates.{IsBehind, IsNext}
+use Rattle.cluster_core.proofs.Common.{IsBehind, IsNext, Leaf, Less, None, Option, Some, inl, inr, leaf_cmp, subst, ◌≡◌, ◌⊎◌}
 
 -- what passes holds of candidates alone, and of none before this one
 pub record IsWalked (Passes : Leaf → Type 0) (after : Option Leaf) : Type 0 where

@@ -1,17 +1,6 @@
 -- An administrator's step over the tree, said of the cluster.
-use Rattle.std.proofs.Common.{◌≡◌, Bool, true, List, MatchBool, refl, sym, subst}
-use Rattle.mds_types.specs.declared.entries.Entry.{Entry}
-use Rattle.inboxes.specs.Inboxes.{Inboxes}
-use Rattle.inboxes.specs.declared.pins.Pin.{Pin}
-use Rattle.inode_table.specs.Numbers.{Supply}
-use Rattle.mdcache.specs.Shown.{shown_tree}
+use Rattle.cluster_core.proofs.Common.{Bool, Entry, Inboxes, IsLeft, IsUnseen, List, MatchBool, Pin, Roots, Standing, Supply, Table, refl, shown_tree, state_of, subst, sym, true, ◌≡◌}
 use Rattle.mdcache.specs.State.{State as TreeState}
-use Rattle.export_steps.specs.Standing.{Standing}
-use Rattle.sessions.specs.Table.{Table}
-use Rattle.subtree_map.specs.Authority.{Roots}
-use Rattle.cluster_core.specs.State.{state_of}
-use Rattle.cluster_core.specs.Serve.{IsLeft}
-use Rattle.cluster_core.specs.Administers.{IsUnseen}
 
 module _ (old new : TreeState) (before after : Roots) (exports later : Standing) (still : later ≡ exports) (numbers : List Supply) (inboxes : Inboxes) (pins : List Pin) (sessions : Table) (past : List Entry) where
   -- work that keeps the shown tree is unseen

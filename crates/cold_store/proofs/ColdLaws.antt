@@ -1,14 +1,6 @@
 -- A store has at most one cold tree.
-use Rattle.std.proofs.Common.{◌≡◌, inl, inr, Option, Some, None, refl, sym, ◌∙◌}
+use Rattle.cold_store.proofs.Common.{Dentry, HasOneColdTree, HasRecords, Inode, None, Objects, Option, Some, Tree, dentry-exact, dentry-total, inl, inr, refl, same_map, sym, ◌∙◌, ◌≡◌}
 use Rattle.std.specs.FinMap as map
-use Rattle.std.specs.FinMap.{same_map}
-use Rattle.mds_types.specs.Tree.{Tree}
-use Rattle.mds_types.specs.declared.dentries.Dentry.{Dentry}
-use Rattle.mds_types.specs.declared.inodes.Inode.{Inode}
-use Rattle.mds_types.specs.OrderLaws.{dentry-exact}
-use Rattle.mds_types.proofs.OrderLaws.{dentry-total}
-use Rattle.objstore.specs.Objects.{Objects}
-use Rattle.cold_store.specs.ColdTree.{HasOneColdTree, HasRecords}
 
 -- what one tree with all records has, another has
 shared : (objects : Objects) (a b : Tree) → HasRecords objects a → HasRecords objects b → (q : Dentry) (inode : Inode) → map.get a q ≡ Some inode → map.get b q ≡ Some inode

@@ -1,20 +1,6 @@
 -- Where a directory is bad there is a faulty object.
-use Rattle.std.proofs.Common.{◌≡◌, ◌⊎◌, inl, inr, ℕ, ◌+◌, ◌^◌, true, List, [], ◌∷◌, ◌++◌, Option, Some, None, refl, sym, ap, subst, ◌∙◌, arith}
-use Rattle.std.specs.FinMap.{entries_sorted}
-use Rattle.mds_types.specs.Frag.{Fragment, span}
-use Rattle.mds_types.specs.Leaf.{Leaf}
-use Rattle.mds_types.specs.declared.ids.Ino.{Ino}
-use Rattle.mds_types.specs.declared.object_names.ObjName.{ObjName}
+use Rattle.cold_store.proofs.Common.{Fragment, HasLeaf, Ino, IsBadAmong, IsBadIn, IsBadLeaf, IsBadTree, IsColdLeaf, IsFaulty, IsIn, IsReached, IsRecord, IsSamePlace, Leaf, List, None, ObjName, Objects, Omap, Option, Record, Some, Tiles, [], ap, arith, cover_in, entries_sorted, first, inl, inr, is_met, later, leaves_at, names_at, names_in, object_of, or_whole, refl, rows_at, span, start, subst, sym, tree_of, true, with_rows, ℕ, ◌++◌, ◌+◌, ◌^◌, ◌∙◌, ◌∷◌, ◌≡◌, ◌⊎◌}
 use Rattle.mds_types.specs.declared.object_names.ObjName.TheVariants.{Frag as FragOf, Tree as TreeOf}
-use Rattle.objstore.specs.Omap.{Omap}
-use Rattle.objstore.specs.Objects.{Objects}
-use Rattle.fragtree.specs.FragTree.{HasLeaf, Tiles}
-use Rattle.fragtree.proofs.TreeLaws.{first, later}
-use Rattle.dentry_cache.specs.Loading.{object_of}
-use Rattle.dentry_cache.specs.Ties.{names_at}
-use Rattle.inode_table.specs.Dirs.{or_whole}
-use Rattle.cold_store.specs.ColdTree.{IsColdLeaf, IsFaulty, IsReached, IsRecord, IsSamePlace, Record, tree_of}
-use Rattle.cold_store.specs.Rows.{IsBadAmong, IsBadIn, IsBadLeaf, IsBadTree, IsIn, cover_in, is_met, leaves_at, names_in, rows_at, start, with_rows}
 use Rattle.cold_store.proofs.Members.{in_either, in_left, in_right}
 use Rattle.cold_store.proofs.ObjectLaws.{good_leaves, good_says, said_tree}
 use Rattle.cold_store.proofs.RowLaws.{IsOld, IsRowOf, first_old, met_among, met_at_start, with_rows-append}

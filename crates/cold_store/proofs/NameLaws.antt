@@ -1,25 +1,9 @@
 -- The names of a store, read page by page, and what is left of them.
-use Rattle.std.proofs.Common.{◌≡◌, ◌⊎◌, inl, inr, ℕ, zero, suc, ◌+◌, ◌-◌, ◌<◌, ◌≤◌, Bool, true, false, cond, ◌||◌, is_some, List, [], ◌∷◌, ◌++◌, map as each, filter, length, take, drop, get_or, slice_get, Option, Some, None, refl, sym, ap, subst, ◌∙◌, arith}
-use Rattle.std.specs.Prelude.{nat_lt}
-use Rattle.std.specs.Option.{option_map}
-use Rattle.std.proofs.lemmas.Bool.Decides.{nat_tests}
-use Rattle.std.proofs.lemmas.List.{drop-map, drop_more, map_push, length-append, length-take-le, take-append-drop, take_all, get_or-take}
-use Rattle.std.proofs.lemmas.Option.{get_or_from_slice_get, same_Some, slice_get-get_or, slice_get-map}
-use Rattle.std.specs.Ordering.{eq_by_cmp, is_lt}
-use Rattle.std.specs.Cmp.Lexicographic.{nat_list_cmp_total}
+use Rattle.cold_store.proofs.Common.{AreLeft, AreNamesOf, Bool, Covers, EndsNames, Ino, IsIn, IsLastOf, Keys, List, NameList, None, Objects, Omap, Option, Some, [], all_kept, ap, arith, cond, drop, drop-map, drop_more, entries_sorted, eq_by_cmp, false, filter, find, first_names, get-empty, get-entries, get-insert, get_left, get_or, get_or-take, get_or_from_slice_get, get_removed, greater_than_row, inl, inr, is_after, is_lt, is_some, is_sorted-where_key, key_cmp, length, length-append, length-take-le, less_is, map_push, nat_list_cmp_total, nat_lt, nat_tests, option_map, refl, same_Some, slice_get, slice_get-get_or, slice_get-map, subst, suc, sym, take, take-append-drop, take_all, texts_from, texts_in, true, with_keys, without_keys, zero, ℕ, ◌++◌, ◌+◌, ◌-◌, ◌<◌, ◌||◌, ◌∙◌, ◌∷◌, ◌≡◌, ◌≤◌, ◌⊎◌}
+use Rattle.std.proofs.Common.{map as each}
 use Rattle.std.specs.FinMap as map
-use Rattle.std.specs.FinMap.{entries_sorted, find, get-empty, get-entries, get-insert}
-use Rattle.std.specs.FinMap.Entries.{is_sorted-where_key}
-use Rattle.sorted_map.proofs.Filters.{all_kept}
-use Rattle.mds_types.specs.declared.ids.Ino.{Ino}
-use Rattle.mds_types.specs.Step.{is_after}
-use Rattle.mds_types.proofs.ListingLaws.{greater_than_row, less_is}
-use Rattle.objstore.specs.Omap.{Keys, Omap, key_cmp}
-use Rattle.objstore.specs.Objects.{NameList, Objects, first_names, names_after}
-use Rattle.dirfrag_codec.proofs.ByteKeys.{get_left, get_removed, same_or_apart}
-use Rattle.inode_table.specs.Dirs.{Covers}
-use Rattle.cold_store.specs.Left.{AreLeft, AreNamesOf, EndsNames, IsLastOf, texts_from, texts_in, with_keys, without_keys}
-use Rattle.cold_store.specs.Rows.{IsIn}
+use Rattle.objstore.specs.Objects.{names_after}
+use Rattle.dirfrag_codec.proofs.ByteKeys.{same_or_apart}
 
 -- ---- keys, more of them and less of them
 

@@ -1,17 +1,6 @@
 -- The next number of a rank, from the entries one by one.
-use Rattle.std.proofs.Common.{◌≡◌, ◌⊎◌, inl, inr, ℕ, ◌+◌, ◌<◌, ◌≤◌, Bool, true, false, cond, ◌&&◌, List, [], ◌∷◌, refl, sym, subst, ◌∙◌, arith}
-use Rattle.std.specs.Prelude.{nat_le, nat_lt}
-use Rattle.std.proofs.lemmas.Bool.{and_parts}
-use Rattle.std.proofs.lemmas.Bool.Decides.{nat_tests}
+use Rattle.cold_store.proofs.Common.{Bool, Dentry, Inode, IsIn, IsNext, IsOfRank, List, Supply, Tree, [], and_parts, arith, cond, dentry-exact, dentry-total, end_number, false, first_number, inl, inr, nat_le, nat_lt, nat_tests, passed, passed_all, refl, subst, sym, true, ℕ, ◌&&◌, ◌+◌, ◌<◌, ◌∙◌, ◌∷◌, ◌≡◌, ◌≤◌, ◌⊎◌}
 use Rattle.std.specs.FinMap as map
-use Rattle.mds_types.specs.declared.dentries.Dentry.{Dentry}
-use Rattle.mds_types.specs.declared.inodes.Inode.{Inode}
-use Rattle.mds_types.specs.Tree.{Tree}
-use Rattle.mds_types.specs.OrderLaws.{dentry-exact}
-use Rattle.mds_types.proofs.OrderLaws.{dentry-total}
-use Rattle.inode_table.specs.Numbers.{Supply, end_number, first_number}
-use Rattle.cold_store.specs.Numbers.{IsNext, IsOfRank, passed, passed_all}
-use Rattle.cold_store.specs.Rows.{IsIn}
 use Rattle.cold_store.proofs.Members.{entry_of, get_entry}
 
 -- what one number does

@@ -1,13 +1,7 @@
 -- What a page of one pair tells of an object.
-use Rattle.std.proofs.Common.{◌≡◌, ℕ, not, List, [], ◌∷◌, length, take, Option, Some, None, refl, sym, ap, subst, ◌∙◌}
-use Rattle.std.specs.Prelude.{◌==◌}
-use Rattle.std.specs.Option.{option_map}
-use Rattle.std.proofs.lemmas.Option.{same_Some}
+use Rattle.cold_store.proofs.Common.{HasPairs, List, None, Omap, Option, PairMap, PairPage, Some, [], all_kept, ap, empty_of_len, key_cmp, len-empty, len-entries, length, not, option_map, page_of, refl, same_Some, subst, sym, take, ℕ, ◌==◌, ◌∙◌, ◌∷◌, ◌≡◌}
 use Rattle.std.specs.FinMap as map
-use Rattle.std.specs.FinMap.{empty_of_len, len-empty, len-entries}
-use Rattle.sorted_map.proofs.Filters.{all_kept}
-use Rattle.objstore.specs.Omap.{Omap, PairMap, PairPage, key_cmp, page_of, pairs_after}
-use Rattle.cold_store.specs.Rows.{HasPairs}
+use Rattle.objstore.specs.Omap.{pairs_after}
 
 all_pairs : (pairs : PairMap) → pairs_after pairs None ≡ map.entries pairs
 unfolding pairs_after

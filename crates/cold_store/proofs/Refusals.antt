@@ -1,17 +1,6 @@
 -- Why a call is refused, in the words of its caller.
-use Rattle.std.proofs.Common.{◌≡◌, inl, inr, ℕ, ◌<◌, Bool, false, Option, Some, None, Result, Ok, Err, IfErr, OnOk, refl, ap}
-use Rattle.std.specs.Result.{result_err}
-use Rattle.mds_types.specs.Frag.{Fragment}
-use Rattle.mds_types.specs.declared.ids.Ino.{Ino}
-use Rattle.mds_types.specs.declared.object_names.ObjName.{ObjName}
+use Rattle.cold_store.proofs.Common.{BadSplit, Bool, Damaged, Err, Fragment, Frozen, IfErr, InboxEmpty, InboxFull, Ino, JobOutstanding, Loads, MayFail, MayNotAdd, MayNotLoad, MayRefuse, NoInodes, NoMemory, NoSuchFrag, None, NotAuthority, NotClean, NothingToEvict, ObjName, Ok, Omap, OnOk, Option, Pinned, Refusal, Result, Some, StaleJob, StoreFault, TooManyFrags, Trimmed, WrongExportState, ap, false, faults_told, inl, inr, refl, result_err, ℕ, ◌<◌, ◌≡◌}
 use Rattle.mds_types.specs.declared.object_names.ObjName.TheVariants.{Frag as FragOf}
-use Rattle.mds_types.specs.declared.refusals.Refusal.{Refusal}
-use Rattle.mds_types.specs.declared.refusals.Refusal.TheVariants.{NoMemory, StoreFault, NoInodes, Trimmed, NotAuthority, Frozen, Pinned, NoSuchFrag, BadSplit, TooManyFrags, StaleJob, JobOutstanding, WrongExportState, InboxEmpty, InboxFull, NothingToEvict, Damaged, NotClean}
-use Rattle.objstore.specs.Omap.{Omap}
-use Rattle.objstore.specs.Objects.{MayRefuse, faults_told}
-use Rattle.dentry_cache.specs.Loading.{Loads, MayNotLoad}
-use Rattle.cold_store.specs.Rows.{MayNotAdd}
-use Rattle.cold_store.specs.Walked.{MayFail}
 
 -- a fetch names its own object alone
 pub from_load : (dir : Ino) (frag : Fragment) (object : Option Omap) (a b : ℕ) (reason : Refusal) → MayNotLoad dir frag object a b reason → MayFail (λ name. (name ≡ FragOf dir frag) × Loads frag object None) a b reason

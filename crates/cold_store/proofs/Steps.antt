@@ -1,19 +1,7 @@
 -- The steps of the walk.
-use Rattle.std.proofs.Common.{◌≡◌, ◌⊎◌, inl, inr, ℕ, ◌+◌, ◌<◌, ◌≤◌, List, [], ◌∷◌, ◌++◌, length, take, drop, get_or, Some, refl, sym, ap, subst, ◌∙◌, arith}
-use Rattle.std.specs.Prelude.{◌==◌, ◌&&◌, not, slice_get, true}
-use Rattle.std.proofs.lemmas.Bool.{or_right}
-use Rattle.std.proofs.lemmas.Option.{same_Some}
-use Rattle.std.proofs.lemmas.List.{get_or_default, drop_more, length-append, take-append-drop, take-append-le, take_more}
+use Rattle.cold_store.proofs.Common.{AreGoodDirs, AreGoodLeaves, Covers, Finding, Fragment, Ino, Inode, IsBadAmong, IsBadIn, IsFaulty, IsGoodDir, IsGoodLeaf, IsIn, IsReached, IsReady, IsRecord, IsWalkedTo, Leaf, List, ObjName, Objects, Record, Shape, Some, [], ap, are_new, arith, cover_in, covers_from, drop, drop_more, get_or, get_or_default, inl, inr, is_known, is_met, length, length-append, or_right, refl, rows_at, rows_from, rows_in, rows_of, rows_under, same_Some, start, subst, sym, take, take-append-drop, take-append-le, take_more, with_cover, with_entry, with_rows, ℕ, ◌++◌, ◌+◌, ◌<◌, ◌==◌, ◌∙◌, ◌∷◌, ◌≡◌, ◌≤◌, ◌⊎◌}
+use Rattle.std.specs.Prelude.{◌&&◌, not, slice_get, true}
 use Rattle.std.specs.FinMap as map
-use Rattle.mds_types.specs.Frag.{Fragment}
-use Rattle.mds_types.specs.Leaf.{Leaf}
-use Rattle.mds_types.specs.declared.ids.Ino.{Ino}
-use Rattle.mds_types.specs.declared.inodes.Inode.{Inode}
-use Rattle.mds_types.specs.declared.object_names.ObjName.{ObjName}
-use Rattle.objstore.specs.Objects.{Objects}
-use Rattle.inode_table.specs.Dirs.{Covers, is_known}
-use Rattle.cold_store.specs.ColdTree.{IsFaulty, IsReached, IsRecord, Record}
-use Rattle.cold_store.specs.Rows.{AreGoodDirs, AreGoodLeaves, Finding, IsBadAmong, IsBadIn, IsGoodDir, IsGoodLeaf, IsIn, IsReady, IsWalkedTo, Shape, are_new, cover_in, covers_from, is_met, rows_at, rows_from, rows_in, rows_of, rows_under, start, with_cover, with_entry, with_rows}
 use Rattle.cold_store.proofs.Members.{AreApart, apart_split, in_either, in_left, in_right}
 use Rattle.cold_store.proofs.RowLaws.{dir_among, dirs_apart, dirs_of, each_met_after, each_met_at_start, homes_stand, queue_after, with_rows-append}
 use Rattle.cold_store.proofs.StoreRows.{allowed, in_dir, in_dirs, rows_from-snoc}

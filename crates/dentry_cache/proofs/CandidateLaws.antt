@@ -1,16 +1,7 @@
 -- What is a candidate, and what one leaf's new size makes of the others.
-use Rattle.std.proofs.Common.{◌≡◌, ◌≢◌, ◌⊎◌, inl, inr, ℕ, zero, suc, ◌+◌, ◌-◌, ◌*◌, ◌/◌, ◌%◌, ◌<◌, ◌≤◌, Bool, true, false, cond, nat_lt, nat_le, Option, Some, None, refl, sym, ap, subst, ◌∙◌, arith}
-use Rattle.std.specs.Prelude.{IsSome, SomeIff, unwrap_or}
-use Rattle.std.proofs.Math.Nat.{div-add-mod, mul-le-mul_right}
-use Rattle.std.proofs.lemmas.Bool.{and_from, and_parts, cases_lt, false_from_ne_true}
-use Rattle.std.proofs.lemmas.Bool.Decides.{nat_tests}
-use Rattle.std.proofs.lemmas.Nat.{mod-mul-add, pow_pos}
-use Rattle.mds_types.specs.Frag.{Fragment, IsFragment, child_of, span}
+use Rattle.dentry_cache.proofs.Common.{Bool, Fragment, IsFragment, IsLargeIn, IsResized, IsSmallIn, IsSome, None, Option, Sizes, Some, SomeIff, and_from, and_parts, ap, are_few, arith, both, cases_lt, child, child_of, cond, div-add-mod, entries_in, false, false_from_ne_true, inl, inr, is_few, is_large, leaf_or_apart, mod-mul-add, mul-le-mul_right, nat_le, nat_lt, nat_tests, one_leaf, pow_pos, refl, same_leaf, span, span-split, subst, suc, sym, together, true, zero, ℕ, ◌%◌, ◌*◌, ◌+◌, ◌-◌, ◌/◌, ◌<◌, ◌∙◌, ◌≡◌, ◌≢◌, ◌≤◌, ◌⊎◌}
+use Rattle.std.specs.Prelude.{unwrap_or}
 use Rattle.mds_types.specs.Leaf.{Leaf, leaf_is}
-use Rattle.mds_types.proofs.Fragments.{span-split}
-use Rattle.mds_types.proofs.LeafLaws.{leaf_or_apart, one_leaf, same_leaf}
-use Rattle.dentry_cache.specs.Candidates.{IsLargeIn, IsSmallIn, Sizes, child, entries_in}
-use Rattle.dentry_cache.specs.CandidateSets.{IsResized, are_few, both, is_few, is_large, together}
 
 -- ---- large leaves
 

@@ -1,17 +1,7 @@
 -- Why there is room for each candidate: each stands for a place of its own.
-use Rattle.std.proofs.Common.{◌≡◌, ◌≢◌, ◌⊎◌, inl, inr, ℕ, suc, ◌+◌, ◌*◌, ◌<◌, ◌≤◌, Bool, true, false, ◌||◌, List, [], ◌∷◌, length, map, Option, Some, None, refl, sym, ap, subst, ◌∙◌, arith}
-use Rattle.std.specs.Prelude.{IsSome}
-use Rattle.std.specs.List.{AllByRecursion, IsDistinct, list_any}
-use Rattle.std.specs.Map.{lookup}
-use Rattle.std.proofs.lemmas.Bool.{false_from_ne_true}
-use Rattle.std.proofs.lemmas.Map.Steps.{length-le_from_keys}
-use Rattle.mds_types.specs.Frag.{IsFragment, span}
+use Rattle.dentry_cache.proofs.Common.{AllByRecursion, Bool, IsBelow, IsFragment, IsResized, IsSome, List, None, Option, Place, Places, Rise, Sizes, Some, [], ap, are_few, arith, child, false, false_from_ne_true, fragment_in, inl, inr, is_in, is_large, leaf_equivalence, leaf_or_apart, length, length-le_from_keys, list_any, lookup, map, one_leaf, refl, same_leaf, size_in, sizes_of, span, subst, suc, sym, true, ℕ, ◌*◌, ◌+◌, ◌<◌, ◌||◌, ◌∙◌, ◌∷◌, ◌≡◌, ◌≢◌, ◌≤◌, ◌⊎◌}
+use Rattle.std.specs.List.{IsDistinct}
 use Rattle.mds_types.specs.Leaf.{Leaf, leaf_is}
-use Rattle.mds_types.proofs.LeafLaws.{leaf_equivalence, leaf_or_apart, one_leaf, same_leaf}
-use Rattle.dentry_cache.specs.declared.cache.Place.{Place}
-use Rattle.dentry_cache.specs.Cache.{Places, fragment_in}
-use Rattle.dentry_cache.specs.Candidates.{Sizes, child, size_in}
-use Rattle.dentry_cache.specs.CandidateSets.{IsBelow, IsResized, Rise, are_few, is_in, is_large, sizes_of}
 use Rattle.dentry_cache.proofs.CandidateLaws.{beside, child_or_none, few_each, few_there, newly_few, whole_leaf}
 use Rattle.dentry_cache.proofs.LeafSetLaws.{less_apart}
 

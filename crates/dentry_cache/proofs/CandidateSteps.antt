@@ -1,21 +1,7 @@
 -- The candidates of a cache, step by step.
-use Rattle.std.proofs.Common.{◌≡◌, ◌≢◌, ◌⊎◌, inl, inr, ℕ, suc, ◌+◌, ◌<◌, ◌≤◌, Bool, true, false, cond, ◌||◌, List, [], ◌∷◌, length, Option, Some, None, refl, sym, ap, subst, ◌∙◌, arith}
-use Rattle.std.specs.Prelude.{IsSome}
-use Rattle.std.specs.List.{IsDistinct}
-use Rattle.std.specs.Map.{keys_of, lookup, remove_entry, set_value}
+use Rattle.dentry_cache.proofs.Common.{AreCandidates, AreSets, AreTold, Bool, Cached, Candidates, Fragment, HasRoomFor, Held, IsDistinct, IsFragment, IsLargeIn, IsNext, IsResized, IsSmallIn, IsSome, List, MayResize, None, Option, Place, Places, Rise, Sizes, Some, [], ap, are_few, arith, child, child_of, cond, false, flips, fragment_in, inl, inr, is_few, is_in, is_kept, is_large, keys_of, leaf_equivalence, leaf_is, leaf_itself, length, length-set_value, lookup, lookup-set_value, lru_cache, one_leaf, promoted, refl, remove_entry, same_Some, same_leaf, set_value, shown, size_in, sizes_of, subst, suc, sym, true, used_as, ℕ, ◌+◌, ◌<◌, ◌||◌, ◌∙◌, ◌∷◌, ◌≡◌, ◌≢◌, ◌≤◌, ◌⊎◌}
 use Rattle.std.specs.FinMap as finmap
-use Rattle.std.proofs.lemmas.Map.{length-set_value, lookup-set_value}
-use Rattle.std.proofs.lemmas.Option.{same_Some}
-use Rattle.lru.specs.LruCache.{lru_cache, promoted}
-use Rattle.mds_types.specs.Frag.{Fragment, IsFragment, child_of}
 use Rattle.mds_types.specs.Leaf.{Leaf}
-use Rattle.mds_types.proofs.LeafLaws.{flips, leaf_equivalence, leaf_itself, one_leaf, same_leaf}
-use Rattle.cached_frag.specs.Cached.{Cached, shown}
-use Rattle.dentry_cache.specs.declared.cache.Place.{Place}
-use Rattle.dentry_cache.specs.declared.candidates.Candidates.{Candidates}
-use Rattle.dentry_cache.specs.Cache.{Held, Places, fragment_in, is_kept, leaf_is, used_as}
-use Rattle.dentry_cache.specs.Candidates.{IsLargeIn, IsNext, IsSmallIn, Sizes, child, size_in}
-use Rattle.dentry_cache.specs.CandidateSets.{AreCandidates, AreSets, AreTold, HasRoomFor, IsResized, MayResize, Rise, are_few, is_few, is_in, is_large, sizes_of}
 use Rattle.dentry_cache.proofs.CandidateLaws.{beside, large_from, large_now, large_to, none_changes, small_from, small_to}
 use Rattle.dentry_cache.proofs.CacheLaws.{after_removal}
 use Rattle.dentry_cache.proofs.LeafSetLaws.{next_as}

@@ -1,25 +1,13 @@
 -- Places of a fragment's children: kept one after the other, and given up.
-use Rattle.std.proofs.Common.{◌≡◌, ℕ, zero, suc, ◌<◌, ◌≤◌, ◌^◌, Bool, true, false, cond, ◌&&◌, ◌⊎◌, inl, inr, length, Option, Some, None, refl, sym, ap, subst, ◌∙◌, arith}
-use Rattle.std.specs.List.{IsDistinct}
+use Rattle.dentry_cache.proofs.Common.{AreAbsent, Bool, CacheMap, Cached, Fragment, Ino, IsAbsent, IsChildAt, IsDistinct, IsFamilyAt, IsKeptFor, KeepsChildren, Leaf, MakesRoomAt, None, NoneEnds, Objects, Option, Reads, Some, ap, arith, at_rank, child_of, cond, false, frees, given_up, has_place, here, inl, inr, is_same, leaf_is, length, less, order, refl, removed, room, roomy, subst, suc, sym, true, used_at, uses, without_children, zero, ℕ, ◌&&◌, ◌<◌, ◌^◌, ◌∙◌, ◌≡◌, ◌≤◌, ◌⊎◌}
 use Rattle.std.specs.FinMap as finmap
-use Rattle.mds_types.specs.declared.ids.Ino.{Ino}
-use Rattle.mds_types.specs.Frag.{Fragment, child_of}
-use Rattle.objstore.specs.Objects.{Objects}
-use Rattle.cached_frag.specs.Cached.{Cached}
-use Rattle.dentry_cache.specs.CacheCalls.{IsAbsent, MakesRoomAt}
-use Rattle.dentry_cache.specs.CacheMap.{CacheMap, at_rank, given_up, has_place, here, less, order, removed, roomy, used_at}
-use Rattle.dentry_cache.specs.CacheSplits.{AreAbsent, IsChildAt, IsFamilyAt, IsKeptFor, KeepsChildren, without_children}
-use Rattle.dentry_cache.specs.Came.{NoneEnds}
-use Rattle.dentry_cache.specs.Reads.{Reads}
-use Rattle.dentry_cache.specs.Reads.Reads.{stays as it_stays, uses, room, frees}
+use Rattle.dentry_cache.specs.Reads.Reads.{stays as it_stays}
 use Rattle.dentry_cache.proofs.KeptLaws.{first_distinct, just_kept, less_distinct, order_given_up, order_used, roomy_absent, roomy_distinct, roomy_kept, roomy_stays, used_absent, used_kept}
 use Rattle.dentry_cache.proofs.NameParts.{one_child}
 use Rattle.dentry_cache.proofs.ReadsLaws.{reads_then, reads_weaker}
 use Rattle.dentry_cache.proofs.SplitShows.{below_or_it}
 use Rattle.dentry_cache.proofs.MapCalls.{below_or_past}
 use Rattle.dentry_cache.proofs.StepLaws.{has_given_up, placed_given_up, ranks_given_up, ranks_roomy, ranks_used}
-use Rattle.sorted_map.proofs.NatKeys.{is_same}
-use Rattle.dentry_cache.specs.Cache.{Leaf, leaf_is}
 use Rattle.dentry_cache.proofs.LeafLaws.{leaf_itself}
 
 -- as many ranks where places are given up

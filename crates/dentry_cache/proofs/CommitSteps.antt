@@ -1,11 +1,5 @@
 -- A commit, in its two changes of the fragment.
-use Rattle.std.proofs.Common.{◌≡◌, ℕ, ap, subst, ◌∙◌}
-use Rattle.cached_frag.specs.declared.jobs.Job.{Job}
-use Rattle.cached_frag.specs.Marks.{Marks}
-use Rattle.cached_frag.specs.Snap.{next_version}
-use Rattle.cached_frag.specs.Cached.{Cached, shown, unsettled}
-use Rattle.dentry_cache.specs.Cache.{Held, IsChanged, cached}
-use Rattle.dentry_cache.specs.Commits.{IsCommitted, IsSettled}
+use Rattle.dentry_cache.proofs.Common.{Cached, Held, IsChanged, IsCommitted, IsSettled, Job, Marks, ap, cached, next_version, shown, subst, unsettled, ℕ, ◌∙◌, ◌≡◌}
 use Rattle.dentry_cache.proofs.EditLaws.{changed_so, changed_twice}
 
 abbrev pub OnlyPlaces : Cached → Cached → Type 0

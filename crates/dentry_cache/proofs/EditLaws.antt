@@ -1,10 +1,5 @@
 -- A fragment that is changed in its place.
-use Rattle.std.proofs.Common.{◌≡◌, ◌<◌, Bool, true, false, cond, ◌∷◌, Option, Some, None, refl, sym, ap, subst, ◌∙◌}
-use Rattle.std.specs.Map.{lookup, remove_entry, set_value}
-use Rattle.lru.specs.LruCache.{lru_cache}
-use Rattle.cached_frag.specs.Cached.{Cached}
-use Rattle.dentry_cache.specs.declared.cache.Place.{Place}
-use Rattle.dentry_cache.specs.Cache.{HasCached, HasRoom, Held, IsChanged, IsThere, IsUsed, Leaf, cached, fragment_in, held, leaf_is, used_as}
+use Rattle.dentry_cache.proofs.Common.{Bool, Cached, HasCached, HasRoom, Held, IsChanged, IsThere, IsUsed, Leaf, None, Option, Place, Some, ap, cached, cond, false, fragment_in, held, leaf_is, lookup, lru_cache, refl, remove_entry, set_value, subst, sym, true, used_as, ◌<◌, ◌∙◌, ◌∷◌, ◌≡◌}
 use Rattle.dentry_cache.proofs.LeafLaws.{leaf_itself}
 
 -- a fragment that is there stands in its place

@@ -1,18 +1,7 @@
 -- Leaves in their order: where one stands, what an edit makes of them, and which is the next.
-use Rattle.std.proofs.Common.{◌≡◌, ◌⊎◌, inl, inr, ℕ, zero, suc, ◌<◌, ◌≤◌, Bool, true, false, cond, ◌||◌, List, [], ◌∷◌, length, get_or, insert, remove, slice_get, Option, Some, None, Result, Ok, Err, Bor, refl, sym, ap, subst, ◌∙◌, arith}
-use Rattle.std.specs.declared.cmp.Ordering.{Ordering}
-use Rattle.std.specs.declared.cmp.Ordering.TheVariants.{Less, Equal, Greater}
-use Rattle.std.specs.Ordering.{ordering_index, ordering_reverse}
-use Rattle.std.specs.Cmp.{alike_right, tied_itself}
+use Rattle.dentry_cache.proofs.Common.{Bool, Bor, Equal, Err, Greater, IsBehind, IsBelow, IsBinarySearchResult, IsGap, IsItemAt, IsNext, IsNonDecreasingBy, IsPlaceBehind, IsSearchInRange, IsSpot, Less, List, None, Ok, Option, Ordering, Result, Rise, Some, StandsAt, [], alike_right, ap, arith, cond, false, false_from_ne_true, flips, get_or, inl, inr, insert, is_in, leaf-exact, leaf-total, leaf_itself, length, one_leaf, ordering_index, ordering_reverse, refl, remove, same_leaf, slice_get, slice_get-get_or, slice_get_past, subst, suc, sym, tied_itself, true, zero, ℕ, ◌<◌, ◌||◌, ◌∙◌, ◌∷◌, ◌≡◌, ◌≤◌, ◌⊎◌}
 use Rattle.std.specs.Prelude.{option_copied}
-use Rattle.std.specs.Slice.{IsItemAt}
-use Rattle.std.specs.List.Sorted.{IsBinarySearchResult, IsNonDecreasingBy, IsSearchInRange}
-use Rattle.std.proofs.lemmas.Bool.{false_from_ne_true}
-use Rattle.std.proofs.lemmas.Option.{slice_get-get_or, slice_get_past}
 use Rattle.mds_types.specs.Leaf.{Leaf, leaf_cmp, leaf_is}
-use Rattle.mds_types.proofs.LeafLaws.{flips, leaf-exact, leaf-total, leaf_itself, one_leaf, same_leaf}
-use Rattle.dentry_cache.specs.CandidateSets.{IsBelow, IsGap, IsPlaceBehind, IsSpot, Rise, StandsAt, is_in}
-use Rattle.dentry_cache.specs.Candidates.{IsBehind, IsNext}
 
 -- ---- the order
 

@@ -5,6 +5,7 @@ pub mod CandidateRoom
 pub mod CandidateSteps
 pub mod ChildLaws
 pub mod CommitSteps
+pub mod Common
 pub mod CountLaws
 pub mod EditLaws
 pub mod EndedLaws
@@ -32,8 +33,8 @@ pub mod ReadsLaws
 pub mod RoomLaws
 pub mod SplitLaws
 pub mod SplitShows
-pub mod StepLaws
 pub mod StandingLaws
+pub mod StepLaws
 pub mod TieLaws
 pub mod UncleanLaws
 pub mod UncleanPlaces

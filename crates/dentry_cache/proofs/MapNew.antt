@@ -1,11 +1,6 @@
 -- Caches with no place taken.
-use Rattle.std.proofs.Common.{◌≡◌, ℕ, zero, suc, ◌<◌, ◌≤◌, List, [], ◌∷◌, get_or, length, replicate, None, refl, sym, ap, subst, ◌∙◌, arith}
+use Rattle.dentry_cache.proofs.Common.{AreAtOneRank, Held, IsCache, Leaf, List, None, [], ap, arith, at_rank, cache_map, found, frag_at, get-empty, get_or, held_of, leaf_cmp, length, lru_cache, no_cache, no_caches, orders, refl, replicate, same_map, subst, suc, sym, zero, ℕ, ◌<◌, ◌∙◌, ◌∷◌, ◌≡◌, ◌≤◌}
 use Rattle.std.specs.FinMap as finmap
-use Rattle.std.specs.FinMap.{get-empty, same_map}
-use Rattle.lru.specs.LruCache.{lru_cache}
-use Rattle.dentry_cache.specs.Cache.{Held, Leaf, leaf_cmp}
-use Rattle.dentry_cache.specs.Places.{IsCache}
-use Rattle.dentry_cache.specs.CacheMap.{AreAtOneRank, at_rank, cache_map, frag_at, found, held_of, no_cache, no_caches, orders}
 use Rattle.dentry_cache.proofs.MapLaws.{get_held}
 use Rattle.dentry_cache.proofs.OneCache.{none_distinct}
 use Rattle.dentry_cache.proofs.LeafLaws.{leaf-exact, leaf-total}

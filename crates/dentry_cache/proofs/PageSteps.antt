@@ -1,18 +1,6 @@
 -- Pages of pairs, read one after the other.
-use Rattle.std.proofs.Common.{◌≡◌, ℕ, zero, suc, ◌+◌, ◌-◌, ◌<◌, ◌≤◌, Bool, true, false, ◌&&◌, ◌⊎◌, inl, inr, List, [], ◌∷◌, ◌++◌, length, take, drop, slice_get, Option, Some, refl, sym, ap, subst, ◌∙◌, arith}
+use Rattle.dentry_cache.proofs.Common.{Bool, EndsPairs, Fragment, IsEndOf, Last, List, More, Names, Off, Option, PageEnd, PairMap, PairPage, Some, [], added, and_left, ap, are_good, arith, drop, entry_of, false, inl, inr, is_good, length, length-append, length-take-le, list_all-append, name_of, nat_tests, page_of, pages_make_up, pairs_after, refl, slice_get, subst, suc, sym, take, take-append-drop, take_all, true, with_entry, zero, ℕ, ◌&&◌, ◌++◌, ◌+◌, ◌-◌, ◌<◌, ◌∙◌, ◌∷◌, ◌≡◌, ◌≤◌, ◌⊎◌}
 use Rattle.std.specs.Prelude.{nat_lt}
-use Rattle.std.proofs.lemmas.Bool.Decides.{nat_tests}
-use Rattle.std.proofs.lemmas.List.{length-append, length-take-le, take-append-drop, take_all}
-use Rattle.std.proofs.lemmas.List.Folds.{list_all-append}
-use Rattle.std.proofs.lemmas.Bool.{and_left}
-use Rattle.mds_types.specs.Frag.{Fragment}
-use Rattle.objstore.specs.Omap.{PairMap, PairPage, page_of, pairs_after}
-use Rattle.objstore.proofs.PageLaws.{pages_make_up}
-use Rattle.dirfrag_codec.specs.FragmentObject.{Names, with_entry}
-use Rattle.dirfrag_codec.specs.Values.{entry_of, name_of}
-use Rattle.dentry_cache.specs.declared.loading.PageEnd.{PageEnd}
-use Rattle.dentry_cache.specs.declared.loading.PageEnd.TheVariants.{Off, Last, More}
-use Rattle.dentry_cache.specs.Pairs.{EndsPairs, IsEndOf, added, are_good, is_good}
 
 added_split : (names : Names) (a b : List (List ℕ × List ℕ)) → added names (a ++ b) ≡ added (added names a) b
 added_split names [] b = refl

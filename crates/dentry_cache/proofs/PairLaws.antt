@@ -1,11 +1,6 @@
 -- Pairs read one after the other.
-use Rattle.std.proofs.Common.{◌≡◌, ℕ, List, Option, Some, None}
+use Rattle.dentry_cache.proofs.Common.{Decodes, List, NamesKey, None, Option, Some, SpellsKey, name_of, one_key, one_reading, reads_key, ℕ, ◌≡◌}
 use Rattle.std.specs.Prelude.{IfOk, Result, Ok, Err}
-use Rattle.objstore.specs.EntryKeys.{NamesKey}
-use Rattle.dirfrag_codec.specs.FragmentObject.{SpellsKey}
-use Rattle.dirfrag_codec.specs.Grammar.{Decodes}
-use Rattle.dirfrag_codec.specs.Values.{name_of}
-use Rattle.dirfrag_codec.proofs.ValueLaws.{one_key, one_reading, reads_key}
 
 key_decodes : (key : List ℕ) (name : Option (List ℕ)) → NamesKey key name → Decodes SpellsKey key name
 key_decodes key (Some name) h = h

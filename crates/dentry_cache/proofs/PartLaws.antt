@@ -1,25 +1,6 @@
 -- The children of a fragment: made one after the other, with room for their names, and taking them.
-use Rattle.std.proofs.Common.{◌≡◌, ℕ, zero, suc, ◌+◌, ◌-◌, ◌^◌, ◌<◌, ◌≤◌, Bool, true, false, cond, List, [], ◌∷◌, ◌++◌, length, filter, Option, Some, None, refl, sym, ap, ◌∙◌, arith}
-use Rattle.std.specs.List.{slice_index_or}
+use Rattle.dentry_cache.proofs.Common.{AreChildren, AreNumbered, AreReady, Bool, Cached, Each, EachThen, Fragment, Fresh, Grows, Inode, IsBare, IsChild, IsReady, List, Mark, Names, None, Option, Part, Puts, Row, Some, [], ap, arith, bare, child_of, cond, dirty_step, false, filter, get-empty, hash_of, holds, key_cmp, length, marked_as, names_in, nothing_shown, one_map, refl, shown, shown_as, shown_step, slice_index_or, suc, sym, true, zero, ℕ, ◌++◌, ◌+◌, ◌-◌, ◌<◌, ◌^◌, ◌∙◌, ◌∷◌, ◌≡◌, ◌≤◌}
 use Rattle.std.specs.FinMap as map
-use Rattle.std.specs.FinMap.{get-empty}
-use Rattle.mds_types.specs.Frag.{Fragment, child_of}
-use Rattle.mds_types.specs.declared.inodes.Inode.{Inode}
-use Rattle.namehash.specs.Rjenkins.{hash_of}
-use Rattle.objstore.specs.Omap.{key_cmp}
-use Rattle.dirfrag_codec.specs.FragmentObject.{Names}
-use Rattle.dirfrag_codec.proofs.ByteKeys.{one_map}
-use Rattle.cached_frag.specs.declared.bases.Base.TheVariants.{Fresh}
-use Rattle.cached_frag.specs.declared.marks.Mark.{Mark}
-use Rattle.cached_frag.specs.Cached.{Cached, shown}
-use Rattle.cached_frag.specs.Moving.{marked_as, shown_as}
-use Rattle.cached_frag.specs.Rows.{Row}
-use Rattle.cached_frag.proofs.MovedLaws.{dirty_step, shown_step}
-use Rattle.cached_frag.proofs.ShownLaws.{nothing_shown}
-use Rattle.dentry_cache.specs.Pairs.{holds}
-use Rattle.dentry_cache.specs.declared.parts.Part.{Part}
-use Rattle.dentry_cache.specs.Divided.{AreChildren, AreNumbered, AreReady, IsChild, IsReady, bare, names_in}
-use Rattle.dentry_cache.specs.Parting.{Each, EachThen, Grows, IsBare, Puts}
 use Rattle.dentry_cache.proofs.NameParts.{empty_in, held_in, len_in, len_removed, removed_beside, removed_in}
 
 -- ---- one child more

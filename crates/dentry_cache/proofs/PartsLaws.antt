@@ -1,23 +1,6 @@
 -- A split at a rank: what is made ready for it, and what it leaves.
-use Rattle.std.proofs.Common.{◌≡◌, ℕ, suc, ◌+◌, ◌<◌, ◌≤◌, ◌^◌, Bool, true, false, cond, ◌&&◌, ◌⊎◌, inl, inr, List, [], ◌∷◌, length, Option, Some, None, refl, sym, ap, subst, ◌∙◌, arith}
-use Rattle.std.specs.Prelude.{◌==◌}
-use Rattle.std.specs.List.{slice_index_or}
-use Rattle.sorted_map.proofs.NatKeys.{is_same}
+use Rattle.dentry_cache.proofs.Common.{AreAbsent, AreApart, AreCaches, AreChildren, AreFillable, AreKept, Bool, CacheMap, Cached, Edits, Fragment, HasCached, Ino, IsButPlaces, IsChildAt, IsEdited, IsFamilyAt, IsFreeFor, IsKeptFor, Leaf, List, Names, None, NoneEnds, Objects, Option, Part, ReadiesAt, Reads, Some, SplitsAt, [], ap, arith, child_of, cond, false, given_up, has_place, here, inl, inr, is_same, leaf_is, length, refl, shown, slice_index_or, subst, suc, sym, true, unclean, with_frag, with_parts, with_unclean, ℕ, ◌&&◌, ◌+◌, ◌<◌, ◌==◌, ◌^◌, ◌∙◌, ◌∷◌, ◌≡◌, ◌≤◌, ◌⊎◌}
 use Rattle.std.specs.FinMap as finmap
-use Rattle.mds_types.specs.declared.ids.Ino.{Ino}
-use Rattle.mds_types.specs.Frag.{Fragment, child_of}
-use Rattle.objstore.specs.Objects.{Objects}
-use Rattle.dirfrag_codec.specs.FragmentObject.{Names}
-use Rattle.cached_frag.specs.Cached.{Cached, shown}
-use Rattle.dentry_cache.specs.declared.parts.Part.{Part}
-use Rattle.dentry_cache.specs.Cache.{HasCached, Leaf, leaf_is}
-use Rattle.dentry_cache.specs.CacheCalls.{Edits, IsEdited}
-use Rattle.dentry_cache.specs.CacheMap.{AreCaches, CacheMap, IsFreeFor, given_up, has_place, here, unclean, with_frag}
-use Rattle.dentry_cache.specs.CacheSplits.{AreAbsent, AreFillable, AreKept, IsButPlaces, IsChildAt, IsFamilyAt, IsKeptFor, ReadiesAt, SplitsAt, with_parts, with_unclean}
-use Rattle.dentry_cache.specs.Came.{NoneEnds}
-use Rattle.dentry_cache.specs.Divided.{AreChildren}
-use Rattle.dentry_cache.specs.Parting.{AreApart}
-use Rattle.dentry_cache.specs.Reads.{Reads}
 use Rattle.dentry_cache.specs.Reads.Reads.{stays as it_stays}
 use Rattle.dentry_cache.proofs.ChildLaws.{are_keeping}
 use Rattle.dentry_cache.proofs.LacksLaws.{IsPlaced, caches_placed, placed_by_frag, still_left}

@@ -1,11 +1,5 @@
 -- The places of one cache, and those of its rank in the caches of all.
-use Rattle.std.proofs.Common.{◌≡◌, ℕ, [], ◌∷◌, map, Some, refl, sym, ap, ◌∙◌}
-use Rattle.std.specs.List.{AllByRecursion, IsDistinct}
-use Rattle.std.specs.Map.{keys_of, lookup}
-use Rattle.dentry_cache.specs.declared.cache.Place.{Place}
-use Rattle.dentry_cache.specs.Cache.{Leaf, Places, cached, fragment_in, leaf_is}
-use Rattle.dentry_cache.specs.CacheMap.{CacheMap, here}
-use Rattle.dentry_cache.specs.PlacesByUse.{in_place}
+use Rattle.dentry_cache.proofs.Common.{AllByRecursion, CacheMap, IsDistinct, Leaf, Place, Places, Some, [], ap, cached, fragment_in, here, in_place, keys_of, leaf_is, lookup, map, refl, sym, ℕ, ◌∙◌, ◌∷◌, ◌≡◌}
 use Rattle.dentry_cache.proofs.UncleanPlaces.{each_found}
 
 module _ (c : CacheMap) (r : ℕ) (all : Places) (seen : (q : Leaf) → cached all q ≡ here c r q) where

@@ -1,19 +1,8 @@
 -- What the calls of a cache keep: the ties of all cached fragments to their objects, and the snapshots whose commits stand.
-use Rattle.std.proofs.Common.{◌≡◌, ℕ, ◌<◌, Bool, true, false, ◌⊎◌, inl, inr, List, Option, Some, None, refl, sym, ap, subst, ◌∙◌, arith}
-use Rattle.std.specs.Prelude.{◌==◌}
+use Rattle.dentry_cache.proofs.Common.{AreBelow, Base, Bool, Cached, ChangedCanEnd, Fresh, Keeps, List, Mark, Marks, None, Option, Snap, Some, StandingIsUnclean, Stored, TakenCanEnd, ap, arith, counts_of, empty_of_len, eqb-true, false, get-empty, get_beside, get_put, inl, inr, is_clean_over, key_cmp, len-empty, marked, names_at, one_map, refl, shown_over, subst, sym, true, ℕ, ◌<◌, ◌==◌, ◌∙◌, ◌≡◌, ◌⊎◌}
 use Rattle.std.specs.FinMap as map
-use Rattle.std.specs.FinMap.{empty_of_len, get-empty, len-empty}
-use Rattle.std.proofs.lemmas.Bool.{eqb-true}
-use Rattle.objstore.specs.Omap.{key_cmp}
-use Rattle.dirfrag_codec.proofs.ByteKeys.{get_beside, get_put, one_map, same_or_apart}
-use Rattle.cached_frag.specs.declared.bases.Base.{Base}
-use Rattle.cached_frag.specs.declared.bases.Base.TheVariants.{Fresh, Stored}
-use Rattle.cached_frag.specs.declared.marks.Mark.{Mark}
-use Rattle.cached_frag.specs.Marks.{Marks}
-use Rattle.cached_frag.specs.Snap.{Snap, counts_of}
-use Rattle.cached_frag.specs.Cached.{Cached, is_clean_over, marked, shown_over}
-use Rattle.dentry_cache.specs.Standing.{AreBelow, ChangedCanEnd, StandingIsUnclean, TakenCanEnd}
-use Rattle.dentry_cache.specs.Ties.{Keeps, KeepsAt, names_at}
+use Rattle.dirfrag_codec.proofs.ByteKeys.{same_or_apart}
+use Rattle.dentry_cache.specs.Ties.{KeepsAt}
 use Rattle.dentry_cache.proofs.TieLaws.{tied_show}
 
 -- ---- a fragment with a snapshot that stands isn't clean

@@ -1,4 +1,5 @@
 pub mod ByteKeys
+pub mod Common
 pub mod FieldLaws
 pub mod FragmentLaws
 pub mod Front

@@ -1,17 +1,6 @@
 -- Words of leaves that tile the hashes, read one after the other.
-use Rattle.std.proofs.Common.{◌≡◌, ℕ, ◌+◌, ◌*◌, ◌^◌, ◌≤◌, ◌↔◌, Bool, true, false, eqb, eqb-true, eq-eqb, IsTrue, List, [], ◌∷◌, ◌++◌, length, Option, Some, None, IsSome, refl, sym, ap, subst, ◌∙◌, arith}
-use Rattle.std.proofs.lemmas.List.{nil_from_length}
-use Rattle.std.proofs.lemmas.List.Concat.{flat_map-cons}
-use Rattle.std.proofs.lemmas.Option.{none-some, same_Some}
-use Rattle.std.specs.List.{flat_map}
-use Rattle.byteorder.specs.Endian.{little_bytes}
-use Rattle.mds_types.specs.Frag.{Fragment, IsFragment, span, word_of}
-use Rattle.fragtree.specs.FragTree.{Tiles}
-use Rattle.dirfrag_codec.specs.Grammar.{Decodes}
-use Rattle.dirfrag_codec.specs.Leaves.{AreTilesFrom, AreTreeOf, BeginsWith, BeginsWithNone, EndsAt}
-use Rattle.dirfrag_codec.specs.Reading.{number_at, words_at}
-use Rattle.dirfrag_codec.specs.TreeObject.{SpellsTree, leaf_bytes}
-use Rattle.dirfrag_codec.specs.Values.{tree_of}
+use Rattle.dirfrag_codec.proofs.Common.{AreTilesFrom, AreTreeOf, BeginsWith, BeginsWithNone, Bool, Decodes, EndsAt, Fragment, IsFragment, IsSome, IsTrue, List, None, Option, Some, SpellsTree, Tiles, [], ap, arith, eq-eqb, eqb, false, flat_map, flat_map-cons, leaf_bytes, length, little_bytes, nil_from_length, none-some, number_at, refl, same_Some, span, subst, sym, tree_of, true, word_of, words_at, ℕ, ◌*◌, ◌++◌, ◌+◌, ◌^◌, ◌↔◌, ◌∙◌, ◌∷◌, ◌≡◌, ◌≤◌}
+use Rattle.std.proofs.Common.{eqb-true}
 use Rattle.dirfrag_codec.proofs.Front.{IsBytes, number_again, number_takes, width_4}
 use Rattle.dirfrag_codec.proofs.TreeLaws.{four_each, fragments_of, one_fragment, some_word, tree_decoded, word_low, words_of_tree}
 use Rattle.dirfrag_codec.proofs.ValueLaws.{reads_tree}

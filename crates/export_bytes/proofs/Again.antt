@@ -1,24 +1,6 @@
 -- What is written of an export is read again.
-use Rattle.std.proofs.Common.{◌≡◌, ℕ, ◌^◌, ◌<◌, Bool, true, false, not, ◌&&◌, cond, eqb, ltb, List, [], ◌∷◌, ◌++◌, length, Option, Some, None, refl, sym, ap, ◌∙◌, append_assoc, arith}
-use Rattle.std.proofs.lemmas.Bool.{le-ltb, ltb-true, and_parts}
-use Rattle.std.proofs.lemmas.List.{append-nil, take_at, drop_at, length-append}
-use Rattle.std.specs.List.{flat_map, list_all}
-use Rattle.byteorder.specs.Endian.{little_bytes}
-use Rattle.mds_types.specs.Frag.{Fragment, word_of}
-use Rattle.mds_types.specs.declared.inodes.Inode.{Inode}
-use Rattle.dirfrag_codec.specs.EntryRecord.{WritesEntry, entry_bytes}
-use Rattle.dirfrag_codec.specs.Reading.{◌>>=◌, byte_at, number_at}
-use Rattle.dirfrag_codec.specs.Values.{written_of, is_fragment, is_name, is_written}
-use Rattle.dirfrag_codec.proofs.Front.{number_again}
-use Rattle.dirfrag_codec.proofs.RecordLaws.{one_written, written_short}
-use Rattle.dirfrag_codec.proofs.TreeLaws.{word_low}
-use Rattle.dirfrag_codec.proofs.ValueLaws.{fragment_again, fragment_decides, read_as, reads_written, written_decides}
-use Rattle.cached_frag.specs.declared.bases.Base.{Base}
-use Rattle.cached_frag.specs.declared.bases.Base.TheVariants.{Fresh, Stored}
-use Rattle.export_bytes.specs.declared.exports.Export.{Export}
-use Rattle.export_bytes.specs.declared.exports.SentFrag.{SentFrag}
-use Rattle.export_bytes.specs.Export.{SentName, base_bytes, export_bytes, frag_bytes, has_record, inode_bytes, is_base_of, is_frag_before, is_name_before, is_sendable, is_sent_frag, is_sent_name, name_bytes, rise}
-use Rattle.export_bytes.specs.Reading.{Front, Head, base_of, frag_of, front_at, head_at, inode_at, items_at, name_at, part_at, parts_at, present_at, record_at, sent_frag_at, sent_name_at}
+use Rattle.export_bytes.proofs.Common.{Base, Bool, Export, Fragment, Fresh, Front, Head, Inode, List, None, Option, SentFrag, SentName, Some, Stored, WritesEntry, [], and_parts, ap, append-nil, append_assoc, arith, base_bytes, base_of, byte_at, cond, drop_at, entry_bytes, eqb, export_bytes, false, flat_map, frag_bytes, frag_of, fragment_again, fragment_decides, has_record, inode_at, inode_bytes, is_base_of, is_frag_before, is_fragment, is_name, is_name_before, is_sendable, is_sent_frag, is_sent_name, is_written, items_at, le-ltb, length, length-append, list_all, little_bytes, ltb, ltb-true, name_bytes, not, number_again, number_at, one_written, part_at, present_at, read_as, reads_written, refl, rise, sym, take_at, true, word_low, word_of, written_decides, written_of, written_short, ℕ, ◌&&◌, ◌++◌, ◌<◌, ◌>>=◌, ◌^◌, ◌∙◌, ◌∷◌, ◌≡◌}
+use Rattle.export_bytes.specs.Reading.{front_at, head_at, name_at, parts_at, record_at, sent_frag_at, sent_name_at}
 use Rattle.export_bytes.proofs.Items.{items_again}
 
 part_again : (x rest : List ℕ) → part_at (length x) (x ++ rest) ≡ Some (x, rest)

@@ -1,18 +1,6 @@
 -- The laws of the format.
-use Rattle.std.proofs.Common.{◌≡◌, ℕ, List, [], ◌++◌, length, Option, Some, None, sym, ap, ◌∙◌}
-use Rattle.std.proofs.lemmas.Bool.Decides.{Decides-and, Decides-like}
-use Rattle.std.proofs.lemmas.List.{append-nil}
-use Rattle.std.proofs.lemmas.Slice.Eq.{bytes_eq-Decides}
-use Rattle.std.proofs.lemmas.Option.{none-some, same_Some}
-use Rattle.std.specs.Bool.{Decides}
-use Rattle.std.specs.List.{flat_map}
-use Rattle.dirfrag_codec.specs.Grammar.{Decodes, HasOneMeaning, NothingFollows, Reads}
-use Rattle.dirfrag_codec.proofs.Front.{IsBytes}
-use Rattle.dirfrag_codec.proofs.ValueLaws.{guarded}
-use Rattle.export_bytes.specs.declared.exports.Export.{Export}
-use Rattle.export_bytes.specs.declared.exports.SentFrag.{SentFrag}
-use Rattle.export_bytes.specs.Export.{SpellsExport, export_bytes, frag_bytes, is_sendable}
-use Rattle.export_bytes.specs.Reading.{Front, export_of, front_at, is_export, items_at, parts_at, sent_frag_at}
+use Rattle.export_bytes.proofs.Common.{Decides, Decides-and, Decides-like, Decodes, Export, Front, HasOneMeaning, IsBytes, List, None, NothingFollows, Option, Reads, SentFrag, Some, SpellsExport, [], ap, append-nil, bytes_eq-Decides, export_bytes, flat_map, frag_bytes, front_at, guarded, is_export, is_sendable, items_at, length, none-some, parts_at, same_Some, sent_frag_at, sym, ℕ, ◌++◌, ◌∙◌, ◌≡◌}
+use Rattle.export_bytes.specs.Reading.{export_of}
 use Rattle.export_bytes.proofs.Again.{frags_again, front_again, front_of, parts_again}
 use Rattle.export_bytes.proofs.Taken.{parts_taken}
 

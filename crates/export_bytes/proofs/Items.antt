@@ -1,13 +1,5 @@
 -- Items that are read one after another.
-use Rattle.std.proofs.Common.{◌≡◌, ℕ, zero, suc, ◌+◌, ◌-◌, ◌<◌, Bool, true, List, [], ◌∷◌, ◌++◌, length, drop, drop-cons, get_or, Option, Some, None, refl, sym, ap, subst, ◌∙◌, append_assoc, arith}
-use Rattle.std.proofs.lemmas.List.{length-append}
-use Rattle.std.proofs.lemmas.List.Concat.{flat_map-cons}
-use Rattle.std.proofs.lemmas.Option.{same_Some}
-use Rattle.std.proofs.lemmas.Bool.{and_parts, and_from}
-use Rattle.std.specs.List.{flat_map, list_all}
-use Rattle.dirfrag_codec.specs.Reading.{◌>>=◌}
-use Rattle.dirfrag_codec.proofs.Front.{IsBytes, Takes, Takes-then, bind_some}
-use Rattle.export_bytes.specs.Reading.{items_at}
+use Rattle.export_bytes.proofs.Common.{Bool, IsBytes, List, None, Option, Some, Takes, Takes-then, [], and_from, and_parts, ap, append_assoc, arith, bind_some, drop, drop-cons, flat_map, flat_map-cons, get_or, items_at, length, length-append, list_all, refl, same_Some, subst, suc, sym, true, zero, ℕ, ◌++◌, ◌+◌, ◌-◌, ◌<◌, ◌>>=◌, ◌∙◌, ◌∷◌, ◌≡◌}
 
 -- what was read, with more in front of it
 abbrev pub preceded : {A : Type 0} → List A → Option (List A × List ℕ) → Option (List A × List ℕ)

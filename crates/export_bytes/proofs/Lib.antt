@@ -1,8 +1,9 @@
-pub mod Items
 pub mod Again
-pub mod Taken
+pub mod Common
 pub mod ExportLaws
-pub mod Written
+pub mod Items
 pub mod Recorded
 pub mod RisenItems
+pub mod Taken
 pub mod Told
+pub mod Written

@@ -1,11 +1,6 @@
 -- Whether an inode has a record, as it is told.
-use Rattle.std.specs.Prelude.{◌≡◌, ◌↔◌, Bool, true, false, IsTrue, Option, Some, refl}
-use Rattle.std.proofs.Common.{sym, ap, ◌∙◌}
-use Rattle.mds_types.specs.declared.inodes.Inode.{Inode}
-use Rattle.dirfrag_codec.specs.EntryRecord.{HasWidths, IsRecordable, entry_bytes}
-use Rattle.dirfrag_codec.specs.Values.{is_written}
-use Rattle.dirfrag_codec.proofs.ValueLaws.{written_decides}
-use Rattle.export_bytes.specs.Export.{has_record}
+use Rattle.export_bytes.proofs.Common.{HasWidths, Inode, IsRecordable, IsTrue, ap, entry_bytes, has_record, is_written, sym, written_decides, ◌↔◌, ◌∙◌}
+use Rattle.std.specs.Prelude.{◌≡◌, Bool, true, false, Option, Some, refl}
 
 pub told_recorded : (inode : Inode) (told : Bool) → HasWidths inode → IsTrue told ↔ IsRecordable inode → told ≡ is_written (entry_bytes inode) inode
 told_recorded inode told widths is = go told refl (is_written (entry_bytes inode) inode) refl

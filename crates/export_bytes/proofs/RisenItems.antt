@@ -1,11 +1,6 @@
 -- Items that rise, read one after another and not kept.
-use Rattle.std.proofs.Common.{◌≡◌, ℕ, suc, ◌-◌, ◌<◌, Bool, true, false, ◌&&◌, cond, List, [], ◌∷◌, Option, Some, None, option_map, refl, sym, ap, ◌∙◌, arith}
-use Rattle.std.proofs.lemmas.Option.{none-some, same_Some}
-use Rattle.dirfrag_codec.specs.Reading.{◌>>=◌}
-use Rattle.mds_types.specs.Frag.{Fragment}
-use Rattle.export_bytes.specs.Export.{is_frag_before, is_name_before, rise}
-use Rattle.export_bytes.specs.Checking.{after_rising, follows, named_as, place_of, seen_by, sent_as, text_of}
-use Rattle.export_bytes.specs.Reading.{items_at, sent_frag_at, sent_name_at}
+use Rattle.export_bytes.proofs.Common.{Bool, Fragment, List, None, Option, Some, [], after_rising, ap, arith, cond, false, follows, is_frag_before, is_name_before, items_at, named_as, none-some, place_of, refl, rise, same_Some, seen_by, sent_as, sent_frag_at, sent_name_at, suc, sym, text_of, true, ℕ, ◌&&◌, ◌-◌, ◌<◌, ◌>>=◌, ◌∙◌, ◌∷◌, ◌≡◌}
+use Rattle.std.proofs.Common.{option_map}
 
 module _ {A : Type 0} (is_before : A → A → Bool) (item_at : List ℕ → Option (A × List ℕ)) where
   -- what follows, once the items are there

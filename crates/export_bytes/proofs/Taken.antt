@@ -1,23 +1,6 @@
 -- What is read of an export is what stands there.
-use Rattle.std.proofs.Common.{◌≡◌, ℕ, suc, ◌^◌, ◌<◌, ◌≤◌, Bool, true, false, not, ◌&&◌, cond, eqb, ltb, List, [], ◌∷◌, ◌++◌, length, take, drop, Option, Some, None, refl, sym, ap, subst, ◌∙◌, append_assoc, arith}
-use Rattle.std.proofs.lemmas.Bool.{eqb-true, ltb-false, and_parts, and_from, lt-ltb}
-use Rattle.std.proofs.lemmas.List.{append-nil, nil_from_length, take-append-drop, length-take}
-use Rattle.std.proofs.lemmas.Option.{cond_some, same_Some}
-use Rattle.std.specs.List.{flat_map, list_all}
-use Rattle.byteorder.specs.Endian.{little_bytes}
-use Rattle.mds_types.specs.Frag.{Fragment, word_of}
-use Rattle.mds_types.specs.declared.inodes.Inode.{Inode}
-use Rattle.dirfrag_codec.specs.EntryRecord.{WritesEntry, entry_bytes}
-use Rattle.dirfrag_codec.specs.Reading.{◌>>=◌, after_tag, byte_at, number_at}
-use Rattle.dirfrag_codec.specs.Values.{written_of, fragment_of, is_fragment, is_name, is_written}
-use Rattle.dirfrag_codec.proofs.Front.{IsBytes, IsBytes-drop, Takes, Takes-then, bind_some, byte_takes, guard_not, number_takes, tag_takes, width_2, width_4, width_8}
-use Rattle.dirfrag_codec.proofs.ValueLaws.{reads_written, written_decides, spelled_as}
-use Rattle.cached_frag.specs.declared.bases.Base.{Base}
-use Rattle.cached_frag.specs.declared.bases.Base.TheVariants.{Fresh, Stored}
-use Rattle.export_bytes.specs.declared.exports.Export.{Export}
-use Rattle.export_bytes.specs.declared.exports.SentFrag.{SentFrag}
-use Rattle.export_bytes.specs.Export.{SentName, SpellsExport, base_bytes, frag_bytes, has_record, inode_bytes, is_base_of, is_frag_before, is_name_before, is_sendable, is_sent_frag, is_sent_name, name_bytes, rise}
-use Rattle.export_bytes.specs.Reading.{Front, Head, StatesHead, base_of, frag_of, front_at, head_at, inode_at, items_at, name_at, part_at, parts_at, present_at, record_at, sent_frag_at, sent_name_at}
+use Rattle.export_bytes.proofs.Common.{Base, Bool, Export, Fragment, Fresh, Front, Head, Inode, IsBytes, IsBytes-drop, List, None, Option, SentFrag, SentName, Some, SpellsExport, StatesHead, Stored, Takes, Takes-then, WritesEntry, [], after_tag, and_from, and_parts, ap, append-nil, append_assoc, arith, base_bytes, base_of, bind_some, byte_at, byte_takes, cond, cond_some, drop, entry_bytes, eqb, eqb-true, false, flat_map, frag_bytes, frag_of, fragment_of, guard_not, has_record, inode_at, inode_bytes, is_base_of, is_frag_before, is_fragment, is_name, is_name_before, is_sendable, is_sent_frag, is_sent_name, is_written, items_at, length, length-take, list_all, little_bytes, lt-ltb, ltb, ltb-false, name_bytes, nil_from_length, not, number_at, number_takes, part_at, present_at, reads_written, refl, rise, same_Some, spelled_as, subst, suc, sym, tag_takes, take, take-append-drop, true, width_2, width_4, width_8, word_of, written_decides, written_of, ℕ, ◌&&◌, ◌++◌, ◌<◌, ◌>>=◌, ◌^◌, ◌∙◌, ◌∷◌, ◌≡◌, ◌≤◌}
+use Rattle.export_bytes.specs.Reading.{front_at, head_at, name_at, parts_at, record_at, sent_frag_at, sent_name_at}
 use Rattle.export_bytes.proofs.Items.{items_take}
 
 part_takes : (n : ℕ) (bytes x rest : List ℕ) → IsBytes bytes → part_at n bytes ≡ Some (x, rest) → (length x ≡ n) × Takes bytes x rest

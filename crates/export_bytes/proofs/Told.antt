@@ -1,16 +1,5 @@
 -- What is answered where memory is wanting.
-use Rattle.std.proofs.Common.{◌≡◌, ℕ, true, List, Option, Some, None, is_some, IsSome, refl, sym, ◌∙◌}
-use Rattle.std.specs.Prelude.{Result, Ok, Err, IfOk, OnErr}
-use Rattle.std.proofs.lemmas.Option.{none-some}
-use Rattle.mds_types.specs.declared.inodes.Inode.{Inode}
-use Rattle.dirfrag_codec.specs.EntryRecord.{WritesEntry, WritesLink}
-use Rattle.dirfrag_codec.specs.Grammar.{Decodes}
-use Rattle.dirfrag_codec.specs.Values.{written_of}
-use Rattle.dirfrag_codec.proofs.Front.{IsBytes}
-use Rattle.dirfrag_codec.proofs.ValueLaws.{reads_written}
-use Rattle.export_bytes.specs.declared.exports.Export.{Export}
-use Rattle.export_bytes.specs.Export.{SpellsExport}
-use Rattle.export_bytes.specs.Reading.{export_of, parts_at}
+use Rattle.export_bytes.proofs.Common.{Decodes, Err, Export, IfOk, Inode, IsBytes, IsSome, List, None, Ok, OnErr, Option, Result, Some, SpellsExport, WritesEntry, WritesLink, export_of, is_some, none-some, parts_at, reads_written, refl, sym, true, written_of, ℕ, ◌∙◌, ◌≡◌}
 use Rattle.export_bytes.proofs.ExportLaws.{export_first, reads_export}
 use Rattle.export_bytes.proofs.Taken.{parts_taken}
 

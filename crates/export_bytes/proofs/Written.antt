@@ -1,14 +1,5 @@
 -- What is written of an export piece by piece is the whole.
-use Rattle.std.proofs.Common.{◌≡◌, ℕ, List, ◌∷◌, ◌++◌, length, Option, Some, sym, ap, ◌∙◌, append_assoc}
-use Rattle.std.proofs.lemmas.Result.{on_ok_weaker}
-use Rattle.std.specs.Prelude.{Result, OnOk}
-use Rattle.std.specs.List.{flat_map}
-use Rattle.byteorder.specs.Endian.{little_bytes}
-use Rattle.mds_types.specs.Frag.{word_of}
-use Rattle.mds_types.specs.declared.inodes.Inode.{Inode}
-use Rattle.dirfrag_codec.specs.EntryRecord.{entry_bytes}
-use Rattle.export_bytes.specs.declared.exports.SentFrag.{SentFrag}
-use Rattle.export_bytes.specs.Export.{SentName, base_bytes, frag_bytes, inode_bytes, name_bytes}
+use Rattle.export_bytes.proofs.Common.{Inode, List, OnOk, Option, Result, SentFrag, SentName, Some, ap, append_assoc, base_bytes, entry_bytes, flat_map, frag_bytes, inode_bytes, length, little_bytes, name_bytes, on_ok_weaker, sym, word_of, ℕ, ◌++◌, ◌∙◌, ◌∷◌, ◌≡◌}
 
 pub record_put : {A E : Type 0} (r : Result A E) (new out x bytes : List ℕ) (inode : Inode) (o : Option Inode) → o ≡ Some inode → x ≡ bytes → bytes ≡ entry_bytes inode
     → OnOk r (new ≡ out ++ 1 ∷ (little_bytes 2 (length x) ++ x)) → OnOk r (new ≡ out ++ inode_bytes o)

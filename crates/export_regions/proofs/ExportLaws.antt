@@ -1,36 +1,6 @@
 -- What an export hands over of the leaves that were picked, and that it may be sent.
-use Rattle.std.proofs.Common.{◌≡◌, ℕ, suc, ◌+◌, ◌<◌, ◌≤◌, ◌^◌, ◌⊎◌, inl, inr, Bool, true, false, cond, not, ◌&&◌, ◌||◌, List, [], ◌∷◌, length, nat_lt, option_map, Option, Some, None, is_some, refl, sym, ap, subst, ◌∙◌, arith}
-use Rattle.std.specs.Prelude.{T}
-use Rattle.std.specs.List.{AllByRecursion, list_all, list_any}
+use Rattle.export_regions.proofs.Common.{AllByRecursion, AreAtTheirRank, AreBetween, AreCaches, AreLive, AreSent, Bool, CacheMap, Cached, Covers, Dirfrag, Equal, Export, Greater, HasCached, Homes, IsExportFrom, IsExportOf, IsLive, IsTable, Leaf, Less, List, MaySend, MaySendAll, None, Option, Ordering, Picks, Rank, SentFrag, Some, T, UncleanLeaves, Unsaved, [], and_from, ap, arith, below_all, cond, entries_sorted, eq_by_cmp, false, find, gathered, get-entries, get_tabulate, here, inl, inr, is_apart, is_clean, is_eq, is_frag_before, is_fragment, is_lt, is_sendable, is_sent_frag, is_some, is_sorted, key_itself, leaf-exact, leaf-total, leaf_cmp, leaf_is, left_of, len-empty, len-entries, len-insert, length, length-map, list_all, list_any, nat_lt, nat_tests, not, one_leaf, option_map, order, places_at, refl, right_of, rise, same_Some, same_map, same_or_apart, sent_from, sent_of, subst, suc, sym, tabulate, tied_apart, true, unclean, unclean_in, values, with_some, ℕ, ◌&&◌, ◌+◌, ◌<◌, ◌^◌, ◌||◌, ◌∙◌, ◌∷◌, ◌≡◌, ◌≤◌, ◌⊎◌}
 use Rattle.std.specs.FinMap as map
-use Rattle.std.specs.FinMap.{entries_sorted, find, get-entries, is_sorted, len-empty, len-entries, len-insert, same_map}
-use Rattle.std.specs.FinMap.Entries.{below_all}
-use Rattle.std.specs.declared.cmp.Ordering.{Ordering}
-use Rattle.std.specs.declared.cmp.Ordering.TheVariants.{Less, Equal, Greater}
-use Rattle.std.specs.Ordering.{eq_by_cmp, is_eq, is_lt}
-use Rattle.std.proofs.lemmas.Bool.{and_from}
-use Rattle.std.proofs.lemmas.Bool.Decides.{nat_tests}
-use Rattle.std.proofs.lemmas.List.{length-map}
-use Rattle.std.proofs.lemmas.Option.{same_Some}
-use Rattle.sorted_map.proofs.Bools.{left_of, right_of}
-use Rattle.sorted_map.proofs.NatKeys.{is_apart}
-use Rattle.mds_types.specs.declared.dirfrags.Dirfrag.{Dirfrag}
-use Rattle.mds_types.specs.declared.ids.Rank.{Rank}
-use Rattle.mds_types.specs.Leaf.{Leaf, leaf_cmp, leaf_is}
-use Rattle.mds_types.proofs.LeafLaws.{key_itself, leaf-exact, leaf-total, one_leaf, tied_apart, same_or_apart}
-use Rattle.dirfrag_codec.specs.Values.{is_fragment}
-use Rattle.cached_frag.specs.Cached.{Cached, is_clean}
-use Rattle.dentry_cache.specs.Cache.{HasCached, Unsaved}
-use Rattle.dentry_cache.specs.CacheCalls.{unclean_in}
-use Rattle.dentry_cache.specs.CacheMap.{AreCaches, CacheMap, here, order, tabulate, unclean, with_some}
-use Rattle.dentry_cache.specs.PlacesByUse.{places_at}
-use Rattle.dentry_cache.proofs.MapLaws.{get_tabulate}
-use Rattle.export_bytes.specs.Export.{is_frag_before, is_sendable, is_sent_frag, rise}
-use Rattle.export_bytes.specs.declared.exports.Export.{Export}
-use Rattle.export_bytes.specs.declared.exports.SentFrag.{SentFrag}
-use Rattle.inode_table.specs.Dirs.{Covers, Homes, IsLive, IsTable}
-use Rattle.export_regions.specs.Regions.{AreSent, IsExportOf, Picks, UncleanLeaves, sent_of, values}
-use Rattle.export_regions.specs.Sending.{AreAtTheirRank, AreBetween, AreLive, IsExportFrom, MaySend, MaySendAll, gathered, sent_from}
 use Rattle.export_regions.proofs.PickLaws.{passing_picked, picked_passes}
 use Rattle.export_regions.proofs.RiseLaws.{IsOfLeaf, all_rise}
 use Rattle.export_regions.proofs.WhereLaws.{IsHere, here_of, unsaved_here}

@@ -1,23 +1,8 @@
 -- Fragments gathered by their leaves.
-use Rattle.std.proofs.Common.{◌≡◌, ℕ, zero, suc, ◌-◌, ◌<◌, ◌≤◌, Bool, true, false, cond, List, [], ◌∷◌, ◌++◌, drop, get_or, length, map as list_map, Option, Some, None, refl, sym, ap, subst, ◌∙◌, arith, drop-cons, append_assoc}
+use Rattle.export_regions.proofs.Common.{AllByRecursion, AreSendable, Bool, CacheMap, Cached, HasCached, Leaf, List, MaySend, MaySendAll, None, Option, SentFrag, Some, [], and_from, and_parts, ap, append_assoc, arith, cond, drop, drop-cons, drop_all, eq_by_cmp, false, find, gathered, get-empty, get-entries, get-insert, get-remove, get_or, here, is_sent_frag, key_itself, leaf-total, leaf_cmp, leaf_is, length, list_all, refl, same_Some, sent_from, slice_get, subst, suc, sym, tied_leaf, true, values, with_some, zero, ℕ, ◌++◌, ◌-◌, ◌<◌, ◌∙◌, ◌∷◌, ◌≡◌, ◌≤◌}
+use Rattle.std.proofs.Common.{map as list_map}
 use Rattle.std.specs.Option.{option_map}
-use Rattle.std.specs.List.{AllByRecursion, list_all}
 use Rattle.std.specs.FinMap as map
-use Rattle.std.specs.FinMap.{find, get-empty, get-entries, get-insert, get-remove}
-use Rattle.std.specs.Prelude.{slice_get}
-use Rattle.std.specs.Ordering.{eq_by_cmp}
-use Rattle.std.proofs.lemmas.Bool.{and_from, and_parts}
-use Rattle.std.proofs.lemmas.List.{drop_all}
-use Rattle.std.proofs.lemmas.Option.{same_Some}
-use Rattle.mds_types.specs.Leaf.{Leaf, leaf_cmp, leaf_is}
-use Rattle.mds_types.proofs.LeafLaws.{key_itself, leaf-total, tied_leaf}
-use Rattle.cached_frag.specs.Cached.{Cached}
-use Rattle.dentry_cache.specs.Cache.{HasCached}
-use Rattle.dentry_cache.specs.CacheMap.{CacheMap, here, with_some}
-use Rattle.export_bytes.specs.Export.{is_sent_frag}
-use Rattle.export_bytes.specs.declared.exports.SentFrag.{SentFrag}
-use Rattle.export_regions.specs.Regions.{values}
-use Rattle.export_regions.specs.Sending.{AreSendable, MaySend, MaySendAll, gathered, sent_from}
 
 -- one more, that is there
 pub one_gathered : (c : CacheMap) (r : ℕ) (leaf : Leaf) (leaves : List Leaf) (old new : map.FinMap leaf_cmp SentFrag) (frag : SentFrag) → old ≡ gathered c r leaves → HasCached (here c r leaf) (λ (f : Cached). frag ≡ sent_from leaf f)

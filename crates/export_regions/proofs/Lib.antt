@@ -1,3 +1,4 @@
+pub mod Common
 pub mod ExportLaws
 pub mod GatherLaws
 pub mod ManyLaws

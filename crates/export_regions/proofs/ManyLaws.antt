@@ -1,22 +1,6 @@
 -- As many fragments are sent as leaves were found that aren't clean.
-use Rattle.std.proofs.Common.{◌≡◌, ◌+◌, ℕ, suc, Bool, true, false, cond, ◌||◌, List, [], ◌∷◌, length, is_some, option_map, Option, Some, None, refl, sym, ap, ◌∙◌, arith}
-use Rattle.std.specs.List.{AllByRecursion, IsDistinct, list_any}
+use Rattle.export_regions.proofs.Common.{AllByRecursion, AreUncleanAt, Bool, CacheMap, Cached, Dirfrag, Export, IsDistinct, IsDistinct-head, IsDistinct-tail, IsExportFrom, Leaf, List, None, Option, Rank, SentFrag, Some, [], ap, arith, cond, false, gathered, get_tabulate, here, is_some, leaf-total, leaf_cmp, leaf_is, len-empty, len-entries, len-insert, length, length-map, list_any, option_map, refl, sent_from, suc, sym, tabulate, true, unclean_in, with_some, ℕ, ◌+◌, ◌||◌, ◌∙◌, ◌∷◌, ◌≡◌}
 use Rattle.std.specs.FinMap as map
-use Rattle.std.specs.FinMap.{len-empty, len-entries, len-insert}
-use Rattle.std.proofs.lemmas.List.{length-map}
-use Rattle.std.proofs.lemmas.Map.Keys.{IsDistinct-head, IsDistinct-tail}
-use Rattle.mds_types.specs.declared.dirfrags.Dirfrag.{Dirfrag}
-use Rattle.mds_types.specs.declared.ids.Rank.{Rank}
-use Rattle.mds_types.specs.Leaf.{Leaf, leaf_cmp, leaf_is}
-use Rattle.mds_types.proofs.LeafLaws.{leaf-total}
-use Rattle.cached_frag.specs.Cached.{Cached}
-use Rattle.dentry_cache.specs.CacheCalls.{unclean_in}
-use Rattle.dentry_cache.specs.CacheMap.{CacheMap, here, tabulate, with_some}
-use Rattle.dentry_cache.specs.Handing.{AreUncleanAt}
-use Rattle.dentry_cache.proofs.MapLaws.{get_tabulate}
-use Rattle.export_bytes.specs.declared.exports.Export.{Export}
-use Rattle.export_bytes.specs.declared.exports.SentFrag.{SentFrag}
-use Rattle.export_regions.specs.Sending.{IsExportFrom, gathered, sent_from}
 
 pub all_so : (P Q : Leaf → Type 0) → ((q : Leaf) → P q → Q q) → (xs : List Leaf) → AllByRecursion P xs → AllByRecursion Q xs
 all_so P Q so [] all = tt

@@ -1,28 +1,7 @@
 -- Dirty names as they are sent: they rise, and each may be sent.
-use Rattle.std.proofs.Common.{◌≡◌, ℕ, ◌<◌, ◌^◌, Bool, true, false, ◌&&◌, List, [], ◌∷◌, length, map as list_map, nat_lt, Option, Some, None, refl, sym, ap, subst, ◌∙◌, arith}
-use Rattle.std.specs.Prelude.{IfSome, T, ◌==◌}
-use Rattle.std.specs.List.{AllByRecursion, list_all}
+use Rattle.export_regions.proofs.Common.{AllByRecursion, AreDirtyNames, Base, Bool, Cached, Fresh, HasRecord, HasVersion, IfSome, Inode, IsDirtyName, IsWord, Leaf, List, Mark, Marks, MaySend, None, Option, SentName, Some, Stored, T, [], all_dirty, and_from, ap, arith, entries_sorted, entry_bytes, false, has_record, is_base_of, is_clean_over, is_fragment, is_name_before, is_sent_frag, is_sent_name, is_sorted, key_cmp, left_of, len-entries, length, length-map, list_all, name_decides, nat_lt, nat_tests, refl, right_of, rise, sent_from, sent_names, subst, sym, true, written_decides, ℕ, ◌&&◌, ◌<◌, ◌==◌, ◌^◌, ◌∙◌, ◌∷◌, ◌≡◌}
+use Rattle.std.proofs.Common.{map as list_map}
 use Rattle.std.specs.FinMap as map
-use Rattle.std.specs.FinMap.{entries_sorted, is_sorted, len-entries}
-use Rattle.std.proofs.lemmas.Bool.{and_from}
-use Rattle.std.proofs.lemmas.Bool.Decides.{nat_tests}
-use Rattle.std.proofs.lemmas.List.{length-map}
-use Rattle.sorted_map.proofs.Bools.{left_of, right_of}
-use Rattle.mds_types.specs.Leaf.{Leaf}
-use Rattle.mds_types.specs.declared.inodes.Inode.{Inode}
-use Rattle.objstore.specs.Omap.{key_cmp}
-use Rattle.dirfrag_codec.specs.EntryRecord.{HasRecord, entry_bytes}
-use Rattle.dirfrag_codec.specs.Values.{is_fragment}
-use Rattle.dirfrag_codec.proofs.ValueLaws.{name_decides, written_decides}
-use Rattle.cached_frag.specs.declared.bases.Base.{Base}
-use Rattle.cached_frag.specs.declared.bases.Base.TheVariants.{Fresh, Stored}
-use Rattle.cached_frag.specs.declared.marks.Mark.{Mark}
-use Rattle.cached_frag.specs.Cached.{Cached, is_clean_over}
-use Rattle.cached_frag.specs.Marks.{AreDirtyNames, IsDirtyName, Marks}
-use Rattle.cached_frag.proofs.MarkLaws.{all_dirty}
-use Rattle.export_bytes.specs.Export.{SentName, has_record, is_base_of, is_name_before, is_sent_frag, is_sent_name, rise}
-use Rattle.export_regions.specs.Regions.{sent_names}
-use Rattle.export_regions.specs.Sending.{HasVersion, IsWord, MaySend, sent_from}
 
 abbrev Row : Type 0
 Row = List ℕ × Mark

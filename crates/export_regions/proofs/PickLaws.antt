@@ -1,15 +1,5 @@
 -- Leaves picked from places in their order.
-use Rattle.std.proofs.Common.{◌≡◌, ℕ, suc, ◌≤◌, Bool, true, false, not, ◌||◌, inl, inr, List, [], ◌∷◌, ◌++◌, length, map, Option, Some, None, refl, sym, ap, subst, ◌∙◌, arith, append_assoc}
-use Rattle.std.specs.List.{AllByRecursion, IsDistinct, list_any}
-use Rattle.std.proofs.lemmas.List.{append-nil}
-use Rattle.std.proofs.lemmas.Map.Keys.{IsDistinct-cons, IsDistinct-head, IsDistinct-tail}
-use Rattle.mds_types.specs.Leaf.{Leaf, leaf_is}
-use Rattle.mds_types.proofs.LeafLaws.{one_leaf}
-use Rattle.cached_frag.specs.Cached.{Cached, is_clean}
-use Rattle.dentry_cache.specs.CacheCalls.{unclean_in}
-use Rattle.dentry_cache.specs.CacheMap.{CacheMap, clean_in, here}
-use Rattle.dentry_cache.specs.PlacesByUse.{PlaceOf}
-use Rattle.export_regions.specs.Regions.{Picks, RegionLeaves, with_leaf}
+use Rattle.export_regions.proofs.Common.{AllByRecursion, Bool, CacheMap, Cached, IsDistinct, IsDistinct-cons, IsDistinct-head, IsDistinct-tail, Leaf, List, None, Option, Picks, PlaceOf, RegionLeaves, Some, [], ap, append-nil, append_assoc, arith, clean_in, false, here, inl, inr, is_clean, leaf_is, length, list_any, map, not, one_leaf, refl, subst, suc, sym, true, unclean_in, with_leaf, ℕ, ◌++◌, ◌||◌, ◌∙◌, ◌∷◌, ◌≡◌, ◌≤◌}
 
 -- ---- one after the other
 

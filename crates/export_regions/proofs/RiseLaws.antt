@@ -1,25 +1,6 @@
 -- Fragments in the order of their leaves rise by inode and then by value, where no two leaves of a directory begin at one value.
-use Rattle.std.proofs.Common.{◌≡◌, ℕ, ◌^◌, Bool, true, false, cond, ◌&&◌, ◌||◌, List, [], ◌∷◌, map as list_map, nat_lt, Some, None, refl, sym, ap, subst, ◌∙◌, arith}
-use Rattle.std.specs.Prelude.{T, ◌==◌}
-use Rattle.std.specs.List.{AllByRecursion}
-use Rattle.std.specs.declared.cmp.Ordering.{Ordering}
-use Rattle.std.specs.declared.cmp.Ordering.TheVariants.{Less, Equal, Greater}
-use Rattle.std.specs.Ordering.{is_lt, nat_cmp, ordering_then}
-use Rattle.std.specs.FinMap.{is_sorted}
-use Rattle.std.proofs.lemmas.Bool.{and_from, eqb-true}
-use Rattle.std.proofs.lemmas.Bool.Decides.{nat_tests}
-use Rattle.sorted_map.proofs.Bools.{left_of, right_of}
-use Rattle.sorted_map.proofs.NatKeys.{is_same}
-use Rattle.mds_types.specs.Frag.{Contains, Fragment, frag_cmp}
-use Rattle.mds_types.specs.Leaf.{Leaf, leaf_cmp}
-use Rattle.fragtree.specs.FragTree.{HasLeaf, IsTree}
-use Rattle.fragtree.proofs.Tilings.{between}
-use Rattle.fragtree.proofs.TreeLaws.{pick_from_leaf}
-use Rattle.inode_table.specs.Dirs.{Covers, Homes, IsLive, IsTable, leaves_of}
-use Rattle.inode_table.proofs.Tables.{tree_of_row}
-use Rattle.subtree_map.proofs.Covers.{contains_start}
-use Rattle.export_bytes.specs.Export.{is_frag_before, rise}
-use Rattle.export_bytes.specs.declared.exports.SentFrag.{SentFrag}
+use Rattle.export_regions.proofs.Common.{AllByRecursion, Bool, Contains, Covers, Equal, Fragment, Greater, HasLeaf, Homes, IsLive, IsTable, IsTree, Leaf, Less, List, None, Ordering, SentFrag, Some, T, [], and_from, ap, arith, between, cond, contains_start, eqb-true, false, frag_cmp, is_frag_before, is_lt, is_same, is_sorted, leaf_cmp, leaves_of, left_of, nat_cmp, nat_lt, nat_tests, ordering_then, pick_from_leaf, refl, right_of, rise, subst, sym, tree_of_row, true, ℕ, ◌&&◌, ◌==◌, ◌^◌, ◌||◌, ◌∙◌, ◌∷◌, ◌≡◌}
+use Rattle.std.proofs.Common.{map as list_map}
 
 -- ---- leaves of one directory begin at different values
 

@@ -1,24 +1,7 @@
 -- Where what isn't clean of a region lies, and what of it can be sent.
-use Rattle.std.proofs.Common.{◌≡◌, ℕ, ◌<◌, ◌≤◌, ◌^◌, inl, inr, Bool, true, false, cond, not, ◌&&◌, ◌||◌, List, [], ◌∷◌, map, nat_lt, is_some, Option, Some, None, refl, sym, ap, subst, ◌∙◌, arith}
+use Rattle.export_regions.proofs.Common.{AllByRecursion, AnyTooMany, AreAtTheirRank, AreCaches, At, Bool, CacheMap, Cached, HasCached, HasTooMany, HaveVersions, IsFree, Leaf, List, MaySend, MaySendAll, None, Option, Picks, Some, Unsaved, [], ap, arith, at_rank, cond, false, get_unclean, here, here_is, inl, inr, is_apart, is_clean, is_fresh, is_same, is_some, is_too_long, leaf_is, list_any, map, nat_lt, nat_tests, not, one_leaf, order, places_at, refl, same_Some, subst, sym, true, unclean, unclean_in, unsaved_at, ℕ, ◌&&◌, ◌<◌, ◌^◌, ◌||◌, ◌∙◌, ◌∷◌, ◌≡◌, ◌≤◌}
 use Rattle.std.specs.Prelude.{◌↔◌}
-use Rattle.std.specs.List.{AllByRecursion, list_any}
 use Rattle.std.specs.FinMap as finmap
-use Rattle.std.proofs.lemmas.Bool.Decides.{nat_tests}
-use Rattle.std.proofs.lemmas.Option.{same_Some}
-use Rattle.sorted_map.proofs.NatKeys.{is_apart, is_same}
-use Rattle.mds_types.specs.Leaf.{Leaf, leaf_is}
-use Rattle.mds_types.proofs.LeafLaws.{one_leaf}
-use Rattle.cached_frag.specs.Cached.{Cached, is_clean}
-use Rattle.cached_frag.specs.Snap.{is_fresh}
-use Rattle.dentry_cache.specs.Cache.{HasCached, Unsaved}
-use Rattle.dentry_cache.specs.CacheCalls.{unclean_in}
-use Rattle.dentry_cache.specs.CacheMap.{AreCaches, At, CacheMap, IsFree, at_rank, here, order, unclean, unsaved_at}
-use Rattle.dentry_cache.specs.PlacesByUse.{places_at}
-use Rattle.dentry_cache.proofs.ReadsLaws.{here_is}
-use Rattle.dentry_cache.proofs.UncleanLaws.{get_unclean}
-use Rattle.export_regions.specs.Counts.{AnyTooMany, is_too_long}
-use Rattle.export_regions.specs.Regions.{HasTooMany, Picks}
-use Rattle.export_regions.specs.Sending.{AreAtTheirRank, HaveVersions, MaySend, MaySendAll}
 use Rattle.export_regions.proofs.PickLaws.{each_passes}
 
 abbrev pub unsaved_so : Cached → Unsaved

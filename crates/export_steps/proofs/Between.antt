@@ -1,14 +1,6 @@
 -- Every export goes from one of 16 ranks to another.
-use Rattle.std.specs.Prelude.{◌≡◌, ◌≢◌, ◌⊎◌, Some, None, Option, IfSome}
-use Rattle.std.proofs.Common.{inl, inr, sym, ap, subst, ◌∙◌}
+use Rattle.export_steps.proofs.Common.{AreBetweenRanks, ExportState, IfSome, IsBetweenRanks, Leaf, None, Option, Some, Standing, StandingExport, ap, come_to, get-empty, get_beside, get_left, get_put, get_removed, inl, inr, not_none, one_value, same_or_apart, subst, sym, ◌∙◌, ◌≡◌, ◌≢◌, ◌⊎◌}
 use Rattle.std.specs.FinMap as map
-use Rattle.std.specs.FinMap.{get-empty}
-use Rattle.mds_types.specs.Leaf.{Leaf}
-use Rattle.mds_types.proofs.LeafLaws.{get_beside, get_left, get_put, get_removed, same_or_apart}
-use Rattle.subtree_map.proofs.Options.{not_none, one_value}
-use Rattle.export_steps.specs.declared.exports.ExportState.{ExportState}
-use Rattle.export_steps.specs.declared.exports.StandingExport.{StandingExport}
-use Rattle.export_steps.specs.Standing.{Standing, AreBetweenRanks, IsBetweenRanks, come_to}
 
 pub empty_between : (standing : Standing) → standing ≡ map.empty → AreBetweenRanks standing
 empty_between standing is = record { each = λ leaf its stands. absurd (not_none _ its (ap (λ (m : Standing). map.get m leaf) is ∙ get-empty _ leaf) stands) }

@@ -1,27 +1,7 @@
 -- The roots of each exporter: what a step keeps of them, and which is the next.
-use Rattle.std.specs.Prelude.{◌≡◌, ◌≢◌, ◌⊎◌, ℕ, ◌==◌, ◌<◌, Bool, true, false, cond, T, List, [], ◌∷◌, Option, Some, None, IsSome, is_some, refl}
-use Rattle.std.proofs.Common.{inl, inr, sym, ap, subst, ◌∙◌, arith}
-use Rattle.std.specs.declared.cmp.Ordering.{Ordering}
-use Rattle.std.specs.declared.cmp.Ordering.TheVariants.{Less, Equal, Greater}
-use Rattle.std.specs.Ordering.{eq_by_cmp, is_eq, is_le, is_lt, nat_cmp, ordering_then, MatchOrdering}
-use Rattle.std.specs.Cmp.{IsTotalOrder, nat_cmp_total, on_total, ranks, then_total, tied_itself}
+use Rattle.export_steps.proofs.Common.{AreExports, Bool, Equal, ExportState, Greater, IsAntisymmetric, IsBehind, IsBetweenRanks, IsFirstKey, IsNextOf, IsNextRoot, IsSome, IsTotalOrder, Leaf, Less, List, MatchOrdering, None, Option, Ordering, Rank, RootsBy, Some, Standing, StandingExport, T, [], ap, arith, below_all, by_cmp, come_to, comes, cond, entries_sorted, eq_by_cmp, eqb-true, exact_pairs, false, false_from_ne_true, find, find-where_key, first_of, get-empty, get-entries, get-insert, get-remove, get_beside, get_left, get_put, get_removed, inl, inr, is_eq, is_le, is_lt, is_of, is_same, is_some, is_sorted, is_sorted-where_key, leaf-exact, leaf-total, leaf_cmp, left_of, nat_cmp, nat_cmp-IsAntisymmetric, nat_cmp_total, on_total, ordering_then, ranks, refl, right_of, root_fragment, same_or_apart, subst, sym, then_total, tie, tied_itself, true, where_key, ℕ, ◌<◌, ◌==◌, ◌∙◌, ◌∷◌, ◌≡◌, ◌≢◌, ◌⊎◌}
 use Rattle.std.specs.FinMap as map
-use Rattle.std.specs.FinMap.{IsAntisymmetric, find, is_sorted, entries_sorted, get-empty, get-entries, get-insert, get-remove, nat_cmp-IsAntisymmetric}
-use Rattle.std.specs.FinMap.Entries.{below_all, find-where_key, is_sorted-where_key, where_key}
-use Rattle.std.proofs.lemmas.Bool.{eqb-true, false_from_ne_true}
-use Rattle.std.proofs.lemmas.Map.Lookups.{exact_pairs}
-use Rattle.sorted_map.proofs.Bools.{left_of, right_of}
-use Rattle.sorted_map.proofs.MapLaws.{tie}
-use Rattle.sorted_map.proofs.NatKeys.{is_same}
 use Rattle.sorted_map.proofs.PlaceLaws.{less as less_of}
-use Rattle.mds_types.specs.declared.ids.Rank.{Rank}
-use Rattle.mds_types.specs.Frag.{root_fragment}
-use Rattle.mds_types.specs.Leaf.{Leaf, leaf_cmp}
-use Rattle.mds_types.proofs.LeafLaws.{get_beside, get_left, get_put, get_removed, leaf-exact, leaf-total, same_or_apart}
-use Rattle.export_steps.specs.declared.exports.ExportState.{ExportState}
-use Rattle.export_steps.specs.declared.exports.StandingExport.{StandingExport}
-use Rattle.export_steps.specs.ByExporter.{AreExports, IsBehind, IsFirstKey, IsNextOf, IsNextRoot, RootsBy, by_cmp, comes, first_of, is_of}
-use Rattle.export_steps.specs.Standing.{IsBetweenRanks, Standing, come_to}
 use Rattle.export_steps.proofs.Between.{come_between, empty_between, put_between, removed_between}
 
 -- ---- the order

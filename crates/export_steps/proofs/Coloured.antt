@@ -1,18 +1,6 @@
 -- One root among all: with the rank 1 for it and 0 for all others, its region is where the authority is 1. So what is known of authorities is known of regions.
-use Rattle.std.specs.Prelude.{◌≡◌, ◌≢◌, ◌⊎◌, ℕ, Bool, true, false, cond, List, [], ◌∷◌, Option, Some, None, IsSome, is_some, refl}
-use Rattle.std.proofs.Common.{inl, inr, sym, ap, subst, ◌∙◌, arith}
-use Rattle.std.specs.Ordering.{eq_by_cmp}
+use Rattle.export_steps.proofs.Common.{Bool, Covers, HasAuthority, Homes, IsLive, IsSome, IsSubtrees, IsTable, KeepAuthority, Leaf, List, NearestRoot, None, Option, Rank, Roots, Some, [], ap, arith, cond, eq_by_cmp, false, find, get-entries, get-from_entries, inherited, inl, inr, is_ranked, is_some, itself, leaf-exact, leaf-total, leaf_cmp, not_none, one_authority, one_value, refl, same_or_apart, some_root, subst, sym, tie, tied_apart, tied_same, true, value_of, ℕ, ◌∙◌, ◌∷◌, ◌≡◌, ◌≢◌, ◌⊎◌}
 use Rattle.std.specs.FinMap as map
-use Rattle.std.specs.FinMap.{find, get-entries, get-from_entries}
-use Rattle.mds_types.specs.declared.ids.Rank.{Rank}
-use Rattle.sorted_map.proofs.MapLaws.{tie}
-use Rattle.inode_table.specs.Dirs.{Homes, Covers, IsLive, IsTable}
-use Rattle.mds_types.specs.Leaf.{Leaf, leaf_cmp}
-use Rattle.subtree_map.specs.Authority.{Roots, HasAuthority, IsSubtrees, NearestRoot, itself, inherited}
-use Rattle.subtree_map.specs.Changes.{KeepAuthority}
-use Rattle.mds_types.proofs.LeafLaws.{leaf-exact, leaf-total, same_or_apart, tied_apart, tied_same}
-use Rattle.subtree_map.proofs.Options.{not_none, one_value, value_of}
-use Rattle.subtree_map.proofs.Nearest.{is_ranked, one_authority, some_root}
 
 pub colour : Leaf → Leaf → Rank
 colour root leaf = record { 0 = cond (eq_by_cmp leaf_cmp leaf root) 1 0 }

@@ -1,19 +1,7 @@
 -- A directory comes in, or goes, elsewhere.
-use Rattle.std.specs.Prelude.{◌≡◌, ◌≢◌, ◌⊎◌, ◌↔◌, ◌||◌, ◌==◌, ℕ, true, Option, Some, IsSome, is_some, refl}
-use Rattle.std.proofs.Common.{inl, inr, sym, ap, subst, ◌∙◌}
+use Rattle.export_steps.proofs.Common.{AreGone, Covers, HasLeaf, HoldsDentry, Home, Homes, Ino, IsChildless, IsInRegion, IsLive, IsPick, IsSome, IsSubtrees, IsTable, Leaf, MayCome, NearestRoot, Option, Roots, Some, ap, hash_of, inherited, inl, inr, is_known, is_some, itself, known_by, leaves_left, not_none, one_value, refl, still_known, subst, sym, true, value_of, ℕ, ◌==◌, ◌||◌, ◌↔◌, ◌∙◌, ◌≡◌, ◌≢◌, ◌⊎◌}
 use Rattle.std.specs.FinMap as map
 use Rattle.sorted_map.proofs.NatKeys as nat
-use Rattle.mds_types.specs.declared.ids.Ino.{Ino}
-use Rattle.fragtree.specs.FragTree.{HasLeaf, IsPick}
-use Rattle.namehash.specs.Rjenkins.{hash_of}
-use Rattle.inode_table.specs.declared.dirs.Home.{Home}
-use Rattle.inode_table.specs.Dirs.{Homes, Covers, IsChildless, IsLive, IsTable, MayCome, is_known}
-use Rattle.mds_types.specs.Leaf.{Leaf}
-use Rattle.subtree_map.specs.Authority.{Roots, HoldsDentry, IsInRegion, IsSubtrees, NearestRoot, itself, inherited}
-use Rattle.subtree_map.specs.Changes.{AreGone}
-use Rattle.inode_table.proofs.Tables.{still_known, known_by}
-use Rattle.subtree_map.proofs.Options.{not_none, one_value, value_of}
-use Rattle.subtree_map.proofs.Covers.{leaves_left}
 
 -- ---- a directory comes in
 

@@ -1,18 +1,8 @@
 -- What happens elsewhere keeps each frozen region.
-use Rattle.std.specs.Prelude.{◌≢◌, false, Ok, ◌≡◌, ◌↔◌, true, Some, IsSome, is_some}
-use Rattle.std.proofs.Common.{inl, inr, sym, ap, subst, ◌∙◌}
+use Rattle.export_steps.proofs.Common.{AreFrozenRegionsKept, ArePlaced, Covers, Homes, IsFinish, IsFreeze, IsFrozen, IsInRegion, IsLive, IsMakingElsewhere, IsMergeElsewhere, IsMoveElsewhere, IsRemovalElsewhere, IsSome, IsSplitElsewhere, Leaf, NearestRoot, Ok, Roots, Some, Standing, StandingExport, StandsOver, Subtrees, ap, false, inl, inr, is_freezing, is_inside, is_some, leaf_of, one_value, subst, sym, true, ◌↔◌, ◌∙◌, ◌≡◌, ◌≢◌}
 use Rattle.std.specs.FinMap as map
-use Rattle.inode_table.specs.Dirs.{Homes, Covers, IsLive}
-use Rattle.mds_types.specs.Leaf.{Leaf}
-use Rattle.subtree_map.specs.Authority.{Roots, IsInRegion, NearestRoot}
-use Rattle.subtree_map.specs.Changes.{Subtrees, is_inside, leaf_of}
-use Rattle.export_steps.specs.declared.exports.StandingExport.{StandingExport}
-use Rattle.export_steps.specs.Standing.{Standing, ArePlaced, IsFinish, IsFreeze, is_freezing}
-use Rattle.export_steps.specs.Holder.{IsFrozen}
-use Rattle.export_steps.specs.Regions.{AreFrozenRegionsKept, IsMakingElsewhere, IsMergeElsewhere, IsMoveElsewhere, IsRemovalElsewhere, IsSplitElsewhere, StandsOver}
 use Rattle.export_steps.proofs.Handover.{back, beside, cut, onto, uncut}
 use Rattle.export_steps.proofs.Placed.{finishes_placed, prepared_freezing}
-use Rattle.subtree_map.proofs.Options.{one_value}
 use Rattle.export_steps.proofs.Directories as directories
 use Rattle.export_steps.proofs.Merges as merges
 use Rattle.export_steps.proofs.Moves as moves

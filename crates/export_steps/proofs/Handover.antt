@@ -1,21 +1,6 @@
 -- What each step makes of holders, authorities and frozen leaves.
-use Rattle.std.specs.Prelude.{◌≡◌, ◌≢◌, ◌↔◌, ◌⊎◌, Bool, true, false, cond, Option, Some, None, IsSome, is_some, refl}
-use Rattle.std.proofs.Common.{inl, inr, sym, ap, subst, ◌∙◌}
+use Rattle.export_steps.proofs.Common.{ArePlaced, Bool, CancelsSoundly, ComesTo, Covers, ExportState, FinishesSoundly, FreezesSoundly, Frozen, HandsOver, HasAuthority, Homes, Imported, IsCancel, IsFinish, IsFreeze, IsFrozen, IsSome, Leaf, NearestRoot, None, Option, Prepared, Rank, Roots, Sent, Some, Standing, StandingExport, Started, Subtrees, ap, come_to, cond, false, get_beside, get_left, get_put, get_removed, inherited, inl, inr, is_before_send, is_freezing, is_imported, is_itself, is_some, itself, not_none, one_root, one_value, refl, region_holder, same_or_apart, subst, sym, true, value_of, ◌↔◌, ◌∙◌, ◌≡◌, ◌≢◌, ◌⊎◌}
 use Rattle.std.specs.FinMap as map
-use Rattle.mds_types.specs.declared.ids.Rank.{Rank}
-use Rattle.inode_table.specs.Dirs.{Homes, Covers}
-use Rattle.mds_types.specs.Leaf.{Leaf}
-use Rattle.subtree_map.specs.Authority.{Roots, HasAuthority, NearestRoot, itself, inherited}
-use Rattle.subtree_map.specs.Changes.{Subtrees}
-use Rattle.mds_types.proofs.LeafLaws.{get_beside, get_left, get_put, get_removed, same_or_apart}
-use Rattle.subtree_map.proofs.Options.{not_none, one_value, value_of}
-use Rattle.subtree_map.proofs.Nearest.{is_itself, one_root}
-use Rattle.export_steps.specs.declared.exports.ExportState.{ExportState}
-use Rattle.export_steps.specs.declared.exports.ExportState.TheVariants.{Started, Frozen, Prepared, Sent, Imported}
-use Rattle.export_steps.specs.declared.exports.StandingExport.{StandingExport}
-use Rattle.export_steps.specs.Standing.{Standing, ArePlaced, ComesTo, IsCancel, IsFinish, IsFreeze, come_to, is_before_send, is_freezing}
-use Rattle.export_steps.specs.Holder.{IsFrozen, is_imported, region_holder}
-use Rattle.export_steps.specs.Handover.{CancelsSoundly, FinishesSoundly, FreezesSoundly, HandsOver}
 
 -- ---- states
 

@@ -1,17 +1,6 @@
 -- Frozen leaves and holders, by what a search for the nearest root found.
-use Rattle.std.specs.Prelude.{◌≡◌, ◌↔◌, IsTrue, Bool, true, false, cond, Option, Some, None, MatchOption, refl}
-use Rattle.std.proofs.Common.{sym, ap, ◌∙◌}
+use Rattle.export_steps.proofs.Common.{Bool, Covers, HasAuthority, HasHolder, Homes, IsFrozen, IsLive, IsSubtrees, IsTable, IsTrue, Leaf, MatchOption, NearestRoot, None, Option, Rank, Roots, Some, Standing, StandingExport, ap, cond, false, get-empty, is_freezing, is_imported, is_ranked, itself, not_none, one_root, one_value, refl, region_holder, some_root, sym, true, ◌↔◌, ◌∙◌, ◌≡◌}
 use Rattle.std.specs.FinMap as map
-use Rattle.std.specs.FinMap.{get-empty}
-use Rattle.mds_types.specs.declared.ids.Rank.{Rank}
-use Rattle.inode_table.specs.Dirs.{Homes, Covers, IsLive, IsTable}
-use Rattle.mds_types.specs.Leaf.{Leaf}
-use Rattle.subtree_map.specs.Authority.{HasAuthority, Roots, IsSubtrees, NearestRoot, itself}
-use Rattle.subtree_map.proofs.Options.{not_none, one_value}
-use Rattle.subtree_map.proofs.Nearest.{one_root, is_ranked, some_root}
-use Rattle.export_steps.specs.declared.exports.StandingExport.{StandingExport}
-use Rattle.export_steps.specs.Standing.{Standing, is_freezing}
-use Rattle.export_steps.specs.Holder.{HasHolder, IsFrozen, is_imported, region_holder}
 
 -- the region of a root is held by some rank
 pub some_holder_of_root : (export : Option StandingExport) (rank : Rank) → (held : Rank) × (region_holder export (Some rank) ≡ Some held)

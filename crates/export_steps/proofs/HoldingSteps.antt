@@ -1,21 +1,6 @@
 -- What each step makes of the roots with the ranks that hold their regions, and what Start, Prep and Send leave of holders and frozen leaves.
-use Rattle.std.specs.Prelude.{◌≡◌, ◌≢◌, ◌⊎◌, Bool, true, false, cond, Option, Some, None, option_map, refl}
-use Rattle.std.proofs.Common.{inl, inr, sym, ap, subst, ◌∙◌}
+use Rattle.export_steps.proofs.Common.{ArePlaced, Bool, ComesTo, Covers, ExportState, Frozen, HasAuthority, Homes, Imported, IsCancel, IsFinish, IsFreeze, IsFrozen, IsStart, KeepFrozen, KeepHolders, Leaf, NearestRoot, None, Option, Prepared, Rank, Roots, Sent, Some, Standing, StandingExport, Started, StepsSoundly, Subtrees, ap, come_to, cond, false, get_beside, get_left, get_put, get_removed, holder_or, holding, inl, inr, is_before_send, is_freezing, is_imported, leaf-exact, leaf-total, not_none, one_value, option_map, refl, same_map, same_or_apart, subst, sym, true, ◌∙◌, ◌≡◌, ◌≢◌, ◌⊎◌}
 use Rattle.std.specs.FinMap as map
-use Rattle.std.specs.FinMap.{same_map}
-use Rattle.mds_types.specs.declared.ids.Rank.{Rank}
-use Rattle.inode_table.specs.Dirs.{Homes, Covers}
-use Rattle.mds_types.specs.Leaf.{Leaf}
-use Rattle.subtree_map.specs.Authority.{Roots, HasAuthority, NearestRoot}
-use Rattle.subtree_map.specs.Changes.{Subtrees}
-use Rattle.mds_types.proofs.LeafLaws.{get_beside, get_left, get_put, get_removed, leaf-exact, leaf-total, same_or_apart}
-use Rattle.subtree_map.proofs.Options.{not_none, one_value}
-use Rattle.export_steps.specs.declared.exports.ExportState.{ExportState}
-use Rattle.export_steps.specs.declared.exports.ExportState.TheVariants.{Started, Frozen, Prepared, Sent, Imported}
-use Rattle.export_steps.specs.declared.exports.StandingExport.{StandingExport}
-use Rattle.export_steps.specs.Standing.{ArePlaced, ComesTo, IsCancel, IsFinish, IsFreeze, IsStart, Standing, come_to, is_before_send, is_freezing}
-use Rattle.export_steps.specs.Holder.{IsFrozen, holder_or, holding, is_imported}
-use Rattle.export_steps.specs.Handover.{KeepFrozen, KeepHolders, StepsSoundly}
 use Rattle.export_steps.proofs.Handover.{early_holds}
 use Rattle.export_steps.proofs.Holding.{get_holding, holder_is}
 

@@ -1,6 +1,7 @@
 pub mod Between
 pub mod ByExporterLaws
 pub mod Coloured
+pub mod Common
 pub mod Directories
 pub mod Elsewhere
 pub mod Handover

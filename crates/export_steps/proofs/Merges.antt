@@ -1,20 +1,7 @@
 -- Leaves of other regions are merged.
-use Rattle.std.specs.Prelude.{◌≡◌, ◌≢◌, ◌⊎◌, ◌↔◌, ℕ, Bool, true, false, List, Some, IsSome, is_some, refl}
-use Rattle.std.proofs.Common.{inl, inr, sym, ap, subst, ◌∙◌}
+use Rattle.export_steps.proofs.Common.{BecomesMerged, Bool, CanMerge, Covers, Fragment, HasAuthority, HasLeaf, HaveOneAuthority, Homes, IsInRegion, IsLive, IsMerge, IsRootMerge, IsSome, IsSubtrees, IsTable, IsTree, KeepAuthority, Leaf, List, NearestRoot, Rank, Roots, Some, ap, elsewhere_out, false, here_out, inl, inr, is_inside, is_known, is_some, is_within, itself, leaf_of, leaves_now, leaves_of, leaves_still, merged_is_new, merges_soundly, one_value, outside_of, refl, some_inside, stands_beside, stands_here, subst, sym, tree_of_row, true, value_of, ℕ, ◌↔◌, ◌∙◌, ◌≡◌, ◌≢◌, ◌⊎◌}
 use Rattle.std.specs.FinMap as map
 use Rattle.sorted_map.proofs.NatKeys as nat
-use Rattle.mds_types.specs.declared.ids.Rank.{Rank}
-use Rattle.mds_types.specs.Frag.{Fragment}
-use Rattle.fragtree.specs.FragTree.{CanMerge, HasLeaf, IsMerge, IsTree}
-use Rattle.inode_table.specs.Dirs.{Homes, Covers, IsLive, IsTable, is_known, leaves_of}
-use Rattle.inode_table.proofs.Tables.{tree_of_row}
-use Rattle.mds_types.specs.Leaf.{Leaf}
-use Rattle.subtree_map.specs.Authority.{Roots, HasAuthority, IsInRegion, IsSubtrees, NearestRoot, itself}
-use Rattle.subtree_map.specs.Changes.{BecomesMerged, HaveOneAuthority, IsRootMerge, KeepAuthority, is_inside, leaf_of}
-use Rattle.subtree_map.proofs.Options.{one_value, value_of}
-use Rattle.subtree_map.proofs.Covers.{merged_is_new, some_inside, leaves_now, leaves_still}
-use Rattle.subtree_map.proofs.Merged.{is_within, merges_soundly, elsewhere_out, here_out, outside_of}
-use Rattle.subtree_map.proofs.Split.{stands_beside, stands_here}
 use Rattle.export_steps.proofs.Coloured.{colour, coloured, came, goes_on, nearest_of, of_other, paint_none, paint_same, paint_some, painted_some, valid_to}
 
 module _ (root : Leaf) (old new : Roots) (d : ℕ) (f : Fragment) (is : IsRootMerge old new d f) (homes : Homes) (covers later : Covers) (to : List Fragment) (table : IsTable homes covers) (valid : IsSubtrees old homes covers)

@@ -1,15 +1,7 @@
 -- A directory moves between leaves of other regions.
-use Rattle.std.specs.Prelude.{◌≡◌, ◌≢◌, ◌⊎◌, ◌↔◌, ◌||◌, ◌==◌, ℕ, true, Some, IsSome, is_some, refl}
-use Rattle.std.proofs.Common.{inl, inr, sym, ap, subst, ◌∙◌}
+use Rattle.export_steps.proofs.Common.{Covers, HoldsDentry, Home, Homes, IsInRegion, IsSettled, IsSome, Leaf, MayMove, NearestRoot, Roots, Some, ap, inherited, inl, inr, is_known, is_some, itself, known_by, one_value, refl, still_known, subst, sym, true, value_of, ℕ, ◌==◌, ◌||◌, ◌↔◌, ◌∙◌, ◌≡◌, ◌≢◌, ◌⊎◌}
 use Rattle.std.specs.FinMap as map
 use Rattle.sorted_map.proofs.NatKeys as nat
-use Rattle.inode_table.specs.declared.dirs.Home.{Home}
-use Rattle.inode_table.specs.Dirs.{Homes, Covers, MayMove, is_known}
-use Rattle.mds_types.specs.Leaf.{Leaf}
-use Rattle.subtree_map.specs.Authority.{Roots, HoldsDentry, IsInRegion, NearestRoot, itself, inherited}
-use Rattle.subtree_map.specs.Moves.{IsSettled}
-use Rattle.inode_table.proofs.Tables.{still_known, known_by}
-use Rattle.subtree_map.proofs.Options.{one_value, value_of}
 
 module _ (root : Leaf) (old new : Roots) (homes : Homes) (covers : Covers) (d : ℕ) (home : Home) (is : IsSettled old new homes covers d home) (may : MayMove homes d home) (is_root : IsSome (map.get old root))
     (from_outside : (place : Home) (holder : Leaf) → map.get homes d ≡ Some place → HoldsDentry covers place holder → NearestRoot old homes covers holder root → ⊥)

@@ -1,15 +1,6 @@
 -- What each step came to, from what its parts did.
-use Rattle.std.specs.Prelude.{◌≡◌, false, Option, Some, None, IsSome, is_some, Result, Ok, Err, OnOk, OnErr, IfErr, refl}
-use Rattle.std.proofs.Common.{inl, inr, ap}
+use Rattle.export_steps.proofs.Common.{ArePlaced, Err, Frozen, IfErr, Imported, IsFinish, IsFreeze, IsPrep, IsSome, Leaf, NoMemory, None, Ok, OnErr, OnOk, Option, Prepared, Rank, Refusal, Result, Some, Standing, StandingExport, Started, Starts, Subtrees, WrongExportState, ap, come_to, false, inl, inr, is_freezing, is_prepared, is_some, refl, ◌≡◌}
 use Rattle.std.specs.FinMap as map
-use Rattle.mds_types.specs.declared.ids.Rank.{Rank}
-use Rattle.mds_types.specs.declared.refusals.Refusal.{Refusal}
-use Rattle.mds_types.specs.declared.refusals.Refusal.TheVariants.{NoMemory, WrongExportState}
-use Rattle.mds_types.specs.Leaf.{Leaf}
-use Rattle.subtree_map.specs.Changes.{Subtrees}
-use Rattle.export_steps.specs.declared.exports.ExportState.TheVariants.{Started, Frozen, Prepared, Imported}
-use Rattle.export_steps.specs.declared.exports.StandingExport.{StandingExport}
-use Rattle.export_steps.specs.Standing.{Standing, ArePlaced, IsFinish, IsFreeze, IsPrep, Starts, come_to, is_freezing, is_prepared}
 
 is_none : {A : Type 0} (o : Option A) → is_some o ≡ false → o ≡ None
 is_none None absent = refl

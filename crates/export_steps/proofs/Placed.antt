@@ -1,19 +1,6 @@
 -- What Finish changes keeps its place through every step.
-use Rattle.std.specs.Prelude.{◌≡◌, ◌≢◌, ◌⊎◌, true, false, Some, Result, Ok, Err, refl}
-use Rattle.std.proofs.Common.{inl, inr, sym, ap, subst, ◌∙◌}
+use Rattle.export_steps.proofs.Common.{ArePlaced, Cancels, Err, ExportState, Finishes, Freezes, Frozen, Imported, Leaf, Ok, Prepared, Preps, Rank, Refusal, Result, Roots, Sent, Some, Standing, StandingExport, Started, Starts, Steps, Subtrees, ap, come_to, false, get-empty, get_beside, get_left, get_put, get_removed, inl, inr, is_freezing, is_prepared, not_none, one_value, refl, same_or_apart, subst, sym, true, ◌∙◌, ◌≡◌, ◌≢◌, ◌⊎◌}
 use Rattle.std.specs.FinMap as map
-use Rattle.std.specs.FinMap.{get-empty}
-use Rattle.mds_types.specs.declared.ids.Rank.{Rank}
-use Rattle.mds_types.specs.declared.refusals.Refusal.{Refusal}
-use Rattle.mds_types.specs.Leaf.{Leaf}
-use Rattle.subtree_map.specs.Authority.{Roots}
-use Rattle.subtree_map.specs.Changes.{Subtrees}
-use Rattle.mds_types.proofs.LeafLaws.{same_or_apart, get_put, get_beside, get_removed, get_left}
-use Rattle.subtree_map.proofs.Options.{not_none, one_value}
-use Rattle.export_steps.specs.declared.exports.ExportState.{ExportState}
-use Rattle.export_steps.specs.declared.exports.ExportState.TheVariants.{Started, Frozen, Prepared, Sent, Imported}
-use Rattle.export_steps.specs.declared.exports.StandingExport.{StandingExport}
-use Rattle.export_steps.specs.Standing.{Standing, ArePlaced, Cancels, Finishes, Freezes, Preps, Starts, Steps, come_to, is_freezing, is_prepared}
 
 -- a prepared export is frozen
 pub prepared_freezing : (state : ExportState) → is_prepared state ≡ true → is_freezing state ≡ true

@@ -1,18 +1,7 @@
 -- A leaf of another region is split.
-use Rattle.std.specs.Prelude.{◌≡◌, ◌≢◌, ◌⊎◌, ◌↔◌, ℕ, true, List, Some, IsSome, is_some, refl}
-use Rattle.std.proofs.Common.{inl, inr, sym, ap, subst, ◌∙◌}
+use Rattle.export_steps.proofs.Common.{BecomesSplit, Covers, FitsSplit, Fragment, HasLeaf, Homes, IsChild, IsInRegion, IsLive, IsRootSplit, IsSome, IsSplit, IsSubtrees, IsTable, IsTree, KeepAuthority, Leaf, List, NearestRoot, Roots, Some, ap, child_is_new, inl, inr, is_known, is_some, itself, leaf_of, leaves_now, leaves_of, leaves_still, refl, splits_soundly, stands_beside, stands_here, subst, sym, tree_of_row, true, value_of, ℕ, ◌↔◌, ◌∙◌, ◌≡◌, ◌≢◌, ◌⊎◌}
 use Rattle.std.specs.FinMap as map
 use Rattle.sorted_map.proofs.NatKeys as nat
-use Rattle.mds_types.specs.Frag.{Fragment}
-use Rattle.fragtree.specs.FragTree.{FitsSplit, HasLeaf, IsChild, IsSplit, IsTree}
-use Rattle.inode_table.specs.Dirs.{Homes, Covers, IsLive, IsTable, is_known, leaves_of}
-use Rattle.inode_table.proofs.Tables.{tree_of_row}
-use Rattle.mds_types.specs.Leaf.{Leaf}
-use Rattle.subtree_map.specs.Authority.{Roots, IsInRegion, IsSubtrees, NearestRoot, itself}
-use Rattle.subtree_map.specs.Changes.{BecomesSplit, IsRootSplit, KeepAuthority, leaf_of}
-use Rattle.subtree_map.proofs.Options.{value_of}
-use Rattle.subtree_map.proofs.Covers.{child_is_new, leaves_now, leaves_still}
-use Rattle.subtree_map.proofs.Split.{splits_soundly, stands_beside, stands_here}
 use Rattle.export_steps.proofs.Coloured.{coloured, came, goes_on, of_other, paint_none, paint_same, paint_some, painted_some, valid_to}
 
 module _ (root : Leaf) (old new : Roots) (d : ℕ) (f : Fragment) (nb : ℕ) (is : IsRootSplit old new d f nb) (homes : Homes) (covers later : Covers) (to : List Fragment) (table : IsTable homes covers) (valid : IsSubtrees old homes covers)

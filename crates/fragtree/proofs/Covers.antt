@@ -1,9 +1,5 @@
 -- The leaves of a tree are exactly the fragments by ascending value that cover the hashes.
-use Rattle.std.proofs.Common.{◌≡◌, ◌↔◌, inl, inr, ℕ, zero, suc, ◌+◌, ◌%◌, ◌^◌, ◌<◌, ◌≤◌, List, [], ◌∷◌, length, sym, ◌∙◌, arith}
-use Rattle.std.proofs.lemmas.Bool.{cases_lt}
-use Rattle.std.proofs.lemmas.List.Elements.{Contains-get_or}
-use Rattle.mds_types.specs.Frag.{Fragment, IsFragment, Contains, root_fragment, span}
-use Rattle.fragtree.specs.FragTree.{IsAscendingCover, IsTree, Tiles}
+use Rattle.fragtree.proofs.Common.{Contains, Contains-get_or, Fragment, IsAscendingCover, IsFragment, IsTree, List, Tiles, [], arith, cases_lt, inl, inr, length, root_fragment, span, suc, sym, zero, ℕ, ◌%◌, ◌+◌, ◌<◌, ◌^◌, ◌↔◌, ◌∙◌, ◌∷◌, ◌≡◌, ◌≤◌}
 use Rattle.fragtree.proofs.Places.{IsPlace, leaf_at}
 use Rattle.fragtree.proofs.Ranges.{span_pos, ends_low, range_from_Contains, Contains-from_range}
 use Rattle.fragtree.proofs.Tilings.{between, covers, in_order}

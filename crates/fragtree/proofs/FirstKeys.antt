@@ -1,18 +1,6 @@
 -- The first fragment that is split, of those from another on.
-use Rattle.std.proofs.Common.{◌≡◌, ◌⊎◌, inl, inr, ◌<◌, ◌≤◌, ◌+◌, ℕ, Bool, true, false, cond, T, List, [], ◌∷◌, Some, None, refl, sym, ap, subst, ◌∙◌, arith}
-use Rattle.std.proofs.lemmas.Bool.{cases_lt}
-use Rattle.std.specs.declared.cmp.Ordering.{Ordering}
-use Rattle.std.specs.declared.cmp.Ordering.TheVariants.{Less, Equal, Greater}
-use Rattle.std.specs.Ordering.{nat_cmp, ordering_then, is_lt, is_le, MatchOrdering}
-use Rattle.std.specs.Cmp.{nat_cmp_is, ranks}
+use Rattle.fragtree.proofs.Common.{Bool, ContainsFragment, Equal, Fragment, Greater, IsFragment, Less, List, MatchOrdering, None, Ordering, Some, Splits, T, [], ap, arith, below_all, cases_lt, cond, entries_sorted, false, find, find-where_key, frag-exact, frag_cmp, get-entries, inl, inr, is_from, is_le, is_lt, is_sorted, is_sorted-where_key, left_of, nat_cmp, nat_cmp_is, ordering_then, ranks, refl, right_of, span, subst, sym, true, where_key, ℕ, ◌+◌, ◌<◌, ◌∙◌, ◌∷◌, ◌≡◌, ◌≤◌, ◌⊎◌}
 use Rattle.std.specs.FinMap as map
-use Rattle.std.specs.FinMap.{find, is_sorted, get-entries, entries_sorted}
-use Rattle.std.specs.FinMap.Entries.{where_key, below_all, find-where_key, is_sorted-where_key}
-use Rattle.sorted_map.proofs.Bools.{left_of, right_of}
-use Rattle.sorted_map.specs.SortedMap.{is_from}
-use Rattle.mds_types.specs.Frag.{Fragment, IsFragment, ContainsFragment, frag_cmp, span}
-use Rattle.mds_types.specs.OrderLaws.{frag-exact}
-use Rattle.fragtree.specs.Descents.{Splits}
 use Rattle.fragtree.proofs.Entries.{apart, itself}
 use Rattle.fragtree.proofs.Ranges.{span_pos, ends_before, quotient_from_range, range_from_quotient}
 

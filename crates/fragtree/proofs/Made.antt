@@ -1,14 +1,7 @@
 -- Splits by 1 bit round each leaf spell the leaves.
-use Rattle.std.proofs.Common.{◌≡◌, ◌⊎◌, inl, inr, ℕ, zero, suc, ◌+◌, ◌^◌, ◌<◌, ◌≤◌, List, [], ◌∷◌, length, Option, Some, None, Result, Ok, Err, refl, sym, ap, subst, ◌∙◌, arith}
-use Rattle.std.proofs.lemmas.Bool.{cases_lt}
-use Rattle.std.proofs.lemmas.List.{get_or_default}
-use Rattle.std.specs.Prelude.{OnErr}
+use Rattle.fragtree.proofs.Common.{Descends, Ends, Err, Fragment, HasLeaf, IsFragment, IsLedTo, IsSplitRound, IsTree, List, None, Ok, OnErr, Option, Result, Some, Spells, Splits, [], ap, arith, cases_lt, frag_at, frag_cmp, get-empty, get_or_default, inl, inr, length, on, refl, root_fragment, span, splits_round, subst, suc, sym, there, zero, ℕ, ◌+◌, ◌<◌, ◌^◌, ◌∙◌, ◌∷◌, ◌≡◌, ◌≤◌, ◌⊎◌}
 use Rattle.std.specs.FinMap as map
-use Rattle.std.specs.FinMap.{get-empty}
-use Rattle.mds_types.specs.Frag.{Fragment, IsFragment, frag_cmp, root_fragment, span}
-use Rattle.fragtree.specs.FragTree.{IsTree, HasLeaf}
 use Rattle.fragtree.proofs.Places.{leaf_at}
-use Rattle.fragtree.specs.Descents.{Splits, Descends, there, on, Ends, IsLedTo, IsSplitRound, Spells, frag_at, splits_round}
 use Rattle.fragtree.proofs.DescentLaws.{joined}
 use Rattle.fragtree.proofs.Entries.{get_beside, get_put, one_or_other}
 use Rattle.fragtree.proofs.Ranges.{span_pos, span_falls, ends_before, ends_low, ends_within}

@@ -1,9 +1,6 @@
 -- The steps of a descent to the leaf of a hash, and to a fragment at which leaves are merged.
-use Rattle.std.proofs.Common.{◌≡◌, ℕ, ◌+◌, ◌-◌, ◌%◌, ◌^◌, ◌<◌, ◌≤◌, Some, None, refl, sym, ap, ◌∙◌, arith}
-use Rattle.std.proofs.Math.Nat.{mod-eq_of_lt}
+use Rattle.fragtree.proofs.Common.{AllSome, Descends, Ends, EndsBeyond, Fragment, IsFragment, KeepsEnds, None, Some, Splits, ap, arith, frag_at, halved, mod-eq_of_lt, on, refl, root_fragment, splits_round, sym, there, ℕ, ◌%◌, ◌+◌, ◌-◌, ◌<◌, ◌^◌, ◌∙◌, ◌≡◌, ◌≤◌}
 use Rattle.std.specs.FinMap as map
-use Rattle.mds_types.specs.Frag.{Fragment, IsFragment, root_fragment}
-use Rattle.fragtree.specs.Descents.{Splits, AllSome, Descends, there, on, Ends, EndsBeyond, KeepsEnds, frag_at, halved, splits_round}
 use Rattle.fragtree.proofs.DescentLaws.{joined, next, one_end, rest, rises, stays}
 use Rattle.fragtree.proofs.Rounds.{frag_at-IsFragment, round_it}
 use Rattle.fragtree.proofs.Spelled.{halved_keeps, halved_passes, halved_some}

@@ -1,10 +1,5 @@
 -- Laws of a request that was taken from the front of a rank's inbox: what the inboxes are with it there, and without it.
-use Rattle.std.proofs.Common.{◌≡◌, ◌≢◌, ℕ, ◌<◌, ◌++◌, ◌∷◌, [], List, length, get_or, set, Option, Some, None, IfSome, sym, ap, subst, ◌∙◌, set-set, get_or-set_same, length-set, arith}
-use Rattle.std.proofs.lemmas.List.{set-get_or, get_or-set_other}
-use Rattle.mds_types.specs.declared.ids.Rank.{Rank}
-use Rattle.mds_types.specs.declared.requests.Request.{Request}
-use Rattle.inboxes.specs.Inbox.{Takes}
-use Rattle.inboxes.specs.Inboxes.{Inboxes, IsOut, waiting_at, with_first, with_last, with_waiting}
+use Rattle.inboxes.proofs.Common.{IfSome, Inboxes, IsOut, List, None, Option, Rank, Request, Some, Takes, [], ap, arith, get_or, get_or-set_other, get_or-set_same, length, length-set, set, set-get_or, set-set, subst, sym, waiting_at, with_first, with_last, with_waiting, ℕ, ◌++◌, ◌<◌, ◌∙◌, ◌∷◌, ◌≡◌, ◌≢◌}
 
 -- where one is taken from the inbox of a rank that is there, it is out
 pub out_there : (all : Inboxes) (rank : Rank) (left : List Request) (result : Option Request) → rank.0 < length all → Takes (waiting_at all rank) left result → IfSome result (λ request. length left < 1024)

@@ -1,15 +1,8 @@
 -- What the counts and the pins of a table's rows say of the rows.
-use Rattle.std.proofs.Common.{◌≡◌, ℕ, cond, is_some, Option, Some, None, ◌⊎◌, inl, inr, option_map, refl, sym, ap, subst, ◌∙◌}
-use Rattle.std.specs.Ordering.{nat_cmp}
+use Rattle.inode_table.proofs.Common.{Counts, Directory, None, Option, Rank, Rows, Some, ap, cond, contents, contents-entries, count_of, counts_of, get-empty, get-retain_keys, get_beside, get_put, get_removed, has_pin, inl, inr, is_some, nat_cmp, nat_cmp-IsAntisymmetric, option_map, or_first, or_zero, pin_in, pinned_at, refl, same_or_apart, shown, subst, sym, ℕ, ◌∙◌, ◌≡◌, ◌⊎◌}
 use Rattle.std.specs.FinMap as map
-use Rattle.std.specs.FinMap.{nat_cmp-IsAntisymmetric, get-empty, get-retain_keys}
-use Rattle.mds_types.specs.declared.ids.Rank.{Rank}
-use Rattle.sorted_map.proofs.MapLaws.{contents-entries}
-use Rattle.sorted_map.specs.SortedMap.{contents, shown}
-use Rattle.sorted_map.proofs.NatKeys.{same_or_apart, get_put, get_beside, get_removed, get_left}
-use Rattle.inode_table.specs.declared.dirs.Directory.{Directory}
-use Rattle.inode_table.specs.Dirs.{Counts, count_of, or_zero, pinned_at}
-use Rattle.inode_table.specs.Rows.{Rows, counts_below, counts_of, has_pin, or_first, pin_in, pins_of}
+use Rattle.sorted_map.proofs.NatKeys.{get_left}
+use Rattle.inode_table.specs.Rows.{counts_below, pins_of}
 use Rattle.inode_table.proofs.RowLaws.{get_taken, same}
 
 -- ---- a map from the numbers of rows to a part of each

@@ -1,25 +1,9 @@
 -- Entries that are counted one by one, and their pins.
-use Rattle.std.proofs.Common.{◌≡◌, ℕ, ◌+◌, ◌-◌, ◌<◌, ◌≤◌, ◌^◌, Bool, true, false, cond, T, is_some, length, List, [], ◌∷◌, Some, None, ◌⊎◌, inl, inr, ⊎_elim, refl, sym, ap, subst, ◌∙◌, arith}
-use Rattle.std.specs.Prelude.{filter}
-use Rattle.std.proofs.lemmas.Bool.{eqb-true}
-use Rattle.std.specs.Ordering.{is_eq}
-use Rattle.std.specs.Cmp.{tied_itself}
+use Rattle.inode_table.proofs.Common.{Bool, Counts, Dentry, DirPins, Homes, Inode, IsCounted, IsTabled, List, None, Rank, Some, T, Tree, [], ap, arith, cond, count_of, dentry-exact, dentry-total, dentry_cmp, entries-from_sorted, entries_go, entries_sorted, eqb-true, false, filter, find, first_taken, get-empty, get-from_sorted, get_left, inl, inr, is_dir_kind, is_eq, is_in, is_known, is_some, is_sorted, len-entries, len_shown, length, none_in_empty, one_dentry, one_more, refl, retained, same_entries_map, same_map, some_in, stands_after_removal, subst, sym, tied_itself, true, where_key, with_pin, ℕ, ⊎_elim, ◌+◌, ◌-◌, ◌<◌, ◌^◌, ◌∙◌, ◌∷◌, ◌≡◌, ◌≤◌, ◌⊎◌}
 use Rattle.std.specs.FinMap as map
-use Rattle.std.specs.FinMap.{entries-from_sorted, entries_sorted, find, get-empty, get-from_sorted, is_sorted, len-entries, same_entries_map, same_map}
-use Rattle.std.specs.FinMap.Entries.{where_key}
-use Rattle.mds_types.specs.declared.dentries.Dentry.{Dentry}
-use Rattle.mds_types.specs.declared.ids.Rank.{Rank}
-use Rattle.mds_types.specs.declared.inodes.Inode.{Inode}
-use Rattle.mds_types.specs.OrderLaws.{dentry-exact}
-use Rattle.mds_types.specs.Tree.{Tree, dentry_cmp, entries_in, is_dir_kind, is_in}
-use Rattle.mds_types.proofs.CountLaws.{entries_go, none_in_empty, some_in}
-use Rattle.mds_types.proofs.DirectoryLaws.{one_dentry}
-use Rattle.mds_types.proofs.EntryLaws.{get_left, same_or_apart, stands_after_removal}
-use Rattle.mds_types.proofs.OrderLaws.{dentry-total}
-use Rattle.sorted_map.proofs.ContentLaws.{first_taken, len_shown, retained}
+use Rattle.mds_types.specs.Tree.{entries_in}
+use Rattle.mds_types.proofs.EntryLaws.{same_or_apart}
 use Rattle.sorted_map.proofs.NatKeys.{same_or_apart as same_number}
-use Rattle.inode_table.specs.Dirs.{Counts, DirPins, Homes, count_of, is_known, one_more}
-use Rattle.inode_table.specs.TreeTable.{IsCounted, IsTabled, with_pin}
 use Rattle.inode_table.proofs.CountedLaws.{count_set}
 use Rattle.inode_table.proofs.PinLaws.{Stands, pinned_beside, pinned_here, with_dir_pin, with_file_pin}
 use Rattle.inode_table.proofs.TableLaws.{dir_or_not, home_of, known_is}

@@ -1,4 +1,5 @@
 pub mod Chains
+pub mod Common
 pub mod CountRows
 pub mod CountedLaws
 pub mod CountingLaws

@@ -1,22 +1,8 @@
 -- The first row with a pin, of rows in order.
-use Rattle.std.specs.Prelude.{◌≡◌, ℕ, ◌<◌, ◌≤◌, Bool, true, false, cond, T, List, [], ◌∷◌, Option, Some, None, IsSome, is_some, refl}
-use Rattle.std.proofs.Common.{sym, ap, subst, ◌∙◌, arith}
-use Rattle.std.specs.declared.cmp.Ordering.{Ordering}
-use Rattle.std.specs.declared.cmp.Ordering.TheVariants.{Less, Equal, Greater}
-use Rattle.std.specs.Ordering.{MatchOrdering, eq_by_cmp, is_eq, is_lt, nat_cmp}
-use Rattle.std.specs.Cmp.{nat_cmp_total, tied_itself}
+use Rattle.inode_table.proofs.Common.{Directory, Equal, Greater, Ino, IsAfter, IsFirstPinned, IsNextPinned, IsSome, Less, MatchOrdering, Ordering, Rank, Rows, ap, arith, below_all, entries_sorted, eq_by_cmp, find, find-where_key, get-entries, is_eq, is_lt, is_sorted, is_sorted-where_key, left_of, nat_cmp, nat_cmp-IsAntisymmetric, nat_cmp_total, pin_in, pins_of, ranked, right_of, subst, sym, tie, tied_itself, where_key, ◌∙◌}
+use Rattle.std.specs.Prelude.{◌≡◌, ℕ, ◌<◌, ◌≤◌, Bool, true, false, cond, T, List, [], ◌∷◌, Option, Some, None, is_some, refl}
 use Rattle.std.specs.FinMap as map
-use Rattle.std.specs.FinMap.{entries_sorted, find, get-entries, is_sorted, nat_cmp-IsAntisymmetric}
-use Rattle.std.specs.FinMap.Entries.{below_all, find-where_key, is_sorted-where_key, where_key}
-use Rattle.std.proofs.lemmas.Cmp.{ranked}
-use Rattle.sorted_map.proofs.Bools.{left_of, right_of}
-use Rattle.sorted_map.proofs.MapLaws.{tie}
 use Rattle.sorted_map.proofs.PlaceLaws.{less as less_of}
-use Rattle.mds_types.specs.declared.ids.Ino.{Ino}
-use Rattle.mds_types.specs.declared.ids.Rank.{Rank}
-use Rattle.inode_table.specs.declared.dirs.Directory.{Directory}
-use Rattle.inode_table.specs.Pinned.{IsAfter, IsFirstPinned, IsNextPinned}
-use Rattle.inode_table.specs.Rows.{Rows, pin_in, pins_of}
 use Rattle.inode_table.proofs.CountRows.{get_pin}
 
 under : (x y : ℕ) → nat_cmp x y ≡ Less → x < y

@@ -1,15 +1,6 @@
 -- The rows of a table once a leaf of a directory was split in place.
-use Rattle.std.proofs.Common.{◌≡◌, ℕ, true, List, Option, Some, Result, Ok, Err, OnOk, OnErr, refl, sym, ap, subst, subst₂, ◌∙◌}
-use Rattle.std.specs.Ordering.{nat_cmp}
+use Rattle.inode_table.proofs.Common.{Directory, Err, Fragment, IsSplit, IsTable, IsTree, List, Ok, OnErr, OnOk, Option, Refusal, Result, Rows, Some, Table, ap, contents, counts_of, covers_of, get_put, homes_of, is_known, leaves_in, leaves_of, nat_cmp, or_whole, pins_of, refl, shown, subst, subst₂, sym, true, ℕ, ◌∙◌, ◌≡◌}
 use Rattle.std.specs.FinMap as map
-use Rattle.mds_types.specs.declared.refusals.Refusal.{Refusal}
-use Rattle.mds_types.specs.Frag.{Fragment}
-use Rattle.sorted_map.proofs.NatKeys.{get_put}
-use Rattle.sorted_map.specs.SortedMap.{contents, shown}
-use Rattle.fragtree.specs.FragTree.{IsSplit, IsTree}
-use Rattle.inode_table.specs.declared.dirs.Directory.{Directory}
-use Rattle.inode_table.specs.Dirs.{IsTable, Table, is_known, leaves_of, or_whole}
-use Rattle.inode_table.specs.Rows.{Rows, counts_of, covers_of, homes_of, leaves_in, pins_of}
 use Rattle.inode_table.proofs.CountRows.{counts_unwritten, pins_unwritten}
 use Rattle.inode_table.proofs.RowLaws.{get_leaves, homes_unwritten, leaves_at_root, leaves_unwritten, leaves_written, root_put}
 use Rattle.inode_table.proofs.Tables.{set_table}

@@ -1,24 +1,8 @@
 -- Commits of whole fragments.
-use Rattle.std.proofs.Common.{◌≡◌, ℕ, cond, not, Option, Some, None, refl, sym, ap, ◌∙◌}
-use Rattle.std.specs.Prelude.{◌==◌}
+use Rattle.mdcache.proofs.Common.{BeginsWith, BegunAreAtHand, BegunLeaveAtHand, EndedAreClean, IsAtHand, Job, Mark, Marks, None, Option, OthersStayAtHand, Some, State, Stored, Unsaved, ap, cond, eq-eqb, get-empty, get-unsettled, is_settled, key_cmp, len-empty, next_version, not, one_map, refl, same_Some, stored_with, sym, unsettled, with_unsaved, ℕ, ◌==◌, ◌∙◌, ◌≡◌}
 use Rattle.std.specs.FinMap as map
-use Rattle.std.specs.FinMap.{get-empty, len-empty}
-use Rattle.std.proofs.lemmas.Bool.{eq-eqb}
-use Rattle.std.proofs.lemmas.Option.{same_Some}
 use Rattle.mds_types.proofs.LeafLaws.{get_beside, get_left, get_put}
-use Rattle.objstore.specs.Omap.{key_cmp}
-use Rattle.cached_frag.specs.declared.bases.Base.TheVariants.{Stored}
-use Rattle.cached_frag.specs.Snap.{next_version}
-use Rattle.cached_frag.specs.declared.jobs.Job.{Job}
-use Rattle.cached_frag.specs.declared.marks.Mark.{Mark}
-use Rattle.cached_frag.specs.Marks.{Marks}
-use Rattle.cached_frag.specs.Cached.{is_settled, unsettled}
-use Rattle.cached_frag.proofs.SettledLaws.{get-unsettled}
-use Rattle.dirfrag_codec.proofs.ByteKeys.{one_map}
-use Rattle.dentry_cache.specs.Cache.{Unsaved, with_unsaved}
-use Rattle.mdcache.specs.Commits.{BeginsWith, leaf_of, left_of, stored_with}
-use Rattle.mdcache.specs.Flushed.{BegunAreAtHand, BegunLeaveAtHand, EndedAreClean, IsAtHand, OthersStayAtHand}
-use Rattle.mdcache.specs.State.{State}
+use Rattle.mdcache.specs.Commits.{leaf_of, left_of}
 
 settled_itself : (dirty : Marks) → unsettled dirty dirty ≡ map.empty
 settled_itself dirty = one_map (unsettled dirty dirty) map.empty (λ q. get-unsettled dirty dirty q ∙ go (map.get dirty q) ∙ sym (get-empty _ q))

@@ -1,34 +1,13 @@
 -- Commits of whole fragments, several at once.
-use Rattle.std.proofs.Common.{◌≡◌, ◌⊎◌, inl, inr, ℕ, zero, suc, cond, ◌-◌, ◌+◌, ◌<◌, arith, true, false, List, [], ◌∷◌, ◌++◌, map as list_map, drop, get_or, Option, Some, None, Result, Ok, Err, refl, sym, ap, subst, ◌∙◌}
-use Rattle.std.specs.Prelude.{is_some, length}
-use Rattle.std.specs.List.{AllByRecursion}
-use Rattle.std.proofs.lemmas.List.{drop_more}
+use Rattle.mdcache.proofs.Common.{AllByRecursion, AreApart, At, Begins, BeginsWith, Begun, CacheMap, Came, Core, Dirfrag, Ends, Err, HasFragment, IsBegunAt, IsEnded, IsFree, IsLive, IsReadyAt, IsSound, IsThat, IsThere, IsUncleanAt, Job, Jobs, KeepsTree, Leaf, List, MayHold, MayNotBegin, MayNotBeginAll, MayNotBeginOne, None, NoneEnds, NotAmong, Ok, Option, Rank, Ready, Refusal, Some, State, Unsaved, UnsavedLeaves, [], ap, arith, at_rank, came_held, came_ranks, came_weaker, cond, drop, drop_more, empty_of_len, false, get-empty, get_or, get_unclean, inl, inr, is_some, leaves_at, leaves_of_jobs, leaves_of_writes, len-remove, ready_of, refl, shown_tree, state_of, subst, suc, sym, true, unclean, unsaved_at, with_job, zero, ℕ, ◌++◌, ◌+◌, ◌-◌, ◌<◌, ◌∙◌, ◌∷◌, ◌≡◌, ◌⊎◌}
+use Rattle.std.proofs.Common.{map as list_map, Result}
+use Rattle.std.specs.Prelude.{length}
 use Rattle.std.specs.FinMap as map
 use Rattle.mds_types.specs.Leaf.{leaf_of as leaf_at}
-use Rattle.mds_types.specs.declared.dirfrags.Dirfrag.{Dirfrag}
-use Rattle.mds_types.specs.declared.ids.Rank.{Rank}
-use Rattle.mds_types.specs.declared.refusals.Refusal.{Refusal}
-use Rattle.cached_frag.specs.declared.jobs.Job.{Job}
-use Rattle.dentry_cache.specs.Cache.{IsThere, Leaf, Unsaved}
-use Rattle.dentry_cache.specs.CacheMap.{At, CacheMap, IsFree, at_rank, unclean, unsaved_at}
-use Rattle.dentry_cache.specs.Came.{Came, IsThat, NoneEnds}
-use Rattle.dentry_cache.proofs.FrameLaws.{came_held, came_ranks, came_weaker}
-use Rattle.dentry_cache.proofs.UncleanLaws.{get_unclean}
-use Rattle.mdcache.specs.Batches.{AreApart, IsBegunAt, IsUncleanAt, MayNotBeginAll, MayNotBeginOne, NotAmong, IsReadyAt, leaves_at, leaves_of_jobs, leaves_of_writes, ready_of}
-use Rattle.mdcache.specs.Commits.{Begins, BeginsWith, Ends, IsEnded, MayNotBegin, leaf_of, with_job}
-use Rattle.mdcache.specs.Core.{Core, state_of}
-use Rattle.mdcache.specs.Flushed.{HasFragment, KeepsTree}
-use Rattle.mdcache.specs.Ranks.{MayHold}
-use Rattle.mdcache.specs.Shown.{shown_tree}
-use Rattle.mdcache.specs.Sound.{IsSound}
-use Rattle.mdcache.specs.State.{IsLive, State, UnsavedLeaves}
+use Rattle.mdcache.specs.Commits.{leaf_of}
 use Rattle.mdcache.proofs.AtHandLaws.{begun_are_at_hand, begun_leave_at_hand, ended_are_clean, others_stay_at_hand}
 use Rattle.mdcache.proofs.KeptTree.{at_its_rank, there_at}
-use Rattle.mdcache.specs.StandingJobs.{Jobs}
-use Rattle.mdcache.specs.declared.batches.Begun.{Begun}
-use Rattle.mdcache.specs.declared.batches.Ready.{Ready}
 use Rattle.mds_types.proofs.LeafLaws.{get_beside, leaf-total}
-use Rattle.std.specs.FinMap.{empty_of_len, get-empty, len-remove}
 
 -- the fragment of a leaf that isn't clean is at the one rank that may hold it
 has_fragment : (c : CacheMap) (rank : Rank) (leaf : Leaf) → MayHold c rank leaf → is_some (map.get (unclean c) leaf) ≡ true → HasFragment c rank.0 leaf

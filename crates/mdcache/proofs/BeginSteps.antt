@@ -1,32 +1,10 @@
 -- What the beginning of a commit leaves, done or not.
-use Rattle.std.proofs.Common.{◌≡◌, inl, inr, Bor, ℕ, ◌+◌, Bool, true, false, cond, Option, Some, None, refl, sym, ap, subst, ◌∙◌}
-use Rattle.std.specs.Prelude.{Ok, Err, is_some}
-use Rattle.std.specs.Option.{option_copied, option_map}
+use Rattle.mdcache.proofs.Common.{AreCached, AreYoung, At, Base, Begins, BeginsWith, Bool, Bor, CacheMap, Cached, Core, Dirfrag, HasCached, IsAtEnd, IsBelowEnd, IsFree, IsFreeFor, IsJobOf, IsLive, IsOf, IsSnap, IsSound, IsSoundCore, IsThere, Job, Leaf, Mark, NoInodes, NoMemory, None, Omap, Option, Rooms, Some, State, Unsaved, ap, at, at_rank, cond, counts_of, false, get_unclean, here, here_is, inl, inr, is_clean, is_same, is_some, job_for, object_of, option_copied, option_map, refl, same_Some, shown, shown_at, state_of, subst, sym, tied_show, true, unclean, unsaved_at, unsaved_in, used_at, used_core, used_unclean, with_job, with_job_in, ℕ, ◌+◌, ◌∙◌, ◌≡◌}
+use Rattle.std.specs.Prelude.{Ok, Err}
 use Rattle.std.specs.FinMap as map
-use Rattle.std.proofs.lemmas.Option.{same_Some}
-use Rattle.sorted_map.proofs.NatKeys.{is_same}
 use Rattle.mds_types.specs.Leaf.{leaf_of as leaf_at}
-use Rattle.mds_types.specs.declared.refusals.Refusal.TheVariants.{NoInodes, NoMemory}
-use Rattle.objstore.specs.Omap.{Omap}
-use Rattle.cached_frag.specs.declared.bases.Base.{Base}
-use Rattle.cached_frag.specs.declared.jobs.Job.{Job}
-use Rattle.cached_frag.specs.declared.marks.Mark.{Mark}
-use Rattle.cached_frag.specs.Snap.{IsBelowEnd, IsSnap, counts_of}
-use Rattle.cached_frag.specs.Cached.{Cached, is_clean, shown}
-use Rattle.dentry_cache.specs.Cache.{HasCached, IsThere, Leaf, Unsaved, unsaved_in}
-use Rattle.dentry_cache.specs.CacheMap.{At, CacheMap, IsFree, IsFreeFor, at, at_rank, here, unclean, unsaved_at, used_at}
-use Rattle.dentry_cache.specs.Loading.{object_of}
 use Rattle.dentry_cache.specs.Ties.{KeepsAt}
-use Rattle.mds_types.specs.declared.dirfrags.Dirfrag.{Dirfrag}
-use Rattle.dentry_cache.proofs.CameLaws.{used_unclean}
-use Rattle.dentry_cache.proofs.ReadsLaws.{here_is}
-use Rattle.dentry_cache.proofs.TieLaws.{tied_show}
-use Rattle.dentry_cache.proofs.UncleanLaws.{get_unclean}
-use Rattle.mdcache.specs.Commits.{Begins, BeginsWith, IsAtEnd, job_for, leaf_of, with_job}
-use Rattle.mdcache.specs.Core.{AreCached, Core, IsJobOf, IsSoundCore, Rooms, state_of, used_core, with_job_in}
-use Rattle.mdcache.specs.Shown.{shown_at}
-use Rattle.mdcache.specs.Sound.{AreYoung, IsOf, IsSound}
-use Rattle.mdcache.specs.State.{IsLive, State}
+use Rattle.mdcache.specs.Commits.{leaf_of}
 use Rattle.mdcache.proofs.SoundLaws.{begun_sound}
 use Rattle.mdcache.proofs.NoneLaws.{none_used}
 

@@ -1,29 +1,9 @@
 -- What is left by calls that change no name: of jobs, objects of no live leaf, and places.
-use Rattle.std.proofs.Common.{◌≡◌, ℕ, ◌<◌, true, length, List, Option, Some, None, Result, Ok, Err, refl, sym, ap, subst, ◌∙◌}
-use Rattle.std.specs.Prelude.{OnOk, OnErr, not}
+use Rattle.mdcache.proofs.Common.{AreCached, AreCaches, CacheMap, Core, Err, Ino, IsDropped, IsSound, IsSoundCore, Job, Jobs, KeepsNone, Keys, Leaf, List, None, Objects, Ok, OnErr, OnOk, Option, Purges, PurgesName, Refusal, Rooms, Some, State, ap, clean_there, evicted, first_name, given_up, goes, held_given_up, is_known, last_passes, leaves_of, length, option_map, order, purged, refl, same_Some, shown_tree, state_of, subst, sym, tree_saved, tree_text, true, unclean, unclean_gone, victim, whole_given_up, with_tree_at, ℕ, ◌<◌, ◌∙◌, ◌≡◌}
+use Rattle.std.proofs.Common.{Result}
+use Rattle.std.specs.Prelude.{not}
 use Rattle.std.specs.FinMap as map
-use Rattle.std.specs.Option.{option_map}
-use Rattle.std.proofs.lemmas.Option.{same_Some}
-use Rattle.mds_types.specs.declared.ids.Ino.{Ino}
-use Rattle.mds_types.specs.declared.refusals.Refusal.{Refusal}
-use Rattle.objstore.specs.Omap.{Keys}
-use Rattle.objstore.specs.Objects.{Objects}
-use Rattle.cached_frag.specs.declared.jobs.Job.{Job}
-use Rattle.dentry_cache.specs.Cache.{Leaf, stays}
-use Rattle.dentry_cache.specs.CacheMap.{AreCaches, CacheMap, evicted, given_up, goes, order, unclean, victim}
-use Rattle.dentry_cache.specs.CacheCalls.{KeepsNone}
-use Rattle.dentry_cache.proofs.UncleanLaws.{clean_there, last_passes, unclean_gone}
-use Rattle.dentry_cache.proofs.StepLaws.{held_given_up}
-use Rattle.dentry_cache.proofs.WholeLaws.{whole_given_up}
-use Rattle.inode_table.specs.Dirs.{is_known, leaves_of}
-use Rattle.mdcache.specs.Commits.{IsDropped}
-use Rattle.mdcache.specs.Core.{AreCached, Core, IsSoundCore, Rooms, state_of}
-use Rattle.mdcache.specs.Objects.{Purges, PurgesName, purged, tree_saved, with_tree_at}
-use Rattle.mdcache.specs.PurgeList.{first_name}
-use Rattle.mdcache.specs.Shown.{shown_tree}
-use Rattle.mdcache.specs.Sound.{IsSound}
-use Rattle.mdcache.specs.StandingJobs.{Jobs}
-use Rattle.mdcache.specs.State.{State, tree_text}
+use Rattle.dentry_cache.specs.Cache.{stays}
 use Rattle.mdcache.proofs.ObjectLaws.{purged_cached, purged_sound, purged_tree, tree_saved_cached, tree_saved_sound, tree_saved_tree}
 use Rattle.mdcache.proofs.SoundLaws.{dropped_sound}
 

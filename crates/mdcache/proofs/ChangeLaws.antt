@@ -1,40 +1,8 @@
 -- The four changes are right.
-use Rattle.std.proofs.Common.{◌≡◌, ◌⊎◌, inl, inr, ℕ, zero, suc, ◌<◌, ◌^◌, Bool, true, false, cond, List, [], ◌∷◌, Option, Some, None, refl, sym, ap, subst, ◌∙◌, arith}
-use Rattle.std.specs.Prelude.{is_some, map as each}
-use Rattle.std.specs.Ordering.{nat_cmp}
-use Rattle.std.specs.List.{Contains}
+use Rattle.mdcache.proofs.Common.{Alters, Bool, Change, ChangesAreRight, ChangesOnly, Contains, Counts, Covers, Dentry, DirPins, Fragment, HasLeaf, HasNumber, Homes, Ino, Inode, IsCounted, IsLeafAt, IsLive, IsMove, IsNamed, IsRight, IsSound, IsTable, IsTabled, IsUntouched, IsWellFormed, KeepLeaves, Leaf, List, MayChange, MayCome, MayGo, MayRemove, None, NothingIn, Option, Shape, Some, Spot, State, StaysAsItIs, Tree, [], add, added_counted, added_tabled, adds, ap, arith, changed, cond, counts_moved, dentry_at, dir_or_not, directory_at, entry_stands, false, first_or_later, fragments_of, home_at, in_directory, inl, inr, is_dir_kind, is_directory, is_known, is_some, known_is, leaf_is, leaf_of, leaf_or_apart, leaves, leaves_gone, leaves_kept, leaves_of, may_come, may_drop, may_relocate, may_replace, move, moved_counted, moved_tabled, moves, nat_cmp, noted, nothing_in, one_less, refl, remove, removed_counted, removed_tabled, removes, replaced_empty, rows_but, set, set_counted, set_tabled, sets, shape_of, shown_tree, stands_after_removal, subst, suc, sym, true, with_dir, with_directory, with_file, with_home, with_home_at, with_moved, without, without_cover, without_directory, without_home, without_row, zero, ℕ, ◌<◌, ◌^◌, ◌∙◌, ◌∷◌, ◌≡◌, ◌⊎◌}
+use Rattle.std.specs.Prelude.{map as each}
 use Rattle.std.specs.FinMap as map
-use Rattle.mds_types.specs.declared.ids.Ino.{Ino}
-use Rattle.mds_types.specs.declared.dentries.Dentry.{Dentry}
-use Rattle.mds_types.specs.declared.inodes.Inode.{Inode}
-use Rattle.mds_types.specs.Frag.{Fragment}
-use Rattle.mds_types.specs.Leaf.{leaf_of}
-use Rattle.mds_types.specs.Tree.{IsWellFormed, NothingIn, Tree, is_dir_kind, is_directory}
-use Rattle.mds_types.specs.Step.{IsMove, with_moved}
-use Rattle.mds_types.proofs.DirectoryLaws.{entry_stands}
-use Rattle.mds_types.proofs.EntryLaws.{stands_after_removal}
-use Rattle.dentry_cache.specs.Cache.{Leaf, leaf_is}
-use Rattle.dentry_cache.proofs.LeafLaws.{leaf_or_apart}
-use Rattle.inode_table.specs.Dirs.{Counts, Covers, DirPins, Homes, IsTable, one_less, MayCome, MayGo, MayMove as MayRelocate, is_known, leaves_of}
-use Rattle.inode_table.specs.TreeTable.{IsCounted, IsTabled, counts_moved, home_at, with_home, without_cover, without_home, without_row}
-use Rattle.inode_table.proofs.TableLaws.{added_tabled, dir_or_not, known_is, leaves_kept, may_come, may_drop, nothing_in, removed_tabled, set_tabled, with_dir, with_file}
-use Rattle.inode_table.proofs.NotedLaws.{added_counted, moved_counted, removed_counted, set_counted}
-use Rattle.inode_table.proofs.MoveLaws.{may_relocate, may_replace, moved_tabled, replaced_empty}
-use Rattle.fragtree.specs.FragTree.{HasLeaf}
-use Rattle.fragtree.proofs.TreeLaws.{first_or_later}
-use Rattle.namespace_ops.specs.Changes.{IsLeafAt, MayChange, adds, changed, dentry_at, directory_at, fragments_of, in_directory, leaves, leaves_gone, moves, removes, sets}
-use Rattle.namespace_ops.specs.declared.plans.Spot.{Spot}
-use Rattle.namespace_ops.specs.declared.plans.Change.{Change}
-use Rattle.namespace_ops.specs.Kept.{ChangesOnly}
-use Rattle.mdcache.specs.Going.{rows_but}
-use Rattle.mdcache.specs.Changes.{Alters, IsNamed, noted, with_directory, with_home_at, without, without_directory}
-use Rattle.namespace_ops.proofs.Shapes.{Shape, shape_of}
-use Rattle.namespace_ops.proofs.Shapes.Shape.{add, move, remove, set}
-use Rattle.inode_table.specs.TreeChanges.{KeepLeaves, MayRemove}
-use Rattle.mdcache.specs.Made.{ChangesAreRight, HasNumber, IsRight, IsUntouched, StaysAsItIs}
-use Rattle.mdcache.specs.Shown.{shown_tree}
-use Rattle.mdcache.specs.Sound.{IsSound}
-use Rattle.mdcache.specs.State.{IsLive, State}
+use Rattle.inode_table.specs.Dirs.{MayMove as MayRelocate}
 use Rattle.mdcache.proofs.NamedLaws.{HasSoundLeaves, named_leaves, named_tree, recounted_leaves, shows_beside, sound_again, sound_leaves, with_at}
 use Rattle.mdcache.proofs.HomeLaws.{grown_leaves, grown_live, grown_names, grown_tree, moved_home, moved_known, rehomed_leaves, rehomed_live, rehomed_tree}
 use Rattle.mdcache.proofs.GoneLaws.{left_leaves, left_live, left_names, left_tree}

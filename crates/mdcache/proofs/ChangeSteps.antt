@@ -1,45 +1,11 @@
 -- What the steps of a change leave, one after the other.
-use Rattle.std.proofs.Common.{◌≡◌, ◌⊎◌, inl, inr, ℕ, zero, suc, ◌<◌, ◌≤◌, Bool, true, false, cond, is_some, length, List, [], ◌∷◌, Option, Some, None, refl, sym, ap, subst, ◌∙◌, arith}
-use Rattle.std.specs.Prelude.{◌==◌, ◌&&◌, ◌||◌}
+use Rattle.mdcache.proofs.Common.{AreCached, AreCaches, At, Bool, CacheMap, Cached, Came, Contains, Core, Counts, DirPins, Dirfrag, Fragment, Going, GoingLeaf, HasCached, HasLeaf, HasRoom, Home, Homes, Ino, Inode, IsCachedIn, IsFree, IsGoingOrNone, IsKeptFor, IsLive, IsNamed, IsSound, IsSoundCore, IsThere, IsTied, KeepsNone, KeepsOnlyAt, Leaf, List, Mark, None, Option, Rank, Rooms, Some, State, UnsavedLeaves, [], ap, arith, at, at_rank, cond, dir_going, edited_as, ended, ended_all, ended_at, ends, false, get_given_up, get_with_frag, given_up, has, has_place, has_with_mark, here, here_beside, here_is, here_put, here_with_frag, holder_there, inl, inr, leaf_is, leaf_of, leaves, leaves_going, leaves_in, leaves_of, length, list_any, made_frag, marked, named, none_given_up, object_of, one_leaf, or_whole, placed_used, refl, removed, rows_but, same_Some, state_of, stays, subst, suc, sym, texts_going, true, unclean, unclean_alike, unclean_given_up, unsaved_at, with_frag, with_objects, without, without_dir, without_leaves, zero, ℕ, ◌<◌, ◌==◌, ◌∙◌, ◌∷◌, ◌≡◌, ◌≤◌, ◌⊎◌}
+use Rattle.std.proofs.Common.{is_some}
+use Rattle.std.specs.Prelude.{◌&&◌, ◌||◌}
 use Rattle.std.specs.FinMap as map
-use Rattle.std.specs.List.{Contains, list_any}
-use Rattle.std.proofs.lemmas.Option.{same_Some}
 use Rattle.sorted_map.proofs.NatKeys.{get_left as get_left_home}
-use Rattle.mds_types.specs.declared.ids.Ino.{Ino}
-use Rattle.mds_types.specs.declared.ids.Rank.{Rank}
-use Rattle.mds_types.specs.declared.inodes.Inode.{Inode}
-use Rattle.mds_types.specs.Frag.{Fragment}
-use Rattle.mds_types.specs.Leaf.{leaf_of}
-use Rattle.fragtree.specs.FragTree.{HasLeaf}
-use Rattle.cached_frag.specs.declared.marks.Mark.{Mark}
-use Rattle.cached_frag.specs.Cached.{Cached, marked}
-use Rattle.dentry_cache.specs.Cache.{HasCached, HasRoom, IsThere, Leaf, leaf_is}
-use Rattle.dentry_cache.specs.CacheCalls.{KeepsNone}
-use Rattle.dentry_cache.specs.CacheMap.{AreCaches, At, CacheMap, IsFree, at, at_rank, edited_as, given_up, has_place, here, removed, unclean, unsaved_at, with_frag, with_mark}
-use Rattle.dentry_cache.specs.CacheSplits.{IsKeptFor}
-use Rattle.dentry_cache.specs.Came.{Came}
-use Rattle.dentry_cache.specs.Came.Came.{ends, has, stays}
-use Rattle.dentry_cache.specs.Ended.{ended, ended_all, ended_at}
-use Rattle.dentry_cache.specs.Loading.{object_of}
-use Rattle.dentry_cache.specs.Ties.{IsTied}
-use Rattle.mds_types.specs.declared.dirfrags.Dirfrag.{Dirfrag}
-use Rattle.dentry_cache.proofs.EndedLaws.{holder_there}
-use Rattle.dentry_cache.proofs.LeafLaws.{one_leaf}
-use Rattle.dentry_cache.proofs.ReadsLaws.{here_is}
-use Rattle.dentry_cache.proofs.StepLaws.{get_given_up, get_with_frag, has_with_mark, here_beside, here_put, here_with_frag, placed_used}
-use Rattle.dentry_cache.proofs.UncleanLaws.{unclean_alike, unclean_given_up}
-use Rattle.dentry_cache.proofs.WholeLaws.{none_given_up}
-use Rattle.inode_table.specs.declared.dirs.Home.{Home}
-use Rattle.inode_table.specs.Dirs.{Counts, DirPins, Homes, leaves_of, or_whole}
-use Rattle.namespace_ops.specs.Changes.{leaves}
-use Rattle.mdcache.specs.Changes.{IsNamed, with_objects, without, without_leaves}
-use Rattle.mdcache.specs.Core.{AreCached, Core, IsCachedIn, IsSoundCore, Rooms, made_frag, named, state_of, with_dir, without_dir}
-use Rattle.mdcache.specs.Going.{IsGoingOrNone, dir_going, leaves_going, leaves_in, rows_but, texts_going}
-use Rattle.mdcache.specs.Ranks.{KeepsOnlyAt}
-use Rattle.mdcache.specs.Sound.{IsSound}
-use Rattle.mdcache.specs.State.{IsLive, State, UnsavedLeaves}
-use Rattle.mdcache.specs.declared.going.Going.{Going}
-use Rattle.mdcache.specs.declared.going.GoingLeaf.{GoingLeaf}
+use Rattle.dentry_cache.specs.CacheMap.{with_mark}
+use Rattle.mdcache.specs.Core.{with_dir}
 use Rattle.mdcache.proofs.GoneLaws.{among}
 use Rattle.mdcache.proofs.NoneLaws.{none_only, only_none}
 use Rattle.mdcache.proofs.PutLaws.{cached_with, mark, marked_is, put_cached, put_named, put_only}

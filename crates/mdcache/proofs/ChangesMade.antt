@@ -1,41 +1,8 @@
 -- What a change makes, once its steps are known.
-use Rattle.std.proofs.Common.{◌≡◌, ◌<◌, ◌^◌, ℕ, Bool, true, false, cond, length, Option, Some, None, inl, inr, refl, sym, ap, subst, ◌∙◌, arith}
-use Rattle.std.specs.Prelude.{IfSome, List, is_some, string_bytes, ◌==◌, ◌-◌}
+use Rattle.mdcache.proofs.Common.{AreCached, Bool, Cached, Came, Change, Core, Counts, Dentry, Dirfrag, EndsWith, Going, HasCached, HasNumber, HasRoom, HasSpace, IfSome, Ino, Inode, IsChanged, IsGoingOrNone, IsKeptFor, IsMove, IsNamed, IsNamedIn, IsRight, IsSound, IsSoundCore, IsThere, KeepsNone, KeepsOnlyAt, Leaf, Makes, MayChange, MayCome, MayGo, MayMove, NewDirectory, None, NoneEnds, Option, Rank, ReadsCore, Rooms, Some, Spot, State, adds, ap, arith, cond, count_of, counts_moved, dentry_at, dir_going, directory_at, false, first_leaf, here, home_at, inl, inr, is_dir_kind, is_known, is_some, leaf_of, leaves_going, length, made_frag, may_come, may_drop, may_relocate, may_replace, moves, named, one_less, one_more, pinned, refl, removes, root_fragment, rows_but, sets, shown_in, shown_tree, shows, state_of, string_bytes, subst, sym, text_of, texts_going, true, unclean_with, with_count, with_directory, with_entry, with_home, with_new, with_pin, without, without_dir, without_entry, ℕ, ◌<◌, ◌==◌, ◌^◌, ◌∙◌, ◌≡◌}
+use Rattle.std.specs.Prelude.{List, ◌-◌}
 use Rattle.std.specs.FinMap as map
-use Rattle.mds_types.specs.Frag.{root_fragment}
-use Rattle.mds_types.specs.Tree.{is_dir_kind}
-use Rattle.mds_types.specs.declared.dentries.Dentry.{Dentry}
-use Rattle.mds_types.specs.declared.ids.Ino.{Ino}
-use Rattle.mds_types.specs.declared.ids.Rank.{Rank}
-use Rattle.mds_types.specs.declared.inodes.Inode.{Inode}
-use Rattle.mds_types.specs.Step.{HasSpace, IsMove}
-use Rattle.mds_types.specs.Leaf.{leaf_of}
-use Rattle.cached_frag.specs.Cached.{Cached}
-use Rattle.dentry_cache.specs.Cache.{HasCached, HasRoom, IsThere, Leaf}
-use Rattle.dentry_cache.specs.CacheCalls.{KeepsNone}
-use Rattle.dentry_cache.specs.CacheMap.{here}
-use Rattle.dentry_cache.specs.CacheSplits.{IsKeptFor}
-use Rattle.dentry_cache.specs.Came.{Came, NoneEnds}
-use Rattle.mds_types.specs.declared.dirfrags.Dirfrag.{Dirfrag}
-use Rattle.dentry_cache.proofs.UncleanLaws.{unclean_with}
-use Rattle.inode_table.specs.Dirs.{Counts, MayCome, MayGo, MayMove, count_of, is_known, one_less, one_more}
-use Rattle.inode_table.specs.TreeTable.{counts_moved, home_at, with_count, with_home, with_pin}
-use Rattle.inode_table.proofs.MoveLaws.{may_relocate, may_replace}
-use Rattle.inode_table.proofs.TableLaws.{may_come, may_drop}
-use Rattle.namespace_ops.specs.Changes.{MayChange, adds, dentry_at, directory_at, moves, removes, sets}
-use Rattle.namespace_ops.specs.declared.plans.Spot.{Spot}
-use Rattle.namespace_ops.specs.declared.plans.Change.{Change}
-use Rattle.mdcache.specs.Changes.{IsNamed, Makes, first_leaf, with_directory, with_new, without}
-use Rattle.mdcache.specs.Core.{AreCached, Core, IsSoundCore, ReadsCore, Rooms, made_frag, moved, named, pinned, shown_in, shows, state_of, with_dir, with_entry, without_dir, without_entry}
-use Rattle.mdcache.specs.Changing.{IsChanged}
-use Rattle.mdcache.specs.Going.{IsGoingOrNone, dir_going, leaves_going, rows_but, texts_going}
-use Rattle.mdcache.specs.Made.{HasNumber, IsRight}
-use Rattle.mdcache.specs.Ranks.{EndsWith, IsNamedIn, KeepsOnlyAt}
-use Rattle.mdcache.specs.Shown.{shown_tree}
-use Rattle.mdcache.specs.Sound.{IsSound}
-use Rattle.mdcache.specs.State.{State, text_of}
-use Rattle.mdcache.specs.declared.going.Going.{Going}
-use Rattle.mdcache.specs.declared.prepared.NewDirectory.{NewDirectory}
+use Rattle.mdcache.specs.Core.{moved, with_dir}
 use Rattle.mdcache.proofs.ChangeLaws.{changes_are_right}
 use Rattle.mdcache.proofs.CoreLaws.{dir_known, reads_state, shows_names}
 use Rattle.mdcache.proofs.TreeLookups.{at_dentry}

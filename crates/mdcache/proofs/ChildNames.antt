@@ -1,13 +1,6 @@
 -- The names of the objects of children, one by one.
-use Rattle.std.proofs.Common.{◌≡◌, ◌⊎◌, inl, inr, ℕ, ◌+◌, ◌<◌, ◌≤◌, ◌^◌, ◌++◌, List, [], ◌∷◌, refl, sym, ap, subst, ◌∙◌, arith}
+use Rattle.mdcache.proofs.Common.{Contains, Contains-append_left, Contains-push, Contains-push_cases, Fragment, Ino, List, NameChildren, [], ap, arith, below_or_it, child_of, inl, inr, refl, subst, sym, text_of, ℕ, ◌++◌, ◌+◌, ◌<◌, ◌^◌, ◌∙◌, ◌∷◌, ◌≡◌, ◌≤◌, ◌⊎◌}
 use Rattle.std.specs.Prelude.{map as each}
-use Rattle.std.specs.List.{Contains}
-use Rattle.std.proofs.lemmas.List.Elements.{Contains-append_left, Contains-push, Contains-push_cases}
-use Rattle.mds_types.specs.declared.ids.Ino.{Ino}
-use Rattle.mds_types.specs.Frag.{Fragment, child_of}
-use Rattle.dentry_cache.proofs.SplitShows.{below_or_it}
-use Rattle.mdcache.specs.Splits.{NameChildren}
-use Rattle.mdcache.specs.State.{text_of}
 
 -- these name the objects of the first children
 pub record NameFirst (dir : Ino) (frag : Fragment) (nb n : ℕ) (texts : List (List ℕ)) : Type 0 where

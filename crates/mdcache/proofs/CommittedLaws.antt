@@ -1,28 +1,12 @@
 -- Commits of whole fragments, one after the other.
-use Rattle.std.proofs.Common.{◌≡◌, ◌⊎◌, inl, inr, ℕ, ◌+◌, ◌<◌, arith, Bool, cond, true, false, List, Some, None, Result, Ok, Err, refl, sym, ap, subst, ◌∙◌}
+use Rattle.mdcache.proofs.Common.{Base, Bool, CommitsWhole, Ends, Err, HasSpelled, IsAsItWas, IsAtHand, IsEnded, IsLive, IsSound, IsWritten, Job, Jobs, LacksNumbers, Leaf, List, MayNotCommit, None, Objects, Ok, Refusal, Some, State, Unsaved, UnsavedLeaves, ap, arith, cond, false, get_beside, inl, inr, len-empty, names_at, names_then, next_version, object_of, refl, same_Some, shown_at, shown_over, shown_tree, subst, sym, text_of, true, write_of, ℕ, ◌+◌, ◌<◌, ◌∙◌, ◌≡◌, ◌⊎◌}
+use Rattle.std.proofs.Common.{Result}
 use Rattle.std.specs.FinMap as map
-use Rattle.std.specs.FinMap.{len-empty}
-use Rattle.std.proofs.lemmas.Option.{same_Some}
 use Rattle.mds_types.proofs.LeafLaws.{get_left, get_removed, same_or_apart}
-use Rattle.mds_types.specs.declared.refusals.Refusal.{Refusal}
-use Rattle.objstore.specs.Objects.{Objects, written}
-use Rattle.cached_frag.specs.declared.bases.Base.{Base}
-use Rattle.cached_frag.specs.declared.jobs.Job.{Job}
-use Rattle.cached_frag.specs.Cached.{shown_over}
-use Rattle.cached_frag.specs.Commit.{write_of}
-use Rattle.cached_frag.specs.Snap.{next_version}
-use Rattle.dirfrag_codec.proofs.ByteKeys.{get_beside}
-use Rattle.dentry_cache.specs.Cache.{Leaf, Unsaved, leaf_cmp}
-use Rattle.dentry_cache.specs.Loading.{object_of}
-use Rattle.dentry_cache.specs.Ties.{names_at}
-use Rattle.mdcache.specs.Batches.{CommitsWhole, IsAsItWas, IsWritten, MayNotCommit}
-use Rattle.mdcache.specs.Ready.{LacksNumbers}
-use Rattle.mdcache.specs.Commits.{Ends, HasSpelled, IsEnded, leaf_of, names_then}
-use Rattle.mdcache.specs.Flushed.{IsAtHand}
-use Rattle.mdcache.specs.Shown.{names_of, shown_at, shown_tree}
-use Rattle.mdcache.specs.Sound.{IsSound}
-use Rattle.mdcache.specs.StandingJobs.{Jobs}
-use Rattle.mdcache.specs.State.{IsLive, State, UnsavedLeaves, text_of}
+use Rattle.objstore.specs.Objects.{written}
+use Rattle.dentry_cache.specs.Cache.{leaf_cmp}
+use Rattle.mdcache.specs.Commits.{leaf_of}
+use Rattle.mdcache.specs.Shown.{names_of}
 use Rattle.mdcache.proofs.AtHandLaws.{ended_are_clean}
 use Rattle.mdcache.proofs.TextLaws.{one_text}
 

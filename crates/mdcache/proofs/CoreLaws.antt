@@ -1,49 +1,10 @@
 -- What reads and preparations leave of the tree over caches and a store, and what they find.
-use Rattle.std.proofs.Common.{◌≡◌, ◌⊎◌, inl, inr, ℕ, zero, suc, ◌+◌, ◌<◌, ◌≤◌, true, length, List, Option, Some, None, refl, sym, ap, subst, ◌∙◌, arith}
-use Rattle.std.specs.Prelude.{IfErr, IfOk, OnErr, OnOk, Result, Ok, Err, is_some}
+use Rattle.mdcache.proofs.Common.{AreCached, At, Base, CacheMap, Cached, Came, Core, Counts, Covers, Dentry, DirPins, Dirfrag, Edits, Fragment, Fresh, HasCached, Homes, IfErr, IfOk, Ino, Inode, IsButRoom, IsCachedIn, IsFree, IsLive, IsNoLess, IsPick, IsReadOf, IsSaved, IsSound, IsSoundCore, IsThat, IsThere, IsTiedAt, KeepsNone, KeepsState, Keys, LacksPlacesIn, Leaf, List, Loads, MayFetch, MayHold, MayNotBeReady, MayNotFind, Names, None, NoneEnds, Objects, Omap, OnErr, OnOk, Option, Reads, ReadsCore, Refusal, Result, Rooms, Some, State, Stored, UnsavedLeaves, ap, arith, at, came_cap, came_ranks, edits_reads, faults_told, fetched_are_tied, get_unclean, hash_of, here, here_is, inl, inr, is_directory, is_known, is_some, known_is, leaf_of, leaves_of, length, object_of, reads_came, reads_held, reads_then, reads_unclean, reads_weaker, refl, shown, shown_at, shown_in, shows, shows_in, state_of, subst, suc, sym, true, unclean, unclean_of, unsaved_at, used_at, used_reads, zero, ℕ, ◌+◌, ◌<◌, ◌∙◌, ◌≡◌, ◌≤◌, ◌⊎◌}
+use Rattle.std.specs.Prelude.{Ok, Err}
 use Rattle.std.specs.FinMap as map
-use Rattle.mds_types.specs.declared.dentries.Dentry.{Dentry}
-use Rattle.mds_types.specs.declared.ids.Ino.{Ino}
-use Rattle.mds_types.specs.declared.inodes.Inode.{Inode}
-use Rattle.mds_types.specs.declared.refusals.Refusal.{Refusal}
-use Rattle.mds_types.specs.Frag.{Fragment}
-use Rattle.mds_types.specs.Tree.{is_directory}
-use Rattle.mds_types.specs.Leaf.{leaf_of}
-use Rattle.fragtree.specs.FragTree.{IsPick}
-use Rattle.namehash.specs.Rjenkins.{hash_of}
-use Rattle.objstore.specs.Omap.{Omap}
-use Rattle.objstore.specs.Objects.{Objects, faults_told}
-use Rattle.cached_frag.specs.declared.bases.Base.{Base}
-use Rattle.cached_frag.specs.declared.bases.Base.TheVariants.{Fresh, Stored}
-use Rattle.cached_frag.specs.Cached.{Cached, shown}
-use Rattle.dentry_cache.specs.Cache.{HasCached, IsThere, Leaf}
-use Rattle.dentry_cache.specs.CacheMap.{At, CacheMap, IsFree, at, here, unclean, unclean_of, unsaved_at, used_at}
-use Rattle.dentry_cache.specs.CacheCalls.{Edits, KeepsNone}
-use Rattle.dentry_cache.specs.Came.{Came, IsThat, NoneEnds}
-use Rattle.dentry_cache.specs.Loading.{IsSaved, Loads, object_of}
-use Rattle.dentry_cache.specs.Reads.{IsButRoom, IsReadOf, Reads}
 use Rattle.dentry_cache.specs.Reads.Reads.{stays as it_stays}
-use Rattle.dentry_cache.specs.Ties.{IsTiedAt}
-use Rattle.mds_types.specs.declared.dirfrags.Dirfrag.{Dirfrag}
-use Rattle.dentry_cache.proofs.TieLaws.{fetched_are_tied}
-use Rattle.dentry_cache.proofs.UncleanLaws.{get_unclean}
-use Rattle.inode_table.specs.Dirs.{Counts, DirPins, is_known, leaves_of}
-use Rattle.inode_table.proofs.TableLaws.{known_is}
-use Rattle.mdcache.specs.Core.{AreCached, Core, IsCachedIn, IsNoLess, IsSoundCore, MayFetch, ReadsCore, Rooms, shown_in, shows, shows_in, state_of}
-use Rattle.mdcache.specs.Frags.{KeepsState}
-use Rattle.dirfrag_codec.specs.FragmentObject.{Names}
-use Rattle.mdcache.specs.CacheReads.{LacksPlacesIn}
-use Rattle.mdcache.specs.Ranks.{MayHold}
-use Rattle.objstore.specs.Omap.{Keys}
-use Rattle.inode_table.specs.Dirs.{Covers, Homes}
-use Rattle.mdcache.specs.Ready.{MayNotBeReady}
-use Rattle.mdcache.specs.Reads.{MayNotFind}
-use Rattle.mdcache.specs.Shown.{names_of, shown_at}
-use Rattle.mdcache.specs.Sound.{IsSound}
-use Rattle.mdcache.specs.State.{IsLive, State, UnsavedLeaves}
+use Rattle.mdcache.specs.Shown.{names_of}
 use Rattle.mdcache.proofs.EndLaws.{cached_shows}
-use Rattle.dentry_cache.proofs.FrameLaws.{came_cap, came_ranks}
-use Rattle.dentry_cache.proofs.ReadsLaws.{edits_reads, here_is, reads_came, reads_held, reads_then, reads_unclean, reads_weaker, used_reads}
 use Rattle.mdcache.proofs.UncleanOf.{reads_unclean_of}
 use Rattle.mdcache.proofs.TreeLookups.{at_dentry}
 

@@ -1,18 +1,6 @@
 -- Refusals that are no fault of a store: a call that is refused so tells none.
-use Rattle.std.specs.Prelude.{◌≡◌, ℕ, Option, Result, Ok, Err, IfErr, refl}
-use Rattle.std.proofs.Common.{inl, inr, ap, subst, ◌∙◌, arith}
-use Rattle.std.specs.Result.{result_err}
-use Rattle.mds_types.specs.declared.ids.Ino.{Ino}
-use Rattle.mds_types.specs.declared.refusals.Refusal.{Refusal}
-use Rattle.mds_types.specs.declared.refusals.Refusal.TheVariants.{NoMemory, StoreFault, NoInodes, Trimmed, NotAuthority, Frozen, Pinned, NoSuchFrag, BadSplit, TooManyFrags, StaleJob, JobOutstanding, WrongExportState, InboxEmpty, InboxFull, NothingToEvict, Damaged, NotClean}
-use Rattle.objstore.specs.Objects.{faults_in, faults_told}
-use Rattle.cached_frag.specs.declared.jobs.Job.{Job}
-use Rattle.dentry_cache.specs.Cache.{Leaf}
-use Rattle.inode_table.specs.Dirs.{Homes}
-use Rattle.mdcache.specs.Commits.{Begins, MayNotBegin}
-use Rattle.mdcache.specs.Ready.{MayNotBeReady}
-use Rattle.mdcache.specs.Regroups.{LacksCounts, MayNotRegroup, RefusesLeaves}
-use Rattle.mdcache.specs.State.{State}
+use Rattle.mdcache.proofs.Common.{BadSplit, Begins, Damaged, Frozen, Homes, IfErr, InboxEmpty, InboxFull, Ino, Job, JobOutstanding, LacksCounts, Leaf, MayNotBeReady, MayNotBegin, MayNotRegroup, NoInodes, NoMemory, NoSuchFrag, NotAuthority, NotClean, NothingToEvict, Pinned, Refusal, RefusesLeaves, Result, StaleJob, State, StoreFault, TooManyFrags, Trimmed, WrongExportState, ap, arith, faults_in, faults_told, inl, inr, result_err, subst, ◌∙◌}
+use Rattle.std.specs.Prelude.{◌≡◌, ℕ, Option, Ok, Err, refl}
 
 -- each refusal but one is no fault
 pub free : (reason : Refusal) → (reason ≡ StoreFault → ⊥) → faults_in reason ≡ 0

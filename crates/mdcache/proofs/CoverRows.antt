@@ -1,10 +1,7 @@
 -- The rows of leaves: which directories have one, and what a change leaves of them.
-use Rattle.std.proofs.Common.{◌≡◌, ◌⊎◌, inl, inr, ℕ, ◌<◌, arith, true, Option, Some, None, List, length, refl, ap, ◌∙◌}
-use Rattle.std.specs.Prelude.{is_some}
+use Rattle.mdcache.proofs.Common.{Covers, Fragment, Homes, IsTable, List, None, Option, Some, ap, arith, inl, inr, is_known, is_some, leaves_of, length, or_whole, refl, same_or_apart, true, ℕ, ◌<◌, ◌∙◌, ◌≡◌, ◌⊎◌}
 use Rattle.std.specs.FinMap as map
-use Rattle.mds_types.specs.Frag.{Fragment}
-use Rattle.sorted_map.proofs.NatKeys.{get_beside, get_left, get_put, same_or_apart}
-use Rattle.inode_table.specs.Dirs.{Covers, Homes, IsTable, is_known, leaves_of, or_whole}
+use Rattle.sorted_map.proofs.NatKeys.{get_beside, get_left, get_put}
 
 -- a directory of several leaves has a row
 pub several_in_row : (covers : Covers) (d : ℕ) → 1 < length (leaves_of covers d) → is_some (map.get covers d) ≡ true

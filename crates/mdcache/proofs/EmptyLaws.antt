@@ -1,21 +1,10 @@
 -- Stores without objects, and objects without pairs.
-use Rattle.std.proofs.Common.{◌≡◌, ◌↔◌, ℕ, ◌≤◌, Bool, true, false, cond, not, List, [], ◌∷◌, length, IsTrue, Option, Some, None, refl, sym, ap, ◌∙◌, arith}
-use Rattle.std.specs.Prelude.{◌==◌, take, nat_lt, map as each}
-use Rattle.std.specs.Option.{option_map}
-use Rattle.std.proofs.lemmas.Bool.Decides.{nat_tests}
-use Rattle.std.specs.Ordering.{eq_by_cmp}
-use Rattle.std.specs.Cmp.Lexicographic.{nat_list_cmp_total, pointwise}
-use Rattle.std.proofs.lemmas.Slice.Eq.{bytes_eq-Decides}
-use Rattle.std.proofs.lemmas.Map.Lookups.{exact_bytes}
+use Rattle.mdcache.proofs.Common.{Bool, Fragment, List, NameList, None, Objects, Omap, Option, PairMap, PairPage, Some, [], all_kept, ap, arith, bytes_eq-Decides, cond, empty_of_len, eq_by_cmp, exact_bytes, false, first_names, get_beside, get_put, header_at, key_cmp, key_itself, key_tied, len-empty, len-entries, length, nat_list_cmp_total, nat_lt, nat_tests, not, option_map, page_at, page_of, pointwise, refl, same_map, sym, tree_bytes, tree_object, true, with_tree_at, ℕ, ◌==◌, ◌∙◌, ◌∷◌, ◌≡◌, ◌≤◌}
+use Rattle.std.proofs.Common.{◌↔◌, IsTrue}
+use Rattle.std.specs.Prelude.{take, map as each}
 use Rattle.std.specs.FinMap as map
-use Rattle.std.specs.FinMap.{empty_of_len, len-empty, len-entries, same_map}
-use Rattle.sorted_map.proofs.Filters.{all_kept}
-use Rattle.objstore.specs.Omap.{Omap, PairMap, PairPage, key_cmp, page_of, pairs_after}
-use Rattle.mds_types.specs.Frag.{Fragment}
-use Rattle.objstore.specs.Objects.{Objects, NameList, first_names, header_at, names_after, page_at}
-use Rattle.dirfrag_codec.specs.TreeObject.{tree_bytes}
-use Rattle.dirfrag_codec.proofs.ByteKeys.{get_beside, get_put, key_itself, key_tied}
-use Rattle.mdcache.specs.Objects.{tree_object, with_tree_at}
+use Rattle.objstore.specs.Omap.{pairs_after}
+use Rattle.objstore.specs.Objects.{names_after}
 
 one_of_some : {A : Type 0} (x : A) (xs : List A) → (length (take 1 (x ∷ xs)) == 0) ≡ false
 one_of_some x xs = grind (arith, nat_tests)

@@ -1,14 +1,6 @@
 -- Writes that are made side by side: what the results are of each job, and what is collected of them.
-use Rattle.std.proofs.Common.{arith, ◌≡◌, ◌<◌, ℕ, zero, suc, length, slice_index_or, List, [], ◌∷◌, map as list_map, Ok, Err}
-use Rattle.std.proofs.Common.{refl, subst, ◌∙◌}
-use Rattle.std.specs.Prelude.{Result, IfOk, IfErr, MatchResult}
-use Rattle.std.specs.List.{AllZip, Contains}
-use Rattle.std.specs.declared.vec.Vec.{Vec}
-use Rattle.mds_types.specs.declared.refusals.Refusal.{Refusal}
-use Rattle.mds_types.specs.declared.refusals.Refusal.TheVariants.{NoMemory}
-use Rattle.mdcache.specs.Batches.{IsReadied, ready_of}
-use Rattle.mdcache.specs.declared.batches.Begun.{Begun}
-use Rattle.mdcache.specs.declared.batches.Ready.{Ready}
+use Rattle.mdcache.proofs.Common.{AllZip, Begun, Contains, Err, IfErr, IfOk, IsReadied, List, MatchResult, NoMemory, Ok, Ready, Refusal, Result, Vec, [], arith, length, ready_of, refl, slice_index_or, subst, suc, zero, ℕ, ◌<◌, ◌∙◌, ◌∷◌, ◌≡◌}
+use Rattle.std.proofs.Common.{map as list_map}
 
 abbrev Results : Type 0
 Results = List (Result Ready Refusal)

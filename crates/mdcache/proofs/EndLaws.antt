@@ -1,42 +1,13 @@
 -- What the end of a commit keeps.
-use Rattle.std.proofs.Common.{◌≡◌, inl, ℕ, ◌<◌, Bool, true, false, cond, not, List, Option, Some, None, refl, sym, ap, subst, ◌∙◌, arith}
-use Rattle.std.specs.Prelude.{◌==◌, is_some}
-use Rattle.std.proofs.lemmas.Bool.{eqb-true}
-use Rattle.std.proofs.lemmas.Option.{same_Some}
-use Rattle.std.specs.Ordering.{eq_by_cmp}
+use Rattle.mdcache.proofs.Common.{AreCached, AreYoung, At, Base, Bool, Cached, Commits, Core, Fresh, HasSpelled, Inode, IsCachedIn, IsCommitted, IsCounted, IsEnded, IsLive, IsOf, IsOwned, IsSaved, IsSound, IsSoundCore, IsStanding, IsTabled, IsTied, IsUnsaved, Job, Keeps, Leaf, List, Marks, Names, None, Omap, Option, Snap, Some, SpellsFragment, State, Stored, Unsaved, ap, arith, at, committed, committed_are_tied, cond, empty_of_len, eq_by_cmp, eqb-true, false, get-unsettled, get_beside, get_put, get_unclean, get_with_frag, here_is, inl, is_clean, is_clean_over, is_settled, is_some, key_cmp, key_itself, key_tied, leaf_is, leaf_itself, names_at, names_then, next_version, none_entries, not, object_after, object_of, one_leaf, refl, same_Some, same_leaf, shown, shown_at, shown_over, shown_tree, spells_what_it_shows, state_of, subst, sym, text_of, tied_show, true, unclean, unclean_with, unsaved_at, unsaved_of, unsettled, with_frag, with_marks, with_unsaved, ℕ, ◌<◌, ◌==◌, ◌∙◌, ◌≡◌}
 use Rattle.std.specs.FinMap as map
-use Rattle.std.specs.FinMap.{empty_of_len}
-use Rattle.sorted_map.proofs.OverlayLaws.{none_entries}
-use Rattle.mds_types.specs.declared.inodes.Inode.{Inode}
-use Rattle.dirfrag_codec.proofs.ByteKeys.{get_beside, get_put, key_itself, key_tied}
-use Rattle.inode_table.specs.TreeTable.{IsCounted, IsTabled}
-use Rattle.objstore.specs.Omap.{Omap, key_cmp}
 use Rattle.objstore.specs.Objects.{written}
-use Rattle.dirfrag_codec.specs.FragmentObject.{Names, SpellsFragment}
-use Rattle.dirfrag_codec.proofs.FragmentLaws.{spells_what_it_shows}
-use Rattle.cached_frag.specs.declared.bases.Base.{Base}
-use Rattle.cached_frag.specs.declared.bases.Base.TheVariants.{Fresh, Stored}
-use Rattle.cached_frag.specs.declared.jobs.Job.{Job}
-use Rattle.cached_frag.specs.Marks.{Marks, patched, with_marks}
-use Rattle.cached_frag.specs.Snap.{Snap, next_version}
-use Rattle.cached_frag.specs.Cached.{Cached, is_clean, is_clean_over, is_settled, shown, shown_over, unsettled}
-use Rattle.cached_frag.proofs.SettledLaws.{get-unsettled}
-use Rattle.dentry_cache.specs.Loading.{IsSaved, object_of}
-use Rattle.dentry_cache.specs.Cache.{Leaf, Unsaved, leaf_is, unsaved_of, with_unsaved}
-use Rattle.dentry_cache.specs.CacheMap.{At, at, here as here_of, unclean, unsaved_at, with_frag}
-use Rattle.dentry_cache.specs.Commits.{IsCommitted}
-use Rattle.dentry_cache.specs.Ties.{Commits, IsRight, IsTied, Keeps, names_at, object_after}
+use Rattle.cached_frag.specs.Marks.{patched}
+use Rattle.dentry_cache.specs.CacheMap.{here as here_of}
+use Rattle.dentry_cache.specs.Ties.{IsRight}
 use Rattle.dentry_cache.proofs.CacheLaws.{unsaved_here as unsaved_here_at}
-use Rattle.dentry_cache.proofs.UncleanLaws.{get_unclean, unclean_with}
-use Rattle.dentry_cache.proofs.LeafLaws.{leaf_itself, one_leaf, same_leaf}
-use Rattle.dentry_cache.proofs.TieLaws.{committed_are_tied, tied_show}
-use Rattle.mdcache.specs.Core.{AreCached, Core, IsCachedIn, IsSoundCore, state_of}
-use Rattle.mdcache.specs.Commits.{HasSpelled, IsEnded, committed, leaf_of, left_of, names_then}
-use Rattle.mdcache.specs.Shown.{names_of, shown_at, shown_tree}
-use Rattle.mdcache.specs.Sound.{AreYoung, IsOf, IsOwned, IsSound, IsStanding, IsUnsaved}
-use Rattle.mdcache.specs.State.{IsLive, State, text_of}
-use Rattle.dentry_cache.proofs.ReadsLaws.{here_is}
-use Rattle.dentry_cache.proofs.StepLaws.{get_with_frag}
+use Rattle.mdcache.specs.Commits.{leaf_of, left_of}
+use Rattle.mdcache.specs.Shown.{names_of}
 use Rattle.mdcache.proofs.SoundLaws.{get_ended, names_alike, stood_before}
 use Rattle.mdcache.proofs.TextLaws.{one_text}
 use Rattle.mdcache.proofs.TreeLaws.{tree_alike}

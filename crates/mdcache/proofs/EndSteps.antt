@@ -1,31 +1,11 @@
 -- What the end of a commit leaves, done or refused.
-use Rattle.std.proofs.Common.{◌≡◌, ℕ, Bool, cond, Option, Some, None, refl, sym, ap, subst, ◌∙◌}
+use Rattle.mdcache.proofs.Common.{AreCached, At, Bool, CacheMap, Cached, Came, Core, Edits, IsCommitted, IsEnded, IsFree, IsFreeFor, IsSound, IsSoundCore, IsThat, IsThere, Job, Jobs, KeepsNone, Leaf, None, NoneEnds, Objects, Option, Rooms, Some, State, Unsaved, WriteOp, ap, at_rank, by_edits, cond, edits_unclean, get_unclean, has, here, here_is, is_same, leaf_text, refl, state_of, stays, subst, sym, unsaved_at, unsaved_in, with_frag, write_of, written, ℕ, ◌∙◌, ◌≡◌}
 use Rattle.std.specs.FinMap as map
-use Rattle.sorted_map.proofs.NatKeys.{is_same}
-use Rattle.objstore.specs.Objects.{Objects, written}
-use Rattle.cached_frag.specs.declared.jobs.Job.{Job}
-use Rattle.cached_frag.specs.Commit.{write_of}
-use Rattle.cached_frag.specs.Cached.{Cached}
-use Rattle.dentry_cache.specs.Cache.{IsThere, Leaf, Unsaved, unsaved_in}
-use Rattle.dentry_cache.specs.CacheCalls.{Edits, KeepsNone}
-use Rattle.dentry_cache.specs.CacheMap.{At, CacheMap, IsFree, IsFreeFor, at_rank, here, unsaved_at, with_frag}
-use Rattle.dentry_cache.specs.Came.{Came, IsThat, NoneEnds}
-use Rattle.dentry_cache.specs.Came.Came.{has, stays}
-use Rattle.objstore.specs.declared.write_ops.WriteOp.{WriteOp}
-use Rattle.dentry_cache.specs.Commits.{IsCommitted, leaf_text}
-use Rattle.dentry_cache.proofs.CameLaws.{edits_unclean}
-use Rattle.dentry_cache.proofs.StepLaws.{by_edits}
-use Rattle.dentry_cache.proofs.UncleanLaws.{get_unclean}
-use Rattle.mdcache.specs.Commits.{IsEnded, leaf_of}
-use Rattle.mdcache.specs.Core.{AreCached, Core, IsSoundCore, Rooms, state_of}
-use Rattle.mdcache.specs.Sound.{IsSound}
-use Rattle.mdcache.specs.StandingJobs.{Jobs}
-use Rattle.mdcache.specs.State.{State}
+use Rattle.mdcache.specs.Commits.{leaf_of}
 use Rattle.mdcache.proofs.CoreLaws.{cached_but}
 use Rattle.mdcache.proofs.EndLaws.{ended, ended_cached, ended_sound, now_unclean, t}
 use Rattle.mdcache.proofs.NoneLaws.{none_edits}
 use Rattle.mdcache.proofs.PutLaws.{cached_with}
-use Rattle.dentry_cache.proofs.ReadsLaws.{here_is}
 
 module _ (old view : Core) (is : view ≡ old) (sound : IsSoundCore old) (r : ℕ) (job : Job) (stood : map.get view.jobs (leaf_of job) ≡ Some job) (free : IsFreeFor view.caches r (leaf_of job)) where
   abbrev leaf : Leaf

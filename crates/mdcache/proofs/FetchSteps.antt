@@ -1,30 +1,8 @@
 -- A fetch of a leaf: what it leaves, and why it is refused.
-use Rattle.std.proofs.Common.{◌≡◌, inl, inr, ℕ, ◌+◌, ◌<◌, List, [], length, get_or-set_same, Bool, true, false, cond, Option, Some, None, refl, sym, ap, subst, ◌∙◌, arith}
-use Rattle.std.specs.Prelude.{slice_get, OnOk, OnErr, IfErr, Result, Ok, Err}
-use Rattle.std.specs.Result.{result_err}
+use Rattle.mdcache.proofs.Common.{AreCaches, Bool, CacheMap, Core, Dirfrag, FetchesAt, Fragment, IfErr, IsAbsent, IsNewest, IsSaved, IsThere, KeepsNone, LacksPlacesIn, Leaf, List, Loads, MakesRoomAt, MayFetch, MayNotFetchAt, MayNotFind, None, NoneEnds, Objects, Omap, OnErr, OnOk, Option, Reads, ReadsCore, Refusal, Result, Some, StaysNamed, [], ap, arith, at, at_rank, cond, false, faults_told, fetched_reads, first, get_or-set_same, get_unclean, get_with_frag, has_place, here, inl, inr, leaf_is, leaf_of, length, object_of, one_leaf, order, ranks_roomy, refl, result_err, room_reads, roomy, roomy_stays, slice_get, staying, subst, sym, true, unclean, unsaved_at, used_at, ℕ, ◌+◌, ◌<◌, ◌∙◌, ◌≡◌}
+use Rattle.std.specs.Prelude.{Ok, Err}
 use Rattle.std.specs.FinMap as map
-use Rattle.mds_types.specs.declared.refusals.Refusal.{Refusal}
-use Rattle.mds_types.specs.Frag.{Fragment}
-use Rattle.mds_types.specs.Leaf.{leaf_of}
-use Rattle.objstore.specs.Omap.{Omap}
-use Rattle.objstore.specs.Objects.{Objects, faults_told}
-use Rattle.dentry_cache.specs.Cache.{IsThere, Leaf, leaf_is}
-use Rattle.dentry_cache.specs.CacheCalls.{FetchesAt, IsAbsent, KeepsNone, MakesRoomAt, MayNotFetchAt}
-use Rattle.dentry_cache.specs.CacheMap.{AreCaches, CacheMap, at, at_rank, first, has_place, here, order, roomy, unclean, unsaved_at, used_at}
-use Rattle.dentry_cache.specs.Came.{NoneEnds, StaysNamed}
-use Rattle.dentry_cache.specs.Loading.{IsSaved, Loads, object_of}
-use Rattle.dentry_cache.specs.Reads.{Reads}
 use Rattle.dentry_cache.specs.Reads.Reads.{stays as it_stays}
-use Rattle.mds_types.specs.declared.dirfrags.Dirfrag.{Dirfrag}
-use Rattle.dentry_cache.proofs.CountLaws.{staying}
-use Rattle.dentry_cache.proofs.KeptLaws.{roomy_stays}
-use Rattle.dentry_cache.proofs.LeafLaws.{one_leaf}
-use Rattle.dentry_cache.proofs.ReadsLaws.{fetched_reads, room_reads}
-use Rattle.dentry_cache.proofs.StepLaws.{get_with_frag, ranks_roomy}
-use Rattle.dentry_cache.proofs.UncleanLaws.{get_unclean}
-use Rattle.mdcache.specs.CacheReads.{IsNewest, LacksPlacesIn}
-use Rattle.mdcache.specs.Core.{Core, MayFetch, ReadsCore}
-use Rattle.mdcache.specs.Reads.{MayNotFind}
 use Rattle.mdcache.proofs.CoreLaws.{first_step, no_less_itself}
 use Rattle.mdcache.proofs.NoneLaws.{none_fetched, none_room}
 use Rattle.mdcache.proofs.UncleanOf.{full_lacks}

@@ -1,23 +1,9 @@
 -- What the steps of a flush end in.
-use Rattle.std.proofs.Common.{◌≡◌, inl, inr, ℕ, true, false, cond, Option, Some, None, List, Result, Ok, Err, refl, sym, ap, subst, ◌∙◌}
-use Rattle.std.specs.Prelude.{OnOk, is_some, length, nat_lt}
+use Rattle.mdcache.proofs.Common.{AreExact, ArePurged, Err, Frag, Fragment, HasTrees, Ino, IsColdTree, IsFlushed, IsOwned, IsSound, List, None, ObjName, Ok, Omap, OnOk, Option, PurgedAreFlushed, Refusal, Some, State, ap, cond, false, get-empty, inl, inr, is_known, is_some, nat_lt, or_whole, refl, shown_tree, subst, sym, texts_differ, tree_object, tree_text, true, ℕ, ◌∙◌, ◌≡◌}
+use Rattle.std.proofs.Common.{Result}
+use Rattle.std.specs.Prelude.{length}
 use Rattle.std.specs.FinMap as map
-use Rattle.std.specs.FinMap.{get-empty}
-use Rattle.mds_types.proofs.ObjectTextLaws.{texts_differ}
-use Rattle.mds_types.specs.Frag.{Fragment}
-use Rattle.mds_types.specs.declared.ids.Ino.{Ino}
-use Rattle.mds_types.specs.declared.object_names.ObjName.{ObjName}
-use Rattle.mds_types.specs.declared.object_names.ObjName.TheVariants.{Frag, Tree}
-use Rattle.mds_types.specs.declared.refusals.Refusal.{Refusal}
-use Rattle.objstore.specs.Omap.{Omap}
-use Rattle.inode_table.specs.Dirs.{is_known, or_whole}
-use Rattle.cold_store.specs.ColdTree.{IsColdTree}
-use Rattle.mdcache.specs.Flushed.{AreExact, ArePurged, IsFlushed, PurgedAreFlushed}
-use Rattle.mdcache.specs.Objects.{tree_object}
-use Rattle.mdcache.specs.SavedTrees.{HasTrees}
-use Rattle.mdcache.specs.Shown.{shown_tree}
-use Rattle.mdcache.specs.Sound.{IsOwned, IsSound}
-use Rattle.mdcache.specs.State.{State, tree_text}
+use Rattle.mds_types.specs.declared.object_names.ObjName.TheVariants.{Tree}
 use Rattle.mdcache.proofs.CoverRows.{known_by_row}
 use Rattle.mdcache.proofs.FlushedLaws.{flushed_is_cold, purged_are_exact}
 use Rattle.mdcache.proofs.TextLaws.{no_tree_text}

@@ -1,37 +1,12 @@
 -- The cold tree of a state of which all is saved is the shown tree, and once all is purged its objects are exact.
-use Rattle.std.proofs.Common.{◌≡◌, ◌⊎◌, inl, inr, ℕ, zero, suc, ◌+◌, ◌-◌, ◌<◌, ◌^◌, Bool, true, false, cond, length, nat_lt, List, [], ◌∷◌, Option, Some, None, refl, sym, ap, subst, ◌∙◌, arith}
-use Rattle.std.specs.Prelude.{◌==◌, is_some}
+use Rattle.mdcache.proofs.Common.{AreExact, Bool, FlushedIsCold, Fragment, HasLeaf, HasNoFault, HasRecords, Home, Ino, Inode, IsColdLeaf, IsFaulty, IsFlushed, IsFragment, IsLive, IsOwned, IsPick, IsReached, IsRecord, IsSamePlace, IsSaved, IsSound, IsTree, List, Loads, Names, None, Omap, Option, PurgedAreExact, Reaches, Record, SaysLeaves, Some, SpellsTreeObject, State, [], ap, arith, cond, dentry_of, eqb-true, false, get-empty, hash_of, inl, inr, is_known, is_some, leaves_of, length, lt-ltb, ltb-true, names_at, object_of, one_pick, one_tree, or_cases, or_right, pow-lt, refl, root_fragment, same_Some, same_or_apart, shown_at, shown_tree, some_pick, span, subst, suc, sym, text_of, tree_object, tree_of, tree_of_row, tree_text, true, zero, ℕ, ◌+◌, ◌-◌, ◌<◌, ◌==◌, ◌^◌, ◌∙◌, ◌∷◌, ◌≡◌, ◌⊎◌}
+use Rattle.std.proofs.Common.{nat_lt}
 use Rattle.std.specs.FinMap as map
-use Rattle.std.specs.FinMap.{get-empty}
-use Rattle.std.proofs.lemmas.Bool.{eqb-true, lt-ltb, ltb-true, or_cases, or_right}
-use Rattle.std.proofs.Math.Pow.{pow-lt}
-use Rattle.sorted_map.proofs.NatKeys.{same_or_apart}
-use Rattle.std.proofs.lemmas.Option.{same_Some}
-use Rattle.mds_types.specs.Frag.{Fragment, IsFragment, root_fragment, span}
 use Rattle.mds_types.specs.Leaf.{Leaf}
-use Rattle.mds_types.specs.Tree.{dentry_of}
-use Rattle.mds_types.specs.declared.ids.Ino.{Ino}
-use Rattle.mds_types.specs.declared.inodes.Inode.{Inode}
-use Rattle.objstore.specs.Omap.{Omap}
-use Rattle.namehash.specs.Rjenkins.{hash_of}
-use Rattle.fragtree.specs.FragTree.{HasLeaf, IsPick, IsTree}
-use Rattle.fragtree.proofs.TreeLaws.{one_pick, some_pick}
-use Rattle.dirfrag_codec.specs.FragmentObject.{SpellsTreeObject, Names}
-use Rattle.dirfrag_codec.proofs.TreeLaws.{one_tree}
-use Rattle.dentry_cache.specs.Loading.{IsSaved, Loads, object_of}
-use Rattle.dentry_cache.specs.Ties.{names_at}
-use Rattle.inode_table.specs.declared.dirs.Home.{Home}
-use Rattle.inode_table.specs.Dirs.{Reaches, is_known, leaves_of}
-use Rattle.inode_table.proofs.Tables.{tree_of_row}
-use Rattle.mdcache.specs.Objects.{tree_object}
-use Rattle.mdcache.specs.Shown.{names_of as shown_names, shown_at, shown_tree}
-use Rattle.mdcache.specs.Sound.{IsOwned, IsSound}
-use Rattle.mdcache.specs.State.{IsLive, State, text_of, tree_text}
+use Rattle.mdcache.specs.Shown.{names_of as shown_names}
 use Rattle.mdcache.proofs.CoverRows.{known_by_row}
 use Rattle.mdcache.proofs.ShownLaws.{found_nowhere}
 use Rattle.mdcache.proofs.TreeLookups.{at_dentry}
-use Rattle.cold_store.specs.ColdTree.{HasNoFault, HasRecords, IsColdLeaf, IsFaulty, IsReached, IsRecord, IsSamePlace, Record, SaysLeaves, tree_of}
-use Rattle.mdcache.specs.Flushed.{AreExact, FlushedIsCold, IsFlushed, PurgedAreExact}
 
 -- a tree of fewer than two leaves is `*` alone
 pub few_bits : (f : Fragment) → IsFragment f → f.value ≡ 0 → 0 + span f.bits ≡ 2 ^ 24 → f ≡ root_fragment

@@ -1,35 +1,9 @@
 -- The names that are gathered from all leaves of a directory are those that the shown tree lists.
-use Rattle.std.proofs.Common.{◌≡◌, ◌⊎◌, inl, inr, ℕ, zero, suc, Bool, true, false, cond, T, List, [], ◌∷◌, Option, Some, None, refl, sym, ap, subst, ◌∙◌, arith}
-use Rattle.std.specs.List.{Contains}
-use Rattle.std.specs.Option.{option_or}
-use Rattle.std.specs.Ordering.{eq_by_cmp}
-use Rattle.std.specs.Cmp.Lexicographic.{nat_list_cmp_total}
-use Rattle.std.proofs.lemmas.Map.Lookups.{exact_bytes}
+use Rattle.mdcache.proofs.Common.{Bool, Contains, Fragment, Gathered, Ino, Inode, IsPageOf, IsPick, IsSound, List, Names, None, Option, Row, Some, State, T, [], ap, arith, cond, entries_sorted, eq_by_cmp, exact_bytes, false, find-put, find-where_key, gathered, get-entries, hash_of, inl, inr, is_after, is_known, is_sorted-put, is_sorted-where_key, key_cmp, key_tied, leaves_of, left_of, names_after, names_are_listed, names_of, nat_list_cmp_total, none_either, not_found, option_or, put, puts, refl, right_of, rows_after, same_entries, shown_tree, some_pick, subst, suc, sym, tree_of_row, true, zero, ℕ, ◌∙◌, ◌∷◌, ◌≡◌, ◌⊎◌}
 use Rattle.std.specs.FinMap as map
-use Rattle.std.specs.FinMap.{entries_sorted, get-entries}
-use Rattle.std.specs.FinMap.Entries.{find, find-put, find-where_key, is_sorted, is_sorted-put, is_sorted-where_key, put, same_entries}
-use Rattle.sorted_map.specs.Places.{puts}
-use Rattle.sorted_map.proofs.Bools.{left_of, right_of}
-use Rattle.mds_types.specs.declared.ids.Ino.{Ino}
-use Rattle.mds_types.specs.declared.inodes.Inode.{Inode}
-use Rattle.mds_types.specs.Frag.{Fragment}
-use Rattle.mds_types.specs.Step.{is_after, names_after}
-use Rattle.mds_types.proofs.ListingLaws.{names_are_listed}
-use Rattle.objstore.specs.Omap.{key_cmp}
-use Rattle.fragtree.specs.FragTree.{IsPick}
-use Rattle.fragtree.proofs.TreeLaws.{first as first_has, some_pick, later as later_has}
-use Rattle.namehash.specs.Rjenkins.{hash_of}
-use Rattle.dirfrag_codec.specs.FragmentObject.{Names}
-use Rattle.dirfrag_codec.proofs.ByteKeys.{key_tied, not_found}
-use Rattle.cached_frag.specs.Rows.{Row, rows_after}
-use Rattle.inode_table.specs.Dirs.{is_known, leaves_of}
-use Rattle.inode_table.proofs.Tables.{tree_of_row}
-use Rattle.mdcache.specs.Pages.{Gathered, IsPageOf, gathered}
-use Rattle.mdcache.specs.Shown.{names_of, shown_tree}
-use Rattle.mdcache.specs.Sound.{IsSound}
-use Rattle.mdcache.specs.State.{State}
+use Rattle.std.specs.FinMap.Entries.{find, is_sorted}
+use Rattle.fragtree.proofs.TreeLaws.{first as first_has, later as later_has}
 use Rattle.mdcache.proofs.TreeLookups.{at_dentry}
-use Rattle.dentry_cache.proofs.NameParts.{none_either}
 
 -- ---- names put to others
 

@@ -1,34 +1,8 @@
 -- A state once leaves were handed over: sound, and of the same tree.
-use Rattle.std.proofs.Common.{◌≡◌, ◌≢◌, ℕ, ◌<◌, Bool, true, false, cond, ◌⊎◌, inl, inr, List, length, option_map, Option, Some, None, Result, Ok, Err, IfErr, OnErr, OnOk, ◌+◌, drop, [], ◌∷◌, refl, sym, ap, subst, ◌∙◌, arith}
-use Rattle.std.specs.List.{list_any}
+use Rattle.mdcache.proofs.Common.{AreCaches, AreCleanAt, AreHanded, AreUncleanAt, At, Base, Bool, CacheMap, Cached, Core, Err, Fresh, GivenOverIsRight, HandsOver, HaveNoJobs, HaveNoPlace, IsCachedIn, IsCounted, IsFrom, IsGivenOver, IsSound, IsSoundCore, IsStanding, IsTabled, IsThere, IsTied, IsTiedAt, IsUnsaved, IsUntouched, IsWholeBut, Job, KeepsNone, Leaf, List, MayNotHandOver, Names, None, NoneEnds, Ok, Omap, Option, Refusal, Some, State, Stored, Tree, Unsaved, UnsavedLeaves, WantsPlace, [], all_from, all_of, ap, arith, by_keeping, cap_roomy, cond, drop, false, given_up, handed, handed_from, has_place, here, imported, inl, inr, kept_all, leaf_is, length, list_any, moved, moved_all, moved_as, none_beside, object_of, ranks_handed, ranks_wants, refl, same_Some, shown_at, shown_in, shown_tree, state_of, subst, sym, true, unclean, unclean_in, wants_from, whole_handed, whole_wants, without_all, ℕ, ◌+◌, ◌<◌, ◌∙◌, ◌∷◌, ◌≡◌, ◌≢◌, ◌⊎◌}
+use Rattle.std.proofs.Common.{option_map, Result, IfErr, OnErr, OnOk}
 use Rattle.std.specs.FinMap as map
-use Rattle.std.proofs.lemmas.Option.{same_Some}
-use Rattle.mds_types.specs.declared.refusals.Refusal.{Refusal}
-use Rattle.mds_types.specs.Tree.{Tree}
-use Rattle.objstore.specs.Omap.{Omap}
-use Rattle.dirfrag_codec.specs.FragmentObject.{Names}
-use Rattle.cached_frag.specs.declared.bases.Base.{Base}
-use Rattle.cached_frag.specs.declared.bases.Base.TheVariants.{Fresh, Stored}
-use Rattle.cached_frag.specs.declared.jobs.Job.{Job}
-use Rattle.cached_frag.specs.Cached.{Cached, imported}
-use Rattle.dentry_cache.specs.Cache.{IsThere, Leaf, Unsaved, leaf_is}
-use Rattle.dentry_cache.specs.CacheCalls.{KeepsNone, unclean_in}
-use Rattle.dentry_cache.specs.Came.{NoneEnds}
-use Rattle.dentry_cache.specs.CacheMap.{AreCaches, At, CacheMap, given_up, has_place, here, unclean}
-use Rattle.dentry_cache.specs.Handing.{AreCleanAt, AreHanded, AreUncleanAt, HandsOver, HaveNoPlace, MayNotHandOver, WantsPlace, handed, kept_all, moved, moved_all, moved_as, without_all}
-use Rattle.dentry_cache.specs.Loading.{object_of}
-use Rattle.dentry_cache.specs.Ties.{IsTied, IsTiedAt}
-use Rattle.dentry_cache.proofs.HandedLaws.{IsFrom, IsWholeBut, handed_from, ranks_handed, ranks_wants, wants_from, whole_handed, whole_wants}
-use Rattle.dentry_cache.proofs.KeepingLaws.{all_from, all_of, by_keeping}
-use Rattle.dentry_cache.proofs.MoveLaws.{none_beside}
-use Rattle.dentry_cache.proofs.StepLaws.{cap_roomy}
-use Rattle.inode_table.specs.TreeTable.{IsCounted, IsTabled}
-use Rattle.mdcache.specs.Core.{Core, IsCachedIn, IsSoundCore, shown_in, state_of}
-use Rattle.mdcache.specs.Given.{GivenOverIsRight, HaveNoJobs, IsGivenOver}
-use Rattle.mdcache.specs.Made.{IsUntouched}
-use Rattle.mdcache.specs.Shown.{names_of, shown_at, shown_tree}
-use Rattle.mdcache.specs.Sound.{IsSound, IsStanding, IsUnsaved}
-use Rattle.mdcache.specs.State.{State, UnsavedLeaves}
+use Rattle.mdcache.specs.Shown.{names_of}
 use Rattle.mdcache.proofs.TreeLaws.{tree_alike}
 
 -- ---- states

@@ -1,35 +1,11 @@
 -- A directory goes in which nothing is: nothing of it is left but names of objects to be removed, and the tree stays.
-use Rattle.std.proofs.Common.{◌≡◌, ◌⊎◌, inl, inr, ℕ, zero, ◌==◌, ◌||◌, Bool, true, false, cond, List, [], ◌∷◌, Option, Some, None, refl, sym, ap, subst, ◌∙◌, arith}
-use Rattle.std.proofs.lemmas.Bool.{or_left, or_right}
-use Rattle.std.specs.Prelude.{is_some, map as each}
-use Rattle.std.specs.List.{list_any}
+use Rattle.mdcache.proofs.Common.{Bool, Dentry, Fragment, HasLeaf, Home, Ino, Inode, IsLive, IsOwned, IsPick, IsStanding, Job, Keys, Leaf, List, MayGo, Names, None, NothingIn, Option, Some, State, Unsaved, [], ap, arith, cond, dentry-exact, dentry-total, dropped_table, false, first_or_later, get-remove, get_beside, get_put, hash_of, in_directory, inl, inr, is_apart, is_known, is_some, later, leaf-total, leaf_is, leaf_itself, leaves, leaves_of, list_any, names_of, objects_of, one_leaf, or_left, or_right, or_whole, refl, same_map, shown_tree, subst, sym, text_of, tied_leaf, tree_text, true, with_objects, without_directory, without_leaves, zero, ℕ, ◌||◌, ◌∙◌, ◌∷◌, ◌≡◌, ◌⊎◌}
+use Rattle.std.proofs.Common.{◌==◌}
+use Rattle.std.specs.Prelude.{map as each}
 use Rattle.std.specs.FinMap as map
-use Rattle.std.specs.FinMap.{get-remove, same_map}
-use Rattle.mds_types.specs.declared.ids.Ino.{Ino}
-use Rattle.mds_types.specs.declared.dentries.Dentry.{Dentry}
-use Rattle.mds_types.specs.declared.inodes.Inode.{Inode}
-use Rattle.mds_types.specs.Frag.{Fragment}
-use Rattle.mds_types.specs.Tree.{NothingIn}
-use Rattle.mds_types.specs.OrderLaws.{dentry-exact}
-use Rattle.mds_types.proofs.OrderLaws.{dentry-total}
-use Rattle.sorted_map.proofs.NatKeys.{get_left as get_left_home, get_removed as get_removed_home, is_apart, same_or_apart as same_number}
-use Rattle.fragtree.specs.FragTree.{HasLeaf, IsPick}
-use Rattle.fragtree.proofs.TreeLaws.{first_or_later, later}
-use Rattle.namehash.specs.Rjenkins.{hash_of}
-use Rattle.objstore.specs.Omap.{Keys}
-use Rattle.dirfrag_codec.specs.FragmentObject.{Names}
-use Rattle.dirfrag_codec.proofs.ByteKeys.{get_beside, get_put, same_or_apart as key_or_apart}
-use Rattle.cached_frag.specs.declared.jobs.Job.{Job}
-use Rattle.dentry_cache.specs.Cache.{Leaf, Unsaved, leaf_cmp, leaf_is}
-use Rattle.dentry_cache.proofs.LeafLaws.{leaf-total, leaf_itself, one_leaf, tied_leaf}
-use Rattle.inode_table.specs.declared.dirs.Home.{Home}
-use Rattle.inode_table.specs.Dirs.{MayGo, is_known, leaves_of, or_whole}
-use Rattle.inode_table.proofs.Tables.{dropped_table}
-use Rattle.namespace_ops.specs.Changes.{in_directory, leaves}
-use Rattle.mdcache.specs.Changes.{objects_of, with_objects, without_directory, without_leaves}
-use Rattle.mdcache.specs.Shown.{names_of, shown_tree}
-use Rattle.mdcache.specs.Sound.{IsOwned, IsStanding}
-use Rattle.mdcache.specs.State.{IsLive, State, text_of, tree_text}
+use Rattle.sorted_map.proofs.NatKeys.{get_left as get_left_home, get_removed as get_removed_home, same_or_apart as same_number}
+use Rattle.dirfrag_codec.proofs.ByteKeys.{same_or_apart as key_or_apart}
+use Rattle.dentry_cache.specs.Cache.{leaf_cmp}
 use Rattle.mdcache.proofs.CoverRows.{row_left}
 use Rattle.mdcache.proofs.NamedLaws.{HasSoundLeaves, known_or_not, pick_at, stands_at, stands_nowhere}
 use Rattle.mdcache.proofs.SoundLaws.{names_alike}

@@ -1,38 +1,10 @@
 -- Directories come, go and move: the leaves are sound as before, and the tree stays.
-use Rattle.std.proofs.Common.{◌≡◌, ◌⊎◌, inl, inr, ℕ, zero, ◌==◌, ◌||◌, ◌<◌, ◌^◌, Bool, true, false, cond, List, [], ◌∷◌, Option, Some, None, refl, sym, ap, subst, ◌∙◌, arith}
-use Rattle.std.specs.Prelude.{is_some}
-use Rattle.std.specs.Ordering.{eq_by_cmp}
-use Rattle.std.specs.Cmp.Lexicographic.{nat_list_cmp_total}
+use Rattle.mdcache.proofs.Common.{Bool, Covers, Dentry, Fragment, HasLeaf, Home, Homes, Ino, Inode, IsLive, IsOwned, IsPick, IsSaved, IsStanding, IsTable, IsUnsaved, Job, Keys, Leaf, List, MayCome, MayMove, Names, None, Option, Some, State, Unsaved, [], adopted_table, ap, arith, cond, dentry-exact, dentry-total, dir_or_not, eq_by_cmp, false, first_leaf, first_or_later, get-empty, get-insert, get-remove, get_left, get_removed, hash_of, home_at, inl, inr, is_apart, is_dir_kind, is_known, is_some, just_made, key_cmp, known_by, leaf-total, leaf_is, leaf_itself, leaf_or_apart, leaves_of, moved_table, nat_list_cmp_total, object_of, only_below, or_whole, refl, root_fragment, same_map, shown_at, shown_tree, still_known, subst, sym, text_of, tied_leaf, true, with_dir, with_directory, with_file, with_home, zero, ℕ, ◌<◌, ◌^◌, ◌||◌, ◌∙◌, ◌∷◌, ◌≡◌, ◌⊎◌}
+use Rattle.std.proofs.Common.{◌==◌}
 use Rattle.std.specs.FinMap as map
-use Rattle.std.specs.FinMap.{get-empty, get-insert, get-remove, same_map}
-use Rattle.mds_types.specs.declared.ids.Ino.{Ino}
-use Rattle.mds_types.specs.declared.dentries.Dentry.{Dentry}
-use Rattle.mds_types.specs.declared.inodes.Inode.{Inode}
-use Rattle.mds_types.specs.Frag.{Fragment, root_fragment}
-use Rattle.mds_types.specs.Tree.{is_dir_kind}
-use Rattle.mds_types.specs.OrderLaws.{dentry-exact}
-use Rattle.mds_types.proofs.OrderLaws.{dentry-total}
-use Rattle.sorted_map.proofs.NatKeys.{get_beside as get_other_home, get_put as get_home, is_apart, same_or_apart as same_number}
-use Rattle.fragtree.specs.FragTree.{HasLeaf, IsPick}
-use Rattle.fragtree.proofs.TreeLaws.{first_or_later}
-use Rattle.namehash.specs.Rjenkins.{hash_of}
-use Rattle.objstore.specs.Omap.{Keys, key_cmp}
-use Rattle.dirfrag_codec.specs.FragmentObject.{Names}
-use Rattle.dirfrag_codec.proofs.ByteKeys.{get_left, get_removed, same_or_apart as key_or_apart}
-use Rattle.cached_frag.specs.declared.jobs.Job.{Job}
-use Rattle.cached_frag.proofs.ShownLaws.{only_below}
-use Rattle.dentry_cache.specs.Loading.{IsSaved, object_of}
-use Rattle.dentry_cache.specs.Cache.{Leaf, Unsaved, leaf_is}
-use Rattle.dentry_cache.proofs.LeafLaws.{leaf-total, leaf_itself, leaf_or_apart, tied_leaf}
-use Rattle.inode_table.specs.declared.dirs.Home.{Home}
-use Rattle.inode_table.specs.Dirs.{Covers, Homes, IsTable, MayCome, MayMove, is_known, leaves_of, or_whole}
-use Rattle.inode_table.specs.TreeTable.{home_at, with_home}
-use Rattle.inode_table.proofs.Tables.{adopted_table, known_by, moved_table, still_known}
-use Rattle.inode_table.proofs.TableLaws.{dir_or_not, with_dir, with_file}
-use Rattle.mdcache.specs.Changes.{first_leaf, just_made, with_directory}
-use Rattle.mdcache.specs.Shown.{names_of, shown_at, shown_tree}
-use Rattle.mdcache.specs.Sound.{IsOwned, IsStanding, IsUnsaved}
-use Rattle.mdcache.specs.State.{IsLive, State, text_of}
+use Rattle.sorted_map.proofs.NatKeys.{get_beside as get_other_home, get_put as get_home, same_or_apart as same_number}
+use Rattle.dirfrag_codec.proofs.ByteKeys.{same_or_apart as key_or_apart}
+use Rattle.mdcache.specs.Shown.{names_of}
 use Rattle.mdcache.proofs.NamedLaws.{HasSoundLeaves, known_or_not, pick_at, stands_at, stands_nowhere}
 use Rattle.mdcache.proofs.SoundLaws.{names_alike}
 

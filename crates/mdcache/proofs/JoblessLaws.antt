@@ -1,11 +1,6 @@
 -- All jobs are given up.
-use Rattle.std.proofs.Common.{◌≡◌, ℕ, None, Some, sym, subst, ◌∙◌}
+use Rattle.mdcache.proofs.Common.{Core, IsSound, IsSoundCore, Jobs, None, Rooms, Some, State, get-empty, state_of, subst, sym, ℕ, ◌∙◌, ◌≡◌}
 use Rattle.std.specs.FinMap as map
-use Rattle.std.specs.FinMap.{get-empty}
-use Rattle.mdcache.specs.Core.{Core, IsSoundCore, Rooms, state_of}
-use Rattle.mdcache.specs.Sound.{IsSound}
-use Rattle.mdcache.specs.StandingJobs.{Jobs}
-use Rattle.mdcache.specs.State.{State}
 
 jobless_sound : (s : State) → IsSound s → IsSound (record s { jobs = map.empty })
 jobless_sound s sound = record {

@@ -1,20 +1,7 @@
 -- The names of leaves, taken into a fragment one leaf after the other; and the leaves that end with a merge.
-use Rattle.std.proofs.Common.{◌≡◌, ℕ, zero, suc, ◌+◌, ◌/◌, ◌<◌, ◌≤◌, ◌&&◌, ◌++◌, Bool, true, false, cond, List, [], ◌∷◌, length, drop, drop-cons, get_or, refl, sym, ap, subst, ◌∙◌, arith}
-use Rattle.std.specs.Prelude.{map as each, nat_lt, ◌==◌, ◌↔◌, IsTrue}
-use Rattle.std.specs.List.{Contains}
+use Rattle.mdcache.proofs.Common.{Bool, Cached, Contains, ContainsFragment, Fragment, GoingLeaf, HasJoined, HasLeaf, Ino, IsTrue, Leaf, List, Names, TakesIn, [], ap, arith, cond, drop, drop-cons, false, get_or, in_directory, leaves_in, leaves_inside, length, lies_inside, marked_as, name_joined, nat_lt, nat_tests, refl, span, subst, suc, sym, true, zero, ℕ, ◌&&◌, ◌++◌, ◌+◌, ◌/◌, ◌<◌, ◌==◌, ◌↔◌, ◌∙◌, ◌∷◌, ◌≡◌, ◌≤◌}
+use Rattle.std.specs.Prelude.{map as each}
 use Rattle.std.specs.FinMap as map
-use Rattle.std.proofs.lemmas.Bool.Decides.{nat_tests}
-use Rattle.mds_types.specs.declared.ids.Ino.{Ino}
-use Rattle.mds_types.specs.Frag.{ContainsFragment, Fragment, span}
-use Rattle.fragtree.specs.FragTree.{HasLeaf, leaves_inside, lies_inside}
-use Rattle.dirfrag_codec.specs.FragmentObject.{Names}
-use Rattle.cached_frag.specs.Cached.{Cached}
-use Rattle.cached_frag.specs.Moving.{TakesIn, marked_as}
-use Rattle.dentry_cache.specs.Cache.{Leaf}
-use Rattle.namespace_ops.specs.Changes.{in_directory}
-use Rattle.mdcache.specs.declared.going.GoingLeaf.{GoingLeaf}
-use Rattle.mdcache.specs.Going.{leaves_in}
-use Rattle.mdcache.specs.Joining.{HasJoined, name_joined}
 use Rattle.mdcache.proofs.SplitLaws.{has_inside, not_itself}
 
 -- ---- names

@@ -1,23 +1,6 @@
 -- What leaves leave in the fragment that joins their names.
-use Rattle.std.proofs.Common.{◌≡◌, ℕ, List, [], ◌∷◌, Option, None, sym, ap, subst, ◌∙◌}
+use Rattle.mdcache.proofs.Common.{Cached, Core, Dirfrag, HasCached, HasJoined, IsJoined, IsLive, IsSoundCore, IsThat, Leaf, List, Mark, MayHold, Names, None, NoneEnds, Option, ReadsCore, State, TakesIn, [], ap, get-empty, here, key_cmp, leaf_of, made_frag, name_joined, names_of, shown, state_of, subst, sym, unclean, ℕ, ◌∙◌, ◌∷◌, ◌≡◌}
 use Rattle.std.specs.FinMap as map
-use Rattle.std.specs.FinMap.{get-empty}
-use Rattle.mds_types.specs.Leaf.{leaf_of}
-use Rattle.objstore.specs.Omap.{key_cmp}
-use Rattle.dirfrag_codec.specs.FragmentObject.{Names}
-use Rattle.cached_frag.specs.declared.marks.Mark.{Mark}
-use Rattle.cached_frag.specs.Cached.{Cached, shown}
-use Rattle.cached_frag.specs.Moving.{TakesIn}
-use Rattle.dentry_cache.specs.Cache.{HasCached, Leaf}
-use Rattle.dentry_cache.specs.CacheMap.{here, unclean}
-use Rattle.dentry_cache.specs.Came.{IsThat, NoneEnds}
-use Rattle.mds_types.specs.declared.dirfrags.Dirfrag.{Dirfrag}
-use Rattle.mdcache.specs.Core.{Core, IsSoundCore, ReadsCore, made_frag, state_of}
-use Rattle.mdcache.specs.Joining.{HasJoined, name_joined}
-use Rattle.mdcache.specs.Ranks.{MayHold}
-use Rattle.mdcache.specs.Regrouping.{IsJoined}
-use Rattle.mdcache.specs.Shown.{names_of}
-use Rattle.mdcache.specs.State.{IsLive, State}
 use Rattle.mdcache.proofs.CoreLaws.{may_fetch, may_fetch_on, of_names, reads_state}
 use Rattle.mdcache.proofs.JoinLaws.{one_joined}
 

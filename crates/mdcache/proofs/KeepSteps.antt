@@ -1,24 +1,8 @@
 -- A place that is kept for a leaf that will come, beside one that stays: what it leaves, and why it is refused.
-use Rattle.std.proofs.Common.{◌≡◌, inl, inr, ℕ, ◌+◌, ◌<◌, false, length, Option, Some, None, refl, sym, ap, subst, ◌∙◌}
-use Rattle.std.specs.Prelude.{OnOk, OnErr, IfErr, Result, Ok, Err}
+use Rattle.mdcache.proofs.Common.{AreCaches, CacheMap, Cached, Core, IfErr, IsKeptFor, KeepsAt, KeepsNone, KeepsOnlyAt, LacksPlacesIn, Leaf, MakesRoomAt, MayNotFind, MayNotKeepAt, None, NoneEnds, OnErr, OnOk, Option, Rank, Reads, ReadsCore, Refusal, Result, Some, StaysNamed, absent_roomy, ap, at_rank, false, has_place, here, inl, inr, keeps_reads, length, refl, room_reads, staying, subst, sym, ℕ, ◌+◌, ◌<◌, ◌∙◌, ◌≡◌}
+use Rattle.std.specs.Prelude.{Ok, Err}
 use Rattle.std.specs.FinMap as map
-use Rattle.mds_types.specs.declared.refusals.Refusal.{Refusal}
-use Rattle.cached_frag.specs.Cached.{Cached}
-use Rattle.dentry_cache.specs.Cache.{Leaf}
-use Rattle.dentry_cache.specs.CacheCalls.{KeepsAt, KeepsNone, MakesRoomAt, MayNotKeepAt}
-use Rattle.dentry_cache.specs.CacheMap.{AreCaches, CacheMap, at_rank, has_place, here}
-use Rattle.dentry_cache.specs.CacheSplits.{IsKeptFor}
-use Rattle.dentry_cache.specs.Came.{NoneEnds, StaysNamed}
-use Rattle.dentry_cache.specs.Reads.{Reads}
 use Rattle.dentry_cache.specs.Reads.Reads.{stays as it_stays}
-use Rattle.dentry_cache.proofs.CameLaws.{absent_roomy}
-use Rattle.dentry_cache.proofs.CountLaws.{staying}
-use Rattle.dentry_cache.proofs.ReadsLaws.{keeps_reads, room_reads}
-use Rattle.mds_types.specs.declared.ids.Rank.{Rank}
-use Rattle.mdcache.specs.CacheReads.{LacksPlacesIn}
-use Rattle.mdcache.specs.Core.{Core, ReadsCore}
-use Rattle.mdcache.specs.Ranks.{KeepsOnlyAt}
-use Rattle.mdcache.specs.Reads.{MayNotFind}
 use Rattle.mdcache.proofs.CoreLaws.{next_step, no_less_itself, not_found_before}
 use Rattle.mdcache.proofs.NoneLaws.{kept_for, kept_stays, none_absent, none_room, only_kept}
 use Rattle.mdcache.proofs.UncleanOf.{full_lacks}

@@ -1,20 +1,8 @@
 -- What each step of a flush keeps.
-use Rattle.std.proofs.Common.{◌≡◌, ◌⊎◌, inl, inr, ℕ, Bool, true, false, cond, ◌==◌, Option, Some, None, refl, sym, ap, subst, ◌∙◌}
+use Rattle.mdcache.proofs.Common.{ArePurged, At, Bool, CacheMap, Came, Core, HasFragment, IsThere, Jobs, KeepsTree, Keys, Leaf, None, NoneEnds, Objects, Option, SavesTrees, Some, State, StepsKeepTree, ap, at_rank, came_held, came_then, came_weaker, cond, eq-eqb, eqb-true, false, inl, inr, refl, shown_tree, state_of, subst, sym, true, ℕ, ◌∙◌, ◌≡◌, ◌⊎◌}
+use Rattle.std.proofs.Common.{◌==◌}
 use Rattle.std.specs.FinMap as map
-use Rattle.std.proofs.lemmas.Bool.{eqb-true, eq-eqb}
-use Rattle.dentry_cache.specs.Cache.{IsThere, Leaf}
-use Rattle.dentry_cache.specs.CacheMap.{At, CacheMap, at_rank}
-use Rattle.dentry_cache.specs.Came.{Came, NoneEnds}
 use Rattle.dentry_cache.specs.Came.Came.{stays as it_stays}
-use Rattle.dentry_cache.proofs.FrameLaws.{came_held, came_then, came_weaker}
-use Rattle.mdcache.specs.Core.{Core, state_of}
-use Rattle.mdcache.specs.Flushed.{ArePurged, HasFragment, KeepsTree, StepsKeepTree}
-use Rattle.mdcache.specs.SavedTrees.{SavesTrees}
-use Rattle.mdcache.specs.StandingJobs.{Jobs}
-use Rattle.objstore.specs.Objects.{Objects}
-use Rattle.objstore.specs.Omap.{Keys}
-use Rattle.mdcache.specs.Shown.{shown_tree}
-use Rattle.mdcache.specs.State.{State}
 
 -- a fragment that is there is at its rank
 pub there_at : (r : ℕ) (o : Option At) → IsThere (at_rank r o) → (a : At) × (o ≡ Some a) × (a.rank ≡ r)

@@ -7,6 +7,7 @@ pub mod ChangeSteps
 pub mod ChangesMade
 pub mod ChildNames
 pub mod CommittedLaws
+pub mod Common
 pub mod CoreLaws
 pub mod CountLaws
 pub mod CoverRows

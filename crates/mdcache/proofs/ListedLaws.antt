@@ -1,21 +1,9 @@
 -- The purge list, where a leaf was split and where leaves were merged.
-use Rattle.std.proofs.Common.{◌≡◌, ◌⊎◌, inl, inr, ℕ, zero, suc, ◌+◌, ◌<◌, ◌≤◌, ◌^◌, List, [], ◌∷◌, Some, None, refl, sym, ap, subst, ◌∙◌, arith}
+use Rattle.mdcache.proofs.Common.{Contains, Frag, Fragment, HasLeaf, Ino, IsChild, IsFragment, IsListedAnew, Keys, List, NameChildren, None, ObjName, Some, [], ap, arith, child_is_fragment, child_of, get_beside, get_left, get_put, get_removed, in_directory, inl, inr, refl, subst, suc, sym, text_of, texts_differ, with_objects, without_objects, zero, ℕ, ◌+◌, ◌<◌, ◌^◌, ◌∙◌, ◌∷◌, ◌≡◌, ◌≤◌, ◌⊎◌}
 use Rattle.std.specs.Prelude.{map as each}
-use Rattle.std.specs.List.{Contains}
 use Rattle.std.specs.FinMap as map
-use Rattle.mds_types.specs.declared.ids.Ino.{Ino}
-use Rattle.mds_types.specs.declared.object_names.ObjName.{ObjName}
-use Rattle.mds_types.specs.declared.object_names.ObjName.TheVariants.{Frag, Tree as TreeOf}
-use Rattle.mds_types.specs.Frag.{Fragment, IsFragment, child_of}
-use Rattle.mds_types.proofs.Fragments.{child_is_fragment}
-use Rattle.mds_types.proofs.ObjectTextLaws.{texts_differ}
-use Rattle.fragtree.specs.FragTree.{HasLeaf, IsChild}
-use Rattle.objstore.specs.Omap.{Keys}
-use Rattle.dirfrag_codec.proofs.ByteKeys.{get_beside, get_left, get_put, get_removed, same_or_apart as key_or_apart}
-use Rattle.namespace_ops.specs.Changes.{in_directory}
-use Rattle.mdcache.specs.Changes.{with_objects}
-use Rattle.mdcache.specs.Splits.{IsListedAnew, NameChildren, without_objects}
-use Rattle.mdcache.specs.State.{text_of}
+use Rattle.mds_types.specs.declared.object_names.ObjName.TheVariants.{Tree as TreeOf}
+use Rattle.dirfrag_codec.proofs.ByteKeys.{same_or_apart as key_or_apart}
 
 -- what isn't on the list stays off it
 stays_off : (names : Keys) (texts : List (List ℕ)) (q : List ℕ) → map.get names q ≡ None → map.get (without_objects names texts) q ≡ None

@@ -1,33 +1,11 @@
 -- The names of leaves that are merged are those that the joined fragment contains.
-use Rattle.std.proofs.Common.{◌≡◌, ◌⊎◌, inl, inr, ℕ, zero, ◌/◌, ◌%◌, ◌^◌, ◌≤◌, Bool, true, false, cond, List, [], ◌∷◌, length, Option, Some, None, refl, sym, ap, subst, ◌∙◌, arith}
+use Rattle.mdcache.proofs.Common.{Bool, CanMerge, Fragment, HasLeaf, Ino, Inode, IsFragment, IsMerge, IsPick, IsSound, IsTree, Leaf, List, Mark, Names, None, Option, Some, State, [], ap, arith, between, cond, dentry_of, false, first_or_later, hash_of, holds, holds_contains, in_directory, inl, inr, is_known, is_same, later, leaves_inside, leaves_of, length, lies_inside, marked_as, merged_after_merge, name_joined, names_of, pick_after_merge, range_from_inside, refl, shown_tree, span, span_pos, subst, sym, tree_of_row, true, zero, ℕ, ◌%◌, ◌/◌, ◌^◌, ◌∙◌, ◌∷◌, ◌≡◌, ◌≤◌, ◌⊎◌}
 use Rattle.std.specs.Prelude.{map as each}
 use Rattle.std.specs.FinMap as map
-use Rattle.mds_types.specs.declared.ids.Ino.{Ino}
-use Rattle.mds_types.specs.declared.inodes.Inode.{Inode}
-use Rattle.mds_types.specs.Frag.{Contains, Fragment, IsFragment, span}
-use Rattle.mds_types.specs.Tree.{dentry_of}
-use Rattle.fragtree.specs.FragTree.{CanMerge, HasLeaf, IsMerge, IsPick, IsTree, leaves_inside, lies_inside}
-use Rattle.fragtree.proofs.Ranges.{range_from_inside, span_pos}
+use Rattle.mds_types.specs.Frag.{Contains}
 use Rattle.fragtree.proofs.Spelled.{one_leaf as one_of_hash}
-use Rattle.fragtree.proofs.Tilings.{between}
-use Rattle.fragtree.proofs.TreeLaws.{first_or_later, later, merged_after_merge, pick_after_merge}
-use Rattle.namehash.specs.Rjenkins.{hash_of}
-use Rattle.dirfrag_codec.specs.FragmentObject.{Names}
-use Rattle.cached_frag.specs.declared.marks.Mark.{Mark}
-use Rattle.cached_frag.specs.Moving.{marked_as}
-use Rattle.dentry_cache.specs.Pairs.{holds}
-use Rattle.dentry_cache.proofs.LoadLaws.{holds_contains}
-use Rattle.dentry_cache.specs.Cache.{Leaf}
-use Rattle.sorted_map.proofs.NatKeys.{is_same}
-use Rattle.inode_table.specs.Dirs.{is_known, leaves_of}
-use Rattle.namespace_ops.specs.Changes.{in_directory}
-use Rattle.mdcache.specs.Joining.{name_joined}
-use Rattle.mdcache.specs.Shown.{names_of, shown_tree}
-use Rattle.mdcache.specs.Sound.{IsSound}
-use Rattle.mdcache.specs.State.{State}
 use Rattle.mdcache.proofs.NamedLaws.{pick_at, sound_leaves, stands_at}
 use Rattle.mdcache.proofs.SplitLaws.{has_inside, inside_has}
-use Rattle.inode_table.proofs.Tables.{tree_of_row}
 
 -- ---- the fragment of a merge
 

@@ -1,54 +1,10 @@
 -- What a merge makes of the whole, once all was ready for it.
-use Rattle.std.proofs.Common.{◌≡◌, ◌⊎◌, inl, inr, ℕ, ◌+◌, ◌<◌, Bool, true, false, cond, List, Option, Some, None, refl, sym, ap, subst, ◌∙◌, arith}
+use Rattle.mdcache.proofs.Common.{AreCached, At, Base, Bool, CacheMap, Cached, Came, CanMerge, Comes, Contains, Core, Dirfrag, Frag, Fragment, Fresh, HasLeaf, HasUnsaved, Ino, Inode, IsAmongOr, IsCachedIn, IsConcerned, IsFragment, IsListedAnew, IsLive, IsMerge, IsMergeReady, IsMergedInto, IsNewLeaf, IsPick, IsRegrouped, IsSound, IsSoundCore, IsTree, KeepsNone, Keys, Leaf, List, Merge, None, ObjName, Option, ReadsCore, Some, State, Unsaved, ap, are_empty, arith, at, between, cond, dentry_of, ending_at, false, fresh_tied, get_left, get_removed, get_unclean, get_with_frag, has_none, hash_of, holds, in_directory, inl, inr, is_clean_over, is_known, leaf_is, leaf_itself, leaf_of, leaves_in, leaves_inside, leaves_of, lies_inside, list_all, list_any, marked_as, merged_in, merged_leaves, names_of, object_of, one_leaf, reads_came, refl, root_fragment, same_Some, shown, shown_tree, state_of, subst, sym, text_of, texts_differ, tree_of_row, true, unclean, unsaved_at, unsaved_in, with_frag, with_objects, without_leaves, ℕ, ◌+◌, ◌<◌, ◌∙◌, ◌≡◌, ◌⊎◌}
 use Rattle.std.specs.Prelude.{map as each}
-use Rattle.std.specs.List.{Contains, list_all, list_any}
 use Rattle.std.specs.FinMap as map
-use Rattle.std.proofs.lemmas.Option.{same_Some}
-use Rattle.mds_types.specs.declared.ids.Ino.{Ino}
-use Rattle.mds_types.specs.declared.inodes.Inode.{Inode}
-use Rattle.mds_types.specs.declared.object_names.ObjName.{ObjName}
-use Rattle.mds_types.specs.declared.object_names.ObjName.TheVariants.{Frag, Tree as TreeOf}
-use Rattle.mds_types.specs.Frag.{Fragment, IsFragment, root_fragment}
-use Rattle.mds_types.specs.Tree.{dentry_of}
-use Rattle.mds_types.proofs.ObjectTextLaws.{texts_differ}
-use Rattle.mds_types.specs.Leaf.{leaf_of}
-use Rattle.fragtree.specs.FragTree.{CanMerge, HasLeaf, IsMerge, IsPick, IsTree, leaves_inside, lies_inside}
-use Rattle.fragtree.proofs.Tilings.{between}
-use Rattle.namehash.specs.Rjenkins.{hash_of}
-use Rattle.objstore.specs.Omap.{Keys}
-use Rattle.dirfrag_codec.proofs.ByteKeys.{get_left, get_removed}
-use Rattle.cached_frag.specs.declared.bases.Base.{Base}
-use Rattle.cached_frag.specs.declared.bases.Base.TheVariants.{Fresh}
-use Rattle.cached_frag.specs.Cached.{Cached, is_clean_over, shown}
-use Rattle.cached_frag.specs.Moving.{marked_as}
-use Rattle.dentry_cache.specs.Loading.{object_of}
-use Rattle.dentry_cache.specs.Pairs.{holds}
-use Rattle.mds_types.specs.declared.dirfrags.Dirfrag.{Dirfrag}
-use Rattle.dentry_cache.specs.Cache.{Leaf, Unsaved, leaf_is, unsaved_in}
-use Rattle.dentry_cache.specs.CacheCalls.{KeepsNone}
-use Rattle.dentry_cache.specs.CacheMap.{At, CacheMap, at, unclean, unsaved_at, with_frag}
-use Rattle.dentry_cache.specs.Came.{Came}
+use Rattle.mds_types.specs.declared.object_names.ObjName.TheVariants.{Tree as TreeOf}
 use Rattle.dentry_cache.specs.Came.Came.{has as arrives}
-use Rattle.dentry_cache.proofs.LeafLaws.{leaf_itself, one_leaf}
-use Rattle.dentry_cache.proofs.ReadsLaws.{reads_came}
-use Rattle.dentry_cache.proofs.SplitShows.{fresh_tied}
-use Rattle.dentry_cache.proofs.StepLaws.{get_with_frag}
-use Rattle.dentry_cache.proofs.UncleanLaws.{get_unclean}
-use Rattle.inode_table.specs.Dirs.{is_known, leaves_of}
-use Rattle.inode_table.proofs.Tables.{tree_of_row}
-use Rattle.namespace_ops.specs.Changes.{in_directory}
-use Rattle.mdcache.specs.declared.merging.Merge.{Merge}
-use Rattle.mdcache.specs.Changes.{with_objects, without_leaves}
-use Rattle.mdcache.specs.Core.{AreCached, Core, IsCachedIn, IsSoundCore, ReadsCore, state_of}
-use Rattle.mdcache.specs.Going.{leaves_in}
-use Rattle.mdcache.specs.Joining.{IsAmongOr}
-use Rattle.mdcache.specs.Reads.{has_none}
-use Rattle.mdcache.specs.Regrouping.{IsMergeReady, ending_at, merged_in}
-use Rattle.mdcache.specs.Shown.{names_of, shown_tree}
-use Rattle.mdcache.specs.Sound.{IsSound}
-use Rattle.mdcache.specs.Splits.{Comes, HasUnsaved, IsConcerned, IsListedAnew, IsMergedInto, IsNewLeaf, IsRegrouped, KeepsTree, are_empty}
-use Rattle.mdcache.specs.SplitsAndMerges.{merged_leaves}
-use Rattle.mdcache.specs.State.{IsLive, State, text_of}
+use Rattle.mdcache.specs.Splits.{KeepsTree}
 use Rattle.mdcache.proofs.ChangeSteps.{ends_came_so, still_held, unclean_ended}
 use Rattle.mdcache.proofs.CoreLaws.{reads_cached_so, reads_state}
 use Rattle.mdcache.proofs.GoneLaws.{among, get_without}

@@ -1,45 +1,13 @@
 -- What a walk finds that meets no faulty object is a sound tree, and the one that is shown.
-use Rattle.std.proofs.Common.{◌≡◌, ◌⊎◌, inl, inr, ℕ, ◌<◌, ◌^◌, Bool, true, false, List, Option, Some, None, Result, Ok, Err, IfOk, refl, sym, ap, subst, ◌∙◌, arith}
-use Rattle.std.specs.Prelude.{◌==◌, is_some}
+use Rattle.mdcache.proofs.Common.{AreCached, Bool, CacheMap, Core, Counts, Covers, Dentry, DirPins, Err, Fragment, HasLeaf, Home, Homes, Ino, Inode, IsColdLeaf, IsColdTree, IsCounted, IsLive, IsMounted, IsNew, IsOwned, IsPick, IsReached, IsReachedObject, IsRecord, IsSaved, IsSound, IsSoundCore, IsTabled, IsTree, IsWalked, KeepsNone, Keys, List, Names, None, Objects, Ok, Omap, Option, SaysLeaves, Some, State, Tree, allowed, ap, arith, dentry-exact, dentry-total, dentry_of, eqb-true, false, get-empty, hash_of, inl, inr, is_cold, is_known, is_some, leaves_of, mounted, names_at, no_caches, object_of, one_tree, or_cases, pick_from_leaf, refl, said_tree, same_map, shown_at, shown_in, shown_tree, some_pick, spells_what_it_shows, state_of, subst, sym, text_of, tree_of, true, unclean, walked_is_tabled, ℕ, ◌<◌, ◌==◌, ◌^◌, ◌∙◌, ◌≡◌, ◌⊎◌}
+use Rattle.std.proofs.Common.{Result, IfOk}
 use Rattle.std.specs.FinMap as map
-use Rattle.std.specs.FinMap.{get-empty, same_map}
-use Rattle.std.proofs.lemmas.Bool.{eqb-true, or_cases}
-use Rattle.mds_types.specs.Frag.{Fragment, Contains}
+use Rattle.mds_types.specs.Frag.{Contains}
 use Rattle.mds_types.specs.Leaf.{Leaf}
-use Rattle.mds_types.specs.Tree.{Tree, dentry_of}
-use Rattle.mds_types.specs.OrderLaws.{dentry-exact}
-use Rattle.mds_types.proofs.OrderLaws.{dentry-total}
-use Rattle.mds_types.specs.declared.dentries.Dentry.{Dentry}
-use Rattle.mds_types.specs.declared.ids.Ino.{Ino}
-use Rattle.mds_types.specs.declared.inodes.Inode.{Inode}
-use Rattle.objstore.specs.Omap.{Keys, Omap}
-use Rattle.objstore.specs.Objects.{Objects}
-use Rattle.namehash.specs.Rjenkins.{hash_of}
-use Rattle.fragtree.specs.FragTree.{HasLeaf, IsPick, IsTree}
-use Rattle.fragtree.proofs.TreeLaws.{pick_from_leaf, some_pick}
-use Rattle.dirfrag_codec.specs.FragmentObject.{Names}
-use Rattle.dirfrag_codec.proofs.FragmentLaws.{spells_what_it_shows}
-use Rattle.dirfrag_codec.proofs.TreeLaws.{one_tree}
-use Rattle.dentry_cache.specs.CacheCalls.{KeepsNone}
-use Rattle.dentry_cache.specs.CacheMap.{CacheMap, no_caches, unclean}
-use Rattle.dentry_cache.specs.Loading.{IsSaved, object_of}
-use Rattle.dentry_cache.specs.Ties.{names_at}
-use Rattle.inode_table.specs.declared.dirs.Home.{Home}
-use Rattle.inode_table.specs.Dirs.{Counts, Covers, DirPins, Homes, is_known, leaves_of}
-use Rattle.inode_table.specs.TreeTable.{IsCounted, IsTabled}
-use Rattle.cold_store.specs.ColdTree.{IsColdLeaf, IsColdTree, IsReached, IsRecord, SaysLeaves, tree_of}
-use Rattle.cold_store.specs.Walked.{IsReachedObject, IsWalked}
 pub use Rattle.cold_store.specs.Rows.{IsIn}
 pub use Rattle.cold_store.proofs.Members.{get_entry}
-use Rattle.cold_store.proofs.ObjectLaws.{said_tree}
-use Rattle.cold_store.proofs.StoreRows.{allowed}
-use Rattle.cold_store.proofs.TabledLaws.{walked_is_tabled}
-use Rattle.cold_store.proofs.WalkedLaws.{is_cold, known_there as known_by}
-use Rattle.mdcache.specs.Core.{AreCached, Core, IsSoundCore, shown_in, state_of}
-use Rattle.mdcache.specs.Mounted.{IsMounted, IsNew, mounted}
-use Rattle.mdcache.specs.Shown.{names_of as shown_names, shown_at, shown_tree}
-use Rattle.mdcache.specs.Sound.{IsOwned, IsSound}
-use Rattle.mdcache.specs.State.{IsLive, State, text_of}
+use Rattle.cold_store.proofs.WalkedLaws.{known_there as known_by}
+use Rattle.mdcache.specs.Shown.{names_of as shown_names}
 use Rattle.mdcache.proofs.CoverRows.{several_in_row}
 use Rattle.mdcache.proofs.NewLaws.{new_tree, none_held, none_kept, none_unclean}
 use Rattle.mdcache.proofs.ShownLaws.{found_at, found_nowhere}

@@ -1,41 +1,11 @@
 -- A name of a leaf gets an inode, or is removed: all but the table of directories is sound as before, and the tree has the name so.
-use Rattle.std.proofs.Common.{◌≡◌, ◌⊎◌, inl, inr, ℕ, ◌+◌, ◌<◌, ◌^◌, Bool, true, false, cond, List, Option, Some, None, refl, sym, ap, subst, ◌∙◌, arith}
-use Rattle.std.specs.Prelude.{is_some}
+use Rattle.mdcache.proofs.Common.{AreYoung, Base, Bool, Dentry, DirPins, Fragment, Fresh, Homes, Inode, IsAsItStands, IsCounted, IsLeafAt, IsLive, IsOwned, IsPick, IsSaved, IsSound, IsStanding, IsTable, IsTabled, IsUnsaved, Job, Keeps, Leaf, List, Mark, Marks, Names, None, Omap, Option, Some, State, Stored, Tree, Unsaved, ap, arith, cond, dentry-exact, dentry-total, dentry_of, dirtied, false, get-empty, get-insert, get_beside, get_put, hash_of, inl, inr, is_known, is_some, key_cmp, leaf-total, leaf_is, leaf_itself, leaf_or_apart, leaves_of, marked_beside, marked_here, names_at, object_of, only_below, refl, same_map, shown_at, shown_over, shown_put, shown_tree, some_pick, subst, sym, text_of, tied_leaf, tree_of_row, true, with_mark, with_name, ℕ, ◌+◌, ◌<◌, ◌^◌, ◌∙◌, ◌≡◌, ◌⊎◌}
 use Rattle.std.specs.FinMap as map
-use Rattle.std.specs.FinMap.{get-empty, get-insert, same_map}
-use Rattle.mds_types.specs.declared.dentries.Dentry.{Dentry}
-use Rattle.mds_types.specs.declared.inodes.Inode.{Inode}
-use Rattle.mds_types.specs.Frag.{Fragment}
-use Rattle.mds_types.specs.Tree.{Tree, dentry_of}
-use Rattle.mds_types.specs.OrderLaws.{dentry-exact}
-use Rattle.mds_types.proofs.OrderLaws.{dentry-total}
 use Rattle.mds_types.proofs.EntryLaws.{get_put as get_dentry, get_beside as get_other_dentry, get_removed, get_left as get_left_dentry, same_or_apart}
-use Rattle.fragtree.specs.FragTree.{IsPick}
-use Rattle.fragtree.proofs.TreeLaws.{some_pick}
-use Rattle.namehash.specs.Rjenkins.{hash_of}
-use Rattle.objstore.specs.Omap.{Omap, key_cmp}
-use Rattle.dirfrag_codec.specs.FragmentObject.{Names}
-use Rattle.dirfrag_codec.proofs.ByteKeys.{get_beside, get_put}
-use Rattle.cached_frag.specs.declared.bases.Base.{Base}
-use Rattle.cached_frag.specs.declared.bases.Base.TheVariants.{Fresh, Stored}
-use Rattle.cached_frag.specs.declared.jobs.Job.{Job}
-use Rattle.cached_frag.specs.declared.marks.Mark.{Mark}
-use Rattle.cached_frag.specs.Marks.{Marks, with_mark}
-use Rattle.cached_frag.proofs.MarkLaws.{marked_beside, marked_here}
-use Rattle.cached_frag.specs.Cached.{shown_over}
-use Rattle.cached_frag.proofs.ShownLaws.{only_below, shown_put}
-use Rattle.dentry_cache.specs.Loading.{IsSaved, object_of}
-use Rattle.dentry_cache.specs.Cache.{Leaf, Unsaved, leaf_is}
-use Rattle.dentry_cache.specs.Ties.{Keeps, KeepsAt, names_at}
-use Rattle.dentry_cache.proofs.LeafLaws.{leaf-total, leaf_itself, leaf_or_apart, tied_leaf}
-use Rattle.inode_table.specs.Dirs.{Counts as Entries, DirPins, Homes, IsTable, is_known, leaves_of}
-use Rattle.inode_table.specs.TreeTable.{IsCounted, IsTabled}
-use Rattle.inode_table.proofs.Tables.{tree_of_row}
-use Rattle.namespace_ops.specs.Changes.{IsLeafAt}
-use Rattle.mdcache.specs.Changes.{Counts, IsAsItStands, dirtied, with_name}
-use Rattle.mdcache.specs.Shown.{names_of, shown_at, shown_tree}
-use Rattle.mdcache.specs.Sound.{AreYoung, IsOwned, IsSound, IsStanding, IsUnsaved}
-use Rattle.mdcache.specs.State.{IsLive, State, text_of}
+use Rattle.dentry_cache.specs.Ties.{KeepsAt}
+use Rattle.inode_table.specs.Dirs.{Counts as Entries}
+use Rattle.mdcache.specs.Changes.{Counts}
+use Rattle.mdcache.specs.Shown.{names_of}
 use Rattle.mdcache.proofs.ShownLaws.{found_at, found_nowhere}
 use Rattle.mdcache.proofs.SoundLaws.{names_alike}
 

@@ -1,38 +1,11 @@
 -- The state over an empty store is sound.
-use Rattle.std.proofs.Common.{◌≡◌, ℕ, zero, suc, ◌==◌, ◌||◌, Bool, true, false, cond, [], ◌∷◌, ◌++◌, Option, Some, None, refl, sym, ap, subst, ◌∙◌, arith}
-use Rattle.std.specs.Prelude.{get_or, is_some, map as each, replicate}
-use Rattle.std.specs.List.{Contains, list_any}
-use Rattle.std.proofs.lemmas.Bool.{eqb-true}
-use Rattle.std.specs.Ordering.{nat_cmp}
+use Rattle.mdcache.proofs.Common.{AreCached, Bool, CacheMap, Contains, Core, Counts, Covers, DirPins, Homes, IsCounted, IsFree, IsFreeFor, IsLive, IsSound, IsSoundCore, IsTable, IsTabled, IsUnsaved, Jobs, KeepsNone, Keys, Leaf, Mark, Names, None, Objects, Omap, Option, Rooms, Some, State, Unsaved, UnsavedLeaves, [], ap, arith, cached_root, cond, dentry-exact, dentry-total, dentry_cmp, directories, empty_tabled, entries_in, entries_of, entries_under, eqb-true, false, get-empty, get-from_entries, get-insert, get_unclean, is_known, is_some, key_cmp, leaf-total, leaf_is, leaf_itself, leaves_of, len-empty, list_any, nat_cmp, new_caches, new_root, new_state, no_caches, none_counted, none_entries, none_with_frag, object_of, one_leaf, or_whole, refl, replicate, root_fragment, root_leaf, same_map, shown_at, shown_tree, state_of, subst, suc, sym, text_of, tied_leaf, true, unclean, unclean_with, unsaved_at, zero, ℕ, ◌++◌, ◌||◌, ◌∙◌, ◌∷◌, ◌≡◌}
+use Rattle.std.proofs.Common.{◌==◌}
+use Rattle.std.specs.Prelude.{get_or, map as each}
 use Rattle.std.specs.FinMap as map
-use Rattle.std.specs.FinMap.{get-empty, get-from_entries, get-insert, len-empty, same_map}
-use Rattle.sorted_map.proofs.OverlayLaws.{none_entries}
-use Rattle.mds_types.specs.Frag.{root_fragment}
-use Rattle.mds_types.specs.Tree.{dentry_cmp}
-use Rattle.mds_types.specs.OrderLaws.{dentry-exact}
-use Rattle.mds_types.proofs.OrderLaws.{dentry-total}
-use Rattle.objstore.specs.Omap.{Omap, key_cmp}
-use Rattle.objstore.specs.Objects.{Objects}
-use Rattle.dirfrag_codec.specs.FragmentObject.{Names}
-use Rattle.cached_frag.specs.declared.marks.Mark.{Mark}
-use Rattle.dentry_cache.specs.Loading.{object_of}
-use Rattle.dentry_cache.specs.Cache.{Leaf, Unsaved, leaf_cmp, leaf_is}
-use Rattle.dentry_cache.specs.CacheCalls.{KeepsNone}
-use Rattle.dentry_cache.specs.CacheMap.{CacheMap, IsFree, IsFreeFor, no_caches, unclean, unsaved_at}
-use Rattle.dentry_cache.proofs.LeafLaws.{leaf-exact, leaf-total, leaf_itself, one_leaf, tied_leaf}
-use Rattle.dentry_cache.proofs.UncleanLaws.{get_unclean, unclean_with}
-use Rattle.dentry_cache.proofs.WholeLaws.{none_with_frag}
-use Rattle.inode_table.specs.Dirs.{Counts, Covers, DirPins, Homes, IsTable, is_known, leaves_of, or_whole}
-use Rattle.inode_table.specs.TreeTable.{IsCounted, IsTabled}
-use Rattle.inode_table.proofs.NotedLaws.{none_counted}
-use Rattle.inode_table.proofs.TableLaws.{empty_tabled}
-use Rattle.objstore.specs.Omap.{Keys}
-use Rattle.mdcache.specs.StandingJobs.{Jobs}
-use Rattle.mdcache.specs.Core.{AreCached, Core, IsSoundCore, Rooms, state_of}
-use Rattle.mdcache.specs.New.{cached_root, new_caches, new_root, new_state, root_leaf}
-use Rattle.mdcache.specs.Shown.{directories, entries_in, entries_of, entries_under, names_of, shown_at, shown_tree, tree_of}
-use Rattle.mdcache.specs.Sound.{IsSound, IsUnsaved}
-use Rattle.mdcache.specs.State.{IsLive, State, UnsavedLeaves, text_of}
+use Rattle.dentry_cache.specs.Cache.{leaf_cmp}
+use Rattle.dentry_cache.proofs.LeafLaws.{leaf-exact}
+use Rattle.mdcache.specs.Shown.{names_of, tree_of}
 use Rattle.mdcache.proofs.PutLaws.{cached_with}
 use Rattle.mdcache.proofs.EndLaws.{nothing_patched}
 

@@ -1,19 +1,11 @@
 -- The first leaf behind another for which a job stands, by the rows behind it.
-use Rattle.std.specs.Prelude.{◌≡◌, ◌⊎◌, Bool, true, false, cond, T, List, [], ◌∷◌, Option, Some, None, IsSome, is_some, refl}
-use Rattle.std.proofs.Common.{inl, inr, sym, ap, subst, ◌∙◌}
+use Rattle.mdcache.proofs.Common.{IsNext, IsSome, Job, Jobs, ap, below_all, entries_sorted, eq_by_cmp, find, find-where_key, get-entries, inl, inr, is_behind, is_eq, is_some, is_sorted, is_sorted-where_key, leaf-exact, leaf_cmp, left_of, right_of, subst, sym, tie, tied_itself, where_key, ◌∙◌}
+use Rattle.std.specs.Prelude.{◌≡◌, ◌⊎◌, Bool, true, false, cond, T, List, [], ◌∷◌, Option, Some, None, refl}
 use Rattle.std.specs.declared.cmp.Ordering.TheVariants.{Less}
-use Rattle.std.specs.Ordering.{eq_by_cmp, is_eq}
-use Rattle.std.specs.Cmp.{tied_itself}
 use Rattle.std.specs.FinMap as map
-use Rattle.std.specs.FinMap.{entries_sorted, find, get-entries, is_sorted}
-use Rattle.std.specs.FinMap.Entries.{below_all, find-where_key, is_sorted-where_key, where_key}
-use Rattle.sorted_map.proofs.Bools.{left_of, right_of}
-use Rattle.sorted_map.proofs.MapLaws.{tie}
 use Rattle.sorted_map.proofs.PlaceLaws.{less as less_of}
-use Rattle.cached_frag.specs.declared.jobs.Job.{Job}
-use Rattle.mds_types.specs.Leaf.{Leaf, leaf_cmp}
-use Rattle.mds_types.proofs.LeafLaws.{leaf-exact, leaf-total}
-use Rattle.mdcache.specs.StandingJobs.{IsNext, Jobs, is_behind}
+use Rattle.mds_types.specs.Leaf.{Leaf}
+use Rattle.mds_types.proofs.LeafLaws.{leaf-total}
 
 -- a row that is found behind the first has a greater leaf
 greater : (first : Leaf) (rows : List (Leaf × Job)) (leaf : Leaf) → T (below_all leaf_cmp first rows) → IsSome (find leaf_cmp leaf rows) → leaf_cmp first leaf ≡ Less

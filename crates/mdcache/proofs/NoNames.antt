@@ -1,18 +1,6 @@
 -- Names that are none, and fragments of which all pass a test, or one fails.
-use Rattle.std.proofs.Common.{◌≡◌, ℕ, zero, suc, ◌&&◌, Bool, true, false, cond, List, [], ◌∷◌, length, None, Some, refl, sym, ap, ◌∙◌, arith}
-use Rattle.std.specs.List.{list_all}
+use Rattle.mdcache.proofs.Common.{Bool, Fragment, HasLeaf, Inode, List, Names, None, Some, [], and_parts, ap, arith, cond, false, find, get-entries, has_none, key_cmp, key_itself, later, len-entries, length, list_all, nat_tests, refl, suc, sym, true, zero, ℕ, ◌&&◌, ◌∙◌, ◌∷◌, ◌≡◌}
 use Rattle.std.specs.FinMap as map
-use Rattle.std.specs.FinMap.{find, get-entries, len-entries}
-use Rattle.std.proofs.lemmas.Bool.{and_parts}
-use Rattle.std.proofs.lemmas.Bool.Decides.{nat_tests}
-use Rattle.mds_types.specs.declared.inodes.Inode.{Inode}
-use Rattle.mds_types.specs.Frag.{Fragment}
-use Rattle.fragtree.specs.FragTree.{HasLeaf}
-use Rattle.fragtree.proofs.TreeLaws.{later}
-use Rattle.objstore.specs.Omap.{key_cmp}
-use Rattle.dirfrag_codec.specs.FragmentObject.{Names}
-use Rattle.dirfrag_codec.proofs.ByteKeys.{key_itself}
-use Rattle.mdcache.specs.Reads.{has_none}
 
 pub some_fails : (p : Fragment → Bool) (fs : List Fragment) → list_all p fs ≡ false → (f : Fragment) × HasLeaf fs f × (p f ≡ false)
 some_fails p [] fails = let clash : true ≡ false = fails in absurd cc

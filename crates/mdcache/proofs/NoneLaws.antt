@@ -1,20 +1,7 @@
 -- Which places are kept, after each call of the caches.
-use Rattle.std.proofs.Common.{◌≡◌, ◌⊎◌, inl, inr, ℕ, ◌<◌, Bool, true, false, cond, ◌&&◌, length, is_some, Option, Some, None, refl, sym, ap, subst, ◌∙◌}
+use Rattle.mdcache.proofs.Common.{AreCaches, Bool, CacheMap, Cached, Edits, FetchesAt, IsEdited, IsFree, IsFreeFor, IsThere, KeepsAt, KeepsNone, KeepsOnlyAt, Leaf, MakesRoomAt, None, Omap, Option, Rank, Some, absent_roomy, ap, at_rank, cond, false, has_place, has_used, here, here_free, inl, inr, is_same, leaf_is, leaf_itself, length, placed_used, ranks_roomy, refl, roomy, roomy_stays, subst, sym, true, used_at, whole_roomy, whole_used, whole_with_frag, with_frag, ℕ, ◌&&◌, ◌<◌, ◌∙◌, ◌≡◌, ◌⊎◌}
+use Rattle.std.proofs.Common.{is_some}
 use Rattle.std.specs.FinMap as finmap
-use Rattle.sorted_map.proofs.NatKeys.{is_same}
-use Rattle.mds_types.specs.declared.ids.Rank.{Rank}
-use Rattle.objstore.specs.Omap.{Omap}
-use Rattle.cached_frag.specs.Cached.{Cached}
-use Rattle.dentry_cache.specs.Cache.{IsThere, Leaf, leaf_is}
-use Rattle.dentry_cache.specs.CacheCalls.{Edits, FetchesAt, IsEdited, KeepsAt, KeepsNone, MakesRoomAt}
-use Rattle.dentry_cache.specs.CacheMap.{AreCaches, CacheMap, IsFree, IsFreeFor, at_rank, has_place, here, roomy, used_at, with_frag}
-use Rattle.dentry_cache.proofs.CameLaws.{absent_roomy}
-use Rattle.dentry_cache.proofs.KeptLaws.{roomy_stays}
-use Rattle.dentry_cache.proofs.LeafLaws.{leaf_itself}
-use Rattle.dentry_cache.proofs.MapLaws.{here_free}
-use Rattle.dentry_cache.proofs.StepLaws.{has_used, placed_used, ranks_roomy}
-use Rattle.dentry_cache.proofs.WholeLaws.{whole_roomy, whole_used, whole_with_frag}
-use Rattle.mdcache.specs.Ranks.{KeepsOnlyAt}
 
 -- what is there is some
 pub there_some : (o : Option Cached) → IsThere o → is_some o ≡ true

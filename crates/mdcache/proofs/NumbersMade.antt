@@ -1,11 +1,6 @@
 -- Each rank's numbers, one rank after the other.
-use Rattle.std.proofs.Common.{◌≡◌, ℕ, zero, suc, ◌+◌, List, [], ◌∷◌, ◌++◌, length, Some, None, refl, sym, ap, subst, ◌∙◌, arith}
-use Rattle.std.specs.Prelude.{slice_get}
-use Rattle.std.proofs.lemmas.Option.{same_Some}
-use Rattle.mds_types.specs.Tree.{Tree}
-use Rattle.inode_table.specs.Numbers.{Supply}
+use Rattle.mdcache.proofs.Common.{AreNumbers, List, None, Some, Supply, Tree, [], ap, arith, length, refl, same_Some, slice_get, subst, suc, sym, zero, ℕ, ◌++◌, ◌+◌, ◌∙◌, ◌∷◌, ◌≡◌}
 use Rattle.cold_store.specs.Numbers.{IsNext}
-use Rattle.mdcache.specs.Mounted.{AreNumbers}
 
 -- what holds of each place of a list holds of each place of the list with one more
 each_more : (P : ℕ → Supply → Type 0) (xs : List Supply) (s : Supply) → ((k : ℕ) (t : Supply) → slice_get xs k ≡ Some t → P k t) → P (length xs) s → (k : ℕ) (t : Supply) → slice_get (xs ++ s ∷ []) k ≡ Some t → P k t

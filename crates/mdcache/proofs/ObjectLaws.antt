@@ -1,32 +1,8 @@
 -- A purge and a commit of a directory's tree change no object of a live leaf.
-use Rattle.std.proofs.Common.{◌≡◌, ◌⊎◌, inl, inr, ℕ, ◌<◌, Bool, true, false, cond, List, [], ◌∷◌, Option, Some, None, refl, sym, ap, subst, ◌∙◌}
-use Rattle.std.specs.Prelude.{is_some, length, nat_lt, slice_get}
-use Rattle.std.specs.Option.{option_map, unwrap_or}
-use Rattle.std.specs.Ordering.{eq_by_cmp}
+use Rattle.mdcache.proofs.Common.{AreCached, Bool, CacheMap, Fragment, Ino, IsLive, IsOwned, IsSound, Keys, Leaf, List, None, Objects, Omap, Option, PairMap, Some, State, WriteOp, [], ap, applied-by-parts, cond, empty_omap, eq_by_cmp, exact_bytes, false, find, first_name, get-empty, get-entries, get-without_keys, get_beside, get_left, get_removed, inl, inr, is_known, is_some, key_cmp, key_itself, key_tied, leaves_of, ltb-true, nat_list_cmp_total, nat_lt, object_of, option_map, overlaid-empty, purged, refl, same_map, shown_tree, slice_get, subst, sym, text_of, tree_object, tree_saved, tree_text, true, unwrap_or, with_tree_at, without_keys, ℕ, ◌<◌, ◌∙◌, ◌∷◌, ◌≡◌, ◌⊎◌}
+use Rattle.std.specs.Prelude.{length}
 use Rattle.std.specs.FinMap as map
-use Rattle.std.specs.FinMap.{find, get-empty, get-entries, same_map}
-use Rattle.std.specs.Cmp.Lexicographic.{nat_list_cmp_total}
-use Rattle.std.proofs.lemmas.Bool.{ltb-true}
-use Rattle.std.proofs.lemmas.Map.Lookups.{exact_bytes}
-use Rattle.mds_types.specs.Frag.{Fragment}
-use Rattle.mds_types.specs.declared.ids.Ino.{Ino}
-use Rattle.objstore.specs.declared.write_ops.WriteOp.{WriteOp}
-use Rattle.objstore.specs.Omap.{Keys, Omap, PairMap, empty_omap, key_cmp}
-use Rattle.objstore.proofs.WriteLaws.{applied-by-parts, overlaid-empty}
-use Rattle.sorted_map.proofs.MapLaws.{get-without_keys}
-use Rattle.sorted_map.specs.Overlay.{without_keys}
-use Rattle.objstore.specs.Objects.{Objects, written}
-use Rattle.dirfrag_codec.proofs.ByteKeys.{get_beside, get_left, get_removed, key_itself, key_tied}
-use Rattle.mdcache.specs.PurgeList.{first_name}
-use Rattle.dentry_cache.specs.Loading.{object_of}
-use Rattle.dentry_cache.specs.Cache.{Leaf}
-use Rattle.dentry_cache.specs.CacheMap.{CacheMap}
-use Rattle.inode_table.specs.Dirs.{is_known, leaves_of}
-use Rattle.mdcache.specs.Core.{AreCached}
-use Rattle.mdcache.specs.Objects.{purged, tree_object, tree_saved, with_tree_at}
-use Rattle.mdcache.specs.Shown.{shown_tree}
-use Rattle.mdcache.specs.Sound.{IsOwned, IsSound}
-use Rattle.mdcache.specs.State.{IsLive, State, text_of, tree_text}
+use Rattle.objstore.specs.Objects.{written}
 use Rattle.mdcache.proofs.CoverRows.{several_in_row}
 use Rattle.mdcache.proofs.SoundLaws.{other_objects, other_objects_kept, other_objects_tree}
 use Rattle.mdcache.proofs.TextLaws.{no_tree_text}

@@ -1,19 +1,7 @@
 -- What a page gathers, name by name.
-use Rattle.std.proofs.Common.{◌≡◌, ℕ, zero, suc, ◌≤◌, ◌||◌, Bool, true, false, T, List, [], ◌∷◌, length, take, insert, set, get_or, nat_lt, Ordering, Less, Equal, Greater, is_lt, refl, sym, ap, subst, ◌∙◌, arith}
-use Rattle.std.proofs.lemmas.Bool.Decides.{nat_tests}
-use Rattle.std.proofs.lemmas.List.{length-set, take_all}
-use Rattle.std.proofs.lemmas.List.Edits.{length-insert}
-use Rattle.std.proofs.lemmas.Bool.{or_right}
-use Rattle.std.specs.Cmp.{IsTotalOrder}
-use Rattle.std.specs.Cmp.Lexicographic.{nat_list_cmp_total}
-use Rattle.std.specs.FinMap.Entries.{below_all, by_order, is_sorted, is_sorted-put, put}
-use Rattle.sorted_map.specs.Places.{IsAt, IsGap, puts}
-use Rattle.sorted_map.proofs.Bools.{left_of, right_of, both_of}
-use Rattle.sorted_map.proofs.PlaceLaws.{less, put_at, put_gap, turned}
-use Rattle.mds_types.specs.declared.inodes.Inode.{Inode}
-use Rattle.objstore.specs.Omap.{key_cmp}
-use Rattle.cached_frag.specs.Rows.{Row}
-use Rattle.mdcache.specs.Pages.{Gathered, IsBeyond, IsPageOf, Takes}
+use Rattle.mdcache.proofs.Common.{Bool, Equal, Gathered, Greater, Inode, IsAt, IsBeyond, IsGap, IsPageOf, IsTotalOrder, Less, List, Ordering, Row, T, Takes, [], ap, arith, below_all, both_of, by_order, false, get_or, insert, is_lt, is_sorted-put, key_cmp, left_of, length, length-insert, length-set, less, nat_list_cmp_total, nat_tests, or_right, put, put_at, put_gap, puts, refl, right_of, subst, suc, sym, take, take_all, true, turned, zero, ℕ, ◌||◌, ◌∙◌, ◌∷◌, ◌≡◌, ◌≤◌}
+use Rattle.std.proofs.Common.{set, nat_lt}
+use Rattle.std.specs.FinMap.Entries.{is_sorted}
 
 pub or_false : (b : Bool) → b ≡ (b || false)
 or_false true = refl

@@ -1,19 +1,9 @@
 -- The leaves that aren't clean, as they are listed: each is so at its rank, no two are one, and where none is listed all is clean.
-use Rattle.std.proofs.Common.{◌≡◌, ◌⊎◌, inl, inr, ℕ, zero, suc, ◌+◌, ◌<◌, ◌≤◌, ◌==◌, Bool, true, false, cond, List, [], ◌∷◌, ◌++◌, take, get_or, length, Option, Some, None, refl, sym, ap, subst, ◌∙◌, arith}
-use Rattle.std.specs.Prelude.{is_some}
-use Rattle.std.specs.List.{AllByRecursion, IsDistinct, list_any}
+use Rattle.mdcache.proofs.Common.{AllByRecursion, AreApart, AreCaches, At, Bool, CacheMap, Dirfrag, IsFree, IsUncleanAt, Leaf, List, None, NotAmong, Option, Some, Unsaved, [], ap, arith, at_rank, cond, eq-eqb, eqb-true, false, get-empty, get_or, get_unclean, here, inl, inr, is_some, leaf-exact, leaf_is, leaf_of, leaves_at, length, list_any, map-append, or_cases, refl, same_map, subst, suc, sym, take, true, unclean, unclean_among, unclean_from, unclean_places, unsaved_at, unsaved_in, zero, ℕ, ◌++◌, ◌+◌, ◌<◌, ◌∙◌, ◌∷◌, ◌≡◌, ◌≤◌, ◌⊎◌}
+use Rattle.std.proofs.Common.{◌==◌}
+use Rattle.std.specs.List.{IsDistinct}
 use Rattle.std.specs.FinMap as map
-use Rattle.std.specs.FinMap.{get-empty, same_map}
-use Rattle.std.proofs.lemmas.Bool.{eq-eqb, eqb-true, or_cases}
-use Rattle.std.proofs.lemmas.List.{map-append}
-use Rattle.mds_types.proofs.LeafLaws.{leaf-exact, leaf-total, one_leaf, same_leaf}
-use Rattle.mds_types.specs.Leaf.{leaf_of}
-use Rattle.mds_types.specs.declared.dirfrags.Dirfrag.{Dirfrag}
-use Rattle.dentry_cache.specs.Cache.{Leaf, Unsaved, leaf_is, unsaved_in}
-use Rattle.dentry_cache.specs.CacheMap.{AreCaches, At, CacheMap, IsFree, at_rank, here, unclean, unsaved_at}
-use Rattle.dentry_cache.specs.Unclean.{unclean_among, unclean_from, unclean_places}
-use Rattle.dentry_cache.proofs.UncleanLaws.{get_unclean}
-use Rattle.mdcache.specs.Batches.{AreApart, IsUncleanAt, NotAmong, leaves_at}
+use Rattle.mds_types.proofs.LeafLaws.{leaf-total, one_leaf, same_leaf}
 
 all_append : {A : Type 0} (P : A → Type 0) (xs ys : List A) → AllByRecursion P xs → AllByRecursion P ys → AllByRecursion P (xs ++ ys)
 all_append P [] ys all more = more

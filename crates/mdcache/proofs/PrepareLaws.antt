@@ -1,26 +1,6 @@
 -- What a change that may be made tells of its leaves and inodes.
-use Rattle.std.proofs.Common.{◌≡◌, ◌⊎◌, inl, inr, ℕ, ◌+◌, ◌<◌, ◌≤◌, true, false, Option, Some, None, refl, sym, ap, subst, ◌∙◌, arith}
-use Rattle.std.specs.Prelude.{IfSome}
+use Rattle.mdcache.proofs.Common.{At, CacheMap, Core, Dentry, Fragment, HasTarget, IfSome, Ino, Inode, IsLeafAt, IsLive, IsRankNumber, IsRecordable, IsSoundCore, IsThat, LacksPlacesAt, Leaf, MayAdd, MaySet, None, Option, Rank, Some, Tree, ap, arith, false, first_leaf, hash_of, inl, inr, is_dir_kind, is_directory, is_known, names_of, no_pin, refl, shown_in, state_of, subst, sym, true, unclean, ℕ, ◌+◌, ◌<◌, ◌∙◌, ◌≡◌, ◌≤◌, ◌⊎◌}
 use Rattle.std.specs.FinMap as map
-use Rattle.mds_types.specs.declared.dentries.Dentry.{Dentry}
-use Rattle.mds_types.specs.declared.ids.Ino.{Ino}
-use Rattle.mds_types.specs.declared.ids.Rank.{Rank}
-use Rattle.mds_types.specs.declared.inodes.Inode.{Inode}
-use Rattle.mds_types.specs.Frag.{Fragment}
-use Rattle.mds_types.specs.Tree.{Tree, is_dir_kind, is_directory}
-use Rattle.namehash.specs.Rjenkins.{hash_of}
-use Rattle.dirfrag_codec.specs.EntryRecord.{HasTarget, IsRankNumber, IsRecordable}
-use Rattle.dentry_cache.specs.CacheMap.{At, CacheMap, unclean}
-use Rattle.dentry_cache.specs.Cache.{Leaf}
-use Rattle.dentry_cache.specs.Came.{IsThat}
-use Rattle.inode_table.specs.Dirs.{is_known}
-use Rattle.inode_table.proofs.TableLaws.{no_pin}
-use Rattle.inode_table.specs.TreeChanges.{MayAdd, MaySet}
-use Rattle.namespace_ops.specs.Changes.{IsLeafAt}
-use Rattle.mdcache.specs.Changes.{first_leaf}
-use Rattle.mdcache.specs.Core.{Core, IsSoundCore, LacksPlacesAt, shown_in, state_of}
-use Rattle.mdcache.specs.Shown.{names_of}
-use Rattle.mdcache.specs.State.{IsLive}
 use Rattle.mdcache.proofs.CoreLaws.{dir_known, pick_live}
 use Rattle.mdcache.proofs.TreeLookups.{at_dentry}
 

@@ -1,19 +1,8 @@
 -- Purges one after the other.
-use Rattle.std.proofs.Common.{◌≡◌, ◌⊎◌, inl, inr, ℕ, zero, suc, ◌-◌, ◌<◌, true, false, cond, nat_lt, List, [], ◌∷◌, length, Option, Some, None, Ok, refl, sym, ap, ◌∙◌, arith}
-use Rattle.std.specs.Prelude.{is_some, slice_get}
-use Rattle.std.specs.Option.{option_map}
+use Rattle.mdcache.proofs.Common.{ArePurged, Keys, List, None, Objects, Ok, Option, PurgesName, Some, State, [], ap, arith, cond, empty_of_len, false, first_name, get_left, get_removed, inl, inr, is_some, len-entries, len-remove, length, lt-ltb, ltb-true, nat_list_cmp_total, option_map, purged, refl, shown_tree, slice_get, suc, sym, true, zero, ℕ, ◌-◌, ◌<◌, ◌∙◌, ◌∷◌, ◌≡◌, ◌⊎◌}
+use Rattle.std.proofs.Common.{nat_lt}
 use Rattle.std.specs.FinMap as map
-use Rattle.std.specs.FinMap.{empty_of_len, len-entries, len-remove}
-use Rattle.std.proofs.lemmas.Bool.{lt-ltb, ltb-true}
-use Rattle.std.specs.Cmp.Lexicographic.{nat_list_cmp_total}
-use Rattle.objstore.specs.Omap.{Keys}
-use Rattle.objstore.specs.Objects.{Objects}
-use Rattle.dirfrag_codec.proofs.ByteKeys.{get_left, get_removed, same_or_apart}
-use Rattle.mdcache.specs.Flushed.{ArePurged}
-use Rattle.mdcache.specs.Objects.{PurgesName, purged}
-use Rattle.mdcache.specs.PurgeList.{first_name}
-use Rattle.mdcache.specs.Shown.{shown_tree}
-use Rattle.mdcache.specs.State.{State}
+use Rattle.dirfrag_codec.proofs.ByteKeys.{same_or_apart}
 use Rattle.mdcache.proofs.ObjectLaws.{first_stands}
 
 -- where a name waits there is a first one

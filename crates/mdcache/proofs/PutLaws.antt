@@ -1,35 +1,8 @@
 -- What a change of one name leaves.
-use Rattle.std.proofs.Common.{◌≡◌, ◌⊎◌, inl, inr, ℕ, ◌+◌, ◌<◌, Bool, true, false, cond, List, Option, Some, None, refl, sym, ap, subst, ◌∙◌}
-use Rattle.std.specs.Prelude.{◌==◌}
-use Rattle.std.proofs.lemmas.Bool.{eqb-true}
-use Rattle.std.proofs.lemmas.Option.{same_Some}
+use Rattle.mdcache.proofs.Common.{AreCached, At, Base, Bool, CacheMap, Cached, Core, Dirfrag, Fresh, Inode, IsAsItStands, IsCachedIn, IsFree, IsFreeFor, IsNamed, IsThere, IsTied, IsTiedAt, KeepsOnlyAt, Leaf, List, Mark, Marks, None, Omap, Option, Rank, Some, State, Stored, Unsaved, ap, at, at_rank, changed_are_tied, cond, dirtied, edited_as, empty_of_len, eqb-true, false, get-empty, get_put, get_unclean, get_with_frag, has_place, here, here_beside, here_is, here_put, inl, inr, is_clean, is_clean_over, key_cmp, leaf_is, leaf_of, marked, named, object_of, one_leaf, placed_used, refl, same_Some, state_of, subst, sym, true, unclean, unsaved_at, unsaved_of, with_frag, with_unsaved, ℕ, ◌+◌, ◌<◌, ◌==◌, ◌∙◌, ◌≡◌, ◌⊎◌}
 use Rattle.std.specs.FinMap as map
-use Rattle.std.specs.FinMap.{empty_of_len, get-empty}
-use Rattle.mds_types.specs.declared.ids.Rank.{Rank}
-use Rattle.mds_types.specs.declared.inodes.Inode.{Inode}
-use Rattle.mds_types.specs.Leaf.{leaf_of}
-use Rattle.objstore.specs.Omap.{Omap, key_cmp}
-use Rattle.dirfrag_codec.proofs.ByteKeys.{get_put}
-use Rattle.cached_frag.specs.declared.bases.Base.{Base}
-use Rattle.cached_frag.specs.declared.bases.Base.TheVariants.{Fresh, Stored}
-use Rattle.cached_frag.specs.declared.marks.Mark.{Mark}
-use Rattle.cached_frag.specs.Marks.{Marks}
-use Rattle.cached_frag.specs.Cached.{Cached, is_clean, is_clean_over, marked}
-use Rattle.dentry_cache.specs.Cache.{IsThere, Leaf, Unsaved, leaf_is, unsaved_of, with_unsaved}
-use Rattle.dentry_cache.specs.CacheMap.{At, CacheMap, IsFree, IsFreeFor, at, at_rank, edited_as, has_place, here, unclean, unsaved_at, with_frag}
-use Rattle.dentry_cache.specs.Loading.{object_of}
-use Rattle.dentry_cache.specs.Ties.{IsTied, IsTiedAt}
-use Rattle.mds_types.specs.declared.dirfrags.Dirfrag.{Dirfrag}
 use Rattle.dentry_cache.proofs.CameLaws.{marked_unclean as now_unclean}
-use Rattle.dentry_cache.proofs.LeafLaws.{one_leaf}
-use Rattle.dentry_cache.proofs.ReadsLaws.{here_is}
-use Rattle.dentry_cache.proofs.StepLaws.{get_with_frag, here_beside, here_put, placed_used}
-use Rattle.dentry_cache.proofs.TieLaws.{changed_are_tied}
-use Rattle.dentry_cache.proofs.UncleanLaws.{get_unclean}
-use Rattle.mdcache.specs.Changes.{Counts, IsAsItStands, IsNamed, dirtied}
-use Rattle.mdcache.specs.Core.{AreCached, Core, IsCachedIn, named, state_of}
-use Rattle.mdcache.specs.Ranks.{KeepsOnlyAt}
-use Rattle.mdcache.specs.State.{State}
+use Rattle.mdcache.specs.Changes.{Counts}
 
 -- ---- one fragment
 

@@ -1,49 +1,12 @@
 -- A directory gets another cover: the state is sound then, and shows the same tree.
-use Rattle.std.proofs.Common.{◌≡◌, ◌≢◌, ◌⊎◌, inl, inr, ℕ, zero, suc, ◌+◌, ◌/◌, ◌%◌, ◌^◌, ◌<◌, ◌≤◌, ◌||◌, ◌&&◌, Bool, true, false, cond, List, [], ◌∷◌, Option, Some, None, refl, sym, ap, subst, ◌∙◌, arith}
-use Rattle.std.specs.Prelude.{is_some, map as each}
-use Rattle.std.specs.List.{Contains, list_all, list_any}
+use Rattle.mdcache.proofs.Common.{AreYoung, Base, Bool, Comes, Contains, Dentry, Fragment, Fresh, HasLeaf, HasUnsaved, Ino, Inode, IsConcerned, IsCounted, IsLive, IsNewLeaf, IsOwned, IsPick, IsRegrouped, IsSaved, IsSound, IsStanding, IsTable, IsTabled, IsUnsaved, Job, Leaf, List, Mark, Names, None, Option, Some, State, StaysAsItIs, Stored, Tree, Unsaved, [], and_right, ap, are_empty, arith, cond, dentry-exact, dentry-total, dentry_of, empty_of_len, eqb-true, false, first_or_later, get-empty, get-patched, has_none, hash_of, holds, holds_contains, in_directory, inl, inode_or, inr, is_known, is_same, is_some, key_cmp, later, leaf_is, leaves_of, list_all, list_any, marked_as, names_at, object_of, one_leaf, one_or_other, or_whole, pick_from_leaf, refl, regrouped, same_map, set_table, shown_at, shown_over, shown_tree, span, subst, suc, sym, text_of, tree_of_row, true, zero, ℕ, ◌%◌, ◌&&◌, ◌+◌, ◌/◌, ◌<◌, ◌^◌, ◌||◌, ◌∙◌, ◌∷◌, ◌≡◌, ◌≢◌, ◌≤◌, ◌⊎◌}
+use Rattle.std.specs.Prelude.{map as each}
 use Rattle.std.specs.FinMap as map
-use Rattle.std.specs.FinMap.{empty_of_len, get-empty, same_map}
-use Rattle.std.proofs.lemmas.Bool.{eqb-true, and_right}
-use Rattle.mds_types.specs.declared.ids.Ino.{Ino}
-use Rattle.mds_types.specs.declared.dentries.Dentry.{Dentry}
-use Rattle.mds_types.specs.declared.inodes.Inode.{Inode}
-use Rattle.mds_types.specs.Frag.{Contains as Holds, Fragment, span}
-use Rattle.mds_types.specs.Tree.{Tree, dentry_of}
-use Rattle.mds_types.specs.OrderLaws.{dentry-exact}
-use Rattle.mds_types.proofs.OrderLaws.{dentry-total}
-use Rattle.sorted_map.proofs.NatKeys.{get_beside as get_other_cover, get_put as get_cover, is_same, same_or_apart as same_number}
-use Rattle.fragtree.specs.FragTree.{HasLeaf, IsPick}
-use Rattle.fragtree.proofs.Entries.{one_or_other}
-use Rattle.fragtree.proofs.TreeLaws.{first_or_later, later, pick_from_leaf}
-use Rattle.namehash.specs.Rjenkins.{hash_of}
-use Rattle.objstore.specs.Omap.{key_cmp}
-use Rattle.dirfrag_codec.specs.FragmentObject.{Names}
+use Rattle.mds_types.specs.Frag.{Contains as Holds}
+use Rattle.sorted_map.proofs.NatKeys.{get_beside as get_other_cover, get_put as get_cover, same_or_apart as same_number}
 use Rattle.dirfrag_codec.proofs.ByteKeys.{same_or_apart as key_or_apart}
-use Rattle.cached_frag.specs.declared.bases.Base.{Base}
-use Rattle.cached_frag.specs.declared.bases.Base.TheVariants.{Fresh, Stored}
-use Rattle.cached_frag.specs.declared.jobs.Job.{Job}
-use Rattle.cached_frag.specs.declared.marks.Mark.{Mark}
-use Rattle.cached_frag.specs.Marks.{inode_or}
-use Rattle.cached_frag.proofs.MarkLaws.{get-patched}
-use Rattle.cached_frag.specs.Cached.{shown_over}
-use Rattle.cached_frag.specs.Moving.{marked_as}
-use Rattle.dentry_cache.specs.Loading.{IsSaved, object_of}
-use Rattle.dentry_cache.specs.Pairs.{holds}
-use Rattle.dentry_cache.proofs.LoadLaws.{holds_contains}
-use Rattle.dentry_cache.specs.Cache.{Leaf, Unsaved, leaf_is}
-use Rattle.dentry_cache.specs.Ties.{names_at}
-use Rattle.dentry_cache.proofs.LeafLaws.{one_leaf}
-use Rattle.inode_table.specs.Dirs.{IsTable, is_known, leaves_of, or_whole}
-use Rattle.inode_table.specs.TreeTable.{IsCounted, IsTabled}
-use Rattle.inode_table.proofs.Tables.{set_table, tree_of_row}
-use Rattle.namespace_ops.specs.Changes.{in_directory}
-use Rattle.mdcache.specs.Made.{StaysAsItIs}
-use Rattle.mdcache.specs.Reads.{has_none}
-use Rattle.mdcache.specs.Shown.{names_of, shown_at, shown_tree}
-use Rattle.mdcache.specs.Sound.{AreYoung, IsOwned, IsSound, IsStanding, IsUnsaved}
-use Rattle.mdcache.specs.Splits.{Comes, HasUnsaved, IsConcerned, IsNewLeaf, IsRegrouped, KeepsTree, are_empty, regrouped}
-use Rattle.mdcache.specs.State.{IsLive, State, text_of}
+use Rattle.mdcache.specs.Shown.{names_of}
+use Rattle.mdcache.specs.Splits.{KeepsTree}
 use Rattle.mdcache.proofs.CoverRows.{row_stays}
 use Rattle.mdcache.proofs.GoneLaws.{get_without, among}
 use Rattle.mdcache.proofs.NamedLaws.{HasSoundLeaves, known_or_not, pick_at, sound_again, sound_leaves, stands_at, stands_nowhere}

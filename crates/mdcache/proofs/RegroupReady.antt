@@ -1,34 +1,8 @@
 -- What is made ready for a split or a merge: first room and names are planned, then the place that was kept is given up, then leaves are read.
-use Rattle.std.proofs.Common.{◌≡◌, ◌⊎◌, inl, inr, ℕ, ◌+◌, ◌<◌, ◌≤◌, ◌^◌, true, false, length, List, Option, Some, None, refl, sym, ap, subst, ◌∙◌, arith}
-use Rattle.std.specs.Prelude.{OnOk, OnErr, IfErr, Result, Ok, Err}
-use Rattle.std.specs.List.{IsDistinct}
+use Rattle.mdcache.proofs.Common.{AreAbsent, AreCaches, At, CacheMap, Cached, CanMerge, CanSplit, Core, Dirfrag, HasCached, IfErr, IsAmongOr, IsButPlaces, IsChildAt, IsDistinct, IsFamilyAt, IsLive, IsNoLess, IsSoundCore, IsThat, IsThere, IsWhole, KeepsNone, LacksPlacesIn, Leaf, List, MayFetch, MayHold, MayNotFind, MayNotKeepAll, None, NoneEnds, OnErr, OnOk, Option, Reads, ReadsCore, ReadsFamily, Refusal, Result, Some, StaysAt, ap, arith, child_of, ending_at, false, here, inl, inr, is_known, kept_at, leaf_is, leaf_itself, leaf_of, leaves_of, length, no_child, order, readies_whole, reads_placed, reads_then, reads_weaker, refl, refused_whole, subst, sym, true, unclean_at, unclean_of, ℕ, ◌+◌, ◌<◌, ◌^◌, ◌∙◌, ◌≡◌, ◌≤◌, ◌⊎◌}
+use Rattle.std.specs.Prelude.{Ok, Err}
 use Rattle.std.specs.FinMap as map
-use Rattle.mds_types.specs.declared.refusals.Refusal.{Refusal}
-use Rattle.mds_types.specs.Frag.{child_of}
-use Rattle.mds_types.specs.Leaf.{leaf_of}
-use Rattle.fragtree.specs.FragTree.{CanMerge, CanSplit}
-use Rattle.mds_types.specs.declared.dirfrags.Dirfrag.{Dirfrag}
-use Rattle.cached_frag.specs.Cached.{Cached}
-use Rattle.dentry_cache.specs.Cache.{HasCached, IsThere, Leaf, leaf_is}
-use Rattle.dentry_cache.specs.CacheCalls.{IsWhole, KeepsNone, kept_at, unclean_at}
-use Rattle.dentry_cache.specs.CacheMap.{AreCaches, At, CacheMap, here, order, unclean_of}
-use Rattle.dentry_cache.specs.CacheSplits.{AreAbsent, IsButPlaces, IsChildAt, IsFamilyAt, MayNotKeepAll, ReadsFamily, StaysAt}
-use Rattle.dentry_cache.specs.Came.{IsThat, NoneEnds}
-use Rattle.dentry_cache.specs.Reads.{Reads}
 use Rattle.dentry_cache.specs.Reads.Reads.{stays as it_stays}
-use Rattle.dentry_cache.proofs.LacksLaws.{reads_placed}
-use Rattle.dentry_cache.proofs.NameParts.{no_child}
-use Rattle.dentry_cache.proofs.LeafLaws.{leaf_itself}
-use Rattle.dentry_cache.proofs.ReadsLaws.{reads_then, reads_weaker}
-use Rattle.dentry_cache.proofs.WholeLaws.{readies_whole, refused_whole}
-use Rattle.inode_table.specs.Dirs.{is_known, leaves_of}
-use Rattle.mdcache.specs.CacheReads.{LacksPlacesIn}
-use Rattle.mdcache.specs.Core.{Core, IsNoLess, IsSoundCore, MayFetch, ReadsCore}
-use Rattle.mdcache.specs.Joining.{IsAmongOr}
-use Rattle.mdcache.specs.Ranks.{MayHold}
-use Rattle.mdcache.specs.Reads.{MayNotFind}
-use Rattle.mdcache.specs.Regrouping.{ending_at}
-use Rattle.mdcache.specs.State.{IsLive}
 use Rattle.mdcache.proofs.CoreLaws.{first_step, may_fetch, may_fetch_on, next_step, no_less_itself, not_found_before, reads_core_on, reads_core_wider, still_absent, there_after}
 use Rattle.mdcache.proofs.JoinSteps.{hold_on, live_on}
 use Rattle.mdcache.proofs.MergeSteps.{ending_live}

@@ -1,16 +1,6 @@
 -- Fragments that got room.
-use Rattle.std.proofs.Common.{◌≡◌, ℕ, ◌<◌, ◌≤◌, Bool, true, false, cond, arith, Option, Some, None, refl, sym, ap, subst, ◌∙◌}
-use Rattle.std.specs.Prelude.{◌==◌}
-use Rattle.std.proofs.lemmas.Bool.{eqb-true}
+use Rattle.mdcache.proofs.Common.{Bool, CacheMap, Cached, Edits, HasCached, HasRoom, IsButRoom, IsEdited, Leaf, None, Option, Some, ap, arith, at_rank, cond, eqb-true, false, here, here_is, here_put, here_with_frag, leaf_is, one_leaf, refl, room_changed, subst, sym, true, ℕ, ◌<◌, ◌==◌, ◌∙◌, ◌≡◌, ◌≤◌}
 use Rattle.std.specs.FinMap as finmap
-use Rattle.cached_frag.specs.Cached.{Cached}
-use Rattle.dentry_cache.specs.Cache.{HasCached, HasRoom, Leaf, leaf_is}
-use Rattle.dentry_cache.specs.CacheCalls.{Edits, IsEdited}
-use Rattle.dentry_cache.specs.CacheMap.{CacheMap, at_rank, here}
-use Rattle.dentry_cache.specs.Reads.{IsButRoom}
-use Rattle.dentry_cache.proofs.ReadsLaws.{here_is, room_changed}
-use Rattle.dentry_cache.proofs.LeafLaws.{one_leaf}
-use Rattle.dentry_cache.proofs.StepLaws.{here_put, here_with_frag}
 
 -- what a call for room leaves has other room at most
 pub other_room : (f now : Cached) → (now ≡ record f { room = now.room }) × (f.room ≤ now.room) → IsButRoom f now

@@ -1,28 +1,8 @@
 -- The trees of directories are saved, one after the other.
-use Rattle.std.proofs.Common.{◌≡◌, ◌⊎◌, inl, inr, ℕ, ◌<◌, ◌^◌, Bool, true, false, cond, List, [], ◌∷◌, Option, Some, None, Ok, Err, refl, sym, ap, subst, ◌∙◌, arith}
-use Rattle.std.specs.Prelude.{is_some, length, nat_lt, slice_get}
-use Rattle.std.specs.Cmp.{unsigned_tied}
-use Rattle.std.specs.Ordering.{eq_by_cmp, nat_cmp}
-use Rattle.std.specs.List.{list_any}
+use Rattle.mdcache.proofs.Common.{Bool, Covers, Err, Frag, HasTree, HasTrees, Ino, IsAsBefore, IsSound, List, MayRefuse, None, ObjName, Ok, Option, Refusal, SavesTree, SavesTrees, Some, State, [], ap, arith, cond, eq_by_cmp, eqb-true, false, first_has_tree, first_tree_known, get-empty, get_beside, get_left, get_put, get_removed, inl, inr, is_some, leaves_of, list_any, nat_cmp, nat_lt, next_tree_after, or_cases, refl, same_or_apart, shown_tree, slice_get, subst, sym, texts_differ, tree_object, tree_saved, tree_text, trees_after, true, unsigned_tied, ℕ, ◌<◌, ◌^◌, ◌∙◌, ◌∷◌, ◌≡◌, ◌⊎◌}
+use Rattle.std.specs.Prelude.{length}
 use Rattle.std.specs.FinMap as map
-use Rattle.std.specs.FinMap.{get-empty}
-use Rattle.std.proofs.lemmas.Bool.{eqb-true, or_cases}
-use Rattle.sorted_map.proofs.NatKeys.{same_or_apart}
-use Rattle.mds_types.proofs.ObjectTextLaws.{texts_differ}
-use Rattle.mds_types.specs.declared.ids.Ino.{Ino}
-use Rattle.mds_types.specs.declared.object_names.ObjName.{ObjName}
-use Rattle.mds_types.specs.declared.object_names.ObjName.TheVariants.{Frag, Tree}
-use Rattle.mds_types.specs.declared.refusals.Refusal.{Refusal}
-use Rattle.objstore.specs.Objects.{MayRefuse}
-use Rattle.dirfrag_codec.proofs.ByteKeys.{get_beside, get_left, get_put, get_removed}
-use Rattle.inode_table.specs.Dirs.{Covers, leaves_of}
-use Rattle.inode_table.specs.Order.{trees_after}
-use Rattle.inode_table.proofs.TreeOrder.{first_has_tree, first_tree_known, next_tree_after}
-use Rattle.mdcache.specs.Objects.{SavesTree, tree_object, tree_saved}
-use Rattle.mdcache.specs.SavedTrees.{HasTree, HasTrees, IsAsBefore, SavesTrees}
-use Rattle.mdcache.specs.Shown.{shown_tree}
-use Rattle.mdcache.specs.Sound.{IsSound}
-use Rattle.mdcache.specs.State.{State, tree_text}
+use Rattle.mds_types.specs.declared.object_names.ObjName.TheVariants.{Tree}
 use Rattle.mdcache.proofs.CoverRows.{known_by_row}
 
 -- a directory's leaves were ever set

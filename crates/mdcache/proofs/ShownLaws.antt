@@ -1,26 +1,8 @@
 -- What stands in the shown tree: a name of a directory of the table stands for what the leaf has that its hash picks.
-use Rattle.std.proofs.Common.{◌≡◌, ◌⊎◌, inl, inr, ℕ, zero, ◌==◌, ◌||◌, ◌&&◌, Bool, true, false, cond, List, [], ◌∷◌, ◌++◌, Option, Some, None, refl, sym, ap, ◌∙◌, arith, append_assoc}
-use Rattle.std.specs.Option.{option_or}
-use Rattle.std.specs.List.{list_any}
-use Rattle.std.specs.Ordering.{eq_by_cmp, nat_cmp}
-use Rattle.std.specs.Cmp.{unsigned_tied}
+use Rattle.mdcache.proofs.Common.{Bool, Covers, Dentry, Fragment, HasLeaf, Homes, Inode, Leaf, List, Names, None, Option, Some, [], ap, append_assoc, arith, cond, contains_key-keys, dentry-total, dentry_cmp, dentry_of, directories, entries_in, entries_of, entries_under, eq_by_cmp, eqb-true, false, find, first_or_later, get-entries, get-from_entries, inl, inr, is_apart, is_known, is_same, key_cmp, later, leaves_of, list_any, nat_cmp, option_or, refl, sym, tied_dentry, true, unsigned_tied, zero, ℕ, ◌&&◌, ◌++◌, ◌||◌, ◌∙◌, ◌∷◌, ◌≡◌, ◌⊎◌}
+use Rattle.std.proofs.Common.{◌==◌}
 use Rattle.std.specs.FinMap as finmap
-use Rattle.std.specs.FinMap.{contains_key-keys, find, get-entries, get-from_entries}
-use Rattle.std.proofs.lemmas.Bool.{eqb-true}
-use Rattle.mds_types.specs.declared.dentries.Dentry.{Dentry}
-use Rattle.mds_types.specs.declared.inodes.Inode.{Inode}
-use Rattle.mds_types.specs.Frag.{Fragment}
-use Rattle.mds_types.specs.Tree.{dentry_cmp, dentry_of}
-use Rattle.mds_types.proofs.OrderLaws.{dentry-total}
-use Rattle.mds_types.proofs.ListingLaws.{tied_dentry}
-use Rattle.fragtree.specs.FragTree.{HasLeaf}
-use Rattle.fragtree.proofs.TreeLaws.{first_or_later, later}
-use Rattle.objstore.specs.Omap.{key_cmp}
-use Rattle.sorted_map.proofs.NatKeys.{is_same, is_apart}
-use Rattle.dirfrag_codec.specs.FragmentObject.{Names}
-use Rattle.dentry_cache.specs.Cache.{Leaf}
-use Rattle.inode_table.specs.Dirs.{Covers, Homes, is_known, leaves_of}
-use Rattle.mdcache.specs.Shown.{directories, entries_in, entries_of, entries_under, tree_of}
+use Rattle.mdcache.specs.Shown.{tree_of}
 
 -- an entry of a directory's names is found by its name
 found_row : (d e : ℕ) (name : List ℕ) (rows : List (List ℕ × Inode)) (rest : List (Dentry × Inode)) (b : Bool) → (e == d) ≡ b

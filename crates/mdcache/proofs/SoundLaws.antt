@@ -1,23 +1,8 @@
 -- What keeps a state sound.
-use Rattle.std.proofs.Common.{◌≡◌, ◌⊎◌, inl, inr, ℕ, Bool, true, false, cond, List, Some, None, refl, sym, ap, subst, ◌∙◌, arith}
-use Rattle.std.specs.Prelude.{is_some}
+use Rattle.mdcache.proofs.Common.{AreCached, AreYoung, Bool, CacheMap, IsCounted, IsLive, IsOf, IsOwned, IsSaved, IsSound, IsStanding, IsTabled, IsTied, Job, Keys, Leaf, List, Names, None, Objects, Some, State, Unsaved, ap, arith, cond, false, get-insert, get-remove, inl, inr, is_some, leaf-total, leaf_is, object_of, one_leaf, refl, shown_at, shown_tree, subst, sym, text_of, tied_leaf, true, with_job, ℕ, ◌∙◌, ◌≡◌, ◌⊎◌}
 use Rattle.std.specs.FinMap as map
-use Rattle.std.specs.FinMap.{get-insert, get-remove}
-use Rattle.inode_table.specs.TreeTable.{IsCounted, IsTabled}
-use Rattle.objstore.specs.Omap.{Keys}
-use Rattle.objstore.specs.Objects.{Objects}
-use Rattle.dirfrag_codec.specs.FragmentObject.{Names}
-use Rattle.cached_frag.specs.declared.jobs.Job.{Job}
-use Rattle.dentry_cache.specs.Loading.{IsSaved, object_of}
-use Rattle.dentry_cache.specs.Cache.{Leaf, Unsaved, leaf_is}
-use Rattle.dentry_cache.specs.CacheMap.{CacheMap}
-use Rattle.dentry_cache.specs.Ties.{IsTied}
-use Rattle.dentry_cache.proofs.LeafLaws.{leaf-total, one_leaf, tied_leaf}
-use Rattle.mdcache.specs.Core.{AreCached}
-use Rattle.mdcache.specs.Commits.{leaf_of, with_job}
-use Rattle.mdcache.specs.Shown.{names_of, shown_at, shown_tree}
-use Rattle.mdcache.specs.Sound.{AreYoung, IsOf, IsOwned, IsSound, IsStanding}
-use Rattle.mdcache.specs.State.{IsLive, State, text_of}
+use Rattle.mdcache.specs.Commits.{leaf_of}
+use Rattle.mdcache.specs.Shown.{names_of}
 use Rattle.mdcache.proofs.TreeLaws.{tree_alike}
 
 -- what a leaf shows is told by what isn't clean of it and by its object

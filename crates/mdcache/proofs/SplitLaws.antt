@@ -1,12 +1,5 @@
 -- Splits and merges are right: each of them gives a directory another cover.
-use Rattle.std.proofs.Common.{◌≡◌, ◌≢◌, ◌⊎◌, inl, inr, ℕ, zero, ◌+◌, ◌≤◌, ◌^◌, Bool, true, false, cond, List, [], ◌∷◌, refl, sym, ap, subst, ◌∙◌, arith}
-use Rattle.std.proofs.lemmas.Bool.Decides.{nat_tests}
-use Rattle.mds_types.specs.Frag.{Fragment}
-use Rattle.fragtree.specs.FragTree.{HasLeaf, IsChild, IsMerge, IsSplit, leaves_inside, lies_inside}
-use Rattle.fragtree.proofs.Entries.{one_or_other}
-use Rattle.fragtree.proofs.TreeLaws.{first_or_later, later}
-use Rattle.inode_table.specs.Dirs.{leaves_of}
-use Rattle.mdcache.specs.Splits.{MergesAreRight, SplitsAreRight}
+use Rattle.mdcache.proofs.Common.{Bool, Fragment, HasLeaf, IsChild, IsMerge, IsSplit, List, MergesAreRight, SplitsAreRight, [], ap, arith, cond, false, first_or_later, inl, inr, later, leaves_inside, leaves_of, lies_inside, nat_tests, one_or_other, refl, subst, sym, true, zero, ℕ, ◌+◌, ◌^◌, ◌∙◌, ◌∷◌, ◌≡◌, ◌≢◌, ◌≤◌, ◌⊎◌}
 use Rattle.mdcache.proofs.RegroupLaws.{regroup_right}
 
 -- ---- a split

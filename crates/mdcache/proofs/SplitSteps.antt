@@ -1,55 +1,11 @@
 -- What a split makes of the whole, once all was ready for it.
-use Rattle.std.proofs.Common.{◌≡◌, ◌≢◌, ◌⊎◌, inl, inr, ℕ, zero, suc, ◌+◌, ◌*◌, ◌<◌, ◌≤◌, ◌^◌, ◌&&◌, Bool, true, false, cond, is_some, List, [], ◌∷◌, length, Option, Some, None, refl, sym, ap, subst, ◌∙◌, arith}
-use Rattle.std.specs.Prelude.{map as each, string_bytes}
-use Rattle.std.specs.List.{IsDistinct, slice_index_or}
+use Rattle.mdcache.proofs.Common.{AreCached, At, Bool, Cached, Came, CanSplit, Comes, Core, Dirfrag, Fragment, Fresh, HasCached, HasLeaf, HasUnsaved, Ino, Inode, IsCachedIn, IsChild, IsChildAt, IsConcerned, IsDistinct, IsFamilyAt, IsFreeFor, IsListedAnew, IsLive, IsNewLeaf, IsNoChild, IsPick, IsReadyToSplit, IsRegrouped, IsSound, IsSoundCore, IsSplit, IsSplitInto, IsSplitReady, IsTree, IsWhole, KeepsNone, Leaf, List, MayHold, Names, None, Option, Part, ReadsCore, Some, Split, SplitsAt, SplitsInto, State, Unsaved, [], ap, are_empty, arith, at, between, child_of, cond, dentry_of, false, fresh_tied, get-names_in, has_none, hash_of, here, here_free, holds, holds_contains, inl, inr, is_known, leaf_is, leaf_of, leaf_or_apart, leaves_of, length, marked_as, mul-le-mul_right, names_in, names_of, object_of, one_or_other, order, pick_after_split, reads_came, refl, same_Some, shown, shown_tree, span, span-split, span_pos, split_beside, split_came, split_child, split_gone, split_in, split_unclean_beside, split_unclean_child, split_unclean_gone, split_whole, state_of, string_bytes, subst, suc, sym, tree_of_row, true, unclean, without_objects, zero, ℕ, ◌&&◌, ◌*◌, ◌+◌, ◌<◌, ◌^◌, ◌∙◌, ◌∷◌, ◌≡◌, ◌≢◌, ◌≤◌, ◌⊎◌}
+use Rattle.std.proofs.Common.{is_some}
+use Rattle.std.specs.Prelude.{map as each}
+use Rattle.std.specs.List.{slice_index_or}
 use Rattle.std.specs.FinMap as map
-use Rattle.std.proofs.Math.Nat.{mul-le-mul_right}
-use Rattle.std.proofs.lemmas.Option.{same_Some}
-use Rattle.mds_types.specs.declared.ids.Ino.{Ino}
-use Rattle.mds_types.specs.declared.inodes.Inode.{Inode}
-use Rattle.mds_types.specs.Frag.{Fragment, child_of, span}
-use Rattle.mds_types.specs.Tree.{dentry_of}
-use Rattle.mds_types.proofs.Fragments.{span-split}
-use Rattle.mds_types.specs.Leaf.{leaf_of}
-use Rattle.fragtree.specs.FragTree.{CanSplit, HasLeaf, IsChild, IsPick, IsSplit, IsTree}
-use Rattle.fragtree.proofs.Entries.{one_or_other}
-use Rattle.fragtree.proofs.Ranges.{span_pos}
 use Rattle.fragtree.proofs.Spelled.{one_leaf as one_of_hash}
-use Rattle.fragtree.proofs.Tilings.{between}
-use Rattle.fragtree.proofs.TreeLaws.{pick_after_split}
-use Rattle.namehash.specs.Rjenkins.{hash_of}
-use Rattle.dirfrag_codec.specs.FragmentObject.{Names}
-use Rattle.cached_frag.specs.declared.bases.Base.TheVariants.{Fresh}
-use Rattle.cached_frag.specs.Cached.{Cached, shown}
-use Rattle.cached_frag.specs.Moving.{marked_as}
-use Rattle.dentry_cache.specs.Loading.{object_of}
-use Rattle.dentry_cache.specs.Pairs.{holds}
-use Rattle.dentry_cache.proofs.LoadLaws.{holds_contains}
-use Rattle.dentry_cache.specs.declared.parts.Part.{Part}
-use Rattle.mds_types.specs.declared.dirfrags.Dirfrag.{Dirfrag}
-use Rattle.dentry_cache.specs.Cache.{HasCached, Leaf, Unsaved, leaf_is}
-use Rattle.dentry_cache.specs.CacheCalls.{IsWhole, KeepsNone}
-use Rattle.dentry_cache.specs.CacheMap.{At, IsFreeFor, at, here, order, unclean}
-use Rattle.dentry_cache.specs.CacheSplits.{IsChildAt, IsFamilyAt, IsReadyToSplit, SplitsAt, SplitsInto}
-use Rattle.dentry_cache.specs.Came.{Came}
-use Rattle.dentry_cache.specs.Divided.{IsNoChild, names_in}
-use Rattle.dentry_cache.proofs.LeafLaws.{leaf_or_apart}
-use Rattle.dentry_cache.proofs.MapLaws.{here_free}
-use Rattle.dentry_cache.proofs.NameParts.{get-names_in}
-use Rattle.dentry_cache.proofs.ReadsLaws.{reads_came}
-use Rattle.dentry_cache.proofs.SplitLaws.{split_beside, split_came, split_child, split_gone, split_unclean_beside, split_unclean_child, split_unclean_gone, split_whole}
-use Rattle.dentry_cache.proofs.SplitShows.{fresh_tied}
-use Rattle.inode_table.specs.Dirs.{is_known, leaves_of}
-use Rattle.inode_table.proofs.Tables.{tree_of_row}
-use Rattle.mdcache.specs.declared.splitting.Split.{Split}
-use Rattle.mdcache.specs.Core.{AreCached, Core, IsCachedIn, IsSoundCore, ReadsCore, state_of}
-use Rattle.mdcache.specs.Ranks.{MayHold}
-use Rattle.mdcache.specs.Reads.{has_none}
-use Rattle.mdcache.specs.Regrouping.{IsSplitReady, split_in}
-use Rattle.mdcache.specs.Shown.{names_of, shown_tree}
-use Rattle.mdcache.specs.Sound.{IsSound}
-use Rattle.mdcache.specs.Splits.{Comes, HasUnsaved, IsConcerned, IsListedAnew, IsNewLeaf, IsRegrouped, IsSplitInto, KeepsTree, are_empty, without_objects}
-use Rattle.mdcache.specs.State.{IsLive, State}
+use Rattle.mdcache.specs.Splits.{KeepsTree}
 use Rattle.mdcache.proofs.ChangeSteps.{cached_there, its}
 use Rattle.mdcache.proofs.CoreLaws.{reads_cached_so, reads_state, shows_so, there_after}
 use Rattle.mdcache.proofs.ListedLaws.{listed_anew}

@@ -1,31 +1,11 @@
 -- No call touches the object of a fragment while a job stands for it.
-use Rattle.std.specs.Prelude.{◌≡◌, ℕ, Bool, true, false, cond, List, Option, Some, None, Result, Ok, Err}
-use Rattle.std.proofs.Common.{◌⊎◌, inl, inr, refl, sym, ap, ◌∙◌}
+use Rattle.mdcache.proofs.Common.{BeginsWith, Change, Dentry, Drops, Ends, Fragment, Ino, Inode, IsRegrouped, IsSound, Job, Leaf, Makes, PurgesName, PutsThen, Refusal, Result, SavesTree, Spot, State, TakesThen, Unsaved, ap, dentry_at, first_name, get_beside, housed, inl, inr, is_dir_kind, object_of, refl, sym, text_of, with_directory, with_new, without, write_of, ◌∙◌, ◌⊎◌}
+use Rattle.std.specs.Prelude.{◌≡◌, ℕ, Bool, true, false, cond, List, Option, Some, None, Ok, Err}
 use Rattle.std.specs.FinMap as map
-use Rattle.mds_types.specs.declared.dentries.Dentry.{Dentry}
-use Rattle.mds_types.specs.declared.ids.Ino.{Ino}
-use Rattle.mds_types.specs.declared.inodes.Inode.{Inode}
-use Rattle.mds_types.specs.declared.refusals.Refusal.{Refusal}
-use Rattle.mds_types.specs.Frag.{Fragment}
-use Rattle.mds_types.specs.Tree.{is_dir_kind}
 use Rattle.mds_types.proofs.LeafLaws.{get_removed, same_or_apart}
 use Rattle.objstore.specs.Objects.{written}
-use Rattle.cached_frag.specs.declared.jobs.Job.{Job}
-use Rattle.cached_frag.specs.Commit.{write_of}
-use Rattle.dirfrag_codec.proofs.ByteKeys.{get_beside}
-use Rattle.dentry_cache.specs.Cache.{Leaf, Unsaved}
-use Rattle.dentry_cache.specs.Loading.{object_of}
 use Rattle.inode_table.specs.Dirs.{IsLive}
-use Rattle.namespace_ops.specs.Changes.{dentry_at}
-use Rattle.namespace_ops.specs.declared.plans.Change.{Change}
-use Rattle.namespace_ops.specs.declared.plans.Spot.{Spot}
-use Rattle.mdcache.specs.Changes.{Makes, PutsThen, TakesThen, housed, with_directory, with_new, without}
-use Rattle.mdcache.specs.Commits.{BeginsWith, Drops, Ends, leaf_of}
-use Rattle.mdcache.specs.Objects.{PurgesName, SavesTree}
-use Rattle.mdcache.specs.PurgeList.{first_name}
-use Rattle.mdcache.specs.Sound.{IsSound}
-use Rattle.mdcache.specs.Splits.{IsRegrouped}
-use Rattle.mdcache.specs.State.{State, text_of}
+use Rattle.mdcache.specs.Commits.{leaf_of}
 use Rattle.mdcache.proofs.ObjectLaws.{purged_objects, tree_saved_objects}
 use Rattle.mdcache.proofs.TextLaws.{one_text}
 

@@ -1,15 +1,6 @@
 -- No two objects of leaves and trees have one name.
-use Rattle.std.proofs.Common.{◌≡◌, ◌^◌, ◌<◌, ℕ, Bool, true, false, ap}
-use Rattle.mds_types.specs.Frag.{IsFragment, root_fragment}
-use Rattle.mds_types.proofs.ObjectTextLaws.{texts_differ}
-use Rattle.mds_types.specs.declared.ids.Ino.{Ino}
-use Rattle.mds_types.specs.declared.object_names.ObjName.{ObjName}
-use Rattle.mds_types.specs.declared.object_names.ObjName.TheVariants.{Frag, Tree}
-use Rattle.fragtree.proofs.Tilings.{between}
-use Rattle.dentry_cache.specs.Cache.{Leaf}
-use Rattle.inode_table.specs.Dirs.{Covers, Homes, IsTable, is_known, leaves_of}
-use Rattle.inode_table.proofs.Tables.{tree_of_row}
-use Rattle.mdcache.specs.State.{IsLive, text_of, tree_text}
+use Rattle.mdcache.proofs.Common.{Bool, Covers, Frag, Homes, Ino, IsFragment, IsLive, IsTable, Leaf, ObjName, ap, between, false, is_known, leaves_of, root_fragment, text_of, texts_differ, tree_of_row, tree_text, true, ℕ, ◌<◌, ◌^◌, ◌≡◌}
+use Rattle.mds_types.specs.declared.object_names.ObjName.TheVariants.{Tree}
 
 abbrev leaf_in : ObjName → Leaf
 leaf_in (Frag dir f) = (dir, f)

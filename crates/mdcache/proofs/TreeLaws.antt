@@ -1,20 +1,9 @@
 -- The shown tree is told by the names of the live leaves.
-use Rattle.std.proofs.Common.{◌≡◌, ℕ, ◌==◌, true, List, [], ◌∷◌, ◌++◌, ⊎_elim, refl, ap, ◌∙◌, sym}
-use Rattle.std.proofs.lemmas.Bool.{or_cases, or_left, or_right}
-use Rattle.std.specs.Prelude.{is_some}
-use Rattle.std.specs.List.{Contains, list_any}
-use Rattle.std.specs.Ordering.{eq_by_cmp, nat_cmp}
-use Rattle.std.specs.Cmp.{unsigned_tied}
+use Rattle.mdcache.proofs.Common.{Contains, Covers, Fragment, Homes, IsLive, Leaf, List, Names, [], ap, contains_key-keys, directories, entries_in, entries_of, entries_under, eq_by_cmp, is_known, is_same, is_some, later, leaves_of, list_any, nat_cmp, or_cases, or_left, or_right, refl, sym, true, unsigned_tied, ℕ, ⊎_elim, ◌++◌, ◌∙◌, ◌∷◌, ◌≡◌}
+use Rattle.std.proofs.Common.{◌==◌}
 use Rattle.std.specs.FinMap as finmap
-use Rattle.std.specs.FinMap.{contains_key-keys}
-use Rattle.mds_types.specs.Frag.{Fragment}
-use Rattle.sorted_map.proofs.NatKeys.{is_same}
-use Rattle.dirfrag_codec.specs.FragmentObject.{Names}
-use Rattle.dentry_cache.specs.Cache.{Leaf}
-use Rattle.inode_table.specs.Dirs.{Covers, Homes, is_known, leaves_of}
-use Rattle.mdcache.specs.Shown.{directories, entries_in, entries_of, entries_under, tree_of}
-use Rattle.mdcache.specs.State.{IsLive}
-use Rattle.fragtree.proofs.TreeLaws.{first, later}
+use Rattle.mdcache.specs.Shown.{tree_of}
+use Rattle.fragtree.proofs.TreeLaws.{first}
 
 under_alike : (new old : Leaf → Names) (d : ℕ) (leaves : List Fragment) → ((f : Fragment) → Contains leaves f → new (record { 0 = d }, f) ≡ old (record { 0 = d }, f)) → entries_under new d leaves ≡ entries_under old d leaves
 under_alike new old d [] same = refl

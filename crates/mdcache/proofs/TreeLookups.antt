@@ -1,15 +1,6 @@
 -- What stands at a dentry of the shown tree is what the leaf shows that its name picks.
-use Rattle.std.proofs.Common.{◌≡◌, ℕ, true, List, Some}
+use Rattle.mdcache.proofs.Common.{Fragment, HasLeaf, Inode, IsPick, IsSound, List, Some, State, dentry_of, hash_of, is_known, leaves_of, names_of, shown_tree, true, ℕ, ◌≡◌}
 use Rattle.std.specs.FinMap as map
-use Rattle.mds_types.specs.declared.inodes.Inode.{Inode}
-use Rattle.mds_types.specs.Frag.{Fragment}
-use Rattle.mds_types.specs.Tree.{dentry_of}
-use Rattle.fragtree.specs.FragTree.{HasLeaf, IsPick}
-use Rattle.namehash.specs.Rjenkins.{hash_of}
-use Rattle.inode_table.specs.Dirs.{is_known, leaves_of}
-use Rattle.mdcache.specs.Shown.{names_of, shown_tree}
-use Rattle.mdcache.specs.Sound.{IsSound}
-use Rattle.mdcache.specs.State.{State}
 use Rattle.mdcache.proofs.ShownLaws.{found_at}
 
 pub at_dentry : (s : State) → IsSound s → (d : ℕ) (name : List ℕ) (f : Fragment) → is_known s.homes d ≡ true → IsPick (leaves_of s.covers d) (hash_of name) f

@@ -1,27 +1,11 @@
 -- What isn't clean of one rank, after reads and preparations; and where places lack.
-use Rattle.std.proofs.Common.{◌≡◌, inl, inr, ℕ, zero, suc, ◌+◌, ◌-◌, ◌<◌, ◌≤◌, ◌||◌, Bool, true, false, cond, not, ◌&&◌, ◌⊎◌, List, [], ◌∷◌, length, filter, is_some, Option, Some, None, refl, sym, ap, subst, ◌∙◌, arith}
-use Rattle.std.specs.Prelude.{◌==◌}
-use Rattle.std.specs.List.{AllByRecursion, IsDistinct, list_any}
-use Rattle.std.proofs.lemmas.Map.Keys.{IsDistinct-cons, IsDistinct-head, IsDistinct-tail}
+use Rattle.mdcache.proofs.Common.{AllByRecursion, AreCaches, At, Bool, CacheMap, Cached, CanNotKeep, IsButRoom, IsDistinct, IsDistinct-cons, IsDistinct-head, IsDistinct-tail, IsLeft, IsThere, KeepsNone, Leaf, List, None, Objects, Option, Reads, Some, Unsaved, [], all_from, any_tied, ap, arith, at, at_rank, clean_in, cond, contains_key-keys, empty_of_len, false, filter, flips, frees, full_counts, get-empty, get-remove, get_tabulate, get_with_frag, goes, going_at, grows, has_place, here, here_is, inl, inr, is_clean, kept_at, leaf-total, leaf_is, leaf_itself, len-remove, length, list_any, loaded_clean, loads, not, object_of, one_leaf, order, refl, removed, room, room_unsaved, roomy, roomy_left, same_map, staying, subst, suc, sym, tied_leaf, true, unclean_at, unclean_in, unsaved_at, unsaved_in, with_frag, zero, ℕ, ◌&&◌, ◌+◌, ◌-◌, ◌<◌, ◌==◌, ◌||◌, ◌∙◌, ◌∷◌, ◌≡◌, ◌≤◌, ◌⊎◌}
+use Rattle.std.proofs.Common.{is_some}
 use Rattle.std.specs.FinMap as finmap
-use Rattle.std.specs.FinMap.{contains_key-keys, empty_of_len, get-empty, get-remove, len-remove, same_map}
-use Rattle.objstore.specs.Objects.{Objects}
-use Rattle.cached_frag.specs.Cached.{Cached, is_clean}
-use Rattle.dentry_cache.specs.Cache.{IsThere, Leaf, Unsaved, leaf_cmp, leaf_is, unsaved_in}
-use Rattle.dentry_cache.specs.CacheCalls.{CanNotKeep, KeepsNone, going_at, kept_at, unclean_at, unclean_in}
-use Rattle.dentry_cache.specs.CacheMap.{AreCaches, At, CacheMap, at, at_rank, clean_in, goes, has_place, here, order, removed, roomy, unclean_of, unsaved_at, with_frag}
-use Rattle.dentry_cache.specs.Loading.{object_of}
-use Rattle.dentry_cache.specs.Reads.{IsButRoom, Reads}
-use Rattle.dentry_cache.specs.Reads.Reads.{stays as it_stays, uses, grows, room, loads, frees}
-use Rattle.dentry_cache.proofs.CountLaws.{full_counts, staying}
-use Rattle.dentry_cache.proofs.FrameLaws.{IsLeft, roomy_left}
-use Rattle.dentry_cache.proofs.KeepingLaws.{all_from}
-use Rattle.dentry_cache.proofs.LeafLaws.{flips, leaf-exact, leaf-total, leaf_itself, one_leaf, tied_leaf}
-use Rattle.dentry_cache.proofs.MapLaws.{get_tabulate}
-use Rattle.dentry_cache.proofs.ReadsLaws.{here_is, room_unsaved}
-use Rattle.dentry_cache.proofs.StepLaws.{get_with_frag}
-use Rattle.dentry_cache.proofs.UncleanLaws.{any_tied}
-use Rattle.dentry_cache.proofs.UsedLaws.{loaded_clean}
+use Rattle.dentry_cache.specs.Cache.{leaf_cmp}
+use Rattle.dentry_cache.specs.CacheMap.{unclean_of}
+use Rattle.dentry_cache.specs.Reads.Reads.{stays as it_stays, uses}
+use Rattle.dentry_cache.proofs.LeafLaws.{leaf-exact}
 
 pub get_unclean_of : (c : CacheMap) (r : ℕ) (q : Leaf) → finmap.get (unclean_of c r) q ≡ unsaved_in (here c r q)
 unfolding unclean_of

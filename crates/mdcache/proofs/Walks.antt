@@ -1,15 +1,8 @@
 -- A walk over the jobs in search of a number.
-use Rattle.std.proofs.Common.{◌≡◌, ℕ, Bool, true, false, cond, T, List, [], ◌∷◌, Some, None, refl, sym, ap, subst, ◌∙◌}
-use Rattle.std.specs.Ordering.{eq_by_cmp}
+use Rattle.mdcache.proofs.Common.{Bool, Job, Jobs, List, None, NoneHasNumber, Some, T, [], ap, cond, entries_sorted, eq_by_cmp, false, find, get-entries, is_sorted, leaf-exact, leaf_cmp, left_of, not_found_below, refl, right_of, subst, sym, tie, true, ℕ, ◌∙◌, ◌∷◌, ◌≡◌}
 use Rattle.std.specs.FinMap as map
-use Rattle.std.specs.FinMap.{entries_sorted, find, get-entries, is_sorted}
-use Rattle.mds_types.proofs.EntrySearch.{not_found_below}
-use Rattle.sorted_map.proofs.Bools.{left_of, right_of}
-use Rattle.cached_frag.specs.declared.jobs.Job.{Job}
-use Rattle.mds_types.specs.Leaf.{Leaf, leaf_cmp}
-use Rattle.mds_types.proofs.LeafLaws.{key_itself, leaf-exact, leaf-total}
-use Rattle.sorted_map.proofs.MapLaws.{tie}
-use Rattle.mdcache.specs.StandingJobs.{Jobs, NoneHasNumber}
+use Rattle.mds_types.specs.Leaf.{Leaf}
+use Rattle.mds_types.proofs.LeafLaws.{key_itself, leaf-total}
 
 -- of these jobs, the ones that are left are all that can have the number
 pub record IsRest (number : ℕ) (all left : List (Leaf × Job)) : Type 0 where

@@ -1,14 +1,6 @@
 -- Laws of histories: what one more entry changes.
-use Rattle.std.specs.Prelude.{◌≡◌, ℕ, ◌<◌, ◌≤◌, ◌⊎◌, List, [], ◌∷◌, ◌++◌, take, length, Some, refl}
-use Rattle.std.specs.List.{slice_index_or}
-use Rattle.std.proofs.Common.{sym, ap, subst, ◌∙◌, inl, inr, ⊎_elim, arith}
-use Rattle.std.proofs.Math.Seq.{take-append_seam, get_or-append_seam}
-use Rattle.std.proofs.lemmas.Bool.{cases_lt}
-use Rattle.std.proofs.lemmas.List.{length-append, take-append-le, get_or_append_left}
+use Rattle.mds_types.proofs.Common.{IsLegal, IsNext, IsTaken, IsUsed, List, Some, Tree, [], after, ap, arith, cases_lt, get_or-append_seam, get_or_append_left, inl, inr, length, length-append, number_or, refl, slice_index_or, step, subst, sym, take, take-append-le, take-append_seam, ℕ, ⊎_elim, ◌++◌, ◌<◌, ◌∙◌, ◌∷◌, ◌≡◌, ◌≤◌, ◌⊎◌}
 use Rattle.mds_types.specs.declared.entries.Entry.{Entry}
-use Rattle.mds_types.specs.Tree.{Tree}
-use Rattle.mds_types.specs.Step.{step, number_or}
-use Rattle.mds_types.specs.History.{after, IsTaken, IsUsed, IsNext, IsLegal}
 
 -- the tree after one entry more
 pub after-push : (limit : ℕ) (opening : Tree) (past : List Entry) (e : Entry) → after limit opening (past ++ e ∷ []) ≡ (step limit (after limit opening past) e.op (number_or e.number)).tree

@@ -1,6 +1,7 @@
 pub mod AboveLaws
 pub mod AlterationLaws
 pub mod AttributeLaws
+pub mod Common
 pub mod CountLaws
 pub mod DirectoryLaws
 pub mod EntryLaws

@@ -1,20 +1,8 @@
 -- Which numbers stand in the tree that a step leaves.
-use Rattle.std.specs.Prelude.{◌≡◌, ℕ, Bool, true, false, cond, ◌&&◌, Option, Some, None, refl}
-use Rattle.std.proofs.Common.{sym, ap, ◌∙◌, ⊎_elim, inl, inr}
-use Rattle.std.specs.Ordering.{eq_by_cmp}
+use Rattle.mds_types.proofs.Common.{Alteration, Bool, Dentry, Done, Entry, Errno, Inode, IsOld, Lists, Looks, Makes, Moves, None, Op, Option, Outcome, Removes, Reply, Sets, Shape, Some, Tree, Unlinks, alteration_errno, altered, altered_at, answers, ap, cond, dentry_cmp, destination_in, dir_removed, directory_in, done_in, eq_by_cmp, false, full_errno, inl, inr, is_dir_kind, is_directory, leads_to, looked, made, new_inode, refl, removal_errno, renamed, replace_errno, room_errno, shape, step, sym, true, unless, unlinked, with_moved, ℕ, ⊎_elim, ◌&&◌, ◌∙◌, ◌≡◌}
 use Rattle.std.specs.FinMap as map
-use Rattle.mds_types.specs.declared.dentries.Dentry.{Dentry}
-use Rattle.mds_types.specs.declared.inodes.Alteration.{Alteration}
-use Rattle.mds_types.specs.declared.inodes.Inode.{Inode}
-use Rattle.mds_types.specs.declared.replies.Reply.{Reply}
-use Rattle.mds_types.specs.declared.replies.Reply.TheVariants.{Entry, Done, Errno}
-use Rattle.mds_types.specs.declared.operations.Op.{Op}
-use Rattle.mds_types.specs.Tree.{Tree, dentry_cmp, is_directory, is_dir_kind}
-use Rattle.mds_types.specs.Shape.{Shape, Looks, Lists, Makes, Sets, Unlinks, Removes, Moves, destination_in, directory_in, shape}
-use Rattle.mds_types.specs.Step.{Outcome, answers, with_moved, altered, altered_at, alteration_errno, looked, made, new_inode, unless, unlinked, dir_removed, removal_errno, leads_to, replace_errno, room_errno, full_errno, renamed, done_in, step}
 use Rattle.mds_types.proofs.AlterationLaws.{altered_number}
 use Rattle.mds_types.proofs.EntryLaws.{stands_after_put, stands_after_removal}
-use Rattle.mds_types.specs.Outcomes.{IsOld}
 
 same_old : (tree : Tree) (n : ℕ) (outcome : Outcome) → outcome.tree ≡ tree → IsOld tree n outcome
 same_old tree n outcome same dentry inode stands = inl (dentry, inode, ap (λ t. map.get t dentry) (sym same) ∙ stands, refl)

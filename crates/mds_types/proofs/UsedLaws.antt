@@ -1,19 +1,8 @@
 -- Every number that stands in the tree after a legal history was given.
-use Rattle.std.specs.Prelude.{◌≡◌, ℕ, zero, suc, ◌+◌, ◌<◌, ◌≤◌, Bool, true, false, cond, is_some, List, [], ◌∷◌, ◌++◌, map, take, length, Option, Some, None, Contains, refl}
-use Rattle.std.specs.List.{slice_index_or}
-use Rattle.std.proofs.Common.{sym, ap, subst, ◌∙◌, inl, inr, ⊎_elim, arith}
-use Rattle.std.proofs.lemmas.List.{take_all, take_more, length-append, get_or_append_left}
-use Rattle.std.proofs.Math.Seq.{get_or-append_seam}
-use Rattle.std.specs.Ordering.{eq_by_cmp}
+use Rattle.mds_types.proofs.Common.{Bool, Contains, Dentry, Ino, Inode, IsLegal, IsNext, IsUsed, List, None, Option, Some, Tree, [], after, ap, arith, cond, dentry_cmp, eq_by_cmp, false, find, get-entries, get_or-append_seam, get_or_append_left, inl, inr, is_some, length, length-append, number_or, numbers, refl, slice_index_or, subst, suc, sym, take, take_all, take_more, true, zero, ℕ, ⊎_elim, ◌++◌, ◌<◌, ◌∙◌, ◌∷◌, ◌≡◌, ◌≤◌}
+use Rattle.std.specs.Prelude.{◌+◌, map}
 use Rattle.std.specs.FinMap as finmap
-use Rattle.std.specs.FinMap.{find, get-entries}
-use Rattle.mds_types.specs.declared.ids.Ino.{Ino}
-use Rattle.mds_types.specs.declared.dentries.Dentry.{Dentry}
-use Rattle.mds_types.specs.declared.inodes.Inode.{Inode}
 use Rattle.mds_types.specs.declared.entries.Entry.{Entry}
-use Rattle.mds_types.specs.Tree.{Tree, dentry_cmp, numbers}
-use Rattle.mds_types.specs.Step.{number_or}
-use Rattle.mds_types.specs.History.{after, IsUsed, IsNext, IsLegal}
 use Rattle.mds_types.proofs.HistoryLaws.{after-push}
 use Rattle.mds_types.proofs.NumberLaws.{old_or_taken}
 

@@ -1,7 +1,6 @@
 -- No byte is zero where zero is not among the bytes.
-use Rattle.std.proofs.Common.{◌≡◌, ℕ, Bool, true, false, not, ◌&&◌, ◌||◌, ◌==◌, List, [], ◌∷◌, refl}
-use Rattle.std.specs.List.{list_all, list_any}
-use Rattle.mds_types.specs.Name.{fits_target}
+use Rattle.mds_types.proofs.Common.{fits_target, list_all, list_any, not}
+use Rattle.std.proofs.Common.{◌≡◌, ℕ, Bool, true, false, ◌&&◌, ◌||◌, ◌==◌, List, [], ◌∷◌, refl}
 
 one_byte : (zero rest : Bool) (all : Bool) → not rest ≡ all → not (zero || rest) ≡ (not zero && all)
 one_byte true rest all e = refl

@@ -1,8 +1,6 @@
 -- How the hash of what is left of a name goes on, a block at a time.
-use Rattle.std.proofs.Common.{◌≡◌, ℕ, suc, ◌+◌, ◌*◌, ◌/◌, ◌<◌, ◌≤◌, List, length, take, drop, fold, refl, sym, ap, ◌∙◌, arith, length-drop}
-use Rattle.std.proofs.lemmas.List.{drop-drop}
-use Rattle.namehash.specs.declared.state.State.{State}
-use Rattle.namehash.specs.Rjenkins.{start, absorb_block, absorb_last, blocks, hash_of}
+use Rattle.namehash.proofs.Common.{List, State, absorb_block, absorb_last, ap, arith, drop, drop-drop, fold, length, length-drop, refl, start, suc, sym, take, ℕ, ◌*◌, ◌+◌, ◌/◌, ◌<◌, ◌∙◌, ◌≡◌, ◌≤◌}
+use Rattle.namehash.specs.Rjenkins.{blocks, hash_of}
 
 -- the hash of a name of `total` bytes, from the state s and what is left, with n whole blocks
 hash_by : State → List ℕ → ℕ → ℕ → ℕ

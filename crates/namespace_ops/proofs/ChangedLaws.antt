@@ -1,30 +1,6 @@
 -- The fragments of a checked change are the operation's changed fragments, and each is named once.
-use Rattle.std.proofs.Common.{◌≡◌, ℕ, Bool, true, false, cond, ◌&&◌, ◌||◌, List, [], ◌∷◌, ◌++◌, Option, Some, None, Result, Ok, Err, IfOk, IfSome, ⊎_elim, refl, sym, ap, subst, ◌∙◌, arith}
-use Rattle.std.specs.List.{Contains}
-use Rattle.std.specs.Ordering.{eq_by_cmp}
+use Rattle.namespace_ops.proofs.Common.{AreApart, Bool, Carries, Change, Changes, Checked, Checks, Contains, Covers, Dentry, Dirfrag, Err, Fragment, IfOk, IfSome, Ino, Inode, IsChangeIn, IsChecked, IsCovered, IsLeafAt, IsMoveTo, IsRemovalAt, IsSpot, IsUnlinkAt, Leaf, List, Lists, Looks, Makes, Moves, NamesOnce, None, Ok, Op, Option, PutsAt, Refusal, Removes, Result, Sets, Shape, Some, Spot, Takes, TakesAt, TakesBy, Tree, Unlinks, [], ap, arith, changed_fragments, cond, dentry_at, dentry_cmp, directory_at, directory_gone, entries_there, eq_by_cmp, errno_of_any_number, false, fragment_of, fragments_of, has_entries, in_directory, is_dir_kind, is_errno, is_idle, leaf_of, leaf_put, leaf_taken, leaves, leaves_at, leaves_gone, leaves_of, named_once, other_put, refl, replace_errno, reply_by, same_leaf, shape, stays, stays_in, step, subst, sym, touched, touched_in, true, unless_same, ℕ, ⊎_elim, ◌&&◌, ◌++◌, ◌||◌, ◌∙◌, ◌∷◌, ◌≡◌}
 use Rattle.std.specs.FinMap as map
-use Rattle.mds_types.specs.declared.ids.Ino.{Ino}
-use Rattle.mds_types.specs.declared.dentries.Dentry.{Dentry}
-use Rattle.mds_types.specs.declared.dirfrags.Dirfrag.{Dirfrag}
-use Rattle.mds_types.specs.declared.inodes.Inode.{Inode}
-use Rattle.mds_types.specs.declared.operations.Op.{Op}
-use Rattle.mds_types.specs.Frag.{Fragment}
-use Rattle.mds_types.specs.Shape.{Shape, Looks, Lists, Makes, Sets, Unlinks, Removes, Moves, shape}
-use Rattle.mds_types.specs.Tree.{Tree, dentry_cmp, is_dir_kind, has_entries}
-use Rattle.mds_types.specs.Step.{step, replace_errno}
-use Rattle.mds_types.specs.Outcomes.{is_errno}
-use Rattle.mds_types.proofs.StepLaws.{errno_of_any_number}
-use Rattle.mds_types.proofs.DirectoryLaws.{entries_there}
-use Rattle.inode_table.specs.Dirs.{Covers, leaves_of}
-use Rattle.namespace_ops.specs.declared.plans.Spot.{Spot}
-use Rattle.namespace_ops.specs.declared.plans.Change.{Change}
-use Rattle.mds_types.specs.Leaf.{Leaf, leaf_of}
-use Rattle.namespace_ops.specs.Changes.{Carries, IsChangeIn, IsLeafAt, IsMoveTo, IsRemovalAt, IsSpot, IsUnlinkAt, PutsAt, Takes, TakesAt, TakesBy, dentry_at, directory_at, directory_gone, fragments_of, in_directory, is_idle, leaf_put, leaf_taken, leaves, leaves_gone, named_once, other_put, reply_by, same_leaf, stays, stays_in, unless_same}
-use Rattle.namespace_ops.specs.ChangedFragments.{AreApart, IsCovered, NamesOnce, changed_fragments, fragment_of, leaves_at, touched, touched_in}
-use Rattle.mds_types.specs.declared.refusals.Refusal.{Refusal}
-use Rattle.namespace_ops.specs.declared.plans.Checked.{Checked}
-use Rattle.namespace_ops.specs.declared.plans.Checked.TheVariants.{Changes}
-use Rattle.namespace_ops.specs.Checked.{Checks, IsChecked}
 use Rattle.namespace_ops.proofs.CheckedParts.{checks_on}
 use Rattle.namespace_ops.proofs.PickLaws.{picked}
 use Rattle.namespace_ops.proofs.Members.{first_or_later, in_dir, later, leaves_apart, none_in, one_leaf, two_leaves}

@@ -1,36 +1,7 @@
 -- What the checks of each kind of operation find.
-use Rattle.std.proofs.Common.{◌≡◌, ℕ, ◌<◌, ◌^◌, nat_le, Bool, true, false, cond, ◌&&◌, IfOk, IfSome, Option, Some, None, Result, Ok, Err, refl, sym, ap, subst, ◌∙◌}
-use Rattle.std.specs.Ordering.{eq_by_cmp}
+use Rattle.namespace_ops.proofs.Common.{Alteration, Answers, AreLocated, Birth, Bool, Changes, Checked, Checks, Concerns, Covers, Dentry, Dir, Dirfrag, Done, Entry, Err, Errno, File, HasPinOf, HasSize, HasSpace, IfOk, IfSome, Ino, Inode, IsChangeOf, IsChecked, IsLeafAt, IsLocated, IsLocatedAt, IsMove, IsSpot, Kind, LiesAt, Located, Locates, LocatesAt, MayAdd, MayRemove, MaySet, None, Ok, Op, Option, Outcome, Places, Reads, Refusal, Rename, Result, Some, Spot, Tree, adds, alteration_errno, altered, altered_at, altered_kind, altered_number, altered_pin, altered_size, answers, ap, cond, dentry_at, dentry_cmp, destination_of, dir_removed, directory_at, directory_of, done_in, entries_in, entry_stands, eq_by_cmp, false, has_entries, hash_of, is_dir_kind, is_directory, leads_to, made, main_hash, may_go, moves, nat_le, new_inode, new_sized, refl, removal_errno, removes, renamed, replace_errno, room_errno, sets, shape, source_of, step, subst, sym, true, unless, unlinked, with_moved, ℕ, ◌&&◌, ◌<◌, ◌^◌, ◌∙◌, ◌≡◌}
 use Rattle.std.specs.FinMap as map
-use Rattle.mds_types.specs.declared.ids.Ino.{Ino}
-use Rattle.mds_types.specs.declared.dentries.Dentry.{Dentry}
-use Rattle.mds_types.specs.declared.dirfrags.Dirfrag.{Dirfrag}
-use Rattle.mds_types.specs.declared.inodes.Alteration.{Alteration}
-use Rattle.mds_types.specs.declared.inodes.Birth.{Birth}
-use Rattle.mds_types.specs.declared.inodes.Inode.{Inode}
-use Rattle.mds_types.specs.declared.inodes.Kind.{Kind}
-use Rattle.mds_types.specs.declared.inodes.Kind.TheVariants.{File, Dir, Symlink as Link}
-use Rattle.mds_types.specs.declared.operations.Op.{Op}
-use Rattle.mds_types.specs.declared.operations.Op.TheVariants.{Rename}
-use Rattle.mds_types.specs.declared.refusals.Refusal.{Refusal}
-use Rattle.mds_types.specs.declared.replies.Reply.TheVariants.{Done, Entry, Errno}
-use Rattle.mds_types.specs.Shape.{destination_of, directory_of, shape, source_of}
-use Rattle.mds_types.specs.Tree.{HasPinOf, HasSize, Tree, dentry_cmp, is_directory, is_dir_kind, entries_in, has_entries}
-use Rattle.mds_types.specs.Step.{HasSpace, IsMove, Outcome, altered, altered_at, alteration_errno, answers, dir_removed, done_in, removal_errno, leads_to, made, new_inode, renamed, replace_errno, room_errno, step, unless, unlinked, with_moved}
-use Rattle.mds_types.proofs.AlterationLaws.{altered_kind, altered_number, altered_pin, altered_size}
-use Rattle.mds_types.proofs.DirectoryLaws.{entry_stands}
-use Rattle.mds_types.proofs.WellFormedLaws.{new_sized, may_go}
-use Rattle.namehash.specs.Rjenkins.{hash_of}
-use Rattle.inode_table.specs.Dirs.{Covers}
-use Rattle.inode_table.specs.TreeChanges.{MayAdd, MayRemove, MaySet}
-use Rattle.namespace_ops.specs.declared.locating.Located.{Located}
-use Rattle.namespace_ops.specs.declared.locating.Places.{Places}
-use Rattle.namespace_ops.specs.declared.plans.Spot.{Spot}
-use Rattle.namespace_ops.specs.declared.plans.Checked.{Checked}
-use Rattle.namespace_ops.specs.declared.plans.Checked.TheVariants.{Answers, Changes}
-use Rattle.namespace_ops.specs.Changes.{Concerns, IsChangeOf, IsLeafAt, IsSpot, Reads, adds, dentry_at, directory_at, moves, removes, sets}
-use Rattle.namespace_ops.specs.Checked.{Checks, IsChecked}
-use Rattle.namespace_ops.specs.Places.{AreLocated, IsLocated, IsLocatedAt, LiesAt, Locates, LocatesAt, main_hash}
+use Rattle.mds_types.specs.declared.inodes.Kind.TheVariants.{Symlink as Link}
 
 -- what the test of a kind told
 pub no_dir : (kind : Kind) (told : Bool) → (kind ≡ Dir → told ≡ true) → told ≡ false → is_dir_kind kind ≡ false

@@ -1,5 +1,6 @@
 pub mod ChangedLaws
 pub mod CheckedParts
+pub mod Common
 pub mod Members
 pub mod OtherLeaves
 pub mod PickLaws

@@ -1,11 +1,8 @@
 -- The first leaf that contains a hash is its pick.
-use Rattle.std.specs.Prelude.{◌≡◌, ℕ, ◌/◌, ◌%◌, ◌^◌, true, false, cond, List, [], ◌∷◌}
-use Rattle.std.proofs.Common.{◌⊎◌, inl, inr, ⊎_elim, sym, ap, subst, ◌∙◌, arith}
-use Rattle.mds_types.specs.Frag.{Fragment, Contains, span}
-use Rattle.fragtree.specs.FragTree.{HasLeaf, IsPick}
-use Rattle.sorted_map.proofs.NatKeys.{is_same, same_or_apart, is_apart}
-use Rattle.namespace_ops.specs.Picks.{pick_of, is_in}
-use Rattle.fragtree.proofs.TreeLaws.{first_or_later, later, first}
+use Rattle.namespace_ops.proofs.Common.{Fragment, HasLeaf, IsPick, ap, arith, first, first_or_later, inl, inr, is_apart, is_in, is_same, later, pick_of, span, subst, sym, ⊎_elim, ◌%◌, ◌/◌, ◌∙◌, ◌⊎◌}
+use Rattle.std.specs.Prelude.{◌≡◌, ℕ, ◌^◌, true, false, cond, List, [], ◌∷◌}
+use Rattle.mds_types.specs.Frag.{Contains}
+use Rattle.sorted_map.proofs.NatKeys.{same_or_apart}
 
 is_in_or_not : (f : Fragment) (hash : ℕ) → ((is_in f hash ≡ true) × Contains f hash) ⊎ ((is_in f hash ≡ false) × (Contains f hash → ⊥))
 is_in_or_not f hash =

@@ -1,16 +1,5 @@
 -- The change that the checks of an operation found may be made, once the number that it takes is offered.
-use Rattle.std.proofs.Common.{◌≡◌, ℕ, false, IfSome, Option, Some, None, refl, sym, subst, ◌∙◌}
-use Rattle.mds_types.specs.declared.ids.Ino.{Ino}
-use Rattle.mds_types.specs.declared.dirfrags.Dirfrag.{Dirfrag}
-use Rattle.mds_types.specs.declared.operations.Op.{Op}
-use Rattle.mds_types.specs.Tree.{Tree, IsUnused}
-use Rattle.mds_types.specs.Step.{step, number_or}
-use Rattle.inode_table.specs.Dirs.{Covers}
-use Rattle.mds_types.specs.declared.inodes.Inode.{Inode}
-use Rattle.namespace_ops.specs.declared.plans.Change.{Change}
-use Rattle.namespace_ops.specs.declared.plans.Spot.{Spot}
-use Rattle.namespace_ops.specs.Changes.{IsNumbered, IsOffered, MayChange}
-use Rattle.namespace_ops.specs.Checked.{IsChecked}
+use Rattle.namespace_ops.proofs.Common.{Change, Covers, Dirfrag, IfSome, Ino, Inode, IsChecked, IsNumbered, IsOffered, IsUnused, MayChange, None, Op, Option, Some, Spot, Tree, false, number_or, refl, step, subst, sym, ℕ, ◌∙◌, ◌≡◌}
 use Rattle.namespace_ops.proofs.CheckedParts.{none_clash}
 
 -- a number that the operation takes was offered

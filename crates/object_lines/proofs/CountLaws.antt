@@ -1,28 +1,7 @@
 -- The counts of pairs are those of the names that they show.
-use Rattle.std.proofs.Common.{◌≡◌, ℕ, suc, ◌+◌, Bool, true, false, cond, not, List, [], ◌∷◌, length, Option, Some, None, refl, sym, ap, ◌∙◌, arith}
-use Rattle.std.specs.Prelude.{T, filter}
-use Rattle.std.specs.declared.cmp.Ordering.{Ordering}
-use Rattle.std.specs.declared.cmp.Ordering.TheVariants.{Less, Equal, Greater}
-use Rattle.std.specs.Ordering.{is_eq}
-use Rattle.std.specs.Cmp.Lexicographic.{nat_list_cmp_total}
+use Rattle.object_lines.proofs.Common.{Bool, Equal, FragHeader, Greater, Inode, Less, List, Names, None, Option, Ordering, Some, SpellsKey, T, [], ap, arith, by_order, cond, counted_after, dirs_in, entries-from_sorted, entries-insert, entry_key, entry_of, false, files_in, filter, find, get-entries, get-from_sorted, is_dir_kind, is_dir_under, is_eq, is_name, is_sorted, key_cmp, left_of, len-empty, len-entries, length, name_of, names_in, nat_list_cmp_total, nil_from_length, not, not_found, put, reads_key, refl, right_of, same_Some, shows_at_each, spelled_as, suc, sym, true, with_entry, with_one, ℕ, ◌+◌, ◌>>=◌, ◌∙◌, ◌∷◌, ◌≡◌}
 use Rattle.std.specs.FinMap as map
-use Rattle.std.specs.FinMap.{find, is_sorted, entries-from_sorted, entries-insert, get-entries, get-from_sorted, len-empty, len-entries}
-use Rattle.std.proofs.lemmas.List.{nil_from_length}
-use Rattle.std.proofs.lemmas.Option.{same_Some}
-use Rattle.std.specs.FinMap.Entries.{by_order, put}
-use Rattle.sorted_map.proofs.Bools.{left_of, right_of}
-use Rattle.mds_types.specs.Tree.{is_dir_kind}
-use Rattle.mds_types.specs.declared.inodes.Inode.{Inode}
-use Rattle.objstore.specs.EntryKeys.{entry_key}
-use Rattle.objstore.specs.Omap.{key_cmp}
-use Rattle.dirfrag_codec.specs.declared.headers.FragHeader.{FragHeader}
-use Rattle.dirfrag_codec.specs.FragmentObject.{Names, SpellsKey, dirs_in, files_in, names_in, names_of, with_entry}
-use Rattle.dirfrag_codec.specs.Reading.{◌>>=◌}
-use Rattle.dirfrag_codec.specs.Values.{entry_of, is_name, name_of}
-use Rattle.dirfrag_codec.proofs.ByteKeys.{not_found}
-use Rattle.dirfrag_codec.proofs.FragmentLaws.{shows_at_each}
-use Rattle.dirfrag_codec.proofs.ValueLaws.{reads_key, spelled_as}
-use Rattle.object_lines.specs.Entries.{counted_after, is_dir_under, with_one}
+use Rattle.dirfrag_codec.specs.FragmentObject.{names_of}
 
 -- ---- one name more, that wasn't there
 

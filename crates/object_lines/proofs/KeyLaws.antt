@@ -1,11 +1,5 @@
 -- The name of a key, read.
-use Rattle.std.proofs.Common.{◌≡◌, ℕ, List, Option, Some, None}
-use Rattle.std.specs.Prelude.{IfOk, Result, Ok, Err}
-use Rattle.objstore.specs.EntryKeys.{NamesKey}
-use Rattle.dirfrag_codec.specs.FragmentObject.{SpellsKey}
-use Rattle.dirfrag_codec.specs.Grammar.{Decodes}
-use Rattle.dirfrag_codec.specs.Values.{name_of}
-use Rattle.dirfrag_codec.proofs.ValueLaws.{one_key, reading_answered, reads_key}
+use Rattle.object_lines.proofs.Common.{Decodes, Err, IfOk, List, NamesKey, None, Ok, Option, Result, Some, SpellsKey, name_of, one_key, reading_answered, reads_key, ℕ, ◌≡◌}
 
 decodes : (key : List ℕ) (name : Option (List ℕ)) → NamesKey key name → Decodes SpellsKey key name
 decodes key (Some name) h = h

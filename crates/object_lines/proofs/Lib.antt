@@ -1,3 +1,4 @@
+pub mod Common
 pub mod CountLaws
 pub mod KeyLaws
 pub mod ObjectLaws

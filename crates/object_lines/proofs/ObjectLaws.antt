@@ -1,35 +1,9 @@
 -- What an object is, by its header and its pairs counted one after the other.
-use Rattle.std.proofs.Common.{◌≡◌, ℕ, ◌+◌, ◌⊎◌, inl, inr, Bool, true, false, cond, ltb, List, [], ◌∷◌, length, Option, Some, None, refl, sym, ap, subst, ◌∙◌, arith}
-use Rattle.std.specs.Prelude.{◌≤◌, T, take, map, OnErr, Result, Ok, Err}
-use Rattle.std.proofs.lemmas.Bool.Decides.{nat_tests}
-use Rattle.std.proofs.lemmas.List.{take_all}
-use Rattle.std.specs.Ordering.{eq_by_cmp}
+use Rattle.object_lines.proofs.Common.{Absent, Bool, Damaged, Err, Frag, FragHeader, Fragment, HasOneLine, HasPair, Inode, IsPairOf, List, MayTakeMemory, None, Ok, Omap, OnErr, Option, PairMap, PairPage, Result, ShowsFragment, Some, SpellsEntry, SpellsHeader, SpellsKey, SpellsNames, SpellsNoFragment, SpellsNoTree, SpellsTree, SpellsTreeObject, StatesLeaves, T, Tree, [], all_kept, ap, arith, cond, counted, counted_after, dirs_in, empty_of_len, entries_sorted, entry_key, entry_of, eq_by_cmp, false, files_in, find, flat_map, four_each, get-entries, has_one_fragment, has_one_tree_object, header_for, inl, inr, is_dir_in, is_dir_kind, is_dir_under, is_name, is_sorted, key_apart, key_cmp, key_same, leaf_bytes, left_of, len-empty, len-entries, length, ltb, name_decides, name_of, names_in, names_shown, nat_tests, not_found, one_entry, one_header, one_key, page_of, read_as, reads_entry, reads_key, refl, right_of, same_or_apart, shows_at_each, spelled_as, subst, sym, take, take_all, true, with_one, ℕ, ◌+◌, ◌>>=◌, ◌∙◌, ◌∷◌, ◌≡◌, ◌⊎◌}
+use Rattle.std.specs.Prelude.{◌≤◌, map}
 use Rattle.std.specs.FinMap as finmap
-use Rattle.std.specs.FinMap.{empty_of_len, find, is_sorted, entries_sorted, get-entries, len-empty, len-entries}
-use Rattle.sorted_map.proofs.Bools.{left_of, right_of}
-use Rattle.sorted_map.proofs.Filters.{all_kept}
-use Rattle.mds_types.specs.Frag.{Fragment}
-use Rattle.mds_types.specs.Tree.{is_dir_kind}
-use Rattle.mds_types.specs.declared.inodes.Inode.{Inode}
-use Rattle.objstore.specs.EntryKeys.{entry_key}
-use Rattle.objstore.specs.Omap.{Omap, PairMap, PairPage, key_cmp, page_of, pairs_after}
-use Rattle.dirfrag_codec.specs.declared.headers.FragHeader.{FragHeader}
-use Rattle.dirfrag_codec.specs.EntryRecord.{SpellsEntry}
-use Rattle.dirfrag_codec.specs.FragHeader.{SpellsHeader}
-use Rattle.dirfrag_codec.specs.FragmentObject.{HasPair, IsPairOf, SpellsKey, SpellsNames, SpellsTreeObject, dirs_in, files_in, header_for, names_in, names_of}
-use Rattle.dirfrag_codec.specs.Reading.{◌>>=◌}
-use Rattle.dirfrag_codec.specs.TreeObject.{SpellsTree, StatesLeaves, leaf_bytes}
-use Rattle.dirfrag_codec.specs.Values.{entry_of, is_name, name_of}
-use Rattle.dirfrag_codec.proofs.ByteKeys.{key_apart, key_same, not_found, same_or_apart}
-use Rattle.dirfrag_codec.proofs.FragmentLaws.{has_one_fragment, has_one_tree_object, names_shown, shows_at_each}
-use Rattle.dirfrag_codec.proofs.HeaderLaws.{one_header}
-use Rattle.dirfrag_codec.proofs.RecordLaws.{one_entry}
-use Rattle.dirfrag_codec.proofs.TreeLaws.{four_each}
-use Rattle.dirfrag_codec.proofs.ValueLaws.{name_decides, one_key, read_as, reads_entry, reads_key, spelled_as}
-use Rattle.std.specs.List.{flat_map}
-use Rattle.script_output.specs.declared.object_lines.ObjectLine.TheVariants.{Frag, Tree, Absent, Damaged}
-use Rattle.object_lines.specs.Entries.{counted, counted_after, is_dir_in, is_dir_under, with_one}
-use Rattle.object_lines.specs.ObjectLines.{HasOneLine, MayTakeMemory, ShowsFragment, SpellsNoFragment, SpellsNoTree}
+use Rattle.objstore.specs.Omap.{pairs_after}
+use Rattle.dirfrag_codec.specs.FragmentObject.{names_of}
 use Rattle.object_lines.proofs.CountLaws.{names_counted}
 
 -- ---- pairs that are entries

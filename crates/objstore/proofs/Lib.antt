@@ -1,3 +1,4 @@
+pub mod Common
 pub mod KeyLemmas
 pub mod PageLaws
 pub mod WriteLaws

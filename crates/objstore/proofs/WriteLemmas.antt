@@ -1,17 +1,8 @@
 -- What a write leaves, for an object that is there and for one that isn't.
-use Rattle.std.proofs.lemmas.List.{take_all, length-map}
-use Rattle.std.proofs.Common.{◌≡◌, ℕ, arith, take, map, length, Bool, true, false, cond, List, Some, None, Result, Ok, Err, OnOk, OnErr, refl, sym, ap, ◌∙◌}
-use Rattle.std.specs.Option.{unwrap_or}
-use Rattle.std.specs.Ordering.{eq_by_cmp}
-use Rattle.std.specs.Cmp.Lexicographic.{nat_list_cmp_total}
+use Rattle.objstore.proofs.Common.{Err, List, Objects, Ok, Omap, OnErr, OnOk, Result, WriteOp, ap, applied, arith, cond, contents-entries, empty_omap, eq_by_cmp, exact_bytes, get-insert, key_cmp, len-entries, length, length-map, map, nat_list_cmp_total, refl, same_map, sym, take, take_all, tie, true, unwrap_or, ℕ, ◌∙◌, ◌≡◌}
+use Rattle.std.proofs.Common.{Bool, false, Some, None}
 use Rattle.std.specs.FinMap as finmap
-use Rattle.std.specs.FinMap.{same_map, get-insert, len-entries}
-use Rattle.std.proofs.lemmas.Map.Lookups.{exact_bytes}
-use Rattle.sorted_map.proofs.MapLaws.{contents-entries, tie}
-use Rattle.objstore.specs.declared.write_ops.WriteOp.{WriteOp}
-use Rattle.objstore.specs.Omap.{Omap, key_cmp, empty_omap}
-use Rattle.objstore.specs.Writes.{applied}
-use Rattle.objstore.specs.Objects.{Objects, written}
+use Rattle.objstore.specs.Objects.{written}
 
 -- to write back what was there changes nothing
 written_back : (objects : Objects) (name : List ℕ) (object : Omap) → finmap.get objects name ≡ Some object → finmap.insert objects name object ≡ objects

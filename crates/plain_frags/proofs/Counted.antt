@@ -1,14 +1,8 @@
 -- How many entries a directory has: as many as its listing.
-use Rattle.std.proofs.Common.{◌≡◌, ℕ, suc, Bool, true, false, cond, ◌&&◌, ◌==◌, T, List, [], ◌∷◌, length, map, filter, None, refl, sym, ap, ◌∙◌}
+use Rattle.plain_frags.proofs.Common.{Bool, Dentry, Inode, List, None, T, Tree, [], ap, cond, dentry-exact, dentry-total, dentry_cmp, entries-from_sorted, entries_sorted, false, filter, find-where_key, get-entries, get-from_sorted, get-retain_keys, is_in, is_sorted, is_sorted-where_key, len-entries, length, map, refl, same_map, suc, sym, true, ℕ, ◌&&◌, ◌==◌, ◌∙◌, ◌∷◌, ◌≡◌}
 use Rattle.std.specs.FinMap as finmap
-use Rattle.std.specs.FinMap.{entries-from_sorted, entries_sorted, get-entries, get-from_sorted, get-retain_keys, len-entries, is_sorted, same_map}
-use Rattle.std.specs.FinMap.Entries.{find-where_key, is_sorted-where_key}
-use Rattle.mds_types.specs.declared.dentries.Dentry.{Dentry}
-use Rattle.mds_types.specs.declared.inodes.Inode.{Inode}
-use Rattle.mds_types.specs.OrderLaws.{dentry-exact}
 use Rattle.mds_types.specs.Step.{names_after}
-use Rattle.mds_types.specs.Tree.{Tree, dentry_cmp, entries_in, is_in}
-use Rattle.mds_types.proofs.OrderLaws.{dentry-total}
+use Rattle.mds_types.specs.Tree.{entries_in}
 use Rattle.plain_frags.proofs.Rows.{is_listed, named}
 
 abbrev kept : ℕ → List (Dentry × Inode) → List (Dentry × Inode)

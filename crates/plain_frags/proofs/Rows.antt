@@ -1,23 +1,7 @@
 -- The names of a directory among dentries in order: a run of neighbours.
-use Rattle.std.proofs.Common.{◌≡◌, ℕ, ◌<◌, ◌≤◌, Bool, true, false, cond, ◌&&◌, ◌==◌, T, not, is_some, List, [], ◌∷◌, map, filter, Option, Some, None, refl, sym, ap, ◌∙◌, arith}
-use Rattle.std.specs.declared.cmp.Ordering.{Ordering}
-use Rattle.std.specs.declared.cmp.Ordering.TheVariants.{Less, Equal, Greater}
-use Rattle.std.specs.Ordering.{nat_cmp, ordering_then, is_lt, is_le, MatchOrdering}
-use Rattle.std.specs.Cmp.{ranks}
-use Rattle.std.proofs.lemmas.Bool.Decides.{nat_tests}
-use Rattle.std.specs.Cmp.Lexicographic.{slice_cmp}
+use Rattle.plain_frags.proofs.Common.{Bool, Dentry, Equal, Greater, Inode, Less, List, MatchOption, MatchOrdering, None, Option, Ordering, Some, T, Tree, [], ap, arith, below_all, cond, dentry_cmp, dentry_of, entries_listed, false, filter, has_entries, is_after, is_apart, is_le, is_lt, is_some, is_sorted, left_of, map, nat_cmp, nat_tests, no_entries_listed, not, ordering_then, ranks, refl, right_of, run, slice_cmp, sym, true, ℕ, ◌&&◌, ◌<◌, ◌==◌, ◌∙◌, ◌∷◌, ◌≡◌, ◌≤◌}
 use Rattle.std.specs.FinMap as finmap
-use Rattle.std.specs.FinMap.{is_sorted}
-use Rattle.std.specs.FinMap.Entries.{below_all}
-use Rattle.mds_types.specs.declared.dentries.Dentry.{Dentry}
-use Rattle.mds_types.specs.declared.inodes.Inode.{Inode}
-use Rattle.std.specs.Option.{MatchOption}
-use Rattle.mds_types.proofs.ListingLaws.{entries_listed, no_entries_listed}
-use Rattle.mds_types.specs.Tree.{Tree, dentry_cmp, dentry_of, has_entries}
-use Rattle.mds_types.specs.Step.{is_after, names_after}
-use Rattle.plain_frags.specs.Run.{run}
-use Rattle.sorted_map.proofs.Bools.{left_of, right_of}
-use Rattle.sorted_map.proofs.NatKeys.{is_apart}
+use Rattle.mds_types.specs.Step.{names_after}
 
 -- whether a dentry comes after a name of the directory; after none, whether it comes no earlier than the directory's names
 abbrev pub begins : ℕ → Option (List ℕ) → Dentry → Bool

@@ -1,15 +1,6 @@
 -- A number that no entry has.
-use Rattle.std.proofs.Common.{◌≡◌, ℕ, Bool, true, false, not, ◌↔◌, refl, sym, ap, ◌∙◌}
-use Rattle.std.specs.List.{list_any}
+use Rattle.plain_frags.proofs.Common.{Bool, IsUnused, Tree, any_found, any_of, ap, dentry-total, dentry_of, eqb-true, false, get-entries, is_numbered, is_same, list_any, not, refl, sym, true, ℕ, ◌↔◌, ◌∙◌, ◌≡◌}
 use Rattle.std.specs.FinMap as map
-use Rattle.std.specs.FinMap.{get-entries}
-use Rattle.std.proofs.lemmas.Bool.{eqb-true}
-use Rattle.mds_types.specs.Tree.{Tree, dentry_of, IsUnused}
-use Rattle.mds_types.proofs.OrderLaws.{dentry-total}
-use Rattle.mds_types.proofs.EntryLaws.{any_of}
-use Rattle.mds_types.proofs.EntrySearch.{any_found}
-use Rattle.plain_frags.specs.PlainFrags.{is_numbered}
-use Rattle.sorted_map.proofs.NatKeys.{is_same}
 
 -- a number other than the root's is unused exactly if no entry has it
 pub unused_told : (tree : Tree) (n : ℕ) (told : Bool) → (n ≡ 1 → ⊥) → told ≡ not (list_any (is_numbered n) (map.entries tree)) → (told ≡ true) ↔ IsUnused tree n

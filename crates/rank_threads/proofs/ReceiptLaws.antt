@@ -1,12 +1,5 @@
 -- Receipts, looked at from the last to the first.
-use Rattle.std.proofs.Common.{◌≡◌, ◌≤◌, ◌<◌, ◌+◌, ◌-◌, ℕ, zero, suc, Bool, true, false, nat_eq, List, [], ◌∷◌, cond, ◌||◌, drop, get_or, set, replicate, length, refl, sym, ap, subst, ◌∙◌, arith, rules}
-use Rattle.std.proofs.lemmas.List.{drop_more, length-set, length-replicate, get_or-replicate}
-use Rattle.std.proofs.Math.Seq.{drop-length}
-use Rattle.std.specs.List.{AllByRecursion, list_any}
-use Rattle.mds_types.specs.declared.entries.Entry.{Entry}
-use Rattle.rank_threads.specs.declared.receipts.Receipt.{Receipt}
-use Rattle.rank_threads.specs.Agreement.{AreApart, Stand, first_places}
-use Rattle.rank_threads.specs.Standing.{Fits, marked}
+use Rattle.rank_threads.proofs.Common.{AllByRecursion, AreApart, Bool, Entry, Fits, List, Receipt, Stand, [], ap, arith, cond, drop, drop-length, drop_more, false, first_places, get_or, get_or-replicate, length, length-replicate, length-set, list_any, marked, nat_eq, refl, replicate, rules, set, subst, suc, sym, true, zero, ℕ, ◌+◌, ◌-◌, ◌<◌, ◌||◌, ◌∙◌, ◌∷◌, ◌≡◌, ◌≤◌}
 
 -- the named places are those of the first ones
 pub record AreMarked (count : ℕ) (named : List Bool) (rs : List Receipt) : Type 0 where

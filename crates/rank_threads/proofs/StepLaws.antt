@@ -1,17 +1,5 @@
 -- What one step makes of the history that was handed in, and of its length.
-use Rattle.std.proofs.Common.{drop, ◌≡◌, ℕ, ◌+◌, ◌≤◌, Bool, true, false, cond, MatchBool, List, [], ◌∷◌, ◌++◌, take, length, Result, Ok, Err, refl, sym, ap, ◌∙◌, arith}
-use Rattle.std.proofs.lemmas.List.{append-nil, length-append, take-append-le, take-append-drop, length-take}
-use Rattle.mds_types.specs.declared.entries.Entry.{Entry}
-use Rattle.mds_types.specs.Tree.{Tree}
-use Rattle.mds_types.specs.declared.refusals.Refusal.{Refusal}
-use Rattle.cluster_core.specs.declared.events.Answer.{Answer}
-use Rattle.cluster_core.specs.declared.events.Answer.TheVariants.{Deferred, Forwarded, Job, Nothing, Reply, Sent}
-use Rattle.cluster_core.specs.declared.events.Event.{Event}
-use Rattle.cluster_core.specs.Runs.{AddsTo, AppendsOne, Records}
-use Rattle.cluster_core.specs.Sound.{IsSoundBook}
-use Rattle.cluster_core.specs.State.{Kept}
-use Rattle.rank_threads.specs.Continued.{Continues}
-use Rattle.rank_threads.specs.Turns.{first_in}
+use Rattle.rank_threads.proofs.Common.{AddsTo, Answer, AppendsOne, Bool, Continues, Deferred, Entry, Err, Event, Forwarded, IsSoundBook, Job, Kept, List, MatchBool, Nothing, Ok, Records, Refusal, Reply, Result, Sent, Tree, [], ap, append-nil, arith, cond, drop, false, first_in, length, length-append, length-take, refl, sym, take, take-append-drop, take-append-le, true, ℕ, ◌++◌, ◌+◌, ◌∙◌, ◌∷◌, ◌≡◌, ◌≤◌}
 
 -- the history went on by so many entries
 record GoesOn (past now : List Entry) (count : ℕ) : Type 0 where

@@ -1,13 +1,5 @@
 -- One turn more.
-use Rattle.std.proofs.Common.{◌≡◌, ℕ, ◌+◌, Bool, true, false, cond, List, [], ◌∷◌, ◌++◌, ◌<◌, drop, get_or, length, map, Result, refl, ap, ◌∙◌, arith}
-use Rattle.std.proofs.lemmas.List.{drop_more, map-append}
-use Rattle.cluster_core.specs.declared.events.Answer.{Answer}
-use Rattle.mds_types.specs.declared.refusals.Refusal.{Refusal}
-use Rattle.mds_types.specs.declared.entries.Entry.{Entry}
-use Rattle.rank_threads.specs.declared.plans.Turn.{Turn}
-use Rattle.rank_threads.specs.declared.receipts.Receipt.{Receipt}
-use Rattle.rank_threads.specs.Agreement.{Agree, Stand, first_places}
-use Rattle.rank_threads.specs.Turns.{AreAnswered, FitsTurn, PlansAnswered, first_in, firsts, firsts_of_all, receipt_of, receipts_of, receipts_of_all}
+use Rattle.rank_threads.proofs.Common.{Agree, Answer, AreAnswered, Bool, Entry, FitsTurn, List, PlansAnswered, Receipt, Refusal, Result, Stand, Turn, [], ap, arith, cond, drop, drop_more, false, first_in, first_places, firsts, firsts_of_all, get_or, length, map, map-append, receipt_of, receipts_of, receipts_of_all, refl, true, ℕ, ◌++◌, ◌+◌, ◌<◌, ◌∙◌, ◌∷◌, ◌≡◌}
 
 pub answered_more : (turns : List Turn) (results : List (Result Answer Refusal)) (turn : Turn) (result : Result Answer Refusal) → AreAnswered turns results → FitsTurn turn result → AreAnswered (turns ++ turn ∷ []) (results ++ result ∷ [])
 answered_more [] [] turn result h fits = (fits, tt)

@@ -1,35 +1,8 @@
 -- Why a read is refused, in the words of all ranks, and of a call that ends with the read.
-use Rattle.std.specs.Prelude.{◌≡◌, ℕ, true, List, Option, Some, None, Result, Ok, Err, IfErr, IfOk, IfSome}
-use Rattle.std.proofs.Common.{inl, inr, refl, sym, ap, subst, ◌∙◌, arith}
-use Rattle.mds_types.specs.declared.ids.Ino.{Ino}
-use Rattle.mds_types.specs.declared.ids.Rank.{Rank}
-use Rattle.mds_types.specs.declared.operations.Op.{Op}
-use Rattle.mds_types.specs.declared.refusals.Refusal.{Refusal}
-use Rattle.mds_types.specs.Frag.{Fragment}
-use Rattle.mds_types.specs.Leaf.{Leaf, leaf_of}
-use Rattle.mds_types.specs.Tree.{is_directory}
-use Rattle.fragtree.specs.FragTree.{HasLeaf}
-use Rattle.export_steps.specs.Holder.{holding}
-use Rattle.export_steps.specs.Standing.{Standing}
-use Rattle.inode_table.specs.Dirs.{IsLive, is_known, leaves_of}
-use Rattle.inode_table.proofs.TableLaws.{known_is}
-use Rattle.namespace_ops.specs.Changes.{Concerns}
-use Rattle.mds_types.specs.declared.inodes.Inode.{Inode}
-use Rattle.namespace_ops.specs.declared.plans.Change.{Change}
-use Rattle.namespace_ops.specs.declared.plans.Spot.{Spot}
-use Rattle.mdcache.specs.Core.{Core, state_of}
-use Rattle.mdcache.specs.Frags.{KeepsState, LacksPlacesBy, LacksPlacesOf}
-use Rattle.mdcache.specs.Core.{LacksPlacesAt}
-use Rattle.mdcache.specs.Reads.{MayNotFind}
-use Rattle.mdcache.specs.Ready.{MayNotBeReady}
-use Rattle.mdcache.specs.Shown.{shown_tree}
-use Rattle.mdcache.specs.Sound.{IsSound}
+use Rattle.ranked_tree.proofs.Common.{AreHeldAt, Change, Concerns, Core, Fragment, HasLeaf, HoldsAt, IfErr, IfOk, IfSome, Ino, Inode, IsLive, IsSound, KeepsRanked, KeepsState, LacksPlacesAsked, LacksPlacesAt, LacksPlacesBy, LacksPlacesDir, LacksPlacesFor, LacksPlacesOf, MayNotBeReady, MayNotFind, MayRefuse, NamesBy, NamesDir, Op, Rank, Ranked, Refusal, Roots, Rules, Spot, Standing, ap, arith, held_roots, holding, inl, inr, is_directory, is_known, known_is, lacked_at, leaf_of, leaves_of, refl, refused_later, shown_tree, state_of, subst, sym, ◌∙◌}
+use Rattle.std.specs.Prelude.{◌≡◌, ℕ, true, List, Option, Some, None, Result, Ok, Err}
+use Rattle.mds_types.specs.Leaf.{Leaf}
 use Rattle.mdcache.specs.State.{State as TreeState}
-use Rattle.mdcache.proofs.FragsLaws.{lacked_at, refused_later}
-use Rattle.subtree_map.specs.Authority.{Roots}
-use Rattle.ranked_tree.specs.Held.{AreHeldAt, LacksPlacesAsked, LacksPlacesDir, LacksPlacesFor, NamesBy, NamesDir}
-use Rattle.ranked_tree.specs.Ranked.{KeepsRanked, MayRefuse, Ranked, held_roots}
-use Rattle.ranked_tree.specs.Subtrees.{HoldsAt, Rules}
 
 -- what lacks at the rank that holds a leaf
 pub told_for : (X : Type 0) (result : Result X Refusal) (old : Core) (roots : Roots) (leaf : Leaf) (after : ℕ) (rank : Rank) → Rules (state_of old) roots leaf rank

@@ -1,23 +1,6 @@
 -- Whose a leaf is that was found.
-use Rattle.std.proofs.Common.{◌≡◌, ◌↔◌, ◌∙◌, ℕ, sym, Bool, true, false, Option, Some, None, IsTrue, MatchOption, ap, subst}
-use Rattle.std.proofs.lemmas.Option.{none-some, same_Some}
-use Rattle.mds_types.specs.declared.ids.Rank.{Rank}
-use Rattle.mds_types.specs.declared.ids.Ino.{Ino}
-use Rattle.mds_types.specs.declared.dirfrags.Dirfrag.{Dirfrag}
-use Rattle.mds_types.specs.Frag.{Fragment}
-use Rattle.mds_types.specs.Leaf.{leaf_of}
-use Rattle.mds_types.specs.Tree.{is_directory}
-use Rattle.fragtree.specs.FragTree.{HasLeaf, IsPick}
-use Rattle.inode_table.specs.declared.dirs.Home.{Home}
-use Rattle.inode_table.specs.Dirs.{Covers, Homes, IsLeafAt, IsLive, is_known, leaves_of}
-use Rattle.inode_table.proofs.TableLaws.{known_is}
-use Rattle.mdcache.specs.Core.{Core, state_of}
-use Rattle.mdcache.specs.Shown.{shown_tree}
-use Rattle.ranked_tree.specs.Held.{IsOwned}
-use Rattle.ranked_tree.specs.Subtrees.{HoldsAt, Rules}
-use Rattle.namespace_ops.specs.Places.{IsAt}
-use Rattle.subtree_map.specs.Authority.{HasAuthority, Leaf, Roots}
-use Rattle.subtree_map.proofs.Nearest.{one_authority}
+use Rattle.ranked_tree.proofs.Common.{Bool, Core, Covers, Dirfrag, Fragment, HasAuthority, HasLeaf, HoldsAt, Home, Homes, Ino, IsAt, IsLeafAt, IsLive, IsOwned, IsPick, IsTrue, Leaf, None, Option, Rank, Roots, Rules, Some, ap, false, is_directory, is_known, known_is, leaf_of, leaves_of, none-some, one_authority, same_Some, shown_tree, state_of, subst, sym, true, ℕ, ◌↔◌, ◌∙◌, ◌≡◌}
+use Rattle.std.proofs.Common.{MatchOption}
 
 -- whether the authority that was found is this rank
 pub authority_is : (roots : Roots) (homes : Homes) (covers : Covers) (leaf : Leaf) (rank : Rank) (found : Option Rank) (same : Bool) → (same ≡ true → found ≡ Some rank) → (found ≡ Some rank → same ≡ true)

@@ -1,30 +1,8 @@
 -- What a change makes of the caches, in the words of directories and the ranks that hold their leaves.
-use Rattle.std.specs.Prelude.{◌≡◌, ◌||◌, ℕ, false, is_some, Option, Some, None, IfSome}
-use Rattle.std.proofs.Common.{sym, subst, ◌∙◌}
-use Rattle.std.proofs.lemmas.Option.{same_Some}
-use Rattle.mds_types.specs.declared.ids.Ino.{Ino}
+use Rattle.ranked_tree.proofs.Common.{AreHeldAt, AsksFor, Came, Change, Core, EndsWith, Homes, IfSome, Ino, IsChanged, IsChangedHeld, IsGone, IsNamedIn, IsSound, Leaf, Makes, MayChange, MayGo, NamesDir, NoneEnds, Roots, Shape, add, came_then, came_weaker, dentry_at, is_known, is_some, known_is, move, reads_came, reads_weaker, remove, rows_but, same_Some, set, shape_of, shown_tree, state_of, subst, sym, with_home, ◌||◌, ◌∙◌}
+use Rattle.std.specs.Prelude.{◌≡◌, ℕ, false, Option, Some, None}
 use Rattle.sorted_map.proofs.NatKeys as nat
-use Rattle.inode_table.specs.Dirs.{Homes, MayGo, is_known}
-use Rattle.inode_table.specs.TreeTable.{with_home}
-use Rattle.inode_table.proofs.TableLaws.{known_is}
-use Rattle.dentry_cache.specs.Came.{Came, NoneEnds}
-use Rattle.dentry_cache.proofs.FrameLaws.{came_then, came_weaker}
-use Rattle.dentry_cache.proofs.ReadsLaws.{reads_came, reads_weaker}
-use Rattle.namespace_ops.specs.Changes.{MayChange, dentry_at}
-use Rattle.namespace_ops.proofs.Shapes.{Shape, shape_of}
-use Rattle.namespace_ops.proofs.Shapes.Shape.{add, move, remove, set}
-use Rattle.namespace_ops.specs.declared.plans.Change.{Change}
-use Rattle.subtree_map.specs.Authority.{Leaf, Roots}
-use Rattle.mdcache.specs.Changes.{Makes}
-use Rattle.mdcache.specs.Changing.{IsChanged}
-use Rattle.mdcache.specs.Core.{Core, state_of}
-use Rattle.mdcache.specs.Going.{rows_but}
-use Rattle.mdcache.specs.Ranks.{EndsWith, IsNamedIn}
-use Rattle.mdcache.specs.Shown.{shown_tree}
-use Rattle.mdcache.specs.Sound.{IsSound}
 use Rattle.mdcache.specs.State.{State as TreeState}
-use Rattle.ranked_tree.specs.Changing.{IsChangedHeld}
-use Rattle.ranked_tree.specs.Held.{AreHeldAt, AsksFor, IsGone, NamesDir}
 use Rattle.ranked_tree.proofs.ChangedTables.{moved_tables, removed_tables}
 use Rattle.ranked_tree.proofs.MoveLaws.{replaces}
 use Rattle.ranked_tree.proofs.ReadsForLaws.{asks_change}

@@ -1,18 +1,7 @@
 -- What a change of the tree makes of the directory table.
+use Rattle.ranked_tree.proofs.Common.{Alters, Change, Covers, Homes, Ino, Inode, Makes, Spot, State, adds, ap, dentry_at, home_at, is_dir_kind, moves, noted, removes, rows_but, sets, with_directory, with_home, with_home_at, without, ◌∙◌}
 use Rattle.std.specs.Prelude.{◌≡◌, Bool, true, false, cond, Option, Some, None, refl}
-use Rattle.std.proofs.Common.{ap, ◌∙◌}
 use Rattle.std.specs.FinMap as map
-use Rattle.mds_types.specs.declared.ids.Ino.{Ino}
-use Rattle.mds_types.specs.declared.inodes.Inode.{Inode}
-use Rattle.mds_types.specs.Tree.{is_dir_kind}
-use Rattle.inode_table.specs.Dirs.{Covers, Homes}
-use Rattle.inode_table.specs.TreeTable.{home_at, with_home}
-use Rattle.namespace_ops.specs.declared.plans.Spot.{Spot}
-use Rattle.namespace_ops.specs.declared.plans.Change.{Change}
-use Rattle.namespace_ops.specs.Changes.{adds, dentry_at, moves, removes, sets}
-use Rattle.mdcache.specs.Changes.{Alters, Makes, noted, with_directory, with_home_at, without}
-use Rattle.mdcache.specs.Going.{rows_but}
-use Rattle.mdcache.specs.State.{State}
 
 -- the tables of a state are these
 abbrev pub TablesAre : State → Homes → Covers → Type 0

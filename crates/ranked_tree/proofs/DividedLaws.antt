@@ -1,35 +1,9 @@
 -- What a change, a split and a merge leave of a tree that is divided among ranks, where they change no frozen leaf.
+use Rattle.ranked_tree.proofs.Common.{AllHave, AreFrozenRegionsKept, AreHeldAt, AreThawed, Came, CameAt, Change, Contains, Core, Covers, EndsWith, FollowChange, Fragment, GivesToChildren, HasLeaf, HaveOneAuthority, Homes, Ino, IsChild, IsFamilyOf, IsFrozen, IsLive, IsMergedHere, IsMergedInto, IsNamedIn, IsOwned, IsRootMerge, IsRootSplit, IsSoundCore, IsSplitInto, KeepsRoots, Leaf, LoseDirectory, Makes, MayChange, Roots, Rules, Shape, StandSoundly, Standing, StandsOver, Subtrees, TakesOver, add, after_merge, after_split, ap, child_is_new, fragments_of, holding, in_directory, inr, is_known, leaves_inside, leaves_of, merged_is_new, move, or_whole, refl, remove, set, shape_of, shown_in, state_of, subst, sym, tree_of_row, valid_so, ◌∙◌}
 use Rattle.std.specs.Prelude.{◌≡◌, ℕ, true, false, length, List, [], ◌∷◌, map as each}
-use Rattle.std.proofs.Common.{inr, refl, sym, ap, subst, ◌∙◌}
 use Rattle.std.specs.FinMap as map
-use Rattle.mds_types.specs.declared.ids.Ino.{Ino}
-use Rattle.mds_types.specs.Frag.{Fragment}
-use Rattle.fragtree.specs.FragTree.{HasLeaf, IsChild, leaves_inside}
 use Rattle.sorted_map.proofs.NatKeys as nat
-use Rattle.inode_table.specs.Dirs.{Covers, Homes, IsLive, is_known, leaves_of, or_whole}
-use Rattle.inode_table.proofs.Tables.{tree_of_row}
-use Rattle.dentry_cache.specs.Came.{Came}
-use Rattle.export_steps.specs.Holder.{IsFrozen, holding}
-use Rattle.export_steps.specs.Regions.{AreFrozenRegionsKept, StandsOver}
-use Rattle.export_steps.specs.Standing.{Standing}
-use Rattle.export_steps.proofs.Elsewhere.{after_merge, after_split}
-use Rattle.export_steps.proofs.Holding.{valid_so}
-use Rattle.namespace_ops.specs.Changes.{MayChange, fragments_of, in_directory}
-use Rattle.namespace_ops.proofs.Shapes.{Shape, shape_of}
-use Rattle.namespace_ops.proofs.Shapes.Shape.{add, move, remove, set}
-use Rattle.namespace_ops.specs.declared.plans.Change.{Change}
-use Rattle.std.specs.List.{Contains}
-use Rattle.subtree_map.specs.Authority.{Leaf, Roots}
-use Rattle.subtree_map.specs.Changes.{HaveOneAuthority, IsRootMerge, IsRootSplit, Subtrees}
-use Rattle.subtree_map.proofs.Covers.{child_is_new, merged_is_new}
-use Rattle.mdcache.specs.Changes.{Makes}
-use Rattle.mdcache.specs.Core.{Core, IsSoundCore, shown_in, state_of}
-use Rattle.mdcache.specs.Ranks.{EndsWith, IsNamedIn}
-use Rattle.mdcache.specs.Splits.{IsMergedInto, IsSplitInto}
 use Rattle.mdcache.specs.State.{State as TreeState}
-use Rattle.ranked_tree.specs.Exported.{AreThawed, StandSoundly}
-use Rattle.ranked_tree.specs.Held.{AreHeldAt, CameAt, IsFamilyOf, IsMergedHere, IsOwned}
-use Rattle.ranked_tree.specs.Subtrees.{AllHave, FollowChange, GivesToChildren, KeepsRoots, LoseDirectory, Rules, TakesOver}
 use Rattle.ranked_tree.proofs.ExportLaws.{change_keeps}
 use Rattle.ranked_tree.proofs.HeldChanges.{change_held}
 use Rattle.ranked_tree.proofs.HeldLaws.{HaveCaches}

@@ -1,24 +1,7 @@
 -- The jobs of a region end, leaf by leaf.
-use Rattle.std.proofs.Common.{◌≡◌, ◌+◌, ◌<◌, ◌≤◌, ◌⊎◌, inl, inr, ℕ, Bool, true, false, cond, List, [], ◌∷◌, Option, Some, None, refl, sym, ap, subst, ◌∙◌, arith}
-use Rattle.std.specs.Prelude.{◌≢◌, IsSome, MatchOption}
-use Rattle.std.specs.declared.cmp.Ordering.TheVariants.{Less, Equal, Greater}
-use Rattle.std.specs.declared.cmp.Ordering.{Ordering}
-use Rattle.std.specs.Ordering.{eq_by_cmp, is_lt}
-use Rattle.std.specs.Cmp.{tied_itself}
+use Rattle.ranked_tree.proofs.Common.{Bool, Covers, EndsInside, EndsRegion, Equal, Greater, Homes, IsNext, IsSome, Job, Jobs, Leaf, Less, List, MatchOption, NearestRoot, None, Option, Ordering, Roots, Some, [], ap, arith, cond, eq_by_cmp, false, find, get-entries, get_left, get_removed, inl, inr, is_behind, is_lt, leaf-exact, leaf-total, leaf_cmp, one_root, refl, same_or_apart, stood_before, subst, sym, tie, tied_itself, true, value_of, ℕ, ◌+◌, ◌<◌, ◌∙◌, ◌∷◌, ◌≡◌, ◌≢◌, ◌≤◌, ◌⊎◌}
 use Rattle.std.specs.FinMap as map
-use Rattle.std.specs.FinMap.{find, get-entries}
-use Rattle.sorted_map.proofs.MapLaws.{tie}
-use Rattle.mds_types.specs.Leaf.{leaf_cmp}
-use Rattle.mds_types.proofs.LeafLaws.{get_left, get_removed, leaf-exact, leaf-total, same_or_apart}
-use Rattle.cached_frag.specs.declared.jobs.Job.{Job}
-use Rattle.inode_table.specs.Dirs.{Covers, Homes}
-use Rattle.subtree_map.specs.Authority.{Leaf, NearestRoot, Roots}
-use Rattle.subtree_map.proofs.Nearest.{one_root}
-use Rattle.subtree_map.proofs.Options.{value_of}
-use Rattle.mdcache.specs.StandingJobs.{IsNext, Jobs, is_behind}
 use Rattle.mdcache.specs.State.{State as TreeState}
-use Rattle.mdcache.proofs.SoundLaws.{stood_before}
-use Rattle.ranked_tree.specs.Exported.{EndsInside, EndsRegion}
 use Rattle.ranked_tree.proofs.StandLaws.{FewerJobs, same_jobs}
 
 -- ---- how many are to come

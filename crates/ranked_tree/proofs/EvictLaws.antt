@@ -1,26 +1,10 @@
 -- What an eviction leaves: what isn't clean, and whose each fragment is.
-use Rattle.std.proofs.Common.{◌≡◌, length, ◌+◌, ◌==◌, ◌&&◌, ℕ, Bool, true, false, cond, Result, Ok, Err, Option, Some, None, option_map, OnOk, OnErr, IfErr, refl, sym, ap, subst, ◌∙◌, arith}
-use Rattle.std.proofs.lemmas.Option.{same_Some}
+use Rattle.ranked_tree.proofs.Common.{At, Bool, CacheMap, Came, Core, Err, IsOwned, IsSoundCore, KeepsState, None, NoneEnds, NothingToEvict, Ok, Option, Refusal, Result, Roots, Some, ap, arith, at_rank, came_cap, came_ranks, clean_there, cond, ends, evicted, false, faults_told, get_unclean_of, given_up, goes, here, here_given_up, last_passes, leaf_is, length, one_leaf, option_map, order, refl, result_err, same_Some, same_map, state_of, stays, subst, sym, true, unclean_of, unsaved_at, unsaved_in, victim, ℕ, ◌&&◌, ◌+◌, ◌==◌, ◌∙◌, ◌≡◌}
+use Rattle.std.proofs.Common.{OnOk, OnErr, IfErr}
 use Rattle.std.specs.FinMap as map
-use Rattle.std.specs.FinMap.{same_map}
-use Rattle.std.specs.Result.{result_err}
-use Rattle.mds_types.specs.declared.refusals.Refusal.{Refusal}
-use Rattle.mds_types.specs.declared.refusals.Refusal.TheVariants.{NothingToEvict}
-use Rattle.objstore.specs.Objects.{faults_told}
-use Rattle.dentry_cache.specs.Cache.{Leaf, leaf_is, unsaved_in}
-use Rattle.dentry_cache.specs.CacheMap.{At, CacheMap, at_rank, evicted, given_up, goes, here, order, unclean_of, unsaved_at, victim}
-use Rattle.dentry_cache.specs.Came.{Came, NoneEnds}
-use Rattle.dentry_cache.specs.Came.Came.{stays, ends}
-use Rattle.dentry_cache.proofs.FrameLaws.{came_cap, came_ranks}
-use Rattle.dentry_cache.proofs.LeafLaws.{leaf-exact, leaf-total, one_leaf}
-use Rattle.dentry_cache.proofs.StepLaws.{here_given_up}
-use Rattle.dentry_cache.proofs.UncleanLaws.{clean_there, last_passes}
-use Rattle.mdcache.specs.Core.{Core, IsSoundCore, state_of}
-use Rattle.mdcache.specs.Frags.{KeepsState}
+use Rattle.dentry_cache.specs.Cache.{Leaf}
+use Rattle.dentry_cache.proofs.LeafLaws.{leaf-exact, leaf-total}
 use Rattle.mdcache.specs.State.{State as TreeState}
-use Rattle.mdcache.proofs.UncleanOf.{get_unclean_of}
-use Rattle.subtree_map.specs.Authority.{Roots}
-use Rattle.ranked_tree.specs.Held.{IsOwned}
 use Rattle.ranked_tree.proofs.HeldLaws.{owned_came}
 
 -- any leaf ends

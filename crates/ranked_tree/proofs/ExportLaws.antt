@@ -1,41 +1,8 @@
 -- What a change of the tree leaves of frozen regions, where it changes no frozen leaf: each of their leaves.
-use Rattle.std.proofs.Common.{◌≡◌, ◌↔◌, ℕ, zero, suc, arith, Bool, true, false, MatchBool, List, [], ◌∷◌, Option, Some, None, refl, sym, ap, subst, ◌∙◌, map as each}
-use Rattle.std.specs.Prelude.{IfSome}
-use Rattle.std.specs.List.{Contains}
+use Rattle.ranked_tree.proofs.Common.{AreFrozenRegionsKept, ArePlaced, AreRoots, Bool, Change, Contains, Covers, FollowChange, Fragment, HasLeaf, HoldsDentry, Home, Homes, IfSome, Ino, Inode, IsFrozen, IsInRegion, IsLive, IsSettled, IsSound, Leaf, List, LoseDirectory, Makes, MatchBool, MayChange, MayGo, MayMove, None, Option, Roots, SettleMove, Shape, Some, Spot, Standing, StandsOver, Subtrees, [], add, adds, after_making, after_move, after_removal, ap, arith, dentry_at, false, first, fragments_of, home_at, home_of, in_directory, is_dir_kind, keep_frozen, later, leaf_of, leaves, leaves_gone, leaves_of, may_come, move, moved_home, moved_known, moves, one_holder, one_value, refl, remove, rows_but, set, shape_of, shown_tree, subst, suc, sym, true, with_dir, with_file, with_home, zero, ℕ, ◌↔◌, ◌∙◌, ◌∷◌, ◌≡◌}
+use Rattle.std.proofs.Common.{map as each}
 use Rattle.std.specs.FinMap as map
-use Rattle.mds_types.specs.declared.ids.Ino.{Ino}
-use Rattle.mds_types.specs.declared.inodes.Inode.{Inode}
-use Rattle.mds_types.specs.Frag.{Fragment}
-use Rattle.mds_types.specs.Leaf.{leaf_of}
-use Rattle.mds_types.specs.Tree.{is_dir_kind}
-use Rattle.fragtree.specs.FragTree.{HasLeaf}
-use Rattle.inode_table.specs.declared.dirs.Home.{Home}
-use Rattle.inode_table.specs.Dirs.{Covers, Homes, IsLive, MayGo, MayMove, leaves_of}
-use Rattle.inode_table.specs.TreeTable.{home_at, with_home}
-use Rattle.inode_table.proofs.TableLaws.{home_of, may_come, with_dir, with_file}
-use Rattle.namespace_ops.specs.Changes.{MayChange, adds, dentry_at, fragments_of, in_directory, leaves, leaves_gone, moves}
-use Rattle.namespace_ops.specs.declared.plans.Change.{Change}
-use Rattle.namespace_ops.specs.declared.plans.Spot.{Spot}
-use Rattle.namespace_ops.proofs.Members.{first, later}
-use Rattle.namespace_ops.proofs.Shapes.{Shape, shape_of}
-use Rattle.namespace_ops.proofs.Shapes.Shape.{add, move, remove, set}
-use Rattle.subtree_map.specs.Authority.{HoldsDentry, IsInRegion, Leaf, Roots}
-use Rattle.subtree_map.specs.Changes.{Subtrees}
-use Rattle.subtree_map.specs.Moves.{IsSettled}
-use Rattle.subtree_map.proofs.Nearest.{one_holder}
-use Rattle.subtree_map.proofs.Options.{one_value}
-use Rattle.export_steps.specs.Holder.{IsFrozen}
-use Rattle.export_steps.specs.Standing.{ArePlaced, Standing}
-use Rattle.export_steps.specs.Regions.{AreFrozenRegionsKept, StandsOver}
-use Rattle.export_steps.proofs.Elsewhere.{after_making, after_move, after_removal}
-use Rattle.export_steps.proofs.Holding.{keep_frozen}
-use Rattle.mdcache.specs.Changes.{Makes}
-use Rattle.mdcache.specs.Going.{rows_but}
-use Rattle.mdcache.specs.Shown.{shown_tree}
-use Rattle.mdcache.specs.Sound.{IsSound}
 use Rattle.mdcache.specs.State.{State as TreeState}
-use Rattle.mdcache.proofs.HomeLaws.{moved_home, moved_known}
-use Rattle.ranked_tree.specs.Subtrees.{AreRoots, FollowChange, LoseDirectory, SettleMove}
 use Rattle.ranked_tree.proofs.ChangedTables.{added_tables, grown_tables, moved_tables, removed_tables, set_tables}
 use Rattle.ranked_tree.proofs.MoveLaws.{relocates, replaces}
 use Rattle.ranked_tree.proofs.SubtreeLaws.{moves as rehomes, removable}

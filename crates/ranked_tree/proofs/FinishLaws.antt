@@ -1,22 +1,6 @@
 -- What Finish of an export leaves of a tree that is divided among ranks.
-use Rattle.std.proofs.Common.{◌≡◌, ◌<◌, ◌⊎◌, inl, inr, length, Some, Result, Ok, Err, refl, sym, ap, subst, ◌∙◌}
-use Rattle.std.specs.Prelude.{◌≢◌, IsSome}
+use Rattle.ranked_tree.proofs.Common.{ArePlaced, AreRoots, Core, Err, Finishes, IsDivided, IsFinish, IsOwned, IsSome, KeepsOutside, Leaf, Ok, Rank, Refusal, Regions, Result, Roots, Rules, Some, Standing, Subtrees, ap, finish_holding, finishes_soundly, get_beside, get_put, holding, inl, inr, is_freezing, length, one_value, refl, same_or_apart, state_of, subst, sym, ◌<◌, ◌∙◌, ◌≡◌, ◌≢◌, ◌⊎◌}
 use Rattle.std.specs.FinMap as map
-use Rattle.mds_types.specs.declared.ids.Rank.{Rank}
-use Rattle.mds_types.specs.declared.refusals.Refusal.{Refusal}
-use Rattle.mds_types.proofs.LeafLaws.{get_beside, get_put, same_or_apart}
-use Rattle.export_steps.specs.Holder.{holding}
-use Rattle.export_steps.specs.Standing.{ArePlaced, Finishes, IsFinish, Standing, is_freezing}
-use Rattle.export_steps.proofs.HoldingSteps.{finish_holding}
-use Rattle.export_steps.proofs.Handover.{finishes_soundly}
-use Rattle.subtree_map.specs.Authority.{Leaf, Roots}
-use Rattle.subtree_map.specs.Changes.{Subtrees}
-use Rattle.subtree_map.proofs.Options.{one_value}
-use Rattle.mdcache.specs.Core.{Core, state_of}
-use Rattle.ranked_tree.specs.declared.regions.Regions.{Regions}
-use Rattle.ranked_tree.specs.Exported.{IsDivided}
-use Rattle.ranked_tree.specs.Held.{IsOwned}
-use Rattle.ranked_tree.specs.Subtrees.{AreRoots, KeepsOutside, Rules}
 use Rattle.ranked_tree.proofs.StepLaws.{taken_there}
 
 pub finish_holds : (old new : Standing) (was now : Subtrees) (root : Leaf) (result : Result (Unit {0}) Refusal) → Finishes old new was now root result → ArePlaced old was → holding new now.roots ≡ holding old was.roots

@@ -1,15 +1,6 @@
 -- What a flush leaves of whose each leaf is.
-use Rattle.std.proofs.Common.{◌≡◌, ◌==◌, ℕ, Bool, true, false, cond, Option, Some, None, refl, subst}
+use Rattle.ranked_tree.proofs.Common.{At, Bool, Core, HasFragment, IsLive, IsOwned, IsThere, Leaf, None, Option, Roots, Rules, Some, at_rank, cond, eqb-true, false, refl, state_of, subst, true, ℕ, ◌==◌, ◌≡◌}
 use Rattle.std.specs.FinMap as map
-use Rattle.std.proofs.lemmas.Bool.{eqb-true}
-use Rattle.inode_table.specs.Dirs.{IsLive}
-use Rattle.dentry_cache.specs.Cache.{IsThere}
-use Rattle.dentry_cache.specs.CacheMap.{At, at_rank}
-use Rattle.subtree_map.specs.Authority.{Leaf, Roots}
-use Rattle.mdcache.specs.Core.{Core, state_of}
-use Rattle.mdcache.specs.Flushed.{HasFragment}
-use Rattle.ranked_tree.specs.Held.{IsOwned}
-use Rattle.ranked_tree.specs.Subtrees.{Rules}
 
 -- a rank holds each leaf whose fragment it has
 pub holds_what_it_has : (core : Core) (roots : Roots) → IsOwned core roots → (r : ℕ) (q : Leaf) → HasFragment core.caches r q → IsLive core.homes core.covers q → Rules (state_of core) roots q (record { 0 = r })

@@ -1,37 +1,8 @@
 -- What calls for an operation keep, and why they are refused, in the words of the operation.
-use Rattle.std.specs.Prelude.{◌≡◌, ◌⊎◌, ℕ, Bool, true, false, Option, Some, None, Result, Ok, Err, IfErr, OnErr, OnOk}
-use Rattle.std.proofs.Common.{inl, inr, refl, sym, ap, subst, ◌∙◌}
-use Rattle.std.specs.Result.{result_err}
-use Rattle.mds_types.specs.declared.ids.Ino.{Ino}
-use Rattle.mds_types.specs.declared.operations.Op.{Op}
-use Rattle.mds_types.specs.declared.refusals.Refusal.{Refusal}
-use Rattle.mds_types.specs.Leaf.{leaf_of}
-use Rattle.mds_types.specs.Shape.{Shape, Looks, Lists, Makes, Sets, Unlinks, Removes, Moves, shape}
-use Rattle.mds_types.specs.Tree.{is_dir_kind, is_directory}
-use Rattle.mds_types.specs.declared.dirfrags.Dirfrag.{Dirfrag}
-use Rattle.fragtree.specs.FragTree.{IsPick}
-use Rattle.inode_table.specs.Dirs.{IsLive, leaves_of}
-use Rattle.namespace_ops.specs.Places.{IsAt}
-use Rattle.namespace_ops.specs.Changes.{Concerns, IsChangeIn, IsChangeOf, PutsAt, TakesAt}
-use Rattle.namespace_ops.specs.Kept.{KeepsAll}
-use Rattle.mds_types.specs.declared.dentries.Dentry.{Dentry}
-use Rattle.mds_types.specs.declared.inodes.Inode.{Inode}
-use Rattle.namespace_ops.specs.declared.plans.Change.{Change}
-use Rattle.namespace_ops.specs.declared.plans.Spot.{Spot}
-use Rattle.subtree_map.specs.Authority.{Leaf}
-use Rattle.mdcache.specs.Core.{Core, state_of}
-use Rattle.mdcache.specs.Frags.{KeepsState, LacksBy, LacksForIn, LacksToMake}
-use Rattle.mdcache.specs.Reads.{MayNotFind}
-use Rattle.mdcache.specs.Ready.{LacksNumbers, MayNotBeReady}
-use Rattle.mdcache.specs.Shown.{shown_tree}
-use Rattle.mdcache.specs.Sound.{IsSound}
+use Rattle.ranked_tree.proofs.Common.{Change, ChangesHeld, Concerns, Core, Dentry, Dirfrag, FollowsChange, HoldsAt, IfErr, Ino, Inode, IsAt, IsChangeIn, IsChangeOf, IsChangedHeld, IsLive, IsPick, IsSound, KeepsAll, KeepsRanked, KeepsState, LacksBy, LacksForIn, LacksNumbers, LacksPlacesAsked, LacksPlacesDir, LacksPlacesFor, LacksToMake, Leaf, Lists, Looks, MayNotBeReady, MayNotFind, MayRefuse, Moves, NamesDir, OnErr, OnOk, Op, PutsAt, Ranked, ReadsFor, Refusal, Regions, Removes, Sets, Spot, TakesAt, Unlinks, ap, held_in, held_roots, inl, inr, is_dir_kind, is_directory, leaf_of, leaves_of, refl, result_err, shape, shown_tree, state_of, subst, sym, ◌∙◌}
+use Rattle.std.specs.Prelude.{◌≡◌, ◌⊎◌, ℕ, Bool, true, false, Option, Some, None, Result, Ok, Err}
+use Rattle.mds_types.specs.Shape.{Shape, Makes}
 use Rattle.mdcache.specs.State.{State as TreeState}
-use Rattle.ranked_tree.specs.declared.regions.Regions.{Regions}
-use Rattle.ranked_tree.specs.Changing.{ChangesHeld, FollowsChange, IsChangedHeld}
-use Rattle.ranked_tree.specs.Exported.{held_in}
-use Rattle.ranked_tree.specs.Held.{LacksPlacesAsked, LacksPlacesDir, LacksPlacesFor, NamesDir, ReadsFor}
-use Rattle.ranked_tree.specs.Ranked.{KeepsRanked, MayRefuse, Ranked, held_roots}
-use Rattle.ranked_tree.specs.Subtrees.{HoldsAt}
 use Rattle.ranked_tree.proofs.HolderLaws.{pick_live}
 use Rattle.ranked_tree.proofs.AskLaws.{asked_dir, asked_for}
 use Rattle.ranked_tree.proofs.ReadsForLaws.{change_concerns, reads_less}

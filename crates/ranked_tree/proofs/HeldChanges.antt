@@ -1,43 +1,10 @@
 -- What a change of the tree leaves: each cached fragment is at its leaf's authority then.
-use Rattle.std.specs.Prelude.{◌≡◌, ◌==◌, ◌||◌, true, false, is_some, ℕ, List, [], ◌∷◌, Option, Some, None, IsSome, IfSome}
-use Rattle.std.proofs.Common.{◌⊎◌, inl, inr, Bool, refl, sym, ap, subst, ◌∙◌}
+use Rattle.ranked_tree.proofs.Common.{AreHeld, AreHeldAt, At, Bool, Came, Change, Core, Covers, Dirfrag, EndsWith, Fragment, HasLeaf, HoldsAt, Home, Homes, IfSome, Ino, Inode, IsLive, IsNamedIn, IsOwned, IsPick, IsSome, IsSound, IsSoundCore, IsTable, IsThat, KeepsAuthorities, Leaf, Makes, MayChange, MayCome, MayGo, Rank, Roots, Rules, Shape, Spot, add, adds, ap, came_held, dentry_at, first_leaf, hash_of, home_at, inherited, inl, inr, is_dir_kind, is_known, is_some, leaf_of, leaves_of, may_come, move, moved_known, only_leaf, or_whole, refl, remove, root_fragment, rows_but, set, shape_of, shown_in, shown_tree, state_of, still_known, subst, sym, with_home, ◌||◌, ◌∙◌, ◌⊎◌}
+use Rattle.std.specs.Prelude.{◌≡◌, ◌==◌, true, false, ℕ, List, [], ◌∷◌, Option, Some, None}
 use Rattle.std.specs.FinMap as map
-use Rattle.mds_types.specs.declared.ids.Ino.{Ino}
-use Rattle.mds_types.specs.declared.ids.Rank.{Rank}
-use Rattle.mds_types.specs.declared.inodes.Inode.{Inode}
-use Rattle.mds_types.specs.Frag.{Fragment, root_fragment}
-use Rattle.mds_types.specs.Tree.{is_dir_kind}
-use Rattle.fragtree.specs.FragTree.{HasLeaf, IsPick}
-use Rattle.fragtree.proofs.TreeLaws.{only_leaf}
-use Rattle.namehash.specs.Rjenkins.{hash_of}
 use Rattle.sorted_map.proofs.NatKeys as nat
-use Rattle.mds_types.specs.Leaf.{leaf_of}
-use Rattle.mds_types.specs.declared.dirfrags.Dirfrag.{Dirfrag}
-use Rattle.inode_table.specs.declared.dirs.Home.{Home}
-use Rattle.inode_table.specs.Dirs.{Covers, Homes, IsLive, IsTable, MayCome, MayGo, is_known, leaves_of, or_whole}
-use Rattle.inode_table.specs.TreeTable.{home_at, with_home}
-use Rattle.inode_table.proofs.Tables.{still_known}
-use Rattle.inode_table.proofs.TableLaws.{may_come}
-use Rattle.dentry_cache.specs.CacheMap.{At}
-use Rattle.dentry_cache.specs.Came.{Came, IsThat}
-use Rattle.dentry_cache.proofs.FrameLaws.{came_held}
-use Rattle.namespace_ops.specs.Changes.{MayChange, adds, dentry_at}
-use Rattle.namespace_ops.proofs.Shapes.{Shape, shape_of}
-use Rattle.namespace_ops.proofs.Shapes.Shape.{add, move, remove, set}
-use Rattle.namespace_ops.specs.declared.plans.Change.{Change}
-use Rattle.namespace_ops.specs.declared.plans.Spot.{Spot}
-use Rattle.subtree_map.specs.Authority.{Leaf, Roots, inherited}
-use Rattle.mdcache.specs.Core.{Core, IsSoundCore, shown_in, state_of}
-use Rattle.mdcache.specs.Changes.{Makes, first_leaf}
-use Rattle.mdcache.specs.Going.{rows_but}
-use Rattle.mdcache.specs.Ranks.{EndsWith, IsNamedIn}
-use Rattle.mdcache.specs.Shown.{shown_tree}
-use Rattle.mdcache.specs.Sound.{IsSound}
 use Rattle.mdcache.specs.State.{State as TreeState}
-use Rattle.mdcache.proofs.HomeLaws.{moved_known}
 use Rattle.ranked_tree.proofs.MoveLaws.{relocates, replaces}
-use Rattle.ranked_tree.specs.Held.{AreHeld, AreHeldAt, IsOwned}
-use Rattle.ranked_tree.specs.Subtrees.{HoldsAt, KeepsAuthorities, Rules}
 use Rattle.ranked_tree.proofs.ChangedTables.{TablesAre, added_tables, grown_tables, moved_tables, removed_tables, set_tables}
 use Rattle.ranked_tree.proofs.HeldLaws.{HaveCaches, held_after, is_that}
 use Rattle.ranked_tree.proofs.HolderLaws.{added_live, new_is_not_live, removed_live, set_live, source_live, target_live, was_unknown}

@@ -1,24 +1,8 @@
 -- Each cached fragment stays at the rank that holds its leaf. Here the roots are those with the ranks that hold their regions.
+use Rattle.ranked_tree.proofs.Common.{AreHeld, At, CacheMap, Cached, Came, Core, IsFree, IsLive, IsOwned, IsSoundCore, IsThat, IsThere, KeepsNone, Leaf, MayHold, NoneEnds, Rank, ReadsCore, Roots, Rules, UsedAt, UsesAt, ap, came_held, came_ranks, came_weaker, has_place, here, here_is, inl, inr, one_authority, reads_came, reads_state, refl, state_of, subst, sym, ◌⊎◌}
 use Rattle.std.specs.Prelude.{◌≡◌, ◌<◌, ℕ, true, length, Option, Some, None}
-use Rattle.std.proofs.Common.{◌⊎◌, inl, inr, refl, sym, ap, subst}
 use Rattle.std.specs.FinMap as map
-use Rattle.mds_types.specs.declared.ids.Rank.{Rank}
-use Rattle.cached_frag.specs.Cached.{Cached}
-use Rattle.dentry_cache.specs.Cache.{IsThere}
-use Rattle.dentry_cache.specs.CacheCalls.{KeepsNone}
-use Rattle.dentry_cache.specs.CacheMap.{At, CacheMap, IsFree, has_place, here}
-use Rattle.dentry_cache.specs.Came.{Came, IsThat, NoneEnds}
-use Rattle.dentry_cache.proofs.FrameLaws.{came_held, came_ranks, came_weaker}
-use Rattle.dentry_cache.proofs.ReadsLaws.{here_is, reads_came}
-use Rattle.inode_table.specs.Dirs.{IsLive}
-use Rattle.subtree_map.specs.Authority.{Leaf, Roots}
-use Rattle.subtree_map.proofs.Nearest.{one_authority}
-use Rattle.mdcache.specs.Core.{Core, IsSoundCore, ReadsCore, state_of}
-use Rattle.mdcache.specs.Ranks.{MayHold}
 use Rattle.mdcache.specs.State.{State as TreeState}
-use Rattle.mdcache.proofs.CoreLaws.{reads_state}
-use Rattle.ranked_tree.specs.Held.{AreHeld, IsOwned, UsedAt, UsesAt}
-use Rattle.ranked_tree.specs.Subtrees.{Rules}
 
 module _ (tree : TreeState) (caches : CacheMap) (roots : Roots) (held : AreHeld tree caches roots) (leaf : Leaf) (rank : Rank) (rules : Rules tree roots leaf rank) where
   -- there is a cache for the authority of a leaf,

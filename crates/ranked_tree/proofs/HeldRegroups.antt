@@ -1,38 +1,8 @@
 -- What splits and merges leave: each cached fragment is at its leaf's authority then.
+use Rattle.ranked_tree.proofs.Common.{AllHave, AreHeld, AreRoots, At, CacheMap, Came, CameAt, CanMerge, CanSplit, Contains, Core, FitsSplit, Fragment, GivesToChildren, HasLeaf, HaveOneAuthority, Ino, IsAmongOr, IsFamilyAt, IsFamilyOf, IsFragment, IsLive, IsMergedHere, IsOwned, IsSound, IsSoundCore, KeepsAuthorities, Leaf, MayHold, MayNotRegroup, MergesLeaves, Rank, Refusal, RefusesLeaves, RefusesMerge, RefusesSplit, Roots, Rules, Some, SplitsLeaf, TakesOver, UsedAt, and_from, arith, came_held, came_weaker, child_is_new, child_of, ending_at, eq-eqb, from_mapped, has_inside, in_directory, inl, inr, is_inside, is_known, leaves_inside, leaves_of, lies_inside, merged_is_new, range_from_inside, refl, some_authority, some_inside, state_of, subst, sym, tree_of_row, ◌⊎◌}
 use Rattle.std.specs.Prelude.{◌≡◌, ◌<◌, ◌==◌, ◌^◌, ℕ, true, map as each, length, List, Result, Ok, Err}
-use Rattle.std.proofs.Common.{◌⊎◌, inl, inr, Some, refl, sym, subst, arith}
-use Rattle.std.proofs.lemmas.Bool.{and_from, eq-eqb}
-use Rattle.std.specs.List.{Contains}
 use Rattle.std.specs.FinMap as map
-use Rattle.mds_types.specs.declared.ids.Ino.{Ino}
-use Rattle.mds_types.specs.declared.ids.Rank.{Rank}
-use Rattle.mds_types.specs.declared.refusals.Refusal.{Refusal}
-use Rattle.mds_types.specs.Frag.{Fragment, IsFragment, child_of}
-use Rattle.fragtree.specs.FragTree.{CanMerge, CanSplit, FitsSplit, HasLeaf, RefusesMerge, RefusesSplit, leaves_inside, lies_inside}
-use Rattle.fragtree.proofs.Ranges.{range_from_inside}
-use Rattle.inode_table.specs.Dirs.{IsLive, is_known, leaves_of}
-use Rattle.inode_table.proofs.Tables.{tree_of_row}
-use Rattle.dentry_cache.specs.CacheMap.{At, CacheMap}
-use Rattle.dentry_cache.specs.CacheSplits.{IsFamilyAt}
-use Rattle.dentry_cache.specs.Came.{Came}
-use Rattle.dentry_cache.proofs.FrameLaws.{came_held, came_weaker}
-use Rattle.namespace_ops.specs.Changes.{in_directory}
-use Rattle.subtree_map.specs.Authority.{Leaf, Roots}
-use Rattle.subtree_map.specs.Changes.{HaveOneAuthority, is_inside}
-use Rattle.subtree_map.proofs.Covers.{child_is_new, merged_is_new, some_inside}
-use Rattle.subtree_map.proofs.Nearest.{some_authority}
-use Rattle.mdcache.specs.Core.{Core, IsSoundCore, state_of}
-use Rattle.mdcache.specs.Joining.{IsAmongOr}
-use Rattle.mdcache.specs.Ranks.{MayHold}
-use Rattle.mdcache.specs.Regrouping.{ending_at}
-use Rattle.mdcache.specs.Regroups.{MayNotRegroup, RefusesLeaves}
-use Rattle.mdcache.specs.SplitsAndMerges.{MergesLeaves, SplitsLeaf}
-use Rattle.mdcache.specs.Sound.{IsSound}
 use Rattle.mdcache.specs.State.{State as TreeState}
-use Rattle.mdcache.proofs.JoinLaws.{from_mapped}
-use Rattle.mdcache.proofs.SplitLaws.{has_inside}
-use Rattle.ranked_tree.specs.Held.{AreHeld, CameAt, IsFamilyOf, IsMergedHere, IsOwned, UsedAt}
-use Rattle.ranked_tree.specs.Subtrees.{AllHave, AreRoots, GivesToChildren, KeepsAuthorities, Rules, TakesOver}
 use Rattle.ranked_tree.proofs.HeldLaws.{HaveCaches, held_after, may_hold, still_have}
 
 -- ---- why it was refused, in the words of whose places lack

@@ -1,36 +1,9 @@
 -- The leaves that a change names, and the ranks that hold them.
-use Rattle.std.specs.Prelude.{◌≡◌, ◌||◌, ℕ, true, false, is_some, Option, Some, None, IfSome}
-use Rattle.std.proofs.Common.{inl, inr, sym, subst, ◌∙◌}
-use Rattle.std.proofs.lemmas.Option.{same_Some}
+use Rattle.ranked_tree.proofs.Common.{AreHeld, AreHeldAt, AreOneRank, CacheMap, Change, Dentry, Fragment, HoldsAt, Home, Homes, IfSome, Ino, Inode, IsLive, IsNamedIn, IsPick, IsSound, IsSpot, IsThat, Leaf, MayChange, MayCome, MayHold, MayHoldEach, Roots, Rules, Shape, Spot, add, adds, dentry_at, first_leaf, hash_of, inl, inr, is_directory, is_known, is_some, known_is, leaf_of, leaves_of, may_come, move, moves, one_authority, remove, removes, same_Some, set, sets, shape_of, shown_tree, subst, sym, ◌||◌, ◌∙◌}
+use Rattle.std.specs.Prelude.{◌≡◌, ℕ, true, false, Option, Some, None}
 use Rattle.std.specs.FinMap as map
-use Rattle.mds_types.specs.declared.dentries.Dentry.{Dentry}
-use Rattle.mds_types.specs.declared.ids.Ino.{Ino}
-use Rattle.mds_types.specs.declared.inodes.Inode.{Inode}
-use Rattle.mds_types.specs.Frag.{Fragment}
-use Rattle.mds_types.specs.Tree.{is_directory}
-use Rattle.fragtree.specs.FragTree.{IsPick}
-use Rattle.namehash.specs.Rjenkins.{hash_of}
 use Rattle.sorted_map.proofs.NatKeys as nat
-use Rattle.mds_types.specs.Leaf.{leaf_of}
-use Rattle.inode_table.specs.declared.dirs.Home.{Home}
-use Rattle.inode_table.specs.Dirs.{Homes, IsLive, MayCome, is_known, leaves_of}
-use Rattle.inode_table.proofs.TableLaws.{known_is, may_come}
-use Rattle.namespace_ops.specs.Changes.{IsSpot, MayChange, adds, dentry_at, moves, removes, sets}
-use Rattle.namespace_ops.proofs.Shapes.{Shape, shape_of}
-use Rattle.namespace_ops.proofs.Shapes.Shape.{add, move, remove, set}
-use Rattle.namespace_ops.specs.declared.plans.Change.{Change}
-use Rattle.dentry_cache.specs.CacheMap.{CacheMap}
-use Rattle.dentry_cache.specs.Came.{IsThat}
-use Rattle.namespace_ops.specs.declared.plans.Spot.{Spot}
-use Rattle.subtree_map.specs.Authority.{Leaf, Roots}
-use Rattle.subtree_map.proofs.Nearest.{one_authority}
-use Rattle.mdcache.specs.Changes.{first_leaf}
-use Rattle.mdcache.specs.Ranks.{AreOneRank, IsNamedIn, MayHold, MayHoldEach}
-use Rattle.mdcache.specs.Shown.{shown_tree}
-use Rattle.mdcache.specs.Sound.{IsSound}
 use Rattle.mdcache.specs.State.{State as TreeState}
-use Rattle.ranked_tree.specs.Held.{AreHeld, AreHeldAt}
-use Rattle.ranked_tree.specs.Subtrees.{HoldsAt, Rules}
 use Rattle.ranked_tree.proofs.HeldLaws.{is_that, may_hold}
 
 -- a directory that comes in was not known

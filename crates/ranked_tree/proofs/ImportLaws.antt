@@ -1,59 +1,10 @@
 -- What Import makes of a tree that is divided among ranks: the importer of a sent region holds it, and has what isn't clean of it.
-use Rattle.export_regions.proofs.ManyLaws.{all_so}
-use Rattle.export_regions.proofs.NameLaws.{how_many}
-use Rattle.std.proofs.lemmas.Bool.Decides.{nat_tests}
-use Rattle.std.proofs.lemmas.Bool.{and_parts}
-use Rattle.std.proofs.lemmas.Option.{same_Some}
-use Rattle.std.specs.Ordering.{eq_by_cmp}
-use Rattle.std.proofs.Common.{◌≡◌, ◌≢◌, ◌<◌, ◌≤◌, ◌⊎◌, inl, inr, ℕ, Bool, true, false, cond, not, ◌&&◌, length, List, [], ◌∷◌, is_some, option_map, Option, Some, None, Result, Ok, Err, refl, sym, ap, subst, ◌∙◌, arith, ◌^◌, nat_lt, map as list_map}
-use Rattle.std.specs.Prelude.{◌==◌, IfErr, OnOk, OnErr}
-use Rattle.std.specs.List.{IsDistinct, list_any, list_all}
+use Rattle.ranked_tree.proofs.Common.{AreAtTheirRank, AreCachedOf, AreCaches, AreCleanAt, ArePlaced, AreUncleanAt, At, Bool, CacheMap, Cached, ComeToImporter, ComesTo, Core, Covers, Dirfrag, Err, Export, HandsOver, HandsRegion, HasHolder, HasTooMany, HaveNoJobs, HaveVersions, Homes, IfErr, Imported, Imports, IsDistinct, IsDivided, IsExportOf, IsFrozen, IsGivenOver, IsHere, IsIn, IsInRegionOf, IsRenewed, IsSoundCore, IsSpelledBy, Job, KeepsOutside, KeepsRegion, LacksPlacesAt, Leaf, List, MayNotHandOver, MayNotImport, NearestRoot, None, Ok, OnErr, OnOk, Option, Rank, Refusal, RegionLeaves, Regions, Result, Sent, SentFrag, Some, SpellsExport, SpellsRegion, StandSoundly, Standing, StandingExport, Subtrees, Takes, UncleanLeaves, Unsaved, [], all_left_at, all_so, and_parts, ap, arith, at, at_rank, clean_in, cond, each_passes, eq_by_cmp, export_bytes, false, few_lack, find, get-entries, handed, handed_where, hands_over, held_in, here, here_of, holder_is, how_many, imported_unsaved, inl, inr, is_base_of, is_clean, is_frag_before, is_fragment, is_freezing, is_imported, is_name_before, is_same, is_sendable, is_sent_frag, is_sent_name, leaf_cmp, leaf_is, left_by, length, list_all, list_any, moved_all, nat_lt, nat_tests, near_to, not, one_authority, one_export, one_root, one_value, option_map, order, passing_picked, picked_distinct, picked_passes, refl, rise, same_Some, same_or_apart, sent_names, sent_of, state_of, subst, sym, true, unclean, unclean_in, valid_so, values, wants_from, ℕ, ◌&&◌, ◌<◌, ◌^◌, ◌∙◌, ◌∷◌, ◌≡◌, ◌≤◌, ◌⊎◌}
+use Rattle.std.proofs.Common.{◌≢◌, is_some, map as list_map}
+use Rattle.std.specs.Prelude.{◌==◌}
 use Rattle.std.specs.FinMap as map
-use Rattle.std.specs.FinMap.{find, get-entries}
-use Rattle.sorted_map.proofs.NatKeys.{is_same}
-use Rattle.mds_types.specs.declared.dirfrags.Dirfrag.{Dirfrag}
-use Rattle.mds_types.specs.declared.ids.Rank.{Rank}
-use Rattle.mds_types.specs.declared.refusals.Refusal.{Refusal}
-use Rattle.mds_types.specs.Leaf.{leaf_cmp}
-use Rattle.mds_types.proofs.LeafLaws.{same_or_apart}
-use Rattle.cached_frag.specs.declared.jobs.Job.{Job}
-use Rattle.cached_frag.specs.Cached.{Cached, is_clean}
-use Rattle.dentry_cache.specs.Cache.{Unsaved, leaf_is}
-use Rattle.dentry_cache.specs.CacheCalls.{unclean_in}
-use Rattle.dentry_cache.specs.CacheMap.{AreCaches, At, CacheMap, at, at_rank, clean_in, here, order, unclean}
-use Rattle.dentry_cache.specs.Handing.{AreCleanAt, AreUncleanAt, HandsOver, MayNotHandOver, handed, moved_all}
-use Rattle.dentry_cache.proofs.HandedLaws.{handed_where, wants_from}
-use Rattle.dentry_cache.proofs.MoveLaws.{all_left_at, left_by}
-use Rattle.export_bytes.specs.declared.exports.Export.{Export}
-use Rattle.export_bytes.specs.declared.exports.SentFrag.{SentFrag}
-use Rattle.export_bytes.specs.Export.{SpellsExport, export_bytes, is_base_of, is_frag_before, is_name_before, is_sendable, is_sent_frag, is_sent_name, rise}
-use Rattle.dirfrag_codec.specs.Values.{is_fragment}
-use Rattle.export_regions.specs.Regions.{AreCachedOf, HasTooMany, IsExportOf, IsIn, RegionLeaves, values, UncleanLeaves, sent_names, sent_of}
-use Rattle.export_regions.specs.Sending.{AreAtTheirRank, HaveVersions}
-use Rattle.export_regions.proofs.ExportLaws.{one_export}
-use Rattle.export_regions.proofs.PickLaws.{each_passes, passing_picked, picked_distinct, picked_passes}
-use Rattle.export_regions.proofs.WhereLaws.{IsHere, here_of}
-use Rattle.export_steps.specs.declared.exports.ExportState.TheVariants.{Imported, Sent}
-use Rattle.export_steps.specs.declared.exports.StandingExport.{StandingExport}
 use Rattle.export_steps.specs.Handover.{HandsOver as HandsRegionOver}
-use Rattle.export_steps.specs.Holder.{HasHolder, IsFrozen, is_imported}
-use Rattle.export_steps.specs.Standing.{ArePlaced, ComesTo, Standing, is_freezing}
-use Rattle.export_steps.proofs.Handover.{hands_over}
-use Rattle.export_steps.proofs.Holding.{holder_is, near_to, valid_so}
-use Rattle.inode_table.specs.Dirs.{Covers, Homes}
-use Rattle.subtree_map.specs.Authority.{Leaf, NearestRoot}
-use Rattle.subtree_map.specs.Changes.{Subtrees}
-use Rattle.subtree_map.proofs.Nearest.{one_authority, one_root}
-use Rattle.subtree_map.proofs.Options.{one_value}
-use Rattle.mdcache.specs.Core.{Core, IsSoundCore, LacksPlacesAt, state_of}
-use Rattle.mdcache.specs.Given.{HaveNoJobs, IsGivenOver}
 use Rattle.mdcache.specs.State.{State as TreeState}
-use Rattle.mdcache.proofs.UncleanOf.{few_lack}
-use Rattle.ranked_tree.specs.declared.regions.Regions.{Regions}
-use Rattle.ranked_tree.specs.Exported.{IsDivided, StandSoundly, held_in}
-use Rattle.ranked_tree.specs.Importing.{ComeToImporter, HandsRegion, Imports, IsRenewed, IsSpelledBy, KeepsRegion, MayNotImport, Takes, imported_unsaved}
-use Rattle.ranked_tree.specs.Sending.{IsInRegionOf, SpellsRegion}
-use Rattle.ranked_tree.specs.Subtrees.{KeepsOutside}
 use Rattle.ranked_tree.proofs.HeldLaws.{held_after}
 use Rattle.ranked_tree.proofs.SendLaws.{region_held, region_here, have_versions}
 use Rattle.ranked_tree.proofs.StandLaws.{divided_still, held_bound, same_jobs}

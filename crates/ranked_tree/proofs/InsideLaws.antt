@@ -1,15 +1,8 @@
 -- A walk over the leaves of a directory that lie properly inside a fragment, from hash to hash.
-use Rattle.std.proofs.Common.{◌≡◌, ◌⊎◌, inl, inr, ℕ, ◌+◌, ◌%◌, ◌^◌, ◌<◌, ◌≤◌, ◌==◌, true, false, List, Some, None, refl, sym, ap, subst, ◌∙◌, arith}
-use Rattle.std.proofs.lemmas.Bool.{and_from, and_parts, cases_lt, eq-eqb, eqb-true}
-use Rattle.mds_types.specs.declared.ids.Ino.{Ino}
-use Rattle.mds_types.specs.Frag.{Contains, Fragment, IsFragment, span}
-use Rattle.fragtree.specs.FragTree.{HasLeaf, IsPick, IsTree, lies_inside}
-use Rattle.fragtree.proofs.Ranges.{Contains-from_range, ends_before, ends_low, ends_within, lies_inside-true, range_from_Contains, range_from_inside}
-use Rattle.inode_table.specs.Dirs.{Covers, Homes, IsLive, leaves_of}
+use Rattle.ranked_tree.proofs.Common.{Contains-from_range, Covers, Fragment, HasLeaf, Homes, Ino, IsFragment, IsInsideAt, IsLive, IsPick, IsTree, List, None, Some, and_from, and_parts, ap, arith, cases_lt, contains_start, ends_before, ends_low, ends_within, eq-eqb, eqb-true, false, inl, inr, is_inside, leaves_of, lies_inside, lies_inside-true, range_from_Contains, range_from_inside, refl, span, subst, sym, true, ℕ, ◌%◌, ◌+◌, ◌<◌, ◌==◌, ◌^◌, ◌∙◌, ◌≡◌, ◌≤◌, ◌⊎◌}
+use Rattle.mds_types.specs.Frag.{Contains}
 use Rattle.mds_types.specs.Leaf.{Leaf}
-use Rattle.subtree_map.specs.Changes.{is_inside}
-use Rattle.subtree_map.proofs.Covers.{contains_start, is_fragment, one_leaf}
-use Rattle.ranked_tree.specs.Subtrees.{IsInsideAt}
+use Rattle.subtree_map.proofs.Covers.{is_fragment, one_leaf}
 
 -- a leaf that contains a hash as a number of its range
 in_range : (leaf : Fragment) (hash : ℕ) → IsFragment leaf → hash < 2 ^ 24 → Contains leaf hash → (leaf.value ≤ hash) × (hash < leaf.value + span leaf.bits)

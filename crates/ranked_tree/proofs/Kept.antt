@@ -1,10 +1,7 @@
 -- Where the tree and its roots stay, each leaf keeps its authority.
-use Rattle.std.proofs.Common.{◌≡◌, sym, ap, ◌∙◌}
+use Rattle.ranked_tree.proofs.Common.{AreRoots, KeepsRoots, Roots, Standing, ap, sym, ◌∙◌, ◌≡◌}
 use Rattle.std.specs.FinMap as map
-use Rattle.export_steps.specs.Standing.{Standing}
-use Rattle.subtree_map.specs.Authority.{Roots}
 use Rattle.mdcache.specs.State.{State as TreeState}
-use Rattle.ranked_tree.specs.Subtrees.{AreRoots, KeepsRoots}
 
 -- where directories, leaves and roots stay
 pub keeps_tables : (old new : TreeState) (before after : Roots) (exports later : Standing) → new.homes ≡ old.homes → new.covers ≡ old.covers → after ≡ before → later ≡ exports → AreRoots old before → KeepsRoots old new before after exports later

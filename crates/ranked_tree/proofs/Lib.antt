@@ -2,6 +2,7 @@ pub mod AskLaws
 pub mod AuthorityLaws
 pub mod CameForLaws
 pub mod ChangedTables
+pub mod Common
 pub mod DividedLaws
 pub mod EndedLaws
 pub mod EvictLaws

@@ -1,30 +1,9 @@
 -- The roots of a tree that was mounted are its own, and each rank caches what it holds: rank 0 the one leaf of a new tree, and no rank anything else.
-use Rattle.std.proofs.Common.{◌≡◌, inl, inr, ℕ, ◌<◌, [], Option, None, Some, refl, sym, ap, subst, ◌∙◌, arith}
-use Rattle.std.specs.Prelude.{is_some, length}
-use Rattle.std.proofs.lemmas.List.{length-replicate}
+use Rattle.ranked_tree.proofs.Common.{AreFilled, AreHeld, AreRoots, AreTopRoots, At, CacheMap, Core, Covers, HasLeaf, IsMounted, IsNew, IsOwned, IsSoundCore, Mounts, None, Objects, Option, Rank, Roots, Rules, Some, State, Tree, [], ap, arith, get-empty, get_beside, inl, inr, is_known, is_some, leaf-exact, leaf-total, leaf_cmp, leaves_of, length-replicate, live_root, new_roots, no_covers, no_homes, one_value, refl, root_fragment, root_leaf, root_live, same_map, same_or_apart, state_of, subst, sym, ℕ, ◌<◌, ◌∙◌, ◌≡◌}
+use Rattle.std.specs.Prelude.{length}
 use Rattle.std.specs.FinMap as map
-use Rattle.std.specs.FinMap.{get-empty, same_map}
-use Rattle.mds_types.specs.declared.ids.Rank.{Rank}
-use Rattle.mds_types.specs.Frag.{root_fragment}
-use Rattle.mds_types.specs.Leaf.{Leaf, leaf_cmp}
-use Rattle.mds_types.specs.Tree.{Tree}
-use Rattle.mds_types.proofs.LeafLaws.{get_beside, leaf-exact, leaf-total, same_or_apart}
-use Rattle.objstore.specs.Objects.{Objects}
-use Rattle.fragtree.specs.FragTree.{HasLeaf}
-use Rattle.inode_table.specs.Dirs.{Covers, is_known, leaves_of}
-use Rattle.dentry_cache.specs.CacheMap.{At, CacheMap}
-use Rattle.subtree_map.specs.Authority.{Roots}
-use Rattle.subtree_map.specs.Changes.{AreFilled, leaf_of}
-use Rattle.subtree_map.proofs.Options.{one_value}
-use Rattle.mdcache.specs.Core.{Core, IsSoundCore, state_of}
-use Rattle.mdcache.specs.Mounted.{IsMounted, IsNew, Mounts}
-use Rattle.mdcache.specs.New.{root_leaf}
-use Rattle.mdcache.specs.State.{State}
-use Rattle.mdcache.proofs.NewLaws.{live_root, no_covers, no_homes, root_live}
-use Rattle.ranked_tree.specs.Held.{AreHeld, IsOwned}
-use Rattle.ranked_tree.specs.Mounted.{AreTopRoots}
-use Rattle.ranked_tree.specs.Ranked.{new_roots}
-use Rattle.ranked_tree.specs.Subtrees.{AreRoots, Rules}
+use Rattle.mds_types.specs.Leaf.{Leaf}
+use Rattle.subtree_map.specs.Changes.{leaf_of}
 use Rattle.ranked_tree.proofs.HeldLaws.{placed_at}
 use Rattle.ranked_tree.proofs.NewLaws.{new_are_held, root_is}
 

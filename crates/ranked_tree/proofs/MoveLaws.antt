@@ -1,18 +1,8 @@
 -- Where a rename may be made, a directory may have its home at the new dentry, and one that is replaced may go.
-use Rattle.std.specs.Prelude.{◌≡◌, true, false, Bool, cond, Option, Some, None, IfSome, refl}
-use Rattle.std.proofs.Common.{sym, subst}
+use Rattle.ranked_tree.proofs.Common.{IfSome, Ino, Inode, IsSound, MayChange, MayGo, Spot, State, dentry_at, directory_at, home_at, is_dir_kind, may_relocate, may_replace, moves, shown_tree, subst, sym, with_home}
+use Rattle.std.specs.Prelude.{◌≡◌, true, false, Bool, cond, Option, Some, None, refl}
 use Rattle.std.specs.FinMap as map
-use Rattle.mds_types.specs.declared.ids.Ino.{Ino}
-use Rattle.mds_types.specs.declared.inodes.Inode.{Inode}
-use Rattle.mds_types.specs.Tree.{is_dir_kind}
-use Rattle.inode_table.specs.Dirs.{MayGo, MayMove as MayRelocate}
-use Rattle.inode_table.specs.TreeTable.{home_at, with_home}
-use Rattle.inode_table.proofs.MoveLaws.{may_relocate, may_replace}
-use Rattle.namespace_ops.specs.Changes.{MayChange, dentry_at, directory_at, moves}
-use Rattle.namespace_ops.specs.declared.plans.Spot.{Spot}
-use Rattle.mdcache.specs.Shown.{shown_tree}
-use Rattle.mdcache.specs.Sound.{IsSound}
-use Rattle.mdcache.specs.State.{State}
+use Rattle.inode_table.specs.Dirs.{MayMove as MayRelocate}
 
 -- where a rename may be made
 module _ (s : State) (sound : IsSound s) (source target : Spot) (inode : Inode) (went : Option Ino) (may : MayChange (shown_tree s) s.covers (moves source target inode went)) where

@@ -1,27 +1,7 @@
 -- The one root of a new tree is its one leaf, and rank 0 holds it.
-use Rattle.std.proofs.Common.{◌≡◌, inl, inr, ℕ, ◌<◌, Bool, true, false, cond, [], length, None, Some, refl, sym, ap, subst, ◌∙◌}
-use Rattle.std.specs.Prelude.{IsSome, is_some}
-use Rattle.std.proofs.lemmas.List.{length-replicate}
-use Rattle.std.proofs.lemmas.Option.{same_Some}
+use Rattle.ranked_tree.proofs.Common.{AreHeld, AreRoots, At, Bool, CacheMap, Core, IsLive, IsSome, Leaf, None, Rank, Roots, Rules, Some, State, [], ap, at, cached_root, cond, false, get-empty, get_beside, get_put, get_with_frag, inl, inr, is_some, itself, leaf_is, length, length-replicate, live_root, new_caches, new_none, new_roots, new_state, no_caches, no_covers, no_homes, one_leaf, one_value, ranks_with_frag, refl, root_leaf, root_live, same_Some, same_or_apart, state_of, subst, sym, true, ℕ, ◌<◌, ◌∙◌, ◌≡◌}
 use Rattle.std.specs.FinMap as map
-use Rattle.std.specs.FinMap.{get-empty}
-use Rattle.mds_types.specs.declared.ids.Rank.{Rank}
-use Rattle.mds_types.proofs.LeafLaws.{get_beside, get_put, same_or_apart}
-use Rattle.inode_table.specs.Dirs.{IsLive}
-use Rattle.dentry_cache.specs.Cache.{leaf_is}
-use Rattle.dentry_cache.specs.CacheMap.{At, CacheMap, at, no_caches}
-use Rattle.dentry_cache.proofs.LeafLaws.{one_leaf}
-use Rattle.dentry_cache.proofs.StepLaws.{get_with_frag, ranks_with_frag}
-use Rattle.subtree_map.specs.Authority.{Leaf, Roots, itself}
-use Rattle.subtree_map.proofs.Options.{one_value}
-use Rattle.mdcache.specs.Core.{Core, state_of}
-use Rattle.mdcache.specs.New.{cached_root, new_caches, new_state, root_leaf}
-use Rattle.mdcache.specs.State.{State}
-use Rattle.mdcache.proofs.NewLaws.{live_root, new_none, no_covers, no_homes, root_live}
 use Rattle.ranked_tree.proofs.HeldLaws.{placed_at}
-use Rattle.ranked_tree.specs.Held.{AreHeld}
-use Rattle.ranked_tree.specs.Ranked.{new_roots}
-use Rattle.ranked_tree.specs.Subtrees.{AreRoots, Rules}
 
 pub root_is : map.get new_roots root_leaf ≡ Some (record { 0 = 0 })
 root_is = get_put map.empty root_leaf (record { 0 = 0 })

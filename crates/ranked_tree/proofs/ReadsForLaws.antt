@@ -1,36 +1,9 @@
 -- What reads of a directory's leaves make of the caches, one after the other.
+use Rattle.ranked_tree.proofs.Common.{AreHeldAt, AsksFor, Change, Concerns, ConcernsIn, Core, Dentry, HoldsAt, Inode, IsChangeIn, IsNamedIn, IsSound, IsThat, KeepsRanked, KeepsState, Leaf, Lists, Looks, MayChange, Moves, NamesBy, NamesDir, NoneEnds, Op, PutsAt, Rank, Ranked, Reads, ReadsCore, ReadsDir, ReadsFor, Refusal, Removes, Roots, Rules, Sets, Shape, Spot, TakesAt, Tree, Unlinks, add, ap, dentry_at, held_roots, inl, inr, is_known, keeps_on, leaf_of, may_come, move, reads_then, reads_weaker, remove, set, shape_of, shown_tree, state_of, subst, sym, ◌∙◌}
 use Rattle.std.specs.Prelude.{◌≡◌, ◌⊎◌, ℕ, Option, Some, None, false}
-use Rattle.std.proofs.Common.{inl, inr, ap, subst, sym, ◌∙◌}
-use Rattle.mds_types.specs.declared.ids.Rank.{Rank}
-use Rattle.mds_types.specs.declared.dentries.Dentry.{Dentry}
-use Rattle.mds_types.specs.declared.operations.Op.{Op}
-use Rattle.mds_types.specs.declared.inodes.Inode.{Inode}
-use Rattle.mds_types.specs.declared.refusals.Refusal.{Refusal}
-use Rattle.mds_types.specs.Shape.{Shape as OpShape, Looks, Lists, Makes, Sets, Unlinks, Removes, Moves}
-use Rattle.mds_types.specs.Tree.{Tree}
-use Rattle.mds_types.specs.Leaf.{leaf_of}
-use Rattle.dentry_cache.specs.Came.{IsThat, NoneEnds}
-use Rattle.dentry_cache.specs.Reads.{Reads}
-use Rattle.dentry_cache.proofs.ReadsLaws.{reads_then, reads_weaker}
-use Rattle.inode_table.specs.Dirs.{is_known}
-use Rattle.inode_table.proofs.TableLaws.{may_come}
-use Rattle.namespace_ops.specs.Changes.{Concerns, ConcernsIn, IsChangeIn, MayChange, PutsAt, TakesAt, dentry_at}
-use Rattle.namespace_ops.proofs.Shapes.{Shape, shape_of}
-use Rattle.namespace_ops.proofs.Shapes.Shape.{add, move, remove, set}
-use Rattle.namespace_ops.specs.declared.plans.Change.{Change}
-use Rattle.namespace_ops.specs.declared.plans.Spot.{Spot}
-use Rattle.subtree_map.specs.Authority.{Leaf, Roots}
-use Rattle.mdcache.specs.Ranks.{IsNamedIn}
-use Rattle.mdcache.specs.Shown.{shown_tree}
-use Rattle.mdcache.specs.Sound.{IsSound}
-use Rattle.mdcache.specs.Core.{Core, ReadsCore, state_of}
-use Rattle.mdcache.specs.Frags.{KeepsState}
+use Rattle.mds_types.specs.Shape.{Shape as OpShape, Makes}
 use Rattle.mdcache.specs.State.{State as TreeState}
-use Rattle.ranked_tree.specs.Held.{AreHeldAt, AsksFor, NamesBy, NamesDir, ReadsDir, ReadsFor}
-use Rattle.mdcache.proofs.FragsLaws.{keeps_on}
-use Rattle.ranked_tree.specs.Ranked.{KeepsRanked, Ranked, held_roots}
 use Rattle.ranked_tree.proofs.AskLaws.{held_still}
-use Rattle.ranked_tree.specs.Subtrees.{HoldsAt, Rules}
 use Rattle.ranked_tree.proofs.HeldLaws.{is_that}
 use Rattle.ranked_tree.proofs.HolderLaws.{is_unknown}
 

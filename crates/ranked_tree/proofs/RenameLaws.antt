@@ -1,31 +1,8 @@
 -- What a directory's move needs of the roots: it keeps its leaves, and the rank that they inherit is known at both its dentries.
-use Rattle.std.specs.Prelude.{◌≡◌, ◌≢◌, Bool, true, false, cond, [], Option, Some, None, IfSome, MatchOption}
-use Rattle.std.proofs.Common.{refl, sym, subst}
-use Rattle.std.proofs.lemmas.Option.{same_Some}
+use Rattle.ranked_tree.proofs.Common.{Change, Covers, Home, Homes, IfSome, Ino, Inode, IsInheritedAt, IsLostRank, IsRight, IsSettled, IsSound, IsSpot, MatchOption, MayChange, MayMove, Rank, Roots, Rules, SettleMoving, Shape, Spot, State, Tree, add, changed, dentry_at, dir_moved, dir_moving, directory_at, entry_stands, home_at, is_dir_kind, is_directory, leaf_of, leaves_of, move, moves, refl, remove, same_Some, set, shape_of, shown_tree, subst, sym, taken, ◌≢◌}
+use Rattle.std.specs.Prelude.{◌≡◌, Bool, true, false, cond, [], Option, Some, None}
 use Rattle.std.specs.FinMap as map
-use Rattle.mds_types.specs.declared.ids.Ino.{Ino}
-use Rattle.mds_types.specs.declared.ids.Rank.{Rank}
-use Rattle.mds_types.specs.declared.inodes.Inode.{Inode}
-use Rattle.mds_types.specs.Leaf.{leaf_of}
-use Rattle.mds_types.specs.Tree.{Tree, is_dir_kind, is_directory}
-use Rattle.mds_types.proofs.DirectoryLaws.{entry_stands}
 use Rattle.mds_types.proofs.EntryLaws.{get_put}
-use Rattle.inode_table.specs.declared.dirs.Home.{Home}
-use Rattle.inode_table.specs.Dirs.{Covers, Homes, MayMove, leaves_of}
-use Rattle.inode_table.specs.TreeTable.{home_at}
-use Rattle.namespace_ops.specs.Changes.{IsSpot, MayChange, changed, dentry_at, directory_at, moves, taken}
-use Rattle.namespace_ops.specs.declared.plans.Change.{Change}
-use Rattle.namespace_ops.specs.declared.plans.Spot.{Spot}
-use Rattle.namespace_ops.proofs.Shapes.{Shape, shape_of}
-use Rattle.namespace_ops.proofs.Shapes.Shape.{add, move, remove, set}
-use Rattle.subtree_map.specs.Authority.{Roots}
-use Rattle.subtree_map.specs.Moves.{IsInheritedAt, IsLostRank, IsSettled}
-use Rattle.mdcache.specs.Frags.{dir_moved, dir_moving}
-use Rattle.mdcache.specs.Made.{IsRight}
-use Rattle.mdcache.specs.Shown.{shown_tree}
-use Rattle.mdcache.specs.Sound.{IsSound}
-use Rattle.mdcache.specs.State.{State}
-use Rattle.ranked_tree.specs.Subtrees.{Rules, SettleMoving}
 use Rattle.ranked_tree.proofs.SubtreeLaws.{moves_there, settled_at, settled_none}
 
 -- nothing moves without a name that goes, or without one that gets an inode

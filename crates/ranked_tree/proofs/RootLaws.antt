@@ -1,29 +1,10 @@
 -- What becomes of the roots and of every leaf's authority where directories come, move and go: from the table of directories alone.
-use Rattle.std.proofs.Common.{◌≡◌, ◌≢◌, ◌⊎◌, inl, inr, ℕ, ◌+◌, ◌/◌, ◌||◌, ◌&&◌, ◌==◌, nat_lt, Bool, true, false, is_some, IsSome, List, Option, Some, None, refl, sym, ap, subst, ◌∙◌, arith}
-use Rattle.std.proofs.lemmas.Bool.{and_right}
-use Rattle.std.proofs.lemmas.Bool.Decides.{nat_tests}
+use Rattle.ranked_tree.proofs.Common.{AreGone, BecomesMerged, BecomesSplit, Bool, CanMerge, Covers, FitsSplit, Fragment, HasAuthority, HasLeaf, HaveOneAuthority, Home, Homes, Ino, IsChild, IsInheritedAt, IsLive, IsMerge, IsRootMerge, IsRootSplit, IsSettled, IsSplit, IsSubtrees, IsTable, IsTree, KeepAuthority, Leaf, List, MayCome, MayGo, MayMove, NoNewRank, None, Option, Rank, Roots, Some, adopted_authority, adopted_valid, and_right, ap, arith, child_is_new, drops_soundly, false, inl, inr, is_inside, is_known, leaves_now, leaves_of, lies_inside, merges_soundly, moves_soundly, nat_lt, nat_tests, not_none, one_value, refl, some_authority, some_holder, span, splits_soundly, subst, sym, tree_of_row, true, value_of, ℕ, ◌&&◌, ◌+◌, ◌/◌, ◌==◌, ◌∙◌, ◌≡◌, ◌⊎◌}
+use Rattle.std.proofs.Common.{◌≢◌, ◌||◌, is_some, IsSome}
 use Rattle.std.specs.FinMap as map
-use Rattle.mds_types.specs.declared.ids.Ino.{Ino}
-use Rattle.mds_types.specs.declared.ids.Rank.{Rank}
 use Rattle.sorted_map.proofs.NatKeys as nat
-use Rattle.inode_table.specs.declared.dirs.Home.{Home}
-use Rattle.inode_table.specs.Dirs.{Covers, Homes, IsLive, IsTable, MayCome, MayGo, MayMove, is_known, leaves_of}
-use Rattle.inode_table.proofs.Tables.{tree_of_row}
-use Rattle.mds_types.specs.Frag.{Fragment, span}
 use Rattle.mds_types.proofs.LeafLaws.{same_or_apart as same_leaf_or_apart}
-use Rattle.fragtree.specs.FragTree.{CanMerge, FitsSplit, HasLeaf, IsChild, IsMerge, IsSplit, IsTree, lies_inside}
-use Rattle.subtree_map.specs.Authority.{HasAuthority, IsSubtrees, Leaf, Roots}
-use Rattle.subtree_map.specs.Changes.{AreGone, BecomesMerged, BecomesSplit, HaveOneAuthority, IsRootMerge, IsRootSplit, KeepAuthority, is_inside, leaf_of}
-use Rattle.subtree_map.specs.Moves.{IsInheritedAt, IsSettled}
-use Rattle.subtree_map.proofs.Adopted.{adopted_authority, adopted_valid}
-use Rattle.subtree_map.proofs.Covers.{child_is_new, leaves_now}
-use Rattle.subtree_map.proofs.Dropped.{drops_soundly}
-use Rattle.subtree_map.proofs.Merged.{merges_soundly}
-use Rattle.subtree_map.proofs.Moved.{moves_soundly}
-use Rattle.subtree_map.proofs.Nearest.{some_authority, some_holder}
-use Rattle.subtree_map.proofs.Split.{splits_soundly}
-use Rattle.subtree_map.proofs.Options.{not_none, one_value, value_of}
-use Rattle.ranked_tree.specs.Subtrees.{NoNewRank}
+use Rattle.subtree_map.specs.Changes.{leaf_of}
 
 -- what every change leaves: each leaf that stood and still stands has its authority, only leaves are roots, and no root has a rank that none had
 pub record IsSoundChange (before after : Roots) (homes now : Homes) (covers later : Covers) : Type 0 where

@@ -1,38 +1,7 @@
 -- What is known of fragments that aren't clean where a tree is divided among ranks: each has a base that a fragment may have, and lies at the
 -- rank that holds its region. What follows for Send.
-use Rattle.std.proofs.Common.{◌≡◌, ◌≤◌, inr, ℕ, Bool, true, false, cond, List, option_map, Option, Some, None, Result, Ok, Err, refl, sym, ap, subst, ◌∙◌, arith}
-use Rattle.std.specs.Prelude.{IfErr, IsErr, IsErrAnd}
-use Rattle.std.proofs.lemmas.Option.{same_Some}
+use Rattle.ranked_tree.proofs.Common.{AreAtTheirRank, At, Base, Bool, CacheMap, Cached, ComesTo, Core, Covers, Err, Export, ExportState, Fresh, HasVersion, HaveVersions, Homes, IfErr, IsDivided, IsErr, IsErrAnd, IsExportOf, IsIn, IsSoundCore, IsTiedAt, Leaf, List, MayNotSend, NearestRoot, None, Ok, Omap, Option, Prepared, Refusal, RefusesSend, Regions, Result, Rules, Sends, Sent, Some, SpellsExport, SpellsPrepared, SpellsRegion, Standing, StandingExport, Stored, Subtrees, Unsaved, ap, arith, cond, false, get_unclean, held_in, holder_is, inr, is_clean, is_freezing, is_imported, object_of, one_value, option_map, refl, region_holder, same_Some, state_of, subst, sym, true, unclean, unsaved_at, ℕ, ◌∙◌, ◌≡◌, ◌≤◌}
 use Rattle.std.specs.FinMap as map
-use Rattle.mds_types.specs.declared.refusals.Refusal.{Refusal}
-use Rattle.objstore.specs.Omap.{Omap}
-use Rattle.cached_frag.specs.declared.bases.Base.{Base}
-use Rattle.cached_frag.specs.declared.bases.Base.TheVariants.{Fresh, Stored}
-use Rattle.cached_frag.specs.Cached.{Cached, is_clean}
-use Rattle.dentry_cache.specs.Cache.{Unsaved}
-use Rattle.dentry_cache.specs.CacheMap.{At, CacheMap, unclean, unsaved_at}
-use Rattle.dentry_cache.specs.Loading.{object_of}
-use Rattle.dentry_cache.specs.Ties.{IsTiedAt}
-use Rattle.dentry_cache.proofs.UncleanLaws.{get_unclean}
-use Rattle.export_bytes.specs.declared.exports.Export.{Export}
-use Rattle.export_bytes.specs.Export.{SpellsExport}
-use Rattle.export_regions.specs.Regions.{IsExportOf, IsIn}
-use Rattle.export_regions.specs.Sending.{AreAtTheirRank, HasVersion, HaveVersions, MayNotSend}
-use Rattle.export_steps.specs.declared.exports.ExportState.{ExportState}
-use Rattle.export_steps.specs.declared.exports.ExportState.TheVariants.{Prepared, Sent}
-use Rattle.export_steps.specs.declared.exports.StandingExport.{StandingExport}
-use Rattle.export_steps.specs.Holder.{is_imported, region_holder}
-use Rattle.export_steps.specs.Standing.{ComesTo, Standing, is_freezing}
-use Rattle.export_steps.proofs.Holding.{holder_is}
-use Rattle.inode_table.specs.Dirs.{Covers, Homes}
-use Rattle.subtree_map.specs.Authority.{Leaf, NearestRoot}
-use Rattle.subtree_map.specs.Changes.{Subtrees}
-use Rattle.subtree_map.proofs.Options.{one_value}
-use Rattle.mdcache.specs.Core.{Core, IsSoundCore, state_of}
-use Rattle.ranked_tree.specs.declared.regions.Regions.{Regions}
-use Rattle.ranked_tree.specs.Exported.{IsDivided, held_in}
-use Rattle.ranked_tree.specs.Sending.{RefusesSend, Sends, SpellsPrepared, SpellsRegion}
-use Rattle.ranked_tree.specs.Subtrees.{Rules}
 use Rattle.ranked_tree.proofs.HeldLaws.{may_hold}
 use Rattle.ranked_tree.proofs.SubtreeLaws.{over}
 

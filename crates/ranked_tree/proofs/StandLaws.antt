@@ -1,45 +1,9 @@
 -- What is kept of the exports that stand: by what changes neither directories nor roots, and by what changes no frozen leaf.
-use Rattle.std.proofs.Common.{◌≡◌, ◌<◌, ◌⊎◌, inl, inr, ℕ, Bool, true, false, cond, length, List, Option, Some, None, Result, Ok, Err, refl, sym, ap, subst, ◌∙◌}
-use Rattle.std.proofs.lemmas.Option.{same_Some}
-use Rattle.std.specs.Prelude.{◌≢◌, option_map}
-use Rattle.std.specs.List.{list_any}
+use Rattle.ranked_tree.proofs.Common.{AllHave, Alters, AreFrozenRegionsKept, AreRoots, AreThawed, Begins, BeginsWith, Bool, CacheMap, CameAt, Change, Core, Covers, Drops, Ends, Err, Fragment, HasAuthority, HasHolder, HaveOneAuthority, Homes, Ino, IsDivided, IsFamilyOf, IsFrozen, IsFrozenIn, IsLive, IsMergedHere, IsOwned, IsSound, Job, Jobs, KeepsAuthorities, KeepsHolders, Leaf, List, Makes, MayChange, NoNewRank, None, Ok, Option, Rank, Refusal, Regions, Result, Roots, Rules, Shape, Some, StandSoundly, Standing, StandingExport, Subtrees, Unsaved, UsedAt, add, ap, came_weaker, cond, dentry_at, false, get-empty, get_beside, get_holding, get_left, get_removed, get_without, held_in, holder_is, holder_or, holding, imported_freezes, inl, inr, is_dir_kind, is_imported, keep_frozen, keep_holders, leaf-exact, leaf-total, leaf_cmp, leaf_is, leaves, length, list_any, move, refl, region_holder, remove, same_Some, same_map, same_or_apart, set, shape_of, shown_tree, state_of, subst, sym, true, unclean, with_directory, without, without_leaves, ℕ, ◌<◌, ◌∙◌, ◌≡◌, ◌≢◌, ◌⊎◌}
+use Rattle.std.specs.Prelude.{option_map}
 use Rattle.std.specs.FinMap as map
-use Rattle.std.specs.FinMap.{get-empty, same_map}
-use Rattle.mds_types.specs.declared.ids.Ino.{Ino}
-use Rattle.mds_types.specs.declared.ids.Rank.{Rank}
-use Rattle.mds_types.specs.declared.refusals.Refusal.{Refusal}
-use Rattle.mds_types.specs.Frag.{Fragment}
-use Rattle.mds_types.specs.Tree.{is_dir_kind}
-use Rattle.cached_frag.specs.declared.jobs.Job.{Job}
-use Rattle.mds_types.specs.Leaf.{leaf_cmp}
-use Rattle.mds_types.proofs.LeafLaws.{get_beside, get_left, get_removed, leaf-exact, leaf-total, same_or_apart}
-use Rattle.dentry_cache.specs.Cache.{Unsaved, leaf_is}
-use Rattle.dentry_cache.specs.CacheMap.{CacheMap, unclean}
-use Rattle.dentry_cache.proofs.FrameLaws.{came_weaker}
-use Rattle.export_steps.specs.declared.exports.StandingExport.{StandingExport}
-use Rattle.export_steps.specs.Holder.{HasHolder, IsFrozen, holder_or, holding, is_imported, region_holder}
-use Rattle.export_steps.specs.Regions.{AreFrozenRegionsKept}
-use Rattle.export_steps.specs.Standing.{Standing}
-use Rattle.export_steps.proofs.Holding.{get_holding, holder_is, imported_freezes, keep_frozen, keep_holders}
-use Rattle.inode_table.specs.Dirs.{Covers, Homes, IsLive}
-use Rattle.namespace_ops.specs.Changes.{MayChange, dentry_at, leaves}
-use Rattle.namespace_ops.proofs.Shapes.{Shape, shape_of}
-use Rattle.namespace_ops.proofs.Shapes.Shape.{add, move, remove, set}
-use Rattle.namespace_ops.specs.declared.plans.Change.{Change}
-use Rattle.subtree_map.specs.Authority.{HasAuthority, Leaf, Roots}
-use Rattle.subtree_map.specs.Changes.{HaveOneAuthority, Subtrees}
-use Rattle.mdcache.specs.Changes.{Alters, Makes, with_directory, without, without_leaves}
-use Rattle.mdcache.specs.Commits.{Begins, BeginsWith, Drops, Ends, leaf_of}
-use Rattle.mdcache.specs.Core.{Core, state_of}
-use Rattle.mdcache.specs.Shown.{shown_tree}
-use Rattle.mdcache.specs.Sound.{IsSound}
+use Rattle.mdcache.specs.Commits.{leaf_of}
 use Rattle.mdcache.specs.State.{State as TreeState}
-use Rattle.mdcache.specs.StandingJobs.{Jobs}
-use Rattle.mdcache.proofs.GoneLaws.{get_without}
-use Rattle.ranked_tree.specs.declared.regions.Regions.{Regions}
-use Rattle.ranked_tree.specs.Exported.{AreThawed, IsDivided, IsFrozenIn, StandSoundly, held_in}
-use Rattle.ranked_tree.specs.Held.{CameAt, IsFamilyOf, IsMergedHere, IsOwned, UsedAt}
-use Rattle.ranked_tree.specs.Subtrees.{AllHave, AreRoots, KeepsAuthorities, KeepsHolders, NoNewRank, Rules}
 
 -- ---- jobs
 

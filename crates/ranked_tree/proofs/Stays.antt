@@ -1,14 +1,8 @@
 -- What the calls about commits and objects leave of the tables: directories and leaves stay, and so do the roots.
-use Rattle.std.proofs.Common.{◌≡◌, ℕ, List, Option, Some, None, Result, Ok, Err, ap}
+use Rattle.ranked_tree.proofs.Common.{Begins, BeginsWith, Drops, Ends, Err, Ino, IsLive, IsSound, List, None, Ok, Option, PurgesName, Refusal, Result, SavesTree, Some, Unsaved, ap, ℕ, ◌≡◌}
 use Rattle.std.specs.FinMap as map
-use Rattle.mds_types.specs.declared.ids.Ino.{Ino}
-use Rattle.mds_types.specs.declared.refusals.Refusal.{Refusal}
 use Rattle.cached_frag.specs.declared.jobs.Job.{Job as Begun}
-use Rattle.dentry_cache.specs.Cache.{Leaf, Unsaved}
-use Rattle.inode_table.specs.Dirs.{IsLive}
-use Rattle.mdcache.specs.Commits.{Begins, BeginsWith, Drops, Ends}
-use Rattle.mdcache.specs.Objects.{PurgesName, SavesTree}
-use Rattle.mdcache.specs.Sound.{IsSound}
+use Rattle.dentry_cache.specs.Cache.{Leaf}
 use Rattle.mdcache.specs.State.{State as TreeState}
 
 -- directories and leaves stay

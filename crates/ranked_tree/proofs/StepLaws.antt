@@ -1,32 +1,7 @@
 -- What the steps of an export leave of a tree that is divided among ranks.
-use Rattle.std.proofs.Common.{◌≡◌, ◌<◌, ◌⊎◌, inl, inr, ℕ, length, Some, None, Result, Ok, Err, refl, sym, ap, subst, ◌∙◌}
-use Rattle.std.specs.Prelude.{◌≢◌, IsSome}
+use Rattle.ranked_tree.proofs.Common.{ArePlaced, AreRoots, CacheMap, Cancels, Core, Covers, EndsRegion, Err, ExportState, FreezesSoundly, Frozen, Homes, IsDivided, IsFreeze, IsFrozen, IsFrozenIn, IsFrozenLeaf, IsLive, IsOwned, IsSome, IsSoundCore, Job, KeepsAuthorities, Leaf, NearestRoot, None, Ok, Prepared, Preps, Rank, Ranked, Refusal, Regions, Result, Roots, Rules, Sent, Some, StandSoundly, Standing, StandingExport, Started, Starts, Steps, Subtrees, ap, cancel_holding, cancels_soundly, come_to, freezes_soundly, get_beside, get_left, get_put, get_removed, held_in, holder_is, holding, inl, inr, length, not_none, one_value, prep_holding, prep_soundly, refl, same_or_apart, send_holding, send_soundly, start_holding, start_soundly, state_of, subst, sym, valid_so, ℕ, ◌<◌, ◌∙◌, ◌≡◌, ◌≢◌, ◌⊎◌}
 use Rattle.std.specs.FinMap as map
-use Rattle.mds_types.specs.declared.ids.Rank.{Rank}
-use Rattle.mds_types.specs.declared.refusals.Refusal.{Refusal}
-use Rattle.mds_types.proofs.LeafLaws.{get_beside, get_left, get_put, get_removed, same_or_apart}
-use Rattle.export_steps.specs.declared.exports.StandingExport.{StandingExport}
-use Rattle.export_steps.specs.declared.exports.ExportState.TheVariants.{Started, Frozen, Prepared, Sent}
-use Rattle.export_steps.specs.declared.exports.ExportState.{ExportState}
-use Rattle.export_steps.specs.Holder.{IsFrozen, holding}
-use Rattle.export_steps.specs.Standing.{ArePlaced, Cancels, IsFreeze, Preps, Standing, Starts, Steps, come_to}
-use Rattle.export_steps.proofs.HoldingSteps.{cancel_holding, prep_holding, prep_soundly, send_holding, send_soundly, start_holding, start_soundly}
-use Rattle.export_steps.proofs.Handover.{cancels_soundly, freezes_soundly}
-use Rattle.export_steps.specs.Handover.{FreezesSoundly}
-use Rattle.export_steps.proofs.Holding.{holder_is, valid_so}
-use Rattle.cached_frag.specs.declared.jobs.Job.{Job}
-use Rattle.dentry_cache.specs.CacheMap.{CacheMap}
-use Rattle.inode_table.specs.Dirs.{Covers, Homes, IsLive}
-use Rattle.subtree_map.specs.Authority.{Leaf, NearestRoot, Roots}
-use Rattle.subtree_map.specs.Changes.{Subtrees}
-use Rattle.subtree_map.proofs.Options.{not_none, one_value}
-use Rattle.mdcache.specs.Core.{Core, IsSoundCore, state_of}
 use Rattle.mdcache.specs.State.{State as TreeState}
-use Rattle.ranked_tree.specs.declared.regions.Regions.{Regions}
-use Rattle.ranked_tree.specs.Exported.{EndsRegion, IsDivided, IsFrozenIn, StandSoundly, held_in}
-use Rattle.ranked_tree.specs.Held.{IsOwned}
-use Rattle.ranked_tree.specs.Ranked.{IsFrozenLeaf, Ranked}
-use Rattle.ranked_tree.specs.Subtrees.{AreRoots, KeepsAuthorities, Rules}
 use Rattle.ranked_tree.proofs.HeldLaws.{held_after}
 use Rattle.ranked_tree.proofs.StandLaws.{held_bound}
 

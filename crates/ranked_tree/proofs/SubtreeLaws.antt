@@ -1,34 +1,8 @@
 -- What a change of the tree makes of the roots, and of every leaf's authority.
-use Rattle.std.proofs.Common.{◌≡◌, Bool, true, false, cond, Option, Some, None, refl, sym, ap, subst, ◌∙◌}
-use Rattle.std.specs.Prelude.{IfSome, MatchBool, MatchOption, ℕ}
+use Rattle.ranked_tree.proofs.Common.{AreRoots, Bool, Change, Covers, Dentry, FollowChange, Fragment, GivesToChildren, HasAuthority, HaveOneAuthority, Homes, IfSome, Ino, Inode, IsMergedInto, IsRootMerge, IsRootSplit, IsSettled, IsSound, IsSplitInto, IsSubtrees, IsTable, LoseDirectory, Makes, MatchOption, MayChange, MayGo, MayMove, None, Option, Roots, SettleBy, SettleMove, SettleMoving, Shape, Some, Spot, State, TakesOver, add, ap, cond, dentry_at, dir_moved, dir_moving, directory_at, false, home_at, is_dir_kind, may_come, may_drop, move, moved_home, moved_known, refl, remove, removes, rows_but, same_Some, set, shape_of, shown_tree, subst, sym, true, with_dir, with_file, with_home, ◌∙◌, ◌≡◌}
+use Rattle.std.specs.Prelude.{MatchBool, ℕ}
 use Rattle.std.specs.FinMap as map
-use Rattle.mds_types.specs.declared.ids.Ino.{Ino}
-use Rattle.mds_types.specs.declared.dentries.Dentry.{Dentry}
-use Rattle.mds_types.specs.declared.inodes.Inode.{Inode}
-use Rattle.mds_types.specs.Frag.{Fragment}
-use Rattle.mds_types.specs.Tree.{is_dir_kind}
-use Rattle.inode_table.specs.Dirs.{Covers, Homes, IsTable, MayGo, MayMove}
-use Rattle.inode_table.specs.TreeTable.{home_at, with_home}
-use Rattle.inode_table.proofs.TableLaws.{may_come, may_drop, with_dir, with_file}
-use Rattle.namespace_ops.specs.Changes.{MayChange, dentry_at, directory_at, removes}
-use Rattle.namespace_ops.proofs.Shapes.{Shape, shape_of}
-use Rattle.namespace_ops.proofs.Shapes.Shape.{add, move, remove, set}
-use Rattle.namespace_ops.specs.declared.plans.Change.{Change}
-use Rattle.namespace_ops.specs.declared.plans.Spot.{Spot}
-use Rattle.subtree_map.specs.Authority.{HasAuthority, IsSubtrees, Roots}
-use Rattle.subtree_map.specs.Changes.{HaveOneAuthority, IsRootMerge, IsRootSplit}
-use Rattle.subtree_map.specs.Moves.{IsSettled}
-use Rattle.std.proofs.lemmas.Option.{same_Some}
-use Rattle.mdcache.specs.Changes.{Makes}
-use Rattle.mdcache.specs.Frags.{dir_moved, dir_moving}
-use Rattle.mdcache.specs.Going.{rows_but}
-use Rattle.mdcache.specs.Shown.{shown_tree}
-use Rattle.mdcache.specs.Sound.{IsSound}
-use Rattle.mdcache.specs.Splits.{IsMergedInto, IsSplitInto}
-use Rattle.mdcache.specs.State.{State}
-use Rattle.mdcache.proofs.HomeLaws.{moved_home, moved_known}
 use Rattle.ranked_tree.proofs.MoveLaws.{relocates, replaces}
-use Rattle.ranked_tree.specs.Subtrees.{AreRoots, FollowChange, GivesToChildren, LoseDirectory, SettleBy, SettleMove, SettleMoving, TakesOver}
 use Rattle.ranked_tree.proofs.ChangedTables.{TablesAre, added_tables, grown_tables, moved_tables, removed_tables, set_tables}
 use Rattle.ranked_tree.proofs.RootLaws.{IsSoundChange, child_authority, divided_soundly, grown, lost, merged_authority, merged_soundly, rehomed, sound_on, unchanged}
 

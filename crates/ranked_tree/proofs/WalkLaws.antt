@@ -1,29 +1,7 @@
 -- What a walk over the leaves of a directory finds.
-use Rattle.std.proofs.Common.{◌≡◌, ℕ, Bool, true, false, cond, not, ◌&&◌, List, [], ◌∷◌, Some, None, refl, sym, ap, subst, ◌∙◌}
-use Rattle.std.specs.List.{Contains, list_all}
+use Rattle.ranked_tree.proofs.Common.{Bool, Contains, Fragment, HasLeaf, Ino, Inode, IsPick, IsSound, List, Names, None, Some, State, [], all_pass, ap, at_dentry, cond, dentry_of, entries_there, false, find, has_entries, has_none, hash_of, is_known, key_cmp, key_itself, leaves_of, list_all, names_after, names_are_listed, names_of, no_entries_listed, no_name, not, refl, shown_tree, some_fails, some_name, some_pick, subst, sym, tree_of_row, true, ℕ, ◌&&◌, ◌∙◌, ◌∷◌, ◌≡◌}
 use Rattle.std.specs.FinMap as map
-use Rattle.std.specs.FinMap.{find}
-use Rattle.mds_types.specs.declared.ids.Ino.{Ino}
-use Rattle.mds_types.specs.declared.inodes.Inode.{Inode}
-use Rattle.mds_types.specs.Frag.{Fragment}
-use Rattle.mds_types.specs.Tree.{dentry_of, has_entries}
-use Rattle.mds_types.specs.Step.{names_after}
-use Rattle.mds_types.proofs.DirectoryLaws.{entries_there}
-use Rattle.mds_types.proofs.ListingLaws.{names_are_listed, no_entries_listed}
-use Rattle.objstore.specs.Omap.{key_cmp}
-use Rattle.fragtree.specs.FragTree.{HasLeaf, IsPick}
-use Rattle.fragtree.proofs.TreeLaws.{some_pick, first as first_has, later as later_has}
-use Rattle.namehash.specs.Rjenkins.{hash_of}
-use Rattle.dirfrag_codec.specs.FragmentObject.{Names}
-use Rattle.dirfrag_codec.proofs.ByteKeys.{key_itself}
-use Rattle.inode_table.specs.Dirs.{is_known, leaves_of}
-use Rattle.inode_table.proofs.Tables.{tree_of_row}
-use Rattle.mdcache.specs.Reads.{has_none}
-use Rattle.mdcache.specs.Shown.{names_of, shown_tree}
-use Rattle.mdcache.specs.Sound.{IsSound}
-use Rattle.mdcache.specs.State.{State}
-use Rattle.mdcache.proofs.NoNames.{all_pass, no_name, some_fails, some_name}
-use Rattle.mdcache.proofs.TreeLookups.{at_dentry}
+use Rattle.fragtree.proofs.TreeLaws.{first as first_has, later as later_has}
 
 -- ---- leaf by leaf
 

@@ -1,8 +1,6 @@
 -- Digits that are written from the last to the first.
-use Rattle.std.proofs.Common.{◌≡◌, ℕ, zero, suc, ◌+◌, ◌-◌, ◌*◌, ◌/◌, ◌%◌, ◌^◌, ◌<◌, ◌≤◌, Bool, true, false, cond, eqb, List, [], ◌∷◌, ◌++◌, length, refl, sym, ap, subst, ◌∙◌, arith, append_assoc, eq-eqb, ne_eqb, drop, set, length-append, length-drop, length-set}
-use Rattle.std.proofs.Math.Nat.{div-add-mod, div-eq_of_lt, mod-eq_of_lt, mod-lt, mul-zero}
-use Rattle.std.proofs.lemmas.List.{drop-set}
-use Rattle.std.specs.Fmt.{digits, digits_onto, digit_glyph}
+use Rattle.script_output.proofs.Common.{Bool, List, [], ap, append_assoc, arith, cond, digit_glyph, digits_onto, div-add-mod, div-eq_of_lt, drop, drop-set, eq-eqb, eqb, false, length, length-append, length-drop, length-set, mod-eq_of_lt, mod-lt, mul-zero, ne_eqb, refl, set, subst, suc, sym, true, zero, ℕ, ◌%◌, ◌*◌, ◌++◌, ◌+◌, ◌-◌, ◌/◌, ◌<◌, ◌^◌, ◌∙◌, ◌∷◌, ◌≡◌, ◌≤◌}
+use Rattle.std.specs.Fmt.{digits}
 use Rattle.script_output.proofs.PrintedNumbers.{below_most, pow_once, shorter}
 
 -- digits by one step: what ends them is that none is left

@@ -1,7 +1,8 @@
+pub mod Common
+pub mod DigitLemmas
+pub mod PrintedFragments
 pub mod PrintedNames
 pub mod PrintedNumbers
-pub mod PrintedFragments
-pub mod DigitLemmas
-pub mod WriteLemmas
-pub mod TextLemmas
 pub mod PushLemmas
+pub mod TextLemmas
+pub mod WriteLemmas

@@ -1,17 +1,8 @@
 -- The digits that a fragment prints are its bits.
-use Rattle.std.proofs.Common.{◌≡◌, ℕ, zero, suc, ◌+◌, ◌-◌, ◌*◌, ◌/◌, ◌%◌, ◌^◌, ◌<◌, ◌≤◌, true, cond, le-leb, List, [], ◌∷◌, ◌++◌, Some, None, length, map, refl, sym, ap, ◌∙◌, arith}
-use Rattle.std.proofs.Math.Nat.{div-add-mod, div-div-eq-div-mul, div-eq_of_lt, mod-lt, pow-suc}
-use Rattle.std.proofs.Math.Numerals.{add-one}
-use Rattle.std.proofs.Math.Seq.{take-append_seam, get_or-append_seam}
-use Rattle.std.proofs.lemmas.Bool.Decides.{nat_tests}
+use Rattle.script_output.proofs.Common.{Fragment, IsFragment, List, None, Some, [], add-one, ap, are_digits, arith, before_last, cond, digit_at, digit_of, div-add-mod, div-div-eq-div-mul, div-eq_of_lt, ends_in_star, fragment_of_digits, fragment_text, get_or-append_seam, le-leb, length, length-map-range_with_len, map, map-range_with_len_more, mod-lt, nat_tests, pow-suc, range_with_len, refl, span, suc, sym, take-append_seam, true, value_of, wanted, zero, ℕ, ◌%◌, ◌*◌, ◌++◌, ◌+◌, ◌-◌, ◌/◌, ◌<◌, ◌==◌, ◌^◌, ◌∙◌, ◌∷◌, ◌≡◌, ◌≤◌}
 use Rattle.std.proofs.lemmas.List.{length-append}
-use Rattle.std.proofs.lemmas.List.FromFn.{length-map-range_with_len, map-range_with_len_more}
-use Rattle.std.specs.List.{range_with_len}
-use Rattle.std.specs.Prelude.{Ok, ◌==◌}
-use Rattle.mds_types.specs.Frag.{Fragment, IsFragment, digit_at, fragment_text, span}
-use Rattle.script_words.specs.Fragments.{before_last, ends_in_star, frag_of, fragment_of_digits}
-use Rattle.script_words.specs.Numbers.{are_digits, digit_of, value_of}
-use Rattle.script_words.specs.Reading.{wanted}
+use Rattle.std.specs.Prelude.{Ok}
+use Rattle.script_words.specs.Fragments.{frag_of}
 use Rattle.script_output.proofs.PrintedNumbers.{are_digits-append, value_of-append}
 
 -- the digits of the first k bits

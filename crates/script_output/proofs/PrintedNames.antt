@@ -1,11 +1,6 @@
 -- What is printed of a name or a target is read as its bytes.
-use Rattle.std.proofs.Common.{◌≡◌, ◌≢◌, eq-eqb, lt-ltb, leb, not, ◌&&◌, ◌/◌, ◌%◌, All, ℕ, ◌<◌, Bool, true, false, cond, eqb, List, [], ◌∷◌, ◌++◌, Some, refl, ap, ◌∙◌, arith}
-use Rattle.std.proofs.lemmas.Bool.Decides.{nat_tests}
-use Rattle.std.proofs.lemmas.List.Elements.{All-head, All-tail}
-use Rattle.std.specs.Fmt.{digit_glyph}
-use Rattle.script_words.specs.Escapes.{bytes_of, onto, hex_byte_of, hex_digit_of}
-use Rattle.script_words.proofs.EscapeLemmas.{bytes_of-plain, bytes_of-escape}
-use Rattle.script_output.specs.Escapes.{escaped, prints_plain}
+use Rattle.script_output.proofs.Common.{All, All-head, All-tail, Bool, List, Some, [], ap, arith, bytes_of-escape, bytes_of-plain, cond, digit_glyph, eq-eqb, eqb, escaped, false, hex_byte_of, hex_digit_of, leb, lt-ltb, nat_tests, not, onto, prints_plain, refl, true, ℕ, ◌%◌, ◌&&◌, ◌++◌, ◌/◌, ◌<◌, ◌∙◌, ◌∷◌, ◌≡◌, ◌≢◌}
+use Rattle.script_words.specs.Escapes.{bytes_of}
 
 -- a digit that is printed is read as itself
 glyph_read : (d : ℕ) → d < 16 → hex_digit_of (digit_glyph false d) ≡ d

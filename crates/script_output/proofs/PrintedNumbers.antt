@@ -1,11 +1,6 @@
 -- Numbers are read back from their digits.
-use Rattle.std.proofs.Common.{◌≡◌, ◌≢◌, ℕ, zero, suc, ◌+◌, ◌*◌, ◌/◌, ◌%◌, ◌^◌, ◌<◌, ◌≤◌, Bool, true, false, not, ◌&&◌, cond, eqb, ltb, List, [], ◌∷◌, ◌++◌, length, Some, refl, ap, sym, subst, ◌∙◌, arith, append_assoc, append-nil, length-append, ne_eqb, eqb-true, lt-ltb, le-leb}
-use Rattle.std.proofs.lemmas.Bool.Decides.{nat_tests}
-use Rattle.std.proofs.lemmas.Bool.{eqb-false}
-use Rattle.std.proofs.Math.Nat.{mul-zero, one-mul, pow-le-pow_left, div-add-mod, mod-lt, mod-eq_of_lt, div-eq_of_lt, div-lt_iff_lt-mul, pow-suc, pow-zero, zero-div}
-use Rattle.std.specs.List.{fold}
-use Rattle.std.specs.Fmt.{digits, digits_onto, digit_glyph}
-use Rattle.script_words.specs.Numbers.{digit_of, are_digits, value_of, is_shortest, number_of, octal_mode_of}
+use Rattle.script_output.proofs.Common.{Bool, List, Some, [], ap, append-nil, append_assoc, are_digits, arith, cond, digit_glyph, digit_of, digits_onto, div-add-mod, div-eq_of_lt, div-lt_iff_lt-mul, eqb, eqb-false, eqb-true, false, fold, is_shortest, le-leb, length, length-append, lt-ltb, ltb, mod-eq_of_lt, mod-lt, mul-zero, nat_tests, ne_eqb, not, number_of, octal_mode_of, one-mul, pow-le-pow_left, pow-suc, pow-zero, refl, subst, suc, sym, true, value_of, zero, zero-div, ℕ, ◌%◌, ◌&&◌, ◌*◌, ◌++◌, ◌+◌, ◌/◌, ◌<◌, ◌^◌, ◌∙◌, ◌∷◌, ◌≡◌, ◌≢◌, ◌≤◌}
+use Rattle.std.specs.Fmt.{digits}
 
 -- text is how n is written in the base: digits of that value, the first of them 0 only for the number 0
 record Spells (base n : ℕ) (text : List ℕ) : Type 0 where

@@ -1,6 +1,5 @@
 -- Bytes at the end of a text in memory.
-use Rattle.std.proofs.Common.{◌≡◌, List, ℕ, ◌++◌, Result, Ok, Err, IfOk, IsErr, ap, subst, ◌∙◌, append_assoc}
-use Rattle.script_output.specs.Writing.{Pushes, PushesMade}
+use Rattle.script_output.proofs.Common.{Err, IfOk, IsErr, List, Ok, Pushes, PushesMade, Result, ap, append_assoc, subst, ℕ, ◌++◌, ◌∙◌, ◌≡◌}
 
 -- of an error no more is asked than that the text begins as it was
 pub stopped : {E : Type 0} (old mid new begun bytes : List ℕ) (result : Result (Unit {0}) E) → IsErr result → mid ≡ old ++ begun → (rest : List ℕ) × (new ≡ mid ++ rest) → Pushes old new bytes result

@@ -1,7 +1,5 @@
 -- Numbers before a short text.
-use Rattle.std.proofs.Common.{◌≡◌, ℕ, ◌+◌, ◌^◌, ◌<◌, ◌≤◌, false, List, ◌++◌, length, drop, ap, arith, length-append, length-drop}
-use Rattle.std.proofs.lemmas.Fmt.{length-decimal-le}
-use Rattle.std.specs.Fmt.{decimal, digits}
+use Rattle.script_output.proofs.Common.{List, ap, arith, decimal, digits, drop, false, length, length-append, length-decimal-le, length-drop, ℕ, ◌++◌, ◌+◌, ◌<◌, ◌^◌, ◌≡◌, ◌≤◌}
 use Rattle.script_output.proofs.PrintedNumbers.{few_digits}
 
 -- there is room for so many bytes before a text

@@ -1,7 +1,5 @@
 -- One more write appended what it took.
-use Rattle.std.proofs.Common.{◌≡◌, ℕ, ◌+◌, ◌≤◌, List, ◌++◌, Option, Some, None, length, take, drop, ap, sym, subst, ◌∙◌, arith, append_assoc, length-drop}
-use Rattle.std.proofs.Math.Seq.{take-add}
-use Rattle.std.specs.Io.KnownBytes.{Appends}
+use Rattle.script_output.proofs.Common.{Appends, List, None, Option, Some, ap, append_assoc, arith, drop, length, length-drop, subst, sym, take, take-add, ℕ, ◌++◌, ◌+◌, ◌∙◌, ◌≡◌, ◌≤◌}
 
 -- what two writes appended, one after the other
 appends_both : (old mid new : Option (List ℕ)) (first second : List ℕ) → Appends old mid first → Appends mid new second → Appends old new (first ++ second)

@@ -1,8 +1,5 @@
 -- Where the first LF stands.
-use Rattle.std.proofs.Common.{◌≡◌, ℕ, zero, suc, ◌+◌, ◌<◌, ◌==◌, Bool, true, false, not, cond, List, [], ◌∷◌, length, refl, sym, ap, arith}
-use Rattle.std.specs.Prelude.{slice_index}
-use Rattle.std.specs.List.{prefix_len}
-use Rattle.script_text.specs.Looks.{is_not_lf}
+use Rattle.script_text.proofs.Common.{Bool, List, [], ap, arith, cond, false, is_not_lf, length, not, prefix_len, refl, slice_index, suc, sym, true, zero, ℕ, ◌+◌, ◌<◌, ◌==◌, ◌∷◌, ◌≡◌}
 
 not_lf : (b : Bool) → (b ≡ true → ⊥) → b ≡ false
 not_lf true isnt = absurd (isnt refl)

@@ -1,14 +1,7 @@
 -- Memory for names and targets is wanted only where all words of a command have their form, and for a command that holds some.
-use Rattle.std.proofs.Common.{◌≡◌, ℕ, Bool, true, false, cond, List, Option, Some, None, Result, Ok, Err, sym, ap, subst}
-use Rattle.std.specs.Result.{IsErr, IsErrAnd}
-use Rattle.script_words.specs.declared.faults.Fault.{Fault}
-use Rattle.script_words.specs.declared.faults.Fault.TheVariants.{NotCommand, BadWord}
-use Rattle.script_words.specs.declared.faults.ReadError.{ReadError}
+use Rattle.script_text.proofs.Common.{BadWord, Bool, Err, Fails, FailsForText, Fault, Gives, GivesText, HasForm, HasText, IsErr, IsErrAnd, List, None, NotCommand, Ok, Option, ReadError, Result, Some, ap, cond, fails_on, false, form_of_name, form_of_target, form_on, is_dash, name_of, subst, sym, target_of, text_of, true, two_texts_of, ℕ, ◌>>=◌, ◌≡◌}
 use Rattle.script_words.specs.declared.faults.ReadError.TheVariants as errors
-use Rattle.script_words.specs.Reading.{Fails, Gives, HasForm, ◌>>=◌}
-use Rattle.script_words.specs.Arguments.{after_name_of, after_text_of, is_dash, name_of, target_of, text_of, two_texts_of}
-use Rattle.script_words.proofs.FormLemmas.{fails_on, form_of_name, form_of_target, form_on}
-use Rattle.script_text.specs.Texts.{FailsForText, GivesText, HasText}
+use Rattle.script_words.specs.Arguments.{after_name_of, after_text_of}
 
 module _ {B : Type 0} (error : ReadError) where
   pub name_fails : (word : List ℕ) (made : List ℕ → B) → Fails error (text_of word) → Fails error (text_of word >>= λ bytes. (name_of bytes >>= λ name. Ok (made name)))

@@ -1,4 +1,5 @@
+pub mod Common
 pub mod FirstLf
+pub mod FormLemmas
 pub mod LineLemmas
 pub mod TextNames
-pub mod FormLemmas

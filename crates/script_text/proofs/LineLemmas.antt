@@ -1,14 +1,7 @@
 -- Lines, from the parts that a reader shows.
-use Rattle.std.proofs.Common.{◌≡◌, ℕ, ◌+◌, ◌<◌, ◌≤◌, Bool, true, false, not, ◌&&◌, cond, eqb, List, [], ◌∷◌, ◌++◌, Option, Some, None, IfSome, length, take, drop, refl, ap, sym, subst, ◌∙◌, arith, append_assoc, append-nil, length-append, length-drop, take-append-drop, eqb-true, suc, ◌≢◌, Err}
-use Rattle.std.specs.Io.{StartsWith}
-use Rattle.std.proofs.Math.Numerals.{one-add}
-use Rattle.std.specs.List.{prefix_len, list_all, onto_first}
-use Rattle.std.specs.Io.KnownBytes.{Consumes}
-use Rattle.script_text.specs.declared.reading.input.Shown.TheVariants.{More, LineEnd, InputEnd}
-use Rattle.script_text.specs.declared.reading.input.LineFault.{LineFault}
+use Rattle.script_text.proofs.Common.{Bool, Consumes, Err, GivesLine, IfSome, InputEnd, IsFirstLine, IsOfOneLine, IsTooLong, LineEnd, LineFault, List, More, Moves, None, Option, Overflows, Some, StartsWith, [], ap, append-nil, append_assoc, arith, cond, drop, eqb, eqb-true, false, is_not_lf, length, length-append, length-drop, list_all, not, one-add, onto_first, prefix_len, refl, subst, suc, sym, take, take-append-drop, true, ℕ, ◌&&◌, ◌++◌, ◌+◌, ◌<◌, ◌∙◌, ◌∷◌, ◌≡◌, ◌≢◌, ◌≤◌}
 use Rattle.script_text.specs.declared.reading.input.LineFault.TheVariants as faults
-use Rattle.script_text.specs.Input.{lines_of, IsFirstLine, IsTooLong, GivesLine}
-use Rattle.script_text.specs.Looks.{is_not_lf, IsOfOneLine, Overflows, Moves}
+use Rattle.script_text.specs.Input.{lines_of}
 
 -- a byte of one line, and the bytes after it
 line_parts : (byte : ℕ) (line : List ℕ) → IsOfOneLine (byte ∷ line) → (is_not_lf byte ≡ true) × IsOfOneLine line

@@ -1,10 +1,6 @@
 -- Words that are text name objects.
-use Rattle.std.proofs.Common.{◌≡◌, ℕ, Bool, true, false, cond, List, Some, None, refl, ap}
-use Rattle.std.proofs.lemmas.Str.{IsUtf8-from_is_utf8, is_utf8-from_IsUtf8}
+use Rattle.script_text.proofs.Common.{Bool, IsUtf8, IsUtf8-from_is_utf8, List, None, NotCommand, Some, ap, cond, false, is_utf8, is_utf8-from_IsUtf8, refl, true, wanted, ℕ, ◌≡◌}
 use Rattle.std.specs.Prelude.{Ok, Err}
-use Rattle.std.specs.Str.{IsUtf8, is_utf8}
-use Rattle.script_words.specs.declared.faults.Fault.TheVariants.{NotCommand}
-use Rattle.script_words.specs.Reading.{wanted}
 use Rattle.script_text.specs.StoreCommands.{text_name_of}
 
 pub named : (word : List ℕ) → IsUtf8 word → text_name_of word ≡ Ok word

@@ -1,6 +1,6 @@
 -- Reading escapes from the left.
-use Rattle.std.proofs.Common.{◌≡◌, ◌≢◌, ne_eqb, ℕ, ◌<◌, false, cond, eqb, List, [], ◌∷◌, ◌++◌, length, Option, Some, None, is_some, refl, ap, sym, ◌∙◌, append-nil, arith}
-use Rattle.script_words.specs.Escapes.{bytes_of, onto, hex_byte_of}
+use Rattle.script_words.proofs.Common.{List, None, Option, Some, [], ap, append-nil, arith, cond, eqb, false, hex_byte_of, is_some, length, ne_eqb, onto, refl, sym, ℕ, ◌++◌, ◌<◌, ◌∙◌, ◌∷◌, ◌≡◌, ◌≢◌}
+use Rattle.script_words.specs.Escapes.{bytes_of}
 
 -- bytes before those of the rest, where the rest stands for any
 abbrev pub before : List ℕ → Option (List ℕ) → Option (List ℕ)

@@ -1,14 +1,7 @@
 -- Which words have a command's form.
-use Rattle.std.proofs.Common.{◌≡◌, ℕ, Bool, true, false, cond, nat_lt, ◌==◌, List, length, Option, Some, None, is_some, Result, Ok, Err, refl, ap}
-use Rattle.std.specs.List.{list_all}
-use Rattle.mds_types.specs.Name.{fits_target}
-use Rattle.script_words.specs.declared.faults.Fault.{Fault}
-use Rattle.script_words.specs.declared.faults.Fault.TheVariants.{NotCommand, BadWord}
-use Rattle.script_words.specs.Escapes.{bytes_of}
-use Rattle.script_words.specs.declared.faults.ReadError.{ReadError}
+use Rattle.script_words.proofs.Common.{BadWord, Bool, Err, Fails, Fault, HasForm, List, None, NotCommand, Ok, Option, ReadError, Result, Some, ap, bytes_of, cond, false, fits_target, is_plain_name, is_some, length, list_all, nat_lt, refl, true, wanted, ℕ, ◌==◌, ◌>>=◌, ◌≡◌}
 use Rattle.script_words.specs.declared.faults.ReadError.TheVariants as errors
-use Rattle.script_words.specs.Reading.{Fails, HasForm, wanted, ◌>>=◌}
-use Rattle.script_words.specs.Arguments.{is_plain_name, name_of, target_of, text_of, two_texts_of}
+use Rattle.script_words.specs.Arguments.{name_of, target_of, text_of, two_texts_of}
 
 -- what has a form, and what follows it has one
 pub form_on : {A B : Type 0} (read : Result A Fault) (next : A → Result B Fault) → HasForm read → ((x : A) → HasForm (next x)) → HasForm (read >>= next)

@@ -1,10 +1,5 @@
 -- Digits in base two, as the bits of a fragment.
-use Rattle.std.proofs.Common.{◌≡◌, ℕ, ◌+◌, ◌-◌, ◌*◌, ◌^◌, ◌<◌, ◌≤◌, true, le-leb, Option, Some, None, SomeIff, List, [], ◌∷◌, length, sym, ap, subst, ◌∙◌, arith}
-use Rattle.std.proofs.Math.Nat.{mul-le-mul_right, mul-lt-mul_of_pos_right, mul-mod_left, pow-suc, pow-le-pow_right}
-use Rattle.std.proofs.lemmas.Nat.{pow-add, pow_pos}
-use Rattle.mds_types.specs.Frag.{Fragment, IsFragment, span}
-use Rattle.script_words.specs.Numbers.{digit_of, are_digits, value_of}
-use Rattle.script_words.specs.Fragments.{fragment_of_digits}
+use Rattle.script_words.proofs.Common.{Fragment, IsFragment, List, None, Option, Some, SomeIff, [], ap, are_digits, arith, digit_of, fragment_of_digits, le-leb, length, mul-le-mul_right, mul-lt-mul_of_pos_right, mul-mod_left, pow-add, pow-le-pow_right, pow-suc, pow_pos, span, subst, sym, true, value_of, ℕ, ◌*◌, ◌+◌, ◌-◌, ◌<◌, ◌^◌, ◌∙◌, ◌∷◌, ◌≡◌, ◌≤◌}
 use Rattle.script_words.proofs.NumberLemmas.{value_from, digits_below}
 
 -- n, carried on over binary digits, stays below n + 1 carried on over as many zeros

@@ -1,10 +1,6 @@
 -- Which bytes are a name, as a test.
-use Rattle.std.proofs.Common.{◌≡◌, ℕ, ◌<◌, ◌≤◌, Bool, true, false, not, ◌&&◌, ltb, List, length, refl, ap, sym, lt-ltb, ltb-true, Ok, Err}
-use Rattle.std.proofs.lemmas.Bool.{le-ltb}
-use Rattle.std.specs.List.{list_all}
-use Rattle.mds_types.specs.Name.{IsName, is_dots, fits_name}
-use Rattle.script_words.specs.declared.faults.Fault.TheVariants.{BadWord}
-use Rattle.script_words.specs.Arguments.{is_plain_name, name_of}
+use Rattle.script_words.proofs.Common.{BadWord, Bool, Err, IsName, List, Ok, ap, false, fits_name, is_dots, is_plain_name, le-ltb, length, list_all, lt-ltb, ltb, ltb-true, not, refl, sym, true, ℕ, ◌&&◌, ◌<◌, ◌≡◌, ◌≤◌}
+use Rattle.script_words.specs.Arguments.{name_of}
 
 -- three tests in a row, the last negated
 parts : (a b c : Bool) → (a && b && not c) ≡ true → (a ≡ true) × (b ≡ true) × (c ≡ false)

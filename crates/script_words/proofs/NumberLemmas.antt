@@ -1,10 +1,5 @@
 -- Digits from the left.
-use Rattle.std.proofs.Common.{◌≡◌, ◌≢◌, lt-ltb, le-leb, IfSome, ℕ, ◌+◌, ◌*◌, ◌<◌, ◌≤◌, true, ltb, ltb-true, Option, Some, None, SomeIff, List, [], ◌∷◌, length, drop, get_or, ap, ◌∙◌, arith, drop-cons}
-use Rattle.std.proofs.Math.Nat.{mul-le-mul_left}
-use Rattle.std.proofs.Math.Numerals.{add-one}
-use Rattle.std.proofs.lemmas.Bool.{and_parts}
-use Rattle.std.specs.List.{fold}
-use Rattle.script_words.specs.Numbers.{digit_of, are_digits, value_of, octal_mode_of}
+use Rattle.script_words.proofs.Common.{IfSome, List, None, Option, Some, SomeIff, [], add-one, and_parts, ap, are_digits, arith, digit_of, drop, drop-cons, fold, get_or, le-leb, length, lt-ltb, ltb, ltb-true, mul-le-mul_left, octal_mode_of, true, value_of, ℕ, ◌*◌, ◌+◌, ◌<◌, ◌∙◌, ◌∷◌, ◌≡◌, ◌≢◌, ◌≤◌}
 
 -- n, carried on over more digits
 abbrev pub value_from : ℕ → ℕ → List ℕ → ℕ

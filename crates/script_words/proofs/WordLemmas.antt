@@ -1,8 +1,6 @@
 -- The first word of a line.
-use Rattle.std.proofs.Common.{◌≡◌, ℕ, ◌+◌, ◌<◌, Bool, true, false, not, cond, List, [], ◌∷◌, length, take, drop, filter, refl, ap, sym, ◌∙◌, arith}
-use Rattle.std.proofs.Math.Numerals.{one-add}
-use Rattle.std.specs.List.{prefix_len, slice_split, onto_first}
-use Rattle.script_words.specs.Words.{words_of, is_space, is_not_space, is_word}
+use Rattle.script_words.proofs.Common.{Bool, List, [], ap, arith, cond, drop, false, filter, is_not_space, is_space, is_word, length, not, one-add, onto_first, prefix_len, refl, slice_split, sym, take, true, ℕ, ◌+◌, ◌<◌, ◌∙◌, ◌∷◌, ◌≡◌}
+use Rattle.script_words.specs.Words.{words_of}
 
 -- spaces before a word say nothing
 words_of-skip : (bytes : List ℕ) → words_of bytes ≡ words_of (drop (prefix_len is_space bytes) bytes)

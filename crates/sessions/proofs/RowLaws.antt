@@ -1,18 +1,8 @@
 -- What the table without its rooms says of the sessions with them.
-use Rattle.std.proofs.Common.{◌≡◌, ◌≢◌, ℕ, ◌<◌, ◌==◌, ◌++◌, Bool, true, false, cond, ◌&&◌, T, List, [], ◌∷◌, length, set, get_or, map as list_map, Option, Some, None, option_map, refl, sym, ap, ap₂, ◌∙◌, subst, eqb-true, eq-eqb, arith}
-use Rattle.std.proofs.lemmas.Bool.{false≢true}
-use Rattle.std.proofs.lemmas.Option.{same_Some, none-some}
-use Rattle.std.proofs.lemmas.List.{length-append, length-set, get_or-set_other, get_or_append_left, get_or_default}
-use Rattle.std.proofs.lemmas.Grind.{get_or-set_at}
-use Rattle.std.proofs.Math.Seq.{get_or-append_seam}
-use Rattle.std.specs.Ordering.{nat_cmp, is_lt, eq_by_cmp}
-use Rattle.std.specs.Cmp.{nat_cmp_total, unsigned_tied}
+use Rattle.sessions.proofs.Common.{AreIndexed, Bool, List, None, Option, Reply, Row, Session, Some, T, [], ap, ap₂, arith, below_all, cond, entries_sorted, eq-eqb, eq_by_cmp, eqb-true, false, false≢true, find, get-empty, get-entries, get-from_sorted, get-insert, get_or, get_or-append_seam, get_or-set_at, get_or-set_other, get_or_append_left, get_or_default, is_lt, is_sorted, length, length-append, length-set, nat_cmp, nat_cmp-IsAntisymmetric, nat_cmp_total, no_row, no_session, none-some, noted, noted_row, option_map, refl, row_at, row_in, row_or_none, same_Some, same_map, set, subst, sym, trimmed, trimmed_found, trimmed_row, true, unsigned_tied, ℕ, ◌&&◌, ◌++◌, ◌<◌, ◌==◌, ◌∙◌, ◌∷◌, ◌≡◌, ◌≢◌}
+use Rattle.std.proofs.Common.{map as list_map}
 use Rattle.std.specs.FinMap as map
-use Rattle.std.specs.FinMap.{find, is_sorted, nat_cmp-IsAntisymmetric, entries_sorted, get-entries, get-from_sorted, get-empty, get-insert, same_map}
-use Rattle.std.specs.FinMap.Entries.{below_all}
-use Rattle.mds_types.specs.declared.replies.Reply.{Reply}
-use Rattle.sessions.specs.Table.{Row, no_row, row_or_none, row_in, noted_row, trimmed_row, noted, trimmed, trimmed_found}
-use Rattle.sessions.specs.Rooms.{AreIndexed, Session, no_session, row_at, rows}
+use Rattle.sessions.specs.Rooms.{rows}
 
 -- the rows by client
 abbrev bare : List Session → List (ℕ × ℕ) → List (ℕ × Row)

@@ -1,27 +1,7 @@
 -- Laws of the table: that of no requests, that with one more, and what it tells.
-use Rattle.std.specs.Prelude.{◌≡◌, ℕ, ◌<◌, ◌≤◌, Bool, true, false, cond, ◌&&◌, ◌||◌, ◌==◌, max, List, [], ◌∷◌, ◌++◌, length, Option, Some, None, refl}
-use Rattle.std.specs.Ordering.{nat_cmp, is_le, eq_by_cmp}
-use Rattle.std.specs.declared.cmp.Ordering.{Ordering}
-use Rattle.std.specs.declared.cmp.Ordering.TheVariants.{Less, Equal, Greater}
-use Rattle.std.specs.Cmp.{nat_cmp_total, unsigned_tied, nat_eq_equiv, ranked}
+use Rattle.sessions.proofs.Common.{Entry, Equal, Greater, IsKeptFor, IsReplyAt, IsSeen, IsTableOf, Kept, KeptReply, Less, New, Ordering, Reply, Row, Seen, SeesInTable, Table, Trimmed, ap, arith, eq-eqb, eq_by_cmp, eqb-true, false≢true, get-empty, get-insert, get-retain_keys, get_or-append_seam, get_or_append_left, inl, inr, is_from, is_le, is_pair, kept_in, le_from_is_le, length-append, list_any-append, mark, max, nat_cmp, nat_cmp-IsAntisymmetric, nat_cmp_total, nat_eq_equiv, noted, noted_row, or-false, ranked, row_in, row_or_none, subst, sym, trimmed, trimmed_found, trimmed_row, unsigned_tied, ⊎_elim, ◌||◌, ◌∙◌, ◌≤◌}
+use Rattle.std.specs.Prelude.{◌≡◌, ℕ, ◌<◌, Bool, true, false, cond, ◌&&◌, ◌==◌, List, [], ◌∷◌, ◌++◌, length, Option, Some, None, refl}
 use Rattle.std.specs.FinMap as map
-use Rattle.std.specs.FinMap.{nat_cmp-IsAntisymmetric, get-empty, get-insert, get-retain_keys}
-use Rattle.std.proofs.Common.{sym, ap, subst, ◌∙◌, inl, inr, ⊎_elim, arith, eqb-true, eq-eqb}
-use Rattle.std.proofs.lemmas.Bool.{false≢true}
-use Rattle.std.proofs.lemmas.List.{length-append, get_or_append_left}
-use Rattle.std.proofs.lemmas.List.Folds.{list_any-append}
-use Rattle.std.proofs.lemmas.Map.Keys.{le_from_is_le}
-use Rattle.std.proofs.Math.Bool.{or-false}
-use Rattle.std.proofs.Math.Seq.{get_or-append_seam}
-use Rattle.sorted_map.specs.SortedMap.{is_from}
-use Rattle.mds_types.specs.declared.replies.Reply.{Reply}
-use Rattle.mds_types.specs.declared.entries.Entry.{Entry}
-use Rattle.mds_types.specs.History.{mark, is_pair}
-use Rattle.sessions.specs.declared.clients.KeptReply.{KeptReply}
-use Rattle.sessions.specs.declared.clients.Seen.{Seen}
-use Rattle.sessions.specs.declared.clients.Seen.TheVariants.{New, Kept, Trimmed}
-use Rattle.sessions.specs.Table.{Row, Table, row_or_none, row_in, kept_in, noted_row, trimmed_row, noted, trimmed, trimmed_found, IsReplyAt, IsKeptFor, IsTableOf}
-use Rattle.sessions.specs.Seen.{SeesInTable, IsSeen}
 
 is_from_le : {a b : ℕ} → a ≤ b → is_le (nat_cmp a b) ≡ true
 is_from_le {a} {b} low = go (nat_cmp a b) refl

@@ -1,7 +1,5 @@
 -- What an edit of one chunk does to a row of chunks.
-use Rattle.std.proofs.Common.{◌≡◌, ℕ, zero, suc, ◌+◌, ◌-◌, ◌*◌, ◌<◌, ◌≤◌, List, [], ◌∷◌, ◌++◌, length, take, drop, get_or, set, insert, remove, refl, ap, subst, ◌∙◌, arith, length-append, length-set, length-take-le, length-drop}
-use Rattle.std.proofs.lemmas.List.Edits.{length-insert, length-remove, get_or-remove_below}
-use Rattle.sorted_map.specs.Chunks.{flat, AllFew, total, over, IsCounted}
+use Rattle.sorted_map.proofs.Common.{AllFew, IsCounted, List, [], ap, arith, drop, flat, get_or, get_or-remove_below, insert, length, length-append, length-drop, length-insert, length-remove, length-set, length-take-le, over, refl, remove, set, subst, suc, take, total, zero, ℕ, ◌*◌, ◌++◌, ◌+◌, ◌-◌, ◌<◌, ◌∙◌, ◌∷◌, ◌≡◌, ◌≤◌}
 
 module _ {A : Type 0} where
   pub flat_length : (cs : List (List A)) → length (flat cs) ≡ total length cs

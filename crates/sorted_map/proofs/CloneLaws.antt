@@ -1,12 +1,7 @@
 -- What copies of pairs in order are.
-use Rattle.std.proofs.Common.{◌≡◌, ℕ, suc, Bool, true, false, T, List, [], ◌∷◌, ◌++◌, length, Ordering, is_lt, refl, sym, ap, subst, arith}
-use Rattle.std.specs.Cmp.{IsTotalOrder}
-use Rattle.std.specs.List.{AllZip}
+use Rattle.sorted_map.proofs.Common.{AllFew, AllSome, AllZip, Bool, ClonePair, IsClone, IsCounted, IsTotalOrder, List, Ordering, Shown, T, [], ap, arith, false, flat, is_lt, length, over, refl, subst, suc, sym, total, true, ℕ, ◌++◌, ◌∷◌, ◌≡◌}
 use Rattle.std.specs.FinMap.Entries.{is_sorted}
 use Rattle.sorted_map.proofs.Bools.{left_of, right_of, both_of, true_of, false_of}
-use Rattle.sorted_map.specs.SortedMap.{Shown, IsClone}
-use Rattle.sorted_map.specs.Chunks.{flat, total, over, AllSome, AllFew, IsCounted}
-use Rattle.sorted_map.specs.Clones.{ClonePair}
 use Rattle.sorted_map.proofs.PlaceLaws.{less, below_less}
 
 module _ {K V : Type 0} (C : K → K → Type 0) (D : V → V → Type 0) where

@@ -1,14 +1,7 @@
 -- When a test of pairs tells maps apart.
-use Rattle.std.proofs.Common.{◌≡◌, Bool, true, T, List, Decides, Ordering, is_eq, sym, ap, ◌∙◌, subst}
-use Rattle.std.proofs.lemmas.Bool.{and_from, and_parts}
-use Rattle.std.proofs.lemmas.Slice.Eq.{slice_eq-Decides}
-use Rattle.std.specs.Cmp.{IsTotalOrder, Equal-is, tied_itself}
-use Rattle.std.specs.Cmp.Lexicographic.{pointwise}
-use Rattle.std.specs.Ordering.{eq_by_cmp}
+use Rattle.sorted_map.proofs.Common.{Bool, Decides, Equal-is, IsAntisymmetric, IsTotalOrder, List, Ordering, T, TellsApart, and_from, and_parts, ap, entries-from_sorted, eq_by_cmp, is_eq, pairs_eq, pointwise, slice_eq-Decides, subst, sym, tied_itself, true, ◌∙◌, ◌≡◌}
 use Rattle.std.specs.FinMap as map
-use Rattle.std.specs.FinMap.{IsAntisymmetric, entries-from_sorted}
 use Rattle.std.specs.FinMap.Entries.{is_sorted}
-use Rattle.sorted_map.specs.SortedMap.{TellsApart, pairs_eq}
 
 -- `==` at keys in an exact order
 pub keys_told : {K : Type 0} {R : K → K → Ordering} → IsTotalOrder R → IsAntisymmetric R → (E : K → K → Bool) → ((x y : K) → E x y ≡ eq_by_cmp R x y) → TellsApart E

@@ -1,9 +1,6 @@
 -- What an edit in one chunk is among all the items.
-use Rattle.std.proofs.Common.{◌≡◌, ℕ, zero, suc, ◌+◌, ◌-◌, ◌<◌, ◌≤◌, List, [], ◌∷◌, ◌++◌, length, drop, get_or, slice_get, set, insert, remove, refl, sym, ap, subst, ◌∙◌, arith, length-append, append_assoc}
-use Rattle.std.specs.Prelude.{◌==◌, false}
-use Rattle.std.proofs.lemmas.Bool.{false≢true}
-use Rattle.std.proofs.lemmas.List.{append-nil}
-use Rattle.sorted_map.specs.Chunks.{flat, start, AllSome, with_value}
+use Rattle.sorted_map.proofs.Common.{AllSome, List, [], ap, append-nil, append_assoc, arith, drop, false≢true, flat, get_or, insert, length, length-append, refl, remove, set, slice_get, start, subst, suc, sym, with_value, zero, ℕ, ◌++◌, ◌+◌, ◌-◌, ◌<◌, ◌==◌, ◌∙◌, ◌∷◌, ◌≡◌, ◌≤◌}
+use Rattle.std.specs.Prelude.{false}
 use Rattle.sorted_map.proofs.ChunkLaws.{got, got_default}
 
 module _ {A : Type 0} where

@@ -1,13 +1,8 @@
 -- The chunk of a key, and what a place in it is among all the pairs.
-use Rattle.std.proofs.Common.{◌≡◌, ◌⊎◌, inl, inr, ℕ, zero, suc, ◌+◌, ◌<◌, true, false, T, List, [], ◌∷◌, ◌++◌, length, get_or, Result, Ok, Err, Ordering, Less, Equal, Greater, is_lt, refl, sym, ap, ◌∙◌, subst, arith}
-use Rattle.std.proofs.lemmas.Bool.{false≢true}
-use Rattle.std.specs.Cmp.{IsTotalOrder, alike_right}
-use Rattle.std.specs.FinMap.Entries.{is_sorted, below_all}
+use Rattle.sorted_map.proofs.Common.{AllSome, Equal, Err, Greater, IsAbove, IsAt, IsGap, IsHome, IsPlace, IsTotalOrder, Less, List, Ok, Ordering, Result, T, [], alike_right, ap, arith, below_all, false, false≢true, flat, get_or, inl, inr, is_lt, length, place_in, refl, start, starts_above, subst, suc, sym, true, zero, ℕ, ◌++◌, ◌+◌, ◌<◌, ◌∙◌, ◌∷◌, ◌≡◌, ◌⊎◌}
+use Rattle.std.specs.FinMap.Entries.{is_sorted}
 use Rattle.sorted_map.proofs.Bools.{left_of, right_of, both_of}
-use Rattle.sorted_map.specs.Places.{IsAt, IsGap, IsPlace}
-use Rattle.sorted_map.specs.Chunks.{flat, start, AllSome}
 use Rattle.sorted_map.proofs.FlatLaws.{some_at}
-use Rattle.sorted_map.specs.Homes.{IsAbove, IsHome, starts_above, place_in}
 use Rattle.sorted_map.proofs.PlaceLaws.{less, turned}
 
 -- ---- a place in the chunk of a key is its place among all

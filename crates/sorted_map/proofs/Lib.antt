@@ -1,6 +1,7 @@
 pub mod Bools
 pub mod ChunkLaws
 pub mod CloneLaws
+pub mod Common
 pub mod ContentLaws
 pub mod Decided
 pub mod EqualLaws

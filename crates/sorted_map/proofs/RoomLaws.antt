@@ -1,8 +1,5 @@
 -- What an edit of a row of chunks does to its room.
-use Rattle.std.proofs.Common.{◌≡◌, ℕ, zero, suc, ◌+◌, ◌-◌, ◌<◌, ◌≤◌, List, [], ◌∷◌, ◌++◌, length, take, drop, get_or, set, insert, remove, refl, sym, ap, ◌∙◌, subst, arith, length-append, length-set, length-take-le, length-drop}
-use Rattle.std.proofs.lemmas.List.Edits.{length-insert, length-remove}
-use Rattle.sorted_map.specs.Chunks.{flat, start, AllSome, load, over, room_by}
-use Rattle.std.proofs.lemmas.List.{take-append-drop}
+use Rattle.sorted_map.proofs.Common.{AllSome, List, [], ap, arith, drop, flat, get_or, insert, length, length-append, length-drop, length-insert, length-remove, length-set, length-take-le, load, over, refl, remove, room_by, set, start, subst, suc, sym, take, take-append-drop, zero, ℕ, ◌++◌, ◌+◌, ◌-◌, ◌<◌, ◌∙◌, ◌∷◌, ◌≡◌, ◌≤◌}
 use Rattle.sorted_map.proofs.FlatLaws.{flat_split, start_split, start_split_next, get_split, get_split_next, some_set, some_insert}
 
 -- what is lost by so much more load, and by so many spare chunks less

@@ -1,15 +1,8 @@
 -- A new directory comes in below the leaves that stand.
-use Rattle.std.specs.Prelude.{◌≡◌, ℕ, ◌||◌, ◌==◌, true, false, is_some}
-use Rattle.std.proofs.Common.{sym, ap, ◌∙◌}
+use Rattle.subtree_map.proofs.Common.{Covers, HasAuthority, Home, Homes, IsLive, IsSubtrees, IsTable, Leaf, MayCome, NearestRoot, Rank, Roots, ap, false, inherited, is_known, is_some, itself, still_known, sym, true, ℕ, ◌==◌, ◌||◌, ◌∙◌, ◌≡◌}
 use Rattle.std.specs.FinMap as map
-use Rattle.mds_types.specs.declared.ids.Rank.{Rank}
 use Rattle.sorted_map.proofs.NatKeys as nat
-use Rattle.inode_table.specs.declared.dirs.Home.{Home}
-use Rattle.inode_table.specs.Dirs.{Homes, Covers, IsLive, IsTable, MayCome, is_known}
-use Rattle.mds_types.specs.Leaf.{Leaf}
-use Rattle.subtree_map.specs.Authority.{Roots, NearestRoot, itself, inherited, HasAuthority, IsSubtrees}
 use Rattle.subtree_map.proofs.Nearest.{holder_is_leaf}
-use Rattle.inode_table.proofs.Tables.{still_known}
 
 -- a directory that comes in was not known
 unknown : (homes : Homes) (d : ℕ) (home : Home) → MayCome homes d home → (x : ℕ) → is_known homes x ≡ true → x ≡ d → ⊥

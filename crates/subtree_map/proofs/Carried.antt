@@ -1,14 +1,7 @@
 -- Leaves keep their authority where others come in their place: an induction on the way up.
-use Rattle.std.specs.Prelude.{◌≡◌, Option, Some, None}
-use Rattle.std.proofs.Common.{refl, ap, ◌∙◌}
+use Rattle.subtree_map.proofs.Common.{Covers, HasAuthority, HoldsDentry, Home, Homes, Ino, IsLive, IsTable, KeepAuthority, Leaf, NearestRoot, None, Option, Rank, Roots, Some, ap, inherited, itself, ◌∙◌, ◌≡◌}
+use Rattle.std.proofs.Common.{refl}
 use Rattle.std.specs.FinMap as map
-use Rattle.mds_types.specs.declared.ids.Ino.{Ino}
-use Rattle.mds_types.specs.declared.ids.Rank.{Rank}
-use Rattle.inode_table.specs.declared.dirs.Home.{Home}
-use Rattle.inode_table.specs.Dirs.{Homes, Covers, IsLive, IsTable}
-use Rattle.mds_types.specs.Leaf.{Leaf}
-use Rattle.subtree_map.specs.Authority.{Roots, HoldsDentry, NearestRoot, itself, inherited, HasAuthority}
-use Rattle.subtree_map.specs.Changes.{KeepAuthority}
 use Rattle.subtree_map.proofs.Nearest.{holder_is_leaf}
 
 module _ (old new : Roots) (homes : Homes) (covers later : Covers) (table : IsTable homes covers) (Becomes : Leaf → Leaf → Type 0)

@@ -1,16 +1,6 @@
 -- Children put in the place of a root, one after the other.
-use Rattle.std.specs.Prelude.{◌≡◌, ◌≢◌, ℕ, ◌+◌, ◌-◌, ◌^◌, ◌≤◌, if◌then◌else◌, Option, Some, None, IsSome, is_some, refl}
-use Rattle.std.proofs.Common.{inl, inr, sym, ap, ◌∙◌, arith}
-use Rattle.std.proofs.lemmas.Bool.{cases_lt}
+use Rattle.subtree_map.proofs.Common.{AreChildrenSet, FitsSplit, Fragment, IsRootSplit, IsSome, Leaf, None, Option, Rank, Roots, Some, ap, arith, cases_lt, child_of, get_beside, get_left, get_put, get_removed, if◌then◌else◌, inl, inr, is_some, leaf_of, refl, same_or_apart, sym, ℕ, ◌+◌, ◌-◌, ◌^◌, ◌∙◌, ◌≡◌, ◌≢◌, ◌≤◌}
 use Rattle.std.specs.FinMap as map
-use Rattle.mds_types.specs.declared.ids.Rank.{Rank}
-use Rattle.mds_types.specs.Frag.{Fragment, child_of}
-use Rattle.fragtree.specs.FragTree.{FitsSplit}
-use Rattle.mds_types.specs.Leaf.{Leaf}
-use Rattle.subtree_map.specs.Authority.{Roots}
-use Rattle.subtree_map.specs.Changes.{IsRootSplit, leaf_of}
-use Rattle.subtree_map.specs.Rows.{AreChildrenSet}
-use Rattle.mds_types.proofs.LeafLaws.{get_put, get_beside, get_removed, get_left, same_or_apart}
 use Rattle.subtree_map.proofs.Options.{not_none, value_of}
 
 module _ (d : ℕ) (f : Fragment) (nb : ℕ) (rank : Rank) where

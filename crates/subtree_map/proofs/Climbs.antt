@@ -1,18 +1,6 @@
 -- The way up from a leaf, a leaf and its directory's home at a time.
-use Rattle.std.specs.Prelude.{◌≡◌, ◌↔◌, ℕ, option_map, true, false, Option, Some, None, refl}
-use Rattle.std.proofs.Common.{sym, ap, subst, ◌∙◌}
-use Rattle.std.proofs.lemmas.Option.{same_Some}
+use Rattle.subtree_map.proofs.Common.{Covers, FindsAbove, FindsRow, Fragment, HoldsDentry, Home, Homes, Ino, IsLeafAt, IsLive, IsLocated, IsNearestRow, IsPick, IsSubtrees, IsTable, Leaf, NearestRoot, None, Option, Rank, Roots, Some, ap, false, hash_of, is_known, leaves_of, option_map, refl, same_Some, subst, sym, true, ℕ, ◌↔◌, ◌∙◌, ◌≡◌}
 use Rattle.std.specs.FinMap as map
-use Rattle.mds_types.specs.declared.ids.Ino.{Ino}
-use Rattle.mds_types.specs.declared.ids.Rank.{Rank}
-use Rattle.mds_types.specs.Frag.{Fragment}
-use Rattle.mds_types.specs.Leaf.{Leaf}
-use Rattle.fragtree.specs.FragTree.{IsPick}
-use Rattle.namehash.specs.Rjenkins.{hash_of}
-use Rattle.inode_table.specs.declared.dirs.Home.{Home}
-use Rattle.inode_table.specs.Dirs.{Homes, Covers, IsLeafAt, IsLive, IsTable, is_known, leaves_of}
-use Rattle.subtree_map.specs.Authority.{Roots, HoldsDentry, IsLocated, IsSubtrees, NearestRoot}
-use Rattle.subtree_map.specs.Climb.{FindsAbove, FindsRow, IsNearestRow}
 use Rattle.subtree_map.proofs.Nearest.{one_holder, one_root, parent_known, some_root}
 
 module _ (homes : Homes) (covers : Covers) where

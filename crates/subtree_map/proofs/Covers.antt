@@ -1,16 +1,8 @@
 -- The leaves of directories where one gets others.
-use Rattle.std.specs.Prelude.{◌≡◌, ◌≢◌, ℕ, ◌+◌, ◌*◌, ◌%◌, ◌^◌, ◌<◌, ◌≤◌, true, false, cond, Bool, List, [], ◌∷◌, length, zero, suc, refl}
-use Rattle.std.proofs.Common.{sym, ap, subst, ◌∙◌, arith}
-use Rattle.std.proofs.Math.Nat.{mul-le-mul_left}
+use Rattle.subtree_map.proofs.Common.{Bool, CanMerge, Contains, Contains-from_range, Covers, FitsSplit, Fragment, HasLeaf, IsChild, IsFragment, IsTree, [], ap, arith, between, cond, false, leaves_inside, leaves_of, lies_inside, mul-le-mul_left, or_whole, range_from_inside, refl, some_pick, span, span-split, span_pos, subst, suc, sym, true, zero, ℕ, ◌%◌, ◌*◌, ◌+◌, ◌^◌, ◌∙◌, ◌∷◌, ◌≡◌, ◌≢◌, ◌≤◌}
+use Rattle.std.specs.Prelude.{◌<◌, List, length}
 use Rattle.std.specs.FinMap as map
-use Rattle.mds_types.specs.Frag.{Fragment, IsFragment, Contains, span}
-use Rattle.mds_types.proofs.Fragments.{span-split}
-use Rattle.fragtree.specs.FragTree.{HasLeaf, IsTree, IsChild, FitsSplit, CanMerge, leaves_inside, lies_inside}
-use Rattle.fragtree.proofs.Ranges.{span_pos, Contains-from_range, range_from_inside}
-use Rattle.fragtree.proofs.TreeLaws.{some_pick}
-use Rattle.fragtree.proofs.Tilings.{between}
 use Rattle.sorted_map.proofs.NatKeys as nat
-use Rattle.inode_table.specs.Dirs.{Covers, leaves_of, or_whole}
 
 pub leaves_here : (covers : Covers) (d : ℕ) (to : List Fragment) → leaves_of (map.insert covers d to) d ≡ to
 leaves_here covers d to = ap or_whole (nat.get_put covers d to)

@@ -1,13 +1,6 @@
 -- What a leaf that is made a root takes from the root above it.
-use Rattle.std.specs.Prelude.{◌≡◌, ◌⊎◌, Some, None, IsSome, is_some}
-use Rattle.std.proofs.Common.{inl, inr, sym, ap, subst, ◌∙◌}
+use Rattle.subtree_map.proofs.Common.{Covers, Homes, IsCutOff, IsHanded, IsLive, IsSome, IsSubtrees, Leaf, NearestRoot, None, Rank, Roots, Some, ap, get_beside, get_put, inherited, inl, inr, is_some, itself, same_or_apart, subst, sym, ◌∙◌, ◌≡◌, ◌⊎◌}
 use Rattle.std.specs.FinMap as map
-use Rattle.mds_types.specs.declared.ids.Rank.{Rank}
-use Rattle.inode_table.specs.Dirs.{Homes, Covers, IsLive}
-use Rattle.mds_types.specs.Leaf.{Leaf}
-use Rattle.subtree_map.specs.Authority.{Roots, IsSubtrees, NearestRoot, itself, inherited}
-use Rattle.subtree_map.specs.Changes.{IsCutOff, IsHanded}
-use Rattle.mds_types.proofs.LeafLaws.{get_put, get_beside, same_or_apart}
 use Rattle.subtree_map.proofs.Options.{not_none, value_of}
 
 pub cut_off : (old new : Roots) (root : Leaf) (rank : Rank) → new ≡ map.insert old root rank → IsCutOff old new root

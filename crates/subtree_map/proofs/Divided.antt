@@ -1,12 +1,7 @@
 -- Regions divide the leaves, and roots bound them.
-use Rattle.std.specs.Prelude.{◌≡◌, ◌≢◌, ℕ, true, ◌||◌, is_some, IsSome, Some}
-use Rattle.std.proofs.Common.{sym, ap, subst, ◌∙◌}
+use Rattle.subtree_map.proofs.Common.{BoundsOneRegion, Covers, HasOneRoot, HoldsDentry, Home, Homes, IsInOneRegion, IsLive, IsSome, IsSubtrees, IsTable, Leaf, NearestRoot, Roots, Some, ap, is_known, is_some, subst, sym, true, ℕ, ◌||◌, ◌∙◌, ◌≡◌, ◌≢◌}
 use Rattle.std.specs.FinMap as map
 use Rattle.sorted_map.proofs.NatKeys as nat
-use Rattle.inode_table.specs.declared.dirs.Home.{Home}
-use Rattle.inode_table.specs.Dirs.{Homes, Covers, IsLive, IsTable, is_known}
-use Rattle.mds_types.specs.Leaf.{Leaf}
-use Rattle.subtree_map.specs.Authority.{Roots, HoldsDentry, NearestRoot, IsSubtrees, HasOneRoot, IsInOneRegion, BoundsOneRegion}
 use Rattle.subtree_map.proofs.Options.{value_of, one_value}
 use Rattle.subtree_map.proofs.Nearest.{is_ranked, one_root, some_root, one_holder, some_holder, holder_is_leaf}
 

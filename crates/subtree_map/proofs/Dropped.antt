@@ -1,16 +1,7 @@
 -- A directory goes that is no one's parent: the leaves of the others keep their authority.
-use Rattle.std.specs.Prelude.{◌≡◌, ◌≢◌, ◌⊎◌, ℕ, ◌||◌, ◌==◌, is_some, IsSome, Option}
-use Rattle.std.proofs.Common.{inl, inr, sym, ap, subst, ◌∙◌}
+use Rattle.subtree_map.proofs.Common.{AreGone, Covers, DropsSoundly, HasAuthority, HasLeaf, Home, Homes, Ino, IsChildless, IsLive, IsPick, IsSome, IsSubtrees, IsTable, KeepAuthority, Leaf, NearestRoot, Option, Roots, StaysElsewhere, ap, hash_of, inherited, inl, inr, is_some, itself, leaf_of, subst, sym, ℕ, ◌==◌, ◌||◌, ◌∙◌, ◌≡◌, ◌≢◌, ◌⊎◌}
 use Rattle.std.specs.FinMap as map
-use Rattle.mds_types.specs.declared.ids.Ino.{Ino}
-use Rattle.fragtree.specs.FragTree.{HasLeaf, IsPick}
-use Rattle.namehash.specs.Rjenkins.{hash_of}
 use Rattle.sorted_map.proofs.NatKeys as nat
-use Rattle.inode_table.specs.declared.dirs.Home.{Home}
-use Rattle.inode_table.specs.Dirs.{Homes, Covers, IsLive, IsTable, IsChildless}
-use Rattle.mds_types.specs.Leaf.{Leaf}
-use Rattle.subtree_map.specs.Authority.{Roots, NearestRoot, itself, inherited, HasAuthority, IsSubtrees}
-use Rattle.subtree_map.specs.Changes.{AreGone, DropsSoundly, KeepAuthority, StaysElsewhere, leaf_of}
 use Rattle.subtree_map.proofs.Options.{not_none, value_of}
 use Rattle.subtree_map.proofs.Covers.{leaves_left}
 

@@ -1,19 +1,9 @@
 -- Leaves that get a rank where they have none.
-use Rattle.std.specs.Prelude.{◌≡◌, Bool, true, false, Option, Some, None, is_some, ℕ, zero, suc, ◌+◌, ◌^◌, ◌<◌, ◌≤◌, List, [], ◌∷◌, ◌++◌, length, refl}
-use Rattle.std.proofs.Common.{inl, inr, sym, ap, subst, ◌∙◌, arith}
+use Rattle.subtree_map.proofs.Common.{AreFilled, Bool, Contains, Contains-append_cases, Contains-append_left, Contains-append_right, Fragment, HasLeaf, IsFilled, IsFragment, IsPick, IsTree, Leaf, None, Option, Rank, Roots, Some, Tiles, [], ap, arith, false, get_beside, get_put, inl, inr, is_some, leaf_of, refl, same_or_apart, span, span_pos, subst, suc, sym, true, zero, ℕ, ◌++◌, ◌+◌, ◌^◌, ◌∙◌, ◌∷◌, ◌≡◌, ◌≤◌}
+use Rattle.std.specs.Prelude.{◌<◌, List, length}
 use Rattle.std.proofs.lemmas.List.{append_assoc, length-append, append-nil}
-use Rattle.std.proofs.lemmas.List.Elements.{Contains-append_cases, Contains-append_left, Contains-append_right}
 use Rattle.std.specs.FinMap as map
-use Rattle.mds_types.specs.declared.ids.Rank.{Rank}
-use Rattle.mds_types.specs.Frag.{Fragment, IsFragment, Contains, span}
-use Rattle.fragtree.specs.FragTree.{HasLeaf, IsPick, IsTree, Tiles}
-use Rattle.fragtree.proofs.Ranges.{span_pos}
-use Rattle.mds_types.specs.Leaf.{Leaf}
-use Rattle.subtree_map.specs.Authority.{Roots}
-use Rattle.subtree_map.specs.Changes.{AreFilled, leaf_of}
-use Rattle.subtree_map.specs.Rows.{IsFilled}
 use Rattle.subtree_map.proofs.Covers.{contains_start}
-use Rattle.mds_types.proofs.LeafLaws.{get_put, get_beside, same_or_apart}
 use Rattle.subtree_map.proofs.Options.{not_none, value_of}
 
 -- what a test told

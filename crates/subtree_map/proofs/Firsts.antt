@@ -1,25 +1,7 @@
 -- The first row from a leaf on, and what the order of leaves says of the rows behind it.
-use Rattle.std.specs.Prelude.{◌≡◌, ◌⊎◌, ℕ, ◌+◌, ◌<◌, ◌≤◌, Bool, true, false, cond, T, List, [], ◌∷◌, Option, Some, None, IsSome, is_some, refl}
-use Rattle.std.proofs.Common.{inl, inr, sym, ap, subst, ◌∙◌, arith}
-use Rattle.std.specs.declared.cmp.Ordering.{Ordering}
-use Rattle.std.specs.declared.cmp.Ordering.TheVariants.{Less, Equal, Greater}
-use Rattle.std.specs.Ordering.{nat_cmp, ordering_then, is_le, is_lt, is_eq, eq_by_cmp, MatchOrdering}
-use Rattle.std.specs.Cmp.{ranks}
-use Rattle.std.specs.Cmp.{tied_itself}
+use Rattle.subtree_map.proofs.Common.{Bool, Equal, Fragment, Greater, IsFirst, IsFirstRow, IsFragment, IsSome, Leaf, Less, MatchOrdering, None, Option, Ordering, Rank, Roots, Some, T, [], ap, arith, below_all, cond, ends_before, entries_sorted, eq_by_cmp, false, find, find-where_key, frag_cmp, frag_le, get-entries, inl, inr, is_eq, is_inside, is_le, is_lt, is_some, is_sorted, is_sorted-where_key, leaf-exact, leaf-total, leaf_cmp, leaf_of, left_of, lies_inside-true, nat_cmp, ordering_then, range_from_inside, ranks, refl, right_of, span, subst, sym, tie, tied_itself, true, where_key, ℕ, ◌+◌, ◌∙◌, ◌∷◌, ◌≡◌, ◌≤◌, ◌⊎◌}
+use Rattle.std.specs.Prelude.{◌<◌, List}
 use Rattle.std.specs.FinMap as map
-use Rattle.std.specs.FinMap.{find, is_sorted, get-entries, entries_sorted}
-use Rattle.std.specs.FinMap.Entries.{where_key, find-where_key, is_sorted-where_key, below_all}
-use Rattle.sorted_map.proofs.Bools.{left_of, right_of}
-use Rattle.mds_types.specs.declared.ids.Rank.{Rank}
-use Rattle.mds_types.specs.Frag.{Fragment, IsFragment, frag_cmp, span}
-use Rattle.sorted_map.proofs.MapLaws.{tie}
-use Rattle.fragtree.proofs.Ranges.{range_from_inside, lies_inside-true, ends_before}
-use Rattle.fragtree.proofs.FirstKeys.{frag_le}
-use Rattle.mds_types.specs.Leaf.{Leaf, leaf_cmp}
-use Rattle.subtree_map.specs.Authority.{Roots}
-use Rattle.subtree_map.specs.Changes.{is_inside, leaf_of}
-use Rattle.subtree_map.specs.Rows.{IsFirst, IsFirstRow}
-use Rattle.mds_types.proofs.LeafLaws.{leaf-exact, leaf-total}
 use Rattle.subtree_map.proofs.Merged.{inside_at, inside_of, is_within}
 use Rattle.sorted_map.proofs.PlaceLaws.{less as less_of}
 

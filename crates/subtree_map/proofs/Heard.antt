@@ -1,13 +1,5 @@
 -- What one list says of a leaf once it has heard news of it.
-use Rattle.std.specs.Prelude.{◌≡◌, Bool, true, false, cond, Option, Some, None, refl}
-use Rattle.std.proofs.Common.{sym, ap, ◌∙◌}
-use Rattle.mds_types.specs.declared.ids.Rank.{Rank}
-use Rattle.subtree_map.specs.declared.entries.Known.{Known}
-use Rattle.subtree_map.specs.declared.entries.Known.TheVariants.{Nothing, Claim, Hint}
-use Rattle.subtree_map.specs.declared.entries.Entry.{Entry}
-use Rattle.subtree_map.specs.declared.entries.News.{News}
-use Rattle.subtree_map.specs.declared.entries.News.TheVariants.{Claimed, Ended, Handed, Promised, Withdrawn}
-use Rattle.subtree_map.specs.Lists.{claim_of, claimed, demoted, entry_of, heard, known_after, makes, promised, promised_after, row_by, said}
+use Rattle.subtree_map.proofs.Common.{Bool, Claim, Claimed, Ended, Entry, Handed, Hint, Known, News, None, Nothing, Option, Promised, Rank, Some, Withdrawn, ap, claim_of, claimed, cond, demoted, entry_of, false, heard, known_after, makes, promised, promised_after, refl, row_by, said, sym, true, ◌∙◌, ◌≡◌}
 
 claims_row : (e : Entry) (known : Known) (p : Option Rank) → e.known ≡ known → said claimed (row_by e known p) ≡ claim_of e.known
 claims_row e Nothing None is = ap claim_of (sym is)

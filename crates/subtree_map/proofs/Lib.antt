@@ -2,6 +2,7 @@ pub mod Adopted
 pub mod Carried
 pub mod ChildRows
 pub mod Climbs
+pub mod Common
 pub mod Covers
 pub mod CutOff
 pub mod Divided

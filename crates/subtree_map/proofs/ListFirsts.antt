@@ -1,23 +1,7 @@
 -- The first claim of rows in order, of a list, and of several lists.
-use Rattle.std.specs.Prelude.{◌≡◌, ◌⊎◌, ℕ, zero, suc, ◌+◌, ◌<◌, Bool, true, false, cond, T, List, [], ◌∷◌, Option, Some, None, IsSome, is_some, length, take, refl}
-use Rattle.std.proofs.Common.{inl, inr, sym, ap, subst, ◌∙◌, arith}
-use Rattle.std.specs.Option.{option_or}
-use Rattle.std.specs.declared.cmp.Ordering.{Ordering}
-use Rattle.std.specs.declared.cmp.Ordering.TheVariants.{Less, Equal, Greater}
-use Rattle.std.specs.Ordering.{is_eq, is_lt, eq_by_cmp, ordering_reverse}
-use Rattle.std.specs.Cmp.{tied_itself}
+use Rattle.subtree_map.proofs.Common.{Bool, Entry, Equal, Greater, IsFirstBy, IsSome, Leaf, Less, None, Option, Ordering, Rank, Rows, Some, T, [], ap, arith, claimed, cond, contents, entries_sorted, entry_at, eq_by_cmp, false, find, find-where_key, found, get-entries, inl, inr, is_eq, is_lt, is_some, is_sorted, is_sorted-where_key, leaf-exact, leaf-total, leaf_cmp, left_of, lesser_of, option_or, ordering_reverse, refl, right_of, rows_at, said, subst, suc, sym, take, tie, tied_itself, true, where_key, zero, ℕ, ◌+◌, ◌∙◌, ◌∷◌, ◌≡◌, ◌⊎◌}
+use Rattle.std.specs.Prelude.{◌<◌, List, length}
 use Rattle.std.specs.FinMap as map
-use Rattle.std.specs.FinMap.{find, is_sorted, get-entries, entries_sorted}
-use Rattle.std.specs.FinMap.Entries.{where_key, find-where_key, is_sorted-where_key}
-use Rattle.sorted_map.proofs.Bools.{left_of, right_of}
-use Rattle.sorted_map.proofs.MapLaws.{tie}
-use Rattle.sorted_map.specs.SortedMap.{contents}
-use Rattle.mds_types.specs.declared.ids.Rank.{Rank}
-use Rattle.mds_types.specs.Leaf.{Leaf, leaf_cmp}
-use Rattle.mds_types.proofs.LeafLaws.{leaf-exact, leaf-total}
-use Rattle.subtree_map.specs.declared.entries.Entry.{Entry}
-use Rattle.subtree_map.specs.Lists.{Rows, claimed, entry_at, found, rows_at, said}
-use Rattle.subtree_map.specs.Rows.{IsFirstBy, lesser_of}
 use Rattle.subtree_map.proofs.Firsts.{behind}
 
 -- the same question in other words

@@ -1,16 +1,9 @@
 -- The bounds of a region, listed one after the other.
-use Rattle.std.specs.Prelude.{◌≡◌, ◌⊎◌, ◌↔◌, ◌==◌, zero, suc, true, false, cond, List, [], ◌∷◌, ◌++◌, length, Some, IsSome, is_some}
-use Rattle.std.proofs.Common.{inl, inr, refl, sym, ap, subst, ◌∙◌, arith}
-use Rattle.std.proofs.lemmas.List.Elements.{Contains-append_cases, Contains-append_left, Contains-append_right}
+use Rattle.subtree_map.proofs.Common.{Contains-append_cases, Contains-append_left, Contains-append_right, Covers, Homes, IsBound, IsNextBelow, IsSome, Leaf, Rank, Roots, Some, [], ap, arith, cond, false, find, get-entries, inl, inr, is_some, leaf_cmp, same_or_apart, subst, suc, sym, tied_apart, tied_same, true, zero, ◌++◌, ◌==◌, ◌↔◌, ◌∙◌, ◌∷◌, ◌≡◌, ◌⊎◌}
+use Rattle.std.specs.Prelude.{List, length}
+use Rattle.std.proofs.Common.{refl}
 use Rattle.std.specs.List as list
 use Rattle.std.specs.FinMap as map
-use Rattle.std.specs.FinMap.{find, get-entries}
-use Rattle.mds_types.specs.declared.ids.Rank.{Rank}
-use Rattle.inode_table.specs.Dirs.{Homes, Covers}
-use Rattle.mds_types.specs.Leaf.{Leaf, leaf_cmp}
-use Rattle.subtree_map.specs.Authority.{IsBound, Roots}
-use Rattle.subtree_map.specs.Climb.{IsNextBelow}
-use Rattle.mds_types.proofs.LeafLaws.{same_or_apart, tied_apart, tied_same}
 
 module _ (roots : Roots) (homes : Homes) (covers : Covers) (root : Leaf) where
   -- a bound is one of the rows to come, or was listed

@@ -1,22 +1,7 @@
 -- The lists of all ranks after a change of each: what they say as one map, and that they are lists still.
-use Rattle.std.specs.Prelude.{◌≡◌, ◌≢◌, ◌⊎◌, ℕ, zero, suc, ◌+◌, ◌<◌, ◌≤◌, ◌==◌, Bool, true, false, cond, List, [], ◌∷◌, ◌++◌, Option, Some, None, Vec, length, take, drop, refl}
-use Rattle.std.proofs.Common.{inl, inr, sym, ap, subst, ◌∙◌, arith, length-append, Result, Ok, Err, OnErr}
-use Rattle.std.proofs.lemmas.Bool.{cases_eq, cases_lt, eqb-true}
-use Rattle.std.specs.declared.alloc.Global.{Global}
-use Rattle.std.specs.Vec.{with_items}
+use Rattle.subtree_map.proofs.Common.{AreEach, AreGone, AreLists, Bool, Claimed, Ended, Entry, Err, Global, Handed, HasDropped, HasGrown, HasHints, HasLearnt, HasSame, HaveNone, HaveRoom, Hears, IsClaimed, Leaf, News, None, Ok, OnErr, Option, Promised, Rank, Result, Roots, Rows, Some, Subtrees, Vec, Withdrawn, [], ap, arith, cases_eq, cases_lt, claimed, cond, contents, entry_at, eqb-true, false, found, get-empty, get_left, get_removed, heard, home_of, inl, inr, is_apart, leaf-exact, leaf-total, leaf_cmp, length-append, makes, no_rows, promised, refl, rows_at, said, same_map, same_or_apart, says_at, subst, suc, sym, take, told, true, with_items, zero, ℕ, ◌++◌, ◌+◌, ◌==◌, ◌∙◌, ◌∷◌, ◌≡◌, ◌≢◌, ◌≤◌, ◌⊎◌}
+use Rattle.std.specs.Prelude.{◌<◌, List, length, drop}
 use Rattle.std.specs.FinMap as map
-use Rattle.std.specs.FinMap.{get-empty, same_map}
-use Rattle.sorted_map.specs.SortedMap.{contents}
-use Rattle.sorted_map.proofs.NatKeys.{is_apart}
-use Rattle.mds_types.specs.declared.ids.Rank.{Rank}
-use Rattle.mds_types.specs.Leaf.{Leaf, leaf_cmp}
-use Rattle.mds_types.proofs.LeafLaws.{get_left, get_removed, leaf-exact, leaf-total, same_or_apart}
-use Rattle.subtree_map.specs.declared.entries.Entry.{Entry}
-use Rattle.subtree_map.specs.declared.entries.News.{News}
-use Rattle.subtree_map.specs.declared.entries.News.TheVariants.{Claimed, Ended, Handed, Promised, Withdrawn}
-use Rattle.subtree_map.specs.Authority.{Roots}
-use Rattle.subtree_map.specs.Changes.{AreGone, Subtrees}
-use Rattle.subtree_map.specs.Lists.{AreEach, AreLists, HasDropped, HasGrown, HasHints, HasLearnt, HasSame, HaveNone, HaveRoom, Hears, IsClaimed, Rows, claimed, entry_at, found, heard, home_of, makes, no_rows, promised, rows_at, said, says_at, told}
 use Rattle.subtree_map.proofs.Heard.{claims_claimed, claims_ended, claims_handed, claims_promised, claims_withdrawn, ended_makes, handed_makes, promises_claimed, promises_ended, promises_handed, promises_promised, promises_withdrawn, withdrawn_makes}
 use Rattle.subtree_map.proofs.ToldLaws.{found_at, get_told, none_there, nowhere, once_fewer, once_set, some_at, told_cleared, told_gone, told_same, told_set}
 

@@ -1,23 +1,9 @@
 -- Leaves of one authority are merged: all leaves keep their authority, and the merged leaf has theirs.
-use Rattle.std.specs.Prelude.{◌≡◌, ◌≢◌, ◌⊎◌, ℕ, Bool, true, false, ◌&&◌, ◌==◌, is_some, IsSome, List, Some, None, refl}
-use Rattle.std.proofs.Common.{inl, inr, sym, ap, subst, ◌∙◌}
-use Rattle.std.proofs.lemmas.Bool.{and_from, and_parts, eqb-true, and_left, and_right}
+use Rattle.subtree_map.proofs.Common.{BecomesMerged, Bool, CanMerge, Covers, Fragment, HasAuthority, HasLeaf, HaveOneAuthority, HoldsDentry, Home, Homes, Ino, IsLive, IsMerge, IsPick, IsRootMerge, IsSome, IsSubtrees, IsTable, IsTree, KeepAuthority, Leaf, MergesSoundly, None, Rank, Roots, Some, and_from, and_left, and_parts, and_right, ap, eqb-true, false, hash_of, inl, inr, is_inside, is_known, is_some, itself, leaf_of, leaves_of, lies_inside, merged_after_merge, pick_after_merge, refl, same_or_apart, subst, sym, tree_of_row, true, ℕ, ◌&&◌, ◌==◌, ◌∙◌, ◌≡◌, ◌≢◌, ◌⊎◌}
+use Rattle.std.specs.Prelude.{List}
 use Rattle.std.specs.FinMap as map
-use Rattle.mds_types.specs.declared.ids.Ino.{Ino}
-use Rattle.mds_types.specs.declared.ids.Rank.{Rank}
-use Rattle.mds_types.specs.Frag.{Fragment}
-use Rattle.fragtree.specs.FragTree.{CanMerge, HasLeaf, IsMerge, IsPick, IsTree, lies_inside}
-use Rattle.fragtree.proofs.TreeLaws.{pick_after_merge, merged_after_merge}
-use Rattle.namehash.specs.Rjenkins.{hash_of}
 use Rattle.sorted_map.proofs.NatKeys as nat
-use Rattle.inode_table.specs.declared.dirs.Home.{Home}
-use Rattle.inode_table.specs.Dirs.{Homes, Covers, IsLive, IsTable, leaves_of, is_known}
-use Rattle.inode_table.proofs.Tables.{tree_of_row}
-use Rattle.mds_types.specs.Leaf.{Leaf}
-use Rattle.subtree_map.specs.Authority.{Roots, HoldsDentry, itself, HasAuthority, IsSubtrees}
-use Rattle.subtree_map.specs.Changes.{BecomesMerged, HaveOneAuthority, IsRootMerge, KeepAuthority, MergesSoundly, is_inside, leaf_of}
 use Rattle.subtree_map.proofs.Options.{not_none, value_of}
-use Rattle.mds_types.proofs.LeafLaws.{same_or_apart}
 use Rattle.subtree_map.proofs.Covers.{merged_is_new, some_inside, leaves_now, leaves_still}
 use Rattle.subtree_map.proofs.Split.{stands_beside, stands_here}
 use Rattle.subtree_map.proofs.Carried.{kept}

@@ -1,19 +1,8 @@
 -- A directory moves: every leaf has the authority that it had.
-use Rattle.std.specs.Prelude.{◌≡◌, ◌≢◌, ◌⊎◌, ℕ, true, is_some, Some, None}
-use Rattle.std.proofs.Common.{inl, inr, sym, ap, subst, ◌∙◌}
+use Rattle.subtree_map.proofs.Common.{Covers, HasAuthority, HasLeaf, HoldsDentry, Home, Homes, Ino, IsAbove, IsInheritedAt, IsLive, IsSettled, IsSubtrees, IsTable, Leaf, MayMove, MovesSoundly, NearestRoot, None, Rank, Roots, Some, ap, further, inherited, inl, inr, is_known, is_some, itself, leaf_of, leaves_of, parent, still_known, subst, sym, true, ℕ, ◌∙◌, ◌≡◌, ◌≢◌, ◌⊎◌}
 use Rattle.std.specs.FinMap as map
-use Rattle.mds_types.specs.declared.ids.Ino.{Ino}
-use Rattle.mds_types.specs.declared.ids.Rank.{Rank}
 use Rattle.sorted_map.proofs.NatKeys as nat
-use Rattle.fragtree.specs.FragTree.{HasLeaf}
-use Rattle.inode_table.specs.declared.dirs.Home.{Home}
-use Rattle.inode_table.specs.Dirs.{Homes, Covers, IsLive, IsTable, IsAbove, parent, further, MayMove, is_known, leaves_of}
-use Rattle.mds_types.specs.Leaf.{Leaf}
-use Rattle.subtree_map.specs.Authority.{Roots, HoldsDentry, NearestRoot, itself, inherited, HasAuthority, IsSubtrees}
-use Rattle.subtree_map.specs.Changes.{leaf_of}
-use Rattle.subtree_map.specs.Moves.{IsInheritedAt, IsSettled, MovesSoundly}
 use Rattle.subtree_map.proofs.Nearest.{holder_is_leaf, some_holder, some_authority}
-use Rattle.inode_table.proofs.Tables.{still_known}
 
 -- two ranks are one, or they differ
 pub same_rank : (a b : Rank) → (a ≡ b) ⊎ (a ≢ b)

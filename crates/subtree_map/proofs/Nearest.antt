@@ -1,20 +1,7 @@
 -- The nearest root of a leaf: there is one, and one alone.
-use Rattle.std.specs.Prelude.{◌≡◌, ℕ, zero, suc, ◌==◌, true, IsSome, Option, Some, None, refl}
-use Rattle.std.proofs.Common.{sym, ap, subst, ◌∙◌}
-use Rattle.std.proofs.lemmas.Bool.{or_left}
+use Rattle.subtree_map.proofs.Common.{Covers, HasAuthority, HasLeaf, HoldsDentry, Home, Homes, Ino, IsLive, IsSome, IsSubtrees, IsTable, Leaf, NearestRoot, None, Option, Rank, Reaches, Roots, Some, ap, hash_of, inherited, is_known, itself, known_by, known_reaches, leaves_of, or_left, parent_reaches, refl, some_pick, subst, suc, sym, tree_of_row, true, zero, ℕ, ◌==◌, ◌∙◌, ◌≡◌}
 use Rattle.std.specs.FinMap as map
-use Rattle.mds_types.specs.declared.ids.Ino.{Ino}
-use Rattle.mds_types.specs.declared.ids.Rank.{Rank}
-use Rattle.fragtree.specs.FragTree.{HasLeaf}
-use Rattle.fragtree.proofs.TreeLaws.{some_pick}
-use Rattle.namehash.specs.Rjenkins.{hash_of}
 use Rattle.sorted_map.proofs.NatKeys as nat
-use Rattle.inode_table.specs.declared.dirs.Home.{Home}
-use Rattle.inode_table.specs.Dirs.{Homes, Covers, IsLive, Reaches, IsTable, is_known, leaves_of}
-use Rattle.inode_table.proofs.Chains.{parent_reaches, known_reaches}
-use Rattle.inode_table.proofs.Tables.{known_by, tree_of_row}
-use Rattle.mds_types.specs.Leaf.{Leaf}
-use Rattle.subtree_map.specs.Authority.{Roots, HoldsDentry, NearestRoot, itself, inherited, HasAuthority, IsSubtrees}
 use Rattle.subtree_map.proofs.Options.{not_none, value_of, one_value}
 
 -- a directory that others stand in is known

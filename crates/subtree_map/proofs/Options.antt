@@ -1,6 +1,5 @@
 -- What is there isn't absent.
-use Rattle.std.specs.Prelude.{◌≡◌, Option, Some, None, IsSome, refl}
-use Rattle.std.proofs.Common.{sym, ◌∙◌}
+use Rattle.subtree_map.proofs.Common.{IsSome, None, Option, Some, refl, sym, ◌∙◌, ◌≡◌}
 
 pub not_none : {A : Type 0} (o : Option A) (x : A) → o ≡ None → o ≡ Some x → ⊥
 not_none o x none some = let clash : None ≡ Some x = sym none ∙ some in cc

@@ -1,18 +1,8 @@
 -- The bounds of a region, listed in the order of the roots.
-use Rattle.std.specs.Prelude.{◌≡◌, T, List, [], ◌∷◌, ◌++◌, map as list_map}
-use Rattle.std.proofs.Common.{sym, subst, append_assoc, append-nil}
-use Rattle.std.specs.declared.cmp.Ordering.{Ordering}
-use Rattle.std.specs.declared.cmp.Ordering.TheVariants.{Less, Equal, Greater}
-use Rattle.std.specs.Ordering.{is_lt}
-use Rattle.std.specs.List.{AllByRecursion}
+use Rattle.subtree_map.proofs.Common.{AllByRecursion, Equal, Greater, Leaf, Less, Ordering, Rank, Roots, T, [], append-nil, append_assoc, below_all, entries_sorted, is_lt, is_sorted, leaf_cmp, left_of, right_of, subst, sym, ◌++◌, ◌∷◌, ◌≡◌}
+use Rattle.std.specs.Prelude.{List, map as list_map}
 use Rattle.std.specs.List.Sorted.{IsStrictlySortedBy}
 use Rattle.std.specs.FinMap as map
-use Rattle.std.specs.FinMap.{is_sorted, entries_sorted}
-use Rattle.std.specs.FinMap.Entries.{below_all}
-use Rattle.sorted_map.proofs.Bools.{left_of, right_of}
-use Rattle.mds_types.specs.declared.ids.Rank.{Rank}
-use Rattle.mds_types.specs.Leaf.{Leaf, leaf_cmp}
-use Rattle.subtree_map.specs.Authority.{Roots}
 
 -- the leaves of some rows
 abbrev pub keys : List (Leaf × Rank) → List Leaf

@@ -1,22 +1,8 @@
 -- The rows from a root on: it comes first, and behind it those from the next root on.
-use Rattle.std.specs.Prelude.{◌≡◌, Bool, true, false, cond, T, List, [], ◌∷◌, Option, Some, None, is_some, ◌⊎◌, refl}
-use Rattle.std.proofs.Common.{inl, inr, sym, ap, ◌∙◌}
-use Rattle.std.specs.declared.cmp.Ordering.{Ordering}
-use Rattle.std.specs.declared.cmp.Ordering.TheVariants.{Less, Equal, Greater}
-use Rattle.std.specs.Ordering.{is_eq, is_le, is_lt, ordering_reverse}
-use Rattle.std.specs.Cmp.{tied_itself}
+use Rattle.subtree_map.proofs.Common.{Bool, Equal, Greater, IsFirst, IsRootIfSome, Leaf, Less, None, Option, Ordering, Rank, Roots, Some, T, [], ap, below_all, cond, entries_sorted, false, find, get-entries, inl, inr, is_after, is_eq, is_from, is_le, is_lt, is_some, is_sorted, leaf-exact, leaf-total, leaf_cmp, left_of, ordering_reverse, refl, right_of, rows_from, sym, tied_itself, true, where_key, ◌∙◌, ◌∷◌, ◌≡◌, ◌⊎◌}
+use Rattle.std.specs.Prelude.{List}
 use Rattle.std.specs.FinMap as map
-use Rattle.std.specs.FinMap.{find, is_sorted, get-entries, entries_sorted}
-use Rattle.std.specs.FinMap.Entries.{where_key, below_all}
-use Rattle.sorted_map.proofs.Bools.{left_of, right_of}
 use Rattle.sorted_map.proofs.PlaceLaws.{less as less_of}
-use Rattle.sorted_map.specs.SortedMap.{is_from}
-use Rattle.mds_types.specs.declared.ids.Rank.{Rank}
-use Rattle.mds_types.specs.Leaf.{Leaf, leaf_cmp}
-use Rattle.mds_types.proofs.LeafLaws.{leaf-exact, leaf-total}
-use Rattle.subtree_map.specs.Authority.{Roots}
-use Rattle.subtree_map.specs.Lists.{is_after}
-use Rattle.subtree_map.specs.Rows.{IsFirst, IsRootIfSome, rows_from}
 use Rattle.subtree_map.proofs.Firsts.{behind, first_row}
 use Rattle.subtree_map.proofs.ListFirsts.{all_pass}
 

@@ -1,17 +1,7 @@
 -- One row of one list, and the turns over all lists.
-use Rattle.std.specs.Prelude.{◌≡◌, ◌≢◌, ◌⊎◌, ℕ, zero, suc, ◌+◌, ◌-◌, ◌<◌, ◌≤◌, ◌==◌, if◌then◌else◌, true, false, List, [], ◌∷◌, Option, Some, None, is_some, length, get_or, set, refl}
-use Rattle.std.proofs.Common.{inl, inr, sym, ap, subst, ◌∙◌, arith, length-set, get_or-set_same, get_or-set_other}
-use Rattle.std.proofs.lemmas.Bool.{cases_eq, cases_lt}
+use Rattle.subtree_map.proofs.Common.{AreEach, Claim, Corrects, Entry, HasGrown, HasHints, HasLearnt, HasSame, HaveRoom, Hears, Hint, IsCorrected, IsPut, Known, Leaf, News, None, Nothing, Option, Rank, Rows, Some, [], ap, arith, cases_eq, cases_lt, claim_of, claimed, contents, corrected, entry_at, entry_of, false, get_beside, get_left, get_or-set_other, get_or-set_same, get_put, get_removed, heard, hinted, if◌then◌else◌, inl, inr, is_some, knows, leaf_cmp, learnt, length-set, makes, no_rows, promised, refl, rows_at, said, same_or_apart, subst, suc, sym, true, zero, ℕ, ◌+◌, ◌-◌, ◌==◌, ◌∙◌, ◌∷◌, ◌≡◌, ◌≢◌, ◌≤◌, ◌⊎◌}
+use Rattle.std.specs.Prelude.{◌<◌, List, length, get_or, set}
 use Rattle.std.specs.FinMap as map
-use Rattle.sorted_map.specs.SortedMap.{contents}
-use Rattle.mds_types.specs.Leaf.{Leaf, leaf_cmp}
-use Rattle.mds_types.proofs.LeafLaws.{get_put, get_beside, get_removed, get_left, same_or_apart}
-use Rattle.mds_types.specs.declared.ids.Rank.{Rank}
-use Rattle.subtree_map.specs.declared.entries.Known.{Known}
-use Rattle.subtree_map.specs.declared.entries.Known.TheVariants.{Nothing, Claim, Hint}
-use Rattle.subtree_map.specs.declared.entries.Entry.{Entry}
-use Rattle.subtree_map.specs.declared.entries.News.{News}
-use Rattle.subtree_map.specs.Lists.{AreEach, Corrects, HasGrown, HasHints, HasLearnt, HasSame, HaveRoom, Hears, IsCorrected, IsPut, Rows, claim_of, claimed, corrected, entry_at, entry_of, heard, hinted, knows, learnt, makes, no_rows, promised, rows_at, said}
 use Rattle.subtree_map.proofs.ChildRows.{room_left}
 use Rattle.subtree_map.proofs.Heard.{claims_entry, promises_entry}
 

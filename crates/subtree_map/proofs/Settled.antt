@@ -1,16 +1,6 @@
 -- Which leaves a directory's move makes roots.
-use Rattle.std.specs.Prelude.{◌≡◌, ◌⊎◌, ℕ, true, Option, Some, None, IsSome, is_some, refl}
-use Rattle.std.proofs.Common.{inl, inr, sym, ap, subst, ◌∙◌}
+use Rattle.subtree_map.proofs.Common.{AreFilled, Covers, HasAuthority, HasLeaf, HoldsDentry, Home, Homes, IsInheritedAt, IsLive, IsLostRank, IsSettled, IsSome, Leaf, MayMove, NearestRoot, None, Option, Rank, Roots, Some, ap, inherited, inl, inr, is_known, is_some, itself, known_by, leaf_of, leaves_of, refl, subst, sym, true, ℕ, ◌∙◌, ◌≡◌, ◌⊎◌}
 use Rattle.std.specs.FinMap as map
-use Rattle.mds_types.specs.declared.ids.Rank.{Rank}
-use Rattle.inode_table.specs.declared.dirs.Home.{Home}
-use Rattle.inode_table.specs.Dirs.{Homes, Covers, IsLive, MayMove, is_known, leaves_of}
-use Rattle.inode_table.proofs.Tables.{known_by}
-use Rattle.fragtree.specs.FragTree.{HasLeaf}
-use Rattle.mds_types.specs.Leaf.{Leaf}
-use Rattle.subtree_map.specs.Authority.{Roots, HoldsDentry, NearestRoot, itself, inherited, HasAuthority}
-use Rattle.subtree_map.specs.Changes.{AreFilled, leaf_of}
-use Rattle.subtree_map.specs.Moves.{IsInheritedAt, IsLostRank, IsSettled}
 use Rattle.subtree_map.proofs.Options.{not_none, one_value}
 use Rattle.subtree_map.proofs.Nearest.{one_authority, one_holder}
 

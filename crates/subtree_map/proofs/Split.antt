@@ -1,22 +1,9 @@
 -- A leaf is split: all leaves keep their authority, and its children have that of the leaf.
-use Rattle.std.specs.Prelude.{◌≡◌, ◌≢◌, ◌⊎◌, ℕ, true, is_some, IsSome, List, Some, None, refl}
-use Rattle.std.proofs.Common.{inl, inr, sym, ap, subst, ◌∙◌}
+use Rattle.subtree_map.proofs.Common.{BecomesSplit, Covers, FitsSplit, Fragment, HasAuthority, HasLeaf, HoldsDentry, Home, Homes, Ino, IsChild, IsLive, IsPick, IsRootSplit, IsSome, IsSplit, IsSubtrees, IsTable, IsTree, KeepAuthority, Leaf, None, Rank, Roots, Some, SplitsSoundly, ap, child_after_split, hash_of, inl, inr, is_known, is_some, leaf_of, leaves_of, pick_after_split, refl, same_or_apart, some_pick, subst, sym, tree_of_row, true, ℕ, ◌∙◌, ◌≡◌, ◌≢◌, ◌⊎◌}
+use Rattle.std.specs.Prelude.{List}
 use Rattle.std.specs.FinMap as map
-use Rattle.mds_types.specs.declared.ids.Ino.{Ino}
-use Rattle.mds_types.specs.declared.ids.Rank.{Rank}
-use Rattle.mds_types.specs.Frag.{Fragment}
-use Rattle.fragtree.specs.FragTree.{FitsSplit, HasLeaf, IsChild, IsPick, IsSplit, IsTree}
-use Rattle.fragtree.proofs.TreeLaws.{some_pick, pick_after_split, child_after_split}
-use Rattle.namehash.specs.Rjenkins.{hash_of}
 use Rattle.sorted_map.proofs.NatKeys as nat
-use Rattle.inode_table.specs.declared.dirs.Home.{Home}
-use Rattle.inode_table.specs.Dirs.{Homes, Covers, IsLive, IsTable, leaves_of, is_known}
-use Rattle.inode_table.proofs.Tables.{tree_of_row}
-use Rattle.mds_types.specs.Leaf.{Leaf}
-use Rattle.subtree_map.specs.Authority.{Roots, HoldsDentry, HasAuthority, IsSubtrees}
-use Rattle.subtree_map.specs.Changes.{BecomesSplit, IsRootSplit, KeepAuthority, SplitsSoundly, leaf_of}
 use Rattle.subtree_map.proofs.Options.{not_none, value_of}
-use Rattle.mds_types.proofs.LeafLaws.{same_or_apart}
 use Rattle.subtree_map.proofs.Covers.{leaves_here, leaves_beside, child_is_new, leaves_now, leaves_still}
 use Rattle.subtree_map.proofs.Carried.{kept}
 

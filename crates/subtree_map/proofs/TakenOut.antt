@@ -1,17 +1,7 @@
 -- Rows taken out one after the other.
-use Rattle.std.specs.Prelude.{◌≡◌, ◌≢◌, ℕ, zero, suc, ◌-◌, ◌<◌, ◌≤◌, cond, true, false, Option, Some, None, IsSome, is_some, refl}
-use Rattle.std.proofs.Common.{inl, inr, sym, ap, ◌∙◌, arith}
-use Rattle.std.proofs.lemmas.Bool.Decides.{nat_tests}
+use Rattle.subtree_map.proofs.Common.{AreTakenOut, Fragment, IsRootMerge, IsSome, Leaf, None, Option, Rank, Roots, Some, Subtrees, ap, arith, cond, empty_of_len, false, get-empty, get_beside, get_left, get_put, get_removed, inl, inr, is_inside, is_some, leaf-total, leaf_cmp, leaf_of, len-remove, lies_inside, nat_tests, refl, same_or_apart, suc, sym, true, zero, ℕ, ◌-◌, ◌∙◌, ◌≡◌, ◌≢◌, ◌≤◌}
+use Rattle.std.specs.Prelude.{◌<◌}
 use Rattle.std.specs.FinMap as map
-use Rattle.std.specs.FinMap.{get-empty, len-remove, empty_of_len}
-use Rattle.mds_types.specs.declared.ids.Rank.{Rank}
-use Rattle.mds_types.specs.Frag.{Fragment}
-use Rattle.mds_types.specs.Leaf.{Leaf, leaf_cmp}
-use Rattle.subtree_map.specs.Authority.{Roots}
-use Rattle.fragtree.specs.FragTree.{lies_inside}
-use Rattle.subtree_map.specs.Changes.{IsRootMerge, Subtrees, is_inside, leaf_of}
-use Rattle.subtree_map.specs.Rows.{AreTakenOut}
-use Rattle.mds_types.proofs.LeafLaws.{leaf-total, same_or_apart, get_put, get_beside, get_removed, get_left}
 use Rattle.subtree_map.proofs.Options.{not_none, value_of}
 use Rattle.subtree_map.proofs.Merged.{inside_of}
 

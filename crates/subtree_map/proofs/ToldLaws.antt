@@ -1,23 +1,8 @@
 -- What the lists say, as one map: after a change of one leaf's rows, and of those of a directory.
-use Rattle.std.specs.Prelude.{◌≡◌, ◌≢◌, ℕ, zero, suc, ◌<◌, ◌==◌, Bool, true, false, cond, ◌||◌, List, [], ◌∷◌, Option, Some, None, is_some, length, refl}
-use Rattle.std.proofs.Common.{inl, inr, sym, ap, ◌∙◌, arith}
-use Rattle.std.specs.Option.{option_or}
-use Rattle.std.specs.List.{list_any}
-use Rattle.std.specs.Ordering.{eq_by_cmp}
-use Rattle.std.proofs.lemmas.Bool.{eqb-true}
-use Rattle.std.proofs.lemmas.List.Folds.{list_any-append}
+use Rattle.subtree_map.proofs.Common.{AreGone, AreOnce, Bool, Entry, Leaf, None, Option, Rank, Roots, Rows, Some, [], ap, arith, cond, contains_key-keys, contents, entry_at, eq_by_cmp, eqb-true, false, found, get-empty, get-from_sorted, get-insert, get_beside, get_left, get_put, get_removed, home_of, inl, inr, is_apart, is_same, is_some, leaf-exact, leaf-total, leaf_cmp, leaves_in, list_any, list_any-append, no_rows, option_or, refl, said, same_map, same_or_apart, says_at, suc, sym, tabulate, tie, true, with_some, zero, ℕ, ◌==◌, ◌||◌, ◌∙◌, ◌∷◌, ◌≡◌, ◌≢◌}
+use Rattle.std.specs.Prelude.{◌<◌, List, length}
 use Rattle.std.specs.FinMap as map
-use Rattle.std.specs.FinMap.{contains_key-keys, get-empty, get-from_sorted, get-insert, same_map}
-use Rattle.sorted_map.specs.SortedMap.{contents}
-use Rattle.sorted_map.proofs.NatKeys.{is_apart, is_same}
-use Rattle.sorted_map.proofs.MapLaws.{tie}
-use Rattle.mds_types.specs.declared.ids.Rank.{Rank}
-use Rattle.mds_types.specs.Leaf.{Leaf, leaf_cmp}
-use Rattle.mds_types.proofs.LeafLaws.{get_beside, get_left, get_put, get_removed, leaf-exact, leaf-total, same_or_apart}
-use Rattle.subtree_map.specs.declared.entries.Entry.{Entry}
-use Rattle.subtree_map.specs.Authority.{Roots}
-use Rattle.subtree_map.specs.Changes.{AreGone}
-use Rattle.subtree_map.specs.Lists.{AreOnce, Rows, entry_at, found, home_of, leaves_in, no_rows, said, says_at, tabulate, told, with_some}
+use Rattle.subtree_map.specs.Lists.{told}
 
 -- ---- the map of a function
 

@@ -1,5 +1,4 @@
-use Rattle.std.proofs.Common.{◌≡◌, ◌++◌, map}
-use Rattle.admin_cli.specs.Authorities.{root_of, roots_in}
+use Rattle.admin_cli.proofs.Common.{map, root_of, roots_in, ◌++◌, ◌≡◌}
 use Rattle.admin_cli.proofs.authorities.root_list.Given as goal
 
 -- the roots passed are in the list

@@ -1,9 +1,5 @@
-use Rattle.std.proofs.Common.{Some, ap, inl, refl, subst, sym, ◌∙◌}
-use Rattle.script_text.specs.declared.lines.Line.{Line}
+use Rattle.admin_cli.proofs.Common.{AnswersLine, Errno, Line, PrintsOf, Some, ap, inl, refl, subst, sym, ◌∙◌}
 use Rattle.script_text.specs.declared.lines.Line.TheVariants.{Command}
-use Rattle.script_output.specs.declared.lines.OutputLine.TheVariants.{Errno}
-use Rattle.admin_cli.specs.OneLine.{AnswersLine}
-use Rattle.admin_cli.specs.Waiting.{PrintsOf}
 use Rattle.admin_cli.proofs.Progress.{command_printed}
 use Rattle.admin_cli.proofs.script.do_line.Goals as goal
 

@@ -1,7 +1,5 @@
-use Rattle.std.proofs.Common.{◌≡◌, ℕ, List, Err, Ok, arith, subst}
+use Rattle.admin_cli.proofs.Common.{DoesBytes, Err, List, Ok, PrintsOf, arith, subst, ℕ, ◌≡◌}
 use Rattle.admin_cli.proofs.Progress.{begin, finish, line_on, line_stops, settled, stop_long, stop_reading, stop_settling}
-use Rattle.admin_cli.specs.OneLine.{DoesBytes}
-use Rattle.admin_cli.specs.Waiting.{PrintsOf}
 use Rattle.admin_cli.proofs.script.run_lines.Goals as goal
 
 pub loop-line-init : goal.loop-line-init

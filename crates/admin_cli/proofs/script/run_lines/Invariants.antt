@@ -1,4 +1,4 @@
-use Rattle.std.proofs.Common.{◌<◌}
+use Rattle.admin_cli.proofs.Common.{◌<◌}
 use Rattle.admin_cli.proofs.Progress.{IsReached}
 use Rattle.admin_cli.proofs.script.run_lines.Given as goal
 

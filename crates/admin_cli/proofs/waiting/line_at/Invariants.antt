@@ -1,5 +1,4 @@
-use Rattle.std.proofs.Common.{◌≡◌, drop}
-use Rattle.admin_cli.specs.Waiting.{line_at}
+use Rattle.admin_cli.proofs.Common.{drop, line_at, ◌≡◌}
 use Rattle.admin_cli.proofs.waiting.line_at.Given as goal
 
 -- no text of the marks passed has the byte

@@ -1,6 +1,5 @@
 -- Nothing is counted at first, and nothing is left at the end.
-use Rattle.objstore.specs.Omap.{key_cmp}
-use Rattle.sorted_map.specs.SortedMap.{contents}
+use Rattle.cached_frag.proofs.Common.{contents, key_cmp}
 use Rattle.cached_frag.proofs.CountLaws.{at_first, counted, dirs_at_last, files_at_last}
 use Rattle.cached_frag.proofs.dirty_names.counts_in.Goals as goal
 

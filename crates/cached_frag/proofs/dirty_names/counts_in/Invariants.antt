@@ -1,9 +1,6 @@
 -- The counts so far, with those of the names to come, are those of all names, and no more than there are names.
-use Rattle.std.proofs.Common.{◌≡◌, ◌+◌, ◌≤◌, length}
+use Rattle.cached_frag.proofs.Common.{contents, dirs_among, files_among, key_cmp, length, ◌+◌, ◌≡◌, ◌≤◌}
 use Rattle.std.specs.FinMap as map
-use Rattle.objstore.specs.Omap.{key_cmp}
-use Rattle.sorted_map.specs.SortedMap.{contents}
-use Rattle.cached_frag.specs.Counting.{dirs_among, files_among}
 use Rattle.cached_frag.proofs.dirty_names.counts_in.Given as goal
 
 abbrev pub invariant-loop-mark : goal.invariant-loop-mark

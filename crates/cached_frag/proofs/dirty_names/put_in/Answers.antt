@@ -1,7 +1,4 @@
-use Rattle.std.proofs.Common.{subst, sym}
-use Rattle.objstore.specs.Omap.{key_cmp}
-use Rattle.sorted_map.specs.SortedMap.{contents}
-use Rattle.cached_frag.specs.Marks.{AreDirtyNames}
+use Rattle.cached_frag.proofs.Common.{AreDirtyNames, contents, key_cmp, subst, sym}
 use Rattle.cached_frag.proofs.MarkLaws.{one_dirty}
 use Rattle.cached_frag.proofs.dirty_names.put_in.Goals as goal
 

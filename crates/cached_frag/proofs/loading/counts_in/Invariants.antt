@@ -1,9 +1,6 @@
 -- The counts so far, with those of the names to come, are those of all names.
-use Rattle.std.proofs.Common.{◌≡◌, ◌+◌, length}
+use Rattle.cached_frag.proofs.Common.{contents, dirs_in, files_in, key_cmp, length, ◌+◌, ◌≡◌}
 use Rattle.std.specs.FinMap as map
-use Rattle.objstore.specs.Omap.{key_cmp}
-use Rattle.sorted_map.specs.SortedMap.{contents}
-use Rattle.dirfrag_codec.specs.FragmentObject.{files_in, dirs_in}
 use Rattle.cached_frag.proofs.CountedLaws.{dirs_among, files_among}
 use Rattle.cached_frag.proofs.loading.counts_in.Given as goal
 

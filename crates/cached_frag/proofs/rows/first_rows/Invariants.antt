@@ -1,6 +1,5 @@
 -- The rows listed and those that are left are the whole.
-use Rattle.std.proofs.Common.{◌≡◌, ◌++◌, ◌≤◌, length}
-use Rattle.cached_frag.specs.Rows.{rows_left}
+use Rattle.cached_frag.proofs.Common.{length, rows_left, ◌++◌, ◌≡◌, ◌≤◌}
 use Rattle.cached_frag.proofs.rows.first_rows.Given as goal
 
 abbrev pub invariant-loop-name : goal.invariant-loop-name

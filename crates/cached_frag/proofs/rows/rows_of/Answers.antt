@@ -1,8 +1,5 @@
-use Rattle.std.proofs.Common.{◌∙◌}
+use Rattle.cached_frag.proofs.Common.{contents, key_cmp, merged, ◌∙◌}
 use Rattle.std.specs.Prelude.{Some}
-use Rattle.objstore.specs.Omap.{key_cmp}
-use Rattle.sorted_map.specs.SortedMap.{contents}
-use Rattle.cached_frag.specs.Rows.{merged}
 use Rattle.cached_frag.proofs.RowLaws.{all_rows_are, rows_are}
 use Rattle.cached_frag.proofs.rows.rows_of.Goals as goal
 

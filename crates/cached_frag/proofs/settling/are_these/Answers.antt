@@ -1,4 +1,4 @@
-use Rattle.cached_frag.specs.SameMarks.{mark_decides}
+use Rattle.cached_frag.proofs.Common.{mark_decides}
 use Rattle.cached_frag.proofs.settling.are_these.Goals as goal
 
 pub returns-then-not-few : goal.returns-then-not-few

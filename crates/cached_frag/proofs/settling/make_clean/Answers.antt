@@ -1,10 +1,5 @@
-use Rattle.std.proofs.Common.{◌≡◌, List, ℕ, length, sym, ap, ◌∙◌, arith}
+use Rattle.cached_frag.proofs.Common.{List, Mark, ap, arith, contents, key_cmp, len-entries, length, sym, with_marks, ℕ, ◌∙◌, ◌≡◌}
 use Rattle.std.specs.FinMap as map
-use Rattle.std.specs.FinMap.{len-entries}
-use Rattle.objstore.specs.Omap.{key_cmp}
-use Rattle.sorted_map.specs.SortedMap.{contents}
-use Rattle.cached_frag.specs.declared.marks.Mark.{Mark}
-use Rattle.cached_frag.specs.Marks.{with_marks}
 use Rattle.cached_frag.proofs.MarkLaws.{patched_is}
 use Rattle.cached_frag.proofs.settling.make_clean.Goals as goal
 

@@ -1,8 +1,5 @@
 -- What is to come of the names makes of those that are clean what all of them would.
-use Rattle.std.proofs.Common.{◌≡◌, ◌≤◌, length}
-use Rattle.objstore.specs.Omap.{key_cmp}
-use Rattle.sorted_map.specs.SortedMap.{contents}
-use Rattle.cached_frag.specs.Marks.{patched, with_marks}
+use Rattle.cached_frag.proofs.Common.{contents, key_cmp, length, patched, with_marks, ◌≡◌, ◌≤◌}
 use Rattle.cached_frag.proofs.settling.make_clean.Given as goal
 
 abbrev pub invariant-loop-name : goal.invariant-loop-name

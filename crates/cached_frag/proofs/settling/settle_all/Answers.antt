@@ -1,10 +1,5 @@
-use Rattle.std.proofs.Common.{◌≡◌, sym, ap, subst, ◌∙◌, arith}
+use Rattle.cached_frag.proofs.Common.{AreEntries, Stored, ap, arith, contents, key_cmp, patched, subst, sym, ◌∙◌, ◌≡◌}
 use Rattle.std.specs.FinMap as map
-use Rattle.objstore.specs.Omap.{key_cmp}
-use Rattle.sorted_map.specs.SortedMap.{contents}
-use Rattle.cached_frag.specs.declared.bases.Base.TheVariants.{Stored}
-use Rattle.cached_frag.specs.Marks.{patched}
-use Rattle.cached_frag.specs.Cached.{AreEntries}
 use Rattle.cached_frag.proofs.SettledLaws.{all_settled, none_dirty}
 use Rattle.cached_frag.proofs.ShownLaws.{only_below, shown_entries}
 use Rattle.cached_frag.proofs.settling.settle_all.Goals as goal

@@ -1,11 +1,6 @@
 -- All names are to come at first.
-use Rattle.std.proofs.Common.{◌≡◌, ◌∙◌, List, ℕ, length, ap, sym, refl, arith}
+use Rattle.cached_frag.proofs.Common.{List, Mark, ap, arith, contents, key_cmp, len-entries, length, refl, settled_in, sym, ℕ, ◌∙◌, ◌≡◌}
 use Rattle.std.specs.FinMap as map
-use Rattle.std.specs.FinMap.{len-entries}
-use Rattle.objstore.specs.Omap.{key_cmp}
-use Rattle.sorted_map.specs.SortedMap.{contents}
-use Rattle.cached_frag.specs.declared.marks.Mark.{Mark}
-use Rattle.cached_frag.specs.Settling.{settled_in}
 use Rattle.cached_frag.proofs.SettledLaws.{settled_is}
 use Rattle.cached_frag.proofs.settling.settle_each.Goals as goal
 

@@ -1,11 +1,6 @@
 -- What is to come of the names makes clean what all of them would; what is shown stays.
-use Rattle.std.proofs.Common.{◌≡◌, ◌≤◌, length}
+use Rattle.cached_frag.proofs.Common.{AreDirtyNames, AreEntries, contents, key_cmp, length, patched, settled_in, ◌≡◌, ◌≤◌}
 use Rattle.std.specs.FinMap as map
-use Rattle.objstore.specs.Omap.{key_cmp}
-use Rattle.sorted_map.specs.SortedMap.{contents}
-use Rattle.cached_frag.specs.Marks.{AreDirtyNames, patched}
-use Rattle.cached_frag.specs.Cached.{AreEntries}
-use Rattle.cached_frag.specs.Settling.{settled_in}
 use Rattle.cached_frag.proofs.settling.settle_each.Given as goal
 
 abbrev pub invariant-loop-name : goal.invariant-loop-name

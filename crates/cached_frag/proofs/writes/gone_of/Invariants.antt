@@ -1,7 +1,6 @@
 -- The keys so far, and those of the names to come, are the whole.
-use Rattle.std.proofs.Common.{◌≡◌}
+use Rattle.cached_frag.proofs.Common.{with_keys, ◌≡◌}
 use Rattle.std.specs.FinMap as map
-use Rattle.cached_frag.specs.Commit.{with_keys}
 use Rattle.cached_frag.proofs.writes.gone_of.Given as goal
 
 abbrev pub invariant-loop-name : goal.invariant-loop-name

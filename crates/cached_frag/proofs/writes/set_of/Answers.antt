@@ -1,10 +1,6 @@
 -- All names are to come at first.
-use Rattle.std.proofs.Common.{◌≡◌, ◌∙◌, List, ℕ, ap, sym, subst}
+use Rattle.cached_frag.proofs.Common.{AllByRecursion, IsDirtyName, List, Mark, ap, subst, sym, with_records, ℕ, ◌∙◌, ◌≡◌}
 use Rattle.std.specs.FinMap as map
-use Rattle.std.specs.List.{AllByRecursion}
-use Rattle.cached_frag.specs.declared.marks.Mark.{Mark}
-use Rattle.cached_frag.specs.Commit.{with_records}
-use Rattle.cached_frag.specs.Marks.{IsDirtyName}
 use Rattle.cached_frag.proofs.MarkLaws.{all_dirty}
 use Rattle.cached_frag.proofs.writes.set_of.Goals as goal
 

@@ -1,9 +1,6 @@
 -- The records so far, and those of the names to come, are the whole.
-use Rattle.std.proofs.Common.{◌≡◌}
+use Rattle.cached_frag.proofs.Common.{AllByRecursion, IsDirtyName, with_records, ◌≡◌}
 use Rattle.std.specs.FinMap as map
-use Rattle.std.specs.List.{AllByRecursion}
-use Rattle.cached_frag.specs.Commit.{with_records}
-use Rattle.cached_frag.specs.Marks.{IsDirtyName}
 use Rattle.cached_frag.proofs.writes.set_of.Given as goal
 
 abbrev pub invariant-loop-name : goal.invariant-loop-name

@@ -1,7 +1,5 @@
-use Rattle.dentry_cache.specs.Came.Came.{stays}
-use Rattle.std.proofs.Common.{Err, arith, rules}
+use Rattle.cluster_core.proofs.Common.{Err, arith, begun_free, rules, stays}
 use Rattle.mdcache.specs.Core.{state_of as tree_state}
-use Rattle.mdcache.proofs.CountLaws.{begun_free}
 use Rattle.cluster_core.proofs.administering.begin_at.Goals as goal
 
 pub returns-in-Err-clause-counted : goal.returns-in-Err-clause-counted

@@ -1,13 +1,7 @@
-use Rattle.dentry_cache.specs.Came.Came.{stays}
-use Rattle.std.proofs.Common.{◌≡◌, true, false, rules, Err, inr, sym, ◌∙◌, arith}
-use Rattle.fragtree.specs.FragTree.{RefusesMerge}
-use Rattle.inode_table.specs.Dirs.{leaves_of}
-use Rattle.mdcache.specs.Core.{LacksPlacesAt, state_of as tree_state}
-use Rattle.ranked_tree.specs.Held.{LacksPlacesInside}
-use Rattle.ranked_tree.proofs.HeldRegroups.{merge_on}
+use Rattle.cluster_core.proofs.Common.{Err, LacksPlacesAt, LacksPlacesInside, RefusesMerge, arith, false, inr, leaves_free, leaves_of, merge_on, rules, stays, sym, true, ◌∙◌, ◌≡◌}
+use Rattle.mdcache.specs.Core.{state_of as tree_state}
 use Rattle.cluster_core.proofs.AdminLaws.{lacks_inside, one_of_all}
 use Rattle.cluster_core.proofs.Worked.{left}
-use Rattle.mdcache.proofs.CountLaws.{leaves_free}
 use Rattle.cluster_core.proofs.administering.merge_at.Goals as goal
 
 pub merge-requires : goal.merge-requires

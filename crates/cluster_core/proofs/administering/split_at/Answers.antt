@@ -1,13 +1,7 @@
-use Rattle.dentry_cache.specs.Came.Came.{stays}
-use Rattle.std.proofs.Common.{◌≡◌, ◌+◌, ◌^◌, true, false, rules, Err, inr, sym, ◌∙◌, arith}
-use Rattle.fragtree.specs.FragTree.{RefusesSplit}
-use Rattle.inode_table.specs.Dirs.{leaves_of}
-use Rattle.mdcache.specs.Core.{LacksPlacesAt, state_of as tree_state}
-use Rattle.ranked_tree.specs.Held.{LacksPlacesFor}
-use Rattle.ranked_tree.proofs.HeldRegroups.{split_on}
+use Rattle.cluster_core.proofs.Common.{Err, LacksPlacesAt, LacksPlacesFor, RefusesSplit, arith, false, inr, leaves_free, leaves_of, rules, split_on, stays, sym, true, ◌+◌, ◌^◌, ◌∙◌, ◌≡◌}
+use Rattle.mdcache.specs.Core.{state_of as tree_state}
 use Rattle.cluster_core.proofs.AdminLaws.{lacks_here}
 use Rattle.cluster_core.proofs.Worked.{left}
-use Rattle.mdcache.proofs.CountLaws.{leaves_free}
 use Rattle.cluster_core.proofs.administering.split_at.Goals as goal
 
 pub returns-in-Err-split-clause-split : goal.returns-in-Err-split-clause-split

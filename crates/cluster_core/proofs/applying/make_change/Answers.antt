@@ -1,12 +1,5 @@
-use Rattle.std.proofs.Common.{List, inr, subst, Err}
-use Rattle.std.specs.List.{Contains}
-use Rattle.mds_types.specs.Leaf.{Leaf}
-use Rattle.dirfrag_codec.specs.EntryRecord.{IsRankNumber}
-use Rattle.inode_table.specs.Numbers.{offer}
-use Rattle.namespace_ops.proofs.ChangedLaws.{fragments_are}
-use Rattle.namespace_ops.proofs.PlanParts.{may_change, numbered_so}
+use Rattle.cluster_core.proofs.Common.{Contains, Err, IsRankNumber, Leaf, List, because, fragments_are, inr, may_change, numbered_so, offer, subst, where_refused}
 use Rattle.mdcache.specs.Core.{state_of as tree_state}
-use Rattle.ranked_tree.proofs.FragsLaws.{because, where_refused}
 use Rattle.cluster_core.proofs.Carried.{carried}
 use Rattle.cluster_core.proofs.MadeReady.{unprepared}
 use Rattle.cluster_core.proofs.applying.make_change.Goals as goal

@@ -1,8 +1,5 @@
-use Rattle.std.proofs.Common.{MatchBool, Option, sym, subst}
-use Rattle.mds_types.specs.declared.ids.Ino.{Ino}
-use Rattle.namespace_ops.specs.Changes.{leaves_gone}
+use Rattle.cluster_core.proofs.Common.{Ino, LacksOneOf, MatchBool, MayTouchEach, Option, leaves_gone, subst, sym}
 use Rattle.mdcache.specs.Core.{state_of as tree_state}
-use Rattle.cluster_core.specs.Master.{LacksOneOf, MayTouchEach}
 use Rattle.cluster_core.proofs.barred.lacks_gone.Goals as goal
 
 pub returns-in-Some : goal.returns-in-Some

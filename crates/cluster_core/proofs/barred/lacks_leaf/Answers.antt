@@ -1,10 +1,5 @@
-use Rattle.std.proofs.Common.{◌≡◌, sym, subst, arith}
-use Rattle.mds_types.specs.Leaf.{leaf_of}
-use Rattle.inode_table.specs.Dirs.{leaves_of}
-use Rattle.inode_table.proofs.Tables.{tree_of_row}
-use Rattle.namespace_ops.specs.Changes.{in_directory}
+use Rattle.cluster_core.proofs.Common.{MayTouchIn, arith, in_directory, leaf_of, leaves_of, subst, sym, tree_of_row, ◌≡◌}
 use Rattle.mdcache.specs.Core.{state_of as tree_state}
-use Rattle.cluster_core.specs.Master.{MayTouchIn}
 use Rattle.cluster_core.proofs.GrantLaws.{denied, ends_all, goes_on, is_among, nearer, of_each}
 use Rattle.cluster_core.proofs.barred.lacks_leaf.Goals as goal
 

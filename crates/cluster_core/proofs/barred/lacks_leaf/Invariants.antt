@@ -1,9 +1,7 @@
 -- The leaves that begin before the hash may be changed.
+use Rattle.cluster_core.proofs.Common.{MayTouchIn, in_directory, leaves_of}
 use Rattle.std.specs.Prelude.{◌-◌, ◌^◌}
-use Rattle.inode_table.specs.Dirs.{leaves_of}
-use Rattle.namespace_ops.specs.Changes.{in_directory}
 use Rattle.mdcache.specs.Core.{state_of as tree_state}
-use Rattle.cluster_core.specs.Master.{MayTouchIn}
 use Rattle.cluster_core.proofs.GrantLaws.{Done}
 use Rattle.cluster_core.proofs.barred.lacks_leaf.Given as goal
 

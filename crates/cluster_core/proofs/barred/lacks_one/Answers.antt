@@ -1,4 +1,4 @@
-use Rattle.namespace_ops.specs.Changes.{leaf_put, leaf_taken, leaves_gone}
+use Rattle.cluster_core.proofs.Common.{leaf_put, leaf_taken, leaves_gone}
 use Rattle.mdcache.specs.Core.{state_of as tree_state}
 use Rattle.cluster_core.proofs.GrantLaws.{lacks_left, lacks_right, others_decide, told_no, told_yes}
 use Rattle.cluster_core.proofs.barred.lacks_one.Goals as goal

@@ -1,12 +1,5 @@
-use Rattle.std.proofs.Common.{IfSome, MatchBool, Option, sym, subst}
-use Rattle.mds_types.specs.Leaf.{leaf_of}
-use Rattle.mds_types.specs.declared.inodes.Inode.{Inode}
-use Rattle.namespace_ops.specs.Changes.{leaf_put}
-use Rattle.namespace_ops.specs.declared.plans.Spot.{Spot}
+use Rattle.cluster_core.proofs.Common.{HoldsAt, IfSome, Inode, LacksOneOf, MatchBool, MayTouchEach, Option, Spot, held_roots, leaf_of, leaf_put, subst, sym}
 use Rattle.mdcache.specs.Core.{state_of as tree_state}
-use Rattle.ranked_tree.specs.Ranked.{held_roots}
-use Rattle.ranked_tree.specs.Subtrees.{HoldsAt}
-use Rattle.cluster_core.specs.Master.{LacksOneOf, MayTouchEach}
 use Rattle.cluster_core.proofs.GrantLaws.{none_lacks, only_one}
 use Rattle.cluster_core.proofs.barred.may_put.Goals as goal
 

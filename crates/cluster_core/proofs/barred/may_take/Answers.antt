@@ -1,11 +1,5 @@
-use Rattle.std.proofs.Common.{IfSome, MatchBool, Option, sym, subst}
-use Rattle.mds_types.specs.Leaf.{leaf_of}
-use Rattle.namespace_ops.specs.Changes.{leaf_taken}
-use Rattle.namespace_ops.specs.declared.plans.Spot.{Spot}
+use Rattle.cluster_core.proofs.Common.{HoldsAt, IfSome, LacksOneOf, MatchBool, MayTouchEach, Option, Spot, held_roots, leaf_of, leaf_taken, subst, sym}
 use Rattle.mdcache.specs.Core.{state_of as tree_state}
-use Rattle.ranked_tree.specs.Ranked.{held_roots}
-use Rattle.ranked_tree.specs.Subtrees.{HoldsAt}
-use Rattle.cluster_core.specs.Master.{LacksOneOf, MayTouchEach}
 use Rattle.cluster_core.proofs.GrantLaws.{none_lacks, only_one}
 use Rattle.cluster_core.proofs.barred.may_take.Goals as goal
 

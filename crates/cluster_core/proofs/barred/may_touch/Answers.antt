@@ -1,4 +1,4 @@
-use Rattle.std.proofs.Common.{◌≡◌, false, true, rules, sym, ◌∙◌}
+use Rattle.cluster_core.proofs.Common.{false, rules, sym, true, ◌∙◌, ◌≡◌}
 use Rattle.mdcache.specs.Core.{state_of as tree_state}
 use Rattle.cluster_core.proofs.GrantLaws.{by_frozen, by_grant, by_holding}
 use Rattle.cluster_core.proofs.barred.may_touch.Goals as goal

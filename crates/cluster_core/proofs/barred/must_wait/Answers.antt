@@ -1,14 +1,6 @@
-use Rattle.std.proofs.Common.{List, MatchBool, subst}
-use Rattle.mds_types.specs.Step.{step}
-use Rattle.namespace_ops.specs.Checked.{Checks}
-use Rattle.namespace_ops.specs.declared.plans.Checked.{Checked}
-use Rattle.namespace_ops.proofs.ChangedLaws.{fragments_are}
+use Rattle.cluster_core.proofs.Common.{Checked, Checks, HoldsAt, LacksOneOf, List, MatchBool, MayTouchEach, fragments_are, held_roots, shown_tree, step, subst}
 use Rattle.subtree_map.specs.Authority.{Leaf}
 use Rattle.mdcache.specs.Core.{state_of as tree_state}
-use Rattle.mdcache.specs.Shown.{shown_tree}
-use Rattle.ranked_tree.specs.Ranked.{held_roots}
-use Rattle.ranked_tree.specs.Subtrees.{HoldsAt}
-use Rattle.cluster_core.specs.Master.{LacksOneOf, MayTouchEach}
 use Rattle.cluster_core.proofs.GrantLaws.{gone_stands}
 use Rattle.cluster_core.proofs.barred.must_wait.Goals as goal
 

@@ -1,6 +1,5 @@
 -- An empty book is sound.
-use Rattle.std.proofs.Common.{length, ap, ◌∙◌}
-use Rattle.dentry_cache.specs.CacheMap.{CacheMap}
+use Rattle.cluster_core.proofs.Common.{CacheMap, ap, length, ◌∙◌}
 use Rattle.cluster_core.proofs.NewBook.{new_count, sound-empty}
 use Rattle.cluster_core.proofs.SettledLaws.{none_known}
 use Rattle.cluster_core.proofs.books.format.Goals as goal

@@ -1,6 +1,4 @@
-use Rattle.std.proofs.Common.{◌≡◌, ◌++◌, ◌∷◌, [], ℕ, List, rules, sym, ap, ◌∙◌}
-use Rattle.inode_table.specs.Numbers.{Supply}
-use Rattle.cluster_core.specs.State.{whole_supplies}
+use Rattle.cluster_core.proofs.Common.{List, Supply, [], ap, rules, sym, whole_supplies, ℕ, ◌++◌, ◌∙◌, ◌∷◌, ◌≡◌}
 use Rattle.cluster_core.proofs.Supplies.{supplies_more, whole_supply}
 use Rattle.cluster_core.proofs.clusters.whole_supplies.Goals as goal
 

@@ -1,6 +1,5 @@
 -- So far each rank below has all its numbers.
-use Rattle.std.proofs.Common.{◌≡◌}
-use Rattle.cluster_core.specs.State.{whole_supplies}
+use Rattle.cluster_core.proofs.Common.{whole_supplies, ◌≡◌}
 use Rattle.cluster_core.proofs.clusters.whole_supplies.Given as goal
 
 abbrev pub invariant-loop-rank : goal.invariant-loop-rank

@@ -1,11 +1,5 @@
-use Rattle.std.proofs.Common.{◌≡◌, true, false, Some, refl, rules, sym, ap, ◌∙◌, subst}
-use Rattle.std.specs.Prelude.{option_map}
+use Rattle.cluster_core.proofs.Common.{HasAuthority, Rank, Some, Standing, StandingExport, ap, false, option_map, refl, rules, shown_tree, subst, sym, true, ◌∙◌, ◌≡◌}
 use Rattle.std.specs.FinMap as map
-use Rattle.mds_types.specs.declared.ids.Rank.{Rank}
-use Rattle.export_steps.specs.declared.exports.StandingExport.{StandingExport}
-use Rattle.export_steps.specs.Standing.{Standing}
-use Rattle.subtree_map.specs.Authority.{HasAuthority}
-use Rattle.mdcache.specs.Shown.{shown_tree}
 use Rattle.mdcache.specs.State.{State as TreeState}
 use Rattle.cluster_core.proofs.exporting.freeze_at.Goals as goal
 

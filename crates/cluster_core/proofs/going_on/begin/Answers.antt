@@ -1,4 +1,4 @@
-use Rattle.std.proofs.Common.{◌≡◌, inl, inr, true, false, rules, refl, sym, ◌∙◌}
+use Rattle.cluster_core.proofs.Common.{false, inl, inr, refl, rules, sym, true, ◌∙◌, ◌≡◌}
 use Rattle.cluster_core.proofs.going_on.begin.Goals as goal
 
 pub returns-then-not-is_mine : goal.returns-then-not-is_mine

@@ -1,4 +1,4 @@
-use Rattle.std.proofs.Common.{◌≡◌, true, false, rules, sym, ◌∙◌}
+use Rattle.cluster_core.proofs.Common.{false, rules, sym, true, ◌∙◌, ◌≡◌}
 use Rattle.cluster_core.proofs.going_on.is_mine.Goals as goal
 
 pub returns-then-has_leaf : goal.returns-then-has_leaf

@@ -1,5 +1,4 @@
-use Rattle.std.proofs.Common.{◌≡◌, true, false, not, rules, sym, ap, ◌∙◌}
-use Rattle.std.proofs.lemmas.Bool.{false_from_ne_true, not-true}
+use Rattle.cluster_core.proofs.Common.{ap, false, false_from_ne_true, not, not-true, rules, sym, true, ◌∙◌, ◌≡◌}
 use Rattle.cluster_core.proofs.FreezeLaws.{none_granted, none_pinned}
 use Rattle.cluster_core.proofs.going_on.may_freeze.Goals as goal
 

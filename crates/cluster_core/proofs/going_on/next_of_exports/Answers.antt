@@ -1,7 +1,4 @@
-use Rattle.std.proofs.Common.{Some, None, subst, rules, arith}
-use Rattle.export_steps.specs.ByExporter.{IsNextOf}
-use Rattle.export_steps.specs.Standing.{Standing}
-use Rattle.cluster_core.specs.Proposal.{sight_of}
+use Rattle.cluster_core.proofs.Common.{IsNextOf, None, Some, Standing, arith, rules, sight_of, subst}
 use Rattle.cluster_core.proofs.KindLaws.{behind_next, stepped, stepped_all, stepped_over}
 use Rattle.cluster_core.proofs.LeafPlaces.{fewer}
 use Rattle.cluster_core.proofs.going_on.next_of_exports.Goals as goal

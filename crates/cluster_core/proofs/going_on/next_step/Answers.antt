@@ -1,7 +1,4 @@
-use Rattle.std.proofs.Common.{MatchOption, sym, subst}
-use Rattle.export_steps.specs.declared.exports.ExportState.{ExportState}
-use Rattle.cluster_core.specs.declared.events.Event.{Event}
-use Rattle.cluster_core.specs.Proposal.{IsNextStep, sight_of}
+use Rattle.cluster_core.proofs.Common.{Event, ExportState, IsNextStep, MatchOption, sight_of, subst, sym}
 use Rattle.cluster_core.proofs.going_on.next_step.Goals as goal
 
 pub returns-in-Started : goal.returns-in-Started

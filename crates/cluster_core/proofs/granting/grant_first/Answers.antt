@@ -1,6 +1,4 @@
-use Rattle.std.proofs.Common.{refl, subst}
-use Rattle.namespace_ops.specs.ChangedFragments.{NamesOnce, changed_fragments}
-use Rattle.mdcache.specs.Shown.{shown_tree}
+use Rattle.cluster_core.proofs.Common.{NamesOnce, changed_fragments, refl, shown_tree, subst}
 use Rattle.mdcache.specs.Core.{state_of as tree_state}
 use Rattle.ranked_tree.specs.Ranked.{MayRefuse}
 use Rattle.cluster_core.proofs.HeldLaws.{all_granted, none_found}

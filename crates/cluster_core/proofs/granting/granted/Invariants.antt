@@ -1,6 +1,5 @@
 -- What the grants come to with those of the leaves left.
-use Rattle.std.proofs.Common.{◌≡◌, drop}
-use Rattle.cluster_core.specs.Grants.{with_grants}
+use Rattle.cluster_core.proofs.Common.{drop, with_grants, ◌≡◌}
 use Rattle.cluster_core.proofs.granting.granted.Given as goal
 
 abbrev pub invariant-loop-leaf : goal.invariant-loop-leaf

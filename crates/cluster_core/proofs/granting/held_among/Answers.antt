@@ -1,8 +1,5 @@
-use Rattle.std.proofs.Common.{◌≡◌, ◌+◌, ◌∷◌, true, false, List, drop, rules, sym, ap, ◌∙◌, subst}
-use Rattle.std.proofs.lemmas.List.{drop_more}
-use Rattle.mds_types.specs.Leaf.{Leaf}
+use Rattle.cluster_core.proofs.Common.{AreHeldAmong, Leaf, List, ap, drop, drop_more, false, rules, subst, sym, true, ◌+◌, ◌∙◌, ◌∷◌, ◌≡◌}
 use Rattle.mdcache.specs.Core.{state_of as tree_state}
-use Rattle.cluster_core.specs.Grants.{AreHeldAmong}
 use Rattle.cluster_core.proofs.HeldLaws.{all_held, holds_one, one_less, one_more}
 use Rattle.cluster_core.proofs.granting.held_among.Goals.{then-is_authority+in_ok-push, else-is_authority}
 use Rattle.cluster_core.proofs.granting.held_among.Goals as goal

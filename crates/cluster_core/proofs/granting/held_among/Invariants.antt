@@ -1,8 +1,6 @@
 -- With those that are held among the leaves left these are all.
-use Rattle.std.proofs.Common.{List, drop, ◌++◌}
-use Rattle.mds_types.specs.Leaf.{Leaf}
+use Rattle.cluster_core.proofs.Common.{AreHeldAmong, Leaf, List, drop, ◌++◌}
 use Rattle.mdcache.specs.Core.{state_of as tree_state}
-use Rattle.cluster_core.specs.Grants.{AreHeldAmong}
 use Rattle.cluster_core.proofs.granting.held_among.Given as goal
 
 abbrev pub invariant-loop-leaf : goal.invariant-loop-leaf

@@ -1,10 +1,4 @@
-use Rattle.std.proofs.Common.{◌≡◌, ◌⊎◌, inl, inr, ◌+◌, ◌∷◌, true, false, List, drop, rules, sym, ap, ◌∙◌, subst}
-use Rattle.std.specs.List.{Contains}
-use Rattle.std.proofs.lemmas.List.{drop_all, drop_more}
-use Rattle.std.proofs.lemmas.List.Elements.{Contains-get_or}
-use Rattle.mds_types.specs.Leaf.{Leaf}
-use Rattle.export_steps.specs.Holder.{IsFrozen}
-use Rattle.namespace_ops.proofs.Members.{first_or_later}
+use Rattle.cluster_core.proofs.Common.{Contains, Contains-get_or, IsFrozen, Leaf, List, ap, drop, drop_all, drop_more, false, first_or_later, inl, inr, rules, subst, sym, true, ◌+◌, ◌∙◌, ◌∷◌, ◌≡◌, ◌⊎◌}
 use Rattle.cluster_core.proofs.MasterLaws.{not_in_none}
 use Rattle.cluster_core.proofs.granting.is_one_frozen.Goals as goal
 

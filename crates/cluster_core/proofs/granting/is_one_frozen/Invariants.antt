@@ -1,8 +1,5 @@
 -- Each of the leaves is one of those left, or isn't frozen.
-use Rattle.std.proofs.Common.{◌⊎◌, drop}
-use Rattle.std.specs.List.{Contains}
-use Rattle.mds_types.specs.Leaf.{Leaf}
-use Rattle.export_steps.specs.Holder.{IsFrozen}
+use Rattle.cluster_core.proofs.Common.{Contains, IsFrozen, Leaf, drop, ◌⊎◌}
 use Rattle.cluster_core.proofs.granting.is_one_frozen.Given as goal
 
 abbrev pub invariant-loop-leaf : goal.invariant-loop-leaf

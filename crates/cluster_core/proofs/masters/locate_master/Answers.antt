@@ -1,9 +1,5 @@
-use Rattle.mds_types.specs.Shape.{destination_of}
-use Rattle.namespace_ops.specs.Places.{main_hash}
+use Rattle.cluster_core.proofs.Common.{HoldsAt, destination_of, held_roots, main_hash, shown_tree}
 use Rattle.mdcache.specs.Core.{state_of as tree_state}
-use Rattle.mdcache.specs.Shown.{shown_tree}
-use Rattle.ranked_tree.specs.Ranked.{held_roots}
-use Rattle.ranked_tree.specs.Subtrees.{HoldsAt}
 use Rattle.cluster_core.proofs.MasterLaws.{master_located, where_found}
 use Rattle.cluster_core.proofs.masters.locate_master.Goals as goal
 

@@ -1,7 +1,4 @@
-use Rattle.std.proofs.Common.{◌↔◌, IsTrue, sym}
-use Rattle.inode_table.specs.Dirs.{Covers, Homes}
-use Rattle.cluster_core.specs.Administers.{IsAnyPinned}
-use Rattle.ranked_tree.proofs.SubtreeLaws.{over}
+use Rattle.cluster_core.proofs.Common.{Covers, Homes, IsAnyPinned, IsTrue, over, sym, ◌↔◌}
 use Rattle.cluster_core.proofs.pinned.is_any_pinned.Goals as goal
 
 pub returns : goal.returns

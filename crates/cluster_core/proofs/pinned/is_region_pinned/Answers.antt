@@ -1,10 +1,4 @@
-use Rattle.std.proofs.Common.{◌≡◌, ◌⊎◌, inl, inr, ◌+◌, ◌∷◌, true, false, List, drop, rules, sym, ap, ◌∙◌, subst}
-use Rattle.std.specs.List.{Contains}
-use Rattle.std.proofs.lemmas.List.{drop_all, drop_more}
-use Rattle.std.proofs.lemmas.List.Elements.{Contains-get_or}
-use Rattle.inboxes.specs.declared.pins.Pin.{Pin}
-use Rattle.namespace_ops.proofs.Members.{first_or_later}
-use Rattle.ranked_tree.specs.Exported.{IsUnder}
+use Rattle.cluster_core.proofs.Common.{Contains, Contains-get_or, IsUnder, List, Pin, ap, drop, drop_all, drop_more, false, first_or_later, inl, inr, rules, subst, sym, true, ◌+◌, ◌∙◌, ◌∷◌, ◌≡◌, ◌⊎◌}
 use Rattle.cluster_core.proofs.MasterLaws.{not_in_none}
 use Rattle.cluster_core.proofs.pinned.is_region_pinned.Goals as goal
 

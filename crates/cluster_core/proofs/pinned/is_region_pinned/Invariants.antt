@@ -1,8 +1,5 @@
 -- Each of the pins is one of those left, or isn't on a leaf of the region.
-use Rattle.std.proofs.Common.{◌⊎◌, drop}
-use Rattle.std.specs.List.{Contains}
-use Rattle.inboxes.specs.declared.pins.Pin.{Pin}
-use Rattle.ranked_tree.specs.Exported.{IsUnder}
+use Rattle.cluster_core.proofs.Common.{Contains, IsUnder, Pin, drop, ◌⊎◌}
 use Rattle.cluster_core.proofs.pinned.is_region_pinned.Given as goal
 
 abbrev pub invariant-loop-pin : goal.invariant-loop-pin

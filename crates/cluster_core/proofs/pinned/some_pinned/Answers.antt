@@ -1,10 +1,4 @@
-use Rattle.std.proofs.Common.{◌≡◌, ℕ, false, true, rules, refl, sym, subst, ◌∙◌, arith}
-use Rattle.std.specs.List.{list_any}
-use Rattle.inboxes.specs.Pins.{is_on}
-use Rattle.inode_table.specs.Dirs.{leaves_of}
-use Rattle.inode_table.proofs.Tables.{tree_of_row}
-use Rattle.mds_types.specs.Leaf.{Leaf}
-use Rattle.ranked_tree.proofs.InsideLaws.{Done, is_within, of_all, walk_ends, walk_goes, walk_on, walk_starts}
+use Rattle.cluster_core.proofs.Common.{Done, Leaf, arith, false, is_on, is_within, leaves_of, list_any, of_all, refl, rules, subst, sym, tree_of_row, true, walk_ends, walk_goes, walk_on, walk_starts, ℕ, ◌∙◌, ◌≡◌}
 use Rattle.cluster_core.proofs.pinned.some_pinned.Goals as goal
 
 pub loop-leaf-init : goal.loop-leaf-init

@@ -1,9 +1,6 @@
 -- The leaves inside that begin before the hash are not pinned.
+use Rattle.cluster_core.proofs.Common.{Done, is_on, leaves_of, list_any}
 use Rattle.std.specs.Prelude.{◌≡◌, ◌-◌, ◌^◌, ◌≤◌, false}
-use Rattle.std.specs.List.{list_any}
-use Rattle.inboxes.specs.Pins.{is_on}
-use Rattle.inode_table.specs.Dirs.{leaves_of}
-use Rattle.ranked_tree.proofs.InsideLaws.{Done}
 use Rattle.cluster_core.proofs.pinned.some_pinned.Given as goal
 
 abbrev pub invariant-loop-leaf : goal.invariant-loop-leaf

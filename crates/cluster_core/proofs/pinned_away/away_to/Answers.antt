@@ -1,6 +1,4 @@
-use Rattle.std.proofs.Common.{◌≡◌, ◌≢◌, ◌<◌, true, false, rules, sym, subst, ◌∙◌}
-use Rattle.mds_types.specs.declared.ids.Rank.{Rank}
-use Rattle.cluster_core.specs.Pins.{HasPin}
+use Rattle.cluster_core.proofs.Common.{HasPin, Rank, false, rules, subst, sym, true, ◌<◌, ◌∙◌, ◌≡◌, ◌≢◌}
 use Rattle.cluster_core.proofs.PinsLaws.{pin_over}
 use Rattle.cluster_core.proofs.ProposalLaws.{one_pin}
 use Rattle.cluster_core.proofs.pinned_away.away_to.Goals as goal

@@ -1,8 +1,4 @@
-use Rattle.std.proofs.Common.{[], subst, arith}
-use Rattle.fragtree.specs.FragTree.{IsPick}
-use Rattle.inode_table.specs.Dirs.{Covers, leaves_of}
-use Rattle.inode_table.proofs.Tables.{tree_of_row}
-use Rattle.cluster_core.specs.Proposal.{sight_of}
+use Rattle.cluster_core.proofs.Common.{Covers, IsPick, [], arith, leaves_of, sight_of, subst, tree_of_row}
 use Rattle.cluster_core.proofs.DirWalkLaws.{StaysHere, dir_found, dir_none}
 use Rattle.cluster_core.proofs.GrantLaws.{goes_on, nearer}
 use Rattle.cluster_core.proofs.pinned_away.first_of_dir.Goals as goal

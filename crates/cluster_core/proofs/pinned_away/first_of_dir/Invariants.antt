@@ -1,8 +1,6 @@
 -- The leaves that begin before the hash aren't to start.
+use Rattle.cluster_core.proofs.Common.{Pin, leaves_of, sight_of}
 use Rattle.std.specs.Prelude.{◌-◌, ◌^◌, List}
-use Rattle.inboxes.specs.declared.pins.Pin.{Pin}
-use Rattle.inode_table.specs.Dirs.{leaves_of}
-use Rattle.cluster_core.specs.Proposal.{sight_of}
 use Rattle.cluster_core.proofs.DirWalkLaws.{StaysHere}
 use Rattle.cluster_core.proofs.GrantLaws.{Done}
 use Rattle.cluster_core.proofs.pinned_away.first_of_dir.Given as goal

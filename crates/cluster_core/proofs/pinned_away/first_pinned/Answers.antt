@@ -1,7 +1,4 @@
-use Rattle.std.proofs.Common.{Some, None, subst, rules, arith}
-use Rattle.inode_table.specs.Dirs.{DirPins}
-use Rattle.inode_table.specs.Pinned.{IsNextPinned}
-use Rattle.cluster_core.specs.Proposal.{sight_of}
+use Rattle.cluster_core.proofs.Common.{DirPins, IsNextPinned, None, Some, arith, rules, sight_of, subst}
 use Rattle.cluster_core.proofs.DirWalkLaws.{fewer_dirs, pinned_found, pinned_none, pinned_passed}
 use Rattle.cluster_core.proofs.pinned_away.first_pinned.Goals as goal
 

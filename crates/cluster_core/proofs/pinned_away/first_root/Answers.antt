@@ -1,8 +1,4 @@
-use Rattle.std.proofs.Common.{Some, None, subst, arith}
-use Rattle.subtree_map.specs.Changes.{Subtrees}
-use Rattle.subtree_map.specs.Lists.{is_after}
-use Rattle.subtree_map.specs.Rows.{IsFirst}
-use Rattle.cluster_core.specs.Proposal.{sight_of}
+use Rattle.cluster_core.proofs.Common.{IsFirst, None, Some, Subtrees, arith, is_after, sight_of, subst}
 use Rattle.cluster_core.proofs.AwayLaws.{IsRootOf, away_found, away_none, away_passed, next_of_roots}
 use Rattle.cluster_core.proofs.LeafPlaces.{fewer}
 use Rattle.cluster_core.proofs.pinned_away.first_root.Goals as goal

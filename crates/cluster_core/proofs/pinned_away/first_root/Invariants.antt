@@ -1,7 +1,6 @@
 -- No root before is to start.
+use Rattle.cluster_core.proofs.Common.{Pin, sight_of}
 use Rattle.std.specs.Prelude.{List}
-use Rattle.inboxes.specs.declared.pins.Pin.{Pin}
-use Rattle.cluster_core.specs.Proposal.{sight_of}
 use Rattle.cluster_core.proofs.AwayLaws.{IsRootOf, Starts}
 use Rattle.cluster_core.proofs.LeafPlaces.{left}
 use Rattle.cluster_core.proofs.WalkLaws.{IsWalked}

@@ -1,9 +1,4 @@
-use Rattle.std.proofs.Common.{Option, None, subst, rules}
-use Rattle.mds_types.specs.declared.ids.Rank.{Rank}
-use Rattle.mds_types.specs.Leaf.{Leaf}
-use Rattle.cluster_core.specs.Proposal.{IsFirstAway, IsPlace, sight_of}
-use Rattle.inode_table.specs.Dirs.{DirPins}
-use Rattle.inode_table.specs.Pinned.{IsNextPinned}
+use Rattle.cluster_core.proofs.Common.{DirPins, IsFirstAway, IsNextPinned, IsPlace, Leaf, None, Option, Rank, rules, sight_of, subst}
 use Rattle.cluster_core.proofs.AwayLaws.{start_none, start_of}
 use Rattle.cluster_core.proofs.PinsLaws.{unpinned_by}
 use Rattle.cluster_core.proofs.pinned_away.first_start.Goals as goal

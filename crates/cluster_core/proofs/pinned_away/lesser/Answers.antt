@@ -1,5 +1,4 @@
-use Rattle.std.proofs.Common.{subst}
-use Rattle.cluster_core.specs.Proposal.{IsFirstAway, IsOfPinned, IsRootAt}
+use Rattle.cluster_core.proofs.Common.{IsFirstAway, IsOfPinned, IsRootAt, subst}
 use Rattle.cluster_core.proofs.AwayLaws.{first_of_both, no_first}
 use Rattle.cluster_core.proofs.pinned_away.lesser.Goals as goal
 

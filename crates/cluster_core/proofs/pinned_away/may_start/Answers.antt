@@ -1,6 +1,5 @@
-use Rattle.std.proofs.Common.{◌≡◌, true, false, rules, refl, sym, ap, ◌∙◌}
+use Rattle.cluster_core.proofs.Common.{Standing, ap, false, refl, rules, sym, true, ◌∙◌, ◌≡◌}
 use Rattle.std.specs.FinMap as map
-use Rattle.export_steps.specs.Standing.{Standing}
 use Rattle.cluster_core.proofs.pinned_away.may_start.Goals as goal
 
 pub returns-then-not-is_mine : goal.returns-then-not-is_mine

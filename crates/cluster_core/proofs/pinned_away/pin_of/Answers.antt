@@ -1,5 +1,4 @@
-use Rattle.inode_table.proofs.Chains.{nearer}
-use Rattle.cluster_core.specs.Pins.{inherited}
+use Rattle.cluster_core.proofs.Common.{inherited, nearer}
 use Rattle.cluster_core.proofs.PinsLaws.{at_top, up}
 use Rattle.cluster_core.proofs.pinned_away.pin_of.Goals as goal
 

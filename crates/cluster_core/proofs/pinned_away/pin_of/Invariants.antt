@@ -1,10 +1,6 @@
 -- On the way up the effective pin stays.
-use Rattle.std.proofs.Common.{◌↔◌}
+use Rattle.cluster_core.proofs.Common.{HasPin, IsTable, Rank, climbed, ◌↔◌}
 use Rattle.std.specs.FinMap as map
-use Rattle.mds_types.specs.declared.ids.Rank.{Rank}
-use Rattle.inode_table.specs.Dirs.{IsTable}
-use Rattle.inode_table.proofs.Chains.{climbed}
-use Rattle.cluster_core.specs.Pins.{HasPin}
 use Rattle.cluster_core.proofs.pinned_away.pin_of.Given as goal
 
 abbrev pub invariant-loop-home : goal.invariant-loop-home

@@ -1,4 +1,4 @@
-use Rattle.inode_table.specs.Dirs.{leaves_of}
+use Rattle.cluster_core.proofs.Common.{leaves_of}
 use Rattle.cluster_core.proofs.MergeLaws.{can_merge}
 use Rattle.cluster_core.proofs.proposals.proposed_merges_pass.Goals as goal
 

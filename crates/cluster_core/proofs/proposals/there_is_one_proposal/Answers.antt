@@ -1,4 +1,4 @@
-use Rattle.cluster_core.specs.Proposal.{kinds}
+use Rattle.cluster_core.proofs.Common.{kinds}
 use Rattle.cluster_core.proofs.ProposalLaws.{one_first}
 use Rattle.cluster_core.proofs.proposals.there_is_one_proposal.Goals as goal
 

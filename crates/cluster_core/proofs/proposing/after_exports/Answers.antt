@@ -1,5 +1,4 @@
-use Rattle.std.proofs.Common.{[], ◌∷◌, sym}
-use Rattle.cluster_core.specs.Proposal.{OfLarge, OfPin, OfSmall, sight_of}
+use Rattle.cluster_core.proofs.Common.{OfLarge, OfPin, OfSmall, [], sight_of, sym, ◌∷◌}
 use Rattle.cluster_core.proofs.FirstLaws.{first_found, first_passed}
 use Rattle.cluster_core.proofs.proposing.after_exports.Goals as goal
 

@@ -1,5 +1,4 @@
-use Rattle.std.proofs.Common.{[], ◌∷◌, sym}
-use Rattle.cluster_core.specs.Proposal.{OfPin, OfSmall, sight_of}
+use Rattle.cluster_core.proofs.Common.{OfPin, OfSmall, [], sight_of, sym, ◌∷◌}
 use Rattle.cluster_core.proofs.FirstLaws.{first_found, first_last, first_passed}
 use Rattle.cluster_core.proofs.proposing.after_splits.Goals as goal
 

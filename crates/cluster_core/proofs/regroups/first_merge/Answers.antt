@@ -1,7 +1,4 @@
-use Rattle.std.proofs.Common.{◌≡◌, true, false, Some, None, subst, sym, ◌∙◌, rules, arith}
-use Rattle.dentry_cache.specs.CacheMap.{CacheMap}
-use Rattle.dentry_cache.specs.Candidates.{IsNext, IsSmallIn, sizes_at}
-use Rattle.cluster_core.specs.Proposal.{sight_of}
+use Rattle.cluster_core.proofs.Common.{CacheMap, IsNext, IsSmallIn, None, Some, arith, false, rules, sight_of, sizes_at, subst, sym, true, ◌∙◌, ◌≡◌}
 use Rattle.cluster_core.proofs.KindLaws.{merge_found, merge_none, merge_passed}
 use Rattle.cluster_core.proofs.LeafPlaces.{fewer}
 use Rattle.cluster_core.proofs.regroups.first_merge.Goals as goal

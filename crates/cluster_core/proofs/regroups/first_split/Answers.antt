@@ -1,7 +1,4 @@
-use Rattle.std.proofs.Common.{◌≡◌, true, false, Some, None, subst, sym, ◌∙◌, rules, arith}
-use Rattle.dentry_cache.specs.CacheMap.{CacheMap}
-use Rattle.dentry_cache.specs.Candidates.{IsNext, IsLargeIn, sizes_at}
-use Rattle.cluster_core.specs.Proposal.{sight_of}
+use Rattle.cluster_core.proofs.Common.{CacheMap, IsLargeIn, IsNext, None, Some, arith, false, rules, sight_of, sizes_at, subst, sym, true, ◌∙◌, ◌≡◌}
 use Rattle.cluster_core.proofs.KindLaws.{split_found, split_none, split_passed}
 use Rattle.cluster_core.proofs.LeafPlaces.{fewer}
 use Rattle.cluster_core.proofs.regroups.first_split.Goals as goal

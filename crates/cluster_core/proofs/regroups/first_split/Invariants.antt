@@ -1,6 +1,6 @@
 -- No candidate before passes.
+use Rattle.cluster_core.proofs.Common.{OfLarge, sight_of}
 use Rattle.std.specs.Prelude.{ℕ}
-use Rattle.cluster_core.specs.Proposal.{OfLarge, sight_of}
 use Rattle.cluster_core.proofs.KindLaws.{Passes}
 use Rattle.cluster_core.proofs.LeafPlaces.{left}
 use Rattle.cluster_core.proofs.WalkLaws.{IsWalked}

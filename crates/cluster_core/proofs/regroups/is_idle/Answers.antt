@@ -1,5 +1,4 @@
-use Rattle.std.proofs.Common.{◌≡◌, true, false, not, rules, sym, ap, ◌∙◌}
-use Rattle.std.proofs.lemmas.Bool.{not-true}
+use Rattle.cluster_core.proofs.Common.{ap, false, not, not-true, rules, sym, true, ◌∙◌, ◌≡◌}
 use Rattle.cluster_core.proofs.regroups.is_idle.Goals as goal
 
 pub returns-then-not-is_mine : goal.returns-then-not-is_mine

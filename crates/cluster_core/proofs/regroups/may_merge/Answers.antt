@@ -1,11 +1,4 @@
-use Rattle.std.proofs.Common.{◌≡◌, inl, inr, ℕ, true, false, rules, refl, sym, subst, ◌∙◌, arith}
-use Rattle.std.proofs.lemmas.Bool.{cases_lt}
-use Rattle.mds_types.specs.Frag.{Fragment, child_of}
-use Rattle.inode_table.specs.Dirs.{leaves_of}
-use Rattle.inode_table.proofs.Tables.{tree_of_row}
-use Rattle.subtree_map.proofs.Covers.{is_fragment}
-use Rattle.dentry_cache.specs.Candidates.{child}
-use Rattle.cluster_core.specs.Proposal.{IsIdle, sight_of}
+use Rattle.cluster_core.proofs.Common.{Fragment, IsIdle, arith, cases_lt, child, child_of, false, inl, inr, is_fragment, leaves_of, refl, rules, sight_of, subst, sym, tree_of_row, true, ℕ, ◌∙◌, ◌≡◌}
 use Rattle.cluster_core.proofs.regroups.may_merge.Goals as goal
 
 pub returns-in_default : goal.returns-in_default

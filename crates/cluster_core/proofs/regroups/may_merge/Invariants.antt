@@ -1,7 +1,6 @@
 -- The children before are idle.
+use Rattle.cluster_core.proofs.Common.{IsIdle, child, sight_of}
 use Rattle.std.specs.Prelude.{ℕ, ◌<◌}
-use Rattle.dentry_cache.specs.Candidates.{child}
-use Rattle.cluster_core.specs.Proposal.{IsIdle, sight_of}
 use Rattle.cluster_core.proofs.regroups.may_merge.Given as goal
 
 abbrev pub invariant-loop-i : goal.invariant-loop-i

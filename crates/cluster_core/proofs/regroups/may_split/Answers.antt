@@ -1,5 +1,4 @@
-use Rattle.std.proofs.Common.{◌≡◌, ◌≤◌, true, false, length, sym, subst, arith}
-use Rattle.inode_table.specs.Dirs.{Covers, leaves_of}
+use Rattle.cluster_core.proofs.Common.{Covers, arith, false, leaves_of, length, subst, sym, true, ◌≡◌, ◌≤◌}
 use Rattle.cluster_core.proofs.regroups.may_split.Goals as goal
 
 pub returns-then-leaf_count-gt-MOST_LEAVES : goal.returns-then-leaf_count-gt-MOST_LEAVES

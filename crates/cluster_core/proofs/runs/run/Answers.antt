@@ -1,6 +1,5 @@
 -- The list of events is run from its front.
-use Rattle.std.proofs.Common.{sym, ◌∙◌, arith}
-use Rattle.std.specs.Vec.Iter.{into_iter_items}
+use Rattle.cluster_core.proofs.Common.{arith, into_iter_items, sym, ◌∙◌}
 use Rattle.cluster_core.proofs.RunLaws.{run_more, run_all, run_of}
 use Rattle.cluster_core.proofs.runs.run.Goals as goal
 

@@ -1,7 +1,4 @@
-use Rattle.std.proofs.Common.{◌≡◌, ◌+◌, ◌≤◌, take, drop, length, vec_len, vec_capacity}
-use Rattle.std.specs.Vec.Iter.{into_iter_items, into_iter_len}
-use Rattle.cluster_core.specs.Runs.{Runs}
-use Rattle.cluster_core.specs.Sound.{IsSoundBook}
+use Rattle.cluster_core.proofs.Common.{IsSoundBook, Runs, drop, into_iter_items, into_iter_len, length, take, vec_capacity, vec_len, ◌+◌, ◌≡◌, ◌≤◌}
 use Rattle.cluster_core.proofs.runs.run.Given as goal
 
 -- as many events were run as there are results, and there is room for a result of each that is left

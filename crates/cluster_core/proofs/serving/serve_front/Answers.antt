@@ -1,13 +1,6 @@
-use Rattle.std.proofs.Common.{◌≢◌, List, Err, rules, subst, sym}
-use Rattle.mds_types.specs.declared.requests.Request.{Request}
-use Rattle.mds_types.specs.declared.refusals.Refusal.TheVariants.{Trimmed}
-use Rattle.inboxes.specs.Inboxes.{Inboxes, waiting_at}
-use Rattle.sessions.specs.Rooms.{table}
+use Rattle.cluster_core.proofs.Common.{Err, Inboxes, List, Ranked, Request, ServesInbox, Trimmed, UsesFront, held_roots, rules, state_of, subst, sym, table, waiting_at, ◌≢◌}
 use Rattle.mdcache.specs.Core.{state_of as tree_state}
-use Rattle.ranked_tree.specs.Ranked.{MayRefuse, Ranked, held_roots}
-use Rattle.cluster_core.specs.Serve.{ServesInbox}
-use Rattle.cluster_core.specs.State.{state_of}
-use Rattle.cluster_core.specs.Uses.{UsesFront}
+use Rattle.ranked_tree.specs.Ranked.{MayRefuse}
 use Rattle.cluster_core.proofs.Served.{before_taking, goes_on}
 use Rattle.cluster_core.proofs.UsesLaws.{same_caches}
 use Rattle.cluster_core.proofs.serving.serve_front.Goals as goal

@@ -1,25 +1,8 @@
 -- What serving made of the parts, said of the cluster's state.
-use Rattle.std.proofs.Common.{◌≢◌, ℕ, Bool, MatchBool, None, Some, ap, refl, rules, subst, sym, ◌∙◌}
-use Rattle.std.specs.List.{Contains}
-use Rattle.mds_types.specs.declared.refusals.Refusal.TheVariants.{NoInodes}
-use Rattle.mds_types.specs.Step.{number_or, step}
-use Rattle.inode_table.specs.Numbers.{Supply, offer}
-use Rattle.sessions.specs.Rooms.{table}
+use Rattle.cluster_core.proofs.Common.{Bool, Checked, Checks, Concerns, Contains, HoldsAt, IsUnready, LacksPlacesAsked, MatchBool, MayTouchAllIn, MustWaitIn, NoInodes, None, Some, Supply, ap, changed_fragments, held_roots, held_still, keeps_ranked_on, number_or, offer, outcome_with, refl, refused_so, rules, shown_tree, step, subst, sym, table, ℕ, ◌∙◌, ◌≢◌}
 use Rattle.mdcache.specs.Core.{state_of as tree_state}
-use Rattle.mdcache.specs.Shown.{shown_tree}
 use Rattle.mdcache.specs.State.{State as TreeState}
-use Rattle.mdcache.proofs.FragsLaws.{refused_so}
-use Rattle.namespace_ops.specs.ChangedFragments.{changed_fragments}
-use Rattle.namespace_ops.specs.Changes.{Concerns}
-use Rattle.namespace_ops.specs.Checked.{Checks}
-use Rattle.namespace_ops.specs.declared.plans.Checked.{Checked}
-use Rattle.ranked_tree.specs.Held.{LacksPlacesAsked}
-use Rattle.ranked_tree.specs.Ranked.{MayRefuse, held_roots}
-use Rattle.ranked_tree.specs.Subtrees.{HoldsAt}
-use Rattle.ranked_tree.proofs.AskLaws.{held_still}
-use Rattle.ranked_tree.proofs.ReadsForLaws.{keeps_ranked_on}
-use Rattle.cluster_core.specs.Master.{MayTouchAllIn, MustWaitIn}
-use Rattle.cluster_core.specs.Prepared.{IsUnready, outcome_with}
+use Rattle.ranked_tree.specs.Ranked.{MayRefuse}
 use Rattle.cluster_core.proofs.MadeReady.{checked_later, still_refused, waits_before}
 use Rattle.cluster_core.proofs.Served.{IsOutcome, deferred, lacks_number, outcome_of_change, refused_there, replied, served_new}
 use Rattle.cluster_core.proofs.UsesLaws.{applied_uses, changed_uses, replied_uses, unready_of, unready_uses}

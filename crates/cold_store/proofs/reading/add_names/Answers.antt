@@ -1,7 +1,5 @@
-use Rattle.std.proofs.Common.{◌∙◌, sym}
+use Rattle.cold_store.proofs.Common.{contents, key_cmp, sym, ◌∙◌}
 use Rattle.std.specs.FinMap as map
-use Rattle.sorted_map.specs.SortedMap.{contents}
-use Rattle.objstore.specs.Omap.{key_cmp}
 use Rattle.cold_store.proofs.RowLaws.{ready_with}
 use Rattle.cold_store.proofs.Steps.{new_step, row_step}
 use Rattle.cold_store.proofs.reading.add_names.Goals as goal

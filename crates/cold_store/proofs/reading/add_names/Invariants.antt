@@ -1,9 +1,6 @@
 -- The names to come are as new as all of them, and add what all of them add.
-use Rattle.std.proofs.Common.{◌≡◌, length}
+use Rattle.cold_store.proofs.Common.{IsReady, are_new, contents, key_cmp, length, rows_of, with_rows, ◌≡◌}
 use Rattle.std.specs.FinMap as map
-use Rattle.sorted_map.specs.SortedMap.{contents}
-use Rattle.objstore.specs.Omap.{key_cmp}
-use Rattle.cold_store.specs.Rows.{IsReady, are_new, rows_of, with_rows}
 use Rattle.cold_store.proofs.reading.add_names.Given as goal
 
 abbrev pub invariant-loop-name : goal.invariant-loop-name

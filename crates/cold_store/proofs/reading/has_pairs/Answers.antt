@@ -1,5 +1,4 @@
-use Rattle.std.proofs.Common.{subst, sym}
-use Rattle.cold_store.specs.Rows.{HasPairs}
+use Rattle.cold_store.proofs.Common.{HasPairs, subst, sym}
 use Rattle.cold_store.proofs.PageLaws.{has_pairs}
 use Rattle.cold_store.proofs.reading.has_pairs.Goals as goal
 

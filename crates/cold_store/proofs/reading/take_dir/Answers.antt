@@ -1,9 +1,5 @@
-use Rattle.std.proofs.Common.{◌∙◌, ap, subst, arith, inr}
-use Rattle.mds_types.specs.Frag.{Fragment}
+use Rattle.cold_store.proofs.Common.{AreGoodLeaves, Fragment, IsBadAmong, IsGoodTree, Objects, Shape, ap, arith, inr, rows_under, subst, tree_of, with_cover, with_rows, ◌∙◌}
 use Rattle.std.specs.Prelude.{List}
-use Rattle.objstore.specs.Objects.{Objects}
-use Rattle.cold_store.specs.ColdTree.{tree_of}
-use Rattle.cold_store.specs.Rows.{AreGoodLeaves, IsBadAmong, IsGoodTree, Shape, rows_under, with_cover, with_rows}
 use Rattle.cold_store.proofs.ObjectLaws.{good_cover, good_leaves}
 use Rattle.cold_store.proofs.Refusals.{err_then, ok_always, ok_then, widened}
 use Rattle.cold_store.proofs.reading.take_dir.Goals as goal

@@ -1,10 +1,5 @@
-use Rattle.std.proofs.Common.{ap, sym, ◌∙◌}
-use Rattle.std.proofs.Common.{inr}
+use Rattle.cold_store.proofs.Common.{Names, ap, are_new, inr, loaded_fits, loaded_is_saved, loaded_shows, object_of, rows_of, sym, with_rows, ◌∙◌}
 use Rattle.std.specs.FinMap as map
-use Rattle.dirfrag_codec.specs.FragmentObject.{Names}
-use Rattle.dentry_cache.specs.Loading.{object_of}
-use Rattle.dentry_cache.proofs.LoadLaws.{loaded_fits, loaded_is_saved, loaded_shows}
-use Rattle.cold_store.specs.Rows.{are_new, rows_of, with_rows}
 use Rattle.cold_store.proofs.Refusals.{added_refused, ok_then}
 use Rattle.cold_store.proofs.reading.take_leaf.Goals as goal
 

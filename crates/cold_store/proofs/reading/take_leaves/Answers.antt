@@ -1,5 +1,4 @@
-use Rattle.std.proofs.Common.{◌≡◌, ◌∙◌, arith, subst}
-use Rattle.cold_store.specs.Rows.{IsGoodLeaf, rows_at, with_rows}
+use Rattle.cold_store.proofs.Common.{IsGoodLeaf, arith, rows_at, subst, with_rows, ◌∙◌, ◌≡◌}
 use Rattle.cold_store.proofs.Steps.{bad_step, good_step, whole_step}
 use Rattle.cold_store.proofs.reading.take_leaves.Goals as goal
 

@@ -1,7 +1,5 @@
 -- The leaves to come are as good or as bad as all of them, and add what all of them add.
-use Rattle.std.proofs.Common.{◌≡◌, drop}
-use Rattle.mds_types.specs.declared.object_names.ObjName.{ObjName}
-use Rattle.cold_store.specs.Rows.{AreGoodLeaves, IsBadAmong, IsReady, rows_under, with_rows}
+use Rattle.cold_store.proofs.Common.{AreGoodLeaves, IsBadAmong, IsReady, ObjName, drop, rows_under, with_rows, ◌≡◌}
 use Rattle.cold_store.proofs.reading.take_leaves.Given as goal
 
 abbrev pub invariant-loop-leaf : goal.invariant-loop-leaf

@@ -1,6 +1,4 @@
-use Rattle.sorted_map.specs.SortedMap.{contents}
-use Rattle.objstore.specs.Omap.{key_cmp}
-use Rattle.std.specs.Prelude.{option_copied}
+use Rattle.cold_store.proofs.Common.{contents, key_cmp, option_copied}
 use Rattle.cold_store.proofs.NameLaws.{all_read}
 use Rattle.cold_store.proofs.remaining.all_names.Goals as goal
 

@@ -1,10 +1,6 @@
 -- The names so far, with those to come, are all.
-use Rattle.std.proofs.Common.{◌≡◌, length, None}
+use Rattle.cold_store.proofs.Common.{None, contents, key_cmp, length, names_after, with_keys, ◌≡◌}
 use Rattle.std.specs.FinMap as map
-use Rattle.sorted_map.specs.SortedMap.{contents}
-use Rattle.objstore.specs.Omap.{key_cmp}
-use Rattle.objstore.specs.Objects.{names_after}
-use Rattle.cold_store.specs.Left.{with_keys}
 use Rattle.cold_store.proofs.remaining.all_names.Given as goal
 
 abbrev pub invariant-loop-after : goal.invariant-loop-after

@@ -1,7 +1,4 @@
-use Rattle.std.proofs.Common.{◌∙◌}
-use Rattle.sorted_map.specs.SortedMap.{contents}
-use Rattle.objstore.specs.Omap.{key_cmp}
-use Rattle.cold_store.specs.Left.{texts_from, without_keys}
+use Rattle.cold_store.proofs.Common.{contents, key_cmp, texts_from, without_keys, ◌∙◌}
 use Rattle.cold_store.proofs.NameLaws.{are_left}
 use Rattle.cold_store.proofs.remaining.list_left.Goals as goal
 

@@ -1,6 +1,5 @@
-use Rattle.std.specs.Prelude.{map as each, option_copied, string_bytes}
-use Rattle.sorted_map.specs.SortedMap.{contents}
-use Rattle.objstore.specs.Omap.{key_cmp}
+use Rattle.cold_store.proofs.Common.{contents, key_cmp, option_copied, string_bytes}
+use Rattle.std.specs.Prelude.{map as each}
 use Rattle.cold_store.proofs.NameLaws.{page_read}
 use Rattle.cold_store.proofs.remaining.next_names.Goals as goal
 

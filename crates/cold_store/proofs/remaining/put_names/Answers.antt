@@ -1,6 +1,4 @@
-use Rattle.std.specs.Prelude.{string_bytes}
-use Rattle.sorted_map.specs.SortedMap.{contents}
-use Rattle.objstore.specs.Omap.{key_cmp}
+use Rattle.cold_store.proofs.Common.{contents, key_cmp, string_bytes}
 use Rattle.cold_store.proofs.NameLaws.{keys_more}
 use Rattle.cold_store.proofs.remaining.put_names.Goals as goal
 

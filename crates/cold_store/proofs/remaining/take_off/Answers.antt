@@ -1,7 +1,4 @@
-use Rattle.std.proofs.Common.{◌∙◌}
-use Rattle.sorted_map.specs.SortedMap.{contents}
-use Rattle.objstore.specs.Omap.{key_cmp}
-use Rattle.mds_types.specs.declared.ids.Ino.{Ino}
+use Rattle.cold_store.proofs.Common.{Ino, contents, key_cmp, ◌∙◌}
 use Rattle.cold_store.proofs.NameLaws.{dirs_step}
 use Rattle.cold_store.proofs.remaining.take_off.Goals as goal
 

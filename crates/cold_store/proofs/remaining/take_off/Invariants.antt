@@ -1,8 +1,5 @@
 -- What the directories to come take off is what all of them take off.
-use Rattle.std.proofs.Common.{◌≡◌, drop}
-use Rattle.sorted_map.specs.SortedMap.{contents}
-use Rattle.objstore.specs.Omap.{key_cmp}
-use Rattle.cold_store.specs.Left.{texts_from, without_keys}
+use Rattle.cold_store.proofs.Common.{contents, drop, key_cmp, texts_from, without_keys, ◌≡◌}
 use Rattle.cold_store.proofs.remaining.take_off.Given as goal
 
 abbrev pub invariant-loop-dir : goal.invariant-loop-dir

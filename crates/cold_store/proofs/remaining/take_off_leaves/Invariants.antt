@@ -1,8 +1,5 @@
 -- What the leaves to come take off is what all of them take off.
-use Rattle.std.proofs.Common.{◌≡◌, drop}
-use Rattle.sorted_map.specs.SortedMap.{contents}
-use Rattle.objstore.specs.Omap.{key_cmp}
-use Rattle.cold_store.specs.Left.{leaf_texts, without_keys}
+use Rattle.cold_store.proofs.Common.{contents, drop, key_cmp, leaf_texts, without_keys, ◌≡◌}
 use Rattle.cold_store.proofs.remaining.take_off_leaves.Given as goal
 
 abbrev pub invariant-loop-leaf : goal.invariant-loop-leaf

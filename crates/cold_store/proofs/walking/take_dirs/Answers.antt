@@ -1,6 +1,4 @@
-use Rattle.std.proofs.Common.{◌≡◌, ◌∙◌, refl, subst, arith, get_or}
-use Rattle.mds_types.specs.declared.ids.Ino.{Ino}
-use Rattle.cold_store.specs.Rows.{IsBadIn, IsGoodDir, cover_in, rows_in, with_cover, with_rows}
+use Rattle.cold_store.proofs.Common.{Ino, IsBadIn, IsGoodDir, arith, cover_in, get_or, refl, rows_in, subst, with_cover, with_rows, ◌∙◌, ◌≡◌}
 use Rattle.cold_store.proofs.Refusals.{widened}
 use Rattle.cold_store.proofs.Steps.{faulty, next_dir, ready_here, walked_first, walked_last, walked_more}
 use Rattle.cold_store.proofs.walking.take_dirs.Goals as goal

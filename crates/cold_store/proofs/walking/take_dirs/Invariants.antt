@@ -1,6 +1,5 @@
 -- The directories before `next` are walked, and none of them is bad; each that is found is reached.
-use Rattle.std.proofs.Common.{◌≡◌, ◌-◌, ◌^◌}
-use Rattle.cold_store.specs.Rows.{IsWalkedTo}
+use Rattle.cold_store.proofs.Common.{IsWalkedTo, ◌-◌, ◌^◌, ◌≡◌}
 use Rattle.cold_store.proofs.walking.take_dirs.Given as goal
 
 abbrev pub invariant-loop-next : goal.invariant-loop-next

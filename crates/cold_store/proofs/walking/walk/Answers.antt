@@ -1,9 +1,4 @@
-use Rattle.std.proofs.Common.{ap, subst, sym, ◌∙◌}
-use Rattle.sorted_map.specs.SortedMap.{contents}
-use Rattle.mds_types.specs.Tree.{Tree, dentry_cmp}
-use Rattle.objstore.specs.Omap.{key_cmp}
-use Rattle.inode_table.specs.TreeTable.{IsTabled}
-use Rattle.cold_store.specs.Walked.{IsWalked}
+use Rattle.cold_store.proofs.Common.{IsTabled, IsWalked, Tree, ap, contents, dentry_cmp, key_cmp, subst, sym, ◌∙◌}
 use Rattle.cold_store.proofs.TabledLaws.{walked_is_tabled}
 use Rattle.cold_store.proofs.WalkedLaws.{is_cold, walked_as}
 use Rattle.cold_store.proofs.walking.walk.Goals as goal

@@ -1,6 +1,4 @@
-use Rattle.std.proofs.Common.{sym, ap, ◌∙◌, arith}
-use Rattle.mds_types.specs.Frag.{Fragment}
-use Rattle.dentry_cache.specs.CandidateSets.{sizes_of}
+use Rattle.dentry_cache.proofs.Common.{Fragment, ap, arith, sizes_of, sym, ◌∙◌}
 use Rattle.dentry_cache.proofs.CandidateLaws.{many_more}
 use Rattle.dentry_cache.proofs.candidates.are_few.Goals as goal
 

@@ -1,6 +1,5 @@
 -- So many children are there, with so many entries together, which are few.
-use Rattle.std.proofs.Common.{◌≡◌, ◌<◌, Some}
-use Rattle.dentry_cache.specs.CandidateSets.{sizes_of, together}
+use Rattle.dentry_cache.proofs.Common.{Some, sizes_of, together, ◌<◌, ◌≡◌}
 use Rattle.dentry_cache.proofs.candidates.are_few.Given as goal
 
 abbrev pub invariant-loop-i : goal.invariant-loop-i

@@ -1,5 +1,4 @@
-use Rattle.std.proofs.Common.{refl}
-use Rattle.dentry_cache.specs.CandidateSets.{is_in, sizes_of}
+use Rattle.dentry_cache.proofs.Common.{is_in, refl, sizes_of}
 use Rattle.dentry_cache.proofs.CandidateSteps.{small_each}
 use Rattle.dentry_cache.proofs.candidates.keep_small.Goals as goal
 

@@ -1,5 +1,4 @@
-use Rattle.std.proofs.Common.{◌≡◌, ◌-◌, refl, ap}
-use Rattle.mds_types.specs.Frag.{span}
+use Rattle.dentry_cache.proofs.Common.{ap, refl, span, ◌-◌, ◌≡◌}
 use Rattle.dentry_cache.proofs.CandidateLaws.{found_whole}
 use Rattle.dentry_cache.proofs.candidates.whole_of.Goals as goal
 

@@ -1,10 +1,5 @@
-use Rattle.std.proofs.Common.{◌≡◌, ◌+◌, refl, arith, ◌∙◌}
-use Rattle.std.specs.List.{slice_index_or}
+use Rattle.dentry_cache.proofs.Common.{arith, contents, entries_step, is_place, key_cmp, none_popped, popped_len, popped_there, refl, slice_index_or, ◌+◌, ◌∙◌, ◌≡◌}
 use Rattle.std.specs.FinMap as map
-use Rattle.objstore.specs.Omap.{key_cmp}
-use Rattle.sorted_map.specs.SortedMap.{contents}
-use Rattle.cached_frag.proofs.MovedLaws.{entries_step, none_popped, popped_len, popped_there}
-use Rattle.dentry_cache.specs.Parting.{is_place}
 use Rattle.dentry_cache.proofs.PartLaws.{are_children, filling_step, first_filling, room_there}
 use Rattle.dentry_cache.proofs.dividing.divide.Goals as goal
 

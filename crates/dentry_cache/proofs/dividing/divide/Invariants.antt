@@ -1,10 +1,6 @@
 -- Each child has those of its names which were given, and room for the others.
-use Rattle.std.proofs.Common.{◌≡◌, length}
+use Rattle.dentry_cache.proofs.Common.{AreEntries, EachThen, contents, key_cmp, length, ◌≡◌}
 use Rattle.std.specs.FinMap as map
-use Rattle.objstore.specs.Omap.{key_cmp}
-use Rattle.sorted_map.specs.SortedMap.{contents}
-use Rattle.cached_frag.specs.Cached.{AreEntries}
-use Rattle.dentry_cache.specs.Parting.{EachThen}
 use Rattle.dentry_cache.proofs.PartLaws.{IsFilling}
 use Rattle.dentry_cache.proofs.dividing.divide.Given as goal
 

@@ -1,6 +1,4 @@
-use Rattle.std.proofs.Common.{ℕ, ◌+◌, ◌∙◌, ap}
-use Rattle.mds_types.specs.Frag.{span}
-use Rattle.namehash.specs.Rjenkins.{hash_of}
+use Rattle.dentry_cache.proofs.Common.{ap, hash_of, span, ℕ, ◌+◌, ◌∙◌}
 use Rattle.dentry_cache.proofs.NameParts.{child_place, no_place}
 use Rattle.dentry_cache.proofs.dividing.place_of.Goals as goal
 

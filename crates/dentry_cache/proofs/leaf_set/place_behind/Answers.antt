@@ -1,5 +1,4 @@
-use Rattle.std.proofs.Common.{◌≡◌, suc, ◌+◌, sym, subst, arith}
-use Rattle.dentry_cache.specs.CandidateSets.{IsPlaceBehind}
+use Rattle.dentry_cache.proofs.Common.{IsPlaceBehind, arith, subst, suc, sym, ◌+◌, ◌≡◌}
 use Rattle.dentry_cache.proofs.LeafSetLaws.{behind_at, behind_gap}
 use Rattle.dentry_cache.proofs.leaf_set.place_behind.Goals as goal
 

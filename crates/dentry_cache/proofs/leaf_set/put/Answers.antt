@@ -1,5 +1,4 @@
-use Rattle.std.proofs.Common.{sym, ap, subst, ◌∙◌, arith}
-use Rattle.dentry_cache.specs.CandidateSets.{Rise, is_in}
+use Rattle.dentry_cache.proofs.Common.{Rise, ap, arith, is_in, subst, sym, ◌∙◌}
 use Rattle.dentry_cache.proofs.LeafSetLaws.{in_gap, put_again, put_in, put_rises}
 use Rattle.dentry_cache.proofs.leaf_set.put.Goals as goal
 

@@ -1,5 +1,4 @@
-use Rattle.std.proofs.Common.{sym, ap, subst, ◌∙◌}
-use Rattle.dentry_cache.specs.CandidateSets.{Rise, is_in}
+use Rattle.dentry_cache.proofs.Common.{Rise, ap, is_in, subst, sym, ◌∙◌}
 use Rattle.dentry_cache.proofs.LeafSetLaws.{take_none, take_out, take_rises}
 use Rattle.dentry_cache.proofs.leaf_set.take.Goals as goal
 

@@ -1,7 +1,4 @@
-use Rattle.std.proofs.Common.{◌≡◌, ◌∙◌, sym, ap}
-use Rattle.objstore.specs.Omap.{key_cmp}
-use Rattle.sorted_map.specs.SortedMap.{contents}
-use Rattle.dentry_cache.specs.Pairs.{added, are_good}
+use Rattle.dentry_cache.proofs.Common.{added, ap, are_good, contents, key_cmp, sym, ◌∙◌, ◌≡◌}
 use Rattle.dentry_cache.proofs.PageSteps.{page_end, page_off}
 use Rattle.dentry_cache.proofs.loading.add_page.Goals as goal
 

@@ -1,6 +1,5 @@
-use Rattle.std.proofs.Common.{ap}
+use Rattle.dentry_cache.proofs.Common.{Objects, ap}
 use Rattle.std.specs.FinMap as map
-use Rattle.objstore.specs.Objects.{Objects}
 use Rattle.dentry_cache.proofs.LoadLaws.{entries_read, loaded_is, no_header, no_names}
 use Rattle.dentry_cache.proofs.loading.load_object.Goals as goal
 

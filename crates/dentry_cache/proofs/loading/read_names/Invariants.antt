@@ -1,9 +1,6 @@
 -- What is to come of the pairs is as good as all of them, and adds what all of them add.
-use Rattle.std.proofs.Common.{◌≡◌, length, None}
+use Rattle.dentry_cache.proofs.Common.{None, added, are_good, contents, key_cmp, length, pairs_left, ◌≡◌}
 use Rattle.std.specs.FinMap as map
-use Rattle.objstore.specs.Omap.{key_cmp}
-use Rattle.sorted_map.specs.SortedMap.{contents}
-use Rattle.dentry_cache.specs.Pairs.{added, are_good, pairs_left}
 use Rattle.dentry_cache.proofs.loading.read_names.Given as goal
 
 abbrev pub invariant-loop-after : goal.invariant-loop-after

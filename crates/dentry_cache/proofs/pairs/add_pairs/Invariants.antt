@@ -1,8 +1,5 @@
 -- The pairs to come are as good as all of them, and add what all of them add.
-use Rattle.std.proofs.Common.{◌≡◌, drop}
-use Rattle.objstore.specs.Omap.{key_cmp}
-use Rattle.sorted_map.specs.SortedMap.{contents}
-use Rattle.dentry_cache.specs.Pairs.{added, are_good}
+use Rattle.dentry_cache.proofs.Common.{added, are_good, contents, drop, key_cmp, ◌≡◌}
 use Rattle.dentry_cache.proofs.pairs.add_pairs.Given as goal
 
 abbrev pub invariant-loop-key : goal.invariant-loop-key

@@ -1,6 +1,4 @@
-use Rattle.std.proofs.Common.{rules, ◌≡◌, List, length, ap, sym, subst, arith}
-use Rattle.dentry_cache.specs.declared.parts.Part.{Part}
-use Rattle.dentry_cache.specs.Parting.{Each, IsBare}
+use Rattle.dentry_cache.proofs.Common.{Each, IsBare, List, Part, ap, arith, length, rules, subst, sym, ◌≡◌}
 use Rattle.dentry_cache.proofs.PartLaws.{bare_here, each_pushed}
 use Rattle.dentry_cache.proofs.parts.bare_parts.Goals as goal
 

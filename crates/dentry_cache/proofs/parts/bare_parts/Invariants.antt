@@ -1,6 +1,5 @@
 -- As many children as were passed, each with no names.
-use Rattle.std.proofs.Common.{◌≡◌, length}
-use Rattle.dentry_cache.specs.Parting.{Each, IsBare}
+use Rattle.dentry_cache.proofs.Common.{Each, IsBare, length, ◌≡◌}
 use Rattle.dentry_cache.proofs.parts.bare_parts.Given as goal
 
 abbrev pub invariant-loop-i : goal.invariant-loop-i

@@ -1,12 +1,7 @@
-use Rattle.std.proofs.Common.{◌≡◌, suc, length, ap, arith, ◌∙◌}
-use Rattle.std.specs.List.{slice_index_or}
+use Rattle.dentry_cache.proofs.Common.{Row, all_kept, ap, arith, is_place, length, rows_left, shown, slice_index_or, suc, ◌∙◌, ◌≡◌}
 use Rattle.std.specs.FinMap as map
-use Rattle.cached_frag.specs.Cached.{shown}
-use Rattle.cached_frag.specs.Rows.{Row, rows_left}
-use Rattle.dentry_cache.specs.Parting.{is_place}
 use Rattle.dentry_cache.proofs.PartLaws.{first_roomy, numbered, ready, roomy_step}
 use Rattle.dentry_cache.proofs.parts.parts_of.Goals as goal
-use Rattle.sorted_map.proofs.Filters.{all_kept}
 
 pub loop-name-init : goal.loop-name-init
 loop-name-init c =

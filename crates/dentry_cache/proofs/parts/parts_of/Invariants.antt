@@ -1,9 +1,6 @@
 -- Each child has room for those names that were passed.
-use Rattle.std.proofs.Common.{◌≡◌, ◌^◌, length}
+use Rattle.dentry_cache.proofs.Common.{Each, length, rows_left, shown, ◌^◌, ◌≡◌}
 use Rattle.std.specs.FinMap as map
-use Rattle.cached_frag.specs.Cached.{shown}
-use Rattle.cached_frag.specs.Rows.{rows_left}
-use Rattle.dentry_cache.specs.Parting.{Each}
 use Rattle.dentry_cache.proofs.PartLaws.{IsRoomy}
 use Rattle.dentry_cache.proofs.parts.parts_of.Given as goal
 

@@ -1,6 +1,4 @@
-use Rattle.std.proofs.Common.{arith}
-use Rattle.dirfrag_codec.specs.FragHeader.{SpellsHeader}
-use Rattle.dirfrag_codec.specs.Values.{header_of}
+use Rattle.dirfrag_codec.proofs.Common.{SpellsHeader, arith, header_of}
 use Rattle.dirfrag_codec.proofs.HeaderLaws.{header_decoded, one_header}
 use Rattle.dirfrag_codec.proofs.ValueLaws.{one_reading, reads_header}
 use Rattle.dirfrag_codec.proofs.headers.decode_header.Goals as goal

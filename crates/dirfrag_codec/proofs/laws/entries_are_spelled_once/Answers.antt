@@ -1,4 +1,4 @@
-use Rattle.std.proofs.Common.{inr}
+use Rattle.dirfrag_codec.proofs.Common.{inr}
 use Rattle.dirfrag_codec.proofs.RecordLaws.{ended, its_spellings, one_entry}
 use Rattle.dirfrag_codec.proofs.ValueLaws.{reads_entry, reads_written}
 use Rattle.dirfrag_codec.proofs.laws.entries_are_spelled_once.Goals as goal

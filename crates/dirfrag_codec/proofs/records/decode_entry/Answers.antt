@@ -1,7 +1,5 @@
 -- The fields that are read are those of the inode, if there is one.
-use Rattle.std.proofs.Common.{arith, None}
-use Rattle.dirfrag_codec.specs.EntryRecord.{SpellsEntry}
-use Rattle.dirfrag_codec.specs.Values.{entry_of}
+use Rattle.dirfrag_codec.proofs.Common.{None, SpellsEntry, arith, entry_of}
 use Rattle.dirfrag_codec.proofs.RecordLaws.{entry_answered, entry_refused, link_answered, one_entry}
 use Rattle.dirfrag_codec.proofs.ValueLaws.{one_reading, reading_answered, reads_entry}
 use Rattle.dirfrag_codec.proofs.records.decode_entry.Goals as goal

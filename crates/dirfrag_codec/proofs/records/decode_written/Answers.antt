@@ -1,7 +1,5 @@
 -- What is written is a record of version 2.
-use Rattle.std.proofs.Common.{None}
-use Rattle.dirfrag_codec.specs.EntryRecord.{WritesEntry}
-use Rattle.dirfrag_codec.specs.Values.{written_of}
+use Rattle.dirfrag_codec.proofs.Common.{None, WritesEntry, written_of}
 use Rattle.dirfrag_codec.proofs.RecordLaws.{one_written, written_answered, written_link, written_other, written_unless}
 use Rattle.dirfrag_codec.proofs.ValueLaws.{one_reading, reading_answered, reads_written}
 use Rattle.dirfrag_codec.proofs.records.decode_written.Goals as goal

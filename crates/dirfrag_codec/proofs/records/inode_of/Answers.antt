@@ -1,5 +1,5 @@
 -- Memory is taken where the fields are those of a link.
-use Rattle.std.proofs.Common.{sym}
+use Rattle.dirfrag_codec.proofs.Common.{sym}
 use Rattle.dirfrag_codec.proofs.RecordLaws.{link_fields, on_err}
 use Rattle.dirfrag_codec.proofs.records.inode_of.Goals as goal
 

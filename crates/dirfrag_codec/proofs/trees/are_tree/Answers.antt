@@ -1,5 +1,5 @@
 -- Leaves that tile the hashes are a tree's where they are few.
-use Rattle.std.proofs.Common.{arith}
+use Rattle.dirfrag_codec.proofs.Common.{arith}
 use Rattle.dirfrag_codec.proofs.TileLaws.{too_many, tree_of_tiles}
 use Rattle.dirfrag_codec.proofs.trees.are_tree.Goals as goal
 

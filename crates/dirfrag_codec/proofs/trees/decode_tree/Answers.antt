@@ -1,7 +1,5 @@
 -- What is read are the leaves, if they are those of a tree.
-use Rattle.std.proofs.Common.{arith, None, rules}
-use Rattle.dirfrag_codec.specs.TreeObject.{SpellsTree}
-use Rattle.dirfrag_codec.specs.Values.{tree_of}
+use Rattle.dirfrag_codec.proofs.Common.{None, SpellsTree, arith, rules, tree_of}
 use Rattle.dirfrag_codec.proofs.RecordLaws.{on_err}
 use Rattle.dirfrag_codec.proofs.TileLaws.{no_tree, some_tree}
 use Rattle.dirfrag_codec.proofs.TreeLaws.{leaves_refused, one_tree, tree_made, tree_refused, words_takes}

@@ -1,6 +1,5 @@
 -- What is left tiles the hashes from here on exactly if all of it does so from 0 on.
-use Rattle.std.proofs.Common.{◌↔◌, length}
-use Rattle.dirfrag_codec.specs.Leaves.{AreTilesFrom}
+use Rattle.dirfrag_codec.proofs.Common.{AreTilesFrom, length, ◌↔◌}
 use Rattle.dirfrag_codec.proofs.trees.do_tile.Given as goal
 
 abbrev pub invariant-loop-end : goal.invariant-loop-end

@@ -1,7 +1,5 @@
 -- The bytes so far and those of the leaves to come are the whole.
-use Rattle.std.proofs.Common.{◌≡◌, ◌++◌}
-use Rattle.std.specs.List.{flat_map}
-use Rattle.dirfrag_codec.specs.TreeObject.{leaf_bytes, tree_bytes}
+use Rattle.dirfrag_codec.proofs.Common.{flat_map, leaf_bytes, tree_bytes, ◌++◌, ◌≡◌}
 use Rattle.dirfrag_codec.proofs.trees.encode_tree.Given as goal
 
 abbrev pub invariant-loop-leaf : goal.invariant-loop-leaf

@@ -1,5 +1,5 @@
 -- Each word is a leaf more; where one is no fragment's, or is cut off, there are no leaves.
-use Rattle.std.proofs.Common.{rules, arith}
+use Rattle.dirfrag_codec.proofs.Common.{arith, rules}
 use Rattle.dirfrag_codec.proofs.TreeLaws.{no_fragment, no_whole_word, none_from_rest, one_more}
 use Rattle.dirfrag_codec.proofs.trees.leaves_of.Goals as goal
 

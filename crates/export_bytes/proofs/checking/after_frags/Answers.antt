@@ -1,5 +1,5 @@
 -- One fragment more rises.
-use Rattle.std.proofs.Common.{arith, sym, ◌∙◌}
+use Rattle.export_bytes.proofs.Common.{arith, sym, ◌∙◌}
 use Rattle.export_bytes.proofs.RisenItems.{frag_rises}
 use Rattle.export_bytes.proofs.checking.after_frags.Goals as goal
 

@@ -1,9 +1,5 @@
 -- What is left goes on after the last one as the whole does.
-use Rattle.std.proofs.Common.{◌≡◌, None}
-use Rattle.std.specs.Prelude.{option_map}
-use Rattle.export_bytes.specs.Checking.{after_rising, sent_as}
-use Rattle.export_bytes.specs.Export.{is_frag_before}
-use Rattle.export_bytes.specs.Reading.{sent_frag_at}
+use Rattle.export_bytes.proofs.Common.{None, after_rising, is_frag_before, option_map, sent_as, sent_frag_at, ◌≡◌}
 use Rattle.export_bytes.proofs.checking.after_frags.Given as goal
 
 abbrev pub invariant-frags : goal.invariant-frags

@@ -1,6 +1,5 @@
 -- One name more rises.
-use Rattle.std.proofs.Common.{arith, sym, ◌∙◌}
-use Rattle.std.specs.Prelude.{option_copied}
+use Rattle.export_bytes.proofs.Common.{arith, option_copied, sym, ◌∙◌}
 use Rattle.export_bytes.proofs.RisenItems.{name_rises}
 use Rattle.export_bytes.proofs.checking.after_names.Goals as goal
 

@@ -1,9 +1,5 @@
 -- What is left goes on after the last one as the whole does.
-use Rattle.std.proofs.Common.{◌≡◌, None}
-use Rattle.std.specs.Prelude.{option_map, option_copied}
-use Rattle.export_bytes.specs.Checking.{after_rising, named_as}
-use Rattle.export_bytes.specs.Export.{is_name_before}
-use Rattle.export_bytes.specs.Reading.{sent_name_at}
+use Rattle.export_bytes.proofs.Common.{None, after_rising, is_name_before, named_as, option_copied, option_map, sent_name_at, ◌≡◌}
 use Rattle.export_bytes.proofs.checking.after_names.Given as goal
 
 abbrev pub invariant-names : goal.invariant-names

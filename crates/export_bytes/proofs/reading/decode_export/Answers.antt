@@ -1,8 +1,5 @@
 -- The export of the parts that stand there is the one that the bytes spell.
-use Rattle.std.proofs.Common.{arith}
-use Rattle.dirfrag_codec.proofs.ValueLaws.{one_reading, reading_answered}
-use Rattle.export_bytes.specs.Export.{SpellsExport}
-use Rattle.export_bytes.specs.Reading.{export_of}
+use Rattle.export_bytes.proofs.Common.{SpellsExport, arith, export_of, one_reading, reading_answered}
 use Rattle.export_bytes.proofs.ExportLaws.{export_decoded, one_export, reads_export}
 use Rattle.export_bytes.proofs.Told.{none_spelled, some_export}
 use Rattle.export_bytes.proofs.reading.decode_export.Goals as goal

@@ -1,8 +1,5 @@
 -- One item more is read.
-use Rattle.std.proofs.Common.{◌≡◌, ◌<◌, ◌≤◌, ◌∷◌, ◌++◌, [], length, Some, arith, rules}
-use Rattle.std.proofs.lemmas.List.{length-append}
-use Rattle.dirfrag_codec.proofs.RecordLaws.{on_err}
-use Rattle.export_bytes.specs.Reading.{sent_frag_at}
+use Rattle.export_bytes.proofs.Common.{Some, [], arith, length, length-append, on_err, rules, sent_frag_at, ◌++◌, ◌<◌, ◌∷◌, ◌≡◌, ◌≤◌}
 use Rattle.export_bytes.proofs.Items.{one_more}
 use Rattle.export_bytes.proofs.Taken.{head_of_frag}
 use Rattle.export_bytes.proofs.reading.frags_at.Goals as goal

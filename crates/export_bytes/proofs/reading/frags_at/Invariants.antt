@@ -1,6 +1,5 @@
 -- What is left to read goes on with the fragments so far as the whole does. Where a fragment's head is left, one stands at the front.
-use Rattle.std.proofs.Common.{◌≡◌, ◌≤◌, ◌-◌, length}
-use Rattle.export_bytes.specs.Reading.{StatesHead, items_at, sent_frag_at}
+use Rattle.export_bytes.proofs.Common.{StatesHead, items_at, length, sent_frag_at, ◌-◌, ◌≡◌, ◌≤◌}
 use Rattle.export_bytes.proofs.Items.{preceded}
 use Rattle.export_bytes.proofs.reading.frags_at.Given as goal
 

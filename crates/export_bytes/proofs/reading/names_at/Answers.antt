@@ -1,7 +1,5 @@
 -- One item more is read.
-use Rattle.std.proofs.Common.{◌≡◌, ◌<◌, ◌≤◌, ◌∷◌, ◌++◌, [], length, Some, arith, rules}
-use Rattle.std.proofs.lemmas.List.{length-append}
-use Rattle.export_bytes.specs.Reading.{sent_name_at}
+use Rattle.export_bytes.proofs.Common.{Some, [], arith, length, length-append, rules, sent_name_at, ◌++◌, ◌<◌, ◌∷◌, ◌≡◌, ◌≤◌}
 use Rattle.export_bytes.proofs.Items.{one_more}
 use Rattle.export_bytes.proofs.reading.names_at.Goals as goal
 

@@ -1,6 +1,5 @@
 -- What is left to read goes on with the names so far as the whole does.
-use Rattle.std.proofs.Common.{◌≡◌, ◌≤◌, ◌-◌, length}
-use Rattle.export_bytes.specs.Reading.{items_at, sent_name_at}
+use Rattle.export_bytes.proofs.Common.{items_at, length, sent_name_at, ◌-◌, ◌≡◌, ◌≤◌}
 use Rattle.export_bytes.proofs.Items.{preceded}
 use Rattle.export_bytes.proofs.reading.names_at.Given as goal
 

@@ -1,5 +1,5 @@
 -- Memory is taken where a fragment's head stands behind the front.
-use Rattle.dirfrag_codec.proofs.RecordLaws.{on_err}
+use Rattle.export_bytes.proofs.Common.{on_err}
 use Rattle.export_bytes.proofs.reading.parts_at.Goals as goal
 
 pub returns-in_err-frags-clause-memory : goal.returns-in_err-frags-clause-memory

@@ -1,8 +1,5 @@
 -- The fragments may be sent where the export may.
-use Rattle.std.proofs.Common.{◌≡◌, true, List, sym, subst}
-use Rattle.std.specs.List.{list_all}
-use Rattle.export_bytes.specs.declared.exports.SentFrag.{SentFrag}
-use Rattle.export_bytes.specs.Export.{is_sent_frag}
+use Rattle.export_bytes.proofs.Common.{List, SentFrag, is_sent_frag, list_all, subst, sym, true, ◌≡◌}
 use Rattle.export_bytes.proofs.Again.{sendable_parts}
 use Rattle.export_bytes.proofs.writing.encode_export.Goals as goal
 

@@ -1,7 +1,5 @@
 -- The names may be sent where the fragment may.
-use Rattle.std.proofs.Common.{◌≡◌, true, List, length, refl, sym, subst}
-use Rattle.std.specs.List.{list_all}
-use Rattle.export_bytes.specs.Export.{SentName, is_sent_name}
+use Rattle.export_bytes.proofs.Common.{List, SentName, is_sent_name, length, list_all, refl, subst, sym, true, ◌≡◌}
 use Rattle.export_bytes.proofs.Again.{sent_parts}
 use Rattle.export_bytes.proofs.Written.{frag_put}
 use Rattle.export_bytes.proofs.writing.put_frag.Goals as goal

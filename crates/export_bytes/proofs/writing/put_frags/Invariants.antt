@@ -1,7 +1,5 @@
 -- The bytes so far and those of the fragments to come are the whole.
-use Rattle.std.proofs.Common.{◌≡◌, ◌++◌, true, drop}
-use Rattle.std.specs.List.{flat_map, list_all}
-use Rattle.export_bytes.specs.Export.{is_sent_frag, frag_bytes}
+use Rattle.export_bytes.proofs.Common.{drop, flat_map, frag_bytes, is_sent_frag, list_all, true, ◌++◌, ◌≡◌}
 use Rattle.export_bytes.proofs.writing.put_frags.Given as goal
 
 abbrev pub invariant-loop-frag : goal.invariant-loop-frag

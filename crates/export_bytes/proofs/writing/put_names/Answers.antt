@@ -1,5 +1,5 @@
 -- One item more is written.
-use Rattle.export_bytes.specs.Export.{is_sent_name, name_bytes}
+use Rattle.export_bytes.proofs.Common.{is_sent_name, name_bytes}
 use Rattle.export_bytes.proofs.Items.{first_sent, later_sent, one_put}
 use Rattle.export_bytes.proofs.writing.put_names.Goals as goal
 

@@ -1,7 +1,5 @@
 -- The bytes so far and those of the names to come are the whole.
-use Rattle.std.proofs.Common.{◌≡◌, ◌++◌, true, drop}
-use Rattle.std.specs.List.{flat_map, list_all}
-use Rattle.export_bytes.specs.Export.{is_sent_name, name_bytes}
+use Rattle.export_bytes.proofs.Common.{drop, flat_map, is_sent_name, list_all, name_bytes, true, ◌++◌, ◌≡◌}
 use Rattle.export_bytes.proofs.writing.put_names.Given as goal
 
 abbrev pub invariant-loop-name : goal.invariant-loop-name

@@ -1,9 +1,5 @@
 -- One of the places has too many exactly where one of those to come has.
-use Rattle.std.proofs.Common.{◌↔◌, length}
-use Rattle.mds_types.specs.Leaf.{leaf_of}
-use Rattle.dentry_cache.specs.PlacesByUse.{places_at}
-use Rattle.export_regions.specs.Counts.{AnyTooMany}
-use Rattle.export_regions.specs.Regions.{IsIn}
+use Rattle.export_regions.proofs.Common.{AnyTooMany, IsIn, leaf_of, length, places_at, ◌↔◌}
 use Rattle.export_regions.proofs.counts.any_too_many.Given as goal
 
 abbrev pub invariant-loop-leaf : goal.invariant-loop-leaf

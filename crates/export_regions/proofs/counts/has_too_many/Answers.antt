@@ -1,5 +1,4 @@
-use Rattle.mds_types.specs.Leaf.{leaf_of}
-use Rattle.export_regions.specs.Regions.{IsIn}
+use Rattle.export_regions.proofs.Common.{IsIn, leaf_of}
 use Rattle.export_regions.proofs.WhereLaws.{any_is}
 use Rattle.export_regions.proofs.counts.has_too_many.Goals as goal
 

@@ -1,7 +1,4 @@
-use Rattle.std.proofs.Common.{ap, subst, ◌∙◌}
-use Rattle.export_bytes.specs.Export.{is_sent_frag}
-use Rattle.export_regions.specs.Regions.{sent_names}
-use Rattle.export_regions.specs.Sending.{IsWord}
+use Rattle.export_regions.proofs.Common.{IsWord, ap, is_sent_frag, sent_names, subst, ◌∙◌}
 use Rattle.export_regions.proofs.NameLaws.{frag_sendable}
 use Rattle.export_regions.proofs.gathering.copy_of.Goals as goal
 

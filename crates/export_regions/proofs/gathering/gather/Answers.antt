@@ -1,7 +1,4 @@
-use Rattle.std.proofs.Common.{◌-◌, ◌∷◌, drop, sym, ap, ◌∙◌, arith}
-use Rattle.mds_types.specs.Leaf.{Leaf, leaf_cmp}
-use Rattle.sorted_map.specs.SortedMap.{contents}
-use Rattle.export_regions.specs.Sending.{gathered}
+use Rattle.export_regions.proofs.Common.{Leaf, ap, arith, contents, drop, gathered, leaf_cmp, sym, ◌-◌, ◌∙◌, ◌∷◌}
 use Rattle.export_regions.proofs.GatherLaws.{all_dropped_of, none_sendable, one_gathered, one_sendable, this_drop, this_may}
 use Rattle.export_regions.proofs.gathering.gather.Goals as goal
 

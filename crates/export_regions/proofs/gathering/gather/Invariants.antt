@@ -1,8 +1,5 @@
 -- The leaves from the index on are gathered, and there is room for the others.
-use Rattle.std.proofs.Common.{◌≡◌, ◌≤◌, drop, length}
-use Rattle.mds_types.specs.Leaf.{leaf_cmp}
-use Rattle.sorted_map.specs.SortedMap.{contents}
-use Rattle.export_regions.specs.Sending.{AreSendable, gathered}
+use Rattle.export_regions.proofs.Common.{AreSendable, contents, drop, gathered, leaf_cmp, length, ◌≡◌, ◌≤◌}
 use Rattle.export_regions.proofs.gathering.gather.Given as goal
 
 abbrev pub invariant-loop-i : goal.invariant-loop-i

@@ -1,5 +1,4 @@
-use Rattle.mds_types.specs.Leaf.{leaf_cmp}
-use Rattle.sorted_map.specs.SortedMap.{contents}
+use Rattle.export_regions.proofs.Common.{contents, leaf_cmp}
 use Rattle.export_regions.proofs.GatherLaws.{left_sendable, one_ordered, ordered_sent}
 use Rattle.export_regions.proofs.gathering.in_order.Goals as goal
 

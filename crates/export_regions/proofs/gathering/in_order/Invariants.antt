@@ -1,12 +1,6 @@
 -- The fragments so far, and those to come, are all, and each may be sent.
-use Rattle.std.proofs.Common.{◌≡◌, ◌++◌, true, length}
-use Rattle.std.specs.List.{list_all}
+use Rattle.export_regions.proofs.Common.{AreSendable, contents, is_sent_frag, leaf_cmp, length, list_all, true, values, ◌++◌, ◌≡◌}
 use Rattle.std.specs.FinMap as map
-use Rattle.mds_types.specs.Leaf.{leaf_cmp}
-use Rattle.sorted_map.specs.SortedMap.{contents}
-use Rattle.export_bytes.specs.Export.{is_sent_frag}
-use Rattle.export_regions.specs.Regions.{values}
-use Rattle.export_regions.specs.Sending.{AreSendable}
 use Rattle.export_regions.proofs.gathering.in_order.Given as goal
 
 abbrev pub invariant-loop-frag : goal.invariant-loop-frag

@@ -1,5 +1,4 @@
-use Rattle.mds_types.specs.Leaf.{leaf_of}
-use Rattle.export_regions.specs.Regions.{IsIn}
+use Rattle.export_regions.proofs.Common.{IsIn, leaf_of}
 use Rattle.export_regions.proofs.ExportLaws.{one_export}
 use Rattle.export_regions.proofs.laws.a_region_has_one_export.Goals as goal
 

@@ -1,7 +1,4 @@
-use Rattle.std.proofs.Common.{subst}
-use Rattle.mds_types.specs.Leaf.{Leaf, leaf_of}
-use Rattle.export_regions.specs.Regions.{IsIn}
-use Rattle.subtree_map.proofs.Nearest.{one_root}
+use Rattle.export_regions.proofs.Common.{IsIn, Leaf, leaf_of, one_root, subst}
 use Rattle.export_regions.proofs.regions.is_in_region.Goals as goal
 
 pub returns-in-Some : goal.returns-in-Some

@@ -1,10 +1,4 @@
-use Rattle.std.proofs.Common.{sym, ap, subst}
-use Rattle.std.specs.Prelude.{option_copied}
-use Rattle.mds_types.specs.Leaf.{leaf_of}
-use Rattle.dentry_cache.specs.CacheCalls.{unclean_in}
-use Rattle.dentry_cache.specs.CacheMap.{clean_in}
-use Rattle.dentry_cache.specs.PlacesByUse.{places_at}
-use Rattle.export_regions.specs.Regions.{IsIn}
+use Rattle.export_regions.proofs.Common.{IsIn, ap, clean_in, leaf_of, option_copied, places_at, subst, sym, unclean_in}
 use Rattle.export_regions.proofs.PickLaws.{IsPicking, all_picked, one_there}
 use Rattle.export_regions.proofs.regions.leaves_of.Goals as goal
 

@@ -1,8 +1,5 @@
 -- What is picked of the places to come stands behind what was picked.
-use Rattle.std.proofs.Common.{length}
-use Rattle.mds_types.specs.Leaf.{leaf_of}
-use Rattle.dentry_cache.specs.PlacesByUse.{places_at}
-use Rattle.export_regions.specs.Regions.{IsIn}
+use Rattle.export_regions.proofs.Common.{IsIn, leaf_of, length, places_at}
 use Rattle.export_regions.proofs.PickLaws.{IsPicking}
 use Rattle.export_regions.proofs.regions.leaves_of.Given as goal
 

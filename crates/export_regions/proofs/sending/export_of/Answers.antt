@@ -1,8 +1,4 @@
-use Rattle.std.proofs.Common.{◌≡◌, ◌≤◌, true, false, length, refl, sym, ◌∙◌, arith}
-use Rattle.mds_types.specs.Leaf.{leaf_of}
-use Rattle.dentry_cache.specs.CacheCalls.{unclean_in}
-use Rattle.dentry_cache.specs.CacheMap.{order, unclean}
-use Rattle.export_regions.specs.Regions.{HasTooMany, IsIn}
+use Rattle.export_regions.proofs.Common.{HasTooMany, IsIn, arith, false, leaf_of, length, order, refl, sym, true, unclean, unclean_in, ◌∙◌, ◌≡◌, ◌≤◌}
 use Rattle.export_regions.proofs.ExportLaws.{is_export}
 use Rattle.export_regions.proofs.PickLaws.{few_picked}
 use Rattle.export_regions.proofs.WhereLaws.{picked_may}

@@ -1,8 +1,4 @@
-use Rattle.std.proofs.Common.{◌≡◌, ◌≤◌, true, false, length, refl, sym, ◌∙◌, arith}
-use Rattle.mds_types.specs.Leaf.{Leaf, leaf_of}
-use Rattle.dentry_cache.specs.CacheCalls.{unclean_in}
-use Rattle.dentry_cache.specs.CacheMap.{here, order, unclean}
-use Rattle.export_regions.specs.Regions.{HasTooMany, IsIn}
+use Rattle.export_regions.proofs.Common.{HasTooMany, IsIn, Leaf, arith, false, here, leaf_of, length, order, refl, sym, true, unclean, unclean_in, ◌∙◌, ◌≡◌, ◌≤◌}
 use Rattle.export_regions.proofs.ExportLaws.{is_export}
 use Rattle.export_regions.proofs.ManyLaws.{all_so, as_many}
 use Rattle.export_regions.proofs.PickLaws.{each_passes, few_picked, picked_distinct}

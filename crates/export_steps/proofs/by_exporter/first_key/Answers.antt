@@ -1,7 +1,5 @@
-use Rattle.std.proofs.Common.{ℕ, Option, Some, None, sym, subst}
-use Rattle.sorted_map.specs.SortedMap.{contents}
-use Rattle.mds_types.specs.Leaf.{Leaf}
-use Rattle.export_steps.specs.ByExporter.{IsFirstKey, by_cmp, comes}
+use Rattle.export_steps.proofs.Common.{IsFirstKey, Leaf, by_cmp, comes, contents, subst, sym}
+use Rattle.std.proofs.Common.{ℕ, Option, Some, None}
 use Rattle.export_steps.proofs.ByExporterLaws.{first_key}
 use Rattle.export_steps.proofs.by_exporter.first_key.Goals as goal
 

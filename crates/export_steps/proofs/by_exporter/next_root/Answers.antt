@@ -1,5 +1,4 @@
-use Rattle.sorted_map.specs.SortedMap.{contents}
-use Rattle.export_steps.specs.ByExporter.{by_cmp}
+use Rattle.export_steps.proofs.Common.{by_cmp, contents}
 use Rattle.export_steps.proofs.ByExporterLaws.{other_next, some_next_at}
 use Rattle.export_steps.proofs.by_exporter.next_root.Goals as goal
 

@@ -1,8 +1,5 @@
-use Rattle.std.specs.Prelude.{◌≡◌}
-use Rattle.std.specs.List.{slice_get}
+use Rattle.export_steps.proofs.Common.{contents, leaf_cmp, slice_get, ◌≡◌}
 use Rattle.std.specs.FinMap as map
-use Rattle.sorted_map.specs.SortedMap.{contents}
-use Rattle.mds_types.specs.Leaf.{leaf_cmp}
 use Rattle.export_steps.proofs.exports.nth_row.Given as goal
 
 abbrev pub invariant-loop-before : goal.invariant-loop-before

@@ -1,4 +1,4 @@
-use Rattle.std.specs.Prelude.{Ok}
+use Rattle.export_steps.proofs.Common.{Ok}
 use Rattle.export_steps.proofs.HoldingSteps.{prep_soundly}
 use Rattle.export_steps.proofs.Placed.{preps_placed}
 use Rattle.export_steps.proofs.laws.prep_keeps_holders.Goals as goal

@@ -1,4 +1,4 @@
-use Rattle.std.specs.Prelude.{Ok, refl}
+use Rattle.export_steps.proofs.Common.{Ok, refl}
 use Rattle.export_steps.specs.declared.exports.ExportState.TheVariants as state
 use Rattle.export_steps.proofs.HoldingSteps.{send_soundly}
 use Rattle.export_steps.proofs.Placed.{steps_placed}

@@ -1,4 +1,4 @@
-use Rattle.std.specs.Prelude.{Ok}
+use Rattle.export_steps.proofs.Common.{Ok}
 use Rattle.export_steps.proofs.HoldingSteps.{start_soundly}
 use Rattle.export_steps.proofs.Placed.{starts_placed}
 use Rattle.export_steps.proofs.laws.start_keeps_holders.Goals as goal

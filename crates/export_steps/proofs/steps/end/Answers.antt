@@ -1,6 +1,4 @@
-use Rattle.sorted_map.specs.SortedMap.{contents}
-use Rattle.mds_types.specs.Leaf.{leaf_cmp}
-use Rattle.export_steps.specs.ByExporter.{by_cmp}
+use Rattle.export_steps.proofs.Common.{by_cmp, contents, leaf_cmp}
 use Rattle.export_steps.proofs.ByExporterLaws.{end_exports}
 use Rattle.export_steps.proofs.steps.end.Goals as goal
 

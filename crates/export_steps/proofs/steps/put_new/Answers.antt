@@ -1,9 +1,5 @@
-use Rattle.std.proofs.Common.{ap, ◌∙◌}
+use Rattle.export_steps.proofs.Common.{RootsBy, Standing, ap, by_cmp, contents, leaf_cmp, ◌∙◌}
 use Rattle.std.specs.FinMap as map
-use Rattle.sorted_map.specs.SortedMap.{contents}
-use Rattle.mds_types.specs.Leaf.{leaf_cmp}
-use Rattle.export_steps.specs.ByExporter.{RootsBy, by_cmp}
-use Rattle.export_steps.specs.Standing.{Standing}
 use Rattle.export_steps.proofs.ByExporterLaws.{put_exports}
 use Rattle.export_steps.proofs.steps.put_new.Goals as goal
 

@@ -1,5 +1,4 @@
-use Rattle.sorted_map.specs.SortedMap.{contents}
-use Rattle.mds_types.specs.Leaf.{leaf_cmp}
+use Rattle.export_steps.proofs.Common.{contents, leaf_cmp}
 use Rattle.export_steps.proofs.ByExporterLaws.{come_exports}
 use Rattle.export_steps.proofs.steps.put_state.Goals as goal
 

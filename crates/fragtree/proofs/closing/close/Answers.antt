@@ -1,6 +1,5 @@
 -- A fragment that descents pass, and within which nothing is split any more, is where they end.
-use Rattle.mds_types.specs.Frag.{frag_cmp}
-use Rattle.sorted_map.specs.SortedMap.{contents}
+use Rattle.fragtree.proofs.Common.{contents, frag_cmp}
 use Rattle.fragtree.proofs.Spelled.{closed, closed_after}
 use Rattle.fragtree.proofs.closing.close.Goals as goal
 

@@ -1,12 +1,6 @@
 -- What is split within a fragment stands from it on, before what begins behind its end.
-use Rattle.std.proofs.Common.{◌≡◌, ◌+◌, ◌<◌, ◌≤◌, ℕ, leb, Bool, true, false, None, List, [], ◌∷◌, IfNone, IfSome, IsSome, is_some, refl, sym, ap, ◌∙◌, arith}
-use Rattle.std.proofs.lemmas.Bool.Decides.{nat_tests}
-use Rattle.std.specs.Bool.{then_some}
+use Rattle.fragtree.proofs.Common.{Bool, ContainsFragment, Fragment, IfNone, IfSome, IsFragment, IsSome, List, None, Splits, [], ap, arith, contents, false, frag_cmp, is_from, is_some, leb, nat_tests, refl, span, sym, then_some, true, where_key, ℕ, ◌+◌, ◌<◌, ◌∙◌, ◌∷◌, ◌≡◌, ◌≤◌}
 use Rattle.std.specs.FinMap as map
-use Rattle.std.specs.FinMap.Entries.{where_key}
-use Rattle.sorted_map.specs.SortedMap.{contents, is_from}
-use Rattle.mds_types.specs.Frag.{Fragment, IsFragment, ContainsFragment, frag_cmp, span}
-use Rattle.fragtree.specs.Descents.{Splits}
 use Rattle.fragtree.proofs.FirstKeys.{none_from, first_split, none_before, within_from, from_within}
 use Rattle.fragtree.proofs.closing.first_within.Goals as goal
 

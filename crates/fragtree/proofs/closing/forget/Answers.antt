@@ -1,9 +1,6 @@
 -- Each turn removes one of the fragments within f.
-use Rattle.std.proofs.Common.{ap, subst, sym, ◌∙◌}
+use Rattle.fragtree.proofs.Common.{ContainsFragment, Splits, ap, contents, frag_cmp, subst, sym, ◌∙◌}
 use Rattle.std.specs.FinMap as map
-use Rattle.mds_types.specs.Frag.{ContainsFragment, frag_cmp}
-use Rattle.sorted_map.specs.SortedMap.{contents}
-use Rattle.fragtree.specs.Descents.{Splits}
 use Rattle.fragtree.proofs.Entries.{after_removal, fewer, get_left}
 use Rattle.fragtree.proofs.closing.forget.Goals as goal
 

@@ -1,8 +1,6 @@
 -- What lies elsewhere is as before, and nothing is split that wasn't.
-use Rattle.std.proofs.Common.{◌≡◌, ℕ, Some}
+use Rattle.fragtree.proofs.Common.{ContainsFragment, Fragment, Some, contents, frag_cmp, ℕ, ◌≡◌}
 use Rattle.std.specs.FinMap as map
-use Rattle.mds_types.specs.Frag.{Fragment, ContainsFragment, frag_cmp}
-use Rattle.sorted_map.specs.SortedMap.{contents}
 use Rattle.fragtree.proofs.closing.forget.Given as goal
 
 abbrev pub invariant-loop-within : goal.invariant-loop-within

@@ -1,9 +1,6 @@
 -- A split that the descent passes is led through, or halved where it passes over the fragment.
-use Rattle.std.proofs.Common.{◌≡◌, ℕ, ◌+◌, ◌-◌, ◌<◌, Some, is_some, sym, ap, subst, ◌∙◌, arith}
+use Rattle.fragtree.proofs.Common.{AllSome, Descends, Fragment, KeepsEnds, Some, Splits, ap, arith, contents, frag_at, frag_cmp, halved, is_some, splits_round, subst, sym, ℕ, ◌+◌, ◌-◌, ◌<◌, ◌∙◌, ◌≡◌}
 use Rattle.std.specs.FinMap as map
-use Rattle.mds_types.specs.Frag.{Fragment, frag_cmp}
-use Rattle.sorted_map.specs.SortedMap.{contents}
-use Rattle.fragtree.specs.Descents.{Splits, AllSome, Descends, KeepsEnds, frag_at, halved, splits_round}
 use Rattle.fragtree.proofs.Steps.{split_there, passes_on, keeps_there, some_there, passes_there}
 use Rattle.fragtree.proofs.closing.lead_on.Goals as goal
 

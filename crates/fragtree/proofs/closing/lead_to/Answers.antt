@@ -1,6 +1,5 @@
 -- Nothing is led on at first.
-use Rattle.std.proofs.Common.{refl, arith}
-use Rattle.fragtree.specs.Descents.{there}
+use Rattle.fragtree.proofs.Common.{arith, refl, there}
 use Rattle.fragtree.proofs.closing.lead_to.Goals as goal
 
 pub loop-bits-init : goal.loop-bits-init

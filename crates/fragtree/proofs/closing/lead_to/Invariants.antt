@@ -1,8 +1,5 @@
 -- The descent to f passes the fragment of so many bits, and there is room to halve what is left.
-use Rattle.std.proofs.Common.{◌+◌, ◌-◌, ◌*◌, ◌≤◌}
-use Rattle.mds_types.specs.Frag.{frag_cmp}
-use Rattle.sorted_map.specs.SortedMap.{contents}
-use Rattle.fragtree.specs.Descents.{AllSome, Descends, KeepsEnds, splits_round}
+use Rattle.fragtree.proofs.Common.{AllSome, Descends, KeepsEnds, contents, frag_cmp, splits_round, ◌*◌, ◌+◌, ◌-◌, ◌≤◌}
 use Rattle.fragtree.proofs.closing.lead_to.Given as goal
 
 abbrev pub invariant-loop-bits : goal.invariant-loop-bits

@@ -1,5 +1,5 @@
 -- A leaf that the other tree lacks tells them apart; where there is none they are one.
-use Rattle.std.proofs.Common.{◌++◌, ◌∷◌, [], refl, ap, ◌∙◌}
+use Rattle.fragtree.proofs.Common.{[], ap, refl, ◌++◌, ◌∙◌, ◌∷◌}
 use Rattle.fragtree.proofs.Walks.{all_found, one_found, found_too}
 use Rattle.fragtree.proofs.compare.have_same_leaves.Goals as goal
 

@@ -1,7 +1,5 @@
 -- The leaves that were looked up are leaves of the other tree too.
-use Rattle.std.proofs.Common.{◌≡◌, List, ◌++◌}
-use Rattle.mds_types.specs.Frag.{Fragment}
-use Rattle.fragtree.specs.FragTree.{HasLeaf}
+use Rattle.fragtree.proofs.Common.{Fragment, HasLeaf, List, ◌++◌, ◌≡◌}
 use Rattle.fragtree.proofs.compare.have_same_leaves.Given as goal
 
 abbrev pub invariant-loop-leaf : goal.invariant-loop-leaf

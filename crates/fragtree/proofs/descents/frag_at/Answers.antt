@@ -1,8 +1,5 @@
 -- What begins at a multiple of its span is a fragment.
-use Rattle.std.proofs.Common.{◌≡◌, ◌-◌, Option, Some, None, is_some, refl, true, arith}
-use Rattle.std.specs.Prelude.{SomeIff}
-use Rattle.std.proofs.lemmas.Nat.{one_shl}
-use Rattle.mds_types.specs.Frag.{Fragment, IsFragment}
+use Rattle.fragtree.proofs.Common.{Fragment, IsFragment, None, Option, Some, SomeIff, arith, is_some, one_shl, refl, true, ◌-◌, ◌≡◌}
 use Rattle.fragtree.proofs.Rounds.{frag_at-IsFragment}
 use Rattle.fragtree.proofs.descents.frag_at.Goals as goal
 

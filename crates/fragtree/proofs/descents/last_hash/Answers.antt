@@ -1,6 +1,5 @@
 -- The fragment ends at 2^24 at the latest.
-use Rattle.std.proofs.Common.{◌-◌, ◌≤◌, arith}
-use Rattle.std.proofs.lemmas.Nat.{one_shl}
+use Rattle.fragtree.proofs.Common.{arith, one_shl, ◌-◌, ◌≤◌}
 use Rattle.fragtree.proofs.Ranges.{ends_low, span_pos}
 use Rattle.fragtree.proofs.descents.last_hash.Goals as goal
 

@@ -1,8 +1,5 @@
 -- Each turn goes on to a fragment of more bits, 24 at most, and at one that isn't split the descent has ended.
-use Rattle.std.proofs.Common.{◌+◌, ap, subst, sym, ◌∙◌, arith}
-use Rattle.mds_types.specs.Frag.{Fragment, frag_cmp}
-use Rattle.sorted_map.specs.SortedMap.{contents}
-use Rattle.fragtree.specs.Descents.{frag_at}
+use Rattle.fragtree.proofs.Common.{Fragment, ap, arith, contents, frag_at, frag_cmp, subst, sym, ◌+◌, ◌∙◌}
 use Rattle.fragtree.proofs.Steps.{ComesBy, started, goes_on, arrived}
 use Rattle.fragtree.proofs.descents.leaf_of.Goals as goal
 

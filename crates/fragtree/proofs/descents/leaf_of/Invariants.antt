@@ -1,7 +1,5 @@
 -- The descent of the hash comes by the fragment, at more bits in each turn.
-use Rattle.std.proofs.Common.{◌-◌}
-use Rattle.mds_types.specs.Frag.{frag_cmp}
-use Rattle.sorted_map.specs.SortedMap.{contents}
+use Rattle.fragtree.proofs.Common.{contents, frag_cmp, ◌-◌}
 use Rattle.fragtree.proofs.Steps.{ComesBy}
 use Rattle.fragtree.proofs.descents.leaf_of.Given as goal
 

@@ -1,6 +1,5 @@
 -- What is left tiles the hashes from here on exactly if all of it does so from 0 on.
-use Rattle.std.proofs.Common.{◌↔◌, ◌^◌, drop}
-use Rattle.fragtree.specs.FragTree.{Tiles}
+use Rattle.fragtree.proofs.Common.{Tiles, drop, ◌^◌, ◌↔◌}
 use Rattle.fragtree.proofs.making.do_tile.Given as goal
 
 abbrev pub invariant-loop-leaf : goal.invariant-loop-leaf

@@ -1,9 +1,6 @@
 -- One fragment more is split.
-use Rattle.std.proofs.Common.{◌+◌, ap, sym, subst, ◌∙◌}
+use Rattle.fragtree.proofs.Common.{IsSplitRound, Splits, ap, contents, frag_at, frag_cmp, subst, sym, ◌+◌, ◌∙◌}
 use Rattle.std.specs.FinMap as map
-use Rattle.mds_types.specs.Frag.{frag_cmp}
-use Rattle.sorted_map.specs.SortedMap.{contents}
-use Rattle.fragtree.specs.Descents.{Splits, IsSplitRound, frag_at}
 use Rattle.fragtree.proofs.Made.{one_more}
 use Rattle.fragtree.proofs.making.split_round.Goals as goal
 

@@ -1,7 +1,5 @@
 -- The fragments of fewer bits round the leaf are split.
-use Rattle.mds_types.specs.Frag.{frag_cmp}
-use Rattle.sorted_map.specs.SortedMap.{contents}
-use Rattle.fragtree.specs.Descents.{IsSplitRound}
+use Rattle.fragtree.proofs.Common.{IsSplitRound, contents, frag_cmp}
 use Rattle.fragtree.proofs.making.split_round.Given as goal
 
 abbrev pub invariant-loop-bits : goal.invariant-loop-bits

@@ -1,9 +1,5 @@
 -- Once all leaves are taken the splits spell them.
-use Rattle.std.proofs.Common.{arith, subst, sym}
-use Rattle.std.proofs.lemmas.List.Elements.{Contains-get_or}
-use Rattle.mds_types.specs.Frag.{frag_cmp}
-use Rattle.sorted_map.specs.SortedMap.{contents}
-use Rattle.fragtree.specs.FragTree.{HasLeaf}
+use Rattle.fragtree.proofs.Common.{Contains-get_or, HasLeaf, arith, contents, frag_cmp, subst, sym}
 use Rattle.fragtree.proofs.Made.{all_led, made_spells, none_round, on_err, several}
 use Rattle.fragtree.proofs.making.splits_of.Goals as goal
 

@@ -1,6 +1,5 @@
 -- The first copy in the inboxes to come is the first in all of them.
-use Rattle.std.proofs.Common.{◌≡◌, drop}
-use Rattle.inboxes.specs.Inboxes.{first_waiting}
+use Rattle.inboxes.proofs.Common.{drop, first_waiting, ◌≡◌}
 use Rattle.inboxes.proofs.inboxes.first_in.Given as goal
 
 abbrev pub invariant-loop-inbox : goal.invariant-loop-inbox

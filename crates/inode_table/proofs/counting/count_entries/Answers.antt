@@ -1,11 +1,7 @@
 -- One entry after the other is counted.
-use Rattle.std.proofs.Common.{◌≡◌, ap, subst, sym, refl, true, arith, ◌∙◌}
+use Rattle.inode_table.proofs.Common.{Table, ap, arith, contents, dentry_cmp, is_dir_kind, is_known, one_more, refl, subst, sym, true, with_pin, ◌∙◌, ◌≡◌}
 use Rattle.std.specs.Prelude.{is_some}
 use Rattle.std.specs.FinMap as map
-use Rattle.sorted_map.specs.SortedMap.{contents}
-use Rattle.mds_types.specs.Tree.{dentry_cmp, is_dir_kind}
-use Rattle.inode_table.specs.Dirs.{Table, is_known, one_more}
-use Rattle.inode_table.specs.TreeTable.{with_pin}
 use Rattle.inode_table.proofs.CountingLaws.{IsCountedTo, counted_all, counted_next, counted_none, next_few, next_known, next_listed}
 use Rattle.inode_table.proofs.counting.count_entries.Goals as goal
 

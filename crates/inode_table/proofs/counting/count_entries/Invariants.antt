@@ -1,8 +1,5 @@
 -- The entries before those that are left were counted.
-use Rattle.std.proofs.Common.{◌≡◌, length}
-use Rattle.sorted_map.specs.SortedMap.{contents}
-use Rattle.mds_types.specs.Tree.{dentry_cmp}
-use Rattle.inode_table.specs.Dirs.{Table}
+use Rattle.inode_table.proofs.Common.{Table, contents, dentry_cmp, length, ◌≡◌}
 use Rattle.inode_table.proofs.CountingLaws.{IsCountedTo}
 use Rattle.inode_table.proofs.counting.count_entries.Given as goal
 

@@ -1,4 +1,4 @@
-use Rattle.std.proofs.Common.{◌≡◌, true, false, is_some, rules}
+use Rattle.inode_table.proofs.Common.{false, is_some, rules, true, ◌≡◌}
 use Rattle.inode_table.proofs.PinnedRows.{first_here, rest_pins, rest_sorted}
 use Rattle.inode_table.proofs.next_pinned.first_pinned.Goals as goal
 

@@ -1,8 +1,6 @@
 -- What was passed has no pin.
+use Rattle.inode_table.proofs.Common.{find, is_sorted, nat_cmp, pin_in}
 use Rattle.std.specs.Prelude.{◌≡◌, ℕ, T, length}
-use Rattle.std.specs.FinMap.{find, is_sorted}
-use Rattle.std.specs.Ordering.{nat_cmp}
-use Rattle.inode_table.specs.Rows.{pin_in}
 use Rattle.inode_table.proofs.next_pinned.first_pinned.Given as goal
 
 abbrev pub invariant-loop-row : goal.invariant-loop-row

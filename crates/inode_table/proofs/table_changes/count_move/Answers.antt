@@ -1,8 +1,6 @@
 -- The count of another directory is what it was.
-use Rattle.std.proofs.Common.{◌≡◌, ◌<◌, ◌-◌, ◌^◌, ◌∙◌, ap, false, subst, sym}
+use Rattle.inode_table.proofs.Common.{Table, ap, count_of, false, not-true, subst, sym, ◌-◌, ◌<◌, ◌^◌, ◌∙◌, ◌≡◌}
 use Rattle.std.specs.Prelude.{◌==◌}
-use Rattle.std.proofs.lemmas.Bool.{not-true}
-use Rattle.inode_table.specs.Dirs.{Table, count_of}
 use Rattle.inode_table.proofs.CountedLaws.{count_apart}
 use Rattle.inode_table.proofs.table_changes.count_move.Goals as goal
 

@@ -1,6 +1,4 @@
-use Rattle.std.proofs.Common.{ap}
-use Rattle.std.specs.Option.{option_copied}
-use Rattle.mds_types.specs.Tree.{is_dir_kind}
+use Rattle.inode_table.proofs.Common.{ap, is_dir_kind, option_copied}
 use Rattle.inode_table.proofs.table_changes.drop_dir.Goals as goal
 
 pub drop-requires : goal.drop-requires

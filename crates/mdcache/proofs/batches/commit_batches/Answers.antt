@@ -1,12 +1,6 @@
 -- Each turn commits some leaves, or finds that all is clean.
-use Rattle.std.proofs.Common.{ℕ, ◌+◌, ◌<◌, cond, ◌≤◌, refl, sym, subst, ◌∙◌, arith}
+use Rattle.mdcache.proofs.Common.{HasFragment, MayNotCommit, NoneEnds, arith, came_ranks, cond, refl, state_of, subst, sym, unclean, ℕ, ◌+◌, ◌<◌, ◌∙◌, ◌≤◌}
 use Rattle.std.specs.FinMap as map
-use Rattle.dentry_cache.specs.Came.{NoneEnds}
-use Rattle.dentry_cache.specs.CacheMap.{unclean}
-use Rattle.dentry_cache.proofs.FrameLaws.{came_ranks}
-use Rattle.mdcache.specs.Batches.{MayNotCommit}
-use Rattle.mdcache.specs.Core.{state_of}
-use Rattle.mdcache.specs.Flushed.{HasFragment}
 use Rattle.mdcache.proofs.CommittedLaws.{jobs_alone, lacked_before, turn_ends, whole_then}
 use Rattle.mdcache.proofs.KeptTree.{kept_itself, steps_keep_tree}
 use Rattle.mdcache.proofs.batches.commit_batches.Goals as goal

@@ -1,10 +1,6 @@
 -- So far some leaves were committed whole, and all is clean where none was left.
-use Rattle.std.proofs.Common.{◌≡◌, ◌+◌, ◌≤◌, cond, false, length}
+use Rattle.mdcache.proofs.Common.{CommitsWhole, IsSoundCore, KeepsTree, cond, false, length, state_of, unclean, ◌+◌, ◌≡◌, ◌≤◌}
 use Rattle.std.specs.FinMap as map
-use Rattle.dentry_cache.specs.CacheMap.{unclean}
-use Rattle.mdcache.specs.Batches.{CommitsWhole}
-use Rattle.mdcache.specs.Core.{IsSoundCore, state_of}
-use Rattle.mdcache.specs.Flushed.{KeepsTree}
 use Rattle.mdcache.proofs.batches.commit_batches.Given as goal
 
 abbrev pub invariant-loop-more : goal.invariant-loop-more

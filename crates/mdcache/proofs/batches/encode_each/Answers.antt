@@ -1,8 +1,5 @@
 -- What is collected of all jobs' encodings.
-use Rattle.std.proofs.Common.{ap, subst, ◌∙◌}
-use Rattle.std.specs.List.{AllZip}
-use Rattle.rayon.specs.Lists.{min_len_base, vec_items}
-use Rattle.mdcache.specs.Batches.{IsReadied}
+use Rattle.mdcache.proofs.Common.{AllZip, IsReadied, ap, min_len_base, subst, vec_items, ◌∙◌}
 use Rattle.mdcache.proofs.EncodingLaws.{all_encoded, refused_for_memory}
 use Rattle.mdcache.proofs.batches.encode_each.Goals as goal
 

@@ -1,7 +1,4 @@
-use Rattle.std.proofs.Common.{◌∙◌, sym, ap}
-use Rattle.std.specs.Option.{option_copied}
-use Rattle.mds_types.specs.Leaf.{leaf_of}
-use Rattle.dentry_cache.specs.CacheMap.{here}
+use Rattle.mdcache.proofs.Common.{ap, here, leaf_of, option_copied, sym, ◌∙◌}
 use Rattle.mdcache.proofs.BeginSteps.{absent_told, clean_told, unclean_told}
 use Rattle.mdcache.proofs.beginning.unsaved.Goals as goal
 

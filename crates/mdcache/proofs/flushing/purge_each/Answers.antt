@@ -1,5 +1,4 @@
-use Rattle.std.proofs.Common.{sym, ◌∙◌, arith}
-use Rattle.mdcache.specs.Core.{state_of}
+use Rattle.mdcache.proofs.Common.{arith, state_of, sym, ◌∙◌}
 use Rattle.mdcache.proofs.PurgedLaws.{no_names, purged_more}
 use Rattle.mdcache.proofs.flushing.purge_each.Goals as goal
 

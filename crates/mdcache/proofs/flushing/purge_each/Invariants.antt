@@ -1,8 +1,6 @@
 -- So far some objects are gone; each turn takes one name off the list.
-use Rattle.std.proofs.Common.{◌≡◌}
+use Rattle.mdcache.proofs.Common.{ArePurged, IsSoundCore, state_of, ◌≡◌}
 use Rattle.std.specs.FinMap as map
-use Rattle.mdcache.specs.Core.{IsSoundCore, state_of}
-use Rattle.mdcache.specs.Flushed.{ArePurged}
 use Rattle.mdcache.proofs.flushing.purge_each.Given as goal
 
 abbrev pub invariant-loop-tree : goal.invariant-loop-tree

@@ -1,10 +1,5 @@
 -- Each turn saves the tree of the first directory that is left.
-use Rattle.std.proofs.Common.{inl, sym, ap, refl, subst, ◌∙◌, arith}
-use Rattle.std.specs.Prelude.{slice_get}
-use Rattle.objstore.specs.Objects.{MayRefuse}
-use Rattle.inode_table.specs.Order.{trees_after}
-use Rattle.inode_table.proofs.TreeOrder.{all_trees}
-use Rattle.mdcache.specs.Core.{Core, state_of}
+use Rattle.mdcache.proofs.Common.{Core, MayRefuse, all_trees, ap, arith, inl, refl, slice_get, state_of, subst, sym, trees_after, ◌∙◌}
 use Rattle.mdcache.proofs.CoverRows.{known_by_row}
 use Rattle.mdcache.proofs.SavedTreeLaws.{all_saved, no_first, saved_none, turn_done, turn_fewer, turn_refused, turn_saved}
 use Rattle.mdcache.proofs.flushing.save_each.Goals as goal

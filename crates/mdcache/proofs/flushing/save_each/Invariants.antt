@@ -1,13 +1,7 @@
 -- So far some trees are saved; those of other directories are to come.
-use Rattle.std.proofs.Common.{◌≡◌, ◌⊎◌, true}
-use Rattle.std.specs.Prelude.{is_some, length}
+use Rattle.mdcache.proofs.Common.{HasTree, Ino, IsSoundCore, SavesTrees, eq_by_cmp, is_some, list_any, nat_cmp, state_of, trees_after, true, ◌≡◌, ◌⊎◌}
+use Rattle.std.specs.Prelude.{length}
 use Rattle.std.specs.FinMap as map
-use Rattle.std.specs.Ordering.{eq_by_cmp, nat_cmp}
-use Rattle.std.specs.List.{list_any}
-use Rattle.mds_types.specs.declared.ids.Ino.{Ino}
-use Rattle.inode_table.specs.Order.{trees_after}
-use Rattle.mdcache.specs.Core.{IsSoundCore, state_of}
-use Rattle.mdcache.specs.SavedTrees.{HasTree, SavesTrees}
 use Rattle.mdcache.proofs.flushing.save_each.Given as goal
 
 abbrev pub invariant-loop-dir : goal.invariant-loop-dir

@@ -1,7 +1,5 @@
-use Rattle.std.proofs.Common.{ap, ◌∙◌}
+use Rattle.mdcache.proofs.Common.{CacheMap, ap, root_leaf, ◌∙◌}
 use Rattle.std.specs.FinMap as map
-use Rattle.dentry_cache.specs.CacheMap.{CacheMap}
-use Rattle.mdcache.specs.New.{root_leaf}
 use Rattle.mdcache.proofs.NewLaws.{none_held}
 use Rattle.mdcache.proofs.formatting.root_caches.Goals as goal
 

@@ -1,9 +1,5 @@
-use Rattle.std.proofs.Common.{List, ap}
-use Rattle.std.specs.Prelude.{map as each, string_bytes}
-use Rattle.mds_types.specs.Frag.{Fragment}
-use Rattle.namespace_ops.specs.Changes.{in_directory}
-use Rattle.mdcache.specs.declared.going.GoingLeaf.{GoingLeaf}
-use Rattle.mdcache.specs.State.{text_of}
+use Rattle.mdcache.proofs.Common.{Fragment, GoingLeaf, List, ap, in_directory, string_bytes, text_of}
+use Rattle.std.specs.Prelude.{map as each}
 use Rattle.mdcache.proofs.GoingLaws.{part_on}
 use Rattle.mdcache.proofs.going.parts_of.Goals as goal
 

@@ -1,9 +1,6 @@
 -- The parts so far and the leaves to come are all of them.
-use Rattle.std.proofs.Common.{◌≡◌, ◌++◌}
+use Rattle.mdcache.proofs.Common.{in_directory, leaves_in, text_of, texts_in, ◌++◌, ◌≡◌}
 use Rattle.std.specs.Prelude.{map as each}
-use Rattle.namespace_ops.specs.Changes.{in_directory}
-use Rattle.mdcache.specs.Going.{leaves_in, texts_in}
-use Rattle.mdcache.specs.State.{text_of}
 use Rattle.mdcache.proofs.going.parts_of.Given as goal
 
 abbrev pub invariant-loop-frag : goal.invariant-loop-frag

@@ -1,12 +1,5 @@
-use Rattle.std.proofs.Common.{List, Option, subst}
-use Rattle.std.specs.Option.{option_copied}
+use Rattle.mdcache.proofs.Common.{Cached, HasCached, IsPageOf, List, Option, Row, key_cmp, option_copied, puts, rows_after, rows_left, shown, subst}
 use Rattle.std.specs.FinMap as map
-use Rattle.objstore.specs.Omap.{key_cmp}
-use Rattle.sorted_map.specs.Places.{puts}
-use Rattle.cached_frag.specs.Cached.{Cached, shown}
-use Rattle.cached_frag.specs.Rows.{Row, rows_after, rows_left}
-use Rattle.dentry_cache.specs.Cache.{HasCached}
-use Rattle.mdcache.specs.Pages.{IsPageOf}
 use Rattle.mdcache.proofs.GatherLaws.{leaf_taken}
 use Rattle.mdcache.proofs.listing.gather_cached.Goals as goal
 

@@ -1,10 +1,5 @@
-use Rattle.std.proofs.Common.{◌≡◌, ◌++◌, [], ◌∷◌, List, sym, ap, ◌∙◌}
+use Rattle.mdcache.proofs.Common.{Fragment, List, [], ap, in_directory, leaves_in, leaves_inside, sym, text_of, texts_in, ◌++◌, ◌∙◌, ◌∷◌, ◌≡◌}
 use Rattle.std.specs.Prelude.{map as each}
-use Rattle.mds_types.specs.Frag.{Fragment}
-use Rattle.fragtree.specs.FragTree.{leaves_inside}
-use Rattle.namespace_ops.specs.Changes.{in_directory}
-use Rattle.mdcache.specs.Going.{leaves_in, texts_in}
-use Rattle.mdcache.specs.State.{text_of}
 use Rattle.mdcache.proofs.JoinLaws.{inside_on, mapped_twice}
 use Rattle.mdcache.proofs.merge_plan.ending_leaves.Goals as goal
 

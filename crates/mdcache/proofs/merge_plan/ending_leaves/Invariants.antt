@@ -1,10 +1,6 @@
 -- The parts so far and the leaves inside that are to come are all of them.
-use Rattle.std.proofs.Common.{◌≡◌, ◌++◌}
+use Rattle.mdcache.proofs.Common.{in_directory, leaves_in, leaves_inside, text_of, texts_in, ◌++◌, ◌≡◌}
 use Rattle.std.specs.Prelude.{map as each}
-use Rattle.fragtree.specs.FragTree.{leaves_inside}
-use Rattle.namespace_ops.specs.Changes.{in_directory}
-use Rattle.mdcache.specs.Going.{leaves_in, texts_in}
-use Rattle.mdcache.specs.State.{text_of}
 use Rattle.mdcache.proofs.merge_plan.ending_leaves.Given as goal
 
 abbrev pub invariant-loop-leaf : goal.invariant-loop-leaf

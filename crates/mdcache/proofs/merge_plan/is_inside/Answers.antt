@@ -1,4 +1,4 @@
-use Rattle.std.proofs.Common.{arith}
+use Rattle.mdcache.proofs.Common.{arith}
 use Rattle.mdcache.proofs.JoinLaws.{is_within}
 use Rattle.mdcache.proofs.merge_plan.is_inside.Goals as goal
 

@@ -1,11 +1,4 @@
-use Rattle.std.proofs.Common.{◌++◌, [], ◌∷◌, sym, ap, ◌∙◌}
-use Rattle.std.specs.Prelude.{string_bytes}
-use Rattle.mds_types.specs.Frag.{Fragment}
-use Rattle.fragtree.specs.FragTree.{leaves_inside}
-use Rattle.namespace_ops.specs.Changes.{in_directory}
-use Rattle.mdcache.specs.declared.going.GoingLeaf.{GoingLeaf}
-use Rattle.mdcache.specs.Going.{leaves_in, texts_in}
-use Rattle.mdcache.specs.State.{text_of}
+use Rattle.mdcache.proofs.Common.{Fragment, GoingLeaf, [], ap, in_directory, leaves_in, leaves_inside, string_bytes, sym, text_of, texts_in, ◌++◌, ◌∙◌, ◌∷◌}
 use Rattle.mdcache.proofs.JoinLaws.{inside_none, inside_one, mapped_twice}
 use Rattle.mdcache.proofs.merge_plan.push_inside.Goals as goal
 

@@ -1,8 +1,4 @@
-use Rattle.std.proofs.Common.{◌≡◌, ◌+◌, ◌++◌, ◌∷◌, [], List, rules, sym, subst}
-use Rattle.sorted_map.specs.SortedMap.{contents}
-use Rattle.mds_types.specs.Tree.{dentry_cmp}
-use Rattle.inode_table.specs.Numbers.{Supply}
-use Rattle.mdcache.specs.Mounted.{AreNumbers}
+use Rattle.mdcache.proofs.Common.{AreNumbers, List, Supply, [], contents, dentry_cmp, rules, subst, sym, ◌++◌, ◌+◌, ◌∷◌, ◌≡◌}
 use Rattle.mdcache.proofs.NumbersMade.{no_numbers, numbers_more}
 use Rattle.mdcache.proofs.mounting.numbers_of.Goals as goal
 

@@ -1,7 +1,5 @@
 -- So far each rank below has its numbers.
-use Rattle.sorted_map.specs.SortedMap.{contents}
-use Rattle.mds_types.specs.Tree.{dentry_cmp}
-use Rattle.mdcache.specs.Mounted.{AreNumbers}
+use Rattle.mdcache.proofs.Common.{AreNumbers, contents, dentry_cmp}
 use Rattle.mdcache.proofs.mounting.numbers_of.Given as goal
 
 abbrev pub invariant-loop-rank : goal.invariant-loop-rank

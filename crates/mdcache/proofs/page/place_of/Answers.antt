@@ -1,9 +1,4 @@
-use Rattle.std.proofs.Common.{rules}
-use Rattle.std.specs.Ordering.{ordering_reverse}
-use Rattle.std.specs.Cmp.Lexicographic.{nat_list_cmp_total}
-use Rattle.std.proofs.lemmas.Fn.{always_returns_same}
-use Rattle.objstore.specs.Omap.{key_cmp}
-use Rattle.sorted_map.proofs.PlaceLaws.{searched}
+use Rattle.mdcache.proofs.Common.{always_returns_same, key_cmp, nat_list_cmp_total, ordering_reverse, rules, searched}
 use Rattle.mdcache.proofs.page.place_of.Goals as goal
 
 -- the closure turns what the name compares as

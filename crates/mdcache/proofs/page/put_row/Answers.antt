@@ -1,4 +1,4 @@
-use Rattle.std.proofs.Common.{◌≡◌, ◌-◌, suc, take, insert, ap, ◌∙◌, arith}
+use Rattle.mdcache.proofs.Common.{ap, arith, insert, suc, take, ◌-◌, ◌∙◌, ◌≡◌}
 use Rattle.mdcache.proofs.PageLaws.{insert_taken}
 use Rattle.mdcache.proofs.page.put_row.Goals as goal
 

@@ -1,7 +1,5 @@
-use Rattle.std.proofs.Common.{◌+◌, sym, ap, subst, ◌∙◌, arith}
-use Rattle.std.specs.Prelude.{map as each, string_bytes}
-use Rattle.mds_types.specs.Frag.{Fragment}
-use Rattle.mdcache.specs.State.{text_of}
+use Rattle.mdcache.proofs.Common.{Fragment, ap, arith, string_bytes, subst, sym, text_of, ◌+◌, ◌∙◌}
+use Rattle.std.specs.Prelude.{map as each}
 use Rattle.mdcache.proofs.ChildNames.{NameFirst, all_named, each_pushed, more_named, none_named}
 use Rattle.mdcache.proofs.split_plan.child_names.Goals as goal
 

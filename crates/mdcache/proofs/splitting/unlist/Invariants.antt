@@ -1,5 +1,5 @@
-use Rattle.std.proofs.Common.{◌≡◌, map as each, string_bytes, drop}
-use Rattle.mdcache.specs.Splits.{without_objects}
+use Rattle.mdcache.proofs.Common.{drop, without_objects, ◌≡◌}
+use Rattle.std.proofs.Common.{map as each, string_bytes}
 use Rattle.mdcache.proofs.splitting.unlist.Given as goal
 
 abbrev pub invariant-loop-name : goal.invariant-loop-name

@@ -1,5 +1,4 @@
-use Rattle.sorted_map.specs.SortedMap.{contents}
-use Rattle.mds_types.specs.Leaf.{leaf_cmp}
+use Rattle.mdcache.proofs.Common.{contents, leaf_cmp}
 use Rattle.mdcache.proofs.Walks.{at_first, found_here, none_left_of, steps_on}
 use Rattle.mdcache.proofs.standing_jobs.find.Goals as goal
 

@@ -1,8 +1,6 @@
 -- The jobs that are left are all that can have the number.
-use Rattle.std.proofs.Common.{length}
+use Rattle.mdcache.proofs.Common.{contents, leaf_cmp, length}
 use Rattle.std.specs.FinMap as map
-use Rattle.sorted_map.specs.SortedMap.{contents}
-use Rattle.mds_types.specs.Leaf.{leaf_cmp}
 use Rattle.mdcache.proofs.Walks.{IsRest}
 use Rattle.mdcache.proofs.standing_jobs.find.Given as goal
 

@@ -1,6 +1,4 @@
-use Rattle.std.proofs.Common.{[], ◌∷◌, sym, ◌∙◌}
-use Rattle.sorted_map.specs.SortedMap.{contents}
-use Rattle.mds_types.specs.Leaf.{leaf_cmp}
+use Rattle.mdcache.proofs.Common.{[], contents, leaf_cmp, sym, ◌∙◌, ◌∷◌}
 use Rattle.mdcache.proofs.NextLaws.{next_is}
 use Rattle.mdcache.proofs.standing_jobs.first_after.Goals as goal
 

@@ -1,5 +1,4 @@
-use Rattle.std.proofs.Common.{sym, ◌∙◌}
-use Rattle.sorted_map.proofs.Filters.{all_kept}
+use Rattle.mdcache.proofs.Common.{all_kept, sym, ◌∙◌}
 use Rattle.mdcache.proofs.standing_jobs.rest_after.Goals as goal
 
 pub returns-in-Some : goal.returns-in-Some

@@ -1,6 +1,5 @@
-use Rattle.std.proofs.Common.{◌≡◌, ◌==◌, true, List, ℕ, None, Some, length, sym, ap, ◌∙◌, arith}
-use Rattle.std.proofs.lemmas.Bool.Decides.{nat_tests}
-use Rattle.objstore.specs.Objects.{header_at, page_at}
+use Rattle.mdcache.proofs.Common.{List, None, Some, ap, arith, header_at, length, nat_tests, page_at, sym, true, ℕ, ◌∙◌, ◌≡◌}
+use Rattle.std.proofs.Common.{◌==◌}
 use Rattle.mdcache.proofs.EmptyLaws.{object_told, same_header}
 use Rattle.mdcache.proofs.tree_objects.is_written.Goals as goal
 

@@ -1,8 +1,5 @@
-use Rattle.std.proofs.Common.{List, ℕ, Some, ap, subst, ◌∙◌, ◌<◌, length}
-use Rattle.std.specs.Prelude.{MatchOption}
+use Rattle.mdcache.proofs.Common.{List, MatchOption, Some, SpellsTree, ap, leaves_of, length, subst, ℕ, ◌<◌, ◌∙◌}
 use Rattle.std.specs.FinMap as map
-use Rattle.dirfrag_codec.specs.TreeObject.{SpellsTree}
-use Rattle.inode_table.specs.Dirs.{leaves_of}
 use Rattle.mdcache.proofs.EmptyLaws.{written_already}
 use Rattle.mdcache.proofs.tree_objects.save_tree.Goals as goal
 

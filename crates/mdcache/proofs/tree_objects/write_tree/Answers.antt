@@ -1,6 +1,4 @@
-use Rattle.std.proofs.Common.{Some, true, ◌∙◌}
-use Rattle.std.proofs.lemmas.Result.{on_ok_weaker}
-use Rattle.objstore.specs.Objects.{written}
+use Rattle.mdcache.proofs.Common.{Some, on_ok_weaker, true, written, ◌∙◌}
 use Rattle.mdcache.proofs.ObjectLaws.{tree_written}
 use Rattle.mdcache.proofs.tree_objects.write_tree.Goals as goal
 

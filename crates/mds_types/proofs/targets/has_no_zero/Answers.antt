@@ -1,4 +1,4 @@
-use Rattle.std.proofs.Common.{not, ap, ◌∙◌}
+use Rattle.mds_types.proofs.Common.{ap, not, ◌∙◌}
 use Rattle.mds_types.proofs.ZeroBytes.{no_zero}
 use Rattle.mds_types.proofs.targets.has_no_zero.Goals as goal
 

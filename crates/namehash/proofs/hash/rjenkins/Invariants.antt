@@ -1,5 +1,4 @@
-use Rattle.std.proofs.Common.{◌≡◌, length}
-use Rattle.namehash.specs.Rjenkins.{hash_of}
+use Rattle.namehash.proofs.Common.{hash_of, length, ◌≡◌}
 use Rattle.namehash.proofs.Blocks.{hash_on}
 use Rattle.namehash.proofs.hash.rjenkins.Given as goal
 

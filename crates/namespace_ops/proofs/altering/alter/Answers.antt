@@ -1,4 +1,4 @@
-use Rattle.std.proofs.Common.{sym, ◌∙◌}
+use Rattle.namespace_ops.proofs.Common.{sym, ◌∙◌}
 use Rattle.namespace_ops.proofs.CheckedParts.{set_checked}
 use Rattle.namespace_ops.proofs.altering.alter.Goals as goal
 

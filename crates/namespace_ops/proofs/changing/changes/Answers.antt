@@ -1,4 +1,4 @@
-use Rattle.std.proofs.Common.{None}
+use Rattle.namespace_ops.proofs.Common.{None}
 use Rattle.namespace_ops.proofs.ChangedLaws.{named_from}
 use Rattle.namespace_ops.proofs.changing.changes.Goals as goal
 

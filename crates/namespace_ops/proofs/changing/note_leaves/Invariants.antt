@@ -1,6 +1,5 @@
 -- the leaves that are noted, and those to come
-use Rattle.std.proofs.Common.{◌≡◌, ◌++◌, drop, map}
-use Rattle.namespace_ops.specs.Changes.{in_directory}
+use Rattle.namespace_ops.proofs.Common.{drop, in_directory, map, ◌++◌, ◌≡◌}
 use Rattle.namespace_ops.proofs.changing.note_leaves.Given as goal
 
 abbrev pub invariant-loop-leaf : goal.invariant-loop-leaf

@@ -1,7 +1,4 @@
-use Rattle.std.proofs.Common.{IfOk, inr, refl, subst}
-use Rattle.mds_types.specs.declared.operations.Op.TheVariants.{Lookup, Readdir, Readlink, SetPin, Setattr, Unlink, Rmdir, Rename}
-use Rattle.mds_types.specs.Step.{names_after, page}
-use Rattle.namespace_ops.specs.Checked.{Checks}
+use Rattle.namespace_ops.proofs.Common.{Checks, IfOk, Lookup, Readdir, Readlink, Rename, Rmdir, SetPin, Setattr, Unlink, inr, names_after, page, refl, subst}
 use Rattle.namespace_ops.proofs.CheckedParts.{main_at, reads_inside, source_at, step_at, step_from}
 use Rattle.namespace_ops.proofs.checking.check.Goals as goal
 

@@ -1,4 +1,4 @@
-use Rattle.std.proofs.Common.{ap, rules, subst, sym, ◌<◌, ◌^◌, ◌∙◌, nat_le}
+use Rattle.namespace_ops.proofs.Common.{ap, nat_le, rules, subst, sym, ◌<◌, ◌^◌, ◌∙◌}
 use Rattle.namespace_ops.proofs.CheckedParts.{made_checked}
 use Rattle.namespace_ops.proofs.making.make.Goals as goal
 

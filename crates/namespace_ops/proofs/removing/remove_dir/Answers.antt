@@ -1,6 +1,4 @@
-use Rattle.std.proofs.Common.{sym, ap, ◌∙◌}
-use Rattle.mds_types.specs.Step.{removal_errno}
-use Rattle.mds_types.specs.Tree.{Tree}
+use Rattle.namespace_ops.proofs.Common.{Tree, ap, removal_errno, sym, ◌∙◌}
 use Rattle.namespace_ops.proofs.CheckedParts.{dir_checked}
 use Rattle.namespace_ops.proofs.removing.remove_dir.Goals as goal
 

@@ -1,4 +1,4 @@
-use Rattle.std.proofs.Common.{sym, ◌∙◌}
+use Rattle.namespace_ops.proofs.Common.{sym, ◌∙◌}
 use Rattle.namespace_ops.proofs.CheckedParts.{no_dir, unlinked_checked}
 use Rattle.namespace_ops.proofs.removing.unlink.Goals as goal
 

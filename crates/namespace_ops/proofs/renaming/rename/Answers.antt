@@ -1,8 +1,5 @@
-use Rattle.std.proofs.Common.{None, ap, rules, subst, sym, ◌∙◌}
-use Rattle.mds_types.specs.Tree.{Tree}
-use Rattle.mds_types.specs.Step.{HasSpace, room_errno}
+use Rattle.namespace_ops.proofs.Common.{HasSpace, None, Tree, ap, directory_at, room_errno, rules, subst, sym, ◌∙◌}
 use Rattle.std.specs.FinMap as map
-use Rattle.namespace_ops.specs.Changes.{directory_at}
 use Rattle.namespace_ops.proofs.CheckedParts.{moved_checked, replaced_told}
 use Rattle.namespace_ops.proofs.renaming.rename.Goals as goal
 

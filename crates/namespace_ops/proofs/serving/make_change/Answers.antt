@@ -1,7 +1,4 @@
-use Rattle.std.proofs.Common.{List, subst}
-use Rattle.std.specs.List.{Contains}
-use Rattle.mds_types.specs.Leaf.{Leaf}
-use Rattle.namespace_ops.specs.Kept.{ChangesOnly, OthersShowTheSame}
+use Rattle.namespace_ops.proofs.Common.{ChangesOnly, Contains, Leaf, List, OthersShowTheSame, subst}
 use Rattle.namespace_ops.proofs.ChangedLaws.{fragments_are}
 use Rattle.namespace_ops.proofs.OtherLeaves.{others_stay}
 use Rattle.namespace_ops.proofs.PlanParts.{may_change, numbered_so}

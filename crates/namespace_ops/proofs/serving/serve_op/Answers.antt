@@ -1,13 +1,4 @@
-use Rattle.std.proofs.Common.{OnErr, OnOk, List, None, Result, Ok, Err, ap, subst, sym, ◌∙◌}
-use Rattle.std.specs.List.{Contains}
-use Rattle.std.specs.Result.{result_err}
-use Rattle.mds_types.specs.declared.refusals.Refusal.{Refusal}
-use Rattle.mds_types.specs.declared.replies.Reply.{Reply}
-use Rattle.mds_types.specs.Leaf.{Leaf}
-use Rattle.mds_types.specs.Tree.{IsWellFormed}
-use Rattle.inode_table.specs.Dirs.{leaves_of}
-use Rattle.namespace_ops.specs.Kept.{ChangesOnly, KeepsAll, OthersShowTheSame}
-use Rattle.namespace_ops.specs.ChangedFragments.{changed_fragments}
+use Rattle.namespace_ops.proofs.Common.{ChangesOnly, Contains, Err, IsWellFormed, KeepsAll, Leaf, List, None, Ok, OnErr, OnOk, OthersShowTheSame, Refusal, Reply, Result, ap, changed_fragments, leaves_of, result_err, subst, sym, ◌∙◌}
 use Rattle.namespace_ops.proofs.OtherLeaves.{kept_others}
 use Rattle.namespace_ops.proofs.serving.serve_op.Goals as goal
 

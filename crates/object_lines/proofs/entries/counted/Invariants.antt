@@ -1,6 +1,5 @@
 -- The counts so far, with the pairs to come, give what all pairs give; and there are no more than pairs were passed.
-use Rattle.std.proofs.Common.{◌≡◌, ◌+◌, ◌≤◌, drop}
-use Rattle.object_lines.specs.Entries.{counted, counted_after}
+use Rattle.object_lines.proofs.Common.{counted, counted_after, drop, ◌+◌, ◌≡◌, ◌≤◌}
 use Rattle.object_lines.proofs.entries.counted.Given as goal
 
 abbrev pub invariant-loop-key : goal.invariant-loop-key

@@ -1,5 +1,4 @@
-use Rattle.std.proofs.Common.{◌∙◌, ap, arith}
-use Rattle.objstore.specs.Omap.{PairMap}
+use Rattle.object_lines.proofs.Common.{PairMap, ap, arith, ◌∙◌}
 use Rattle.std.specs.FinMap as map
 use Rattle.object_lines.proofs.ObjectLaws.{all_of_page}
 use Rattle.object_lines.proofs.fragments.all_pairs.Goals as goal

@@ -1,6 +1,4 @@
-use Rattle.std.proofs.Common.{◌≡◌, ℕ, true, false, List, refl, sym, ap, subst, ◌∙◌}
-use Rattle.dirfrag_codec.specs.FragHeader.{SpellsHeader}
-use Rattle.object_lines.specs.Entries.{counted}
+use Rattle.object_lines.proofs.Common.{List, SpellsHeader, ap, counted, false, refl, subst, sym, true, ℕ, ◌∙◌, ◌≡◌}
 use Rattle.object_lines.proofs.ObjectLaws.{no_header, shows_fragment, shows_none}
 use Rattle.object_lines.proofs.fragments.frag_line.Goals as goal
 

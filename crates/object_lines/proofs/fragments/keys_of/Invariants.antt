@@ -1,4 +1,4 @@
-use Rattle.std.proofs.Common.{◌≡◌, ℕ, List, map}
+use Rattle.object_lines.proofs.Common.{List, map, ℕ, ◌≡◌}
 use Rattle.object_lines.proofs.fragments.keys_of.Given as goal
 
 -- the keys of the pairs passed are in the list

@@ -1,4 +1,4 @@
-use Rattle.std.proofs.Common.{sym, ◌∙◌}
+use Rattle.object_lines.proofs.Common.{sym, ◌∙◌}
 use Rattle.object_lines.proofs.ObjectLaws.{memory_taken, pairs_left, shows_tree}
 use Rattle.object_lines.proofs.trees.tree_leaves.Goals as goal
 

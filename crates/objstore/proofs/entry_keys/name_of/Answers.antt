@@ -1,7 +1,4 @@
-use Rattle.std.proofs.Common.{Err, subst, sym, ap, ◌∙◌}
-use Rattle.mds_types.specs.Name.{IsName}
-use Rattle.mds_types.specs.NameFault.{NameFromBytes}
-use Rattle.objstore.specs.EntryKeys.{entry_key}
+use Rattle.objstore.proofs.Common.{Err, IsName, NameFromBytes, ap, entry_key, subst, sym, ◌∙◌}
 use Rattle.objstore.proofs.KeyLemmas.{key_of_front}
 use Rattle.objstore.proofs.entry_keys.name_of.Goals as goal
 

@@ -1,6 +1,6 @@
 use Rattle.objstore.proofs.WriteLemmas.{added}
 use Rattle.objstore.proofs.mem_stores.add.Goals as goal
-use Rattle.std.proofs.Common.{◌∙◌}
+use Rattle.objstore.proofs.Common.{◌∙◌}
 
 pub returns-in-Ok-clause-done : goal.returns-in-Ok-clause-done
 returns-in-Ok-clause-done c =

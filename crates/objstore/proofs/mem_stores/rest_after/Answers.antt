@@ -1,5 +1,4 @@
-use Rattle.std.proofs.Common.{List, [], ◌∷◌, ◌≡◌, filter, map, refl, sym, ap, ◌∙◌}
-use Rattle.sorted_map.proofs.Filters.{all_kept}
+use Rattle.objstore.proofs.Common.{List, [], all_kept, ap, filter, map, refl, sym, ◌∙◌, ◌∷◌, ◌≡◌}
 use Rattle.objstore.specs.Objects.{names_after}
 use Rattle.objstore.proofs.mem_stores.rest_after.Goals as goal
 

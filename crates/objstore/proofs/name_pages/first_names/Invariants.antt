@@ -1,4 +1,4 @@
-use Rattle.std.proofs.Common.{◌≡◌, ◌≤◌, ◌++◌, length, map, string_bytes}
+use Rattle.objstore.proofs.Common.{length, map, string_bytes, ◌++◌, ◌≡◌, ◌≤◌}
 use Rattle.objstore.proofs.name_pages.first_names.Given as goal
 
 -- the names so far and those of the objects to come make up all

@@ -1,4 +1,4 @@
-use Rattle.std.proofs.Common.{sym}
+use Rattle.objstore.proofs.Common.{sym}
 use Rattle.objstore.proofs.WriteLaws.{overlaid-empty}
 use Rattle.objstore.proofs.objects.put_pairs.Goals as goal
 

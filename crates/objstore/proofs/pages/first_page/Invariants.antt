@@ -1,4 +1,4 @@
-use Rattle.std.proofs.Common.{◌≡◌, ◌≤◌, ◌++◌, length}
+use Rattle.objstore.proofs.Common.{length, ◌++◌, ◌≡◌, ◌≤◌}
 use Rattle.objstore.proofs.pages.first_page.Given as goal
 
 -- the pairs so far and those to come make up all

@@ -1,5 +1,4 @@
-use Rattle.std.proofs.Common.{List, [], ◌∷◌, ◌≡◌, filter, refl, sym, ap, ◌∙◌}
-use Rattle.sorted_map.proofs.Filters.{all_kept}
+use Rattle.objstore.proofs.Common.{List, [], all_kept, ap, filter, refl, sym, ◌∙◌, ◌∷◌, ◌≡◌}
 use Rattle.objstore.specs.Omap.{pairs_after}
 use Rattle.objstore.proofs.pairs.rest_after.Goals as goal
 

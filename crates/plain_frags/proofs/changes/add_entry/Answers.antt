@@ -1,4 +1,4 @@
-use Rattle.inode_table.proofs.TableLaws.{leaves_same, may_come, added_tabled}
+use Rattle.plain_frags.proofs.Common.{added_tabled, leaves_same, may_come}
 use Rattle.plain_frags.proofs.changes.add_entry.Goals as goal
 
 pub adopt_dir-requires-clause-may : goal.adopt_dir-requires-clause-may

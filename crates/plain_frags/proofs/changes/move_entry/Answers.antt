@@ -1,11 +1,5 @@
-use Rattle.std.proofs.Common.{ap, sym, ◌∙◌}
+use Rattle.plain_frags.proofs.Common.{ap, contents, dentry_cmp, leaves_kept, may_relocate, may_replace, moved_tabled, option_copied, sym, target_stays, without_cover, ◌∙◌}
 use Rattle.std.specs.FinMap as map
-use Rattle.std.specs.Option.{option_copied}
-use Rattle.sorted_map.specs.SortedMap.{contents}
-use Rattle.mds_types.specs.Tree.{dentry_cmp}
-use Rattle.inode_table.specs.TreeTable.{without_cover}
-use Rattle.inode_table.proofs.TableLaws.{leaves_kept}
-use Rattle.inode_table.proofs.MoveLaws.{may_relocate, may_replace, moved_tabled, target_stays}
 use Rattle.plain_frags.proofs.changes.move_entry.Goals as goal
 
 pub relocate_dir-requires-clause-may : goal.relocate_dir-requires-clause-may

@@ -1,7 +1,4 @@
-use Rattle.std.proofs.Common.{sym}
-use Rattle.sorted_map.specs.SortedMap.{contents}
-use Rattle.mds_types.specs.Tree.{dentry_cmp}
-use Rattle.inode_table.proofs.TableLaws.{leaves_kept, may_drop, removed_tabled}
+use Rattle.plain_frags.proofs.Common.{contents, dentry_cmp, leaves_kept, may_drop, removed_tabled, sym}
 use Rattle.plain_frags.proofs.changes.remove_entry.Goals as goal
 
 pub drop_dir-requires : goal.drop_dir-requires

@@ -1,4 +1,4 @@
-use Rattle.inode_table.proofs.TableLaws.{set_tabled}
+use Rattle.plain_frags.proofs.Common.{set_tabled}
 use Rattle.plain_frags.proofs.changes.set_entry.Goals as goal
 
 pub returns-clause-tabled : goal.returns-clause-tabled

@@ -1,7 +1,5 @@
 -- A directory has as many entries as names are listed of it.
-use Rattle.std.proofs.Common.{ap, length, sym, ◌∙◌}
-use Rattle.mds_types.specs.Tree.{dentry_cmp}
-use Rattle.sorted_map.specs.SortedMap.{contents}
+use Rattle.plain_frags.proofs.Common.{ap, contents, dentry_cmp, length, sym, ◌∙◌}
 use Rattle.plain_frags.proofs.Counted.{entries_counted}
 use Rattle.plain_frags.proofs.frags.entries_of.Goals as goal
 

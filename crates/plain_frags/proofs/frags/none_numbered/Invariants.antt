@@ -1,6 +1,4 @@
-use Rattle.std.proofs.Common.{◌≡◌, length}
-use Rattle.std.specs.List.{list_any}
-use Rattle.plain_frags.specs.PlainFrags.{is_numbered}
+use Rattle.plain_frags.proofs.Common.{is_numbered, length, list_any, ◌≡◌}
 use Rattle.plain_frags.proofs.frags.none_numbered.Given as goal
 
 -- the rows so far don't have the number

@@ -1,8 +1,5 @@
 -- The rows are those that `names_after` lists, neighbours in the order of dentries.
-use Rattle.std.proofs.Common.{Some, None, sym, ap, ◌∙◌}
-use Rattle.mds_types.specs.Tree.{dentry_cmp}
-use Rattle.sorted_map.specs.SortedMap.{contents}
-use Rattle.plain_frags.specs.Run.{run}
+use Rattle.plain_frags.proofs.Common.{None, Some, ap, contents, dentry_cmp, run, sym, ◌∙◌}
 use Rattle.plain_frags.proofs.Rows.{names_run}
 use Rattle.plain_frags.proofs.frags.rows_after.Goals as goal
 

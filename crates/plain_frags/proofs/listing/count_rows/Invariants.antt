@@ -1,5 +1,4 @@
-use Rattle.std.proofs.Common.{◌≡◌, ◌+◌, ◌≤◌, length}
-use Rattle.plain_frags.specs.Run.{run}
+use Rattle.plain_frags.proofs.Common.{length, run, ◌+◌, ◌≡◌, ◌≤◌}
 use Rattle.plain_frags.proofs.listing.count_rows.Given as goal
 
 -- the rows that are counted and those to come make up the rows of the directory, and there are no more than rows

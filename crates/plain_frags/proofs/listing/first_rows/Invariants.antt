@@ -1,5 +1,4 @@
-use Rattle.std.proofs.Common.{◌≡◌, ◌≤◌, ◌++◌, length}
-use Rattle.plain_frags.specs.Run.{run}
+use Rattle.plain_frags.proofs.Common.{length, run, ◌++◌, ◌≡◌, ◌≤◌}
 use Rattle.plain_frags.proofs.listing.first_rows.Given as goal
 
 -- what is listed so far and the rows to come make up the rows of the directory

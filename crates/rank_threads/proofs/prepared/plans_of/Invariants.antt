@@ -1,4 +1,4 @@
-use Rattle.std.proofs.Common.{◌≡◌, ◌+◌, length, map, vec_items}
+use Rattle.rank_threads.proofs.Common.{length, map, vec_items, ◌+◌, ◌≡◌}
 use Rattle.rank_threads.proofs.prepared.plans_of.Given as goal
 
 abbrev pub invariant-loop-turns : goal.invariant-loop-turns

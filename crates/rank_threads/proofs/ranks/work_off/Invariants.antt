@@ -1,6 +1,4 @@
-use Rattle.std.proofs.Common.{◌≡◌, ◌+◌, ◌≤◌, vec_len, vec_capacity}
-use Rattle.std.specs.Vec.Iter.{into_iter_len}
-use Rattle.rank_threads.specs.Turns.{AreAnswered, firsts}
+use Rattle.rank_threads.proofs.Common.{AreAnswered, firsts, into_iter_len, vec_capacity, vec_len, ◌+◌, ◌≡◌, ◌≤◌}
 use Rattle.rank_threads.proofs.ranks.work_off.Given as goal
 
 -- a result for each turn so far, and room for one of each that is left

@@ -1,6 +1,5 @@
 -- Two inodes are equal where all that they have is.
-use Rattle.std.proofs.lemmas.Bool.Decides.{Decides-at}
-use Rattle.mds_types.specs.InodeLaws.{inode_decides}
+use Rattle.rank_threads.proofs.Common.{Decides-at, inode_decides}
 use Rattle.rank_threads.proofs.replies.is_same_inode.Goals as goal
 
 pub returns : goal.returns

@@ -1,5 +1,4 @@
-use Rattle.std.proofs.Common.{[], refl, sym}
-use Rattle.std.proofs.lemmas.List.{append-nil}
+use Rattle.rank_threads.proofs.Common.{[], append-nil, refl, sym}
 use Rattle.rank_threads.proofs.running.run_as.Goals as goal
 
 -- nothing was done with the book

@@ -1,5 +1,4 @@
-use Rattle.std.proofs.Common.{◌∷◌, [], vec_items, arith}
-use Rattle.std.proofs.lemmas.List.{length-append}
+use Rattle.rank_threads.proofs.Common.{[], arith, length-append, vec_items, ◌∷◌}
 use Rattle.rank_threads.proofs.TurnLaws.{gathered_more, counted_more}
 use Rattle.rank_threads.proofs.scopes.gather.Goals as goal
 

@@ -1,5 +1,4 @@
-use Rattle.std.proofs.Common.{◌≡◌, ◌+◌, length, map, vec_items}
-use Rattle.rank_threads.specs.Turns.{PlansAnswered, firsts_of_all}
+use Rattle.rank_threads.proofs.Common.{PlansAnswered, firsts_of_all, length, map, vec_items, ◌+◌, ◌≡◌}
 use Rattle.rank_threads.proofs.scopes.gather.Given as goal
 
 abbrev pub invariant-loop-handle : goal.invariant-loop-handle

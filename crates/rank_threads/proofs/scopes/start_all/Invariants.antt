@@ -1,4 +1,4 @@
-use Rattle.std.proofs.Common.{◌≡◌, map}
+use Rattle.rank_threads.proofs.Common.{map, ◌≡◌}
 use Rattle.rank_threads.proofs.scopes.start_all.Given as goal
 
 abbrev pub invariant-loop-plan : goal.invariant-loop-plan

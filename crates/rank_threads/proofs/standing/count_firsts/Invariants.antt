@@ -1,5 +1,4 @@
-use Rattle.std.proofs.Common.{◌≡◌, ◌+◌, ◌≤◌, drop, length}
-use Rattle.rank_threads.specs.Agreement.{first_places}
+use Rattle.rank_threads.proofs.Common.{drop, first_places, length, ◌+◌, ◌≡◌, ◌≤◌}
 use Rattle.rank_threads.proofs.standing.count_firsts.Given as goal
 
 abbrev pub invariant-loop-receipt : goal.invariant-loop-receipt

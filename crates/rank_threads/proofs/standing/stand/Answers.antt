@@ -1,5 +1,4 @@
-use Rattle.std.proofs.Common.{arith, refl, ◌-◌, sym, subst, length, drop}
-use Rattle.std.proofs.lemmas.Bool.{false≢true}
+use Rattle.rank_threads.proofs.Common.{arith, drop, false≢true, length, refl, subst, sym, ◌-◌}
 use Rattle.rank_threads.proofs.ReceiptLaws.{AreMarked, fit, fits_there}
 use Rattle.rank_threads.proofs.standing.stand.Goals as goal
 

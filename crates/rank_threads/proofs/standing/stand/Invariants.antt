@@ -1,5 +1,4 @@
-use Rattle.std.proofs.Common.{◌≤◌, length, drop}
-use Rattle.rank_threads.specs.Agreement.{Stand}
+use Rattle.rank_threads.proofs.Common.{Stand, drop, length, ◌≤◌}
 use Rattle.rank_threads.proofs.ReceiptLaws.{AreMarked}
 use Rattle.rank_threads.proofs.standing.stand.Given as goal
 

@@ -1,11 +1,5 @@
-use Rattle.std.proofs.Common.{◌≡◌, rules, subst, sym}
+use Rattle.ranked_tree.proofs.Common.{Covers, HasAuthority, Homes, IsSubtrees, Roots, Rules, empty_of_len, leaf_of, rules, state_of, subst, sym, ◌≡◌}
 use Rattle.std.specs.FinMap as map
-use Rattle.std.specs.FinMap.{empty_of_len}
-use Rattle.inode_table.specs.Dirs.{Covers, Homes}
-use Rattle.mdcache.specs.Core.{state_of}
-use Rattle.mds_types.specs.Leaf.{leaf_of}
-use Rattle.subtree_map.specs.Authority.{HasAuthority, IsSubtrees, Roots}
-use Rattle.ranked_tree.specs.Subtrees.{Rules}
 use Rattle.ranked_tree.proofs.StandLaws.{none_stand}
 use Rattle.ranked_tree.proofs.SubtreeLaws.{over}
 use Rattle.ranked_tree.proofs.authorities.authority_at.Goals as goal

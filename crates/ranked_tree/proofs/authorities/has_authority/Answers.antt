@@ -1,5 +1,4 @@
-use Rattle.std.proofs.Common.{rules}
-use Rattle.mds_types.specs.Leaf.{leaf_of}
+use Rattle.ranked_tree.proofs.Common.{leaf_of, rules}
 use Rattle.ranked_tree.proofs.AuthorityLaws.{authority_same}
 use Rattle.ranked_tree.proofs.authorities.has_authority.Goals as goal
 

@@ -1,9 +1,4 @@
-use Rattle.std.proofs.Common.{◌≡◌, ℕ, subst, rules}
-use Rattle.namespace_ops.specs.Places.{IsAt}
-use Rattle.mdcache.specs.Core.{state_of}
-use Rattle.mdcache.specs.Shown.{shown_tree}
-use Rattle.ranked_tree.specs.Subtrees.{HoldsAt}
-use Rattle.ranked_tree.specs.Exported.{held_in}
+use Rattle.ranked_tree.proofs.Common.{HoldsAt, IsAt, held_in, rules, shown_tree, state_of, subst, ℕ, ◌≡◌}
 use Rattle.ranked_tree.proofs.AuthorityLaws.{found_held, none_held}
 use Rattle.ranked_tree.proofs.authorities.holder_at.Goals as goal
 

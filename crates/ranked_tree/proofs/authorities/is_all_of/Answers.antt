@@ -1,7 +1,4 @@
-use Rattle.std.proofs.Common.{◌↔◌, IsTrue, sym}
-use Rattle.inode_table.specs.Dirs.{Covers, Homes}
-use Rattle.subtree_map.specs.Authority.{IsSubtrees}
-use Rattle.ranked_tree.specs.Subtrees.{AllHave}
+use Rattle.ranked_tree.proofs.Common.{AllHave, Covers, Homes, IsSubtrees, IsTrue, sym, ◌↔◌}
 use Rattle.ranked_tree.proofs.SubtreeLaws.{over}
 use Rattle.ranked_tree.proofs.authorities.is_all_of.Goals as goal
 

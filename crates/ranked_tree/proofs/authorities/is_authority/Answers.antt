@@ -1,6 +1,4 @@
-use Rattle.std.proofs.Common.{◌↔◌, IsTrue, sym, rules}
-use Rattle.inode_table.specs.Dirs.{Covers, Homes}
-use Rattle.subtree_map.specs.Authority.{HasAuthority}
+use Rattle.ranked_tree.proofs.Common.{Covers, HasAuthority, Homes, IsTrue, rules, sym, ◌↔◌}
 use Rattle.ranked_tree.proofs.AuthorityLaws.{authority_is}
 use Rattle.ranked_tree.proofs.SubtreeLaws.{over}
 use Rattle.ranked_tree.proofs.authorities.is_authority.Goals as goal

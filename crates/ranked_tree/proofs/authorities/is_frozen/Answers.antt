@@ -1,6 +1,4 @@
-use Rattle.std.proofs.Common.{◌↔◌, IsTrue, sym}
-use Rattle.inode_table.specs.Dirs.{Covers, Homes}
-use Rattle.export_steps.specs.Holder.{IsFrozen}
+use Rattle.ranked_tree.proofs.Common.{Covers, Homes, IsFrozen, IsTrue, sym, ◌↔◌}
 use Rattle.ranked_tree.proofs.SubtreeLaws.{over}
 use Rattle.ranked_tree.proofs.authorities.is_frozen.Goals as goal
 

@@ -1,6 +1,4 @@
-use Rattle.std.proofs.Common.{◌↔◌, IsTrue, sym}
-use Rattle.inode_table.specs.Dirs.{Covers, Homes}
-use Rattle.ranked_tree.specs.Exported.{IsUnder}
+use Rattle.ranked_tree.proofs.Common.{Covers, Homes, IsTrue, IsUnder, sym, ◌↔◌}
 use Rattle.ranked_tree.proofs.SubtreeLaws.{over}
 use Rattle.ranked_tree.proofs.authorities.is_under.Goals as goal
 

@@ -1,7 +1,5 @@
-use Rattle.std.proofs.Common.{ap, ◌∙◌}
+use Rattle.ranked_tree.proofs.Common.{Counts, Homes, ap, count_of, held_in, ◌∙◌}
 use Rattle.std.specs.FinMap as map
-use Rattle.inode_table.specs.Dirs.{Counts, Homes, count_of}
-use Rattle.ranked_tree.specs.Exported.{held_in}
 use Rattle.ranked_tree.proofs.AuthorityLaws.{located, nowhere, there_live}
 use Rattle.ranked_tree.proofs.authorities.locate.Goals as goal
 

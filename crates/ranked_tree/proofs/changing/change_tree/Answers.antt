@@ -1,22 +1,6 @@
-use Rattle.std.proofs.Common.{◌≡◌, ◌≤◌, ap, inl, inr, sym, subst, ◌∙◌, IsSome, length, List, Option, Some, Err}
-use Rattle.std.specs.Prelude.{IfSome}
-use Rattle.mds_types.specs.declared.ids.Ino.{Ino}
-use Rattle.mds_types.specs.Frag.{Fragment}
-use Rattle.objstore.specs.Objects.{faults_in}
-use Rattle.dentry_cache.specs.Came.{NoneEnds}
+use Rattle.ranked_tree.proofs.Common.{Covers, EndsWith, Err, Fragment, IfSome, Ino, IsNamedIn, IsOwned, LacksToMake, List, LoseDirectory, NoneEnds, Option, Roots, Some, ap, came_cap, came_ranks, faults_in, held_in, holding, inl, inr, keeps_itself, keeps_refused, leaves_of, length, reads_keeps, reads_state, state_of, subst, sym, ◌∙◌, ◌≡◌, ◌≤◌}
+use Rattle.std.proofs.Common.{IsSome}
 use Rattle.dentry_cache.specs.Reads.Reads.{stays}
-use Rattle.dentry_cache.proofs.FrameLaws.{came_cap, came_ranks}
-use Rattle.export_steps.specs.Holder.{holding}
-use Rattle.inode_table.specs.Dirs.{Covers, leaves_of}
-use Rattle.subtree_map.specs.Authority.{Roots}
-use Rattle.mdcache.specs.Core.{state_of}
-use Rattle.mdcache.specs.Frags.{LacksToMake}
-use Rattle.mdcache.specs.Ranks.{EndsWith, IsNamedIn}
-use Rattle.mdcache.proofs.CoreLaws.{reads_keeps, reads_state}
-use Rattle.mdcache.proofs.FragsLaws.{keeps_itself, keeps_refused}
-use Rattle.ranked_tree.specs.Exported.{held_in}
-use Rattle.ranked_tree.specs.Held.{IsOwned}
-use Rattle.ranked_tree.specs.Subtrees.{LoseDirectory}
 use Rattle.ranked_tree.proofs.AskLaws.{told_change}
 use Rattle.ranked_tree.proofs.CameForLaws.{changed_held, whole_came}
 use Rattle.ranked_tree.proofs.DividedLaws.{change_keeps_roots, change_owned, change_stands}

@@ -1,11 +1,7 @@
-use Rattle.mds_types.specs.Leaf.{leaf_of}
-use Rattle.dentry_cache.specs.Came.{IsThat, NoneEnds}
-use Rattle.dentry_cache.proofs.FrameLaws.{came_cap, came_ranks}
-use Rattle.ranked_tree.specs.Exported.{held_in}
+use Rattle.ranked_tree.proofs.Common.{IsThat, NoneEnds, came_cap, came_ranks, held_in, leaf_of, state_of}
 use Rattle.ranked_tree.proofs.HeldLaws.{is_that, may_hold, owned_came, that_came}
 use Rattle.ranked_tree.proofs.StandLaws.{divided_begun}
 use Rattle.ranked_tree.proofs.Stays.{begun_stays}
-use Rattle.mdcache.specs.Core.{state_of}
 use Rattle.ranked_tree.proofs.commits.begin.Goals as goal
 
 pub begin-requires-clause-holds : goal.begin-requires-clause-holds

@@ -1,16 +1,8 @@
-use Rattle.std.proofs.Common.{inl, refl, rules, subst}
-use Rattle.inode_table.specs.Dirs.{IsLive}
+use Rattle.ranked_tree.proofs.Common.{IsLive, IsThat, Job, NoneEnds, Rules, came_cap, came_ranks, held_in, inl, refl, rules, state_of, stays, subst}
 use Rattle.mdcache.specs.Commits.{leaf_of}
-use Rattle.dentry_cache.specs.Came.Came.{stays}
-use Rattle.dentry_cache.specs.Came.{IsThat, NoneEnds}
-use Rattle.dentry_cache.proofs.FrameLaws.{came_cap, came_ranks}
-use Rattle.ranked_tree.specs.Exported.{held_in}
 use Rattle.ranked_tree.proofs.HeldLaws.{is_that, may_hold, owned_came, that_came}
 use Rattle.ranked_tree.proofs.StandLaws.{divided_still, jobs_ended}
 use Rattle.ranked_tree.proofs.Stays.{ended, none_stands}
-use Rattle.cached_frag.specs.declared.jobs.Job.{Job}
-use Rattle.mdcache.specs.Core.{state_of}
-use Rattle.ranked_tree.specs.Subtrees.{Rules}
 use Rattle.ranked_tree.proofs.commits.end.Goals as goal
 
 pub returns-in_default-clause-ended : goal.returns-in_default-clause-ended

@@ -1,12 +1,7 @@
-use Rattle.std.proofs.Common.{ℕ, rules, ◌≡◌, None, sym, ap, ◌∙◌}
-use Rattle.mdcache.specs.Reads.{has_none}
-use Rattle.mdcache.specs.Shown.{names_of}
+use Rattle.ranked_tree.proofs.Common.{None, ap, has_none, held_in, keeps_itself, keeps_on, names_of, rules, sym, unclean, ℕ, ◌∙◌, ◌≡◌}
 use Rattle.mdcache.specs.State.{State as TreeState}
-use Rattle.mdcache.proofs.FragsLaws.{keeps_itself, keeps_on}
-use Rattle.ranked_tree.specs.Exported.{held_in}
 use Rattle.ranked_tree.proofs.WalkLaws.{first_within, passed, rest_within}
 use Rattle.ranked_tree.proofs.AskLaws.{live_still}
-use Rattle.dentry_cache.specs.CacheMap.{unclean}
 use Rattle.ranked_tree.proofs.ReadsForLaws.{reads_on}
 use Rattle.dentry_cache.specs.Reads.Reads.{stays}
 use Rattle.ranked_tree.proofs.emptiness.are_empty.Goals as goal

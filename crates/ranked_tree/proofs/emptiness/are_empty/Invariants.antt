@@ -1,13 +1,6 @@
 -- The leaves so far show no name, and reads keep the state and whose the places are.
-use Rattle.std.proofs.Common.{◌≡◌, None}
-use Rattle.std.specs.List.{list_all}
-use Rattle.mdcache.specs.Frags.{KeepsState}
-use Rattle.mdcache.specs.Reads.{has_none}
-use Rattle.mdcache.specs.Shown.{names_of}
-use Rattle.ranked_tree.specs.Exported.{held_in}
+use Rattle.ranked_tree.proofs.Common.{IsOwned, KeepsState, None, ReadsDir, has_none, held_in, list_all, names_of, unclean, ◌≡◌}
 use Rattle.ranked_tree.proofs.WalkLaws.{AreWithin}
-use Rattle.ranked_tree.specs.Held.{IsOwned, ReadsDir}
-use Rattle.dentry_cache.specs.CacheMap.{unclean}
 use Rattle.ranked_tree.proofs.emptiness.are_empty.Given as goal
 
 abbrev pub invariant-loop-leaf : goal.invariant-loop-leaf

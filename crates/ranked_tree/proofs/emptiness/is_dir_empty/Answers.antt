@@ -1,12 +1,6 @@
-use Rattle.std.proofs.Common.{List, refl, ap, ◌∙◌}
-use Rattle.std.specs.List.{list_all}
-use Rattle.mds_types.specs.Frag.{Fragment}
-use Rattle.inode_table.specs.Dirs.{leaves_of}
-use Rattle.mdcache.specs.Reads.{has_none}
-use Rattle.mdcache.specs.Shown.{names_of}
+use Rattle.ranked_tree.proofs.Common.{Fragment, List, ap, has_none, leaves_of, list_all, names_of, refl, state_of, ◌∙◌}
 use Rattle.ranked_tree.proofs.WalkLaws.{told_empty}
 use Rattle.ranked_tree.proofs.AskLaws.{dir_known, leaf_live, map_if_ok}
-use Rattle.mdcache.specs.Core.{state_of}
 use Rattle.dentry_cache.specs.Reads.Reads.{stays}
 use Rattle.ranked_tree.proofs.emptiness.is_dir_empty.Goals as goal
 

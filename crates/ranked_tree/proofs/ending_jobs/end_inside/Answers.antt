@@ -1,6 +1,4 @@
-use Rattle.std.proofs.Common.{rules, ◌≡◌, Some, inl, inr, refl, sym}
-use Rattle.inode_table.specs.Dirs.{Covers, Homes}
-use Rattle.subtree_map.specs.Authority.{NearestRoot}
+use Rattle.ranked_tree.proofs.Common.{Covers, Homes, NearestRoot, Some, inl, inr, refl, rules, sym, ◌≡◌}
 use Rattle.ranked_tree.proofs.SubtreeLaws.{over}
 use Rattle.ranked_tree.proofs.EndedLaws.{found_inside, found_outside}
 use Rattle.ranked_tree.proofs.ending_jobs.end_inside.Goals as goal

@@ -1,5 +1,4 @@
-use Rattle.std.proofs.Common.{refl, ◌∙◌}
-use Rattle.mdcache.specs.Core.{state_of}
+use Rattle.ranked_tree.proofs.Common.{refl, state_of, ◌∙◌}
 use Rattle.ranked_tree.proofs.EndedLaws.{all_ended, ended_on, fewer_left, none_ended}
 use Rattle.ranked_tree.proofs.ending_jobs.end_region.Goals as goal
 

@@ -1,21 +1,6 @@
-use Rattle.std.proofs.Common.{ap, subst, sym, ◌∙◌}
-use Rattle.std.proofs.lemmas.Result.{on_ok_weaker}
-use Rattle.std.specs.Prelude.{IfOk, ◌≡◌}
-use Rattle.std.specs.Result.{result_err}
+use Rattle.ranked_tree.proofs.Common.{Dentry, IfOk, Ino, IsPick, IsThat, NoneEnds, ReadsDir, ap, hash_of, held_in, is_directory, leaf_of, leaves_of, on_ok_weaker, reads_keeps, result_err, shown_tree, state_of, subst, sym, ◌∙◌}
+use Rattle.std.specs.Prelude.{◌≡◌}
 use Rattle.std.specs.FinMap as map
-use Rattle.mds_types.specs.declared.dentries.Dentry.{Dentry}
-use Rattle.mds_types.specs.declared.ids.Ino.{Ino}
-use Rattle.mds_types.specs.Leaf.{leaf_of}
-use Rattle.mds_types.specs.Tree.{is_directory}
-use Rattle.fragtree.specs.FragTree.{IsPick}
-use Rattle.namehash.specs.Rjenkins.{hash_of}
-use Rattle.dentry_cache.specs.Came.{IsThat, NoneEnds}
-use Rattle.inode_table.specs.Dirs.{leaves_of}
-use Rattle.mdcache.specs.Core.{state_of}
-use Rattle.mdcache.specs.Shown.{shown_tree}
-use Rattle.mdcache.proofs.CoreLaws.{reads_keeps}
-use Rattle.ranked_tree.specs.Exported.{held_in}
-use Rattle.ranked_tree.specs.Held.{ReadsDir}
 use Rattle.ranked_tree.proofs.AskLaws.{told_for}
 use Rattle.ranked_tree.proofs.HeldLaws.{may_hold, owned_read}
 use Rattle.ranked_tree.proofs.ReadsForLaws.{reads_one}

@@ -1,8 +1,4 @@
-use Rattle.std.proofs.Common.{sym}
-use Rattle.inode_table.specs.Dirs.{Covers, Homes}
-use Rattle.subtree_map.specs.Authority.{HasAuthority, IsSubtrees}
-use Rattle.mdcache.specs.Core.{state_of}
-use Rattle.ranked_tree.specs.Exported.{held_in}
+use Rattle.ranked_tree.proofs.Common.{Covers, HasAuthority, Homes, IsSubtrees, held_in, state_of, sym}
 use Rattle.ranked_tree.proofs.HeldLaws.{may_hold}
 use Rattle.ranked_tree.proofs.SubtreeLaws.{over}
 use Rattle.ranked_tree.proofs.holding.holder_of.Goals as goal

@@ -1,9 +1,4 @@
-use Rattle.std.proofs.Common.{◌≡◌, inr, true, false, Option, sym, subst, ◌∙◌}
-use Rattle.std.specs.Prelude.{MatchOption}
-use Rattle.dentry_cache.specs.CacheMap.{unclean}
-use Rattle.export_regions.specs.declared.spelling.Spelled.{Spelled}
-use Rattle.export_regions.specs.Regions.{HasTooMany, IsIn}
-use Rattle.export_regions.specs.Spelling.{IsSpelled}
+use Rattle.ranked_tree.proofs.Common.{HasTooMany, IsIn, IsSpelled, MatchOption, Option, Spelled, false, inr, subst, sym, true, unclean, ◌∙◌, ◌≡◌}
 use Rattle.ranked_tree.proofs.ImportLaws.{given_cached, given_home, given_many, given_spelled, given_versions, given_wrong}
 use Rattle.ranked_tree.proofs.importing.sent_leaves.Goals as goal
 

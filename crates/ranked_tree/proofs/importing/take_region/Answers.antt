@@ -1,8 +1,4 @@
-use Rattle.std.proofs.Common.{length, sym, subst}
-use Rattle.export_regions.specs.Regions.{AreCachedOf, RegionLeaves}
-use Rattle.mdcache.specs.Core.{state_of}
-use Rattle.ranked_tree.specs.Importing.{IsSpelledBy}
-use Rattle.ranked_tree.specs.Sending.{IsInRegionOf}
+use Rattle.ranked_tree.proofs.Common.{AreCachedOf, IsInRegionOf, IsSpelledBy, RegionLeaves, length, state_of, subst, sym}
 use Rattle.ranked_tree.proofs.ImportLaws.{clean_there, dirty_there, distinct, jobless, may_not, still_divided, took}
 use Rattle.ranked_tree.proofs.importing.take_region.Goals as goal
 

@@ -1,10 +1,5 @@
-use Rattle.std.proofs.Common.{◌≡◌, ℕ, false, true, rules, refl, sym, subst, ◌∙◌, arith}
-use Rattle.mds_types.specs.declared.ids.Rank.{Rank}
-use Rattle.inode_table.specs.Dirs.{leaves_of}
-use Rattle.inode_table.proofs.Tables.{tree_of_row}
+use Rattle.ranked_tree.proofs.Common.{HasAuthority, Rank, arith, false, leaves_of, one_authority, refl, rules, subst, sym, tree_of_row, true, ℕ, ◌∙◌, ◌≡◌}
 use Rattle.mds_types.specs.Leaf.{Leaf}
-use Rattle.subtree_map.specs.Authority.{HasAuthority}
-use Rattle.subtree_map.proofs.Nearest.{one_authority}
 use Rattle.ranked_tree.proofs.InsideLaws.{Done, is_within, of_all, walk_ends, walk_goes, walk_on, walk_starts}
 use Rattle.ranked_tree.proofs.inside.all_have.Goals as goal
 

@@ -1,7 +1,6 @@
 -- The leaves inside that begin before the hash have the rank.
-use Rattle.std.specs.Prelude.{◌-◌, ◌^◌, ◌≤◌}
-use Rattle.inode_table.specs.Dirs.{leaves_of}
-use Rattle.subtree_map.specs.Authority.{HasAuthority}
+use Rattle.ranked_tree.proofs.Common.{HasAuthority, leaves_of, ◌-◌}
+use Rattle.std.specs.Prelude.{◌^◌, ◌≤◌}
 use Rattle.ranked_tree.proofs.InsideLaws.{Done}
 use Rattle.ranked_tree.proofs.inside.all_have.Given as goal
 

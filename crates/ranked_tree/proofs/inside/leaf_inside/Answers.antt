@@ -1,6 +1,4 @@
-use Rattle.std.proofs.Common.{rules, sym, ◌∙◌, arith}
-use Rattle.inode_table.specs.Dirs.{leaves_of}
-use Rattle.inode_table.proofs.Tables.{tree_of_row}
+use Rattle.ranked_tree.proofs.Common.{arith, leaves_of, rules, sym, tree_of_row, ◌∙◌}
 use Rattle.ranked_tree.proofs.InsideLaws.{inside_found, none_beyond, none_inside}
 use Rattle.ranked_tree.proofs.inside.leaf_inside.Goals as goal
 

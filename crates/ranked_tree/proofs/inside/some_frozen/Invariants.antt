@@ -1,7 +1,6 @@
 -- The leaves inside that begin before the hash are not frozen.
-use Rattle.std.specs.Prelude.{◌-◌, ◌^◌, ◌≤◌}
-use Rattle.export_steps.specs.Holder.{IsFrozen}
-use Rattle.inode_table.specs.Dirs.{leaves_of}
+use Rattle.ranked_tree.proofs.Common.{IsFrozen, leaves_of, ◌-◌}
+use Rattle.std.specs.Prelude.{◌^◌, ◌≤◌}
 use Rattle.ranked_tree.proofs.InsideLaws.{Done}
 use Rattle.ranked_tree.proofs.inside.some_frozen.Given as goal
 

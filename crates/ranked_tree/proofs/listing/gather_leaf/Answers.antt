@@ -1,9 +1,6 @@
-use Rattle.mdcache.proofs.CoreLaws.{reads_keeps}
-use Rattle.dentry_cache.specs.Came.{IsThat, NoneEnds}
-use Rattle.ranked_tree.specs.Exported.{held_in}
+use Rattle.ranked_tree.proofs.Common.{IsThat, NoneEnds, held_in, reads_keeps, result_err}
 use Rattle.ranked_tree.proofs.AskLaws.{told_for}
 use Rattle.ranked_tree.proofs.HeldLaws.{owned_read}
-use Rattle.std.specs.Result.{result_err}
 use Rattle.ranked_tree.proofs.ReadsForLaws.{reads_one}
 use Rattle.ranked_tree.proofs.listing.gather_leaf.Goals as goal
 

@@ -1,17 +1,7 @@
-use Rattle.std.proofs.Common.{List, ℕ, refl, ◌≡◌, None, ap, subst, ◌∙◌}
-use Rattle.std.specs.Option.{option_copied}
-use Rattle.mds_types.specs.Frag.{Fragment}
-use Rattle.fragtree.specs.FragTree.{HasLeaf}
-use Rattle.inode_table.specs.Dirs.{Covers, leaves_of}
-use Rattle.mdcache.specs.Pages.{gathered}
-use Rattle.mdcache.specs.Shown.{names_of}
+use Rattle.ranked_tree.proofs.Common.{Covers, Fragment, HasLeaf, List, None, ap, gathered, held_in, keeps_itself, keeps_on, leaf_more, leaves_of, names_of, option_copied, refl, subst, unclean, ℕ, ◌∙◌, ◌≡◌}
 use Rattle.mdcache.specs.State.{State as TreeState}
-use Rattle.mdcache.proofs.FragsLaws.{keeps_itself, keeps_on}
-use Rattle.mdcache.proofs.GatherLaws.{leaf_more}
-use Rattle.ranked_tree.specs.Exported.{held_in}
 use Rattle.ranked_tree.proofs.WalkLaws.{first_within, rest_within}
 use Rattle.ranked_tree.proofs.AskLaws.{live_still, refused_before}
-use Rattle.dentry_cache.specs.CacheMap.{unclean}
 use Rattle.ranked_tree.proofs.ReadsForLaws.{reads_on}
 use Rattle.dentry_cache.specs.Reads.Reads.{stays}
 use Rattle.ranked_tree.proofs.listing.gather_leaves.Goals as goal

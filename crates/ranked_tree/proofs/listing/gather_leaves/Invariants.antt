@@ -1,16 +1,6 @@
 -- The names of the leaves so far are in the page, and reads keep the state and whose the places are.
-use Rattle.std.proofs.Common.{◌≡◌, List, None}
-use Rattle.std.specs.Option.{option_copied}
-use Rattle.mds_types.specs.Frag.{Fragment}
-use Rattle.cached_frag.specs.Rows.{Row}
-use Rattle.inode_table.specs.Dirs.{leaves_of}
-use Rattle.mdcache.specs.Frags.{KeepsState}
-use Rattle.mdcache.specs.Pages.{IsPageOf, gathered}
-use Rattle.mdcache.specs.Shown.{names_of}
-use Rattle.ranked_tree.specs.Exported.{held_in}
+use Rattle.ranked_tree.proofs.Common.{Fragment, IsOwned, IsPageOf, KeepsState, List, None, ReadsDir, Row, gathered, held_in, leaves_of, names_of, option_copied, unclean, ◌≡◌}
 use Rattle.ranked_tree.proofs.WalkLaws.{AreWithin}
-use Rattle.ranked_tree.specs.Held.{IsOwned, ReadsDir}
-use Rattle.dentry_cache.specs.CacheMap.{unclean}
 use Rattle.ranked_tree.proofs.listing.gather_leaves.Given as goal
 
 abbrev pub invariant-loop-frag : goal.invariant-loop-frag

@@ -1,9 +1,4 @@
-use Rattle.std.proofs.Common.{◌≡◌, ℕ, List, [], length, nat_lt, ap₂, ◌∙◌}
-use Rattle.std.specs.Prelude.{take}
-use Rattle.std.specs.Option.{option_copied}
-use Rattle.cached_frag.specs.Rows.{Row}
-use Rattle.mdcache.specs.Core.{state_of}
-use Rattle.mdcache.proofs.GatherLaws.{gathers_listed}
+use Rattle.ranked_tree.proofs.Common.{List, Row, [], ap₂, gathers_listed, length, nat_lt, option_copied, state_of, take, ℕ, ◌∙◌, ◌≡◌}
 use Rattle.ranked_tree.proofs.AskLaws.{dir_known}
 use Rattle.ranked_tree.proofs.listing.list_dir.Goals as goal
 

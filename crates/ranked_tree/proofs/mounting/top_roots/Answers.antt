@@ -1,4 +1,4 @@
-use Rattle.std.proofs.Common.{◌∙◌}
+use Rattle.ranked_tree.proofs.Common.{◌∙◌}
 use Rattle.ranked_tree.proofs.MountedRoots.{are_top}
 use Rattle.ranked_tree.proofs.mounting.top_roots.Goals as goal
 

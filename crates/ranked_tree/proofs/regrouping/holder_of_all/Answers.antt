@@ -1,12 +1,6 @@
-use Rattle.std.proofs.Common.{ℕ, Option, None, subst}
-use Rattle.mds_types.specs.Frag.{Fragment}
-use Rattle.fragtree.specs.FragTree.{HasLeaf}
-use Rattle.inode_table.specs.Dirs.{Covers, leaves_of}
-use Rattle.ranked_tree.specs.Exported.{held_in}
-use Rattle.ranked_tree.specs.Subtrees.{IsInsideAt}
+use Rattle.ranked_tree.proofs.Common.{Covers, Fragment, HasLeaf, IsInsideAt, None, Option, held_in, leaves_of, state_of, subst, ℕ}
 use Rattle.ranked_tree.proofs.HeldRegroups.{all_as_one, may_hold_all, none_before}
 use Rattle.ranked_tree.proofs.InsideLaws.{is_within}
-use Rattle.mdcache.specs.Core.{state_of}
 use Rattle.ranked_tree.proofs.regrouping.holder_of_all.Goals as goal
 
 pub unreachable-requires : goal.unreachable-requires

@@ -1,11 +1,4 @@
-use Rattle.std.proofs.Common.{ℕ}
-use Rattle.std.specs.List.{Contains}
-use Rattle.dentry_cache.proofs.FrameLaws.{came_cap, came_ranks}
-use Rattle.subtree_map.specs.Authority.{Leaf}
-use Rattle.mdcache.specs.Core.{LacksPlacesAt}
-use Rattle.mdcache.specs.Joining.{IsAmongOr}
-use Rattle.mdcache.specs.Regrouping.{ending_at}
-use Rattle.ranked_tree.specs.Held.{LacksPlacesInside}
+use Rattle.ranked_tree.proofs.Common.{Contains, IsAmongOr, LacksPlacesAt, LacksPlacesInside, Leaf, came_cap, came_ranks, ending_at, ℕ}
 use Rattle.ranked_tree.proofs.HeldRegroups.{merge_on, merged_came}
 use Rattle.ranked_tree.proofs.StandLaws.{all_rule, one_holds}
 use Rattle.ranked_tree.proofs.regrouping.merge_held.Goals as goal

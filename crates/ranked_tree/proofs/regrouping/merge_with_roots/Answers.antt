@@ -1,18 +1,5 @@
+use Rattle.ranked_tree.proofs.Common.{AllHave, AreRoots, AreThawed, CameAt, CanMerge, HaveOneAuthority, IsMergedHere, IsOwned, IsRootMerge, LacksPlacesInside, MergesLeaves, RefusesMerge, Roots, State, ap, arith, held_in, holding, leaves_of, refl, regroup_free, state_of, stays, subst, sym, ◌∙◌}
 use Rattle.std.specs.Prelude.{Err}
-use Rattle.std.proofs.Common.{ap, refl, sym, subst, arith, ◌∙◌}
-use Rattle.fragtree.specs.FragTree.{CanMerge, RefusesMerge}
-use Rattle.dentry_cache.specs.Came.Came.{stays}
-use Rattle.export_steps.specs.Holder.{holding}
-use Rattle.inode_table.specs.Dirs.{leaves_of}
-use Rattle.subtree_map.specs.Authority.{Roots}
-use Rattle.subtree_map.specs.Changes.{HaveOneAuthority, IsRootMerge}
-use Rattle.mdcache.specs.Core.{state_of}
-use Rattle.mdcache.specs.State.{State}
-use Rattle.mdcache.specs.SplitsAndMerges.{MergesLeaves}
-use Rattle.mdcache.proofs.CountLaws.{regroup_free}
-use Rattle.ranked_tree.specs.Exported.{AreThawed, held_in}
-use Rattle.ranked_tree.specs.Held.{CameAt, IsMergedHere, IsOwned, LacksPlacesInside}
-use Rattle.ranked_tree.specs.Subtrees.{AllHave, AreRoots}
 use Rattle.ranked_tree.proofs.DividedLaws.{merge_keeps_roots, merge_owned, merge_stands}
 use Rattle.ranked_tree.proofs.HeldRegroups.{regroup_on, unmerged_held}
 use Rattle.ranked_tree.proofs.Kept.{keeps_same}

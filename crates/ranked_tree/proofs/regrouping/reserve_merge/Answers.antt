@@ -1,4 +1,4 @@
-use Rattle.std.proofs.Common.{inl, inr}
+use Rattle.ranked_tree.proofs.Common.{inl, inr}
 use Rattle.ranked_tree.proofs.regrouping.reserve_merge.Goals as goal
 
 pub returns-in-Err-clause-refused : goal.returns-in-Err-clause-refused

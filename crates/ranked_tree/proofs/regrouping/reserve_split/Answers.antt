@@ -1,6 +1,4 @@
-use Rattle.std.proofs.Common.{◌≡◌, ◌^◌, ℕ, inl, inr, subst, rules}
-use Rattle.mdcache.specs.Regroups.{LacksCounts}
-use Rattle.mdcache.specs.Core.{state_of}
+use Rattle.ranked_tree.proofs.Common.{LacksCounts, inl, inr, rules, state_of, subst, ℕ, ◌^◌, ◌≡◌}
 use Rattle.ranked_tree.proofs.regrouping.reserve_split.Goals as goal
 
 pub returns-in-Err-clause-refused : goal.returns-in-Err-clause-refused

@@ -1,10 +1,4 @@
-use Rattle.std.proofs.Common.{◌+◌, ◌^◌}
-use Rattle.dentry_cache.specs.CacheSplits.{IsFamilyAt}
-use Rattle.dentry_cache.proofs.FrameLaws.{came_cap, came_ranks}
-use Rattle.mdcache.specs.Core.{LacksPlacesAt, state_of}
-use Rattle.ranked_tree.specs.Held.{LacksPlacesFor}
-use Rattle.mds_types.specs.Leaf.{leaf_of}
-use Rattle.ranked_tree.specs.Exported.{held_in}
+use Rattle.ranked_tree.proofs.Common.{IsFamilyAt, LacksPlacesAt, LacksPlacesFor, came_cap, came_ranks, held_in, leaf_of, state_of, ◌+◌, ◌^◌}
 use Rattle.ranked_tree.proofs.HeldLaws.{may_hold}
 use Rattle.ranked_tree.proofs.HeldRegroups.{family_came, split_on}
 use Rattle.ranked_tree.proofs.StandLaws.{thawed_rules}

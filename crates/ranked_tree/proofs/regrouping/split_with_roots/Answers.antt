@@ -1,18 +1,5 @@
+use Rattle.ranked_tree.proofs.Common.{AreRoots, CameAt, CanSplit, IsFamilyOf, IsFrozen, IsOwned, IsRootSplit, LacksPlacesFor, RefusesSplit, Roots, Rules, SplitsLeaf, State, ap, arith, held_in, holding, leaves_of, refl, regroup_free, state_of, stays, subst, sym, ◌∙◌}
 use Rattle.std.specs.Prelude.{◌+◌, ◌^◌, Err}
-use Rattle.std.proofs.Common.{ap, refl, sym, subst, arith, ◌∙◌}
-use Rattle.fragtree.specs.FragTree.{CanSplit, RefusesSplit}
-use Rattle.dentry_cache.specs.Came.Came.{stays}
-use Rattle.export_steps.specs.Holder.{IsFrozen, holding}
-use Rattle.inode_table.specs.Dirs.{leaves_of}
-use Rattle.subtree_map.specs.Authority.{Roots}
-use Rattle.subtree_map.specs.Changes.{IsRootSplit}
-use Rattle.mdcache.specs.Core.{state_of}
-use Rattle.mdcache.specs.State.{State}
-use Rattle.mdcache.specs.SplitsAndMerges.{SplitsLeaf}
-use Rattle.mdcache.proofs.CountLaws.{regroup_free}
-use Rattle.ranked_tree.specs.Exported.{held_in}
-use Rattle.ranked_tree.specs.Held.{CameAt, IsFamilyOf, IsOwned, LacksPlacesFor}
-use Rattle.ranked_tree.specs.Subtrees.{AreRoots, Rules}
 use Rattle.ranked_tree.proofs.DividedLaws.{split_keeps_roots, split_owned, split_stands}
 use Rattle.ranked_tree.proofs.HeldRegroups.{regroup_on, unsplit_held}
 use Rattle.ranked_tree.proofs.Kept.{keeps_same}

@@ -1,7 +1,4 @@
-use Rattle.std.proofs.Common.{inr, refl}
-use Rattle.mds_types.specs.declared.refusals.Refusal.TheVariants.{NoMemory}
-use Rattle.mdcache.specs.Core.{state_of}
-use Rattle.ranked_tree.specs.Sending.{RefusesSend}
+use Rattle.ranked_tree.proofs.Common.{NoMemory, RefusesSend, inr, refl, state_of}
 use Rattle.ranked_tree.proofs.SendLaws.{held_here, refused_so, refuses, sent_so, versions_here}
 use Rattle.ranked_tree.proofs.sending.region_bytes.Goals as goal
 

@@ -1,4 +1,4 @@
-use Rattle.std.proofs.Common.{◌∙◌, refl, subst, sym, arith, length-set}
+use Rattle.script_output.proofs.Common.{arith, length-set, refl, subst, sym, ◌∙◌}
 use Rattle.script_output.proofs.DigitLemmas.{IsWriting, begin, begins, ended, go_on, has_room, put_before}
 use Rattle.script_output.proofs.digits.write_digits_in.Goals as goal
 

@@ -1,5 +1,4 @@
-use Rattle.std.proofs.Common.{◌≡◌, ◌≤◌, ◌++◌, length, drop, false}
-use Rattle.std.specs.Fmt.{digits}
+use Rattle.script_output.proofs.Common.{digits, drop, false, length, ◌++◌, ◌≡◌, ◌≤◌}
 use Rattle.script_output.proofs.DigitLemmas.{IsWriting}
 use Rattle.script_output.proofs.digits.write_digits_in.Given as goal
 

@@ -1,5 +1,4 @@
-use Rattle.std.proofs.Common.{take}
-use Rattle.script_output.specs.Escapes.{escaped}
+use Rattle.script_output.proofs.Common.{escaped, take}
 use Rattle.script_output.proofs.PushLemmas.{stopped}
 use Rattle.script_output.proofs.escapes.push_escaped.Goals as goal
 

@@ -1,4 +1,4 @@
-use Rattle.std.proofs.Common.{refl}
+use Rattle.script_output.proofs.Common.{refl}
 use Rattle.std.specs.Fmt.{digits}
 use Rattle.script_output.proofs.fixed_texts.refused_text.Goals as goal
 

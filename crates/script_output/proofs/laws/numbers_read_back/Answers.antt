@@ -1,4 +1,4 @@
-use Rattle.std.proofs.Common.{arith}
+use Rattle.script_output.proofs.Common.{arith}
 use Rattle.script_output.proofs.PrintedNumbers.{number_of-digits, octal_mode_of-digits}
 use Rattle.script_output.proofs.laws.numbers_read_back.Goals as goal
 

@@ -1,6 +1,4 @@
-use Rattle.std.proofs.Common.{◌≡◌, ◌++◌, take}
-use Rattle.std.specs.List.{flat_map}
-use Rattle.script_output.specs.Texts.{listed_text}
+use Rattle.script_output.proofs.Common.{flat_map, listed_text, take, ◌++◌, ◌≡◌}
 use Rattle.script_output.proofs.replies.push_listing.Given as goal
 
 -- the entries passed are in the text

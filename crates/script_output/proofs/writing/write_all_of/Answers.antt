@@ -1,4 +1,4 @@
-use Rattle.std.proofs.Common.{drop, take, sym, arith, length-drop, take-append-drop}
+use Rattle.script_output.proofs.Common.{arith, drop, length-drop, sym, take, take-append-drop}
 use Rattle.script_output.proofs.writing.write_all_of.Goals as goal
 
 pub returns-else-write_most_of-bytes-clause-err : goal.returns-else-write_most_of-bytes-clause-err

@@ -1,5 +1,4 @@
-use Rattle.std.proofs.Common.{◌-◌, ◌≤◌, length, take}
-use Rattle.std.specs.Io.KnownBytes.{Appends}
+use Rattle.script_output.proofs.Common.{Appends, length, take, ◌-◌, ◌≤◌}
 use Rattle.script_output.proofs.writing.write_most_of.Given as goal
 
 -- the bytes so far are written

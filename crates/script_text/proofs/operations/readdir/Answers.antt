@@ -1,5 +1,5 @@
+use Rattle.script_text.proofs.Common.{HoldsName}
 use Rattle.script_text.specs.Operations.{readdir_of}
-use Rattle.script_text.specs.Texts.{HoldsName}
 use Rattle.script_text.proofs.FormLemmas.{after_fails, gives_text_fault}
 use Rattle.script_text.proofs.operations.readdir.Goals as goal
 

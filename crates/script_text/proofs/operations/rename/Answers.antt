@@ -1,5 +1,5 @@
+use Rattle.script_text.proofs.Common.{HoldsName}
 use Rattle.script_text.specs.Operations.{rename_of}
-use Rattle.script_text.specs.Texts.{HoldsName}
 use Rattle.script_text.proofs.FormLemmas.{gives_text_fault, names_fail}
 use Rattle.script_text.proofs.operations.rename.Goals as goal
 

@@ -1,5 +1,5 @@
+use Rattle.script_text.proofs.Common.{HoldsName}
 use Rattle.script_text.specs.Operations.{setattr_of}
-use Rattle.script_text.specs.Texts.{HoldsName}
 use Rattle.script_text.proofs.FormLemmas.{gives_text_fault, name_text_fails}
 use Rattle.script_text.proofs.operations.setattr.Goals as goal
 

@@ -1,4 +1,4 @@
-use Rattle.std.proofs.Common.{sym, ◌∙◌}
+use Rattle.script_words.proofs.Common.{sym, ◌∙◌}
 use Rattle.script_words.proofs.FormLemmas.{form_of_text, form_of_two, two_without}
 use Rattle.script_words.proofs.arguments.two_texts.Goals as goal
 

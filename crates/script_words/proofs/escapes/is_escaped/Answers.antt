@@ -1,4 +1,4 @@
-use Rattle.std.proofs.Common.{sym, ◌∙◌}
+use Rattle.script_words.proofs.Common.{sym, ◌∙◌}
 use Rattle.script_words.proofs.EscapeLemmas.{end-escaped}
 use Rattle.script_words.proofs.escapes.is_escaped.Goals as goal
 

@@ -1,5 +1,4 @@
-use Rattle.std.proofs.Common.{◌≡◌, length, is_some}
-use Rattle.script_words.specs.Escapes.{bytes_of}
+use Rattle.script_words.proofs.Common.{bytes_of, is_some, length, ◌≡◌}
 use Rattle.script_words.proofs.escapes.is_escaped.Given as goal
 
 -- the word stands for bytes exactly where the rest does

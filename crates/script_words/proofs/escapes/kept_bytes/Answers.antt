@@ -1,5 +1,4 @@
-use Rattle.std.proofs.Common.{length, ◌∙◌, sym, eqb-true}
-use Rattle.script_words.specs.Escapes.{bytes_of}
+use Rattle.script_words.proofs.Common.{bytes_of, eqb-true, length, sym, ◌∙◌}
 use Rattle.script_words.proofs.EscapeLemmas.{before-nothing}
 use Rattle.script_words.proofs.escapes.kept_bytes.Goals as goal
 

@@ -1,5 +1,4 @@
-use Rattle.std.proofs.Common.{◌≡◌, length}
-use Rattle.script_words.specs.Escapes.{bytes_of}
+use Rattle.script_words.proofs.Common.{bytes_of, length, ◌≡◌}
 use Rattle.script_words.proofs.EscapeLemmas.{before}
 use Rattle.script_words.proofs.escapes.kept_bytes.Given as goal
 

@@ -1,5 +1,4 @@
-use Rattle.std.proofs.Common.{Option, Some, None, IfNone, sym, ap, ◌∙◌, arith}
-use Rattle.script_words.specs.Escapes.{onto, bytes_of}
+use Rattle.script_words.proofs.Common.{IfNone, None, Option, Some, ap, arith, bytes_of, onto, sym, ◌∙◌}
 use Rattle.script_words.proofs.EscapeLemmas.{bytes_of-plain, bytes_of-escape, bytes_of-short}
 use Rattle.script_words.proofs.escapes.next_byte.Goals as goal
 

@@ -1,5 +1,4 @@
-use Rattle.std.proofs.Common.{◌*◌, length, sym, ap, ◌∙◌}
-use Rattle.mds_types.specs.Frag.{span}
+use Rattle.script_words.proofs.Common.{ap, length, span, sym, ◌*◌, ◌∙◌}
 use Rattle.script_words.proofs.FragLemmas.{value_of-below, value_of-fits, fragment_found}
 use Rattle.script_words.proofs.fragments.frag_from.Goals as goal
 

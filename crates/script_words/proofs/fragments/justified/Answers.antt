@@ -1,5 +1,4 @@
-use Rattle.std.proofs.Common.{◌-◌, arith}
-use Rattle.std.proofs.lemmas.Nat.{one_shl}
+use Rattle.script_words.proofs.Common.{arith, one_shl, ◌-◌}
 use Rattle.script_words.proofs.FragLemmas.{justified-below}
 use Rattle.script_words.proofs.fragments.justified.Goals as goal
 

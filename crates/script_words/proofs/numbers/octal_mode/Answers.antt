@@ -1,5 +1,4 @@
-use Rattle.std.proofs.Common.{length, sym, ◌∙◌}
-use Rattle.std.proofs.lemmas.Bool.{eqb-false}
+use Rattle.script_words.proofs.Common.{eqb-false, length, sym, ◌∙◌}
 use Rattle.script_words.proofs.NumberLemmas.{octal_given}
 use Rattle.script_words.proofs.numbers.octal_mode.Goals as goal
 

@@ -1,5 +1,4 @@
-use Rattle.std.proofs.Common.{◌≡◌, ◌<◌, ◌^◌, drop}
-use Rattle.script_words.specs.Numbers.{value_of}
+use Rattle.script_words.proofs.Common.{drop, value_of, ◌<◌, ◌^◌, ◌≡◌}
 use Rattle.script_words.proofs.NumberLemmas.{value_from}
 use Rattle.script_words.proofs.numbers.value.Given as goal
 

@@ -1,5 +1,4 @@
-use Rattle.std.proofs.Common.{◌≢◌, ◌<◌, length, sym, ◌∙◌, arith, eqb-true}
-use Rattle.std.proofs.lemmas.Bool.{eqb-false}
+use Rattle.script_words.proofs.Common.{arith, eqb-false, eqb-true, length, sym, ◌<◌, ◌∙◌, ◌≢◌}
 use Rattle.script_words.proofs.WordLemmas.{no_word, first_word}
 use Rattle.script_words.proofs.words.next_word.Goals as goal
 

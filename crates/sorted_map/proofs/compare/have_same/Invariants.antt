@@ -1,6 +1,4 @@
-use Rattle.std.proofs.Common.{◌≡◌, length}
-use Rattle.std.specs.Cmp.Lexicographic.{pointwise}
-use Rattle.sorted_map.specs.SortedMap.{pairs_eq}
+use Rattle.sorted_map.proofs.Common.{length, pairs_eq, pointwise, ◌≡◌}
 use Rattle.sorted_map.proofs.compare.have_same.Given as goal
 
 abbrev pub invariant-loop-x : goal.invariant-loop-x

@@ -1,6 +1,4 @@
-use Rattle.std.proofs.Common.{rules}
-use Rattle.std.specs.Ordering.{ordering_reverse}
-use Rattle.std.proofs.lemmas.Fn.{always_returns_same}
+use Rattle.sorted_map.proofs.Common.{always_returns_same, ordering_reverse, rules}
 use Rattle.sorted_map.proofs.PlaceLaws.{searched}
 use Rattle.sorted_map.proofs.places.place.Goals as goal
 

@@ -1,4 +1,4 @@
-use Rattle.std.proofs.Common.{add-one}
+use Rattle.sorted_map.proofs.Common.{add-one}
 use Rattle.sorted_map.proofs.PlaceLaws.{after_at, after_gap}
 use Rattle.sorted_map.proofs.places.place_after.Goals as goal
 

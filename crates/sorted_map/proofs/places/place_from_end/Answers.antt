@@ -1,7 +1,4 @@
-use Rattle.std.proofs.Common.{◌≡◌, zero, suc, ◌-◌, drop, take, T, subst, sym, ◌∙◌, arith}
-use Rattle.std.proofs.lemmas.List.{take-append-drop}
-use Rattle.std.specs.FinMap.{is_sorted}
-use Rattle.sorted_map.specs.Places.{IsGap, IsPlace}
+use Rattle.sorted_map.proofs.Common.{IsGap, IsPlace, T, arith, drop, is_sorted, subst, suc, sym, take, take-append-drop, zero, ◌-◌, ◌∙◌, ◌≡◌}
 use Rattle.sorted_map.proofs.PlaceLaws.{gap_behind, at_tied, gap_more}
 use Rattle.sorted_map.proofs.HomeLaws.{place_front, sorted_front}
 use Rattle.sorted_map.proofs.places.place_from_end.Goals as goal

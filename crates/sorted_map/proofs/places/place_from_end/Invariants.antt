@@ -1,5 +1,4 @@
-use Rattle.std.proofs.Common.{zero, ◌≤◌, length, drop}
-use Rattle.sorted_map.specs.Places.{IsGap}
+use Rattle.sorted_map.proofs.Common.{IsGap, drop, length, zero, ◌≤◌}
 use Rattle.sorted_map.proofs.places.place_from_end.Given as goal
 
 -- the pairs that were tried are above the key

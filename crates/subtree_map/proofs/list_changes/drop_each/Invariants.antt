@@ -1,5 +1,5 @@
 -- Each turn changes one list.
-use Rattle.subtree_map.specs.Lists.{HasDropped}
+use Rattle.subtree_map.proofs.Common.{HasDropped}
 use Rattle.subtree_map.proofs.RowLaws.{IsTurn}
 use Rattle.subtree_map.proofs.list_changes.drop_each.Given as goal
 

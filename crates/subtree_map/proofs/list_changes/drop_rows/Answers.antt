@@ -1,8 +1,5 @@
-use Rattle.std.proofs.Common.{ap, ◌∙◌, arith}
+use Rattle.subtree_map.proofs.Common.{Leaf, ap, arith, contents, get_left, leaf_cmp, ◌∙◌}
 use Rattle.std.specs.FinMap as map
-use Rattle.sorted_map.specs.SortedMap.{contents}
-use Rattle.mds_types.specs.Leaf.{Leaf, leaf_cmp}
-use Rattle.mds_types.proofs.LeafLaws.{get_left}
 use Rattle.subtree_map.proofs.TakenOut.{shorter}
 use Rattle.subtree_map.proofs.list_changes.drop_rows.Goals as goal
 

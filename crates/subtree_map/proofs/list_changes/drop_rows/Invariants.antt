@@ -1,9 +1,6 @@
 -- The rows of other directories stay, and each turn takes one out.
-use Rattle.std.specs.Prelude.{◌≡◌, ◌≢◌, ◌≤◌}
+use Rattle.subtree_map.proofs.Common.{Leaf, contents, entry_at, leaf_cmp, ◌≡◌, ◌≢◌, ◌≤◌}
 use Rattle.std.specs.FinMap as map
-use Rattle.sorted_map.specs.SortedMap.{contents}
-use Rattle.mds_types.specs.Leaf.{Leaf, leaf_cmp}
-use Rattle.subtree_map.specs.Lists.{entry_at}
 use Rattle.subtree_map.proofs.list_changes.drop_rows.Given as goal
 
 abbrev pub invariant-loop-leaf : goal.invariant-loop-leaf

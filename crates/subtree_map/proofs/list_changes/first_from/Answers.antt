@@ -1,6 +1,5 @@
-use Rattle.std.proofs.Common.{[], ◌∷◌, sym, ◌∙◌}
-use Rattle.sorted_map.specs.SortedMap.{contents, is_from}
-use Rattle.mds_types.specs.Leaf.{leaf_cmp}
+use Rattle.subtree_map.proofs.Common.{contents, is_from, leaf_cmp, sym, ◌∙◌}
+use Rattle.std.proofs.Common.{[], ◌∷◌}
 use Rattle.subtree_map.proofs.Firsts.{first_row}
 use Rattle.subtree_map.proofs.list_changes.first_from.Goals as goal
 

@@ -1,5 +1,4 @@
-use Rattle.std.proofs.Common.{arith}
-use Rattle.subtree_map.specs.declared.entries.Known.TheVariants.{Hint}
+use Rattle.subtree_map.proofs.Common.{Hint, arith}
 use Rattle.subtree_map.proofs.RowLaws.{hinted_row}
 use Rattle.subtree_map.proofs.list_changes.hint.Goals as goal
 

@@ -1,5 +1,5 @@
 -- Each turn changes one list.
-use Rattle.subtree_map.specs.Lists.{HasHints}
+use Rattle.subtree_map.proofs.Common.{HasHints}
 use Rattle.subtree_map.proofs.RowLaws.{IsTurn}
 use Rattle.subtree_map.proofs.list_changes.hint_each.Given as goal
 

@@ -1,5 +1,5 @@
 -- Each turn makes room in one list.
-use Rattle.subtree_map.specs.Lists.{HasGrown}
+use Rattle.subtree_map.proofs.Common.{HasGrown}
 use Rattle.subtree_map.proofs.RowLaws.{IsTurn}
 use Rattle.subtree_map.proofs.list_changes.reserve_each.Given as goal
 

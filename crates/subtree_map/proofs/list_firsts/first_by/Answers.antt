@@ -1,9 +1,6 @@
-use Rattle.std.proofs.Common.{Some, None, Option, sym, subst, ◌∙◌}
+use Rattle.subtree_map.proofs.Common.{IsFirstBy, Leaf, claimed, contents, entry_at, is_after, leaf_cmp, said, subst, sym, ◌∙◌}
+use Rattle.std.proofs.Common.{Some, None, Option}
 use Rattle.std.specs.FinMap as map
-use Rattle.sorted_map.specs.SortedMap.{contents}
-use Rattle.mds_types.specs.Leaf.{Leaf, leaf_cmp}
-use Rattle.subtree_map.specs.Lists.{claimed, entry_at, is_after, said}
-use Rattle.subtree_map.specs.Rows.{IsFirstBy}
 use Rattle.subtree_map.proofs.ListFirsts.{all_pass, first_of_list, left_sorted}
 use Rattle.subtree_map.proofs.list_firsts.first_by.Goals as goal
 

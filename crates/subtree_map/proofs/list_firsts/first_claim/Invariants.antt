@@ -1,7 +1,5 @@
 -- The first of the lists so far.
-use Rattle.std.specs.Prelude.{take}
-use Rattle.subtree_map.specs.Lists.{claimed, found, is_after}
-use Rattle.subtree_map.specs.Rows.{IsFirstBy}
+use Rattle.subtree_map.proofs.Common.{IsFirstBy, claimed, found, is_after, take}
 use Rattle.subtree_map.proofs.list_firsts.first_claim.Given as goal
 
 abbrev pub invariant-loop-i : goal.invariant-loop-i

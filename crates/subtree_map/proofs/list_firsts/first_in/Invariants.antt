@@ -1,8 +1,6 @@
 -- What was passed claims nothing.
-use Rattle.std.specs.Prelude.{◌≡◌, T, length}
-use Rattle.std.specs.FinMap.{find, is_sorted}
-use Rattle.mds_types.specs.Leaf.{Leaf, leaf_cmp}
-use Rattle.subtree_map.specs.Lists.{claimed, said}
+use Rattle.subtree_map.proofs.Common.{Leaf, T, claimed, find, is_sorted, leaf_cmp, said, ◌≡◌}
+use Rattle.std.specs.Prelude.{length}
 use Rattle.subtree_map.proofs.list_firsts.first_in.Given as goal
 
 abbrev pub invariant-loop-row : goal.invariant-loop-row

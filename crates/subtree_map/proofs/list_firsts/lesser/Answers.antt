@@ -1,5 +1,4 @@
-use Rattle.std.proofs.Common.{subst}
-use Rattle.subtree_map.specs.Rows.{IsFirstBy}
+use Rattle.subtree_map.proofs.Common.{IsFirstBy, subst}
 use Rattle.subtree_map.proofs.ListFirsts.{first_of_both}
 use Rattle.subtree_map.proofs.list_firsts.lesser.Goals as goal
 

@@ -1,9 +1,6 @@
-use Rattle.std.proofs.Common.{Option, ap, ◌∙◌}
+use Rattle.subtree_map.proofs.Common.{Entry, ap, contents, leaf_cmp, learnt, ◌∙◌}
+use Rattle.std.proofs.Common.{Option}
 use Rattle.std.specs.FinMap as map
-use Rattle.sorted_map.specs.SortedMap.{contents}
-use Rattle.mds_types.specs.Leaf.{leaf_cmp}
-use Rattle.subtree_map.specs.declared.entries.Entry.{Entry}
-use Rattle.subtree_map.specs.Lists.{learnt}
 use Rattle.subtree_map.proofs.RowLaws.{learnt_row}
 use Rattle.subtree_map.proofs.list_learning.learn.Goals as goal
 

@@ -1,6 +1,5 @@
-use Rattle.std.proofs.Common.{◌==◌, ◌<◌, Option, get_or, length, refl, sym, ap, subst, ◌∙◌}
-use Rattle.subtree_map.specs.declared.entries.Entry.{Entry}
-use Rattle.subtree_map.specs.Lists.{Hears, IsPut, Rows, entry_at, heard, makes}
+use Rattle.subtree_map.proofs.Common.{Entry, Hears, IsPut, Rows, ap, entry_at, get_or, heard, length, makes, subst, sym, ◌<◌, ◌∙◌}
+use Rattle.std.proofs.Common.{◌==◌, Option, refl}
 use Rattle.subtree_map.proofs.RowLaws.{at_index, telling_room, turn_ends, turn_goes, turn_starts}
 use Rattle.subtree_map.proofs.list_rows.tell.Goals as goal
 

@@ -1,5 +1,5 @@
 -- Each turn tells one list.
-use Rattle.subtree_map.specs.Lists.{Hears}
+use Rattle.subtree_map.proofs.Common.{Hears}
 use Rattle.subtree_map.proofs.RowLaws.{IsTurn}
 use Rattle.subtree_map.proofs.list_rows.tell.Given as goal
 

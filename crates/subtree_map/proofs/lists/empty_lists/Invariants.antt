@@ -1,5 +1,5 @@
 -- So far there is a list with no row for each turn.
-use Rattle.subtree_map.specs.Lists.{HaveNone}
+use Rattle.subtree_map.proofs.Common.{HaveNone}
 use Rattle.subtree_map.proofs.lists.empty_lists.Given as goal
 
 abbrev pub invariant-loop : goal.invariant-loop

@@ -1,5 +1,5 @@
-use Rattle.std.proofs.Common.{◌≡◌, true, false, sym, ap, ◌∙◌}
-use Rattle.subtree_map.specs.Changes.{is_inside}
+use Rattle.subtree_map.proofs.Common.{ap, is_inside, sym, ◌∙◌}
+use Rattle.std.proofs.Common.{◌≡◌, true, false}
 use Rattle.subtree_map.proofs.TakenOut.{found_next, other_stays, shorter, stays_there}
 use Rattle.subtree_map.proofs.merges.take_inside.Goals as goal
 

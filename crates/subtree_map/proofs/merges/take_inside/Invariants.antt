@@ -1,9 +1,6 @@
 -- The roots outside stay, none comes in, and each turn takes one out.
-use Rattle.std.specs.Prelude.{◌≡◌, false, Some}
+use Rattle.subtree_map.proofs.Common.{Leaf, Rank, Some, false, is_inside, ◌≡◌}
 use Rattle.std.specs.FinMap as map
-use Rattle.mds_types.specs.declared.ids.Rank.{Rank}
-use Rattle.mds_types.specs.Leaf.{Leaf}
-use Rattle.subtree_map.specs.Changes.{is_inside}
 use Rattle.subtree_map.proofs.TakenOut.{Found}
 use Rattle.subtree_map.proofs.merges.take_inside.Given as goal
 

@@ -1,6 +1,5 @@
-use Rattle.std.proofs.Common.{◌≡◌, ap, arith}
-use Rattle.mds_types.specs.Frag.{span}
-use Rattle.fragtree.proofs.Ranges.{ends_low}
+use Rattle.subtree_map.proofs.Common.{ap, arith, ends_low, span}
+use Rattle.std.proofs.Common.{◌≡◌}
 use Rattle.subtree_map.proofs.moves.end_of.Goals as goal
 
 pub overflow_add-result : goal.overflow_add-result

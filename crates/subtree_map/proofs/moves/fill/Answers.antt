@@ -1,6 +1,5 @@
-use Rattle.std.proofs.Common.{refl, ◌∙◌, ◌-◌, ◌^◌, ◌<◌, arith}
-use Rattle.inode_table.specs.Dirs.{leaves_of}
-use Rattle.inode_table.proofs.Tables.{tree_of_row}
+use Rattle.subtree_map.proofs.Common.{arith, leaves_of, tree_of_row, ◌<◌, ◌∙◌}
+use Rattle.std.proofs.Common.{refl, ◌-◌, ◌^◌}
 use Rattle.subtree_map.proofs.Filled.{walk_starts, walk_room, walk_goes, walk_on, walk_ends}
 use Rattle.subtree_map.proofs.moves.fill.Goals as goal
 

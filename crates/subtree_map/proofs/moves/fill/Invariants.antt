@@ -1,6 +1,5 @@
 -- Each turn does the leaf that begins at the hash.
-use Rattle.std.specs.Prelude.{◌≡◌, ◌-◌, ◌^◌}
-use Rattle.inode_table.specs.Dirs.{leaves_of}
+use Rattle.subtree_map.proofs.Common.{leaves_of, ◌-◌, ◌^◌, ◌≡◌}
 use Rattle.subtree_map.proofs.Filled.{Walk}
 use Rattle.subtree_map.proofs.moves.fill.Given as goal
 

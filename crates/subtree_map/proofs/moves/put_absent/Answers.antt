@@ -1,4 +1,5 @@
-use Rattle.std.proofs.Common.{◌≡◌, false, rules}
+use Rattle.subtree_map.proofs.Common.{rules}
+use Rattle.std.proofs.Common.{◌≡◌, false}
 use Rattle.subtree_map.proofs.Filled.{absent_of, filled_one}
 use Rattle.subtree_map.proofs.moves.put_absent.Goals as goal
 

@@ -1,8 +1,6 @@
-use Rattle.std.proofs.Common.{refl, ◌+◌, ◌^◌, ◌<◌, ap, subst, ◌∙◌, arith}
-use Rattle.std.proofs.lemmas.Nat.{one_shl}
+use Rattle.subtree_map.proofs.Common.{Fragment, ap, arith, leaf_of, one_shl, subst, ◌<◌, ◌∙◌}
+use Rattle.std.proofs.Common.{refl, ◌+◌, ◌^◌}
 use Rattle.std.specs.FinMap as map
-use Rattle.mds_types.specs.Frag.{Fragment}
-use Rattle.subtree_map.specs.Changes.{leaf_of}
 use Rattle.subtree_map.proofs.ChildRows.{children_more, children_none}
 use Rattle.subtree_map.proofs.splits.put_children.Goals as goal
 

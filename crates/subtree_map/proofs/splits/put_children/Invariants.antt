@@ -1,6 +1,5 @@
 -- The children so far have the rank, and there is room for the others.
-use Rattle.std.specs.Prelude.{◌≡◌, ◌+◌, ◌≤◌}
-use Rattle.subtree_map.specs.Rows.{AreChildrenSet}
+use Rattle.subtree_map.proofs.Common.{AreChildrenSet, ◌+◌, ◌≡◌, ◌≤◌}
 use Rattle.subtree_map.proofs.splits.put_children.Given as goal
 
 abbrev pub invariant-loop-i : goal.invariant-loop-i

@@ -1,5 +1,4 @@
-use Rattle.std.proofs.Common.{sym, ap, ◌∙◌}
-use Rattle.subtree_map.specs.Changes.{Subtrees}
+use Rattle.subtree_map.proofs.Common.{Subtrees, ap, sym, ◌∙◌}
 use Rattle.subtree_map.proofs.ChildRows.{no_split, root_split}
 use Rattle.subtree_map.proofs.splits.split_row.Goals as goal
 

@@ -1,4 +1,4 @@
-use Rattle.std.proofs.Common.{ℕ, Option, Ok, ap, ◌∙◌}
+use Rattle.admin_cli.proofs.Common.{Ok, Option, ap, ℕ, ◌∙◌}
 use Rattle.admin_cli.proofs.Committed.{ended, nothing_begun, refused, stopped}
 use Rattle.admin_cli.proofs.commands.Admin.commit.Goals as goal
 

@@ -1,4 +1,4 @@
-use Rattle.std.proofs.Common.{refl, rules}
+use Rattle.admin_cli.proofs.Common.{refl, rules}
 use Rattle.admin_cli.proofs.Committed.{on_err}
 use Rattle.admin_cli.proofs.commands.Admin.end.Goals as goal
 

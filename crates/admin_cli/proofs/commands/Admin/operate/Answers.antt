@@ -1,5 +1,5 @@
 -- The two steps of an operation alone.
-use Rattle.std.proofs.Common.{refl}
+use Rattle.admin_cli.proofs.Common.{refl}
 use Rattle.admin_cli.proofs.Operated.{served_after}
 use Rattle.admin_cli.proofs.commands.Admin.operate.Goals as goal
 

@@ -1,10 +1,4 @@
-use Rattle.std.proofs.Common.{Option, Some, Result, Ok, Err, IfOk, subst}
-use Rattle.std.specs.declared.alloc.AllocError.{AllocError}
-use Rattle.cluster_core.specs.declared.events.Event.{Event}
-use Rattle.cluster_core.specs.Proposal.{Proposes}
-use Rattle.cluster_core.specs.State.{Kept}
-use Rattle.script_output.specs.declared.lines.OutputLine.{OutputLine}
-use Rattle.admin_cli.specs.OwnLines.{MakesStep, TakesTurn}
+use Rattle.admin_cli.proofs.Common.{AllocError, Err, Event, IfOk, Kept, MakesStep, Ok, Option, OutputLine, Proposes, Result, Some, TakesTurn, subst}
 use Rattle.admin_cli.proofs.commands.Admin.own_turn.Goals as goal
 
 pub returns-in-Ok-Some-clause-line : goal.returns-in-Ok-Some-clause-line

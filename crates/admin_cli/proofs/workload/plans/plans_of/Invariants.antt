@@ -1,4 +1,4 @@
-use Rattle.std.proofs.Common.{◌≡◌, vec_len}
+use Rattle.admin_cli.proofs.Common.{vec_len, ◌≡◌}
 use Rattle.admin_cli.proofs.workload.plans.plans_of.Given as goal
 
 -- so far each rank below has its plan

@@ -1,5 +1,4 @@
-use Rattle.std.proofs.Common.{◌≡◌, ◌++◌, drop}
-use Rattle.admin_cli.specs.Reports.{path_lines}
+use Rattle.admin_cli.proofs.Common.{drop, path_lines, ◌++◌, ◌≡◌}
 use Rattle.admin_cli.proofs.workload.reports.add_lines.Given as goal
 
 -- what is written so far, with the lines of the paths that are left, is the whole

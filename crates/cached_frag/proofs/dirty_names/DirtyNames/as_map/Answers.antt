@@ -1,5 +1,4 @@
-use Rattle.std.proofs.Common.{subst}
-use Rattle.cached_frag.specs.Marks.{AreDirtyNames}
+use Rattle.cached_frag.proofs.Common.{AreDirtyNames, subst}
 use Rattle.cached_frag.proofs.dirty_names.DirtyNames.as_map.Goals as goal
 
 pub returns-clause-valid : goal.returns-clause-valid

@@ -1,5 +1,4 @@
-use Rattle.objstore.specs.Omap.{key_cmp}
-use Rattle.sorted_map.specs.SortedMap.{contents}
+use Rattle.cached_frag.proofs.Common.{contents, key_cmp}
 use Rattle.cached_frag.proofs.MarkLaws.{none_dirty}
 use Rattle.cached_frag.proofs.dirty_names.DirtyNames.new.Goals as goal
 

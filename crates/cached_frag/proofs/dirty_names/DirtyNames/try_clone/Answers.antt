@@ -1,5 +1,4 @@
-use Rattle.std.proofs.Common.{◌∙◌, subst, sym}
-use Rattle.cached_frag.specs.Marks.{AreDirtyNames}
+use Rattle.cached_frag.proofs.Common.{AreDirtyNames, subst, sym, ◌∙◌}
 use Rattle.cached_frag.proofs.dirty_names.DirtyNames.try_clone.Goals as goal
 
 pub invariant_of-result : goal.invariant_of-result

@@ -1,7 +1,5 @@
 -- The pairs of the maps are the entries that the contract compares.
-use Rattle.objstore.specs.Omap.{key_cmp}
-use Rattle.sorted_map.proofs.MapLaws.{entries-contents}
-use Rattle.cached_frag.specs.SameMarks.{mark_decides}
+use Rattle.cached_frag.proofs.Common.{entries-contents, key_cmp, mark_decides}
 use Rattle.cached_frag.proofs.dirty_names.DirtyNamesPartialEq.eq.Goals as goal
 
 pub returns-clause-value : goal.returns-clause-value

@@ -1,7 +1,4 @@
-use Rattle.std.proofs.Common.{ap, subst}
-use Rattle.objstore.specs.Omap.{key_cmp}
-use Rattle.sorted_map.specs.SortedMap.{contents}
-use Rattle.cached_frag.specs.Cached.{AreEntries, Cached, shown}
+use Rattle.cached_frag.proofs.Common.{AreEntries, Cached, ap, contents, key_cmp, shown, subst}
 use Rattle.cached_frag.proofs.CopiedLaws.{copied, copied_entries}
 use Rattle.cached_frag.proofs.ShownLaws.{shown_entries}
 use Rattle.cached_frag.proofs.fragments.CachedFrag.copy_names.Goals as goal

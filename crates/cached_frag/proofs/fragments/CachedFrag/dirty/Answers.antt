@@ -1,6 +1,4 @@
-use Rattle.std.proofs.Common.{subst}
-use Rattle.cached_frag.specs.Marks.{AreDirtyNames}
-use Rattle.cached_frag.specs.Cached.{Cached}
+use Rattle.cached_frag.proofs.Common.{AreDirtyNames, Cached, subst}
 use Rattle.cached_frag.proofs.fragments.CachedFrag.dirty.Goals as goal
 
 pub returns-clause-valid : goal.returns-clause-valid

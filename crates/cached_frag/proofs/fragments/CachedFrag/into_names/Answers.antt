@@ -1,7 +1,4 @@
-use Rattle.std.proofs.Common.{rules, sym, subst}
-use Rattle.objstore.specs.Omap.{key_cmp}
-use Rattle.sorted_map.specs.SortedMap.{contents}
-use Rattle.cached_frag.specs.Cached.{AreEntries, Cached, shown}
+use Rattle.cached_frag.proofs.Common.{AreEntries, Cached, contents, key_cmp, rules, shown, subst, sym}
 use Rattle.cached_frag.proofs.ShownLaws.{shown_entries}
 use Rattle.cached_frag.proofs.fragments.CachedFrag.into_names.Goals as goal
 

@@ -1,10 +1,5 @@
-use Rattle.std.proofs.Common.{◌≡◌, ◌+◌, ◌<◌, Option, sym, ap, ◌∙◌, arith}
+use Rattle.cached_frag.proofs.Common.{Inode, Option, ap, arith, contents, key_cmp, marked_as, shown, shown_as, sym, ◌+◌, ◌<◌, ◌∙◌, ◌≡◌}
 use Rattle.std.specs.FinMap as map
-use Rattle.mds_types.specs.declared.inodes.Inode.{Inode}
-use Rattle.objstore.specs.Omap.{key_cmp}
-use Rattle.sorted_map.specs.SortedMap.{contents}
-use Rattle.cached_frag.specs.Cached.{shown}
-use Rattle.cached_frag.specs.Moving.{marked_as, shown_as}
 use Rattle.cached_frag.proofs.MovedLaws.{dirty_step, entries_step, none_len, none_popped, popped_len, popped_there, room_step, same_step, shown_step}
 use Rattle.cached_frag.proofs.fragments.CachedFrag.join.Goals as goal
 

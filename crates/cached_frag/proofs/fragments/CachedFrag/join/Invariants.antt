@@ -1,10 +1,6 @@
 -- What is left to come in makes of the fragment what all names would.
-use Rattle.std.proofs.Common.{◌≡◌, ◌+◌, ◌≤◌, List, ℕ}
+use Rattle.cached_frag.proofs.Common.{AreEntries, List, contents, key_cmp, marked_as, shown, shown_as, ℕ, ◌+◌, ◌≡◌, ◌≤◌}
 use Rattle.std.specs.FinMap as map
-use Rattle.objstore.specs.Omap.{key_cmp}
-use Rattle.sorted_map.specs.SortedMap.{contents}
-use Rattle.cached_frag.specs.Cached.{AreEntries, shown}
-use Rattle.cached_frag.specs.Moving.{marked_as, shown_as}
 use Rattle.cached_frag.proofs.fragments.CachedFrag.join.Given as goal
 
 abbrev pub invariant-loop-pair : goal.invariant-loop-pair

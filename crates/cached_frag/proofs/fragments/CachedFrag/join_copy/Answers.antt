@@ -1,6 +1,4 @@
-use Rattle.objstore.specs.Omap.{key_cmp}
-use Rattle.sorted_map.specs.SortedMap.{contents}
-use Rattle.cached_frag.specs.Cached.{shown}
+use Rattle.cached_frag.proofs.Common.{contents, key_cmp, shown}
 use Rattle.cached_frag.proofs.CopiedLaws.{taken_in}
 use Rattle.cached_frag.proofs.fragments.CachedFrag.join_copy.Goals as goal
 

@@ -1,4 +1,4 @@
-use Rattle.std.proofs.Common.{◌∙◌, sym}
+use Rattle.cached_frag.proofs.Common.{sym, ◌∙◌}
 use Rattle.cached_frag.proofs.ShownLaws.{get-shown, recorded_shown, shown_entries}
 use Rattle.cached_frag.proofs.fragments.CachedFrag.look.Goals as goal
 

@@ -1,9 +1,5 @@
 -- The names that are shown change at the one name, and the counts with it.
-use Rattle.std.proofs.Common.{◌<◌, ◌∙◌, sym, ap, subst}
-use Rattle.objstore.specs.Omap.{key_cmp}
-use Rattle.sorted_map.specs.SortedMap.{contents}
-use Rattle.cached_frag.specs.Cached.{Cached}
-use Rattle.cached_frag.specs.Counted.{counted}
+use Rattle.cached_frag.proofs.Common.{Cached, ap, contents, counted, key_cmp, subst, sym, ◌<◌, ◌∙◌}
 use Rattle.cached_frag.proofs.KeptLaws.{dir_there, file_there, kept_marked, was_counted}
 use Rattle.cached_frag.proofs.ShownLaws.{shown_put}
 use Rattle.cached_frag.proofs.fragments.CachedFrag.mark.Goals as goal

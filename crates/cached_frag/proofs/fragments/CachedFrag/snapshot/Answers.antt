@@ -1,5 +1,4 @@
-use Rattle.std.proofs.Common.{subst, sym}
-use Rattle.cached_frag.specs.Marks.{AreDirtyNames}
+use Rattle.cached_frag.proofs.Common.{AreDirtyNames, subst, sym}
 use Rattle.cached_frag.proofs.fragments.CachedFrag.snapshot.Goals as goal
 
 pub from_map-names-requires : goal.from_map-names-requires

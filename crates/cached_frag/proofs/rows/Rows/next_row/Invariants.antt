@@ -1,6 +1,5 @@
 -- What is left stays, but for removed names.
-use Rattle.std.proofs.Common.{◌≡◌, ◌+◌, length}
-use Rattle.cached_frag.specs.Rows.{rows_left}
+use Rattle.cached_frag.proofs.Common.{length, rows_left, ◌+◌, ◌≡◌}
 use Rattle.cached_frag.proofs.rows.Rows.next_row.Given as goal
 
 abbrev pub invariant-loop-name : goal.invariant-loop-name

@@ -1,5 +1,4 @@
-use Rattle.std.proofs.Common.{◌∙◌, sym, ap}
-use Rattle.std.specs.Prelude.{option_copied}
+use Rattle.cached_frag.proofs.Common.{ap, option_copied, sym, ◌∙◌}
 use Rattle.cached_frag.proofs.RowLaws.{first_is}
 use Rattle.cached_frag.proofs.rows.Rows.take_least.Goals as goal
 

@@ -1,6 +1,4 @@
-use Rattle.std.proofs.Common.{subst}
-use Rattle.cluster_core.specs.Fragments.{LieAtHolder}
-use Rattle.cluster_core.specs.State.{Kept}
+use Rattle.cluster_core.proofs.Common.{Kept, LieAtHolder, subst}
 use Rattle.cluster_core.proofs.FragmentLaws.{lie_at_holder}
 use Rattle.cluster_core.proofs.books.Book.cluster.Goals as goal
 

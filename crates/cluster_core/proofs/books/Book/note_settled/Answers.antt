@@ -1,6 +1,4 @@
-use Rattle.std.proofs.Common.{None, sym, subst}
-use Rattle.cluster_core.specs.Proposal.{IsProposal, sight}
-use Rattle.cluster_core.specs.State.{Kept}
+use Rattle.cluster_core.proofs.Common.{IsProposal, Kept, None, sight, subst, sym}
 use Rattle.cluster_core.proofs.SettledLaws.{none_away, noted}
 use Rattle.cluster_core.proofs.books.Book.note_settled.Goals as goal
 

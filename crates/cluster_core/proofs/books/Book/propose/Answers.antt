@@ -1,6 +1,4 @@
-use Rattle.std.proofs.Common.{None, subst}
-use Rattle.cluster_core.specs.Proposal.{IsProposal, Proposes, sight}
-use Rattle.cluster_core.specs.State.{Kept}
+use Rattle.cluster_core.proofs.Common.{IsProposal, Kept, None, Proposes, sight, subst}
 use Rattle.cluster_core.proofs.books.Book.propose.Goals as goal
 
 pub propose-proposed-requires-clause-settled : goal.propose-proposed-requires-clause-settled

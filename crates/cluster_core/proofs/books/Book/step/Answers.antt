@@ -1,7 +1,5 @@
 -- A step leaves a sound book, and what is known of its ranks.
-use Rattle.std.proofs.Common.{◌≡◌, ◌∙◌, ℕ, List, length, subst}
-use Rattle.mds_types.specs.declared.entries.Entry.{Entry}
-use Rattle.cluster_core.specs.Settled.{KeepsSettled}
+use Rattle.cluster_core.proofs.Common.{Entry, KeepsSettled, List, length, subst, ℕ, ◌∙◌, ◌≡◌}
 use Rattle.cluster_core.proofs.SettledLaws.{known_after}
 use Rattle.cluster_core.proofs.books.Book.step.Goals as goal
 

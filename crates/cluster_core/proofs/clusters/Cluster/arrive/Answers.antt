@@ -1,5 +1,4 @@
-use Rattle.std.proofs.Common.{ap, arith}
-use Rattle.cluster_core.specs.State.{Core}
+use Rattle.cluster_core.proofs.Common.{Core, ap, arith}
 use Rattle.cluster_core.proofs.Counted.{arrive_free}
 use Rattle.cluster_core.proofs.clusters.Cluster.arrive.Goals as goal
 

@@ -1,9 +1,5 @@
 -- Each event does what its function does, and leaves each leaf its authority.
-use Rattle.std.proofs.Common.{ℕ, nat_lt, length, List, sym, ◌∙◌, ap, subst}
-use Rattle.dentry_cache.specs.CacheMap.{CacheMap}
-use Rattle.ranked_tree.proofs.Kept.{keeps_same}
-use Rattle.cluster_core.specs.Administers.{AdministersTree, BeginsCommit, EvictsOne, nothing}
-use Rattle.cluster_core.specs.Exporting.{ImportsExport}
+use Rattle.cluster_core.proofs.Common.{AdministersTree, BeginsCommit, CacheMap, EvictsOne, ImportsExport, List, ap, keeps_same, length, nat_lt, nothing, subst, sym, ℕ, ◌∙◌}
 use Rattle.cluster_core.proofs.Exported.{few_ranks, holders_stay, roots_stay, valid_still}
 use Rattle.cluster_core.proofs.Stays.{at_rank_keeps, begun_keeps, dropped_keeps, ended_keeps, evicted_keeps, purged_keeps, saved_keeps}
 use Rattle.cluster_core.proofs.clusters.Cluster.choose.Goals as goal

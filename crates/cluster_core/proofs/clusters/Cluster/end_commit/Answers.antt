@@ -1,4 +1,4 @@
-use Rattle.std.proofs.Common.{rules}
+use Rattle.cluster_core.proofs.Common.{rules}
 use Rattle.cluster_core.proofs.clusters.Cluster.end_commit.Goals as goal
 
 pub returns-in-Err-clause-ended : goal.returns-in-Err-clause-ended

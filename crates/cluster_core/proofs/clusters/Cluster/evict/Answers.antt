@@ -1,8 +1,4 @@
-use Rattle.std.proofs.Common.{◌≡◌, length, refl, sym, ap, ◌∙◌, arith}
-use Rattle.std.proofs.lemmas.Bool.{ltb-true}
-use Rattle.mdcache.specs.Shown.{shown_tree}
-use Rattle.sessions.specs.Rooms.{table}
-use Rattle.cluster_core.specs.State.{Core, state_of}
+use Rattle.cluster_core.proofs.Common.{Core, ap, arith, length, ltb-true, refl, shown_tree, state_of, sym, table, ◌∙◌, ◌≡◌}
 use Rattle.cluster_core.proofs.Worked.{at_rank, worked}
 use Rattle.cluster_core.proofs.clusters.Cluster.evict.Goals as goal
 

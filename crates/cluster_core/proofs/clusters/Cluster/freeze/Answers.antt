@@ -1,4 +1,4 @@
-use Rattle.sessions.specs.Rooms.{table}
+use Rattle.cluster_core.proofs.Common.{table}
 use Rattle.cluster_core.proofs.clusters.Cluster.freeze.Goals as goal
 
 pub returns-clause-frozen : goal.returns-clause-frozen

@@ -1,7 +1,6 @@
-use Rattle.std.proofs.Common.{◌≡◌, sym, ap, ◌∙◌, eqb-true, eq-eqb}
+use Rattle.cluster_core.proofs.Common.{Core, ap, empty_of_len, eq-eqb, len-empty, sym, ◌∙◌, ◌≡◌}
+use Rattle.std.proofs.Common.{eqb-true}
 use Rattle.std.specs.FinMap as map
-use Rattle.std.specs.FinMap.{empty_of_len, len-empty}
-use Rattle.cluster_core.specs.State.{Core}
 use Rattle.cluster_core.proofs.clusters.Cluster.has_no_export.Goals as goal
 
 pub returns : goal.returns

@@ -1,4 +1,4 @@
-use Rattle.sessions.specs.Rooms.{table}
+use Rattle.cluster_core.proofs.Common.{table}
 use Rattle.cluster_core.proofs.ImportLaws.{imported_so, refused_by}
 use Rattle.cluster_core.proofs.clusters.Cluster.import.Goals as goal
 

@@ -1,14 +1,6 @@
 -- The cluster is put together of what the mount of the tree found.
-use Rattle.std.proofs.Common.{List, [], replicate, ap, ap₂, subst, ◌∙◌}
+use Rattle.cluster_core.proofs.Common.{Inboxes, IsOwned, List, Pin, Standing, [], ap, ap₂, contents, core_of, dentry_cmp, none_stand, replicate, subst, ◌∙◌}
 use Rattle.std.specs.FinMap as map
-use Rattle.sorted_map.specs.SortedMap.{contents}
-use Rattle.mds_types.specs.Tree.{dentry_cmp}
-use Rattle.export_steps.specs.Standing.{Standing}
-use Rattle.inboxes.specs.Inboxes.{Inboxes}
-use Rattle.inboxes.specs.declared.pins.Pin.{Pin}
-use Rattle.ranked_tree.specs.Held.{IsOwned}
-use Rattle.ranked_tree.proofs.StandLaws.{none_stand}
-use Rattle.cluster_core.specs.State.{core_of}
 use Rattle.cluster_core.proofs.MountedBook.{mounted_limit, mounted_sound, mounts_core}
 use Rattle.cluster_core.proofs.clusters.Cluster.mount.Goals as goal
 

@@ -1,7 +1,4 @@
-use Rattle.std.proofs.Common.{◌≡◌, ◌<◌, ℕ, length, refl, sym, subst, ◌∙◌, arith}
-use Rattle.std.proofs.lemmas.Bool.{ltb-false, ltb-true}
-use Rattle.cluster_core.specs.Proposal.{IsProposal, OfPin, WouldNot, sight, sight_of}
-use Rattle.cluster_core.specs.State.{Core}
+use Rattle.cluster_core.proofs.Common.{Core, IsProposal, OfPin, WouldNot, arith, length, ltb-false, ltb-true, refl, sight, sight_of, subst, sym, ℕ, ◌<◌, ◌∙◌, ◌≡◌}
 use Rattle.cluster_core.proofs.SettledLaws.{would_not}
 use Rattle.cluster_core.proofs.clusters.Cluster.propose.Goals as goal
 

@@ -1,4 +1,4 @@
-use Rattle.sessions.specs.Rooms.{table}
+use Rattle.cluster_core.proofs.Common.{table}
 use Rattle.cluster_core.proofs.SendLaws.{sent_so}
 use Rattle.cluster_core.proofs.clusters.Cluster.send.Goals as goal
 

@@ -1,12 +1,6 @@
 -- The number that the rank offers is unused, since what was used lies below it; each master is one of the ranks.
-use Rattle.std.proofs.Common.{◌<◌, ◌∙◌, length, sym, subst}
-use Rattle.dirfrag_codec.specs.EntryRecord.{IsRankNumber}
-use Rattle.inode_table.specs.Numbers.{offer}
-use Rattle.namespace_ops.specs.Changes.{IsOffered}
-use Rattle.cluster_core.specs.Master.{AreMastersThere}
-use Rattle.cluster_core.specs.State.{Core, shown, supply_of}
+use Rattle.cluster_core.proofs.Common.{AreMastersThere, AreRoots, Core, IsOffered, IsRankNumber, length, offer, shown, subst, supply_of, sym, ◌<◌, ◌∙◌}
 use Rattle.cluster_core.proofs.Offered.{masters_there, offer_unused, there_of}
-use Rattle.ranked_tree.specs.Subtrees.{AreRoots}
 use Rattle.cluster_core.proofs.Worked.{at_rank}
 use Rattle.cluster_core.proofs.clusters.Cluster.serve.Goals as goal
 

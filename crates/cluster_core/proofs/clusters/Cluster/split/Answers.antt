@@ -1,5 +1,4 @@
-use Rattle.std.proofs.Common.{sym, ◌∙◌}
-use Rattle.sessions.specs.Rooms.{table}
+use Rattle.cluster_core.proofs.Common.{sym, table, ◌∙◌}
 use Rattle.cluster_core.proofs.Worked.{at_rank}
 use Rattle.cluster_core.proofs.clusters.Cluster.split.Goals as goal
 

@@ -1,6 +1,4 @@
-use Rattle.std.proofs.Common.{refl, subst}
-use Rattle.cluster_core.specs.Sound.{AreCached, AreExported, IsKept}
-use Rattle.cluster_core.specs.State.{Core}
+use Rattle.cluster_core.proofs.Common.{AreCached, AreExported, Core, IsKept, refl, subst}
 use Rattle.cluster_core.proofs.LimitStays.{limit_stays}
 use Rattle.cluster_core.proofs.Stepped.{sound-step}
 use Rattle.cluster_core.proofs.clusters.Cluster.step.Goals as goal

@@ -1,7 +1,5 @@
 -- The pairs of the maps are the entries of the trees.
-use Rattle.mds_types.specs.InodeLaws.{inode_decides}
-use Rattle.mds_types.specs.Tree.{dentry_cmp}
-use Rattle.sorted_map.proofs.MapLaws.{entries-contents}
+use Rattle.cluster_core.proofs.Common.{dentry_cmp, entries-contents, inode_decides}
 use Rattle.cluster_core.proofs.plain_trees.PlainTreePartialEq.eq.Goals as goal
 
 pub returns-clause-value : goal.returns-clause-value

@@ -1,9 +1,6 @@
 -- A directory that comes counts no entry.
-use Rattle.std.proofs.Common.{◌∙◌, ap, subst, sym}
+use Rattle.cold_store.proofs.Common.{Counts, DirPins, IsCounted, ap, none_with, subst, sym, with_count, ◌∙◌}
 use Rattle.std.specs.FinMap as map
-use Rattle.inode_table.specs.Dirs.{Counts, DirPins}
-use Rattle.inode_table.specs.TreeTable.{IsCounted, with_count}
-use Rattle.inode_table.proofs.NotedLaws.{none_with}
 use Rattle.cold_store.proofs.found.Found.add.Goals as goal
 
 pub invariant_of-self-2 : goal.invariant_of-self-2

@@ -1,5 +1,5 @@
 -- Nothing is counted yet.
-use Rattle.inode_table.proofs.NotedLaws.{none_counted}
+use Rattle.cold_store.proofs.Common.{none_counted}
 use Rattle.cold_store.proofs.found.Found.new.Goals as goal
 
 pub invariant_of-result : goal.invariant_of-result

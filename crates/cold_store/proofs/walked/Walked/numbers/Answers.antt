@@ -1,8 +1,4 @@
-use Rattle.std.proofs.Common.{◌≡◌, ◌≤◌, ◌∙◌, ap, subst, sym, arith}
-use Rattle.sorted_map.specs.SortedMap.{contents}
-use Rattle.mds_types.specs.Tree.{dentry_cmp}
-use Rattle.inode_table.specs.Numbers.{end_number, first_number}
-use Rattle.cold_store.specs.Numbers.{IsNext, passed, passed_all}
+use Rattle.cold_store.proofs.Common.{IsNext, ap, arith, contents, dentry_cmp, end_number, first_number, passed, passed_all, subst, sym, ◌∙◌, ◌≡◌, ◌≤◌}
 use Rattle.cold_store.proofs.NumberLaws.{is_next, passes, stays_within}
 use Rattle.cold_store.proofs.walked.Walked.numbers.Goals as goal
 

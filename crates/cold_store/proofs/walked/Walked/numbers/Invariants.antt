@@ -1,10 +1,6 @@
 -- The entries to come lead to the number that all of them lead to.
-use Rattle.std.proofs.Common.{◌≡◌, ◌≤◌, length}
+use Rattle.cold_store.proofs.Common.{contents, dentry_cmp, end_number, first_number, length, passed_all, ◌≡◌, ◌≤◌}
 use Rattle.std.specs.FinMap as map
-use Rattle.sorted_map.specs.SortedMap.{contents}
-use Rattle.mds_types.specs.Tree.{dentry_cmp}
-use Rattle.inode_table.specs.Numbers.{end_number, first_number}
-use Rattle.cold_store.specs.Numbers.{passed_all}
 use Rattle.cold_store.proofs.walked.Walked.numbers.Given as goal
 
 abbrev pub invariant-loop-next : goal.invariant-loop-next

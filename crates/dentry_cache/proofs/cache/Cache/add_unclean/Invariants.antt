@@ -1,5 +1,5 @@
 -- With those that are to come the leaves are all.
-use Rattle.std.proofs.Common.{◌≡◌, ◌≤◌, ◌++◌, length, take}
+use Rattle.dentry_cache.proofs.Common.{length, take, ◌++◌, ◌≡◌, ◌≤◌}
 use Rattle.dentry_cache.specs.Unclean.{unclean_in}
 use Rattle.dentry_cache.proofs.cache.Cache.add_unclean.Given as goal
 

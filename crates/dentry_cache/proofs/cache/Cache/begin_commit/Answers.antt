@@ -1,4 +1,4 @@
-use Rattle.std.proofs.Common.{rules}
+use Rattle.dentry_cache.proofs.Common.{rules}
 use Rattle.dentry_cache.proofs.EditLaws.{only_used}
 use Rattle.dentry_cache.proofs.cache.Cache.begin_commit.Goals as goal
 

@@ -1,6 +1,5 @@
 -- As many were found as are free, and as may go of the places that were passed.
-use Rattle.std.proofs.Common.{◌≡◌, ◌+◌, ◌++◌, filter, length}
-use Rattle.dentry_cache.specs.Cache.{Places, may_go}
+use Rattle.dentry_cache.proofs.Common.{Places, filter, length, may_go, ◌++◌, ◌+◌, ◌≡◌}
 use Rattle.dentry_cache.proofs.cache.Cache.can_keep.Given as goal
 
 abbrev pub invariant-loop-leaf : goal.invariant-loop-leaf

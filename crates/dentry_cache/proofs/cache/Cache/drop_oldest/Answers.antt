@@ -1,7 +1,4 @@
-use Rattle.std.proofs.Common.{◌≤◌, length, refl, subst}
-use Rattle.std.specs.List.{IsDistinct}
-use Rattle.std.specs.Map.{keys_of}
-use Rattle.dentry_cache.specs.Cache.{Held, leaf_is}
+use Rattle.dentry_cache.proofs.Common.{Held, IsDistinct, keys_of, leaf_is, length, refl, subst, ◌≤◌}
 use Rattle.dentry_cache.proofs.CacheLaws.{evicted}
 use Rattle.dentry_cache.proofs.UsedLaws.{freed}
 use Rattle.dentry_cache.proofs.cache.Cache.drop_oldest.Goals as goal

@@ -1,5 +1,4 @@
-use Rattle.std.proofs.Common.{◌∙◌, ap, rules}
-use Rattle.cached_frag.specs.Snap.{next_version}
+use Rattle.dentry_cache.proofs.Common.{ap, next_version, rules, ◌∙◌}
 use Rattle.dentry_cache.proofs.CommitSteps.{committed}
 use Rattle.dentry_cache.proofs.cache.Cache.end_commit.Goals as goal
 

@@ -1,8 +1,4 @@
-use Rattle.std.specs.Map.{lookup}
-use Rattle.dentry_cache.specs.Loading.{object_of}
-use Rattle.std.proofs.Common.{IfErr, subst}
-use Rattle.dentry_cache.specs.Cache.{Held, leaf_is}
-use Rattle.dentry_cache.specs.Fetches.{IsRefusedIn}
+use Rattle.dentry_cache.proofs.Common.{Held, IfErr, IsRefusedIn, leaf_is, lookup, object_of, subst}
 use Rattle.dentry_cache.proofs.UsedLaws.{fetched_from, left_alone, left_from, was_absent}
 use Rattle.dentry_cache.proofs.cache.Cache.fetch.Goals as goal
 

@@ -1,4 +1,4 @@
-use Rattle.std.proofs.lemmas.Result.{on_ok_weaker, on_err_weaker}
+use Rattle.dentry_cache.proofs.Common.{on_err_weaker, on_ok_weaker}
 use Rattle.dentry_cache.proofs.UsedLaws.{left_with, refused_after, still_absent, takes}
 use Rattle.dentry_cache.proofs.cache.Cache.fetch_absent.Goals as goal
 

@@ -1,8 +1,5 @@
-use Rattle.dentry_cache.specs.Cache.{held}
+use Rattle.dentry_cache.proofs.Common.{AreTold, Held, held, rules, subst}
 use Rattle.dentry_cache.proofs.UsedLaws.{filled}
-use Rattle.std.proofs.Common.{rules, subst}
-use Rattle.dentry_cache.specs.Cache.{Held}
-use Rattle.dentry_cache.specs.CandidateSets.{AreTold}
 use Rattle.dentry_cache.proofs.CandidateSteps.{resized_kept}
 use Rattle.dentry_cache.proofs.cache.Cache.fill.Goals as goal
 

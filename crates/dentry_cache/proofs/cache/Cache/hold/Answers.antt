@@ -1,7 +1,5 @@
 use Rattle.dentry_cache.proofs.UsedLaws.{placed}
-use Rattle.std.proofs.Common.{rules, sym, subst}
-use Rattle.dentry_cache.specs.Cache.{Held}
-use Rattle.dentry_cache.specs.CandidateSets.{AreTold, sizes_of}
+use Rattle.dentry_cache.proofs.Common.{AreTold, Held, rules, sizes_of, subst, sym}
 use Rattle.dentry_cache.proofs.CandidateSteps.{resized_taken}
 use Rattle.dentry_cache.proofs.cache.Cache.hold.Goals as goal
 

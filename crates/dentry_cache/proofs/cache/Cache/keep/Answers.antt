@@ -1,4 +1,4 @@
-use Rattle.std.proofs.lemmas.Result.{on_err_weaker}
+use Rattle.dentry_cache.proofs.Common.{on_err_weaker}
 use Rattle.dentry_cache.proofs.UsedLaws.{left_with, refused_after, still_absent}
 use Rattle.dentry_cache.proofs.cache.Cache.keep.Goals as goal
 

@@ -1,5 +1,4 @@
-use Rattle.std.proofs.Common.{subst}
-use Rattle.dentry_cache.specs.Places.{IsCache}
+use Rattle.dentry_cache.proofs.Common.{IsCache, subst}
 use Rattle.dentry_cache.proofs.cache.Cache.len.Goals as goal
 
 pub returns-clause-valid : goal.returns-clause-valid

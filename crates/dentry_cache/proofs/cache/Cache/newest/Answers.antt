@@ -1,7 +1,5 @@
-use Rattle.std.proofs.Common.{◌∙◌, sym, ap}
+use Rattle.dentry_cache.proofs.Common.{Held, ap, deref_pair, sym, ◌∙◌}
 use Rattle.std.specs.Prelude.{option_map, slice_get}
-use Rattle.std.specs.Map.Iter.{deref_pair}
-use Rattle.dentry_cache.specs.Cache.{Held}
 use Rattle.dentry_cache.proofs.UsedLaws.{newest_from}
 use Rattle.dentry_cache.proofs.cache.Cache.newest.Goals as goal
 

@@ -1,7 +1,4 @@
-use Rattle.std.proofs.Common.{subst}
-use Rattle.dentry_cache.specs.Cache.{Held}
-use Rattle.dentry_cache.specs.Candidates.{IsLargeIn, IsNext}
-use Rattle.dentry_cache.specs.CandidateSets.{sizes_of}
+use Rattle.dentry_cache.proofs.Common.{Held, IsLargeIn, IsNext, sizes_of, subst}
 use Rattle.dentry_cache.proofs.cache.Cache.next_large.Goals as goal
 
 pub returns : goal.returns

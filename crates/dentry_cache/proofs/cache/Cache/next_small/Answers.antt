@@ -1,7 +1,4 @@
-use Rattle.std.proofs.Common.{subst}
-use Rattle.dentry_cache.specs.Cache.{Held}
-use Rattle.dentry_cache.specs.Candidates.{IsSmallIn, IsNext}
-use Rattle.dentry_cache.specs.CandidateSets.{sizes_of}
+use Rattle.dentry_cache.proofs.Common.{Held, IsNext, IsSmallIn, sizes_of, subst}
 use Rattle.dentry_cache.proofs.cache.Cache.next_small.Goals as goal
 
 pub returns : goal.returns

@@ -1,4 +1,4 @@
-use Rattle.std.proofs.Common.{◌∙◌, sym}
+use Rattle.dentry_cache.proofs.Common.{sym, ◌∙◌}
 use Rattle.dentry_cache.proofs.CacheLaws.{oldest_found}
 use Rattle.dentry_cache.proofs.cache.Cache.oldest.Goals as goal
 

@@ -1,6 +1,5 @@
 -- None of the places that were passed may go.
-use Rattle.std.proofs.Common.{◌≡◌, ◌++◌, length}
-use Rattle.dentry_cache.specs.Cache.{NoneGoes, Places}
+use Rattle.dentry_cache.proofs.Common.{NoneGoes, Places, length, ◌++◌, ◌≡◌}
 use Rattle.dentry_cache.proofs.cache.Cache.oldest.Given as goal
 
 abbrev pub invariant-loop-leaf : goal.invariant-loop-leaf

@@ -1,7 +1,4 @@
-use Rattle.std.proofs.Common.{◌≡◌, ◌∙◌, refl, sym, ap, Some}
-use Rattle.std.specs.Option.{option_copied_mut}
-use Rattle.cached_frag.specs.Cached.{Cached, marked}
-use Rattle.dentry_cache.specs.Cache.{cached}
+use Rattle.dentry_cache.proofs.Common.{Cached, Some, ap, cached, marked, option_copied_mut, refl, sym, ◌∙◌, ◌≡◌}
 use Rattle.dentry_cache.proofs.EditLaws.{changed, there_with_room}
 use Rattle.dentry_cache.proofs.CandidateSteps.{may_so, resized_value}
 use Rattle.dentry_cache.proofs.cache.Cache.put.Goals as goal

@@ -1,8 +1,4 @@
-use Rattle.std.proofs.Common.{◌≡◌, ◌≤◌, ◌∙◌, refl, sym, ap}
-use Rattle.std.proofs.lemmas.Result.{on_ok_weaker}
-use Rattle.std.specs.Option.{option_copied_mut}
-use Rattle.cached_frag.specs.Cached.{Cached, shown}
-use Rattle.dentry_cache.specs.Cache.{cached}
+use Rattle.dentry_cache.proofs.Common.{Cached, ap, cached, on_ok_weaker, option_copied_mut, refl, shown, sym, ◌∙◌, ◌≡◌, ◌≤◌}
 use Rattle.dentry_cache.proofs.EditLaws.{changed}
 use Rattle.dentry_cache.proofs.CandidateSteps.{same_size, told_value}
 use Rattle.dentry_cache.proofs.cache.Cache.reserve.Goals as goal

@@ -1,9 +1,6 @@
-use Rattle.std.proofs.Common.{◌∙◌, refl, sym, ap}
-use Rattle.std.specs.Option.{option_copied_mut}
-use Rattle.dentry_cache.specs.Cache.{cached}
+use Rattle.dentry_cache.proofs.Common.{ap, cached, option_copied_mut, refl, shown, sym, ◌∙◌}
 use Rattle.dentry_cache.proofs.CommitSteps.{OnlyPlaces}
 use Rattle.dentry_cache.proofs.EditLaws.{changed}
-use Rattle.cached_frag.specs.Cached.{shown}
 use Rattle.dentry_cache.proofs.CandidateSteps.{same_size, told_value}
 use Rattle.dentry_cache.proofs.cache.Cache.reserve_settled.Goals as goal
 

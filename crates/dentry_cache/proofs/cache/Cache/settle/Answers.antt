@@ -1,9 +1,5 @@
-use Rattle.std.proofs.Common.{◌≤◌, ◌∙◌, refl, sym, ap}
+use Rattle.dentry_cache.proofs.Common.{Cached, IsSettled, ap, cached, option_copied_mut, refl, sym, ◌∙◌, ◌≤◌}
 use Rattle.std.specs.FinMap as map
-use Rattle.std.specs.Option.{option_copied_mut}
-use Rattle.cached_frag.specs.Cached.{Cached}
-use Rattle.dentry_cache.specs.Cache.{cached}
-use Rattle.dentry_cache.specs.Commits.{IsSettled}
 use Rattle.dentry_cache.proofs.EditLaws.{changed, there_with}
 use Rattle.dentry_cache.proofs.CandidateSteps.{same_size, told_value}
 use Rattle.dentry_cache.proofs.cache.Cache.settle.Goals as goal

@@ -1,7 +1,5 @@
 use Rattle.dentry_cache.proofs.UsedLaws.{is_used}
-use Rattle.std.proofs.Common.{sym, subst}
-use Rattle.dentry_cache.specs.Cache.{Held}
-use Rattle.dentry_cache.specs.CandidateSets.{AreTold}
+use Rattle.dentry_cache.proofs.Common.{AreTold, Held, subst, sym}
 use Rattle.dentry_cache.proofs.CandidateSteps.{told_promoted}
 use Rattle.dentry_cache.proofs.cache.Cache.touch.Goals as goal
 

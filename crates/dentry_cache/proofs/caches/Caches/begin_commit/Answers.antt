@@ -1,7 +1,4 @@
-use Rattle.std.proofs.Common.{Option, IfErr, IfOk, subst}
-use Rattle.cached_frag.specs.Cached.{Cached}
-use Rattle.dentry_cache.specs.Cache.{HasCached, IsThere}
-use Rattle.dentry_cache.specs.Commits.{MayNotBegin, Takes}
+use Rattle.dentry_cache.proofs.Common.{Cached, HasCached, IfErr, IfOk, IsThere, MayNotBegin, Option, Takes, subst}
 use Rattle.dentry_cache.proofs.MapCalls.{cached_is, looked_now, there_too}
 use Rattle.dentry_cache.proofs.caches.Caches.begin_commit.Goals as goal
 

@@ -1,4 +1,4 @@
-use Rattle.std.proofs.Common.{◌^◌, Some}
+use Rattle.dentry_cache.proofs.Common.{Some, ◌^◌}
 use Rattle.dentry_cache.proofs.MapCalls.{all_caches, can_keep_is, can_not_keep_is}
 use Rattle.dentry_cache.proofs.caches.Caches.can_keep.Goals as goal
 

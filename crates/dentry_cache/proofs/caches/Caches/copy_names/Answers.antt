@@ -1,7 +1,4 @@
-use Rattle.std.proofs.Common.{Option, OnOk, subst}
-use Rattle.cached_frag.specs.Cached.{Cached, shown}
-use Rattle.cached_frag.specs.Moving.{TakesIn}
-use Rattle.dentry_cache.specs.Cache.{HasCached, IsThere}
+use Rattle.dentry_cache.proofs.Common.{Cached, HasCached, IsThere, OnOk, Option, TakesIn, shown, subst}
 use Rattle.dentry_cache.proofs.MapCalls.{cached_is, there_too}
 use Rattle.dentry_cache.proofs.caches.Caches.copy_names.Goals as goal
 

@@ -1,6 +1,4 @@
-use Rattle.std.proofs.Common.{ℕ, ◌<◌, length, ap, subst, sym, ◌∙◌}
-use Rattle.mds_types.specs.declared.dirfrags.Dirfrag.{Dirfrag}
-use Rattle.dentry_cache.specs.CacheMap.{CacheMap}
+use Rattle.dentry_cache.proofs.Common.{CacheMap, Dirfrag, ap, length, subst, sym, ℕ, ◌<◌, ◌∙◌}
 use Rattle.dentry_cache.proofs.ChildLaws.{ranks_without}
 use Rattle.dentry_cache.proofs.caches.Caches.drop_children.Goals as goal
 

@@ -1,6 +1,5 @@
 -- The places of the children that were passed are given up.
-use Rattle.std.proofs.Common.{◌≡◌}
-use Rattle.dentry_cache.specs.CacheSplits.{without_children}
+use Rattle.dentry_cache.proofs.Common.{without_children, ◌≡◌}
 use Rattle.dentry_cache.proofs.caches.Caches.drop_children.Given as goal
 
 abbrev pub invariant-loop-i : goal.invariant-loop-i

@@ -1,8 +1,4 @@
-use Rattle.std.proofs.lemmas.Result.{on_err_weaker, on_ok_weaker}
-use Rattle.std.proofs.Common.{◌≡◌}
-use Rattle.cached_frag.specs.Cached.{Cached}
-use Rattle.dentry_cache.specs.Cache.{IsThere}
-use Rattle.dentry_cache.specs.Commits.{IsCommitted}
+use Rattle.dentry_cache.proofs.Common.{Cached, IsCommitted, IsThere, on_err_weaker, on_ok_weaker, ◌≡◌}
 use Rattle.dentry_cache.proofs.MapCalls.{edits_either, edits_now, there_too}
 use Rattle.dentry_cache.proofs.caches.Caches.end_commit.Goals as goal
 

@@ -1,7 +1,4 @@
-use Rattle.std.proofs.Common.{None}
-use Rattle.cached_frag.specs.Cached.{Cached, marked}
-use Rattle.dentry_cache.specs.Cache.{HasRoom}
-use Rattle.dentry_cache.specs.CacheMap.{here}
+use Rattle.dentry_cache.proofs.Common.{Cached, HasRoom, None, here, marked}
 use Rattle.dentry_cache.proofs.MapCalls.{changed_now, has_there, there_too}
 use Rattle.dentry_cache.proofs.caches.Caches.erase.Goals as goal
 

@@ -1,5 +1,4 @@
-use Rattle.std.proofs.lemmas.Result.{on_err_weaker, on_ok_weaker}
-use Rattle.std.proofs.Common.{None}
+use Rattle.dentry_cache.proofs.Common.{None, on_err_weaker, on_ok_weaker}
 use Rattle.dentry_cache.proofs.MapCalls.{all_caches, evicted_now, evicted_sound, none_now, same_now}
 use Rattle.dentry_cache.proofs.caches.Caches.evict.Goals as goal
 

@@ -1,7 +1,4 @@
-use Rattle.std.proofs.lemmas.Result.{IfErr-weaker, on_err_weaker, on_ok_weaker}
-use Rattle.std.proofs.Common.{refl}
-use Rattle.dentry_cache.specs.CacheMap.{has_place}
-use Rattle.dentry_cache.specs.Loading.{object_of}
+use Rattle.dentry_cache.proofs.Common.{IfErr-weaker, has_place, object_of, on_err_weaker, on_ok_weaker, refl}
 use Rattle.dentry_cache.proofs.MapCalls.{all_caches, fetched_there, fetch_refused, fetch_sound, fetched_now, refused_now, unfetched_now}
 use Rattle.dentry_cache.proofs.caches.Caches.fetch.Goals as goal
 

@@ -1,8 +1,4 @@
-use Rattle.std.proofs.Common.{◌≡◌, ◌<◌, suc, ℕ, List, length, sym, ap, subst, ◌∙◌, arith}
-use Rattle.std.specs.Vec.Iter.{into_iter_items}
-use Rattle.dentry_cache.specs.declared.parts.Part.{Part}
-use Rattle.dentry_cache.specs.CacheMap.{CacheMap}
-use Rattle.dentry_cache.specs.CacheSplits.{AreFillable, with_parts}
+use Rattle.dentry_cache.proofs.Common.{AreFillable, CacheMap, List, Part, ap, arith, into_iter_items, length, subst, suc, sym, with_parts, ℕ, ◌<◌, ◌∙◌, ◌≡◌}
 use Rattle.dentry_cache.proofs.PartsLaws.{fillable_with}
 use Rattle.dentry_cache.proofs.StepLaws.{ranks_with_frag}
 use Rattle.dentry_cache.proofs.caches.Caches.fill_all.Goals as goal

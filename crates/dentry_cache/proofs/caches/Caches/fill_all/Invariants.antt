@@ -1,7 +1,5 @@
 -- What is left fills the places that are left.
-use Rattle.std.proofs.Common.{◌≡◌, ◌<◌, length}
-use Rattle.std.specs.Vec.Iter.{into_iter_items, into_iter_len}
-use Rattle.dentry_cache.specs.CacheSplits.{AreFillable, with_parts}
+use Rattle.dentry_cache.proofs.Common.{AreFillable, into_iter_items, into_iter_len, length, with_parts, ◌<◌, ◌≡◌}
 use Rattle.dentry_cache.proofs.caches.Caches.fill_all.Given as goal
 
 abbrev pub invariant-loop-part : goal.invariant-loop-part

@@ -1,6 +1,4 @@
-use Rattle.std.proofs.Common.{◌<◌, ◌∙◌, ℕ, drop, length, ap, subst, sym}
-use Rattle.mds_types.specs.declared.dirfrags.Dirfrag.{Dirfrag}
-use Rattle.dentry_cache.specs.CacheMap.{CacheMap}
+use Rattle.dentry_cache.proofs.Common.{CacheMap, Dirfrag, ap, drop, length, subst, sym, ℕ, ◌<◌, ◌∙◌}
 use Rattle.dentry_cache.proofs.KeepingLaws.{ranks_without_all}
 use Rattle.dentry_cache.proofs.caches.Caches.forget_all.Goals as goal
 

@@ -1,6 +1,5 @@
 -- The places of the leaves from the index on are given up.
-use Rattle.std.proofs.Common.{◌≡◌, ◌≤◌, drop, length}
-use Rattle.dentry_cache.specs.Handing.{without_all}
+use Rattle.dentry_cache.proofs.Common.{drop, length, without_all, ◌≡◌, ◌≤◌}
 use Rattle.dentry_cache.proofs.caches.Caches.forget_all.Given as goal
 
 abbrev pub invariant-loop-i : goal.invariant-loop-i

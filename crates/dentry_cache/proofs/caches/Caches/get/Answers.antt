@@ -1,5 +1,5 @@
 use Rattle.dentry_cache.proofs.MapCalls.{cached_is}
-use Rattle.std.proofs.Common.{◌∙◌}
+use Rattle.dentry_cache.proofs.Common.{◌∙◌}
 use Rattle.dentry_cache.proofs.caches.Caches.get.Goals as goal
 
 pub returns : goal.returns

@@ -1,8 +1,4 @@
-use Rattle.std.proofs.Common.{◌≡◌, ◌<◌, ◌∙◌, ℕ, true, length, ap, subst, sym}
-use Rattle.dentry_cache.specs.Cache.{Leaf}
-use Rattle.dentry_cache.specs.CacheCalls.{unclean_in}
-use Rattle.dentry_cache.specs.CacheMap.{CacheMap, has_place, here}
-use Rattle.dentry_cache.specs.Handing.{without_all}
+use Rattle.dentry_cache.proofs.Common.{CacheMap, Leaf, ap, has_place, here, length, subst, sym, true, unclean_in, without_all, ℕ, ◌<◌, ◌∙◌, ◌≡◌}
 use Rattle.dentry_cache.proofs.HandedLaws.{handed_unclean, wants_unclean}
 use Rattle.dentry_cache.proofs.KeepingLaws.{all_from, all_of, kept_placed, kept_ranks}
 use Rattle.dentry_cache.proofs.MoveLaws.{none_beside, ranks_moved_all}

@@ -1,5 +1,5 @@
 use Rattle.dentry_cache.proofs.MapCalls.{placed_is}
-use Rattle.std.proofs.Common.{◌∙◌, sym}
+use Rattle.dentry_cache.proofs.Common.{sym, ◌∙◌}
 use Rattle.dentry_cache.proofs.caches.Caches.has_place.Goals as goal
 
 pub returns : goal.returns

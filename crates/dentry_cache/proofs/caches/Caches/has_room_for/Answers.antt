@@ -1,4 +1,4 @@
-use Rattle.std.proofs.Common.{None, refl}
+use Rattle.dentry_cache.proofs.Common.{None, refl}
 use Rattle.dentry_cache.proofs.MapCalls.{all_caches, can_keep_is, can_not_keep_is}
 use Rattle.dentry_cache.proofs.caches.Caches.has_room_for.Goals as goal
 

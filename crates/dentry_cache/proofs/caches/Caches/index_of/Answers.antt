@@ -1,8 +1,6 @@
-use Rattle.std.proofs.Common.{rules, ◌≡◌, ◌<◌, Option, is_some, length, ap, sym, ◌∙◌, arith}
-use Rattle.cached_frag.specs.Cached.{Cached}
+use Rattle.dentry_cache.proofs.Common.{At, Cached, Option, ap, arith, here, is_some, length, rules, sym, ◌<◌, ◌∙◌, ◌≡◌}
 use Rattle.std.specs.Option.{option_map}
 use Rattle.std.specs.FinMap as map
-use Rattle.dentry_cache.specs.CacheMap.{At, here}
 use Rattle.dentry_cache.proofs.EndedLaws.{copied_some, looked_on, none_has, rank_found}
 use Rattle.dentry_cache.proofs.MapCalls.{all_caches, cached_is, ranks_are}
 use Rattle.dentry_cache.proofs.caches.Caches.index_of.Goals as goal

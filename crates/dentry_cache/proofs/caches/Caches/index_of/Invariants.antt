@@ -1,6 +1,5 @@
 -- No rank that was looked at has it.
-use Rattle.std.proofs.Common.{◌≡◌, ℕ, ◌<◌, false, is_some}
-use Rattle.dentry_cache.specs.CacheMap.{here}
+use Rattle.dentry_cache.proofs.Common.{false, here, is_some, ℕ, ◌<◌, ◌≡◌}
 use Rattle.dentry_cache.proofs.caches.Caches.index_of.Given as goal
 
 abbrev pub invariant-loop-index : goal.invariant-loop-index

@@ -1,4 +1,4 @@
-use Rattle.std.proofs.lemmas.Result.{IfErr-weaker, on_err_weaker, on_ok_weaker}
+use Rattle.dentry_cache.proofs.Common.{IfErr-weaker, on_err_weaker, on_ok_weaker}
 use Rattle.dentry_cache.proofs.MapCalls.{all_caches, keep_refused, keep_sound, kept_now, may_room, no_place_is, refused_now}
 use Rattle.dentry_cache.proofs.caches.Caches.keep.Goals as goal
 

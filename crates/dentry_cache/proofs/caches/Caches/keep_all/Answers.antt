@@ -1,11 +1,4 @@
-use Rattle.std.proofs.Common.{◌≡◌, ◌+◌, ◌-◌, ◌<◌, ◌∙◌, ℕ, Option, None, false, drop, length, ap, subst, sym, arith}
-use Rattle.std.proofs.lemmas.List.{length-drop}
-use Rattle.mds_types.specs.declared.dirfrags.Dirfrag.{Dirfrag}
-use Rattle.mds_types.specs.Leaf.{leaf_of}
-use Rattle.dentry_cache.specs.Cache.{Leaf}
-use Rattle.dentry_cache.specs.CacheCalls.{IsRefusedAt, KeepsAt, MakesRoomAt, MayNotKeepAt}
-use Rattle.dentry_cache.specs.CacheMap.{CacheMap, has_place}
-use Rattle.dentry_cache.specs.Handing.{and_kept, kept_all, without_all}
+use Rattle.dentry_cache.proofs.Common.{CacheMap, Dirfrag, IsRefusedAt, KeepsAt, Leaf, MakesRoomAt, MayNotKeepAt, None, Option, and_kept, ap, arith, drop, false, has_place, kept_all, leaf_of, length, length-drop, subst, sym, without_all, ℕ, ◌+◌, ◌-◌, ◌<◌, ◌∙◌, ◌≡◌}
 use Rattle.dentry_cache.proofs.KeepingLaws.{kept_absent, kept_can, kept_ranks, one_kept, ranks_left, this_apart, this_drop, this_of}
 use Rattle.dentry_cache.proofs.RoomLaws.{only_memory, refused_room}
 use Rattle.dentry_cache.proofs.caches.Caches.keep_all.Goals as goal

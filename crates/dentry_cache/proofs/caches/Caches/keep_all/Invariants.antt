@@ -1,6 +1,5 @@
 -- Places are kept for the leaves from the index on.
-use Rattle.std.proofs.Common.{◌≡◌, ◌≤◌, drop, length, Some}
-use Rattle.dentry_cache.specs.Handing.{kept_all}
+use Rattle.dentry_cache.proofs.Common.{Some, drop, kept_all, length, ◌≡◌, ◌≤◌}
 use Rattle.dentry_cache.proofs.caches.Caches.keep_all.Given as goal
 
 abbrev pub invariant-loop-i : goal.invariant-loop-i

@@ -1,11 +1,4 @@
-use Rattle.std.proofs.Common.{◌≡◌, Option, Some, refl, subst, sym, arith, ◌<◌, ◌^◌, ◌+◌, suc, ℕ, ◌∙◌, ap}
-use Rattle.mds_types.specs.Frag.{child_of}
-use Rattle.mds_types.specs.declared.dirfrags.Dirfrag.{Dirfrag}
-use Rattle.dentry_cache.specs.Cache.{Leaf}
-use Rattle.dentry_cache.specs.CacheCalls.{IsRefusedAt, KeepsAt, MakesRoomAt, MayNotKeepAt}
-use Rattle.dentry_cache.specs.CacheMap.{CacheMap, here}
-use Rattle.dentry_cache.specs.CacheSplits.{AreAbsent, IsChildAt, IsFamilyAt, KeepsChildren}
-use Rattle.dentry_cache.specs.Reads.{Reads}
+use Rattle.dentry_cache.proofs.Common.{AreAbsent, CacheMap, Dirfrag, IsChildAt, IsFamilyAt, IsRefusedAt, KeepsAt, KeepsChildren, Leaf, MakesRoomAt, MayNotKeepAt, Option, Reads, Some, ap, arith, child_of, here, refl, subst, suc, sym, ℕ, ◌+◌, ◌<◌, ◌^◌, ◌∙◌, ◌≡◌}
 use Rattle.dentry_cache.proofs.ChildLaws.{AreKeeping, kept_reads, none_kept, none_then, one_kept, reads_so, room_kept, stays_then}
 use Rattle.dentry_cache.proofs.RoomLaws.{CanKeepOn, first_can, kept_left, only_memory, refused_room, room_left}
 use Rattle.dentry_cache.proofs.caches.Caches.keep_children.Goals as goal

@@ -1,6 +1,5 @@
 -- A place is kept for each child that was passed, and places for the others are free or can become so.
-use Rattle.std.proofs.Common.{Some, ◌^◌}
-use Rattle.dentry_cache.specs.CacheSplits.{KeepsChildren}
+use Rattle.dentry_cache.proofs.Common.{KeepsChildren, Some, ◌^◌}
 use Rattle.dentry_cache.proofs.ChildLaws.{AreKeeping}
 use Rattle.dentry_cache.proofs.RoomLaws.{CanKeepOn}
 use Rattle.dentry_cache.proofs.caches.Caches.keep_children.Given as goal

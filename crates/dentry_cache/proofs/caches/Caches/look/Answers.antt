@@ -1,7 +1,5 @@
-use Rattle.std.proofs.Common.{◌≡◌, Option, IfOk, subst}
+use Rattle.dentry_cache.proofs.Common.{Cached, HasCached, IfOk, IsThere, Option, shown, subst, ◌≡◌}
 use Rattle.std.specs.FinMap as map
-use Rattle.cached_frag.specs.Cached.{Cached, shown}
-use Rattle.dentry_cache.specs.Cache.{HasCached, IsThere}
 use Rattle.dentry_cache.proofs.MapCalls.{cached_is, looked_now, there_too}
 use Rattle.dentry_cache.proofs.caches.Caches.look.Goals as goal
 

@@ -1,8 +1,4 @@
-use Rattle.std.proofs.Common.{◌≡◌, ◌<◌, ◌∙◌, ℕ, true, drop, length, ap, subst, sym}
-use Rattle.mds_types.specs.declared.dirfrags.Dirfrag.{Dirfrag}
-use Rattle.mds_types.specs.Leaf.{leaf_of}
-use Rattle.dentry_cache.specs.Cache.{Leaf}
-use Rattle.dentry_cache.specs.CacheMap.{CacheMap, has_place}
+use Rattle.dentry_cache.proofs.Common.{CacheMap, Dirfrag, Leaf, ap, drop, has_place, leaf_of, length, subst, sym, true, ℕ, ◌<◌, ◌∙◌, ◌≡◌}
 use Rattle.dentry_cache.proofs.KeepingLaws.{this_of}
 use Rattle.dentry_cache.proofs.MoveLaws.{placed_moved_all, ranks_moved_all}
 use Rattle.dentry_cache.proofs.caches.Caches.move_all.Goals as goal

@@ -1,6 +1,5 @@
 -- The leaves from the index on went.
-use Rattle.std.proofs.Common.{◌≡◌, ◌≤◌, drop, length}
-use Rattle.dentry_cache.specs.Handing.{moved_all}
+use Rattle.dentry_cache.proofs.Common.{drop, length, moved_all, ◌≡◌, ◌≤◌}
 use Rattle.dentry_cache.proofs.caches.Caches.move_all.Given as goal
 
 abbrev pub invariant-loop-i : goal.invariant-loop-i

@@ -1,7 +1,5 @@
-use Rattle.std.proofs.Common.{◌≡◌, None, sym, subst, ◌∙◌}
+use Rattle.dentry_cache.proofs.Common.{CacheMap, None, leaf_of, subst, sym, ◌∙◌, ◌≡◌}
 use Rattle.std.specs.FinMap as map
-use Rattle.mds_types.specs.Leaf.{leaf_of}
-use Rattle.dentry_cache.specs.CacheMap.{CacheMap}
 use Rattle.dentry_cache.proofs.MoveLaws.{none_left}
 use Rattle.dentry_cache.proofs.caches.Caches.move_one.Goals as goal
 

@@ -1,5 +1,4 @@
-use Rattle.std.proofs.Common.{subst}
-use Rattle.dentry_cache.specs.Candidates.{IsLargeIn, IsNext, Sizes, size_in}
+use Rattle.dentry_cache.proofs.Common.{IsLargeIn, IsNext, Sizes, size_in, subst}
 use Rattle.dentry_cache.proofs.MapCalls.{cached_is}
 use Rattle.dentry_cache.proofs.caches.Caches.next_large.Goals as goal
 

@@ -1,6 +1,4 @@
-use Rattle.std.proofs.Common.{◌≡◌, ◌≤◌, length, map, sym, ap, ◌∙◌, arith}
-use Rattle.dentry_cache.specs.Cache.{Leaf}
-use Rattle.dentry_cache.specs.CacheMap.{CacheMap, here, order}
+use Rattle.dentry_cache.proofs.Common.{CacheMap, Leaf, ap, arith, here, length, map, order, sym, ◌∙◌, ◌≡◌, ◌≤◌}
 use Rattle.dentry_cache.proofs.MapCalls.{all_caches, cached_is, keys_are, valid_at}
 use Rattle.dentry_cache.proofs.PlaceLaws.{places_are}
 use Rattle.dentry_cache.proofs.caches.Caches.places_of.Goals as goal

@@ -1,4 +1,4 @@
-use Rattle.std.proofs.Common.{◌≡◌, ◌∙◌, length, sym, rules}
+use Rattle.dentry_cache.proofs.Common.{length, rules, sym, ◌∙◌, ◌≡◌}
 use Rattle.dentry_cache.proofs.MapCalls.{all_caches, ranks_are}
 use Rattle.dentry_cache.proofs.caches.Caches.ranks.Goals as goal
 

@@ -1,7 +1,4 @@
-use Rattle.std.proofs.Common.{Option, IfOk, refl, set, subst, sym}
-use Rattle.cached_frag.specs.Cached.{Cached}
-use Rattle.dentry_cache.specs.Cache.{HasCached, IsThere}
-use Rattle.dentry_cache.specs.CacheSplits.{IsButPlaces, IsReadyToSplit}
+use Rattle.dentry_cache.proofs.Common.{Cached, HasCached, IfOk, IsButPlaces, IsReadyToSplit, IsThere, Option, refl, set, subst, sym}
 use Rattle.dentry_cache.proofs.MapCalls.{all_caches, edits_now, here_now, there_too}
 use Rattle.dentry_cache.proofs.caches.Caches.ready_parts.Goals as goal
 

@@ -1,5 +1,4 @@
-use Rattle.std.proofs.Common.{inl, inr, refl, ◌^◌}
-use Rattle.dentry_cache.specs.CacheSplits.{IsChildAt, IsFamilyAt}
+use Rattle.dentry_cache.proofs.Common.{IsChildAt, IsFamilyAt, inl, inr, refl, ◌^◌}
 use Rattle.dentry_cache.proofs.PartsLaws.{ready_absent, ready_reads, ready_stays}
 use Rattle.dentry_cache.specs.Reads.Reads.{stays as it_stays}
 use Rattle.dentry_cache.proofs.ReadsLaws.{reads_then}

@@ -1,7 +1,4 @@
-use Rattle.std.proofs.lemmas.Result.{on_ok_weaker}
-use Rattle.std.proofs.Common.{◌≡◌, ◌≤◌, Option}
-use Rattle.cached_frag.specs.Cached.{Cached}
-use Rattle.dentry_cache.specs.Cache.{HasCached, IsThere}
+use Rattle.dentry_cache.proofs.Common.{Cached, HasCached, IsThere, Option, on_ok_weaker, ◌≡◌, ◌≤◌}
 use Rattle.dentry_cache.proofs.MapCalls.{edits_now, there_too}
 use Rattle.dentry_cache.proofs.caches.Caches.reserve.Goals as goal
 

@@ -1,10 +1,4 @@
-use Rattle.std.proofs.Common.{List, subst, sym, ap, ◌∙◌}
-use Rattle.objstore.specs.Omap.{key_cmp}
-use Rattle.sorted_map.specs.SortedMap.{contents}
-use Rattle.dentry_cache.specs.declared.parts.Part.{Part}
-use Rattle.dentry_cache.specs.CacheMap.{here}
-use Rattle.dentry_cache.specs.CacheSplits.{AreFillable, with_parts}
-use Rattle.dentry_cache.specs.Divided.{AreChildren}
+use Rattle.dentry_cache.proofs.Common.{AreChildren, AreFillable, List, Part, ap, contents, here, key_cmp, subst, sym, with_parts, ◌∙◌}
 use Rattle.dentry_cache.proofs.PartsLaws.{are_fillable, split_so}
 use Rattle.dentry_cache.proofs.SplitShows.{ready_of}
 use Rattle.dentry_cache.proofs.caches.Caches.split_into.Goals as goal

@@ -1,4 +1,4 @@
-use Rattle.std.proofs.Common.{◌∙◌}
+use Rattle.dentry_cache.proofs.Common.{◌∙◌}
 use Rattle.dentry_cache.proofs.MapCalls.{cached_is, given_up_now}
 use Rattle.dentry_cache.proofs.caches.Caches.take.Goals as goal
 

@@ -1,6 +1,5 @@
 -- With those of the ranks to come the leaves are all.
-use Rattle.std.proofs.Common.{◌≡◌, ◌≤◌, ◌++◌, length, take, drop}
-use Rattle.dentry_cache.specs.Unclean.{unclean_from, unclean_places}
+use Rattle.dentry_cache.proofs.Common.{drop, length, take, unclean_from, unclean_places, ◌++◌, ◌≡◌, ◌≤◌}
 use Rattle.dentry_cache.proofs.caches.Caches.unclean_leaves.Given as goal
 
 abbrev pub invariant-loop-index : goal.invariant-loop-index

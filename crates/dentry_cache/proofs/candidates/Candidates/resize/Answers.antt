@@ -1,5 +1,4 @@
-use Rattle.std.proofs.Common.{◌≤◌, length, sym, subst, ◌∙◌}
-use Rattle.dentry_cache.specs.CandidateSets.{sizes_of}
+use Rattle.dentry_cache.proofs.Common.{length, sizes_of, subst, sym, ◌∙◌, ◌≤◌}
 use Rattle.dentry_cache.proofs.CandidateRoom.{fits_in, room_large, room_small}
 use Rattle.dentry_cache.proofs.CandidateSteps.{sets_kept, sets_now}
 use Rattle.dentry_cache.proofs.candidates.Candidates.resize.Goals as goal

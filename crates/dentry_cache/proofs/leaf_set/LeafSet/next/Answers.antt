@@ -1,8 +1,6 @@
-use Rattle.std.proofs.Common.{◌≡◌, true, Option, Some, None, sym, ap, subst, ◌∙◌}
+use Rattle.dentry_cache.proofs.Common.{IsNext, None, Option, Some, ap, is_in, subst, sym, true, ◌∙◌, ◌≡◌}
 use Rattle.std.specs.List.{slice_get}
 use Rattle.mds_types.specs.Leaf.{Leaf}
-use Rattle.dentry_cache.specs.Candidates.{IsNext}
-use Rattle.dentry_cache.specs.CandidateSets.{is_in}
 use Rattle.dentry_cache.proofs.LeafSetLaws.{first_in, item_copied, next_in}
 use Rattle.dentry_cache.proofs.leaf_set.LeafSet.next.Goals as goal
 

@@ -1,7 +1,4 @@
-use Rattle.std.proofs.Common.{List, ap, ◌∙◌}
-use Rattle.mds_types.specs.Leaf.{Leaf}
-use Rattle.export_regions.specs.Regions.{values}
-use Rattle.export_regions.specs.Sending.{gathered}
+use Rattle.export_regions.proofs.Common.{Leaf, List, ap, gathered, values, ◌∙◌}
 use Rattle.export_regions.proofs.ExportLaws.{sendable}
 use Rattle.export_regions.proofs.leaves.RegionLeaves.export.Goals as goal
 

@@ -1,7 +1,4 @@
-use Rattle.std.specs.Prelude.{Ok}
-use Rattle.std.proofs.Common.{rules}
-use Rattle.sorted_map.specs.SortedMap.{contents}
-use Rattle.mds_types.specs.Leaf.{leaf_cmp}
+use Rattle.export_steps.proofs.Common.{Ok, contents, leaf_cmp, rules}
 use Rattle.export_steps.proofs.Placed.{cancels_placed}
 use Rattle.export_steps.proofs.exports.Exports.cancel.Goals as goal
 

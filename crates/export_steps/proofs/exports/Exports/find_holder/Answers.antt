@@ -1,4 +1,4 @@
-use Rattle.std.proofs.Common.{sym, ◌∙◌}
+use Rattle.export_steps.proofs.Common.{sym, ◌∙◌}
 use Rattle.export_steps.proofs.Holders.{told_holder, told_own}
 use Rattle.export_steps.proofs.exports.Exports.find_holder.Goals as goal
 

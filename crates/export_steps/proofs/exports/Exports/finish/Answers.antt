@@ -1,8 +1,4 @@
-use Rattle.std.proofs.Common.{sym, ap, subst}
-use Rattle.std.specs.Prelude.{is_some, Ok}
-use Rattle.sorted_map.specs.SortedMap.{contents}
-use Rattle.mds_types.specs.Leaf.{leaf_cmp}
-use Rattle.export_steps.specs.Standing.{ArePlaced, IsFinish}
+use Rattle.export_steps.proofs.Common.{ArePlaced, IsFinish, Ok, ap, contents, is_some, leaf_cmp, subst, sym}
 use Rattle.export_steps.proofs.Outcomes.{finished, is_promised, is_root}
 use Rattle.export_steps.proofs.Placed.{finishes_placed}
 use Rattle.export_steps.proofs.exports.Exports.finish.Goals as goal

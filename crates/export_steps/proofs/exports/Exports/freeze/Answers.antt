@@ -1,11 +1,6 @@
-use Rattle.std.specs.Prelude.{Ok}
-use Rattle.std.proofs.Common.{rules, subst}
-use Rattle.sorted_map.specs.SortedMap.{contents}
-use Rattle.mds_types.specs.Leaf.{leaf_cmp}
-use Rattle.export_steps.specs.Standing.{IsFreeze}
+use Rattle.export_steps.proofs.Common.{IsFreeze, Ok, by_cmp, contents, leaf_cmp, rules, subst}
 use Rattle.export_steps.proofs.Outcomes.{frozen}
 use Rattle.export_steps.proofs.Placed.{freezes_placed}
-use Rattle.export_steps.specs.ByExporter.{by_cmp}
 use Rattle.export_steps.proofs.exports.Exports.freeze.Goals as goal
 
 pub returns-in_err-place-clause-outcome : goal.returns-in_err-place-clause-outcome

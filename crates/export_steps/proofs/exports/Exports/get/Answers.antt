@@ -1,5 +1,4 @@
-use Rattle.std.proofs.Common.{rules, subst}
-use Rattle.export_steps.specs.Standing.{AreBetweenRanks}
+use Rattle.export_steps.proofs.Common.{AreBetweenRanks, rules, subst}
 use Rattle.export_steps.proofs.Between.{found_between}
 use Rattle.export_steps.proofs.exports.Exports.get.Goals as goal
 

@@ -1,9 +1,6 @@
-use Rattle.std.proofs.Common.{ap, sym, ◌∙◌}
+use Rattle.export_steps.proofs.Common.{ap, is_ranked, not_none, region_holder, sym, ◌∙◌}
 use Rattle.std.specs.FinMap as map
-use Rattle.subtree_map.proofs.Options.{not_none}
-use Rattle.subtree_map.proofs.Nearest.{is_ranked}
 use Rattle.export_steps.proofs.Holders.{own_holder, some_holder_of_root}
-use Rattle.export_steps.specs.Holder.{region_holder}
 use Rattle.export_steps.proofs.exports.Exports.holder.Goals as goal
 
 pub returns-then-is_empty : goal.returns-then-is_empty

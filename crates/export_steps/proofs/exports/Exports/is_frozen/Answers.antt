@@ -1,4 +1,4 @@
-use Rattle.std.proofs.Common.{sym, ◌∙◌}
+use Rattle.export_steps.proofs.Common.{sym, ◌∙◌}
 use Rattle.export_steps.proofs.Holders.{none_frozen, told_frozen, told_thawed}
 use Rattle.export_steps.proofs.exports.Exports.is_frozen.Goals as goal
 

@@ -1,11 +1,6 @@
-use Rattle.std.specs.Prelude.{Ok}
-use Rattle.std.proofs.Common.{rules, subst}
-use Rattle.sorted_map.specs.SortedMap.{contents}
-use Rattle.mds_types.specs.Leaf.{leaf_cmp}
-use Rattle.export_steps.specs.Standing.{IsPrep}
+use Rattle.export_steps.proofs.Common.{IsPrep, Ok, by_cmp, contents, leaf_cmp, rules, subst}
 use Rattle.export_steps.proofs.Outcomes.{prepared}
 use Rattle.export_steps.proofs.Placed.{preps_placed}
-use Rattle.export_steps.specs.ByExporter.{by_cmp}
 use Rattle.export_steps.proofs.exports.Exports.prep.Goals as goal
 
 pub returns-in_err-promise-clause-outcome : goal.returns-in_err-promise-clause-outcome

@@ -1,10 +1,7 @@
-use Rattle.std.proofs.Common.{refl, sym, subst}
-use Rattle.sorted_map.specs.SortedMap.{contents}
-use Rattle.mds_types.specs.Leaf.{leaf_cmp}
+use Rattle.export_steps.proofs.Common.{ArePlaced, by_cmp, contents, leaf_cmp, subst, sym}
+use Rattle.std.proofs.Common.{refl}
 use Rattle.export_steps.specs.declared.exports.ExportState.TheVariants as state
-use Rattle.export_steps.specs.Standing.{ArePlaced}
 use Rattle.export_steps.proofs.Placed.{steps_placed}
-use Rattle.export_steps.specs.ByExporter.{by_cmp}
 use Rattle.export_steps.proofs.exports.Exports.send.Goals as goal
 
 pub returns-clause-placed : goal.returns-clause-placed

@@ -1,8 +1,6 @@
-use Rattle.std.specs.Prelude.{◌≤◌, length}
-use Rattle.std.proofs.Common.{◌≡◌, sym, ap, arith, ◌∙◌}
-use Rattle.std.proofs.lemmas.Option.{slice_get_past}
+use Rattle.export_steps.proofs.Common.{ap, arith, len-entries, length, slice_get_past, sym, ◌∙◌, ◌≤◌}
+use Rattle.std.proofs.Common.{◌≡◌}
 use Rattle.std.specs.FinMap as map
-use Rattle.std.specs.FinMap.{len-entries}
 use Rattle.export_steps.proofs.exports.Exports.standing.Goals as goal
 
 pub returns-then-index-len : goal.returns-then-index-len

@@ -1,9 +1,5 @@
-use Rattle.std.specs.Prelude.{is_some}
-use Rattle.std.proofs.Common.{sym, ap, subst, ◌∙◌}
+use Rattle.export_steps.proofs.Common.{Standing, Starts, ap, contents, is_some, leaf_cmp, subst, sym, ◌∙◌}
 use Rattle.std.specs.FinMap as map
-use Rattle.sorted_map.specs.SortedMap.{contents}
-use Rattle.mds_types.specs.Leaf.{leaf_cmp}
-use Rattle.export_steps.specs.Standing.{Standing, Starts}
 use Rattle.export_steps.proofs.Outcomes.{not_started, started}
 use Rattle.export_steps.proofs.Placed.{starts_placed}
 use Rattle.export_steps.proofs.ByExporterLaws.{is_none}

@@ -1,7 +1,5 @@
 -- Whether each leaf of one is one of the other decides whether they are one, as the test of the two lists does.
-use Rattle.std.proofs.Common.{refl, rules}
-use Rattle.std.specs.Bool.{one_answer}
-use Rattle.std.proofs.lemmas.Slice.Eq.{slice_eq-Decides}
+use Rattle.fragtree.proofs.Common.{one_answer, refl, rules, slice_eq-Decides}
 use Rattle.fragtree.proofs.compare.FragTreePartialEq.eq.Goals as goal
 
 pub returns-then-len-clause-gives : goal.returns-then-len-clause-gives

@@ -1,5 +1,5 @@
 -- The pick of the hash where the leaves to come begin is the next of them.
-use Rattle.std.proofs.Common.{◌^◌, drop, sym, ◌∙◌, arith}
+use Rattle.fragtree.proofs.Common.{arith, drop, sym, ◌^◌, ◌∙◌}
 use Rattle.fragtree.proofs.Walks.{none_at_end, next_stands, next_is, next_tiles}
 use Rattle.fragtree.proofs.iters.IterIterator.next.Goals as goal
 

@@ -1,6 +1,5 @@
 -- The leaves inside f are counted from its first hash on.
-use Rattle.std.proofs.Common.{subst, sym, arith}
-use Rattle.fragtree.specs.FragTree.{IsPick}
+use Rattle.fragtree.proofs.Common.{IsPick, arith, subst, sym}
 use Rattle.fragtree.proofs.Counted.{none_counted, first_counted, next_counted, all_counted}
 use Rattle.fragtree.proofs.Walks.{inside_few}
 use Rattle.fragtree.proofs.tree.FragTree.count_inside.Goals as goal

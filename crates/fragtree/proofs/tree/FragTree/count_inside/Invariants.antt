@@ -1,6 +1,5 @@
 -- The leaves inside f up to the last one that was picked are counted.
-use Rattle.std.proofs.Common.{◌+◌, ◌-◌}
-use Rattle.mds_types.specs.Frag.{span}
+use Rattle.fragtree.proofs.Common.{span, ◌+◌, ◌-◌}
 use Rattle.fragtree.proofs.Counted.{Counts}
 use Rattle.fragtree.proofs.tree.FragTree.count_inside.Given as goal
 

@@ -1,8 +1,5 @@
 -- Leaves that are spelled are the tree's.
-use Rattle.std.proofs.Common.{refl, arith}
-use Rattle.mds_types.specs.Frag.{frag_cmp}
-use Rattle.sorted_map.specs.SortedMap.{contents}
-use Rattle.fragtree.specs.FragTree.{IsTree}
+use Rattle.fragtree.proofs.Common.{IsTree, arith, contents, frag_cmp, refl}
 use Rattle.fragtree.proofs.Spelled.{is_kept, leaves_of-is}
 use Rattle.fragtree.proofs.tree.FragTree.from_leaves.Goals as goal
 

@@ -1,7 +1,5 @@
 -- The leaves are as many as are counted, and what tiles the hashes covers them.
-use Rattle.std.proofs.Common.{length, sym, ap, ◌∙◌}
-use Rattle.mds_types.specs.Frag.{Fragment, frag_cmp}
-use Rattle.sorted_map.specs.SortedMap.{contents}
+use Rattle.fragtree.proofs.Common.{Fragment, ap, contents, frag_cmp, length, sym, ◌∙◌}
 use Rattle.fragtree.proofs.Kept.{length-leaves_of}
 use Rattle.fragtree.proofs.Tilings.{covers}
 use Rattle.fragtree.proofs.tree.FragTree.len.Goals as goal

@@ -1,6 +1,5 @@
 -- Descents end at the fragment, so it is a leaf in place of those inside it.
-use Rattle.mds_types.specs.Frag.{frag_cmp}
-use Rattle.sorted_map.specs.SortedMap.{contents}
+use Rattle.fragtree.proofs.Common.{contents, frag_cmp}
 use Rattle.fragtree.proofs.Kept.{beyond, inside_below, merge_done}
 use Rattle.fragtree.proofs.tree.FragTree.merge.Goals as goal
 

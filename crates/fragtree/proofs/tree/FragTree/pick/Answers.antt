@@ -1,6 +1,5 @@
 -- The descent of the low 24 bits ends at the leaf that contains the hash.
-use Rattle.mds_types.specs.Frag.{frag_cmp}
-use Rattle.sorted_map.specs.SortedMap.{contents}
+use Rattle.fragtree.proofs.Common.{contents, frag_cmp}
 use Rattle.fragtree.proofs.Kept.{pick_ends, pick_is}
 use Rattle.fragtree.proofs.tree.FragTree.pick.Goals as goal
 

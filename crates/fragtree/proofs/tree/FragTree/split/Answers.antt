@@ -1,7 +1,5 @@
 -- One split more, and the leaf's children in its place.
-use Rattle.std.proofs.Common.{arith}
-use Rattle.mds_types.specs.Frag.{frag_cmp}
-use Rattle.sorted_map.specs.SortedMap.{contents}
+use Rattle.fragtree.proofs.Common.{arith, contents, frag_cmp}
 use Rattle.fragtree.proofs.Kept.{some_leaf, split_done}
 use Rattle.fragtree.proofs.tree.FragTree.split.Goals as goal
 

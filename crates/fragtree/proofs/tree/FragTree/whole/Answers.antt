@@ -1,6 +1,5 @@
 -- Where nothing is split, `*` is the leaf.
-use Rattle.mds_types.specs.Frag.{frag_cmp}
-use Rattle.sorted_map.specs.SortedMap.{contents}
+use Rattle.fragtree.proofs.Common.{contents, frag_cmp}
 use Rattle.fragtree.proofs.Kept.{whole_keeps}
 use Rattle.fragtree.proofs.tree.FragTree.whole.Goals as goal
 

@@ -1,6 +1,4 @@
-use Rattle.std.proofs.Common.{◌≡◌, ◌<◌, List, [], get_or, length, subst}
-use Rattle.mds_types.specs.declared.requests.Request.{Request}
-use Rattle.inboxes.specs.Inbox.{Takes}
+use Rattle.inboxes.proofs.Common.{List, Request, Takes, [], get_or, length, subst, ◌<◌, ◌≡◌}
 use Rattle.inboxes.proofs.OutLaws.{out_there}
 use Rattle.inboxes.proofs.inboxes.Inboxes.take.Goals as goal
 

@@ -1,6 +1,4 @@
-use Rattle.std.proofs.Common.{rules, not}
-use Rattle.std.proofs.lemmas.Fn.{filter_same}
-use Rattle.inboxes.specs.Pins.{is_for, is_on}
+use Rattle.inboxes.proofs.Common.{filter_same, is_for, is_on, not, rules}
 use Rattle.inboxes.proofs.pins.Pins.forget.Goals as goal
 
 pub returns : goal.returns

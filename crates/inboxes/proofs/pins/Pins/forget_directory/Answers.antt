@@ -1,6 +1,4 @@
-use Rattle.std.proofs.Common.{rules, not}
-use Rattle.std.proofs.lemmas.Fn.{filter_same}
-use Rattle.inboxes.specs.Pins.{is_in}
+use Rattle.inboxes.proofs.Common.{filter_same, is_in, not, rules}
 use Rattle.inboxes.proofs.pins.Pins.forget_directory.Goals as goal
 
 pub returns : goal.returns

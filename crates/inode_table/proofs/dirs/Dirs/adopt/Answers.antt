@@ -1,9 +1,6 @@
 -- A new directory reaches the root by its parent.
-use Rattle.std.proofs.Common.{None, refl, sym, ap, ◌∙◌}
+use Rattle.inode_table.proofs.Common.{Directory, None, Table, ap, counts_of, covers_of, homes_of, leaves_in, leaves_of, pins_of, refl, sym, ◌∙◌}
 use Rattle.std.specs.FinMap as map
-use Rattle.inode_table.specs.declared.dirs.Directory.{Directory}
-use Rattle.inode_table.specs.Dirs.{Table, leaves_of}
-use Rattle.inode_table.specs.Rows.{counts_of, covers_of, homes_of, leaves_in, pins_of}
 use Rattle.inode_table.proofs.CountRows.{counts_put, pins_grown}
 use Rattle.inode_table.proofs.RowLaws.{homes_put, leaves_kept, new_leaves, no_row}
 use Rattle.inode_table.proofs.Tables.{adopted_table}

@@ -1,5 +1,5 @@
 -- A directory below the root is one that has a row.
-use Rattle.std.proofs.Common.{◌∙◌}
+use Rattle.inode_table.proofs.Common.{◌∙◌}
 use Rattle.inode_table.proofs.Chains.{are_apart}
 use Rattle.inode_table.proofs.RowLaws.{known_row}
 use Rattle.inode_table.proofs.dirs.Dirs.contains.Goals as goal

@@ -1,7 +1,5 @@
 -- The root's count is kept beside the rows, that of another directory in its row.
-use Rattle.std.proofs.Common.{sym, ap, ◌∙◌}
-use Rattle.std.specs.Option.{option_copied}
-use Rattle.inode_table.specs.Dirs.{or_zero}
+use Rattle.inode_table.proofs.Common.{ap, option_copied, or_zero, sym, ◌∙◌}
 use Rattle.inode_table.proofs.Chains.{are_same, are_apart}
 use Rattle.inode_table.proofs.CountRows.{count_at_root, count_at_row, count_in}
 use Rattle.inode_table.proofs.dirs.Dirs.count.Goals as goal

@@ -1,8 +1,6 @@
 -- No chain goes through a directory that is no one's parent.
-use Rattle.std.proofs.Common.{ap, ◌∙◌}
+use Rattle.inode_table.proofs.Common.{Table, ap, counts_of, covers_of, homes_of, pins_of, ◌∙◌}
 use Rattle.std.specs.FinMap as map
-use Rattle.inode_table.specs.Dirs.{Table}
-use Rattle.inode_table.specs.Rows.{counts_of, covers_of, homes_of, pins_of}
 use Rattle.inode_table.proofs.CountRows.{counts_left, pins_left}
 use Rattle.inode_table.proofs.RowLaws.{homes_left, leaves_left}
 use Rattle.inode_table.proofs.Tables.{dropped_table}

@@ -1,10 +1,5 @@
 -- The root's count is lowered beside the rows, that of another directory in its row.
-use Rattle.std.proofs.Common.{◌-◌, ℕ, refl, sym, ap, ◌∙◌}
-use Rattle.std.specs.Ordering.{nat_cmp}
-use Rattle.sorted_map.specs.SortedMap.{contents}
-use Rattle.inode_table.specs.declared.dirs.Directory.{Directory}
-use Rattle.inode_table.specs.Dirs.{Counts, Table, one_less}
-use Rattle.inode_table.specs.Rows.{Rows, covers_of, homes_of, pins_of}
+use Rattle.inode_table.proofs.Common.{Counts, Directory, Rows, Table, ap, contents, covers_of, homes_of, nat_cmp, one_less, pins_of, refl, sym, ℕ, ◌-◌, ◌∙◌}
 use Rattle.inode_table.proofs.Chains.{are_same, are_apart}
 use Rattle.inode_table.proofs.CountRows.{count_set_in, pins_unwritten, root_set}
 use Rattle.inode_table.proofs.RowLaws.{has_known_row, homes_unwritten, leaves_unwritten}

@@ -1,6 +1,5 @@
 -- A directory stands where its row says, and the root nowhere.
-use Rattle.std.proofs.Common.{sym, ap, ◌∙◌}
-use Rattle.std.specs.Option.{option_copied}
+use Rattle.inode_table.proofs.Common.{ap, option_copied, sym, ◌∙◌}
 use Rattle.inode_table.proofs.Chains.{are_same}
 use Rattle.inode_table.proofs.RowLaws.{get_home, home_in}
 use Rattle.inode_table.proofs.dirs.Dirs.get.Goals as goal

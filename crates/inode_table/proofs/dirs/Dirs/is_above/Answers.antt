@@ -1,6 +1,5 @@
 -- Each step of the walk goes to the parent.
-use Rattle.std.proofs.Common.{refl, sym}
-use Rattle.inode_table.specs.Dirs.{parent}
+use Rattle.inode_table.proofs.Common.{parent, refl, sym}
 use Rattle.inode_table.proofs.Chains.{nearer, above_parent, are_same, are_apart}
 use Rattle.inode_table.proofs.dirs.Dirs.is_above.Goals as goal
 

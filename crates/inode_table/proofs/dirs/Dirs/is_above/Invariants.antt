@@ -1,7 +1,6 @@
 -- The walk from a directory to the root.
-use Rattle.std.proofs.Common.{◌↔◌}
+use Rattle.inode_table.proofs.Common.{IsAbove, IsTable, ◌↔◌}
 use Rattle.std.specs.FinMap as map
-use Rattle.inode_table.specs.Dirs.{IsAbove, IsTable}
 use Rattle.inode_table.proofs.Chains.{climbed}
 use Rattle.inode_table.proofs.dirs.Dirs.is_above.Given as goal
 

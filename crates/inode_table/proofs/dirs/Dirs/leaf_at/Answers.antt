@@ -1,9 +1,5 @@
 -- A hash falls in the leaves that are kept beside the rows, or in those of a row, which tells the directory's home and its entries too.
-use Rattle.std.proofs.Common.{sym, ap, subst, ◌∙◌}
-use Rattle.std.specs.Option.{option_copied}
-use Rattle.fragtree.specs.FragTree.{IsPick}
-use Rattle.inode_table.specs.Dirs.{or_whole, or_zero}
-use Rattle.inode_table.specs.Rows.{leaves_in}
+use Rattle.inode_table.proofs.Common.{IsPick, ap, leaves_in, option_copied, or_whole, or_zero, subst, sym, ◌∙◌}
 use Rattle.inode_table.proofs.Chains.{are_same, are_apart}
 use Rattle.inode_table.proofs.CountRows.{count_at_root, count_at_row, count_in}
 use Rattle.inode_table.proofs.RowLaws.{at_root, at_row, get_leaves, leaves_at_root, no_directory}

@@ -1,7 +1,5 @@
 -- The root's leaves are kept beside the rows, those of another directory in its row.
-use Rattle.std.proofs.Common.{sym, ap, ◌∙◌}
-use Rattle.std.specs.Option.{option_copied}
-use Rattle.inode_table.specs.Rows.{leaves_in}
+use Rattle.inode_table.proofs.Common.{ap, leaves_in, option_copied, sym, ◌∙◌}
 use Rattle.inode_table.proofs.Chains.{are_same, are_apart}
 use Rattle.inode_table.proofs.RowLaws.{get_leaves, leaves_at_root}
 use Rattle.inode_table.proofs.dirs.Dirs.leaves.Goals as goal

@@ -1,6 +1,5 @@
 -- The table of the root alone.
-use Rattle.std.proofs.Common.{None, ap, ◌∙◌}
-use Rattle.inode_table.specs.Rows.{counts_of, covers_of, homes_of, pins_of}
+use Rattle.inode_table.proofs.Common.{None, ap, counts_of, covers_of, homes_of, pins_of, ◌∙◌}
 use Rattle.inode_table.proofs.CountRows.{no_counts, no_pins}
 use Rattle.inode_table.proofs.RowLaws.{no_homes, no_leaves}
 use Rattle.inode_table.proofs.Tables.{empty_table}

@@ -1,6 +1,5 @@
 -- The first row, or the first behind a number.
-use Rattle.std.proofs.Common.{[], ◌∷◌, None, Some, sym, ap, ◌∙◌}
-use Rattle.std.specs.Option.{option_copied}
+use Rattle.inode_table.proofs.Common.{None, Some, [], ap, option_copied, sym, ◌∙◌, ◌∷◌}
 use Rattle.inode_table.proofs.OrderLaws.{after_other, after_root}
 use Rattle.inode_table.proofs.dirs.Dirs.next_dir.Goals as goal
 

@@ -1,7 +1,5 @@
-use Rattle.std.proofs.Common.{Some, None, ◌∙◌}
-use Rattle.std.specs.Ordering.{nat_cmp}
+use Rattle.inode_table.proofs.Common.{None, Some, contents, nat_cmp, ◌∙◌}
 use Rattle.std.specs.FinMap as map
-use Rattle.sorted_map.specs.SortedMap.{contents}
 use Rattle.inode_table.proofs.PinnedRows.{all_pass, left_sorted, next_of_rows}
 use Rattle.inode_table.proofs.dirs.Dirs.next_pinned.Goals as goal
 

@@ -1,6 +1,5 @@
 -- A directory is passed over where its leaves were never set.
-use Rattle.std.proofs.Common.{sym, ap, ◌∙◌}
-use Rattle.std.specs.Prelude.{slice_get}
+use Rattle.inode_table.proofs.Common.{ap, slice_get, sym, ◌∙◌}
 use Rattle.std.specs.FinMap as map
 use Rattle.inode_table.proofs.TreeOrder.{are_set, fewer_dirs, here_a_tree, no_tree, passed_over}
 use Rattle.inode_table.proofs.dirs.Dirs.next_tree.Goals as goal

@@ -1,7 +1,6 @@
 -- What is left has the same first tree.
-use Rattle.std.proofs.Common.{◌≡◌}
-use Rattle.std.specs.Prelude.{length, slice_get}
-use Rattle.inode_table.specs.Order.{dirs_after, trees_after}
+use Rattle.inode_table.proofs.Common.{dirs_after, slice_get, trees_after, ◌≡◌}
+use Rattle.std.specs.Prelude.{length}
 use Rattle.inode_table.proofs.dirs.Dirs.next_tree.Given as goal
 
 abbrev pub invariant-loop-dir : goal.invariant-loop-dir

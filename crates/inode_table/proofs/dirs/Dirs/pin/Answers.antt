@@ -1,7 +1,5 @@
 -- A pin is kept in the directory's row, and the root has none.
-use Rattle.std.proofs.Common.{sym, ap, ◌∙◌}
-use Rattle.std.specs.Option.{option_copied}
-use Rattle.inode_table.specs.Rows.{pin_in}
+use Rattle.inode_table.proofs.Common.{ap, option_copied, pin_in, sym, ◌∙◌}
 use Rattle.inode_table.proofs.CountRows.{get_pin}
 use Rattle.inode_table.proofs.dirs.Dirs.pin.Goals as goal
 

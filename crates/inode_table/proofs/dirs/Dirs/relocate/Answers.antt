@@ -1,8 +1,6 @@
 -- A directory that moved reaches the root by its new parent.
-use Rattle.std.proofs.Common.{refl, sym, ap, ◌∙◌}
+use Rattle.inode_table.proofs.Common.{Directory, Table, ap, refl, sym, ◌∙◌}
 use Rattle.std.specs.FinMap as map
-use Rattle.inode_table.specs.declared.dirs.Directory.{Directory}
-use Rattle.inode_table.specs.Dirs.{Table}
 use Rattle.inode_table.proofs.CountRows.{counts_unwritten, pins_unwritten}
 use Rattle.inode_table.proofs.RowLaws.{has_row, homes_written, leaves_unwritten}
 use Rattle.inode_table.proofs.Tables.{moved_table}

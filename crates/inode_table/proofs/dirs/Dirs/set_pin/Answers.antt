@@ -1,9 +1,5 @@
 -- A row gets another pin, and keeps all else.
-use Rattle.std.proofs.Common.{refl, sym, ap, ◌∙◌}
-use Rattle.std.specs.Ordering.{nat_cmp}
-use Rattle.sorted_map.specs.SortedMap.{contents}
-use Rattle.inode_table.specs.declared.dirs.Directory.{Directory}
-use Rattle.inode_table.specs.Dirs.{Table, pinned_at}
+use Rattle.inode_table.proofs.Common.{Directory, Table, ap, contents, nat_cmp, pinned_at, refl, sym, ◌∙◌}
 use Rattle.inode_table.proofs.CountRows.{counts_unwritten, pins_written}
 use Rattle.inode_table.proofs.RowLaws.{has_row, homes_unwritten, leaves_unwritten}
 use Rattle.inode_table.proofs.dirs.Dirs.set_pin.Goals as goal

@@ -1,8 +1,6 @@
 -- The leaves of a directory are those of a tree.
-use Rattle.std.proofs.Common.{Some, refl, sym, ap, ◌∙◌}
+use Rattle.inode_table.proofs.Common.{Directory, Some, Table, ap, refl, sym, ◌∙◌}
 use Rattle.std.specs.FinMap as map
-use Rattle.inode_table.specs.declared.dirs.Directory.{Directory}
-use Rattle.inode_table.specs.Dirs.{Table}
 use Rattle.inode_table.proofs.Chains.{are_same, are_apart}
 use Rattle.inode_table.proofs.CountRows.{counts_unwritten, pins_unwritten}
 use Rattle.inode_table.proofs.RowLaws.{has_known_row, homes_unwritten, leaves_written, root_put}

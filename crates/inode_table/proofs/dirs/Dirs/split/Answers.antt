@@ -1,13 +1,6 @@
 -- The root's leaves are split beside the rows, those of another directory in its row.
-use Rattle.std.proofs.Common.{OnOk, sym, ap, subst, subst₂, ◌∙◌}
-use Rattle.std.proofs.lemmas.Result.{on_ok_weaker, on_err_weaker}
+use Rattle.inode_table.proofs.Common.{CanSplit, Covers, Directory, IsSplit, OnOk, Rows, Table, ap, contents, counts_of, covers_of, homes_of, leaves_of, nat_cmp, on_err_weaker, on_ok_weaker, pins_of, shown, subst, subst₂, sym, ◌∙◌}
 use Rattle.std.specs.FinMap as map
-use Rattle.fragtree.specs.FragTree.{CanSplit, IsSplit}
-use Rattle.std.specs.Ordering.{nat_cmp}
-use Rattle.sorted_map.specs.SortedMap.{contents, shown}
-use Rattle.inode_table.specs.declared.dirs.Directory.{Directory}
-use Rattle.inode_table.specs.Dirs.{Covers, Table, leaves_of}
-use Rattle.inode_table.specs.Rows.{Rows, counts_of, covers_of, homes_of, pins_of}
 use Rattle.inode_table.proofs.Chains.{are_same, are_apart}
 use Rattle.inode_table.proofs.RowLaws.{has_known_row}
 use Rattle.inode_table.proofs.SplitRows.{root_covers, root_leaves, root_table, row_before, row_divides, row_left, row_split, row_table}

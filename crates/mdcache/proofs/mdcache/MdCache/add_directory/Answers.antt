@@ -1,14 +1,4 @@
-use Rattle.std.proofs.Common.{◌⊎◌, ◌<◌, ℕ, List, ap, subst, sym, ◌∙◌}
-use Rattle.mds_types.specs.Leaf.{leaf_of}
-use Rattle.dentry_cache.specs.Cache.{Leaf}
-use Rattle.dentry_cache.specs.Came.{IsThat, NoneEnds}
-use Rattle.inode_table.specs.Dirs.{MayCome}
-use Rattle.inode_table.proofs.TableLaws.{known_is, may_come}
-use Rattle.namespace_ops.specs.Changes.{adds, dentry_at}
-use Rattle.mdcache.specs.Changes.{first_leaf}
-use Rattle.mdcache.specs.Core.{Core, shown_in, state_of}
-use Rattle.mdcache.specs.Sound.{IsSound}
-use Rattle.mdcache.specs.State.{State}
+use Rattle.mdcache.proofs.Common.{Core, IsSound, IsThat, Leaf, List, MayCome, NoneEnds, State, adds, ap, dentry_at, first_leaf, known_is, leaf_of, may_come, shown_in, state_of, subst, sym, ℕ, ◌<◌, ◌∙◌, ◌⊎◌}
 use Rattle.mdcache.proofs.ChangesMade.{after_reads, directory_done, may_still, new_fits}
 use Rattle.mdcache.proofs.CoreLaws.{not_ready_wider, reads_state, there_after}
 use Rattle.mdcache.proofs.PrepareLaws.{dir_live, directory_lacks, directory_needs, new_recordable}

@@ -1,9 +1,4 @@
-use Rattle.std.proofs.Common.{inl, ap, ◌∙◌}
-use Rattle.mds_types.specs.Leaf.{leaf_of}
-use Rattle.dentry_cache.specs.Came.{IsThat, NoneEnds}
-use Rattle.namespace_ops.specs.Changes.{adds, dentry_at}
-use Rattle.mdcache.specs.Core.{Core, shown_in, state_of}
-use Rattle.mdcache.specs.Ranks.{IsNamedIn}
+use Rattle.mdcache.proofs.Common.{Core, IsNamedIn, IsThat, NoneEnds, adds, ap, dentry_at, inl, leaf_of, shown_in, state_of, ◌∙◌}
 use Rattle.mdcache.proofs.ChangesMade.{after_reads, file_done, may_still, new_fits}
 use Rattle.mdcache.proofs.CoreLaws.{dir_known, not_ready_wider, reads_core_wider, there_after}
 use Rattle.mdcache.proofs.PrepareLaws.{dir_live, file_lacks, new_recordable, one_or_two}

@@ -1,15 +1,5 @@
-use Rattle.std.proofs.Common.{◌≡◌, None, Some, Ok, Err, refl, sym, ap, subst, ◌∙◌}
+use Rattle.mdcache.proofs.Common.{Begins, Came, Core, Err, IsAtEnd, IsBelowEnd, IsSoundCore, IsThat, NoMemory, None, NoneEnds, Ok, Refusal, Some, ap, here, leaf_of, refl, state_of, stays, subst, sym, unclean, unsaved_in, uses, ◌∙◌, ◌≡◌}
 use Rattle.std.specs.FinMap as map
-use Rattle.mds_types.specs.declared.refusals.Refusal.{Refusal}
-use Rattle.mds_types.specs.declared.refusals.Refusal.TheVariants.{NoMemory}
-use Rattle.mds_types.specs.Leaf.{leaf_of}
-use Rattle.cached_frag.specs.Snap.{IsBelowEnd}
-use Rattle.dentry_cache.specs.Cache.{unsaved_in}
-use Rattle.dentry_cache.specs.CacheMap.{here, unclean}
-use Rattle.dentry_cache.specs.Came.{Came, IsThat, NoneEnds}
-use Rattle.dentry_cache.specs.Came.Came.{stays, uses}
-use Rattle.mdcache.specs.Commits.{Begins, IsAtEnd}
-use Rattle.mdcache.specs.Core.{Core, IsSoundCore, state_of}
 use Rattle.mdcache.proofs.BeginSteps.{begins_none, begun_core, begun_is, can_begin, lacks_number, none_found, none_told, not_begun, told, unclean_here, unsaved_from, used_sound}
 use Rattle.mdcache.proofs.mdcache.MdCache.begin.Goals as goal
 

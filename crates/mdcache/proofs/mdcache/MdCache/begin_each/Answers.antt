@@ -1,14 +1,6 @@
 -- Each turn begins a commit of the first leaf that is left.
-use Rattle.std.proofs.Common.{rules, ◌≡◌, ◌+◌, ◌++◌, [], ◌∷◌, drop, refl, sym, ap, subst, ◌∙◌, arith}
-use Rattle.std.specs.List.{AllByRecursion}
+use Rattle.mdcache.proofs.Common.{AllByRecursion, AreApart, Begun, IsBegunAt, Jobs, State, [], ap, arith, drop, get-empty, leaf_of, leaves_at, leaves_of_jobs, refl, rules, state_of, subst, sym, ◌++◌, ◌+◌, ◌∙◌, ◌∷◌, ◌≡◌}
 use Rattle.std.specs.FinMap as map
-use Rattle.std.specs.FinMap.{get-empty}
-use Rattle.mds_types.specs.Leaf.{leaf_of}
-use Rattle.mdcache.specs.Batches.{AreApart, IsBegunAt, leaves_at, leaves_of_jobs}
-use Rattle.mdcache.specs.Core.{state_of}
-use Rattle.mdcache.specs.State.{State}
-use Rattle.mdcache.specs.StandingJobs.{Jobs}
-use Rattle.mdcache.specs.declared.batches.Begun.{Begun}
 use Rattle.mdcache.proofs.BatchLaws.{StandAmong, begin_lacks, first_of_rest, none_stands, rest_listed, turn_begun, turn_left, turn_listed, turn_number, turn_rest, turn_stand}
 use Rattle.mdcache.proofs.KeptTree.{kept_itself, steps_keep_tree}
 use Rattle.mdcache.proofs.mdcache.MdCache.begin_each.Goals as goal

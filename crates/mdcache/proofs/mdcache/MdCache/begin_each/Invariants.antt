@@ -1,9 +1,5 @@
 -- So far the first leaves were begun, and those to come aren't clean.
-use Rattle.std.proofs.Common.{◌≡◌, ◌+◌, ◌++◌, drop}
-use Rattle.std.specs.List.{AllByRecursion}
-use Rattle.mdcache.specs.Batches.{IsBegunAt, IsUncleanAt, leaves_at, leaves_of_jobs}
-use Rattle.mdcache.specs.Core.{IsSoundCore, state_of}
-use Rattle.mdcache.specs.Flushed.{KeepsTree}
+use Rattle.mdcache.proofs.Common.{AllByRecursion, IsBegunAt, IsSoundCore, IsUncleanAt, KeepsTree, drop, leaves_at, leaves_of_jobs, state_of, ◌++◌, ◌+◌, ◌≡◌}
 use Rattle.mdcache.proofs.BatchLaws.{StandAmong}
 use Rattle.mdcache.proofs.mdcache.MdCache.begin_each.Given as goal
 

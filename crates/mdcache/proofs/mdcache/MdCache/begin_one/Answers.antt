@@ -1,7 +1,4 @@
-use Rattle.std.proofs.Common.{Ok, subst}
-use Rattle.mds_types.specs.Leaf.{leaf_of}
-use Rattle.mdcache.specs.Commits.{Begins}
-use Rattle.mdcache.specs.Core.{state_of}
+use Rattle.mdcache.proofs.Common.{Begins, Ok, leaf_of, state_of, subst}
 use Rattle.mdcache.proofs.BatchLaws.{begin_keeps, begin_refused, refused_keeps, unclean_live}
 use Rattle.mdcache.proofs.mdcache.MdCache.begin_one.Goals as goal
 

@@ -1,8 +1,4 @@
-use Rattle.std.proofs.Common.{subst, sym}
-use Rattle.namespace_ops.specs.declared.plans.Change.{Change}
-use Rattle.namespace_ops.proofs.Shapes.{is_adds, is_moves, is_removes, is_sets}
-use Rattle.mdcache.specs.Changing.{ChangesTree}
-use Rattle.mdcache.specs.Core.{shown_in}
+use Rattle.mdcache.proofs.Common.{Change, ChangesTree, is_adds, is_moves, is_removes, is_sets, shown_in, subst, sym}
 use Rattle.mdcache.proofs.mdcache.MdCache.change.Goals as goal
 
 pub returns-then-comes-clause-changed : goal.returns-then-comes-clause-changed

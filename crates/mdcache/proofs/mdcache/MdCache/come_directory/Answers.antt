@@ -1,11 +1,6 @@
-use Rattle.std.proofs.Common.{◌≡◌, true, None, ap, subst, sym, ◌∙◌}
+use Rattle.mdcache.proofs.Common.{Core, None, ap, first_leaf, has_place, here, leaf_of, subst, sym, true, with_entry, ◌∙◌, ◌≡◌}
 use Rattle.std.specs.FinMap as map
-use Rattle.dentry_cache.specs.CacheMap.{has_place}
-use Rattle.mds_types.specs.Leaf.{leaf_of}
-use Rattle.mdcache.specs.Changes.{first_leaf}
-use Rattle.mdcache.specs.Core.{Core, with_entry}
 use Rattle.mdcache.proofs.ChangeSteps.{kept_named, roomy_there}
-use Rattle.dentry_cache.specs.CacheMap.{here}
 use Rattle.std.specs.Prelude.{Some}
 use Rattle.mdcache.proofs.mdcache.MdCache.come_directory.Goals as goal
 

@@ -1,5 +1,5 @@
 use Rattle.std.specs.FinMap as map
-use Rattle.mdcache.specs.Core.{state_of}
+use Rattle.mdcache.proofs.Common.{state_of}
 use Rattle.mdcache.proofs.CommittedLaws.{given_up_whole, whole_then}
 use Rattle.mdcache.proofs.mdcache.MdCache.commit_batch.Goals as goal
 

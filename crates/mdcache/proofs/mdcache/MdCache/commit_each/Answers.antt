@@ -1,8 +1,5 @@
 -- The jobs of all leaves begin, are encoded, and end.
-use Rattle.std.proofs.Common.{sym, ap, subst, ◌∙◌}
-use Rattle.std.specs.List.{AllByRecursion}
-use Rattle.mdcache.specs.Batches.{AreApart, IsReadyAt, leaves_of_writes}
-use Rattle.mdcache.specs.Core.{state_of}
+use Rattle.mdcache.proofs.Common.{AllByRecursion, AreApart, IsReadyAt, ap, leaves_of_writes, state_of, subst, sym, ◌∙◌}
 use Rattle.mdcache.proofs.BatchLaws.{begun_ready, leaves_ready}
 use Rattle.mdcache.proofs.CommittedLaws.{jobs_alone, whole_then}
 use Rattle.mdcache.proofs.KeptTree.{steps_keep_tree}

@@ -1,9 +1,5 @@
-use Rattle.std.proofs.Common.{◌≡◌, Some, None, sym, subst}
+use Rattle.mdcache.proofs.Common.{Core, KeepsNone, KeepsOnlyAt, None, Some, leaf_of, subst, sym, ◌≡◌}
 use Rattle.std.specs.FinMap as map
-use Rattle.mds_types.specs.Leaf.{leaf_of}
-use Rattle.dentry_cache.specs.CacheCalls.{KeepsNone}
-use Rattle.mdcache.specs.Core.{Core}
-use Rattle.mdcache.specs.Ranks.{KeepsOnlyAt}
 use Rattle.mdcache.proofs.ChangeSteps.{filled_none}
 use Rattle.mdcache.proofs.mdcache.MdCache.commit_merge.Goals as goal
 

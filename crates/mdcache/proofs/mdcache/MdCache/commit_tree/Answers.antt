@@ -1,7 +1,5 @@
-use Rattle.std.proofs.Common.{◌≡◌, ℕ, List, ap, subst, sym, ◌∙◌}
+use Rattle.mdcache.proofs.Common.{List, ap, leaves_of, subst, sym, with_tree_at, ℕ, ◌∙◌, ◌≡◌}
 use Rattle.std.specs.FinMap as map
-use Rattle.inode_table.specs.Dirs.{leaves_of}
-use Rattle.mdcache.specs.Objects.{with_tree_at}
 use Rattle.mdcache.proofs.BesideLaws.{faults_sound, tree_is, tree_sound}
 use Rattle.mdcache.proofs.mdcache.MdCache.commit_tree.Goals as goal
 

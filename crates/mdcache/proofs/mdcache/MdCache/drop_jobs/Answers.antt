@@ -1,6 +1,4 @@
-use Rattle.std.proofs.Common.{ap}
-use Rattle.mdcache.specs.Core.{Core}
-use Rattle.mdcache.specs.StandingJobs.{Standing}
+use Rattle.mdcache.proofs.Common.{Core, Standing, ap}
 use Rattle.mdcache.proofs.JoblessLaws.{jobless_core, jobless_state}
 use Rattle.mdcache.proofs.KeptTree.{jobless_keeps}
 use Rattle.mdcache.proofs.mdcache.MdCache.drop_jobs.Goals as goal

@@ -1,15 +1,6 @@
-use Rattle.std.proofs.Common.{◌≡◌, inr, Some, subst, sym, ap, ◌∙◌}
+use Rattle.mdcache.proofs.Common.{Cached, Came, Carried, Core, IsCommitted, IsFreeFor, IsThat, Job, MayRefuse, NoneEnds, Some, ap, inr, stays, subst, sym, ◌∙◌, ◌≡◌}
 use Rattle.std.specs.FinMap as map
-use Rattle.objstore.specs.Objects.{MayRefuse}
-use Rattle.cached_frag.specs.Commit.{Carried}
-use Rattle.cached_frag.specs.declared.jobs.Job.{Job}
-use Rattle.cached_frag.specs.Cached.{Cached}
-use Rattle.dentry_cache.specs.CacheMap.{IsFreeFor}
-use Rattle.dentry_cache.specs.Came.{Came, IsThat, NoneEnds}
-use Rattle.dentry_cache.specs.Came.Came.{stays}
-use Rattle.dentry_cache.specs.Commits.{IsCommitted}
 use Rattle.mdcache.specs.Commits.{leaf_of}
-use Rattle.mdcache.specs.Core.{Core}
 use Rattle.mdcache.proofs.EndSteps.{done_ended, done_sound, edits_came, job_cached, refused_sound, refused_state}
 use Rattle.mdcache.proofs.mdcache.MdCache.end.Goals as goal
 

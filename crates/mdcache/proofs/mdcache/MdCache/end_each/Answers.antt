@@ -1,8 +1,5 @@
 -- Each turn ends the first commit that is left.
-use Rattle.std.proofs.Common.{◌+◌, drop, refl, subst, arith}
-use Rattle.std.specs.List.{AllByRecursion}
-use Rattle.mdcache.specs.Batches.{AreApart, IsReadyAt, leaves_of_writes}
-use Rattle.mdcache.specs.Core.{state_of}
+use Rattle.mdcache.proofs.Common.{AllByRecursion, AreApart, IsReadyAt, arith, drop, leaves_of_writes, refl, state_of, subst, ◌+◌}
 use Rattle.mdcache.proofs.BatchLaws.{one_less, stay_ready, writes_left}
 use Rattle.mdcache.proofs.CommittedLaws.{jobs_alone, whole_then}
 use Rattle.mdcache.proofs.KeptTree.{kept_itself, steps_keep_tree}

@@ -1,11 +1,6 @@
 -- So far the first commits ended, and those to come are at hand.
-use Rattle.std.proofs.Common.{◌≡◌, ◌+◌, drop}
-use Rattle.std.specs.List.{AllByRecursion}
+use Rattle.mdcache.proofs.Common.{AllByRecursion, AreApart, CommitsWhole, IsReadyAt, IsSoundCore, KeepsTree, drop, leaves_of_writes, state_of, unclean, ◌+◌, ◌≡◌}
 use Rattle.std.specs.FinMap as map
-use Rattle.dentry_cache.specs.CacheMap.{unclean}
-use Rattle.mdcache.specs.Batches.{AreApart, CommitsWhole, IsReadyAt, leaves_of_writes}
-use Rattle.mdcache.specs.Core.{IsSoundCore, state_of}
-use Rattle.mdcache.specs.Flushed.{KeepsTree}
 use Rattle.mdcache.proofs.mdcache.MdCache.end_each.Given as goal
 
 abbrev pub invariant-loop-one : goal.invariant-loop-one

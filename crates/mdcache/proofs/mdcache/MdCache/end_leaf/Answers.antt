@@ -1,6 +1,4 @@
-use Rattle.std.proofs.Common.{subst, sym}
-use Rattle.dentry_cache.specs.CacheCalls.{KeepsNone}
-use Rattle.mdcache.specs.Core.{Core}
+use Rattle.mdcache.proofs.Common.{Core, KeepsNone, subst, sym}
 use Rattle.mdcache.proofs.ChangeSteps.{none_ended}
 use Rattle.mdcache.proofs.mdcache.MdCache.end_leaf.Goals as goal
 

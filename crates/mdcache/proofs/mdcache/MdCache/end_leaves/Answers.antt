@@ -1,9 +1,4 @@
-use Rattle.std.proofs.Common.{◌≡◌, suc, ◌∷◌, List, length, sym, ap, ◌∙◌, arith}
-use Rattle.std.proofs.lemmas.List.{nil_from_length}
-use Rattle.std.specs.Vec.Iter.{into_iter_items}
-use Rattle.mdcache.specs.declared.going.GoingLeaf.{GoingLeaf}
-use Rattle.mdcache.specs.Core.{Core, without_frags}
-use Rattle.mdcache.specs.Going.{leaves_in, texts_in}
+use Rattle.mdcache.proofs.Common.{Core, GoingLeaf, List, ap, arith, into_iter_items, leaves_in, length, nil_from_length, suc, sym, texts_in, without_frags, ◌∙◌, ◌∷◌, ◌≡◌}
 use Rattle.mdcache.proofs.mdcache.MdCache.end_leaves.Goals as goal
 
 pub loop-part-preserved : goal.loop-part-preserved

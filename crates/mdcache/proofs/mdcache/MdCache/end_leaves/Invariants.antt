@@ -1,9 +1,5 @@
 -- The leaves to come make of all that is left what all leaves make of all that was, and the list has room for their names.
-use Rattle.std.proofs.Common.{◌≡◌, ◌≤◌, length}
-use Rattle.std.specs.Vec.Iter.{into_iter_items, into_iter_len}
-use Rattle.dentry_cache.specs.CacheCalls.{KeepsNone}
-use Rattle.mdcache.specs.Core.{Rooms, without_frags}
-use Rattle.mdcache.specs.Going.{leaves_in, texts_in}
+use Rattle.mdcache.proofs.Common.{KeepsNone, Rooms, into_iter_items, into_iter_len, leaves_in, length, texts_in, without_frags, ◌≡◌, ◌≤◌}
 use Rattle.mdcache.proofs.mdcache.MdCache.end_leaves.Given as goal
 
 abbrev pub invariant-loop-part : goal.invariant-loop-part

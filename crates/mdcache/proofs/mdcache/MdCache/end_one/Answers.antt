@@ -1,7 +1,5 @@
-use Rattle.std.proofs.Common.{ap}
-use Rattle.std.specs.Prelude.{is_some}
+use Rattle.mdcache.proofs.Common.{ap, is_some, state_of}
 use Rattle.mdcache.specs.Commits.{leaf_of}
-use Rattle.mdcache.specs.Core.{state_of}
 use Rattle.mdcache.proofs.BatchLaws.{ends_keeps}
 use Rattle.mdcache.proofs.CommittedLaws.{ends_whole}
 use Rattle.mdcache.proofs.mdcache.MdCache.end_one.Goals as goal

@@ -1,5 +1,4 @@
-use Rattle.std.proofs.Common.{◌<◌, length, subst, sym}
-use Rattle.mdcache.specs.Core.{Core}
+use Rattle.mdcache.proofs.Common.{Core, length, subst, sym, ◌<◌}
 use Rattle.mdcache.proofs.BesideLaws.{evict_sound, evict_state}
 use Rattle.mdcache.proofs.mdcache.MdCache.evict.Goals as goal
 

@@ -1,6 +1,4 @@
-use Rattle.std.proofs.Common.{None, refl}
-use Rattle.mds_types.specs.Leaf.{leaf_of}
-use Rattle.dentry_cache.specs.Came.{IsThat}
+use Rattle.mdcache.proofs.Common.{IsThat, None, leaf_of, refl}
 use Rattle.mdcache.proofs.FetchSteps.{fetch_newest, fetch_none, fetch_reads, fetch_refused}
 use Rattle.mdcache.proofs.mdcache.MdCache.fetch.Goals as goal
 

@@ -1,5 +1,4 @@
-use Rattle.std.proofs.Common.{Some, inl, inr, refl}
-use Rattle.mds_types.specs.Leaf.{leaf_of}
+use Rattle.mdcache.proofs.Common.{Some, inl, inr, leaf_of, refl}
 use Rattle.mdcache.proofs.FetchSteps.{fetch_none, fetch_reads, fetch_refused, fetch_stays}
 use Rattle.mdcache.proofs.mdcache.MdCache.fetch_beside.Goals as goal
 

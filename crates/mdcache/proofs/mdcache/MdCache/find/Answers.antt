@@ -1,11 +1,4 @@
-use Rattle.std.proofs.Common.{◌<◌, length, refl, sym, subst}
-use Rattle.mds_types.specs.Leaf.{leaf_of}
-use Rattle.dentry_cache.specs.Cache.{IsThere}
-use Rattle.dentry_cache.specs.CacheCalls.{KeepsNone}
-use Rattle.dentry_cache.specs.CacheMap.{CacheMap, here}
-use Rattle.dentry_cache.specs.Came.{IsThat, NoneEnds}
-use Rattle.mdcache.specs.CacheReads.{IsNewest}
-use Rattle.mdcache.specs.Core.{Core}
+use Rattle.mdcache.proofs.Common.{CacheMap, Core, IsNewest, IsThat, IsThere, KeepsNone, NoneEnds, here, leaf_of, length, refl, subst, sym, ◌<◌}
 use Rattle.mdcache.proofs.CoreLaws.{ok_so, there_after, use_step}
 use Rattle.mdcache.proofs.FetchSteps.{newest_used}
 use Rattle.mdcache.proofs.NoneLaws.{none_used}

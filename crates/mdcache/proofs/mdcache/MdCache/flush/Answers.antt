@@ -1,7 +1,4 @@
-use Rattle.std.proofs.Common.{ℕ, subst}
-use Rattle.mdcache.specs.Batches.{MayNotCommit}
-use Rattle.mdcache.specs.Core.{state_of}
-use Rattle.mdcache.specs.State.{State}
+use Rattle.mdcache.proofs.Common.{MayNotCommit, State, state_of, subst, ℕ}
 use Rattle.mdcache.proofs.mdcache.MdCache.flush.Goals as goal
 
 pub returns-in-Err-clause-refused : goal.returns-in-Err-clause-refused

@@ -1,6 +1,4 @@
-use Rattle.std.proofs.Common.{ap, ◌∙◌}
-use Rattle.dentry_cache.specs.CacheMap.{unclean}
-use Rattle.mdcache.specs.Core.{state_of}
+use Rattle.mdcache.proofs.Common.{ap, state_of, unclean, ◌∙◌}
 use Rattle.mdcache.proofs.FlushSteps.{told_cold, told_exact, told_flushed}
 use Rattle.mdcache.proofs.KeptTree.{steps_keep_tree}
 use Rattle.mdcache.proofs.mdcache.MdCache.flush_objects.Goals as goal

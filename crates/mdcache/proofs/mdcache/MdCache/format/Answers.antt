@@ -1,4 +1,4 @@
-use Rattle.std.proofs.Common.{◌∙◌}
+use Rattle.mdcache.proofs.Common.{◌∙◌}
 use Rattle.mdcache.proofs.EmptyLaws.{none_if_not}
 use Rattle.mdcache.proofs.mdcache.MdCache.format.Goals as goal
 

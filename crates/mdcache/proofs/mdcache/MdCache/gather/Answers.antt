@@ -1,13 +1,5 @@
 use Rattle.std.specs.FinMap as map
-use Rattle.std.specs.Option.{option_copied}
-use Rattle.mds_types.specs.Leaf.{leaf_of}
-use Rattle.objstore.specs.Omap.{key_cmp}
-use Rattle.sorted_map.specs.Places.{puts}
-use Rattle.cached_frag.specs.Rows.{rows_after}
-use Rattle.dentry_cache.specs.CacheMap.{here}
-use Rattle.dentry_cache.specs.Came.{IsThat}
-use Rattle.dirfrag_codec.specs.FragmentObject.{Names}
-use Rattle.mdcache.specs.Pages.{IsPageOf}
+use Rattle.mdcache.proofs.Common.{IsPageOf, IsThat, Names, here, key_cmp, leaf_of, option_copied, puts, rows_after}
 use Rattle.mdcache.proofs.CoreLaws.{cached_so, may_fetch, read_names, read_sound, on_ok, that_live}
 use Rattle.mdcache.proofs.mdcache.MdCache.gather.Goals as goal
 

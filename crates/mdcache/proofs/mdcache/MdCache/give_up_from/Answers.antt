@@ -1,5 +1,4 @@
-use Rattle.std.proofs.Common.{ap}
-use Rattle.mdcache.specs.StandingJobs.{Standing}
+use Rattle.mdcache.proofs.Common.{Standing, ap}
 use Rattle.mdcache.proofs.JoblessLaws.{numbered_core, numbered_state}
 use Rattle.mdcache.proofs.mdcache.MdCache.give_up_from.Goals as goal
 

@@ -1,8 +1,4 @@
-use Rattle.std.proofs.Common.{subst}
-use Rattle.std.specs.Prelude.{◌↔◌, IsTrue}
-use Rattle.inode_table.specs.Dirs.{IsAbove}
-use Rattle.inode_table.proofs.TableLaws.{above_is}
-use Rattle.mdcache.specs.Core.{Core, shown_in}
+use Rattle.mdcache.proofs.Common.{Core, IsAbove, IsTrue, above_is, shown_in, subst, ◌↔◌}
 use Rattle.mdcache.proofs.mdcache.MdCache.is_above.Goals as goal
 
 pub returns : goal.returns

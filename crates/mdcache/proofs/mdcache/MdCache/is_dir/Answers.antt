@@ -1,7 +1,4 @@
-use Rattle.std.proofs.Common.{◌∙◌, ap}
-use Rattle.inode_table.specs.Dirs.{is_known}
-use Rattle.inode_table.proofs.TableLaws.{known_is}
-use Rattle.mdcache.specs.Core.{Core, shown_in}
+use Rattle.mdcache.proofs.Common.{Core, ap, is_known, known_is, shown_in, ◌∙◌}
 use Rattle.mdcache.proofs.mdcache.MdCache.is_dir.Goals as goal
 
 pub returns : goal.returns

@@ -1,7 +1,4 @@
-use Rattle.std.proofs.Common.{◌≡◌}
-use Rattle.dentry_cache.specs.Came.{IsThat}
-use Rattle.dirfrag_codec.specs.FragmentObject.{Names}
-use Rattle.mdcache.specs.Reads.{has_none}
+use Rattle.mdcache.proofs.Common.{IsThat, Names, has_none, ◌≡◌}
 use Rattle.mdcache.proofs.CoreLaws.{may_fetch, read_names, read_sound, if_ok, that_live}
 use Rattle.mdcache.proofs.mdcache.MdCache.is_leaf_empty.Goals as goal
 

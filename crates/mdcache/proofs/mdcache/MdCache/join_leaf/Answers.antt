@@ -1,7 +1,4 @@
-use Rattle.std.proofs.Common.{◌<◌, length, sym, subst}
-use Rattle.mds_types.specs.Leaf.{leaf_of}
-use Rattle.dentry_cache.specs.Came.{IsThat, NoneEnds}
-use Rattle.mdcache.specs.Core.{Core}
+use Rattle.mdcache.proofs.Common.{Core, IsThat, NoneEnds, leaf_of, length, subst, sym, ◌<◌}
 use Rattle.mdcache.proofs.CoreLaws.{reads_sound, that_live, there_after}
 use Rattle.mdcache.proofs.JoinSteps.{join_told}
 use Rattle.mdcache.proofs.mdcache.MdCache.join_leaf.Goals as goal

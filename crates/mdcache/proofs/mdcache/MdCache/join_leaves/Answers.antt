@@ -1,11 +1,4 @@
-use Rattle.std.proofs.Common.{rules, ◌≡◌, ℕ, [], ◌∷◌, refl, sym, ap, subst, ◌∙◌}
-use Rattle.std.specs.List.{Contains}
-use Rattle.dentry_cache.specs.CacheMap.{unclean}
-use Rattle.dentry_cache.specs.Came.{IsThat, NoneEnds}
-use Rattle.mdcache.specs.Going.{leaves_in}
-use Rattle.mdcache.specs.Joining.{HasJoined, IsAmong}
-use Rattle.mdcache.specs.Shown.{names_of}
-use Rattle.mdcache.specs.State.{State}
+use Rattle.mdcache.proofs.Common.{Contains, HasJoined, IsAmong, IsThat, NoneEnds, State, [], ap, leaves_in, names_of, refl, rules, subst, sym, unclean, ℕ, ◌∙◌, ◌∷◌, ◌≡◌}
 use Rattle.mdcache.proofs.CoreLaws.{not_found_before, reads_core_on, reads_core_wider, reads_itself, reads_state}
 use Rattle.mdcache.proofs.JoinLaws.{joined_on, part_among}
 use Rattle.mdcache.proofs.JoinSteps.{hold_on, live_on}

@@ -1,13 +1,6 @@
 -- The names of the leaves that were passed are in the fragment, and those leaves are the ones that were read.
-use Rattle.std.proofs.Common.{◌≡◌, ℕ, List, drop}
+use Rattle.mdcache.proofs.Common.{IsAmong, IsSoundCore, KeepsNone, List, NoneEnds, ReadsCore, drop, leaves_in, name_joined, names_of, unclean, ℕ, ◌≡◌}
 use Rattle.std.specs.FinMap as map
-use Rattle.dentry_cache.specs.CacheCalls.{KeepsNone}
-use Rattle.dentry_cache.specs.CacheMap.{unclean}
-use Rattle.dentry_cache.specs.Came.{NoneEnds}
-use Rattle.mdcache.specs.Core.{IsSoundCore, ReadsCore}
-use Rattle.mdcache.specs.Going.{leaves_in}
-use Rattle.mdcache.specs.Joining.{IsAmong, name_joined}
-use Rattle.mdcache.specs.Shown.{names_of}
 use Rattle.mdcache.proofs.mdcache.MdCache.join_leaves.Given as goal
 
 abbrev pub invariant-loop-part : goal.invariant-loop-part

@@ -1,11 +1,5 @@
-use Rattle.std.proofs.Common.{rules, ◌≡◌, ◌<◌, length, inl, inr, None, Ok, Err, refl, sym, ap, subst, ◌∙◌}
+use Rattle.mdcache.proofs.Common.{Core, Err, IsAmong, IsAmongOr, KeepsNone, None, NoneEnds, Ok, ap, inl, inr, leaf_of, leaves_in, length, made_frag, refl, rules, subst, sym, ◌<◌, ◌∙◌, ◌≡◌}
 use Rattle.std.specs.FinMap as map
-use Rattle.mds_types.specs.Leaf.{leaf_of}
-use Rattle.dentry_cache.specs.CacheCalls.{KeepsNone}
-use Rattle.dentry_cache.specs.Came.{NoneEnds}
-use Rattle.mdcache.specs.Core.{Core, made_frag}
-use Rattle.mdcache.specs.Going.{leaves_in}
-use Rattle.mdcache.specs.Joining.{IsAmong, IsAmongOr}
 use Rattle.mdcache.proofs.CoreLaws.{reads_core_wider, still_absent, there_after}
 use Rattle.mdcache.proofs.JoinSteps.{joined_of}
 use Rattle.mdcache.proofs.KeepSteps.{keep_none, keep_nowhere, keep_only, keep_place, keep_reads, keep_refused}

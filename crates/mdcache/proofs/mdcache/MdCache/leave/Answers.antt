@@ -1,9 +1,5 @@
-use Rattle.std.proofs.Common.{ap, subst, sym}
+use Rattle.mdcache.proofs.Common.{Core, KeepsNone, ap, leaf_of, none_with_mark, subst, sym}
 use Rattle.std.specs.Prelude.{None}
-use Rattle.dentry_cache.proofs.WholeLaws.{none_with_mark}
-use Rattle.mds_types.specs.Leaf.{leaf_of}
-use Rattle.dentry_cache.specs.CacheCalls.{KeepsNone}
-use Rattle.mdcache.specs.Core.{Core}
 use Rattle.mdcache.proofs.mdcache.MdCache.leave.Goals as goal
 
 pub returns-clause-none : goal.returns-clause-none

@@ -1,5 +1,4 @@
-use Rattle.dentry_cache.specs.Came.{IsThat}
-use Rattle.namehash.specs.Rjenkins.{hash_of}
+use Rattle.mdcache.proofs.Common.{IsThat, hash_of}
 use Rattle.mdcache.proofs.CoreLaws.{read_found, may_fetch, read_sound, if_ok, pick_live, that_live}
 use Rattle.mdcache.proofs.mdcache.MdCache.look.Goals as goal
 

@@ -1,4 +1,4 @@
-use Rattle.dentry_cache.specs.Came.Came.{stays}
+use Rattle.mdcache.proofs.Common.{stays}
 use Rattle.mdcache.proofs.mdcache.MdCache.merge.Goals as goal
 
 pub returns-in-Err-clause-came : goal.returns-in-Err-clause-came

@@ -1,11 +1,4 @@
-use Rattle.std.proofs.Common.{ℕ}
-use Rattle.std.specs.List.{Contains}
-use Rattle.mds_types.specs.Leaf.{leaf_of}
-use Rattle.dentry_cache.specs.Cache.{Leaf}
-use Rattle.dentry_cache.specs.Came.{NoneEnds}
-use Rattle.dentry_cache.proofs.ReadsLaws.{reads_came}
-use Rattle.mdcache.specs.Joining.{IsAmongOr}
-use Rattle.mdcache.specs.Regrouping.{ending_at}
+use Rattle.mdcache.proofs.Common.{Contains, IsAmongOr, Leaf, NoneEnds, ending_at, leaf_of, reads_came, ℕ}
 use Rattle.mdcache.proofs.CoreLaws.{reads_core_wider}
 use Rattle.mdcache.proofs.MergeSteps.{merge_keeps, merge_made, merge_sound, merge_steps}
 use Rattle.mdcache.proofs.mdcache.MdCache.merge_leaves.Goals as goal

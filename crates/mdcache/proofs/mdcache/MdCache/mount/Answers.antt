@@ -1,12 +1,5 @@
-use Rattle.std.proofs.Common.{◌≡◌, inl, sym, subst, ◌∙◌}
-use Rattle.std.proofs.lemmas.Result.{IfOk-weaker}
+use Rattle.mdcache.proofs.Common.{AreNumbers, IfOk-weaker, IsColdTree, Objects, contents, dentry_cmp, inl, shown_in, subst, sym, ◌∙◌, ◌≡◌}
 use Rattle.std.specs.FinMap as map
-use Rattle.sorted_map.specs.SortedMap.{contents}
-use Rattle.mds_types.specs.Tree.{dentry_cmp}
-use Rattle.objstore.specs.Objects.{Objects}
-use Rattle.cold_store.specs.ColdTree.{IsColdTree}
-use Rattle.mdcache.specs.Core.{shown_in}
-use Rattle.mdcache.specs.Mounted.{AreNumbers}
 use Rattle.mdcache.proofs.EmptyLaws.{none_if_not}
 use Rattle.mdcache.proofs.MountLaws.{mounted_cold, mounted_core, mounted_shows, new_shows, ok_both}
 use Rattle.mdcache.proofs.mdcache.MdCache.mount.Goals as goal

@@ -1,7 +1,4 @@
-use Rattle.std.proofs.Common.{ap}
-use Rattle.sorted_map.specs.SortedMap.{contents}
-use Rattle.mds_types.specs.Tree.{dentry_cmp}
-use Rattle.objstore.specs.Omap.{key_cmp}
+use Rattle.mdcache.proofs.Common.{ap, contents, dentry_cmp, key_cmp}
 use Rattle.mdcache.proofs.MountLaws.{is_mounted}
 use Rattle.mdcache.proofs.mdcache.MdCache.mount_walked.Goals as goal
 

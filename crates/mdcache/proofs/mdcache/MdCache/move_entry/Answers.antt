@@ -1,20 +1,6 @@
-use Rattle.std.proofs.Common.{◌⊎◌, ◌<◌, ℕ, List, Option, length, ap, subst, sym, ◌∙◌}
-use Rattle.std.specs.Prelude.{IfSome}
+use Rattle.mdcache.proofs.Common.{Cached, Core, HasCached, IfSome, Ino, Inode, IsRecordable, IsThat, Leaf, List, MayChange, MayGo, MayMove, Names, NoneEnds, Option, ap, dentry_at, dir_going, here, leaf_of, length, moves, shown_in, subst, sym, with_home, ℕ, ◌<◌, ◌∙◌, ◌⊎◌}
 use Rattle.std.specs.FinMap as map
-use Rattle.mds_types.specs.declared.ids.Ino.{Ino}
-use Rattle.mds_types.specs.declared.inodes.Inode.{Inode}
-use Rattle.mds_types.specs.Leaf.{leaf_of}
-use Rattle.dirfrag_codec.specs.EntryRecord.{IsRecordable}
-use Rattle.dirfrag_codec.specs.FragmentObject.{Names}
-use Rattle.cached_frag.specs.Cached.{Cached, shown as shown_of}
-use Rattle.dentry_cache.specs.Cache.{HasCached, Leaf}
-use Rattle.dentry_cache.specs.CacheMap.{here}
-use Rattle.dentry_cache.specs.Came.{IsThat, NoneEnds}
-use Rattle.inode_table.specs.Dirs.{MayGo, MayMove}
-use Rattle.inode_table.specs.TreeTable.{with_home}
-use Rattle.namespace_ops.specs.Changes.{MayChange, dentry_at, moves}
-use Rattle.mdcache.specs.Core.{Core, shown_in}
-use Rattle.mdcache.specs.Going.{dir_going}
+use Rattle.cached_frag.specs.Cached.{shown as shown_of}
 use Rattle.mdcache.proofs.ChangesMade.{IsDone, after_reads, counts_fit, entry_known, entry_moved, may_still, relocates, replaces}
 use Rattle.mdcache.proofs.CoreLaws.{dir_known, of_names, there_after}
 use Rattle.mdcache.proofs.PrepareLaws.{dir_live, entry_live, shows_entry}

@@ -1,6 +1,4 @@
-use Rattle.std.proofs.Common.{ap}
-use Rattle.mdcache.specs.PurgeList.{Listed}
-use Rattle.mdcache.specs.StandingJobs.{Standing}
+use Rattle.mdcache.proofs.Common.{Listed, Standing, ap}
 use Rattle.mdcache.proofs.NewLaws.{new_core, new_is}
 use Rattle.mdcache.proofs.mdcache.MdCache.new.Goals as goal
 

@@ -1,11 +1,5 @@
 -- The first 256 of the leaves that aren't clean.
-use Rattle.std.proofs.Common.{◌≤◌, length, take, sym, ap, subst, ◌∙◌}
-use Rattle.std.specs.List.{AllByRecursion}
-use Rattle.dentry_cache.specs.CacheMap.{AreCaches}
-use Rattle.dentry_cache.specs.Unclean.{unclean_places}
-use Rattle.dentry_cache.proofs.UncleanPlaces.{few_taken}
-use Rattle.mdcache.specs.Batches.{AreApart, IsUncleanAt, leaves_at}
-use Rattle.mdcache.specs.Core.{Core}
+use Rattle.mdcache.proofs.Common.{AllByRecursion, AreApart, AreCaches, Core, IsUncleanAt, ap, few_taken, leaves_at, length, subst, sym, take, unclean_places, ◌∙◌, ◌≤◌}
 use Rattle.mdcache.proofs.PlacesLaws.{listed_apart, listed_unclean, nothing_listed}
 use Rattle.mdcache.proofs.mdcache.MdCache.next_batch.Goals as goal
 

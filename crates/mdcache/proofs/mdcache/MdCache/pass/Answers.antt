@@ -1,11 +1,5 @@
-use Rattle.std.proofs.Common.{ap, subst, sym, ◌∙◌}
+use Rattle.mdcache.proofs.Common.{Core, HasRoom, KeepsNone, ap, here, leaf_of, none_with_mark, subst, sym, ◌∙◌}
 use Rattle.std.specs.Prelude.{None, Some}
-use Rattle.dentry_cache.specs.Cache.{HasRoom}
-use Rattle.dentry_cache.specs.CacheCalls.{KeepsNone}
-use Rattle.dentry_cache.specs.CacheMap.{here}
-use Rattle.dentry_cache.proofs.WholeLaws.{none_with_mark}
-use Rattle.mds_types.specs.Leaf.{leaf_of}
-use Rattle.mdcache.specs.Core.{Core}
 use Rattle.mdcache.proofs.ChangeSteps.{room_left}
 use Rattle.mdcache.proofs.mdcache.MdCache.pass.Goals as goal
 

@@ -1,13 +1,4 @@
-use Rattle.std.proofs.Common.{List, ap, subst, ◌∙◌}
-use Rattle.std.specs.List.{Contains}
-use Rattle.mds_types.specs.Leaf.{leaf_of}
-use Rattle.dentry_cache.specs.Cache.{Leaf}
-use Rattle.dentry_cache.specs.Came.{NoneEnds}
-use Rattle.inode_table.specs.Dirs.{leaves_of}
-use Rattle.mdcache.specs.Core.{Core, ReadsCore}
-use Rattle.mdcache.specs.Going.{leaves_in}
-use Rattle.mdcache.specs.Joining.{IsAmongOr}
-use Rattle.mdcache.specs.Regrouping.{ending_at}
+use Rattle.mdcache.proofs.Common.{Contains, Core, IsAmongOr, Leaf, List, NoneEnds, ReadsCore, ap, ending_at, leaf_of, leaves_in, leaves_of, subst, ◌∙◌}
 use Rattle.mdcache.proofs.CoreLaws.{reads_sound_so, reads_state}
 use Rattle.mdcache.proofs.JoinLaws.{itself_apart}
 use Rattle.mdcache.proofs.MergeSteps.{ending_live, merged_nowhere}

@@ -1,6 +1,4 @@
-use Rattle.std.proofs.Common.{◌+◌, ◌^◌}
-use Rattle.mds_types.specs.Frag.{child_of}
-use Rattle.dentry_cache.specs.CacheSplits.{IsFamilyAt}
+use Rattle.mdcache.proofs.Common.{IsFamilyAt, child_of, ◌+◌, ◌^◌}
 use Rattle.mdcache.proofs.CoreLaws.{reads_sound_so, reads_state}
 use Rattle.mdcache.proofs.RegroupReady.{family_live, room_absent, room_fetch, last_reads, last_refused, room_reads, room_sound}
 use Rattle.mdcache.proofs.SplitSteps.{no_child_cached}

@@ -1,6 +1,4 @@
-use Rattle.std.proofs.Common.{◌≡◌, ℕ, List, Option, ap, subst, sym, ◌∙◌}
-use Rattle.std.specs.Prelude.{IfSome}
-use Rattle.std.specs.Option.{option_copied}
+use Rattle.mdcache.proofs.Common.{IfSome, List, Option, ap, option_copied, subst, sym, ℕ, ◌∙◌, ◌≡◌}
 use Rattle.std.specs.FinMap as map
 use Rattle.mdcache.proofs.BesideLaws.{faults_sound, purge_purged, purge_sound}
 use Rattle.mdcache.proofs.mdcache.MdCache.purge.Goals as goal

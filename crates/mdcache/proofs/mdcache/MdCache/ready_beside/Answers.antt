@@ -1,12 +1,4 @@
-use Rattle.std.proofs.Common.{rules, ◌⊎◌, ◌<◌, ◌≤◌, ℕ, inr, length, refl, sym, subst}
-use Rattle.mds_types.specs.Leaf.{leaf_of}
-use Rattle.cached_frag.specs.Cached.{Cached}
-use Rattle.dentry_cache.specs.Cache.{HasCached}
-use Rattle.dentry_cache.specs.CacheCalls.{Edits, KeepsNone}
-use Rattle.dentry_cache.specs.CacheMap.{here}
-use Rattle.dentry_cache.specs.Came.{IsThat, NoneEnds}
-use Rattle.dentry_cache.specs.Cache.{Leaf}
-use Rattle.mdcache.specs.Core.{Core}
+use Rattle.mdcache.proofs.Common.{Cached, Core, Edits, HasCached, IsThat, KeepsNone, Leaf, NoneEnds, here, inr, leaf_of, length, refl, rules, subst, sym, ℕ, ◌<◌, ◌≤◌, ◌⊎◌}
 use Rattle.mdcache.proofs.CoreLaws.{room_step, there_after}
 use Rattle.mdcache.proofs.NoneLaws.{none_edits}
 use Rattle.mdcache.proofs.RoomLaws.{has_room, has_rooms, other_room, stays_roomy}

@@ -1,4 +1,4 @@
-use Rattle.std.proofs.Common.{rules, refl}
+use Rattle.mdcache.proofs.Common.{refl, rules}
 use Rattle.mdcache.proofs.RegroupReady.{children_absent, children_none_so, children_only_so, children_reads, children_refused_so, children_there, children_distinct, fetched_family, fetched_nowhere, fetched_distinct}
 use Rattle.mdcache.proofs.mdcache.MdCache.ready_children.Goals as goal
 

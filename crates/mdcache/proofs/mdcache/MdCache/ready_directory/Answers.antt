@@ -1,10 +1,4 @@
-use Rattle.std.proofs.Common.{rules, ◌⊎◌, ◌<◌, ℕ, ap}
-use Rattle.mds_types.specs.Leaf.{leaf_of}
-use Rattle.dentry_cache.specs.Cache.{Leaf}
-use Rattle.dentry_cache.specs.Came.{IsThat, NoneEnds}
-use Rattle.inode_table.specs.Dirs.{Table}
-use Rattle.mdcache.specs.Changes.{first_leaf}
-use Rattle.mdcache.specs.Core.{Core}
+use Rattle.mdcache.proofs.Common.{Core, IsThat, Leaf, NoneEnds, Table, ap, first_leaf, leaf_of, rules, ℕ, ◌<◌, ◌⊎◌}
 use Rattle.mdcache.proofs.CoreLaws.{dirs_grown, grown_may, grown_refused, grown_sound, grows_by, not_ready, on_err_so, reads_cached_so, reads_core_on, reads_itself, reads_sound_so, still_absent}
 use Rattle.mdcache.proofs.PrepareLaws.{first_live_so, first_nowhere, two_left}
 use Rattle.mdcache.proofs.mdcache.MdCache.ready_directory.Goals as goal

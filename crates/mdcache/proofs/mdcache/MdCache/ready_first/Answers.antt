@@ -1,15 +1,5 @@
-use Rattle.std.proofs.Common.{rules, ◌≡◌, ◌⊎◌, ◌<◌, ℕ, None, Some, inl, inr, length, refl, sym, subst}
+use Rattle.mdcache.proofs.Common.{Core, HasRoom, IfErr, IsThat, KeepsNone, LacksPlacesIn, Leaf, MayNotFind, None, NoneEnds, Rank, Some, here, inl, inr, leaf_of, length, refl, rules, subst, sym, ℕ, ◌<◌, ◌≡◌, ◌⊎◌}
 use Rattle.std.specs.FinMap as map
-use Rattle.std.specs.Prelude.{IfErr}
-use Rattle.mds_types.specs.declared.ids.Rank.{Rank}
-use Rattle.mds_types.specs.Leaf.{leaf_of}
-use Rattle.dentry_cache.specs.Cache.{HasRoom, Leaf}
-use Rattle.dentry_cache.specs.CacheCalls.{KeepsNone}
-use Rattle.dentry_cache.specs.CacheMap.{here}
-use Rattle.dentry_cache.specs.Came.{IsThat, NoneEnds}
-use Rattle.mdcache.specs.CacheReads.{LacksPlacesIn}
-use Rattle.mdcache.specs.Core.{Core}
-use Rattle.mdcache.specs.Reads.{MayNotFind}
 use Rattle.mdcache.proofs.CoreLaws.{reads_core_wider, still_absent, there_after}
 use Rattle.mdcache.proofs.KeepSteps.{keep_none, keep_only, keep_place, keep_reads, keep_refused, keep_stays, keep_nowhere}
 use Rattle.mdcache.proofs.NoneLaws.{none_absent}

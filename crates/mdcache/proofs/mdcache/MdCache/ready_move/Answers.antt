@@ -1,8 +1,4 @@
-use Rattle.std.proofs.Common.{rules, ◌⊎◌, ◌<◌, ℕ, arith, ap}
-use Rattle.mds_types.specs.Leaf.{leaf_of}
-use Rattle.dentry_cache.specs.Cache.{Leaf}
-use Rattle.dentry_cache.specs.Came.{IsThat, NoneEnds}
-use Rattle.mdcache.specs.Core.{Core}
+use Rattle.mdcache.proofs.Common.{Core, IsThat, Leaf, NoneEnds, ap, arith, leaf_of, rules, ℕ, ◌<◌, ◌⊎◌}
 use Rattle.mdcache.proofs.CoreLaws.{grown_may, grown_sound, not_found_pair, not_ready, purge_grown, reads_core_on, reads_itself, reads_sound, two_live}
 use Rattle.mdcache.proofs.mdcache.MdCache.ready_move.Goals as goal
 

@@ -1,6 +1,4 @@
-use Rattle.std.proofs.Common.{rules, ◌<◌, arith}
-use Rattle.mds_types.specs.Leaf.{leaf_of}
-use Rattle.dentry_cache.specs.Came.{IsThat, NoneEnds}
+use Rattle.mdcache.proofs.Common.{IsThat, NoneEnds, arith, leaf_of, rules, ◌<◌}
 use Rattle.mdcache.proofs.CoreLaws.{if_err, may_fetch, not_ready, read_sound, reads_itself, that_live}
 use Rattle.mdcache.proofs.mdcache.MdCache.ready_name.Goals as goal
 

@@ -1,9 +1,4 @@
-use Rattle.std.proofs.Common.{rules, ◌<◌, ◌≤◌, length, refl, sym, subst}
-use Rattle.mds_types.specs.Leaf.{leaf_of}
-use Rattle.cached_frag.specs.Cached.{Cached}
-use Rattle.dentry_cache.specs.CacheCalls.{Edits, KeepsNone}
-use Rattle.dentry_cache.specs.Came.{IsThat, NoneEnds}
-use Rattle.mdcache.specs.Core.{Core}
+use Rattle.mdcache.proofs.Common.{Cached, Core, Edits, IsThat, KeepsNone, NoneEnds, leaf_of, length, refl, rules, subst, sym, ◌<◌, ◌≤◌}
 use Rattle.mdcache.proofs.CoreLaws.{room_step, there_after}
 use Rattle.mdcache.proofs.NoneLaws.{none_edits}
 use Rattle.mdcache.proofs.RoomLaws.{has_rooms, other_room}

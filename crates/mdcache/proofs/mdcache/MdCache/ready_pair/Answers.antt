@@ -1,8 +1,4 @@
-use Rattle.std.proofs.Common.{rules, ◌≡◌, ◌⊎◌, ℕ, inl, inr, sym, ap, ◌∙◌}
-use Rattle.mds_types.specs.declared.ids.Rank.{Rank}
-use Rattle.mds_types.specs.Leaf.{leaf_of}
-use Rattle.dentry_cache.specs.Cache.{Leaf}
-use Rattle.dentry_cache.specs.Came.{IsThat, NoneEnds}
+use Rattle.mdcache.proofs.Common.{IsThat, Leaf, NoneEnds, Rank, ap, inl, inr, leaf_of, rules, sym, ℕ, ◌∙◌, ◌≡◌, ◌⊎◌}
 use Rattle.mdcache.proofs.CoreLaws.{if_err, may_fetch_on, not_found_before, not_found_weaker, reads_core_on, reads_core_wider}
 use Rattle.mdcache.proofs.mdcache.MdCache.ready_pair.Goals as goal
 

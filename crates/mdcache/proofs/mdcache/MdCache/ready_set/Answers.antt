@@ -1,16 +1,5 @@
-use Rattle.std.proofs.Common.{◌<◌, length, sym, subst}
-use Rattle.std.specs.Prelude.{IfSome}
+use Rattle.mdcache.proofs.Common.{Cached, Core, HasCached, IfSome, IsRecordable, IsThat, Names, NoneEnds, State, here, leaf_of, length, names_of, shown, subst, sym, ◌<◌}
 use Rattle.std.specs.FinMap as map
-use Rattle.mds_types.specs.Leaf.{leaf_of}
-use Rattle.dirfrag_codec.specs.EntryRecord.{IsRecordable}
-use Rattle.dirfrag_codec.specs.FragmentObject.{Names}
-use Rattle.cached_frag.specs.Cached.{Cached, shown}
-use Rattle.dentry_cache.specs.Cache.{HasCached}
-use Rattle.dentry_cache.specs.CacheMap.{here}
-use Rattle.dentry_cache.specs.Came.{IsThat, NoneEnds}
-use Rattle.mdcache.specs.Core.{Core}
-use Rattle.mdcache.specs.Shown.{names_of}
-use Rattle.mdcache.specs.State.{State}
 use Rattle.mdcache.proofs.CoreLaws.{of_names, reads_state, there_after}
 use Rattle.mdcache.proofs.mdcache.MdCache.ready_set.Goals as goal
 

@@ -1,6 +1,4 @@
-use Rattle.std.proofs.Common.{subst, sym}
-use Rattle.dentry_cache.specs.CacheCalls.{KeepsNone}
-use Rattle.mdcache.specs.Core.{Core}
+use Rattle.mdcache.proofs.Common.{Core, KeepsNone, subst, sym}
 use Rattle.mdcache.proofs.mdcache.MdCache.remove_dir.Goals as goal
 
 pub returns-in-Some-clause-none : goal.returns-in-Some-clause-none

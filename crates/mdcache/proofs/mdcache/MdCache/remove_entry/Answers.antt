@@ -1,9 +1,4 @@
-use Rattle.std.proofs.Common.{Option, ap, subst, sym, ◌∙◌}
-use Rattle.mds_types.specs.declared.ids.Ino.{Ino}
-use Rattle.mds_types.specs.Leaf.{leaf_of}
-use Rattle.dentry_cache.specs.Came.{IsThat, NoneEnds}
-use Rattle.namespace_ops.specs.Changes.{MayChange, dentry_at, removes}
-use Rattle.mdcache.specs.Core.{Core, shown_in}
+use Rattle.mdcache.proofs.Common.{Core, Ino, IsThat, MayChange, NoneEnds, Option, ap, dentry_at, leaf_of, removes, shown_in, subst, sym, ◌∙◌}
 use Rattle.mdcache.proofs.ChangesMade.{IsDone, after_reads, entry_known, may_go, may_still, removal_done}
 use Rattle.mdcache.proofs.CoreLaws.{not_ready_wider, there_after}
 use Rattle.mdcache.proofs.PrepareLaws.{entry_live, one_or_two}

@@ -1,11 +1,4 @@
-use Rattle.std.proofs.Common.{Option, ap, subst, sym, ◌∙◌}
-use Rattle.std.specs.Prelude.{IfSome}
-use Rattle.mds_types.specs.declared.inodes.Inode.{Inode}
-use Rattle.mds_types.specs.Leaf.{leaf_of}
-use Rattle.dirfrag_codec.specs.EntryRecord.{IsRecordable}
-use Rattle.dentry_cache.specs.Came.{IsThat, NoneEnds}
-use Rattle.namespace_ops.specs.Changes.{dentry_at, sets}
-use Rattle.mdcache.specs.Core.{Core, shown_in}
+use Rattle.mdcache.proofs.Common.{Core, IfSome, Inode, IsRecordable, IsThat, NoneEnds, Option, ap, dentry_at, leaf_of, sets, shown_in, subst, sym, ◌∙◌}
 use Rattle.mdcache.proofs.ChangesMade.{after_reads, may_still, set_done, set_listed}
 use Rattle.mdcache.proofs.CoreLaws.{not_ready_wider, there_after}
 use Rattle.mdcache.proofs.PrepareLaws.{entry_live, one_or_two, set_recordable, shows_entry}

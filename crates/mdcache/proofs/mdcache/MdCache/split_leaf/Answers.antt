@@ -1,6 +1,4 @@
-use Rattle.std.proofs.Common.{inl, refl}
-use Rattle.dentry_cache.specs.CacheSplits.{IsFamilyAt}
-use Rattle.dentry_cache.proofs.ReadsLaws.{reads_came}
+use Rattle.mdcache.proofs.Common.{IsFamilyAt, inl, reads_came, refl}
 use Rattle.mdcache.proofs.CoreLaws.{there_after}
 use Rattle.mdcache.proofs.SplitSteps.{split_keeps, split_made, split_sound, split_steps}
 use Rattle.mdcache.proofs.mdcache.MdCache.split_leaf.Goals as goal

@@ -1,7 +1,4 @@
-use Rattle.std.proofs.Common.{◌≡◌, ◌-◌, true, false, refl, sym, ◌∙◌, arith}
-use Rattle.std.proofs.lemmas.Bool.Decides.{nat_tests}
-use Rattle.std.proofs.lemmas.Bool.{or_right}
-use Rattle.cached_frag.specs.Rows.{Row}
+use Rattle.mdcache.proofs.Common.{Row, arith, false, nat_tests, or_right, refl, sym, true, ◌-◌, ◌∙◌, ◌≡◌}
 use Rattle.mdcache.proofs.PageLaws.{behind_more, behind_put, kept_put, kept_taken, or_false, placed_more, placed_put, set_more, set_put, takes_by}
 use Rattle.mdcache.proofs.page.Page.take_row.Goals as goal
 

@@ -1,5 +1,4 @@
-use Rattle.std.proofs.Common.{◌∙◌}
-use Rattle.cached_frag.specs.Rows.{rows_left}
+use Rattle.mdcache.proofs.Common.{rows_left, ◌∙◌}
 use Rattle.mdcache.proofs.PageLaws.{leaf_left, next_taken}
 use Rattle.mdcache.proofs.page.Page.take_rows.Goals as goal
 

@@ -1,10 +1,5 @@
 -- The rows that were taken in and those that are left are the whole.
-use Rattle.std.proofs.Common.{◌≡◌, T, List, length}
-use Rattle.std.specs.FinMap.{is_sorted}
-use Rattle.objstore.specs.Omap.{key_cmp}
-use Rattle.sorted_map.specs.Places.{puts}
-use Rattle.cached_frag.specs.Rows.{Row, rows_left}
-use Rattle.mdcache.specs.Pages.{IsPageOf}
+use Rattle.mdcache.proofs.Common.{IsPageOf, List, Row, T, is_sorted, key_cmp, length, puts, rows_left, ◌≡◌}
 use Rattle.mdcache.proofs.page.Page.take_rows.Given as goal
 
 abbrev pub invariant-loop-name : goal.invariant-loop-name

@@ -1,5 +1,4 @@
-use Rattle.std.proofs.Common.{subst}
-use Rattle.mdcache.specs.StandingJobs.{Finds, Standing}
+use Rattle.mdcache.proofs.Common.{Finds, Standing, subst}
 use Rattle.mdcache.proofs.standing_jobs.StandingJobs.leaf_of.Goals as goal
 
 pub returns : goal.returns

@@ -1,5 +1,4 @@
-use Rattle.std.proofs.Common.{subst}
-use Rattle.mdcache.specs.StandingJobs.{IsNext, Standing}
+use Rattle.mdcache.proofs.Common.{IsNext, Standing, subst}
 use Rattle.mdcache.proofs.standing_jobs.StandingJobs.next.Goals as goal
 
 pub returns : goal.returns

@@ -1,6 +1,6 @@
 -- A child stays within its fragment, so its value fits 24 bits and is zero below its own.
-use Rattle.std.proofs.Common.{◌+◌, ◌^◌, ◌<◌, ◌≤◌, subst, arith}
-use Rattle.std.proofs.lemmas.Nat.{one_shl}
+use Rattle.mds_types.proofs.Common.{arith, one_shl, subst, ◌+◌, ◌^◌}
+use Rattle.std.proofs.Common.{◌<◌, ◌≤◌}
 use Rattle.mds_types.proofs.Fragments.{child-bounds, child_is_fragment}
 use Rattle.mds_types.proofs.frags.Frag.child.Goals as goal
 

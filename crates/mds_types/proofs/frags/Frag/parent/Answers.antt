@@ -1,5 +1,6 @@
 -- The bits below a parent's are taken off the value.
-use Rattle.std.proofs.Common.{◌<◌, arith}
+use Rattle.mds_types.proofs.Common.{arith}
+use Rattle.std.proofs.Common.{◌<◌}
 use Rattle.mds_types.proofs.Fragments.{parent_is_fragment}
 use Rattle.mds_types.proofs.frags.Frag.parent.Goals as goal
 

@@ -1,5 +1,4 @@
-use Rattle.std.proofs.Common.{rules}
-use Rattle.std.proofs.Output.{has_written_append, has_written_of_eq}
+use Rattle.mds_types.proofs.Common.{has_written_append, has_written_of_eq, rules}
 use Rattle.mds_types.proofs.Fragments.{digits_more}
 use Rattle.mds_types.proofs.frags.FragDisplay.fmt.Goals as goal
 

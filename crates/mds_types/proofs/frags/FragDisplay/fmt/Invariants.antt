@@ -1,7 +1,4 @@
-use Rattle.std.proofs.Common.{map}
-use Rattle.std.specs.List.{range_with_len}
-use Rattle.std.specs.Fmt.{HasWritten, IsPlainFormatter}
-use Rattle.mds_types.specs.Frag.{digit_at}
+use Rattle.mds_types.proofs.Common.{HasWritten, IsPlainFormatter, digit_at, map, range_with_len}
 use Rattle.mds_types.proofs.frags.FragDisplay.fmt.Given as goal
 
 -- the digits of the bits passed are written

@@ -1,7 +1,5 @@
-use Rattle.std.proofs.Common.{rules, ◌++◌, codes, sym, ap, ◌∙◌, false}
-use Rattle.std.proofs.Output.{has_written_of_eq}
-use Rattle.std.specs.Fmt.{digits}
-use Rattle.mds_types.specs.ObjectText.{object_text, word_text}
+use Rattle.mds_types.proofs.Common.{ap, codes, digits, has_written_of_eq, object_text, rules, sym, word_text, ◌∙◌}
+use Rattle.std.proofs.Common.{◌++◌, false}
 use Rattle.mds_types.proofs.ObjectTextLaws.{word_padded}
 use Rattle.mds_types.proofs.object_names.ObjNameDisplay.fmt.Goals as goal
 

@@ -1,7 +1,5 @@
 -- The pairs of the maps are those that the contract compares.
-use Rattle.std.proofs.Common.{rules}
-use Rattle.sorted_map.proofs.MapLaws.{entries-contents}
-use Rattle.objstore.specs.Omap.{key_cmp}
+use Rattle.objstore.proofs.Common.{entries-contents, key_cmp, rules}
 use Rattle.objstore.proofs.key_sets.KeySetPartialEq.eq.Goals as goal
 
 pub returns-clause-value : goal.returns-clause-value

@@ -1,5 +1,4 @@
-use Rattle.std.proofs.Common.{ap, ◌∙◌}
-use Rattle.objstore.specs.Objects.{NameList}
+use Rattle.objstore.proofs.Common.{NameList, ap, ◌∙◌}
 use Rattle.objstore.proofs.WriteLemmas.{all_names}
 use Rattle.objstore.proofs.mem_stores.MemStore.names.Goals as goal
 

@@ -1,6 +1,4 @@
-use Rattle.std.proofs.Common.{ap, ◌∙◌}
-use Rattle.sorted_map.specs.Overlay.{overlaid, without_keys}
-use Rattle.objstore.specs.Writes.{header_after, pairs_before}
+use Rattle.objstore.proofs.Common.{ap, header_after, overlaid, pairs_before, without_keys, ◌∙◌}
 use Rattle.objstore.proofs.WriteLaws.{applied-by-parts}
 use Rattle.objstore.proofs.objects.Object.apply.Goals as goal
 

@@ -1,7 +1,5 @@
 -- The pairs of the maps are those that the contract compares.
-use Rattle.std.proofs.lemmas.Slice.Eq.{bytes_eq-Decides}
-use Rattle.sorted_map.proofs.MapLaws.{entries-contents}
-use Rattle.objstore.specs.Omap.{key_cmp}
+use Rattle.objstore.proofs.Common.{bytes_eq-Decides, entries-contents, key_cmp}
 use Rattle.objstore.proofs.pairs.PairsPartialEq.eq.Goals as goal
 
 pub returns-clause-value : goal.returns-clause-value

@@ -1,7 +1,4 @@
-use Rattle.std.proofs.Common.{rules, ◌≡◌, not, true, ◌↔◌, ap, subst, ◌∙◌}
-use Rattle.std.specs.List.{list_any}
-use Rattle.mds_types.specs.Tree.{IsUnused}
-use Rattle.plain_frags.specs.PlainFrags.{Kept, is_numbered}
+use Rattle.plain_frags.proofs.Common.{IsUnused, Kept, ap, is_numbered, list_any, not, rules, subst, true, ◌↔◌, ◌∙◌, ◌≡◌}
 use Rattle.plain_frags.proofs.Unused.{unused_told}
 use Rattle.plain_frags.proofs.frags.PlainFrags.is_unused.Goals as goal
 

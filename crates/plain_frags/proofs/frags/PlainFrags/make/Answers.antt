@@ -1,8 +1,4 @@
-use Rattle.std.proofs.Common.{refl, rules, subst}
-use Rattle.mds_types.specs.Tree.{IsWellFormed}
-use Rattle.inode_table.proofs.TableLaws.{leaves_same}
-use Rattle.plain_frags.specs.PlainFrags.{Kept}
-use Rattle.namespace_ops.proofs.OtherLeaves.{others_stay}
+use Rattle.plain_frags.proofs.Common.{IsWellFormed, Kept, leaves_same, others_stay, refl, rules, subst}
 use Rattle.plain_frags.proofs.frags.PlainFrags.make.Goals.{in-None-Some, in-None-None, in-Some-None, in-Some-Some}
 use Rattle.plain_frags.proofs.frags.PlainFrags.make.Goals as goal
 

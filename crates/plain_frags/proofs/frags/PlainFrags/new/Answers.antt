@@ -1,4 +1,4 @@
-use Rattle.inode_table.proofs.TableLaws.{empty_tabled}
+use Rattle.plain_frags.proofs.Common.{empty_tabled}
 use Rattle.plain_frags.proofs.frags.PlainFrags.new.Goals as goal
 
 pub invariant_of-result : goal.invariant_of-result

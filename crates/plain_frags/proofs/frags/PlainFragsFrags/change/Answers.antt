@@ -1,8 +1,4 @@
-use Rattle.std.proofs.Common.{subst₂}
-use Rattle.mds_types.specs.Tree.{Tree}
-use Rattle.inode_table.specs.Dirs.{Covers}
-use Rattle.namespace_ops.specs.Changes.{fragments_of}
-use Rattle.namespace_ops.specs.Kept.{ChangesOnly, IsStanding, ShowsTheSame}
+use Rattle.plain_frags.proofs.Common.{ChangesOnly, Covers, IsStanding, ShowsTheSame, Tree, fragments_of, subst₂}
 use Rattle.plain_frags.proofs.frags.PlainFragsFrags.change.Goals as goal
 
 pub returns-clause-frame : goal.returns-clause-frame

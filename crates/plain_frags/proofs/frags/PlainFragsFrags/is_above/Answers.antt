@@ -1,7 +1,4 @@
-use Rattle.std.proofs.Common.{ap, ◌∙◌}
-use Rattle.mds_types.specs.Tree.{is_directory, is_above}
-use Rattle.plain_frags.specs.PlainFrags.{Kept}
-use Rattle.inode_table.proofs.TableLaws.{above_is}
+use Rattle.plain_frags.proofs.Common.{Kept, above_is, ap, is_above, is_directory, ◌∙◌}
 use Rattle.plain_frags.proofs.frags.PlainFragsFrags.is_above.Goals as goal
 
 pub returns : goal.returns

@@ -1,7 +1,4 @@
-use Rattle.std.proofs.Common.{ap, ◌∙◌}
-use Rattle.mds_types.specs.Tree.{is_directory}
-use Rattle.plain_frags.specs.PlainFrags.{Kept}
-use Rattle.inode_table.proofs.TableLaws.{known_is}
+use Rattle.plain_frags.proofs.Common.{Kept, ap, is_directory, known_is, ◌∙◌}
 use Rattle.plain_frags.proofs.frags.PlainFragsFrags.is_dir.Goals as goal
 
 pub returns : goal.returns

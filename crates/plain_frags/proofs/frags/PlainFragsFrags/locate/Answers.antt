@@ -1,9 +1,4 @@
-use Rattle.std.proofs.Common.{refl, sym, ap, subst, ◌∙◌}
-use Rattle.std.specs.Option.{option_copied}
-use Rattle.mds_types.specs.Tree.{entries_in, is_directory}
-use Rattle.inode_table.specs.Dirs.{IsLeafAt}
-use Rattle.inode_table.proofs.TableLaws.{known_is}
-use Rattle.plain_frags.specs.PlainFrags.{Kept}
+use Rattle.plain_frags.proofs.Common.{IsLeafAt, Kept, ap, entries_in, is_directory, known_is, option_copied, refl, subst, sym, ◌∙◌}
 use Rattle.plain_frags.proofs.frags.PlainFragsFrags.locate.Goals as goal
 
 pub returns-in_default : goal.returns-in_default

@@ -1,4 +1,4 @@
-use Rattle.std.specs.Result.{result_err}
+use Rattle.ranked_tree.proofs.Common.{result_err}
 use Rattle.ranked_tree.proofs.FragsLaws.{keeps_dir, walk_refused}
 use Rattle.ranked_tree.proofs.frags.RankedTreeFrags.is_empty.Goals as goal
 

@@ -1,9 +1,4 @@
-use Rattle.std.proofs.Common.{subst, sym}
-use Rattle.std.specs.Result.{result_err}
-use Rattle.mds_types.specs.Leaf.{leaf_of}
-use Rattle.namespace_ops.specs.Changes.{Concerns}
-use Rattle.mdcache.specs.Core.{state_of}
-use Rattle.mdcache.specs.Shown.{shown_tree}
+use Rattle.ranked_tree.proofs.Common.{Concerns, leaf_of, result_err, shown_tree, state_of, subst, sym}
 use Rattle.ranked_tree.proofs.FragsLaws.{keeps_dir, look_refused}
 use Rattle.ranked_tree.proofs.frags.RankedTreeFrags.look.Goals as goal
 

@@ -1,8 +1,5 @@
-use Rattle.mdcache.specs.Core.{state_of}
+use Rattle.ranked_tree.proofs.Common.{CacheMap, ap, held_in, state_of}
 use Rattle.std.specs.Prelude.{length}
-use Rattle.std.proofs.Common.{ap}
-use Rattle.dentry_cache.specs.CacheMap.{CacheMap}
-use Rattle.ranked_tree.specs.Exported.{held_in}
 use Rattle.ranked_tree.proofs.StandLaws.{divided_still, same_jobs}
 use Rattle.ranked_tree.proofs.HeldLaws.{owned_same}
 use Rattle.ranked_tree.proofs.Stays.{saved}

@@ -1,7 +1,4 @@
-use Rattle.dentry_cache.specs.Came.{NoneEnds}
-use Rattle.dentry_cache.proofs.FrameLaws.{came_ranks}
-use Rattle.mdcache.specs.Flushed.{HasFragment}
-use Rattle.ranked_tree.specs.Exported.{held_in}
+use Rattle.ranked_tree.proofs.Common.{HasFragment, NoneEnds, came_ranks, held_in}
 use Rattle.ranked_tree.proofs.FlushedLaws.{holds_what_it_has}
 use Rattle.ranked_tree.proofs.HeldLaws.{owned_came}
 use Rattle.ranked_tree.proofs.StandLaws.{divided_still, no_jobs}

@@ -1,12 +1,6 @@
-use Rattle.std.proofs.Common.{ap, sym, subst}
-use Rattle.subtree_map.specs.Changes.{Subtrees}
-use Rattle.mdcache.specs.State.{State}
-use Rattle.ranked_tree.specs.Subtrees.{AreRoots}
-use Rattle.ranked_tree.specs.Ranked.{new_roots}
-use Rattle.ranked_tree.specs.Held.{IsOwned}
+use Rattle.ranked_tree.proofs.Common.{AreRoots, IsOwned, State, Subtrees, ap, new_roots, state_of, subst, sym}
 use Rattle.ranked_tree.proofs.StandLaws.{stand_none}
 use Rattle.ranked_tree.proofs.NewLaws.{new_are_held, new_are_roots}
-use Rattle.mdcache.specs.Core.{state_of}
 use Rattle.ranked_tree.proofs.ranked_tree.RankedTree.format.Goals as goal
 
 pub invariant_of-result : goal.invariant_of-result

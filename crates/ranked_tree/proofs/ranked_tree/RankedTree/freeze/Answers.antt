@@ -1,7 +1,4 @@
-use Rattle.std.proofs.Common.{sym, subst}
-use Rattle.mdcache.specs.Core.{state_of}
-use Rattle.ranked_tree.specs.Ranked.{Ranked, held_roots}
-use Rattle.ranked_tree.specs.Subtrees.{KeepsAuthorities}
+use Rattle.ranked_tree.proofs.Common.{KeepsAuthorities, Ranked, held_roots, state_of, subst, sym}
 use Rattle.ranked_tree.proofs.StepLaws.{MayFreeze, freeze_authorities, freeze_divided, freeze_holders}
 use Rattle.ranked_tree.proofs.ranked_tree.RankedTree.freeze.Goals as goal
 

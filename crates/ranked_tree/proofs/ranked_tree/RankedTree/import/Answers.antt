@@ -1,4 +1,4 @@
-use Rattle.std.proofs.Common.{inr, refl}
+use Rattle.ranked_tree.proofs.Common.{inr, refl}
 use Rattle.ranked_tree.proofs.ImportLaws.{imported_divided, imported_others, imports}
 use Rattle.ranked_tree.proofs.ranked_tree.RankedTree.import.Goals as goal
 

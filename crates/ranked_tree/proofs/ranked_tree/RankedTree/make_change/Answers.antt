@@ -1,8 +1,4 @@
-use Rattle.std.proofs.Common.{sym, subst}
-use Rattle.std.specs.List.{Contains}
-use Rattle.namespace_ops.specs.Changes.{fragments_of}
-use Rattle.subtree_map.specs.Authority.{Leaf}
-use Rattle.ranked_tree.specs.Ranked.{IsFrozenLeaf, Ranked}
+use Rattle.ranked_tree.proofs.Common.{Contains, IsFrozenLeaf, Leaf, Ranked, fragments_of, subst, sym}
 use Rattle.ranked_tree.proofs.ranked_tree.RankedTree.make_change.Goals as goal
 
 pub change_tree-requires-clause-thawed : goal.change_tree-requires-clause-thawed

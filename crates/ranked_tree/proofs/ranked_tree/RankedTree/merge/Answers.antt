@@ -1,7 +1,4 @@
-use Rattle.std.proofs.Common.{sym, subst}
-use Rattle.subtree_map.specs.Changes.{HaveOneAuthority}
-use Rattle.ranked_tree.specs.Exported.{AreThawed}
-use Rattle.ranked_tree.specs.Ranked.{Ranked}
+use Rattle.ranked_tree.proofs.Common.{AreThawed, HaveOneAuthority, Ranked, subst, sym}
 use Rattle.ranked_tree.proofs.ranked_tree.RankedTree.merge.Goals as goal
 
 pub merge_with_roots-requires-clause-one : goal.merge_with_roots-requires-clause-one

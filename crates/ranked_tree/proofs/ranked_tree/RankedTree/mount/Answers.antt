@@ -1,11 +1,5 @@
 -- The roots are those of the tree that was found.
-use Rattle.std.proofs.Common.{ap, subst, sym}
-use Rattle.subtree_map.specs.Changes.{Subtrees}
-use Rattle.sorted_map.specs.SortedMap.{contents}
-use Rattle.mds_types.specs.Tree.{dentry_cmp}
-use Rattle.inode_table.specs.Dirs.{Covers}
-use Rattle.ranked_tree.specs.Mounted.{AreTopRoots}
-use Rattle.ranked_tree.specs.Held.{IsOwned}
+use Rattle.ranked_tree.proofs.Common.{AreTopRoots, Covers, IsOwned, Subtrees, ap, contents, dentry_cmp, subst, sym}
 use Rattle.ranked_tree.proofs.StandLaws.{stand_none}
 use Rattle.ranked_tree.proofs.MountedRoots.{mounted_owned}
 use Rattle.ranked_tree.proofs.ranked_tree.RankedTree.mount.Goals as goal

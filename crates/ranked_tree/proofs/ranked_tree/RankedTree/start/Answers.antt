@@ -1,6 +1,5 @@
+use Rattle.ranked_tree.proofs.Common.{Ranked, subst, sym}
 use Rattle.std.specs.Prelude.{◌<◌, length}
-use Rattle.std.proofs.Common.{sym, subst}
-use Rattle.ranked_tree.specs.Ranked.{Ranked}
 use Rattle.ranked_tree.proofs.StepLaws.{start_divided, start_holds}
 use Rattle.ranked_tree.proofs.ranked_tree.RankedTree.start.Goals as goal
 

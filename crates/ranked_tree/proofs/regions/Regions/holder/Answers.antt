@@ -1,4 +1,4 @@
-use Rattle.export_steps.proofs.Holding.{holder_is, valid_so}
+use Rattle.ranked_tree.proofs.Common.{holder_is, valid_so}
 use Rattle.ranked_tree.proofs.regions.Regions.holder.Goals as goal
 
 pub holder-requires-clause-valid : goal.holder-requires-clause-valid

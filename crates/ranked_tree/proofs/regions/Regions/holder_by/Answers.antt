@@ -1,8 +1,5 @@
-use Rattle.std.proofs.Common.{◌≡◌, rules, subst, sym}
+use Rattle.ranked_tree.proofs.Common.{HasAuthority, Roots, empty_of_len, rules, subst, sym, valid_so, ◌≡◌}
 use Rattle.std.specs.FinMap as map
-use Rattle.std.specs.FinMap.{empty_of_len}
-use Rattle.export_steps.proofs.Holding.{valid_so}
-use Rattle.subtree_map.specs.Authority.{HasAuthority, Roots}
 use Rattle.ranked_tree.proofs.StandLaws.{none_stand}
 use Rattle.ranked_tree.proofs.regions.Regions.holder_by.Goals as goal
 

@@ -1,6 +1,4 @@
-use Rattle.std.proofs.Common.{take}
-use Rattle.std.specs.Fmt.{HasWritten, IsPlainFormatter}
-use Rattle.script_output.specs.Escapes.{escaped}
+use Rattle.script_output.proofs.Common.{HasWritten, IsPlainFormatter, escaped, take}
 use Rattle.script_output.proofs.escapes.EscapedDisplay.fmt.Given as goal
 
 -- the bytes passed are written

@@ -1,7 +1,4 @@
-use Rattle.std.proofs.Common.{take}
-use Rattle.std.specs.Fmt.{HasWritten, IsPlainFormatter}
-use Rattle.std.specs.List.{flat_map}
-use Rattle.script_output.specs.Texts.{leaf_text}
+use Rattle.script_output.proofs.Common.{HasWritten, IsPlainFormatter, flat_map, leaf_text, take}
 use Rattle.script_output.proofs.frag_lists.LeafTextsDisplay.fmt.Given as goal
 
 -- the fragments passed are written

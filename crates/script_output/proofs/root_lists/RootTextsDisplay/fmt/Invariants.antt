@@ -1,7 +1,4 @@
-use Rattle.std.proofs.Common.{take}
-use Rattle.std.specs.Fmt.{HasWritten, IsPlainFormatter}
-use Rattle.std.specs.List.{flat_map}
-use Rattle.script_output.specs.Texts.{root_text}
+use Rattle.script_output.proofs.Common.{HasWritten, IsPlainFormatter, flat_map, root_text, take}
 use Rattle.script_output.proofs.root_lists.RootTextsDisplay.fmt.Given as goal
 
 -- the roots passed are written

@@ -1,4 +1,4 @@
-use Rattle.std.proofs.Common.{arith}
+use Rattle.script_output.proofs.Common.{arith}
 use Rattle.script_output.proofs.TextLemmas.{longer, roomy, short_decimal}
 use Rattle.script_output.proofs.text_ends.TextEnd.put_decimal.Goals as goal
 

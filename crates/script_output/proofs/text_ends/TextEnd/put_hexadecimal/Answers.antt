@@ -1,4 +1,4 @@
-use Rattle.std.proofs.Common.{arith}
+use Rattle.script_output.proofs.Common.{arith}
 use Rattle.script_output.proofs.TextLemmas.{longer, roomy, short_hexadecimal}
 use Rattle.script_output.proofs.text_ends.TextEnd.put_hexadecimal.Goals as goal
 

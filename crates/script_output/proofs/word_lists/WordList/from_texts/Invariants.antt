@@ -1,5 +1,4 @@
-use Rattle.std.proofs.Common.{◌≡◌, map}
-use Rattle.std.specs.Prelude.{string_bytes}
+use Rattle.script_output.proofs.Common.{map, string_bytes, ◌≡◌}
 use Rattle.script_output.proofs.word_lists.WordList.from_texts.Given as goal
 
 -- the texts passed are in the list

@@ -1,7 +1,4 @@
-use Rattle.std.proofs.Common.{take}
-use Rattle.std.specs.Fmt.{HasWritten, IsPlainFormatter}
-use Rattle.std.specs.List.{flat_map}
-use Rattle.script_output.specs.Texts.{word_text}
+use Rattle.script_output.proofs.Common.{HasWritten, IsPlainFormatter, flat_map, take, word_text}
 use Rattle.script_output.proofs.word_lists.WordTextsDisplay.fmt.Given as goal
 
 -- the words passed are written

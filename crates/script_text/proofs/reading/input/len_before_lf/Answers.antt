@@ -1,4 +1,4 @@
-use Rattle.std.proofs.Common.{arith}
+use Rattle.script_text.proofs.Common.{arith}
 use Rattle.script_text.proofs.FirstLf.{lf_at, no_lf}
 use Rattle.script_text.proofs.reading.input.len_before_lf.Goals as goal
 

@@ -1,5 +1,5 @@
-use Rattle.std.proofs.Common.{length, sym, ap, ◌∙◌, arith}
-use Rattle.std.proofs.lemmas.Bool.{eqb-false, eqb-true}
+use Rattle.script_text.proofs.Common.{ap, arith, eqb-false, length, sym, ◌∙◌}
+use Rattle.std.proofs.lemmas.Bool.{eqb-true}
 use Rattle.script_text.proofs.LineLemmas.{line_read, last_read, end_read, fault_read, grows}
 use Rattle.script_text.proofs.reading.input.next_line.Goals as goal
 

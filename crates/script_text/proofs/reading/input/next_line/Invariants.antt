@@ -1,6 +1,4 @@
-use Rattle.std.proofs.Common.{◌≡◌, ◌-◌, length}
-use Rattle.std.specs.Io.KnownBytes.{Consumes}
-use Rattle.script_text.specs.Looks.{IsOfOneLine}
+use Rattle.script_text.proofs.Common.{Consumes, IsOfOneLine, length, ◌-◌, ◌≡◌}
 use Rattle.script_text.proofs.reading.input.next_line.Given as goal
 
 -- the line so far was taken from the reader, and is a part of one line; no failure was noted

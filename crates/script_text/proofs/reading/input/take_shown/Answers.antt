@@ -1,7 +1,4 @@
-use Rattle.std.proofs.Common.{◌≢◌, ◌+◌, length, sym, ap, subst, ◌∙◌, arith}
-use Rattle.std.proofs.lemmas.Bool.{eqb-false}
-use Rattle.std.specs.Io.BufRead.{FillKeeps}
-use Rattle.std.proofs.BufReadLemmas.{Consumes_shown}
+use Rattle.script_text.proofs.Common.{Consumes_shown, FillKeeps, ap, arith, eqb-false, length, subst, sym, ◌+◌, ◌∙◌, ◌≢◌}
 use Rattle.script_text.proofs.LineLemmas.{took_part, took_shown, took_line, overflows}
 use Rattle.script_text.proofs.reading.input.take_shown.Goals as goal
 

@@ -1,11 +1,5 @@
-use Rattle.std.proofs.Common.{◌≡◌, Option, Some, None, sym, ap, ◌∙◌, subst}
-use Rattle.std.specs.Ordering.{nat_cmp}
+use Rattle.sessions.proofs.Common.{Held, IfSome, None, Option, Session, Some, ap, cond, contents, eq-eqb, nat_cmp, no_row, refl, subst, sym, vec_capacity, vec_len, ◌<◌, ◌∙◌, ◌≡◌}
 use Rattle.std.specs.FinMap as map
-use Rattle.sorted_map.specs.SortedMap.{contents}
-use Rattle.sessions.specs.Rooms.{Held}
-use Rattle.std.proofs.Common.{◌<◌, IfSome, vec_len, vec_capacity, eq-eqb, cond, refl}
-use Rattle.sessions.specs.Table.{no_row}
-use Rattle.sessions.specs.Rooms.{Session}
 use Rattle.sessions.proofs.RowLaws.{get_with, indexed_more, noted_known, noted_first}
 use Rattle.sessions.proofs.session_table.Sessions.keep.Goals as goal
 

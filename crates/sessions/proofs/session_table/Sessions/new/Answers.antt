@@ -1,5 +1,4 @@
-use Rattle.std.proofs.Common.{ap₂, ◌∙◌}
-use Rattle.sessions.specs.Rooms.{rows}
+use Rattle.sessions.proofs.Common.{ap₂, rows, ◌∙◌}
 use Rattle.sessions.proofs.RowLaws.{indexed_none, rows-empty}
 use Rattle.sessions.proofs.session_table.Sessions.new.Goals as goal
 

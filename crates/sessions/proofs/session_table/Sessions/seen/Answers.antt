@@ -1,12 +1,5 @@
-use Rattle.std.proofs.Common.{◌≡◌, Some, None, sym, ap, ◌∙◌, subst, arith}
-use Rattle.std.specs.Ordering.{nat_cmp}
+use Rattle.sessions.proofs.Common.{Held, New, None, Row, SeesInRow, Some, ap, arith, contents, get-empty, nat_cmp, subst, sym, ◌∙◌, ◌≡◌}
 use Rattle.std.specs.FinMap as map
-use Rattle.std.specs.FinMap.{get-empty}
-use Rattle.sorted_map.specs.SortedMap.{contents}
-use Rattle.sessions.specs.Table.{Row}
-use Rattle.sessions.specs.Rooms.{Held}
-use Rattle.sessions.specs.Seen.{SeesInRow}
-use Rattle.sessions.specs.declared.clients.Seen.TheVariants.{New}
 use Rattle.sessions.proofs.TableLaws.{sees}
 use Rattle.sessions.proofs.RowLaws.{read, row_known, row_unknown}
 use Rattle.sessions.proofs.session_table.Sessions.seen.Goals as goal

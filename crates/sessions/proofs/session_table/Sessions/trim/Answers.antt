@@ -1,8 +1,5 @@
-use Rattle.std.proofs.Common.{◌≡◌, Some, None, ap, ◌∙◌}
-use Rattle.std.specs.Ordering.{nat_cmp}
+use Rattle.sessions.proofs.Common.{Held, None, Some, ap, contents, nat_cmp, ◌∙◌, ◌≡◌}
 use Rattle.std.specs.FinMap as map
-use Rattle.sorted_map.specs.SortedMap.{contents}
-use Rattle.sessions.specs.Rooms.{Held}
 use Rattle.sessions.proofs.RowLaws.{trimmed_known, trimmed_unknown}
 use Rattle.sessions.proofs.session_table.Sessions.trim.Goals as goal
 

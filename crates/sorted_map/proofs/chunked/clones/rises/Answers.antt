@@ -1,5 +1,4 @@
-use Rattle.std.proofs.Common.{◌∷◌, is_lt, sym, ap, ◌∙◌}
-use Rattle.std.specs.FinMap.{is_sorted}
+use Rattle.sorted_map.proofs.Common.{ap, is_lt, is_sorted, sym, ◌∙◌, ◌∷◌}
 use Rattle.sorted_map.proofs.CloneLaws.{rises_on}
 use Rattle.sorted_map.proofs.chunked.clones.rises.Goals as goal
 

@@ -1,5 +1,4 @@
-use Rattle.std.proofs.Common.{◌≡◌, ◌∷◌, length}
-use Rattle.std.specs.FinMap.{is_sorted}
+use Rattle.sorted_map.proofs.Common.{is_sorted, length, ◌∷◌, ◌≡◌}
 use Rattle.sorted_map.proofs.chunked.clones.rises.Given as goal
 
 -- all rise just where the last that was seen and those that are left do

@@ -1,5 +1,4 @@
-use Rattle.std.proofs.Common.{◌≡◌, ◌≤◌, ◌-◌}
-use Rattle.sorted_map.specs.Chunks.{room_in}
+use Rattle.sorted_map.proofs.Common.{room_in, ◌-◌, ◌≡◌, ◌≤◌}
 use Rattle.sorted_map.proofs.chunked.map.grow_to.Given as goal
 
 abbrev pub invariant-loop-chunks : goal.invariant-loop-chunks

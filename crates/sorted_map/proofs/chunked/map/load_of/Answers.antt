@@ -1,4 +1,4 @@
-use Rattle.std.proofs.Common.{◌-◌, length, sym, ap, ◌∙◌, eqb-true, arith}
+use Rattle.sorted_map.proofs.Common.{ap, arith, eqb-true, length, sym, ◌-◌, ◌∙◌}
 use Rattle.sorted_map.proofs.FlatLaws.{not_none, read_len}
 use Rattle.sorted_map.proofs.RoomLaws.{load_is, none_load}
 use Rattle.sorted_map.proofs.chunked.map.load_of.Goals as goal

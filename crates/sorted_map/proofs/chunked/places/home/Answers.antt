@@ -1,5 +1,4 @@
-use Rattle.std.proofs.Common.{◌≡◌, ◌⊎◌, ◌+◌, ◌-◌, ◌/◌, ◌<◌, true, length, get_or, [], subst, sym, arith}
-use Rattle.sorted_map.specs.Homes.{starts_above}
+use Rattle.sorted_map.proofs.Common.{[], arith, get_or, length, starts_above, subst, sym, true, ◌+◌, ◌-◌, ◌/◌, ◌<◌, ◌≡◌, ◌⊎◌}
 use Rattle.sorted_map.proofs.ChunkLaws.{got}
 use Rattle.sorted_map.proofs.FlatLaws.{some_at}
 use Rattle.sorted_map.proofs.HomeLaws.{home_found}

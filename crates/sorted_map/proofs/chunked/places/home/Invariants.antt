@@ -1,5 +1,4 @@
-use Rattle.std.proofs.Common.{◌≡◌, ◌⊎◌, ◌-◌, ◌<◌, ◌≤◌, true, false, [], length, get_or}
-use Rattle.sorted_map.specs.Homes.{starts_above}
+use Rattle.sorted_map.proofs.Common.{[], false, get_or, length, starts_above, true, ◌-◌, ◌<◌, ◌≡◌, ◌≤◌, ◌⊎◌}
 use Rattle.sorted_map.proofs.chunked.places.home.Given as goal
 
 -- the chunk is one of those from `low` on and before `high`

@@ -1,6 +1,4 @@
-use Rattle.std.proofs.Common.{[], T, subst, sym, ◌∙◌, eqb-true}
-use Rattle.std.specs.FinMap.{is_sorted}
-use Rattle.sorted_map.specs.Places.{IsPlace}
+use Rattle.sorted_map.proofs.Common.{IsPlace, T, [], eqb-true, is_sorted, subst, sym, ◌∙◌}
 use Rattle.sorted_map.proofs.ChunkLaws.{got}
 use Rattle.sorted_map.proofs.HomeLaws.{place_home, place_none, sorted_part}
 use Rattle.sorted_map.proofs.chunked.places.spot.Goals as goal

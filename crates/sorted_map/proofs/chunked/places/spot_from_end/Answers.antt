@@ -1,7 +1,4 @@
-use Rattle.std.proofs.Common.{◌-◌, ◌<◌, inl, inr, [], T, length, subst, sym, ap, ◌∙◌, eqb-true, arith}
-use Rattle.std.specs.FinMap.{is_sorted}
-use Rattle.sorted_map.specs.Homes.{starts_above}
-use Rattle.sorted_map.specs.Places.{IsPlace}
+use Rattle.sorted_map.proofs.Common.{IsPlace, T, [], ap, arith, eqb-true, inl, inr, is_sorted, length, starts_above, subst, sym, ◌-◌, ◌<◌, ◌∙◌}
 use Rattle.sorted_map.proofs.ChunkLaws.{got}
 use Rattle.sorted_map.proofs.FlatLaws.{not_none, some_at}
 use Rattle.sorted_map.proofs.HomeLaws.{home_found, place_home, place_none, sorted_part}

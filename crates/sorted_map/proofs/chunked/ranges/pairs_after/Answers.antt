@@ -1,5 +1,4 @@
-use Rattle.std.proofs.Common.{◌≡◌, ◌+◌, suc, length, drop, sym, ap, ◌∙◌, arith}
-use Rattle.sorted_map.specs.Chunks.{flat, start}
+use Rattle.sorted_map.proofs.Common.{ap, arith, drop, flat, length, start, suc, sym, ◌+◌, ◌∙◌, ◌≡◌}
 use Rattle.sorted_map.proofs.ChunkLaws.{total_part}
 use Rattle.sorted_map.proofs.PlaceLaws.{after_at, after_gap}
 use Rattle.sorted_map.proofs.chunked.ranges.pairs_after.Goals as goal

@@ -1,6 +1,4 @@
-use Rattle.std.proofs.Common.{◌+◌, ◌++◌, [], length, drop, sym, ap, ◌∙◌, arith, length-drop}
-use Rattle.std.proofs.lemmas.List.{take_rest}
-use Rattle.sorted_map.specs.Chunks.{flat}
+use Rattle.sorted_map.proofs.Common.{[], ap, arith, drop, flat, length, length-drop, sym, take_rest, ◌++◌, ◌+◌, ◌∙◌}
 use Rattle.sorted_map.proofs.ChunkLaws.{got, total_drop}
 use Rattle.sorted_map.proofs.FlatLaws.{flat_drop, not_none, some_drop}
 use Rattle.sorted_map.proofs.chunked.ranges.pairs_at.Goals as goal

@@ -1,4 +1,4 @@
-use Rattle.std.proofs.Common.{sym, ◌∙◌}
+use Rattle.sorted_map.proofs.Common.{sym, ◌∙◌}
 use Rattle.sorted_map.proofs.PlaceLaws.{from_at, from_gap}
 use Rattle.sorted_map.proofs.chunked.ranges.pairs_from.Goals as goal
 

@@ -1,5 +1,4 @@
-use Rattle.std.proofs.Common.{◌+◌, ◌<◌, [], length, get_or, subst, sym, ap, ◌∙◌, arith, length-append}
-use Rattle.sorted_map.specs.Chunks.{flat, load, AllSome}
+use Rattle.sorted_map.proofs.Common.{AllSome, [], ap, arith, flat, get_or, length, length-append, load, subst, sym, ◌+◌, ◌<◌, ◌∙◌}
 use Rattle.sorted_map.proofs.FlatLaws.{flat_joined, some_at, some_set, some_remove}
 use Rattle.sorted_map.proofs.RoomLaws.{room_joined, join_load}
 use Rattle.sorted_map.proofs.chunks.edits.join.Goals as goal

@@ -1,5 +1,4 @@
-use Rattle.std.proofs.Common.{◌≡◌, ◌+◌, ◌-◌, insert, ◌∙◌, arith}
-use Rattle.sorted_map.specs.Chunks.{start, load}
+use Rattle.sorted_map.proofs.Common.{arith, insert, load, start, ◌+◌, ◌-◌, ◌∙◌, ◌≡◌}
 use Rattle.sorted_map.proofs.RoomLaws.{split_facts, full_spare, room_apart}
 use Rattle.sorted_map.proofs.chunks.edits.put_apart.Goals as goal
 

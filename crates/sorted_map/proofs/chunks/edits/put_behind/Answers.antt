@@ -1,5 +1,4 @@
-use Rattle.std.proofs.Common.{◌≡◌, ◌∷◌, [], length, get_or, ap, ◌∙◌, arith, length-append}
-use Rattle.sorted_map.specs.Chunks.{load}
+use Rattle.sorted_map.proofs.Common.{[], ap, arith, get_or, length, length-append, load, ◌∙◌, ◌∷◌, ◌≡◌}
 use Rattle.sorted_map.proofs.FlatLaws.{get_end, put_in_new, flat_in_new, some_in_new}
 use Rattle.sorted_map.proofs.RoomLaws.{last_spare, room_apart, new_load}
 use Rattle.sorted_map.proofs.chunks.edits.put_behind.Goals as goal

@@ -1,5 +1,4 @@
-use Rattle.std.proofs.Common.{◌≡◌, ◌+◌, [], length, get_or, set, subst, sym, ap, ◌∙◌, arith, length-set}
-use Rattle.sorted_map.specs.Chunks.{flat, start, load, room_by, AllSome}
+use Rattle.sorted_map.proofs.Common.{AllSome, [], ap, arith, flat, get_or, length, length-set, load, room_by, set, start, subst, sym, ◌+◌, ◌∙◌, ◌≡◌}
 use Rattle.sorted_map.proofs.ChunkLaws.{one_of}
 use Rattle.sorted_map.proofs.FlatLaws.{flat_set, flat_get, some_set}
 use Rattle.sorted_map.proofs.RoomLaws.{same_load}

@@ -1,6 +1,4 @@
-use Rattle.std.proofs.Common.{[], get_or, subst, sym, ap, ◌∙◌, arith}
-use Rattle.std.proofs.lemmas.List.Edits.{length-insert}
-use Rattle.sorted_map.specs.Chunks.{flat, load, AllSome}
+use Rattle.sorted_map.proofs.Common.{AllSome, [], ap, arith, flat, get_or, length-insert, load, subst, sym, ◌∙◌}
 use Rattle.sorted_map.proofs.FlatLaws.{flat_insert, some_set}
 use Rattle.sorted_map.proofs.RoomLaws.{room_less, put_load}
 use Rattle.sorted_map.proofs.chunks.edits.put_within.Goals as goal

@@ -1,5 +1,4 @@
-use Rattle.std.proofs.Common.{◌≤◌, remove, subst, sym, ap, ◌∙◌, arith}
-use Rattle.sorted_map.specs.Chunks.{flat, load, room_in, AllSome}
+use Rattle.sorted_map.proofs.Common.{AllSome, ap, arith, flat, load, remove, room_in, subst, sym, ◌∙◌, ◌≤◌}
 use Rattle.sorted_map.proofs.FlatLaws.{flat_remove, flat_get, some_remove, remove_set}
 use Rattle.sorted_map.proofs.RoomLaws.{room_kept, take_load}
 use Rattle.sorted_map.proofs.chunks.edits.take_out.Goals as goal

@@ -1,6 +1,4 @@
-use Rattle.std.proofs.Common.{[], length, get_or, sym, ap, ◌∙◌, arith}
-use Rattle.std.proofs.lemmas.List.{nil_from_length}
-use Rattle.sorted_map.specs.Chunks.{flat, load}
+use Rattle.sorted_map.proofs.Common.{[], ap, arith, flat, get_or, length, load, nil_from_length, sym, ◌∙◌}
 use Rattle.sorted_map.proofs.FlatLaws.{flat_without, read_len, some_others}
 use Rattle.sorted_map.proofs.RoomLaws.{room_joined, aside_load}
 use Rattle.sorted_map.proofs.chunks.edits.tidy.Goals as goal

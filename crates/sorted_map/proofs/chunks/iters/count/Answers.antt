@@ -1,4 +1,4 @@
-use Rattle.std.proofs.Common.{arith}
+use Rattle.sorted_map.proofs.Common.{arith}
 use Rattle.sorted_map.proofs.ChunkLaws.{part_left}
 use Rattle.sorted_map.proofs.chunks.iters.count.Goals as goal
 

@@ -1,5 +1,4 @@
-use Rattle.std.proofs.Common.{◌≡◌, ◌+◌, length, drop}
-use Rattle.sorted_map.specs.Chunks.{total}
+use Rattle.sorted_map.proofs.Common.{drop, length, total, ◌+◌, ◌≡◌}
 use Rattle.sorted_map.proofs.chunks.iters.count.Given as goal
 
 abbrev pub invariant-loop-chunk : goal.invariant-loop-chunk

@@ -1,4 +1,4 @@
-use Rattle.std.proofs.Common.{◌≡◌, ◌+◌, ◌++◌, reverse, vec_len, vec_capacity}
+use Rattle.sorted_map.proofs.Common.{reverse, vec_capacity, vec_len, ◌++◌, ◌+◌, ◌≡◌}
 use Rattle.sorted_map.proofs.chunks.vectors.move_back.Given as goal
 
 -- what was moved so far stands behind the rest, turned

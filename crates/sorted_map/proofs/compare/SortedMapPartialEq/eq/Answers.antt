@@ -1,6 +1,4 @@
-use Rattle.std.proofs.Common.{◌∙◌}
-use Rattle.std.specs.Cmp.Lexicographic.{pointwise}
-use Rattle.sorted_map.specs.SortedMap.{pairs_eq}
+use Rattle.sorted_map.proofs.Common.{pairs_eq, pointwise, ◌∙◌}
 use Rattle.sorted_map.proofs.MapLaws.{entries-contents}
 use Rattle.sorted_map.proofs.EqualLaws.{keys_told, pairs_told, maps_told}
 use Rattle.sorted_map.proofs.compare.SortedMapPartialEq.eq.Goals as goal

@@ -1,5 +1,4 @@
-use Rattle.std.proofs.Common.{rules, is_lt}
-use Rattle.std.proofs.lemmas.Fn.{always_returns_same}
+use Rattle.sorted_map.proofs.Common.{always_returns_same, is_lt, rules}
 use Rattle.sorted_map.proofs.PlaceLaws.{rises_as}
 use Rattle.sorted_map.proofs.flat.clones.rises.Goals as goal
 

@@ -1,6 +1,5 @@
-use Rattle.std.proofs.Common.{sym, ap, ◌∙◌, eqb-true, eq-eqb}
+use Rattle.sorted_map.proofs.Common.{ap, empty_of_len, eq-eqb, eqb-true, len-empty, sym, ◌∙◌}
 use Rattle.std.specs.FinMap as map
-use Rattle.std.specs.FinMap.{empty_of_len, len-empty}
 use Rattle.sorted_map.proofs.map.SortedMap.is_empty.Goals as goal
 
 pub returns : goal.returns

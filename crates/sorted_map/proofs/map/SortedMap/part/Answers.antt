@@ -1,5 +1,4 @@
-use Rattle.std.proofs.Common.{ap, ◌∙◌}
-use Rattle.sorted_map.specs.SortedMap.{contents}
+use Rattle.sorted_map.proofs.Common.{ap, contents, ◌∙◌}
 use Rattle.sorted_map.proofs.OverlayLaws.{overlaid_none}
 use Rattle.sorted_map.proofs.map.SortedMap.part.Goals as goal
 

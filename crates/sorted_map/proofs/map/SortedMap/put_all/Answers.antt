@@ -1,7 +1,4 @@
-use Rattle.std.proofs.Common.{length, sym, ap, ◌∙◌, arith}
-use Rattle.std.specs.FinMap.{len-entries}
-use Rattle.sorted_map.specs.SortedMap.{contents}
-use Rattle.sorted_map.specs.Overlay.{with_pairs}
+use Rattle.sorted_map.proofs.Common.{ap, arith, contents, len-entries, length, sym, with_pairs, ◌∙◌}
 use Rattle.sorted_map.proofs.OverlayLaws.{overlaid_is}
 use Rattle.sorted_map.proofs.map.SortedMap.put_all.Goals as goal
 

@@ -1,7 +1,5 @@
-use Rattle.std.proofs.Common.{◌≡◌, ◌+◌, ◌≤◌, length}
+use Rattle.sorted_map.proofs.Common.{contents, length, with_pairs, ◌+◌, ◌≡◌, ◌≤◌}
 use Rattle.std.specs.FinMap as map
-use Rattle.sorted_map.specs.SortedMap.{contents}
-use Rattle.sorted_map.specs.Overlay.{with_pairs}
 use Rattle.sorted_map.proofs.map.SortedMap.put_all.Given as goal
 
 -- what is left to put in, put in, makes the whole

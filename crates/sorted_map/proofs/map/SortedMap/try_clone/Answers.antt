@@ -1,7 +1,5 @@
-use Rattle.std.proofs.Common.{[], sym, subst, ◌∙◌}
-use Rattle.std.specs.List.{AllZip}
+use Rattle.sorted_map.proofs.Common.{AllZip, ClonePair, [], subst, sym, ◌∙◌}
 use Rattle.sorted_map.proofs.MapLaws.{entries-contents}
-use Rattle.sorted_map.specs.Clones.{ClonePair}
 use Rattle.sorted_map.proofs.CloneLaws.{is_clone_of}
 use Rattle.sorted_map.proofs.OverlayLaws.{none_entries}
 use Rattle.sorted_map.proofs.map.SortedMap.try_clone.Goals as goal

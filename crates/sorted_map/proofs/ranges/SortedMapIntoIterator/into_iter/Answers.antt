@@ -1,5 +1,4 @@
-use Rattle.std.proofs.Common.{sym, ap, ◌∙◌}
-use Rattle.sorted_map.specs.Stores.{shown_by}
+use Rattle.sorted_map.proofs.Common.{ap, shown_by, sym, ◌∙◌}
 use Rattle.sorted_map.proofs.MapLaws.{entries-contents}
 use Rattle.sorted_map.proofs.ranges.SortedMapIntoIterator.into_iter.Goals as goal
 

@@ -1,6 +1,4 @@
-use Rattle.std.proofs.Common.{List, length, ap, subst, ◌∙◌}
-use Rattle.subtree_map.specs.Authority.{Roots}
-use Rattle.subtree_map.specs.Lists.{AreEach, HasHints, Rows}
+use Rattle.subtree_map.proofs.Common.{AreEach, HasHints, List, Roots, Rows, ap, length, subst, ◌∙◌}
 use Rattle.subtree_map.proofs.ListsLaws.{closing, same_value, say_hints}
 use Rattle.subtree_map.proofs.RowLaws.{corrects_hints}
 use Rattle.subtree_map.proofs.lists.Lists.correct.Goals as goal

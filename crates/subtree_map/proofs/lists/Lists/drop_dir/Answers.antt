@@ -1,7 +1,4 @@
-use Rattle.std.proofs.Common.{List, length, sym, ap, subst, ◌∙◌}
-use Rattle.std.specs.Vec.{with_items}
-use Rattle.subtree_map.specs.Changes.{AreGone, Subtrees}
-use Rattle.subtree_map.specs.Lists.{AreEach, AreLists, HasDropped, Rows, claimed, promised, told}
+use Rattle.subtree_map.proofs.Common.{AreEach, AreGone, AreLists, HasDropped, List, Rows, Subtrees, ap, claimed, length, promised, subst, sym, told, with_items, ◌∙◌}
 use Rattle.subtree_map.proofs.ListsLaws.{dropped_lists, gone_from, refilled}
 use Rattle.subtree_map.proofs.lists.Lists.drop_dir.Goals as goal
 

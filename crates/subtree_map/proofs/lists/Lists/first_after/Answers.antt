@@ -1,8 +1,6 @@
-use Rattle.std.proofs.Common.{List, Some, subst}
+use Rattle.subtree_map.proofs.Common.{IsFirst, IsFirstBy, List, Rows, Subtrees, claimed, found, is_after, subst, told}
+use Rattle.std.proofs.Common.{Some}
 use Rattle.std.specs.FinMap as map
-use Rattle.subtree_map.specs.Changes.{Subtrees}
-use Rattle.subtree_map.specs.Lists.{Rows, claimed, found, is_after, told}
-use Rattle.subtree_map.specs.Rows.{IsFirst, IsFirstBy}
 use Rattle.subtree_map.proofs.ListFirsts.{first_as}
 use Rattle.subtree_map.proofs.ToldLaws.{get_told}
 use Rattle.subtree_map.proofs.lists.Lists.first_after.Goals as goal

@@ -1,7 +1,5 @@
-use Rattle.std.proofs.Common.{List, sym, ap, ◌∙◌}
+use Rattle.subtree_map.proofs.Common.{List, Rows, Subtrees, ap, claimed, found, sym, ◌∙◌}
 use Rattle.std.specs.FinMap as map
-use Rattle.subtree_map.specs.Changes.{Subtrees}
-use Rattle.subtree_map.specs.Lists.{Rows, claimed, found}
 use Rattle.subtree_map.proofs.ToldLaws.{get_told}
 use Rattle.subtree_map.proofs.lists.Lists.get.Goals as goal
 

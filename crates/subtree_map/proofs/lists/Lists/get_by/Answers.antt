@@ -1,7 +1,5 @@
-use Rattle.std.proofs.Common.{List, sym, ap, subst, ◌∙◌}
+use Rattle.subtree_map.proofs.Common.{IsClaimed, List, Rows, Subtrees, ap, claimed, found, subst, sym, ◌∙◌}
 use Rattle.std.specs.FinMap as map
-use Rattle.subtree_map.specs.Changes.{Subtrees}
-use Rattle.subtree_map.specs.Lists.{IsClaimed, Rows, claimed, found}
 use Rattle.subtree_map.proofs.ListsLaws.{claim_is}
 use Rattle.subtree_map.proofs.ToldLaws.{get_told}
 use Rattle.subtree_map.proofs.lists.Lists.get_by.Goals as goal

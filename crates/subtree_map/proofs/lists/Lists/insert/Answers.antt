@@ -1,9 +1,6 @@
-use Rattle.std.proofs.Common.{◌≡◌, ◌-◌, ◌<◌, List, length, arith, sym, ap, subst, ◌∙◌}
+use Rattle.subtree_map.proofs.Common.{AreEach, Claimed, HaveRoom, Hears, List, Roots, Rows, Subtrees, ap, arith, home_of, length, subst, sym, ◌<◌, ◌∙◌}
+use Rattle.std.proofs.Common.{◌≡◌, ◌-◌}
 use Rattle.std.specs.FinMap as map
-use Rattle.subtree_map.specs.declared.entries.News.TheVariants.{Claimed}
-use Rattle.subtree_map.specs.Authority.{Roots}
-use Rattle.subtree_map.specs.Changes.{Subtrees}
-use Rattle.subtree_map.specs.Lists.{AreEach, HaveRoom, Hears, Rows, home_of}
 use Rattle.subtree_map.proofs.ListsLaws.{closing, room_for, room_less, say_claimed}
 use Rattle.subtree_map.proofs.lists.Lists.insert.Goals as goal
 

@@ -1,9 +1,6 @@
-use Rattle.std.proofs.Common.{◌≡◌, ◌<◌, List, Some, length, sym, ap, subst, ◌∙◌}
+use Rattle.subtree_map.proofs.Common.{AreEach, Handed, HaveRoom, Hears, List, Roots, Rows, Subtrees, ap, home_of, length, subst, sym, ◌<◌, ◌∙◌}
+use Rattle.std.proofs.Common.{◌≡◌, Some}
 use Rattle.std.specs.FinMap as map
-use Rattle.subtree_map.specs.declared.entries.News.TheVariants.{Handed}
-use Rattle.subtree_map.specs.Authority.{Roots}
-use Rattle.subtree_map.specs.Changes.{Subtrees}
-use Rattle.subtree_map.specs.Lists.{AreEach, HaveRoom, Hears, Rows, home_of}
 use Rattle.subtree_map.proofs.ListsLaws.{closing, kept_room, say_handed}
 use Rattle.subtree_map.proofs.lists.Lists.keep_promise.Goals as goal
 

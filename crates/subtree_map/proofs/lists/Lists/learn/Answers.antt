@@ -1,7 +1,5 @@
-use Rattle.std.proofs.Common.{◌+◌, List, length, arith, ap, subst, ◌∙◌}
-use Rattle.std.specs.Vec.{with_items}
-use Rattle.subtree_map.specs.Authority.{Roots}
-use Rattle.subtree_map.specs.Lists.{AreEach, HasGrown, HasLearnt, HasSame, Rows}
+use Rattle.subtree_map.proofs.Common.{AreEach, HasGrown, HasLearnt, HasSame, List, Roots, Rows, ap, arith, length, subst, with_items, ◌∙◌}
+use Rattle.std.proofs.Common.{◌+◌}
 use Rattle.subtree_map.proofs.ListsLaws.{closing, same_value, say_grown, say_kept, say_learnt}
 use Rattle.subtree_map.proofs.lists.Lists.learn.Goals as goal
 

@@ -1,4 +1,4 @@
-use Rattle.std.proofs.Common.{◌<◌, rules}
+use Rattle.subtree_map.proofs.Common.{rules, ◌<◌}
 use Rattle.subtree_map.proofs.ListsLaws.{say_nothing}
 use Rattle.subtree_map.proofs.lists.Lists.new.Goals as goal
 

@@ -1,9 +1,6 @@
-use Rattle.std.proofs.Common.{◌≡◌, ◌+◌, ◌<◌, List, length, arith, ap, subst, ◌∙◌}
-use Rattle.std.specs.Vec.{with_items}
+use Rattle.subtree_map.proofs.Common.{AreEach, HasGrown, HasSame, Hears, List, Promised, Roots, Rows, ap, arith, home_of, length, subst, with_items, ◌<◌, ◌∙◌}
+use Rattle.std.proofs.Common.{◌≡◌, ◌+◌}
 use Rattle.std.specs.FinMap as map
-use Rattle.subtree_map.specs.declared.entries.News.TheVariants.{Promised}
-use Rattle.subtree_map.specs.Authority.{Roots}
-use Rattle.subtree_map.specs.Lists.{AreEach, HasGrown, HasSame, Hears, Rows, home_of}
 use Rattle.subtree_map.proofs.ListsLaws.{closing, on_err, room_less, same_value, say_grown, say_kept, say_promised}
 use Rattle.subtree_map.proofs.lists.Lists.promise.Goals as goal
 

@@ -1,7 +1,5 @@
-use Rattle.std.proofs.Common.{List, sym, ap, ◌∙◌}
+use Rattle.subtree_map.proofs.Common.{List, Rows, Subtrees, ap, found, promised, sym, ◌∙◌}
 use Rattle.std.specs.FinMap as map
-use Rattle.subtree_map.specs.Changes.{Subtrees}
-use Rattle.subtree_map.specs.Lists.{Rows, promised, found}
 use Rattle.subtree_map.proofs.ToldLaws.{get_told}
 use Rattle.subtree_map.proofs.lists.Lists.promised.Goals as goal
 

@@ -1,6 +1,4 @@
-use Rattle.std.proofs.Common.{List, length, ap, subst, ◌∙◌}
-use Rattle.subtree_map.specs.Authority.{Roots}
-use Rattle.subtree_map.specs.Lists.{AreEach, HasGrown, HasSame, Rows}
+use Rattle.subtree_map.proofs.Common.{AreEach, HasGrown, HasSame, List, Roots, Rows, ap, length, subst, ◌∙◌}
 use Rattle.subtree_map.proofs.ListsLaws.{closing, on_err, same_value, say_grown, say_kept}
 use Rattle.subtree_map.proofs.lists.Lists.reserve.Goals as goal
 

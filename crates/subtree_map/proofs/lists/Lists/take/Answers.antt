@@ -1,8 +1,6 @@
-use Rattle.std.proofs.Common.{◌≡◌, List, length, ap, subst, ◌∙◌}
+use Rattle.subtree_map.proofs.Common.{AreEach, Ended, Hears, List, Roots, Rows, ap, length, subst, ◌∙◌}
+use Rattle.std.proofs.Common.{◌≡◌}
 use Rattle.std.specs.FinMap as map
-use Rattle.subtree_map.specs.declared.entries.News.TheVariants.{Ended}
-use Rattle.subtree_map.specs.Authority.{Roots}
-use Rattle.subtree_map.specs.Lists.{AreEach, Hears, Rows}
 use Rattle.subtree_map.proofs.ListsLaws.{closing, ended_room, nothing_removed, say_ended}
 use Rattle.subtree_map.proofs.lists.Lists.take.Goals as goal
 

@@ -1,8 +1,6 @@
-use Rattle.std.proofs.Common.{◌≡◌, List, length, ap, subst, ◌∙◌}
+use Rattle.subtree_map.proofs.Common.{AreEach, Hears, List, Roots, Rows, Withdrawn, ap, length, subst, ◌∙◌}
+use Rattle.std.proofs.Common.{◌≡◌}
 use Rattle.std.specs.FinMap as map
-use Rattle.subtree_map.specs.declared.entries.News.TheVariants.{Withdrawn}
-use Rattle.subtree_map.specs.Authority.{Roots}
-use Rattle.subtree_map.specs.Lists.{AreEach, Hears, Rows}
 use Rattle.subtree_map.proofs.ListsLaws.{closing, say_withdrawn, withdrawn_room}
 use Rattle.subtree_map.proofs.lists.Lists.withdraw.Goals as goal
 

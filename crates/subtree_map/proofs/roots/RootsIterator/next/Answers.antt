@@ -1,5 +1,4 @@
-use Rattle.std.proofs.Common.{arith, length, sym, ap, ◌∙◌}
-use Rattle.subtree_map.specs.Rows.{rows_from}
+use Rattle.subtree_map.proofs.Common.{ap, arith, length, rows_from, sym, ◌∙◌}
 use Rattle.subtree_map.proofs.RootRows.{next_rows}
 use Rattle.subtree_map.proofs.roots.RootsIterator.next.Goals as goal
 

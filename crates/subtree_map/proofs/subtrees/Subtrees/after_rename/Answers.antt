@@ -1,8 +1,5 @@
-use Rattle.std.proofs.Common.{◌≤◌, IsSome, List, length, refl, sym, subst}
-use Rattle.mds_types.specs.Frag.{Fragment}
-use Rattle.inode_table.specs.Dirs.{leaves_of}
-use Rattle.subtree_map.specs.Changes.{AreFilled, Subtrees}
-use Rattle.subtree_map.specs.Moves.{IsLostRank}
+use Rattle.subtree_map.proofs.Common.{AreFilled, Fragment, IsLostRank, List, Subtrees, leaves_of, length, subst, sym}
+use Rattle.std.proofs.Common.{◌≤◌, IsSome, refl}
 use Rattle.subtree_map.proofs.Moved.{moves_soundly}
 use Rattle.subtree_map.proofs.Settled.{settled_filled, settled_none}
 use Rattle.subtree_map.proofs.subtrees.Subtrees.after_rename.Goals as goal

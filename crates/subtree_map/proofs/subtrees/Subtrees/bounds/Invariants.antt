@@ -1,11 +1,6 @@
 -- What is a bound is one of the roots to come, or was put on the list, which goes on in order with the roots to come.
-use Rattle.std.specs.Prelude.{◌⊎◌, ◌↔◌, ◌++◌, IsSome}
+use Rattle.subtree_map.proofs.Common.{IsBound, IsNextBelow, IsSome, IsStrictlySortedBy, Leaf, find, leaf_cmp, ◌++◌, ◌↔◌, ◌⊎◌}
 use Rattle.std.specs.List as list
-use Rattle.std.specs.List.Sorted.{IsStrictlySortedBy}
-use Rattle.std.specs.FinMap.{find}
-use Rattle.mds_types.specs.Leaf.{Leaf, leaf_cmp}
-use Rattle.subtree_map.specs.Authority.{IsBound}
-use Rattle.subtree_map.specs.Climb.{IsNextBelow}
 use Rattle.subtree_map.proofs.Rising.{keys}
 use Rattle.subtree_map.proofs.subtrees.Subtrees.bounds.Given as goal
 

@@ -1,9 +1,5 @@
 -- Each step goes to the leaf that holds the dentry, whose directory is the parent.
-use Rattle.std.proofs.Common.{sym, ap, ◌∙◌}
-use Rattle.std.specs.Option.{option_copied}
-use Rattle.namehash.specs.Rjenkins.{hash_of}
-use Rattle.inode_table.proofs.Chains.{nearer}
-use Rattle.subtree_map.specs.Authority.{inherited, itself}
+use Rattle.subtree_map.proofs.Common.{ap, hash_of, inherited, itself, nearer, option_copied, sym, ◌∙◌}
 use Rattle.subtree_map.proofs.Climbs.{holds_at, no_stranger}
 use Rattle.subtree_map.proofs.Nearest.{followed, none_from_top}
 use Rattle.subtree_map.proofs.subtrees.Subtrees.climb.Goals as goal

@@ -1,11 +1,6 @@
 -- The way up: the nearest roots from where it has come are those of the leaf where it began.
-use Rattle.std.specs.Prelude.{◌≡◌, ◌↔◌}
-use Rattle.std.specs.Option.{option_copied}
+use Rattle.subtree_map.proofs.Common.{IsTable, Leaf, NearestRoot, climbed, option_copied, ◌↔◌, ◌≡◌}
 use Rattle.std.specs.FinMap as map
-use Rattle.inode_table.specs.Dirs.{IsTable}
-use Rattle.inode_table.proofs.Chains.{climbed}
-use Rattle.mds_types.specs.Leaf.{Leaf}
-use Rattle.subtree_map.specs.Authority.{NearestRoot}
 use Rattle.subtree_map.proofs.subtrees.Subtrees.climb.Given as goal
 
 abbrev pub invariant-loop-rank : goal.invariant-loop-rank

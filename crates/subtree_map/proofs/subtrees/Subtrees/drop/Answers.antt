@@ -1,5 +1,4 @@
-use Rattle.std.proofs.Common.{subst}
-use Rattle.subtree_map.specs.Changes.{DropsSoundly, Subtrees}
+use Rattle.subtree_map.proofs.Common.{DropsSoundly, Subtrees, subst}
 use Rattle.subtree_map.proofs.Dropped.{drops_soundly}
 use Rattle.subtree_map.proofs.subtrees.Subtrees.drop.Goals as goal
 

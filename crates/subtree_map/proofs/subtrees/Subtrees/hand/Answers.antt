@@ -1,7 +1,6 @@
-use Rattle.std.proofs.Common.{◌≡◌, sym, ap, ◌∙◌}
+use Rattle.subtree_map.proofs.Common.{Rank, Subtrees, ap, sym, ◌∙◌}
+use Rattle.std.proofs.Common.{◌≡◌}
 use Rattle.std.specs.FinMap as map
-use Rattle.mds_types.specs.declared.ids.Rank.{Rank}
-use Rattle.subtree_map.specs.Changes.{Subtrees}
 use Rattle.subtree_map.proofs.CutOff.{handed}
 use Rattle.subtree_map.proofs.Options.{not_none, one_value}
 use Rattle.subtree_map.proofs.subtrees.Subtrees.hand.Goals as goal

@@ -1,6 +1,4 @@
-use Rattle.std.proofs.Common.{sym, subst}
-use Rattle.inode_table.specs.declared.dirs.Home.{Home}
-use Rattle.subtree_map.specs.Authority.{HoldsDentry}
+use Rattle.subtree_map.proofs.Common.{HoldsDentry, Home, subst, sym}
 use Rattle.subtree_map.proofs.Climbs.{row_above}
 use Rattle.subtree_map.proofs.Nearest.{parent_known}
 use Rattle.subtree_map.proofs.Options.{one_value}

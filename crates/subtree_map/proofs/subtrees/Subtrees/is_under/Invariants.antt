@@ -1,10 +1,6 @@
 -- The way up: the nearest roots from where it has come are those of the leaf where it began, were the other leaf a root.
-use Rattle.std.specs.Prelude.{◌↔◌}
+use Rattle.subtree_map.proofs.Common.{IsTable, NearestRoot, Rank, climbed, ◌↔◌}
 use Rattle.std.specs.FinMap as map
-use Rattle.mds_types.specs.declared.ids.Rank.{Rank}
-use Rattle.inode_table.specs.Dirs.{IsTable}
-use Rattle.inode_table.proofs.Chains.{climbed}
-use Rattle.subtree_map.specs.Authority.{NearestRoot}
 use Rattle.subtree_map.proofs.subtrees.Subtrees.is_under.Given as goal
 
 abbrev pub invariant-loop-home : goal.invariant-loop-home

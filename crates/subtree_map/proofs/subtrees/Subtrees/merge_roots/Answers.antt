@@ -1,5 +1,4 @@
-use Rattle.std.proofs.Common.{subst}
-use Rattle.subtree_map.specs.Changes.{MergesSoundly, Subtrees}
+use Rattle.subtree_map.proofs.Common.{MergesSoundly, Subtrees, subst}
 use Rattle.subtree_map.proofs.Merged.{merges_soundly}
 use Rattle.subtree_map.proofs.subtrees.Subtrees.merge_roots.Goals as goal
 

@@ -1,5 +1,4 @@
-use Rattle.std.proofs.Common.{ap, ◌∙◌}
-use Rattle.namehash.specs.Rjenkins.{hash_of}
+use Rattle.subtree_map.proofs.Common.{ap, hash_of, ◌∙◌}
 use Rattle.subtree_map.proofs.Climbs.{holds_at}
 use Rattle.subtree_map.proofs.subtrees.Subtrees.root_above.Goals as goal
 

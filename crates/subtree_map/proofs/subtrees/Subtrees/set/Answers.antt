@@ -1,6 +1,5 @@
-use Rattle.std.proofs.Common.{ap, ◌∙◌}
+use Rattle.subtree_map.proofs.Common.{Subtrees, ap, ◌∙◌}
 use Rattle.std.specs.FinMap as map
-use Rattle.subtree_map.specs.Changes.{Subtrees}
 use Rattle.subtree_map.proofs.CutOff.{cut_off, cut_valid}
 use Rattle.subtree_map.proofs.subtrees.Subtrees.set.Goals as goal
 

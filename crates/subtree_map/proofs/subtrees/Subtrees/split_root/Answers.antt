@@ -1,5 +1,4 @@
-use Rattle.std.proofs.Common.{subst}
-use Rattle.subtree_map.specs.Changes.{SplitsSoundly, Subtrees}
+use Rattle.subtree_map.proofs.Common.{SplitsSoundly, Subtrees, subst}
 use Rattle.subtree_map.proofs.Split.{splits_soundly}
 use Rattle.subtree_map.proofs.subtrees.Subtrees.split_root.Goals as goal
 

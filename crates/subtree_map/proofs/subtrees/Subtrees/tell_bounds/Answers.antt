@@ -1,5 +1,4 @@
-use Rattle.std.specs.Prelude.{◌==◌}
-use Rattle.std.proofs.Common.{ap, sym, ◌∙◌}
+use Rattle.subtree_map.proofs.Common.{ap, sym, ◌==◌, ◌∙◌}
 use Rattle.subtree_map.proofs.Listed.{some_bound}
 use Rattle.subtree_map.proofs.ListsLaws.{on_err}
 use Rattle.subtree_map.proofs.subtrees.Subtrees.tell_bounds.Goals as goal

@@ -1,5 +1,4 @@
-use Rattle.std.proofs.Common.{[], length, slice_get, sym, ap, ◌∙◌, eqb-true}
-use Rattle.sorted_map.specs.Chunks.{flat}
+use Rattle.sorted_map.proofs.Common.{[], ap, eqb-true, flat, length, slice_get, sym, ◌∙◌}
 use Rattle.sorted_map.proofs.ChunkLaws.{got}
 use Rattle.sorted_map.proofs.FlatLaws.{flat_none, first_flat, not_none}
 use Rattle.sorted_map.proofs.ContentLaws.{none_first, first_shown}

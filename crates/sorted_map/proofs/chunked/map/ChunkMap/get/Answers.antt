@@ -1,4 +1,4 @@
-use Rattle.std.proofs.Common.{Some, ap, ◌∙◌}
+use Rattle.sorted_map.proofs.Common.{Some, ap, ◌∙◌}
 use Rattle.sorted_map.proofs.FlatLaws.{there}
 use Rattle.sorted_map.proofs.ContentLaws.{value_at, got_gap}
 use Rattle.sorted_map.proofs.chunked.map.ChunkMap.get.Goals as goal

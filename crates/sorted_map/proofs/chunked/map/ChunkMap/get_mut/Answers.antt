@@ -1,14 +1,10 @@
-use Rattle.std.proofs.Common.{◌≡◌, ◌<◌, ◌+◌, ℕ, List, T, Some, Ordering, [], length, get_or, refl, set, sym, ap, ◌∙◌, arith}
+use Rattle.sorted_map.proofs.Common.{IsAt, IsTotalOrder, List, Ordering, Some, T, [], ap, arith, entries-from_sorted, flat, get_or, length, refl, room_by, set, start, sym, with_value, ℕ, ◌+◌, ◌<◌, ◌∙◌, ◌≡◌}
 use Rattle.std.specs.FinMap as map
-use Rattle.std.specs.Cmp.{IsTotalOrder}
 use Rattle.std.specs.FinMap.Entries.{is_sorted}
-use Rattle.sorted_map.specs.Places.{IsAt}
-use Rattle.sorted_map.specs.Chunks.{flat, start, room_by, with_value}
 use Rattle.sorted_map.proofs.ChunkLaws.{one_of}
 use Rattle.sorted_map.proofs.ContentLaws.{put_in_place, same_loan, value_at, got_gap}
 use Rattle.sorted_map.proofs.FlatLaws.{flat_get, some_at, some_set, value_flat, value_length}
 use Rattle.sorted_map.proofs.RoomLaws.{same_load}
-use Rattle.std.specs.FinMap.{entries-from_sorted}
 use Rattle.sorted_map.proofs.chunked.map.ChunkMap.get_mut.Goals as goal
 
 -- a value that is written is inserted

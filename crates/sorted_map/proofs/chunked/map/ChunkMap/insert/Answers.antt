@@ -1,5 +1,4 @@
-use Rattle.std.proofs.Common.{◌≡◌, ◌<◌, Some, sym, ap, ◌∙◌, arith}
-use Rattle.sorted_map.specs.Chunks.{room_in}
+use Rattle.sorted_map.proofs.Common.{Some, ap, arith, room_in, sym, ◌<◌, ◌∙◌, ◌≡◌}
 use Rattle.sorted_map.proofs.ContentLaws.{put_in_place, put_in_gap, value_at, got_gap}
 use Rattle.sorted_map.proofs.chunked.map.ChunkMap.insert.Goals as goal
 

@@ -1,6 +1,4 @@
-use Rattle.std.proofs.Common.{sym, ap, ◌∙◌}
-use Rattle.std.specs.FinMap.{entries-from_sorted}
-use Rattle.sorted_map.specs.Chunks.{flat}
+use Rattle.sorted_map.proofs.Common.{ap, entries-from_sorted, flat, sym, ◌∙◌}
 use Rattle.sorted_map.proofs.chunked.map.ChunkMap.iter.Goals as goal
 
 pub returns : goal.returns

@@ -1,8 +1,4 @@
-use Rattle.std.proofs.Common.{sym, ap, ◌∙◌}
-use Rattle.std.specs.FinMap.{entries-from_sorted}
-use Rattle.std.specs.FinMap.Entries.{where_key}
-use Rattle.sorted_map.specs.SortedMap.{is_from}
-use Rattle.sorted_map.specs.Chunks.{flat}
+use Rattle.sorted_map.proofs.Common.{ap, entries-from_sorted, flat, is_from, sym, where_key, ◌∙◌}
 use Rattle.sorted_map.proofs.chunked.map.ChunkMap.iter_from.Goals as goal
 
 pub returns : goal.returns

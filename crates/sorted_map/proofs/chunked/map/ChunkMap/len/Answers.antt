@@ -1,4 +1,4 @@
-use Rattle.std.proofs.Common.{sym, ◌∙◌}
+use Rattle.sorted_map.proofs.Common.{sym, ◌∙◌}
 use Rattle.sorted_map.proofs.ChunkLaws.{flat_length}
 use Rattle.sorted_map.proofs.ContentLaws.{len_shown}
 use Rattle.sorted_map.proofs.chunked.map.ChunkMap.len.Goals as goal

@@ -1,5 +1,4 @@
-use Rattle.std.proofs.Common.{length, get_or, remove, sym, ap, ◌∙◌, arith, eqb-true}
-use Rattle.sorted_map.specs.Chunks.{flat}
+use Rattle.sorted_map.proofs.Common.{ap, arith, eqb-true, flat, get_or, length, remove, sym, ◌∙◌}
 use Rattle.sorted_map.proofs.FlatLaws.{flat_none, flat_some, start_none, not_none}
 use Rattle.sorted_map.proofs.ContentLaws.{none_first, none_rest, some_first, some_rest, first_taken}
 use Rattle.sorted_map.proofs.chunked.map.ChunkMap.pop_first.Goals as goal

@@ -1,4 +1,4 @@
-use Rattle.std.proofs.Common.{ap, option_map}
+use Rattle.sorted_map.proofs.Common.{ap, option_map}
 use Rattle.sorted_map.proofs.ContentLaws.{taken_at, taken_gap, pair_taken, got_gap}
 use Rattle.sorted_map.proofs.chunked.map.ChunkMap.remove.Goals as goal
 

@@ -1,5 +1,4 @@
-use Rattle.std.proofs.Common.{ap, sym, ◌∙◌}
-use Rattle.sorted_map.specs.SortedMap.{contents}
+use Rattle.sorted_map.proofs.Common.{ap, contents, sym, ◌∙◌}
 use Rattle.sorted_map.proofs.OverlayLaws.{removals, removals_all}
 use Rattle.sorted_map.proofs.chunked.map.ChunkMap.remove_all.Goals as goal
 

@@ -1,6 +1,5 @@
-use Rattle.std.proofs.Common.{◌≡◌}
+use Rattle.sorted_map.proofs.Common.{contents, ◌≡◌}
 use Rattle.std.specs.FinMap as map
-use Rattle.sorted_map.specs.SortedMap.{contents}
 use Rattle.sorted_map.proofs.OverlayLaws.{removals}
 use Rattle.sorted_map.proofs.chunked.map.ChunkMap.remove_all.Given as goal
 

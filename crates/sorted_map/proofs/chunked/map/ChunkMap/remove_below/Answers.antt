@@ -1,7 +1,5 @@
-use Rattle.std.proofs.Common.{length, ap, sym, ◌∙◌, arith, length-drop}
+use Rattle.sorted_map.proofs.Common.{ap, arith, contents, len-entries, length, length-drop, sym, ◌∙◌}
 use Rattle.std.specs.FinMap as map
-use Rattle.std.specs.FinMap.{len-entries}
-use Rattle.sorted_map.specs.SortedMap.{contents}
 use Rattle.sorted_map.proofs.OverlayLaws.{kept_all, one_goes, below_some}
 use Rattle.sorted_map.proofs.chunked.map.ChunkMap.remove_below.Goals as goal
 

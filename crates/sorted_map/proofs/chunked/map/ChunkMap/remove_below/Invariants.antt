@@ -1,7 +1,5 @@
-use Rattle.std.proofs.Common.{◌≡◌, ◌≤◌}
+use Rattle.sorted_map.proofs.Common.{contents, is_from, where_key, ◌≡◌, ◌≤◌}
 use Rattle.std.specs.FinMap as map
-use Rattle.std.specs.FinMap.Entries.{where_key}
-use Rattle.sorted_map.specs.SortedMap.{contents, is_from}
 use Rattle.sorted_map.proofs.chunked.map.ChunkMap.remove_below.Given as goal
 
 -- what is kept of the rest is what is kept of all

@@ -1,5 +1,4 @@
-use Rattle.std.proofs.Common.{Some, ap, ◌∙◌}
-use Rattle.std.proofs.lemmas.Bool.{false≢true}
+use Rattle.sorted_map.proofs.Common.{Some, ap, false≢true, ◌∙◌}
 use Rattle.sorted_map.proofs.ContentLaws.{put_in_place, value_at, got_gap}
 use Rattle.sorted_map.proofs.chunked.map.ChunkMap.replace.Goals as goal
 

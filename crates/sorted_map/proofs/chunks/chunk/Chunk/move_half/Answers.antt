@@ -1,4 +1,4 @@
-use Rattle.std.proofs.Common.{◌≡◌, ◌∙◌, length, ap, arith}
+use Rattle.sorted_map.proofs.Common.{ap, arith, length, ◌∙◌, ◌≡◌}
 use Rattle.sorted_map.proofs.ChunkLaws.{front_of, back_of}
 use Rattle.sorted_map.proofs.chunks.chunk.Chunk.move_half.Goals as goal
 

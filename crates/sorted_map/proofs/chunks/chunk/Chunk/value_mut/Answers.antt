@@ -1,4 +1,4 @@
-use Rattle.std.proofs.Common.{refl, ap}
+use Rattle.sorted_map.proofs.Common.{ap, refl}
 use Rattle.sorted_map.proofs.ChunkLaws.{got}
 use Rattle.sorted_map.proofs.FlatLaws.{value_set}
 use Rattle.sorted_map.proofs.chunks.chunk.Chunk.value_mut.Goals as goal

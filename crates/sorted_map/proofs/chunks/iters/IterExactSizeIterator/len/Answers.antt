@@ -1,5 +1,4 @@
-use Rattle.std.proofs.Common.{arith, length-append}
-use Rattle.sorted_map.specs.Chunks.{flat}
+use Rattle.sorted_map.proofs.Common.{arith, flat, length-append}
 use Rattle.sorted_map.proofs.ChunkLaws.{flat_length}
 use Rattle.sorted_map.proofs.chunks.iters.IterExactSizeIterator.len.Goals as goal
 

@@ -1,4 +1,4 @@
-use Rattle.std.proofs.Common.{arith}
+use Rattle.sorted_map.proofs.Common.{arith}
 use Rattle.sorted_map.proofs.ChunkLaws.{small_extra}
 use Rattle.sorted_map.proofs.chunks.row.Chunks.extra.Goals as goal
 

@@ -1,4 +1,4 @@
-use Rattle.std.proofs.Common.{arith}
+use Rattle.sorted_map.proofs.Common.{arith}
 use Rattle.sorted_map.proofs.ChunkLaws.{small_extra, counted_joined}
 use Rattle.sorted_map.proofs.chunks.row.Chunks.move_down.Goals as goal
 

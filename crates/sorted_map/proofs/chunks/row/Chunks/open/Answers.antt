@@ -1,4 +1,4 @@
-use Rattle.std.proofs.Common.{◌≡◌, length, ap, arith}
+use Rattle.sorted_map.proofs.Common.{ap, arith, length, ◌≡◌}
 use Rattle.sorted_map.proofs.ChunkLaws.{counted_end}
 use Rattle.sorted_map.proofs.chunks.row.Chunks.open.Goals as goal
 

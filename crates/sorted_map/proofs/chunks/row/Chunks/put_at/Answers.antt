@@ -1,4 +1,4 @@
-use Rattle.std.proofs.Common.{arith}
+use Rattle.sorted_map.proofs.Common.{arith}
 use Rattle.sorted_map.proofs.ChunkLaws.{small_len, small_extra, counted_put}
 use Rattle.sorted_map.proofs.chunks.row.Chunks.put_at.Goals as goal
 

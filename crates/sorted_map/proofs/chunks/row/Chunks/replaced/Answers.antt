@@ -1,4 +1,4 @@
-use Rattle.std.proofs.Common.{get_or}
+use Rattle.sorted_map.proofs.Common.{get_or}
 use Rattle.sorted_map.proofs.ChunkLaws.{counted_replace}
 use Rattle.sorted_map.proofs.chunks.row.Chunks.replaced.Goals as goal
 

@@ -1,4 +1,4 @@
-use Rattle.std.proofs.Common.{arith}
+use Rattle.sorted_map.proofs.Common.{arith}
 use Rattle.sorted_map.proofs.ChunkLaws.{small_len}
 use Rattle.sorted_map.proofs.chunks.row.Chunks.row.Goals as goal
 

@@ -1,4 +1,4 @@
-use Rattle.std.proofs.Common.{arith}
+use Rattle.sorted_map.proofs.Common.{arith}
 use Rattle.sorted_map.proofs.ChunkLaws.{counted_without}
 use Rattle.sorted_map.proofs.chunks.row.Chunks.set_aside.Goals as goal
 

@@ -1,4 +1,4 @@
-use Rattle.std.proofs.Common.{arith}
+use Rattle.sorted_map.proofs.Common.{arith}
 use Rattle.sorted_map.proofs.ChunkLaws.{part_extra, counted_split}
 use Rattle.sorted_map.proofs.chunks.row.Chunks.split.Goals as goal
 

@@ -1,4 +1,4 @@
-use Rattle.std.proofs.Common.{[], ap, length, arith}
+use Rattle.sorted_map.proofs.Common.{[], ap, arith, length}
 use Rattle.sorted_map.proofs.ChunkLaws.{small_extra, part_len, part_extra, counted_take, got}
 use Rattle.sorted_map.proofs.chunks.row.Chunks.take_at.Goals as goal
 

@@ -1,5 +1,4 @@
-use Rattle.std.proofs.Common.{length, get_or, [], refl, set, ap, ◌∙◌, arith}
-use Rattle.sorted_map.specs.Chunks.{with_value}
+use Rattle.sorted_map.proofs.Common.{[], ap, arith, get_or, length, refl, set, with_value, ◌∙◌}
 use Rattle.sorted_map.proofs.ChunkLaws.{got, counted_set, few_at}
 use Rattle.sorted_map.proofs.FlatLaws.{value_length}
 use Rattle.sorted_map.proofs.chunks.row.Chunks.value_mut.Goals as goal

@@ -1,5 +1,4 @@
-use Rattle.std.proofs.Common.{arith}
-use Rattle.sorted_map.specs.Clones.{ClonePair}
+use Rattle.sorted_map.proofs.Common.{ClonePair, arith}
 use Rattle.sorted_map.proofs.CloneLaws.{zip_counted, zip_flat, zip_some, zip_length}
 use Rattle.sorted_map.proofs.chunks.row.ChunksClone.clone.Goals as goal
 

@@ -1,4 +1,4 @@
-use Rattle.std.proofs.Common.{slice_get, ap, ◌∙◌}
+use Rattle.sorted_map.proofs.Common.{ap, slice_get, ◌∙◌}
 use Rattle.sorted_map.proofs.ContentLaws.{first_shown}
 use Rattle.sorted_map.proofs.flat.map.FlatMap.first.Goals as goal
 

@@ -1,4 +1,4 @@
-use Rattle.std.proofs.Common.{refl, vec_capacity, vec_len, ◌-◌}
+use Rattle.sorted_map.proofs.Common.{refl, vec_capacity, vec_len, ◌-◌}
 use Rattle.sorted_map.proofs.ContentLaws.{written_at, got_at, got_gap, same_loan}
 use Rattle.sorted_map.proofs.flat.map.FlatMap.get_mut.Goals as goal
 

@@ -1,4 +1,4 @@
-use Rattle.std.proofs.Common.{◌≡◌, ◌-◌, ◌<◌, Some, sym, ap, ◌∙◌, vec_len, vec_capacity, arith}
+use Rattle.sorted_map.proofs.Common.{Some, ap, arith, sym, vec_capacity, vec_len, ◌-◌, ◌<◌, ◌∙◌, ◌≡◌}
 use Rattle.sorted_map.proofs.ContentLaws.{put_in_place, put_in_gap, value_at, got_gap}
 use Rattle.sorted_map.proofs.flat.map.FlatMap.insert.Goals as goal
 

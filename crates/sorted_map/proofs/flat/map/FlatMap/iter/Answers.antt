@@ -1,5 +1,4 @@
-use Rattle.std.proofs.Common.{sym, ◌∙◌}
-use Rattle.std.specs.FinMap.{entries-from_sorted}
+use Rattle.sorted_map.proofs.Common.{entries-from_sorted, sym, ◌∙◌}
 use Rattle.sorted_map.proofs.flat.map.FlatMap.iter.Goals as goal
 
 pub returns : goal.returns

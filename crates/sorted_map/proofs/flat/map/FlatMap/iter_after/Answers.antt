@@ -1,5 +1,4 @@
-use Rattle.std.proofs.Common.{◌∙◌}
-use Rattle.sorted_map.specs.SortedMap.{after}
+use Rattle.sorted_map.proofs.Common.{after, ◌∙◌}
 use Rattle.sorted_map.proofs.ContentLaws.{rest_shown}
 use Rattle.sorted_map.proofs.flat.map.FlatMap.iter_after.Goals as goal
 

@@ -1,6 +1,4 @@
-use Rattle.std.proofs.Common.{◌∙◌}
-use Rattle.std.specs.FinMap.Entries.{where_key}
-use Rattle.sorted_map.specs.SortedMap.{is_from}
+use Rattle.sorted_map.proofs.Common.{is_from, where_key, ◌∙◌}
 use Rattle.sorted_map.proofs.ContentLaws.{rest_shown}
 use Rattle.sorted_map.proofs.flat.map.FlatMap.iter_from.Goals as goal
 

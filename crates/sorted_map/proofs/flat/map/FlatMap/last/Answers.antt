@@ -1,4 +1,4 @@
-use Rattle.std.proofs.Common.{◌-◌, length, slice_get, ap, ◌∙◌}
+use Rattle.sorted_map.proofs.Common.{ap, length, slice_get, ◌-◌, ◌∙◌}
 use Rattle.sorted_map.proofs.ContentLaws.{last_shown}
 use Rattle.sorted_map.proofs.flat.map.FlatMap.last.Goals as goal
 

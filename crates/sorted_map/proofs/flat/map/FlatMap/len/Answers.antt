@@ -1,4 +1,4 @@
-use Rattle.std.proofs.Common.{◌∙◌}
+use Rattle.sorted_map.proofs.Common.{◌∙◌}
 use Rattle.sorted_map.proofs.ContentLaws.{len_shown}
 use Rattle.sorted_map.proofs.flat.map.FlatMap.len.Goals as goal
 

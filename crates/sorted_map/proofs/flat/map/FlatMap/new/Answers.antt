@@ -1,5 +1,4 @@
-use Rattle.std.proofs.Common.{length, ap, T, subst, sym}
-use Rattle.std.specs.FinMap.{is_sorted}
+use Rattle.sorted_map.proofs.Common.{T, ap, is_sorted, length, subst, sym}
 use Rattle.sorted_map.proofs.ContentLaws.{empty_shown}
 use Rattle.sorted_map.proofs.flat.map.FlatMap.new.Goals as goal
 

@@ -1,4 +1,4 @@
-use Rattle.std.proofs.Common.{◌<◌, length, sym, ◌∙◌, arith, eqb-true}
+use Rattle.sorted_map.proofs.Common.{arith, eqb-true, length, sym, ◌<◌, ◌∙◌}
 use Rattle.sorted_map.proofs.ContentLaws.{none_first, none_rest, some_first, some_rest, first_taken}
 use Rattle.sorted_map.proofs.flat.map.FlatMap.pop_first.Goals as goal
 

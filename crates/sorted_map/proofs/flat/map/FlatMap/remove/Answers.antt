@@ -1,5 +1,5 @@
 use Rattle.sorted_map.proofs.ContentLaws.{taken_at, taken_gap, pair_taken}
-use Rattle.std.proofs.Common.{ap, option_map}
+use Rattle.sorted_map.proofs.Common.{ap, option_map}
 use Rattle.sorted_map.proofs.ContentLaws.{got_gap}
 use Rattle.sorted_map.proofs.flat.map.FlatMap.remove.Goals as goal
 

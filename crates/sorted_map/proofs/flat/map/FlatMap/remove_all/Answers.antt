@@ -1,7 +1,5 @@
-use Rattle.std.proofs.Common.{rules, not}
+use Rattle.sorted_map.proofs.Common.{contents, filter_same, not, rules}
 use Rattle.std.specs.FinMap as map
-use Rattle.std.proofs.lemmas.Fn.{filter_same}
-use Rattle.sorted_map.specs.SortedMap.{contents}
 use Rattle.sorted_map.proofs.OverlayLaws.{taken_out}
 use Rattle.sorted_map.proofs.flat.map.FlatMap.remove_all.Goals as goal
 

@@ -1,4 +1,4 @@
-use Rattle.std.proofs.Common.{sym, ◌∙◌, arith}
+use Rattle.sorted_map.proofs.Common.{arith, sym, ◌∙◌}
 use Rattle.sorted_map.proofs.ContentLaws.{retained}
 use Rattle.sorted_map.proofs.flat.map.FlatMap.remove_below.Goals as goal
 

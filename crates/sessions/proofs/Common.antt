@@ -1,0 +1,27 @@
+-- Names of other crates, and of this one's definitions, as the proofs of this crate take them.
+pub use Rattle.mds_types.specs.History.{is_pair, mark}
+pub use Rattle.mds_types.specs.declared.entries.Entry.{Entry}
+pub use Rattle.mds_types.specs.declared.replies.Reply.{Reply}
+pub use Rattle.sessions.specs.Rooms.{AreIndexed, Held, Session, no_session, row_at, rows}
+pub use Rattle.sessions.specs.Seen.{IsSeen, SeesInRow, SeesInTable}
+pub use Rattle.sessions.specs.Table.{IsKeptFor, IsReplyAt, IsTableOf, Row, Table, kept_in, no_row, noted, noted_row, row_in, row_or_none, trimmed, trimmed_found, trimmed_row}
+pub use Rattle.sessions.specs.declared.clients.KeptReply.{KeptReply}
+pub use Rattle.sessions.specs.declared.clients.Seen.{Seen}
+pub use Rattle.sessions.specs.declared.clients.Seen.TheVariants.{Kept, New, Trimmed}
+pub use Rattle.sorted_map.specs.SortedMap.{contents, is_from}
+pub use Rattle.std.proofs.Common.{Bool, IfSome, List, None, Option, Some, T, [], ap, ap₂, arith, cond, eq-eqb, eqb-true, false, get_or, inl, inr, length, option_map, refl, set, subst, sym, true, vec_capacity, vec_len, ℕ, ⊎_elim, ◌&&◌, ◌++◌, ◌<◌, ◌==◌, ◌∙◌, ◌∷◌, ◌≡◌, ◌≢◌}
+pub use Rattle.std.proofs.Math.Bool.{or-false}
+pub use Rattle.std.proofs.Math.Seq.{get_or-append_seam}
+pub use Rattle.std.proofs.lemmas.Bool.{false≢true}
+pub use Rattle.std.proofs.lemmas.Grind.{get_or-set_at}
+pub use Rattle.std.proofs.lemmas.List.{get_or-set_other, get_or_append_left, get_or_default, length-append, length-set}
+pub use Rattle.std.proofs.lemmas.List.Folds.{list_any-append}
+pub use Rattle.std.proofs.lemmas.Map.Keys.{le_from_is_le}
+pub use Rattle.std.proofs.lemmas.Option.{none-some, same_Some}
+pub use Rattle.std.specs.Cmp.{nat_cmp_total, nat_eq_equiv, ranked, unsigned_tied}
+pub use Rattle.std.specs.FinMap.{entries_sorted, find, get-empty, get-entries, get-from_sorted, get-insert, get-retain_keys, is_sorted, nat_cmp-IsAntisymmetric, same_map}
+pub use Rattle.std.specs.FinMap.Entries.{below_all}
+pub use Rattle.std.specs.Ordering.{eq_by_cmp, is_le, is_lt, nat_cmp}
+pub use Rattle.std.specs.Prelude.{max, ◌||◌, ◌≤◌}
+pub use Rattle.std.specs.declared.cmp.Ordering.{Ordering}
+pub use Rattle.std.specs.declared.cmp.Ordering.TheVariants.{Equal, Greater, Less}
