@@ -302,14 +302,6 @@ stop_line old now new known left rest before mid waiting number bytes kind r nex
     let (others, all) = first_left left rest bytes next in
     leave old now known left before mid waiting number r (bytes ∷ others) (Err (record { line = number; kind = kind })) all (r.count, stops-first now new bytes others kind [] stops)
 
--- a line that was read is no fault of the reader's
-pub no_read_fault : (old new : Admin) (bytes : List ℕ) (kind : FaultKind) → DoesBytes old new bytes (Err kind) → kind ≡ ReadFault → ⊥
-no_read_fault old new bytes NotCommand stops is = cc
-no_read_fault old new bytes TooLong stops is = absurd stops
-no_read_fault old new bytes ReadFault stops is = absurd stops
-no_read_fault old new bytes WriteFault stops is = cc
-no_read_fault old new bytes OutOfMemory stops is = cc
-
 -- nothing waits any longer, and the script has ended
 runs-on : (old : Admin) (known before after last : Option (List ℕ)) (result : Result (Unit {0}) ScriptFault) → RunsInput old known before after result → Appends after last [] → RunsInput old known before last result
 runs-on old known before after last result r wrote = record {

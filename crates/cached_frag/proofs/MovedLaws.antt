@@ -41,16 +41,6 @@ none_popped old o none value q = get-entries old q ∙ ap (find key_cmp q) (none
 pub none_len : {X : Type 0} (old : map.FinMap key_cmp X) (o : Option (List ℕ × X)) → o ≡ None → o ≡ first_pair old → map.len old ≡ 0
 none_len {X} old o none value = len-entries old ∙ ap (length {A = List ℕ × X}) (none_left (map.entries old) o none value)
 
--- ---- a dirty name becomes what it became
-
-pub popped_shown : (clean after : Names) (old new : Marks) (pair : List ℕ × Mark) → map.get old pair.0 ≡ Some pair.1 → new ≡ map.remove old pair.0 → after ≡ with_mark clean pair.0 pair.1.inode → patched after new ≡ patched clean old
-popped_shown clean after old new pair there removed put =
-    taken_shown clean after old new pair.0 pair.1.version pair (refl, there, ap is_now there ∙ eq-eqb pair.1.version pair.1.version refl, removed) put
-  where
-    is_now : Option Mark → Bool
-    is_now (Some mark) = mark.version == pair.1.version
-    is_now None = false
-
 -- ---- a name comes in
 
 module _ (old new : Names) (pair : List ℕ × Inode) (there : map.get old pair.0 ≡ Some pair.1) (removed : new ≡ map.remove old pair.0) where

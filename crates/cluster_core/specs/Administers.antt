@@ -58,7 +58,7 @@ HoldsInside state rank dir f = AllHave state.tree.homes state.tree.covers state.
 abbrev pub UsesLeaf : (old new : Core) → Leaf → Type 0
 UsesLeaf old new leaf = UsesAt (IsHolder old.state leaf) leaf old.caches new.caches
 
--- a leaf and its children were used at most, and ended, at its authority, and a place that was kept was given up
+-- a leaf and its children were used at most, and ended, at its authority
 abbrev pub UsesFamily : (old new : Core) → Leaf → ℕ → Type 0
 UsesFamily old new leaf nb = CameAt (IsAuthority old.state leaf) (IsFamilyOf leaf.0 leaf.1 nb) old.caches new.caches
 

@@ -2,48 +2,6 @@
 use Rattle.cold_store.proofs.Common.{BadSplit, Bool, Damaged, Err, Fragment, Frozen, IfErr, InboxEmpty, InboxFull, Ino, JobOutstanding, Loads, MayFail, MayNotAdd, MayNotLoad, MayRefuse, NoInodes, NoMemory, NoSuchFrag, None, NotAuthority, NotClean, NothingToEvict, ObjName, Ok, Omap, OnOk, Option, Pinned, Refusal, Result, Some, StaleJob, StoreFault, TooManyFrags, Trimmed, WrongExportState, ap, false, faults_told, inl, inr, refl, result_err, ℕ, ◌<◌, ◌≡◌}
 use Rattle.mds_types.specs.declared.object_names.ObjName.TheVariants.{Frag as FragOf}
 
--- a fetch names its own object alone
-pub from_load : (dir : Ino) (frag : Fragment) (object : Option Omap) (a b : ℕ) (reason : Refusal) → MayNotLoad dir frag object a b reason → MayFail (λ name. (name ≡ FragOf dir frag) × Loads frag object None) a b reason
-from_load dir frag object a b NoMemory h = inl refl
-from_load dir frag object a b StoreFault h = inr (inl (refl, h))
-from_load dir frag object a b (Damaged name) h = inr (inr (name, refl, h))
-from_load dir frag object a b NoInodes h = absurd h
-from_load dir frag object a b Trimmed h = absurd h
-from_load dir frag object a b NotAuthority h = absurd h
-from_load dir frag object a b Frozen h = absurd h
-from_load dir frag object a b Pinned h = absurd h
-from_load dir frag object a b NoSuchFrag h = absurd h
-from_load dir frag object a b BadSplit h = absurd h
-from_load dir frag object a b TooManyFrags h = absurd h
-from_load dir frag object a b StaleJob h = absurd h
-from_load dir frag object a b JobOutstanding h = absurd h
-from_load dir frag object a b WrongExportState h = absurd h
-from_load dir frag object a b InboxEmpty h = absurd h
-from_load dir frag object a b InboxFull h = absurd h
-from_load dir frag object a b NothingToEvict h = absurd h
-from_load dir frag object a b NotClean h = absurd h
-
--- a store names no object
-pub from_store : (IsOff : ObjName → Type 0) (a b : ℕ) (reason : Refusal) → MayRefuse a b reason → MayFail IsOff a b reason
-from_store IsOff a b NoMemory h = inl refl
-from_store IsOff a b StoreFault h = inr (inl (refl, h))
-from_store IsOff a b (Damaged name) h = absurd h
-from_store IsOff a b NoInodes h = absurd h
-from_store IsOff a b Trimmed h = absurd h
-from_store IsOff a b NotAuthority h = absurd h
-from_store IsOff a b Frozen h = absurd h
-from_store IsOff a b Pinned h = absurd h
-from_store IsOff a b NoSuchFrag h = absurd h
-from_store IsOff a b BadSplit h = absurd h
-from_store IsOff a b TooManyFrags h = absurd h
-from_store IsOff a b StaleJob h = absurd h
-from_store IsOff a b JobOutstanding h = absurd h
-from_store IsOff a b WrongExportState h = absurd h
-from_store IsOff a b InboxEmpty h = absurd h
-from_store IsOff a b InboxFull h = absurd h
-from_store IsOff a b NothingToEvict h = absurd h
-from_store IsOff a b NotClean h = absurd h
-
 -- what is off there is off here
 pub widened : {IsOff IsBad : ObjName → Type 0} (a b x y : ℕ) (reason : Refusal) → (a < b → x < y) → ((name : ObjName) → IsOff name → IsBad name) → MayFail IsOff a b reason → MayFail IsBad x y reason
 widened a b x y reason rose wider (inl memory) = inl memory

@@ -21,13 +21,6 @@ either : (b : Bool) (place : Place) (rest : Option Place) → cond b (unsaved_in
 either true place rest = refl
 either false place rest = refl
 
-pub get-unsaved : (places : Places) (q : Leaf) → finmap.get (unsaved places) q ≡ unsaved_in (cached places q)
-unfolding unsaved
-get-unsaved [] q = get-empty leaf_cmp q
-get-unsaved (e ∷ places) q =
-    unsaved_here (unsaved places) e.0 q (unsaved_in (fragment_in (Some e.1))) ∙ ap (cond (leaf_is q e.0) (unsaved_in (fragment_in (Some e.1)))) (get-unsaved places q)
-    ∙ either (leaf_is q e.0) e.1 (lookup (leaf_is q) places)
-
 -- ---- a place among others
 
 pub remove_cut : (leaf : Leaf) (place : Place) (later before : Places) → NonePasses (leaf_is leaf) later → remove_entry (leaf_is leaf) (later ++ (leaf, place) ∷ before) ≡ later ++ before

@@ -35,10 +35,6 @@ absent_roomy c mid r stay leaf is none = go (nat_lt (length (order c r)) c.cap) 
     go false (Some v) is = ap (λ (k : CacheMap). finmap.get k.held leaf) (sym (same_Some (given_up c r v) mid is)) ∙ left v (here c r v)
 
 module _ (Uses Ends : ℕ → Leaf → Type 0) (start : CacheMap) where
-  -- a use
-  pub used_came : (old new : CacheMap) (r : ℕ) (leaf : Leaf) → Came Uses Ends start old → Uses r leaf → new ≡ used_at old r leaf → Came Uses Ends start new
-  used_came old new r leaf came named is = subst (Came Uses Ends start) (sym is) (uses old r leaf came named)
-
   -- a change
   pub edits_came : (old new : CacheMap) (r : ℕ) (leaf : Leaf) (Change : Cached → Cached → Type 0) → Came Uses Ends start old → Uses r leaf → Edits Change r leaf old new → Came Uses Ends start new
   edits_came old new r leaf Change came named e = go (here old r leaf) e
@@ -47,49 +43,10 @@ module _ (Uses Ends : ℕ → Leaf → Type 0) (start : CacheMap) where
       go None e = absurd e
       go (Some f) e = subst (Came Uses Ends start) (sym e.2) (has old r leaf e.0 came named)
 
-  pub marked_came : (old new : CacheMap) (r : ℕ) (leaf : Leaf) (name : List ℕ) (mark : Mark) → Came Uses Ends start old → Uses r leaf → new ≡ with_mark old r leaf name mark → Came Uses Ends start new
-  marked_came old new r leaf name mark came named is = go (here old r leaf) is
-    where
-      go : (o : Option Cached) → new ≡ edited_as old r leaf (λ (f : Cached). marked f name mark) o → Came Uses Ends start new
-      go None is = subst (Came Uses Ends start) (sym is) came
-      go (Some f) is = subst (Came Uses Ends start) (sym is) (has old r leaf (marked f name mark) came named)
-
-  -- an end
-  pub given_up_came : (old new : CacheMap) (r : ℕ) (leaf : Leaf) → Came Uses Ends start old → Ends r leaf → new ≡ given_up old r leaf → Came Uses Ends start new
-  given_up_came old new r leaf came named is = subst (Came Uses Ends start) (sym is) (ends old r leaf came named)
-
-  module _ (old new : CacheMap) (r : ℕ) (leaf : Leaf) (stay : Option Leaf) (came : Came Uses Ends start old) (named : Uses r leaf) (stayed : StaysNamed Uses stay) where
-    -- a place for a leaf that had none, or none
-    pub room_came : has_place old r leaf ≡ false → MakesRoomAt r stay old new → Came Uses Ends start new
-    room_came absent (inl same) = subst (Came Uses Ends start) (sym same) came
-    room_came absent (inr made) = room old new r leaf stay came named absent stayed made
-
-    pub keeps_came : has_place old r leaf ≡ false → KeepsAt r leaf stay old new → Came Uses Ends start new
-    keeps_came absent k = used_came k.0 new r leaf (room old k.0 r leaf stay came named absent stayed k.1) named k.2
-
-    -- a fetch
-    pub fetched_came : (object : Option Omap) (b : Bool) → has_place old r leaf ≡ b → FetchesAt r leaf stay object b old new → Came Uses Ends start new
-    fetched_came object true seen is = used_came old new r leaf came named is
-    fetched_came object false seen f = subst (Came Uses Ends start) (sym f.5) (has f.3 r leaf f.1 (room old f.3 r leaf stay came named seen stayed f.4) named)
-
 -- ---- what isn't clean
 
 pub used_unclean : (old new : CacheMap) (r : ℕ) (leaf : Leaf) → new ≡ used_at old r leaf → unclean new ≡ unclean old
 used_unclean old new r leaf is = ap unclean is ∙ unclean_alike (used_at old r leaf) old (λ q. refl)
-
-pub room_unclean : (old new : CacheMap) (r : ℕ) (stay : Option Leaf) → MakesRoomAt r stay old new → unclean new ≡ unclean old
-room_unclean old new r stay (inl same) = ap unclean same
-room_unclean old new r stay (inr made) = unclean_roomy old new r stay made
-
-pub keeps_unclean : (old new : CacheMap) (r : ℕ) (leaf : Leaf) (stay : Option Leaf) → KeepsAt r leaf stay old new → unclean new ≡ unclean old
-keeps_unclean old new r leaf stay k = used_unclean k.0 new r leaf k.2 ∙ unclean_roomy old k.0 r stay k.1
-
-pub fetched_unclean : (old new : CacheMap) (r : ℕ) (leaf : Leaf) (stay : Option Leaf) (object : Option Omap) (b : Bool) → FetchesAt r leaf stay object b old new → unclean new ≡ unclean old
-fetched_unclean old new r leaf stay object true is = used_unclean old new r leaf is
-fetched_unclean old new r leaf stay object false f =
-    ap unclean f.5
-    ∙ unclean_same f.3 r leaf f.1 (ap unsaved_at (absent_roomy old f.3 r stay leaf f.4 f.0) ∙ sym (loaded_clean leaf.1 object f.1 f.2))
-    ∙ unclean_roomy old f.3 r stay f.4
 
 -- a change that leaves what the fragment has beyond its object
 pub edits_unclean : (old new : CacheMap) (r : ℕ) (leaf : Leaf) (Change : Cached → Cached → Type 0) → ((f now : Cached) → Change f now → unsaved_in (Some now) ≡ unsaved_in (Some f)) → Edits Change r leaf old new → unclean new ≡ unclean old

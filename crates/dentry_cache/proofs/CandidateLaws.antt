@@ -121,11 +121,6 @@ many_more sizes whole i total entries lt before here many =
     let not_less : nat_lt (entries + total) 50 ≡ false = grind (arith, nat_tests, many) in
     ends_false sizes whole (suc i) (omega (arith, lt)) (ap is_few (one_more sizes whole i (suc i) total entries (entries + total) refl refl before here) ∙ not_less)
 
-pub all_few : (sizes : Sizes) (whole : Leaf) (n total : ℕ) → n ≡ 8 → together sizes whole n ≡ Some total → total < 50 → true ≡ are_few sizes whole
-all_few sizes whole n total end is few =
-    let less : nat_lt total 50 ≡ true = grind (arith, nat_tests, few) in
-    sym (ap is_few (ap (together sizes whole) (sym end) ∙ is) ∙ less)
-
 -- ---- the fragment of which a leaf is one of eight children
 
 whole_value : (v i t n : ℕ) → v % (8 * t) ≡ 0 → i < 8 → 0 < t → n ≡ v + i * t → n - n % (8 * t) ≡ v

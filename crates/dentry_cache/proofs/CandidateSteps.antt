@@ -19,9 +19,6 @@ none_yet large small e f = subst (λ xs. AreSets (λ leaf. None) xs small) (sym 
   fragments = λ whole is. (let clash : false ≡ true = is in absurd cc);
 }))
 
-pub same_sets : (sizes : Sizes) (c d : Candidates) → d.large.leaves.items ≡ c.large.leaves.items → d.small.leaves.items ≡ c.small.leaves.items → AreCandidates sizes c → AreCandidates sizes d
-same_sets sizes c d large small sets = subst (λ xs. AreSets sizes xs d.small.leaves.items) (sym large) (subst (AreSets sizes c.large.leaves.items) (sym small) sets)
-
 module _ (sizes : Sizes) (large small : List Leaf) (sets : AreSets sizes large small) (after r : Option Leaf) where
   pub next_large : IsNext (λ (leaf : Leaf). is_in leaf large ≡ true) after r → IsNext (IsLargeIn sizes) after r
   next_large next =

@@ -76,13 +76,6 @@ module _ (r : ℕ) (dir : Ino) (frag : Fragment) (bits : ℕ) where
         kept_then i (inl less) = used_kept mid r (child n) (child i) k.there (k.kept i less)
         kept_then i (inr same) = subst (λ (m : ℕ). IsKeptFor (used_at mid r (child n)) r (child m)) (sym same) (just_kept mid r (child n) k.there (k.absent n (omega arith) below).1)
 
-  -- so of each that was kept
-  pub are_keeping : (n : ℕ) (old now : CacheMap) → n ≤ 2 ^ bits → r < length old.used → IsDistinct leaf_is (order old r) → AreAbsent old r dir frag bits → KeepsChildren r dir frag bits n old now → AreKeeping n old now
-  are_keeping zero old now most there distinct absent is = subst (AreKeeping 0 old) (sym is) (none_kept old there distinct absent)
-  are_keeping (suc n) old now most there distinct absent keeps =
-      let before = are_keeping n old keeps.0 (omega (arith, most)) there distinct absent keeps.1 in
-      one_kept n (omega (arith, most)) old keeps.2.0 (room_kept n (omega (arith, most)) old keeps.0 before keeps.2.0 keeps.2.1) now keeps.2.2
-
   -- so no name is changed, and no fragment ends
   pub kept_reads : (n : ℕ) (old now : CacheMap) → AreKeeping n old now → (objects : Objects) → Reads (IsFamilyAt r dir frag bits) (IsChildAt r dir frag bits) objects old now
   kept_reads n old now k objects = reads_weaker (IsFamilyAt r dir frag bits) NoneEnds (IsFamilyAt r dir frag bits) (IsChildAt r dir frag bits) (λ s q named. named) (λ s q none. absurd none) objects old now (k.reads objects)

@@ -125,41 +125,6 @@ module _ (from to : ℕ) (apart : from ≢ to) (leaves clean : List Leaf) (old n
           let d = dirty_there (here old from q) (all_of (λ (l : Leaf). unclean_in (here old from l) ≡ true) q leaves cached gone.0) in
           record { was = at from d.0; held = here_is from (finmap.get old.held q) d.0 d.1; frag = inr (ap (λ (y : At). y.frag) (sym (same_Some (at to (imported d.0)) a (sym (handed_held q gone.0 d.0 d.1) ∙ is)))) }
 
-  -- each place was there before, or is that of a leaf that was handed over
-  abbrev WasPlaced : CacheMap → Type 0
-  WasPlaced k = (r : ℕ) (q : Leaf) → has_place k r q ≡ true → (has_place old r q ≡ true) ⊎ ((r ≡ to) × (list_any (leaf_is q) leaves ≡ true))
-
-  use_placed : (k : CacheMap) (leaf : Leaf) → list_any (leaf_is leaf) leaves ≡ true → WasPlaced k → WasPlaced (used_at k to leaf)
-  use_placed k leaf named so r q is = go (placed_used k to leaf r q is)
-    where
-      go : (has_place k r q ≡ true) ⊎ ((r ≡ to) × (q ≡ leaf)) → (has_place old r q ≡ true) ⊎ ((r ≡ to) × (list_any (leaf_is q) leaves ≡ true))
-      go (inl before) = so r q before
-      go (inr same) = inr (same.0, subst (λ (l : Leaf). list_any (leaf_is l) leaves ≡ true) (sym same.1) named)
-
-  end_placed : (k : CacheMap) (r : ℕ) (leaf : Leaf) → WasPlaced k → WasPlaced (given_up k r leaf)
-  end_placed k r leaf so s q is = so s q (placed_given_up k r leaf s q is)
-
-  move_placed : (k : CacheMap) (leaf : Leaf) → list_any (leaf_is leaf) leaves ≡ true → WasPlaced k → WasPlaced (moved k from to leaf)
-  move_placed k leaf named so = go (here k from leaf)
-    where
-      go : (o : Option Cached) → WasPlaced (moved_as (given_up k from leaf) to leaf o)
-      go None = end_placed k from leaf so
-      go (Some f) = λ r q is. use_placed (given_up k from leaf) leaf named (end_placed k from leaf so) r q is
-
-  moves_placed : (k : CacheMap) → WasPlaced k → (ls : List Leaf) → AllByRecursion (λ (leaf : Leaf). list_any (leaf_is leaf) leaves ≡ true) ls → WasPlaced (moved_all k from to ls)
-  moves_placed k so [] named = so
-  moves_placed k so (leaf ∷ ls) named = move_placed (moved_all k from to ls) leaf named.0 (moves_placed k so ls named.1)
-
-  ends_placed : (k : CacheMap) → WasPlaced k → (ls : List Leaf) → WasPlaced (without_all k from ls)
-  ends_placed k so [] = so
-  ends_placed k so (leaf ∷ ls) = end_placed (without_all k from ls) from leaf (ends_placed k so ls)
-
-  pub handed_placed : WasPlaced new
-  handed_placed =
-      subst WasPlaced (sym h.2) (ends_placed (moved_all mid from to leaves) (moves_placed mid
-      (by_keeping old to (λ (leaf : Leaf). list_any (leaf_is leaf) leaves ≡ true) WasPlaced (λ r q is. inl is) (λ before then made so r q is. so r q (placed_roomy before then to None r q made is)) (λ then leaf named so. use_placed then leaf named so)
-      leaves (all_from (λ (leaf : Leaf). list_any (leaf_is leaf) leaves ≡ true) leaves (λ q among. among)) mid h.1) leaves (all_from (λ (leaf : Leaf). list_any (leaf_is leaf) leaves ≡ true) leaves (λ q among. among))) clean)
-
 -- ---- places in which there is a fragment
 
 -- each place but some has its fragment

@@ -45,25 +45,6 @@ less_distinct leaf (x ∷ xs) distinct = go (leaf_is leaf x) (less_distinct leaf
 pub first_distinct : (leaf : Leaf) (xs : List Leaf) → IsDistinct leaf_is xs → IsDistinct leaf_is (first leaf xs)
 first_distinct leaf xs distinct = IsDistinct-cons leaf_is leaf (less leaf xs) (less_apart leaf xs distinct) (less_distinct leaf xs distinct)
 
-pub filter_less : (p : Leaf → Bool) (leaf : Leaf) (xs : List Leaf) → length (filter p (less leaf xs)) ≤ length (filter p xs)
-filter_less p leaf [] = omega arith
-filter_less p leaf (x ∷ xs) = go (leaf_is leaf x) (p x) (filter_less p leaf xs)
-  where
-    add : Bool → List Leaf → List Leaf
-    add b rest = cond b (x ∷ rest) rest
-
-    go : (b c : Bool) → length (filter p (less leaf xs)) ≤ length (filter p xs) → length (filter p (cond b xs (x ∷ less leaf xs))) ≤ length (filter p (x ∷ xs))
-    go true c le = plus (p x)
-      where
-        plus : (d : Bool) → length (filter p xs) ≤ length (cond d (x ∷ filter p xs) (filter p xs))
-        plus true = omega arith
-        plus false = omega arith
-    go false c le = both (p x)
-      where
-        both : (d : Bool) → length (cond d (x ∷ filter p (less leaf xs)) (filter p (less leaf xs))) ≤ length (cond d (x ∷ filter p xs) (filter p xs))
-        both true = omega (arith, le)
-        both false = omega (arith, le)
-
 pub same_filter : (p q : Leaf → Bool) (xs : List Leaf) → AllByRecursion (λ (x : Leaf). p x ≡ q x) xs → filter p xs ≡ filter q xs
 same_filter p q [] all = refl
 same_filter p q (x ∷ xs) all = ap (λ (b : Bool). cond b (x ∷ filter p xs) (filter p xs)) all.0 ∙ ap (λ (rest : List Leaf). cond (q x) (x ∷ rest) rest) (same_filter p q xs all.1)

@@ -14,48 +14,13 @@ use Rattle.dentry_cache.specs.Loading.{Loads, object_of}
 use Rattle.dentry_cache.specs.Reads.{Reads}
 use Rattle.dentry_cache.specs.Reads.Reads.{stays as it_stays, uses, grows, loads, room, frees}
 use Rattle.dentry_cache.proofs.CountLaws.{full_counts, staying}
-use Rattle.dentry_cache.proofs.KeptLaws.{counted, filter_less, first_distinct, less_distinct, same_filter}
+use Rattle.dentry_cache.proofs.KeptLaws.{counted, first_distinct, less_distinct, same_filter}
 use Rattle.dentry_cache.proofs.FrameLaws.{came_cap, came_ranks}
 use Rattle.dentry_cache.proofs.MapLaws.{at_other, here_free}
 use Rattle.dentry_cache.proofs.ReadsLaws.{reads_came}
 use Rattle.dentry_cache.proofs.StepLaws.{any_less, by_room, here_given_up, here_with_frag, set_either}
 use Rattle.dentry_cache.proofs.UsedLaws.{loaded_clean}
 use Rattle.dentry_cache.proofs.LeafLaws.{leaf_itself, one_leaf}
-
--- ---- lists
-
--- fewer pass a test that is passed by fewer
-filter_fewer : (p q : Leaf → Bool) (xs : List Leaf) → ((x : Leaf) → p x ≡ true → q x ≡ true) → length (filter p xs) ≤ length (filter q xs)
-filter_fewer p q [] so = omega arith
-filter_fewer p q (x ∷ xs) so = go (p x) (q x) (so x) (filter_fewer p q xs so)
-  where
-    go : (a b : Bool) → (a ≡ true → b ≡ true) → length (filter p xs) ≤ length (filter q xs) → length (cond a (x ∷ filter p xs) (filter p xs)) ≤ length (cond b (x ∷ filter q xs) (filter q xs))
-    go true true both le = omega (arith, le)
-    go true false both le = let clash : false ≡ true = both refl in absurd cc
-    go false true both le = omega (arith, le)
-    go false false both le = le
-
--- one that is among others, and one that doesn't pass, adds none
-filter_first : (p : Leaf → Bool) (leaf : Leaf) (xs : List Leaf) → (list_any (leaf_is leaf) xs ≡ true) ⊎ (p leaf ≡ false) → length (filter p (first leaf xs)) ≤ length (filter p xs)
-filter_first p leaf xs (inr none) = let fewer = filter_less p leaf xs in subst (λ (b : Bool). length (cond b (leaf ∷ filter p (less leaf xs)) (filter p (less leaf xs))) ≤ length (filter p xs)) (sym none) fewer
-filter_first p leaf [] (inl among) = let clash : false ≡ true = among in absurd cc
-filter_first p leaf (x ∷ xs) (inl among) = go (leaf_is leaf x) refl among (λ rest. filter_first p leaf xs (inl rest))
-  where
-    both : (a b : Bool) → length (cond a (leaf ∷ filter p (less leaf xs)) (filter p (less leaf xs))) ≤ length (filter p xs)
-        → length (cond a (leaf ∷ cond b (x ∷ filter p (less leaf xs)) (filter p (less leaf xs))) (cond b (x ∷ filter p (less leaf xs)) (filter p (less leaf xs)))) ≤ length (cond b (x ∷ filter p xs) (filter p xs))
-    both true true le = omega (arith, le)
-    both true false le = le
-    both false true le = omega (arith, le)
-    both false false le = le
-
-    go : (b : Bool) → leaf_is leaf x ≡ b → (b || list_any (leaf_is leaf) xs) ≡ true → (list_any (leaf_is leaf) xs ≡ true → length (filter p (first leaf xs)) ≤ length (filter p xs))
-        → length (filter p (leaf ∷ cond b xs (x ∷ less leaf xs))) ≤ length (filter p (x ∷ xs))
-    go true same is rest = let one : filter p (leaf ∷ xs) ≡ filter p (x ∷ xs) = ap (λ (l : Leaf). filter p (l ∷ xs)) (one_leaf leaf x same) in subst (λ (ys : List Leaf). length (filter p (leaf ∷ xs)) ≤ length ys) one (omega arith)
-    go false apart is rest = both (p leaf) (p x) (rest is)
-
-all_of_list : {P : Leaf → Type 0} → ((x : Leaf) → P x) → (xs : List Leaf) → AllByRecursion P xs
-all_of_list each [] = tt
-all_of_list each (x ∷ xs) = (each x, all_of_list each xs)
 
 -- ---- what holds between the steps
 
@@ -130,72 +95,7 @@ module _ (P : Option Cached → Bool) where
   abbrev IsCounted : CacheMap → ℕ → Leaf → Type 0
   IsCounted c r leaf = (has_place c r leaf ≡ true) ⊎ (P (here c r leaf) ≡ false)
 
-  pub is_counted : P None ≡ false → (c : CacheMap) (r : ℕ) (leaf : Leaf) → IsPlaced c → IsCounted c r leaf
-  is_counted none c r leaf p = by (here c r leaf) refl
-    where
-      by : (o : Option Cached) → here c r leaf ≡ o → IsCounted c r leaf
-      by (Some f) seen = inl (p.placed r leaf (ap (λ (o : Option Cached). is_some o) seen))
-      by None seen = inr (ap P seen ∙ none)
-
-  -- such a leaf is used
-  pub used_counts : (c : CacheMap) (r : ℕ) (leaf : Leaf) (s : ℕ) → IsCounted c r leaf → length (filter (λ (x : Leaf). P (here c s x)) (order (used_at c r leaf) s)) ≤ counted P c s
-  used_counts c r leaf s is = go (set_either c.used r s (first leaf (order c r)))
-    where
-      go : ((s ≡ r) × (get_or (set c.used r (first leaf (order c r))) s [] ≡ first leaf (order c r))) ⊎ (get_or (set c.used r (first leaf (order c r))) s [] ≡ get_or c.used s [])
-          → length (filter (λ (x : Leaf). P (here c s x)) (order (used_at c r leaf) s)) ≤ counted P c s
-      go (inl set) =
-          subst (λ (xs : List Leaf). length (filter (λ (x : Leaf). P (here c s x)) xs) ≤ counted P c s) (sym set.1)
-          (subst (λ (k : ℕ). length (filter (λ (x : Leaf). P (here c k x)) (first leaf (order c r))) ≤ counted P c k) (sym set.0) (filter_first (λ (x : Leaf). P (here c r x)) leaf (order c r) is))
-      go (inr same) = subst (λ (xs : List Leaf). length (filter (λ (x : Leaf). P (here c s x)) xs) ≤ counted P c s) (sym same) (omega arith)
-
-  -- a place is given up
-  pub given_up_counts : P None ≡ false → (c : CacheMap) (r : ℕ) (leaf : Leaf) (s : ℕ) → counted P (given_up c r leaf) s ≤ counted P c s
-  given_up_counts none c r leaf s =
-      let fewer : counted P (given_up c r leaf) s ≤ length (filter (λ (x : Leaf). P (here c s x)) (order (given_up c r leaf) s)) = filter_fewer (λ (x : Leaf). P (here (given_up c r leaf) s x)) (λ (x : Leaf). P (here c s x)) (order (given_up c r leaf) s) passes in
-      let rest : length (filter (λ (x : Leaf). P (here c s x)) (order (given_up c r leaf) s)) ≤ counted P c s = go (set_either c.used r s (less leaf (order c r))) in
-      omega (arith, fewer, rest)
-    where
-      either : (b : Bool) (x : Leaf) → P (cond b None (here c s x)) ≡ true → P (here c s x) ≡ true
-      either true x is = let clash : false ≡ true = sym none ∙ is in absurd cc
-      either false x is = is
-
-      passes : (x : Leaf) → P (here (given_up c r leaf) s x) ≡ true → P (here c s x) ≡ true
-      passes x is = either (leaf_is x leaf && (r == s)) x (ap P (sym (here_given_up c r leaf s x)) ∙ is)
-
-      go : ((s ≡ r) × (get_or (set c.used r (less leaf (order c r))) s [] ≡ less leaf (order c r))) ⊎ (get_or (set c.used r (less leaf (order c r))) s [] ≡ get_or c.used s [])
-          → length (filter (λ (x : Leaf). P (here c s x)) (order (given_up c r leaf) s)) ≤ counted P c s
-      go (inl set) =
-          subst (λ (xs : List Leaf). length (filter (λ (x : Leaf). P (here c s x)) xs) ≤ counted P c s) (sym set.1)
-          (subst (λ (k : ℕ). length (filter (λ (x : Leaf). P (here c k x)) (less leaf (order c r))) ≤ counted P c k) (sym set.0) (filter_less (λ (x : Leaf). P (here c r x)) leaf (order c r)))
-      go (inr same) = subst (λ (xs : List Leaf). length (filter (λ (x : Leaf). P (here c s x)) xs) ≤ counted P c s) (sym same) (omega arith)
-
-  -- a fragment that passes as what the rank had, which no other rank has
-  pub frag_counts : (c : CacheMap) (r : ℕ) (leaf : Leaf) (f : Cached) (s : ℕ) → IsCounted c r leaf → IsFreeFor c r leaf → P (Some f) ≡ P (here c r leaf) → counted P (with_frag c r leaf f) s ≤ counted P c s
-  frag_counts c r leaf f s is free same =
-      subst (λ (xs : List Leaf). length xs ≤ counted P c s) (sym (same_filter (λ (x : Leaf). P (here (with_frag c r leaf f) s x)) (λ (x : Leaf). P (here c s x)) (order (used_at c r leaf) s) (all_of_list each (order (used_at c r leaf) s))))
-      (used_counts c r leaf s is)
-    where
-      on : (x : Leaf) (b : Bool) → leaf_is x leaf ≡ b → (r ≡ s) ⊎ (r ≡ s → ⊥) → P (cond b (cond (r == s) (Some f) None) (here c s x)) ≡ P (here c s x)
-      on x true one (inl rank) = ap (λ (b : Bool). P (cond b (Some f) None)) (is_same r s rank) ∙ same ∙ ap (λ (k : ℕ). P (here c k leaf)) rank ∙ ap (λ (l : Leaf). P (here c s l)) (sym (one_leaf x leaf one))
-      on x true one (inr apart) =
-          ap (λ (b : Bool). P (cond b (Some f) None)) (is_apart r s apart) ∙ ap P (sym (at_other r s (finmap.get c.held leaf) free (λ (e : s ≡ r). apart (sym e)))) ∙ ap (λ (l : Leaf). P (here c s l)) (sym (one_leaf x leaf one))
-      on x false one either = refl
-
-      each : (x : Leaf) → P (here (with_frag c r leaf f) s x) ≡ P (here c s x)
-      each x = ap P (here_with_frag c r leaf f s x) ∙ on x (leaf_is x leaf) refl (same_or_apart r s)
-
 -- ---- reads
-
--- a fragment that was read is clean
-loaded_is_clean : (frag : Fragment) (object : Option Omap) (f : Cached) → Loads frag object (Some f) → unclean_in (Some f) ≡ false
-loaded_is_clean frag object f spelt = go (is_clean f) (loaded_clean frag object f spelt)
-  where
-    what : Unsaved
-    what = record { base = f.base; generation = f.generation; dirty = f.dirty }
-
-    go : (b : Bool) → cond b None (Some what) ≡ None → not b ≡ false
-    go true none = refl
-    go false none = let clash : Some what ≡ None = none in absurd cc
 
 module _ (Uses Ends : ℕ → Leaf → Type 0) (objects : Objects) (old : CacheMap) (valid : AreCaches old) (ranks : (r : ℕ) (leaf : Leaf) → Uses r leaf → r < length old.used) where
   pub there_mid : (mid : CacheMap) → Reads Uses Ends objects old mid → (r : ℕ) (leaf : Leaf) → Uses r leaf → r < length mid.used
@@ -212,29 +112,6 @@ module _ (Uses Ends : ℕ → Leaf → Type 0) (objects : Objects) (old : CacheM
 
   twice : (a b c : ℕ) → a ≤ b → b ≤ c → a ≤ c
   twice a b c one more = omega (arith, one, more)
-
-  -- no more of a rank's fragments aren't clean
-  pub reads_counts : (new : CacheMap) → Reads Uses Ends objects old new → (s : ℕ) → length (unclean_at new s) ≤ length (unclean_at old s)
-  reads_counts _ it_stays s = omega arith
-  reads_counts _ (uses mid r leaf before named) s = twice _ _ _ (used_counts unclean_in mid r leaf s (is_counted unclean_in refl mid r leaf (reads_placed mid before))) (reads_counts mid before s)
-  reads_counts _ (grows mid r leaf f now before named seen same) s =
-      twice _ _ _
-      (frag_counts unclean_in mid r leaf now s (is_counted unclean_in refl mid r leaf (reads_placed mid before)) (here_free r (finmap.get mid.held leaf) (ap (λ (o : Option Cached). is_some o) seen)) (ap (λ (k : Cached). unclean_in (Some k)) same ∙ sym (ap unclean_in seen)))
-      (reads_counts mid before s)
-  reads_counts _ (loads mid r leaf f before named none spelt) s =
-      twice _ _ _
-      (frag_counts unclean_in mid r leaf f s (is_counted unclean_in refl mid r leaf (reads_placed mid before)) (subst (IsFree r) (sym none) tt) (loaded_is_clean leaf.1 (object_of objects leaf.0 leaf.1) f spelt ∙ sym (ap (λ o. unclean_in (at_rank r o)) none)))
-      (reads_counts mid before s)
-  reads_counts _ (room mid new r leaf stay before named none kept is) s =
-      twice _ _ _ (by_room mid new r stay is (λ (k : CacheMap). length (unclean_at k s) ≤ length (unclean_at mid s)) (omega arith) (λ v passes. given_up_counts unclean_in refl mid r v s)) (reads_counts mid before s)
-  reads_counts _ (frees mid r leaf before named none) s = twice _ _ _ (given_up_counts unclean_in refl mid r leaf s) (reads_counts mid before s)
-
-  -- a rank that lacks places lacked them before
-  pub reads_lacks : (new : CacheMap) → Reads Uses Ends objects old new → (count s : ℕ) → LacksAt count new s → LacksAt count old s
-  reads_lacks new reads count s lacks =
-      let cap : new.cap ≡ old.cap = came_cap Uses Ends old new (reads_came Uses Ends objects old new reads) in
-      let fewer : length (unclean_at new s) ≤ length (unclean_at old s) = reads_counts new reads s in
-      omega (arith, cap, fewer, lacks)
 
 -- ---- where no place is kept
 

@@ -247,5 +247,3 @@ item_copied xs i (Some x) h = sym (slice_get-get_or xs i x.now h.3.0 ∙ ap (λ 
 pub next_as : (P Q : Leaf → Type 0) (after r : Option Leaf) → ((leaf : Leaf) → P leaf → Q leaf) → ((leaf : Leaf) → Q leaf → P leaf) → IsNext P after r → IsNext Q after r
 next_as P Q after None there back next = λ leaf is behind. next leaf (back leaf is) behind
 next_as P Q after (Some x) there back next = record { is = there x next.is; behind = next.behind; least = λ other is behind. next.least other (back other is) behind }
-
--- ---- how many there can be

@@ -2,7 +2,6 @@
 use Rattle.dentry_cache.proofs.Common.{AreAbsent, AreApart, AreCaches, AreChildren, AreFillable, AreKept, Bool, CacheMap, Cached, Edits, Fragment, HasCached, Ino, IsButPlaces, IsChildAt, IsEdited, IsFamilyAt, IsFreeFor, IsKeptFor, Leaf, List, Names, None, NoneEnds, Objects, Option, Part, ReadiesAt, Reads, Some, SplitsAt, [], ap, arith, child_of, cond, false, given_up, has_place, here, inl, inr, is_same, leaf_is, length, refl, shown, slice_index_or, subst, suc, sym, true, unclean, with_frag, with_parts, with_unclean, ℕ, ◌&&◌, ◌+◌, ◌<◌, ◌==◌, ◌^◌, ◌∙◌, ◌∷◌, ◌≡◌, ◌≤◌, ◌⊎◌}
 use Rattle.std.specs.FinMap as finmap
 use Rattle.dentry_cache.specs.Reads.Reads.{stays as it_stays}
-use Rattle.dentry_cache.proofs.ChildLaws.{are_keeping}
 use Rattle.dentry_cache.proofs.LacksLaws.{IsPlaced, caches_placed, placed_by_frag, still_left}
 use Rattle.dentry_cache.proofs.NameParts.{no_child, one_child}
 use Rattle.dentry_cache.proofs.ReadsLaws.{edits_reads, places_changed, reads_then, reads_weaker}
@@ -23,9 +22,6 @@ module _ (r : ℕ) (dir : Ino) (frag : Fragment) (bits : ℕ) (some : 1 ≤ bits
   -- how a statement of the caches before and after is proved
   by_edit : (P : CacheMap → Type 0) → ((f now : Cached) → here old r (dir, frag) ≡ Some f → IsButPlaces f now → P (with_frag old r (dir, frag) now)) → P mid
   by_edit P so = by_edits r (dir, frag) IsButPlaces old mid e P so
-
-  pub ready_ranks : r < length old.used → r < length mid.used
-  ready_ranks there = by_edit (λ (k : CacheMap). r < length k.used) (λ f now seen same. subst (λ (n : ℕ). r < n) (sym (ranks_with_frag old r (dir, frag) now)) there)
 
   -- no child has a place yet
   pub ready_absent : AreAbsent old r dir frag bits → AreAbsent mid r dir frag bits
@@ -54,18 +50,6 @@ module _ (r : ℕ) (dir : Ino) (frag : Fragment) (bits : ℕ) (some : 1 ≤ bits
 
   pub ready_reads : (objects : Objects) → Reads (IsFamilyAt r dir frag bits) (IsChildAt r dir frag bits) objects old mid
   ready_reads objects = edits_reads (IsFamilyAt r dir frag bits) (IsChildAt r dir frag bits) objects old old mid r (dir, frag) IsButPlaces places_changed it_stays (inl (refl, refl)) e
-
--- what is made ready changes no name, and ends no fragment
-pub readies_reads : (r : ℕ) (dir : Ino) (frag : Fragment) (bits : ℕ) → 1 ≤ bits → (old new : CacheMap) → r < length old.used → AreCaches old → AreAbsent old r dir frag bits → ReadiesAt r dir frag bits old new
-    → (Uses Ends : ℕ → Leaf → Type 0) (objects : Objects) (start : CacheMap) → ((s : ℕ) (q : Leaf) → IsFamilyAt r dir frag bits s q → Uses s q) → Reads Uses Ends objects start old → Reads Uses Ends objects start new
-readies_reads r dir frag bits some old new there valid absent made Uses Ends objects start named before =
-    let mid = made.0 in
-    let ready : Reads (IsFamilyAt r dir frag bits) NoneEnds objects old mid = edits_reads (IsFamilyAt r dir frag bits) NoneEnds objects old old mid r (dir, frag) IsButPlaces places_changed it_stays (inl (refl, refl)) made.1 in
-    let placed : IsPlaced mid = by_edits r (dir, frag) IsButPlaces old mid made.1 IsPlaced (λ f now seen same. placed_by_frag old r (dir, frag) now there (caches_placed old valid)) in
-    let kept : Reads (IsFamilyAt r dir frag bits) NoneEnds objects mid new =
-    (are_keeping r dir frag bits (2 ^ bits) mid new (omega arith) (ready_ranks r dir frag bits some old mid made.1 there) (placed.distinct r) (ready_absent r dir frag bits some old mid made.1 absent) made.2).reads objects in
-    reads_then Uses Ends objects start old new before
-    (reads_weaker (IsFamilyAt r dir frag bits) NoneEnds Uses Ends named (λ s q none. absurd none) objects old new (reads_then (IsFamilyAt r dir frag bits) NoneEnds objects old mid new ready kept))
 
 -- ---- the children come in
 
@@ -114,18 +98,6 @@ module _ (r : ℕ) (dir : Ino) (frag : Fragment) (bits version : ℕ) (names : N
   -- all of them can come in once the fragment is gone
   pub are_fillable : AreFillable r dir made (given_up old r (dir, frag))
   are_fillable = fillable_from r dir frag bits 0 made (given_up old r (dir, frag)) at_its_place (λ i within. still_kept (0 + i) (omega (arith, within, d.count, count)))
-
--- ---- what isn't clean
-
--- these fragments come in
-pub unclean_with_parts : (dir : Ino) (r : ℕ) (parts : List Part) (c : CacheMap) → unclean (with_parts dir r parts c) ≡ with_unclean dir parts (unclean c)
-unclean_with_parts dir r [] c = refl
-unclean_with_parts dir r (part ∷ parts) c =
-    unclean_with_parts dir r parts (with_frag c r (dir, part.frag) part.fragment) ∙ ap (with_unclean dir parts) (unclean_with c r (dir, part.frag) part.fragment)
-
--- so at a split: the fragment is gone, and its children are there
-pub unclean_split : (dir : Ino) (r : ℕ) (frag : Fragment) (made : List Part) (old new : CacheMap) → IsFreeFor old r (dir, frag) → new ≡ with_parts dir r made (given_up old r (dir, frag)) → unclean new ≡ with_unclean dir made (finmap.remove (unclean old) (dir, frag))
-unclean_split dir r frag made old new free is = ap unclean is ∙ unclean_with_parts dir r made (given_up old r (dir, frag)) ∙ ap (with_unclean dir made) (unclean_given_up old r (dir, frag) free)
 
 -- ---- of the fragment that was there
 

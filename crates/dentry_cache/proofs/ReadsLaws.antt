@@ -70,10 +70,6 @@ module _ (Uses Ends : ℕ → Leaf → Type 0) (objects : Objects) (start : Cach
       go None seen e = absurd e
       go (Some f) seen e = subst (Reads Uses Ends objects start) (sym e.2) (grows old r leaf f e.0 reads named seen (same f e.0 e.1))
 
-  -- a place in which there is no fragment is given up
-  pub freed_reads : (old new : CacheMap) (r : ℕ) (leaf : Leaf) → Reads Uses Ends objects start old → Ends r leaf → finmap.get old.held leaf ≡ None → new ≡ given_up old r leaf → Reads Uses Ends objects start new
-  freed_reads old new r leaf reads named none is = subst (Reads Uses Ends objects start) (sym is) (frees old r leaf reads named none)
-
   module _ (old new : CacheMap) (r : ℕ) (leaf : Leaf) (stay : Option Leaf) (reads : Reads Uses Ends objects start old) (named : Uses r leaf) (stayed : StaysNamed Uses stay) where
     -- a place became free for a leaf that had none, or none did
     pub room_reads : has_place old r leaf ≡ false → MakesRoomAt r stay old new → Reads Uses Ends objects start new
@@ -136,31 +132,6 @@ module _ (Uses Ends : ℕ → Leaf → Type 0) (objects : Objects) (old : CacheM
       go rest false one is = rest is
   reads_held _ (room mid new r leaf stay before named none kept is) q a there = reads_held mid before q a (held_roomy mid new r stay q a is there)
   reads_held _ (frees mid r leaf before named none) q a is = reads_held mid before q a (held_given_up mid r leaf q a is)
-
-  -- a fragment that isn't clean is there still, with other room at most
-  pub reads_dirty : (new : CacheMap) → Reads Uses Ends objects old new → (q : Leaf) (a : At) → finmap.get old.held q ≡ Some a → is_clean a.frag ≡ false → (now : Cached) × (finmap.get new.held q ≡ Some (at a.rank now)) × IsButRoom a.frag now
-  reads_dirty new reads q a there dirty = go (finmap.get new.held q) refl same
-    where
-      what : Unsaved
-      what = record { base = a.frag.base; generation = a.frag.generation; dirty = a.frag.dirty }
-
-      was : unsaved_at (Some a) ≡ Some what
-      was = ap (λ (b : Bool). cond b None (Some what)) dirty
-
-      same : unsaved_at (finmap.get new.held q) ≡ Some what
-      same = sym (get_unclean new q) ∙ ap (λ m. finmap.get m q) (reads_unclean new reads) ∙ get_unclean old q ∙ ap unsaved_at there ∙ was
-
-      by : (b : At) → finmap.get new.held q ≡ Some b → unsaved_at (Some b) ≡ Some what → IsReadOf Uses objects q (finmap.get old.held q) b → (now : Cached) × (finmap.get new.held q ≡ Some (at a.rank now)) × IsButRoom a.frag now
-      by b seen is (inl of) =
-          let one : a ≡ at b.rank of.0 = same_Some a (at b.rank of.0) (sym there ∙ of.1) in
-          (b.frag, seen ∙ ap (λ (k : ℕ). Some (at k b.frag)) (sym (ap (λ (x : At). x.rank) one)), subst (λ (f : Cached). IsButRoom f b.frag) (sym (ap (λ (x : At). x.frag) one)) of.2)
-      by b seen is (inr of) =
-          let clean : unsaved_at (Some b) ≡ None = room_unsaved of.1 b.frag of.3 ∙ loaded_clean q.1 (object_of objects q.0 q.1) of.1 of.2 in
-          let clash : None ≡ Some what = sym clean ∙ is in absurd cc
-
-      go : (o : Option At) → finmap.get new.held q ≡ o → unsaved_at o ≡ Some what → (now : Cached) × (finmap.get new.held q ≡ Some (at a.rank now)) × IsButRoom a.frag now
-      go None seen is = let clash : None ≡ Some what = is in absurd cc
-      go (Some b) seen is = by b seen is (reads_held new reads q b seen)
 
 -- steps after others
 pub reads_then : (Uses Ends : ℕ → Leaf → Type 0) (objects : Objects) (old mid new : CacheMap) → Reads Uses Ends objects old mid → Reads Uses Ends objects mid new → Reads Uses Ends objects old new

@@ -19,7 +19,6 @@ use Rattle.dentry_cache.specs.Came.Came.{has, ends}
 use Rattle.dentry_cache.specs.Divided.{IsChild, IsNoChild}
 use Rattle.dentry_cache.specs.Parting.{AreApart}
 use Rattle.dentry_cache.proofs.NameParts.{no_child, one_child}
-use Rattle.dentry_cache.proofs.PartsLaws.{unclean_split}
 use Rattle.dentry_cache.proofs.SplitShows.{apart_from}
 use Rattle.dentry_cache.proofs.StepLaws.{get_beside, get_given_up, get_with_frag, has_given_up, has_with_frag, placed_given_up, placed_used, ranks_given_up, ranks_with_frag}
 use Rattle.dentry_cache.proofs.UncleanLaws.{get_unclean}
@@ -31,11 +30,6 @@ use Rattle.dentry_cache.proofs.LeafLaws.{flips, leaf_itself, one_leaf}
 pub ranks_with_parts : (dir : Ino) (r : ℕ) (parts : List Part) (c : CacheMap) → length (with_parts dir r parts c).used ≡ length c.used
 ranks_with_parts dir r [] c = refl
 ranks_with_parts dir r (part ∷ parts) c = ranks_with_parts dir r parts (with_frag c r (dir, part.frag) part.fragment) ∙ ranks_with_frag c r (dir, part.frag) part.fragment
-
--- as many places of each
-pub cap_with_parts : (dir : Ino) (r : ℕ) (parts : List Part) (c : CacheMap) → (with_parts dir r parts c).cap ≡ c.cap
-cap_with_parts dir r [] c = refl
-cap_with_parts dir r (part ∷ parts) c = cap_with_parts dir r parts (with_frag c r (dir, part.frag) part.fragment)
 
 -- any other leaf's fragment is where it was
 pub get_beside_parts : (dir : Ino) (r : ℕ) (parts : List Part) (c : CacheMap) (q : Leaf) → AreApart q dir parts → finmap.get (with_parts dir r parts c).held q ≡ finmap.get c.held q
@@ -139,9 +133,6 @@ module _ (r : ℕ) (dir : Ino) (frag : Fragment) (bits : ℕ) (parts : List Part
   pub split_ranks : length new.used ≡ length old.used
   split_ranks = ap (λ (k : CacheMap). length k.used) split.2 ∙ ranks_with_parts dir r made (given_up old r one) ∙ ranks_given_up old r one
 
-  pub split_cap : new.cap ≡ old.cap
-  split_cap = ap (λ (k : CacheMap). k.cap) split.2 ∙ cap_with_parts dir r made (given_up old r one)
-
   -- each child is there
   pub split_child : (i : ℕ) (d : Part) → i < 2 ^ bits → finmap.get new.held (child i) ≡ Some (at r (slice_index_or made i d).fragment)
   split_child i d among =
@@ -184,10 +175,6 @@ module _ (r : ℕ) (dir : Ino) (frag : Fragment) (bits : ℕ) (parts : List Part
   split_placed kept s q is =
       placed_with_parts dir r made (given_up old r one) old (λ s q was. placed_given_up old r one s q was)
       (λ i d within. ap (λ (g : Fragment). has_place old r (dir, g)) (split.1.child i d within) ∙ (kept i (among_children i within)).0) s q (ap (λ (k : CacheMap). has_place k s q) (sym split.2) ∙ is)
-
-  -- what isn't clean
-  pub split_unclean : IsFreeFor old r one → unclean new ≡ with_unclean dir made (finmap.remove (unclean old) one)
-  split_unclean free = unclean_split dir r frag made old new free split.2
 
   -- no child is clean
   pub split_unclean_child : (i : ℕ) (d : Part) → i < 2 ^ bits

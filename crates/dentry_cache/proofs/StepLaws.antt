@@ -42,23 +42,9 @@ ranks_given_up c r leaf = length-set c.used r (less leaf (order c r))
 pub ranks_roomy : (c mid : CacheMap) (r : ℕ) (stay : Option Leaf) → roomy c r stay ≡ Some mid → length mid.used ≡ length c.used
 ranks_roomy c mid r stay made = by_room c mid r stay made (λ (k : CacheMap). length k.used ≡ length c.used) refl (λ v passes. ranks_given_up c r v)
 
-pub ranks_with_mark : (c : CacheMap) (r : ℕ) (leaf : Leaf) (name : List ℕ) (mark : Mark) → length (with_mark c r leaf name mark).used ≡ length c.used
-ranks_with_mark c r leaf name mark = go (here c r leaf)
-  where
-    go : (o : Option Cached) → length (edited_as c r leaf (λ (f : Cached). marked f name mark) o).used ≡ length c.used
-    go None = refl
-    go (Some f) = ranks_with_frag c r leaf (marked f name mark)
-
 -- as many places
 pub cap_roomy : (c mid : CacheMap) (r : ℕ) (stay : Option Leaf) → roomy c r stay ≡ Some mid → mid.cap ≡ c.cap
 cap_roomy c mid r stay made = by_room c mid r stay made (λ (k : CacheMap). k.cap ≡ c.cap) refl (λ v passes. refl)
-
-pub cap_with_mark : (c : CacheMap) (r : ℕ) (leaf : Leaf) (name : List ℕ) (mark : Mark) → (with_mark c r leaf name mark).cap ≡ c.cap
-cap_with_mark c r leaf name mark = go (here c r leaf)
-  where
-    go : (o : Option Cached) → (edited_as c r leaf (λ (f : Cached). marked f name mark) o).cap ≡ c.cap
-    go None = refl
-    go (Some f) = refl
 
 -- ---- each leaf's fragment, with its rank
 
@@ -158,18 +144,6 @@ here_put c r leaf f = here_with_frag c r leaf f r leaf ∙ ap (λ b. cond b (con
 -- another leaf's fragment stays
 pub here_beside : (c : CacheMap) (r : ℕ) (leaf : Leaf) (f : Cached) (s : ℕ) (q : Leaf) → leaf_is q leaf ≡ false → here (with_frag c r leaf f) s q ≡ here c s q
 here_beside c r leaf f s q apart = here_with_frag c r leaf f s q ∙ ap (λ b. cond b (cond (r == s) (Some f) None) (here c s q)) apart
-
--- a name that is dirty now
-pub here_with_mark : (c : CacheMap) (r : ℕ) (leaf : Leaf) (name : List ℕ) (mark : Mark) (f : Cached) → here c r leaf ≡ Some f → here (with_mark c r leaf name mark) r leaf ≡ Some (marked f name mark)
-here_with_mark c r leaf name mark f seen =
-    ap (λ (o : Option Cached). here (edited_as c r leaf (λ (g : Cached). marked g name mark) o) r leaf) seen ∙ here_put c r leaf (marked f name mark)
-
-pub here_beside_mark : (c : CacheMap) (r : ℕ) (leaf : Leaf) (name : List ℕ) (mark : Mark) (s : ℕ) (q : Leaf) → leaf_is q leaf ≡ false → here (with_mark c r leaf name mark) s q ≡ here c s q
-here_beside_mark c r leaf name mark s q apart = go (here c r leaf)
-  where
-    go : (o : Option Cached) → here (edited_as c r leaf (λ (g : Cached). marked g name mark) o) s q ≡ here c s q
-    go None = refl
-    go (Some f) = here_beside c r leaf (marked f name mark) s q apart
 
 -- ---- places
 
@@ -295,24 +269,3 @@ by_edits r leaf Change old new e P so = go (here old r leaf) refl e
     go : (o : Option Cached) → here old r leaf ≡ o → IsEdited Change r leaf o old new → P new
     go None seen e = absurd e
     go (Some f) seen e = subst P (sym e.2) (so f e.0 seen e.1)
-
-module _ (r : ℕ) (leaf : Leaf) (Change : Cached → Cached → Type 0) (old new : CacheMap) (e : Edits Change r leaf old new) where
-  pub ranks_edits : length new.used ≡ length old.used
-  ranks_edits = by_edits r leaf Change old new e (λ (k : CacheMap). length k.used ≡ length old.used) (λ f now seen change. ranks_with_frag old r leaf now)
-
-  pub cap_edits : new.cap ≡ old.cap
-  cap_edits = by_edits r leaf Change old new e (λ (k : CacheMap). k.cap ≡ old.cap) (λ f now seen change. refl)
-
-  -- it is there, changed so
-  pub here_edits : HasCached (here old r leaf) (λ (f : Cached). HasCached (here new r leaf) (Change f))
-  here_edits = by_edits r leaf Change old new e (λ (k : CacheMap). HasCached (here old r leaf) (λ (f : Cached). HasCached (here k r leaf) (Change f)))
-      (λ f now seen change. subst (λ (o : Option Cached). HasCached o (λ (f : Cached). HasCached (here (with_frag old r leaf now) r leaf) (Change f))) (sym seen)
-      (subst (λ (o : Option Cached). HasCached o (Change f)) (sym (here_put old r leaf now)) change))
-
-  -- any other is as it was
-  pub get_beside_edits : (q : Leaf) → leaf_is q leaf ≡ false → finmap.get new.held q ≡ finmap.get old.held q
-  get_beside_edits q apart = by_edits r leaf Change old new e (λ (k : CacheMap). finmap.get k.held q ≡ finmap.get old.held q)
-      (λ f now seen change. get_with_frag old r leaf now q ∙ ap (λ b. cond b (Some (at r now)) (finmap.get old.held q)) apart)
-
-  pub has_edits : (s : ℕ) (q : Leaf) → r < length old.used → has_place new s q ≡ cond ((r == s) && leaf_is q leaf) true (has_place old s q)
-  has_edits s q there = by_edits r leaf Change old new e (λ (k : CacheMap). has_place k s q ≡ cond ((r == s) && leaf_is q leaf) true (has_place old s q)) (λ f now seen change. has_with_frag old r leaf now s q there)

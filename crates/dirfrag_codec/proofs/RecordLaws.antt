@@ -398,22 +398,6 @@ entry_refused bytes read = λ inode s.
     let found : fields_at bytes ≡ Some (fields_of_inode inode) = fields_of_record bytes inode s in
     absurd cc
 
--- a rank's byte in a directory's record
-pub rank_of_dir : (kind byte : ℕ) → kind ≡ 2 → byte < 16 → IsPinOf kind byte (Some (Some (record { 0 = byte })))
-rank_of_dir kind byte two low = (refl, allows)
-  where
-    allows : (k : Kind) → kind_byte k ≡ kind → HasPinOf k (Some (record { 0 = byte }))
-    allows File e = absurd (omega (arith, e, two))
-    allows Dir e = low
-    allows (Symlink target) e = absurd (omega (arith, e, two))
-
--- no other byte is that of a pin
-pub no_pin_of : (kind byte : ℕ) → byte ≢ 255 → (kind ≡ 2 → byte < 16 → ⊥) → IsPinOf kind byte None
-no_pin_of kind byte some other k None h e is = some (sym is)
-no_pin_of kind byte some other File (Some rank) h e is = h
-no_pin_of kind byte some other Dir (Some rank) h e is = other (sym e) (subst (λ (n : ℕ). n < 16) is h)
-no_pin_of kind byte some other (Symlink target) (Some rank) h e is = h
-
 -- ---- what is written
 
 written_at : (bytes : List ℕ) (inode : Inode) → WritesEntry bytes inode → version_at 73 bytes ≡ Some (2, fields_bytes widths_v2 (numbers_v2 inode) ++ target_of inode.kind)

@@ -15,20 +15,6 @@ one_front bytes low from one other after rest h k =
     let w = some_word (word_of one, after) (word_of other, rest) (sym (begun bytes after low one h) ∙ begun bytes rest from other k) in
     (one_fragment one other h.fragment k.fragment w.0, w.1)
 
-pub none_cut_off : (bytes : List ℕ) (low : ℕ) → number_at 4 bytes ≡ None → BeginsWithNone bytes low
-none_cut_off bytes low read leaf after h = none-some (word_of leaf, after) (sym read ∙ begun bytes after low leaf h)
-
-pub none_of_word : (bytes rest : List ℕ) (low word : ℕ) → number_at 4 bytes ≡ Some (word, rest) → ((f : Fragment) → IsFragment f → word_of f ≡ word → ⊥) → BeginsWithNone bytes low
-none_of_word bytes rest low word read none leaf after h =
-    none leaf h.fragment (some_word (word_of leaf, after) (word, rest) (sym (begun bytes after low leaf h) ∙ read)).0
-
-pub front_read : (bytes rest : List ℕ) (word : ℕ) (f : Fragment) → IsBytes bytes → number_at 4 bytes ≡ Some (word, rest) → IsFragment f → word_of f ≡ word → BeginsWith bytes f.value f rest
-front_read bytes rest word f fits read h same = record {
-  fragment = h;
-  begins = refl;
-  parts = subst (λ (w : ℕ). bytes ≡ little_bytes 4 w ++ rest) (sym same) (number_takes 4 width_4 bytes word rest fits read).0.parts;
-}
-
 -- what begins with a leaf tiles the hashes from its value on where what follows does so from its end on
 pub tiles_on : (bytes after : List ℕ) (low : ℕ) (leaf : Fragment) → BeginsWith bytes low leaf after → AreTilesFrom (leaf.value + span leaf.bits) after ↔ AreTilesFrom low bytes
 tiles_on bytes after low leaf h = (with_it, without_it)

@@ -14,10 +14,6 @@ module _ {A : Type 0} (is_before : A → A → Bool) (item_at : List ℕ → Opt
       → after_rising is_before item_at last (suc n) bytes ≡ risen last (first >>= λ f. with_first f.0 (items_at item_at n f.1))
   begun last n bytes first read = ap (λ (r : Option (A × List ℕ)). risen last (r >>= λ f. with_first f.0 (items_at item_at n f.1))) read
 
-  -- no item stands there
-  pub none_rises : (last : Option A) (n : ℕ) (bytes : List ℕ) → item_at bytes ≡ None → after_rising is_before item_at last (suc n) bytes ≡ None
-  none_rises last n bytes read = begun last n bytes None read
-
   -- the one that stands there comes after the last
   pub one_rises : (last : Option A) (n : ℕ) (bytes after : List ℕ) (x : A) → item_at bytes ≡ Some (x, after) → follows is_before last x ≡ true
       → after_rising is_before item_at last (suc n) bytes ≡ after_rising is_before item_at (Some x) n after
@@ -27,16 +23,6 @@ module _ {A : Type 0} (is_before : A → A → Bool) (item_at : List ℕ → Opt
       go last above None = refl
       go None above (Some (xs, end)) = refl
       go (Some l) above (Some (xs, end)) = ap (λ (b : Bool). cond (b && rise is_before (Some x) xs) (Some end) None) above
-
-  -- or it doesn't
-  pub one_falls : (last : Option A) (n : ℕ) (bytes after : List ℕ) (x : A) → item_at bytes ≡ Some (x, after) → follows is_before last x ≡ false
-      → after_rising is_before item_at last (suc n) bytes ≡ None
-  one_falls last n bytes after x read below = begun last n bytes (Some (x, after)) read ∙ go last below (items_at item_at n after)
-    where
-      go : (last : Option A) → follows is_before last x ≡ false → (items : Option (List A × List ℕ)) → risen last (with_first x items) ≡ None
-      go last below None = refl
-      go None below (Some (xs, end)) = absurd cc
-      go (Some l) below (Some (xs, end)) = ap (λ (b : Bool). cond (b && rise is_before (Some x) xs) (Some end) None) below
 
   -- of the last one only its place in the order is asked
   pub same_rise : (x y : A) (n : ℕ) (bytes : List ℕ) → ((z : A) → is_before x z ≡ is_before y z) → after_rising is_before item_at (Some x) n bytes ≡ after_rising is_before item_at (Some y) n bytes
@@ -59,10 +45,6 @@ module _ {A P : Type 0} (is_before : A → A → Bool) (item_at : List ℕ → O
       let same : (part x, end) ≡ (p, after) = same_Some (part x, end) (p, after) is in
       (x, ap (λ (q : P × List ℕ). Some (x, q.1)) same, ap (λ (q : P × List ℕ). q.0) same)
 
-  none_seen : (read : Option (A × List ℕ)) → seen_by part read ≡ None → read ≡ None
-  none_seen None is = refl
-  none_seen (Some x) is = absurd cc
-
   follows_alike : (last : Option A) (x : A) → follows is_before last (made (part x)) ≡ follows is_before last x
   follows_alike None x = refl
   follows_alike (Some l) x = told l x
@@ -80,17 +62,6 @@ module _ {A P : Type 0} (is_before : A → A → Bool) (item_at : List ℕ → O
       ∙ same_rise is_before item_at w.0 (made (part w.0)) (left - 1) after (asked w.0)
       ∙ ap (λ (q : P). after_rising is_before item_at (Some (made q)) (left - 1) after) w.2
 
-  pub step_falls : (last : Option A) (left : ℕ) (bytes after : List ℕ) (p : P) → 0 < left → seen bytes ≡ Some (p, after) → follows is_before last (made p) ≡ false
-      → after_rising is_before item_at last left bytes ≡ None
-  step_falls last left bytes after p some is below =
-      let w = some_seen (item_at bytes) p after is in
-      let own : follows is_before last w.0 ≡ false = sym (follows_alike last w.0) ∙ ap (λ (q : P). follows is_before last (made q)) w.2 ∙ below in
-      ap (λ (n : ℕ). after_rising is_before item_at last n bytes) (next left some) ∙ one_falls is_before item_at last (left - 1) bytes after w.0 w.1 own
-
-  pub step_none : (last : Option A) (left : ℕ) (bytes : List ℕ) → 0 < left → seen bytes ≡ None → after_rising is_before item_at last left bytes ≡ None
-  step_none last left bytes some is =
-      ap (λ (n : ℕ). after_rising is_before item_at last n bytes) (next left some) ∙ none_rises is_before item_at last (left - 1) bytes (none_seen (item_at bytes) is)
-
 -- names that rise, and fragments
 pub name_rises : (last : Option (List ℕ)) (left : ℕ) (bytes after name : List ℕ) (total : Option (List ℕ)) → 0 < left → seen_by text_of (sent_name_at bytes) ≡ Some (name, after)
     → follows is_name_before (option_map named_as last) (named_as name) ≡ true → after_rising is_name_before sent_name_at (option_map named_as last) left bytes ≡ total
@@ -98,33 +69,8 @@ pub name_rises : (last : Option (List ℕ)) (left : ℕ) (bytes after name : Lis
 name_rises last left bytes after name total some is above so_far =
     sym (step_rises is_name_before sent_name_at text_of named_as (λ x z. refl) (λ l x. refl) (option_map named_as last) left bytes after name some is above) ∙ so_far
 
-pub name_falls : (last : Option (List ℕ)) (left : ℕ) (bytes after name : List ℕ) (total : Option (List ℕ)) → 0 < left → seen_by text_of (sent_name_at bytes) ≡ Some (name, after)
-    → follows is_name_before (option_map named_as last) (named_as name) ≡ false → after_rising is_name_before sent_name_at (option_map named_as last) left bytes ≡ total → total ≡ None
-name_falls last left bytes after name total some is below so_far =
-    sym so_far ∙ step_falls is_name_before sent_name_at text_of named_as (λ x z. refl) (λ l x. refl) (option_map named_as last) left bytes after name some is below
-
-pub no_name_rises : (last : Option (List ℕ)) (left : ℕ) (bytes : List ℕ) (total : Option (List ℕ)) → 0 < left → seen_by text_of (sent_name_at bytes) ≡ None
-    → after_rising is_name_before sent_name_at (option_map named_as last) left bytes ≡ total → total ≡ None
-no_name_rises last left bytes total some is so_far =
-    sym so_far ∙ step_none is_name_before sent_name_at text_of named_as (λ x z. refl) (λ l x. refl) (option_map named_as last) left bytes some is
-
 pub frag_rises : (last : Option (ℕ × Fragment)) (left : ℕ) (bytes after : List ℕ) (place : ℕ × Fragment) (total : Option (List ℕ)) → 0 < left → seen_by place_of (sent_frag_at bytes) ≡ Some (place, after)
     → follows is_frag_before (option_map sent_as last) (sent_as place) ≡ true → after_rising is_frag_before sent_frag_at (option_map sent_as last) left bytes ≡ total
     → after_rising is_frag_before sent_frag_at (Some (sent_as place)) (left - 1) after ≡ total
 frag_rises last left bytes after place total some is above so_far =
     sym (step_rises is_frag_before sent_frag_at place_of sent_as (λ x z. refl) (λ l x. refl) (option_map sent_as last) left bytes after place some is above) ∙ so_far
-
-pub frag_falls : (last : Option (ℕ × Fragment)) (left : ℕ) (bytes after : List ℕ) (place : ℕ × Fragment) (total : Option (List ℕ)) → 0 < left → seen_by place_of (sent_frag_at bytes) ≡ Some (place, after)
-    → follows is_frag_before (option_map sent_as last) (sent_as place) ≡ false → after_rising is_frag_before sent_frag_at (option_map sent_as last) left bytes ≡ total → total ≡ None
-frag_falls last left bytes after place total some is below so_far =
-    sym so_far ∙ step_falls is_frag_before sent_frag_at place_of sent_as (λ x z. refl) (λ l x. refl) (option_map sent_as last) left bytes after place some is below
-
-pub no_frag_rises : (last : Option (ℕ × Fragment)) (left : ℕ) (bytes : List ℕ) (total : Option (List ℕ)) → 0 < left → seen_by place_of (sent_frag_at bytes) ≡ None
-    → after_rising is_frag_before sent_frag_at (option_map sent_as last) left bytes ≡ total → total ≡ None
-no_frag_rises last left bytes total some is so_far =
-    sym so_far ∙ step_none is_frag_before sent_frag_at place_of sent_as (λ x z. refl) (λ l x. refl) (option_map sent_as last) left bytes some is
-
--- none is left
-pub all_risen : {A : Type 0} (is_before : A → A → Bool) (item_at : List ℕ → Option (A × List ℕ)) (last : Option A) (left : ℕ) (bytes : List ℕ) (total : Option (List ℕ)) → left ≡ 0
-    → after_rising is_before item_at last left bytes ≡ total → total ≡ Some bytes
-all_risen is_before item_at last left bytes total none so_far = sym so_far ∙ ap (λ (n : ℕ). after_rising is_before item_at last n bytes) none

@@ -16,9 +16,6 @@ module _ (In : Leaf → Type 0) where
     pub unclean : (tail : List Leaf) → Picks In unclean_in places tail → Picks In unclean_in all (leaves.unclean ++ tail)
     pub clean : (tail : List Leaf) → Picks In clean_in places tail → Picks In clean_in all (leaves.clean ++ tail)
 
-  pub none_picked : (all places : List PlaceOf) (leaves : RegionLeaves) → places ≡ all → leaves ≡ record { unclean = []; clean = [] } → IsPicking places all leaves
-  none_picked all places leaves same none = subst (λ (l : RegionLeaves). IsPicking places all l) (sym none) (subst (λ (ps : List PlaceOf). IsPicking ps all (record { unclean = []; clean = [] })) (sym same) (record { unclean = λ tail is. is; clean = λ tail is. is }))
-
   module _ (was places all : List PlaceOf) (leaf : Leaf) (o : Option Cached) (leaves : RegionLeaves) (step : was ≡ (leaf, o) ∷ places) (p : IsPicking was all leaves) where
     then : IsPicking ((leaf, o) ∷ places) all leaves
     then = subst (λ (ps : List PlaceOf). IsPicking ps all leaves) step p

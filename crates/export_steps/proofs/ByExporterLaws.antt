@@ -200,9 +200,6 @@ module _ (by : RootsBy) (rank : ℕ) (after : Option Leaf) where
   some_there : (root : Leaf) → IsSome (map.get by (rank, root)) → map.get by (rank, root) ≡ None → ⊥
   some_there root some none = let clash : false ≡ true = subst (λ (o : Option (Unit {0})). IsSome o) none some in absurd cc
 
-  pub none_next : IsFirstKey by (comes rank after) None → IsNextRoot by rank after None
-  none_next none root some behind = some_there root some (none (rank, root) (comes_to rank after root behind))
-
   -- the first is of a later rank
   pub other_next : (key : ℕ × Leaf) → IsFirstKey by (comes rank after) (Some key) → key.0 ≢ rank → IsNextRoot by rank after None
   other_next key first other root some behind = go (first.2 (rank, root) (comes_to rank after root behind) some)
@@ -244,17 +241,6 @@ module _ (standing : Standing) (by : RootsBy) (kept : AreExports standing by) (r
       let found = stands_by root next.0 in
       let clash : None ≡ Some found.0 = sym none ∙ found.1 in
       cc
-
-  pub next_export : (root : Leaf) (export : StandingExport) → IsNextRoot by rank.0 after (Some root) → map.get standing root ≡ Some export → IsNextOf standing rank after (Some (root, export))
-  next_export root export next stands = record {
-    stands = stands;
-    exporter =
-        (let found = stands_by root next.0 in
-        let same : found.0 ≡ export = (let e : Some found.0 ≡ Some export = sym found.1 ∙ stands in cc) in
-        ap (λ (x : StandingExport). x.exporter) (sym same) ∙ found.2);
-    behind = next.1;
-    least = λ other another is exporter behind. next.2 other (by_stands other another is exporter) behind;
-  }
 
   pub none_export : IsNextRoot by rank.0 after None → IsNextOf standing rank after None
   none_export none root export stands exporter behind = none root (by_stands root export stands exporter) behind

@@ -46,9 +46,3 @@ is_directory-insert tree dentry inode d absent =
 -- where nothing stands there is no entry
 pub entries-empty : map.entries (map.empty {K = Dentry} {X = Inode} {R = dentry_cmp}) ≡ []
 entries-empty = nil_from_length _ (sym (len-entries map.empty) ∙ len-empty dentry_cmp Inode)
-
--- where nothing stands only the root is a directory
-pub is_directory-empty : (d : ℕ) → is_directory map.empty d ≡ (d == 1)
-unfolding is_directory
-is_directory-empty d =
-    ap (λ es. (d == 1) || list_any (is_entry_of_directory d) es) entries-empty ∙ or-false (d == 1)

@@ -111,9 +111,6 @@ module _ (limit : ℕ) (tree : Tree) (covers : Covers) (Holds : Dirfrag → Type
   pub moves : stays op ≡ false
   moves = moves_by tree covers (shape op) change checked.one_of takes_old
 
-  pub busy : is_idle op (step limit tree op n).reply ≡ false
-  busy = ap (λ r. is_errno r || stays op) checked.replied ∙ ap (λ b. b || stays op) (no_errno change.takes change.puts) ∙ moves
-
   pub fragments_are : fragments_of covers change ≡ changed_fragments limit covers tree op
   fragments_are =
       touched_by tree covers (shape op) change checked.one_of checked.carries moves

@@ -23,12 +23,6 @@ module _ (tree : Tree) (covers : Covers) (Holds : Dirfrag → Type 0) where
       let same = spot_is dentry at lies.dir spot is in
       (same, subst (λ (d : Dentry). IsLeafAt covers d spot.at.frag) (sym same) (subst (λ (s : Spot). IsLeafAt covers dentry s.at.frag) (sym is) lies.leaf), subst (λ (s : Spot). Holds s.at) (sym is) lies.held)
 
--- a new inode where nothing stands, in a full directory
-pub made_full : (limit : ℕ) (tree : Tree) (dentry : Dentry) (inode : Inode) → map.get tree dentry ≡ None → nat_le limit (entries_in tree dentry.dir.0) ≡ true → made limit tree dentry inode (map.get tree dentry) ≡ answers tree (Errno 28)
-made_full limit tree dentry inode free full =
-    ap (made limit tree dentry inode) free
-    ∙ ap (λ b. unless tree (cond {A = Option ℕ} b (Some 28) None) (record { reply = Entry inode; tree = map.insert tree dentry inode; takes = true })) full
-
 -- what a rename comes to once its first checks have passed
 module _ (limit : ℕ) (tree : Tree) (from to : Dentry) (source target : Option Inode) (inode : Inode) (stands : source ≡ Some inode) (apart : eq_by_cmp dentry_cmp from to ≡ false) (outside : leads_to tree inode to.dir.0 ≡ false) where
   abbrev arrives : Outcome
@@ -42,12 +36,6 @@ module _ (limit : ℕ) (tree : Tree) (from to : Dentry) (source target : Option 
       ap (λ o. renamed limit tree from to o target) stands
       ∙ ap (λ b. cond b (answers tree Done) (cond (leads_to tree inode to.dir.0) (answers tree (Errno 22)) onto)) apart
       ∙ ap (λ b. cond b (answers tree (Errno 22)) onto) outside
-
-  pub renamed_refused : (errno : ℕ) → replace_errno tree inode target ≡ Some errno → renamed limit tree from to source target ≡ answers tree (Errno errno)
-  renamed_refused errno refused = renamed_on ∙ ap (λ e. unless tree e (unless tree (room_errno limit tree from to target) arrives)) refused
-
-  pub renamed_full : (errno : ℕ) → replace_errno tree inode target ≡ None → room_errno limit tree from to target ≡ Some errno → renamed limit tree from to source target ≡ answers tree (Errno errno)
-  renamed_full errno replaces full = renamed_on ∙ ap (λ e. unless tree e (unless tree (room_errno limit tree from to target) arrives)) replaces ∙ ap (λ e. unless tree e arrives) full
 
   pub renamed_moves : replace_errno tree inode target ≡ None → room_errno limit tree from to target ≡ None → renamed limit tree from to source target ≡ arrives
   renamed_moves replaces room = renamed_on ∙ ap (λ e. unless tree e (unless tree (room_errno limit tree from to target) arrives)) replaces ∙ ap (λ e. unless tree e arrives) room

@@ -55,13 +55,6 @@ module _ (m : map.FinMap nat_cmp ℕ) (ss : List Session) (client : ℕ) where
   pub row_unknown : map.get m client ≡ None → row_in (rows m ss) client ≡ no_row
   row_unknown is = ap row_or_none (get-rows m ss client ∙ ap (option_map (row_at ss)) is)
 
-  -- a session of a client was written to
-  pub still_indexed : AreIndexed m ss → (i : ℕ) (w : Session) → AreIndexed m (set ss i w)
-  still_indexed h i w = record {
-    in_range = λ c j is. subst (λ n. j < n) (sym (length-set ss i w)) (h.in_range c j is);
-    apart = h.apart;
-  }
-
   module _ (h : AreIndexed m ss) (i : ℕ) (its : map.get m client ≡ Some i) (w : Session) where
     here : (j : ℕ) → j ≡ i → row_at (set ss i w) j ≡ w.row
     here j e = ap (λ (s : Session). s.row) (get_or-set_at ss i j w no_session e (h.in_range client i its))

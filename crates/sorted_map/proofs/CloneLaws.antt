@@ -79,6 +79,3 @@ module _ {K V : Type 0} {R : K → K → Ordering} (o : IsTotalOrder R) where
           let first : T (is_lt (R x.0 y.0)) = subst T (sym lower) tt in
           sym (true_of _ (both_of _ _ (both_of _ _ first (below_less o x.0 y.0 es (less _ first) (left_of _ _ rest))) rest))
       go false is = sym (false_of _ (λ all. subst T is (right_of _ _ all)))
-
-  pub rises_not : (x y : K × V) (es : List (K × V)) → is_lt (R x.0 y.0) ≡ false → false ≡ is_sorted R (x ∷ y ∷ es)
-  rises_not x y es not_lower = sym (false_of _ (λ all. subst T not_lower (left_of _ _ (left_of _ _ all))))

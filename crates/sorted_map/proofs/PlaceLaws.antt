@@ -87,12 +87,6 @@ module _ {K V : Type 0} (R : K → K → Ordering) (k : K) where
   gap_more (e ∷ es) zero d lt above rest = (above, rest)
   gap_more (e ∷ es) (suc i) d lt above rest = gap_more es i d (omega (arith, lt)) above rest
 
-  pub gap_none : (es : List (K × V)) (i : ℕ) → length es ≤ i → IsGap R k (drop i es) zero
-  gap_none [] zero le = tt
-  gap_none [] (suc i) le = tt
-  gap_none (e ∷ es) zero le = absurd (omega (arith, le))
-  gap_none (e ∷ es) (suc i) le = gap_none es i (omega (arith, le))
-
 -- ---- where a binary search ends, in a total order
 
 module _ {K : Type 0} {R : K → K → Ordering} (o : IsTotalOrder R) where

@@ -137,11 +137,6 @@ module _ {A : Type 0} where
   pub new_load : (cs new : List (List A)) (i : ℕ) (x : A) → i + 1 ≡ length cs → 32 ≤ length (get_or cs i []) → new ≡ cs ++ (x ∷ []) ∷ [] → load new + 31 ≡ load cs
   new_load cs new i x last half is = ap (λ l. load l + 31) is ∙ behind_load cs i x last half
 
-  -- and in the first chunk
-  pub first_load : (cs new : List (List A)) (x : A) → length cs ≡ 0 → new ≡ cs ++ (x ∷ []) ∷ [] → load new + 31 ≡ load cs
-  first_load [] new x none is = ap (λ l. load l + 31) is
-  first_load (c ∷ cs) new x none is = absurd (omega (arith, none))
-
 -- what a split leaves
 pub record SplitFacts {A : Type 0} (cs new : List (List A)) (i : ℕ) : Type 0 where
   pub home : i < length new

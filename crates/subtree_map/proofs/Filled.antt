@@ -11,9 +11,6 @@ pub absent_of : (o : Option Rank) (told : Bool) → told ≡ is_some o → told 
 absent_of None told is not = refl
 absent_of (Some rank) told is not = let clash : false ≡ true = sym not ∙ is in cc
 
-pub present_of : (o : Option Rank) (told : Bool) → told ≡ is_some o → told ≡ true → (rank : Rank) × (o ≡ Some rank)
-present_of o told is present = value_of o (sym is ∙ present)
-
 pub filled_one : (old new : Roots) (leaf : Leaf) (rank : Rank) → map.get old leaf ≡ None → new ≡ map.insert old leaf rank → IsFilled old new leaf rank
 filled_one old new leaf rank none is = record {
   absent = λ gone. ap (λ m. map.get m leaf) is ∙ get_put old leaf rank;

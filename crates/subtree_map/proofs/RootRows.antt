@@ -116,8 +116,3 @@ pub next_rows : (rows : Roots) (leaf : Leaf) (rank : Rank) (next : Option Leaf) 
 next_rows rows leaf rank next has is =
     leads (map.entries rows) leaf rank (entries_sorted rows) (sym (get-entries rows leaf) ∙ has)
     ∙ ap (λ t. (leaf, rank) ∷ t) (rows_pass rows (is_after (Some leaf)) (λ x y on less. ap is_lt (leaf-total.trans leaf x y (lt_less _ on) less)) next is)
-
--- the first of the roots is one
-pub first_is_root : (rows : Roots) (p : Leaf → Bool) (first : Option Leaf) → IsFirst rows p first → IsRootIfSome rows first
-first_is_root rows p None is = tt
-first_is_root rows p (Some leaf) is = is.1

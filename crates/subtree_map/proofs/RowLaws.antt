@@ -105,9 +105,6 @@ hinted_row old new leaf rank was now there turns is room = record {
   more = room;
 }
 
-pub no_hint : (rows : Rows) (leaf : Leaf) (rank : Rank) → corrected (entry_at rows leaf) rank ≡ entry_at rows leaf → IsCorrected leaf rank rows rows
-no_hint rows leaf rank same = record { here = sym same; others = λ q apart. refl; more = omega arith }
-
 pub corrected_hints : (old new : Rows) (leaf : Leaf) (rank : Rank) → IsCorrected leaf rank old new → HasHints old new
 corrected_hints old new leaf rank is = record {
   claims = λ q. elim (same_or_apart q leaf) [
@@ -142,19 +139,6 @@ corrects_hints leaf rank home old now is = record { many = is.many; each = λ i 
     go i low (inl here) = corrected_hints (rows_at old i) (rows_at now i) leaf rank ((is.each i low).0 here)
     go i low (inr apart) = subst (λ (x : Rows). HasHints (rows_at old i) x) (sym ((is.each i low).1 apart)) (hints_same (rows_at old i))
 
-pub hints_then : (a b c : Rows) → HasHints a b → HasHints b c → HasHints a c
-hints_then a b c one two = record { claims = λ q. two.claims q ∙ one.claims q; promises = λ q. two.promises q ∙ one.promises q; more = omega (arith, one.more, two.more) }
-
--- ---- room
-
--- lists that have room for more, up to a place, have what they had
-pub grown_same : (additional : ℕ) (old now : List Rows) (at : ℕ) → IsTurn (λ i. HasGrown additional) old now at → AreEach (λ i. HasSame) old now
-grown_same additional old now at so_far = record { many = so_far.many; each = λ i low. go i (cases_lt i at) }
-  where
-    go : (i : ℕ) → (i < at) ⊎ (at ≤ i) → HasSame (rows_at old i) (rows_at now i)
-    go i (inl less) = let done = so_far.done i less in record { same = done.same; more = done.more }
-    go i (inr more) = subst (λ (x : Rows). HasSame (rows_at old i) x) (sym (so_far.rest i more)) (record { same = refl; more = omega arith })
-
 -- ---- what a rank is told
 
 learnt_claims : (o : Option Entry) (rank : Rank) → claimed (learnt o rank) ≡ said claimed o
@@ -187,14 +171,5 @@ learnt_row old new leaf rank was has is room = record {
 pub learnt_none : (count : ℕ) (rows : Rows) → HasLearnt count rows rows
 learnt_none count rows = record { claims = λ q. refl; promises = λ q. refl; less = omega arith }
 
-pub none_learnt : (count : ℕ) (lists : List Rows) → AreEach (λ i. HasLearnt count) lists lists
-none_learnt count lists = record { many = refl; each = λ i low. learnt_none count (rows_at lists i) }
-
 pub learnt_one : (old now : List Rows) (at : ℕ) (rows : Rows) → at < length old → HasLearnt 1 (rows_at old at) rows → now ≡ set old at rows → AreEach (λ i. HasLearnt 1) old now
 learnt_one old now at rows within has is = one_list (λ i. HasLearnt 1) old now at rows within has (λ i x apart. learnt_none 1 x) is
-
-pub learnt_more : (count : ℕ) (a b c : List Rows) → AreEach (λ i. HasLearnt count) a b → AreEach (λ i. HasLearnt 1) b c → AreEach (λ i. HasLearnt (count + 1)) a c
-learnt_more count a b c one two = record { many = two.many ∙ one.many; each = λ i low. joined i (one.each i low) (two.each i (subst (λ n. i < n) (sym one.many) low)) }
-  where
-    joined : (i : ℕ) → HasLearnt count (rows_at a i) (rows_at b i) → HasLearnt 1 (rows_at b i) (rows_at c i) → HasLearnt (count + 1) (rows_at a i) (rows_at c i)
-    joined i first next = record { claims = λ q. next.claims q ∙ first.claims q; promises = λ q. next.promises q ∙ first.promises q; less = omega (arith, first.less, next.less) }

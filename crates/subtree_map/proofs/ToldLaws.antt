@@ -35,9 +35,6 @@ module _ (says : Entry → Option Rank) where
   pub none_there : (leaf : Leaf) → entry_at no_rows leaf ≡ None
   none_there leaf = get-from_sorted leaf_cmp [] leaf tt
 
-  nothing_said : (rows : Rows) (leaf : Leaf) → entry_at rows leaf ≡ None → said says (entry_at rows leaf) ≡ None
-  nothing_said rows leaf none = ap (said says) none
-
   -- ---- what is found
 
   unlisted : (lists : List Rows) (q : Leaf) → list_any (eq_by_cmp leaf_cmp q) (leaves_in lists) ≡ false → found says lists q ≡ None
