@@ -175,11 +175,9 @@ fn split_at<S: Store + Drop>(
     ensures cap { tree.new.tree.caches.cap ≡ tree.old.tree.caches.cap }
     ensures counted { tree.new.tree.faults ≡ tree.old.tree.faults + faults_told (result_err result) }
 {
-    if let Err(refusal) = tree.check_split(asked.dir, asked.frag, bits) {
-        return Err(refusal);
-    }
-    let Some(rank) = tree.holder(asked.rank, asked.dir, asked.frag) else {
-        unreachable!()
+    let rank = match tree.check_split(asked.rank, asked.dir, asked.frag, bits) {
+        Ok(rank) => rank,
+        Err(refusal) => return Err(refusal),
     };
     let at = Dirfrag {
         dir: asked.dir,

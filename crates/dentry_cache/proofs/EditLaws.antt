@@ -58,6 +58,11 @@ only_used leaf old new there touch h = go (cached old.entries leaf) refl h
     go (Some f) is h = (f, refl, mid_is leaf old new new there touch refl f is)
     go None is h = absurd h
 
+-- and so is one for which a change has nothing to do
+pub nothing_to_do : (leaf : Leaf) (old new : Held) (o : Option Cached) (P : Cached → Type 0) (Change : Cached → Cached → Type 0) → ((f : Cached) → P f → Change f f) → HasCached o P → IsChanged o (λ (f now : Cached). now ≡ f) leaf old new → IsChanged o Change leaf old new
+nothing_to_do leaf old new (Some f) P Change change has (now, same, is) = (now, subst (Change f) (sym same) (change f has), is)
+nothing_to_do leaf old new None P Change change has read = absurd has
+
 -- ---- two changes, one after the other
 
 again : (leaf : Leaf) (one two : Place) (old : Held) → used_as leaf two (used_as leaf one old) ≡ used_as leaf two old

@@ -1,5 +1,5 @@
 //! Names of cached fragments, changed. Each use makes its fragment the most recently used.
-ghost use Rattle.std.specs.Prelude.{◌≡◌, ◌≤◌, IsOk, Some, None, OnOk, OnErr};
+ghost use Rattle.std.specs.Prelude.{◌≡◌, ◌≤◌, true, IsOk, Some, None, OnOk, OnErr};
 ghost use Rattle.dirfrag_codec.specs.EntryRecord.{IsRecordable};
 ghost use Rattle.cached_frag.specs.Cached.{Cached, marked};
 ghost use Rattle.dentry_cache.specs.Cache.{HasCached, HasRoom, IsChanged, IsThere, cached};
@@ -48,10 +48,25 @@ impl Cache {
         ensures room { OnOk result (IsChanged (cached self.old.entries (dir, frag)) (λ (f now : Cached). changes ≤ now.room) (dir, frag) self.old self.new) }
         ensures ready { HasCached (cached self.old.entries (dir, frag)) (λ (f : Cached). changes ≤ f.room) → IsOk result }
     {
+        // mostly the room is there, and then no key of the newest leaf is hashed
+        let ready = self.has_room(dir, frag, changes);
         let _ = self.touch(dir, frag);
+        if ready {
+            return Ok(());
+        }
         let Some(place) = self.places.peek_mut(&(dir, frag)) else {
             return Ok(());
         };
         place.frag.reserve(changes)
+    }
+
+    // Whether a fragment has room for so many changes of names.
+    fn has_room(&self, dir: Ino, frag: Frag, changes: usize) -> bool
+        ensures { result ≡ true → HasCached (cached self.now.entries (dir, frag)) (λ (f : Cached). changes ≤ f.room) }
+    {
+        match self.get(dir, frag) {
+            Some(fragment) => changes <= fragment.room(),
+            None => false,
+        }
     }
 }

@@ -1,11 +1,14 @@
 -- The directory table: where each directory stands, the leaves of each, CephFS's `fragtree_t`, how many entries it has, and its pin, CephFS's
 -- `export_pin`.
-use Rattle.std.specs.Prelude.{◌≡◌, ℕ, zero, suc, ◌+◌, ◌-◌, Bool, true, ◌||◌, ◌==◌, is_some, Option, Some, None, List, [], ◌∷◌}
+use Rattle.std.specs.Prelude.{◌≡◌, ◌≢◌, ◌⊎◌, ℕ, zero, suc, ◌+◌, ◌-◌, Bool, true, false, ◌||◌, ◌==◌, is_some, Option, Some, None, List, [], ◌∷◌}
 use Rattle.std.specs.Ordering.{nat_cmp}
 use Rattle.std.specs.FinMap as map
 use Rattle.mds_types.specs.Frag.{Fragment, root_fragment}
 use Rattle.mds_types.specs.Leaf.{Leaf}
+use Rattle.mds_types.specs.declared.ids.Ino.{Ino}
 use Rattle.mds_types.specs.declared.ids.Rank.{Rank}
+use Rattle.mds_types.specs.declared.refusals.Refusal.{Refusal}
+use Rattle.mds_types.specs.declared.refusals.Refusal.TheVariants.{NoMemory, NoSuchFrag}
 use Rattle.fragtree.specs.FragTree.{HasLeaf, IsPick, IsTree}
 use Rattle.inode_table.specs.declared.dirs.Home.{Home}
 
@@ -122,3 +125,7 @@ IsChildless homes d = (x : ℕ) (home : Home) → map.get homes x ≡ Some home 
 pub record MayGo (homes : Homes) (d : ℕ) : Type 0 where
   pub other : d ≡ 1 → ⊥
   pub childless : IsChildless homes d
+
+-- why leaves of a directory aren't as they are asked for: there is no such directory, or it is there and they are refused so
+abbrev pub RefusesLeaves : (Refuses : Refusal → Type 0) → Homes → Ino → Refusal → Type 0
+RefusesLeaves Refuses homes dir reason = ((reason ≡ NoSuchFrag) × (is_known homes dir.0 ≡ false)) ⊎ ((is_known homes dir.0 ≡ true) × (reason ≢ NoMemory) × Refuses reason)

@@ -7,7 +7,7 @@ ghost use Rattle.mds_types.specs.Frag.{root_fragment};
 ghost use Rattle.fragtree.specs.FragTree.{CanMerge, CanSplit, IsPick, IsSplit, IsTree, RefusesMerge, RefusesSplit};
 ghost use Rattle.mds_types.specs.declared.ids.Ino.{Ino};
 ghost use Rattle.inode_table.specs.Order.{dirs_after, trees_after};
-ghost use Rattle.inode_table.specs.Dirs.{IsAbove, IsLeafAt, IsLive, IsTable, MayCome, MayGo, MayMove, count_of, is_known, leaves_of, one_less, one_more, or_whole, pinned_at};
+ghost use Rattle.inode_table.specs.Dirs.{IsAbove, IsLeafAt, IsLive, IsTable, MayCome, MayGo, MayMove, RefusesLeaves, count_of, is_known, leaves_of, one_less, one_more, or_whole, pinned_at};
 
 use fragtree::FragTree;
 use mds_types::{Frag, Ino, Name, Rank, Refusal};
@@ -231,14 +231,24 @@ impl Dirs {
         }
     }
 
-    /// Whether a leaf of a directory can be split by so many bits. Refused as the split is where it can't be. Takes no
-    /// memory.
-    pub fn check_split(&self, dir: Ino, frag: Frag, bits: u8) -> Result<(), Refusal>
-        ensures ok { OnOk result (CanSplit (leaves_of self.now.trees dir.0) frag bits) }
-        ensures err { IfErr result (λ reason. RefusesSplit (leaves_of self.now.trees dir.0) frag bits reason) }
-        ensures memory { IfErr result (λ reason. reason ≢ NoMemory) }
+    /// A leaf of a directory that can be split by so many bits, and what else the directory's row tells. Takes no memory, and one
+    /// search.
+    ///
+    /// Refused `NoSuchFrag` where there is no such directory, and where it is there as the split of its leaf is.
+    pub fn check_split(&self, dir: Ino, frag: Frag, bits: u8) -> Result<LeafAt<'_>, Refusal>
+        ensures known { OnOk result (is_known self.now.homes dir.0 ≡ true) }
+        ensures can { OnOk result (CanSplit (leaves_of self.now.trees dir.0) frag bits) }
+        ensures frag { IfOk result (λ at. at.frag ≡ frag) }
+        ensures home { IfOk result (λ at. option_copied at.home ≡ map.get self.now.homes dir.0) }
+        ensures err { IfErr result (RefusesLeaves (RefusesSplit (leaves_of self.now.trees dir.0) frag bits) self.now.homes dir) }
     {
-        check_split_of(self.leaves(dir), frag, bits)
+        let Some(at) = self.leaf_at(dir, frag.value()) else {
+            return Err(Refusal::NoSuchFrag);
+        };
+        if let Err(refusal) = check_split_of(at.leaves, frag, bits) {
+            return Err(refusal);
+        }
+        Ok(LeafAt { frag, ..at })
     }
 
     /// Whether leaves of a directory can be merged into a fragment. Refused as the merge is where they can't be. Takes
@@ -441,9 +451,9 @@ fn picked(leaves: Option<&FragTree>, hash: u32) -> Frag
     }
 }
 
-/// Whether a fragment of leaves that were set, and of the one leaf `*` where none were, can be split by so many bits. Refused as the
-/// split is where it can't be. Takes no memory.
-pub fn check_split_of(leaves: Option<&FragTree>, frag: Frag, bits: u8) -> Result<(), Refusal>
+// Whether a fragment of leaves that were set, and of the one leaf `*` where none were, can be split by so many bits. Refused as the
+// split is where it can't be. Takes no memory.
+fn check_split_of(leaves: Option<&FragTree>, frag: Frag, bits: u8) -> Result<(), Refusal>
     ensures ok { OnOk result (CanSplit (or_whole (option_copied leaves.entry)) frag bits) }
     ensures err { IfErr result (RefusesSplit (or_whole (option_copied leaves.entry)) frag bits) }
     ensures memory { IfErr result (λ reason. reason ≢ NoMemory) }

@@ -8,6 +8,6 @@ mod numbers;
 mod table_changes;
 
 pub use counting::count_entries;
-pub use dirs::{Dirs, Home, LeafAt, check_split_of};
+pub use dirs::{Dirs, Home, LeafAt};
 pub use numbers::Numbers;
 pub use table_changes::{adopt_dir, count_move, drop_dir, relocate_dir};

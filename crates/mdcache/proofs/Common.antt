@@ -73,7 +73,7 @@ pub use Rattle.inode_table.proofs.NotedLaws.{added_counted, moved_counted, none_
 pub use Rattle.inode_table.proofs.TableLaws.{above_is, added_tabled, dir_or_not, empty_tabled, known_is, leaves_kept, may_come, may_drop, no_pin, nothing_in, removed_tabled, set_tabled, with_dir, with_file}
 pub use Rattle.inode_table.proofs.Tables.{adopted_table, dropped_table, known_by, moved_table, set_table, still_known, tree_of_row}
 pub use Rattle.inode_table.proofs.TreeOrder.{all_trees, first_has_tree, first_tree_known, next_tree_after}
-pub use Rattle.inode_table.specs.Dirs.{Counts, Covers, DirPins, Homes, IsAbove, IsTable, MayCome, MayGo, MayMove, Reaches, Table, count_of, is_known, leaves_of, one_less, one_more, or_whole}
+pub use Rattle.inode_table.specs.Dirs.{Counts, Covers, DirPins, Homes, IsAbove, IsTable, MayCome, MayGo, MayMove, Reaches, RefusesLeaves, Table, count_of, is_known, leaves_of, one_less, one_more, or_whole}
 pub use Rattle.inode_table.specs.Numbers.{Supply}
 pub use Rattle.inode_table.specs.Order.{trees_after}
 pub use Rattle.inode_table.specs.TreeChanges.{KeepLeaves, MayAdd, MayRemove, MaySet}
@@ -100,7 +100,7 @@ pub use Rattle.mdcache.specs.Ranks.{EndsWith, IsNamedIn, KeepsOnlyAt, MayHold}
 pub use Rattle.mdcache.specs.Reads.{MayNotFind, has_none}
 pub use Rattle.mdcache.specs.Ready.{LacksNumbers, MayNotBeReady}
 pub use Rattle.mdcache.specs.Regrouping.{IsJoined, IsMergeReady, IsSplitReady, ending_at, merged_in, split_in}
-pub use Rattle.mdcache.specs.Regroups.{LacksCounts, MayNotRegroup, RefusesLeaves}
+pub use Rattle.mdcache.specs.Regroups.{LacksCounts, MayNotRegroup}
 pub use Rattle.mdcache.specs.SavedTrees.{HasTree, HasTrees, IsAsBefore, SavesTrees}
 pub use Rattle.mdcache.specs.Shown.{directories, entries_in, entries_of, entries_under, names_of, shown_at, shown_tree}
 pub use Rattle.mdcache.specs.Sound.{AreYoung, IsOf, IsOwned, IsSound, IsStanding, IsUnsaved}

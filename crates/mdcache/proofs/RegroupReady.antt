@@ -1,13 +1,24 @@
 -- What is made ready for a split or a merge: first room and names are planned, then the place that was kept is given up, then leaves are read.
 use Rattle.mdcache.proofs.Common.{AreAbsent, AreCaches, At, CacheMap, Cached, CanMerge, CanSplit, Core, Dirfrag, HasCached, IfErr, IsAmongOr, IsButPlaces, IsChildAt, IsDistinct, IsFamilyAt, IsLive, IsNoLess, IsSoundCore, IsThat, IsThere, IsWhole, KeepsNone, LacksPlacesIn, Leaf, List, MayFetch, MayHold, MayNotFind, MayNotKeepAll, None, NoneEnds, OnErr, OnOk, Option, Reads, ReadsCore, ReadsFamily, Refusal, Result, Some, StaysAt, ap, arith, child_of, ending_at, false, here, inl, inr, is_known, kept_at, leaf_is, leaf_itself, leaf_of, leaves_of, length, no_child, order, readies_whole, reads_placed, reads_then, reads_weaker, refl, refused_whole, subst, sym, true, unclean_at, unclean_of, ℕ, ◌+◌, ◌<◌, ◌^◌, ◌∙◌, ◌≡◌, ◌≤◌, ◌⊎◌}
-use Rattle.std.specs.Prelude.{Ok, Err}
+use Rattle.std.specs.Prelude.{Ok, Err, suc, zero}
 use Rattle.std.specs.FinMap as map
+use Rattle.mds_types.specs.Frag.{Fragment}
+use Rattle.mds_types.specs.declared.ids.Ino.{Ino}
+use Rattle.dentry_cache.specs.CacheMap.{at_rank, has_place}
+use Rattle.dentry_cache.specs.CacheSplits.{AreKept, without_children}
 use Rattle.dentry_cache.specs.Reads.Reads.{stays as it_stays}
+use Rattle.dentry_cache.proofs.ChildLaws.{AreDropped, are_dropped}
+use Rattle.dentry_cache.proofs.StepLaws.{placed_given_up}
 use Rattle.mdcache.proofs.CoreLaws.{first_step, may_fetch, may_fetch_on, next_step, no_less_itself, not_found_before, reads_core_on, reads_core_wider, still_absent, there_after}
 use Rattle.mdcache.proofs.JoinSteps.{hold_on, live_on}
 use Rattle.mdcache.proofs.MergeSteps.{ending_live}
 use Rattle.mdcache.proofs.NoneLaws.{none_absent}
 use Rattle.mdcache.proofs.UncleanOf.{kept_none, unclean_few}
+
+-- where places of children are given up, what has one had one
+placed_without : (r : ℕ) (dir : Ino) (frag : Fragment) (bits n : ℕ) (c : CacheMap) (s : ℕ) (q : Leaf) → has_place (without_children r dir frag bits n c) s q ≡ true → has_place c s q ≡ true
+placed_without r dir frag bits zero c s q placed = placed
+placed_without r dir frag bits (suc n) c s q placed = placed_without r dir frag bits n c s q (placed_given_up (without_children r dir frag bits n c) r (dir, child_of frag n bits) s q placed)
 
 -- what stays where it is is there
 stays_there : (was now : Option Cached) → HasCached was (λ (f : Cached). HasCached now (IsButPlaces f)) → IsThere now
@@ -145,3 +156,31 @@ module _ (old mid view : Core) (is : view ≡ mid) (a : Dirfrag) (nb : ℕ) (som
     pub children_refused_so : {A : Type 0} (result : Result A Refusal) → mid.faults ≡ old.faults → IfErr result (MayNotKeepAll (2 ^ nb) view.caches r) → IfErr result (MayNotFind (LacksPlacesIn (2 ^ nb + 1) old.caches r) old.faults view.faults)
     children_refused_so (Ok x) same refused = tt
     children_refused_so (Err reason) same refused = children_refused reason same refused
+
+-- ---- the places of a split's children are given up again
+
+module _ (old mid : Core) (a : Dirfrag) (nb : ℕ) (reads : ReadsCore (IsFamilyAt a.rank.0 a.dir a.frag nb) (IsFamilyAt a.rank.0 a.dir a.frag nb) old mid) (there : a.rank.0 < length mid.caches.used) (distinct : IsDistinct leaf_is (order mid.caches a.rank.0))
+    (kept : AreKept mid.caches a.rank.0 a.dir a.frag nb) (only : (s : ℕ) (q : Leaf) → IsWhole mid.caches s q ⊎ IsChildAt a.rank.0 a.dir a.frag nb s q)
+    (last : Core) (left : last ≡ record mid { caches = without_children a.rank.0 a.dir a.frag nb (2 ^ nb) mid.caches }) where
+  abbrev freed : CacheMap
+  freed = without_children a.rank.0 a.dir a.frag nb (2 ^ nb) mid.caches
+
+  dropped : AreDropped a.rank.0 a.dir a.frag nb (2 ^ nb) mid.caches freed
+  dropped = are_dropped a.rank.0 a.dir a.frag nb (2 ^ nb) mid.caches (omega arith) there distinct (λ i below. (kept i below).1)
+
+  pub dropped_reads : ReadsCore (IsFamilyAt a.rank.0 a.dir a.frag nb) (IsFamilyAt a.rank.0 a.dir a.frag nb) old last
+  dropped_reads = subst (ReadsCore (IsFamilyAt a.rank.0 a.dir a.frag nb) (IsFamilyAt a.rank.0 a.dir a.frag nb) old) (sym left)
+      (next_step (IsFamilyAt a.rank.0 a.dir a.frag nb) (IsFamilyAt a.rank.0 a.dir a.frag nb) old mid (record mid { caches = freed }) (no_less_itself mid.room) refl mid reads refl
+      (reads_weaker (IsFamilyAt a.rank.0 a.dir a.frag nb) (IsChildAt a.rank.0 a.dir a.frag nb) (IsFamilyAt a.rank.0 a.dir a.frag nb) (IsFamilyAt a.rank.0 a.dir a.frag nb) (λ s q is. is) (λ s q child. inr child) mid.objects mid.caches freed (dropped.reads mid.objects)))
+
+  pub dropped_absent : (i : ℕ) → i < 2 ^ nb → map.get last.caches.held (a.dir, child_of a.frag i nb) ≡ None
+  dropped_absent i below = ap (λ (k : Core). map.get k.caches.held (a.dir, child_of a.frag i nb)) left ∙ ap (λ m. map.get m (a.dir, child_of a.frag i nb)) dropped.held ∙ (kept i below).1
+
+  pub dropped_none : KeepsNone last.caches
+  dropped_none = subst (λ (k : Core). KeepsNone k.caches) (sym left) (λ s q placed. go s q placed (only s q))
+    where
+      go : (s : ℕ) (q : Leaf) → has_place freed s q ≡ true → IsWhole mid.caches s q ⊎ IsChildAt a.rank.0 a.dir a.frag nb s q → IsThere (here freed s q)
+      go s q placed (inl whole) = subst (λ m. IsThere (at_rank s (map.get m q))) (sym dropped.held) (whole (placed_without a.rank.0 a.dir a.frag nb (2 ^ nb) mid.caches s q placed))
+      go s q placed (inr child) =
+          let clash : true ≡ false = sym placed ∙ (λ i. has_place freed (child.0 i) (child.3 i)) ∙ dropped.none child.1 child.2 in
+          absurd cc

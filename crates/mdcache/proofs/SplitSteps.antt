@@ -53,8 +53,8 @@ no_child_cached c sound dir frag nb can i below = go (map.get c.caches.held (dir
 module _ (old mid : Core) (sound : IsSoundCore old) (a : Dirfrag) (nb : ℕ) (split : Split) (may : MayHold old.caches a.rank (leaf_of a)) (known : is_known old.homes a.dir.0 ≡ true)
     (can : CanSplit (leaves_of old.covers a.dir.0) a.frag nb) (Ends : ℕ → Leaf → Type 0) (reads : ReadsCore (IsFamilyAt a.rank.0 a.dir a.frag nb) Ends old mid) (ended : Ends a.rank.0 (leaf_of a)) (distinct : IsDistinct leaf_is (order mid.caches a.rank.0))
     (only : (r : ℕ) (q : Leaf) → IsWhole mid.caches r q ⊎ IsChildAt a.rank.0 a.dir a.frag nb r q) (ready : IsSplitReady mid a nb split)
-    (new : Core) (places : SplitsInto a.rank.0 a.dir a.frag nb split.parts mid.next_version mid.caches new.caches)
-    (left : (empty : Bool) × HasCached (here mid.caches a.rank.0 (leaf_of a)) (λ (f : Cached). empty ≡ has_none (shown f)) × (new ≡ split_in mid a nb split.plan empty new.caches new.room)) where
+    (new : Core) (divided : IsSplit (leaves_of mid.covers a.dir.0) (leaves_of new.covers a.dir.0) a.frag nb) (whole : IsTree (leaves_of new.covers a.dir.0)) (places : SplitsInto a.rank.0 a.dir a.frag nb split.parts mid.next_version mid.caches new.caches)
+    (left : (empty : Bool) × HasCached (here mid.caches a.rank.0 (leaf_of a)) (λ (f : Cached). empty ≡ has_none (shown f)) × (new ≡ split_in mid a nb split.plan (leaves_of new.covers a.dir.0) empty new.caches new.room)) where
   abbrev dir : Ino
   dir = a.dir
 
@@ -64,12 +64,15 @@ module _ (old mid : Core) (sound : IsSoundCore old) (a : Dirfrag) (nb : ℕ) (sp
   abbrev leaf : Leaf
   leaf = leaf_of a
 
+  abbrev cover : List Fragment
+  cover = leaves_of new.covers dir.0
+
   abbrev r : ℕ
   r = a.rank.0
 
   -- what is left, in its own words
   abbrev made : Core
-  made = split_in mid a nb split.plan left.0 new.caches new.room
+  made = split_in mid a nb split.plan cover left.0 new.caches new.room
 
   abbrev s : State
   s = state_of mid
@@ -102,12 +105,6 @@ module _ (old mid : Core) (sound : IsSoundCore old) (a : Dirfrag) (nb : ℕ) (sp
 
   abbrev row : List Fragment
   row = leaves_of s.covers dir.0
-
-  abbrev cover : List Fragment
-  cover = split.plan.cover
-
-  divided : IsSplit row cover frag nb
-  divided = ready.planned.cover
 
   tree : IsTree row
   tree = tree_of_row s.homes s.covers mine.table dir.0
@@ -155,7 +152,7 @@ module _ (old mid : Core) (sound : IsSoundCore old) (a : Dirfrag) (nb : ℕ) (sp
           either : (p.0 ≡ frag) ⊎ (p.0 ≢ frag) → frag ≡ p.0
           either (inl same) = sym same
           either (inr other) =
-              let after = pick_after_split row cover frag ready.planned.whole (hash_of name) p.0 p.1 nb divided other in
+              let after = pick_after_split row cover frag whole (hash_of name) p.0 p.1 nb divided other in
               let one : g ≡ p.0 = after.alone g came.0 (holds_contains g (hash_of name) is) in
               absurd (came.1 (subst (HasLeaf row) (sym one) p.1.stands))
 
@@ -243,7 +240,7 @@ module _ (old mid : Core) (sound : IsSoundCore old) (a : Dirfrag) (nb : ℕ) (sp
   is_regrouped : IsRegrouped s t dir (frag ∷ []) cover (2 ^ nb)
   is_regrouped = record {
     known = known_now;
-    whole = ready.planned.whole;
+    whole = whole;
     unsaved = unclean new.caches;
     purge = t.purge;
     left = λ i. record t { next_version = s.next_version + cond (empty_is i) 0 1 };

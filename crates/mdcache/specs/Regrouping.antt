@@ -1,8 +1,9 @@
 -- What is made ready for a split and for a merge of a directory's leaves, and what they make of the whole.
 use Rattle.std.specs.Prelude.{◌≡◌, ℕ, ◌+◌, ◌<◌, ◌≤◌, ◌^◌, Bool, cond, List, map as each, length, None, string_bytes}
 use Rattle.std.specs.FinMap as map
+use Rattle.mds_types.specs.Frag.{Fragment}
 use Rattle.mds_types.specs.Leaf.{leaf_of}
-use Rattle.fragtree.specs.FragTree.{IsMerge, IsSplit, IsTree, leaves_inside}
+use Rattle.fragtree.specs.FragTree.{IsMerge, IsTree, leaves_inside}
 use Rattle.cached_frag.specs.declared.bases.Base.TheVariants.{Fresh}
 use Rattle.cached_frag.specs.Cached.{Cached, shown}
 use Rattle.dentry_cache.specs.Cache.{Leaf}
@@ -26,11 +27,8 @@ use Rattle.mdcache.specs.State.{text_of}
 
 -- ---- a split
 
--- the directory's leaves after a split; the name of the leaf's object, with room on the purge list; and those of its
--- children's objects
+-- the name of the leaf's object, with room on the purge list, and those of its children's objects
 pub record IsSplitPlanned (p : Core) (a : Dirfrag) (nb : ℕ) (plan : SplitPlan) : Type 0 where
-  pub cover : IsSplit (leaves_of p.covers a.dir.0) plan.cover a.frag nb
-  pub whole : IsTree plan.cover
   pub object : string_bytes plan.object ≡ text_of (leaf_of a)
   pub children : NameChildren a.dir a.frag nb (each string_bytes plan.children.items)
   pub list : 0 < p.room.purge
@@ -42,11 +40,11 @@ pub record IsSplitReady (p : Core) (a : Dirfrag) (nb : ℕ) (split : Split) : Ty
   pub numbered : AreNumbered p.next_generation split.parts
   pub kept : AreKept p.caches a.rank.0 a.dir a.frag nb
 
--- a leaf was split: its directory has the new cover, its job is gone, its object is to be removed and those of its children aren't; the
+-- a leaf was split: its directory has this cover, its job is gone, its object is to be removed and those of its children aren't; the
 -- children took generations, and their names a version, if there are any
-abbrev pub split_in : Core → Dirfrag → ℕ → SplitPlan → (empty : Bool) → CacheMap → Rooms → Core
-split_in p a nb plan empty caches room = record p {
-  covers = map.insert p.covers a.dir.0 plan.cover;
+abbrev pub split_in : Core → Dirfrag → ℕ → SplitPlan → (cover : List Fragment) → (empty : Bool) → CacheMap → Rooms → Core
+split_in p a nb plan cover empty caches room = record p {
+  covers = map.insert p.covers a.dir.0 cover;
   caches = caches;
   jobs = map.remove p.jobs (leaf_of a);
   purge = without_objects (map.insert p.purge (string_bytes plan.object) tt) (each string_bytes plan.children.items);

@@ -18,7 +18,3 @@ MayNotRegroup Can Refuses s dir count NoPlace before after reason =
     ((reason ≡ NoSuchFrag) × (is_known s.homes dir.0 ≡ false))
     ⊎ ((is_known s.homes dir.0 ≡ true) × (reason ≢ NoMemory) × Refuses reason)
     ⊎ ((is_known s.homes dir.0 ≡ true) × Can × MayNotBeReady (LacksCounts count s) NoPlace before after reason)
-
--- the first of these reasons alone: the leaves themselves are not those that are asked for, whatever numbers, places and memory are left
-abbrev pub RefusesLeaves : (Refuses : Refusal → Type 0) → Homes → Ino → Refusal → Type 0
-RefusesLeaves Refuses homes dir reason = ((reason ≡ NoSuchFrag) × (is_known homes dir.0 ≡ false)) ⊎ ((is_known homes dir.0 ≡ true) × (reason ≢ NoMemory) × Refuses reason)

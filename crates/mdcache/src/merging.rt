@@ -10,13 +10,12 @@ ghost use Rattle.dentry_cache.specs.Cache.{Leaf};
 ghost use Rattle.dentry_cache.specs.CacheCalls.{KeepsNone};
 ghost use Rattle.dentry_cache.specs.CacheSplits.{IsKeptFor};
 ghost use Rattle.dentry_cache.specs.Came.{Came, NoneEnds};
-ghost use Rattle.inode_table.specs.Dirs.{is_known, leaves_of};
+ghost use Rattle.inode_table.specs.Dirs.{RefusesLeaves, is_known, leaves_of};
 ghost use Rattle.mdcache.specs.Core.{IsSoundCore, LacksPlacesAt, ReadsCore, state_of};
 ghost use Rattle.mdcache.specs.Joining.{IsAmongOr};
 ghost use Rattle.mdcache.specs.Ranks.{KeepsOnlyAt, MayHold};
 ghost use Rattle.mdcache.specs.Reads.{MayNotFind};
 ghost use Rattle.mdcache.specs.Regrouping.{IsMergeReady, ending_at, merged_in};
-ghost use Rattle.mdcache.specs.Regroups.{RefusesLeaves};
 ghost use Rattle.mdcache.specs.Splits.{IsMergedInto, KeepsTree};
 ghost use Rattle.mdcache.specs.SplitsAndMerges.{IsUndone, MergesLeaves, merged_leaves};
 

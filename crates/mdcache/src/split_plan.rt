@@ -1,7 +1,7 @@
-//! What a split needs beside the caches: the leaves after it, and the names of objects.
+//! What a split needs beside the caches: the names of objects.
 ghost use Rattle.std.specs.Prelude.{◌≡◌, ◌+◌, ◌≤◌, ◌<◌, ◌^◌, map as each, string_bytes, OnOk, IfOk, IfErr};
 ghost use Rattle.mds_types.specs.declared.refusals.Refusal.TheVariants.{NoMemory};
-ghost use Rattle.fragtree.specs.FragTree.{CanSplit, IsSplit, IsTree};
+ghost use Rattle.fragtree.specs.FragTree.{CanSplit};
 ghost use Rattle.inode_table.specs.Dirs.{leaves_of};
 ghost use Rattle.mdcache.specs.Core.{IsNoLess};
 ghost use Rattle.mdcache.specs.Regrouping.{IsSplitPlanned};
@@ -9,16 +9,13 @@ ghost use Rattle.mdcache.specs.Splits.{NameChildren};
 
 use crate::mdcache::MdCache;
 use crate::regrouping::{child_count, object_name};
-use fragtree::FragTree;
-use inode_table::Dirs;
 use mds_types::{Dirfrag, Frag, Ino, Refusal};
 use objstore::Store;
 use std::alloc::{AllocError, Global};
 
-/// The leaves of a directory after a split, and the names of the objects of the leaf and of its children.
+/// The names of the objects of a leaf that splits, and of its children.
 #[derive(Drop)]
 pub struct SplitPlan {
-    pub cover: FragTree,
     pub object: String,
     pub children: Vec<String>,
 }
@@ -38,32 +35,10 @@ impl<S: Store + Drop> MdCache<S> {
         ensures room { IsNoLess self.old.room self.new.room }
         ensures refused { IfErr result (λ reason. reason ≡ NoMemory) }
     {
-        let cover = match split_cover(alloc, &self.dirs, at, nb) {
-            Ok(cover) => cover,
-            Err(refusal) => return Err(refusal),
-        };
         self.purge.reserve(1)?;
         let object = object_name(alloc, at.dir, at.frag)?;
         let children = child_names(alloc, at.dir, at.frag, nb)?;
-        Ok(SplitPlan {
-            cover,
-            object,
-            children,
-        })
-    }
-}
-
-// The leaves of a directory once one of them is split.
-fn split_cover(alloc: Global, dirs: &Dirs, at: &Dirfrag, nb: u8) -> Result<FragTree, Refusal>
-    requires { CanSplit (leaves_of dirs.now.trees at.now.dir.0) at.now.frag nb }
-    ensures divided { IfOk result (λ cover. IsSplit (leaves_of dirs.now.trees at.now.dir.0) cover at.now.frag nb) }
-    ensures whole { IfOk result (λ cover. IsTree cover) }
-    ensures refused { IfErr result (λ reason. reason ≡ NoMemory) }
-{
-    let mut cover = dirs.tree(alloc, at.dir)?;
-    match cover.split(at.frag, nb) {
-        Ok(()) => Ok(cover),
-        Err(refusal) => Err(refusal),
+        Ok(SplitPlan { object, children })
     }
 }
 

@@ -6,12 +6,13 @@ ghost use Rattle.std.specs.List.{IsDistinct};
 ghost use Rattle.mds_types.specs.Frag.{child_of};
 ghost use Rattle.mds_types.specs.Leaf.{leaf_of};
 ghost use Rattle.objstore.specs.Objects.{faults_told};
-ghost use Rattle.fragtree.specs.FragTree.{CanSplit, RefusesSplit};
+ghost use Rattle.mds_types.specs.declared.refusals.Refusal.TheVariants.{NoMemory};
+ghost use Rattle.fragtree.specs.FragTree.{CanSplit, IsSplit, IsTree};
 ghost use Rattle.cached_frag.specs.Cached.{Cached, shown};
 ghost use Rattle.dentry_cache.specs.Cache.{HasCached, Leaf, leaf_is};
 ghost use Rattle.dentry_cache.specs.CacheCalls.{IsWhole, KeepsNone};
 ghost use Rattle.dentry_cache.specs.CacheMap.{here, order};
-ghost use Rattle.dentry_cache.specs.CacheSplits.{AreKept, IsChildAt, IsFamilyAt, IsReadyAt, SplitsInto};
+ghost use Rattle.dentry_cache.specs.CacheSplits.{AreKept, IsChildAt, IsFamilyAt, IsReadyAt, SplitsInto, without_children};
 ghost use Rattle.dentry_cache.specs.Came.{Came};
 ghost use Rattle.dentry_cache.specs.Divided.{AreNumbered};
 ghost use Rattle.inode_table.specs.Dirs.{is_known, leaves_of};
@@ -20,7 +21,6 @@ ghost use Rattle.mdcache.specs.Core.{IsSoundCore, LacksPlacesAt, MayFetch, Reads
 ghost use Rattle.mdcache.specs.Ranks.{MayHold};
 ghost use Rattle.mdcache.specs.Reads.{MayNotFind, has_none};
 ghost use Rattle.mdcache.specs.Regrouping.{IsSplitReady, split_in};
-ghost use Rattle.mdcache.specs.Regroups.{RefusesLeaves};
 ghost use Rattle.mdcache.specs.Splits.{IsSplitInto, KeepsTree, without_objects};
 ghost use Rattle.mdcache.specs.SplitsAndMerges.{IsUndone, SplitsLeaf};
 
@@ -30,8 +30,7 @@ use crate::purge_list::PurgeList;
 use crate::regrouping::{child_count, take_counts};
 use crate::split_plan::SplitPlan;
 use dentry_cache::Parts;
-use inode_table::Dirs;
-use mds_types::{Dirfrag, Frag, Ino, Refusal};
+use mds_types::{Dirfrag, Refusal};
 use objstore::Store;
 use std::alloc::Global;
 
@@ -43,18 +42,6 @@ pub struct Split {
 }
 
 impl<S: Store + Drop> MdCache<S> {
-    /// Whether there is such a leaf, and it can be split by so many bits, as `split` asks for. Takes no memory.
-    ///
-    /// Refused `NoSuchFrag` where there is no such leaf, `BadSplit` where it can't be split by so many bits, and `TooManyFrags`
-    /// where there would be too many leaves.
-    pub fn check_split(&self, dir: Ino, frag: Frag, nb: u8) -> Result<(), Refusal>
-        ensures known { OnOk result (is_known self.now.homes dir.0 ≡ true) }
-        ensures can { OnOk result (CanSplit (leaves_of self.now.covers dir.0) frag nb) }
-        ensures refused { IfErr result (RefusesLeaves (RefusesSplit (leaves_of self.now.covers dir.0) frag nb) self.now.homes dir) }
-    {
-        can_split(&self.dirs, dir, frag, nb)
-    }
-
     /// Splits a leaf that can be split by so many bits, at the rank that holds it: its children stand in its place, each with those of
     /// its names that it contains. They are fragments of the next generations, for which no object counts, and their names are
     /// dirty, all at the next version. The leaf's job ends, and its object is to be removed. Takes memory for the children and
@@ -94,13 +81,14 @@ impl<S: Store + Drop> MdCache<S> {
         ensures counted { self.new.faults ≡ self.old.faults + faults_told (result_err result) }
         ensures sound { IsSoundCore self.new }
     {
-        match self.prepare_split(alloc, at, nb) {
-            Ok(split) => {
-                self.commit_split(at, nb, split);
-                Ok(())
-            }
-            Err(refusal) => Err(refusal),
+        let split = match self.prepare_split(alloc, at, nb) {
+            Ok(split) => split,
+            Err(refusal) => return Err(refusal),
+        };
+        if let Err(refusal) = self.commit_split(alloc, at, nb, split) {
+            return Err(refusal);
         }
+        Ok(())
     }
 
     // Makes all ready for a split of a leaf that can be split. Takes memory for all this, and for the leaf, if it is read.
@@ -162,49 +150,44 @@ impl<S: Store + Drop> MdCache<S> {
             .ready_split(alloc, *at, nb, self.next.generation)
     }
 
-    // Splits a leaf for which all is ready: its names go to its children, its job ends, the name of its object comes on the
-    // purge list, and those of the children's objects leave it. Takes no memory, and can't fail.
-    fn commit_split(&mut self, at: &Dirfrag, nb: u8, split: Split)
+    // Splits a leaf for which all is ready, in the directory table first: its names go to its children, its job ends, the name of its
+    // object comes on the purge list, and those of the children's objects leave it. Takes memory for the table's leaves, and one
+    // search. Refused for want of it alone; the children's places are given up then.
+    fn commit_split(
+        &mut self,
+        alloc: Global,
+        at: &Dirfrag,
+        nb: u8,
+        split: Split,
+    ) -> Result<(), Refusal>
         requires there { at.now.rank.0 < length self.old.caches.used }
         requires ready { IsSplitReady self.old at.now nb split }
-        requires some { 1 ≤ nb }
-        requires few { nb ≤ 8 }
-        requires deep { at.now.frag.bits + nb ≤ 24 }
         requires known { is_known self.old.homes at.now.dir.0 ≡ true }
+        requires can { CanSplit (leaves_of self.old.covers at.now.dir.0) at.now.frag nb }
         requires generations { self.old.next_generation + 2 ^ nb < 2 ^ 64 }
         requires version { self.old.next_version < 2 ^ 64 - 1 }
-        ensures places { SplitsInto at.now.rank.0 at.now.dir at.now.frag nb split.parts self.old.next_version self.old.caches self.new.caches }
-        ensures split { (empty : Bool) × HasCached (here self.old.caches at.now.rank.0 (leaf_of at.now)) (λ (f : Cached). empty ≡ has_none (shown f)) × (self.new ≡ split_in self.old at.now nb split.plan empty self.new.caches self.new.room) }
+        ensures places { OnOk result (SplitsInto at.now.rank.0 at.now.dir at.now.frag nb split.parts self.old.next_version self.old.caches self.new.caches) }
+        ensures divided { OnOk result (IsSplit (leaves_of self.old.covers at.now.dir.0) (leaves_of self.new.covers at.now.dir.0) at.now.frag nb) }
+        ensures whole { OnOk result (IsTree (leaves_of self.new.covers at.now.dir.0)) }
+        ensures split { OnOk result ((empty : Bool) × HasCached (here self.old.caches at.now.rank.0 (leaf_of at.now)) (λ (f : Cached). empty ≡ has_none (shown f)) × (self.new ≡ split_in self.old at.now nb split.plan (leaves_of self.new.covers at.now.dir.0) empty self.new.caches self.new.room)) }
+        ensures left { OnErr result (self.new ≡ record self.old { caches = without_children at.now.rank.0 at.now.dir at.now.frag nb (2 ^ nb) self.old.caches }) }
+        ensures refused { IfErr result (λ reason. reason ≡ NoMemory) }
     {
+        if let Err(refusal) = self.dirs.split(alloc, at.dir, at.frag, nb) {
+            self.caches.drop_children(*at, nb);
+            drop(split);
+            return Err(refusal);
+        }
         let empty = is_cached_empty(&self.caches, at);
         let version = self.next.version;
         let Split { plan, parts } = split;
-        let SplitPlan {
-            cover,
-            object,
-            children,
-        } = plan;
-        self.dirs.set_tree(at.dir, cover);
+        let SplitPlan { object, children } = plan;
         self.caches.split_into(*at, nb, parts, version);
         self.jobs.end(at.dir, at.frag);
         self.purge.put(object);
         unlist(&mut self.purge, &children);
         take_counts(&mut self.next, u64::from(child_count(nb)), empty);
-    }
-}
-
-// Whether there is such a directory, and a leaf of it can be split by so many bits. Takes no memory.
-fn can_split(dirs: &Dirs, dir: Ino, frag: Frag, nb: u8) -> Result<(), Refusal>
-    ensures known { OnOk result (is_known dirs.now.homes dir.0 ≡ true) }
-    ensures can { OnOk result (CanSplit (leaves_of dirs.now.trees dir.0) frag nb) }
-    ensures refused { IfErr result (RefusesLeaves (RefusesSplit (leaves_of dirs.now.trees dir.0) frag nb) dirs.now.homes dir) }
-{
-    if !dirs.contains(dir) {
-        return Err(Refusal::NoSuchFrag);
-    }
-    match dirs.check_split(dir, frag, nb) {
-        Ok(()) => Ok(()),
-        Err(refusal) => Err(refusal),
+        Ok(())
     }
 }
 

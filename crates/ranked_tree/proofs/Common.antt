@@ -53,7 +53,7 @@ pub use Rattle.fragtree.specs.FragTree.{CanMerge, CanSplit, FitsSplit, HasLeaf, 
 pub use Rattle.inode_table.proofs.MoveLaws.{may_relocate, may_replace}
 pub use Rattle.inode_table.proofs.TableLaws.{home_of, known_is, may_come, may_drop, with_dir, with_file}
 pub use Rattle.inode_table.proofs.Tables.{still_known, tree_of_row}
-pub use Rattle.inode_table.specs.Dirs.{Counts, Covers, Homes, IsLeafAt, IsLive, IsTable, MayCome, MayGo, MayMove, count_of, is_known, leaves_of, or_whole}
+pub use Rattle.inode_table.specs.Dirs.{Counts, Covers, Homes, IsLeafAt, IsLive, IsTable, MayCome, MayGo, MayMove, RefusesLeaves, count_of, is_known, leaves_of, or_whole}
 pub use Rattle.inode_table.specs.TreeTable.{home_at, with_home}
 pub use Rattle.inode_table.specs.declared.dirs.Home.{Home}
 pub use Rattle.mdcache.proofs.CoreLaws.{reads_keeps, reads_state}
@@ -88,7 +88,7 @@ pub use Rattle.mdcache.specs.Ranks.{AreOneRank, EndsWith, IsNamedIn, MayHold, Ma
 pub use Rattle.mdcache.specs.Reads.{MayNotFind, has_none}
 pub use Rattle.mdcache.specs.Ready.{LacksNumbers, MayNotBeReady}
 pub use Rattle.mdcache.specs.Regrouping.{ending_at}
-pub use Rattle.mdcache.specs.Regroups.{LacksCounts, MayNotRegroup, RefusesLeaves}
+pub use Rattle.mdcache.specs.Regroups.{LacksCounts, MayNotRegroup}
 pub use Rattle.mdcache.specs.Shown.{names_of, shown_tree}
 pub use Rattle.mdcache.specs.Sound.{IsSound}
 pub use Rattle.mdcache.specs.Splits.{IsMergedInto, IsSplitInto}

@@ -1,9 +1,10 @@
 //! Whose a leaf is.
-ghost use Rattle.std.specs.Prelude.{◌≡◌, ◌↔◌, ℕ, false, IsTrue, MatchOption};
+ghost use Rattle.std.specs.Prelude.{◌≡◌, ◌↔◌, ℕ, true, false, IsTrue, MatchOption, OnOk, IfErr, IfOk};
 ghost use Rattle.std.specs.FinMap as map;
 ghost use Rattle.std.specs.Option.{option_copied};
 ghost use Rattle.mds_types.specs.Leaf.{leaf_of};
-ghost use Rattle.inode_table.specs.Dirs.{IsLive};
+ghost use Rattle.fragtree.specs.FragTree.{CanSplit, RefusesSplit};
+ghost use Rattle.inode_table.specs.Dirs.{IsLive, RefusesLeaves, is_known, leaves_of};
 ghost use Rattle.namespace_ops.specs.Places.{IsAt, Locates};
 ghost use Rattle.mdcache.specs.Core.{state_of};
 ghost use Rattle.mdcache.specs.Shown.{shown_tree};
@@ -17,7 +18,7 @@ use crate::ranked_tree::RankedTree;
 use crate::regions::Regions;
 use inode_table::LeafAt;
 use mdcache::MdCache;
-use mds_types::{Dirfrag, Frag, Ino, Rank};
+use mds_types::{Dirfrag, Frag, Ino, Rank, Refusal};
 use namespace_ops::Located;
 use objstore::Store;
 use subtree_map::Subtrees;
@@ -175,6 +176,30 @@ pub(crate) fn holder_at<S: Store + Drop>(
         return None;
     }
     Some(located.at.rank)
+}
+
+/// The rank that holds a leaf which can be split by so many bits. `rank` is asked first.
+pub(crate) fn holder_to_split<S: Store + Drop>(
+    tree: &MdCache<S>,
+    regions: &Regions,
+    rank: Rank,
+    dir: Ino,
+    frag: Frag,
+    bits: u8,
+) -> Result<Rank, Refusal>
+    requires { IsOwned tree.now (held_in regions.now) }
+    ensures known { OnOk result (is_known tree.now.homes dir.0 ≡ true) }
+    ensures can { OnOk result (CanSplit (leaves_of tree.now.covers dir.0) frag bits) }
+    ensures holder { IfOk result (Rules (state_of tree.now) (held_in regions.now) (dir, frag)) }
+    ensures refused { IfErr result (RefusesLeaves (RefusesSplit (leaves_of tree.now.covers dir.0) frag bits) tree.now.homes dir) }
+{
+    let dirs = tree.dirs();
+    let leaf = match dirs.check_split(dir, frag, bits) {
+        Ok(leaf) => leaf,
+        Err(refusal) => return Err(refusal),
+    };
+    let at = held_leaf(tree, regions, rank, dir, leaf);
+    Ok(at.rank)
 }
 
 // Whether a rank is the authority of a leaf.

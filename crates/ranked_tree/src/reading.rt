@@ -1,20 +1,21 @@
 //! Reads that ask the tree alone, and no fragment. None takes memory.
-ghost use Rattle.std.specs.Prelude.{◌≡◌, true, IsTrue, ◌↔◌, OnOk, IfErr, length};
+ghost use Rattle.std.specs.Prelude.{◌≡◌, true, IsTrue, ◌↔◌, OnOk, IfErr, IfOk, length};
 ghost use Rattle.mds_types.specs.Tree.{is_directory};
 ghost use Rattle.fragtree.specs.FragTree.{CanMerge, CanSplit, RefusesMerge, RefusesSplit};
-ghost use Rattle.inode_table.specs.Dirs.{IsLive, is_known, leaves_of};
+ghost use Rattle.inode_table.specs.Dirs.{IsLive, RefusesLeaves, is_known, leaves_of};
 ghost use Rattle.dentry_cache.specs.CacheMap.{AreCaches};
 ghost use Rattle.mdcache.specs.Core.{state_of};
-ghost use Rattle.mdcache.specs.Regroups.{RefusesLeaves};
 ghost use Rattle.mdcache.specs.Shown.{shown_tree};
 ghost use Rattle.mdcache.specs.Sound.{IsSound};
 ghost use Rattle.ranked_tree.specs.Exported.{StandSoundly};
 ghost use Rattle.ranked_tree.specs.Held.{IsOwned};
 ghost use Rattle.ranked_tree.specs.Ranked.{held_roots};
+ghost use Rattle.ranked_tree.specs.Subtrees.{Rules};
 
+use crate::authorities::holder_to_split;
 use crate::ranked_tree::RankedTree;
 use inode_table::Dirs;
-use mds_types::{Frag, Ino, Refusal};
+use mds_types::{Frag, Ino, Rank, Refusal};
 use objstore::Store;
 
 impl<S: Store + Drop> RankedTree<S> {
@@ -60,14 +61,16 @@ impl<S: Store + Drop> RankedTree<S> {
         self.tree.has_leaf(dir, frag)
     }
 
-    /// Whether there is such a leaf, and it can be split by so many bits, as `MdCache::check_split` tells and refuses.
-    pub fn check_split(&self, dir: Ino, frag: Frag, bits: u8) -> Result<(), Refusal>
+    /// The rank that holds a leaf which can be split by so many bits; `rank` is asked first. Refused as `Dirs::check_split` is. Takes
+    /// one search of the directory table, and for a leaf that the rank doesn't cache one more for each directory up to the nearest root.
+    pub fn check_split(&self, rank: Rank, dir: Ino, frag: Frag, bits: u8) -> Result<Rank, Refusal>
         ensures known { OnOk result (is_known self.now.tree.homes dir.0 ≡ true) }
         ensures can { OnOk result (CanSplit (leaves_of self.now.tree.covers dir.0) frag bits) }
+        ensures holder { IfOk result (Rules (state_of self.now.tree) (held_roots self.now) (dir, frag)) }
         ensures refused { IfErr result (RefusesLeaves (RefusesSplit (leaves_of self.now.tree.covers dir.0) frag bits) self.now.tree.homes dir) }
         ensures sound { IsSound (state_of self.now.tree) }
     {
-        self.tree.check_split(dir, frag, bits)
+        holder_to_split(&self.tree, &self.regions, rank, dir, frag, bits)
     }
 
     /// Whether there is such a directory, and leaves of it can be merged at a fragment, as `MdCache::check_merge` tells and

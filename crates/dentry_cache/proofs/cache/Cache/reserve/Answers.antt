@@ -1,7 +1,17 @@
-use Rattle.dentry_cache.proofs.Common.{Cached, ap, cached, on_ok_weaker, option_copied_mut, refl, shown, sym, ◌∙◌, ◌≡◌, ◌≤◌}
-use Rattle.dentry_cache.proofs.EditLaws.{changed}
+use Rattle.dentry_cache.proofs.Common.{Cached, ap, arith, cached, on_ok_weaker, option_copied_mut, refl, shown, sym, ◌∙◌, ◌≡◌, ◌≤◌}
+use Rattle.dentry_cache.proofs.EditLaws.{changed, nothing_to_do, only_used}
 use Rattle.dentry_cache.proofs.CandidateSteps.{same_size, told_value}
 use Rattle.dentry_cache.proofs.cache.Cache.reserve.Goals as goal
+
+pub returns-then-ready-clause-same : goal.returns-then-ready-clause-same
+returns-then-ready-clause-same c =
+    nothing_to_do (c.args.dir, c.args.frag) c.args.self.now c.touch.new.self _ (λ (f : Cached). c.args.changes ≤ f.room) _ (λ f fits. (refl, omega arith)) (c.has_room-ready.ensures c.if-ready.true)
+    (only_used (c.args.dir, c.args.frag) c.args.self.now _ _ c.touch.ensures c.requires)
+
+pub returns-then-ready-clause-room : goal.returns-then-ready-clause-room
+returns-then-ready-clause-room c =
+    nothing_to_do (c.args.dir, c.args.frag) c.args.self.now c.touch.new.self _ (λ (f : Cached). c.args.changes ≤ f.room) _ (λ f fits. fits) (c.has_room-ready.ensures c.if-ready.true)
+    (only_used (c.args.dir, c.args.frag) c.args.self.now _ _ c.touch.ensures c.requires)
 
 pub returns-clause-same : goal.returns-clause-same
 returns-clause-same c =
