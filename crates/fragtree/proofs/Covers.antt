@@ -1,8 +1,7 @@
 -- The leaves of a tree are exactly the fragments by ascending value that cover the hashes.
 use Rattle.fragtree.proofs.Common.{Contains, Contains-get_or, Fragment, IsAscendingCover, IsFragment, IsTree, List, Tiles, [], arith, cases_lt, inl, inr, length, root_fragment, span, suc, sym, zero, ℕ, ◌%◌, ◌+◌, ◌<◌, ◌^◌, ◌↔◌, ◌∙◌, ◌∷◌, ◌≡◌, ◌≤◌}
-use Rattle.fragtree.proofs.Places.{IsPlace, leaf_at}
 use Rattle.fragtree.proofs.Ranges.{span_pos, ends_low, range_from_Contains, Contains-from_range}
-use Rattle.fragtree.proofs.Tilings.{between, covers, in_order}
+use Rattle.fragtree.proofs.Tilings.{IsPlace, between, covers, in_order, leaf_at}
 
 -- leaves that are still to come from low on: by ascending value, with each hash from low on in exactly one
 record Covers (low : ℕ) (xs : List Fragment) : Type 0 where

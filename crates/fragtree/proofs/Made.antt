@@ -1,14 +1,12 @@
 -- Splits by 1 bit round each leaf spell the leaves.
 use Rattle.fragtree.proofs.Common.{Descends, Ends, Err, Fragment, HasLeaf, IsFragment, IsLedTo, IsSplitRound, IsTree, List, None, Ok, OnErr, Option, Result, Some, Spells, Splits, [], ap, arith, cases_lt, frag_at, frag_cmp, get-empty, get_or_default, inl, inr, length, on, refl, root_fragment, span, splits_round, subst, suc, sym, there, zero, ℕ, ◌+◌, ◌<◌, ◌^◌, ◌∙◌, ◌∷◌, ◌≡◌, ◌≤◌, ◌⊎◌}
 use Rattle.std.specs.FinMap as map
-use Rattle.fragtree.proofs.Places.{leaf_at}
 use Rattle.fragtree.proofs.DescentLaws.{joined}
 use Rattle.fragtree.proofs.Entries.{get_beside, get_put, one_or_other}
 use Rattle.fragtree.proofs.Ranges.{span_pos, span_falls, ends_before, ends_low, ends_within}
 use Rattle.fragtree.proofs.Rounds.{frag_at-IsFragment, frag_at-alike, round_it}
-use Rattle.fragtree.proofs.Spelled.{one_leaf}
-use Rattle.fragtree.proofs.Tilings.{between}
-use Rattle.fragtree.proofs.TreeLaws.{only_leaf}
+use Rattle.fragtree.proofs.Tilings.{between, leaf_at}
+use Rattle.fragtree.proofs.TreeLaws.{one_leaf, only_leaf}
 
 -- all splits are by 1 bit, of fragments round one of the leaves
 abbrev pub AreRound : Splits → List Fragment → Type 0

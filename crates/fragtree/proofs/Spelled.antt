@@ -1,19 +1,19 @@
 -- The leaves that splits spell, and what a split, a halving and a merge make of them.
 use Rattle.std.proofs.Common.{◌≡◌, ◌≢◌, ◌⊎◌, inl, inr, ℕ, zero, suc, ◌+◌, ◌-◌, ◌*◌, ◌^◌, ◌<◌, ◌≤◌, List, [], ◌∷◌, length, Some, refl, sym, ap, subst, ◌∙◌, arith}
-use Rattle.std.proofs.lemmas.List.{get_or_default}
 use Rattle.std.specs.FinMap as map
-use Rattle.mds_types.specs.Frag.{Fragment, IsFragment, child_of, root_fragment, span}
+use Rattle.mds_types.specs.Frag.{Fragment, IsFragment, child_of, span}
 use Rattle.mds_types.proofs.Fragments.{child_is_fragment, span-split}
 use Rattle.std.proofs.lemmas.Bool.{cases_lt}
 use Rattle.std.proofs.Math.Nat.{mul-le-mul_right}
 use Rattle.fragtree.specs.FragTree.{Tiles, IsTree, HasLeaf, IsSplit, IsMerge, FitsSplit}
-use Rattle.fragtree.proofs.Places.{IsPlace, leaf_at}
 use Rattle.fragtree.specs.Descents.{Splits, AllSome, Descends, there, on, Ends, IsClosed, IsForgotten, IsKept, KeepsEnds, Spells, depth, frag_at, fragments_from, halved, leaves_of, splits_round}
 use Rattle.fragtree.proofs.DescentLaws.{depth-is, ends_kept, joined, kept, rest, rises}
 use Rattle.fragtree.proofs.Entries.{after_put, get_beside, get_put}
 use Rattle.fragtree.proofs.Ranges.{span_pos, ends_low, ends_within}
 use Rattle.fragtree.proofs.Rounds.{frag_at-IsFragment, frag_at-alike, frag_at-is, in_or_out, not_within_round, outside, within_round}
-use Rattle.fragtree.proofs.Tilings.{between, one_place}
+use Rattle.fragtree.proofs.Tilings.{between}
+-- two leaves of one hash are one
+pub use Rattle.fragtree.proofs.TreeLaws.{one_leaf}
 
 fragments_from-is : (bits_of : ℕ → ℕ) (low high : ℕ) (xs : List Fragment) → Tiles low high xs → ((g : Fragment) → HasLeaf xs g → bits_of g.value ≡ g.bits) → fragments_from bits_of (length xs) low ≡ xs
 fragments_from-is bits_of low high [] t told = refl
@@ -39,15 +39,6 @@ pub is_kept : (s : Splits) (xs : List Fragment) (count : ℕ) → IsTree xs → 
 is_kept s xs count tree spells is =
     let same : leaves_of s count ≡ xs = ap (leaves_of s) is ∙ leaves_of-is s xs tree spells in
     (same, record { tree = subst IsTree (sym same) tree; spells = subst (Spells s) (sym same) spells })
-
--- two leaves of one hash are one
-pub one_leaf : (xs : List Fragment) (f g : Fragment) (h : ℕ) → IsTree xs → HasLeaf xs f → HasLeaf xs g → f.value ≤ h → h < f.value + span f.bits → g.value ≤ h → h < g.value + span g.bits → f ≡ g
-one_leaf xs f g h tree (i, stands, is) (j, stands2, is2) low high low2 high2 =
-    let first : leaf_at xs i ≡ f = get_or_default xs i root_fragment f stands ∙ is in
-    let second : leaf_at xs j ≡ g = get_or_default xs j root_fragment g stands2 ∙ is2 in
-    let p : IsPlace xs h i = record { stands = stands; begins = omega (arith, ap (λ (k : Fragment). k.value) first); ends = subst (λ (k : Fragment). h < k.value + span k.bits) (sym first) high } in
-    let q : IsPlace xs h j = record { stands = stands2; begins = omega (arith, ap (λ (k : Fragment). k.value) second); ends = subst (λ (k : Fragment). h < k.value + span k.bits) (sym second) high2 } in
-    sym first ∙ ap (leaf_at xs) (one_place 0 (2 ^ 24) xs h i j tree.tiles p q) ∙ second
 
 module _ (s : Splits) (some : AllSome s) (h : ℕ) where
   round_some : (b nb : ℕ) → splits_round s h b ≡ Some nb → 1 ≤ nb

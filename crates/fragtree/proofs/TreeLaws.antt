@@ -1,43 +1,46 @@
 -- What follows from the definitions of trees, picks, splits and merges.
-use Rattle.std.proofs.Common.{◌≡◌, ◌≢◌, ◌↔◌, ◌⊎◌, inl, inr, ℕ, zero, suc, ◌+◌, ◌/◌, ◌%◌, ◌^◌, ◌<◌, ◌≤◌, true, false, List, [], ◌∷◌, length, refl, sym, ap, subst, ◌∙◌, arith}
+use Rattle.std.proofs.Common.{◌≡◌, ◌≢◌, ◌↔◌, inl, inr, ℕ, zero, ◌+◌, ◌/◌, ◌%◌, ◌^◌, ◌<◌, ◌≤◌, true, false, List, [], ◌∷◌, length, refl, sym, ap, subst, ◌∙◌, arith}
 use Rattle.std.proofs.lemmas.Bool.Decides.{nat_tests}
 use Rattle.std.proofs.lemmas.List.{get_or_default}
+use Rattle.std.proofs.lemmas.List.Elements.{Contains-get_or}
 use Rattle.mds_types.specs.Frag.{Fragment, IsFragment, Contains, ContainsFragment, root_fragment, span}
 use Rattle.mds_types.specs.declared.refusals.Refusal.{Refusal}
 use Rattle.mds_types.specs.declared.refusals.Refusal.TheVariants.{NoMemory, NoSuchFrag, BadSplit, TooManyFrags}
 use Rattle.fragtree.specs.FragTree.{Tiles, IsTree, HasLeaf, IsPick, IsChild, IsSplit, IsMerge, RefusesSplit, RefusesMerge, lies_inside}
-use Rattle.fragtree.proofs.Places.{leaf_at}
 use Rattle.fragtree.proofs.Ranges.{span_pos, ends_within, next_multiple, range_from_Contains, Contains-from_range, range_from_inside, range_from_quotient, lies_inside-true}
-use Rattle.fragtree.proofs.Tilings.{between, low_le_high, low_place, pick_from_place, place_from_Contains}
+use Rattle.fragtree.proofs.Tilings.{IsPlace, Contains-from_place, between, leaf_at, low_le_high, low_place, one_place}
+-- what is a leaf of a list of them
+pub use Rattle.fragtree.proofs.Tilings.{first, first_or_later, later, only_leaf}
+
+-- two leaves of one hash are one
+pub one_leaf : (xs : List Fragment) (f g : Fragment) (h : ℕ) → IsTree xs → HasLeaf xs f → HasLeaf xs g → f.value ≤ h → h < f.value + span f.bits → g.value ≤ h → h < g.value + span g.bits → f ≡ g
+one_leaf xs f g h tree (i, stands, is) (j, stands2, is2) low high low2 high2 =
+    let first : leaf_at xs i ≡ f = get_or_default xs i root_fragment f stands ∙ is in
+    let second : leaf_at xs j ≡ g = get_or_default xs j root_fragment g stands2 ∙ is2 in
+    let p : IsPlace xs h i = record { stands = stands; begins = omega (arith, ap (λ (k : Fragment). k.value) first); ends = subst (λ (k : Fragment). h < k.value + span k.bits) (sym first) high } in
+    let q : IsPlace xs h j = record { stands = stands2; begins = omega (arith, ap (λ (k : Fragment). k.value) second); ends = subst (λ (k : Fragment). h < k.value + span k.bits) (sym second) high2 } in
+    sym first ∙ ap (leaf_at xs) (one_place 0 (2 ^ 24) xs h i j tree.tiles p q) ∙ second
+
+-- a leaf that contains the hash is its pick
+pub pick_from_leaf : (leaves : List Fragment) (hash : ℕ) (leaf : Fragment) → IsTree leaves → HasLeaf leaves leaf → Contains leaf hash → IsPick leaves hash leaf
+pick_from_leaf leaves hash leaf tree stands has = record { stands = stands; contains = has; alone = alone }
+  where
+    range : (f : Fragment) → HasLeaf leaves f → Contains f hash → (f.value ≤ hash % 2 ^ 24) × (hash % 2 ^ 24 < f.value + span f.bits)
+    range f stands has = range_from_Contains f hash (between 0 (2 ^ 24) leaves f tree.tiles stands).0 has
+
+    alone : (other : Fragment) → HasLeaf leaves other → Contains other hash → other ≡ leaf
+    alone other stands2 has2 =
+        let r = range leaf stands has in
+        let q = range other stands2 has2 in
+        one_leaf leaves other leaf (hash % 2 ^ 24) tree stands2 stands q.0 q.1 r.0 r.1
 
 pub some_pick : (leaves : List Fragment) (hash : ℕ) → IsTree leaves → (leaf : Fragment) × IsPick leaves hash leaf
 some_pick leaves hash tree =
     let w = low_place leaves tree.tiles hash in
-    (leaf_at leaves w.0, pick_from_place leaves tree.tiles hash w.0 w.1)
-
--- a leaf that contains the hash is its pick
-pub pick_from_leaf : (leaves : List Fragment) (hash : ℕ) (leaf : Fragment) → IsTree leaves → HasLeaf leaves leaf → Contains leaf hash → IsPick leaves hash leaf
-pick_from_leaf leaves hash leaf tree (i, stands, is) has =
-    let same : leaf_at leaves i ≡ leaf = get_or_default leaves i root_fragment leaf stands ∙ is in
-    let place = place_from_Contains leaves tree.tiles hash i stands (subst (λ f. Contains f hash) (sym same) has) in
-    subst (IsPick leaves hash) same (pick_from_place leaves tree.tiles hash i place)
+    (leaf_at leaves w.0, pick_from_leaf leaves hash (leaf_at leaves w.0) tree (Contains-get_or leaves w.0 root_fragment w.1.stands) (Contains-from_place leaves tree.tiles hash w.0 w.1))
 
 pub one_pick : (leaves : List Fragment) (hash : ℕ) (f g : Fragment) → IsPick leaves hash f → IsPick leaves hash g → f ≡ g
 one_pick leaves hash f g p q = q.alone f p.stands p.contains
-
-pub first_or_later : (f g : Fragment) (fs : List Fragment) → HasLeaf (f ∷ fs) g → (f ≡ g) ⊎ HasLeaf fs g
-first_or_later f g fs (zero, stands, is) = inl is
-first_or_later f g fs (suc k, stands, is) = inr (k, omega (arith, stands), is)
-
-pub later : (f g : Fragment) (fs : List Fragment) → HasLeaf fs g → HasLeaf (f ∷ fs) g
-later f g fs (k, stands, is) = (suc k, omega (arith, stands), is)
-
-pub first : (f : Fragment) (fs : List Fragment) → HasLeaf (f ∷ fs) f
-first f fs = (zero, omega arith, refl)
-
-pub only_leaf : (f g : Fragment) → HasLeaf (f ∷ []) g → g ≡ f
-only_leaf f g (zero, stands, is) = sym is
-only_leaf f g (suc k, stands, is) = absurd (omega (arith, stands))
 
 pub same_tiles : (low high : ℕ) (xs ys : List Fragment) → Tiles low high xs → Tiles low high ys → ((g : Fragment) → HasLeaf xs g → HasLeaf ys g) → xs ≡ ys
 same_tiles low high [] [] t u h = refl
