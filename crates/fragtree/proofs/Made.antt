@@ -2,7 +2,7 @@
 use Rattle.fragtree.proofs.Common.{Descends, Ends, Err, Fragment, HasLeaf, IsFragment, IsLedTo, IsSplitRound, IsTree, List, None, Ok, OnErr, Option, Result, Some, Spells, Splits, [], ap, arith, cases_lt, frag_at, frag_cmp, get-empty, get_or_default, inl, inr, length, on, refl, root_fragment, span, splits_round, subst, suc, sym, there, zero, ℕ, ◌+◌, ◌<◌, ◌^◌, ◌∙◌, ◌∷◌, ◌≡◌, ◌≤◌, ◌⊎◌}
 use Rattle.std.specs.FinMap as map
 use Rattle.fragtree.proofs.DescentLaws.{joined}
-use Rattle.fragtree.proofs.Entries.{get_beside, get_put, one_or_other}
+use Rattle.fragtree.proofs.Entries.{after_put, get_beside, get_put, one_or_other}
 use Rattle.fragtree.proofs.Ranges.{span_pos, span_falls, ends_before, ends_low, ends_within}
 use Rattle.fragtree.proofs.Rounds.{frag_at-IsFragment, frag_at-alike, round_it}
 use Rattle.fragtree.proofs.Tilings.{between, leaf_at}
@@ -61,9 +61,6 @@ all_led s xs led leaf (k, stands, is) =
 pub one_more : (old s : Splits) (leaf : Fragment) (bits : ℕ) → IsSplitRound old s leaf bits → IsSplitRound old (map.insert s (frag_at bits leaf.value) 1) leaf (bits + 1)
 one_more old s leaf bits w = record { led = led; kept = kept; fewer = fewer }
   where
-    key : Fragment
-    key = frag_at bits leaf.value
-
     led : IsLedTo (map.insert s (frag_at bits leaf.value) 1) leaf (bits + 1)
     led b below = elim (cases_lt b bits) [
       | inl less ↦ get_beside s (frag_at bits leaf.value) 1 (frag_at b leaf.value) (λ same. omega (arith, ap (λ (k : Fragment). k.bits) same, less)) ∙ w.led b less
@@ -79,15 +76,11 @@ one_more old s leaf bits w = record { led = led; kept = kept; fewer = fewer }
     ]
 
     fewer : (g : Fragment) (nb : ℕ) → map.get (map.insert s (frag_at bits leaf.value) 1) g ≡ Some nb → (map.get old g ≡ Some nb) ⊎ ((nb ≡ 1) × (g.bits < bits + 1) × (g ≡ frag_at g.bits leaf.value))
-    fewer g nb is = elim (one_or_other g (frag_at bits leaf.value)) [
-      | inl same ↦
-          let number : Some nb ≡ Some 1 = sym is ∙ ap (map.get (map.insert s (frag_at bits leaf.value) 1)) same ∙ get_put s (frag_at bits leaf.value) 1 in
+    fewer g nb is = elim (after_put s (frag_at bits leaf.value) 1 g nb is) [
+      | inl (same, one) ↦
           let bits_are : g.bits ≡ bits = ap (λ (k : Fragment). k.bits) same in
-          inr (cc, omega (arith, bits_are), same ∙ ap (λ b. frag_at b leaf.value) (sym bits_are))
-      | inr other ↦ elim (w.fewer g nb (sym (get_beside s (frag_at bits leaf.value) 1 g other) ∙ is)) [
-        | inl before ↦ inl before
-        | inr now ↦ inr (now.0, omega (arith, now.1), now.2)
-      ]
+          inr (sym one, omega (arith, bits_are), same ∙ ap (λ b. frag_at b leaf.value) (sym bits_are))
+      | inr other ↦ elim (w.fewer g nb other) [ inl before ↦ inl before | inr now ↦ inr (now.0, omega (arith, now.1), now.2) ]
     ]
 
 -- a tree of which a leaf fixes some bits has two leaves or more: one alone fixes none

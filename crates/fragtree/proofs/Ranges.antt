@@ -1,6 +1,6 @@
 -- Fragments as ranges of hashes: from the value up to the value and the span.
 use Rattle.std.proofs.Common.{◌≡◌, ℕ, ◌+◌, ◌-◌, ◌*◌, ◌/◌, ◌%◌, ◌^◌, ◌<◌, ◌≤◌, true, refl, sym, ap, subst, ◌∙◌, arith}
-use Rattle.std.proofs.Math.Nat.{div-add-mod, mul-mod_left, mul-le-mul_left, pow-le-pow_right}
+use Rattle.std.proofs.Math.Nat.{div-add-mod, mul-mod_left, mul-le-mul_left, mul-le-mul_right, pow-le-pow_right}
 use Rattle.std.proofs.lemmas.Bool.Decides.{nat_tests}
 use Rattle.std.proofs.lemmas.Nat.{pow_pos, div-mul-add}
 use Rattle.mds_types.specs.Frag.{Fragment, IsFragment, Contains, span}
@@ -52,6 +52,12 @@ ends_within f g hf hg le less =
 -- a fragment ends at 2 ^ 24 at the latest
 pub ends_low : (f : Fragment) → IsFragment f → f.value + span f.bits ≤ 2 ^ 24
 ends_low f h = ends_within (record { bits = 0; value = 0 }) f (record { few_bits = omega arith; in_range = omega arith; justified = refl }) h (omega arith) h.in_range
+
+-- a child ends where its parent does, or before
+pub child_within : (f : Fragment) (i nb : ℕ) → f.bits + nb ≤ 24 → i < 2 ^ nb → f.value + i * span (f.bits + nb) + span (f.bits + nb) ≤ f.value + span f.bits
+child_within f i nb few below =
+    let steps : (i + 1) * span (f.bits + nb) ≤ 2 ^ nb * span (f.bits + nb) = mul-le-mul_right (span (f.bits + nb)) (omega arith) in
+    omega (arith, steps, span-split f.bits nb few)
 
 -- numbers with the quotient of a multiple of s are the s numbers from it on
 module _ (v h s : ℕ) (some : 0 < s) (whole : v % s ≡ 0) where

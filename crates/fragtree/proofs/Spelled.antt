@@ -1,15 +1,14 @@
 -- The leaves that splits spell, and what a split, a halving and a merge make of them.
-use Rattle.std.proofs.Common.{◌≡◌, ◌≢◌, ◌⊎◌, inl, inr, ℕ, zero, suc, ◌+◌, ◌-◌, ◌*◌, ◌^◌, ◌<◌, ◌≤◌, List, [], ◌∷◌, length, Some, refl, sym, ap, subst, ◌∙◌, arith}
+use Rattle.std.proofs.Common.{◌≡◌, ◌≢◌, inl, inr, ℕ, zero, suc, ◌+◌, ◌-◌, ◌^◌, ◌<◌, ◌≤◌, List, [], ◌∷◌, length, Some, refl, sym, ap, subst, ◌∙◌, arith}
 use Rattle.std.specs.FinMap as map
 use Rattle.mds_types.specs.Frag.{Fragment, IsFragment, child_of, span}
 use Rattle.mds_types.proofs.Fragments.{child_is_fragment, span-split}
 use Rattle.std.proofs.lemmas.Bool.{cases_lt}
-use Rattle.std.proofs.Math.Nat.{mul-le-mul_right}
 use Rattle.fragtree.specs.FragTree.{Tiles, IsTree, HasLeaf, IsSplit, IsMerge, FitsSplit}
 use Rattle.fragtree.specs.Descents.{Splits, AllSome, Descends, there, on, Ends, IsClosed, IsForgotten, IsKept, KeepsEnds, Spells, depth, frag_at, fragments_from, halved, leaves_of, splits_round}
 use Rattle.fragtree.proofs.DescentLaws.{depth-is, ends_kept, joined, kept, rest, rises}
 use Rattle.fragtree.proofs.Entries.{after_put, get_beside, get_put}
-use Rattle.fragtree.proofs.Ranges.{span_pos, ends_low, ends_within}
+use Rattle.fragtree.proofs.Ranges.{child_within, span_pos, ends_low}
 use Rattle.fragtree.proofs.Rounds.{frag_at-IsFragment, frag_at-alike, frag_at-is, in_or_out, not_within_round, outside, within_round}
 use Rattle.fragtree.proofs.Tilings.{between}
 -- two leaves of one hash are one
@@ -40,13 +39,12 @@ is_kept s xs count tree spells is =
     let same : leaves_of s count ≡ xs = ap (leaves_of s) is ∙ leaves_of-is s xs tree spells in
     (same, record { tree = subst IsTree (sym same) tree; spells = subst (Spells s) (sym same) spells })
 
-module _ (s : Splits) (some : AllSome s) (h : ℕ) where
-  round_some : (b nb : ℕ) → splits_round s h b ≡ Some nb → 1 ≤ nb
-  round_some b nb is = some (frag_at b h) nb is
+round_some : (s : Splits) → AllSome s → (h b nb : ℕ) → splits_round s h b ≡ Some nb → 1 ≤ nb
+round_some s some h b nb is = some (frag_at b h) nb is
 
-  -- what isn't split otherwise round a hash is descended as before
-  pub ends_alike : (new : Splits) (to : ℕ) → to ≤ 24 → ((b : ℕ) → b ≤ 24 → map.get new (frag_at b h) ≡ map.get s (frag_at b h)) → Ends (splits_round s h) to → Ends (splits_round new h) to
-  ends_alike new to few same e = ends_kept (splits_round s h) round_some (splits_round new h) to few same e
+-- what isn't split otherwise round a hash is descended as before
+ends_alike : (s : Splits) → AllSome s → (h : ℕ) (new : Splits) (to : ℕ) → to ≤ 24 → ((b : ℕ) → b ≤ 24 → map.get new (frag_at b h) ≡ map.get s (frag_at b h)) → Ends (splits_round s h) to → Ends (splits_round new h) to
+ends_alike s some h new to few same e = ends_kept (splits_round s h) (round_some s some h) (splits_round new h) to few same e
 
 -- a split
 module _ (s : Splits) (xs ys : List Fragment) (f : Fragment) (nb : ℕ) (was : IsTree xs) (spells : Spells s xs) (stands : HasLeaf xs f) (fits : FitsSplit f nb) (now : IsTree ys) (split : IsSplit xs ys f nb) where
@@ -73,26 +71,18 @@ module _ (s : Splits) (xs ys : List Fragment) (f : Fragment) (nb : ℕ) (was : I
   split_spells = record { some = some; ends = ends }
     where
       some : AllSome (map.insert s f nb)
-      some g n is = elim (after_put s f nb g n is) [ inl same ↦ omega (arith, fits.some, same) | inr old ↦ spells.some g n old ]
+      some g n is = elim (after_put s f nb g n is) [ inl put ↦ omega (arith, fits.some, put.1) | inr old ↦ spells.some g n old ]
 
       ends : (g : Fragment) → HasLeaf ys g → (h : ℕ) → g.value ≤ h → h < g.value + span g.bits → Ends (splits_round (map.insert s f nb) h) g.bits
       ends g new h low high = elim ((split.leaves g).0 new) [
         | inl old ↦ ends_beside g old.0 old.1 h low high
         | inr child ↦
             let is : g ≡ child_of f child.0 nb = child.2 in
-            let fragment = (between 0 (2 ^ 24) ys g now.tiles new).0 in
             let begins : f.value ≤ g.value = omega (arith, ap (λ (k : Fragment). k.value) is) in
             let bits : g.bits ≡ f.bits + nb = ap (λ (k : Fragment). k.bits) is in
-            let under : g.value < f.value + span f.bits = child_within child.0 child.1 g is in
-            let within = ends_within f g whole fragment (omega (arith, bits)) under in
-            subst (Ends (splits_round (map.insert s f nb) h)) (sym bits) (ends_in_child h (omega (arith, begins)) (omega (arith, within)))
+            let within = subst (λ (k : Fragment). k.value + span k.bits ≤ f.value + span f.bits) (sym is) (child_within f child.0 nb fits.in_all child.1) in
+            subst (Ends (splits_round (map.insert s f nb) h)) (sym bits) (ends_in_child h (omega (arith, begins, low)) (omega (arith, within, high)))
       ]
-        where
-          child_within : (i : ℕ) → i < 2 ^ nb → (g : Fragment) → g ≡ child_of f i nb → g.value < f.value + span f.bits
-          child_within i below g is =
-              let t = span (f.bits + nb) in
-              let steps : (i + 1) * t ≤ 2 ^ nb * t = mul-le-mul_right t (omega (arith, below)) in
-              omega (arith, ap (λ (k : Fragment). k.value) is, steps, span-split f.bits nb fits.in_all, span_pos (f.bits + nb))
 
 -- halving a fragment that is split by two bits or more, and that a descent passes
 module _ (s : Splits) (some : AllSome s) (g : Fragment) (nb h0 : ℕ) (whole : IsFragment g) (is : map.get s g ≡ Some nb) (two : 2 ≤ nb) (fits : g.bits + nb ≤ 24) (low0 : g.value ≤ h0) (high0 : h0 < g.value + span g.bits) (passes : Descends (splits_round s h0) g.bits 0) where
@@ -115,27 +105,16 @@ module _ (s : Splits) (some : AllSome s) (g : Fragment) (nb h0 : ℕ) (whole : I
       ∙ get_beside (map.insert s g 1) left (nb - 1) g (other_bits g left (λ e. omega (arith, e)))
       ∙ get_put s g 1
 
-  at_right : map.get (halved s g nb) right ≡ Some (nb - 1)
-  at_right = get_put (map.insert (map.insert s g 1) left (nb - 1)) right (nb - 1)
-
-  at_left : map.get (halved s g nb) left ≡ Some (nb - 1)
-  at_left =
-      get_beside (map.insert (map.insert s g 1) left (nb - 1)) right (nb - 1) left (λ same. omega (arith, ap (λ (f : Fragment). f.value) same, span_pos (g.bits + 1)))
-      ∙ get_put (map.insert s g 1) left (nb - 1)
-
   -- a hash of g lies in one half
-  in_half : (h : ℕ) → g.value ≤ h → h < g.value + span g.bits → (frag_at (g.bits + 1) h ≡ left) ⊎ (frag_at (g.bits + 1) h ≡ right)
-  in_half h low high =
-      let two_spans : span g.bits ≡ 2 * span (g.bits + 1) = span-split g.bits 1 (omega arith) in
-      elim (cases_lt h right.value) [
-        | inl first ↦ inl (frag_at-is left h (child_is_fragment g 0 1 whole (omega arith) (omega arith)) (omega (arith, low)) (omega (arith, first)))
-        | inr second ↦ inr (frag_at-is right h (child_is_fragment g 1 1 whole (omega arith) (omega arith)) second (omega (arith, high, two_spans)))
-      ]
-
   half_is : (h : ℕ) → g.value ≤ h → h < g.value + span g.bits → splits_round (halved s g nb) h (g.bits + 1) ≡ Some (nb - 1)
-  half_is h low high = elim (in_half h low high) [
-    | inl first ↦ ap (map.get (halved s g nb)) first ∙ at_left
-    | inr second ↦ ap (map.get (halved s g nb)) second ∙ at_right
+  half_is h low high = elim (cases_lt h right.value) [
+    | inl first ↦
+        ap (map.get (halved s g nb)) (frag_at-is left h (child_is_fragment g 0 1 whole (omega arith) (omega arith)) (omega (arith, low)) (omega (arith, first)))
+        ∙ get_beside (map.insert (map.insert s g 1) left (nb - 1)) right (nb - 1) left (λ same. omega (arith, ap (λ (f : Fragment). f.value) same, span_pos (g.bits + 1)))
+        ∙ get_put (map.insert s g 1) left (nb - 1)
+    | inr second ↦
+        ap (map.get (halved s g nb)) (frag_at-is right h (child_is_fragment g 1 1 whole (omega arith) (omega arith)) second (omega (arith, high, span-split g.bits 1 (omega arith))))
+        ∙ get_put (map.insert (map.insert s g 1) left (nb - 1)) right (nb - 1)
   ]
 
   -- the descent of another hash of g passes it too
@@ -174,22 +153,19 @@ module _ (s : Splits) (some : AllSome s) (g : Fragment) (nb h0 : ℕ) (whole : I
   pub halved_keeps : KeepsEnds s (halved s g nb)
   halved_keeps h bits low few e = elim (in_or_out g h) [
     | inl within ↦ inside_g h bits within.0 within.1 few e
-    | inr out ↦ ends_alike s some h (halved s g nb) bits few (λ b at_most. elsewhere (frag_at b h) (outside g h b out) (outside left h b (λ w. out (half_within 0 (omega arith) w))) (outside right h b (λ w. out (half_within 1 (omega arith) w)))) e
+    | inr out ↦ ends_alike s some h (halved s g nb) bits few (λ b at_most. elsewhere (frag_at b h) (outside g h b out) (outside left h b (out_of_half out 0 (omega arith))) (outside right h b (out_of_half out 1 (omega arith)))) e
   ]
     where
-      half_within : (i : ℕ) → i < 2 → ((child_of g i 1).value ≤ h) × (h < (child_of g i 1).value + span (g.bits + 1)) → (g.value ≤ h) × (h < g.value + span g.bits)
-      half_within i few w =
-          let two_spans : span g.bits ≡ 2 * span (g.bits + 1) = span-split g.bits 1 (omega arith) in
-          let steps : (i + 1) * span (g.bits + 1) ≤ 2 * span (g.bits + 1) = mul-le-mul_right (span (g.bits + 1)) (omega (arith, few)) in
-          (omega (arith, w.0), omega (arith, w.1, steps, two_spans))
+      out_of_half : ((g.value ≤ h) × (h < g.value + span g.bits) → ⊥) → (i : ℕ) → i < 2 → ((child_of g i 1).value ≤ h) × (h < (child_of g i 1).value + span (g.bits + 1)) → ⊥
+      out_of_half out i few w = out (omega (arith, w.0), omega (arith, w.1, child_within g i 1 (omega arith) few))
 
   pub halved_some : AllSome (halved s g nb)
   halved_some q n now =
       elim (after_put (map.insert (map.insert s g 1) left (nb - 1)) right (nb - 1) q n now) [
-        | inl same ↦ omega (arith, same, two)
+        | inl put ↦ omega (arith, put.1, two)
         | inr one ↦ elim (after_put (map.insert s g 1) left (nb - 1) q n one) [
-          | inl same ↦ omega (arith, same, two)
-          | inr two_before ↦ elim (after_put s g 1 q n two_before) [ inl same ↦ omega (arith, same) | inr old ↦ some q n old ]
+          | inl put ↦ omega (arith, put.1, two)
+          | inr two_before ↦ elim (after_put s g 1 q n two_before) [ inl put ↦ omega (arith, put.1) | inr old ↦ some q n old ]
         ]
       ]
 

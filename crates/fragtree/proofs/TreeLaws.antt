@@ -1,13 +1,13 @@
 -- What follows from the definitions of trees, picks, splits and merges.
-use Rattle.std.proofs.Common.{◌≡◌, ◌≢◌, ◌↔◌, inl, inr, ℕ, zero, ◌+◌, ◌/◌, ◌%◌, ◌^◌, ◌<◌, ◌≤◌, true, false, List, [], ◌∷◌, length, refl, sym, ap, subst, ◌∙◌, arith}
+use Rattle.std.proofs.Common.{◌≡◌, ◌≢◌, ◌↔◌, inl, inr, ℕ, zero, ◌+◌, ◌/◌, ◌%◌, ◌^◌, ◌<◌, ◌≤◌, true, false, cond, nat_lt, ◌==◌, List, [], ◌∷◌, length, refl, sym, ap, subst, ◌∙◌, arith}
 use Rattle.std.proofs.lemmas.Bool.Decides.{nat_tests}
 use Rattle.std.proofs.lemmas.List.{get_or_default}
 use Rattle.std.proofs.lemmas.List.Elements.{Contains-get_or}
 use Rattle.mds_types.specs.Frag.{Fragment, IsFragment, Contains, ContainsFragment, root_fragment, span}
 use Rattle.mds_types.specs.declared.refusals.Refusal.{Refusal}
 use Rattle.mds_types.specs.declared.refusals.Refusal.TheVariants.{NoMemory, NoSuchFrag, BadSplit, TooManyFrags}
-use Rattle.fragtree.specs.FragTree.{Tiles, IsTree, HasLeaf, IsPick, IsChild, IsSplit, IsMerge, RefusesSplit, RefusesMerge, lies_inside}
-use Rattle.fragtree.proofs.Ranges.{span_pos, ends_within, next_multiple, range_from_Contains, Contains-from_range, range_from_inside, range_from_quotient, lies_inside-true}
+use Rattle.fragtree.specs.FragTree.{Tiles, IsTree, HasLeaf, IsPick, IsChild, IsSplit, IsMerge, RefusesSplit, RefusesMerge, leaves_inside, lies_inside}
+use Rattle.fragtree.proofs.Ranges.{span_pos, ends_before, ends_within, range_from_Contains, Contains-from_range, range_from_inside, range_from_quotient, lies_inside-true}
 use Rattle.fragtree.proofs.Tilings.{IsPlace, Contains-from_place, between, leaf_at, low_le_high, low_place, one_place}
 -- what is a leaf of a list of them
 pub use Rattle.fragtree.proofs.Tilings.{first, first_or_later, later, only_leaf}
@@ -74,8 +74,8 @@ inside_iff f g hf hg = (contained, inside) where
   inside (within, other) =
       let w = range_from_quotient f.value g.value (span f.bits) (span_pos f.bits) hf.justified within.1 in
       let not_same : g.bits ≤ f.bits → ⊥ = λ le.
+      let not_after : f.value < g.value → ⊥ = λ less. omega (arith, ends_before g f hg hf le less, w.1) in
       let bits : g.bits ≡ f.bits = omega (arith, within.0) in
-      let not_after : f.value < g.value → ⊥ = λ less. omega (arith, next_multiple f.value g.value (span f.bits) hf.justified (subst (λ b. g.value % span b ≡ 0) bits hg.justified) less, w.1) in
       let values : g.value ≡ f.value = omega (arith, w.0) in
       other (λ i. record { bits = bits i; value = values i }) in
       lies_inside-true f g hf (omega arith) w.0 w.1
@@ -129,17 +129,15 @@ one_split_refusal leaves f nb TooManyFrags _ h k = absurd k
 one_split_refusal leaves f nb NoMemory _ h k = absurd k
 one_split_refusal leaves f nb _ b h k = absurd h
 
+-- why a merge is refused where so many leaves lie inside
+abbrev merge_refusal : ℕ → Refusal
+merge_refusal count = cond (count == 0) NoSuchFrag (cond (nat_lt 256 count) TooManyFrags NoMemory)
+
+refused_so : (leaves : List Fragment) (f : Fragment) (a : Refusal) → RefusesMerge leaves f a → a ≡ merge_refusal (length (leaves_inside f leaves))
+refused_so leaves f NoSuchFrag none = ap (λ (fs : List Fragment). merge_refusal (length fs)) (sym none)
+refused_so leaves f TooManyFrags many = grind (arith, nat_tests)
+refused_so leaves f NoMemory can = let some = can.some in let few = can.few in grind (arith, nat_tests)
+refused_so leaves f _ h = absurd h
+
 pub one_merge_refusal : (leaves : List Fragment) (f : Fragment) (a b : Refusal) → RefusesMerge leaves f a → RefusesMerge leaves f b → a ≡ b
-one_merge_refusal leaves f NoSuchFrag NoSuchFrag h k = refl
-one_merge_refusal leaves f NoSuchFrag TooManyFrags h k = absurd (omega (arith, ap (length {A = Fragment}) h, k))
-one_merge_refusal leaves f NoSuchFrag NoMemory h k = absurd (omega (arith, ap (length {A = Fragment}) h, k.some))
-one_merge_refusal leaves f TooManyFrags NoSuchFrag h k = absurd (omega (arith, ap (length {A = Fragment}) k, h))
-one_merge_refusal leaves f TooManyFrags TooManyFrags h k = refl
-one_merge_refusal leaves f TooManyFrags NoMemory h k = absurd (omega (arith, h, k.few))
-one_merge_refusal leaves f NoMemory NoSuchFrag h k = absurd (omega (arith, ap (length {A = Fragment}) k, h.some))
-one_merge_refusal leaves f NoMemory TooManyFrags h k = absurd (omega (arith, k, h.few))
-one_merge_refusal leaves f NoMemory NoMemory h k = refl
-one_merge_refusal leaves f NoSuchFrag _ h k = absurd k
-one_merge_refusal leaves f TooManyFrags _ h k = absurd k
-one_merge_refusal leaves f NoMemory _ h k = absurd k
-one_merge_refusal leaves f _ b h k = absurd h
+one_merge_refusal leaves f a b h k = refused_so leaves f a h ∙ sym (refused_so leaves f b k)

@@ -10,12 +10,9 @@ use Rattle.fragtree.proofs.Ranges.{span_pos}
 use Rattle.fragtree.proofs.Tilings.{low_le_high}
 use Rattle.fragtree.proofs.TreeLaws.{same_tiles}
 
-pub none_left : (n : ℕ) (xs : List Fragment) → Tiles n n xs → xs ≡ []
-none_left n [] t = refl
-none_left n (f ∷ fs) t = absurd (omega (arith, low_le_high (n + span f.bits) n fs t.2, span_pos f.bits))
-
 pub none_at_end : (n high : ℕ) (xs : List Fragment) → Tiles n high xs → n ≡ high → xs ≡ []
-none_at_end n high xs t same = none_left high xs (subst (λ k. Tiles k high xs) same t)
+none_at_end n high [] t same = refl
+none_at_end n high (f ∷ fs) t same = absurd (omega (arith, low_le_high (n + span f.bits) high fs t.2, span_pos f.bits))
 
 -- the leaf that contains the hash where those to come begin is the next
 module _ (xs : List Fragment) (i next : ℕ) (t : Tiles next (2 ^ 24) (drop i xs)) (before : next ≢ 2 ^ 24) (leaf : Fragment) (p : IsPick xs next leaf) where
