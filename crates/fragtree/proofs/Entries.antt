@@ -1,5 +1,5 @@
 -- Finite maps by fragment: what one answers after a change.
-use Rattle.std.proofs.Common.{◌≡◌, ◌≢◌, ◌-◌, ◌<◌, ◌⊎◌, inl, inr, ℕ, zero, suc, true, false, cond, Some, None, IsSome, is_some, refl, sym, ap, ◌∙◌, arith}
+use Rattle.std.proofs.Common.{◌≡◌, ◌≢◌, ◌-◌, ◌<◌, ◌⊎◌, inl, inr, ℕ, true, false, cond, Some, None, IsSome, is_some, sym, ap, ◌∙◌, arith}
 use Rattle.std.proofs.lemmas.Bool.{cases_Bool}
 use Rattle.std.specs.Ordering.{eq_by_cmp, is_eq}
 use Rattle.std.specs.Cmp.{tied_itself}
@@ -52,13 +52,8 @@ module _ (m : Splits) (k : Fragment) where
 
 -- a map that loses a key gets shorter
 pub fewer : (m : Splits) (k : Fragment) → IsSome (map.get m k) → map.len (map.remove m k) < map.len m
-fewer m k there = go (map.len m) refl
-  where
-    shorter : map.len (map.remove m k) ≡ map.len m - 1
-    shorter = len-remove frag-total m k ∙ ap (λ b. cond b (map.len m - 1) (map.len m)) there
-
-    go : (n : ℕ) → map.len m ≡ n → map.len (map.remove m k) < map.len m
-    go zero is =
-        let clash : false ≡ true = sym (ap (λ (n : Splits). is_some (map.get n k)) (empty_of_len m is) ∙ ap is_some (get-empty frag_cmp k)) ∙ there in
-        cc
-    go (suc n) is = omega (arith, shorter, is)
+fewer m k there =
+    let shorter : map.len (map.remove m k) ≡ map.len m - 1 = len-remove frag-total m k ∙ ap (λ b. cond b (map.len m - 1) (map.len m)) there in
+    let some : map.len m ≡ 0 → ⊥ = λ none.
+    let clash : false ≡ true = sym (ap (λ (n : Splits). is_some (map.get n k)) (empty_of_len m none) ∙ ap is_some (get-empty frag_cmp k)) ∙ there in cc in
+    omega arith

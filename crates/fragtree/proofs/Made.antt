@@ -1,10 +1,10 @@
 -- Splits by 1 bit round each leaf spell the leaves.
-use Rattle.fragtree.proofs.Common.{Descends, Ends, Err, Fragment, HasLeaf, IsFragment, IsLedTo, IsSplitRound, IsTree, List, None, Ok, OnErr, Option, Result, Some, Spells, Splits, [], ap, arith, cases_lt, frag_at, frag_cmp, get-empty, get_or_default, inl, inr, length, on, refl, root_fragment, span, splits_round, subst, suc, sym, there, zero, ℕ, ◌+◌, ◌<◌, ◌^◌, ◌∙◌, ◌∷◌, ◌≡◌, ◌≤◌, ◌⊎◌}
+use Rattle.fragtree.proofs.Common.{ContainsFragment, Descends, Ends, Err, Fragment, HasLeaf, IsFragment, IsLedTo, IsSplitRound, IsTree, List, None, Ok, OnErr, Option, Result, Some, Spells, Splits, [], ap, arith, cases_lt, frag_at, frag_cmp, get-empty, get_or_default, inl, inr, length, on, refl, root_fragment, span, splits_round, subst, suc, sym, there, zero, ℕ, ◌+◌, ◌<◌, ◌^◌, ◌∙◌, ◌∷◌, ◌≡◌, ◌≤◌, ◌⊎◌}
 use Rattle.std.specs.FinMap as map
 use Rattle.fragtree.proofs.DescentLaws.{joined}
 use Rattle.fragtree.proofs.Entries.{after_put, get_beside, get_put, one_or_other}
-use Rattle.fragtree.proofs.Ranges.{span_pos, span_falls, ends_before, ends_low, ends_within}
-use Rattle.fragtree.proofs.Rounds.{frag_at-IsFragment, frag_at-alike, round_it}
+use Rattle.fragtree.proofs.Ranges.{span_pos, span_falls, ends_low}
+use Rattle.fragtree.proofs.Rounds.{frag_at-alike, not_within_round, within_round}
 use Rattle.fragtree.proofs.Tilings.{between, leaf_at}
 use Rattle.fragtree.proofs.TreeLaws.{one_leaf, only_leaf}
 
@@ -27,15 +27,12 @@ made_spells s xs tree are led = record { some = λ f nb is. omega (arith, (are f
     -- no fragment within a leaf is round a leaf
     not_within : (g : Fragment) → HasLeaf xs g → (h b : ℕ) → g.value ≤ h → h < g.value + span g.bits → g.bits ≤ b → b ≤ 24 → (leaf : Fragment) → HasLeaf xs leaf → b < leaf.bits → frag_at b h ≡ frag_at b leaf.value → ⊥
     not_within g stands h b low high more few leaf stands2 less same =
-        let k = frag_at b h in
-        let hg = fragment g stands in
-        let hk = frag_at-IsFragment b h few (omega (arith, high, ends_low g hg)) in
-        let r = round_it b h in
-        let v = subst (λ (f : Fragment). (f.value ≤ leaf.value) × (leaf.value < f.value + span b)) (sym same) (round_it b leaf.value) in
-        let not_before : k.value < g.value → ⊥ = λ before. omega (arith, ends_before g k hg hk more before, r.1) in
-        let ends = ends_within g k hg hk more (omega (arith, r.0)) in
-        let one = one_leaf xs g leaf leaf.value tree stands stands2 (omega (arith, v.0)) (omega (arith, v.1, ends)) (omega arith) (omega (arith, span_pos leaf.bits)) in
-        omega (arith, ap (λ (f : Fragment). f.bits) one)
+        let whole = fragment g stands in
+        let within = subst (ContainsFragment g) same (within_round g h b whole (omega (arith, high, ends_low g whole)) few low high more) in
+        let apart : (g.value ≤ leaf.value) × (leaf.value < g.value + span g.bits) → ⊥ = λ w.
+        let one = one_leaf xs g leaf leaf.value tree stands stands2 w.0 w.1 (omega arith) (omega (arith, span_pos leaf.bits)) in
+        omega (arith, ap (λ (f : Fragment). f.bits) one) in
+        not_within_round g leaf.value b whole (fragment leaf stands2).in_range few apart within
 
     ends : (g : Fragment) → HasLeaf xs g → (h : ℕ) → g.value ≤ h → h < g.value + span g.bits → Ends (splits_round s h) g.bits
     ends g stands h low high = record {

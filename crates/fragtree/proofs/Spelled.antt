@@ -46,6 +46,9 @@ round_some s some h b nb is = some (frag_at b h) nb is
 ends_alike : (s : Splits) → AllSome s → (h : ℕ) (new : Splits) (to : ℕ) → to ≤ 24 → ((b : ℕ) → b ≤ 24 → map.get new (frag_at b h) ≡ map.get s (frag_at b h)) → Ends (splits_round s h) to → Ends (splits_round new h) to
 ends_alike s some h new to few same e = ends_kept (splits_round s h) (round_some s some h) (splits_round new h) to few same e
 
+put_some : (s : Splits) (k : Fragment) (x : ℕ) → AllSome s → 1 ≤ x → AllSome (map.insert s k x)
+put_some s k x some more g nb is = elim (after_put s k x g nb is) [ inl put ↦ omega (arith, more, put.1) | inr old ↦ some g nb old ]
+
 -- a split
 module _ (s : Splits) (xs ys : List Fragment) (f : Fragment) (nb : ℕ) (was : IsTree xs) (spells : Spells s xs) (stands : HasLeaf xs f) (fits : FitsSplit f nb) (now : IsTree ys) (split : IsSplit xs ys f nb) where
   whole : IsFragment f
@@ -62,20 +65,15 @@ module _ (s : Splits) (xs ys : List Fragment) (f : Fragment) (nb : ℕ) (was : I
         nothing = λ b from few. beside b (λ same. omega (arith, same, fits.some)) ∙ e.nothing b (omega arith) few;
       }
 
-  ends_beside : (g : Fragment) → HasLeaf xs g → g ≢ f → (h : ℕ) → g.value ≤ h → h < g.value + span g.bits → Ends (splits_round (map.insert s f nb) h) g.bits
-  ends_beside g stands2 other h low high =
-      let few : g.bits ≤ 24 = (between 0 (2 ^ 24) xs g was.tiles stands2).0.few_bits in
-      ends_alike s spells.some h (map.insert s f nb) g.bits few (λ b at_most. get_beside s f nb (frag_at b h) (outside f h b (λ w. other (one_leaf xs g f h was stands2 stands low high w.0 w.1)))) (spells.ends g stands2 h low high)
-
   pub split_spells : Spells (map.insert s f nb) ys
-  split_spells = record { some = some; ends = ends }
+  split_spells = record { some = put_some s f nb spells.some fits.some; ends = ends }
     where
-      some : AllSome (map.insert s f nb)
-      some g n is = elim (after_put s f nb g n is) [ inl put ↦ omega (arith, fits.some, put.1) | inr old ↦ spells.some g n old ]
-
       ends : (g : Fragment) → HasLeaf ys g → (h : ℕ) → g.value ≤ h → h < g.value + span g.bits → Ends (splits_round (map.insert s f nb) h) g.bits
       ends g new h low high = elim ((split.leaves g).0 new) [
-        | inl old ↦ ends_beside g old.0 old.1 h low high
+        | inl old ↦
+            let few : g.bits ≤ 24 = (between 0 (2 ^ 24) xs g was.tiles old.0).0.few_bits in
+            let other : (b : ℕ) → frag_at b h ≢ f = λ b. outside f h b (λ w. old.1 (one_leaf xs g f h was old.0 stands low high w.0 w.1)) in
+            ends_alike s spells.some h (map.insert s f nb) g.bits few (λ b at_most. get_beside s f nb (frag_at b h) (other b)) (spells.ends g old.0 h low high)
         | inr child ↦
             let is : g ≡ child_of f child.0 nb = child.2 in
             let begins : f.value ≤ g.value = omega (arith, ap (λ (k : Fragment). k.value) is) in
@@ -138,9 +136,9 @@ module _ (s : Splits) (some : AllSome s) (g : Fragment) (nb h0 : ℕ) (whole : I
   inside_g h bits low high few e =
       let old = splits_round s h in
       let new = splits_round (halved s g nb) h in
-      let onward : Descends old bits g.bits = rest old g.bits bits 0 (passes_too h low high) e.descends (e.nothing bits (omega arith) few) in
       let here : old g.bits ≡ Some nb = ap (map.get s) (frag_at-is g h whole low high) ∙ is in
-      let behind : Descends old bits (g.bits + nb) = rest old (g.bits + nb) bits g.bits (on g.bits nb here (there (g.bits + nb) refl)) onward (e.nothing bits (omega arith) few) in
+      let past : Descends old (g.bits + nb) 0 = joined old g.bits (g.bits + nb) 0 (passes_too h low high) (on g.bits nb here (there (g.bits + nb) refl)) in
+      let behind : Descends old bits (g.bits + nb) = rest old (g.bits + nb) bits 0 past e.descends (e.nothing bits (omega arith) few) in
       let beyond : g.bits + nb ≤ bits = rises old bits (g.bits + nb) behind in
       let behind_new : Descends new bits (g.bits + nb) = kept old (round_some s some h) new bits (g.bits + nb) (λ b from below. beside_g h b (λ e. omega (arith, e, from)) (λ e. omega (arith, e, from))) behind in
       let sum : g.bits + 1 + (nb - 1) ≡ g.bits + nb = omega (arith, two) in
@@ -160,14 +158,10 @@ module _ (s : Splits) (some : AllSome s) (g : Fragment) (nb h0 : ℕ) (whole : I
       out_of_half out i few w = out (omega (arith, w.0), omega (arith, w.1, child_within g i 1 (omega arith) few))
 
   pub halved_some : AllSome (halved s g nb)
-  halved_some q n now =
-      elim (after_put (map.insert (map.insert s g 1) left (nb - 1)) right (nb - 1) q n now) [
-        | inl put ↦ omega (arith, put.1, two)
-        | inr one ↦ elim (after_put (map.insert s g 1) left (nb - 1) q n one) [
-          | inl put ↦ omega (arith, put.1, two)
-          | inr two_before ↦ elim (after_put s g 1 q n two_before) [ inl put ↦ omega (arith, put.1) | inr old ↦ some q n old ]
-        ]
-      ]
+  halved_some =
+      let one = put_some s g 1 some (omega arith) in
+      let two_put = put_some (map.insert s g 1) left (nb - 1) one (omega (arith, two)) in
+      put_some (map.insert (map.insert s g 1) left (nb - 1)) right (nb - 1) two_put (omega (arith, two))
 
 -- a fragment that a descent passes, with nothing split there or below any more
 pub closed : (s new : Splits) (f : Fragment) → AllSome s → IsFragment f → Descends (splits_round s f.value) f.bits 0 → IsForgotten s new f → IsClosed s new f

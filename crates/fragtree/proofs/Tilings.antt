@@ -3,7 +3,7 @@ use Rattle.std.proofs.Common.{◌≡◌, ◌↔◌, ◌⊎◌, inl, inr, ℕ, ze
 use Rattle.std.proofs.lemmas.Bool.{cases_lt}
 use Rattle.std.proofs.lemmas.List.Elements.{Contains-append_cases, Contains-append_left, Contains-append_right, Contains-get_or}
 use Rattle.std.specs.Prelude.{slice_index_or}
-use Rattle.mds_types.specs.Frag.{Fragment, IsFragment, Contains, IsCover, root_fragment, span}
+use Rattle.mds_types.specs.Frag.{Fragment, IsFragment, IsCover, IsInExactlyOne, root_fragment, span}
 use Rattle.fragtree.specs.FragTree.{Tiles, HasLeaf}
 use Rattle.fragtree.proofs.Ranges.{range_from_Contains, Contains-from_range}
 
@@ -105,28 +105,25 @@ some_place low high (f ∷ fs) hash t from below =
           (suc w.0, record { stands = omega (arith, w.1.stands); begins = w.1.begins; ends = w.1.ends })
     ]
 
+-- a hash is in exactly one leaf, at the place of its low 24 bits
 module _ (xs : List Fragment) (t : Tiles 0 (2 ^ 24) xs) (hash : ℕ) where
-  pub low_place : (i : ℕ) × IsPlace xs (hash % 2 ^ 24) i
-  low_place = some_place 0 (2 ^ 24) xs (hash % 2 ^ 24) t (omega arith) (omega arith)
-
-  pub fragment_at : (i : ℕ) → i < length xs → IsFragment (leaf_at xs i)
+  fragment_at : (i : ℕ) → i < length xs → IsFragment (leaf_at xs i)
   fragment_at i stands = (between 0 (2 ^ 24) xs (leaf_at xs i) t (Contains-get_or xs i root_fragment stands)).0
 
-  -- the leaf at the place of the low 24 bits contains the hash
-  pub Contains-from_place : (i : ℕ) → IsPlace xs (hash % 2 ^ 24) i → Contains (leaf_at xs i) hash
-  Contains-from_place i p = Contains-from_range (leaf_at xs i) hash (fragment_at i p.stands) p.begins p.ends
+  pub in_one : IsInExactlyOne xs hash
+  in_one =
+      let w = some_place 0 (2 ^ 24) xs (hash % 2 ^ 24) t (omega arith) (omega arith) in
+      record {
+        place = w.0;
+        stands = w.1.stands;
+        contains = Contains-from_range (leaf_at xs w.0) hash (fragment_at w.0 w.1.stands) w.1.begins w.1.ends;
+        alone = λ other stands has.
+            let r = range_from_Contains (leaf_at xs other) hash (fragment_at other stands) has in
+            one_place 0 (2 ^ 24) xs (hash % 2 ^ 24) other w.0 t (record { stands = stands; begins = r.0; ends = r.1 }) w.1;
+      }
 
 pub covers : (xs : List Fragment) → Tiles 0 (2 ^ 24) xs → IsCover xs
-covers xs t hash low =
-    let w = low_place xs t hash in
-    record {
-      place = w.0;
-      stands = w.1.stands;
-      contains = Contains-from_place xs t hash w.0 w.1;
-      alone = λ other stands has.
-          let r = range_from_Contains (leaf_at xs other) hash (fragment_at xs t hash other stands) has in
-          one_place 0 (2 ^ 24) xs (hash % 2 ^ 24) other w.0 t (record { stands = stands; begins = r.0; ends = r.1 }) w.1;
-    }
+covers xs t hash low = in_one xs t hash
 
 -- a leaf stands in one of three parts of the list
 in_parts : (xs ys zs : List Fragment) (g : Fragment) → HasLeaf (xs ++ (ys ++ zs)) g → (HasLeaf xs g ⊎ HasLeaf zs g) ⊎ HasLeaf ys g

@@ -8,7 +8,7 @@ use Rattle.mds_types.specs.declared.refusals.Refusal.{Refusal}
 use Rattle.mds_types.specs.declared.refusals.Refusal.TheVariants.{NoMemory, NoSuchFrag, BadSplit, TooManyFrags}
 use Rattle.fragtree.specs.FragTree.{Tiles, IsTree, HasLeaf, IsPick, IsChild, IsSplit, IsMerge, RefusesSplit, RefusesMerge, leaves_inside, lies_inside}
 use Rattle.fragtree.proofs.Ranges.{span_pos, ends_before, ends_within, range_from_Contains, Contains-from_range, range_from_inside, range_from_quotient, lies_inside-true}
-use Rattle.fragtree.proofs.Tilings.{IsPlace, Contains-from_place, between, leaf_at, low_le_high, low_place, one_place}
+use Rattle.fragtree.proofs.Tilings.{IsPlace, between, in_one, leaf_at, low_le_high, one_place}
 -- what is a leaf of a list of them
 pub use Rattle.fragtree.proofs.Tilings.{first, first_or_later, later, only_leaf}
 
@@ -36,8 +36,8 @@ pick_from_leaf leaves hash leaf tree stands has = record { stands = stands; cont
 
 pub some_pick : (leaves : List Fragment) (hash : ℕ) → IsTree leaves → (leaf : Fragment) × IsPick leaves hash leaf
 some_pick leaves hash tree =
-    let w = low_place leaves tree.tiles hash in
-    (leaf_at leaves w.0, pick_from_leaf leaves hash (leaf_at leaves w.0) tree (Contains-get_or leaves w.0 root_fragment w.1.stands) (Contains-from_place leaves tree.tiles hash w.0 w.1))
+    let w = in_one leaves tree.tiles hash in
+    (leaf_at leaves w.place, pick_from_leaf leaves hash (leaf_at leaves w.place) tree (Contains-get_or leaves w.place root_fragment w.stands) w.contains)
 
 pub one_pick : (leaves : List Fragment) (hash : ℕ) (f g : Fragment) → IsPick leaves hash f → IsPick leaves hash g → f ≡ g
 one_pick leaves hash f g p q = q.alone f p.stands p.contains
