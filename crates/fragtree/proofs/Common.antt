@@ -9,7 +9,7 @@ pub use Rattle.std.proofs.Common.{Bool, Err, IfNone, IfSome, IsSome, List, None,
 pub use Rattle.std.proofs.Math.Nat.{mod-eq_of_lt}
 pub use Rattle.std.proofs.lemmas.Bool.{cases_Bool, cases_lt}
 pub use Rattle.std.proofs.lemmas.Bool.Decides.{nat_tests}
-pub use Rattle.std.proofs.lemmas.List.{get_or_default}
+pub use Rattle.std.proofs.lemmas.List.{append_assoc, get_or_default}
 pub use Rattle.std.proofs.lemmas.List.Elements.{Contains-get_or}
 pub use Rattle.std.proofs.lemmas.Nat.{one_shl}
 pub use Rattle.std.proofs.lemmas.Slice.Eq.{slice_eq-Decides}

@@ -29,7 +29,7 @@ module _ (xs : List Fragment) (tree : IsTree xs) (f : Fragment) (whole : IsFragm
   -- the pick of the first hash of f, and where it lies
   begun : (leaf : Fragment) → IsPick xs f.value leaf → (leaf.value ≤ f.value) × (f.value < leaf.value + span leaf.bits)
   begun leaf p =
-      let r = range_from_Contains leaf f.value (parts 0 (2 ^ 24) xs leaf tree.tiles p.stands).whole p.contains in
+      let r = range_from_Contains leaf f.value (parts 0 (2 ^ 24) xs leaf tree.tiles p.stands).0 p.contains in
       subst (λ n. (leaf.value ≤ n) × (n < leaf.value + span leaf.bits)) (mod-eq_of_lt whole.in_range) r
 
   pub none_counted : (leaf : Fragment) → IsPick xs f.value leaf → leaf.bits ≤ f.bits → length (leaves_inside f xs) ≡ 0
@@ -40,9 +40,9 @@ module _ (xs : List Fragment) (tree : IsTree xs) (f : Fragment) (whole : IsFragm
 
   pub first_counted : (leaf : Fragment) → IsPick xs f.value leaf → f.bits < leaf.bits → Counts xs f leaf 1
   first_counted leaf p more =
-      let q = parts 0 (2 ^ 24) xs leaf tree.tiles p.stands in
+      let (fragment, q) = parts 0 (2 ^ 24) xs leaf tree.tiles p.stands in
       let r = begun leaf p in
-      let not_before : leaf.value < f.value → ⊥ = λ before. omega (arith, ends_before f leaf whole q.whole (omega arith) before, r.1) in
+      let not_before : leaf.value < f.value → ⊥ = λ before. omega (arith, ends_before f leaf whole fragment (omega arith) before, r.1) in
       let begins : leaf.value ≡ f.value = omega (arith, r.0, not_before) in
       let within : leaf.value < f.value + span f.bits = omega (arith, begins, span_pos f.bits) in
       let none = none_before f whole 0 q.front (subst (λ n. Tiles 0 n q.front) begins q.before) in
@@ -52,7 +52,7 @@ module _ (xs : List Fragment) (tree : IsTree xs) (f : Fragment) (whole : IsFragm
         some = λ g stands. subst (λ ys. HasLeaf ys g) (sym q.is) (of_parts q.front (leaf ∷ []) q.back g (inl (inr stands)));
         tiles = q.after;
         from = omega arith;
-        within = ends_within f leaf whole q.whole (omega arith) within;
+        within = ends_within f leaf whole fragment (omega arith) within;
         left = omega (arith, ap (λ ys. length (leaves_inside f ys)) q.is, inside-append f q.front (leaf ∷ q.back), none, here);
       }
 

@@ -48,9 +48,3 @@ module _ (round : ℕ → Option ℕ) where
     kept other to _ same (on n nb is more) =
         let less : n < to = omega (arith, some n nb is, rises to (n + nb) more) in
         on n nb (same n (omega arith) less ∙ is) (kept other to (n + nb) (λ b from below. same b (omega arith) below) more)
-
-    pub ends_kept : (other : ℕ → Option ℕ) (to : ℕ) → to ≤ 24 → ((b : ℕ) → b ≤ 24 → other b ≡ round b) → Ends round to → Ends other to
-    ends_kept other to few same e = record {
-      descends = kept other to 0 (λ b from below. same b (omega arith)) e.descends;
-      nothing = λ b from at_most. same b at_most ∙ e.nothing b from at_most;
-    }

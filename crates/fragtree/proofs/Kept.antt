@@ -1,11 +1,10 @@
 -- What a tree keeps, and what its calls make of it.
-use Rattle.std.proofs.Common.{◌≡◌, ℕ, zero, suc, ◌+◌, ◌-◌, ◌%◌, ◌^◌, ◌<◌, ◌≤◌, List, [], ◌∷◌, length, Some, None, refl, sym, ap, subst, ◌∙◌, arith}
+use Rattle.std.proofs.Common.{◌≡◌, ℕ, zero, suc, ◌+◌, ◌-◌, ◌%◌, ◌^◌, ◌<◌, ◌≤◌, List, [], ◌∷◌, length, refl, sym, ap, subst, ◌∙◌, arith}
 use Rattle.std.proofs.Math.Nat.{mod-eq_of_lt}
 use Rattle.std.specs.FinMap as map
-use Rattle.std.specs.FinMap.{get-empty}
-use Rattle.mds_types.specs.Frag.{Fragment, IsFragment, frag_cmp, root_fragment, span}
-use Rattle.fragtree.specs.FragTree.{IsTree, IsPick, HasLeaf, IsSplit, IsMerge, CanSplit, CanMerge, leaves_inside}
-use Rattle.fragtree.specs.Descents.{Splits, AllSome, there, Ends, EndsBeyond, IsClosed, IsKept, Spells, depth, frag_at, fragments_from, leaves_of, splits_round}
+use Rattle.mds_types.specs.Frag.{Fragment, IsFragment, root_fragment, span}
+use Rattle.fragtree.specs.FragTree.{IsTree, IsPick, IsSplit, IsMerge, CanSplit, CanMerge, leaves_inside}
+use Rattle.fragtree.specs.Descents.{Splits, AllSome, Ends, EndsBeyond, IsClosed, IsKept, Spells, depth, frag_at, fragments_from, leaves_of, splits_round}
 use Rattle.fragtree.proofs.Merges.{finer, merges}
 use Rattle.fragtree.proofs.Ranges.{range_from_Contains, span_pos}
 use Rattle.fragtree.proofs.Rounds.{frag_at-is}
@@ -50,19 +49,6 @@ module _ (s : Splits) (xs : List Fragment) (tree : IsTree xs) (spells : Spells s
 -- `*` alone
 pub whole_tree : IsTree (root_fragment ∷ [])
 whole_tree = record { tiles = (record { few_bits = omega arith; in_range = omega arith; justified = refl }, refl, refl); few = omega arith }
-
-pub whole_keeps : (s : Splits) → s ≡ map.empty → (leaves_of s 1 ≡ root_fragment ∷ []) × IsKept s 1
-whole_keeps s is = is_kept s (root_fragment ∷ []) 1 whole_tree (record { some = some; ends = ends }) refl
-  where
-    none : (g : Fragment) → map.get s g ≡ None
-    none g = ap (λ (m : Splits). map.get m g) is ∙ get-empty frag_cmp g
-
-    some : AllSome s
-    some g nb split = let clash : None ≡ Some nb = sym (none g) ∙ split in cc
-
-    ends : (g : Fragment) → HasLeaf (root_fragment ∷ []) g → (h : ℕ) → g.value ≤ h → h < g.value + span g.bits → Ends (splits_round s h) g.bits
-    ends g (zero, stands, same) h low high = subst (λ (k : Fragment). Ends (splits_round s h) k.bits) same (record { descends = there 0 refl; nothing = λ b from few. none (frag_at b h) })
-    ends g (suc k, stands, same) h low high = absurd (omega (arith, stands))
 
 -- a split and a merge of what is kept, in the words of the calls
 module _ (s mid new : Splits) (count : ℕ) (now : List Fragment) (kept : IsKept s count) (view : leaves_of s count ≡ now) (same : mid ≡ s) where

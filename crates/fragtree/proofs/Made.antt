@@ -3,7 +3,11 @@ use Rattle.fragtree.proofs.Common.{ContainsFragment, Descends, Ends, Err, Fragme
 use Rattle.std.specs.FinMap as map
 use Rattle.fragtree.proofs.DescentLaws.{joined}
 use Rattle.fragtree.proofs.Entries.{after_put, get_beside, get_put, one_or_other}
-use Rattle.fragtree.proofs.Ranges.{span_pos, span_falls, ends_low}
+use Rattle.fragtree.proofs.Ranges.{span_pos, ends_low}
+use Rattle.fragtree.proofs.Kept.{whole_tree}
+use Rattle.fragtree.proofs.Spelled.{is_kept}
+use Rattle.fragtree.specs.Descents.{IsKept, leaves_of}
+use Rattle.std.proofs.Math.Nat.{pow-le-pow_right}
 use Rattle.fragtree.proofs.Rounds.{frag_at-alike, not_within_round, within_round}
 use Rattle.fragtree.proofs.Tilings.{between, leaf_at}
 use Rattle.fragtree.proofs.TreeLaws.{one_leaf, only_leaf}
@@ -50,6 +54,12 @@ made_spells s xs tree are led = record { some = λ f nb is. omega (arith, (are f
 pub none_round : (s : Splits) (xs : List Fragment) → s ≡ map.empty → AreRound s xs
 none_round s xs is g nb split = let clash : None ≡ Some nb = sym (ap (λ (m : Splits). map.get m g) is ∙ get-empty frag_cmp g) ∙ split in cc
 
+-- `*` alone is spelled by none
+pub whole_keeps : (s : Splits) → s ≡ map.empty → (leaves_of s 1 ≡ root_fragment ∷ []) × IsKept s 1
+whole_keeps s is =
+    let led : (leaf : Fragment) → HasLeaf (root_fragment ∷ []) leaf → IsLedTo s leaf leaf.bits = λ leaf has b below. absurd (omega (arith, below, ap (λ (g : Fragment). g.bits) (only_leaf root_fragment leaf has))) in
+    is_kept s (root_fragment ∷ []) 1 whole_tree (made_spells s (root_fragment ∷ []) whole_tree (none_round s (root_fragment ∷ []) is) led) refl
+
 pub all_led : (s : Splits) (xs : List Fragment) → ((j : ℕ) → j < length xs → IsLedTo s (leaf_at xs j) (leaf_at xs j).bits) → (leaf : Fragment) → HasLeaf xs leaf → IsLedTo s leaf leaf.bits
 all_led s xs led leaf (k, stands, is) =
     let same : leaf_at xs k ≡ leaf = get_or_default xs k root_fragment leaf stands ∙ is in
@@ -86,7 +96,7 @@ several [] leaf tree (k, stands, is) some = absurd (omega (arith, stands))
 several (f ∷ []) leaf tree has some =
     let same : leaf.bits ≡ f.bits = ap (λ (g : Fragment). g.bits) (only_leaf f leaf has) in
     let whole : 0 + span f.bits ≡ 2 ^ 24 = tree.tiles.2 in
-    let half : span f.bits ≤ 2 ^ 23 = span_falls 1 f.bits (omega (arith, some, same)) in
+    let half : span f.bits ≤ 2 ^ 23 = pow-le-pow_right (omega arith) {j = 23} (omega (arith, some, same)) in
     absurd (omega (arith, whole, half))
 several (f ∷ g ∷ fs) leaf tree has some = omega arith
 

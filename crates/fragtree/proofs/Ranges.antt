@@ -1,6 +1,6 @@
 -- Fragments as ranges of hashes: from the value up to the value and the span.
 use Rattle.std.proofs.Common.{◌≡◌, ℕ, ◌+◌, ◌-◌, ◌*◌, ◌/◌, ◌%◌, ◌^◌, ◌<◌, ◌≤◌, true, refl, sym, ap, subst, ◌∙◌, arith}
-use Rattle.std.proofs.Math.Nat.{div-add-mod, dvd-add, dvd-mul_left, dvd-sub, mul-le-mul_right, pow-le-pow_right}
+use Rattle.std.proofs.Math.Nat.{div-add-mod, dvd-add, dvd-mul_left, dvd-sub, mul-le-mul_right}
 use Rattle.std.proofs.lemmas.Bool.Decides.{nat_tests}
 use Rattle.std.proofs.lemmas.Nat.Gcd.{dvd_of_mod-eq-zero, dvd_trans, le_of_dvd}
 use Rattle.std.proofs.lemmas.Nat.{pow_pos, div-mul-add}
@@ -11,10 +11,6 @@ use Rattle.fragtree.specs.FragTree.{lies_inside}
 
 pub span_pos : (b : ℕ) → 0 < span b
 span_pos b = pow_pos (24 - b)
-
--- more bits, fewer hashes
-pub span_falls : (b c : ℕ) → b ≤ c → span c ≤ span b
-span_falls b c le = pow-le-pow_right (omega arith) (omega arith)
 
 -- a multiple of t that is above another is above it by t at least
 next_multiple : (v m t : ℕ) → t ∣ v → t ∣ m → v < m → v + t ≤ m

@@ -6,7 +6,7 @@ use Rattle.mds_types.proofs.Fragments.{child_is_fragment, span-split}
 use Rattle.std.proofs.lemmas.Bool.{cases_lt}
 use Rattle.fragtree.specs.FragTree.{Tiles, IsTree, HasLeaf, IsSplit, IsMerge, FitsSplit}
 use Rattle.fragtree.specs.Descents.{Splits, AllSome, Descends, there, on, Ends, IsClosed, IsForgotten, IsKept, KeepsEnds, Spells, depth, frag_at, fragments_from, halved, leaves_of, splits_round}
-use Rattle.fragtree.proofs.DescentLaws.{depth-is, ends_kept, joined, kept, rest, rises}
+use Rattle.fragtree.proofs.DescentLaws.{depth-is, joined, kept, rest, rises}
 use Rattle.fragtree.proofs.Entries.{after_put, get_beside, get_put}
 use Rattle.fragtree.proofs.Ranges.{child_within, span_pos, ends_low}
 use Rattle.fragtree.proofs.Rounds.{frag_at-IsFragment, frag_at-alike, frag_at-is, in_or_out, not_within_round, outside, within_round}
@@ -44,7 +44,10 @@ round_some s some h b nb is = some (frag_at b h) nb is
 
 -- what isn't split otherwise round a hash is descended as before
 ends_alike : (s : Splits) → AllSome s → (h : ℕ) (new : Splits) (to : ℕ) → to ≤ 24 → ((b : ℕ) → b ≤ 24 → map.get new (frag_at b h) ≡ map.get s (frag_at b h)) → Ends (splits_round s h) to → Ends (splits_round new h) to
-ends_alike s some h new to few same e = ends_kept (splits_round s h) (round_some s some h) (splits_round new h) to few same e
+ends_alike s some h new to few same e = record {
+  descends = kept (splits_round s h) (round_some s some h) (splits_round new h) to 0 (λ b from below. same b (omega arith)) e.descends;
+  nothing = λ b from at_most. same b at_most ∙ e.nothing b from at_most;
+}
 
 put_some : (s : Splits) (k : Fragment) (x : ℕ) → AllSome s → 1 ≤ x → AllSome (map.insert s k x)
 put_some s k x some more g nb is = elim (after_put s k x g nb is) [ inl put ↦ omega (arith, more, put.1) | inr old ↦ some g nb old ]

@@ -33,9 +33,9 @@ module _ (f : Fragment) (nb : ℕ) where
 
   pub splits : (xs : List Fragment) → IsTree xs → CanSplit xs f nb → (ys : List Fragment) × IsTree ys × IsSplit xs ys f nb
   splits xs tree can =
-      let p = parts 0 (2 ^ 24) xs f tree.tiles can.stands in
+      let (whole, p) = parts 0 (2 ^ 24) xs f tree.tiles can.stands in
       let ys = p.front ++ (children ++ p.back) in
-      let tiles = replaced_tiles f p.front (f ∷ []) children p.back p.before p.after (children_tile f nb 0 (2 ^ nb) f.value (f.value + span f.bits) p.whole can.fits.in_all (omega arith) (omega arith) (omega (arith, span-split f.bits nb can.fits.in_all))) in
+      let tiles = replaced_tiles f p.front (f ∷ []) children p.back p.before p.after (children_tile f nb 0 (2 ^ nb) f.value (f.value + span f.bits) whole can.fits.in_all (omega arith) (omega arith) (omega (arith, span-split f.bits nb can.fits.in_all))) in
       let long : length ys ≡ length (p.front ++ f ∷ p.back) - 1 + 2 ^ nb = omega (arith, length-append p.front (children ++ p.back), length-append children p.back, length-append p.front (f ∷ p.back), count) in
       let beside : (g : Fragment) → (g.value + span g.bits ≤ f.value) ⊎ (f.value + span f.bits ≤ g.value) → g ≢ f = λ g out same.
       elim out [ inl before ↦ omega (arith, before, ap (λ (k : Fragment). k.value) same, span_pos g.bits) | inr behind ↦ omega (arith, behind, ap (λ (k : Fragment). k.value) same, span_pos f.bits) ] in

@@ -39,38 +39,31 @@ tiles-append : (low mid high : ℕ) (xs ys : List Fragment) → Tiles low mid xs
 tiles-append low mid high [] ys e t = subst (λ n. Tiles n high ys) (sym e) t
 tiles-append low mid high (f ∷ fs) ys t u = (t.0, t.1, tiles-append (low + span f.bits) mid high fs ys t.2 u)
 
--- a leaf, and what tiles the hashes before it and after it
-pub record Parts (low high : ℕ) (xs : List Fragment) (f : Fragment) : Type 0 where
+-- some leaves in a list, and what tiles the hashes before them and after them
+pub record Parts (low begins ends high : ℕ) (xs middle : List Fragment) : Type 0 where
   pub front : List Fragment
   pub back : List Fragment
-  pub is : xs ≡ front ++ f ∷ back
-  pub whole : IsFragment f
-  pub before : Tiles low f.value front
-  pub after : Tiles (f.value + span f.bits) high back
+  pub is : xs ≡ front ++ (middle ++ back)
+  pub before : Tiles low begins front
+  pub after : Tiles ends high back
 
-pub parts : (low high : ℕ) (xs : List Fragment) (f : Fragment) → Tiles low high xs → HasLeaf xs f → Parts low high xs f
+pub parts : (low high : ℕ) (xs : List Fragment) (f : Fragment) → Tiles low high xs → HasLeaf xs f → IsFragment f × Parts low f.value (f.value + span f.bits) high xs (f ∷ [])
 parts low high [] f t (k, stands, is) = absurd (omega (arith, stands))
 parts low high (x ∷ xs) f t (zero, stands, is) =
-    subst (Parts low high (x ∷ xs)) is (record { front = []; back = xs; is = refl; whole = t.0; before = sym t.1; after = subst (λ n. Tiles (n + span x.bits) high xs) (sym t.1) t.2 })
+    subst (λ g. IsFragment g × Parts low g.value (g.value + span g.bits) high (x ∷ xs) (g ∷ [])) is
+    (t.0, record { front = []; back = xs; is = refl; before = sym t.1; after = subst (λ n. Tiles (n + span x.bits) high xs) (sym t.1) t.2 })
 parts low high (x ∷ xs) f t (suc k, stands, is) =
-    let p = parts (low + span x.bits) high xs f t.2 (k, omega (arith, stands), is) in
-    record { front = x ∷ p.front; back = p.back; is = ap (λ ys. x ∷ ys) p.is; whole = p.whole; before = (t.0, t.1, p.before); after = p.after }
+    let (whole, p) = parts (low + span x.bits) high xs f t.2 (k, omega (arith, stands), is) in
+    (whole, record { front = x ∷ p.front; back = p.back; is = ap (λ ys. x ∷ ys) p.is; before = (t.0, t.1, p.before); after = p.after })
 
 -- a leaf lies between the ends
 pub between : (low high : ℕ) (xs : List Fragment) (g : Fragment) → Tiles low high xs → HasLeaf xs g → IsFragment g × (low ≤ g.value) × (g.value + span g.bits ≤ high)
 between low high xs g t stands =
-    let p = parts low high xs g t stands in
-    (p.whole, low_le_high low g.value p.front p.before, low_le_high (g.value + span g.bits) high p.back p.after)
+    let (whole, p) = parts low high xs g t stands in
+    (whole, low_le_high low g.value p.front p.before, low_le_high (g.value + span g.bits) high p.back p.after)
 
 -- leaves in two parts, up to a hash that none passes over and from it on
-pub record Cut (low mid high : ℕ) (xs : List Fragment) : Type 0 where
-  pub front : List Fragment
-  pub back : List Fragment
-  pub is : xs ≡ front ++ back
-  pub before : Tiles low mid front
-  pub after : Tiles mid high back
-
-pub cut : (low mid high : ℕ) (xs : List Fragment) → Tiles low high xs → low ≤ mid → mid ≤ high → ((g : Fragment) → HasLeaf xs g → g.value < mid → g.value + span g.bits ≤ mid) → Cut low mid high xs
+pub cut : (low mid high : ℕ) (xs : List Fragment) → Tiles low high xs → low ≤ mid → mid ≤ high → ((g : Fragment) → HasLeaf xs g → g.value < mid → g.value + span g.bits ≤ mid) → Parts low mid mid high xs []
 cut low mid high [] t from to apart = record { front = []; back = []; is = refl; before = omega (arith, t); after = omega (arith, t) }
 cut low mid high (g ∷ gs) t from to apart = elim (cases_lt low mid) [
   | inl less ↦

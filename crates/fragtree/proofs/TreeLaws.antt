@@ -58,9 +58,6 @@ same_tiles low high (f ∷ fs) (g ∷ gs) t u h =
     ] in
     ap (λ k. k ∷ fs) (sym same) ∙ ap (λ ks. g ∷ ks) (same_tiles (low + span f.bits) high fs gs t.2 rest within)
 
-pub same_trees : (xs ys : List Fragment) → IsTree xs → IsTree ys → ((g : Fragment) → HasLeaf xs g ↔ HasLeaf ys g) → xs ≡ ys
-same_trees xs ys t u h = same_tiles 0 (2 ^ 24) xs ys t.tiles u.tiles (λ g. (h g).0)
-
 -- what lies inside is contained, and another
 pub inside_iff : (f g : Fragment) → IsFragment f → IsFragment g → (lies_inside f g ≡ true) ↔ (ContainsFragment f g × (g ≢ f))
 inside_iff f g hf hg = (contained, inside) where

@@ -1,6 +1,6 @@
 -- A walk over the leaves of a tree from one to the next.
 use Rattle.std.proofs.Common.{◌≡◌, ◌≢◌, inl, inr, ℕ, ◌+◌, ◌^◌, ◌<◌, ◌≤◌, List, [], ◌∷◌, ◌++◌, length, take, drop, refl, sym, ap, subst, ◌∙◌, arith}
-use Rattle.std.proofs.lemmas.List.{append_assoc, append-nil, drop-drop, length-drop, take-append-drop}
+use Rattle.std.proofs.lemmas.List.{append-nil, drop-drop, length-drop, take-append-drop}
 use Rattle.std.proofs.lemmas.List.Elements.{Contains-append_right, Contains-push_cases}
 use Rattle.std.proofs.lemmas.List.Sums.{count_by-le-length, length-filter}
 use Rattle.mds_types.specs.Frag.{Fragment, span}
@@ -38,9 +38,6 @@ inside_few f xs = omega (arith, length-filter (lies_inside f) xs, count_by-le-le
 -- leaves of a tree that are leaves of another too
 pub all_found : (xs done ys : List Fragment) → xs ≡ done ++ [] → ((g : Fragment) → HasLeaf done g → HasLeaf ys g) → IsTree xs → IsTree ys → xs ≡ ys
 all_found xs done ys is all t u = same_tiles 0 (2 ^ 24) xs ys t.tiles u.tiles (λ g stands. all g (subst (λ zs. HasLeaf zs g) (is ∙ append-nil done) stands))
-
-pub one_found : (xs done rest : List Fragment) (leaf : Fragment) → xs ≡ done ++ leaf ∷ rest → xs ≡ (done ++ leaf ∷ []) ++ rest
-one_found xs done rest leaf is = is ∙ sym (append_assoc done (leaf ∷ []) rest)
 
 pub found_too : (done ys : List Fragment) (leaf : Fragment) → ((g : Fragment) → HasLeaf done g → HasLeaf ys g) → HasLeaf ys leaf → (g : Fragment) → HasLeaf (done ++ leaf ∷ []) g → HasLeaf ys g
 found_too done ys leaf all here g stands = elim (Contains-push_cases done leaf g stands) [ inl before ↦ all g before | inr same ↦ subst (HasLeaf ys) same here ]
