@@ -73,14 +73,12 @@ module _ (xs : List Fragment) (c : IsAscendingCover xs) where
   }
 
 pub tree_iff : (xs : List Fragment) → IsTree xs ↔ IsAscendingCover xs
-tree_iff xs = (ascends, is_tree) where
-  ascends : IsTree xs → IsAscendingCover xs
-  ascends t = record {
-    fragments = λ leaf stands. (between 0 (2 ^ 24) xs leaf t.tiles stands).0;
-    ascending = λ i j less stands. omega (arith, in_order 0 (2 ^ 24) xs i j t.tiles less stands, span_pos (leaf_at xs i).bits);
-    cover = covers xs t.tiles;
-    few = t.few;
-  }
-
-  is_tree : IsAscendingCover xs → IsTree xs
-  is_tree c = record { tiles = tiles_from xs 0 (omega arith) (covers_all xs c); few = c.few }
+tree_iff xs = (
+  λ tree. record {
+    fragments = λ leaf stands. (between 0 (2 ^ 24) xs leaf tree.tiles stands).0;
+    ascending = λ i j less stands. omega (arith, in_order 0 (2 ^ 24) xs i j tree.tiles less stands, span_pos (leaf_at xs i).bits);
+    cover = covers xs tree.tiles;
+    few = tree.few;
+  },
+  λ c. record { tiles = tiles_from xs 0 (omega arith) (covers_all xs c); few = c.few },
+)

@@ -6,12 +6,11 @@ use Rattle.mds_types.specs.Frag.{Fragment, IsFragment, root_fragment, span}
 use Rattle.fragtree.specs.FragTree.{IsTree, IsPick, IsSplit, IsMerge, CanSplit, CanMerge, leaves_inside}
 use Rattle.fragtree.specs.Descents.{Splits, AllSome, Ends, EndsBeyond, IsClosed, IsKept, Spells, depth, frag_at, fragments_from, leaves_of, splits_round}
 use Rattle.fragtree.proofs.Merges.{finer, merges}
-use Rattle.fragtree.proofs.Ranges.{range_from_Contains, span_pos}
+use Rattle.fragtree.proofs.Ranges.{span_pos}
 use Rattle.fragtree.proofs.Rounds.{frag_at-is}
 use Rattle.fragtree.proofs.Spelled.{is_kept, merge_spells, split_spells}
 use Rattle.fragtree.proofs.Splits.{splits}
-use Rattle.fragtree.proofs.Tilings.{between}
-use Rattle.fragtree.proofs.TreeLaws.{some_pick}
+use Rattle.fragtree.proofs.TreeLaws.{range_of_leaf, some_pick}
 use Rattle.fragtree.proofs.Walks.{inside_few}
 
 length-fragments_from : (bits_of : ℕ → ℕ) (count low : ℕ) → length (fragments_from bits_of count low) ≡ count
@@ -27,9 +26,8 @@ module _ (s : Splits) (xs : List Fragment) (tree : IsTree xs) (spells : Spells s
   picked : (hash : ℕ) → (leaf : Fragment) × IsPick xs hash leaf × IsFragment leaf × (leaf.value ≤ hash % 2 ^ 24) × (hash % 2 ^ 24 < leaf.value + span leaf.bits) × Ends (splits_round s (hash % 2 ^ 24)) leaf.bits
   picked hash =
       let (leaf, p) = some_pick xs hash tree in
-      let whole = (between 0 (2 ^ 24) xs leaf tree.tiles p.stands).0 in
-      let r = range_from_Contains leaf hash whole p.contains in
-      (leaf, p, whole, r.0, r.1, spells.ends leaf p.stands (hash % 2 ^ 24) r.0 r.1)
+      let (whole, low, high) = range_of_leaf xs hash leaf tree p.stands p.contains in
+      (leaf, p, whole, low, high, spells.ends leaf p.stands (hash % 2 ^ 24) low high)
 
   pub pick_ends : (hash : ℕ) → EndsBeyond s (hash % 2 ^ 24) 0
   pick_ends hash = let w = picked hash in record { bits = w.0.bits; more = omega arith; few = w.2.few_bits; ends = w.5 }
@@ -38,13 +36,6 @@ module _ (s : Splits) (xs : List Fragment) (tree : IsTree xs) (spells : Spells s
   pick_is hash leaf told =
       let w = picked hash in
       subst (IsPick xs hash) (sym (told w.0.bits w.2.few_bits w.5 ∙ frag_at-is w.0 (hash % 2 ^ 24) w.2 w.3 w.4)) w.1
-
-  merge_beyond : (f : Fragment) → IsFragment f → CanMerge xs f → EndsBeyond s f.value (f.bits + 1)
-  merge_beyond f whole can =
-      let w = picked f.value in
-      let low : f.value % 2 ^ 24 ≡ f.value = mod-eq_of_lt whole.in_range in
-      let more = finer f whole xs tree can.some w.0 w.1.stands (omega (arith, w.3, low, span_pos f.bits)) (omega (arith, w.4, low)) in
-      record { bits = w.0.bits; more = omega (arith, more); few = w.2.few_bits; ends = subst (λ n. Ends (splits_round s n) w.0.bits) low w.5 }
 
 -- `*` alone
 pub whole_tree : IsTree (root_fragment ∷ [])
@@ -74,7 +65,12 @@ module _ (s mid new : Splits) (count : ℕ) (now : List Fragment) (kept : IsKept
       (omega (arith, can.few, counted, few), v.1, subst (λ zs. IsSplit now zs f nb) (sym v.0) split)
 
   pub beyond : (f : Fragment) → IsFragment f → CanMerge now f → EndsBeyond mid f.value (f.bits + 1)
-  beyond f whole can = subst (λ (m : Splits). EndsBeyond m f.value (f.bits + 1)) (sym same) (merge_beyond s now tree spells f whole can)
+  beyond f whole can =
+      let w = picked s now tree spells f.value in
+      let low : f.value % 2 ^ 24 ≡ f.value = mod-eq_of_lt whole.in_range in
+      let more = finer f whole now tree can.some w.0 w.1.stands (omega (arith, w.3, low, span_pos f.bits)) (omega (arith, w.4, low)) in
+      let ends = subst (λ n. Ends (splits_round s n) w.0.bits) low w.5 in
+      subst (λ (m : Splits). EndsBeyond m f.value (f.bits + 1)) (sym same) (record { bits = w.0.bits; more = omega (arith, more); few = w.2.few_bits; ends = ends })
 
   pub merge_done : (f : Fragment) (inside : ℕ) → IsFragment f → CanMerge now f → inside ≡ length (leaves_inside f now) → AllSome new → IsClosed mid new f
       → IsKept new (count - inside + 1) × IsMerge now (leaves_of new (count - inside + 1)) f

@@ -1,13 +1,11 @@
 -- Splits by 1 bit round each leaf spell the leaves.
-use Rattle.fragtree.proofs.Common.{ContainsFragment, Descends, Ends, Err, Fragment, HasLeaf, IsFragment, IsLedTo, IsSplitRound, IsTree, List, None, Ok, OnErr, Option, Result, Some, Spells, Splits, [], ap, arith, cases_lt, frag_at, frag_cmp, get-empty, get_or_default, inl, inr, length, on, refl, root_fragment, span, splits_round, subst, suc, sym, there, zero, ℕ, ◌+◌, ◌<◌, ◌^◌, ◌∙◌, ◌∷◌, ◌≡◌, ◌≤◌, ◌⊎◌}
+use Rattle.fragtree.proofs.Common.{ContainsFragment, Descends, Ends, Err, Fragment, HasLeaf, IsFragment, IsKept, IsLedTo, IsSplitRound, IsTree, List, None, Ok, OnErr, Option, Result, Some, Spells, Splits, [], ap, arith, cases_lt, frag_at, frag_cmp, get-empty, get_or_default, inl, inr, leaves_of, length, on, pow-le-pow_right, refl, root_fragment, span, splits_round, subst, suc, sym, there, zero, ℕ, ◌+◌, ◌<◌, ◌^◌, ◌∙◌, ◌∷◌, ◌≡◌, ◌≤◌}
 use Rattle.std.specs.FinMap as map
 use Rattle.fragtree.proofs.DescentLaws.{joined}
 use Rattle.fragtree.proofs.Entries.{after_put, get_beside, get_put, one_or_other}
 use Rattle.fragtree.proofs.Ranges.{span_pos, ends_low}
 use Rattle.fragtree.proofs.Kept.{whole_tree}
 use Rattle.fragtree.proofs.Spelled.{is_kept}
-use Rattle.fragtree.specs.Descents.{IsKept, leaves_of}
-use Rattle.std.proofs.Math.Nat.{pow-le-pow_right}
 use Rattle.fragtree.proofs.Rounds.{frag_at-alike, not_within_round, within_round}
 use Rattle.fragtree.proofs.Tilings.{between, leaf_at}
 use Rattle.fragtree.proofs.TreeLaws.{one_leaf, only_leaf}
@@ -19,8 +17,7 @@ AreRound splits leaves = (g : Fragment) (nb : ℕ) → map.get splits g ≡ Some
 by_ones : (round : ℕ → Option ℕ) (to : ℕ) → ((b : ℕ) → b < to → round b ≡ Some 1) → Descends round to 0
 by_ones round zero each = there 0 refl
 by_ones round (suc to) each =
-    let more : Descends round (suc to) (to + 1) = there (to + 1) (omega arith) in
-    joined round to (suc to) 0 (by_ones round to (λ b below. each b (omega (arith, below)))) (on to 1 (each to (omega arith)) more)
+    joined round to (suc to) 0 (by_ones round to (λ b below. each b (omega (arith, below)))) (on to 1 (each to (omega arith)) (there (to + 1) (omega arith)))
 
 pub made_spells : (s : Splits) (xs : List Fragment) → IsTree xs → AreRound s xs → ((leaf : Fragment) → HasLeaf xs leaf → IsLedTo s leaf leaf.bits) → Spells s xs
 made_spells s xs tree are led = record { some = λ f nb is. omega (arith, (are f nb is).0); ends = ends }
@@ -66,29 +63,24 @@ all_led s xs led leaf (k, stands, is) =
     subst (λ (g : Fragment). IsLedTo s g g.bits) same (led k stands)
 
 pub one_more : (old s : Splits) (leaf : Fragment) (bits : ℕ) → IsSplitRound old s leaf bits → IsSplitRound old (map.insert s (frag_at bits leaf.value) 1) leaf (bits + 1)
-one_more old s leaf bits w = record { led = led; kept = kept; fewer = fewer }
-  where
-    led : IsLedTo (map.insert s (frag_at bits leaf.value) 1) leaf (bits + 1)
-    led b below = elim (cases_lt b bits) [
-      | inl less ↦ get_beside s (frag_at bits leaf.value) 1 (frag_at b leaf.value) (λ same. omega (arith, ap (λ (k : Fragment). k.bits) same, less)) ∙ w.led b less
-      | inr more ↦
-          let same : b ≡ bits = omega (arith, below, more) in
-          ap (λ n. map.get (map.insert s (frag_at bits leaf.value) 1) (frag_at n leaf.value)) same ∙ get_put s (frag_at bits leaf.value) 1
-    ]
-
-    kept : (g : Fragment) → map.get old g ≡ Some 1 → map.get (map.insert s (frag_at bits leaf.value) 1) g ≡ Some 1
-    kept g is = elim (one_or_other g (frag_at bits leaf.value)) [
-      | inl same ↦ ap (map.get (map.insert s (frag_at bits leaf.value) 1)) same ∙ get_put s (frag_at bits leaf.value) 1
-      | inr other ↦ get_beside s (frag_at bits leaf.value) 1 g other ∙ w.kept g is
-    ]
-
-    fewer : (g : Fragment) (nb : ℕ) → map.get (map.insert s (frag_at bits leaf.value) 1) g ≡ Some nb → (map.get old g ≡ Some nb) ⊎ ((nb ≡ 1) × (g.bits < bits + 1) × (g ≡ frag_at g.bits leaf.value))
-    fewer g nb is = elim (after_put s (frag_at bits leaf.value) 1 g nb is) [
-      | inl (same, one) ↦
-          let bits_are : g.bits ≡ bits = ap (λ (k : Fragment). k.bits) same in
-          inr (sym one, omega (arith, bits_are), same ∙ ap (λ b. frag_at b leaf.value) (sym bits_are))
-      | inr other ↦ elim (w.fewer g nb other) [ inl before ↦ inl before | inr now ↦ inr (now.0, omega (arith, now.1), now.2) ]
-    ]
+one_more old s leaf bits w = record {
+  led = λ b below. elim (cases_lt b bits) [
+    | inl less ↦ get_beside s (frag_at bits leaf.value) 1 (frag_at b leaf.value) (λ same. omega (arith, ap (λ (k : Fragment). k.bits) same, less)) ∙ w.led b less
+    | inr more ↦
+        let same : b ≡ bits = omega (arith, below, more) in
+        ap (λ n. map.get (map.insert s (frag_at bits leaf.value) 1) (frag_at n leaf.value)) same ∙ get_put s (frag_at bits leaf.value) 1
+  ];
+  kept = λ g is. elim (one_or_other g (frag_at bits leaf.value)) [
+    | inl same ↦ ap (map.get (map.insert s (frag_at bits leaf.value) 1)) same ∙ get_put s (frag_at bits leaf.value) 1
+    | inr other ↦ get_beside s (frag_at bits leaf.value) 1 g other ∙ w.kept g is
+  ];
+  fewer = λ g nb is. elim (after_put s (frag_at bits leaf.value) 1 g nb is) [
+    | inl (same, one) ↦
+        let bits_are : g.bits ≡ bits = ap (λ (k : Fragment). k.bits) same in
+        inr (sym one, omega (arith, bits_are), same ∙ ap (λ b. frag_at b leaf.value) (sym bits_are))
+    | inr other ↦ elim (w.fewer g nb other) [ inl before ↦ inl before | inr now ↦ inr (now.0, omega (arith, now.1), now.2) ]
+  ];
+}
 
 -- a tree of which a leaf fixes some bits has two leaves or more: one alone fixes none
 pub several : (xs : List Fragment) (leaf : Fragment) → IsTree xs → HasLeaf xs leaf → 0 < leaf.bits → 2 ≤ length xs

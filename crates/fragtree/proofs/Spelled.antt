@@ -23,24 +23,21 @@ fragments_from-is bits_of low high (f ∷ fs) t told =
     fragments_from-is bits_of (low + span f.bits) high fs t.2 (λ g (k, stands, is). told g (suc k, omega (arith, stands), is)) in
     ap (λ b. frag_at b low ∷ fragments_from bits_of (length fs) (low + span b)) first ∙ ap (λ g. g ∷ fragments_from bits_of (length fs) (low + span f.bits)) head ∙ ap (λ ys. f ∷ ys) more
 
+round_some : (s : Splits) → AllSome s → (h b nb : ℕ) → splits_round s h b ≡ Some nb → 1 ≤ nb
+round_some s some h b nb is = some (frag_at b h) nb is
+
 -- leaves that are spelled are the leaves that the splits spell
 pub leaves_of-is : (s : Splits) (xs : List Fragment) → IsTree xs → Spells s xs → leaves_of s (length xs) ≡ xs
 unfolding leaves_of
-leaves_of-is s xs tree spells = fragments_from-is (λ hash. depth 24 (splits_round s hash) 0) 0 (2 ^ 24) xs tree.tiles ends_at
-  where
-    ends_at : (g : Fragment) → HasLeaf xs g → depth 24 (splits_round s g.value) 0 ≡ g.bits
-    ends_at g stands =
-        let few : g.bits ≤ 24 = (between 0 (2 ^ 24) xs g tree.tiles stands).0.few_bits in
-        let e = spells.ends g stands g.value (omega arith) (omega (arith, span_pos g.bits)) in
-        depth-is (splits_round s g.value) (λ b nb is. spells.some (frag_at b g.value) nb is) 24 g.bits 0 e.descends (e.nothing g.bits (omega arith) few) (omega (arith, few))
+leaves_of-is s xs tree spells = fragments_from-is (λ hash. depth 24 (splits_round s hash) 0) 0 (2 ^ 24) xs tree.tiles (λ g stands.
+    let few : g.bits ≤ 24 = (between 0 (2 ^ 24) xs g tree.tiles stands).0.few_bits in
+    let e = spells.ends g stands g.value (omega arith) (omega (arith, span_pos g.bits)) in
+    depth-is (splits_round s g.value) (round_some s spells.some g.value) 24 g.bits 0 e.descends (e.nothing g.bits (omega arith) few) (omega (arith, few)))
 
 pub is_kept : (s : Splits) (xs : List Fragment) (count : ℕ) → IsTree xs → Spells s xs → count ≡ length xs → (leaves_of s count ≡ xs) × IsKept s count
 is_kept s xs count tree spells is =
     let same : leaves_of s count ≡ xs = ap (leaves_of s) is ∙ leaves_of-is s xs tree spells in
     (same, record { tree = subst IsTree (sym same) tree; spells = subst (Spells s) (sym same) spells })
-
-round_some : (s : Splits) → AllSome s → (h b nb : ℕ) → splits_round s h b ≡ Some nb → 1 ≤ nb
-round_some s some h b nb is = some (frag_at b h) nb is
 
 -- what isn't split otherwise round a hash is descended as before
 ends_alike : (s : Splits) → AllSome s → (h : ℕ) (new : Splits) (to : ℕ) → to ≤ 24 → ((b : ℕ) → b ≤ 24 → map.get new (frag_at b h) ≡ map.get s (frag_at b h)) → Ends (splits_round s h) to → Ends (splits_round new h) to
@@ -54,12 +51,10 @@ put_some s k x some more g nb is = elim (after_put s k x g nb is) [ inl put ↦ 
 
 -- a split
 module _ (s : Splits) (xs ys : List Fragment) (f : Fragment) (nb : ℕ) (was : IsTree xs) (spells : Spells s xs) (stands : HasLeaf xs f) (fits : FitsSplit f nb) (now : IsTree ys) (split : IsSplit xs ys f nb) where
-  whole : IsFragment f
-  whole = (between 0 (2 ^ 24) xs f was.tiles stands).0
-
   ends_in_child : (h : ℕ) → f.value ≤ h → h < f.value + span f.bits → Ends (splits_round (map.insert s f nb) h) (f.bits + nb)
   ends_in_child h low high =
       let e = spells.ends f stands h low high in
+      let whole = (between 0 (2 ^ 24) xs f was.tiles stands).0 in
       let beside : (b : ℕ) → b ≢ f.bits → splits_round (map.insert s f nb) h b ≡ splits_round s h b = λ b other. get_beside s f nb (frag_at b h) (λ same. other (ap (λ (k : Fragment). k.bits) same)) in
       let here : splits_round (map.insert s f nb) h f.bits ≡ Some nb = ap (map.get (map.insert s f nb)) (frag_at-is f h whole low high) ∙ get_put s f nb in
       let first = kept (splits_round s h) (round_some s spells.some h) (splits_round (map.insert s f nb) h) f.bits 0 (λ b from below. beside b (λ same. omega (arith, same))) e.descends in
@@ -69,21 +64,21 @@ module _ (s : Splits) (xs ys : List Fragment) (f : Fragment) (nb : ℕ) (was : I
       }
 
   pub split_spells : Spells (map.insert s f nb) ys
-  split_spells = record { some = put_some s f nb spells.some fits.some; ends = ends }
-    where
-      ends : (g : Fragment) → HasLeaf ys g → (h : ℕ) → g.value ≤ h → h < g.value + span g.bits → Ends (splits_round (map.insert s f nb) h) g.bits
-      ends g new h low high = elim ((split.leaves g).0 new) [
-        | inl old ↦
-            let few : g.bits ≤ 24 = (between 0 (2 ^ 24) xs g was.tiles old.0).0.few_bits in
-            let other : (b : ℕ) → frag_at b h ≢ f = λ b. outside f h b (λ w. old.1 (one_leaf xs g f h was old.0 stands low high w.0 w.1)) in
-            ends_alike s spells.some h (map.insert s f nb) g.bits few (λ b at_most. get_beside s f nb (frag_at b h) (other b)) (spells.ends g old.0 h low high)
-        | inr child ↦
-            let is : g ≡ child_of f child.0 nb = child.2 in
-            let begins : f.value ≤ g.value = omega (arith, ap (λ (k : Fragment). k.value) is) in
-            let bits : g.bits ≡ f.bits + nb = ap (λ (k : Fragment). k.bits) is in
-            let within = subst (λ (k : Fragment). k.value + span k.bits ≤ f.value + span f.bits) (sym is) (child_within f child.0 nb fits.in_all child.1) in
-            subst (Ends (splits_round (map.insert s f nb) h)) (sym bits) (ends_in_child h (omega (arith, begins, low)) (omega (arith, within, high)))
-      ]
+  split_spells = record {
+    some = put_some s f nb spells.some fits.some;
+    ends = λ g new h low high. elim ((split.leaves g).0 new) [
+      | inl old ↦
+          let few : g.bits ≤ 24 = (between 0 (2 ^ 24) xs g was.tiles old.0).0.few_bits in
+          let other : (b : ℕ) → frag_at b h ≢ f = λ b. outside f h b (λ w. old.1 (one_leaf xs g f h was old.0 stands low high w.0 w.1)) in
+          ends_alike s spells.some h (map.insert s f nb) g.bits few (λ b at_most. get_beside s f nb (frag_at b h) (other b)) (spells.ends g old.0 h low high)
+      | inr child ↦
+          let is : g ≡ child_of f child.0 nb = child.2 in
+          let begins : f.value ≤ g.value = omega (arith, ap (λ (k : Fragment). k.value) is) in
+          let bits : g.bits ≡ f.bits + nb = ap (λ (k : Fragment). k.bits) is in
+          let within = subst (λ (k : Fragment). k.value + span k.bits ≤ f.value + span f.bits) (sym is) (child_within f child.0 nb fits.in_all child.1) in
+          subst (Ends (splits_round (map.insert s f nb) h)) (sym bits) (ends_in_child h (omega (arith, begins, low)) (omega (arith, within, high)))
+    ];
+  }
 
 -- halving a fragment that is split by two bits or more, and that a descent passes
 module _ (s : Splits) (some : AllSome s) (g : Fragment) (nb h0 : ℕ) (whole : IsFragment g) (is : map.get s g ≡ Some nb) (two : 2 ≤ nb) (fits : g.bits + nb ≤ 24) (low0 : g.value ≤ h0) (high0 : h0 < g.value + span g.bits) (passes : Descends (splits_round s h0) g.bits 0) where
@@ -168,35 +163,31 @@ module _ (s : Splits) (some : AllSome s) (g : Fragment) (nb h0 : ℕ) (whole : I
 
 -- a fragment that a descent passes, with nothing split there or below any more
 pub closed : (s new : Splits) (f : Fragment) → AllSome s → IsFragment f → Descends (splits_round s f.value) f.bits 0 → IsForgotten s new f → IsClosed s new f
-closed s new f some whole passes forgot = record { inside = inside; outside = out }
-  where
-    inside : (h : ℕ) → f.value ≤ h → h < f.value + span f.bits → Ends (splits_round new h) f.bits
-    inside h low high = record {
-      descends = kept (splits_round s f.value) (round_some s some f.value) (splits_round new h) f.bits 0
-          (λ b from below. forgot.kept (frag_at b h) (λ w. omega (arith, w.0, below)) ∙ ap (map.get s) (frag_at-alike f h b whole low high (omega (arith, below)))) passes;
-      nothing = λ b from few. forgot.gone (frag_at b h) (frag_at-IsFragment b h few (omega (arith, high, ends_low f whole))) (within_round f h b whole (omega (arith, high, ends_low f whole)) few low high from);
-    }
-
-    out : (h bits : ℕ) → h < 2 ^ 24 → bits ≤ 24 → ((f.value ≤ h) × (h < f.value + span f.bits) → ⊥) → Ends (splits_round s h) bits → Ends (splits_round new h) bits
-    out h bits low few apart e = ends_alike s some h new bits few (λ b at_most. forgot.kept (frag_at b h) (λ w. not_within_round f h b whole low at_most apart w)) e
+closed s new f some whole passes forgot = record {
+  inside = λ h low high. record {
+    descends = kept (splits_round s f.value) (round_some s some f.value) (splits_round new h) f.bits 0
+        (λ b from below. forgot.kept (frag_at b h) (λ w. omega (arith, w.0, below)) ∙ ap (map.get s) (frag_at-alike f h b whole low high (omega (arith, below)))) passes;
+    nothing = λ b from few. forgot.gone (frag_at b h) (frag_at-IsFragment b h few (omega (arith, high, ends_low f whole))) (within_round f h b whole (omega (arith, high, ends_low f whole)) few low high from);
+  };
+  outside = λ h bits low few apart e. ends_alike s some h new bits few (λ b at_most. forgot.kept (frag_at b h) (λ w. not_within_round f h b whole low at_most apart w)) e;
+}
 
 -- a merge
 pub merge_spells : (s new : Splits) (xs ys : List Fragment) (f : Fragment) → IsTree xs → Spells s xs → IsTree ys → IsMerge xs ys f → AllSome new → IsClosed s new f → Spells new ys
-merge_spells s new xs ys f was spells now merge some closes = record { some = some; ends = ends }
-  where
-    merged : HasLeaf ys f
-    merged = (merge.leaves f).1 (inr refl)
-
-    ends : (g : Fragment) → HasLeaf ys g → (h : ℕ) → g.value ≤ h → h < g.value + span g.bits → Ends (splits_round new h) g.bits
-    ends g stands h low high = elim (in_or_out f h) [
-      | inl within ↦ subst (λ (k : Fragment). Ends (splits_round new h) k.bits) (one_leaf ys f g h now merged stands within.0 within.1 low high) (closes.inside h within.0 within.1)
-      | inr out ↦ elim ((merge.leaves g).0 stands) [
-        | inl old ↦
-            let fragment = (between 0 (2 ^ 24) xs g was.tiles old.0).0 in
-            closes.outside h g.bits (omega (arith, high, ends_low g fragment)) fragment.few_bits out (spells.ends g old.0 h low high)
-        | inr same ↦ absurd (out (omega (arith, low, ap (λ (k : Fragment). k.value) same), subst (λ (k : Fragment). h < k.value + span k.bits) same high))
-      ]
+merge_spells s new xs ys f was spells now merge some closes = record {
+  some = some;
+  ends = λ g stands h low high. elim (in_or_out f h) [
+    | inl within ↦
+        let one = one_leaf ys f g h now ((merge.leaves f).1 (inr refl)) stands within.0 within.1 low high in
+        subst (λ (k : Fragment). Ends (splits_round new h) k.bits) one (closes.inside h within.0 within.1)
+    | inr out ↦ elim ((merge.leaves g).0 stands) [
+      | inl old ↦
+          let fragment = (between 0 (2 ^ 24) xs g was.tiles old.0).0 in
+          closes.outside h g.bits (omega (arith, high, ends_low g fragment)) fragment.few_bits out (spells.ends g old.0 h low high)
+      | inr same ↦ absurd (out (omega (arith, low, ap (λ (k : Fragment). k.value) same), subst (λ (k : Fragment). h < k.value + span k.bits) same high))
     ]
+  ];
+}
 
 -- descents that were kept before
 pub closed_after : (old s new : Splits) (f : Fragment) → KeepsEnds old s → IsClosed s new f → IsClosed old new f

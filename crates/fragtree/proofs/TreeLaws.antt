@@ -21,18 +21,23 @@ one_leaf xs f g h tree (i, stands, is) (j, stands2, is2) low high low2 high2 =
     let q : IsPlace xs h j = record { stands = stands2; begins = omega (arith, ap (λ (k : Fragment). k.value) second); ends = subst (λ (k : Fragment). h < k.value + span k.bits) (sym second) high2 } in
     sym first ∙ ap (leaf_at xs) (one_place 0 (2 ^ 24) xs h i j tree.tiles p q) ∙ second
 
+-- where the low 24 bits of a hash lie that a leaf contains
+pub range_of_leaf : (leaves : List Fragment) (hash : ℕ) (leaf : Fragment) → IsTree leaves → HasLeaf leaves leaf → Contains leaf hash → IsFragment leaf × (leaf.value ≤ hash % 2 ^ 24) × (hash % 2 ^ 24 < leaf.value + span leaf.bits)
+range_of_leaf leaves hash leaf tree stands has =
+    let whole = (between 0 (2 ^ 24) leaves leaf tree.tiles stands).0 in
+    let r = range_from_Contains leaf hash whole has in
+    (whole, r.0, r.1)
+
 -- a leaf that contains the hash is its pick
 pub pick_from_leaf : (leaves : List Fragment) (hash : ℕ) (leaf : Fragment) → IsTree leaves → HasLeaf leaves leaf → Contains leaf hash → IsPick leaves hash leaf
-pick_from_leaf leaves hash leaf tree stands has = record { stands = stands; contains = has; alone = alone }
-  where
-    range : (f : Fragment) → HasLeaf leaves f → Contains f hash → (f.value ≤ hash % 2 ^ 24) × (hash % 2 ^ 24 < f.value + span f.bits)
-    range f stands has = range_from_Contains f hash (between 0 (2 ^ 24) leaves f tree.tiles stands).0 has
-
-    alone : (other : Fragment) → HasLeaf leaves other → Contains other hash → other ≡ leaf
-    alone other stands2 has2 =
-        let r = range leaf stands has in
-        let q = range other stands2 has2 in
-        one_leaf leaves other leaf (hash % 2 ^ 24) tree stands2 stands q.0 q.1 r.0 r.1
+pick_from_leaf leaves hash leaf tree stands has = record {
+  stands = stands;
+  contains = has;
+  alone = λ other stands2 has2.
+      let r = range_of_leaf leaves hash leaf tree stands has in
+      let q = range_of_leaf leaves hash other tree stands2 has2 in
+      one_leaf leaves other leaf (hash % 2 ^ 24) tree stands2 stands q.1 q.2 r.1 r.2;
+}
 
 pub some_pick : (leaves : List Fragment) (hash : ℕ) → IsTree leaves → (leaf : Fragment) × IsPick leaves hash leaf
 some_pick leaves hash tree =
@@ -84,10 +89,7 @@ module _ (old new : List Fragment) (f : Fragment) (tree : IsTree new) (hash : �
 
   pub child_after_split : (nb : ℕ) → IsSplit old new f nb → leaf ≡ f → (child : Fragment) → IsPick new hash child → IsChild f nb child
   child_after_split nb s is child q =
-      elim ((s.leaves child).0 q.stands) [
-        | inl (stands, other) ↦ absurd (other (p.alone child stands q.contains ∙ is))
-        | inr is_child ↦ is_child
-      ]
+      elim ((s.leaves child).0 q.stands) [ inl (stands, other) ↦ absurd (other (p.alone child stands q.contains ∙ is)) | inr is_child ↦ is_child ]
 
   -- after a merge a hash of a leaf that wasn't merged has its pick, and one of a merged leaf has the merged one
   pub pick_after_merge : IsMerge old new f → lies_inside f leaf ≡ false → IsPick new hash leaf
@@ -97,11 +99,10 @@ module _ (old new : List Fragment) (f : Fragment) (tree : IsTree new) (hash : �
   merged_after_merge was m in_f =
       let stands : HasLeaf new f = (m.leaves f).1 (inr refl) in
       let hf = (between 0 (2 ^ 24) new f tree.tiles stands).0 in
-      let hl = (between 0 (2 ^ 24) old leaf was.tiles p.stands).0 in
       let w = range_from_inside f leaf hf in_f in
-      let v = range_from_Contains leaf hash hl p.contains in
-      let ends = ends_within f leaf hf hl (omega (arith, w.0)) w.2 in
-      pick_from_leaf new hash f tree stands (Contains-from_range f hash hf (omega (arith, w.1, v.0)) (omega (arith, v.1, ends)))
+      let v = range_of_leaf old hash leaf was p.stands p.contains in
+      let ends = ends_within f leaf hf v.0 (omega (arith, w.0)) w.2 in
+      pick_from_leaf new hash f tree stands (Contains-from_range f hash hf (omega (arith, w.1, v.1)) (omega (arith, v.2, ends)))
 
 pub one_split_refusal : (leaves : List Fragment) (f : Fragment) (nb : ℕ) (a b : Refusal) → RefusesSplit leaves f nb a → RefusesSplit leaves f nb b → a ≡ b
 one_split_refusal leaves f nb NoSuchFrag NoSuchFrag h k = refl
