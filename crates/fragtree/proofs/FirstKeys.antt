@@ -41,9 +41,6 @@ module _ (m : Splits) (f : Fragment) where
   from_found g found is from = sym (found_there g found is ∙ ap (λ b. cond b (map.get m g) None) from)
 
   module _ (e : Fragment × ℕ) (rest : List (Fragment × ℕ)) (is : where_key frag_cmp (is_from frag_cmp f) (map.entries m) ≡ e ∷ rest) where
-    sorted : T (is_sorted frag_cmp (e ∷ rest))
-    sorted = subst (λ es. T (is_sorted frag_cmp es)) is (is_sorted-where_key frag_cmp (is_from frag_cmp f) (map.entries m) (entries_sorted m))
-
     pub first_split : (map.get m e.0 ≡ Some e.1) × (is_from frag_cmp f e.0 ≡ true)
     first_split =
         let first : find frag_cmp e.0 (e ∷ rest) ≡ Some e.1 = ap (λ b. cond b (Some e.1) (find frag_cmp e.0 rest)) (itself e.0) in
@@ -54,6 +51,7 @@ module _ (m : Splits) (f : Fragment) where
 
     pub none_before : (g : Fragment) → is_from frag_cmp f g ≡ true → g.value < e.0.value → map.get m g ≡ None
     none_before g from less =
+        let sorted = subst (λ es. T (is_sorted frag_cmp es)) is (is_sorted-where_key frag_cmp (is_from frag_cmp f) (map.entries m) (entries_sorted m)) in
         from_found g (e ∷ rest) is from
         ∙ ap (λ b. cond b (Some e.1) (find frag_cmp g rest)) (apart g e.0 (λ same. omega (arith, ap (λ (k : Fragment). k.value) same, less)))
         ∙ not_behind g e.0 rest less (left_of _ _ sorted)

@@ -1,5 +1,5 @@
 -- Splits by 1 bit round each leaf spell the leaves.
-use Rattle.fragtree.proofs.Common.{ContainsFragment, Descends, Ends, Err, Fragment, HasLeaf, IsFragment, IsKept, IsLedTo, IsSplitRound, IsTree, List, None, Ok, OnErr, Option, Result, Some, Spells, Splits, [], ap, arith, cases_lt, frag_at, frag_cmp, get-empty, get_or_default, inl, inr, leaves_of, length, on, pow-le-pow_right, refl, root_fragment, span, splits_round, subst, suc, sym, there, zero, ℕ, ◌+◌, ◌<◌, ◌^◌, ◌∙◌, ◌∷◌, ◌≡◌, ◌≤◌}
+use Rattle.fragtree.proofs.Common.{ContainsFragment, Descends, Err, Fragment, HasLeaf, IsKept, IsLedTo, IsSplitRound, IsTree, List, None, Ok, OnErr, Option, Result, Some, Spells, Splits, [], ap, arith, cases_lt, frag_at, frag_cmp, get-empty, get_or_default, inl, inr, leaves_of, length, on, pow-le-pow_right, refl, root_fragment, span, splits_round, subst, suc, sym, there, zero, ℕ, ◌+◌, ◌<◌, ◌^◌, ◌∙◌, ◌∷◌, ◌≡◌, ◌≤◌}
 use Rattle.std.specs.FinMap as map
 use Rattle.fragtree.proofs.DescentLaws.{joined}
 use Rattle.fragtree.proofs.Entries.{after_put, get_beside, get_put, one_or_other}
@@ -19,33 +19,27 @@ by_ones round zero each = there 0 refl
 by_ones round (suc to) each =
     joined round to (suc to) 0 (by_ones round to (λ b below. each b (omega (arith, below)))) (on to 1 (each to (omega arith)) (there (to + 1) (omega arith)))
 
+none_unless : (o : Option ℕ) → ((nb : ℕ) → o ≡ Some nb → ⊥) → o ≡ None
+none_unless None never = refl
+none_unless (Some nb) never = absurd (never nb refl)
+
 pub made_spells : (s : Splits) (xs : List Fragment) → IsTree xs → AreRound s xs → ((leaf : Fragment) → HasLeaf xs leaf → IsLedTo s leaf leaf.bits) → Spells s xs
-made_spells s xs tree are led = record { some = λ f nb is. omega (arith, (are f nb is).0); ends = ends }
-  where
-    fragment : (g : Fragment) → HasLeaf xs g → IsFragment g
-    fragment g stands = (between 0 (2 ^ 24) xs g tree.tiles stands).0
-
-    -- no fragment within a leaf is round a leaf
-    not_within : (g : Fragment) → HasLeaf xs g → (h b : ℕ) → g.value ≤ h → h < g.value + span g.bits → g.bits ≤ b → b ≤ 24 → (leaf : Fragment) → HasLeaf xs leaf → b < leaf.bits → frag_at b h ≡ frag_at b leaf.value → ⊥
-    not_within g stands h b low high more few leaf stands2 less same =
-        let whole = fragment g stands in
-        let within = subst (ContainsFragment g) same (within_round g h b whole (omega (arith, high, ends_low g whole)) few low high more) in
-        let apart : (g.value ≤ leaf.value) × (leaf.value < g.value + span g.bits) → ⊥ = λ w.
-        let one = one_leaf xs g leaf leaf.value tree stands stands2 w.0 w.1 (omega arith) (omega (arith, span_pos leaf.bits)) in
-        omega (arith, ap (λ (f : Fragment). f.bits) one) in
-        not_within_round g leaf.value b whole (fragment leaf stands2).in_range few apart within
-
-    ends : (g : Fragment) → HasLeaf xs g → (h : ℕ) → g.value ≤ h → h < g.value + span g.bits → Ends (splits_round s h) g.bits
-    ends g stands h low high = record {
-      descends = by_ones (splits_round s h) g.bits (λ b below. ap (map.get s) (frag_at-alike g h b (fragment g stands) low high (omega (arith, below))) ∙ led g stands b below);
-      nothing = λ b more few. go b more few (map.get s (frag_at b h)) refl;
-    }
-      where
-        go : (b : ℕ) → g.bits ≤ b → b ≤ 24 → (o : Option ℕ) → map.get s (frag_at b h) ≡ o → map.get s (frag_at b h) ≡ None
-        go b more few None is = is
-        go b more few (Some nb) is =
+made_spells s xs tree are led = record {
+  some = λ f nb is. omega (arith, (are f nb is).0);
+  ends = λ g stands h low high.
+      let whole = (between 0 (2 ^ 24) xs g tree.tiles stands).0 in
+      record {
+        descends = by_ones (splits_round s h) g.bits (λ b below. ap (map.get s) (frag_at-alike g h b whole low high (omega (arith, below))) ∙ led g stands b below);
+        -- no fragment within a leaf is round a leaf
+        nothing = λ b more few. none_unless (map.get s (frag_at b h)) (λ nb is.
             let (one, leaf, stands2, less, same) = are (frag_at b h) nb is in
-            absurd (not_within g stands h b low high more few leaf stands2 less same)
+            let within = subst (ContainsFragment g) same (within_round g h b whole (omega (arith, high, ends_low g whole)) few low high more) in
+            let apart : (g.value ≤ leaf.value) × (leaf.value < g.value + span g.bits) → ⊥ = λ w.
+            let only = one_leaf xs g leaf leaf.value tree stands stands2 w.0 w.1 (omega arith) (omega (arith, span_pos leaf.bits)) in
+            omega (arith, less, more, ap (λ (f : Fragment). f.bits) only) in
+            not_within_round g leaf.value b whole (between 0 (2 ^ 24) xs leaf tree.tiles stands2).0.in_range few apart within);
+      };
+}
 
 -- no splits at first
 pub none_round : (s : Splits) (xs : List Fragment) → s ≡ map.empty → AreRound s xs

@@ -36,20 +36,6 @@ module _ (f : Fragment) (h : IsFragment f) where
   pub none_behind : (low high : ℕ) (xs : List Fragment) → Tiles low high xs → f.value + span f.bits ≤ low → length (leaves_inside f xs) ≡ 0
   none_behind low high xs t out = none_inside f xs (λ g stands. beside g (inr (omega (arith, (between low high xs g t stands).1))))
 
-  -- f between two lists of leaves, in place of those properly inside it
-  merges_between : (front middle back : List Fragment) → Tiles 0 f.value front → Tiles (f.value + span f.bits) (2 ^ 24) back → ((g : Fragment) → HasLeaf middle g → lies_inside f g ≡ true)
-      → 1 ≤ length (leaves_inside f (front ++ (middle ++ back))) → length (front ++ (middle ++ back)) ≤ 4096 → IsTree (front ++ f ∷ back) × IsMerge (front ++ (middle ++ back)) (front ++ f ∷ back) f
-  merges_between front middle back before after inside some few =
-      let inner : length (leaves_inside f (front ++ (middle ++ back))) ≡ length middle =
-      omega (arith, inside-append f front (middle ++ back), inside-append f middle back, none_before 0 front before, all_inside f middle inside, none_behind (f.value + span f.bits) (2 ^ 24) back after (omega arith)) in
-      let count : length (front ++ f ∷ back) + length middle ≡ length (front ++ (middle ++ back)) + 1 = omega (arith, length-append front (f ∷ back), length-append front (middle ++ back), length-append middle back) in (
-        record { tiles = replaced_tiles f front middle (f ∷ []) back before after (h, refl, refl); few = omega (arith, count, inner) },
-        record {
-          leaves = replaced f front middle (f ∷ []) back before after (λ g. lies_inside f g ≡ false) (λ g. g ≡ f) beside (λ g here out. false≢true (sym out ∙ inside g here)) (λ g. (only_leaf f g, λ same. subst (HasLeaf (f ∷ [])) (sym same) (first f [])));
-          count = omega (arith, count, inner);
-        },
-      )
-
   module _ (xs : List Fragment) (tree : IsTree xs) (some : 1 ≤ length (leaves_inside f xs)) where
     an_inside : (g : Fragment) × HasLeaf xs g × (lies_inside f g ≡ true)
     an_inside = (
@@ -94,5 +80,15 @@ module _ (f : Fragment) (h : IsFragment f) where
         let all = in_back g (subst (λ ys. HasLeaf ys g) (sym d.is) (Contains-append_left d.front d.back g stands)) in
         lies_inside-true f g h (finer g all below (omega (arith, b.1, span_pos g.bits))) b.1 below in
         let whole : xs ≡ c.front ++ (d.front ++ d.back) = c.is ∙ ap (λ ys. c.front ++ ys) d.is in
-        let w = merges_between c.front d.front d.back c.before d.after inside (subst (λ ys. 1 ≤ length (leaves_inside f ys)) whole some) (subst (λ ys. length ys ≤ 4096) whole tree.few) in
-        (c.front ++ f ∷ d.back, w.0, subst (λ ys. IsMerge ys (c.front ++ f ∷ d.back) f) (sym whole) w.1)
+        let none_after = none_behind (f.value + span f.bits) (2 ^ 24) d.back d.after (omega arith) in
+        let inner : length (leaves_inside f (c.front ++ (d.front ++ d.back))) ≡ length d.front =
+        omega (arith, inside-append f c.front (d.front ++ d.back), inside-append f d.front d.back, none_before 0 c.front c.before, all_inside f d.front inside, none_after) in
+        let count : length (c.front ++ f ∷ d.back) + length d.front ≡ length (c.front ++ (d.front ++ d.back)) + 1 =
+        omega (arith, length-append c.front (f ∷ d.back), length-append c.front (d.front ++ d.back), length-append d.front d.back) in
+        let gone : (g : Fragment) → HasLeaf d.front g → lies_inside f g ≡ false → ⊥ = λ g here out. false≢true (sym out ∙ inside g here) in
+        let leaves = replaced f c.front d.front (f ∷ []) d.back c.before d.after (λ g. lies_inside f g ≡ false) (λ g. g ≡ f) beside gone (λ g. (only_leaf f g, λ same. subst (HasLeaf (f ∷ [])) (sym same) (first f []))) in
+        let few : length (c.front ++ f ∷ d.back) ≤ 4096 = omega (arith, count, inner, ap (length {A = Fragment}) whole, ap (λ ys. length (leaves_inside f ys)) whole, tree.few) in (
+          c.front ++ f ∷ d.back,
+          record { tiles = replaced_tiles f c.front d.front (f ∷ []) d.back c.before d.after (h, refl, refl); few = few },
+          subst (λ ys. IsMerge ys (c.front ++ f ∷ d.back) f) (sym whole) (record { leaves = leaves; count = omega (arith, count, inner) }),
+        )

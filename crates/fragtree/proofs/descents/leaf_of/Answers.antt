@@ -15,8 +15,7 @@ frag_at-leaf-requires-clause-few c = omega (arith, (goes_on _ c.requires.some _ 
 pub loop-nb-smaller : goal.loop-nb-smaller
 loop-nb-smaller c =
     let w = goes_on _ c.requires.some _ _ c.loop-nb.invariant _ c.in-Some.ensures in
-    let bits = ap (λ (f : Fragment). f.bits) c.frag_at-leaf.ensures in
-    omega (arith, w.0, w.1, c.bits.ensures.bits, bits)
+    omega (arith, w.0, w.1, c.bits.ensures.bits, ap (λ (f : Fragment). f.bits) c.frag_at-leaf.ensures)
 
 pub loop-nb-preserved : goal.loop-nb-preserved
 loop-nb-preserved c =
