@@ -1,7 +1,7 @@
 -- The first fragment that is split, of those from another on.
 use Rattle.fragtree.proofs.Common.{ContainsFragment, Equal, Fragment, Greater, IsFragment, Less, List, MatchOrdering, None, Ordering, Some, Splits, T, [], ap, arith, below_all, cases_Bool, cases_lt, cond, entries_sorted, find, find-where_key, frag-exact, frag_cmp, get-entries, inl, inr, is_from, is_le, is_lt, is_sorted, is_sorted-where_key, left_of, nat_cmp, ordering_then, ranks, refl, right_of, span, subst, sym, true, where_key, ℕ, ◌+◌, ◌<◌, ◌↔◌, ◌∙◌, ◌∷◌, ◌≡◌, ◌≤◌, ◌⊎◌}
 use Rattle.std.specs.FinMap as map
-use Rattle.sorted_map.proofs.PlaceLaws.{less}
+use Rattle.sorted_map.proofs.PlaceLaws.{less as less_so}
 use Rattle.fragtree.proofs.Entries.{apart, itself}
 use Rattle.fragtree.proofs.Ranges.{span_pos, ends_before, quotient_from_range, range_from_quotient}
 
@@ -20,7 +20,7 @@ pub frag_le : (f g : Fragment) → is_le (frag_cmp f g) ≡ true → (f.value < 
 frag_le f g = (frag_le_iff f g).0
 
 value_rises : (f e : Fragment) → T (is_lt (frag_cmp f e)) → f.value ≤ e.value
-value_rises f e rises = elim (frag_le f e (ap is_le (less (frag_cmp f e) rises))) [ inl before ↦ omega arith | inr tied ↦ omega (arith, tied.0) ]
+value_rises f e rises = elim (frag_le f e (ap is_le (less_so (frag_cmp f e) rises))) [ inl before ↦ omega arith | inr tied ↦ omega (arith, tied.0) ]
 
 -- what begins before a key isn't found among the keys behind it
 not_behind : (g e : Fragment) (es : List (Fragment × ℕ)) → g.value < e.value → T (below_all frag_cmp e es) → find frag_cmp g es ≡ None

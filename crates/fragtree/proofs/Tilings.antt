@@ -141,11 +141,10 @@ module _ (f : Fragment) (front old new back : List Fragment) (before : Tiles 0 f
     stays g (inr stands) = beside g (inr (between (f.value + span f.bits) (2 ^ 24) back g after stands).1)
 
     pub replaced : (g : Fragment) → HasLeaf (front ++ (new ++ back)) g ↔ ((HasLeaf (front ++ (old ++ back)) g × Stays g) ⊎ Comes g)
-    replaced g = (now, there)
-      where
-        now : HasLeaf (front ++ (new ++ back)) g → (HasLeaf (front ++ (old ++ back)) g × Stays g) ⊎ Comes g
-        now stands = elim (in_parts front new back g stands) [ inl out ↦ inl (of_parts front old back g (inl out), stays g out) | inr here ↦ inr ((come g).0 here) ]
-
-        there : (HasLeaf (front ++ (old ++ back)) g × Stays g) ⊎ Comes g → HasLeaf (front ++ (new ++ back)) g
-        there (inr comes) = of_parts front new back g (inr ((come g).1 comes))
-        there (inl was) = elim (in_parts front old back g was.0) [ inl out ↦ of_parts front new back g (inl out) | inr here ↦ absurd (gone g here was.1) ]
+    replaced g = (
+      λ stands. elim (in_parts front new back g stands) [ inl out ↦ inl (of_parts front old back g (inl out), stays g out) | inr here ↦ inr ((come g).0 here) ],
+      λ either. elim either [
+        | inr comes ↦ of_parts front new back g (inr ((come g).1 comes))
+        | inl was ↦ elim (in_parts front old back g was.0) [ inl out ↦ of_parts front new back g (inl out) | inr here ↦ absurd (gone g here was.1) ]
+      ],
+    )

@@ -1,5 +1,5 @@
 -- What follows from the definitions of trees, picks, splits and merges.
-use Rattle.std.proofs.Common.{◌≡◌, ◌≢◌, ◌↔◌, inl, inr, ℕ, zero, ◌+◌, ◌/◌, ◌%◌, ◌^◌, ◌<◌, ◌≤◌, true, false, cond, nat_lt, ◌==◌, List, [], ◌∷◌, length, refl, sym, ap, subst, ◌∙◌, arith}
+use Rattle.std.proofs.Common.{◌≡◌, ◌≢◌, ◌↔◌, inl, inr, ℕ, zero, ◌+◌, ◌%◌, ◌^◌, ◌<◌, ◌≤◌, true, false, cond, nat_lt, ◌==◌, List, [], ◌∷◌, length, refl, sym, ap, subst, ◌∙◌, arith}
 use Rattle.std.proofs.lemmas.Bool.Decides.{nat_tests}
 use Rattle.std.proofs.lemmas.List.{get_or_default}
 use Rattle.std.proofs.lemmas.List.Elements.{Contains-get_or}
@@ -7,7 +7,7 @@ use Rattle.mds_types.specs.Frag.{Fragment, IsFragment, Contains, ContainsFragmen
 use Rattle.mds_types.specs.declared.refusals.Refusal.{Refusal}
 use Rattle.mds_types.specs.declared.refusals.Refusal.TheVariants.{NoMemory, NoSuchFrag, BadSplit, TooManyFrags}
 use Rattle.fragtree.specs.FragTree.{Tiles, IsTree, HasLeaf, IsPick, IsChild, IsSplit, IsMerge, RefusesSplit, RefusesMerge, leaves_inside, lies_inside}
-use Rattle.fragtree.proofs.Ranges.{span_pos, ends_before, ends_within, range_from_Contains, Contains-from_range, range_from_inside, range_from_quotient, lies_inside-true}
+use Rattle.fragtree.proofs.Ranges.{span_pos, ends_before, ends_within, range_from_Contains, Contains-from_range, range_from_inside, range_from_quotient, quotient_from_range, lies_inside-true}
 use Rattle.fragtree.proofs.Tilings.{IsPlace, between, in_one, leaf_at, low_le_high, one_place}
 -- what is a leaf of a list of them
 pub use Rattle.fragtree.proofs.Tilings.{first, first_or_later, later, only_leaf}
@@ -65,22 +65,18 @@ same_tiles low high (f ∷ fs) (g ∷ gs) t u h =
 
 -- what lies inside is contained, and another
 pub inside_iff : (f g : Fragment) → IsFragment f → IsFragment g → (lies_inside f g ≡ true) ↔ (ContainsFragment f g × (g ≢ f))
-inside_iff f g hf hg = (contained, inside) where
-  contained : lies_inside f g ≡ true → ContainsFragment f g × (g ≢ f)
-  contained e =
-      let more : f.bits < g.bits = grind (arith, nat_tests) in
-      let same : g.value / span f.bits ≡ f.value / span f.bits = grind (arith, nat_tests) in
-      ((omega arith, same), λ is. omega (arith, ap (λ (h : Fragment). h.bits) is))
-
-  inside : ContainsFragment f g × (g ≢ f) → lies_inside f g ≡ true
-  inside (within, other) =
+inside_iff f g hf hg = (
+  λ e. let (more, low, high) = range_from_inside f g hf e in
+      ((omega arith, quotient_from_range f.value g.value (span f.bits) (span_pos f.bits) hf.justified low high), λ is. omega (arith, more, ap (λ (h : Fragment). h.bits) is)),
+  λ (within, other).
       let w = range_from_quotient f.value g.value (span f.bits) (span_pos f.bits) hf.justified within.1 in
       let not_same : g.bits ≤ f.bits → ⊥ = λ le.
       let not_after : f.value < g.value → ⊥ = λ less. omega (arith, ends_before g f hg hf le less, w.1) in
       let bits : g.bits ≡ f.bits = omega (arith, within.0) in
       let values : g.value ≡ f.value = omega (arith, w.0) in
       other (λ i. record { bits = bits i; value = values i }) in
-      lies_inside-true f g hf (omega arith) w.0 w.1
+      lies_inside-true f g hf (omega arith) w.0 w.1,
+)
 
 module _ (old new : List Fragment) (f : Fragment) (tree : IsTree new) (hash : ℕ) (leaf : Fragment) (p : IsPick old hash leaf) where
   -- after a split a hash of another leaf has its pick, and one of the split leaf has a child of it
