@@ -1,15 +1,15 @@
 -- Names of other crates, and of this one's definitions, as the proofs of this crate take them.
-pub use Rattle.fragtree.specs.Descents.{AllSome, Descends, Ends, EndsBeyond, IsLedTo, IsSplitRound, KeepsEnds, Spells, Splits, frag_at, halved, on, splits_round, there}
+pub use Rattle.fragtree.specs.Descents.{AllSome, Descends, Ends, EndsBeyond, IsKept, IsLedTo, IsSplitRound, KeepsEnds, Spells, Splits, frag_at, halved, leaves_of, on, splits_round, there}
 pub use Rattle.fragtree.specs.FragTree.{HasLeaf, IsAscendingCover, IsPick, IsTree, Tiles}
 pub use Rattle.mds_types.specs.Frag.{Contains, ContainsFragment, Fragment, IsFragment, frag_cmp, root_fragment, span}
 pub use Rattle.mds_types.specs.OrderLaws.{frag-exact}
 pub use Rattle.sorted_map.proofs.Bools.{left_of, right_of}
 pub use Rattle.sorted_map.specs.SortedMap.{contents, is_from}
 pub use Rattle.std.proofs.Common.{Bool, Err, IfNone, IfSome, IsSome, List, None, Ok, Option, Result, Some, T, [], ap, arith, cond, drop, false, inl, inr, is_some, leb, length, refl, rules, subst, suc, sym, true, zero, ℕ, ◌%◌, ◌*◌, ◌++◌, ◌+◌, ◌-◌, ◌<◌, ◌^◌, ◌↔◌, ◌∙◌, ◌∷◌, ◌≡◌, ◌≤◌, ◌⊎◌}
-pub use Rattle.std.proofs.Math.Nat.{mod-eq_of_lt}
-pub use Rattle.std.proofs.lemmas.Bool.{cases_lt}
+pub use Rattle.std.proofs.Math.Nat.{mod-eq_of_lt, pow-le-pow_right}
+pub use Rattle.std.proofs.lemmas.Bool.{cases_Bool, cases_lt}
 pub use Rattle.std.proofs.lemmas.Bool.Decides.{nat_tests}
-pub use Rattle.std.proofs.lemmas.List.{get_or_default}
+pub use Rattle.std.proofs.lemmas.List.{append_assoc, get_or_default}
 pub use Rattle.std.proofs.lemmas.List.Elements.{Contains-get_or}
 pub use Rattle.std.proofs.lemmas.Nat.{one_shl}
 pub use Rattle.std.proofs.lemmas.Slice.Eq.{slice_eq-Decides}

@@ -3,9 +3,6 @@ use Rattle.std.proofs.Common.{◌≡◌, ℕ, zero, suc, ◌+◌, ◌<◌, ◌�
 use Rattle.std.specs.Option.{unwrap_or, option_map}
 use Rattle.fragtree.specs.Descents.{Descends, there, on, Ends, depth}
 
-none_there : (round : ℕ → Option ℕ) (n nb to : ℕ) → round n ≡ Some nb → n ≡ to → round to ≡ None → ⊥
-none_there round n nb to is same none = let clash : Some nb ≡ None = sym is ∙ ap round same ∙ none in cc
-
 module _ (round : ℕ → Option ℕ) where
   pub rises : (to n : ℕ) → Descends round to n → n ≤ to
   rises to _ (there n same) = omega (arith, same)
@@ -18,7 +15,7 @@ module _ (round : ℕ → Option ℕ) where
   -- a descent that passes a fragment and ends goes on from there to its end
   pub rest : (mid to n : ℕ) → Descends round mid n → Descends round to n → round to ≡ None → Descends round to mid
   rest mid to _ (there n same) all none = subst (Descends round to) same all
-  rest mid to _ (on n nb is more) (there _ same) none = absurd (none_there round n nb to is same none)
+  rest mid to _ (on n nb is more) (there _ same) none = let clash : Some nb ≡ None = sym is ∙ ap round same ∙ none in cc
   rest mid to _ (on n nb is more) (on _ nb2 is2 all) none =
       let alike : nb2 ≡ nb = let both : Some nb2 ≡ Some nb = sym is2 ∙ is in cc in
       rest mid to (n + nb) more (subst (λ k. Descends round to (n + k)) alike all) none
@@ -51,9 +48,3 @@ module _ (round : ℕ → Option ℕ) where
     kept other to _ same (on n nb is more) =
         let less : n < to = omega (arith, some n nb is, rises to (n + nb) more) in
         on n nb (same n (omega arith) less ∙ is) (kept other to (n + nb) (λ b from below. same b (omega arith) below) more)
-
-    pub ends_kept : (other : ℕ → Option ℕ) (to : ℕ) → to ≤ 24 → ((b : ℕ) → b ≤ 24 → other b ≡ round b) → Ends round to → Ends other to
-    ends_kept other to few same e = record {
-      descends = kept other to 0 (λ b from below. same b (omega arith)) e.descends;
-      nothing = λ b from at_most. same b at_most ∙ e.nothing b from at_most;
-    }

@@ -7,7 +7,6 @@ pub mod FirstKeys
 pub mod Kept
 pub mod Made
 pub mod Merges
-pub mod Places
 pub mod Ranges
 pub mod Rounds
 pub mod Spelled

@@ -1,8 +1,10 @@
 -- Fragments as ranges of hashes: from the value up to the value and the span.
 use Rattle.std.proofs.Common.{◌≡◌, ℕ, ◌+◌, ◌-◌, ◌*◌, ◌/◌, ◌%◌, ◌^◌, ◌<◌, ◌≤◌, true, refl, sym, ap, subst, ◌∙◌, arith}
-use Rattle.std.proofs.Math.Nat.{div-add-mod, mul-mod_left, mul-le-mul_left, pow-le-pow_right}
+use Rattle.std.proofs.Math.Nat.{div-add-mod, dvd-add, dvd-mul_left, dvd-sub, mul-le-mul_right}
 use Rattle.std.proofs.lemmas.Bool.Decides.{nat_tests}
+use Rattle.std.proofs.lemmas.Nat.Gcd.{dvd_of_mod-eq-zero, dvd_trans, le_of_dvd}
 use Rattle.std.proofs.lemmas.Nat.{pow_pos, div-mul-add}
+use Rattle.std.specs.Int.{◌∣◌}
 use Rattle.mds_types.specs.Frag.{Fragment, IsFragment, Contains, span}
 use Rattle.mds_types.proofs.Fragments.{span-split}
 use Rattle.fragtree.specs.FragTree.{lies_inside}
@@ -10,48 +12,37 @@ use Rattle.fragtree.specs.FragTree.{lies_inside}
 pub span_pos : (b : ℕ) → 0 < span b
 span_pos b = pow_pos (24 - b)
 
--- more bits, fewer hashes
-pub span_falls : (b c : ℕ) → b ≤ c → span c ≤ span b
-span_falls b c le = pow-le-pow_right (omega arith) (omega arith)
-
 -- a multiple of t that is above another is above it by t at least
-pub next_multiple : (v m t : ℕ) → v % t ≡ 0 → m % t ≡ 0 → v < m → v + t ≤ m
-next_multiple v m t p q less =
-    let low : t * (v / t) ≡ v = omega (arith, div-add-mod v t) in
-    let high : t * (m / t) ≡ m = omega (arith, div-add-mod m t) in
-    let not_under : m / t ≤ v / t → ⊥ = λ under. omega (arith, mul-le-mul_left t under) in
-    let above : v / t + 1 ≤ m / t = omega arith in
-    omega (arith, mul-le-mul_left t above)
-
--- the edges of a range of k t are multiples of t
-coarse : (v k t : ℕ) → v % (k * t) ≡ 0 → (v % t ≡ 0) × ((v + k * t) % t ≡ 0)
-coarse v k t whole =
-    let q = v / (k * t) in
-    let low : v ≡ (k * q) * t = omega (arith, div-add-mod v (k * t)) in
-    let high : v + k * t ≡ (k * q + k) * t = omega (arith, low) in
-    (ap (λ n. n % t) low ∙ mul-mod_left (k * q) t, ap (λ n. n % t) high ∙ mul-mod_left (k * q + k) t)
+next_multiple : (v m t : ℕ) → t ∣ v → t ∣ m → v < m → v + t ≤ m
+next_multiple v m t p q less = let step : t ≤ m - v = le_of_dvd (omega arith) (dvd-sub t q p) in omega arith
 
 -- the edges of a fragment are multiples of the span of more bits
-edges : (f : Fragment) (c : ℕ) → IsFragment f → f.bits ≤ c → c ≤ 24 → (f.value % span c ≡ 0) × ((f.value + span f.bits) % span c ≡ 0)
+edges : (f : Fragment) (c : ℕ) → IsFragment f → f.bits ≤ c → c ≤ 24 → (span c ∣ f.value) × (span c ∣ f.value + span f.bits)
 edges f c h le few =
-    let n = c - f.bits in
-    let bits : f.bits + n ≡ c = omega arith in
-    let times : span f.bits ≡ 2 ^ n * span c = span-split f.bits n (omega arith) ∙ ap (λ b. 2 ^ n * span b) bits in
-    let w = coarse f.value (2 ^ n) (span c) (subst (λ s. f.value % s ≡ 0) times h.justified) in
-    (w.0, subst (λ s. (f.value + s) % span c ≡ 0) (sym times) w.1)
+    let bits : f.bits + (c - f.bits) ≡ c = omega arith in
+    let times : 2 ^ (c - f.bits) * span c ≡ span f.bits = ap (λ b. 2 ^ (c - f.bits) * span b) (sym bits) ∙ sym (span-split f.bits (c - f.bits) (omega arith)) in
+    let steps : span c ∣ span f.bits = subst (λ s. span c ∣ s) times (dvd-mul_left (span c) (2 ^ (c - f.bits))) in
+    let value : span c ∣ f.value = dvd_trans (span c) steps (dvd_of_mod-eq-zero (span f.bits) h.justified) in
+    (value, dvd-add (span c) value steps)
 
 -- f has no more bits than g: where g begins before f, it ends before f
 pub ends_before : (f g : Fragment) → IsFragment f → IsFragment g → f.bits ≤ g.bits → g.value < f.value → g.value + span g.bits ≤ f.value
-ends_before f g hf hg le less = next_multiple g.value f.value (span g.bits) hg.justified (edges f g.bits hf le hg.few_bits).0 less
+ends_before f g hf hg le less = next_multiple g.value f.value (span g.bits) (dvd_of_mod-eq-zero (span g.bits) hg.justified) (edges f g.bits hf le hg.few_bits).0 less
 
 -- f has no more bits than g: where g begins before the end of f, it ends there at the latest
 pub ends_within : (f g : Fragment) → IsFragment f → IsFragment g → f.bits ≤ g.bits → g.value < f.value + span f.bits → g.value + span g.bits ≤ f.value + span f.bits
 ends_within f g hf hg le less =
-    next_multiple g.value (f.value + span f.bits) (span g.bits) hg.justified (edges f g.bits hf le hg.few_bits).1 less
+    next_multiple g.value (f.value + span f.bits) (span g.bits) (dvd_of_mod-eq-zero (span g.bits) hg.justified) (edges f g.bits hf le hg.few_bits).1 less
 
 -- a fragment ends at 2 ^ 24 at the latest
 pub ends_low : (f : Fragment) → IsFragment f → f.value + span f.bits ≤ 2 ^ 24
 ends_low f h = ends_within (record { bits = 0; value = 0 }) f (record { few_bits = omega arith; in_range = omega arith; justified = refl }) h (omega arith) h.in_range
+
+-- a child ends where its parent does, or before
+pub child_within : (f : Fragment) (i nb : ℕ) → f.bits + nb ≤ 24 → i < 2 ^ nb → f.value + i * span (f.bits + nb) + span (f.bits + nb) ≤ f.value + span f.bits
+child_within f i nb few below =
+    let steps : (i + 1) * span (f.bits + nb) ≤ 2 ^ nb * span (f.bits + nb) = mul-le-mul_right (span (f.bits + nb)) (omega arith) in
+    omega (arith, steps, span-split f.bits nb few)
 
 -- numbers with the quotient of a multiple of s are the s numbers from it on
 module _ (v h s : ℕ) (some : 0 < s) (whole : v % s ≡ 0) where

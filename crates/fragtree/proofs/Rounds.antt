@@ -37,10 +37,7 @@ frag_at-alike g h b fragment low high few =
 pub in_or_out : (g : Fragment) (h : ℕ) → ((g.value ≤ h) × (h < g.value + span g.bits)) ⊎ ((g.value ≤ h) × (h < g.value + span g.bits) → ⊥)
 in_or_out g h = elim (cases_lt h g.value) [
   | inl before ↦ inr (λ w. omega (arith, w.0))
-  | inr from ↦ elim (cases_lt h (g.value + span g.bits)) [
-    | inl within ↦ inl (from, within)
-    | inr behind ↦ inr (λ w. omega (arith, w.1))
-  ]
+  | inr from ↦ elim (cases_lt h (g.value + span g.bits)) [ inl within ↦ inl (from, within) | inr behind ↦ inr (λ w. omega (arith, w.1)) ]
 ]
 
 -- no fragment round a hash that lies outside is the fragment

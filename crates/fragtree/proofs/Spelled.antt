@@ -1,19 +1,18 @@
 -- The leaves that splits spell, and what a split, a halving and a merge make of them.
-use Rattle.std.proofs.Common.{◌≡◌, ◌≢◌, ◌⊎◌, inl, inr, ℕ, zero, suc, ◌+◌, ◌-◌, ◌*◌, ◌^◌, ◌<◌, ◌≤◌, List, [], ◌∷◌, length, Some, refl, sym, ap, subst, ◌∙◌, arith}
-use Rattle.std.proofs.lemmas.List.{get_or_default}
+use Rattle.std.proofs.Common.{◌≡◌, ◌≢◌, inl, inr, ℕ, zero, suc, ◌+◌, ◌-◌, ◌^◌, ◌<◌, ◌≤◌, List, [], ◌∷◌, length, Some, refl, sym, ap, subst, ◌∙◌, arith}
 use Rattle.std.specs.FinMap as map
-use Rattle.mds_types.specs.Frag.{Fragment, IsFragment, child_of, root_fragment, span}
+use Rattle.mds_types.specs.Frag.{Fragment, IsFragment, child_of, span}
 use Rattle.mds_types.proofs.Fragments.{child_is_fragment, span-split}
 use Rattle.std.proofs.lemmas.Bool.{cases_lt}
-use Rattle.std.proofs.Math.Nat.{mul-le-mul_right}
 use Rattle.fragtree.specs.FragTree.{Tiles, IsTree, HasLeaf, IsSplit, IsMerge, FitsSplit}
-use Rattle.fragtree.proofs.Places.{IsPlace, leaf_at}
 use Rattle.fragtree.specs.Descents.{Splits, AllSome, Descends, there, on, Ends, IsClosed, IsForgotten, IsKept, KeepsEnds, Spells, depth, frag_at, fragments_from, halved, leaves_of, splits_round}
-use Rattle.fragtree.proofs.DescentLaws.{depth-is, ends_kept, joined, kept, rest, rises}
+use Rattle.fragtree.proofs.DescentLaws.{depth-is, joined, kept, rest, rises}
 use Rattle.fragtree.proofs.Entries.{after_put, get_beside, get_put}
-use Rattle.fragtree.proofs.Ranges.{span_pos, ends_low, ends_within}
+use Rattle.fragtree.proofs.Ranges.{child_within, span_pos, ends_low}
 use Rattle.fragtree.proofs.Rounds.{frag_at-IsFragment, frag_at-alike, frag_at-is, in_or_out, not_within_round, outside, within_round}
-use Rattle.fragtree.proofs.Tilings.{between, one_place}
+use Rattle.fragtree.proofs.Tilings.{between}
+-- two leaves of one hash are one
+pub use Rattle.fragtree.proofs.TreeLaws.{one_leaf}
 
 fragments_from-is : (bits_of : ℕ → ℕ) (low high : ℕ) (xs : List Fragment) → Tiles low high xs → ((g : Fragment) → HasLeaf xs g → bits_of g.value ≡ g.bits) → fragments_from bits_of (length xs) low ≡ xs
 fragments_from-is bits_of low high [] t told = refl
@@ -24,47 +23,38 @@ fragments_from-is bits_of low high (f ∷ fs) t told =
     fragments_from-is bits_of (low + span f.bits) high fs t.2 (λ g (k, stands, is). told g (suc k, omega (arith, stands), is)) in
     ap (λ b. frag_at b low ∷ fragments_from bits_of (length fs) (low + span b)) first ∙ ap (λ g. g ∷ fragments_from bits_of (length fs) (low + span f.bits)) head ∙ ap (λ ys. f ∷ ys) more
 
+round_some : (s : Splits) → AllSome s → (h b nb : ℕ) → splits_round s h b ≡ Some nb → 1 ≤ nb
+round_some s some h b nb is = some (frag_at b h) nb is
+
 -- leaves that are spelled are the leaves that the splits spell
 pub leaves_of-is : (s : Splits) (xs : List Fragment) → IsTree xs → Spells s xs → leaves_of s (length xs) ≡ xs
 unfolding leaves_of
-leaves_of-is s xs tree spells = fragments_from-is (λ hash. depth 24 (splits_round s hash) 0) 0 (2 ^ 24) xs tree.tiles ends_at
-  where
-    ends_at : (g : Fragment) → HasLeaf xs g → depth 24 (splits_round s g.value) 0 ≡ g.bits
-    ends_at g stands =
-        let few : g.bits ≤ 24 = (between 0 (2 ^ 24) xs g tree.tiles stands).0.few_bits in
-        let e = spells.ends g stands g.value (omega arith) (omega (arith, span_pos g.bits)) in
-        depth-is (splits_round s g.value) (λ b nb is. spells.some (frag_at b g.value) nb is) 24 g.bits 0 e.descends (e.nothing g.bits (omega arith) few) (omega (arith, few))
+leaves_of-is s xs tree spells = fragments_from-is (λ hash. depth 24 (splits_round s hash) 0) 0 (2 ^ 24) xs tree.tiles (λ g stands.
+    let few : g.bits ≤ 24 = (between 0 (2 ^ 24) xs g tree.tiles stands).0.few_bits in
+    let e = spells.ends g stands g.value (omega arith) (omega (arith, span_pos g.bits)) in
+    depth-is (splits_round s g.value) (round_some s spells.some g.value) 24 g.bits 0 e.descends (e.nothing g.bits (omega arith) few) (omega (arith, few)))
 
 pub is_kept : (s : Splits) (xs : List Fragment) (count : ℕ) → IsTree xs → Spells s xs → count ≡ length xs → (leaves_of s count ≡ xs) × IsKept s count
 is_kept s xs count tree spells is =
     let same : leaves_of s count ≡ xs = ap (leaves_of s) is ∙ leaves_of-is s xs tree spells in
     (same, record { tree = subst IsTree (sym same) tree; spells = subst (Spells s) (sym same) spells })
 
--- two leaves of one hash are one
-pub one_leaf : (xs : List Fragment) (f g : Fragment) (h : ℕ) → IsTree xs → HasLeaf xs f → HasLeaf xs g → f.value ≤ h → h < f.value + span f.bits → g.value ≤ h → h < g.value + span g.bits → f ≡ g
-one_leaf xs f g h tree (i, stands, is) (j, stands2, is2) low high low2 high2 =
-    let first : leaf_at xs i ≡ f = get_or_default xs i root_fragment f stands ∙ is in
-    let second : leaf_at xs j ≡ g = get_or_default xs j root_fragment g stands2 ∙ is2 in
-    let p : IsPlace xs h i = record { stands = stands; begins = omega (arith, ap (λ (k : Fragment). k.value) first); ends = subst (λ (k : Fragment). h < k.value + span k.bits) (sym first) high } in
-    let q : IsPlace xs h j = record { stands = stands2; begins = omega (arith, ap (λ (k : Fragment). k.value) second); ends = subst (λ (k : Fragment). h < k.value + span k.bits) (sym second) high2 } in
-    sym first ∙ ap (leaf_at xs) (one_place 0 (2 ^ 24) xs h i j tree.tiles p q) ∙ second
+-- what isn't split otherwise round a hash is descended as before
+ends_alike : (s : Splits) → AllSome s → (h : ℕ) (new : Splits) (to : ℕ) → to ≤ 24 → ((b : ℕ) → b ≤ 24 → map.get new (frag_at b h) ≡ map.get s (frag_at b h)) → Ends (splits_round s h) to → Ends (splits_round new h) to
+ends_alike s some h new to few same e = record {
+  descends = kept (splits_round s h) (round_some s some h) (splits_round new h) to 0 (λ b from below. same b (omega arith)) e.descends;
+  nothing = λ b from at_most. same b at_most ∙ e.nothing b from at_most;
+}
 
-module _ (s : Splits) (some : AllSome s) (h : ℕ) where
-  round_some : (b nb : ℕ) → splits_round s h b ≡ Some nb → 1 ≤ nb
-  round_some b nb is = some (frag_at b h) nb is
-
-  -- what isn't split otherwise round a hash is descended as before
-  pub ends_alike : (new : Splits) (to : ℕ) → to ≤ 24 → ((b : ℕ) → b ≤ 24 → map.get new (frag_at b h) ≡ map.get s (frag_at b h)) → Ends (splits_round s h) to → Ends (splits_round new h) to
-  ends_alike new to few same e = ends_kept (splits_round s h) round_some (splits_round new h) to few same e
+put_some : (s : Splits) (k : Fragment) (x : ℕ) → AllSome s → 1 ≤ x → AllSome (map.insert s k x)
+put_some s k x some more g nb is = elim (after_put s k x g nb is) [ inl put ↦ omega (arith, more, put.1) | inr old ↦ some g nb old ]
 
 -- a split
 module _ (s : Splits) (xs ys : List Fragment) (f : Fragment) (nb : ℕ) (was : IsTree xs) (spells : Spells s xs) (stands : HasLeaf xs f) (fits : FitsSplit f nb) (now : IsTree ys) (split : IsSplit xs ys f nb) where
-  whole : IsFragment f
-  whole = (between 0 (2 ^ 24) xs f was.tiles stands).0
-
   ends_in_child : (h : ℕ) → f.value ≤ h → h < f.value + span f.bits → Ends (splits_round (map.insert s f nb) h) (f.bits + nb)
   ends_in_child h low high =
       let e = spells.ends f stands h low high in
+      let whole = (between 0 (2 ^ 24) xs f was.tiles stands).0 in
       let beside : (b : ℕ) → b ≢ f.bits → splits_round (map.insert s f nb) h b ≡ splits_round s h b = λ b other. get_beside s f nb (frag_at b h) (λ same. other (ap (λ (k : Fragment). k.bits) same)) in
       let here : splits_round (map.insert s f nb) h f.bits ≡ Some nb = ap (map.get (map.insert s f nb)) (frag_at-is f h whole low high) ∙ get_put s f nb in
       let first = kept (splits_round s h) (round_some s spells.some h) (splits_round (map.insert s f nb) h) f.bits 0 (λ b from below. beside b (λ same. omega (arith, same))) e.descends in
@@ -73,35 +63,22 @@ module _ (s : Splits) (xs ys : List Fragment) (f : Fragment) (nb : ℕ) (was : I
         nothing = λ b from few. beside b (λ same. omega (arith, same, fits.some)) ∙ e.nothing b (omega arith) few;
       }
 
-  ends_beside : (g : Fragment) → HasLeaf xs g → g ≢ f → (h : ℕ) → g.value ≤ h → h < g.value + span g.bits → Ends (splits_round (map.insert s f nb) h) g.bits
-  ends_beside g stands2 other h low high =
-      let few : g.bits ≤ 24 = (between 0 (2 ^ 24) xs g was.tiles stands2).0.few_bits in
-      ends_alike s spells.some h (map.insert s f nb) g.bits few (λ b at_most. get_beside s f nb (frag_at b h) (outside f h b (λ w. other (one_leaf xs g f h was stands2 stands low high w.0 w.1)))) (spells.ends g stands2 h low high)
-
   pub split_spells : Spells (map.insert s f nb) ys
-  split_spells = record { some = some; ends = ends }
-    where
-      some : AllSome (map.insert s f nb)
-      some g n is = elim (after_put s f nb g n is) [ inl same ↦ omega (arith, fits.some, same) | inr old ↦ spells.some g n old ]
-
-      ends : (g : Fragment) → HasLeaf ys g → (h : ℕ) → g.value ≤ h → h < g.value + span g.bits → Ends (splits_round (map.insert s f nb) h) g.bits
-      ends g new h low high = elim ((split.leaves g).0 new) [
-        | inl old ↦ ends_beside g old.0 old.1 h low high
-        | inr child ↦
-            let is : g ≡ child_of f child.0 nb = child.2 in
-            let fragment = (between 0 (2 ^ 24) ys g now.tiles new).0 in
-            let begins : f.value ≤ g.value = omega (arith, ap (λ (k : Fragment). k.value) is) in
-            let bits : g.bits ≡ f.bits + nb = ap (λ (k : Fragment). k.bits) is in
-            let under : g.value < f.value + span f.bits = child_within child.0 child.1 g is in
-            let within = ends_within f g whole fragment (omega (arith, bits)) under in
-            subst (Ends (splits_round (map.insert s f nb) h)) (sym bits) (ends_in_child h (omega (arith, begins)) (omega (arith, within)))
-      ]
-        where
-          child_within : (i : ℕ) → i < 2 ^ nb → (g : Fragment) → g ≡ child_of f i nb → g.value < f.value + span f.bits
-          child_within i below g is =
-              let t = span (f.bits + nb) in
-              let steps : (i + 1) * t ≤ 2 ^ nb * t = mul-le-mul_right t (omega (arith, below)) in
-              omega (arith, ap (λ (k : Fragment). k.value) is, steps, span-split f.bits nb fits.in_all, span_pos (f.bits + nb))
+  split_spells = record {
+    some = put_some s f nb spells.some fits.some;
+    ends = λ g new h low high. elim ((split.leaves g).0 new) [
+      | inl old ↦
+          let few : g.bits ≤ 24 = (between 0 (2 ^ 24) xs g was.tiles old.0).0.few_bits in
+          let other : (b : ℕ) → frag_at b h ≢ f = λ b. outside f h b (λ w. old.1 (one_leaf xs g f h was old.0 stands low high w.0 w.1)) in
+          ends_alike s spells.some h (map.insert s f nb) g.bits few (λ b at_most. get_beside s f nb (frag_at b h) (other b)) (spells.ends g old.0 h low high)
+      | inr child ↦
+          let is : g ≡ child_of f child.0 nb = child.2 in
+          let begins : f.value ≤ g.value = omega (arith, ap (λ (k : Fragment). k.value) is) in
+          let bits : g.bits ≡ f.bits + nb = ap (λ (k : Fragment). k.bits) is in
+          let within = subst (λ (k : Fragment). k.value + span k.bits ≤ f.value + span f.bits) (sym is) (child_within f child.0 nb fits.in_all child.1) in
+          subst (Ends (splits_round (map.insert s f nb) h)) (sym bits) (ends_in_child h (omega (arith, begins, low)) (omega (arith, within, high)))
+    ];
+  }
 
 -- halving a fragment that is split by two bits or more, and that a descent passes
 module _ (s : Splits) (some : AllSome s) (g : Fragment) (nb h0 : ℕ) (whole : IsFragment g) (is : map.get s g ≡ Some nb) (two : 2 ≤ nb) (fits : g.bits + nb ≤ 24) (low0 : g.value ≤ h0) (high0 : h0 < g.value + span g.bits) (passes : Descends (splits_round s h0) g.bits 0) where
@@ -124,27 +101,16 @@ module _ (s : Splits) (some : AllSome s) (g : Fragment) (nb h0 : ℕ) (whole : I
       ∙ get_beside (map.insert s g 1) left (nb - 1) g (other_bits g left (λ e. omega (arith, e)))
       ∙ get_put s g 1
 
-  at_right : map.get (halved s g nb) right ≡ Some (nb - 1)
-  at_right = get_put (map.insert (map.insert s g 1) left (nb - 1)) right (nb - 1)
-
-  at_left : map.get (halved s g nb) left ≡ Some (nb - 1)
-  at_left =
-      get_beside (map.insert (map.insert s g 1) left (nb - 1)) right (nb - 1) left (λ same. omega (arith, ap (λ (f : Fragment). f.value) same, span_pos (g.bits + 1)))
-      ∙ get_put (map.insert s g 1) left (nb - 1)
-
   -- a hash of g lies in one half
-  in_half : (h : ℕ) → g.value ≤ h → h < g.value + span g.bits → (frag_at (g.bits + 1) h ≡ left) ⊎ (frag_at (g.bits + 1) h ≡ right)
-  in_half h low high =
-      let two_spans : span g.bits ≡ 2 * span (g.bits + 1) = span-split g.bits 1 (omega arith) in
-      elim (cases_lt h right.value) [
-        | inl first ↦ inl (frag_at-is left h (child_is_fragment g 0 1 whole (omega arith) (omega arith)) (omega (arith, low)) (omega (arith, first)))
-        | inr second ↦ inr (frag_at-is right h (child_is_fragment g 1 1 whole (omega arith) (omega arith)) second (omega (arith, high, two_spans)))
-      ]
-
   half_is : (h : ℕ) → g.value ≤ h → h < g.value + span g.bits → splits_round (halved s g nb) h (g.bits + 1) ≡ Some (nb - 1)
-  half_is h low high = elim (in_half h low high) [
-    | inl first ↦ ap (map.get (halved s g nb)) first ∙ at_left
-    | inr second ↦ ap (map.get (halved s g nb)) second ∙ at_right
+  half_is h low high = elim (cases_lt h right.value) [
+    | inl first ↦
+        ap (map.get (halved s g nb)) (frag_at-is left h (child_is_fragment g 0 1 whole (omega arith) (omega arith)) (omega (arith, low)) (omega (arith, first)))
+        ∙ get_beside (map.insert (map.insert s g 1) left (nb - 1)) right (nb - 1) left (λ same. omega (arith, ap (λ (f : Fragment). f.value) same, span_pos (g.bits + 1)))
+        ∙ get_put (map.insert s g 1) left (nb - 1)
+    | inr second ↦
+        ap (map.get (halved s g nb)) (frag_at-is right h (child_is_fragment g 1 1 whole (omega arith) (omega arith)) second (omega (arith, high, span-split g.bits 1 (omega arith))))
+        ∙ get_put (map.insert (map.insert s g 1) left (nb - 1)) right (nb - 1)
   ]
 
   -- the descent of another hash of g passes it too
@@ -168,9 +134,9 @@ module _ (s : Splits) (some : AllSome s) (g : Fragment) (nb h0 : ℕ) (whole : I
   inside_g h bits low high few e =
       let old = splits_round s h in
       let new = splits_round (halved s g nb) h in
-      let onward : Descends old bits g.bits = rest old g.bits bits 0 (passes_too h low high) e.descends (e.nothing bits (omega arith) few) in
       let here : old g.bits ≡ Some nb = ap (map.get s) (frag_at-is g h whole low high) ∙ is in
-      let behind : Descends old bits (g.bits + nb) = rest old (g.bits + nb) bits g.bits (on g.bits nb here (there (g.bits + nb) refl)) onward (e.nothing bits (omega arith) few) in
+      let past : Descends old (g.bits + nb) 0 = joined old g.bits (g.bits + nb) 0 (passes_too h low high) (on g.bits nb here (there (g.bits + nb) refl)) in
+      let behind : Descends old bits (g.bits + nb) = rest old (g.bits + nb) bits 0 past e.descends (e.nothing bits (omega arith) few) in
       let beyond : g.bits + nb ≤ bits = rises old bits (g.bits + nb) behind in
       let behind_new : Descends new bits (g.bits + nb) = kept old (round_some s some h) new bits (g.bits + nb) (λ b from below. beside_g h b (λ e. omega (arith, e, from)) (λ e. omega (arith, e, from))) behind in
       let sum : g.bits + 1 + (nb - 1) ≡ g.bits + nb = omega (arith, two) in
@@ -183,56 +149,45 @@ module _ (s : Splits) (some : AllSome s) (g : Fragment) (nb h0 : ℕ) (whole : I
   pub halved_keeps : KeepsEnds s (halved s g nb)
   halved_keeps h bits low few e = elim (in_or_out g h) [
     | inl within ↦ inside_g h bits within.0 within.1 few e
-    | inr out ↦ ends_alike s some h (halved s g nb) bits few (λ b at_most. elsewhere (frag_at b h) (outside g h b out) (outside left h b (λ w. out (half_within 0 (omega arith) w))) (outside right h b (λ w. out (half_within 1 (omega arith) w)))) e
+    | inr out ↦ ends_alike s some h (halved s g nb) bits few (λ b at_most. elsewhere (frag_at b h) (outside g h b out) (outside left h b (out_of_half out 0 (omega arith))) (outside right h b (out_of_half out 1 (omega arith)))) e
   ]
     where
-      half_within : (i : ℕ) → i < 2 → ((child_of g i 1).value ≤ h) × (h < (child_of g i 1).value + span (g.bits + 1)) → (g.value ≤ h) × (h < g.value + span g.bits)
-      half_within i few w =
-          let two_spans : span g.bits ≡ 2 * span (g.bits + 1) = span-split g.bits 1 (omega arith) in
-          let steps : (i + 1) * span (g.bits + 1) ≤ 2 * span (g.bits + 1) = mul-le-mul_right (span (g.bits + 1)) (omega (arith, few)) in
-          (omega (arith, w.0), omega (arith, w.1, steps, two_spans))
+      out_of_half : ((g.value ≤ h) × (h < g.value + span g.bits) → ⊥) → (i : ℕ) → i < 2 → ((child_of g i 1).value ≤ h) × (h < (child_of g i 1).value + span (g.bits + 1)) → ⊥
+      out_of_half out i few w = out (omega (arith, w.0), omega (arith, w.1, child_within g i 1 (omega arith) few))
 
   pub halved_some : AllSome (halved s g nb)
-  halved_some q n now =
-      elim (after_put (map.insert (map.insert s g 1) left (nb - 1)) right (nb - 1) q n now) [
-        | inl same ↦ omega (arith, same, two)
-        | inr one ↦ elim (after_put (map.insert s g 1) left (nb - 1) q n one) [
-          | inl same ↦ omega (arith, same, two)
-          | inr two_before ↦ elim (after_put s g 1 q n two_before) [ inl same ↦ omega (arith, same) | inr old ↦ some q n old ]
-        ]
-      ]
+  halved_some =
+      let one = put_some s g 1 some (omega arith) in
+      let two_put = put_some (map.insert s g 1) left (nb - 1) one (omega (arith, two)) in
+      put_some (map.insert (map.insert s g 1) left (nb - 1)) right (nb - 1) two_put (omega (arith, two))
 
 -- a fragment that a descent passes, with nothing split there or below any more
 pub closed : (s new : Splits) (f : Fragment) → AllSome s → IsFragment f → Descends (splits_round s f.value) f.bits 0 → IsForgotten s new f → IsClosed s new f
-closed s new f some whole passes forgot = record { inside = inside; outside = out }
-  where
-    inside : (h : ℕ) → f.value ≤ h → h < f.value + span f.bits → Ends (splits_round new h) f.bits
-    inside h low high = record {
-      descends = kept (splits_round s f.value) (round_some s some f.value) (splits_round new h) f.bits 0
-          (λ b from below. forgot.kept (frag_at b h) (λ w. omega (arith, w.0, below)) ∙ ap (map.get s) (frag_at-alike f h b whole low high (omega (arith, below)))) passes;
-      nothing = λ b from few. forgot.gone (frag_at b h) (frag_at-IsFragment b h few (omega (arith, high, ends_low f whole))) (within_round f h b whole (omega (arith, high, ends_low f whole)) few low high from);
-    }
-
-    out : (h bits : ℕ) → h < 2 ^ 24 → bits ≤ 24 → ((f.value ≤ h) × (h < f.value + span f.bits) → ⊥) → Ends (splits_round s h) bits → Ends (splits_round new h) bits
-    out h bits low few apart e = ends_alike s some h new bits few (λ b at_most. forgot.kept (frag_at b h) (λ w. not_within_round f h b whole low at_most apart w)) e
+closed s new f some whole passes forgot = record {
+  inside = λ h low high. record {
+    descends = kept (splits_round s f.value) (round_some s some f.value) (splits_round new h) f.bits 0
+        (λ b from below. forgot.kept (frag_at b h) (λ w. omega (arith, w.0, below)) ∙ ap (map.get s) (frag_at-alike f h b whole low high (omega (arith, below)))) passes;
+    nothing = λ b from few. forgot.gone (frag_at b h) (frag_at-IsFragment b h few (omega (arith, high, ends_low f whole))) (within_round f h b whole (omega (arith, high, ends_low f whole)) few low high from);
+  };
+  outside = λ h bits low few apart e. ends_alike s some h new bits few (λ b at_most. forgot.kept (frag_at b h) (λ w. not_within_round f h b whole low at_most apart w)) e;
+}
 
 -- a merge
 pub merge_spells : (s new : Splits) (xs ys : List Fragment) (f : Fragment) → IsTree xs → Spells s xs → IsTree ys → IsMerge xs ys f → AllSome new → IsClosed s new f → Spells new ys
-merge_spells s new xs ys f was spells now merge some closes = record { some = some; ends = ends }
-  where
-    merged : HasLeaf ys f
-    merged = (merge.leaves f).1 (inr refl)
-
-    ends : (g : Fragment) → HasLeaf ys g → (h : ℕ) → g.value ≤ h → h < g.value + span g.bits → Ends (splits_round new h) g.bits
-    ends g stands h low high = elim (in_or_out f h) [
-      | inl within ↦ subst (λ (k : Fragment). Ends (splits_round new h) k.bits) (one_leaf ys f g h now merged stands within.0 within.1 low high) (closes.inside h within.0 within.1)
-      | inr out ↦ elim ((merge.leaves g).0 stands) [
-        | inl old ↦
-            let fragment = (between 0 (2 ^ 24) xs g was.tiles old.0).0 in
-            closes.outside h g.bits (omega (arith, high, ends_low g fragment)) fragment.few_bits out (spells.ends g old.0 h low high)
-        | inr same ↦ absurd (out (omega (arith, low, ap (λ (k : Fragment). k.value) same), subst (λ (k : Fragment). h < k.value + span k.bits) same high))
-      ]
+merge_spells s new xs ys f was spells now merge some closes = record {
+  some = some;
+  ends = λ g stands h low high. elim (in_or_out f h) [
+    | inl within ↦
+        let one = one_leaf ys f g h now ((merge.leaves f).1 (inr refl)) stands within.0 within.1 low high in
+        subst (λ (k : Fragment). Ends (splits_round new h) k.bits) one (closes.inside h within.0 within.1)
+    | inr out ↦ elim ((merge.leaves g).0 stands) [
+      | inl old ↦
+          let fragment = (between 0 (2 ^ 24) xs g was.tiles old.0).0 in
+          closes.outside h g.bits (omega (arith, high, ends_low g fragment)) fragment.few_bits out (spells.ends g old.0 h low high)
+      | inr same ↦ absurd (out (omega (arith, low, ap (λ (k : Fragment). k.value) same), subst (λ (k : Fragment). h < k.value + span k.bits) same high))
     ]
+  ];
+}
 
 -- descents that were kept before
 pub closed_after : (old s new : Splits) (f : Fragment) → KeepsEnds old s → IsClosed s new f → IsClosed old new f

@@ -50,15 +50,14 @@ module _ (s : Splits) (some : AllSome s) (f : Fragment) (whole : IsFragment f) (
     pub passes_on : Descends (splits_round s f.value) (bits + nb) 0
     passes_on = joined (splits_round s f.value) bits (bits + nb) 0 passes (on bits nb is (there (bits + nb) refl))
 
-    module _ (over : f.bits - bits < nb) where
-      fragment : IsFragment (frag_at bits f.value)
-      fragment = frag_at-IsFragment bits f.value (omega (arith, whole.few_bits)) whole.in_range
-
-      pub keeps_there : KeepsEnds s (halved s (frag_at bits f.value) nb)
-      keeps_there = halved_keeps s some (frag_at bits f.value) nb f.value fragment is (omega (arith, over, before)) fits_there (round_it bits f.value).0 (round_it bits f.value).1 passes
-
-      pub some_there : AllSome (halved s (frag_at bits f.value) nb)
-      some_there = halved_some s some (frag_at bits f.value) nb f.value fragment is (omega (arith, over, before)) fits_there (round_it bits f.value).0 (round_it bits f.value).1 passes
-
-      pub passes_there : Descends (splits_round (halved s (frag_at bits f.value) nb) f.value) (bits + 1) 0
-      passes_there = halved_passes s some (frag_at bits f.value) nb f.value fragment is (omega (arith, over, before)) fits_there (round_it bits f.value).0 (round_it bits f.value).1 passes f.value (round_it bits f.value).0 (round_it bits f.value).1
+    -- halved, it still leads to f
+    pub halved_there : f.bits - bits < nb → KeepsEnds s (halved s (frag_at bits f.value) nb) × AllSome (halved s (frag_at bits f.value) nb) × Descends (splits_round (halved s (frag_at bits f.value) nb) f.value) (bits + 1) 0
+    halved_there over =
+        let g = frag_at bits f.value in
+        let fragment = frag_at-IsFragment bits f.value (omega (arith, whole.few_bits)) whole.in_range in
+        let (low, high) = round_it bits f.value in
+        let two : 2 ≤ nb = omega arith in (
+          halved_keeps s some g nb f.value fragment is two fits_there low high passes,
+          halved_some s some g nb f.value fragment is two fits_there low high passes,
+          halved_passes s some g nb f.value fragment is two fits_there low high passes f.value low high,
+        )

@@ -1,43 +1,51 @@
 -- What follows from the definitions of trees, picks, splits and merges.
-use Rattle.std.proofs.Common.{◌≡◌, ◌≢◌, ◌↔◌, ◌⊎◌, inl, inr, ℕ, zero, suc, ◌+◌, ◌/◌, ◌%◌, ◌^◌, ◌<◌, ◌≤◌, true, false, List, [], ◌∷◌, length, refl, sym, ap, subst, ◌∙◌, arith}
+use Rattle.std.proofs.Common.{◌≡◌, ◌≢◌, ◌↔◌, inl, inr, ℕ, zero, ◌+◌, ◌%◌, ◌^◌, ◌<◌, ◌≤◌, true, false, cond, nat_lt, ◌==◌, List, [], ◌∷◌, length, refl, sym, ap, subst, ◌∙◌, arith}
 use Rattle.std.proofs.lemmas.Bool.Decides.{nat_tests}
 use Rattle.std.proofs.lemmas.List.{get_or_default}
+use Rattle.std.proofs.lemmas.List.Elements.{Contains-get_or}
 use Rattle.mds_types.specs.Frag.{Fragment, IsFragment, Contains, ContainsFragment, root_fragment, span}
 use Rattle.mds_types.specs.declared.refusals.Refusal.{Refusal}
 use Rattle.mds_types.specs.declared.refusals.Refusal.TheVariants.{NoMemory, NoSuchFrag, BadSplit, TooManyFrags}
-use Rattle.fragtree.specs.FragTree.{Tiles, IsTree, HasLeaf, IsPick, IsChild, IsSplit, IsMerge, RefusesSplit, RefusesMerge, lies_inside}
-use Rattle.fragtree.proofs.Places.{leaf_at}
-use Rattle.fragtree.proofs.Ranges.{span_pos, ends_within, next_multiple, range_from_Contains, Contains-from_range, range_from_inside, range_from_quotient, lies_inside-true}
-use Rattle.fragtree.proofs.Tilings.{between, low_le_high, low_place, pick_from_place, place_from_Contains}
+use Rattle.fragtree.specs.FragTree.{Tiles, IsTree, HasLeaf, IsPick, IsChild, IsSplit, IsMerge, RefusesSplit, RefusesMerge, leaves_inside, lies_inside}
+use Rattle.fragtree.proofs.Ranges.{span_pos, ends_before, ends_within, range_from_Contains, Contains-from_range, range_from_inside, range_from_quotient, quotient_from_range, lies_inside-true}
+use Rattle.fragtree.proofs.Tilings.{IsPlace, between, in_one, leaf_at, low_le_high, one_place}
+-- what is a leaf of a list of them
+pub use Rattle.fragtree.proofs.Tilings.{first, first_or_later, later, only_leaf}
 
-pub some_pick : (leaves : List Fragment) (hash : ℕ) → IsTree leaves → (leaf : Fragment) × IsPick leaves hash leaf
-some_pick leaves hash tree =
-    let w = low_place leaves tree.tiles hash in
-    (leaf_at leaves w.0, pick_from_place leaves tree.tiles hash w.0 w.1)
+-- two leaves of one hash are one
+pub one_leaf : (xs : List Fragment) (f g : Fragment) (h : ℕ) → IsTree xs → HasLeaf xs f → HasLeaf xs g → f.value ≤ h → h < f.value + span f.bits → g.value ≤ h → h < g.value + span g.bits → f ≡ g
+one_leaf xs f g h tree (i, stands, is) (j, stands2, is2) low high low2 high2 =
+    let first : leaf_at xs i ≡ f = get_or_default xs i root_fragment f stands ∙ is in
+    let second : leaf_at xs j ≡ g = get_or_default xs j root_fragment g stands2 ∙ is2 in
+    let p : IsPlace xs h i = record { stands = stands; begins = omega (arith, ap (λ (k : Fragment). k.value) first); ends = subst (λ (k : Fragment). h < k.value + span k.bits) (sym first) high } in
+    let q : IsPlace xs h j = record { stands = stands2; begins = omega (arith, ap (λ (k : Fragment). k.value) second); ends = subst (λ (k : Fragment). h < k.value + span k.bits) (sym second) high2 } in
+    sym first ∙ ap (leaf_at xs) (one_place 0 (2 ^ 24) xs h i j tree.tiles p q) ∙ second
+
+-- where the low 24 bits of a hash lie that a leaf contains
+pub range_of_leaf : (leaves : List Fragment) (hash : ℕ) (leaf : Fragment) → IsTree leaves → HasLeaf leaves leaf → Contains leaf hash → IsFragment leaf × (leaf.value ≤ hash % 2 ^ 24) × (hash % 2 ^ 24 < leaf.value + span leaf.bits)
+range_of_leaf leaves hash leaf tree stands has =
+    let whole = (between 0 (2 ^ 24) leaves leaf tree.tiles stands).0 in
+    let r = range_from_Contains leaf hash whole has in
+    (whole, r.0, r.1)
 
 -- a leaf that contains the hash is its pick
 pub pick_from_leaf : (leaves : List Fragment) (hash : ℕ) (leaf : Fragment) → IsTree leaves → HasLeaf leaves leaf → Contains leaf hash → IsPick leaves hash leaf
-pick_from_leaf leaves hash leaf tree (i, stands, is) has =
-    let same : leaf_at leaves i ≡ leaf = get_or_default leaves i root_fragment leaf stands ∙ is in
-    let place = place_from_Contains leaves tree.tiles hash i stands (subst (λ f. Contains f hash) (sym same) has) in
-    subst (IsPick leaves hash) same (pick_from_place leaves tree.tiles hash i place)
+pick_from_leaf leaves hash leaf tree stands has = record {
+  stands = stands;
+  contains = has;
+  alone = λ other stands2 has2.
+      let r = range_of_leaf leaves hash leaf tree stands has in
+      let q = range_of_leaf leaves hash other tree stands2 has2 in
+      one_leaf leaves other leaf (hash % 2 ^ 24) tree stands2 stands q.1 q.2 r.1 r.2;
+}
+
+pub some_pick : (leaves : List Fragment) (hash : ℕ) → IsTree leaves → (leaf : Fragment) × IsPick leaves hash leaf
+some_pick leaves hash tree =
+    let w = in_one leaves tree.tiles hash in
+    (leaf_at leaves w.place, pick_from_leaf leaves hash (leaf_at leaves w.place) tree (Contains-get_or leaves w.place root_fragment w.stands) w.contains)
 
 pub one_pick : (leaves : List Fragment) (hash : ℕ) (f g : Fragment) → IsPick leaves hash f → IsPick leaves hash g → f ≡ g
 one_pick leaves hash f g p q = q.alone f p.stands p.contains
-
-pub first_or_later : (f g : Fragment) (fs : List Fragment) → HasLeaf (f ∷ fs) g → (f ≡ g) ⊎ HasLeaf fs g
-first_or_later f g fs (zero, stands, is) = inl is
-first_or_later f g fs (suc k, stands, is) = inr (k, omega (arith, stands), is)
-
-pub later : (f g : Fragment) (fs : List Fragment) → HasLeaf fs g → HasLeaf (f ∷ fs) g
-later f g fs (k, stands, is) = (suc k, omega (arith, stands), is)
-
-pub first : (f : Fragment) (fs : List Fragment) → HasLeaf (f ∷ fs) f
-first f fs = (zero, omega arith, refl)
-
-pub only_leaf : (f g : Fragment) → HasLeaf (f ∷ []) g → g ≡ f
-only_leaf f g (zero, stands, is) = sym is
-only_leaf f g (suc k, stands, is) = absurd (omega (arith, stands))
 
 pub same_tiles : (low high : ℕ) (xs ys : List Fragment) → Tiles low high xs → Tiles low high ys → ((g : Fragment) → HasLeaf xs g → HasLeaf ys g) → xs ≡ ys
 same_tiles low high [] [] t u h = refl
@@ -55,27 +63,20 @@ same_tiles low high (f ∷ fs) (g ∷ gs) t u h =
     ] in
     ap (λ k. k ∷ fs) (sym same) ∙ ap (λ ks. g ∷ ks) (same_tiles (low + span f.bits) high fs gs t.2 rest within)
 
-pub same_trees : (xs ys : List Fragment) → IsTree xs → IsTree ys → ((g : Fragment) → HasLeaf xs g ↔ HasLeaf ys g) → xs ≡ ys
-same_trees xs ys t u h = same_tiles 0 (2 ^ 24) xs ys t.tiles u.tiles (λ g. (h g).0)
-
 -- what lies inside is contained, and another
 pub inside_iff : (f g : Fragment) → IsFragment f → IsFragment g → (lies_inside f g ≡ true) ↔ (ContainsFragment f g × (g ≢ f))
-inside_iff f g hf hg = (contained, inside) where
-  contained : lies_inside f g ≡ true → ContainsFragment f g × (g ≢ f)
-  contained e =
-      let more : f.bits < g.bits = grind (arith, nat_tests) in
-      let same : g.value / span f.bits ≡ f.value / span f.bits = grind (arith, nat_tests) in
-      ((omega arith, same), λ is. omega (arith, ap (λ (h : Fragment). h.bits) is))
-
-  inside : ContainsFragment f g × (g ≢ f) → lies_inside f g ≡ true
-  inside (within, other) =
+inside_iff f g hf hg = (
+  λ e. let (more, low, high) = range_from_inside f g hf e in
+      ((omega arith, quotient_from_range f.value g.value (span f.bits) (span_pos f.bits) hf.justified low high), λ is. omega (arith, more, ap (λ (h : Fragment). h.bits) is)),
+  λ (within, other).
       let w = range_from_quotient f.value g.value (span f.bits) (span_pos f.bits) hf.justified within.1 in
       let not_same : g.bits ≤ f.bits → ⊥ = λ le.
+      let not_after : f.value < g.value → ⊥ = λ less. omega (arith, ends_before g f hg hf le less, w.1) in
       let bits : g.bits ≡ f.bits = omega (arith, within.0) in
-      let not_after : f.value < g.value → ⊥ = λ less. omega (arith, next_multiple f.value g.value (span f.bits) hf.justified (subst (λ b. g.value % span b ≡ 0) bits hg.justified) less, w.1) in
       let values : g.value ≡ f.value = omega (arith, w.0) in
       other (λ i. record { bits = bits i; value = values i }) in
-      lies_inside-true f g hf (omega arith) w.0 w.1
+      lies_inside-true f g hf (omega arith) w.0 w.1,
+)
 
 module _ (old new : List Fragment) (f : Fragment) (tree : IsTree new) (hash : ℕ) (leaf : Fragment) (p : IsPick old hash leaf) where
   -- after a split a hash of another leaf has its pick, and one of the split leaf has a child of it
@@ -84,10 +85,7 @@ module _ (old new : List Fragment) (f : Fragment) (tree : IsTree new) (hash : �
 
   pub child_after_split : (nb : ℕ) → IsSplit old new f nb → leaf ≡ f → (child : Fragment) → IsPick new hash child → IsChild f nb child
   child_after_split nb s is child q =
-      elim ((s.leaves child).0 q.stands) [
-        | inl (stands, other) ↦ absurd (other (p.alone child stands q.contains ∙ is))
-        | inr is_child ↦ is_child
-      ]
+      elim ((s.leaves child).0 q.stands) [ inl (stands, other) ↦ absurd (other (p.alone child stands q.contains ∙ is)) | inr is_child ↦ is_child ]
 
   -- after a merge a hash of a leaf that wasn't merged has its pick, and one of a merged leaf has the merged one
   pub pick_after_merge : IsMerge old new f → lies_inside f leaf ≡ false → IsPick new hash leaf
@@ -97,11 +95,10 @@ module _ (old new : List Fragment) (f : Fragment) (tree : IsTree new) (hash : �
   merged_after_merge was m in_f =
       let stands : HasLeaf new f = (m.leaves f).1 (inr refl) in
       let hf = (between 0 (2 ^ 24) new f tree.tiles stands).0 in
-      let hl = (between 0 (2 ^ 24) old leaf was.tiles p.stands).0 in
       let w = range_from_inside f leaf hf in_f in
-      let v = range_from_Contains leaf hash hl p.contains in
-      let ends = ends_within f leaf hf hl (omega (arith, w.0)) w.2 in
-      pick_from_leaf new hash f tree stands (Contains-from_range f hash hf (omega (arith, w.1, v.0)) (omega (arith, v.1, ends)))
+      let v = range_of_leaf old hash leaf was p.stands p.contains in
+      let ends = ends_within f leaf hf v.0 (omega (arith, w.0)) w.2 in
+      pick_from_leaf new hash f tree stands (Contains-from_range f hash hf (omega (arith, w.1, v.1)) (omega (arith, v.2, ends)))
 
 pub one_split_refusal : (leaves : List Fragment) (f : Fragment) (nb : ℕ) (a b : Refusal) → RefusesSplit leaves f nb a → RefusesSplit leaves f nb b → a ≡ b
 one_split_refusal leaves f nb NoSuchFrag NoSuchFrag h k = refl
@@ -126,17 +123,15 @@ one_split_refusal leaves f nb TooManyFrags _ h k = absurd k
 one_split_refusal leaves f nb NoMemory _ h k = absurd k
 one_split_refusal leaves f nb _ b h k = absurd h
 
+-- why a merge is refused where so many leaves lie inside
+abbrev merge_refusal : ℕ → Refusal
+merge_refusal count = cond (count == 0) NoSuchFrag (cond (nat_lt 256 count) TooManyFrags NoMemory)
+
+refused_so : (leaves : List Fragment) (f : Fragment) (a : Refusal) → RefusesMerge leaves f a → a ≡ merge_refusal (length (leaves_inside f leaves))
+refused_so leaves f NoSuchFrag none = ap (λ (fs : List Fragment). merge_refusal (length fs)) (sym none)
+refused_so leaves f TooManyFrags many = grind (arith, nat_tests)
+refused_so leaves f NoMemory can = let some = can.some in let few = can.few in grind (arith, nat_tests)
+refused_so leaves f _ h = absurd h
+
 pub one_merge_refusal : (leaves : List Fragment) (f : Fragment) (a b : Refusal) → RefusesMerge leaves f a → RefusesMerge leaves f b → a ≡ b
-one_merge_refusal leaves f NoSuchFrag NoSuchFrag h k = refl
-one_merge_refusal leaves f NoSuchFrag TooManyFrags h k = absurd (omega (arith, ap (length {A = Fragment}) h, k))
-one_merge_refusal leaves f NoSuchFrag NoMemory h k = absurd (omega (arith, ap (length {A = Fragment}) h, k.some))
-one_merge_refusal leaves f TooManyFrags NoSuchFrag h k = absurd (omega (arith, ap (length {A = Fragment}) k, h))
-one_merge_refusal leaves f TooManyFrags TooManyFrags h k = refl
-one_merge_refusal leaves f TooManyFrags NoMemory h k = absurd (omega (arith, h, k.few))
-one_merge_refusal leaves f NoMemory NoSuchFrag h k = absurd (omega (arith, ap (length {A = Fragment}) k, h.some))
-one_merge_refusal leaves f NoMemory TooManyFrags h k = absurd (omega (arith, k, h.few))
-one_merge_refusal leaves f NoMemory NoMemory h k = refl
-one_merge_refusal leaves f NoSuchFrag _ h k = absurd k
-one_merge_refusal leaves f TooManyFrags _ h k = absurd k
-one_merge_refusal leaves f NoMemory _ h k = absurd k
-one_merge_refusal leaves f _ b h k = absurd h
+one_merge_refusal leaves f a b h k = refused_so leaves f a h ∙ sym (refused_so leaves f b k)

@@ -1,12 +1,12 @@
 -- A leaf that the other tree lacks tells them apart; where there is none they are one.
-use Rattle.fragtree.proofs.Common.{[], ap, refl, ◌++◌, ◌∙◌, ◌∷◌}
-use Rattle.fragtree.proofs.Walks.{all_found, one_found, found_too}
+use Rattle.fragtree.proofs.Common.{[], ap, append_assoc, refl, sym, ◌++◌, ◌∙◌, ◌∷◌}
+use Rattle.fragtree.proofs.Walks.{all_found, found_too}
 use Rattle.fragtree.proofs.compare.have_same_leaves.Goals as goal
 
 pub loop-leaf-preserved : goal.loop-leaf-preserved
 loop-leaf-preserved c =
     let (done, is, all) = c.loop-leaf.invariant in
-    (done ++ c.in-Some.leaf ∷ [], one_found _ done _ c.in-Some.leaf (is ∙ ap (λ ys. done ++ ys) c.in-Some.ensures.steps), found_too done _ c.in-Some.leaf all (c.has_leaf.ensures.0 c.if-not-has_leaf.false))
+    (done ++ c.in-Some.leaf ∷ [], is ∙ ap (λ ys. done ++ ys) c.in-Some.ensures.steps ∙ sym (append_assoc done (c.in-Some.leaf ∷ []) _), found_too done _ c.in-Some.leaf all (c.has_leaf.ensures.0 c.if-not-has_leaf.false))
 
 pub returns : goal.returns
 returns c =

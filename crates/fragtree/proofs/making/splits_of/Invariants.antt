@@ -1,6 +1,6 @@
 -- The splits are round the leaves, and lead to those that were taken.
 use Rattle.fragtree.proofs.Common.{IsLedTo, contents, frag_cmp, ℕ, ◌<◌}
-use Rattle.fragtree.proofs.Places.{leaf_at}
+use Rattle.fragtree.proofs.Tilings.{leaf_at}
 use Rattle.fragtree.proofs.Made.{AreRound}
 use Rattle.fragtree.proofs.making.splits_of.Given as goal
 

@@ -10,15 +10,11 @@ returns-then-self-clause-steps c =
 
 pub invariant_of-self : goal.invariant_of-self
 invariant_of-self c =
-    let xs = c.self.inside.tree.now in
-    let inv = c.self.invariant in (
-      omega (arith, next_stands xs inv.1 c.self.inside.done c.self.inside.next inv.2 c.if-self.false c.pick-leaf.result c.pick-leaf.ensures),
-      inv.1,
-      next_tiles xs inv.1 c.self.inside.done c.self.inside.next inv.2 c.if-self.false c.pick-leaf.result c.pick-leaf.ensures _ c.last_hash.ensures.last,
+    let (few, tree, tiles) = c.self.invariant in (
+      omega (arith, next_stands c.self.inside.tree.now c.self.inside.done c.self.inside.next tiles c.if-self.false c.pick-leaf.result c.pick-leaf.ensures),
+      tree,
+      next_tiles c.self.inside.tree.now c.self.inside.done c.self.inside.next tiles c.if-self.false c.pick-leaf.result c.pick-leaf.ensures _ c.last_hash.ensures.last,
     )
 
 pub returns-clause-steps : goal.returns-clause-steps
-returns-clause-steps c =
-    let xs = c.self.inside.tree.now in
-    let inv = c.self.invariant in
-    sym c.self.view_is ∙ next_is xs inv.1 c.self.inside.done c.self.inside.next inv.2 c.if-self.false c.pick-leaf.result c.pick-leaf.ensures
+returns-clause-steps c = sym c.self.view_is ∙ next_is c.self.inside.tree.now c.self.inside.done c.self.inside.next c.self.invariant.2 c.if-self.false c.pick-leaf.result c.pick-leaf.ensures

@@ -1,6 +1,6 @@
 -- Where nothing is split, `*` is the leaf.
 use Rattle.fragtree.proofs.Common.{contents, frag_cmp}
-use Rattle.fragtree.proofs.Kept.{whole_keeps}
+use Rattle.fragtree.proofs.Made.{whole_keeps}
 use Rattle.fragtree.proofs.tree.FragTree.whole.Goals as goal
 
 pub invariant_of-result : goal.invariant_of-result
