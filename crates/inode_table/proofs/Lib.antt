@@ -9,7 +9,7 @@ pub mod OrderLaws
 pub mod PinLaws
 pub mod PinnedRows
 pub mod RowLaws
-pub mod SplitRows
+pub mod SeenRows
 pub mod TableLaws
 pub mod Tables
 pub mod TreeOrder

@@ -1,7 +1,7 @@
 -- A new directory reaches the root by its parent.
-use Rattle.inode_table.proofs.Common.{Directory, None, Table, ap, counts_of, covers_of, homes_of, leaves_in, leaves_of, pins_of, refl, sym, ◌∙◌}
+use Rattle.inode_table.proofs.Common.{Directory, None, Table, ap, counts_of, covers_of, homes_of, leaves_in, leaves_of, pin_in, pins_of, refl, sym, ◌∙◌}
 use Rattle.std.specs.FinMap as map
-use Rattle.inode_table.proofs.CountRows.{counts_put, pins_grown}
+use Rattle.inode_table.proofs.CountRows.{counts_put, pins_kept}
 use Rattle.inode_table.proofs.RowLaws.{homes_put, leaves_kept, new_leaves, no_row}
 use Rattle.inode_table.proofs.Tables.{adopted_table}
 use Rattle.inode_table.proofs.dirs.Dirs.adopt.Goals as goal
@@ -26,7 +26,7 @@ returns-clause-counts c =
 pub returns-clause-pins : goal.returns-clause-pins
 returns-clause-pins c =
     let none = no_row c.self.inside.root _ c.args.dir.0 (ap (λ (t : Table). map.get t.homes c.args.dir.0) c.self.view_is ∙ c.requires.may.fresh) in
-    ap pins_of c.insert.ensures.inserted ∙ pins_grown _ c.args.dir.0 _ none refl ∙ ap (λ (t : Table). t.pins) c.self.view_is
+    ap pins_of c.insert.ensures.inserted ∙ pins_kept _ c.args.dir.0 _ (sym (ap pin_in none)) ∙ ap (λ (t : Table). t.pins) c.self.view_is
 
 pub returns-clause-valid : goal.returns-clause-valid
 returns-clause-valid c =
