@@ -8,11 +8,11 @@ use Rattle.inode_table.proofs.dirs.Dirs.entry_comes.Goals as goal
 pub overflow_add-self : goal.overflow_add-self
 overflow_add-self c =
     let few = c.requires.few in
-    let count = root_count c.self.inside.in_root c.self.inside.root c.self.inside.below.room _ c.args.self.now c.self.view_is c.self.invariant c.args.dir.0 (are_same _ _ c.if-eq.ensures) in
+    let count = root_count _ _ _ _ _ c.self.view_is c.self.invariant c.args.dir.0 (are_same _ _ c.if-eq.ensures) in
     omega (arith, few, count)
 
 pub returns-then-eq : goal.returns-then-eq
-returns-then-eq c = root_other_count c.self.inside.in_root c.self.inside.root c.self.inside.below.room _ c.args.self.now c.self.view_is c.self.invariant c.args.dir.0 (are_same _ _ c.if-eq.ensures) _ (λ (n : ℕ). n + 1) refl
+returns-then-eq c = root_other_count _ _ _ _ _ c.self.view_is c.self.invariant c.args.dir.0 (are_same _ _ c.if-eq.ensures) _ (λ (n : ℕ). n + 1) refl
 
 pub unreachable-requires : goal.unreachable-requires
 unreachable-requires c =
@@ -21,11 +21,11 @@ unreachable-requires c =
 pub overflow_add-row : goal.overflow_add-row
 overflow_add-row c =
     let few = c.requires.few in
-    let count = row_count c.self.inside.in_root c.self.inside.root c.self.inside.below.room _ c.args.self.now c.self.view_is c.self.invariant c.args.dir.0 c.in-Some.row.now c.in-Some.ensures.value (are_apart _ _ c.if-eq.ensures) in
+    let count = row_count _ _ _ _ _ c.self.view_is c.self.invariant c.args.dir.0 c.in-Some.row.now c.in-Some.ensures.value (are_apart _ _ c.if-eq.ensures) in
     omega (arith, few, count)
 
 pub returns : goal.returns
-returns c = (other_count c.self.inside.in_root c.self.inside.root c.self.inside.below.room _ c.args.self.now c.self.view_is c.self.invariant c.args.dir.0 c.in-Some.row.now c.in-Some.ensures.value _ (λ (n : ℕ). n + 1) (are_apart _ _ c.if-eq.ensures) refl).is
+returns c = (other_count _ _ _ _ _ c.self.view_is c.self.invariant c.args.dir.0 c.in-Some.row.now c.in-Some.ensures.value _ (λ (n : ℕ). n + 1) (are_apart _ _ c.if-eq.ensures) refl).is
 
 pub invariant_of-self-2 : goal.invariant_of-self-2
-invariant_of-self-2 c = (other_count c.self.inside.in_root c.self.inside.root c.self.inside.below.room _ c.args.self.now c.self.view_is c.self.invariant c.args.dir.0 c.in-Some.row.now c.in-Some.ensures.value _ (λ (n : ℕ). n + 1) (are_apart _ _ c.if-eq.ensures) refl).table
+invariant_of-self-2 c = (other_count _ _ _ _ _ c.self.view_is c.self.invariant c.args.dir.0 c.in-Some.row.now c.in-Some.ensures.value _ (λ (n : ℕ). n + 1) (are_apart _ _ c.if-eq.ensures) refl).table

@@ -9,7 +9,7 @@ unreachable-requires c = has_row c.self.inside.root _ c.args.dir.0 (sym c.in_def
 
 pub returns : goal.returns
 returns c =
-    let moved = other_home c.self.inside.in_root c.self.inside.root c.self.inside.below.room _ c.args.self.now c.self.view_is c.self.invariant c.args.dir.0 c.in-Some.row.now c.in-Some.ensures.value c.args.home c.requires in
+    let moved = other_home _ _ _ _ _ c.self.view_is c.self.invariant c.args.dir.0 c.in-Some.row.now c.in-Some.ensures.value c.args.home c.requires in
     record {
       homes = ap (λ (t : Table). t.homes) moved.is;
       trees = ap (λ (t : Table). t.trees) moved.is;
@@ -20,4 +20,4 @@ returns c =
     }
 
 pub invariant_of-self : goal.invariant_of-self
-invariant_of-self c = (other_home c.self.inside.in_root c.self.inside.root c.self.inside.below.room _ c.args.self.now c.self.view_is c.self.invariant c.args.dir.0 c.in-Some.row.now c.in-Some.ensures.value c.args.home c.requires).table
+invariant_of-self c = (other_home _ _ _ _ _ c.self.view_is c.self.invariant c.args.dir.0 c.in-Some.row.now c.in-Some.ensures.value c.args.home c.requires).table

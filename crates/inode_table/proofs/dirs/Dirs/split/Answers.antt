@@ -7,16 +7,16 @@ use Rattle.inode_table.proofs.dirs.Dirs.split.Goals as goal
 
 -- of the root
 pub split_in-requires : goal.split_in-requires
-split_in-requires c = subst (λ l. CanSplit l c.args.frag c.args.bits) (root_leaves c.self.inside.in_root c.self.inside.root c.self.inside.below.room _ c.args.self.now c.self.view_is c.self.invariant c.args.dir.0 (are_same _ _ c.if-eq.ensures)) c.requires.can
+split_in-requires c = subst (λ l. CanSplit l c.args.frag c.args.bits) (root_leaves _ _ _ _ _ c.self.view_is c.self.invariant c.args.dir.0 (are_same _ _ c.if-eq.ensures)) c.requires.can
 
 pub invariant_of-self : goal.invariant_of-self
 invariant_of-self c =
-    (root_splits c.self.inside.in_root c.self.inside.root c.self.inside.below.room _ c.args.self.now c.self.view_is c.self.invariant c.args.dir.0 c.split_in.new.leaves c.args.frag c.args.bits c.split_in.result (are_same _ _ c.if-eq.ensures) c.requires.known
+    (root_splits _ _ _ _ _ c.self.view_is c.self.invariant c.args.dir.0 c.split_in.new.leaves c.args.frag c.args.bits c.split_in.result (are_same _ _ c.if-eq.ensures) c.requires.known
     c.split_in.ensures.split c.split_in.ensures.set c.split_in.ensures.whole c.split_in.ensures.left).valid
 
 pub returns-then-eq : goal.returns-then-eq
 returns-then-eq c =
-    let its = root_splits c.self.inside.in_root c.self.inside.root c.self.inside.below.room _ c.args.self.now c.self.view_is c.self.invariant c.args.dir.0 c.split_in.new.leaves c.args.frag c.args.bits c.split_in.result (are_same _ _ c.if-eq.ensures) c.requires.known
+    let its = root_splits _ _ _ _ _ c.self.view_is c.self.invariant c.args.dir.0 c.split_in.new.leaves c.args.frag c.args.bits c.split_in.result (are_same _ _ c.if-eq.ensures) c.requires.known
     c.split_in.ensures.split c.split_in.ensures.set c.split_in.ensures.whole c.split_in.ensures.left in
     record { split = its.split; others = its.others; left = its.left; refused = c.split_in.ensures.refused; valid = its.valid }
 
@@ -26,15 +26,15 @@ unreachable-requires c =
     has_known_row c.self.inside.root _ c.args.dir.0 (are_apart _ _ c.if-eq.ensures) (sym c.in_default.ensures.value) (rw (ap (λ (t : Table). t.homes) c.self.view_is) c.requires.known)
 
 pub split_in-requires-2 : goal.split_in-requires-2
-split_in-requires-2 c = subst (λ l. CanSplit l c.args.frag c.args.bits) (row_leaves c.self.inside.in_root c.self.inside.root c.self.inside.below.room _ c.args.self.now c.self.view_is c.self.invariant c.args.dir.0 c.in-Some.row.now c.in-Some.ensures.value (are_apart _ _ c.if-eq.ensures)) c.requires.can
+split_in-requires-2 c = subst (λ l. CanSplit l c.args.frag c.args.bits) (row_leaves _ _ _ _ _ c.self.view_is c.self.invariant c.args.dir.0 c.in-Some.row.now c.in-Some.ensures.value (are_apart _ _ c.if-eq.ensures)) c.requires.can
 
 pub invariant_of-self-2 : goal.invariant_of-self-2
 invariant_of-self-2 c =
-    (row_splits c.self.inside.in_root c.self.inside.root c.self.inside.below.room _ c.args.self.now c.self.view_is c.self.invariant c.args.dir.0 c.in-Some.row.now c.in-Some.ensures.value c.split_in-2.new.leaves c.args.frag c.args.bits c.split_in-2.result (are_apart _ _ c.if-eq.ensures) c.requires.known
+    (row_splits _ _ _ _ _ c.self.view_is c.self.invariant c.args.dir.0 c.in-Some.row.now c.in-Some.ensures.value c.split_in-2.new.leaves c.args.frag c.args.bits c.split_in-2.result (are_apart _ _ c.if-eq.ensures) c.requires.known
     c.split_in-2.ensures.split c.split_in-2.ensures.set c.split_in-2.ensures.whole c.split_in-2.ensures.left).valid
 
 pub returns : goal.returns
 returns c =
-    let its = row_splits c.self.inside.in_root c.self.inside.root c.self.inside.below.room _ c.args.self.now c.self.view_is c.self.invariant c.args.dir.0 c.in-Some.row.now c.in-Some.ensures.value c.split_in-2.new.leaves c.args.frag c.args.bits c.split_in-2.result (are_apart _ _ c.if-eq.ensures) c.requires.known
+    let its = row_splits _ _ _ _ _ c.self.view_is c.self.invariant c.args.dir.0 c.in-Some.row.now c.in-Some.ensures.value c.split_in-2.new.leaves c.args.frag c.args.bits c.split_in-2.result (are_apart _ _ c.if-eq.ensures) c.requires.known
     c.split_in-2.ensures.split c.split_in-2.ensures.set c.split_in-2.ensures.whole c.split_in-2.ensures.left in
     record { split = its.split; others = its.others; left = its.left; refused = c.split_in-2.ensures.refused; valid = its.valid }
