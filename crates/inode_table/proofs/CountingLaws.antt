@@ -3,10 +3,9 @@ use Rattle.inode_table.proofs.Common.{Bool, Counts, Dentry, DirPins, Homes, Inod
 use Rattle.std.specs.FinMap as map
 use Rattle.mds_types.specs.Tree.{entries_in}
 use Rattle.mds_types.proofs.EntryLaws.{same_or_apart}
-use Rattle.sorted_map.proofs.NatKeys.{same_or_apart as same_number}
 use Rattle.inode_table.proofs.CountedLaws.{count_set}
-use Rattle.inode_table.proofs.PinLaws.{Stands, pinned_beside, pinned_here, with_dir_pin, with_file_pin}
-use Rattle.inode_table.proofs.TableLaws.{dir_or_not, home_of, known_is}
+use Rattle.inode_table.proofs.PinLaws.{Stands, pin_back, pin_beside, pin_here}
+use Rattle.inode_table.proofs.TableLaws.{home_of, known_is, one_inode}
 
 -- ---- pairs in order, one by one
 
@@ -151,23 +150,6 @@ module _ (tree : Tree) (homes : Homes) (tabled : IsTabled tree homes) (left more
   other : (q : Dentry) (x : Inode) → (q ≡ e.0 → ⊥) → map.get tree q ≡ Some x → x.ino.0 ≡ e.1.ino.0 → ⊥
   other q x apart stands same = apart (one_dentry tree tabled.whole q e.0 x e.1 stands in_tree same)
 
-  beside : (q : Dentry) (x : Inode) → (q ≡ e.0 → ⊥) → map.get tree q ≡ Some x → map.get (with_pin pins e.1) x.ino.0 ≡ map.get pins x.ino.0
-  beside q x apart stands =
-      ⊎_elim (λ kinded. ap (λ (p : DirPins). map.get p x.ino.0) (with_dir_pin pins e.1 kinded) ∙ pinned_beside pins e.1.ino.0 e.1.pin x.ino.0 (other q x apart stands))
-      (λ kinded. ap (λ (p : DirPins). map.get p x.ino.0) (with_file_pin pins e.1 kinded)) (dir_or_not e.1)
-
-  its_pin : is_dir_kind e.1.kind ≡ true → map.get (with_pin pins e.1) e.1.ino.0 ≡ e.1.pin
-  its_pin kinded = ap (λ (p : DirPins). map.get p e.1.ino.0) (with_dir_pin pins e.1 kinded) ∙ pinned_here pins e.1.ino.0 e.1.pin
-
-  pins_stand : (d : ℕ) (rank : Rank) → map.get (with_pin pins e.1) d ≡ Some rank → Stands tree d
-  pins_stand d rank is = ⊎_elim of_dir (λ kinded. to.stands d rank (ap (λ (p : DirPins). map.get p d) (sym (with_file_pin pins e.1 kinded)) ∙ is)) (dir_or_not e.1)
-    where
-      of_dir : is_dir_kind e.1.kind ≡ true → Stands tree d
-      of_dir kinded =
-          ⊎_elim (λ same. (e.0, e.1, in_tree, sym same, kinded))
-          (λ apart. to.stands d rank (sym (pinned_beside pins e.1.ino.0 e.1.pin d apart) ∙ ap (λ (p : DirPins). map.get p d) (sym (with_dir_pin pins e.1 kinded)) ∙ is))
-          (same_number d e.1.ino.0)
-
   -- the next one is counted
   pub counted_next : IsCountedTo tree more (one_more counts e.0.dir.0) (with_pin pins e.1)
   counted_next = record {
@@ -175,13 +157,11 @@ module _ (tree : Tree) (homes : Homes) (tabled : IsTabled tree homes) (left more
     each = one_counted;
     within = λ q x is. to.within q x (stands_after_removal (rest_of (e ∷ more)) e.0 q x (ap (λ (t : Tree). map.get t q) (sym without) ∙ is)).1;
     listed = λ q x stands kinded. go q x stands kinded (same_or_apart q e.0);
-    stands = pins_stand;
+    stands = λ d rank is. ⊎_elim (λ w. (e.0, e.1, in_tree, sym w.0, w.2)) (λ w. to.stands d rank w.1) (pin_back pins e.1 d rank is);
   }
     where
       go : (q : Dentry) (x : Inode) → map.get tree q ≡ Some x → is_dir_kind x.kind ≡ true → (q ≡ e.0) ⊎ (q ≡ e.0 → ⊥) → (map.get (rest_of more) q ≡ Some x) ⊎ (map.get (with_pin pins e.1) x.ino.0 ≡ x.pin)
       go q x stands kinded (inl same) =
-          let inodes : Some x ≡ Some e.1 = sym stands ∙ ap (λ p. map.get tree p) same ∙ in_tree in
-          let alike : e.1 ≡ x = cc in
-          inr (ap (λ (i : Inode). map.get (with_pin pins e.1) i.ino.0) (sym alike) ∙ its_pin (ap (λ (i : Inode). is_dir_kind i.kind) alike ∙ kinded) ∙ ap (λ (i : Inode). i.pin) alike)
+          inr (subst (λ (i : Inode). is_dir_kind i.kind ≡ true → map.get (with_pin pins e.1) i.ino.0 ≡ i.pin) (one_inode tree e.0 q e.1 x (sym same) in_tree stands) (pin_here pins e.1) kinded)
       go q x stands kinded (inr apart) =
-          ⊎_elim (λ rest. inl (ap (λ (t : Tree). map.get t q) without ∙ get_left (rest_of (e ∷ more)) e.0 q apart ∙ rest)) (λ pinned. inr (beside q x apart stands ∙ pinned)) (to.listed q x stands kinded)
+          ⊎_elim (λ rest. inl (ap (λ (t : Tree). map.get t q) without ∙ get_left (rest_of (e ∷ more)) e.0 q apart ∙ rest)) (λ pinned. inr (pin_beside pins e.1 x.ino.0 (λ k. other q x apart stands) ∙ pinned)) (to.listed q x stands kinded)
