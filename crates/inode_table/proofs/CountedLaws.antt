@@ -6,7 +6,7 @@ use Rattle.std.specs.FinMap as map
 use Rattle.std.specs.FinMap.{get-empty}
 use Rattle.mds_types.specs.declared.dentries.Dentry.{Dentry}
 use Rattle.mds_types.specs.declared.inodes.Inode.{Inode}
-use Rattle.mds_types.specs.Tree.{Tree, entries_in, is_in, is_directory, IsUnused, IsWellFormed, NothingIn}
+use Rattle.mds_types.specs.Tree.{Tree, entries_in, is_directory, IsUnused, IsWellFormed, NothingIn}
 use Rattle.mds_types.specs.Step.{IsMove, with_moved}
 use Rattle.mds_types.proofs.CountLaws.{entries_come, entries_go, entries_set, none_in, none_in_empty, some_in}
 use Rattle.mds_types.proofs.DirectoryLaws.{StandsAs, directory_stands}
@@ -32,11 +32,10 @@ count_apart counts k n d apart = count_set counts k n d ∙ ap (λ b. cond b n (
 module _ (tree : Tree) (counts : Counts) (holds : HoldsCounts tree counts) where
   -- an entry comes to a free dentry,
   pub comes : (p : Dentry) (x : Inode) → map.get tree p ≡ None → HoldsCounts (map.insert tree p x) (one_more counts p.dir.0)
-  comes p x free d = count_set counts p.dir.0 (count_of counts p.dir.0 + 1) d ∙ go (is_in d p) refl ∙ sym (entries_come tree d p x free)
-    where
-      go : (b : Bool) → is_in d p ≡ b → cond b (count_of counts p.dir.0 + 1) (count_of counts d) ≡ cond b (entries_in tree d + 1) (entries_in tree d)
-      go true here = ap (λ n. n + 1) (ap (count_of counts) (eqb-true p.dir.0 d here) ∙ holds d)
-      go false there = holds d
+  comes p x free d =
+      let set = count_set counts p.dir.0 (count_of counts p.dir.0 + 1) d in
+      let come = entries_come tree d p x free in
+      grind (arith, set, come, holds p.dir.0, holds d)
 
   -- one is set,
   pub set : (p : Dentry) (was x : Inode) → map.get tree p ≡ Some was → HoldsCounts (map.insert tree p x) counts
@@ -44,20 +43,15 @@ module _ (tree : Tree) (counts : Counts) (holds : HoldsCounts tree counts) where
 
   -- and one goes
   pub goes : (p : Dentry) (was : Inode) → map.get tree p ≡ Some was → HoldsCounts (map.remove tree p) (one_less counts p.dir.0)
-  goes p was stands d = count_set counts p.dir.0 (count_of counts p.dir.0 - 1) d ∙ go (is_in d p) refl ∙ sym (entries_go tree d p was stands)
-    where
-      go : (b : Bool) → is_in d p ≡ b → cond b (count_of counts p.dir.0 - 1) (count_of counts d) ≡ cond b (entries_in tree d - 1) (entries_in tree d)
-      go true here = ap (λ n. n - 1) (ap (count_of counts) (eqb-true p.dir.0 d here) ∙ holds d)
-      go false there = holds d
+  goes p was stands d =
+      let set = count_set counts p.dir.0 (count_of counts p.dir.0 - 1) d in
+      let go = entries_go tree d p was stands in
+      grind (arith, set, go, holds p.dir.0, holds d)
 
   -- a directory in which nothing is has the count 0, or none
   module _ (k : ℕ) (nothing : NothingIn tree k) where
     pub with_none : HoldsCounts tree (map.insert counts k 0)
-    with_none d = count_set counts k 0 d ∙ go (k == d) refl
-      where
-        go : (b : Bool) → (k == d) ≡ b → cond b 0 (count_of counts d) ≡ entries_in tree d
-        go true is = sym (ap (entries_in tree) (sym (eqb-true k d is)) ∙ none_in tree k nothing)
-        go false is = holds d
+    with_none d = grind (arith, count_set counts k 0 d, none_in tree k nothing, holds d)
 
     pub without_none : HoldsCounts tree (map.remove counts k)
     without_none d = go (same_or_apart d k)
@@ -68,19 +62,9 @@ module _ (tree : Tree) (counts : Counts) (holds : HoldsCounts tree counts) where
 
 -- a count that is lowered and raised again is what it was
 less_and_more : (counts : Counts) (k d : ℕ) → 0 < count_of counts k → count_of (one_more (one_less counts k) k) d ≡ count_of counts d
-less_and_more counts k d some = count_set (one_less counts k) k (count_of (one_less counts k) k + 1) d ∙ go (k == d) refl
-  where
-    lowered : (b : Bool) → (k == d) ≡ b → count_of (one_less counts k) d ≡ cond b (count_of counts k - 1) (count_of counts d)
-    lowered b is = count_set counts k (count_of counts k - 1) d ∙ ap (λ c. cond c (count_of counts k - 1) (count_of counts d)) is
-
-    go : (b : Bool) → (k == d) ≡ b → cond b (count_of (one_less counts k) k + 1) (count_of (one_less counts k) d) ≡ count_of counts d
-    go false is = lowered false is
-    go true is =
-        let here : k ≡ d = eqb-true k d is in
-        let same : count_of (one_less counts k) k ≡ count_of (one_less counts k) d = ap (count_of (one_less counts k)) here in
-        let less = lowered true is in
-        let count : count_of counts k ≡ count_of counts d = ap (count_of counts) here in
-        omega (arith, same, less, count, some)
+less_and_more counts k d some =
+    let less = count_set counts k (count_of counts k - 1) in
+    grind (arith, count_set (one_less counts k) k (count_of (one_less counts k) k + 1) d, less k, less d, some)
 
 -- an entry moves
 pub moved_counts : (tree : Tree) (counts : Counts) (from to : Dentry) (inode : Inode) → IsWellFormed tree → HoldsCounts tree counts → IsMove tree from to inode

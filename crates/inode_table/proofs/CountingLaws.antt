@@ -1,6 +1,8 @@
 -- Entries that are counted one by one, and their pins.
-use Rattle.inode_table.proofs.Common.{Bool, Counts, Dentry, DirPins, Homes, Inode, IsCounted, IsTabled, List, None, Rank, Some, T, Tree, [], ap, arith, cond, count_of, dentry-exact, dentry-total, dentry_cmp, entries-from_sorted, entries_go, entries_sorted, eqb-true, false, filter, find, first_taken, get-empty, get-from_sorted, get_left, inl, inr, is_dir_kind, is_eq, is_in, is_known, is_some, is_sorted, len-entries, len_shown, length, none_in_empty, one_dentry, one_more, refl, retained, same_entries_map, same_map, some_in, stands_after_removal, subst, sym, tied_itself, true, where_key, with_pin, ℕ, ⊎_elim, ◌+◌, ◌-◌, ◌<◌, ◌^◌, ◌∙◌, ◌∷◌, ◌≡◌, ◌≤◌, ◌⊎◌}
+use Rattle.inode_table.proofs.Common.{Bool, Counts, Dentry, DirPins, Homes, Inode, IsCounted, IsTabled, List, None, Rank, Some, T, Tree, [], ap, arith, cond, count_of, dentry-exact, dentry-total, dentry_cmp, entries-from_sorted, entries_go, entries_sorted, filter, find, first_taken, get-empty, get-from_sorted, get_left, inl, inr, is_dir_kind, is_eq, is_in, is_known, is_some, is_sorted, len-entries, len_shown, length, none_in_empty, one_dentry, one_more, refl, retained, same_entries_map, same_map, some_in, stands_after_removal, subst, sym, tied_itself, true, where_key, with_pin, ℕ, ⊎_elim, ◌+◌, ◌-◌, ◌<◌, ◌^◌, ◌∙◌, ◌∷◌, ◌≡◌, ◌≤◌, ◌⊎◌}
 use Rattle.std.specs.FinMap as map
+use Rattle.std.specs.Prelude.{not}
+use Rattle.std.proofs.lemmas.List.Filters.{length-filter_both}
 use Rattle.mds_types.specs.Tree.{entries_in}
 use Rattle.mds_types.proofs.EntryLaws.{same_or_apart}
 use Rattle.inode_table.proofs.CountedLaws.{count_set}
@@ -32,12 +34,7 @@ module _ (e : Dentry × Inode) (left : Entries) (sorted : T (is_sorted dentry_cm
 -- ---- a directory has no more entries than the tree
 
 few_pass : (p : Dentry × Inode → Bool) (es : Entries) → length (filter p es) ≤ length es
-few_pass p [] = omega arith
-few_pass p (e ∷ es) = go (p e) (few_pass p es)
-  where
-    go : (b : Bool) → length (filter p es) ≤ length es → length (cond b (e ∷ filter p es) (filter p es)) ≤ length (e ∷ es)
-    go true few = omega (arith, few)
-    go false few = omega (arith, few)
+few_pass p es = omega (arith, length-filter_both p (λ e. not (p e)) (λ e. refl) es)
 
 pub within_tree : (tree : Tree) (d : ℕ) → entries_in tree d ≤ map.len tree
 unfolding entries_in
@@ -120,31 +117,12 @@ module _ (tree : Tree) (homes : Homes) (tabled : IsTabled tree homes) (left more
   next_listed kinded = ap is_some (home_of tree homes tabled e.0 e.1 e.1.ino.0 in_tree refl kinded)
 
   one_counted : (d : ℕ) → count_of (one_more counts e.0.dir.0) d + entries_in (rest_of more) d ≡ entries_in tree d
-  one_counted d = go (is_in d e.0) refl
-    where
-      all : count_of counts d + entries_in (rest_of (e ∷ more)) d ≡ entries_in tree d
-      all = to.each d
-
-      now : (b : Bool) → is_in d e.0 ≡ b → entries_in (rest_of more) d ≡ cond b (entries_in (rest_of (e ∷ more)) d - 1) (entries_in (rest_of (e ∷ more)) d)
-      now b is =
-          ap (λ (t : Tree). entries_in t d) without ∙ entries_go (rest_of (e ∷ more)) d e.0 e.1 in_rest
-          ∙ ap (λ (c : Bool). cond c (entries_in (rest_of (e ∷ more)) d - 1) (entries_in (rest_of (e ∷ more)) d)) is
-
-      counted : (b : Bool) → is_in d e.0 ≡ b → count_of (one_more counts e.0.dir.0) d ≡ cond b (count_of counts e.0.dir.0 + 1) (count_of counts d)
-      counted b is = count_set counts e.0.dir.0 (count_of counts e.0.dir.0 + 1) d ∙ ap (λ (c : Bool). cond c (count_of counts e.0.dir.0 + 1) (count_of counts d)) is
-
-      go : (b : Bool) → is_in d e.0 ≡ b → count_of (one_more counts e.0.dir.0) d + entries_in (rest_of more) d ≡ entries_in tree d
-      go true is =
-          let here : e.0.dir.0 ≡ d = eqb-true e.0.dir.0 d is in
-          let same : count_of counts e.0.dir.0 ≡ count_of counts d = ap (count_of counts) here in
-          let some : 0 < entries_in (rest_of (e ∷ more)) d = subst (λ k. 0 < entries_in (rest_of (e ∷ more)) k) here (some_in (rest_of (e ∷ more)) e.0 e.1 in_rest) in
-          let a = counted true is in
-          let b = now true is in
-          omega (arith, all, same, some, a, b)
-      go false is =
-          let a = counted false is in
-          let b = now false is in
-          omega (arith, all, a, b)
+  one_counted d =
+      let rest = entries_in (rest_of (e ∷ more)) in
+      let now = ap (λ (t : Tree). entries_in t d) without ∙ entries_go (rest_of (e ∷ more)) d e.0 e.1 in_rest in
+      let counted = count_set counts e.0.dir.0 (count_of counts e.0.dir.0 + 1) d in
+      let some = some_in (rest_of (e ∷ more)) e.0 e.1 in_rest in
+      grind (arith, to.each d, now, counted, some)
 
   -- what stands elsewhere has another number
   other : (q : Dentry) (x : Inode) → (q ≡ e.0 → ⊥) → map.get tree q ≡ Some x → x.ino.0 ≡ e.1.ino.0 → ⊥
