@@ -1,12 +1,12 @@
 -- How many entries each directory has, beside the tree: the counts stay the tree's where entries come and go.
-use Rattle.std.proofs.Common.{◌≡◌, ◌==◌, ℕ, ◌+◌, ◌-◌, ◌<◌, Bool, true, false, cond, is_some, Option, Some, None, ◌⊎◌, inl, inr, ⊎_elim, refl, sym, ap, subst, ◌∙◌, arith}
-use Rattle.std.proofs.lemmas.Bool.{eqb-true}
+use Rattle.std.proofs.Common.{◌≡◌, ◌==◌, ℕ, ◌+◌, ◌-◌, ◌<◌, Bool, true, false, cond, is_some, Option, Some, None, ⊎_elim, refl, sym, ap, subst, ◌∙◌, arith}
+use Rattle.std.proofs.lemmas.Bool.{cond_both, eqb-true}
 use Rattle.std.specs.Ordering.{nat_cmp}
 use Rattle.std.specs.FinMap as map
 use Rattle.std.specs.FinMap.{get-empty}
 use Rattle.mds_types.specs.declared.dentries.Dentry.{Dentry}
 use Rattle.mds_types.specs.declared.inodes.Inode.{Inode}
-use Rattle.mds_types.specs.Tree.{Tree, entries_in, is_directory, IsUnused, IsWellFormed, NothingIn}
+use Rattle.mds_types.specs.Tree.{Tree, dentry_cmp, entries_in, is_directory, IsUnused, IsWellFormed, NothingIn}
 use Rattle.mds_types.specs.Step.{IsMove, with_moved}
 use Rattle.mds_types.proofs.CountLaws.{entries_come, entries_go, entries_set, none_in, none_in_empty, some_in}
 use Rattle.mds_types.proofs.DirectoryLaws.{StandsAs, directory_stands}
@@ -54,11 +54,9 @@ module _ (tree : Tree) (counts : Counts) (holds : HoldsCounts tree counts) where
     with_none d = grind (arith, count_set counts k 0 d, none_in tree k nothing, holds d)
 
     pub without_none : HoldsCounts tree (map.remove counts k)
-    without_none d = go (same_or_apart d k)
-      where
-        go : (d ≡ k) ⊎ (d ≡ k → ⊥) → count_of (map.remove counts k) d ≡ entries_in tree d
-        go (inl same) = ap (count_of (map.remove counts k)) same ∙ ap or_zero (get_removed counts k) ∙ sym (ap (entries_in tree) same ∙ none_in tree k nothing)
-        go (inr apart) = ap or_zero (get_left_count counts k d apart) ∙ holds d
+    without_none d =
+        ⊎_elim (λ same. ap (count_of (map.remove counts k)) same ∙ ap or_zero (get_removed counts k) ∙ sym (ap (entries_in tree) same ∙ none_in tree k nothing))
+        (λ apart. ap or_zero (get_left_count counts k d apart) ∙ holds d) (same_or_apart d k)
 
 -- a count that is lowered and raised again is what it was
 less_and_more : (counts : Counts) (k d : ℕ) → 0 < count_of counts k → count_of (one_more (one_less counts k) k) d ≡ count_of counts d
@@ -69,7 +67,7 @@ less_and_more counts k d some =
 -- an entry moves
 pub moved_counts : (tree : Tree) (counts : Counts) (from to : Dentry) (inode : Inode) → IsWellFormed tree → HoldsCounts tree counts → IsMove tree from to inode
     → HoldsCounts (with_moved tree from to inode) (counts_moved counts from.dir.0 to.dir.0 (is_some (map.get tree to)))
-moved_counts tree counts from to inode whole holds move = go (map.get tree to) refl (from.dir.0 == to.dir.0) refl
+moved_counts tree counts from to inode whole holds move = go (map.get tree to) refl
   where
     may : MayMove tree from to inode
     may = may_move tree from to inode whole move
@@ -80,30 +78,19 @@ moved_counts tree counts from to inode whole holds move = go (map.get tree to) r
     stays : (o : Option Inode) → map.get tree to ≡ o → map.get (map.remove tree from) to ≡ o
     stays o is = get_left tree from to (λ same. may.apart (sym same)) ∙ is
 
-    came : map.get tree to ≡ None → HoldsCounts (with_moved tree from to inode) (one_more (one_less counts from.dir.0) to.dir.0)
-    came free = comes (map.remove tree from) (one_less counts from.dir.0) gone to inode (stays None free)
-
     some : 0 < count_of counts from.dir.0
     some = subst (λ n. 0 < n) (sym (holds from.dir.0)) (some_in tree from inode may.stands)
 
-    go : (o : Option Inode) → map.get tree to ≡ o → (b : Bool) → (from.dir.0 == to.dir.0) ≡ b → HoldsCounts (with_moved tree from to inode) (counts_moved counts from.dir.0 to.dir.0 (is_some o))
-    go (Some t) there b is = set (map.remove tree from) (one_less counts from.dir.0) gone to t inode (stays (Some t) there)
-    go None free false is = subst (HoldsCounts (with_moved tree from to inode)) (sym (ap (λ c. cond c counts (one_more (one_less counts from.dir.0) to.dir.0)) is)) (came free)
-    go None free true is = subst (HoldsCounts (with_moved tree from to inode)) (sym (ap (λ c. cond c counts (one_more (one_less counts from.dir.0) to.dir.0)) is)) (λ d.
-        sym (less_and_more counts from.dir.0 d some)
-        ∙ ap (λ k. count_of (one_more (one_less counts from.dir.0) k) d) (eqb-true from.dir.0 to.dir.0 is)
-        ∙ came free d)
+    go : (o : Option Inode) → map.get tree to ≡ o → HoldsCounts (with_moved tree from to inode) (counts_moved counts from.dir.0 to.dir.0 (is_some o))
+    go (Some t) there = set (map.remove tree from) (one_less counts from.dir.0) gone to t inode (stays (Some t) there)
+    go None free =
+        let came = comes (map.remove tree from) (one_less counts from.dir.0) gone to inode (stays None free) in
+        cond_both (from.dir.0 == to.dir.0) counts (one_more (one_less counts from.dir.0) to.dir.0) (HoldsCounts (with_moved tree from to inode))
+        (λ is d. sym (less_and_more counts from.dir.0 d some) ∙ ap (λ k. count_of (one_more (one_less counts from.dir.0) k) d) (eqb-true from.dir.0 to.dir.0 is) ∙ came d) (λ is. came)
 
 -- the root alone, in which nothing is
 pub empty_counted : HoldsCounts map.empty (map.insert map.empty 1 0)
-empty_counted d = count_set map.empty 1 0 d ∙ go (1 == d) ∙ sym (none_in_empty d)
-  where
-    nothing : Counts
-    nothing = map.empty
-
-    go : (b : Bool) → cond b 0 (count_of nothing d) ≡ 0
-    go true = refl
-    go false = ap or_zero (get-empty nat_cmp d)
+empty_counted = with_none map.empty map.empty (λ d. ap or_zero (get-empty nat_cmp d) ∙ sym (none_in_empty d)) 1 (λ q x stands same. let clash : None ≡ Some x = sym (get-empty dentry_cmp q) ∙ stands in cc)
 
 -- nothing is in what has an unused number, also once an inode with it came
 no_directory : (tree : Tree) (n : ℕ) → IsUnused tree n → is_directory tree n ≡ true → ⊥

@@ -30,12 +30,11 @@ behind d ks = filter (λ k. is_lt (nat_cmp d k)) ks
 
 numbers_after : (d : ℕ) (es : List (ℕ × Directory)) → behind d (list_map (λ e. e.0) es) ≡ list_map (λ e. e.0) (after nat_cmp d es)
 numbers_after d [] = refl
-numbers_after d (e ∷ es) = go (is_lt (nat_cmp d e.0)) (numbers_after d es)
-  where
-    go : (b : Bool) → behind d (list_map (λ e. e.0) es) ≡ list_map (λ e. e.0) (after nat_cmp d es)
-        → cond b (e.0 ∷ behind d (list_map (λ e. e.0) es)) (behind d (list_map (λ e. e.0) es)) ≡ list_map (λ e. e.0) (cond b (e ∷ after nat_cmp d es) (after nat_cmp d es))
-    go true more = ap (λ ks. e.0 ∷ ks) more
-    go false more = more
+numbers_after d (e ∷ es) =
+    elim (is_lt (nat_cmp d e.0)) as (λ b. cond b (e.0 ∷ behind d (list_map (λ e. e.0) es)) (behind d (list_map (λ e. e.0) es)) ≡ list_map (λ e. e.0) (cond b (e ∷ after nat_cmp d es) (after nat_cmp d es))) [
+      | true ↦ ap (λ ks. e.0 ∷ ks) (numbers_after d es)
+      | false ↦ numbers_after d es
+    ]
 
 module _ (rows : Rows) (d : Ino) where
   -- the first number of all rows comes after the root's

@@ -29,11 +29,8 @@ module _ {V X : Type 0} (f : V → X) where
 
   find_taken : (q : ℕ) (es : List (ℕ × V)) → find nat_cmp q (taken es) ≡ option_map f (find nat_cmp q es)
   find_taken q [] = refl
-  find_taken q (e ∷ es) = go (eq_by_cmp nat_cmp q e.0) (find_taken q es)
-    where
-      go : (b : Bool) → find nat_cmp q (taken es) ≡ option_map f (find nat_cmp q es) → cond b (Some (f e.1)) (find nat_cmp q (taken es)) ≡ option_map f (cond b (Some e.1) (find nat_cmp q es))
-      go true more = refl
-      go false more = more
+  find_taken q (e ∷ es) =
+      elim (eq_by_cmp nat_cmp q e.0) as (λ b. cond b (Some (f e.1)) (find nat_cmp q (taken es)) ≡ option_map f (cond b (Some e.1) (find nat_cmp q es))) [ true ↦ refl | false ↦ find_taken q es ]
 
   pub get_taken : (m : map.FinMap nat_cmp V) (q : ℕ) → map.get {R = nat_cmp} (map.from_sorted (taken (map.entries m))) q ≡ option_map f (map.get m q)
   get_taken m q =
