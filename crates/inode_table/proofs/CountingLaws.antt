@@ -6,8 +6,9 @@ use Rattle.std.proofs.lemmas.List.Filters.{length-filter_both}
 use Rattle.mds_types.specs.Tree.{entries_in}
 use Rattle.mds_types.proofs.EntryLaws.{same_or_apart}
 use Rattle.inode_table.proofs.CountedLaws.{count_set}
-use Rattle.inode_table.proofs.PinLaws.{Stands, pin_back, pin_beside, pin_here}
-use Rattle.inode_table.proofs.TableLaws.{home_of, known_is, one_inode}
+use Rattle.inode_table.proofs.HeldRows.{Stands, back, one_inode}
+use Rattle.inode_table.proofs.PinLaws.{pin_differ, pin_here}
+use Rattle.inode_table.proofs.TableLaws.{home_of, known_is}
 
 -- ---- pairs in order, one by one
 
@@ -135,11 +136,11 @@ module _ (tree : Tree) (homes : Homes) (tabled : IsTabled tree homes) (left more
     each = one_counted;
     within = λ q x is. to.within q x (stands_after_removal (rest_of (e ∷ more)) e.0 q x (ap (λ (t : Tree). map.get t q) (sym without) ∙ is)).1;
     listed = λ q x stands kinded. go q x stands kinded (same_or_apart q e.0);
-    stands = λ d rank is. ⊎_elim (λ w. (e.0, e.1, in_tree, sym w.0, w.2)) (λ w. to.stands d rank w.1) (pin_back pins e.1 d rank is);
+    stands = λ d rank is. ⊎_elim (λ w. (e.0, e.1, in_tree, sym w.0, w.1)) (λ w. to.stands d rank w.1) (back pins _ e.1 (pin_differ pins e.1) d rank is);
   }
     where
       go : (q : Dentry) (x : Inode) → map.get tree q ≡ Some x → is_dir_kind x.kind ≡ true → (q ≡ e.0) ⊎ (q ≡ e.0 → ⊥) → (map.get (rest_of more) q ≡ Some x) ⊎ (map.get (with_pin pins e.1) x.ino.0 ≡ x.pin)
       go q x stands kinded (inl same) =
           inr (subst (λ (i : Inode). is_dir_kind i.kind ≡ true → map.get (with_pin pins e.1) i.ino.0 ≡ i.pin) (one_inode tree e.0 q e.1 x (sym same) in_tree stands) (pin_here pins e.1) kinded)
       go q x stands kinded (inr apart) =
-          ⊎_elim (λ rest. inl (ap (λ (t : Tree). map.get t q) without ∙ get_left (rest_of (e ∷ more)) e.0 q apart ∙ rest)) (λ pinned. inr (pin_beside pins e.1 x.ino.0 (λ k. other q x apart stands) ∙ pinned)) (to.listed q x stands kinded)
+          ⊎_elim (λ rest. inl (ap (λ (t : Tree). map.get t q) without ∙ get_left (rest_of (e ∷ more)) e.0 q apart ∙ rest)) (λ pinned. inr (pin_differ pins e.1 x.ino.0 (λ k. other q x apart stands) ∙ pinned)) (to.listed q x stands kinded)

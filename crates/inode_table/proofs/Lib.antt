@@ -3,6 +3,7 @@ pub mod Common
 pub mod CountRows
 pub mod CountedLaws
 pub mod CountingLaws
+pub mod HeldRows
 pub mod MoveLaws
 pub mod NotedLaws
 pub mod OrderLaws

@@ -43,7 +43,7 @@ module _ (tree : Tree) (homes : Homes) (tabled : IsTabled tree homes) (counts : 
   pub added_counted : (dentry : Dentry) (inode : Inode) → MayAdd tree dentry inode → IsCounted (map.insert tree dentry inode) (with_count (one_more counts dentry.dir.0) inode) pins
   added_counted dentry inode may = record {
     each = came_counted (map.insert tree dentry inode) (one_more counts dentry.dir.0) inode (comes tree counts counted.each dentry inode may.free) (new_is_empty tree dentry inode tabled.whole may);
-    pinned = added_pins tree pins dentry inode counted.pinned may;
+    pinned = added_pins tree pins dentry inode tabled.whole counted.pinned may;
   }
 
   -- one is altered,

@@ -4,7 +4,7 @@ use Rattle.std.specs.FinMap as map
 use Rattle.std.specs.FinMap.{get-empty}
 use Rattle.std.specs.Ordering.{nat_cmp}
 use Rattle.std.specs.Cmp.{both_ways}
-use Rattle.std.proofs.lemmas.Bool.{eqb-true, or_cases, or_left, or_right}
+use Rattle.std.proofs.lemmas.Bool.{cases_Bool, eqb-true, or_cases, or_left, or_right}
 use Rattle.mds_types.specs.declared.dentries.Dentry.{Dentry}
 use Rattle.mds_types.specs.declared.inodes.Inode.{Inode}
 use Rattle.mds_types.specs.Tree.{Tree, dentry_cmp, dentry_of, at, is_directory, is_dir_kind, is_above, has_entries, HasPinOf, IsAbove as IsAboveIn, child, further as further_down, IsWellFormed, NothingIn}
@@ -12,22 +12,18 @@ use Rattle.mds_types.proofs.AboveLaws.{above_exact}
 use Rattle.mds_types.proofs.AttributeLaws.{well-formed-changed}
 use Rattle.mds_types.proofs.RemovedLaws.{well-formed-removed}
 use Rattle.mds_types.proofs.WellFormedLaws.{well-formed-grown}
-use Rattle.mds_types.proofs.EntryLaws.{get_put, get_beside, get_left, stands_after_put, stands_after_removal, same_or_apart}
 use Rattle.mds_types.proofs.DirectoryLaws.{StandsAs, directory_stands, root_stands, entry_stands, one_dentry, nothing_in_empty, nothing_in_file}
 use Rattle.sorted_map.proofs.NatKeys.{is_same, get_put as get_put_home, get_beside as get_beside_home, get_left as get_left_home, get_removed as get_removed_home, same_or_apart as same_number}
 use Rattle.inode_table.specs.declared.dirs.Home.{Home}
 use Rattle.inode_table.specs.Dirs.{Homes, Covers, or_whole, leaves_of, is_known, IsAbove, parent, further, MayCome, IsChildless, MayGo}
 use Rattle.inode_table.proofs.Chains.{some_of}
+use Rattle.inode_table.proofs.HeldRows.{Differ, Holds, dir_differ, dir_here, one_inode, put_held, removed_held}
 use Rattle.inode_table.specs.TreeChanges.{KeepLeaves, MayAdd, MaySet, MayRemove}
 use Rattle.inode_table.specs.TreeTable.{HoldsHomes, IsTabled, home_at, with_home, without_cover, without_home, without_row}
 
 -- the dentry of a home
 abbrev pub dentry_at : Home → Dentry
 dentry_at home = dentry_of home.parent.0 home.name
-
--- two that stand at one dentry are one
-pub one_inode : (tree : Tree) (p q : Dentry) (x y : Inode) → p ≡ q → map.get tree p ≡ Some x → map.get tree q ≡ Some y → x ≡ y
-one_inode tree p q x y same here there = let inodes : Some x ≡ Some y = sym here ∙ ap (λ d. map.get tree d) same ∙ there in cc
 
 module _ (tree : Tree) (homes : Homes) (tabled : IsTabled tree homes) where
   -- a home is that of an entry's directory
@@ -83,51 +79,8 @@ module _ (tree : Tree) (homes : Homes) (tabled : IsTabled tree homes) where
       let test = above_exact tree d x tabled.whole in
       both_ways told (is_above tree d x) (λ yes. test.1 (above_in_tree d x (exact.0 yes))) (λ yes. exact.1 (above_in_table d x here (test.0 yes)))
 
--- ---- rows by number, changed at the number of an inode if that is a directory
-
 pub dir_or_not : (inode : Inode) → (is_dir_kind inode.kind ≡ true) ⊎ (is_dir_kind inode.kind ≡ false)
-dir_or_not inode = go (is_dir_kind inode.kind) refl
-  where
-    go : (b : Bool) → is_dir_kind inode.kind ≡ b → (is_dir_kind inode.kind ≡ true) ⊎ (is_dir_kind inode.kind ≡ false)
-    go true is = inl is
-    go false is = inr is
-
-module _ {X : Type 0} (rows changed : map.FinMap nat_cmp X) (inode : Inode) (value : Option X) (here : map.get changed inode.ino.0 ≡ value) (beside : (q : ℕ) → (q ≡ inode.ino.0 → ⊥) → map.get changed q ≡ map.get rows q) where
-  abbrev now : Bool → map.FinMap nat_cmp X
-  now b = cond b changed rows
-
-  pub dir_here : is_dir_kind inode.kind ≡ true → map.get (now (is_dir_kind inode.kind)) inode.ino.0 ≡ value
-  dir_here kinded = ap (λ b. map.get (now b) inode.ino.0) kinded ∙ here
-
-  pub dir_beside : (q : ℕ) → (is_dir_kind inode.kind ≡ true → q ≡ inode.ino.0 → ⊥) → map.get (now (is_dir_kind inode.kind)) q ≡ map.get rows q
-  dir_beside q apart = ⊎_elim (λ kinded. ap (λ b. map.get (now b) q) kinded ∙ beside q (apart kinded)) (λ kinded. ap (λ b. map.get (now b) q) kinded) (dir_or_not inode)
-
-  -- what has a value then has the new one, or had it before
-  pub dir_back : (q : ℕ) (x : X) → map.get (now (is_dir_kind inode.kind)) q ≡ Some x
-      → ((q ≡ inode.ino.0) × (value ≡ Some x) × (is_dir_kind inode.kind ≡ true)) ⊎ ((is_dir_kind inode.kind ≡ true → q ≡ inode.ino.0 → ⊥) × (map.get rows q ≡ Some x))
-  dir_back q x is = go (dir_or_not inode) (same_number q inode.ino.0)
-    where
-      go : (is_dir_kind inode.kind ≡ true) ⊎ (is_dir_kind inode.kind ≡ false) → (q ≡ inode.ino.0) ⊎ (q ≡ inode.ino.0 → ⊥)
-          → ((q ≡ inode.ino.0) × (value ≡ Some x) × (is_dir_kind inode.kind ≡ true)) ⊎ ((is_dir_kind inode.kind ≡ true → q ≡ inode.ino.0 → ⊥) × (map.get rows q ≡ Some x))
-      go (inl kinded) (inl same) = inl (same, sym (dir_here kinded) ∙ ap (λ k. map.get (now (is_dir_kind inode.kind)) k) (sym same) ∙ is, kinded)
-      go kinded (inr apart) = inr (λ k. apart, sym (dir_beside q (λ k. apart)) ∙ is)
-      go (inr kinded) same = inr (λ k. let clash : true ≡ false = sym k ∙ kinded in absurd cc, sym (ap (λ b. map.get (now b) q) kinded) ∙ is)
-
--- a number is not that of a directory that went
-abbrev pub Spares : Option Inode → ℕ → Type 0
-Spares gone q = (t : Inode) → gone ≡ Some t → is_dir_kind t.kind ≡ true → q ≡ t.ino.0 → ⊥
-
-module _ {X : Type 0} (rows : map.FinMap nat_cmp X) where
-  pub left_beside : (gone : Option Inode) (q : ℕ) → Spares gone q → map.get (without_row rows gone) q ≡ map.get rows q
-  left_beside None q spared = refl
-  left_beside (Some t) q spared = dir_beside rows _ t None (get_removed_home rows t.ino.0) (get_left_home rows t.ino.0) q (spared t refl)
-
-  pub left_back : (gone : Option Inode) (q : ℕ) (x : X) → map.get (without_row rows gone) q ≡ Some x → Spares gone q × (map.get rows q ≡ Some x)
-  left_back None q x is = (λ t none. let clash : None ≡ Some t = none in absurd cc, is)
-  left_back (Some t) q x is =
-      ⊎_elim (λ w. let clash : None ≡ Some x = w.1 in absurd cc)
-      (λ w. (λ u one. let alike : t ≡ u = cc in subst (λ (i : Inode). is_dir_kind i.kind ≡ true → q ≡ i.ino.0 → ⊥) alike w.0, w.1))
-      (dir_back rows _ t None (get_removed_home rows t.ino.0) (get_left_home rows t.ino.0) q x is)
+dir_or_not inode = cases_Bool (is_dir_kind inode.kind)
 
 -- a table without an inode is its homes without that row
 pub homes_without : (homes : Homes) (gone : Option Inode) → without_home homes gone ≡ without_row homes gone
@@ -137,20 +90,33 @@ homes_without homes (Some t) = refl
 -- a table with a home of an inode has that of a directory, and each other as before
 module _ (homes : Homes) (dentry : Dentry) (inode : Inode) where
   pub with_here : is_dir_kind inode.kind ≡ true → map.get (with_home homes dentry inode) inode.ino.0 ≡ Some (home_at dentry)
-  with_here kinded = dir_here homes _ inode _ (get_put_home homes inode.ino.0 (home_at dentry)) (get_beside_home homes inode.ino.0 (home_at dentry)) kinded
+  with_here kinded = dir_here homes _ inode _ (get_put_home homes inode.ino.0 (home_at dentry)) kinded
 
-  pub with_beside : (q : ℕ) → (q ≡ inode.ino.0 → ⊥) → map.get (with_home homes dentry inode) q ≡ map.get homes q
-  with_beside q apart = dir_beside homes _ inode _ (get_put_home homes inode.ino.0 (home_at dentry)) (get_beside_home homes inode.ino.0 (home_at dentry)) q (λ kinded. apart)
-
-  pub with_back : (q : ℕ) (h : Home) → map.get (with_home homes dentry inode) q ≡ Some h
-      → ((q ≡ inode.ino.0) × (Some (home_at dentry) ≡ Some h) × (is_dir_kind inode.kind ≡ true)) ⊎ ((is_dir_kind inode.kind ≡ true → q ≡ inode.ino.0 → ⊥) × (map.get homes q ≡ Some h))
-  with_back q h is = dir_back homes _ inode _ (get_put_home homes inode.ino.0 (home_at dentry)) (get_beside_home homes inode.ino.0 (home_at dentry)) q h is
+  pub with_differ : Differ homes (with_home homes dentry inode) inode
+  with_differ = dir_differ homes _ inode (get_beside_home homes inode.ino.0 (home_at dentry))
 
   pub with_dir : is_dir_kind inode.kind ≡ true → with_home homes dentry inode ≡ map.insert homes inode.ino.0 (home_at dentry)
   with_dir kinded = ap (λ b. cond b (map.insert homes inode.ino.0 (home_at dentry)) homes) kinded
 
   pub with_file : is_dir_kind inode.kind ≡ false → with_home homes dentry inode ≡ homes
   with_file kinded = ap (λ b. cond b (map.insert homes inode.ino.0 (home_at dentry)) homes) kinded
+
+-- the homes of a tree's directories are rows that hold them
+abbrev pub home_value : Dentry → Inode → Option Home
+home_value dentry inode = Some (home_at dentry)
+
+pub homes_held : (tree : Tree) (homes : Homes) → HoldsHomes tree homes → Holds home_value tree homes
+homes_held tree homes holds = record { listed = holds.listed; stands = λ d home is. let w = holds.stands d home is in (dentry_at home, w.0, w.1, w.2, w.3) }
+
+pub held_homes : (tree : Tree) (homes : Homes) → Holds home_value tree homes → HoldsHomes tree homes
+held_homes tree homes holds = record {
+  listed = holds.listed;
+  stands = λ d home is.
+      let w = holds.stands d home is in
+      let homes_are : Some (home_at w.0) ≡ Some home = sym (holds.listed w.0 w.1 w.2 w.4) ∙ ap (map.get homes) w.3 ∙ is in
+      let same : home_at w.0 ≡ home = cc in
+      (w.1, ap (λ (h : Home). map.get tree (dentry_at h)) (sym same) ∙ w.2, w.3, w.4);
+}
 
 -- the empty tree has the root alone
 abbrev no_entries : Tree
@@ -195,54 +161,28 @@ no_pin tree dentry inode may = subst (HasPinOf inode.kind) (sym may.unpinned) tt
 pub added_tabled : (tree : Tree) (homes : Homes) (dentry : Dentry) (inode : Inode) → IsTabled tree homes → MayAdd tree dentry inode → IsTabled (map.insert tree dentry inode) (with_home homes dentry inode)
 added_tabled tree homes dentry inode tabled may = record {
   whole = well-formed-grown tree dentry.dir.0 dentry.name inode may.free tabled.whole may.parent may.unused.not_root may.unused.not_there may.sized (no_pin tree dentry inode may);
-  holds = record {
-    listed = λ q x h dir.
-        ⊎_elim
-        (λ w. subst (λ (i : Inode). is_dir_kind i.kind ≡ true → map.get (with_home homes dentry inode) i.ino.0 ≡ Some (home_at q)) w.1 (λ kinded. with_here homes dentry inode kinded ∙ ap (λ p. Some (home_at p)) (sym w.0)) dir)
-        (λ w. with_beside homes dentry inode x.ino.0 (may.unused.not_there q.dir.0 q.name x w.1) ∙ tabled.holds.listed q x w.1 dir)
-        (stands_after_put tree dentry inode q x h);
-    stands = λ d home is.
-        ⊎_elim
-        (λ w. let same : home_at dentry ≡ home = cc in (inode, ap (λ (h : Home). map.get (map.insert tree dentry inode) (dentry_at h)) (sym same) ∙ get_put tree dentry inode, sym w.0, w.2))
-        (λ w. let before = tabled.holds.stands d home w.1 in (before.0, get_beside tree dentry inode (dentry_at home) (taken (dentry_at home) before.0 before.1) ∙ before.1, before.2, before.3))
-        (with_back homes dentry inode d home is);
-  };
+  holds = held_homes _ _ (put_held home_value tree homes tabled.whole (homes_held tree homes tabled.holds) _ dentry inode (with_differ homes dentry inode) (with_here homes dentry inode)
+      (λ q x apart stands. may.unused.not_there q.dir.0 q.name x stands) (λ x stands. let clash : None ≡ Some x = sym may.free ∙ stands in absurd cc));
 }
-  where
-    -- what stood before is elsewhere
-    taken : (q : Dentry) (x : Inode) → map.get tree q ≡ Some x → q ≡ dentry → ⊥
-    taken q x stands same = let clash : None ≡ Some x = sym may.free ∙ ap (λ p. map.get tree p) (sym same) ∙ stands in cc
+
+-- what stood where an inode is altered has its number and its kind
+pub alike_before : (tree : Tree) (dentry : Dentry) (inode : Inode) → MaySet tree dentry inode → (x : Inode) → map.get tree dentry ≡ Some x → (x.ino.0 ≡ inode.ino.0) × (is_dir_kind x.kind ≡ is_dir_kind inode.kind)
+alike_before tree dentry inode may x stands =
+    subst (λ (i : Inode). (i.ino.0 ≡ inode.ino.0) × (is_dir_kind i.kind ≡ is_dir_kind inode.kind)) (one_inode tree dentry dentry may.before x refl may.stands stands) (sym (ap (λ (n : _). n.0) may.number), sym (ap is_dir_kind may.kind))
 
 -- an inode is altered
 pub set_tabled : (tree : Tree) (homes : Homes) (dentry : Dentry) (inode : Inode) → IsTabled tree homes → MaySet tree dentry inode → IsTabled (map.insert tree dentry inode) homes
 set_tabled tree homes dentry inode tabled may = record {
   whole = well-formed-changed tree dentry may.before inode may.stands may.number may.kind tabled.whole
       (may.sized (tabled.whole.sizes dentry.dir.0 dentry.name may.before may.stands)) (may.pinned (tabled.whole.pins dentry.dir.0 dentry.name may.before may.stands));
-  holds = record {
-    listed = λ q x h dir.
-        ⊎_elim
-        (λ w. ap (λ (i : Inode). map.get homes i.ino.0) (sym w.1) ∙ ap (λ (n : _). map.get homes n.0) may.number
-        ∙ tabled.holds.listed dentry may.before may.stands (sym same_dir ∙ ap (λ (i : Inode). is_dir_kind i.kind) w.1 ∙ dir) ∙ ap (λ p. Some (home_at p)) (sym w.0))
-        (λ w. tabled.holds.listed q x w.1 dir)
-        (stands_after_put tree dentry inode q x h);
-    stands = λ d home is. go d home is (same_or_apart (dentry_at home) dentry);
-  };
+  holds = held_homes _ _ (put_held home_value tree homes tabled.whole (homes_held tree homes tabled.holds) homes dentry inode (λ q apart. refl)
+      (λ dir. ap (map.get homes) numbers ∙ tabled.holds.listed dentry may.before may.stands (sym (ap is_dir_kind may.kind) ∙ dir))
+      (λ q x apart stands same. apart (one_dentry tree tabled.whole q dentry x may.before stands may.stands (same ∙ numbers)))
+      (alike_before tree dentry inode may));
 }
   where
-    same_dir : is_dir_kind inode.kind ≡ is_dir_kind may.before.kind
-    same_dir = ap is_dir_kind may.kind
-
-    go : (d : ℕ) (home : Home) → map.get homes d ≡ Some home → (dentry_at home ≡ dentry) ⊎ (dentry_at home ≡ dentry → ⊥)
-        → (i : Inode) × (map.get (map.insert tree dentry inode) (dentry_at home) ≡ Some i) × (i.ino.0 ≡ d) × (is_dir_kind i.kind ≡ true)
-    go d home is (inl same) =
-        let before = tabled.holds.stands d home is in
-        let alike = one_inode tree dentry (dentry_at home) may.before before.0 (sym same) may.stands before.1 in (
-          inode,
-          ap (λ p. map.get (map.insert tree dentry inode) p) same ∙ get_put tree dentry inode,
-          ap (λ (n : _). n.0) may.number ∙ ap (λ (i : Inode). i.ino.0) alike ∙ before.2,
-          same_dir ∙ ap (λ (i : Inode). is_dir_kind i.kind) alike ∙ before.3,
-        )
-    go d home is (inr apart) = let before = tabled.holds.stands d home is in (before.0, get_beside tree dentry inode (dentry_at home) apart ∙ before.1, before.2, before.3)
+    numbers : inode.ino.0 ≡ may.before.ino.0
+    numbers = ap (λ (n : _). n.0) may.number
 
 -- nothing is in an inode that may go
 pub nothing_in : (tree : Tree) (dentry : Dentry) (inode : Inode) → IsWellFormed tree → map.get tree dentry ≡ Some inode → (is_dir_kind inode.kind && has_entries tree inode.ino.0) ≡ false → NothingIn tree inode.ino.0
@@ -270,22 +210,10 @@ may_drop tree homes dentry found at_dentry tabled may gone is kinded =
 pub removed_tabled : (tree : Tree) (homes : Homes) (dentry : Dentry) (found : Option Inode) → map.get tree dentry ≡ found → IsTabled tree homes → MayRemove tree dentry
     → IsTabled (map.remove tree dentry) (without_home homes found)
 removed_tabled tree homes dentry found at_dentry tabled may = record {
-  whole = well-formed-removed tree dentry gone may.stands (nothing_in tree dentry gone tabled.whole may.stands may.empty) tabled.whole;
-  holds = subst (λ o. HoldsHomes (map.remove tree dentry) o) (sym (homes_without homes (Some gone)) ∙ ap (without_home homes) (sym may.stands ∙ at_dentry)) (record {
-    listed = λ q x h dir.
-        let before = stands_after_removal tree dentry q x h in
-        left_beside homes (Some gone) x.ino.0 (λ t is kinded same. let alike : gone ≡ t = cc in before.0 (one_dentry tree tabled.whole q dentry x gone before.1 may.stands (same ∙ ap (λ (i : Inode). i.ino.0) (sym alike)))) ∙ tabled.holds.listed q x before.1 dir;
-    stands = λ d home is.
-        let back = left_back homes (Some gone) d home is in
-        let w = tabled.holds.stands d home back.1 in
-        let alike : dentry_at home ≡ dentry → w.0 ≡ gone = λ same. one_inode tree (dentry_at home) dentry w.0 gone same w.1 may.stands in
-        let apart : dentry_at home ≡ dentry → ⊥ = λ same. back.0 gone refl (ap (λ (i : Inode). is_dir_kind i.kind) (sym (alike same)) ∙ w.3) (sym w.2 ∙ ap (λ (i : Inode). i.ino.0) (alike same)) in
-        (w.0, get_left tree dentry (dentry_at home) apart ∙ w.1, w.2, w.3);
-  });
+  whole = well-formed-removed tree dentry may.inode may.stands (nothing_in tree dentry may.inode tabled.whole may.stands may.empty) tabled.whole;
+  holds = subst (λ o. HoldsHomes (map.remove tree dentry) (without_home homes o)) (sym may.stands ∙ at_dentry)
+      (held_homes _ _ (removed_held home_value tree homes tabled.whole (homes_held tree homes tabled.holds) dentry may.inode may.stands));
 }
-  where
-    gone : Inode
-    gone = may.inode
 
 -- where an inode goes, the table loses its leaves alone, if it is a directory: each directory that stands then keeps its own
 pub leaves_kept : (old tree : Tree) (homes rest : Homes) (trees new : Covers) (dentry : Dentry) (gone : Option Inode) → IsTabled tree homes → IsWellFormed old → gone ≡ map.get old dentry → homes ≡ without_home rest gone → new ≡ without_cover trees gone
