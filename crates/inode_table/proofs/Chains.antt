@@ -1,5 +1,5 @@
 -- Chains of parents in a directory table, and what a change of the table leaves of them.
-use Rattle.std.proofs.Common.{◌≡◌, ◌==◌, ◌-◌, ◌<◌, ◌≤◌, ◌↔◌, ℕ, zero, suc, true, false, cond, is_some, Option, Some, None, ◌⊎◌, inl, inr, ⊎_elim, refl, sym, ap, subst, ◌∙◌, arith}
+use Rattle.std.proofs.Common.{◌≡◌, ◌==◌, ◌+◌, ◌-◌, ◌<◌, ◌≤◌, ◌↔◌, ℕ, zero, suc, true, false, cond, is_some, Option, Some, None, ◌⊎◌, inl, inr, ⊎_elim, refl, sym, ap, subst, ◌∙◌, arith}
 use Rattle.std.specs.Ordering.{nat_cmp}
 use Rattle.std.specs.Cmp.{nat_cmp_total}
 use Rattle.std.specs.FinMap as map
@@ -109,14 +109,28 @@ dropped_rooted homes d rooted childless = record {
       (before.0, kept_chain homes (map.remove homes d) (λ y. y ≡ d → ⊥) (get_left homes d) (λ y k good stands same. childless y k stands same) before.0 x was.0 before.1);
 }
 
+parent_of : Option Home → ℕ
+parent_of None = 0
+parent_of (Some home) = home.parent.0
+
+-- how many parents lead on from a directory, counted no further than so many
+pub climbed : ℕ → Homes → ℕ → ℕ
+climbed zero homes x = 0
+climbed (suc fuel) homes x = cond (is_some (map.get homes x)) (suc (climbed fuel homes (parent_of (map.get homes x)))) 0
+
+climbed_is : (fuel : ℕ) (homes : Homes) (n x : ℕ) → map.get homes 1 ≡ None → Reaches homes n x → n ≤ fuel → climbed fuel homes x ≡ n
+unfolding climbed parent_of
+climbed_is zero homes n x rootless reaches few = let none : 0 ≡ n = omega arith in none
+climbed_is (suc fuel) homes zero x rootless root few =
+    let none : map.get homes x ≡ None = ap (λ k. map.get homes k) root ∙ rootless in
+    ap (λ (o : Option Home). cond (is_some o) (suc (climbed fuel homes (parent_of o))) 0) none
+climbed_is (suc fuel) homes (suc n) x rootless (h, is, reaches) few =
+    ap (λ (o : Option Home). cond (is_some o) (suc (climbed fuel homes (parent_of o))) 0) is
+    ∙ ap suc (climbed_is fuel homes n h.parent.0 rootless reaches (omega arith))
+
 -- two chains from a directory to the root are of one length
 same_height : (homes : Homes) (n m x : ℕ) → map.get homes 1 ≡ None → Reaches homes n x → Reaches homes m x → n ≡ m
-same_height homes zero zero x rootless root other = refl
-same_height homes zero (suc m) x rootless root (h, is, reaches) = absurd (not_root homes x h rootless is root)
-same_height homes (suc n) zero x rootless (h, is, reaches) root = absurd (not_root homes x h rootless is root)
-same_height homes (suc n) (suc m) x rootless (h, is, reaches) (k, stands, others) =
-    let alike : k ≡ h = cc in
-    ap suc (same_height homes n m h.parent.0 rootless reaches (subst (λ (j : Home). Reaches homes m j.parent.0) alike others))
+same_height homes n m x rootless reaches other = sym (climbed_is (n + m) homes n x rootless reaches (omega arith)) ∙ climbed_is (n + m) homes m x rootless other (omega arith)
 
 -- a chain that is shorter than that of x doesn't go through x
 around : (homes : Homes) (height x : ℕ) → map.get homes 1 ≡ None → Reaches homes height x → (m y : ℕ) → m < height → Reaches homes m y → Reaches (map.remove homes x) m y
@@ -145,25 +159,6 @@ within_table (suc n) homes x rootless (h, is, reaches) =
     let rest = within_table n left h.parent.0 none (around homes (suc n) x rootless (h, is, reaches) n h.parent.0 (omega arith) reaches) in
     let fewer = one_fewer homes x h is in
     omega arith
-
-parent_of : Option Home → ℕ
-parent_of None = 0
-parent_of (Some home) = home.parent.0
-
--- how many parents lead on from a directory, counted no further than so many
-pub climbed : ℕ → Homes → ℕ → ℕ
-climbed zero homes x = 0
-climbed (suc fuel) homes x = cond (is_some (map.get homes x)) (suc (climbed fuel homes (parent_of (map.get homes x)))) 0
-
-climbed_is : (fuel : ℕ) (homes : Homes) (n x : ℕ) → map.get homes 1 ≡ None → Reaches homes n x → n ≤ fuel → climbed fuel homes x ≡ n
-unfolding climbed parent_of
-climbed_is zero homes n x rootless reaches few = let none : 0 ≡ n = omega arith in none
-climbed_is (suc fuel) homes zero x rootless root few =
-    let none : map.get homes x ≡ None = ap (λ k. map.get homes k) root ∙ rootless in
-    ap (λ (o : Option Home). cond (is_some o) (suc (climbed fuel homes (parent_of o))) 0) none
-climbed_is (suc fuel) homes (suc n) x rootless (h, is, reaches) few =
-    ap (λ (o : Option Home). cond (is_some o) (suc (climbed fuel homes (parent_of o))) 0) is
-    ∙ ap suc (climbed_is fuel homes n h.parent.0 rootless reaches (omega arith))
 
 -- a step to the parent is one step less to go
 pub nearer : (homes : Homes) (x : ℕ) (home : Home) → IsRooted homes → map.get homes x ≡ Some home → climbed (map.len homes) homes home.parent.0 < climbed (map.len homes) homes x

@@ -1,7 +1,9 @@
 -- Entries that are counted one by one, and their pins.
-use Rattle.inode_table.proofs.Common.{Bool, Counts, Dentry, DirPins, Homes, Inode, IsCounted, IsTabled, List, None, Rank, Some, T, Tree, [], ap, arith, cond, count_of, dentry-exact, dentry-total, dentry_cmp, entries-from_sorted, entries_go, entries_sorted, filter, find, first_taken, get-empty, get-from_sorted, get_left, inl, inr, is_dir_kind, is_eq, is_in, is_known, is_some, is_sorted, len-entries, len_shown, length, none_in_empty, one_dentry, one_more, refl, retained, same_entries_map, same_map, some_in, stands_after_removal, subst, sym, tied_itself, true, where_key, with_pin, ℕ, ⊎_elim, ◌+◌, ◌-◌, ◌<◌, ◌^◌, ◌∙◌, ◌∷◌, ◌≡◌, ◌≤◌, ◌⊎◌}
+use Rattle.inode_table.proofs.Common.{Bool, Counts, Dentry, DirPins, Homes, Inode, IsCounted, IsTabled, List, None, Rank, Some, T, Tree, [], ap, arith, cond, count_of, dentry-exact, dentry-total, dentry_cmp, entries_go, entries_sorted, filter, find, first_taken, get-empty, get-from_sorted, get_left, inl, inr, is_dir_kind, is_eq, is_in, is_known, is_some, is_sorted, len-entries, len_shown, length, none_in_empty, one_dentry, one_more, refl, retained, some_in, stands_after_removal, subst, sym, tied_itself, true, where_key, with_pin, ℕ, ⊎_elim, ◌+◌, ◌-◌, ◌<◌, ◌^◌, ◌∙◌, ◌∷◌, ◌≡◌, ◌≤◌, ◌⊎◌}
 use Rattle.std.specs.FinMap as map
 use Rattle.std.specs.Prelude.{not}
+use Rattle.sorted_map.proofs.ContentLaws.{empty_shown}
+use Rattle.sorted_map.proofs.MapLaws.{contents-entries}
 use Rattle.std.proofs.lemmas.List.Filters.{length-filter_both}
 use Rattle.mds_types.specs.Tree.{entries_in}
 use Rattle.mds_types.proofs.EntryLaws.{same_or_apart}
@@ -18,12 +20,6 @@ Entries = List (Dentry × Inode)
 -- the tree of entries that are left
 abbrev pub rest_of : Entries → Tree
 rest_of left = map.from_sorted left
-
-whole_rest : (tree : Tree) → rest_of (map.entries tree) ≡ tree
-whole_rest tree = same_entries_map _ _ (entries-from_sorted dentry_cmp (map.entries tree) (entries_sorted tree))
-
-no_rest : rest_of [] ≡ map.empty
-no_rest = same_map dentry-total dentry-exact (rest_of []) map.empty (λ q. get-from_sorted dentry_cmp [] q tt ∙ sym (get-empty dentry_cmp q))
 
 module _ (e : Dentry × Inode) (left : Entries) (sorted : T (is_sorted dentry_cmp (e ∷ left))) where
   first_is : map.get (rest_of (e ∷ left)) e.0 ≡ Some e.1
@@ -43,7 +39,7 @@ within_tree tree d =
     let kept : Entries = where_key dentry_cmp (is_in d) (map.entries tree) in
     let both = retained dentry-total dentry-exact (is_in d) (map.entries tree) kept (entries_sorted tree) refl in
     let passed : map.len (map.retain_keys tree (is_in d)) ≡ length kept =
-    ap (λ (m : Tree). map.len (map.retain_keys m (is_in d))) (sym (whole_rest tree)) ∙ ap (λ (m : Tree). map.len m) (sym both.1) ∙ sym (len_shown dentry_cmp kept both.0) in
+    ap (λ (m : Tree). map.len (map.retain_keys m (is_in d))) (sym (contents-entries tree)) ∙ ap (λ (m : Tree). map.len m) (sym both.1) ∙ sym (len_shown dentry_cmp kept both.0) in
     let few = few_pass (λ (e : Dentry × Inode). is_in d e.0) (map.entries tree) in
     let all = len-entries tree in
     omega (arith, passed, few, all)
@@ -63,10 +59,10 @@ counted_none tree left counts pins all none = subst (λ (es : Entries). IsCounte
   sorted = entries_sorted tree;
   each = λ d.
       let zero_is : count_of counts d ≡ 0 = none.each d ∙ none_in_empty d in
-      let whole : entries_in (rest_of (map.entries tree)) d ≡ entries_in tree d = ap (λ (t : Tree). entries_in t d) (whole_rest tree) in
+      let whole : entries_in (rest_of (map.entries tree)) d ≡ entries_in tree d = ap (λ (t : Tree). entries_in t d) (contents-entries tree) in
       omega (arith, zero_is, whole);
-  within = λ q x is. ap (λ (t : Tree). map.get t q) (sym (whole_rest tree)) ∙ is;
-  listed = λ q x is kinded. inl (ap (λ (t : Tree). map.get t q) (whole_rest tree) ∙ is);
+  within = λ q x is. ap (λ (t : Tree). map.get t q) (sym (contents-entries tree)) ∙ is;
+  listed = λ q x is kinded. inl (ap (λ (t : Tree). map.get t q) (contents-entries tree) ∙ is);
   stands = λ d rank is.
       let w = none.pinned.stands d rank is in
       let clash : None ≡ Some w.1 = sym (get-empty dentry_cmp w.0) ∙ w.2 in
@@ -84,7 +80,7 @@ counted_all tree left counts pins none to = record {
 }
   where
     is_empty : rest_of left ≡ map.empty
-    is_empty = ap rest_of none ∙ no_rest
+    is_empty = empty_shown dentry_cmp left (subst (λ es. T (is_sorted dentry_cmp es)) (sym none) tt) (ap length none)
 
     done : (q : Dentry) (x : Inode) → (map.get (rest_of left) q ≡ Some x) ⊎ (map.get pins x.ino.0 ≡ x.pin) → map.get pins x.ino.0 ≡ x.pin
     done q x (inl more) = let clash : None ≡ Some x = sym (get-empty dentry_cmp q) ∙ ap (λ (t : Tree). map.get t q) (sym is_empty) ∙ more in absurd cc

@@ -55,12 +55,11 @@ module _ (rows : Rows) (d : Ino) where
 -- the first that passes a test does, and is one of the list
 pub first_passes : (P : ℕ → Bool) (x : ℕ) (ks : List ℕ) → slice_get (filter P ks) 0 ≡ Some x → (P x ≡ true) × (list_any (eq_by_cmp nat_cmp x) ks ≡ true)
 first_passes P x [] first = let clash : None ≡ Some x = first in absurd cc
-first_passes P x (k ∷ ks) first = go (P k) refl (first_passes P x ks) first
-  where
-    go : (b : Bool) → P k ≡ b → (slice_get (filter P ks) 0 ≡ Some x → (P x ≡ true) × (list_any (eq_by_cmp nat_cmp x) ks ≡ true)) → slice_get (cond b (k ∷ filter P ks) (filter P ks)) 0 ≡ Some x
-        → (P x ≡ true) × ((eq_by_cmp nat_cmp x k || list_any (eq_by_cmp nat_cmp x) ks) ≡ true)
-    go true is more f = let same = same_Some k x f in (subst (λ j. P j ≡ true) same is, or_left _ _ (unsigned_tied x k ∙ eq-eqb x k (sym same)))
-    go false is more f = let w = more f in (w.0, or_right _ _ w.1)
+first_passes P x (k ∷ ks) first =
+    elim (P k) as (λ b. P k ≡ b → slice_get (cond b (k ∷ filter P ks) (filter P ks)) 0 ≡ Some x → (P x ≡ true) × ((eq_by_cmp nat_cmp x k || list_any (eq_by_cmp nat_cmp x) ks) ≡ true)) [
+      | true ↦ λ is f. let same = same_Some k x f in (subst (λ j. P j ≡ true) same is, or_left _ _ (unsigned_tied x k ∙ eq-eqb x k (sym same)))
+      | false ↦ λ is f. let w = first_passes P x ks f in (w.0, or_right _ _ w.1)
+    ] refl first
 
 -- all of a list come after a number
 abbrev AreBehind : ℕ → List ℕ → Type 0

@@ -3,6 +3,7 @@ use Rattle.inode_table.proofs.Common.{Directory, Ino, IsAfter, IsFirstPinned, Is
 use Rattle.std.specs.Prelude.{◌≡◌, ℕ, ◌<◌, ◌≤◌, Bool, true, false, cond, T, List, [], ◌∷◌, Option, Some, None, is_some, refl}
 use Rattle.std.specs.FinMap as map
 use Rattle.std.specs.Cmp.{nat_cmp_is}
+use Rattle.mds_types.proofs.EntrySearch.{not_found_below}
 use Rattle.sorted_map.proofs.PlaceLaws.{less as less_of}
 use Rattle.inode_table.proofs.CountRows.{get_pin}
 
@@ -42,12 +43,8 @@ module _ (row : ℕ × Directory) (rest : List (ℕ × Directory)) (sorted : T (
       no_pin None is = refl
       no_pin (Some r) is = let clash : true ≡ false = is in cc
 
-      absent : (o : Option Directory) → find nat_cmp d rest ≡ o → d ≡ row.0 → pin_in o ≡ row.1.pin
-      absent None is same = sym (no_pin row.1.pin none)
-      absent (Some e) is same = let more : row.0 < d = behind row.0 rest d (left_of _ _ sorted) (ap is_some is) in absurd (omega (arith, more, same))
-
       go : (b : Bool) → eq_by_cmp nat_cmp d row.0 ≡ b → pin_in (find nat_cmp d rest) ≡ pin_in (cond b (Some row.1) (find nat_cmp d rest))
-      go true tied = absent (find nat_cmp d rest) refl (nat_cmp-IsAntisymmetric d row.0 (tie _ tied))
+      go true tied = ap pin_in (ap (λ k. find nat_cmp k rest) (nat_cmp-IsAntisymmetric d row.0 (tie _ tied)) ∙ not_found_below nat_cmp_total row.0 rest (left_of _ _ sorted)) ∙ sym (no_pin row.1.pin none)
       go false apart = refl
 
 pub first_here : (all left rest : List (ℕ × Directory)) (row : ℕ × Directory) → left ≡ row ∷ rest → T (is_sorted nat_cmp left) → ((d : ℕ) → pin_in (find nat_cmp d left) ≡ pin_in (find nat_cmp d all)) → is_some row.1.pin ≡ true

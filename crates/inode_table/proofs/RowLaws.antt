@@ -57,6 +57,14 @@ pub get_home : (rows : Rows) (d : ℕ) → map.get (homes_of rows) d ≡ home_in
 unfolding homes_of
 get_home rows d = get_taken (λ (r : Directory). r.home) rows d
 
+-- a number without a home has no row
+pub no_row : (rows : Rows) (d : ℕ) → map.get (homes_of rows) d ≡ None → map.get rows d ≡ None
+no_row rows d none = go (map.get rows d) (sym (get_home rows d) ∙ none)
+  where
+    go : (row : Option Directory) → home_in row ≡ None → row ≡ None
+    go None is = refl
+    go (Some row) is = let clash : Some row.home ≡ None = is in absurd cc
+
 -- a part that not every row has
 module _ {X : Type 0} (part : Option Directory → Option X) (nowhere : part None ≡ None) (or_any : Option X → X) (of_some : (x : X) → or_any (Some x) ≡ x) where
   abbrev in_row : Directory → X
@@ -78,11 +86,7 @@ get_below rows d = get_part leaves_in refl or_whole (λ x. refl) rows d
 
 -- the leaves of the root, and those of another directory
 pub get_root : (root : Option (List Fragment)) (rows : Rows) → map.get (homes_of rows) 1 ≡ None → map.get (covers_of root rows) 1 ≡ root
-get_root None rows rootless = get_below rows 1 ∙ go (map.get rows 1) (sym (get_home rows 1) ∙ rootless)
-  where
-    go : (row : Option Directory) → home_in row ≡ None → leaves_in row ≡ None
-    go None none = refl
-    go (Some row) none = let clash : Some row.home ≡ None = none in absurd cc
+get_root None rows rootless = get_below rows 1 ∙ ap leaves_in (no_row rows 1 rootless)
 get_root (Some leaves) rows rootless = get_put (covers_below rows) 1 leaves
 
 pub get_leaves : (root : Option (List Fragment)) (rows : Rows) (d : ℕ) → (d ≡ 1 → ⊥) → map.get (covers_of root rows) d ≡ leaves_in (map.get rows d)
@@ -171,14 +175,6 @@ module _ (rows : Rows) (d : ℕ) where
   leaves_left (Some its) other = ap (λ m. map.insert m 1 its) (part_left covers_below leaves_in get_below rows d refl) ∙ put_and_gone (covers_below rows) 1 its d other
 
 module _ (root : Option (List Fragment)) (rows : Rows) (d : ℕ) where
-  -- a number without a home has no row
-  pub no_row : map.get (homes_of rows) d ≡ None → map.get rows d ≡ None
-  no_row none = go (map.get rows d) (sym (get_home rows d) ∙ none)
-    where
-      go : (row : Option Directory) → home_in row ≡ None → row ≡ None
-      go None is = refl
-      go (Some row) is = let clash : Some row.home ≡ None = is in absurd cc
-
   -- a directory with a home has a row
   pub has_row : map.get rows d ≡ None → is_some (map.get (homes_of rows) d) ≡ true → ⊥
   has_row none some = let clash : false ≡ true = sym (ap is_some (get_home rows d ∙ ap home_in none)) ∙ some in cc

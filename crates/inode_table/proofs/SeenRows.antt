@@ -1,11 +1,11 @@
 -- A table as it is seen once the row of a directory was written to, or what is kept of the root beside the rows.
-use Rattle.inode_table.proofs.Common.{Directory, Err, Fragment, IsSplit, IsTable, IsTree, List, Ok, OnErr, OnOk, Option, Rank, Refusal, Result, Rows, Some, Table, ap, contents, contents-entries, count_of, counts_of, covers_of, get_put, homes_of, is_known, leaves_in, leaves_of, nat_cmp, or_whole, or_zero, pin_in, pinned_at, pins_of, refl, shown, subst, subst₂, sym, true, ℕ, ◌∙◌, ◌≡◌}
+use Rattle.inode_table.proofs.Common.{Directory, Err, Fragment, IsSplit, IsTable, IsTree, List, None, Ok, OnErr, OnOk, Option, Rank, Refusal, Result, Rows, Some, Table, ap, contents, contents-entries, count_of, counts_of, covers_of, get_put, homes_of, is_known, leaves_in, leaves_of, nat_cmp, or_whole, or_zero, pin_in, pinned_at, pins_of, refl, shown, subst, subst₂, sym, true, ℕ, ◌∙◌, ◌≡◌}
 use Rattle.std.specs.FinMap as map
-use Rattle.inode_table.specs.Dirs.{MayMove}
+use Rattle.inode_table.specs.Dirs.{MayCome, MayGo, MayMove}
 use Rattle.inode_table.specs.declared.dirs.Home.{Home}
-use Rattle.inode_table.proofs.CountRows.{count_at_root, count_at_row, count_in, counts_kept, counts_put, pins_kept, pins_put, root_set}
-use Rattle.inode_table.proofs.RowLaws.{get_leaves, home_in, homes_kept, homes_put, leaves_at_root, leaves_kept, leaves_put, root_put}
-use Rattle.inode_table.proofs.Tables.{moved_table, set_table}
+use Rattle.inode_table.proofs.CountRows.{count_at_root, count_at_row, count_in, counts_kept, counts_left, counts_put, pins_kept, pins_left, pins_put, root_set}
+use Rattle.inode_table.proofs.RowLaws.{get_leaves, home_in, homes_kept, homes_left, homes_put, leaves_at_root, leaves_kept, leaves_left, leaves_put, no_row, root_put}
+use Rattle.inode_table.proofs.Tables.{adopted_table, dropped_table, moved_table, set_table}
 
 abbrev pub seen : ℕ → Option (List Fragment) → ℕ → Rows → Table
 seen in_root root room rows = record { homes = homes_of rows; trees = covers_of root rows; counts = counts_of in_root rows; pins = pins_of rows; room = room }
@@ -88,6 +88,27 @@ module _ (in_root : ℕ) (root : Option (List Fragment)) (room : ℕ) (rows : Ro
         let row : Directory = record before { pin = pin } in
         wrote row (λ t. record t { pins = pinned_at t.pins d pin }) (homes_kept rows d row (ap home_in stands)) (leaves_kept rows d root row (ap leaves_in stands)) (counts_kept in_root rows d row (ap count_in stands))
         (pins_put rows d row pin refl) refl old_sound
+
+  -- a row comes, and one goes, seen with the room that was
+  pub comes : (now : Rows) (home : Home) → now ≡ map.insert rows d (record { home = home; leaves = None; entries = 0; pin = None }) → MayCome old.homes d home
+      → Becomes (seen in_root root room now) (record old { homes = map.insert old.homes d home; counts = map.insert old.counts d 0 })
+  comes now home is may =
+      let row : Directory = record { home = home; leaves = None; entries = 0; pin = None } in
+      let none : None ≡ map.get rows d = sym (no_row rows d (ap (λ (t : Table). map.get t.homes d) view ∙ may.fresh)) in
+      became _ _
+      (ap (seen in_root root room) is
+      ∙ (λ i. record { homes = homes_put rows d row i; trees = leaves_kept rows d root row (ap leaves_in none) i; counts = counts_put in_root rows d row 0 may.other refl i; pins = pins_kept rows d row (ap pin_in none) i; room = room })
+      ∙ ap (λ (t : Table). record t { homes = map.insert t.homes d home; counts = map.insert t.counts d 0 }) view)
+      (adopted_table old.homes old.trees d home old_sound may)
+
+  pub goes : (now : Rows) → now ≡ map.remove rows d → MayGo old.homes d
+      → Becomes (seen in_root root room now) (record old { homes = map.remove old.homes d; trees = map.remove old.trees d; counts = map.remove old.counts d; pins = map.remove old.pins d })
+  goes now is may =
+      became _ _
+      (ap (seen in_root root room) is
+      ∙ (λ i. record { homes = homes_left rows d i; trees = leaves_left rows d root may.other i; counts = counts_left in_root rows d may.other i; pins = pins_left rows d i; room = room })
+      ∙ ap (λ (t : Table). record t { homes = map.remove t.homes d; trees = map.remove t.trees d; counts = map.remove t.counts d; pins = map.remove t.pins d }) view)
+      (dropped_table old.homes old.trees d old_sound may.childless)
 
   -- leaves were split, of the root or of another directory
   pub record Splits (now : Table) (frag : Fragment) (bits : ℕ) (result : Result (Unit {0}) Refusal) : Type 0 where

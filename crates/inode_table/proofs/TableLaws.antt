@@ -1,5 +1,5 @@
 -- The directory table beside the tree: what it knows, and that it stays that of the tree.
-use Rattle.std.proofs.Common.{◌≡◌, ◌==◌, ◌&&◌, ◌||◌, ◌↔◌, ℕ, Bool, true, false, cond, is_some, IsTrue, Option, Some, None, ◌⊎◌, inl, inr, ⊎_elim, refl, sym, ap, subst, ◌∙◌}
+use Rattle.std.proofs.Common.{◌≡◌, ◌==◌, ◌&&◌, ◌↔◌, ℕ, Bool, true, false, cond, is_some, IsTrue, Option, Some, None, ◌⊎◌, ⊎_elim, refl, sym, ap, subst, ◌∙◌}
 use Rattle.std.specs.FinMap as map
 use Rattle.std.specs.FinMap.{get-empty}
 use Rattle.std.specs.Ordering.{nat_cmp}
@@ -13,11 +13,11 @@ use Rattle.mds_types.proofs.AttributeLaws.{well-formed-changed}
 use Rattle.mds_types.proofs.RemovedLaws.{well-formed-removed}
 use Rattle.mds_types.proofs.WellFormedLaws.{well-formed-grown}
 use Rattle.mds_types.proofs.DirectoryLaws.{StandsAs, directory_stands, root_stands, entry_stands, one_dentry, nothing_in_empty, nothing_in_file}
-use Rattle.sorted_map.proofs.NatKeys.{is_same, get_put as get_put_home, get_beside as get_beside_home, get_left as get_left_home, get_removed as get_removed_home, same_or_apart as same_number}
+use Rattle.sorted_map.proofs.NatKeys.{is_same, get_put as get_put_home, get_beside as get_beside_home, get_removed as get_removed_home}
 use Rattle.inode_table.specs.declared.dirs.Home.{Home}
 use Rattle.inode_table.specs.Dirs.{Homes, Covers, or_whole, leaves_of, is_known, IsAbove, parent, further, MayCome, IsChildless, MayGo}
 use Rattle.inode_table.proofs.Chains.{some_of}
-use Rattle.inode_table.proofs.HeldRows.{Differ, Holds, dir_differ, dir_here, one_inode, put_held, removed_held}
+use Rattle.inode_table.proofs.HeldRows.{Differ, Holds, Spares, dir_differ, dir_here, left_beside, one_inode, put_held, removed_held}
 use Rattle.inode_table.specs.TreeChanges.{KeepLeaves, MayAdd, MaySet, MayRemove}
 use Rattle.inode_table.specs.TreeTable.{HoldsHomes, IsTabled, home_at, with_home, without_cover, without_home, without_row}
 
@@ -82,10 +82,14 @@ module _ (tree : Tree) (homes : Homes) (tabled : IsTabled tree homes) where
 pub dir_or_not : (inode : Inode) → (is_dir_kind inode.kind ≡ true) ⊎ (is_dir_kind inode.kind ≡ false)
 dir_or_not inode = cases_Bool (is_dir_kind inode.kind)
 
--- a table without an inode is its homes without that row
+-- a table without an inode is its homes without that row, and so are its leaves
 pub homes_without : (homes : Homes) (gone : Option Inode) → without_home homes gone ≡ without_row homes gone
 homes_without homes None = refl
 homes_without homes (Some t) = refl
+
+covers_without : (trees : Covers) (gone : Option Inode) → without_cover trees gone ≡ without_row trees gone
+covers_without trees None = refl
+covers_without trees (Some t) = refl
 
 -- a table with a home of an inode has that of a directory, and each other as before
 module _ (homes : Homes) (dentry : Dentry) (inode : Inode) where
@@ -218,25 +222,13 @@ removed_tabled tree homes dentry found at_dentry tabled may = record {
 -- where an inode goes, the table loses its leaves alone, if it is a directory: each directory that stands then keeps its own
 pub leaves_kept : (old tree : Tree) (homes rest : Homes) (trees new : Covers) (dentry : Dentry) (gone : Option Inode) → IsTabled tree homes → IsWellFormed old → gone ≡ map.get old dentry → homes ≡ without_home rest gone → new ≡ without_cover trees gone
     → KeepLeaves tree trees new
-leaves_kept old tree homes rest trees new dentry None tabled whole stood left is d stands = ap (λ c. leaves_of c d) is
-leaves_kept old tree homes rest trees new dentry (Some inode) tabled whole stood left is d stands = go (is_dir_kind inode.kind) refl (same_number d inode.ino.0)
+leaves_kept old tree homes rest trees new dentry gone tabled whole stood left is d stands = ap (λ c. leaves_of c d) (is ∙ covers_without trees gone) ∙ ap or_whole (left_beside trees gone d spared)
   where
-    not_root : inode.ino.0 ≡ 1 → ⊥
-    not_root root = whole.rootless dentry.dir.0 dentry.name inode (sym stood) root
-
-    gone_home : is_dir_kind inode.kind ≡ true → is_known homes inode.ino.0 ≡ (inode.ino.0 == 1)
-    gone_home kinded =
-        ap (λ h. is_known h inode.ino.0) (left ∙ ap (λ b. cond b (map.remove rest inode.ino.0) rest) kinded) ∙ ap (λ o. (inode.ino.0 == 1) || is_some o) (get_removed_home rest inode.ino.0) ∙ or_none (inode.ino.0 == 1)
-      where
-        or_none : (b : Bool) → (b || false) ≡ b
-        or_none true = refl
-        or_none false = refl
-
-    go : (b : Bool) → is_dir_kind inode.kind ≡ b → (d ≡ inode.ino.0) ⊎ (d ≡ inode.ino.0 → ⊥) → leaves_of new d ≡ leaves_of trees d
-    go false kinded same = ap (λ c. leaves_of c d) (is ∙ ap (λ b. cond b (map.remove trees inode.ino.0) trees) kinded)
-    go true kinded (inr apart) = ap (λ c. leaves_of c d) (is ∙ ap (λ b. cond b (map.remove trees inode.ino.0) trees) kinded) ∙ ap or_whole (get_left_home trees inode.ino.0 d apart)
-    go true kinded (inl same) =
-        absurd (not_root (eqb-true inode.ino.0 1 (sym (gone_home kinded) ∙ ap (is_known homes) (sym same) ∙ known_is tree homes tabled d ∙ stands)))
+    spared : Spares gone d
+    spared t one kinded same =
+        let went : map.get homes d ≡ None = ap (map.get homes) same ∙ ap (λ h. map.get h t.ino.0) (left ∙ ap (without_home rest) one) ∙ dir_here rest _ t None (get_removed_home rest t.ino.0) kinded in
+        ⊎_elim (λ root. whole.rootless dentry.dir.0 dentry.name t (sym stood ∙ one) (sym same ∙ eqb-true d 1 root)) (λ some. let clash : false ≡ true = sym (ap is_some went) ∙ some in cc)
+        (or_cases (d == 1) (is_some (map.get homes d)) (known_is tree homes tabled d ∙ stands))
 
 -- where no leaves are set or lost, each directory keeps its own
 pub leaves_same : (tree : Tree) (trees new : Covers) → new ≡ trees → KeepLeaves tree trees new
