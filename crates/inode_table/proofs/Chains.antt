@@ -1,5 +1,5 @@
 -- Chains of parents in a directory table, and what a change of the table leaves of them.
-use Rattle.std.proofs.Common.{◌≡◌, ◌==◌, ◌+◌, ◌-◌, ◌<◌, ◌≤◌, ◌↔◌, ℕ, zero, suc, true, false, cond, is_some, Option, Some, None, ◌⊎◌, inl, inr, ⊎_elim, refl, sym, ap, subst, ◌∙◌, arith}
+use Rattle.std.proofs.Common.{◌≡◌, ◌==◌, ◌+◌, ◌-◌, ◌<◌, ◌≤◌, ◌↔◌, ℕ, zero, suc, true, false, cond, is_some, Option, Some, None, ⊎_elim, refl, sym, ap, subst, ◌∙◌, arith}
 use Rattle.std.specs.Ordering.{nat_cmp}
 use Rattle.std.specs.Cmp.{nat_cmp_total}
 use Rattle.std.specs.FinMap as map
@@ -48,7 +48,7 @@ empty_rooted = record {
 placed_rooted : (homes : Homes) (d : ℕ) (home : Home) → IsRooted homes → (d ≡ 1 → ⊥) → is_known homes home.parent.0 ≡ true → (home.parent.0 ≡ d → ⊥) → (IsAbove homes d home.parent.0 → ⊥) → IsRooted (map.insert homes d home)
 placed_rooted homes d home rooted below known other not_below = record {
   rootless = get_beside homes d home 1 (λ same. below (sym same)) ∙ rooted.rootless;
-  rooted = λ x h is. go x h is (same_or_apart x d);
+  rooted = λ x h is. ⊎_elim (moved x) (λ apart. let before = rooted.rooted x h (sym (get_beside homes d home x apart) ∙ is) in still before.0 x before.1) (same_or_apart x d);
 }
   where
     new : Homes
@@ -66,17 +66,11 @@ placed_rooted homes d home rooted below known other not_below = record {
     moved : (x : ℕ) → x ≡ d → (n : ℕ) × Reaches new n x
     moved x same = (suc up.0, (home, ap (λ k. map.get new k) same ∙ get_put homes d home, up.1))
 
-    still_by : (x : ℕ) (h : Home) → map.get homes x ≡ Some h → (m : ℕ) × Reaches new m h.parent.0 → (x ≡ d) ⊎ (x ≡ d → ⊥) → (m : ℕ) × Reaches new m x
-    still_by x h is rest (inl same) = moved x same
-    still_by x h is rest (inr apart) = (suc rest.0, (h, get_beside homes d home x apart ∙ is, rest.1))
-
     still : (n x : ℕ) → Reaches homes n x → (m : ℕ) × Reaches new m x
     still zero x root = (0, root)
-    still (suc n) x (h, is, reaches) = still_by x h is (still n h.parent.0 reaches) (same_or_apart x d)
-
-    go : (x : ℕ) (h : Home) → map.get new x ≡ Some h → (x ≡ d) ⊎ (x ≡ d → ⊥) → (n : ℕ) × Reaches new n x
-    go x h is (inl same) = moved x same
-    go x h is (inr apart) = let before = rooted.rooted x h (sym (get_beside homes d home x apart) ∙ is) in still before.0 x before.1
+    still (suc n) x (h, is, reaches) =
+        let rest = still n h.parent.0 reaches in
+        ⊎_elim (moved x) (λ apart. (suc rest.0, (h, get_beside homes d home x apart ∙ is, rest.1))) (same_or_apart x d)
 
 -- a new directory comes in, which is above nothing
 pub adopted_rooted : (homes : Homes) (d : ℕ) (home : Home) → IsRooted homes → MayCome homes d home → IsRooted (map.insert homes d home)

@@ -76,15 +76,15 @@ counted_all tree left counts pins none to = record {
       let all = to.each d in
       let nothing : entries_in (rest_of left) d ≡ 0 = ap (λ (t : Tree). entries_in t d) is_empty ∙ none_in_empty d in
       omega (arith, all, nothing);
-  pinned = record { listed = λ q x stands kinded. done q x (to.listed q x stands kinded); stands = to.stands };
+  pinned = record {
+    listed = λ q x stands kinded.
+        ⊎_elim (λ more. let clash : None ≡ Some x = sym (get-empty dentry_cmp q) ∙ ap (λ (t : Tree). map.get t q) (sym is_empty) ∙ more in absurd cc) (λ pinned. pinned) (to.listed q x stands kinded);
+    stands = to.stands;
+  };
 }
   where
     is_empty : rest_of left ≡ map.empty
     is_empty = empty_shown dentry_cmp left (subst (λ es. T (is_sorted dentry_cmp es)) (sym none) tt) (ap length none)
-
-    done : (q : Dentry) (x : Inode) → (map.get (rest_of left) q ≡ Some x) ⊎ (map.get pins x.ino.0 ≡ x.pin) → map.get pins x.ino.0 ≡ x.pin
-    done q x (inl more) = let clash : None ≡ Some x = sym (get-empty dentry_cmp q) ∙ ap (λ (t : Tree). map.get t q) (sym is_empty) ∙ more in absurd cc
-    done q x (inr pinned) = pinned
 
 module _ (tree : Tree) (homes : Homes) (tabled : IsTabled tree homes) (left more : Entries) (e : Dentry × Inode) (counts : Counts) (pins : DirPins) (next : left ≡ e ∷ more) (before : IsCountedTo tree left counts pins) where
   to : IsCountedTo tree (e ∷ more) counts pins
@@ -115,15 +115,10 @@ module _ (tree : Tree) (homes : Homes) (tabled : IsTabled tree homes) (left more
 
   one_counted : (d : ℕ) → count_of (one_more counts e.0.dir.0) d + entries_in (rest_of more) d ≡ entries_in tree d
   one_counted d =
-      let rest = entries_in (rest_of (e ∷ more)) in
       let now = ap (λ (t : Tree). entries_in t d) without ∙ entries_go (rest_of (e ∷ more)) d e.0 e.1 in_rest in
       let counted = count_set counts e.0.dir.0 (count_of counts e.0.dir.0 + 1) d in
       let some = some_in (rest_of (e ∷ more)) e.0 e.1 in_rest in
       grind (arith, to.each d, now, counted, some)
-
-  -- what stands elsewhere has another number
-  other : (q : Dentry) (x : Inode) → (q ≡ e.0 → ⊥) → map.get tree q ≡ Some x → x.ino.0 ≡ e.1.ino.0 → ⊥
-  other q x apart stands same = apart (one_dentry tree tabled.whole q e.0 x e.1 stands in_tree same)
 
   -- the next one is counted
   pub counted_next : IsCountedTo tree more (one_more counts e.0.dir.0) (with_pin pins e.1)
@@ -131,12 +126,12 @@ module _ (tree : Tree) (homes : Homes) (tabled : IsTabled tree homes) (left more
     sorted = (without_first e more to.sorted).0;
     each = one_counted;
     within = λ q x is. to.within q x (stands_after_removal (rest_of (e ∷ more)) e.0 q x (ap (λ (t : Tree). map.get t q) (sym without) ∙ is)).1;
-    listed = λ q x stands kinded. go q x stands kinded (same_or_apart q e.0);
+    listed = λ q x stands kinded.
+        ⊎_elim
+        (λ same. inr (subst (λ (i : Inode). is_dir_kind i.kind ≡ true → map.get (with_pin pins e.1) i.ino.0 ≡ i.pin) (one_inode tree e.0 q e.1 x (sym same) in_tree stands) (pin_here pins e.1) kinded))
+        (λ apart.
+        ⊎_elim (λ rest. inl (ap (λ (t : Tree). map.get t q) without ∙ get_left (rest_of (e ∷ more)) e.0 q apart ∙ rest))
+        (λ pinned. inr (pin_differ pins e.1 x.ino.0 (λ k same. apart (one_dentry tree tabled.whole q e.0 x e.1 stands in_tree same)) ∙ pinned)) (to.listed q x stands kinded))
+        (same_or_apart q e.0);
     stands = λ d rank is. ⊎_elim (λ w. (e.0, e.1, in_tree, sym w.0, w.1)) (λ w. to.stands d rank w.1) (back pins _ e.1 (pin_differ pins e.1) d rank is);
   }
-    where
-      go : (q : Dentry) (x : Inode) → map.get tree q ≡ Some x → is_dir_kind x.kind ≡ true → (q ≡ e.0) ⊎ (q ≡ e.0 → ⊥) → (map.get (rest_of more) q ≡ Some x) ⊎ (map.get (with_pin pins e.1) x.ino.0 ≡ x.pin)
-      go q x stands kinded (inl same) =
-          inr (subst (λ (i : Inode). is_dir_kind i.kind ≡ true → map.get (with_pin pins e.1) i.ino.0 ≡ i.pin) (one_inode tree e.0 q e.1 x (sym same) in_tree stands) (pin_here pins e.1) kinded)
-      go q x stands kinded (inr apart) =
-          ⊎_elim (λ rest. inl (ap (λ (t : Tree). map.get t q) without ∙ get_left (rest_of (e ∷ more)) e.0 q apart ∙ rest)) (λ pinned. inr (pin_differ pins e.1 x.ino.0 (λ k. other q x apart stands) ∙ pinned)) (to.listed q x stands kinded)

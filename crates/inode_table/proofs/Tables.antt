@@ -36,10 +36,6 @@ known_by homes d o is some = or_right (d == 1) _ (ap is_some is ∙ some)
 pub still_known : (homes : Homes) (d : ℕ) (home : Home) (x : ℕ) → is_known homes x ≡ true → is_known (map.insert homes d home) x ≡ true
 still_known homes d home x known = grind (arith, gets, known)
 
--- a directory stays one when another goes
-still_left : (homes : Homes) (d x : ℕ) → (x ≡ d → ⊥) → is_known homes x ≡ true → is_known (map.remove homes d) x ≡ true
-still_left homes d x apart known = ap (λ (o : Option Home). (x == 1) || is_some o) (get_left homes d x apart) ∙ known
-
 -- a new directory comes in
 pub adopted_table : (homes : Homes) (trees : Covers) (d : ℕ) (home : Home) → IsTable homes trees → MayCome homes d home → IsTable (map.insert homes d home) trees
 adopted_table homes trees d home table may = record {
@@ -60,7 +56,7 @@ moved_table homes trees d home table may = record {
 pub dropped_table : (homes : Homes) (trees : Covers) (d : ℕ) → IsTable homes trees → IsChildless homes d → IsTable (map.remove homes d) (map.remove trees d)
 dropped_table homes trees d table childless = record {
   rooted = dropped_rooted homes d table.rooted childless;
-  known = λ x leaves is. let before = after_removal trees d x leaves is in still_left homes d x before.0 (table.known x leaves before.1);
+  known = λ x leaves is. let before = after_removal trees d x leaves is in ap (λ (o : Option Home). (x == 1) || is_some o) (get_left homes d x before.0) ∙ table.known x leaves before.1;
   covers = λ x leaves is. table.covers x leaves (after_removal trees d x leaves is).1;
 }
 

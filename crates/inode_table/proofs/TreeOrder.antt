@@ -66,24 +66,17 @@ module _ (homes : Homes) (covers : Covers) where
     -- directories without a tree are passed over until the first with one comes
     found : (ds : List ℕ) (after : Option Ino) (x : Ino) → dirs_after homes after ≡ ds → slice_get (filter has_tree ds) 0 ≡ Some x.0 → (is_known homes x.0 ≡ true) × (filter has_tree ds ≡ x.0 ∷ trees_after homes covers (Some x))
     found [] after x all first = let clash : None ≡ Some x.0 = first in absurd cc
-    found (d ∷ ds) after x all first = go (has_tree d) first (found ds (Some y) x (sym rest))
-      where
-        y : Ino
-        y = record { 0 = d }
-
-        here : slice_get (dirs_after homes after) 0 ≡ Some d
-        here = ap (λ l. slice_get l 0) all
-
-        rest : ds ≡ dirs_after homes (Some y)
-        rest = let both : d ∷ ds ≡ d ∷ dirs_after homes (Some y) = sym all ∙ next_after homes rootless after y here in ap (drop 1) both
-
-        go : (b : Bool) → slice_get (cond b (d ∷ filter has_tree ds) (filter has_tree ds)) 0 ≡ Some x.0
-            → (slice_get (filter has_tree ds) 0 ≡ Some x.0 → (is_known homes x.0 ≡ true) × (filter has_tree ds ≡ x.0 ∷ trees_after homes covers (Some x)))
-            → (is_known homes x.0 ≡ true) × (cond b (d ∷ filter has_tree ds) (filter has_tree ds) ≡ x.0 ∷ trees_after homes covers (Some x))
-        go true f more =
-            let same = same_Some d x.0 f in
-            (first_known homes rootless after x.0 (here ∙ ap Some same), (λ i. same i ∷ filter has_tree (rest i)) ∙ ap (λ k. x.0 ∷ trees_after homes covers (Some (record { 0 = k }))) same)
-        go false f more = more f
+    found (d ∷ ds) after x all first =
+        let y : Ino = record { 0 = d } in
+        let here : slice_get (dirs_after homes after) 0 ≡ Some d = ap (λ l. slice_get l 0) all in
+        let both : d ∷ ds ≡ d ∷ dirs_after homes (Some y) = sym all ∙ next_after homes rootless after y here in
+        let rest : ds ≡ dirs_after homes (Some y) = ap (drop 1) both in
+        elim (has_tree d) as (λ b. slice_get (cond b (d ∷ filter has_tree ds) (filter has_tree ds)) 0 ≡ Some x.0 → (is_known homes x.0 ≡ true) × (cond b (d ∷ filter has_tree ds) (filter has_tree ds) ≡ x.0 ∷ trees_after homes covers (Some x))) [
+          | true ↦ λ f.
+              let same = same_Some d x.0 f in
+              (first_known homes rootless after x.0 (here ∙ ap Some same), (λ i. same i ∷ filter has_tree (rest i)) ∙ ap (λ k. x.0 ∷ trees_after homes covers (Some (record { 0 = k }))) same)
+          | false ↦ found ds (Some y) x (sym rest)
+        ] first
 
     -- the first of them is a directory
     pub first_tree_known : (after : Option Ino) (x : ℕ) → slice_get (trees_after homes covers after) 0 ≡ Some x
