@@ -1,17 +1,18 @@
 -- Chains of parents in a directory table, and what a change of the table leaves of them.
-use Rattle.std.proofs.Common.{◌≡◌, ◌==◌, ◌||◌, ◌-◌, ◌<◌, ◌≤◌, ◌↔◌, ℕ, zero, suc, true, false, cond, is_some, Option, Some, None, ◌⊎◌, inl, inr, refl, sym, ap, subst, ◌∙◌, arith}
+use Rattle.std.proofs.Common.{◌≡◌, ◌==◌, ◌+◌, ◌-◌, ◌<◌, ◌≤◌, ◌↔◌, ℕ, zero, suc, true, false, cond, is_some, Option, Some, None, ⊎_elim, refl, sym, ap, subst, ◌∙◌, arith}
 use Rattle.std.specs.Ordering.{nat_cmp}
 use Rattle.std.specs.Cmp.{nat_cmp_total}
 use Rattle.std.specs.FinMap as map
 use Rattle.std.specs.FinMap.{get-empty, len-remove, empty_of_len}
+use Rattle.std.proofs.lemmas.Bool.{eqb-true, or_cases}
 use Rattle.std.proofs.lemmas.Bool.Decides.{nat_tests}
-use Rattle.sorted_map.proofs.NatKeys.{is_same, is_apart, same_or_apart, get_put, get_beside, get_removed, get_left}
+use Rattle.sorted_map.proofs.NatKeys.{is_same, same_or_apart, get_put, get_beside, get_removed, get_left, after_removal}
 use Rattle.inode_table.specs.declared.dirs.Home.{Home}
 use Rattle.inode_table.specs.Dirs.{Homes, IsAbove, parent, further, Reaches, IsRooted, MayCome, MayMove, IsChildless, is_known}
 
-none_there : (o : Option Home) → o ≡ None → is_some o ≡ true → ⊥
-none_there None is some = cc
-none_there (Some home) is some = cc
+pub some_of : {A : Type 0} (o : Option A) → is_some o ≡ true → (a : A) × (o ≡ Some a)
+some_of None some = cc
+some_of (Some a) some = (a, refl)
 
 -- a chain whose directories keep their homes stays
 kept_chain : (old new : Homes) (Good : ℕ → Type 0) → ((x : ℕ) → Good x → map.get new x ≡ map.get old x) → ((x : ℕ) (home : Home) → Good x → map.get old x ≡ Some home → Good home.parent.0)
@@ -33,15 +34,8 @@ parent_reaches homes (suc n) x home rootless is (other, stands, reaches) =
 
 -- a known directory reaches the root
 pub known_reaches : (homes : Homes) → IsRooted homes → (x : ℕ) → is_known homes x ≡ true → (n : ℕ) × Reaches homes n x
-known_reaches homes rooted x known = go (same_or_apart x 1)
-  where
-    there : (o : Option Home) → map.get homes x ≡ o → is_some o ≡ true → (n : ℕ) × Reaches homes n x
-    there None is none = cc
-    there (Some home) is some = rooted.rooted x home is
-
-    go : (x ≡ 1) ⊎ (x ≡ 1 → ⊥) → (n : ℕ) × Reaches homes n x
-    go (inl root) = (0, root)
-    go (inr apart) = there (map.get homes x) refl (sym (ap (λ b. b || is_some (map.get homes x)) (is_apart x 1 apart)) ∙ known)
+known_reaches homes rooted x known =
+    ⊎_elim (λ root. (0, eqb-true x 1 root)) (λ some. let h = some_of (map.get homes x) some in rooted.rooted x h.0 h.1) (or_cases (x == 1) (is_some (map.get homes x)) known)
 
 -- the table of the root alone
 pub empty_rooted : IsRooted map.empty
@@ -50,111 +44,87 @@ empty_rooted = record {
   rooted = λ x home is. let clash : None ≡ Some home = sym (get-empty nat_cmp x) ∙ is in cc;
 }
 
--- a new directory comes in
-pub adopted_rooted : (homes : Homes) (d : ℕ) (home : Home) → IsRooted homes → MayCome homes d home → IsRooted (map.insert homes d home)
-adopted_rooted homes d home rooted may = record {
-  rootless = get_beside homes d home 1 (λ root. may.other (sym root)) ∙ rooted.rootless;
-  rooted = λ x h is. go x h is (same_or_apart x d);
-}
-  where
-    Good : ℕ → Type 0
-    Good x = (n : ℕ) × Reaches homes n x
-
-    new : Homes
-    new = map.insert homes d home
-
-    other : (x : ℕ) → Good x → x ≡ d → ⊥
-    other x (zero, root) same = may.other (sym same ∙ root)
-    other x (suc n, (h, is, reaches)) same = let clash : None ≡ Some h = sym may.fresh ∙ ap (λ k. map.get homes k) (sym same) ∙ is in cc
-
-    beside : (x : ℕ) → Good x → map.get new x ≡ map.get homes x
-    beside x good = get_beside homes d home x (other x good)
-
-    closed : (x : ℕ) (h : Home) → Good x → map.get homes x ≡ Some h → Good h.parent.0
-    closed x h (n, reaches) is = let shorter = parent_reaches homes n x h rooted.rootless is reaches in (shorter.0, shorter.2)
-
-    still : (x : ℕ) → Good x → (n : ℕ) × Reaches new n x
-    still x (n, reaches) = (n, kept_chain homes new Good beside closed n x (n, reaches) reaches)
-
-    go : (x : ℕ) (h : Home) → map.get new x ≡ Some h → (x ≡ d) ⊎ (x ≡ d → ⊥) → (n : ℕ) × Reaches new n x
-    go x h is (inl same) =
-        let up = still home.parent.0 (known_reaches homes rooted home.parent.0 may.parent_known) in
-        (suc up.0, (home, ap (λ k. map.get new k) same ∙ get_put homes d home, up.1))
-    go x h is (inr apart) = still x (rooted.rooted x h (sym (get_beside homes d home x apart) ∙ is))
-
--- a directory moves to a dentry that is not below it
-pub moved_rooted : (homes : Homes) (d : ℕ) (home : Home) → IsRooted homes → MayMove homes d home → IsRooted (map.insert homes d home)
-moved_rooted homes d home rooted may = record {
-  rootless = get_beside homes d home 1 root_stays ∙ rooted.rootless;
-  rooted = λ x h is. go x h is (same_or_apart x d);
+-- a directory gets a home that is not below it
+placed_rooted : (homes : Homes) (d : ℕ) (home : Home) → IsRooted homes → (d ≡ 1 → ⊥) → is_known homes home.parent.0 ≡ true → (home.parent.0 ≡ d → ⊥) → (IsAbove homes d home.parent.0 → ⊥) → IsRooted (map.insert homes d home)
+placed_rooted homes d home rooted below known other not_below = record {
+  rootless = get_beside homes d home 1 (λ same. below (sym same)) ∙ rooted.rootless;
+  rooted = λ x h is. ⊎_elim (moved x) (λ apart. let before = rooted.rooted x h (sym (get_beside homes d home x apart) ∙ is) in still before.0 x before.1) (same_or_apart x d);
 }
   where
     new : Homes
     new = map.insert homes d home
-
-    root_stays : 1 ≡ d → ⊥
-    root_stays same = none_there (map.get homes d) (ap (λ k. map.get homes k) (sym same) ∙ rooted.rootless) may.there
 
     Good : ℕ → Type 0
     Good x = (x ≡ d → ⊥) × (IsAbove homes d x → ⊥)
 
-    beside : (x : ℕ) → Good x → map.get new x ≡ map.get homes x
-    beside x good = get_beside homes d home x good.0
-
-    closed : (x : ℕ) (h : Home) → Good x → map.get homes x ≡ Some h → Good h.parent.0
-    closed x h good is = (λ same. good.1 (parent x h is same), λ above. good.1 (further x h is above))
-
     up : (n : ℕ) × Reaches new n home.parent.0
     up =
-        let before = known_reaches homes rooted home.parent.0 may.parent_known in
-        (before.0, kept_chain homes new Good beside closed before.0 home.parent.0 (may.other, may.not_below) before.1)
+        let before = known_reaches homes rooted home.parent.0 known in
+        let closed : (x : ℕ) (h : Home) → Good x → map.get homes x ≡ Some h → Good h.parent.0 = λ x h good is. (λ same. good.1 (parent x h is same), λ above. good.1 (further x h is above)) in
+        (before.0, kept_chain homes new Good (λ x good. get_beside homes d home x good.0) closed before.0 home.parent.0 (other, not_below) before.1)
 
     moved : (x : ℕ) → x ≡ d → (n : ℕ) × Reaches new n x
     moved x same = (suc up.0, (home, ap (λ k. map.get new k) same ∙ get_put homes d home, up.1))
 
-    still_by : (n x : ℕ) (h : Home) → map.get homes x ≡ Some h → (m : ℕ) × Reaches new m h.parent.0 → (x ≡ d) ⊎ (x ≡ d → ⊥) → (m : ℕ) × Reaches new m x
-    still_by n x h is rest (inl same) = moved x same
-    still_by n x h is rest (inr apart) = (suc rest.0, (h, get_beside homes d home x apart ∙ is, rest.1))
-
     still : (n x : ℕ) → Reaches homes n x → (m : ℕ) × Reaches new m x
     still zero x root = (0, root)
-    still (suc n) x (h, is, reaches) = still_by n x h is (still n h.parent.0 reaches) (same_or_apart x d)
+    still (suc n) x (h, is, reaches) =
+        let rest = still n h.parent.0 reaches in
+        ⊎_elim (moved x) (λ apart. (suc rest.0, (h, get_beside homes d home x apart ∙ is, rest.1))) (same_or_apart x d)
 
-    go : (x : ℕ) (h : Home) → map.get new x ≡ Some h → (x ≡ d) ⊎ (x ≡ d → ⊥) → (n : ℕ) × Reaches new n x
-    go x h is (inl same) = moved x same
-    go x h is (inr apart) = let before = rooted.rooted x h (sym (get_beside homes d home x apart) ∙ is) in still before.0 x before.1
+-- a new directory comes in, which is above nothing
+pub adopted_rooted : (homes : Homes) (d : ℕ) (home : Home) → IsRooted homes → MayCome homes d home → IsRooted (map.insert homes d home)
+adopted_rooted homes d home rooted may =
+    let up = known_reaches homes rooted home.parent.0 may.parent_known in
+    placed_rooted homes d home rooted may.other may.parent_known (unknown up.0 home.parent.0 up.1) (never home.parent.0)
+  where
+    unknown : (n x : ℕ) → Reaches homes n x → x ≡ d → ⊥
+    unknown zero x root same = may.other (sym same ∙ root)
+    unknown (suc n) x (h, is, reaches) same = let clash : None ≡ Some h = sym may.fresh ∙ ap (λ k. map.get homes k) (sym same) ∙ is in cc
+
+    never : (x : ℕ) → IsAbove homes d x → ⊥
+    never x (parent _ h is same) = let up = rooted.rooted x h is in let shorter = parent_reaches homes up.0 x h rooted.rootless is up.1 in unknown shorter.0 h.parent.0 shorter.2 same
+    never x (further _ h is above) = never h.parent.0 above
+
+-- a directory moves to a dentry that is not below it
+pub moved_rooted : (homes : Homes) (d : ℕ) (home : Home) → IsRooted homes → MayMove homes d home → IsRooted (map.insert homes d home)
+moved_rooted homes d home rooted may = placed_rooted homes d home rooted root_stays may.parent_known may.other may.not_below
+  where
+    root_stays : d ≡ 1 → ⊥
+    root_stays same = let clash : false ≡ true = sym (ap is_some (ap (λ k. map.get homes k) same ∙ rooted.rootless)) ∙ may.there in cc
 
 -- a directory goes that is no one's parent
 pub dropped_rooted : (homes : Homes) (d : ℕ) → IsRooted homes → IsChildless homes d → IsRooted (map.remove homes d)
 dropped_rooted homes d rooted childless = record {
-  rootless = root_by (same_or_apart 1 d);
-  rooted = λ x h is. go x h is (same_or_apart x d);
+  rootless = ⊎_elim (λ same. ap (λ k. map.get (map.remove homes d) k) same ∙ get_removed homes d) (λ apart. get_left homes d 1 apart ∙ rooted.rootless) (same_or_apart 1 d);
+  rooted = λ x h is.
+      let was = after_removal homes d x h is in
+      let before = rooted.rooted x h was.1 in
+      (before.0, kept_chain homes (map.remove homes d) (λ y. y ≡ d → ⊥) (get_left homes d) (λ y k good stands same. childless y k stands same) before.0 x was.0 before.1);
 }
-  where
-    new : Homes
-    new = map.remove homes d
 
-    root_by : (1 ≡ d) ⊎ (1 ≡ d → ⊥) → map.get new 1 ≡ None
-    root_by (inl same) = ap (λ k. map.get new k) same ∙ get_removed homes d
-    root_by (inr apart) = get_left homes d 1 apart ∙ rooted.rootless
+parent_of : Option Home → ℕ
+parent_of None = 0
+parent_of (Some home) = home.parent.0
 
-    Good : ℕ → Type 0
-    Good x = x ≡ d → ⊥
+-- how many parents lead on from a directory, counted no further than so many
+pub climbed : ℕ → Homes → ℕ → ℕ
+climbed zero homes x = 0
+climbed (suc fuel) homes x = cond (is_some (map.get homes x)) (suc (climbed fuel homes (parent_of (map.get homes x)))) 0
 
-    go : (x : ℕ) (h : Home) → map.get new x ≡ Some h → (x ≡ d) ⊎ (x ≡ d → ⊥) → (n : ℕ) × Reaches new n x
-    go x h is (inl same) = let clash : None ≡ Some h = sym (get_removed homes d) ∙ ap (λ k. map.get new k) (sym same) ∙ is in cc
-    go x h is (inr apart) =
-        let before = rooted.rooted x h (sym (get_left homes d x apart) ∙ is) in
-        (before.0, kept_chain homes new Good (λ y good. get_left homes d y good) (λ y k good stands same. childless y k stands same) before.0 x apart before.1)
+climbed_is : (fuel : ℕ) (homes : Homes) (n x : ℕ) → map.get homes 1 ≡ None → Reaches homes n x → n ≤ fuel → climbed fuel homes x ≡ n
+unfolding climbed parent_of
+climbed_is zero homes n x rootless reaches few = let none : 0 ≡ n = omega arith in none
+climbed_is (suc fuel) homes zero x rootless root few =
+    let none : map.get homes x ≡ None = ap (λ k. map.get homes k) root ∙ rootless in
+    ap (λ (o : Option Home). cond (is_some o) (suc (climbed fuel homes (parent_of o))) 0) none
+climbed_is (suc fuel) homes (suc n) x rootless (h, is, reaches) few =
+    ap (λ (o : Option Home). cond (is_some o) (suc (climbed fuel homes (parent_of o))) 0) is
+    ∙ ap suc (climbed_is fuel homes n h.parent.0 rootless reaches (omega arith))
 
 -- two chains from a directory to the root are of one length
 same_height : (homes : Homes) (n m x : ℕ) → map.get homes 1 ≡ None → Reaches homes n x → Reaches homes m x → n ≡ m
-same_height homes zero zero x rootless root other = refl
-same_height homes zero (suc m) x rootless root (h, is, reaches) = absurd (not_root homes x h rootless is root)
-same_height homes (suc n) zero x rootless (h, is, reaches) root = absurd (not_root homes x h rootless is root)
-same_height homes (suc n) (suc m) x rootless (h, is, reaches) (k, stands, others) =
-    let alike : k ≡ h = cc in
-    ap suc (same_height homes n m h.parent.0 rootless reaches (subst (λ (j : Home). Reaches homes m j.parent.0) alike others))
+same_height homes n m x rootless reaches other = sym (climbed_is (n + m) homes n x rootless reaches (omega arith)) ∙ climbed_is (n + m) homes m x rootless other (omega arith)
 
 -- a chain that is shorter than that of x doesn't go through x
 around : (homes : Homes) (height x : ℕ) → map.get homes 1 ≡ None → Reaches homes height x → (m y : ℕ) → m < height → Reaches homes m y → Reaches (map.remove homes x) m y
@@ -183,25 +153,6 @@ within_table (suc n) homes x rootless (h, is, reaches) =
     let rest = within_table n left h.parent.0 none (around homes (suc n) x rootless (h, is, reaches) n h.parent.0 (omega arith) reaches) in
     let fewer = one_fewer homes x h is in
     omega arith
-
-parent_of : Option Home → ℕ
-parent_of None = 0
-parent_of (Some home) = home.parent.0
-
--- how many parents lead on from a directory, counted no further than so many
-pub climbed : ℕ → Homes → ℕ → ℕ
-climbed zero homes x = 0
-climbed (suc fuel) homes x = cond (is_some (map.get homes x)) (suc (climbed fuel homes (parent_of (map.get homes x)))) 0
-
-climbed_is : (fuel : ℕ) (homes : Homes) (n x : ℕ) → map.get homes 1 ≡ None → Reaches homes n x → n ≤ fuel → climbed fuel homes x ≡ n
-unfolding climbed parent_of
-climbed_is zero homes n x rootless reaches few = let none : 0 ≡ n = omega arith in none
-climbed_is (suc fuel) homes zero x rootless root few =
-    let none : map.get homes x ≡ None = ap (λ k. map.get homes k) root ∙ rootless in
-    ap (λ (o : Option Home). cond (is_some o) (suc (climbed fuel homes (parent_of o))) 0) none
-climbed_is (suc fuel) homes (suc n) x rootless (h, is, reaches) few =
-    ap (λ (o : Option Home). cond (is_some o) (suc (climbed fuel homes (parent_of o))) 0) is
-    ∙ ap suc (climbed_is fuel homes n h.parent.0 rootless reaches (omega arith))
 
 -- a step to the parent is one step less to go
 pub nearer : (homes : Homes) (x : ℕ) (home : Home) → IsRooted homes → map.get homes x ≡ Some home → climbed (map.len homes) homes home.parent.0 < climbed (map.len homes) homes x

@@ -1,12 +1,12 @@
 -- How many entries each directory has, beside the tree: the counts stay the tree's where entries come and go.
-use Rattle.std.proofs.Common.{◌≡◌, ◌==◌, ℕ, ◌+◌, ◌-◌, ◌<◌, Bool, true, false, cond, is_some, Option, Some, None, ◌⊎◌, inl, inr, ⊎_elim, refl, sym, ap, subst, ◌∙◌, arith}
-use Rattle.std.proofs.lemmas.Bool.{eqb-true}
+use Rattle.std.proofs.Common.{◌≡◌, ◌==◌, ℕ, ◌+◌, ◌-◌, ◌<◌, Bool, true, false, cond, is_some, Option, Some, None, ⊎_elim, refl, sym, ap, subst, ◌∙◌, arith}
+use Rattle.std.proofs.lemmas.Bool.{cond_both, eqb-true}
 use Rattle.std.specs.Ordering.{nat_cmp}
 use Rattle.std.specs.FinMap as map
 use Rattle.std.specs.FinMap.{get-empty}
 use Rattle.mds_types.specs.declared.dentries.Dentry.{Dentry}
 use Rattle.mds_types.specs.declared.inodes.Inode.{Inode}
-use Rattle.mds_types.specs.Tree.{Tree, entries_in, is_in, is_directory, IsUnused, IsWellFormed, NothingIn}
+use Rattle.mds_types.specs.Tree.{Tree, dentry_cmp, entries_in, is_directory, IsUnused, IsWellFormed, NothingIn}
 use Rattle.mds_types.specs.Step.{IsMove, with_moved}
 use Rattle.mds_types.proofs.CountLaws.{entries_come, entries_go, entries_set, none_in, none_in_empty, some_in}
 use Rattle.mds_types.proofs.DirectoryLaws.{StandsAs, directory_stands}
@@ -32,11 +32,10 @@ count_apart counts k n d apart = count_set counts k n d ∙ ap (λ b. cond b n (
 module _ (tree : Tree) (counts : Counts) (holds : HoldsCounts tree counts) where
   -- an entry comes to a free dentry,
   pub comes : (p : Dentry) (x : Inode) → map.get tree p ≡ None → HoldsCounts (map.insert tree p x) (one_more counts p.dir.0)
-  comes p x free d = count_set counts p.dir.0 (count_of counts p.dir.0 + 1) d ∙ go (is_in d p) refl ∙ sym (entries_come tree d p x free)
-    where
-      go : (b : Bool) → is_in d p ≡ b → cond b (count_of counts p.dir.0 + 1) (count_of counts d) ≡ cond b (entries_in tree d + 1) (entries_in tree d)
-      go true here = ap (λ n. n + 1) (ap (count_of counts) (eqb-true p.dir.0 d here) ∙ holds d)
-      go false there = holds d
+  comes p x free d =
+      let set = count_set counts p.dir.0 (count_of counts p.dir.0 + 1) d in
+      let come = entries_come tree d p x free in
+      grind (arith, set, come, holds p.dir.0, holds d)
 
   -- one is set,
   pub set : (p : Dentry) (was x : Inode) → map.get tree p ≡ Some was → HoldsCounts (map.insert tree p x) counts
@@ -44,48 +43,31 @@ module _ (tree : Tree) (counts : Counts) (holds : HoldsCounts tree counts) where
 
   -- and one goes
   pub goes : (p : Dentry) (was : Inode) → map.get tree p ≡ Some was → HoldsCounts (map.remove tree p) (one_less counts p.dir.0)
-  goes p was stands d = count_set counts p.dir.0 (count_of counts p.dir.0 - 1) d ∙ go (is_in d p) refl ∙ sym (entries_go tree d p was stands)
-    where
-      go : (b : Bool) → is_in d p ≡ b → cond b (count_of counts p.dir.0 - 1) (count_of counts d) ≡ cond b (entries_in tree d - 1) (entries_in tree d)
-      go true here = ap (λ n. n - 1) (ap (count_of counts) (eqb-true p.dir.0 d here) ∙ holds d)
-      go false there = holds d
+  goes p was stands d =
+      let set = count_set counts p.dir.0 (count_of counts p.dir.0 - 1) d in
+      let go = entries_go tree d p was stands in
+      grind (arith, set, go, holds p.dir.0, holds d)
 
   -- a directory in which nothing is has the count 0, or none
   module _ (k : ℕ) (nothing : NothingIn tree k) where
     pub with_none : HoldsCounts tree (map.insert counts k 0)
-    with_none d = count_set counts k 0 d ∙ go (k == d) refl
-      where
-        go : (b : Bool) → (k == d) ≡ b → cond b 0 (count_of counts d) ≡ entries_in tree d
-        go true is = sym (ap (entries_in tree) (sym (eqb-true k d is)) ∙ none_in tree k nothing)
-        go false is = holds d
+    with_none d = grind (arith, count_set counts k 0 d, none_in tree k nothing, holds d)
 
     pub without_none : HoldsCounts tree (map.remove counts k)
-    without_none d = go (same_or_apart d k)
-      where
-        go : (d ≡ k) ⊎ (d ≡ k → ⊥) → count_of (map.remove counts k) d ≡ entries_in tree d
-        go (inl same) = ap (count_of (map.remove counts k)) same ∙ ap or_zero (get_removed counts k) ∙ sym (ap (entries_in tree) same ∙ none_in tree k nothing)
-        go (inr apart) = ap or_zero (get_left_count counts k d apart) ∙ holds d
+    without_none d =
+        ⊎_elim (λ same. ap (count_of (map.remove counts k)) same ∙ ap or_zero (get_removed counts k) ∙ sym (ap (entries_in tree) same ∙ none_in tree k nothing))
+        (λ apart. ap or_zero (get_left_count counts k d apart) ∙ holds d) (same_or_apart d k)
 
 -- a count that is lowered and raised again is what it was
 less_and_more : (counts : Counts) (k d : ℕ) → 0 < count_of counts k → count_of (one_more (one_less counts k) k) d ≡ count_of counts d
-less_and_more counts k d some = count_set (one_less counts k) k (count_of (one_less counts k) k + 1) d ∙ go (k == d) refl
-  where
-    lowered : (b : Bool) → (k == d) ≡ b → count_of (one_less counts k) d ≡ cond b (count_of counts k - 1) (count_of counts d)
-    lowered b is = count_set counts k (count_of counts k - 1) d ∙ ap (λ c. cond c (count_of counts k - 1) (count_of counts d)) is
-
-    go : (b : Bool) → (k == d) ≡ b → cond b (count_of (one_less counts k) k + 1) (count_of (one_less counts k) d) ≡ count_of counts d
-    go false is = lowered false is
-    go true is =
-        let here : k ≡ d = eqb-true k d is in
-        let same : count_of (one_less counts k) k ≡ count_of (one_less counts k) d = ap (count_of (one_less counts k)) here in
-        let less = lowered true is in
-        let count : count_of counts k ≡ count_of counts d = ap (count_of counts) here in
-        omega (arith, same, less, count, some)
+less_and_more counts k d some =
+    let less = count_set counts k (count_of counts k - 1) in
+    grind (arith, count_set (one_less counts k) k (count_of (one_less counts k) k + 1) d, less k, less d, some)
 
 -- an entry moves
 pub moved_counts : (tree : Tree) (counts : Counts) (from to : Dentry) (inode : Inode) → IsWellFormed tree → HoldsCounts tree counts → IsMove tree from to inode
     → HoldsCounts (with_moved tree from to inode) (counts_moved counts from.dir.0 to.dir.0 (is_some (map.get tree to)))
-moved_counts tree counts from to inode whole holds move = go (map.get tree to) refl (from.dir.0 == to.dir.0) refl
+moved_counts tree counts from to inode whole holds move = go (map.get tree to) refl
   where
     may : MayMove tree from to inode
     may = may_move tree from to inode whole move
@@ -96,30 +78,19 @@ moved_counts tree counts from to inode whole holds move = go (map.get tree to) r
     stays : (o : Option Inode) → map.get tree to ≡ o → map.get (map.remove tree from) to ≡ o
     stays o is = get_left tree from to (λ same. may.apart (sym same)) ∙ is
 
-    came : map.get tree to ≡ None → HoldsCounts (with_moved tree from to inode) (one_more (one_less counts from.dir.0) to.dir.0)
-    came free = comes (map.remove tree from) (one_less counts from.dir.0) gone to inode (stays None free)
-
     some : 0 < count_of counts from.dir.0
     some = subst (λ n. 0 < n) (sym (holds from.dir.0)) (some_in tree from inode may.stands)
 
-    go : (o : Option Inode) → map.get tree to ≡ o → (b : Bool) → (from.dir.0 == to.dir.0) ≡ b → HoldsCounts (with_moved tree from to inode) (counts_moved counts from.dir.0 to.dir.0 (is_some o))
-    go (Some t) there b is = set (map.remove tree from) (one_less counts from.dir.0) gone to t inode (stays (Some t) there)
-    go None free false is = subst (HoldsCounts (with_moved tree from to inode)) (sym (ap (λ c. cond c counts (one_more (one_less counts from.dir.0) to.dir.0)) is)) (came free)
-    go None free true is = subst (HoldsCounts (with_moved tree from to inode)) (sym (ap (λ c. cond c counts (one_more (one_less counts from.dir.0) to.dir.0)) is)) (λ d.
-        sym (less_and_more counts from.dir.0 d some)
-        ∙ ap (λ k. count_of (one_more (one_less counts from.dir.0) k) d) (eqb-true from.dir.0 to.dir.0 is)
-        ∙ came free d)
+    go : (o : Option Inode) → map.get tree to ≡ o → HoldsCounts (with_moved tree from to inode) (counts_moved counts from.dir.0 to.dir.0 (is_some o))
+    go (Some t) there = set (map.remove tree from) (one_less counts from.dir.0) gone to t inode (stays (Some t) there)
+    go None free =
+        let came = comes (map.remove tree from) (one_less counts from.dir.0) gone to inode (stays None free) in
+        cond_both (from.dir.0 == to.dir.0) counts (one_more (one_less counts from.dir.0) to.dir.0) (HoldsCounts (with_moved tree from to inode))
+        (λ is d. sym (less_and_more counts from.dir.0 d some) ∙ ap (λ k. count_of (one_more (one_less counts from.dir.0) k) d) (eqb-true from.dir.0 to.dir.0 is) ∙ came d) (λ is. came)
 
 -- the root alone, in which nothing is
 pub empty_counted : HoldsCounts map.empty (map.insert map.empty 1 0)
-empty_counted d = count_set map.empty 1 0 d ∙ go (1 == d) ∙ sym (none_in_empty d)
-  where
-    nothing : Counts
-    nothing = map.empty
-
-    go : (b : Bool) → cond b 0 (count_of nothing d) ≡ 0
-    go true = refl
-    go false = ap or_zero (get-empty nat_cmp d)
+empty_counted = with_none map.empty map.empty (λ d. ap or_zero (get-empty nat_cmp d) ∙ sym (none_in_empty d)) 1 (λ q x stands same. let clash : None ≡ Some x = sym (get-empty dentry_cmp q) ∙ stands in cc)
 
 -- nothing is in what has an unused number, also once an inode with it came
 no_directory : (tree : Tree) (n : ℕ) → IsUnused tree n → is_directory tree n ≡ true → ⊥

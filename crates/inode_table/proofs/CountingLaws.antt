@@ -1,12 +1,16 @@
 -- Entries that are counted one by one, and their pins.
-use Rattle.inode_table.proofs.Common.{Bool, Counts, Dentry, DirPins, Homes, Inode, IsCounted, IsTabled, List, None, Rank, Some, T, Tree, [], ap, arith, cond, count_of, dentry-exact, dentry-total, dentry_cmp, entries-from_sorted, entries_go, entries_sorted, eqb-true, false, filter, find, first_taken, get-empty, get-from_sorted, get_left, inl, inr, is_dir_kind, is_eq, is_in, is_known, is_some, is_sorted, len-entries, len_shown, length, none_in_empty, one_dentry, one_more, refl, retained, same_entries_map, same_map, some_in, stands_after_removal, subst, sym, tied_itself, true, where_key, with_pin, ℕ, ⊎_elim, ◌+◌, ◌-◌, ◌<◌, ◌^◌, ◌∙◌, ◌∷◌, ◌≡◌, ◌≤◌, ◌⊎◌}
+use Rattle.inode_table.proofs.Common.{Bool, Counts, Dentry, DirPins, Homes, Inode, IsCounted, IsTabled, List, None, Rank, Some, T, Tree, [], ap, arith, cond, count_of, dentry-exact, dentry-total, dentry_cmp, entries_go, entries_sorted, filter, find, first_taken, get-empty, get-from_sorted, get_left, inl, inr, is_dir_kind, is_eq, is_in, is_known, is_some, is_sorted, len-entries, len_shown, length, none_in_empty, one_dentry, one_more, refl, retained, some_in, stands_after_removal, subst, sym, tied_itself, true, where_key, with_pin, ℕ, ⊎_elim, ◌+◌, ◌-◌, ◌<◌, ◌^◌, ◌∙◌, ◌∷◌, ◌≡◌, ◌≤◌, ◌⊎◌}
 use Rattle.std.specs.FinMap as map
+use Rattle.std.specs.Prelude.{not}
+use Rattle.sorted_map.proofs.ContentLaws.{empty_shown}
+use Rattle.sorted_map.proofs.MapLaws.{contents-entries}
+use Rattle.std.proofs.lemmas.List.Filters.{length-filter_both}
 use Rattle.mds_types.specs.Tree.{entries_in}
 use Rattle.mds_types.proofs.EntryLaws.{same_or_apart}
-use Rattle.sorted_map.proofs.NatKeys.{same_or_apart as same_number}
 use Rattle.inode_table.proofs.CountedLaws.{count_set}
-use Rattle.inode_table.proofs.PinLaws.{Stands, pinned_beside, pinned_here, with_dir_pin, with_file_pin}
-use Rattle.inode_table.proofs.TableLaws.{dir_or_not, home_of, known_is}
+use Rattle.inode_table.proofs.HeldRows.{Stands, back, one_inode}
+use Rattle.inode_table.proofs.PinLaws.{pin_differ, pin_here}
+use Rattle.inode_table.proofs.TableLaws.{home_of, known_is}
 
 -- ---- pairs in order, one by one
 
@@ -16,12 +20,6 @@ Entries = List (Dentry × Inode)
 -- the tree of entries that are left
 abbrev pub rest_of : Entries → Tree
 rest_of left = map.from_sorted left
-
-whole_rest : (tree : Tree) → rest_of (map.entries tree) ≡ tree
-whole_rest tree = same_entries_map _ _ (entries-from_sorted dentry_cmp (map.entries tree) (entries_sorted tree))
-
-no_rest : rest_of [] ≡ map.empty
-no_rest = same_map dentry-total dentry-exact (rest_of []) map.empty (λ q. get-from_sorted dentry_cmp [] q tt ∙ sym (get-empty dentry_cmp q))
 
 module _ (e : Dentry × Inode) (left : Entries) (sorted : T (is_sorted dentry_cmp (e ∷ left))) where
   first_is : map.get (rest_of (e ∷ left)) e.0 ≡ Some e.1
@@ -33,12 +31,7 @@ module _ (e : Dentry × Inode) (left : Entries) (sorted : T (is_sorted dentry_cm
 -- ---- a directory has no more entries than the tree
 
 few_pass : (p : Dentry × Inode → Bool) (es : Entries) → length (filter p es) ≤ length es
-few_pass p [] = omega arith
-few_pass p (e ∷ es) = go (p e) (few_pass p es)
-  where
-    go : (b : Bool) → length (filter p es) ≤ length es → length (cond b (e ∷ filter p es) (filter p es)) ≤ length (e ∷ es)
-    go true few = omega (arith, few)
-    go false few = omega (arith, few)
+few_pass p es = omega (arith, length-filter_both p (λ e. not (p e)) (λ e. refl) es)
 
 pub within_tree : (tree : Tree) (d : ℕ) → entries_in tree d ≤ map.len tree
 unfolding entries_in
@@ -46,7 +39,7 @@ within_tree tree d =
     let kept : Entries = where_key dentry_cmp (is_in d) (map.entries tree) in
     let both = retained dentry-total dentry-exact (is_in d) (map.entries tree) kept (entries_sorted tree) refl in
     let passed : map.len (map.retain_keys tree (is_in d)) ≡ length kept =
-    ap (λ (m : Tree). map.len (map.retain_keys m (is_in d))) (sym (whole_rest tree)) ∙ ap (λ (m : Tree). map.len m) (sym both.1) ∙ sym (len_shown dentry_cmp kept both.0) in
+    ap (λ (m : Tree). map.len (map.retain_keys m (is_in d))) (sym (contents-entries tree)) ∙ ap (λ (m : Tree). map.len m) (sym both.1) ∙ sym (len_shown dentry_cmp kept both.0) in
     let few = few_pass (λ (e : Dentry × Inode). is_in d e.0) (map.entries tree) in
     let all = len-entries tree in
     omega (arith, passed, few, all)
@@ -66,10 +59,10 @@ counted_none tree left counts pins all none = subst (λ (es : Entries). IsCounte
   sorted = entries_sorted tree;
   each = λ d.
       let zero_is : count_of counts d ≡ 0 = none.each d ∙ none_in_empty d in
-      let whole : entries_in (rest_of (map.entries tree)) d ≡ entries_in tree d = ap (λ (t : Tree). entries_in t d) (whole_rest tree) in
+      let whole : entries_in (rest_of (map.entries tree)) d ≡ entries_in tree d = ap (λ (t : Tree). entries_in t d) (contents-entries tree) in
       omega (arith, zero_is, whole);
-  within = λ q x is. ap (λ (t : Tree). map.get t q) (sym (whole_rest tree)) ∙ is;
-  listed = λ q x is kinded. inl (ap (λ (t : Tree). map.get t q) (whole_rest tree) ∙ is);
+  within = λ q x is. ap (λ (t : Tree). map.get t q) (sym (contents-entries tree)) ∙ is;
+  listed = λ q x is kinded. inl (ap (λ (t : Tree). map.get t q) (contents-entries tree) ∙ is);
   stands = λ d rank is.
       let w = none.pinned.stands d rank is in
       let clash : None ≡ Some w.1 = sym (get-empty dentry_cmp w.0) ∙ w.2 in
@@ -83,15 +76,15 @@ counted_all tree left counts pins none to = record {
       let all = to.each d in
       let nothing : entries_in (rest_of left) d ≡ 0 = ap (λ (t : Tree). entries_in t d) is_empty ∙ none_in_empty d in
       omega (arith, all, nothing);
-  pinned = record { listed = λ q x stands kinded. done q x (to.listed q x stands kinded); stands = to.stands };
+  pinned = record {
+    listed = λ q x stands kinded.
+        ⊎_elim (λ more. let clash : None ≡ Some x = sym (get-empty dentry_cmp q) ∙ ap (λ (t : Tree). map.get t q) (sym is_empty) ∙ more in absurd cc) (λ pinned. pinned) (to.listed q x stands kinded);
+    stands = to.stands;
+  };
 }
   where
     is_empty : rest_of left ≡ map.empty
-    is_empty = ap rest_of none ∙ no_rest
-
-    done : (q : Dentry) (x : Inode) → (map.get (rest_of left) q ≡ Some x) ⊎ (map.get pins x.ino.0 ≡ x.pin) → map.get pins x.ino.0 ≡ x.pin
-    done q x (inl more) = let clash : None ≡ Some x = sym (get-empty dentry_cmp q) ∙ ap (λ (t : Tree). map.get t q) (sym is_empty) ∙ more in absurd cc
-    done q x (inr pinned) = pinned
+    is_empty = empty_shown dentry_cmp left (subst (λ es. T (is_sorted dentry_cmp es)) (sym none) tt) (ap length none)
 
 module _ (tree : Tree) (homes : Homes) (tabled : IsTabled tree homes) (left more : Entries) (e : Dentry × Inode) (counts : Counts) (pins : DirPins) (next : left ≡ e ∷ more) (before : IsCountedTo tree left counts pins) where
   to : IsCountedTo tree (e ∷ more) counts pins
@@ -121,52 +114,11 @@ module _ (tree : Tree) (homes : Homes) (tabled : IsTabled tree homes) (left more
   next_listed kinded = ap is_some (home_of tree homes tabled e.0 e.1 e.1.ino.0 in_tree refl kinded)
 
   one_counted : (d : ℕ) → count_of (one_more counts e.0.dir.0) d + entries_in (rest_of more) d ≡ entries_in tree d
-  one_counted d = go (is_in d e.0) refl
-    where
-      all : count_of counts d + entries_in (rest_of (e ∷ more)) d ≡ entries_in tree d
-      all = to.each d
-
-      now : (b : Bool) → is_in d e.0 ≡ b → entries_in (rest_of more) d ≡ cond b (entries_in (rest_of (e ∷ more)) d - 1) (entries_in (rest_of (e ∷ more)) d)
-      now b is =
-          ap (λ (t : Tree). entries_in t d) without ∙ entries_go (rest_of (e ∷ more)) d e.0 e.1 in_rest
-          ∙ ap (λ (c : Bool). cond c (entries_in (rest_of (e ∷ more)) d - 1) (entries_in (rest_of (e ∷ more)) d)) is
-
-      counted : (b : Bool) → is_in d e.0 ≡ b → count_of (one_more counts e.0.dir.0) d ≡ cond b (count_of counts e.0.dir.0 + 1) (count_of counts d)
-      counted b is = count_set counts e.0.dir.0 (count_of counts e.0.dir.0 + 1) d ∙ ap (λ (c : Bool). cond c (count_of counts e.0.dir.0 + 1) (count_of counts d)) is
-
-      go : (b : Bool) → is_in d e.0 ≡ b → count_of (one_more counts e.0.dir.0) d + entries_in (rest_of more) d ≡ entries_in tree d
-      go true is =
-          let here : e.0.dir.0 ≡ d = eqb-true e.0.dir.0 d is in
-          let same : count_of counts e.0.dir.0 ≡ count_of counts d = ap (count_of counts) here in
-          let some : 0 < entries_in (rest_of (e ∷ more)) d = subst (λ k. 0 < entries_in (rest_of (e ∷ more)) k) here (some_in (rest_of (e ∷ more)) e.0 e.1 in_rest) in
-          let a = counted true is in
-          let b = now true is in
-          omega (arith, all, same, some, a, b)
-      go false is =
-          let a = counted false is in
-          let b = now false is in
-          omega (arith, all, a, b)
-
-  -- what stands elsewhere has another number
-  other : (q : Dentry) (x : Inode) → (q ≡ e.0 → ⊥) → map.get tree q ≡ Some x → x.ino.0 ≡ e.1.ino.0 → ⊥
-  other q x apart stands same = apart (one_dentry tree tabled.whole q e.0 x e.1 stands in_tree same)
-
-  beside : (q : Dentry) (x : Inode) → (q ≡ e.0 → ⊥) → map.get tree q ≡ Some x → map.get (with_pin pins e.1) x.ino.0 ≡ map.get pins x.ino.0
-  beside q x apart stands =
-      ⊎_elim (λ kinded. ap (λ (p : DirPins). map.get p x.ino.0) (with_dir_pin pins e.1 kinded) ∙ pinned_beside pins e.1.ino.0 e.1.pin x.ino.0 (other q x apart stands))
-      (λ kinded. ap (λ (p : DirPins). map.get p x.ino.0) (with_file_pin pins e.1 kinded)) (dir_or_not e.1)
-
-  its_pin : is_dir_kind e.1.kind ≡ true → map.get (with_pin pins e.1) e.1.ino.0 ≡ e.1.pin
-  its_pin kinded = ap (λ (p : DirPins). map.get p e.1.ino.0) (with_dir_pin pins e.1 kinded) ∙ pinned_here pins e.1.ino.0 e.1.pin
-
-  pins_stand : (d : ℕ) (rank : Rank) → map.get (with_pin pins e.1) d ≡ Some rank → Stands tree d
-  pins_stand d rank is = ⊎_elim of_dir (λ kinded. to.stands d rank (ap (λ (p : DirPins). map.get p d) (sym (with_file_pin pins e.1 kinded)) ∙ is)) (dir_or_not e.1)
-    where
-      of_dir : is_dir_kind e.1.kind ≡ true → Stands tree d
-      of_dir kinded =
-          ⊎_elim (λ same. (e.0, e.1, in_tree, sym same, kinded))
-          (λ apart. to.stands d rank (sym (pinned_beside pins e.1.ino.0 e.1.pin d apart) ∙ ap (λ (p : DirPins). map.get p d) (sym (with_dir_pin pins e.1 kinded)) ∙ is))
-          (same_number d e.1.ino.0)
+  one_counted d =
+      let now = ap (λ (t : Tree). entries_in t d) without ∙ entries_go (rest_of (e ∷ more)) d e.0 e.1 in_rest in
+      let counted = count_set counts e.0.dir.0 (count_of counts e.0.dir.0 + 1) d in
+      let some = some_in (rest_of (e ∷ more)) e.0 e.1 in_rest in
+      grind (arith, to.each d, now, counted, some)
 
   -- the next one is counted
   pub counted_next : IsCountedTo tree more (one_more counts e.0.dir.0) (with_pin pins e.1)
@@ -174,14 +126,12 @@ module _ (tree : Tree) (homes : Homes) (tabled : IsTabled tree homes) (left more
     sorted = (without_first e more to.sorted).0;
     each = one_counted;
     within = λ q x is. to.within q x (stands_after_removal (rest_of (e ∷ more)) e.0 q x (ap (λ (t : Tree). map.get t q) (sym without) ∙ is)).1;
-    listed = λ q x stands kinded. go q x stands kinded (same_or_apart q e.0);
-    stands = pins_stand;
+    listed = λ q x stands kinded.
+        ⊎_elim
+        (λ same. inr (subst (λ (i : Inode). is_dir_kind i.kind ≡ true → map.get (with_pin pins e.1) i.ino.0 ≡ i.pin) (one_inode tree e.0 q e.1 x (sym same) in_tree stands) (pin_here pins e.1) kinded))
+        (λ apart.
+        ⊎_elim (λ rest. inl (ap (λ (t : Tree). map.get t q) without ∙ get_left (rest_of (e ∷ more)) e.0 q apart ∙ rest))
+        (λ pinned. inr (pin_differ pins e.1 x.ino.0 (λ k same. apart (one_dentry tree tabled.whole q e.0 x e.1 stands in_tree same)) ∙ pinned)) (to.listed q x stands kinded))
+        (same_or_apart q e.0);
+    stands = λ d rank is. ⊎_elim (λ w. (e.0, e.1, in_tree, sym w.0, w.1)) (λ w. to.stands d rank w.1) (back pins _ e.1 (pin_differ pins e.1) d rank is);
   }
-    where
-      go : (q : Dentry) (x : Inode) → map.get tree q ≡ Some x → is_dir_kind x.kind ≡ true → (q ≡ e.0) ⊎ (q ≡ e.0 → ⊥) → (map.get (rest_of more) q ≡ Some x) ⊎ (map.get (with_pin pins e.1) x.ino.0 ≡ x.pin)
-      go q x stands kinded (inl same) =
-          let inodes : Some x ≡ Some e.1 = sym stands ∙ ap (λ p. map.get tree p) same ∙ in_tree in
-          let alike : e.1 ≡ x = cc in
-          inr (ap (λ (i : Inode). map.get (with_pin pins e.1) i.ino.0) (sym alike) ∙ its_pin (ap (λ (i : Inode). is_dir_kind i.kind) alike ∙ kinded) ∙ ap (λ (i : Inode). i.pin) alike)
-      go q x stands kinded (inr apart) =
-          ⊎_elim (λ rest. inl (ap (λ (t : Tree). map.get t q) without ∙ get_left (rest_of (e ∷ more)) e.0 q apart ∙ rest)) (λ pinned. inr (beside q x apart stands ∙ pinned)) (to.listed q x stands kinded)

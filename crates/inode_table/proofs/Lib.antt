@@ -3,13 +3,14 @@ pub mod Common
 pub mod CountRows
 pub mod CountedLaws
 pub mod CountingLaws
+pub mod HeldRows
 pub mod MoveLaws
 pub mod NotedLaws
 pub mod OrderLaws
 pub mod PinLaws
 pub mod PinnedRows
 pub mod RowLaws
-pub mod SplitRows
+pub mod SeenRows
 pub mod TableLaws
 pub mod Tables
 pub mod TreeOrder

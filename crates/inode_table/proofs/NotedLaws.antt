@@ -1,6 +1,7 @@
 -- The counts and the pins stay the tree's at each change of it.
-use Rattle.std.proofs.Common.{◌≡◌, Bool, true, false, cond, is_some, Option, Some, None, refl, sym, ap, ◌∙◌}
+use Rattle.std.proofs.Common.{◌≡◌, is_some, Option, Some, None, refl, sym, ap, ◌∙◌}
 use Rattle.std.specs.FinMap as map
+use Rattle.std.proofs.lemmas.Bool.{cond_both}
 use Rattle.std.specs.FinMap.{get-empty}
 use Rattle.mds_types.specs.declared.dentries.Dentry.{Dentry}
 use Rattle.mds_types.specs.declared.inodes.Inode.{Inode}
@@ -18,11 +19,13 @@ use Rattle.inode_table.proofs.TableLaws.{nothing_in}
 -- the counts without that of a directory in which nothing is
 left_counted : (tree : Tree) (counts : Counts) (gone : Option Inode) → HoldsCounts tree counts → ((inode : Inode) → gone ≡ Some inode → NothingIn tree inode.ino.0) → HoldsCounts tree (without_row counts gone)
 left_counted tree counts None holds empty = holds
-left_counted tree counts (Some inode) holds empty = go (is_dir_kind inode.kind)
-  where
-    go : (b : Bool) → HoldsCounts tree (cond b (map.remove counts inode.ino.0) counts)
-    go true = without_none tree counts holds inode.ino.0 (empty inode refl)
-    go false = holds
+left_counted tree counts (Some inode) holds empty =
+    cond_both (is_dir_kind inode.kind) (map.remove counts inode.ino.0) counts (HoldsCounts tree) (λ kinded. without_none tree counts holds inode.ino.0 (empty inode refl)) (λ kinded. holds)
+
+-- the counts with that of a directory in which nothing is
+came_counted : (tree : Tree) (counts : Counts) (inode : Inode) → HoldsCounts tree counts → NothingIn tree inode.ino.0 → HoldsCounts tree (with_count counts inode)
+came_counted tree counts inode holds empty =
+    cond_both (is_dir_kind inode.kind) (map.insert counts inode.ino.0 0) counts (HoldsCounts tree) (λ kinded. with_none tree counts holds inode.ino.0 empty) (λ kinded. holds)
 
 -- the root alone
 pub none_counted : IsCounted map.empty (map.insert map.empty 1 0) map.empty
@@ -30,23 +33,18 @@ none_counted = record { each = empty_counted; pinned = empty_pins }
 
 -- a directory comes to a table before any entry is counted
 pub none_with : (counts : Counts) (pins : DirPins) (inode : Inode) → IsCounted map.empty counts pins → IsCounted map.empty (with_count counts inode) pins
-none_with counts pins inode none = record { each = go (is_dir_kind inode.kind); pinned = none.pinned }
-  where
-    go : (b : Bool) → HoldsCounts map.empty (cond b (map.insert counts inode.ino.0 0) counts)
-    go true = with_none map.empty counts none.each inode.ino.0 (λ q x stands same. let clash : None ≡ Some x = sym (get-empty dentry_cmp q) ∙ stands in cc)
-    go false = none.each
+none_with counts pins inode none = record {
+  each = came_counted map.empty counts inode none.each (λ q x stands same. let clash : None ≡ Some x = sym (get-empty dentry_cmp q) ∙ stands in cc);
+  pinned = none.pinned;
+}
 
 module _ (tree : Tree) (homes : Homes) (tabled : IsTabled tree homes) (counts : Counts) (pins : DirPins) (counted : IsCounted tree counts pins) where
   -- a new inode comes,
   pub added_counted : (dentry : Dentry) (inode : Inode) → MayAdd tree dentry inode → IsCounted (map.insert tree dentry inode) (with_count (one_more counts dentry.dir.0) inode) pins
-  added_counted dentry inode may = record { each = go (is_dir_kind inode.kind); pinned = added_pins tree pins dentry inode counted.pinned may }
-    where
-      came : HoldsCounts (map.insert tree dentry inode) (one_more counts dentry.dir.0)
-      came = comes tree counts counted.each dentry inode may.free
-
-      go : (b : Bool) → HoldsCounts (map.insert tree dentry inode) (cond b (map.insert (one_more counts dentry.dir.0) inode.ino.0 0) (one_more counts dentry.dir.0))
-      go true = with_none (map.insert tree dentry inode) (one_more counts dentry.dir.0) came inode.ino.0 (new_is_empty tree dentry inode tabled.whole may)
-      go false = came
+  added_counted dentry inode may = record {
+    each = came_counted (map.insert tree dentry inode) (one_more counts dentry.dir.0) inode (comes tree counts counted.each dentry inode may.free) (new_is_empty tree dentry inode tabled.whole may);
+    pinned = added_pins tree pins dentry inode tabled.whole counted.pinned may;
+  }
 
   -- one is altered,
   pub set_counted : (dentry : Dentry) (inode : Inode) → MaySet tree dentry inode → IsCounted (map.insert tree dentry inode) counts (with_pin pins inode)

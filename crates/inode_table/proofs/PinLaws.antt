@@ -1,5 +1,5 @@
 -- The pins beside the tree: they stay those of its directories where an entry comes, is altered, goes or moves.
-use Rattle.std.proofs.Common.{◌≡◌, ℕ, Bool, true, false, cond, Option, Some, None, ◌⊎◌, inl, inr, ⊎_elim, refl, sym, ap, subst, ◌∙◌}
+use Rattle.std.proofs.Common.{◌≡◌, ℕ, true, Option, Some, None, refl, sym, ap, subst, ◌∙◌}
 use Rattle.std.specs.Ordering.{nat_cmp}
 use Rattle.std.specs.FinMap as map
 use Rattle.std.specs.FinMap.{get-empty}
@@ -9,21 +9,13 @@ use Rattle.mds_types.specs.declared.inodes.Inode.{Inode}
 use Rattle.mds_types.specs.Tree.{Tree, dentry_cmp, is_dir_kind, IsWellFormed}
 use Rattle.mds_types.specs.Step.{with_moved, IsMove}
 use Rattle.mds_types.proofs.DirectoryLaws.{one_dentry}
-use Rattle.mds_types.proofs.EntryLaws.{get_put, get_beside, get_left, same_or_apart, stands_after_put, stands_after_removal}
-use Rattle.mds_types.proofs.MovedLaws.{MayMove, may_move, stands_moved, still_moved, arrived}
-use Rattle.sorted_map.proofs.NatKeys.{after_removal, get_put as get_put_pin, get_beside as get_beside_pin, get_left as get_left_pin, get_removed, same_or_apart as same_number}
+use Rattle.mds_types.proofs.MovedLaws.{may_move}
+use Rattle.sorted_map.proofs.NatKeys.{get_put as get_put_pin, get_beside as get_beside_pin, get_left as get_left_pin, get_removed}
 use Rattle.inode_table.specs.Dirs.{DirPins, pinned_at}
 use Rattle.inode_table.specs.TreeChanges.{MayAdd, MaySet, MayRemove}
 use Rattle.inode_table.specs.TreeTable.{HoldsPins, with_pin, without_row}
-use Rattle.inode_table.proofs.TableLaws.{dir_or_not}
-
--- a directory of the tree has this number
-abbrev pub Stands : Tree → ℕ → Type 0
-Stands tree d = (dentry : Dentry) × (inode : Inode) × (map.get tree dentry ≡ Some inode) × (inode.ino.0 ≡ d) × (is_dir_kind inode.kind ≡ true)
-
--- two that stand at one dentry are one
-one_inode : (tree : Tree) (p q : Dentry) (x y : Inode) → p ≡ q → map.get tree p ≡ Some x → map.get tree q ≡ Some y → x ≡ y
-one_inode tree p q x y same here there = let inodes : Some x ≡ Some y = sym here ∙ ap (λ d. map.get tree d) same ∙ there in cc
+use Rattle.inode_table.proofs.HeldRows.{Differ, Holds, dir_differ, dir_here, moved_held, put_held, removed_held}
+use Rattle.inode_table.proofs.TableLaws.{alike_before}
 
 -- ---- one pin
 
@@ -36,34 +28,23 @@ module _ (pins : DirPins) (k : ℕ) where
   pinned_beside None q apart = get_left_pin pins k q apart
   pinned_beside (Some rank) q apart = get_beside_pin pins k rank q apart
 
-pub with_dir_pin : (pins : DirPins) (inode : Inode) → is_dir_kind inode.kind ≡ true → with_pin pins inode ≡ pinned_at pins inode.ino.0 inode.pin
-with_dir_pin pins inode kinded = ap (λ b. cond b (pinned_at pins inode.ino.0 inode.pin) pins) kinded
+-- the pins with that of an inode have that of a directory, and each other as before
+module _ (pins : DirPins) (inode : Inode) where
+  pub pin_here : is_dir_kind inode.kind ≡ true → map.get (with_pin pins inode) inode.ino.0 ≡ inode.pin
+  pin_here kinded = dir_here pins _ inode _ (pinned_here pins inode.ino.0 inode.pin) kinded
 
-pub with_file_pin : (pins : DirPins) (inode : Inode) → is_dir_kind inode.kind ≡ false → with_pin pins inode ≡ pins
-with_file_pin pins inode kinded = ap (λ b. cond b (pinned_at pins inode.ino.0 inode.pin) pins) kinded
+  pub pin_differ : Differ pins (with_pin pins inode) inode
+  pin_differ = dir_differ pins _ inode (pinned_beside pins inode.ino.0 inode.pin)
 
--- ---- what went
+-- the pins of a tree's directories are rows that hold them
+abbrev pin_value : Dentry → Inode → Option Rank
+pin_value dentry inode = inode.pin
 
-abbrev Spares : Option Inode → ℕ → Type 0
-Spares gone x = (t : Inode) → gone ≡ Some t → is_dir_kind t.kind ≡ true → x ≡ t.ino.0 → ⊥
+pins_held : (tree : Tree) (pins : DirPins) → HoldsPins tree pins → Holds pin_value tree pins
+pins_held tree pins holds = record { listed = holds.listed; stands = holds.stands }
 
-left_beside : (pins : DirPins) (gone : Option Inode) (x : ℕ) → Spares gone x → map.get (without_row pins gone) x ≡ map.get pins x
-left_beside pins None x spared = refl
-left_beside pins (Some t) x spared = go (is_dir_kind t.kind) refl
-  where
-    go : (b : Bool) → is_dir_kind t.kind ≡ b → map.get (cond b (map.remove pins t.ino.0) pins) x ≡ map.get pins x
-    go true kinded = get_left_pin pins t.ino.0 x (spared t refl kinded)
-    go false kinded = refl
-
-left_back : (pins : DirPins) (gone : Option Inode) (x : ℕ) (rank : Rank) → map.get (without_row pins gone) x ≡ Some rank → Spares gone x × (map.get pins x ≡ Some rank)
-left_back pins None x rank is = (λ t none. let clash : None ≡ Some t = none in absurd cc, is)
-left_back pins (Some t) x rank is = go (is_dir_kind t.kind) refl is
-  where
-    go : (b : Bool) → is_dir_kind t.kind ≡ b → map.get (cond b (map.remove pins t.ino.0) pins) x ≡ Some rank → Spares (Some t) x × (map.get pins x ≡ Some rank)
-    go true kinded h =
-        let w = after_removal pins t.ino.0 x rank h in
-        (λ u one k same. let alike : t ≡ u = cc in w.0 (same ∙ ap (λ (i : Inode). i.ino.0) (sym alike)), w.1)
-    go false kinded h = (λ u one k same. let alike : t ≡ u = cc in let clash : true ≡ false = sym k ∙ ap (λ (i : Inode). is_dir_kind i.kind) (sym alike) ∙ kinded in cc, h)
+held_pins : (tree : Tree) (pins : DirPins) → Holds pin_value tree pins → HoldsPins tree pins
+held_pins tree pins holds = record { listed = holds.listed; stands = holds.stands }
 
 -- ---- the changes
 
@@ -74,101 +55,28 @@ empty_pins = record {
 }
 
 -- a new inode has no pin
-pub added_pins : (tree : Tree) (pins : DirPins) (dentry : Dentry) (inode : Inode) → HoldsPins tree pins → MayAdd tree dentry inode → HoldsPins (map.insert tree dentry inode) pins
-added_pins tree pins dentry inode holds may = record {
-  listed = λ q x h dir.
-      ⊎_elim (λ w. ap (λ (i : Inode). map.get pins i.ino.0) (sym w.1) ∙ none (map.get pins inode.ino.0) refl ∙ sym may.unpinned ∙ ap (λ (i : Inode). i.pin) w.1) (λ w. holds.listed q x w.1 dir) (stands_after_put tree dentry inode q x h);
-  stands = λ d rank is. let w = holds.stands d rank is in (w.0, w.1, still w.0 w.1 w.2, w.3, w.4);
-}
+pub added_pins : (tree : Tree) (pins : DirPins) (dentry : Dentry) (inode : Inode) → IsWellFormed tree → HoldsPins tree pins → MayAdd tree dentry inode → HoldsPins (map.insert tree dentry inode) pins
+added_pins tree pins dentry inode whole holds may =
+    held_pins _ _ (put_held pin_value tree pins whole (pins_held tree pins holds) pins dentry inode (λ q apart. refl) (λ k. none (map.get pins inode.ino.0) refl ∙ sym may.unpinned)
+    (λ q x apart stands. may.unused.not_there q.dir.0 q.name x stands) (λ x stands. let clash : None ≡ Some x = sym may.free ∙ stands in absurd cc))
   where
     none : (o : Option Rank) → map.get pins inode.ino.0 ≡ o → o ≡ None
     none None is = refl
     none (Some rank) is = let w = holds.stands inode.ino.0 rank is in absurd (may.unused.not_there w.0.dir.0 w.0.name w.1 w.2 w.3)
 
-    still : (q : Dentry) (x : Inode) → map.get tree q ≡ Some x → map.get (map.insert tree dentry inode) q ≡ Some x
-    still q x stands = get_beside tree dentry inode q (λ same. let clash : None ≡ Some x = sym may.free ∙ ap (λ p. map.get tree p) (sym same) ∙ stands in cc) ∙ stands
-
 -- an inode is altered: a directory gets its pin
 pub set_pins : (tree : Tree) (pins : DirPins) (dentry : Dentry) (inode : Inode) → IsWellFormed tree → HoldsPins tree pins → MaySet tree dentry inode → HoldsPins (map.insert tree dentry inode) (with_pin pins inode)
-set_pins tree pins dentry inode whole holds may = ⊎_elim of_dir of_file (dir_or_not inode)
-  where
-    new : Tree
-    new = map.insert tree dentry inode
-
-    numbers : inode.ino.0 ≡ may.before.ino.0
-    numbers = ap (λ (n : _). n.0) may.number
-
-    -- what stands elsewhere has another number
-    other : (q : Dentry) (x : Inode) → (q ≡ dentry → ⊥) → map.get tree q ≡ Some x → x.ino.0 ≡ inode.ino.0 → ⊥
-    other q x apart stands same = apart (one_dentry tree whole q dentry x may.before stands may.stands (same ∙ numbers))
-
-    still : (d : ℕ) → (w : Stands tree d) → (w.0 ≡ dentry → ⊥) → Stands new d
-    still d w apart = (w.0, w.1, get_beside tree dentry inode w.0 apart ∙ w.2, w.3, w.4)
-
-    of_dir : is_dir_kind inode.kind ≡ true → HoldsPins new (with_pin pins inode)
-    of_dir kinded = subst (HoldsPins new) (sym (with_dir_pin pins inode kinded)) (record {
-      listed = λ q x h dir.
-          ⊎_elim (λ w. ap (λ (i : Inode). map.get (pinned_at pins inode.ino.0 inode.pin) i.ino.0) (sym w.1) ∙ pinned_here pins inode.ino.0 inode.pin ∙ ap (λ (i : Inode). i.pin) w.1)
-          (λ w. pinned_beside pins inode.ino.0 inode.pin x.ino.0 (other q x w.0 w.1) ∙ holds.listed q x w.1 dir) (stands_after_put tree dentry inode q x h);
-      stands = λ d rank is. go d rank is (same_number d inode.ino.0);
-    })
-      where
-        go : (d : ℕ) (rank : Rank) → map.get (pinned_at pins inode.ino.0 inode.pin) d ≡ Some rank → (d ≡ inode.ino.0) ⊎ (d ≡ inode.ino.0 → ⊥) → Stands new d
-        go d rank is (inl same) = (dentry, inode, get_put tree dentry inode, sym same, kinded)
-        go d rank is (inr apart) =
-            let w = holds.stands d rank (sym (pinned_beside pins inode.ino.0 inode.pin d apart) ∙ is) in
-            still d w (λ same. apart (sym w.3 ∙ ap (λ (i : Inode). i.ino.0) (one_inode tree w.0 dentry w.1 may.before same w.2 may.stands) ∙ sym numbers))
-
-    of_file : is_dir_kind inode.kind ≡ false → HoldsPins new (with_pin pins inode)
-    of_file kinded = subst (HoldsPins new) (sym (with_file_pin pins inode kinded)) (record {
-      listed = λ q x h dir.
-          ⊎_elim (λ w. let clash : true ≡ false = sym dir ∙ ap (λ (i : Inode). is_dir_kind i.kind) (sym w.1) ∙ kinded in absurd cc) (λ w. holds.listed q x w.1 dir) (stands_after_put tree dentry inode q x h);
-      stands = λ d rank is. let w = holds.stands d rank is in still d w (no_dir w.0 w.1 w.2 w.4);
-    })
-      where
-        no_dir : (q : Dentry) (x : Inode) → map.get tree q ≡ Some x → is_dir_kind x.kind ≡ true → q ≡ dentry → ⊥
-        no_dir q x stands dir same =
-            let clash : true ≡ false = sym dir ∙ ap (λ (i : Inode). is_dir_kind i.kind) (one_inode tree q dentry x may.before same stands may.stands) ∙ sym (ap is_dir_kind may.kind) ∙ kinded in
-            cc
+set_pins tree pins dentry inode whole holds may =
+    held_pins _ _ (put_held pin_value tree pins whole (pins_held tree pins holds) _ dentry inode (pin_differ pins inode) (pin_here pins inode)
+    (λ q x apart stands same. apart (one_dentry tree whole q dentry x may.before stands may.stands (same ∙ ap (λ (n : _). n.0) may.number))) (alike_before tree dentry inode may))
 
 -- an entry goes, and its pin
 pub removed_pins : (tree : Tree) (pins : DirPins) (dentry : Dentry) (found : Option Inode) → map.get tree dentry ≡ found → IsWellFormed tree → HoldsPins tree pins → MayRemove tree dentry → HoldsPins (map.remove tree dentry) (without_row pins found)
-removed_pins tree pins dentry found at_dentry whole holds may = subst (λ o. HoldsPins (map.remove tree dentry) (without_row pins o)) (sym may.stands ∙ at_dentry) (record {
-  listed = λ q x h dir.
-      let before = stands_after_removal tree dentry q x h in
-      left_beside pins (Some may.inode) x.ino.0 (λ t is kinded same. let alike : may.inode ≡ t = cc in before.0 (one_dentry tree whole q dentry x may.inode before.1 may.stands (same ∙ ap (λ (i : Inode). i.ino.0) (sym alike)))) ∙ holds.listed q x before.1 dir;
-  stands = λ d rank is.
-      let back = left_back pins (Some may.inode) d rank is in
-      let w = holds.stands d rank back.1 in
-      (w.0, w.1, get_left tree dentry w.0 (not_there d w.0 w.1 w.2 w.3 w.4 back.0) ∙ w.2, w.3, w.4);
-})
-  where
-    not_there : (d : ℕ) (q : Dentry) (x : Inode) → map.get tree q ≡ Some x → x.ino.0 ≡ d → is_dir_kind x.kind ≡ true → Spares (Some may.inode) d → q ≡ dentry → ⊥
-    not_there d q x stands numbered kinded spared same =
-        let alike : x ≡ may.inode = one_inode tree q dentry x may.inode same stands may.stands in
-        spared may.inode refl (sym (ap (λ (i : Inode). is_dir_kind i.kind) alike) ∙ kinded) (sym numbered ∙ ap (λ (i : Inode). i.ino.0) alike)
+removed_pins tree pins dentry found at_dentry whole holds may =
+    subst (λ o. HoldsPins (map.remove tree dentry) (without_row pins o)) (sym may.stands ∙ at_dentry) (held_pins _ _ (removed_held pin_value tree pins whole (pins_held tree pins holds) dentry may.inode may.stands))
 
 -- an entry moves: its pin stays, and that of what is replaced goes
 pub moved_pins : (tree : Tree) (pins : DirPins) (from to : Dentry) (inode : Inode) → IsWellFormed tree → HoldsPins tree pins → IsMove tree from to inode → HoldsPins (with_moved tree from to inode) (without_row pins (map.get tree to))
-moved_pins tree pins from to inode whole holds move = record {
-  listed = λ q x h dir.
-      ⊎_elim
-      (λ w. ap (λ (i : Inode). map.get (without_row pins (map.get tree to)) i.ino.0) (sym w.1) ∙ left_beside pins (map.get tree to) inode.ino.0 arrived_spared
-      ∙ holds.listed from inode may.stands (ap (λ (i : Inode). is_dir_kind i.kind) w.1 ∙ dir) ∙ ap (λ (i : Inode). i.pin) w.1)
-      (λ w. left_beside pins (map.get tree to) x.ino.0 (λ t there kinded same. w.0 (one_dentry tree whole q to x t w.2 there same)) ∙ holds.listed q x w.2 dir)
-      (stands_moved tree from to inode whole may q x h);
-  stands = λ d rank is. let back = left_back pins (map.get tree to) d rank is in let w = holds.stands d rank back.1 in go d w.0 w.1 w.2 w.3 w.4 back.0 (same_or_apart w.0 from);
-}
-  where
-    may : MayMove tree from to inode
-    may = may_move tree from to inode whole move
-
-    arrived_spared : Spares (map.get tree to) inode.ino.0
-    arrived_spared t there kinded same = may.apart (one_dentry tree whole from to inode t may.stands there same)
-
-    go : (d : ℕ) (q : Dentry) (x : Inode) → map.get tree q ≡ Some x → x.ino.0 ≡ d → is_dir_kind x.kind ≡ true → Spares (map.get tree to) d → (q ≡ from) ⊎ (q ≡ from → ⊥) → Stands (with_moved tree from to inode) d
-    go d q x stands numbered kinded spared (inl same) =
-        let alike : x ≡ inode = one_inode tree q from x inode same stands may.stands in
-        (to, inode, arrived tree from to inode whole may, sym (ap (λ (i : Inode). i.ino.0) alike) ∙ numbered, sym (ap (λ (i : Inode). is_dir_kind i.kind) alike) ∙ kinded)
-    go d q x stands numbered kinded spared (inr apart) =
-        (q, x, still_moved tree from to inode whole may q x apart (λ same. spared x (ap (λ p. map.get tree p) (sym same) ∙ stands) kinded (sym numbered)) stands, numbered, kinded)
+moved_pins tree pins from to inode whole holds move =
+    let may = may_move tree from to inode whole move in
+    held_pins _ _ (moved_held pin_value tree pins whole (pins_held tree pins holds) pins from to inode may (λ q apart. refl) (holds.listed from inode may.stands))

@@ -1,17 +1,14 @@
 -- The first row with a pin, of rows in order.
-use Rattle.inode_table.proofs.Common.{Directory, Equal, Greater, Ino, IsAfter, IsFirstPinned, IsNextPinned, IsSome, Less, MatchOrdering, Ordering, Rank, Rows, ap, arith, below_all, entries_sorted, eq_by_cmp, find, find-where_key, get-entries, is_eq, is_lt, is_sorted, is_sorted-where_key, left_of, nat_cmp, nat_cmp-IsAntisymmetric, nat_cmp_total, pin_in, pins_of, ranked, right_of, subst, sym, tie, tied_itself, where_key, ◌∙◌}
+use Rattle.inode_table.proofs.Common.{Directory, Ino, IsAfter, IsFirstPinned, IsNextPinned, IsSome, Less, Rank, Rows, ap, arith, below_all, entries_sorted, eq_by_cmp, find, find-where_key, get-entries, is_eq, is_lt, is_sorted, is_sorted-where_key, left_of, nat_cmp, nat_cmp-IsAntisymmetric, nat_cmp_total, pin_in, pins_of, ranked, right_of, subst, sym, tie, tied_itself, where_key, ◌∙◌}
 use Rattle.std.specs.Prelude.{◌≡◌, ℕ, ◌<◌, ◌≤◌, Bool, true, false, cond, T, List, [], ◌∷◌, Option, Some, None, is_some, refl}
 use Rattle.std.specs.FinMap as map
+use Rattle.std.specs.Cmp.{nat_cmp_is}
+use Rattle.mds_types.proofs.EntrySearch.{not_found_below}
 use Rattle.sorted_map.proofs.PlaceLaws.{less as less_of}
 use Rattle.inode_table.proofs.CountRows.{get_pin}
 
 under : (x y : ℕ) → nat_cmp x y ≡ Less → x < y
-under x y is = go (nat_cmp x y) (ranked x y (nat_cmp x y) refl) is
-  where
-    go : (o : Ordering) → MatchOrdering o (x < y) (x ≡ y) (y < x) → o ≡ Less → x < y
-    go Less less _ = less
-    go Equal same is = let clash : Equal ≡ Less = is in cc
-    go Greater more is = let clash : Greater ≡ Less = is in cc
+under x y is = ranked x y Less (sym is)
 
 -- a row that is found behind another has a greater number
 behind : (first : ℕ) (es : List (ℕ × Directory)) (d : ℕ) → T (below_all nat_cmp first es) → IsSome (find nat_cmp d es) → first < d
@@ -46,12 +43,8 @@ module _ (row : ℕ × Directory) (rest : List (ℕ × Directory)) (sorted : T (
       no_pin None is = refl
       no_pin (Some r) is = let clash : true ≡ false = is in cc
 
-      absent : (o : Option Directory) → find nat_cmp d rest ≡ o → d ≡ row.0 → pin_in o ≡ row.1.pin
-      absent None is same = sym (no_pin row.1.pin none)
-      absent (Some e) is same = let more : row.0 < d = behind row.0 rest d (left_of _ _ sorted) (ap is_some is) in absurd (omega (arith, more, same))
-
       go : (b : Bool) → eq_by_cmp nat_cmp d row.0 ≡ b → pin_in (find nat_cmp d rest) ≡ pin_in (cond b (Some row.1) (find nat_cmp d rest))
-      go true tied = absent (find nat_cmp d rest) refl (nat_cmp-IsAntisymmetric d row.0 (tie _ tied))
+      go true tied = ap pin_in (ap (λ k. find nat_cmp k rest) (nat_cmp-IsAntisymmetric d row.0 (tie _ tied)) ∙ not_found_below nat_cmp_total row.0 rest (left_of _ _ sorted)) ∙ sym (no_pin row.1.pin none)
       go false apart = refl
 
 pub first_here : (all left rest : List (ℕ × Directory)) (row : ℕ × Directory) → left ≡ row ∷ rest → T (is_sorted nat_cmp left) → ((d : ℕ) → pin_in (find nat_cmp d left) ≡ pin_in (find nat_cmp d all)) → is_some row.1.pin ≡ true
@@ -74,27 +67,13 @@ abbrev pub is_after : Option Ino → ℕ → Bool
 is_after None d = true
 is_after (Some last) d = is_lt (nat_cmp last.0 d)
 
-pub all_pass : (es : List (ℕ × Directory)) → es ≡ where_key nat_cmp (is_after None) es
-all_pass [] = refl
-all_pass (e ∷ es) = ap (λ t. e ∷ t) (all_pass es)
-
 after_is : (after : Option Ino) (d : ℕ) → IsAfter after d → is_after after d ≡ true
 after_is None d is = refl
-after_is (Some last) d is = go (nat_cmp last.0 d) (ranked last.0 d (nat_cmp last.0 d) refl)
-  where
-    go : (o : Ordering) → MatchOrdering o (last.0 < d) (last.0 ≡ d) (d < last.0) → is_lt o ≡ true
-    go Less less = refl
-    go Equal same = absurd (omega (arith, is, same))
-    go Greater more = absurd (omega (arith, is, more))
+after_is (Some last) d is = ap is_lt (sym (nat_cmp_is last.0 d Less is))
 
 is_behind : (after : Option Ino) (d : ℕ) → is_after after d ≡ true → IsAfter after d
 is_behind None d is = tt
-is_behind (Some last) d is = under last.0 d (go (nat_cmp last.0 d) is)
-  where
-    go : (o : Ordering) → is_lt o ≡ true → o ≡ Less
-    go Less is = refl
-    go Equal is = let clash : false ≡ true = is in cc
-    go Greater is = let clash : false ≡ true = is in cc
+is_behind (Some last) d is = under last.0 d (less_of _ (subst T (sym is) tt))
 
 module _ (rows : Rows) (after : Option Ino) (left : List (ℕ × Directory)) (is : left ≡ where_key nat_cmp (is_after after) (map.entries rows)) where
   pub left_sorted : T (is_sorted nat_cmp left)

@@ -1,9 +1,10 @@
 -- The directory table beside the tree: what it knows, and that it stays that of the tree.
-use Rattle.std.proofs.Common.{◌≡◌, ◌==◌, ◌&&◌, ◌||◌, ◌↔◌, ℕ, Bool, true, false, cond, is_some, IsTrue, Option, Some, None, ◌⊎◌, inl, inr, ⊎_elim, refl, sym, ap, subst, ◌∙◌}
+use Rattle.std.proofs.Common.{◌≡◌, ◌==◌, ◌&&◌, ◌↔◌, ℕ, Bool, true, false, cond, is_some, IsTrue, Option, Some, None, ◌⊎◌, ⊎_elim, refl, sym, ap, subst, ◌∙◌}
 use Rattle.std.specs.FinMap as map
 use Rattle.std.specs.FinMap.{get-empty}
 use Rattle.std.specs.Ordering.{nat_cmp}
-use Rattle.std.proofs.lemmas.Bool.{eqb-true, or_cases, or_left, or_right}
+use Rattle.std.specs.Cmp.{both_ways}
+use Rattle.std.proofs.lemmas.Bool.{cases_Bool, eqb-true, or_cases, or_left, or_right}
 use Rattle.mds_types.specs.declared.dentries.Dentry.{Dentry}
 use Rattle.mds_types.specs.declared.inodes.Inode.{Inode}
 use Rattle.mds_types.specs.Tree.{Tree, dentry_cmp, dentry_of, at, is_directory, is_dir_kind, is_above, has_entries, HasPinOf, IsAbove as IsAboveIn, child, further as further_down, IsWellFormed, NothingIn}
@@ -11,22 +12,14 @@ use Rattle.mds_types.proofs.AboveLaws.{above_exact}
 use Rattle.mds_types.proofs.AttributeLaws.{well-formed-changed}
 use Rattle.mds_types.proofs.RemovedLaws.{well-formed-removed}
 use Rattle.mds_types.proofs.WellFormedLaws.{well-formed-grown}
-use Rattle.mds_types.proofs.EntryLaws.{get_put, get_beside, get_left, stands_after_put, stands_after_removal, same_or_apart}
 use Rattle.mds_types.proofs.DirectoryLaws.{StandsAs, directory_stands, root_stands, entry_stands, one_dentry, nothing_in_empty, nothing_in_file}
-use Rattle.sorted_map.proofs.NatKeys.{is_same, after_put, after_removal, get_put as get_put_home, get_beside as get_beside_home, get_left as get_left_home, get_removed as get_removed_home, same_or_apart as same_number}
+use Rattle.sorted_map.proofs.NatKeys.{is_same, get_put as get_put_home, get_beside as get_beside_home, get_removed as get_removed_home}
 use Rattle.inode_table.specs.declared.dirs.Home.{Home}
 use Rattle.inode_table.specs.Dirs.{Homes, Covers, or_whole, leaves_of, is_known, IsAbove, parent, further, MayCome, IsChildless, MayGo}
+use Rattle.inode_table.proofs.Chains.{some_of}
+use Rattle.inode_table.proofs.HeldRows.{Differ, Holds, Spares, dir_differ, dir_here, left_beside, one_inode, put_held, removed_held}
 use Rattle.inode_table.specs.TreeChanges.{KeepLeaves, MayAdd, MaySet, MayRemove}
-use Rattle.inode_table.specs.TreeTable.{HoldsHomes, IsTabled, home_at, with_home, without_cover, without_home}
-
-bool_same : (a b : Bool) → (a ≡ true → b ≡ true) → (b ≡ true → a ≡ true) → a ≡ b
-bool_same true b f g = sym (f refl)
-bool_same false true f g = g refl
-bool_same false false f g = refl
-
-some_of : {A : Type 0} (o : Option A) → is_some o ≡ true → (a : A) × (o ≡ Some a)
-some_of None h = cc
-some_of (Some a) h = (a, refl)
+use Rattle.inode_table.specs.TreeTable.{HoldsHomes, IsTabled, home_at, with_home, without_cover, without_home, without_row}
 
 -- the dentry of a home
 abbrev pub dentry_at : Home → Dentry
@@ -38,7 +31,7 @@ module _ (tree : Tree) (homes : Homes) (tabled : IsTabled tree homes) where
   home_of dentry inode d stands same kinded = ap (λ x. map.get homes x) (sym same) ∙ tabled.holds.listed dentry inode stands kinded
 
   pub known_is : (d : ℕ) → is_known homes d ≡ is_directory tree d
-  known_is d = bool_same _ _ there here
+  known_is d = both_ways _ _ there here
     where
       there : is_known homes d ≡ true → is_directory tree d ≡ true
       there known =
@@ -68,9 +61,7 @@ module _ (tree : Tree) (homes : Homes) (tabled : IsTabled tree homes) where
   is_dir_entry dentry inode stands here =
       ⊎_elim (λ root. absurd (tabled.whole.rootless dentry.dir.0 dentry.name inode stands root))
       (λ (w : StandsAs tree inode.ino.0).
-      let alike : w.dentry ≡ dentry = one_dentry tree tabled.whole w.dentry dentry w.inode inode w.stands stands w.numbered in
-      let inodes : Some w.inode ≡ Some inode = sym w.stands ∙ ap (λ p. map.get tree p) alike ∙ stands in
-      let same : w.inode ≡ inode = cc in
+      let same = one_inode tree w.dentry dentry w.inode inode (one_dentry tree tabled.whole w.dentry dentry w.inode inode w.stands stands w.numbered) w.stands stands in
       ap (λ (i : Inode). is_dir_kind i.kind) (sym same) ∙ w.kinded)
       (directory_stands tree inode.ino.0 here)
 
@@ -86,7 +77,50 @@ module _ (tree : Tree) (homes : Homes) (tabled : IsTabled tree homes) where
   pub above_is : (d x : ℕ) (told : Bool) → is_directory tree x ≡ true → IsTrue told ↔ IsAbove homes d x → told ≡ is_above tree d x
   above_is d x told here exact =
       let test = above_exact tree d x tabled.whole in
-      bool_same told (is_above tree d x) (λ yes. test.1 (above_in_tree d x (exact.0 yes))) (λ yes. exact.1 (above_in_table d x here (test.0 yes)))
+      both_ways told (is_above tree d x) (λ yes. test.1 (above_in_tree d x (exact.0 yes))) (λ yes. exact.1 (above_in_table d x here (test.0 yes)))
+
+pub dir_or_not : (inode : Inode) → (is_dir_kind inode.kind ≡ true) ⊎ (is_dir_kind inode.kind ≡ false)
+dir_or_not inode = cases_Bool (is_dir_kind inode.kind)
+
+-- a table without an inode is its homes without that row, and so are its leaves
+pub homes_without : (homes : Homes) (gone : Option Inode) → without_home homes gone ≡ without_row homes gone
+homes_without homes None = refl
+homes_without homes (Some t) = refl
+
+covers_without : (trees : Covers) (gone : Option Inode) → without_cover trees gone ≡ without_row trees gone
+covers_without trees None = refl
+covers_without trees (Some t) = refl
+
+-- a table with a home of an inode has that of a directory, and each other as before
+module _ (homes : Homes) (dentry : Dentry) (inode : Inode) where
+  pub with_here : is_dir_kind inode.kind ≡ true → map.get (with_home homes dentry inode) inode.ino.0 ≡ Some (home_at dentry)
+  with_here kinded = dir_here homes _ inode _ (get_put_home homes inode.ino.0 (home_at dentry)) kinded
+
+  pub with_differ : Differ homes (with_home homes dentry inode) inode
+  with_differ = dir_differ homes _ inode (get_beside_home homes inode.ino.0 (home_at dentry))
+
+  pub with_dir : is_dir_kind inode.kind ≡ true → with_home homes dentry inode ≡ map.insert homes inode.ino.0 (home_at dentry)
+  with_dir kinded = ap (λ b. cond b (map.insert homes inode.ino.0 (home_at dentry)) homes) kinded
+
+  pub with_file : is_dir_kind inode.kind ≡ false → with_home homes dentry inode ≡ homes
+  with_file kinded = ap (λ b. cond b (map.insert homes inode.ino.0 (home_at dentry)) homes) kinded
+
+-- the homes of a tree's directories are rows that hold them
+abbrev pub home_value : Dentry → Inode → Option Home
+home_value dentry inode = Some (home_at dentry)
+
+pub homes_held : (tree : Tree) (homes : Homes) → HoldsHomes tree homes → Holds home_value tree homes
+homes_held tree homes holds = record { listed = holds.listed; stands = λ d home is. let w = holds.stands d home is in (dentry_at home, w.0, w.1, w.2, w.3) }
+
+pub held_homes : (tree : Tree) (homes : Homes) → Holds home_value tree homes → HoldsHomes tree homes
+held_homes tree homes holds = record {
+  listed = holds.listed;
+  stands = λ d home is.
+      let w = holds.stands d home is in
+      let homes_are : Some (home_at w.0) ≡ Some home = sym (holds.listed w.0 w.1 w.2 w.4) ∙ ap (map.get homes) w.3 ∙ is in
+      let same : home_at w.0 ≡ home = cc in
+      (w.1, ap (λ (h : Home). map.get tree (dentry_at h)) (sym same) ∙ w.2, w.3, w.4);
+}
 
 -- the empty tree has the root alone
 abbrev no_entries : Tree
@@ -123,20 +157,6 @@ may_come tree homes dentry inode tabled may = record {
     none None is = refl
     none (Some home) is = let w = tabled.holds.stands inode.ino.0 home is in absurd (may.unused.not_there home.parent.0 home.name w.0 w.1 w.2)
 
-pub dir_or_not : (inode : Inode) → (is_dir_kind inode.kind ≡ true) ⊎ (is_dir_kind inode.kind ≡ false)
-dir_or_not inode = go (is_dir_kind inode.kind) refl
-  where
-    go : (b : Bool) → is_dir_kind inode.kind ≡ b → (is_dir_kind inode.kind ≡ true) ⊎ (is_dir_kind inode.kind ≡ false)
-    go true is = inl is
-    go false is = inr is
-
--- the table with the home of a directory, and as it was for anything else
-pub with_dir : (homes : Homes) (dentry : Dentry) (inode : Inode) → is_dir_kind inode.kind ≡ true → with_home homes dentry inode ≡ map.insert homes inode.ino.0 (home_at dentry)
-with_dir homes dentry inode kinded = ap (λ b. cond b (map.insert homes inode.ino.0 (home_at dentry)) homes) kinded
-
-pub with_file : (homes : Homes) (dentry : Dentry) (inode : Inode) → is_dir_kind inode.kind ≡ false → with_home homes dentry inode ≡ homes
-with_file homes dentry inode kinded = ap (λ b. cond b (map.insert homes inode.ino.0 (home_at dentry)) homes) kinded
-
 -- a new inode has no pin, which its kind allows
 pub no_pin : (tree : Tree) (dentry : Dentry) (inode : Inode) → MayAdd tree dentry inode → HasPinOf inode.kind inode.pin
 no_pin tree dentry inode may = subst (HasPinOf inode.kind) (sym may.unpinned) tt
@@ -145,76 +165,28 @@ no_pin tree dentry inode may = subst (HasPinOf inode.kind) (sym may.unpinned) tt
 pub added_tabled : (tree : Tree) (homes : Homes) (dentry : Dentry) (inode : Inode) → IsTabled tree homes → MayAdd tree dentry inode → IsTabled (map.insert tree dentry inode) (with_home homes dentry inode)
 added_tabled tree homes dentry inode tabled may = record {
   whole = well-formed-grown tree dentry.dir.0 dentry.name inode may.free tabled.whole may.parent may.unused.not_root may.unused.not_there may.sized (no_pin tree dentry inode may);
-  holds = ⊎_elim of_dir of_file (dir_or_not inode);
+  holds = held_homes _ _ (put_held home_value tree homes tabled.whole (homes_held tree homes tabled.holds) _ dentry inode (with_differ homes dentry inode) (with_here homes dentry inode)
+      (λ q x apart stands. may.unused.not_there q.dir.0 q.name x stands) (λ x stands. let clash : None ≡ Some x = sym may.free ∙ stands in absurd cc));
 }
-  where
-    new : Tree
-    new = map.insert tree dentry inode
 
-    -- what stood before still stands
-    still : (q : Dentry) (x : Inode) → map.get tree q ≡ Some x → map.get new q ≡ Some x
-    still q x stands = go (same_or_apart q dentry)
-      where
-        go : (q ≡ dentry) ⊎ (q ≡ dentry → ⊥) → map.get new q ≡ Some x
-        go (inl same) = let clash : None ≡ Some x = sym may.free ∙ ap (λ p. map.get tree p) (sym same) ∙ stands in absurd cc
-        go (inr apart) = get_beside tree dentry inode q apart ∙ stands
-
-    other : (q : Dentry) (x : Inode) → map.get tree q ≡ Some x → x.ino.0 ≡ inode.ino.0 → ⊥
-    other q x stands same = may.unused.not_there q.dir.0 q.name x stands same
-
-    of_dir : is_dir_kind inode.kind ≡ true → HoldsHomes new (with_home homes dentry inode)
-    of_dir kinded = subst (HoldsHomes new) (sym (with_dir homes dentry inode kinded)) (record {
-      listed = λ q x h dir.
-          ⊎_elim
-          (λ w. ap (λ (i : Inode). map.get (map.insert homes inode.ino.0 (home_at dentry)) i.ino.0) (sym w.1) ∙ get_put_home homes inode.ino.0 (home_at dentry) ∙ ap (λ p. Some (home_at p)) (sym w.0))
-          (λ w. get_beside_home homes inode.ino.0 (home_at dentry) x.ino.0 (other q x w.1) ∙ tabled.holds.listed q x w.1 dir)
-          (stands_after_put tree dentry inode q x h);
-      stands = λ d home is.
-          ⊎_elim
-          (λ w. (inode, ap (λ (h : Home). map.get new (dentry_at h)) (sym w.1) ∙ get_put tree dentry inode, sym w.0, kinded))
-          (λ w. let before = tabled.holds.stands d home w.1 in (before.0, still (dentry_at home) before.0 before.1, before.2, before.3))
-          (after_put homes inode.ino.0 (home_at dentry) d home is);
-    })
-
-    of_file : is_dir_kind inode.kind ≡ false → HoldsHomes new (with_home homes dentry inode)
-    of_file kinded = subst (HoldsHomes new) (sym (with_file homes dentry inode kinded)) (record {
-      listed = λ q x h dir.
-          ⊎_elim (λ w. let clash : true ≡ false = sym dir ∙ ap (λ (i : Inode). is_dir_kind i.kind) (sym w.1) ∙ kinded in absurd cc) (λ w. tabled.holds.listed q x w.1 dir)
-          (stands_after_put tree dentry inode q x h);
-      stands = λ d home is. let before = tabled.holds.stands d home is in (before.0, still (dentry_at home) before.0 before.1, before.2, before.3);
-    })
+-- what stood where an inode is altered has its number and its kind
+pub alike_before : (tree : Tree) (dentry : Dentry) (inode : Inode) → MaySet tree dentry inode → (x : Inode) → map.get tree dentry ≡ Some x → (x.ino.0 ≡ inode.ino.0) × (is_dir_kind x.kind ≡ is_dir_kind inode.kind)
+alike_before tree dentry inode may x stands =
+    subst (λ (i : Inode). (i.ino.0 ≡ inode.ino.0) × (is_dir_kind i.kind ≡ is_dir_kind inode.kind)) (one_inode tree dentry dentry may.before x refl may.stands stands) (sym (ap (λ (n : _). n.0) may.number), sym (ap is_dir_kind may.kind))
 
 -- an inode is altered
 pub set_tabled : (tree : Tree) (homes : Homes) (dentry : Dentry) (inode : Inode) → IsTabled tree homes → MaySet tree dentry inode → IsTabled (map.insert tree dentry inode) homes
 set_tabled tree homes dentry inode tabled may = record {
   whole = well-formed-changed tree dentry may.before inode may.stands may.number may.kind tabled.whole
       (may.sized (tabled.whole.sizes dentry.dir.0 dentry.name may.before may.stands)) (may.pinned (tabled.whole.pins dentry.dir.0 dentry.name may.before may.stands));
-  holds = record {
-    listed = λ q x h dir.
-        ⊎_elim
-        (λ w. ap (λ (i : Inode). map.get homes i.ino.0) (sym w.1) ∙ ap (λ (n : _). map.get homes n.0) may.number
-        ∙ tabled.holds.listed dentry may.before may.stands (sym same_dir ∙ ap (λ (i : Inode). is_dir_kind i.kind) w.1 ∙ dir) ∙ ap (λ p. Some (home_at p)) (sym w.0))
-        (λ w. tabled.holds.listed q x w.1 dir)
-        (stands_after_put tree dentry inode q x h);
-    stands = λ d home is. go d home is (same_or_apart (dentry_at home) dentry);
-  };
+  holds = held_homes _ _ (put_held home_value tree homes tabled.whole (homes_held tree homes tabled.holds) homes dentry inode (λ q apart. refl)
+      (λ dir. ap (map.get homes) numbers ∙ tabled.holds.listed dentry may.before may.stands (sym (ap is_dir_kind may.kind) ∙ dir))
+      (λ q x apart stands same. apart (one_dentry tree tabled.whole q dentry x may.before stands may.stands (same ∙ numbers)))
+      (alike_before tree dentry inode may));
 }
   where
-    same_dir : is_dir_kind inode.kind ≡ is_dir_kind may.before.kind
-    same_dir = ap is_dir_kind may.kind
-
-    go : (d : ℕ) (home : Home) → map.get homes d ≡ Some home → (dentry_at home ≡ dentry) ⊎ (dentry_at home ≡ dentry → ⊥)
-        → (i : Inode) × (map.get (map.insert tree dentry inode) (dentry_at home) ≡ Some i) × (i.ino.0 ≡ d) × (is_dir_kind i.kind ≡ true)
-    go d home is (inl same) =
-        let before = tabled.holds.stands d home is in
-        let inodes : Some may.before ≡ Some before.0 = sym may.stands ∙ ap (λ p. map.get tree p) (sym same) ∙ before.1 in
-        let alike : may.before ≡ before.0 = cc in (
-          inode,
-          ap (λ p. map.get (map.insert tree dentry inode) p) same ∙ get_put tree dentry inode,
-          ap (λ (n : _). n.0) may.number ∙ ap (λ (i : Inode). i.ino.0) alike ∙ before.2,
-          same_dir ∙ ap (λ (i : Inode). is_dir_kind i.kind) alike ∙ before.3,
-        )
-    go d home is (inr apart) = let before = tabled.holds.stands d home is in (before.0, get_beside tree dentry inode (dentry_at home) apart ∙ before.1, before.2, before.3)
+    numbers : inode.ino.0 ≡ may.before.ino.0
+    numbers = ap (λ (n : _). n.0) may.number
 
 -- nothing is in an inode that may go
 pub nothing_in : (tree : Tree) (dentry : Dentry) (inode : Inode) → IsWellFormed tree → map.get tree dentry ≡ Some inode → (is_dir_kind inode.kind && has_entries tree inode.ino.0) ≡ false → NothingIn tree inode.ino.0
@@ -238,79 +210,25 @@ may_drop tree homes dentry found at_dentry tabled may gone is kinded =
       childless = childless tree homes may.inode.ino.0 tabled (nothing_in tree dentry may.inode tabled.whole may.stands may.empty);
     })
 
-pub without_dir : (homes : Homes) (inode : Inode) → is_dir_kind inode.kind ≡ true → without_home homes (Some inode) ≡ map.remove homes inode.ino.0
-without_dir homes inode kinded = ap (λ b. cond b (map.remove homes inode.ino.0) homes) kinded
-
-pub without_file : (homes : Homes) (inode : Inode) → is_dir_kind inode.kind ≡ false → without_home homes (Some inode) ≡ homes
-without_file homes inode kinded = ap (λ b. cond b (map.remove homes inode.ino.0) homes) kinded
-
 -- an entry goes
 pub removed_tabled : (tree : Tree) (homes : Homes) (dentry : Dentry) (found : Option Inode) → map.get tree dentry ≡ found → IsTabled tree homes → MayRemove tree dentry
     → IsTabled (map.remove tree dentry) (without_home homes found)
 removed_tabled tree homes dentry found at_dentry tabled may = record {
-  whole = well-formed-removed tree dentry gone may.stands (nothing_in tree dentry gone tabled.whole may.stands may.empty) tabled.whole;
-  holds = subst (λ o. HoldsHomes left (without_home homes o)) (sym may.stands ∙ at_dentry) (⊎_elim of_dir of_file (dir_or_not gone));
+  whole = well-formed-removed tree dentry may.inode may.stands (nothing_in tree dentry may.inode tabled.whole may.stands may.empty) tabled.whole;
+  holds = subst (λ o. HoldsHomes (map.remove tree dentry) (without_home homes o)) (sym may.stands ∙ at_dentry)
+      (held_homes _ _ (removed_held home_value tree homes tabled.whole (homes_held tree homes tabled.holds) dentry may.inode may.stands));
 }
-  where
-    gone : Inode
-    gone = may.inode
-
-    left : Tree
-    left = map.remove tree dentry
-
-    not_gone : (q : Dentry) (x : Inode) → map.get tree q ≡ Some x → (q ≡ dentry → ⊥) → x.ino.0 ≡ gone.ino.0 → ⊥
-    not_gone q x stands apart same = apart (one_dentry tree tabled.whole q dentry x gone stands may.stands same)
-
-    of_dir : is_dir_kind gone.kind ≡ true → HoldsHomes left (without_home homes (Some gone))
-    of_dir kinded = subst (HoldsHomes left) (sym (without_dir homes gone kinded)) (record {
-      listed = λ q x h dir.
-          let before = stands_after_removal tree dentry q x h in
-          get_left_home homes gone.ino.0 x.ino.0 (not_gone q x before.1 before.0) ∙ tabled.holds.listed q x before.1 dir;
-      stands = λ d home is.
-          let there = after_removal homes gone.ino.0 d home is in
-          let w = tabled.holds.stands d home there.1 in
-          let apart : dentry_at home ≡ dentry → ⊥ = λ same. there.0 (sym w.2 ∙ ap (λ (i : Inode). i.ino.0) (one_inode (dentry_at home) w.0 same w.1)) in
-          (w.0, get_left tree dentry (dentry_at home) apart ∙ w.1, w.2, w.3);
-    })
-      where
-        one_inode : (q : Dentry) (x : Inode) → q ≡ dentry → map.get tree q ≡ Some x → x ≡ gone
-        one_inode q x same stands = let inodes : Some x ≡ Some gone = sym stands ∙ ap (λ p. map.get tree p) same ∙ may.stands in cc
-
-    of_file : is_dir_kind gone.kind ≡ false → HoldsHomes left (without_home homes (Some gone))
-    of_file kinded = subst (HoldsHomes left) (sym (without_file homes gone kinded)) (record {
-      listed = λ q x h dir. let before = stands_after_removal tree dentry q x h in tabled.holds.listed q x before.1 dir;
-      stands = λ d home is.
-          let w = tabled.holds.stands d home is in
-          let apart : dentry_at home ≡ dentry → ⊥ = λ same.
-          (let inodes : Some w.0 ≡ Some gone = sym w.1 ∙ ap (λ p. map.get tree p) same ∙ may.stands in
-          let alike : w.0 ≡ gone = cc in
-          let clash : true ≡ false = sym w.3 ∙ ap (λ (i : Inode). is_dir_kind i.kind) alike ∙ kinded in
-          cc) in
-          (w.0, get_left tree dentry (dentry_at home) apart ∙ w.1, w.2, w.3);
-    })
 
 -- where an inode goes, the table loses its leaves alone, if it is a directory: each directory that stands then keeps its own
 pub leaves_kept : (old tree : Tree) (homes rest : Homes) (trees new : Covers) (dentry : Dentry) (gone : Option Inode) → IsTabled tree homes → IsWellFormed old → gone ≡ map.get old dentry → homes ≡ without_home rest gone → new ≡ without_cover trees gone
     → KeepLeaves tree trees new
-leaves_kept old tree homes rest trees new dentry None tabled whole stood left is d stands = ap (λ c. leaves_of c d) is
-leaves_kept old tree homes rest trees new dentry (Some inode) tabled whole stood left is d stands = go (is_dir_kind inode.kind) refl (same_number d inode.ino.0)
+leaves_kept old tree homes rest trees new dentry gone tabled whole stood left is d stands = ap (λ c. leaves_of c d) (is ∙ covers_without trees gone) ∙ ap or_whole (left_beside trees gone d spared)
   where
-    not_root : inode.ino.0 ≡ 1 → ⊥
-    not_root root = whole.rootless dentry.dir.0 dentry.name inode (sym stood) root
-
-    gone_home : is_dir_kind inode.kind ≡ true → is_known homes inode.ino.0 ≡ (inode.ino.0 == 1)
-    gone_home kinded =
-        ap (λ h. is_known h inode.ino.0) (left ∙ ap (λ b. cond b (map.remove rest inode.ino.0) rest) kinded) ∙ ap (λ o. (inode.ino.0 == 1) || is_some o) (get_removed_home rest inode.ino.0) ∙ or_none (inode.ino.0 == 1)
-      where
-        or_none : (b : Bool) → (b || false) ≡ b
-        or_none true = refl
-        or_none false = refl
-
-    go : (b : Bool) → is_dir_kind inode.kind ≡ b → (d ≡ inode.ino.0) ⊎ (d ≡ inode.ino.0 → ⊥) → leaves_of new d ≡ leaves_of trees d
-    go false kinded same = ap (λ c. leaves_of c d) (is ∙ ap (λ b. cond b (map.remove trees inode.ino.0) trees) kinded)
-    go true kinded (inr apart) = ap (λ c. leaves_of c d) (is ∙ ap (λ b. cond b (map.remove trees inode.ino.0) trees) kinded) ∙ ap or_whole (get_left_home trees inode.ino.0 d apart)
-    go true kinded (inl same) =
-        absurd (not_root (eqb-true inode.ino.0 1 (sym (gone_home kinded) ∙ ap (is_known homes) (sym same) ∙ known_is tree homes tabled d ∙ stands)))
+    spared : Spares gone d
+    spared t one kinded same =
+        let went : map.get homes d ≡ None = ap (map.get homes) same ∙ ap (λ h. map.get h t.ino.0) (left ∙ ap (without_home rest) one) ∙ dir_here rest _ t None (get_removed_home rest t.ino.0) kinded in
+        ⊎_elim (λ root. whole.rootless dentry.dir.0 dentry.name t (sym stood ∙ one) (sym same ∙ eqb-true d 1 root)) (λ some. let clash : false ≡ true = sym (ap is_some went) ∙ some in cc)
+        (or_cases (d == 1) (is_some (map.get homes d)) (known_is tree homes tabled d ∙ stands))
 
 -- where no leaves are set or lost, each directory keeps its own
 pub leaves_same : (tree : Tree) (trees new : Covers) → new ≡ trees → KeepLeaves tree trees new

@@ -1,13 +1,13 @@
 -- The invariant of a directory table, and what a change leaves of it.
-use Rattle.std.proofs.Common.{◌≡◌, ◌==◌, ◌||◌, ℕ, true, is_some, Option, Some, None, List, ◌⊎◌, inl, inr, refl, sym, ap, subst, ◌∙◌}
+use Rattle.std.proofs.Common.{⊎_elim, arith, ◌≡◌, ◌==◌, ◌||◌, ℕ, true, is_some, Option, Some, None, List, refl, sym, ap, subst, ◌∙◌}
 use Rattle.std.proofs.lemmas.Bool.{or_right}
 use Rattle.std.specs.Ordering.{nat_cmp}
 use Rattle.std.specs.FinMap as map
-use Rattle.std.specs.FinMap.{get-empty}
+use Rattle.std.specs.FinMap.{get-empty, gets}
 use Rattle.mds_types.specs.Frag.{Fragment}
 use Rattle.fragtree.specs.FragTree.{IsTree}
 use Rattle.fragtree.proofs.Kept.{whole_tree}
-use Rattle.sorted_map.proofs.NatKeys.{same_or_apart, get_put, get_beside, get_left, after_put, after_removal}
+use Rattle.sorted_map.proofs.NatKeys.{get_left, after_put, after_removal}
 use Rattle.inode_table.specs.declared.dirs.Home.{Home}
 use Rattle.inode_table.specs.Dirs.{Homes, Covers, IsTable, MayCome, MayMove, IsChildless, is_known, leaves_of, or_whole}
 use Rattle.inode_table.proofs.Chains.{empty_rooted, adopted_rooted, moved_rooted, dropped_rooted}
@@ -34,15 +34,7 @@ known_by homes d o is some = or_right (d == 1) _ (ap is_some is ∙ some)
 
 -- a directory stays one when another gets a home
 pub still_known : (homes : Homes) (d : ℕ) (home : Home) (x : ℕ) → is_known homes x ≡ true → is_known (map.insert homes d home) x ≡ true
-still_known homes d home x known = go (same_or_apart x d)
-  where
-    go : (x ≡ d) ⊎ (x ≡ d → ⊥) → is_known (map.insert homes d home) x ≡ true
-    go (inl same) = known_by (map.insert homes d home) x (Some home) (ap (λ k. map.get (map.insert homes d home) k) same ∙ get_put homes d home) refl
-    go (inr apart) = ap (λ (o : Option Home). (x == 1) || is_some o) (get_beside homes d home x apart) ∙ known
-
--- a directory stays one when another goes
-still_left : (homes : Homes) (d x : ℕ) → (x ≡ d → ⊥) → is_known homes x ≡ true → is_known (map.remove homes d) x ≡ true
-still_left homes d x apart known = ap (λ (o : Option Home). (x == 1) || is_some o) (get_left homes d x apart) ∙ known
+still_known homes d home x known = grind (arith, gets, known)
 
 -- a new directory comes in
 pub adopted_table : (homes : Homes) (trees : Covers) (d : ℕ) (home : Home) → IsTable homes trees → MayCome homes d home → IsTable (map.insert homes d home) trees
@@ -64,7 +56,7 @@ moved_table homes trees d home table may = record {
 pub dropped_table : (homes : Homes) (trees : Covers) (d : ℕ) → IsTable homes trees → IsChildless homes d → IsTable (map.remove homes d) (map.remove trees d)
 dropped_table homes trees d table childless = record {
   rooted = dropped_rooted homes d table.rooted childless;
-  known = λ x leaves is. let before = after_removal trees d x leaves is in still_left homes d x before.0 (table.known x leaves before.1);
+  known = λ x leaves is. let before = after_removal trees d x leaves is in ap (λ (o : Option Home). (x == 1) || is_some o) (get_left homes d x before.0) ∙ table.known x leaves before.1;
   covers = λ x leaves is. table.covers x leaves (after_removal trees d x leaves is).1;
 }
 
@@ -72,14 +64,6 @@ dropped_table homes trees d table childless = record {
 pub set_table : (homes : Homes) (trees : Covers) (d : ℕ) (leaves : List Fragment) → IsTable homes trees → is_known homes d ≡ true → IsTree leaves → IsTable homes (map.insert trees d leaves)
 set_table homes trees d leaves table known tree = record {
   rooted = table.rooted;
-  known = λ x ls is. known_by_case x ls (after_put trees d leaves x ls is);
-  covers = λ x ls is. covers_by_case x ls (after_put trees d leaves x ls is);
+  known = λ x ls is. ⊎_elim (λ w. subst (λ k. is_known homes k ≡ true) (sym w.0) known) (λ w. table.known x ls w.1) (after_put trees d leaves x ls is);
+  covers = λ x ls is. ⊎_elim (λ w. subst IsTree w.1 tree) (λ w. table.covers x ls w.1) (after_put trees d leaves x ls is);
 }
-  where
-    known_by_case : (x : ℕ) (ls : List Fragment) → ((x ≡ d) × (leaves ≡ ls)) ⊎ ((x ≡ d → ⊥) × (map.get trees x ≡ Some ls)) → is_known homes x ≡ true
-    known_by_case x ls (inl w) = subst (λ k. is_known homes k ≡ true) (sym w.0) known
-    known_by_case x ls (inr w) = table.known x ls w.1
-
-    covers_by_case : (x : ℕ) (ls : List Fragment) → ((x ≡ d) × (leaves ≡ ls)) ⊎ ((x ≡ d → ⊥) × (map.get trees x ≡ Some ls)) → IsTree ls
-    covers_by_case x ls (inl w) = subst IsTree w.1 tree
-    covers_by_case x ls (inr w) = table.covers x ls w.1

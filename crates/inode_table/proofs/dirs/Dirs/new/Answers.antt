@@ -8,14 +8,10 @@ use Rattle.inode_table.proofs.dirs.Dirs.new.Goals as goal
 pub invariant_of-result : goal.invariant_of-result
 invariant_of-result c = rw c.new.ensures.empty (rw no_homes (rw no_leaves empty_table))
 
-pub returns-clause-homes : goal.returns-clause-homes
-returns-clause-homes c = ap homes_of c.new.ensures.empty ∙ no_homes
-
-pub returns-clause-trees : goal.returns-clause-trees
-returns-clause-trees c = ap (covers_of None) c.new.ensures.empty ∙ no_leaves
-
-pub returns-clause-counts : goal.returns-clause-counts
-returns-clause-counts c = ap (counts_of 0) c.new.ensures.empty ∙ no_counts
-
-pub returns-clause-pins : goal.returns-clause-pins
-returns-clause-pins c = ap pins_of c.new.ensures.empty ∙ no_pins
+pub returns : goal.returns
+returns c = record {
+  homes = ap homes_of c.new.ensures.empty ∙ no_homes;
+  trees = ap (covers_of None) c.new.ensures.empty ∙ no_leaves;
+  counts = ap (counts_of 0) c.new.ensures.empty ∙ no_counts;
+  pins = ap pins_of c.new.ensures.empty ∙ no_pins;
+}
