@@ -1,6 +1,5 @@
 -- The first leaf of a directory, and of the directories with a pin, that is to start for another rank.
-use Rattle.cluster_core.proofs.Common.{Equal, Fragment, Greater, HasLeaf, Ino, IsAfter, IsAwayTo, IsFirstAway, IsNextPinned, IsPick, IsSome, IsTree, Leaf, Less, MatchOrdering, None, Option, Ordering, Rank, Sight, Some, ap, arith, cases_lt, false, frag_cmp, inl, inr, leaf_cmp, leaves_of, nat_cmp, nat_cmp_total, ordering_then, ranked, refl, span, span_pos, subst, sym, tied_itself, true, ℕ, ◌+◌, ◌-◌, ◌<◌, ◌^◌, ◌∙◌, ◌≡◌, ◌≤◌, ◌⊎◌}
-use Rattle.std.proofs.Common.{is_some}
+use Rattle.cluster_core.proofs.Common.{Equal, Fragment, Greater, HasLeaf, Ino, IsAfter, IsAwayTo, IsFirstAway, IsNextPinned, IsPick, IsSome, IsTree, Leaf, Less, MatchOrdering, None, Option, Ordering, Rank, Sight, Some, ap, arith, cases_lt, false, frag_cmp, inl, inr, is_some, leaf_cmp, leaves_of, nat_cmp, nat_cmp_total, ordering_then, ranked, refl, span, span_pos, subst, sym, tied_itself, true, ℕ, ◌+◌, ◌-◌, ◌<◌, ◌^◌, ◌∙◌, ◌≡◌, ◌≤◌, ◌⊎◌}
 use Rattle.std.specs.FinMap as map
 use Rattle.cluster_core.proofs.GrantLaws.{Done, ends_all, goes_on}
 

@@ -1,6 +1,5 @@
 -- The list of the leaves that a rank holds, and what a grant makes of it.
-use Rattle.cluster_core.proofs.Common.{AreHeldAmong, AreThawedEach, Contains, Contains-get_or, Entry, Err, FindsNone, Frozen, GrantsFirst, GrantsWaiting, HoldsOne, Inboxes, IsFrozen, IsFrozenAt, IsGranted, IsOneFrozen, List, NamesOnce, NoMemory, NotAuthority, Nothing, Ok, OnErr, Op, Pin, Rank, Refusal, Request, Roots, Rules, Some, Standing, State, Supply, Table, [], ap, append-nil, changed_fragments, drop, drop_all, first_waiting, inl, inr, length, refl, shown_tree, state_of, subst, sym, with_grants, ℕ, ◌++◌, ◌+◌, ◌<◌, ◌↔◌, ◌∙◌, ◌∷◌, ◌≡◌, ◌≤◌}
-use Rattle.std.specs.Prelude.{Result, get_or}
+use Rattle.cluster_core.proofs.Common.{AreHeldAmong, AreThawedEach, Contains, Contains-get_or, Entry, Err, FindsNone, Frozen, GrantsFirst, GrantsWaiting, HoldsOne, Inboxes, IsFrozen, IsFrozenAt, IsGranted, IsOneFrozen, List, NamesOnce, NoMemory, NotAuthority, Nothing, Ok, OnErr, Op, Pin, Rank, Refusal, Request, Result, Roots, Rules, Some, Standing, State, Supply, Table, [], ap, append-nil, changed_fragments, drop, drop_all, first_waiting, get_or, inl, inr, length, refl, shown_tree, state_of, subst, sym, with_grants, ℕ, ◌++◌, ◌+◌, ◌<◌, ◌↔◌, ◌∙◌, ◌∷◌, ◌≡◌, ◌≤◌}
 use Rattle.std.proofs.lemmas.List.{append_assoc}
 use Rattle.subtree_map.specs.Authority.{Leaf}
 use Rattle.mdcache.specs.State.{State as TreeState}

@@ -1,6 +1,5 @@
 -- Which leaves an operation changes, and which of them a rank may change.
-use Rattle.cluster_core.proofs.Common.{AreHeldAmong, Bool, Contains, Covers, Dirfrag, Fragment, HoldsAt, Ino, IsAt, IsMasterIn, IsPick, List, Lists, Located, Locates, Looks, Makes, MatchBool, MatchOption, Moves, None, Op, Option, Rank, Removes, Roots, Rules, Sets, Shape, Some, Tree, Unlinks, [], ap, arith, destination_in, destination_of, first, first_or_later, hash_at, in_directory, inl, inr, later, leaf_at, leaf_of, leaves_of, main_hash, main_in, main_leaf, pick_of, picked, refl, shape, shown_tree, subst, sym, ℕ, ◌↔◌, ◌∙◌, ◌∷◌, ◌≡◌}
-use Rattle.std.specs.Prelude.{IfSome}
+use Rattle.cluster_core.proofs.Common.{AreHeldAmong, Bool, Contains, Covers, Dirfrag, Fragment, HoldsAt, IfSome, Ino, IsAt, IsMasterIn, IsPick, List, Lists, Located, Locates, Looks, Makes, MatchBool, MatchOption, Moves, None, Op, Option, Rank, Removes, Roots, Rules, Sets, Shape, Some, Tree, Unlinks, [], ap, arith, destination_in, destination_of, first, first_or_later, hash_at, in_directory, inl, inr, later, leaf_at, leaf_of, leaves_of, main_hash, main_in, main_leaf, pick_of, picked, refl, shape, shown_tree, subst, sym, ℕ, ◌↔◌, ◌∙◌, ◌∷◌, ◌≡◌}
 use Rattle.subtree_map.specs.Authority.{Leaf}
 use Rattle.mdcache.specs.State.{State as TreeState}
 

@@ -1,6 +1,5 @@
 -- What a rank proposes is an own step of a rank, which adds nothing to the history.
-use Rattle.cluster_core.proofs.Common.{AddsAtServe, Answer, Arrive, Cancel, CommitBegin, CommitDrop, CommitEnd, CommitTree, Core, Entry, Event, Evict, ExportState, Finish, Freeze, Grant, Import, IsFirstOf, IsNextStep, IsOwnStep, Kind, Leaf, List, Merge, OfExport, OfLarge, OfPin, OfSmall, Ok, Prep, Proposes, Purge, Rank, Records, Refusal, Send, Serve, Sight, Some, Split, Start, Would, [], inl, inr, kinds, sight, subst, sym, ◌∷◌, ◌≡◌}
-use Rattle.std.specs.Prelude.{Result}
+use Rattle.cluster_core.proofs.Common.{AddsAtServe, Answer, Arrive, Cancel, CommitBegin, CommitDrop, CommitEnd, CommitTree, Core, Entry, Event, Evict, ExportState, Finish, Freeze, Grant, Import, IsFirstOf, IsNextStep, IsOwnStep, Kind, Leaf, List, Merge, OfExport, OfLarge, OfPin, OfSmall, Ok, Prep, Proposes, Purge, Rank, Records, Refusal, Result, Send, Serve, Sight, Some, Split, Start, Would, [], inl, inr, kinds, sight, subst, sym, ◌∷◌, ◌≡◌}
 use Rattle.export_steps.specs.declared.exports.ExportState.TheVariants as at
 
 own_next : (s : Sight) (root : Leaf) (state : ExportState) (event : Event) → IsNextStep s root state event → IsOwnStep event

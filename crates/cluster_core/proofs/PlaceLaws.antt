@@ -1,7 +1,5 @@
 -- What a leaf has once an operation was applied which moves and pins nothing it had before: its authority, its place and its effective pin.
-use Rattle.cluster_core.proofs.Common.{Covers, Dentry, DirPins, Fragment, HasAuthority, HasLeaf, HasPin, HoldsPins, Homes, Ino, Inode, IsLive, IsSubtrees, IsTable, IsTabled, IsUnused, Leaf, List, None, Option, Rank, Roots, Some, StandsAs, Tree, [], ap, cond, dentry_of, directory_stands, false, inherited, inl, inr, is_dir_kind, is_directory, is_known, known_is, leaves_of, one_authority, or_right, own, refl, root_fragment, some_authority, subst, sym, true, ℕ, ◌==◌, ◌∙◌, ◌∷◌, ◌≡◌, ◌⊎◌}
-use Rattle.std.proofs.Common.{is_some}
-use Rattle.std.specs.Prelude.{IsSome}
+use Rattle.cluster_core.proofs.Common.{Covers, Dentry, DirPins, Fragment, HasAuthority, HasLeaf, HasPin, HoldsPins, Homes, Ino, Inode, IsLive, IsSome, IsSubtrees, IsTable, IsTabled, IsUnused, Leaf, List, None, Option, Rank, Roots, Some, StandsAs, Tree, [], ap, cond, dentry_of, directory_stands, false, inherited, inl, inr, is_dir_kind, is_directory, is_known, is_some, known_is, leaves_of, one_authority, or_right, own, refl, root_fragment, some_authority, subst, sym, true, ℕ, ◌==◌, ◌∙◌, ◌∷◌, ◌≡◌, ◌⊎◌}
 use Rattle.std.specs.FinMap as map
 use Rattle.cluster_core.proofs.DirsStay.{CameOf, DirsStay, fresh, stood}
 

@@ -1,6 +1,5 @@
 -- A rank of which nothing is pinned away stays so in each calm step; and one that would start no export where none stands is such a rank.
-use Rattle.cluster_core.proofs.Common.{Answer, AreSettled, Attributed, Bool, Change, Contains, Core, Entry, Event, FollowPlanned, HasAuthority, HasPin, Ino, Inode, IsAway, IsCalm, IsCalmIn, IsCalmOp, IsChangeIn, IsLive, IsOffered, IsOneOf, IsProposal, IsRankNumber, IsSettled, IsSound, IsUnused, KeepsCore, KeepsSettled, Leaf, List, Lists, Looks, LoseDirectory, Makes, Moves, None, OfPin, Option, Pinned, Rank, Refusal, Removes, Result, Roots, Sets, SettleBy, Shape, Some, Spot, Standing, Start, State, Steps, Tree, Unlinks, WouldNot, [], ap, arith, false, get-empty, inl, inr, is_known, is_some, leaf_cmp, length, number_or, offer, outcome_of, refl, same_or_apart, shape, shown, sight, subst, supply_of, sym, true, ◌++◌, ◌<◌, ◌∙◌, ◌∷◌, ◌≡◌, ◌⊎◌}
-use Rattle.std.specs.Prelude.{IsSome}
+use Rattle.cluster_core.proofs.Common.{Answer, AreSettled, Attributed, Bool, Change, Contains, Core, Entry, Event, FollowPlanned, HasAuthority, HasPin, Ino, Inode, IsAway, IsCalm, IsCalmIn, IsCalmOp, IsChangeIn, IsLive, IsOffered, IsOneOf, IsProposal, IsRankNumber, IsSettled, IsSome, IsSound, IsUnused, KeepsCore, KeepsSettled, Leaf, List, Lists, Looks, LoseDirectory, Makes, Moves, None, OfPin, Option, Pinned, Rank, Refusal, Removes, Result, Roots, Sets, SettleBy, Shape, Some, Spot, Standing, Start, State, Steps, Tree, Unlinks, WouldNot, [], ap, arith, false, get-empty, inl, inr, is_known, is_some, leaf_cmp, length, number_or, offer, outcome_of, refl, same_or_apart, shape, shown, sight, subst, supply_of, sym, true, ◌++◌, ◌<◌, ◌∙◌, ◌∷◌, ◌≡◌, ◌⊎◌}
 use Rattle.std.specs.FinMap as map
 use Rattle.mdcache.specs.State.{State as TreeState}
 use Rattle.cluster_core.proofs.AdminLaws.{one_of_all}

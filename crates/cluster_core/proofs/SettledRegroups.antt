@@ -1,6 +1,5 @@
 -- What is pinned away once a leaf was split, or leaves were merged, was pinned away before, it or one of the leaves that it came of.
-use Rattle.cluster_core.proofs.Common.{Core, Covers, DirPins, Entry, Fragment, HasAuthority, HasLeaf, HasPin, HaveOneAuthority, Homes, Ino, IsAway, IsChild, IsLive, IsMergedInto, IsRootMerge, IsRootSplit, IsSound, IsSplitInto, KeepsAuthorities, Leaf, List, None, Option, Rank, Rules, Some, Tree, ap, children_have, elsewhere_out, false, here_out, inl, inr, inside_at, is_inside, is_some, leaves_of, length, lies_inside, one_authority, or_whole, refl, same_or_apart, some_authority, some_inside, subst, sym, takes_over, true, ℕ, ◌<◌, ◌∙◌, ◌≡◌, ◌⊎◌}
-use Rattle.std.specs.Prelude.{IsSome}
+use Rattle.cluster_core.proofs.Common.{Core, Covers, DirPins, Entry, Fragment, HasAuthority, HasLeaf, HasPin, HaveOneAuthority, Homes, Ino, IsAway, IsChild, IsLive, IsMergedInto, IsRootMerge, IsRootSplit, IsSome, IsSound, IsSplitInto, KeepsAuthorities, Leaf, List, None, Option, Rank, Rules, Some, Tree, ap, children_have, elsewhere_out, false, here_out, inl, inr, inside_at, is_inside, is_some, leaves_of, length, lies_inside, one_authority, or_whole, refl, same_or_apart, some_authority, some_inside, subst, sym, takes_over, true, ℕ, ◌<◌, ◌∙◌, ◌≡◌, ◌⊎◌}
 use Rattle.std.specs.FinMap as map
 use Rattle.sorted_map.proofs.NatKeys.{get_beside, get_put}
 use Rattle.mds_types.proofs.LeafLaws.{same_or_apart as same_leaf_or_apart}

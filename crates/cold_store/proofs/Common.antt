@@ -7,7 +7,7 @@ pub use Rattle.cold_store.specs.Walked.{IsWalked, MayFail}
 pub use Rattle.dentry_cache.proofs.LoadLaws.{loaded_fits, loaded_is_saved, loaded_shows}
 pub use Rattle.dentry_cache.specs.Loading.{Loads, MayNotLoad, object_of}
 pub use Rattle.dentry_cache.specs.Ties.{names_at}
-pub use Rattle.dirfrag_codec.proofs.ByteKeys.{get_left, get_removed}
+pub use Rattle.dirfrag_codec.proofs.ByteKeys.{get_left, get_removed, same_or_apart}
 pub use Rattle.dirfrag_codec.specs.FragmentObject.{Names}
 pub use Rattle.fragtree.proofs.TreeLaws.{first, later}
 pub use Rattle.fragtree.specs.FragTree.{HasLeaf, Tiles}

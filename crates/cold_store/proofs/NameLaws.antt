@@ -1,9 +1,8 @@
 -- The names of a store, read page by page, and what is left of them.
-use Rattle.cold_store.proofs.Common.{AreLeft, AreNamesOf, Bool, Covers, EndsNames, Ino, IsIn, IsLastOf, Keys, List, NameList, None, Objects, Omap, Option, Some, [], all_kept, ap, arith, cond, drop, drop-map, drop_more, entries_sorted, eq_by_cmp, false, filter, find, first_names, get-empty, get-entries, get-insert, get_left, get_or, get_or-take, get_or_from_slice_get, get_removed, greater_than_row, inl, inr, is_after, is_lt, is_some, is_sorted-where_key, key_cmp, length, length-append, length-take-le, less_is, map_push, nat_list_cmp_total, nat_lt, nat_tests, option_map, refl, same_Some, slice_get, slice_get-get_or, slice_get-map, subst, suc, sym, take, take-append-drop, take_all, texts_from, texts_in, true, with_keys, without_keys, zero, ℕ, ◌++◌, ◌+◌, ◌-◌, ◌<◌, ◌||◌, ◌∙◌, ◌∷◌, ◌≡◌, ◌≤◌, ◌⊎◌}
+use Rattle.cold_store.proofs.Common.{AreLeft, AreNamesOf, Bool, Covers, EndsNames, Ino, IsIn, IsLastOf, Keys, List, NameList, None, Objects, Omap, Option, Some, [], all_kept, ap, arith, cond, drop, drop-map, drop_more, entries_sorted, eq_by_cmp, false, filter, find, first_names, get-empty, get-entries, get-insert, get_left, get_or, get_or-take, get_or_from_slice_get, get_removed, greater_than_row, inl, inr, is_after, is_lt, is_some, is_sorted-where_key, key_cmp, length, length-append, length-take-le, less_is, map_push, nat_list_cmp_total, nat_lt, nat_tests, option_map, refl, same_Some, same_or_apart, slice_get, slice_get-get_or, slice_get-map, subst, suc, sym, take, take-append-drop, take_all, texts_from, texts_in, true, with_keys, without_keys, zero, ℕ, ◌++◌, ◌+◌, ◌-◌, ◌<◌, ◌||◌, ◌∙◌, ◌∷◌, ◌≡◌, ◌≤◌, ◌⊎◌}
 use Rattle.std.proofs.Common.{map as each}
 use Rattle.std.specs.FinMap as map
 use Rattle.objstore.specs.Objects.{names_after}
-use Rattle.dirfrag_codec.proofs.ByteKeys.{same_or_apart}
 
 -- ---- keys, more of them and less of them
 

@@ -1,6 +1,5 @@
 -- The steps of the walk.
-use Rattle.cold_store.proofs.Common.{AreGoodDirs, AreGoodLeaves, Covers, Finding, Fragment, Ino, Inode, IsBadAmong, IsBadIn, IsFaulty, IsGoodDir, IsGoodLeaf, IsIn, IsReached, IsReady, IsRecord, IsWalkedTo, Leaf, List, ObjName, Objects, Record, Shape, Some, [], ap, are_new, arith, cover_in, covers_from, drop, drop_more, get_or, get_or_default, inl, inr, is_known, is_met, length, length-append, or_right, refl, rows_at, rows_from, rows_in, rows_of, rows_under, same_Some, start, subst, sym, take, take-append-drop, take-append-le, take_more, with_cover, with_entry, with_rows, ℕ, ◌++◌, ◌+◌, ◌<◌, ◌==◌, ◌∙◌, ◌∷◌, ◌≡◌, ◌≤◌, ◌⊎◌}
-use Rattle.std.specs.Prelude.{◌&&◌, not, slice_get, true}
+use Rattle.cold_store.proofs.Common.{AreGoodDirs, AreGoodLeaves, Covers, Finding, Fragment, Ino, Inode, IsBadAmong, IsBadIn, IsFaulty, IsGoodDir, IsGoodLeaf, IsIn, IsReached, IsReady, IsRecord, IsWalkedTo, Leaf, List, ObjName, Objects, Record, Shape, Some, [], ap, are_new, arith, cover_in, covers_from, drop, drop_more, get_or, get_or_default, inl, inr, is_known, is_met, length, length-append, not, or_right, refl, rows_at, rows_from, rows_in, rows_of, rows_under, same_Some, slice_get, start, subst, sym, take, take-append-drop, take-append-le, take_more, true, with_cover, with_entry, with_rows, ℕ, ◌&&◌, ◌++◌, ◌+◌, ◌<◌, ◌==◌, ◌∙◌, ◌∷◌, ◌≡◌, ◌≤◌, ◌⊎◌}
 use Rattle.std.specs.FinMap as map
 use Rattle.cold_store.proofs.Members.{AreApart, apart_split, in_either, in_left, in_right}
 use Rattle.cold_store.proofs.RowLaws.{dir_among, dirs_apart, dirs_of, each_met_after, each_met_at_start, homes_stand, queue_after, with_rows-append}

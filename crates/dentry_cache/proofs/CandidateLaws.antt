@@ -1,6 +1,5 @@
 -- What is a candidate, and what one leaf's new size makes of the others.
-use Rattle.dentry_cache.proofs.Common.{Bool, Fragment, IsFragment, IsLargeIn, IsResized, IsSmallIn, IsSome, None, Option, Sizes, Some, SomeIff, and_from, and_parts, ap, are_few, arith, both, cases_lt, child, child_of, cond, div-add-mod, entries_in, false, false_from_ne_true, inl, inr, is_few, is_large, leaf_or_apart, mod-mul-add, mul-le-mul_right, nat_le, nat_lt, nat_tests, one_leaf, pow_pos, refl, same_leaf, span, span-split, subst, suc, sym, together, true, zero, ℕ, ◌%◌, ◌*◌, ◌+◌, ◌-◌, ◌/◌, ◌<◌, ◌∙◌, ◌≡◌, ◌≢◌, ◌≤◌, ◌⊎◌}
-use Rattle.std.specs.Prelude.{unwrap_or}
+use Rattle.dentry_cache.proofs.Common.{Bool, Fragment, IsFragment, IsLargeIn, IsResized, IsSmallIn, IsSome, None, Option, Sizes, Some, SomeIff, and_from, and_parts, ap, are_few, arith, both, cases_lt, child, child_of, cond, div-add-mod, entries_in, false, false_from_ne_true, inl, inr, is_few, is_large, leaf_or_apart, mod-mul-add, mul-le-mul_right, nat_le, nat_lt, nat_tests, one_leaf, pow_pos, refl, same_leaf, span, span-split, subst, suc, sym, together, true, unwrap_or, zero, ℕ, ◌%◌, ◌*◌, ◌+◌, ◌-◌, ◌/◌, ◌<◌, ◌∙◌, ◌≡◌, ◌≢◌, ◌≤◌, ◌⊎◌}
 use Rattle.mds_types.specs.Leaf.{Leaf, leaf_is}
 
 -- ---- large leaves

@@ -36,7 +36,7 @@ pub use Rattle.dentry_cache.specs.declared.candidates.Candidates.{Candidates}
 pub use Rattle.dentry_cache.specs.declared.loading.PageEnd.{PageEnd}
 pub use Rattle.dentry_cache.specs.declared.loading.PageEnd.TheVariants.{Last, More, Off}
 pub use Rattle.dentry_cache.specs.declared.parts.Part.{Part}
-pub use Rattle.dirfrag_codec.proofs.ByteKeys.{get_beside, get_put, one_map}
+pub use Rattle.dirfrag_codec.proofs.ByteKeys.{get_beside, get_put, one_map, same_or_apart}
 pub use Rattle.dirfrag_codec.proofs.ValueLaws.{one_key, one_reading, reads_key}
 pub use Rattle.dirfrag_codec.specs.FragmentObject.{Names, SpellsKey, with_entry}
 pub use Rattle.dirfrag_codec.specs.Grammar.{Decodes}
@@ -77,7 +77,7 @@ pub use Rattle.std.specs.Map.{keys_of, lookup, remove_entry, set_value}
 pub use Rattle.std.specs.Map.Iter.{deref_pair}
 pub use Rattle.std.specs.Option.{option_copied_mut}
 pub use Rattle.std.specs.Ordering.{ordering_index, ordering_reverse}
-pub use Rattle.std.specs.Prelude.{IsSome, SomeIff, ◌==◌}
+pub use Rattle.std.specs.Prelude.{IsSome, SomeIff, option_copied, unwrap_or, ◌==◌}
 pub use Rattle.std.specs.Slice.{IsItemAt}
 pub use Rattle.std.specs.Vec.Iter.{into_iter_items, into_iter_len}
 pub use Rattle.std.specs.declared.cmp.Ordering.{Ordering}

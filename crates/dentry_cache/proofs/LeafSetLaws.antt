@@ -1,6 +1,5 @@
 -- Leaves in their order: where one stands, what an edit makes of them, and which is the next.
-use Rattle.dentry_cache.proofs.Common.{Bool, Bor, Equal, Err, Greater, IsBehind, IsBelow, IsBinarySearchResult, IsGap, IsItemAt, IsNext, IsNonDecreasingBy, IsPlaceBehind, IsSearchInRange, IsSpot, Less, List, None, Ok, Option, Ordering, Result, Rise, Some, StandsAt, [], alike_right, ap, arith, cond, false, false_from_ne_true, flips, get_or, inl, inr, insert, is_in, leaf-exact, leaf-total, leaf_itself, length, one_leaf, ordering_index, ordering_reverse, refl, remove, same_leaf, slice_get, slice_get-get_or, slice_get_past, subst, suc, sym, tied_itself, true, zero, ℕ, ◌<◌, ◌||◌, ◌∙◌, ◌∷◌, ◌≡◌, ◌≤◌, ◌⊎◌}
-use Rattle.std.specs.Prelude.{option_copied}
+use Rattle.dentry_cache.proofs.Common.{Bool, Bor, Equal, Err, Greater, IsBehind, IsBelow, IsBinarySearchResult, IsGap, IsItemAt, IsNext, IsNonDecreasingBy, IsPlaceBehind, IsSearchInRange, IsSpot, Less, List, None, Ok, Option, Ordering, Result, Rise, Some, StandsAt, [], alike_right, ap, arith, cond, false, false_from_ne_true, flips, get_or, inl, inr, insert, is_in, leaf-exact, leaf-total, leaf_itself, length, one_leaf, option_copied, ordering_index, ordering_reverse, refl, remove, same_leaf, slice_get, slice_get-get_or, slice_get_past, subst, suc, sym, tied_itself, true, zero, ℕ, ◌<◌, ◌||◌, ◌∙◌, ◌∷◌, ◌≡◌, ◌≤◌, ◌⊎◌}
 use Rattle.mds_types.specs.Leaf.{Leaf, leaf_cmp, leaf_is}
 
 -- ---- the order

@@ -1,6 +1,5 @@
 -- Pages of pairs, read one after the other.
-use Rattle.dentry_cache.proofs.Common.{Bool, EndsPairs, Fragment, IsEndOf, Last, List, More, Names, Off, Option, PageEnd, PairMap, PairPage, Some, [], added, and_left, ap, are_good, arith, drop, entry_of, false, inl, inr, is_good, length, length-append, length-take-le, list_all-append, name_of, nat_tests, page_of, pages_make_up, pairs_after, refl, slice_get, subst, suc, sym, take, take-append-drop, take_all, true, with_entry, zero, ℕ, ◌&&◌, ◌++◌, ◌+◌, ◌-◌, ◌<◌, ◌∙◌, ◌∷◌, ◌≡◌, ◌≤◌, ◌⊎◌}
-use Rattle.std.specs.Prelude.{nat_lt}
+use Rattle.dentry_cache.proofs.Common.{Bool, EndsPairs, Fragment, IsEndOf, Last, List, More, Names, Off, Option, PageEnd, PairMap, PairPage, Some, [], added, and_left, ap, are_good, arith, drop, entry_of, false, inl, inr, is_good, length, length-append, length-take-le, list_all-append, name_of, nat_lt, nat_tests, page_of, pages_make_up, pairs_after, refl, slice_get, subst, suc, sym, take, take-append-drop, take_all, true, with_entry, zero, ℕ, ◌&&◌, ◌++◌, ◌+◌, ◌-◌, ◌<◌, ◌∙◌, ◌∷◌, ◌≡◌, ◌≤◌, ◌⊎◌}
 
 added_split : (names : Names) (a b : List (List ℕ × List ℕ)) → added names (a ++ b) ≡ added (added names a) b
 added_split names [] b = refl

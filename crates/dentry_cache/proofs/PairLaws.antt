@@ -1,6 +1,5 @@
 -- Pairs read one after the other.
-use Rattle.dentry_cache.proofs.Common.{Decodes, List, NamesKey, None, Option, Some, SpellsKey, name_of, one_key, one_reading, reads_key, ℕ, ◌≡◌}
-use Rattle.std.specs.Prelude.{IfOk, Result, Ok, Err}
+use Rattle.dentry_cache.proofs.Common.{Decodes, Err, IfOk, List, NamesKey, None, Ok, Option, Result, Some, SpellsKey, name_of, one_key, one_reading, reads_key, ℕ, ◌≡◌}
 
 key_decodes : (key : List ℕ) (name : Option (List ℕ)) → NamesKey key name → Decodes SpellsKey key name
 key_decodes key (Some name) h = h

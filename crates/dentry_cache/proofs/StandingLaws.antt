@@ -1,7 +1,6 @@
 -- What the calls of a cache keep: the ties of all cached fragments to their objects, and the snapshots whose commits stand.
-use Rattle.dentry_cache.proofs.Common.{AreBelow, Base, Bool, Cached, ChangedCanEnd, Fresh, Keeps, List, Mark, Marks, None, Option, Snap, Some, StandingIsUnclean, Stored, TakenCanEnd, ap, arith, counts_of, empty_of_len, eqb-true, false, get-empty, get_beside, get_put, inl, inr, is_clean_over, key_cmp, len-empty, marked, names_at, one_map, refl, shown_over, subst, sym, true, ℕ, ◌<◌, ◌==◌, ◌∙◌, ◌≡◌, ◌⊎◌}
+use Rattle.dentry_cache.proofs.Common.{AreBelow, Base, Bool, Cached, ChangedCanEnd, Fresh, Keeps, List, Mark, Marks, None, Option, Snap, Some, StandingIsUnclean, Stored, TakenCanEnd, ap, arith, counts_of, empty_of_len, eqb-true, false, get-empty, get_beside, get_put, inl, inr, is_clean_over, key_cmp, len-empty, marked, names_at, one_map, refl, same_or_apart, shown_over, subst, sym, true, ℕ, ◌<◌, ◌==◌, ◌∙◌, ◌≡◌, ◌⊎◌}
 use Rattle.std.specs.FinMap as map
-use Rattle.dirfrag_codec.proofs.ByteKeys.{same_or_apart}
 use Rattle.dentry_cache.specs.Ties.{KeepsAt}
 use Rattle.dentry_cache.proofs.TieLaws.{tied_show}
 

@@ -1,6 +1,5 @@
 -- Whether an inode has a record, as it is told.
-use Rattle.export_bytes.proofs.Common.{HasWidths, Inode, IsRecordable, IsTrue, ap, entry_bytes, has_record, is_written, sym, written_decides, ◌↔◌, ◌∙◌}
-use Rattle.std.specs.Prelude.{◌≡◌, Bool, true, false, Option, Some, refl}
+use Rattle.export_bytes.proofs.Common.{Bool, HasWidths, Inode, IsRecordable, IsTrue, Option, Some, ap, entry_bytes, false, has_record, is_written, refl, sym, true, written_decides, ◌↔◌, ◌∙◌, ◌≡◌}
 
 pub told_recorded : (inode : Inode) (told : Bool) → HasWidths inode → IsTrue told ↔ IsRecordable inode → told ≡ is_written (entry_bytes inode) inode
 told_recorded inode told widths is = go told refl (is_written (entry_bytes inode) inode) refl

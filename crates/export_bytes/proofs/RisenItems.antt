@@ -1,6 +1,5 @@
 -- Items that rise, read one after another and not kept.
-use Rattle.export_bytes.proofs.Common.{Bool, Fragment, List, None, Option, Some, [], after_rising, ap, arith, cond, false, follows, is_frag_before, is_name_before, items_at, named_as, none-some, place_of, refl, rise, same_Some, seen_by, sent_as, sent_frag_at, sent_name_at, suc, sym, text_of, true, ℕ, ◌&&◌, ◌-◌, ◌<◌, ◌>>=◌, ◌∙◌, ◌∷◌, ◌≡◌}
-use Rattle.std.proofs.Common.{option_map}
+use Rattle.export_bytes.proofs.Common.{Bool, Fragment, List, None, Option, Some, [], after_rising, ap, arith, cond, false, follows, is_frag_before, is_name_before, items_at, named_as, none-some, option_map, place_of, refl, rise, same_Some, seen_by, sent_as, sent_frag_at, sent_name_at, suc, sym, text_of, true, ℕ, ◌&&◌, ◌-◌, ◌<◌, ◌>>=◌, ◌∙◌, ◌∷◌, ◌≡◌}
 
 module _ {A : Type 0} (is_before : A → A → Bool) (item_at : List ℕ → Option (A × List ℕ)) where
   -- what follows, once the items are there

@@ -1,6 +1,5 @@
 -- Where what isn't clean of a region lies, and what of it can be sent.
-use Rattle.export_regions.proofs.Common.{AllByRecursion, AnyTooMany, AreAtTheirRank, AreCaches, At, Bool, CacheMap, Cached, HasCached, HasTooMany, HaveVersions, IsFree, Leaf, List, MaySend, MaySendAll, None, Option, Picks, Some, Unsaved, [], ap, arith, at_rank, cond, false, get_unclean, here, here_is, inl, inr, is_apart, is_clean, is_fresh, is_same, is_some, is_too_long, leaf_is, list_any, map, nat_lt, nat_tests, not, one_leaf, order, places_at, refl, same_Some, subst, sym, true, unclean, unclean_in, unsaved_at, ℕ, ◌&&◌, ◌<◌, ◌^◌, ◌||◌, ◌∙◌, ◌∷◌, ◌≡◌, ◌≤◌}
-use Rattle.std.specs.Prelude.{◌↔◌}
+use Rattle.export_regions.proofs.Common.{AllByRecursion, AnyTooMany, AreAtTheirRank, AreCaches, At, Bool, CacheMap, Cached, HasCached, HasTooMany, HaveVersions, IsFree, Leaf, List, MaySend, MaySendAll, None, Option, Picks, Some, Unsaved, [], ap, arith, at_rank, cond, false, get_unclean, here, here_is, inl, inr, is_apart, is_clean, is_fresh, is_same, is_some, is_too_long, leaf_is, list_any, map, nat_lt, nat_tests, not, one_leaf, order, places_at, refl, same_Some, subst, sym, true, unclean, unclean_in, unsaved_at, ℕ, ◌&&◌, ◌<◌, ◌^◌, ◌||◌, ◌↔◌, ◌∙◌, ◌∷◌, ◌≡◌, ◌≤◌}
 use Rattle.std.specs.FinMap as finmap
 use Rattle.export_regions.proofs.PickLaws.{each_passes}
 

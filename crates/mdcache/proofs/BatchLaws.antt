@@ -1,7 +1,6 @@
 -- Commits of whole fragments, several at once.
-use Rattle.mdcache.proofs.Common.{AllByRecursion, AreApart, At, Begins, BeginsWith, Begun, CacheMap, Came, Core, Dirfrag, Ends, Err, HasFragment, IsBegunAt, IsEnded, IsFree, IsLive, IsReadyAt, IsSound, IsThat, IsThere, IsUncleanAt, Job, Jobs, KeepsTree, Leaf, List, MayHold, MayNotBegin, MayNotBeginAll, MayNotBeginOne, None, NoneEnds, NotAmong, Ok, Option, Rank, Ready, Refusal, Some, State, Unsaved, UnsavedLeaves, [], ap, arith, at_rank, came_held, came_ranks, came_weaker, cond, drop, drop_more, empty_of_len, false, get-empty, get_or, get_unclean, inl, inr, is_some, leaves_at, leaves_of_jobs, leaves_of_writes, len-remove, ready_of, refl, shown_tree, state_of, subst, suc, sym, true, unclean, unsaved_at, with_job, zero, ℕ, ◌++◌, ◌+◌, ◌-◌, ◌<◌, ◌∙◌, ◌∷◌, ◌≡◌, ◌⊎◌}
+use Rattle.mdcache.proofs.Common.{AllByRecursion, AreApart, At, Begins, BeginsWith, Begun, CacheMap, Came, Core, Dirfrag, Ends, Err, HasFragment, IsBegunAt, IsEnded, IsFree, IsLive, IsReadyAt, IsSound, IsThat, IsThere, IsUncleanAt, Job, Jobs, KeepsTree, Leaf, List, MayHold, MayNotBegin, MayNotBeginAll, MayNotBeginOne, None, NoneEnds, NotAmong, Ok, Option, Rank, Ready, Refusal, Some, State, Unsaved, UnsavedLeaves, [], ap, arith, at_rank, came_held, came_ranks, came_weaker, cond, drop, drop_more, empty_of_len, false, get-empty, get_or, get_unclean, inl, inr, is_some, leaves_at, leaves_of_jobs, leaves_of_writes, len-remove, length, ready_of, refl, shown_tree, state_of, subst, suc, sym, true, unclean, unsaved_at, with_job, zero, ℕ, ◌++◌, ◌+◌, ◌-◌, ◌<◌, ◌∙◌, ◌∷◌, ◌≡◌, ◌⊎◌}
 use Rattle.std.proofs.Common.{map as list_map, Result}
-use Rattle.std.specs.Prelude.{length}
 use Rattle.std.specs.FinMap as map
 use Rattle.mds_types.specs.Leaf.{leaf_of as leaf_at}
 use Rattle.mdcache.specs.Commits.{leaf_of}

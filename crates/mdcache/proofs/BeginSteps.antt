@@ -1,6 +1,5 @@
 -- What the beginning of a commit leaves, done or not.
-use Rattle.mdcache.proofs.Common.{AreCached, AreYoung, At, Base, Begins, BeginsWith, Bool, Bor, CacheMap, Cached, Core, Dirfrag, HasCached, IsAtEnd, IsBelowEnd, IsFree, IsFreeFor, IsJobOf, IsLive, IsOf, IsSnap, IsSound, IsSoundCore, IsThere, Job, Leaf, Mark, NoInodes, NoMemory, None, Omap, Option, Rooms, Some, State, Unsaved, ap, at, at_rank, cond, counts_of, false, get_unclean, here, here_is, inl, inr, is_clean, is_same, is_some, job_for, object_of, option_copied, option_map, refl, same_Some, shown, shown_at, state_of, subst, sym, tied_show, true, unclean, unsaved_at, unsaved_in, used_at, used_core, used_unclean, with_job, with_job_in, ℕ, ◌+◌, ◌∙◌, ◌≡◌}
-use Rattle.std.specs.Prelude.{Ok, Err}
+use Rattle.mdcache.proofs.Common.{AreCached, AreYoung, At, Base, Begins, BeginsWith, Bool, Bor, CacheMap, Cached, Core, Dirfrag, Err, HasCached, IsAtEnd, IsBelowEnd, IsFree, IsFreeFor, IsJobOf, IsLive, IsOf, IsSnap, IsSound, IsSoundCore, IsThere, Job, Leaf, Mark, NoInodes, NoMemory, None, Ok, Omap, Option, Rooms, Some, State, Unsaved, ap, at, at_rank, cond, counts_of, false, get_unclean, here, here_is, inl, inr, is_clean, is_same, is_some, job_for, object_of, option_copied, option_map, refl, same_Some, shown, shown_at, state_of, subst, sym, tied_show, true, unclean, unsaved_at, unsaved_in, used_at, used_core, used_unclean, with_job, with_job_in, ℕ, ◌+◌, ◌∙◌, ◌≡◌}
 use Rattle.std.specs.FinMap as map
 use Rattle.mds_types.specs.Leaf.{leaf_of as leaf_at}
 use Rattle.dentry_cache.specs.Ties.{KeepsAt}

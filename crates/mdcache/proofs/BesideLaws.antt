@@ -1,7 +1,5 @@
 -- What is left by calls that change no name: of jobs, objects of no live leaf, and places.
-use Rattle.mdcache.proofs.Common.{AreCached, AreCaches, CacheMap, Core, Err, Ino, IsDropped, IsSound, IsSoundCore, Job, Jobs, KeepsNone, Keys, Leaf, List, None, Objects, Ok, OnErr, OnOk, Option, Purges, PurgesName, Refusal, Rooms, Some, State, ap, clean_there, evicted, first_name, given_up, goes, held_given_up, is_known, last_passes, leaves_of, length, option_map, order, purged, refl, same_Some, shown_tree, state_of, subst, sym, tree_saved, tree_text, true, unclean, unclean_gone, victim, whole_given_up, with_tree_at, ℕ, ◌<◌, ◌∙◌, ◌≡◌}
-use Rattle.std.proofs.Common.{Result}
-use Rattle.std.specs.Prelude.{not}
+use Rattle.mdcache.proofs.Common.{AreCached, AreCaches, CacheMap, Core, Err, Ino, IsDropped, IsSound, IsSoundCore, Job, Jobs, KeepsNone, Keys, Leaf, List, None, Objects, Ok, OnErr, OnOk, Option, Purges, PurgesName, Refusal, Result, Rooms, Some, State, ap, clean_there, evicted, first_name, given_up, goes, held_given_up, is_known, last_passes, leaves_of, length, not, option_map, order, purged, refl, same_Some, shown_tree, state_of, subst, sym, tree_saved, tree_text, true, unclean, unclean_gone, victim, whole_given_up, with_tree_at, ℕ, ◌<◌, ◌∙◌, ◌≡◌}
 use Rattle.std.specs.FinMap as map
 use Rattle.dentry_cache.specs.Cache.{stays}
 use Rattle.mdcache.proofs.ObjectLaws.{purged_cached, purged_sound, purged_tree, tree_saved_cached, tree_saved_sound, tree_saved_tree}

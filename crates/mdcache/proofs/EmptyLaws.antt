@@ -1,6 +1,5 @@
 -- Stores without objects, and objects without pairs.
-use Rattle.mdcache.proofs.Common.{Bool, Fragment, List, NameList, None, Objects, Omap, Option, PairMap, PairPage, Some, [], all_kept, ap, arith, bytes_eq-Decides, cond, empty_of_len, eq_by_cmp, exact_bytes, false, first_names, get_beside, get_put, header_at, key_cmp, key_itself, key_tied, len-empty, len-entries, length, nat_list_cmp_total, nat_lt, nat_tests, not, option_map, page_at, page_of, pointwise, refl, same_map, sym, tree_bytes, tree_object, true, with_tree_at, ℕ, ◌==◌, ◌∙◌, ◌∷◌, ◌≡◌, ◌≤◌}
-use Rattle.std.proofs.Common.{◌↔◌, IsTrue}
+use Rattle.mdcache.proofs.Common.{Bool, Fragment, IsTrue, List, NameList, None, Objects, Omap, Option, PairMap, PairPage, Some, [], all_kept, ap, arith, bytes_eq-Decides, cond, empty_of_len, eq_by_cmp, exact_bytes, false, first_names, get_beside, get_put, header_at, key_cmp, key_itself, key_tied, len-empty, len-entries, length, nat_list_cmp_total, nat_lt, nat_tests, not, option_map, page_at, page_of, pointwise, refl, same_map, sym, tree_bytes, tree_object, true, with_tree_at, ℕ, ◌==◌, ◌↔◌, ◌∙◌, ◌∷◌, ◌≡◌, ◌≤◌}
 use Rattle.std.specs.Prelude.{take, map as each}
 use Rattle.std.specs.FinMap as map
 use Rattle.objstore.specs.Omap.{pairs_after}

@@ -1,7 +1,5 @@
 -- What the steps of a flush end in.
-use Rattle.mdcache.proofs.Common.{AreExact, ArePurged, Err, Frag, Fragment, HasTrees, Ino, IsColdTree, IsFlushed, IsOwned, IsSound, List, None, ObjName, Ok, Omap, OnOk, Option, PurgedAreFlushed, Refusal, Some, State, ap, cond, false, get-empty, inl, inr, is_known, is_some, nat_lt, or_whole, refl, shown_tree, subst, sym, texts_differ, tree_object, tree_text, true, ℕ, ◌∙◌, ◌≡◌}
-use Rattle.std.proofs.Common.{Result}
-use Rattle.std.specs.Prelude.{length}
+use Rattle.mdcache.proofs.Common.{AreExact, ArePurged, Err, Frag, Fragment, HasTrees, Ino, IsColdTree, IsFlushed, IsOwned, IsSound, List, None, ObjName, Ok, Omap, OnOk, Option, PurgedAreFlushed, Refusal, Result, Some, State, ap, cond, false, get-empty, inl, inr, is_known, is_some, length, nat_lt, or_whole, refl, shown_tree, subst, sym, texts_differ, tree_object, tree_text, true, ℕ, ◌∙◌, ◌≡◌}
 use Rattle.std.specs.FinMap as map
 use Rattle.mds_types.specs.declared.object_names.ObjName.TheVariants.{Tree}
 use Rattle.mdcache.proofs.CoverRows.{known_by_row}

@@ -1,6 +1,5 @@
 -- The cold tree of a state of which all is saved is the shown tree, and once all is purged its objects are exact.
-use Rattle.mdcache.proofs.Common.{AreExact, Bool, FlushedIsCold, Fragment, HasLeaf, HasNoFault, HasRecords, Home, Ino, Inode, IsColdLeaf, IsFaulty, IsFlushed, IsFragment, IsLive, IsOwned, IsPick, IsReached, IsRecord, IsSamePlace, IsSaved, IsSound, IsTree, List, Loads, Names, None, Omap, Option, PurgedAreExact, Reaches, Record, SaysLeaves, Some, SpellsTreeObject, State, [], ap, arith, cond, dentry_of, eqb-true, false, get-empty, hash_of, inl, inr, is_known, is_some, leaves_of, length, lt-ltb, ltb-true, names_at, object_of, one_pick, one_tree, or_cases, or_right, pow-lt, refl, root_fragment, same_Some, same_or_apart, shown_at, shown_tree, some_pick, span, subst, suc, sym, text_of, tree_object, tree_of, tree_of_row, tree_text, true, zero, ℕ, ◌+◌, ◌-◌, ◌<◌, ◌==◌, ◌^◌, ◌∙◌, ◌∷◌, ◌≡◌, ◌⊎◌}
-use Rattle.std.proofs.Common.{nat_lt}
+use Rattle.mdcache.proofs.Common.{AreExact, Bool, FlushedIsCold, Fragment, HasLeaf, HasNoFault, HasRecords, Home, Ino, Inode, IsColdLeaf, IsFaulty, IsFlushed, IsFragment, IsLive, IsOwned, IsPick, IsReached, IsRecord, IsSamePlace, IsSaved, IsSound, IsTree, List, Loads, Names, None, Omap, Option, PurgedAreExact, Reaches, Record, SaysLeaves, Some, SpellsTreeObject, State, [], ap, arith, cond, dentry_of, eqb-true, false, get-empty, hash_of, inl, inr, is_known, is_some, leaves_of, length, lt-ltb, ltb-true, names_at, nat_lt, object_of, one_pick, one_tree, or_cases, or_right, pow-lt, refl, root_fragment, same_Some, same_or_apart, shown_at, shown_tree, some_pick, span, subst, suc, sym, text_of, tree_object, tree_of, tree_of_row, tree_text, true, zero, ℕ, ◌+◌, ◌-◌, ◌<◌, ◌==◌, ◌^◌, ◌∙◌, ◌∷◌, ◌≡◌, ◌⊎◌}
 use Rattle.std.specs.FinMap as map
 use Rattle.mds_types.specs.Leaf.{Leaf}
 use Rattle.mdcache.specs.Shown.{names_of as shown_names}

@@ -1,6 +1,5 @@
 -- A place that is kept for a leaf that will come, beside one that stays: what it leaves, and why it is refused.
-use Rattle.mdcache.proofs.Common.{AreCaches, CacheMap, Cached, Core, IfErr, IsKeptFor, KeepsAt, KeepsNone, KeepsOnlyAt, LacksPlacesIn, Leaf, MakesRoomAt, MayNotFind, MayNotKeepAt, None, NoneEnds, OnErr, OnOk, Option, Rank, Reads, ReadsCore, Refusal, Result, Some, StaysNamed, absent_roomy, ap, at_rank, false, has_place, here, inl, inr, keeps_reads, length, refl, room_reads, staying, subst, sym, ℕ, ◌+◌, ◌<◌, ◌∙◌, ◌≡◌}
-use Rattle.std.specs.Prelude.{Ok, Err}
+use Rattle.mdcache.proofs.Common.{AreCaches, CacheMap, Cached, Core, Err, IfErr, IsKeptFor, KeepsAt, KeepsNone, KeepsOnlyAt, LacksPlacesIn, Leaf, MakesRoomAt, MayNotFind, MayNotKeepAt, None, NoneEnds, Ok, OnErr, OnOk, Option, Rank, Reads, ReadsCore, Refusal, Result, Some, StaysNamed, absent_roomy, ap, at_rank, false, has_place, here, inl, inr, keeps_reads, length, refl, room_reads, staying, subst, sym, ℕ, ◌+◌, ◌<◌, ◌∙◌, ◌≡◌}
 use Rattle.std.specs.FinMap as map
 use Rattle.dentry_cache.specs.Reads.Reads.{stays as it_stays}
 use Rattle.mdcache.proofs.CoreLaws.{next_step, no_less_itself, not_found_before}

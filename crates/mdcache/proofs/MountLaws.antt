@@ -1,6 +1,5 @@
 -- What a walk finds that meets no faulty object is a sound tree, and the one that is shown.
-use Rattle.mdcache.proofs.Common.{AreCached, Bool, CacheMap, Core, Counts, Covers, Dentry, DirPins, Err, Fragment, HasLeaf, Home, Homes, Ino, Inode, IsColdLeaf, IsColdTree, IsCounted, IsLive, IsMounted, IsNew, IsOwned, IsPick, IsReached, IsReachedObject, IsRecord, IsSaved, IsSound, IsSoundCore, IsTabled, IsTree, IsWalked, KeepsNone, Keys, List, Names, None, Objects, Ok, Omap, Option, SaysLeaves, Some, State, Tree, allowed, ap, arith, dentry-exact, dentry-total, dentry_of, eqb-true, false, get-empty, hash_of, inl, inr, is_cold, is_known, is_some, leaves_of, mounted, names_at, no_caches, object_of, one_tree, or_cases, pick_from_leaf, refl, said_tree, same_map, shown_at, shown_in, shown_tree, some_pick, spells_what_it_shows, state_of, subst, sym, text_of, tree_of, true, unclean, walked_is_tabled, ℕ, ◌<◌, ◌==◌, ◌^◌, ◌∙◌, ◌≡◌, ◌⊎◌}
-use Rattle.std.proofs.Common.{Result, IfOk}
+use Rattle.mdcache.proofs.Common.{AreCached, Bool, CacheMap, Core, Counts, Covers, Dentry, DirPins, Err, Fragment, HasLeaf, Home, Homes, IfOk, Ino, Inode, IsColdLeaf, IsColdTree, IsCounted, IsLive, IsMounted, IsNew, IsOwned, IsPick, IsReached, IsReachedObject, IsRecord, IsSaved, IsSound, IsSoundCore, IsTabled, IsTree, IsWalked, KeepsNone, Keys, List, Names, None, Objects, Ok, Omap, Option, Result, SaysLeaves, Some, State, Tree, allowed, ap, arith, dentry-exact, dentry-total, dentry_of, eqb-true, false, get-empty, hash_of, inl, inr, is_cold, is_known, is_some, leaves_of, mounted, names_at, no_caches, object_of, one_tree, or_cases, pick_from_leaf, refl, said_tree, same_map, shown_at, shown_in, shown_tree, some_pick, spells_what_it_shows, state_of, subst, sym, text_of, tree_of, true, unclean, walked_is_tabled, ℕ, ◌<◌, ◌==◌, ◌^◌, ◌∙◌, ◌≡◌, ◌⊎◌}
 use Rattle.std.specs.FinMap as map
 use Rattle.mds_types.specs.Frag.{Contains}
 use Rattle.mds_types.specs.Leaf.{Leaf}

@@ -1,6 +1,5 @@
 -- No call touches the object of a fragment while a job stands for it.
-use Rattle.mdcache.proofs.Common.{BeginsWith, Change, Dentry, Drops, Ends, Fragment, Ino, Inode, IsRegrouped, IsSound, Job, Leaf, Makes, PurgesName, PutsThen, Refusal, Result, SavesTree, Spot, State, TakesThen, Unsaved, ap, dentry_at, first_name, get_beside, housed, inl, inr, is_dir_kind, object_of, refl, sym, text_of, with_directory, with_new, without, write_of, ◌∙◌, ◌⊎◌}
-use Rattle.std.specs.Prelude.{◌≡◌, ℕ, Bool, true, false, cond, List, Option, Some, None, Ok, Err}
+use Rattle.mdcache.proofs.Common.{BeginsWith, Bool, Change, Dentry, Drops, Ends, Err, Fragment, Ino, Inode, IsRegrouped, IsSound, Job, Leaf, List, Makes, None, Ok, Option, PurgesName, PutsThen, Refusal, Result, SavesTree, Some, Spot, State, TakesThen, Unsaved, ap, cond, dentry_at, false, first_name, get_beside, housed, inl, inr, is_dir_kind, object_of, refl, sym, text_of, true, with_directory, with_new, without, write_of, ℕ, ◌∙◌, ◌≡◌, ◌⊎◌}
 use Rattle.std.specs.FinMap as map
 use Rattle.mds_types.proofs.LeafLaws.{get_removed, same_or_apart}
 use Rattle.objstore.specs.Objects.{written}

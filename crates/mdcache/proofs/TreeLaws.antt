@@ -1,6 +1,5 @@
 -- The shown tree is told by the names of the live leaves.
-use Rattle.mdcache.proofs.Common.{Contains, Covers, Fragment, Homes, IsLive, Leaf, List, Names, [], ap, contains_key-keys, directories, entries_in, entries_of, entries_under, eq_by_cmp, is_known, is_same, is_some, later, leaves_of, list_any, nat_cmp, or_cases, or_left, or_right, refl, sym, true, unsigned_tied, ℕ, ⊎_elim, ◌++◌, ◌∙◌, ◌∷◌, ◌≡◌}
-use Rattle.std.proofs.Common.{◌==◌}
+use Rattle.mdcache.proofs.Common.{Contains, Covers, Fragment, Homes, IsLive, Leaf, List, Names, [], ap, contains_key-keys, directories, entries_in, entries_of, entries_under, eq_by_cmp, is_known, is_same, is_some, later, leaves_of, list_any, nat_cmp, or_cases, or_left, or_right, refl, sym, true, unsigned_tied, ℕ, ⊎_elim, ◌++◌, ◌==◌, ◌∙◌, ◌∷◌, ◌≡◌}
 use Rattle.std.specs.FinMap as finmap
 use Rattle.mdcache.specs.Shown.{tree_of}
 use Rattle.fragtree.proofs.TreeLaws.{first}

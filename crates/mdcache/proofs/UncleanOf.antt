@@ -1,6 +1,5 @@
 -- What isn't clean of one rank, after reads and preparations; and where places lack.
-use Rattle.mdcache.proofs.Common.{AllByRecursion, AreCaches, At, Bool, CacheMap, Cached, CanNotKeep, IsButRoom, IsDistinct, IsDistinct-cons, IsDistinct-head, IsDistinct-tail, IsLeft, IsThere, KeepsNone, Leaf, List, None, Objects, Option, Reads, Some, Unsaved, [], all_from, any_tied, ap, arith, at, at_rank, clean_in, cond, contains_key-keys, empty_of_len, false, filter, flips, frees, full_counts, get-empty, get-remove, get_tabulate, get_with_frag, goes, going_at, grows, has_place, here, here_is, inl, inr, is_clean, kept_at, leaf-total, leaf_is, leaf_itself, len-remove, length, list_any, loaded_clean, loads, not, object_of, one_leaf, order, refl, removed, room, room_unsaved, roomy, roomy_left, same_map, staying, subst, suc, sym, tied_leaf, true, unclean_at, unclean_in, unsaved_at, unsaved_in, with_frag, zero, ℕ, ◌&&◌, ◌+◌, ◌-◌, ◌<◌, ◌==◌, ◌||◌, ◌∙◌, ◌∷◌, ◌≡◌, ◌≤◌, ◌⊎◌}
-use Rattle.std.proofs.Common.{is_some}
+use Rattle.mdcache.proofs.Common.{AllByRecursion, AreCaches, At, Bool, CacheMap, Cached, CanNotKeep, IsButRoom, IsDistinct, IsDistinct-cons, IsDistinct-head, IsDistinct-tail, IsLeft, IsThere, KeepsNone, Leaf, List, None, Objects, Option, Reads, Some, Unsaved, [], all_from, any_tied, ap, arith, at, at_rank, clean_in, cond, contains_key-keys, empty_of_len, false, filter, flips, frees, full_counts, get-empty, get-remove, get_tabulate, get_with_frag, goes, going_at, grows, has_place, here, here_is, inl, inr, is_clean, is_some, kept_at, leaf-total, leaf_is, leaf_itself, len-remove, length, list_any, loaded_clean, loads, not, object_of, one_leaf, order, refl, removed, room, room_unsaved, roomy, roomy_left, same_map, staying, subst, suc, sym, tied_leaf, true, unclean_at, unclean_in, unsaved_at, unsaved_in, with_frag, zero, ℕ, ◌&&◌, ◌+◌, ◌-◌, ◌<◌, ◌==◌, ◌||◌, ◌∙◌, ◌∷◌, ◌≡◌, ◌≤◌, ◌⊎◌}
 use Rattle.std.specs.FinMap as finmap
 use Rattle.dentry_cache.specs.Cache.{leaf_cmp}
 use Rattle.dentry_cache.specs.CacheMap.{unclean_of}

@@ -39,7 +39,7 @@ pub use Rattle.namespace_ops.specs.declared.plans.Change.{Change}
 pub use Rattle.namespace_ops.specs.declared.plans.Checked.{Checked}
 pub use Rattle.namespace_ops.specs.declared.plans.Checked.TheVariants.{Answers, Changes}
 pub use Rattle.namespace_ops.specs.declared.plans.Spot.{Spot}
-pub use Rattle.sorted_map.proofs.NatKeys.{is_apart, is_same}
+pub use Rattle.sorted_map.proofs.NatKeys.{is_apart, is_same, same_or_apart}
 pub use Rattle.std.proofs.Common.{Bool, Err, IfOk, IfSome, List, None, Ok, OnErr, OnOk, Option, Result, Some, [], ap, arith, cond, drop, false, inl, inr, map, nat_le, refl, rules, subst, sym, true, ℕ, ⊎_elim, ◌&&◌, ◌++◌, ◌<◌, ◌^◌, ◌||◌, ◌∙◌, ◌∷◌, ◌≡◌, ◌⊎◌}
 pub use Rattle.std.specs.List.{Contains}
 pub use Rattle.std.specs.Ordering.{eq_by_cmp}

@@ -1,8 +1,6 @@
 -- The first leaf that contains a hash is its pick.
-use Rattle.namespace_ops.proofs.Common.{Fragment, HasLeaf, IsPick, ap, arith, first, first_or_later, inl, inr, is_apart, is_in, is_same, later, pick_of, span, subst, sym, ⊎_elim, ◌%◌, ◌/◌, ◌∙◌, ◌⊎◌}
-use Rattle.std.specs.Prelude.{◌≡◌, ℕ, ◌^◌, true, false, cond, List, [], ◌∷◌}
+use Rattle.namespace_ops.proofs.Common.{Fragment, HasLeaf, IsPick, List, [], ap, arith, cond, false, first, first_or_later, inl, inr, is_apart, is_in, is_same, later, pick_of, same_or_apart, span, subst, sym, true, ℕ, ⊎_elim, ◌%◌, ◌/◌, ◌^◌, ◌∙◌, ◌∷◌, ◌≡◌, ◌⊎◌}
 use Rattle.mds_types.specs.Frag.{Contains}
-use Rattle.sorted_map.proofs.NatKeys.{same_or_apart}
 
 is_in_or_not : (f : Fragment) (hash : ℕ) → ((is_in f hash ≡ true) × Contains f hash) ⊎ ((is_in f hash ≡ false) × (Contains f hash → ⊥))
 is_in_or_not f hash =

@@ -1,6 +1,5 @@
 -- What an object is, by its header and its pairs counted one after the other.
-use Rattle.object_lines.proofs.Common.{Absent, Bool, Damaged, Err, Frag, FragHeader, Fragment, HasOneLine, HasPair, Inode, IsPairOf, List, MayTakeMemory, None, Ok, Omap, OnErr, Option, PairMap, PairPage, Result, ShowsFragment, Some, SpellsEntry, SpellsHeader, SpellsKey, SpellsNames, SpellsNoFragment, SpellsNoTree, SpellsTree, SpellsTreeObject, StatesLeaves, T, Tree, [], all_kept, ap, arith, cond, counted, counted_after, dirs_in, empty_of_len, entries_sorted, entry_key, entry_of, eq_by_cmp, false, files_in, find, flat_map, four_each, get-entries, has_one_fragment, has_one_tree_object, header_for, inl, inr, is_dir_in, is_dir_kind, is_dir_under, is_name, is_sorted, key_apart, key_cmp, key_same, leaf_bytes, left_of, len-empty, len-entries, length, ltb, name_decides, name_of, names_in, names_shown, nat_tests, not_found, one_entry, one_header, one_key, page_of, read_as, reads_entry, reads_key, refl, right_of, same_or_apart, shows_at_each, spelled_as, subst, sym, take, take_all, true, with_one, ℕ, ◌+◌, ◌>>=◌, ◌∙◌, ◌∷◌, ◌≡◌, ◌⊎◌}
-use Rattle.std.specs.Prelude.{◌≤◌, map}
+use Rattle.object_lines.proofs.Common.{Absent, Bool, Damaged, Err, Frag, FragHeader, Fragment, HasOneLine, HasPair, Inode, IsPairOf, List, MayTakeMemory, None, Ok, Omap, OnErr, Option, PairMap, PairPage, Result, ShowsFragment, Some, SpellsEntry, SpellsHeader, SpellsKey, SpellsNames, SpellsNoFragment, SpellsNoTree, SpellsTree, SpellsTreeObject, StatesLeaves, T, Tree, [], all_kept, ap, arith, cond, counted, counted_after, dirs_in, empty_of_len, entries_sorted, entry_key, entry_of, eq_by_cmp, false, files_in, find, flat_map, four_each, get-entries, has_one_fragment, has_one_tree_object, header_for, inl, inr, is_dir_in, is_dir_kind, is_dir_under, is_name, is_sorted, key_apart, key_cmp, key_same, leaf_bytes, left_of, len-empty, len-entries, length, ltb, map, name_decides, name_of, names_in, names_shown, nat_tests, not_found, one_entry, one_header, one_key, page_of, read_as, reads_entry, reads_key, refl, right_of, same_or_apart, shows_at_each, spelled_as, subst, sym, take, take_all, true, with_one, ℕ, ◌+◌, ◌>>=◌, ◌∙◌, ◌∷◌, ◌≡◌, ◌≤◌, ◌⊎◌}
 use Rattle.std.specs.FinMap as finmap
 use Rattle.objstore.specs.Omap.{pairs_after}
 use Rattle.dirfrag_codec.specs.FragmentObject.{names_of}

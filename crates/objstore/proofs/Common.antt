@@ -9,7 +9,7 @@ pub use Rattle.objstore.specs.declared.write_ops.WriteOp.{WriteOp}
 pub use Rattle.sorted_map.proofs.Filters.{all_kept}
 pub use Rattle.sorted_map.proofs.MapLaws.{contents-entries, entries-contents, tie}
 pub use Rattle.sorted_map.specs.Overlay.{overlaid, without_keys}
-pub use Rattle.std.proofs.Common.{Err, List, Ok, OnErr, OnOk, Result, [], ap, arith, codes, cond, drop, filter, length, map, refl, rules, string_bytes, subst, sym, take, true, ℕ, ◌++◌, ◌==◌, ◌∙◌, ◌∷◌, ◌≡◌, ◌≤◌}
+pub use Rattle.std.proofs.Common.{Bool, Err, List, None, Ok, OnErr, OnOk, Result, Some, [], ap, arith, codes, cond, drop, false, filter, length, map, refl, rules, string_bytes, subst, sym, take, true, ℕ, ◌++◌, ◌==◌, ◌∙◌, ◌∷◌, ◌≡◌, ◌≤◌}
 pub use Rattle.std.proofs.lemmas.List.{length-map, take-append-drop, take_all}
 pub use Rattle.std.proofs.lemmas.Map.Lookups.{exact_bytes}
 pub use Rattle.std.proofs.lemmas.Slice.Eq.{bytes_eq-Decides}

@@ -1,6 +1,5 @@
 -- What a write leaves, for an object that is there and for one that isn't.
-use Rattle.objstore.proofs.Common.{Err, List, Objects, Ok, Omap, OnErr, OnOk, Result, WriteOp, ap, applied, arith, cond, contents-entries, empty_omap, eq_by_cmp, exact_bytes, get-insert, key_cmp, len-entries, length, length-map, map, nat_list_cmp_total, refl, same_map, sym, take, take_all, tie, true, unwrap_or, ℕ, ◌∙◌, ◌≡◌}
-use Rattle.std.proofs.Common.{Bool, false, Some, None}
+use Rattle.objstore.proofs.Common.{Bool, Err, List, None, Objects, Ok, Omap, OnErr, OnOk, Result, Some, WriteOp, ap, applied, arith, cond, contents-entries, empty_omap, eq_by_cmp, exact_bytes, false, get-insert, key_cmp, len-entries, length, length-map, map, nat_list_cmp_total, refl, same_map, sym, take, take_all, tie, true, unwrap_or, ℕ, ◌∙◌, ◌≡◌}
 use Rattle.std.specs.FinMap as finmap
 use Rattle.objstore.specs.Objects.{written}
 

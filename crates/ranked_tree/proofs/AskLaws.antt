@@ -1,6 +1,5 @@
 -- Why a read is refused, in the words of all ranks, and of a call that ends with the read.
-use Rattle.ranked_tree.proofs.Common.{AreHeldAt, Change, Concerns, Core, Fragment, HasLeaf, HoldsAt, IfErr, IfOk, IfSome, Ino, Inode, IsLive, IsSound, KeepsRanked, KeepsState, LacksPlacesAsked, LacksPlacesAt, LacksPlacesBy, LacksPlacesDir, LacksPlacesFor, LacksPlacesOf, MayNotBeReady, MayNotFind, MayRefuse, NamesBy, NamesDir, Op, Rank, Ranked, Refusal, Roots, Rules, Spot, Standing, ap, arith, held_roots, holding, inl, inr, is_directory, is_known, known_is, lacked_at, leaf_of, leaves_of, refl, refused_later, shown_tree, state_of, subst, sym, ◌∙◌}
-use Rattle.std.specs.Prelude.{◌≡◌, ℕ, true, List, Option, Some, None, Result, Ok, Err}
+use Rattle.ranked_tree.proofs.Common.{AreHeldAt, Change, Concerns, Core, Err, Fragment, HasLeaf, HoldsAt, IfErr, IfOk, IfSome, Ino, Inode, IsLive, IsSound, KeepsRanked, KeepsState, LacksPlacesAsked, LacksPlacesAt, LacksPlacesBy, LacksPlacesDir, LacksPlacesFor, LacksPlacesOf, List, MayNotBeReady, MayNotFind, MayRefuse, NamesBy, NamesDir, None, Ok, Op, Option, Rank, Ranked, Refusal, Result, Roots, Rules, Some, Spot, Standing, ap, arith, held_roots, holding, inl, inr, is_directory, is_known, known_is, lacked_at, leaf_of, leaves_of, refl, refused_later, shown_tree, state_of, subst, sym, true, ℕ, ◌∙◌, ◌≡◌}
 use Rattle.mds_types.specs.Leaf.{Leaf}
 use Rattle.mdcache.specs.State.{State as TreeState}
 

@@ -1,6 +1,5 @@
 -- Whose a leaf is that was found.
-use Rattle.ranked_tree.proofs.Common.{Bool, Core, Covers, Dirfrag, Fragment, HasAuthority, HasLeaf, HoldsAt, Home, Homes, Ino, IsAt, IsLeafAt, IsLive, IsOwned, IsPick, IsTrue, Leaf, None, Option, Rank, Roots, Rules, Some, ap, false, is_directory, is_known, known_is, leaf_of, leaves_of, none-some, one_authority, same_Some, shown_tree, state_of, subst, sym, true, ℕ, ◌↔◌, ◌∙◌, ◌≡◌}
-use Rattle.std.proofs.Common.{MatchOption}
+use Rattle.ranked_tree.proofs.Common.{Bool, Core, Covers, Dirfrag, Fragment, HasAuthority, HasLeaf, HoldsAt, Home, Homes, Ino, IsAt, IsLeafAt, IsLive, IsOwned, IsPick, IsTrue, Leaf, MatchOption, None, Option, Rank, Roots, Rules, Some, ap, false, is_directory, is_known, known_is, leaf_of, leaves_of, none-some, one_authority, same_Some, shown_tree, state_of, subst, sym, true, ℕ, ◌↔◌, ◌∙◌, ◌≡◌}
 
 -- whether the authority that was found is this rank
 pub authority_is : (roots : Roots) (homes : Homes) (covers : Covers) (leaf : Leaf) (rank : Rank) (found : Option Rank) (same : Bool) → (same ≡ true → found ≡ Some rank) → (found ≡ Some rank → same ≡ true)

@@ -1,6 +1,5 @@
 -- What a change of the tree makes of the directory table.
-use Rattle.ranked_tree.proofs.Common.{Alters, Change, Covers, Homes, Ino, Inode, Makes, Spot, State, adds, ap, dentry_at, home_at, is_dir_kind, moves, noted, removes, rows_but, sets, with_directory, with_home, with_home_at, without, ◌∙◌}
-use Rattle.std.specs.Prelude.{◌≡◌, Bool, true, false, cond, Option, Some, None, refl}
+use Rattle.ranked_tree.proofs.Common.{Alters, Bool, Change, Covers, Homes, Ino, Inode, Makes, None, Option, Some, Spot, State, adds, ap, cond, dentry_at, false, home_at, is_dir_kind, moves, noted, refl, removes, rows_but, sets, true, with_directory, with_home, with_home_at, without, ◌∙◌, ◌≡◌}
 use Rattle.std.specs.FinMap as map
 
 -- the tables of a state are these

@@ -1,6 +1,5 @@
 -- What calls for an operation keep, and why they are refused, in the words of the operation.
-use Rattle.ranked_tree.proofs.Common.{Change, ChangesHeld, Concerns, Core, Dentry, Dirfrag, FollowsChange, HoldsAt, IfErr, Ino, Inode, IsAt, IsChangeIn, IsChangeOf, IsChangedHeld, IsLive, IsPick, IsSound, KeepsAll, KeepsRanked, KeepsState, LacksBy, LacksForIn, LacksNumbers, LacksPlacesAsked, LacksPlacesDir, LacksPlacesFor, LacksToMake, Leaf, Lists, Looks, MayNotBeReady, MayNotFind, MayRefuse, Moves, NamesDir, OnErr, OnOk, Op, PutsAt, Ranked, ReadsFor, Refusal, Regions, Removes, Sets, Spot, TakesAt, Unlinks, ap, held_in, held_roots, inl, inr, is_dir_kind, is_directory, leaf_of, leaves_of, refl, result_err, shape, shown_tree, state_of, subst, sym, ◌∙◌}
-use Rattle.std.specs.Prelude.{◌≡◌, ◌⊎◌, ℕ, Bool, true, false, Option, Some, None, Result, Ok, Err}
+use Rattle.ranked_tree.proofs.Common.{Bool, Change, ChangesHeld, Concerns, Core, Dentry, Dirfrag, Err, FollowsChange, HoldsAt, IfErr, Ino, Inode, IsAt, IsChangeIn, IsChangeOf, IsChangedHeld, IsLive, IsPick, IsSound, KeepsAll, KeepsRanked, KeepsState, LacksBy, LacksForIn, LacksNumbers, LacksPlacesAsked, LacksPlacesDir, LacksPlacesFor, LacksToMake, Leaf, Lists, Looks, MayNotBeReady, MayNotFind, MayRefuse, Moves, NamesDir, None, Ok, OnErr, OnOk, Op, Option, PutsAt, Ranked, ReadsFor, Refusal, Regions, Removes, Result, Sets, Some, Spot, TakesAt, Unlinks, ap, false, held_in, held_roots, inl, inr, is_dir_kind, is_directory, leaf_of, leaves_of, refl, result_err, shape, shown_tree, state_of, subst, sym, true, ℕ, ◌∙◌, ◌≡◌, ◌⊎◌}
 use Rattle.mds_types.specs.Shape.{Shape, Makes}
 use Rattle.mdcache.specs.State.{State as TreeState}
 use Rattle.ranked_tree.proofs.HolderLaws.{pick_live}

@@ -1,6 +1,5 @@
 -- What a change of the tree leaves: each cached fragment is at its leaf's authority then.
-use Rattle.ranked_tree.proofs.Common.{AreHeld, AreHeldAt, At, Bool, Came, Change, Core, Covers, Dirfrag, EndsWith, Fragment, HasLeaf, HoldsAt, Home, Homes, IfSome, Ino, Inode, IsLive, IsNamedIn, IsOwned, IsPick, IsSome, IsSound, IsSoundCore, IsTable, IsThat, KeepsAuthorities, Leaf, Makes, MayChange, MayCome, MayGo, Rank, Roots, Rules, Shape, Spot, add, adds, ap, came_held, dentry_at, first_leaf, hash_of, home_at, inherited, inl, inr, is_dir_kind, is_known, is_some, leaf_of, leaves_of, may_come, move, moved_known, only_leaf, or_whole, refl, remove, root_fragment, rows_but, set, shape_of, shown_in, shown_tree, state_of, still_known, subst, sym, with_home, ◌||◌, ◌∙◌, ◌⊎◌}
-use Rattle.std.specs.Prelude.{◌≡◌, ◌==◌, true, false, ℕ, List, [], ◌∷◌, Option, Some, None}
+use Rattle.ranked_tree.proofs.Common.{AreHeld, AreHeldAt, At, Bool, Came, Change, Core, Covers, Dirfrag, EndsWith, Fragment, HasLeaf, HoldsAt, Home, Homes, IfSome, Ino, Inode, IsLive, IsNamedIn, IsOwned, IsPick, IsSome, IsSound, IsSoundCore, IsTable, IsThat, KeepsAuthorities, Leaf, List, Makes, MayChange, MayCome, MayGo, None, Option, Rank, Roots, Rules, Shape, Some, Spot, [], add, adds, ap, came_held, dentry_at, false, first_leaf, hash_of, home_at, inherited, inl, inr, is_dir_kind, is_known, is_some, leaf_of, leaves_of, may_come, move, moved_known, only_leaf, or_whole, refl, remove, root_fragment, rows_but, set, shape_of, shown_in, shown_tree, state_of, still_known, subst, sym, true, with_home, ℕ, ◌==◌, ◌||◌, ◌∙◌, ◌∷◌, ◌≡◌, ◌⊎◌}
 use Rattle.std.specs.FinMap as map
 use Rattle.sorted_map.proofs.NatKeys as nat
 use Rattle.mdcache.specs.State.{State as TreeState}

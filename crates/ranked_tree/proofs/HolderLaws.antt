@@ -1,6 +1,5 @@
 -- The leaves that a change names, and the ranks that hold them.
-use Rattle.ranked_tree.proofs.Common.{AreHeld, AreHeldAt, AreOneRank, CacheMap, Change, Dentry, Fragment, HoldsAt, Home, Homes, IfSome, Ino, Inode, IsLive, IsNamedIn, IsPick, IsSound, IsSpot, IsThat, Leaf, MayChange, MayCome, MayHold, MayHoldEach, Roots, Rules, Shape, Spot, add, adds, dentry_at, first_leaf, hash_of, inl, inr, is_directory, is_known, is_some, known_is, leaf_of, leaves_of, may_come, move, moves, one_authority, remove, removes, same_Some, set, sets, shape_of, shown_tree, subst, sym, ◌||◌, ◌∙◌}
-use Rattle.std.specs.Prelude.{◌≡◌, ℕ, true, false, Option, Some, None}
+use Rattle.ranked_tree.proofs.Common.{AreHeld, AreHeldAt, AreOneRank, CacheMap, Change, Dentry, Fragment, HoldsAt, Home, Homes, IfSome, Ino, Inode, IsLive, IsNamedIn, IsPick, IsSound, IsSpot, IsThat, Leaf, MayChange, MayCome, MayHold, MayHoldEach, None, Option, Roots, Rules, Shape, Some, Spot, add, adds, dentry_at, false, first_leaf, hash_of, inl, inr, is_directory, is_known, is_some, known_is, leaf_of, leaves_of, may_come, move, moves, one_authority, remove, removes, same_Some, set, sets, shape_of, shown_tree, subst, sym, true, ℕ, ◌||◌, ◌∙◌, ◌≡◌}
 use Rattle.std.specs.FinMap as map
 use Rattle.sorted_map.proofs.NatKeys as nat
 use Rattle.mdcache.specs.State.{State as TreeState}

@@ -1,6 +1,5 @@
 -- Where a rename may be made, a directory may have its home at the new dentry, and one that is replaced may go.
-use Rattle.ranked_tree.proofs.Common.{IfSome, Ino, Inode, IsSound, MayChange, MayGo, Spot, State, dentry_at, directory_at, home_at, is_dir_kind, may_relocate, may_replace, moves, shown_tree, subst, sym, with_home}
-use Rattle.std.specs.Prelude.{◌≡◌, true, false, Bool, cond, Option, Some, None, refl}
+use Rattle.ranked_tree.proofs.Common.{Bool, IfSome, Ino, Inode, IsSound, MayChange, MayGo, None, Option, Some, Spot, State, cond, dentry_at, directory_at, false, home_at, is_dir_kind, may_relocate, may_replace, moves, refl, shown_tree, subst, sym, true, with_home, ◌≡◌}
 use Rattle.std.specs.FinMap as map
 use Rattle.inode_table.specs.Dirs.{MayMove as MayRelocate}
 

@@ -1,6 +1,5 @@
 -- What reads of a directory's leaves make of the caches, one after the other.
-use Rattle.ranked_tree.proofs.Common.{AreHeldAt, AsksFor, Change, Concerns, ConcernsIn, Core, Dentry, HoldsAt, Inode, IsChangeIn, IsNamedIn, IsSound, IsThat, KeepsRanked, KeepsState, Leaf, Lists, Looks, MayChange, Moves, NamesBy, NamesDir, NoneEnds, Op, PutsAt, Rank, Ranked, Reads, ReadsCore, ReadsDir, ReadsFor, Refusal, Removes, Roots, Rules, Sets, Shape, Spot, TakesAt, Tree, Unlinks, add, ap, dentry_at, held_roots, inl, inr, is_known, keeps_on, leaf_of, may_come, move, reads_then, reads_weaker, remove, set, shape_of, shown_tree, state_of, subst, sym, ◌∙◌}
-use Rattle.std.specs.Prelude.{◌≡◌, ◌⊎◌, ℕ, Option, Some, None, false}
+use Rattle.ranked_tree.proofs.Common.{AreHeldAt, AsksFor, Change, Concerns, ConcernsIn, Core, Dentry, HoldsAt, Inode, IsChangeIn, IsNamedIn, IsSound, IsThat, KeepsRanked, KeepsState, Leaf, Lists, Looks, MayChange, Moves, NamesBy, NamesDir, None, NoneEnds, Op, Option, PutsAt, Rank, Ranked, Reads, ReadsCore, ReadsDir, ReadsFor, Refusal, Removes, Roots, Rules, Sets, Shape, Some, Spot, TakesAt, Tree, Unlinks, add, ap, dentry_at, false, held_roots, inl, inr, is_known, keeps_on, leaf_of, may_come, move, reads_then, reads_weaker, remove, set, shape_of, shown_tree, state_of, subst, sym, ℕ, ◌∙◌, ◌≡◌, ◌⊎◌}
 use Rattle.mds_types.specs.Shape.{Shape as OpShape, Makes}
 use Rattle.mdcache.specs.State.{State as TreeState}
 use Rattle.ranked_tree.proofs.AskLaws.{held_still}

@@ -1,6 +1,5 @@
 -- What a directory's move needs of the roots: it keeps its leaves, and the rank that they inherit is known at both its dentries.
-use Rattle.ranked_tree.proofs.Common.{Change, Covers, Home, Homes, IfSome, Ino, Inode, IsInheritedAt, IsLostRank, IsRight, IsSettled, IsSound, IsSpot, MatchOption, MayChange, MayMove, Rank, Roots, Rules, SettleMoving, Shape, Spot, State, Tree, add, changed, dentry_at, dir_moved, dir_moving, directory_at, entry_stands, home_at, is_dir_kind, is_directory, leaf_of, leaves_of, move, moves, refl, remove, same_Some, set, shape_of, shown_tree, subst, sym, taken, ◌≢◌}
-use Rattle.std.specs.Prelude.{◌≡◌, Bool, true, false, cond, [], Option, Some, None}
+use Rattle.ranked_tree.proofs.Common.{Bool, Change, Covers, Home, Homes, IfSome, Ino, Inode, IsInheritedAt, IsLostRank, IsRight, IsSettled, IsSound, IsSpot, MatchOption, MayChange, MayMove, None, Option, Rank, Roots, Rules, SettleMoving, Shape, Some, Spot, State, Tree, [], add, changed, cond, dentry_at, dir_moved, dir_moving, directory_at, entry_stands, false, home_at, is_dir_kind, is_directory, leaf_of, leaves_of, move, moves, refl, remove, same_Some, set, shape_of, shown_tree, subst, sym, taken, true, ◌≡◌, ◌≢◌}
 use Rattle.std.specs.FinMap as map
 use Rattle.mds_types.proofs.EntryLaws.{get_put}
 use Rattle.ranked_tree.proofs.SubtreeLaws.{moves_there, settled_at, settled_none}

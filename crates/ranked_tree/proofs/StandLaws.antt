@@ -1,6 +1,5 @@
 -- What is kept of the exports that stand: by what changes neither directories nor roots, and by what changes no frozen leaf.
-use Rattle.ranked_tree.proofs.Common.{AllHave, Alters, AreFrozenRegionsKept, AreRoots, AreThawed, Begins, BeginsWith, Bool, CacheMap, CameAt, Change, Core, Covers, Drops, Ends, Err, Fragment, HasAuthority, HasHolder, HaveOneAuthority, Homes, Ino, IsDivided, IsFamilyOf, IsFrozen, IsFrozenIn, IsLive, IsMergedHere, IsOwned, IsSound, Job, Jobs, KeepsAuthorities, KeepsHolders, Leaf, List, Makes, MayChange, NoNewRank, None, Ok, Option, Rank, Refusal, Regions, Result, Roots, Rules, Shape, Some, StandSoundly, Standing, StandingExport, Subtrees, Unsaved, UsedAt, add, ap, came_weaker, cond, dentry_at, false, get-empty, get_beside, get_holding, get_left, get_removed, get_without, held_in, holder_is, holder_or, holding, imported_freezes, inl, inr, is_dir_kind, is_imported, keep_frozen, keep_holders, leaf-exact, leaf-total, leaf_cmp, leaf_is, leaves, length, list_any, move, refl, region_holder, remove, same_Some, same_map, same_or_apart, set, shape_of, shown_tree, state_of, subst, sym, true, unclean, with_directory, without, without_leaves, ℕ, ◌<◌, ◌∙◌, ◌≡◌, ◌≢◌, ◌⊎◌}
-use Rattle.std.specs.Prelude.{option_map}
+use Rattle.ranked_tree.proofs.Common.{AllHave, Alters, AreFrozenRegionsKept, AreRoots, AreThawed, Begins, BeginsWith, Bool, CacheMap, CameAt, Change, Core, Covers, Drops, Ends, Err, Fragment, HasAuthority, HasHolder, HaveOneAuthority, Homes, Ino, IsDivided, IsFamilyOf, IsFrozen, IsFrozenIn, IsLive, IsMergedHere, IsOwned, IsSound, Job, Jobs, KeepsAuthorities, KeepsHolders, Leaf, List, Makes, MayChange, NoNewRank, None, Ok, Option, Rank, Refusal, Regions, Result, Roots, Rules, Shape, Some, StandSoundly, Standing, StandingExport, Subtrees, Unsaved, UsedAt, add, ap, came_weaker, cond, dentry_at, false, get-empty, get_beside, get_holding, get_left, get_removed, get_without, held_in, holder_is, holder_or, holding, imported_freezes, inl, inr, is_dir_kind, is_imported, keep_frozen, keep_holders, leaf-exact, leaf-total, leaf_cmp, leaf_is, leaves, length, list_any, move, option_map, refl, region_holder, remove, same_Some, same_map, same_or_apart, set, shape_of, shown_tree, state_of, subst, sym, true, unclean, with_directory, without, without_leaves, ℕ, ◌<◌, ◌∙◌, ◌≡◌, ◌≢◌, ◌⊎◌}
 use Rattle.std.specs.FinMap as map
 use Rattle.mdcache.specs.Commits.{leaf_of}
 use Rattle.mdcache.specs.State.{State as TreeState}

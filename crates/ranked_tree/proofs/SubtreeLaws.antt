@@ -1,6 +1,5 @@
 -- What a change of the tree makes of the roots, and of every leaf's authority.
-use Rattle.ranked_tree.proofs.Common.{AreRoots, Bool, Change, Covers, Dentry, FollowChange, Fragment, GivesToChildren, HasAuthority, HaveOneAuthority, Homes, IfSome, Ino, Inode, IsMergedInto, IsRootMerge, IsRootSplit, IsSettled, IsSound, IsSplitInto, IsSubtrees, IsTable, LoseDirectory, Makes, MatchOption, MayChange, MayGo, MayMove, None, Option, Roots, SettleBy, SettleMove, SettleMoving, Shape, Some, Spot, State, TakesOver, add, ap, cond, dentry_at, dir_moved, dir_moving, directory_at, false, home_at, is_dir_kind, may_come, may_drop, move, moved_home, moved_known, refl, remove, removes, rows_but, same_Some, set, shape_of, shown_tree, subst, sym, true, with_dir, with_file, with_home, ◌∙◌, ◌≡◌}
-use Rattle.std.specs.Prelude.{MatchBool, ℕ}
+use Rattle.ranked_tree.proofs.Common.{AreRoots, Bool, Change, Covers, Dentry, FollowChange, Fragment, GivesToChildren, HasAuthority, HaveOneAuthority, Homes, IfSome, Ino, Inode, IsMergedInto, IsRootMerge, IsRootSplit, IsSettled, IsSound, IsSplitInto, IsSubtrees, IsTable, LoseDirectory, Makes, MatchBool, MatchOption, MayChange, MayGo, MayMove, None, Option, Roots, SettleBy, SettleMove, SettleMoving, Shape, Some, Spot, State, TakesOver, add, ap, cond, dentry_at, dir_moved, dir_moving, directory_at, false, home_at, is_dir_kind, may_come, may_drop, move, moved_home, moved_known, refl, remove, removes, rows_but, same_Some, set, shape_of, shown_tree, subst, sym, true, with_dir, with_file, with_home, ℕ, ◌∙◌, ◌≡◌}
 use Rattle.std.specs.FinMap as map
 use Rattle.ranked_tree.proofs.MoveLaws.{relocates, replaces}
 use Rattle.ranked_tree.proofs.ChangedTables.{TablesAre, added_tables, grown_tables, moved_tables, removed_tables, set_tables}

@@ -1,7 +1,6 @@
 -- The digits that a fragment prints are its bits.
-use Rattle.script_output.proofs.Common.{Fragment, IsFragment, List, None, Some, [], add-one, ap, are_digits, arith, before_last, cond, digit_at, digit_of, div-add-mod, div-div-eq-div-mul, div-eq_of_lt, ends_in_star, fragment_of_digits, fragment_text, get_or-append_seam, le-leb, length, length-map-range_with_len, map, map-range_with_len_more, mod-lt, nat_tests, pow-suc, range_with_len, refl, span, suc, sym, take-append_seam, true, value_of, wanted, zero, ℕ, ◌%◌, ◌*◌, ◌++◌, ◌+◌, ◌-◌, ◌/◌, ◌<◌, ◌==◌, ◌^◌, ◌∙◌, ◌∷◌, ◌≡◌, ◌≤◌}
+use Rattle.script_output.proofs.Common.{Fragment, IsFragment, List, None, Ok, Some, [], add-one, ap, are_digits, arith, before_last, cond, digit_at, digit_of, div-add-mod, div-div-eq-div-mul, div-eq_of_lt, ends_in_star, fragment_of_digits, fragment_text, get_or-append_seam, le-leb, length, length-map-range_with_len, map, map-range_with_len_more, mod-lt, nat_tests, pow-suc, range_with_len, refl, span, suc, sym, take-append_seam, true, value_of, wanted, zero, ℕ, ◌%◌, ◌*◌, ◌++◌, ◌+◌, ◌-◌, ◌/◌, ◌<◌, ◌==◌, ◌^◌, ◌∙◌, ◌∷◌, ◌≡◌, ◌≤◌}
 use Rattle.std.proofs.lemmas.List.{length-append}
-use Rattle.std.specs.Prelude.{Ok}
 use Rattle.script_words.specs.Fragments.{frag_of}
 use Rattle.script_output.proofs.PrintedNumbers.{are_digits-append, value_of-append}
 

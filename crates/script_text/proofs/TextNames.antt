@@ -1,6 +1,5 @@
 -- Words that are text name objects.
-use Rattle.script_text.proofs.Common.{Bool, IsUtf8, IsUtf8-from_is_utf8, List, None, NotCommand, Some, ap, cond, false, is_utf8, is_utf8-from_IsUtf8, refl, true, wanted, ℕ, ◌≡◌}
-use Rattle.std.specs.Prelude.{Ok, Err}
+use Rattle.script_text.proofs.Common.{Bool, Err, IsUtf8, IsUtf8-from_is_utf8, List, None, NotCommand, Ok, Some, ap, cond, false, is_utf8, is_utf8-from_IsUtf8, refl, true, wanted, ℕ, ◌≡◌}
 use Rattle.script_text.specs.StoreCommands.{text_name_of}
 
 pub named : (word : List ℕ) → IsUtf8 word → text_name_of word ≡ Ok word

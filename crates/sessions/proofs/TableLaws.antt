@@ -1,6 +1,5 @@
 -- Laws of the table: that of no requests, that with one more, and what it tells.
-use Rattle.sessions.proofs.Common.{Entry, Equal, Greater, IsKeptFor, IsReplyAt, IsSeen, IsTableOf, Kept, KeptReply, Less, New, Ordering, Reply, Row, Seen, SeesInTable, Table, Trimmed, ap, arith, eq-eqb, eq_by_cmp, eqb-true, false≢true, get-empty, get-insert, get-retain_keys, get_or-append_seam, get_or_append_left, inl, inr, is_from, is_le, is_pair, kept_in, le_from_is_le, length-append, list_any-append, mark, max, nat_cmp, nat_cmp-IsAntisymmetric, nat_cmp_total, nat_eq_equiv, noted, noted_row, or-false, ranked, row_in, row_or_none, subst, sym, trimmed, trimmed_found, trimmed_row, unsigned_tied, ⊎_elim, ◌||◌, ◌∙◌, ◌≤◌}
-use Rattle.std.specs.Prelude.{◌≡◌, ℕ, ◌<◌, Bool, true, false, cond, ◌&&◌, ◌==◌, List, [], ◌∷◌, ◌++◌, length, Option, Some, None, refl}
+use Rattle.sessions.proofs.Common.{Bool, Entry, Equal, Greater, IsKeptFor, IsReplyAt, IsSeen, IsTableOf, Kept, KeptReply, Less, List, New, None, Option, Ordering, Reply, Row, Seen, SeesInTable, Some, Table, Trimmed, [], ap, arith, cond, eq-eqb, eq_by_cmp, eqb-true, false, false≢true, get-empty, get-insert, get-retain_keys, get_or-append_seam, get_or_append_left, inl, inr, is_from, is_le, is_pair, kept_in, le_from_is_le, length, length-append, list_any-append, mark, max, nat_cmp, nat_cmp-IsAntisymmetric, nat_cmp_total, nat_eq_equiv, noted, noted_row, or-false, ranked, refl, row_in, row_or_none, subst, sym, trimmed, trimmed_found, trimmed_row, true, unsigned_tied, ℕ, ⊎_elim, ◌&&◌, ◌++◌, ◌<◌, ◌==◌, ◌||◌, ◌∙◌, ◌∷◌, ◌≡◌, ◌≤◌}
 use Rattle.std.specs.FinMap as map
 
 is_from_le : {a b : ℕ} → a ≤ b → is_le (nat_cmp a b) ≡ true

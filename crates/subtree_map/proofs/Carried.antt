@@ -1,6 +1,5 @@
 -- Leaves keep their authority where others come in their place: an induction on the way up.
-use Rattle.subtree_map.proofs.Common.{Covers, HasAuthority, HoldsDentry, Home, Homes, Ino, IsLive, IsTable, KeepAuthority, Leaf, NearestRoot, None, Option, Rank, Roots, Some, ap, inherited, itself, ◌∙◌, ◌≡◌}
-use Rattle.std.proofs.Common.{refl}
+use Rattle.subtree_map.proofs.Common.{Covers, HasAuthority, HoldsDentry, Home, Homes, Ino, IsLive, IsTable, KeepAuthority, Leaf, NearestRoot, None, Option, Rank, Roots, Some, ap, inherited, itself, refl, ◌∙◌, ◌≡◌}
 use Rattle.std.specs.FinMap as map
 use Rattle.subtree_map.proofs.Nearest.{holder_is_leaf}
 

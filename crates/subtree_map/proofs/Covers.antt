@@ -1,6 +1,5 @@
 -- The leaves of directories where one gets others.
-use Rattle.subtree_map.proofs.Common.{Bool, CanMerge, Contains, Contains-from_range, Covers, FitsSplit, Fragment, HasLeaf, IsChild, IsFragment, IsTree, [], ap, arith, between, cond, false, leaves_inside, leaves_of, lies_inside, mul-le-mul_left, or_whole, range_from_inside, refl, some_pick, span, span-split, span_pos, subst, suc, sym, true, zero, ℕ, ◌%◌, ◌*◌, ◌+◌, ◌^◌, ◌∙◌, ◌∷◌, ◌≡◌, ◌≢◌, ◌≤◌}
-use Rattle.std.specs.Prelude.{◌<◌, List, length}
+use Rattle.subtree_map.proofs.Common.{Bool, CanMerge, Contains, Contains-from_range, Covers, FitsSplit, Fragment, HasLeaf, IsChild, IsFragment, IsTree, List, [], ap, arith, between, cond, false, leaves_inside, leaves_of, length, lies_inside, mul-le-mul_left, or_whole, range_from_inside, refl, some_pick, span, span-split, span_pos, subst, suc, sym, true, zero, ℕ, ◌%◌, ◌*◌, ◌+◌, ◌<◌, ◌^◌, ◌∙◌, ◌∷◌, ◌≡◌, ◌≢◌, ◌≤◌}
 use Rattle.std.specs.FinMap as map
 use Rattle.sorted_map.proofs.NatKeys as nat
 

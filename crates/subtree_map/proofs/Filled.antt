@@ -1,6 +1,5 @@
 -- Leaves that get a rank where they have none.
-use Rattle.subtree_map.proofs.Common.{AreFilled, Bool, Contains, Contains-append_cases, Contains-append_left, Contains-append_right, Fragment, HasLeaf, IsFilled, IsFragment, IsPick, IsTree, Leaf, None, Option, Rank, Roots, Some, Tiles, [], ap, arith, false, get_beside, get_put, inl, inr, is_some, leaf_of, refl, same_or_apart, span, span_pos, subst, suc, sym, true, zero, ℕ, ◌++◌, ◌+◌, ◌^◌, ◌∙◌, ◌∷◌, ◌≡◌, ◌≤◌}
-use Rattle.std.specs.Prelude.{◌<◌, List, length}
+use Rattle.subtree_map.proofs.Common.{AreFilled, Bool, Contains, Contains-append_cases, Contains-append_left, Contains-append_right, Fragment, HasLeaf, IsFilled, IsFragment, IsPick, IsTree, Leaf, List, None, Option, Rank, Roots, Some, Tiles, [], ap, arith, false, get_beside, get_put, inl, inr, is_some, leaf_of, length, refl, same_or_apart, span, span_pos, subst, suc, sym, true, zero, ℕ, ◌++◌, ◌+◌, ◌<◌, ◌^◌, ◌∙◌, ◌∷◌, ◌≡◌, ◌≤◌}
 use Rattle.std.proofs.lemmas.List.{append_assoc, length-append, append-nil}
 use Rattle.std.specs.FinMap as map
 use Rattle.subtree_map.proofs.Covers.{contains_start}

@@ -1,6 +1,5 @@
 -- The first row from a leaf on, and what the order of leaves says of the rows behind it.
-use Rattle.subtree_map.proofs.Common.{Bool, Equal, Fragment, Greater, IsFirst, IsFirstRow, IsFragment, IsSome, Leaf, Less, MatchOrdering, None, Option, Ordering, Rank, Roots, Some, T, [], ap, arith, below_all, cond, ends_before, entries_sorted, eq_by_cmp, false, find, find-where_key, frag_cmp, frag_le, get-entries, inl, inr, is_eq, is_inside, is_le, is_lt, is_some, is_sorted, is_sorted-where_key, leaf-exact, leaf-total, leaf_cmp, leaf_of, left_of, lies_inside-true, nat_cmp, ordering_then, range_from_inside, ranks, refl, right_of, span, subst, sym, tie, tied_itself, true, where_key, ℕ, ◌+◌, ◌∙◌, ◌∷◌, ◌≡◌, ◌≤◌, ◌⊎◌}
-use Rattle.std.specs.Prelude.{◌<◌, List}
+use Rattle.subtree_map.proofs.Common.{Bool, Equal, Fragment, Greater, IsFirst, IsFirstRow, IsFragment, IsSome, Leaf, Less, List, MatchOrdering, None, Option, Ordering, Rank, Roots, Some, T, [], ap, arith, below_all, cond, ends_before, entries_sorted, eq_by_cmp, false, find, find-where_key, frag_cmp, frag_le, get-entries, inl, inr, is_eq, is_inside, is_le, is_lt, is_some, is_sorted, is_sorted-where_key, leaf-exact, leaf-total, leaf_cmp, leaf_of, left_of, lies_inside-true, nat_cmp, ordering_then, range_from_inside, ranks, refl, right_of, span, subst, sym, tie, tied_itself, true, where_key, ℕ, ◌+◌, ◌<◌, ◌∙◌, ◌∷◌, ◌≡◌, ◌≤◌, ◌⊎◌}
 use Rattle.std.specs.FinMap as map
 use Rattle.subtree_map.proofs.Merged.{inside_at, inside_of, is_within}
 use Rattle.sorted_map.proofs.PlaceLaws.{less as less_of}

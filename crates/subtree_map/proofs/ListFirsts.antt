@@ -1,6 +1,5 @@
 -- The first claim of rows in order, of a list, and of several lists.
-use Rattle.subtree_map.proofs.Common.{Bool, Entry, Equal, Greater, IsFirstBy, IsSome, Leaf, Less, None, Option, Ordering, Rank, Rows, Some, T, [], ap, arith, claimed, cond, contents, entries_sorted, entry_at, eq_by_cmp, false, find, find-where_key, found, get-entries, inl, inr, is_eq, is_lt, is_some, is_sorted, is_sorted-where_key, leaf-exact, leaf-total, leaf_cmp, left_of, lesser_of, option_or, ordering_reverse, refl, right_of, rows_at, said, subst, suc, sym, take, tie, tied_itself, true, where_key, zero, ℕ, ◌+◌, ◌∙◌, ◌∷◌, ◌≡◌, ◌⊎◌}
-use Rattle.std.specs.Prelude.{◌<◌, List, length}
+use Rattle.subtree_map.proofs.Common.{Bool, Entry, Equal, Greater, IsFirstBy, IsSome, Leaf, Less, List, None, Option, Ordering, Rank, Rows, Some, T, [], ap, arith, claimed, cond, contents, entries_sorted, entry_at, eq_by_cmp, false, find, find-where_key, found, get-entries, inl, inr, is_eq, is_lt, is_some, is_sorted, is_sorted-where_key, leaf-exact, leaf-total, leaf_cmp, left_of, length, lesser_of, option_or, ordering_reverse, refl, right_of, rows_at, said, subst, suc, sym, take, tie, tied_itself, true, where_key, zero, ℕ, ◌+◌, ◌<◌, ◌∙◌, ◌∷◌, ◌≡◌, ◌⊎◌}
 use Rattle.std.specs.FinMap as map
 use Rattle.subtree_map.proofs.Firsts.{behind}
 

@@ -1,7 +1,5 @@
 -- The bounds of a region, listed one after the other.
-use Rattle.subtree_map.proofs.Common.{Contains-append_cases, Contains-append_left, Contains-append_right, Covers, Homes, IsBound, IsNextBelow, IsSome, Leaf, Rank, Roots, Some, [], ap, arith, cond, false, find, get-entries, inl, inr, is_some, leaf_cmp, same_or_apart, subst, suc, sym, tied_apart, tied_same, true, zero, ◌++◌, ◌==◌, ◌↔◌, ◌∙◌, ◌∷◌, ◌≡◌, ◌⊎◌}
-use Rattle.std.specs.Prelude.{List, length}
-use Rattle.std.proofs.Common.{refl}
+use Rattle.subtree_map.proofs.Common.{Contains-append_cases, Contains-append_left, Contains-append_right, Covers, Homes, IsBound, IsNextBelow, IsSome, Leaf, List, Rank, Roots, Some, [], ap, arith, cond, false, find, get-entries, inl, inr, is_some, leaf_cmp, length, refl, same_or_apart, subst, suc, sym, tied_apart, tied_same, true, zero, ◌++◌, ◌==◌, ◌↔◌, ◌∙◌, ◌∷◌, ◌≡◌, ◌⊎◌}
 use Rattle.std.specs.List as list
 use Rattle.std.specs.FinMap as map
 

@@ -1,6 +1,5 @@
 -- The lists of all ranks after a change of each: what they say as one map, and that they are lists still.
-use Rattle.subtree_map.proofs.Common.{AreEach, AreGone, AreLists, Bool, Claimed, Ended, Entry, Err, Global, Handed, HasDropped, HasGrown, HasHints, HasLearnt, HasSame, HaveNone, HaveRoom, Hears, IsClaimed, Leaf, News, None, Ok, OnErr, Option, Promised, Rank, Result, Roots, Rows, Some, Subtrees, Vec, Withdrawn, [], ap, arith, cases_eq, cases_lt, claimed, cond, contents, entry_at, eqb-true, false, found, get-empty, get_left, get_removed, heard, home_of, inl, inr, is_apart, leaf-exact, leaf-total, leaf_cmp, length-append, makes, no_rows, promised, refl, rows_at, said, same_map, same_or_apart, says_at, subst, suc, sym, take, told, true, with_items, zero, ℕ, ◌++◌, ◌+◌, ◌==◌, ◌∙◌, ◌∷◌, ◌≡◌, ◌≢◌, ◌≤◌, ◌⊎◌}
-use Rattle.std.specs.Prelude.{◌<◌, List, length, drop}
+use Rattle.subtree_map.proofs.Common.{AreEach, AreGone, AreLists, Bool, Claimed, Ended, Entry, Err, Global, Handed, HasDropped, HasGrown, HasHints, HasLearnt, HasSame, HaveNone, HaveRoom, Hears, IsClaimed, Leaf, List, News, None, Ok, OnErr, Option, Promised, Rank, Result, Roots, Rows, Some, Subtrees, Vec, Withdrawn, [], ap, arith, cases_eq, cases_lt, claimed, cond, contents, drop, entry_at, eqb-true, false, found, get-empty, get_left, get_removed, heard, home_of, inl, inr, is_apart, leaf-exact, leaf-total, leaf_cmp, length, length-append, makes, no_rows, promised, refl, rows_at, said, same_map, same_or_apart, says_at, subst, suc, sym, take, told, true, with_items, zero, ℕ, ◌++◌, ◌+◌, ◌<◌, ◌==◌, ◌∙◌, ◌∷◌, ◌≡◌, ◌≢◌, ◌≤◌, ◌⊎◌}
 use Rattle.std.specs.FinMap as map
 use Rattle.subtree_map.proofs.Heard.{claims_claimed, claims_ended, claims_handed, claims_promised, claims_withdrawn, ended_makes, handed_makes, promises_claimed, promises_ended, promises_handed, promises_promised, promises_withdrawn, withdrawn_makes}
 use Rattle.subtree_map.proofs.ToldLaws.{found_at, get_told, none_there, nowhere, once_fewer, once_set, some_at, told_cleared, told_gone, told_same, told_set}

@@ -1,6 +1,5 @@
 -- Leaves of one authority are merged: all leaves keep their authority, and the merged leaf has theirs.
-use Rattle.subtree_map.proofs.Common.{BecomesMerged, Bool, CanMerge, Covers, Fragment, HasAuthority, HasLeaf, HaveOneAuthority, HoldsDentry, Home, Homes, Ino, IsLive, IsMerge, IsPick, IsRootMerge, IsSome, IsSubtrees, IsTable, IsTree, KeepAuthority, Leaf, MergesSoundly, None, Rank, Roots, Some, and_from, and_left, and_parts, and_right, ap, eqb-true, false, hash_of, inl, inr, is_inside, is_known, is_some, itself, leaf_of, leaves_of, lies_inside, merged_after_merge, pick_after_merge, refl, same_or_apart, subst, sym, tree_of_row, true, ℕ, ◌&&◌, ◌==◌, ◌∙◌, ◌≡◌, ◌≢◌, ◌⊎◌}
-use Rattle.std.specs.Prelude.{List}
+use Rattle.subtree_map.proofs.Common.{BecomesMerged, Bool, CanMerge, Covers, Fragment, HasAuthority, HasLeaf, HaveOneAuthority, HoldsDentry, Home, Homes, Ino, IsLive, IsMerge, IsPick, IsRootMerge, IsSome, IsSubtrees, IsTable, IsTree, KeepAuthority, Leaf, List, MergesSoundly, None, Rank, Roots, Some, and_from, and_left, and_parts, and_right, ap, eqb-true, false, hash_of, inl, inr, is_inside, is_known, is_some, itself, leaf_of, leaves_of, lies_inside, merged_after_merge, pick_after_merge, refl, same_or_apart, subst, sym, tree_of_row, true, ℕ, ◌&&◌, ◌==◌, ◌∙◌, ◌≡◌, ◌≢◌, ◌⊎◌}
 use Rattle.std.specs.FinMap as map
 use Rattle.sorted_map.proofs.NatKeys as nat
 use Rattle.subtree_map.proofs.Options.{not_none, value_of}

@@ -1,6 +1,5 @@
 -- The rows from a root on: it comes first, and behind it those from the next root on.
-use Rattle.subtree_map.proofs.Common.{Bool, Equal, Greater, IsFirst, IsRootIfSome, Leaf, Less, None, Option, Ordering, Rank, Roots, Some, T, [], ap, below_all, cond, entries_sorted, false, find, get-entries, inl, inr, is_after, is_eq, is_from, is_le, is_lt, is_some, is_sorted, leaf-exact, leaf-total, leaf_cmp, left_of, ordering_reverse, refl, right_of, rows_from, sym, tied_itself, true, where_key, ◌∙◌, ◌∷◌, ◌≡◌, ◌⊎◌}
-use Rattle.std.specs.Prelude.{List}
+use Rattle.subtree_map.proofs.Common.{Bool, Equal, Greater, IsFirst, IsRootIfSome, Leaf, Less, List, None, Option, Ordering, Rank, Roots, Some, T, [], ap, below_all, cond, entries_sorted, false, find, get-entries, inl, inr, is_after, is_eq, is_from, is_le, is_lt, is_some, is_sorted, leaf-exact, leaf-total, leaf_cmp, left_of, ordering_reverse, refl, right_of, rows_from, sym, tied_itself, true, where_key, ◌∙◌, ◌∷◌, ◌≡◌, ◌⊎◌}
 use Rattle.std.specs.FinMap as map
 use Rattle.sorted_map.proofs.PlaceLaws.{less as less_of}
 use Rattle.subtree_map.proofs.Firsts.{behind, first_row}

@@ -1,6 +1,5 @@
 -- One row of one list, and the turns over all lists.
-use Rattle.subtree_map.proofs.Common.{AreEach, Claim, Corrects, Entry, HasGrown, HasHints, HasLearnt, HasSame, HaveRoom, Hears, Hint, IsCorrected, IsPut, Known, Leaf, News, None, Nothing, Option, Rank, Rows, Some, [], ap, arith, cases_eq, cases_lt, claim_of, claimed, contents, corrected, entry_at, entry_of, false, get_beside, get_left, get_or-set_other, get_or-set_same, get_put, get_removed, heard, hinted, if◌then◌else◌, inl, inr, is_some, knows, leaf_cmp, learnt, length-set, makes, no_rows, promised, refl, rows_at, said, same_or_apart, subst, suc, sym, true, zero, ℕ, ◌+◌, ◌-◌, ◌==◌, ◌∙◌, ◌∷◌, ◌≡◌, ◌≢◌, ◌≤◌, ◌⊎◌}
-use Rattle.std.specs.Prelude.{◌<◌, List, length, get_or, set}
+use Rattle.subtree_map.proofs.Common.{AreEach, Claim, Corrects, Entry, HasGrown, HasHints, HasLearnt, HasSame, HaveRoom, Hears, Hint, IsCorrected, IsPut, Known, Leaf, List, News, None, Nothing, Option, Rank, Rows, Some, [], ap, arith, cases_eq, cases_lt, claim_of, claimed, contents, corrected, entry_at, entry_of, false, get_beside, get_left, get_or, get_or-set_other, get_or-set_same, get_put, get_removed, heard, hinted, if◌then◌else◌, inl, inr, is_some, knows, leaf_cmp, learnt, length, length-set, makes, no_rows, promised, refl, rows_at, said, same_or_apart, set, subst, suc, sym, true, zero, ℕ, ◌+◌, ◌-◌, ◌<◌, ◌==◌, ◌∙◌, ◌∷◌, ◌≡◌, ◌≢◌, ◌≤◌, ◌⊎◌}
 use Rattle.std.specs.FinMap as map
 use Rattle.subtree_map.proofs.ChildRows.{room_left}
 use Rattle.subtree_map.proofs.Heard.{claims_entry, promises_entry}

@@ -1,6 +1,5 @@
 -- A leaf is split: all leaves keep their authority, and its children have that of the leaf.
-use Rattle.subtree_map.proofs.Common.{BecomesSplit, Covers, FitsSplit, Fragment, HasAuthority, HasLeaf, HoldsDentry, Home, Homes, Ino, IsChild, IsLive, IsPick, IsRootSplit, IsSome, IsSplit, IsSubtrees, IsTable, IsTree, KeepAuthority, Leaf, None, Rank, Roots, Some, SplitsSoundly, ap, child_after_split, hash_of, inl, inr, is_known, is_some, leaf_of, leaves_of, pick_after_split, refl, same_or_apart, some_pick, subst, sym, tree_of_row, true, ℕ, ◌∙◌, ◌≡◌, ◌≢◌, ◌⊎◌}
-use Rattle.std.specs.Prelude.{List}
+use Rattle.subtree_map.proofs.Common.{BecomesSplit, Covers, FitsSplit, Fragment, HasAuthority, HasLeaf, HoldsDentry, Home, Homes, Ino, IsChild, IsLive, IsPick, IsRootSplit, IsSome, IsSplit, IsSubtrees, IsTable, IsTree, KeepAuthority, Leaf, List, None, Rank, Roots, Some, SplitsSoundly, ap, child_after_split, hash_of, inl, inr, is_known, is_some, leaf_of, leaves_of, pick_after_split, refl, same_or_apart, some_pick, subst, sym, tree_of_row, true, ℕ, ◌∙◌, ◌≡◌, ◌≢◌, ◌⊎◌}
 use Rattle.std.specs.FinMap as map
 use Rattle.sorted_map.proofs.NatKeys as nat
 use Rattle.subtree_map.proofs.Options.{not_none, value_of}

@@ -1,6 +1,5 @@
 -- Rows taken out one after the other.
-use Rattle.subtree_map.proofs.Common.{AreTakenOut, Fragment, IsRootMerge, IsSome, Leaf, None, Option, Rank, Roots, Some, Subtrees, ap, arith, cond, empty_of_len, false, get-empty, get_beside, get_left, get_put, get_removed, inl, inr, is_inside, is_some, leaf-total, leaf_cmp, leaf_of, len-remove, lies_inside, nat_tests, refl, same_or_apart, suc, sym, true, zero, ℕ, ◌-◌, ◌∙◌, ◌≡◌, ◌≢◌, ◌≤◌}
-use Rattle.std.specs.Prelude.{◌<◌}
+use Rattle.subtree_map.proofs.Common.{AreTakenOut, Fragment, IsRootMerge, IsSome, Leaf, None, Option, Rank, Roots, Some, Subtrees, ap, arith, cond, empty_of_len, false, get-empty, get_beside, get_left, get_put, get_removed, inl, inr, is_inside, is_some, leaf-total, leaf_cmp, leaf_of, len-remove, lies_inside, nat_tests, refl, same_or_apart, suc, sym, true, zero, ℕ, ◌-◌, ◌<◌, ◌∙◌, ◌≡◌, ◌≢◌, ◌≤◌}
 use Rattle.std.specs.FinMap as map
 use Rattle.subtree_map.proofs.Options.{not_none, value_of}
 use Rattle.subtree_map.proofs.Merged.{inside_of}

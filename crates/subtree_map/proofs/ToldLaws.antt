@@ -1,6 +1,5 @@
 -- What the lists say, as one map: after a change of one leaf's rows, and of those of a directory.
-use Rattle.subtree_map.proofs.Common.{AreGone, AreOnce, Bool, Entry, Leaf, None, Option, Rank, Roots, Rows, Some, [], ap, arith, cond, contains_key-keys, contents, entry_at, eq_by_cmp, eqb-true, false, found, get-empty, get-from_sorted, get-insert, get_beside, get_left, get_put, get_removed, home_of, inl, inr, is_apart, is_same, is_some, leaf-exact, leaf-total, leaf_cmp, leaves_in, list_any, list_any-append, no_rows, option_or, refl, said, same_map, same_or_apart, says_at, suc, sym, tabulate, tie, true, with_some, zero, ℕ, ◌==◌, ◌||◌, ◌∙◌, ◌∷◌, ◌≡◌, ◌≢◌}
-use Rattle.std.specs.Prelude.{◌<◌, List, length}
+use Rattle.subtree_map.proofs.Common.{AreGone, AreOnce, Bool, Entry, Leaf, List, None, Option, Rank, Roots, Rows, Some, [], ap, arith, cond, contains_key-keys, contents, entry_at, eq_by_cmp, eqb-true, false, found, get-empty, get-from_sorted, get-insert, get_beside, get_left, get_put, get_removed, home_of, inl, inr, is_apart, is_same, is_some, leaf-exact, leaf-total, leaf_cmp, leaves_in, length, list_any, list_any-append, no_rows, option_or, refl, said, same_map, same_or_apart, says_at, suc, sym, tabulate, tie, true, with_some, zero, ℕ, ◌<◌, ◌==◌, ◌||◌, ◌∙◌, ◌∷◌, ◌≡◌, ◌≢◌}
 use Rattle.std.specs.FinMap as map
 use Rattle.subtree_map.specs.Lists.{told}
 

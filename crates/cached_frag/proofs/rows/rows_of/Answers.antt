@@ -1,5 +1,4 @@
-use Rattle.cached_frag.proofs.Common.{contents, key_cmp, merged, ◌∙◌}
-use Rattle.std.specs.Prelude.{Some}
+use Rattle.cached_frag.proofs.Common.{Some, contents, key_cmp, merged, ◌∙◌}
 use Rattle.cached_frag.proofs.RowLaws.{all_rows_are, rows_are}
 use Rattle.cached_frag.proofs.rows.rows_of.Goals as goal
 

@@ -1,6 +1,5 @@
 -- The leaves that begin before the hash may be changed.
-use Rattle.cluster_core.proofs.Common.{MayTouchIn, in_directory, leaves_of}
-use Rattle.std.specs.Prelude.{◌-◌, ◌^◌}
+use Rattle.cluster_core.proofs.Common.{MayTouchIn, in_directory, leaves_of, ◌-◌, ◌^◌}
 use Rattle.mdcache.specs.Core.{state_of as tree_state}
 use Rattle.cluster_core.proofs.GrantLaws.{Done}
 use Rattle.cluster_core.proofs.barred.lacks_leaf.Given as goal

@@ -1,6 +1,5 @@
 -- No root before has a next step.
-use Rattle.cluster_core.proofs.Common.{OfExport, sight_of}
-use Rattle.std.specs.Prelude.{ℕ}
+use Rattle.cluster_core.proofs.Common.{OfExport, sight_of, ℕ}
 use Rattle.cluster_core.proofs.KindLaws.{Passes}
 use Rattle.cluster_core.proofs.LeafPlaces.{left}
 use Rattle.cluster_core.proofs.WalkLaws.{IsWalked}

@@ -1,6 +1,5 @@
 -- The leaves inside that begin before the hash are not pinned.
-use Rattle.cluster_core.proofs.Common.{Done, is_on, leaves_of, list_any}
-use Rattle.std.specs.Prelude.{◌≡◌, ◌-◌, ◌^◌, ◌≤◌, false}
+use Rattle.cluster_core.proofs.Common.{Done, false, is_on, leaves_of, list_any, ◌-◌, ◌^◌, ◌≡◌, ◌≤◌}
 use Rattle.cluster_core.proofs.pinned.some_pinned.Given as goal
 
 abbrev pub invariant-loop-leaf : goal.invariant-loop-leaf

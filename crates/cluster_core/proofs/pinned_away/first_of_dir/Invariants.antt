@@ -1,6 +1,5 @@
 -- The leaves that begin before the hash aren't to start.
-use Rattle.cluster_core.proofs.Common.{Pin, leaves_of, sight_of}
-use Rattle.std.specs.Prelude.{◌-◌, ◌^◌, List}
+use Rattle.cluster_core.proofs.Common.{List, Pin, leaves_of, sight_of, ◌-◌, ◌^◌}
 use Rattle.cluster_core.proofs.DirWalkLaws.{StaysHere}
 use Rattle.cluster_core.proofs.GrantLaws.{Done}
 use Rattle.cluster_core.proofs.pinned_away.first_of_dir.Given as goal

@@ -1,6 +1,5 @@
 -- No leaf of a directory with a pin before is to start.
-use Rattle.cluster_core.proofs.Common.{Pin, sight_of}
-use Rattle.std.specs.Prelude.{List}
+use Rattle.cluster_core.proofs.Common.{List, Pin, sight_of}
 use Rattle.cluster_core.proofs.DirWalkLaws.{IsPast, dirs_left}
 use Rattle.cluster_core.proofs.pinned_away.first_pinned.Given as goal
 

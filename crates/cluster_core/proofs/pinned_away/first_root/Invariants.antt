@@ -1,6 +1,5 @@
 -- No root before is to start.
-use Rattle.cluster_core.proofs.Common.{Pin, sight_of}
-use Rattle.std.specs.Prelude.{List}
+use Rattle.cluster_core.proofs.Common.{List, Pin, sight_of}
 use Rattle.cluster_core.proofs.AwayLaws.{IsRootOf, Starts}
 use Rattle.cluster_core.proofs.LeafPlaces.{left}
 use Rattle.cluster_core.proofs.WalkLaws.{IsWalked}

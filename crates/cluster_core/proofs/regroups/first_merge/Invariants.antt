@@ -1,6 +1,5 @@
 -- No candidate before passes.
-use Rattle.cluster_core.proofs.Common.{OfSmall, sight_of}
-use Rattle.std.specs.Prelude.{ℕ}
+use Rattle.cluster_core.proofs.Common.{OfSmall, sight_of, ℕ}
 use Rattle.cluster_core.proofs.KindLaws.{Passes}
 use Rattle.cluster_core.proofs.LeafPlaces.{left}
 use Rattle.cluster_core.proofs.WalkLaws.{IsWalked}

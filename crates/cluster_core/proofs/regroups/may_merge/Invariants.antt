@@ -1,6 +1,5 @@
 -- The children before are idle.
-use Rattle.cluster_core.proofs.Common.{IsIdle, child, sight_of}
-use Rattle.std.specs.Prelude.{ℕ, ◌<◌}
+use Rattle.cluster_core.proofs.Common.{IsIdle, child, sight_of, ℕ, ◌<◌}
 use Rattle.cluster_core.proofs.regroups.may_merge.Given as goal
 
 abbrev pub invariant-loop-i : goal.invariant-loop-i

@@ -1,5 +1,4 @@
-use Rattle.cold_store.proofs.Common.{AreGoodLeaves, Fragment, IsBadAmong, IsGoodTree, Objects, Shape, ap, arith, inr, rows_under, subst, tree_of, with_cover, with_rows, ◌∙◌}
-use Rattle.std.specs.Prelude.{List}
+use Rattle.cold_store.proofs.Common.{AreGoodLeaves, Fragment, IsBadAmong, IsGoodTree, List, Objects, Shape, ap, arith, inr, rows_under, subst, tree_of, with_cover, with_rows, ◌∙◌}
 use Rattle.cold_store.proofs.ObjectLaws.{good_cover, good_leaves}
 use Rattle.cold_store.proofs.Refusals.{err_then, ok_always, ok_then, widened}
 use Rattle.cold_store.proofs.reading.take_dir.Goals as goal

@@ -1,5 +1,4 @@
-use Rattle.export_bytes.proofs.Common.{is_sent_name, list_all}
-use Rattle.std.specs.Prelude.{◌≡◌, drop}
+use Rattle.export_bytes.proofs.Common.{drop, is_sent_name, list_all, ◌≡◌}
 use Rattle.export_bytes.proofs.sendable.are_sent_names.Given as goal
 
 abbrev pub invariant-loop-sent : goal.invariant-loop-sent

@@ -1,5 +1,4 @@
-use Rattle.export_steps.proofs.Common.{IsFirstKey, Leaf, by_cmp, comes, contents, subst, sym}
-use Rattle.std.proofs.Common.{ℕ, Option, Some, None}
+use Rattle.export_steps.proofs.Common.{IsFirstKey, Leaf, None, Option, Some, by_cmp, comes, contents, subst, sym, ℕ}
 use Rattle.export_steps.proofs.ByExporterLaws.{first_key}
 use Rattle.export_steps.proofs.by_exporter.first_key.Goals as goal
 

@@ -1,6 +1,5 @@
 -- So far some trees are saved; those of other directories are to come.
-use Rattle.mdcache.proofs.Common.{HasTree, Ino, IsSoundCore, SavesTrees, eq_by_cmp, is_some, list_any, nat_cmp, state_of, trees_after, true, ◌≡◌, ◌⊎◌}
-use Rattle.std.specs.Prelude.{length}
+use Rattle.mdcache.proofs.Common.{HasTree, Ino, IsSoundCore, SavesTrees, eq_by_cmp, is_some, length, list_any, nat_cmp, state_of, trees_after, true, ◌≡◌, ◌⊎◌}
 use Rattle.std.specs.FinMap as map
 use Rattle.mdcache.proofs.flushing.save_each.Given as goal
 

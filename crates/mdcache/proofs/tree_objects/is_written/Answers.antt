@@ -1,5 +1,4 @@
-use Rattle.mdcache.proofs.Common.{List, None, Some, ap, arith, header_at, length, nat_tests, page_at, sym, true, ℕ, ◌∙◌, ◌≡◌}
-use Rattle.std.proofs.Common.{◌==◌}
+use Rattle.mdcache.proofs.Common.{List, None, Some, ap, arith, header_at, length, nat_tests, page_at, sym, true, ℕ, ◌==◌, ◌∙◌, ◌≡◌}
 use Rattle.mdcache.proofs.EmptyLaws.{object_told, same_header}
 use Rattle.mdcache.proofs.tree_objects.is_written.Goals as goal
 

@@ -1,5 +1,4 @@
-use Rattle.ranked_tree.proofs.Common.{Covers, EndsWith, Err, Fragment, IfSome, Ino, IsNamedIn, IsOwned, LacksToMake, List, LoseDirectory, NoneEnds, Option, Roots, Some, ap, came_cap, came_ranks, faults_in, held_in, holding, inl, inr, keeps_itself, keeps_refused, leaves_of, length, reads_keeps, reads_state, state_of, subst, sym, ◌∙◌, ◌≡◌, ◌≤◌}
-use Rattle.std.proofs.Common.{IsSome}
+use Rattle.ranked_tree.proofs.Common.{Covers, EndsWith, Err, Fragment, IfSome, Ino, IsNamedIn, IsOwned, IsSome, LacksToMake, List, LoseDirectory, NoneEnds, Option, Roots, Some, ap, came_cap, came_ranks, faults_in, held_in, holding, inl, inr, keeps_itself, keeps_refused, leaves_of, length, reads_keeps, reads_state, state_of, subst, sym, ◌∙◌, ◌≡◌, ◌≤◌}
 use Rattle.dentry_cache.specs.Reads.Reads.{stays}
 use Rattle.ranked_tree.proofs.AskLaws.{told_change}
 use Rattle.ranked_tree.proofs.CameForLaws.{changed_held, whole_came}

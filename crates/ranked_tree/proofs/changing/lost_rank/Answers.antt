@@ -1,5 +1,4 @@
-use Rattle.ranked_tree.proofs.Common.{None, Some, refl, rules, state_of, ◌≡◌}
-use Rattle.std.proofs.Common.{◌≢◌}
+use Rattle.ranked_tree.proofs.Common.{None, Some, refl, rules, state_of, ◌≡◌, ◌≢◌}
 use Rattle.ranked_tree.proofs.HolderLaws.{put_live, taken_live}
 use Rattle.ranked_tree.proofs.RenameLaws.{lost_at}
 use Rattle.ranked_tree.proofs.changing.lost_rank.Goals as goal

@@ -1,6 +1,5 @@
 -- The jobs of the region have ended as far as the last leaf.
-use Rattle.ranked_tree.proofs.Common.{IsSoundCore, state_of}
-use Rattle.std.specs.Prelude.{◌≡◌}
+use Rattle.ranked_tree.proofs.Common.{IsSoundCore, state_of, ◌≡◌}
 use Rattle.ranked_tree.proofs.EndedLaws.{HaveEnded, count_behind}
 use Rattle.ranked_tree.proofs.ending_jobs.end_region.Given as goal
 

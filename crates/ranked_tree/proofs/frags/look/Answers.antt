@@ -1,5 +1,4 @@
-use Rattle.ranked_tree.proofs.Common.{Dentry, IfOk, Ino, IsPick, IsThat, NoneEnds, ReadsDir, ap, hash_of, held_in, is_directory, leaf_of, leaves_of, on_ok_weaker, reads_keeps, result_err, shown_tree, state_of, subst, sym, ◌∙◌}
-use Rattle.std.specs.Prelude.{◌≡◌}
+use Rattle.ranked_tree.proofs.Common.{Dentry, IfOk, Ino, IsPick, IsThat, NoneEnds, ReadsDir, ap, hash_of, held_in, is_directory, leaf_of, leaves_of, on_ok_weaker, reads_keeps, result_err, shown_tree, state_of, subst, sym, ◌∙◌, ◌≡◌}
 use Rattle.std.specs.FinMap as map
 use Rattle.ranked_tree.proofs.AskLaws.{told_for}
 use Rattle.ranked_tree.proofs.HeldLaws.{may_hold, owned_read}

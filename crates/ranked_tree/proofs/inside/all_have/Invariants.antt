@@ -1,6 +1,5 @@
 -- The leaves inside that begin before the hash have the rank.
-use Rattle.ranked_tree.proofs.Common.{HasAuthority, leaves_of, ◌-◌}
-use Rattle.std.specs.Prelude.{◌^◌, ◌≤◌}
+use Rattle.ranked_tree.proofs.Common.{HasAuthority, leaves_of, ◌-◌, ◌^◌, ◌≤◌}
 use Rattle.ranked_tree.proofs.InsideLaws.{Done}
 use Rattle.ranked_tree.proofs.inside.all_have.Given as goal
 

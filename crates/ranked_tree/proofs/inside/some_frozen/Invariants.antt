@@ -1,6 +1,5 @@
 -- The leaves inside that begin before the hash are not frozen.
-use Rattle.ranked_tree.proofs.Common.{IsFrozen, leaves_of, ◌-◌}
-use Rattle.std.specs.Prelude.{◌^◌, ◌≤◌}
+use Rattle.ranked_tree.proofs.Common.{IsFrozen, leaves_of, ◌-◌, ◌^◌, ◌≤◌}
 use Rattle.ranked_tree.proofs.InsideLaws.{Done}
 use Rattle.ranked_tree.proofs.inside.some_frozen.Given as goal
 

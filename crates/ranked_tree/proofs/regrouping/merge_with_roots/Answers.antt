@@ -1,5 +1,4 @@
-use Rattle.ranked_tree.proofs.Common.{AllHave, AreRoots, AreThawed, CameAt, CanMerge, HaveOneAuthority, IsMergedHere, IsOwned, IsRootMerge, LacksPlacesInside, MergesLeaves, RefusesMerge, Roots, State, ap, arith, held_in, holding, leaves_of, refl, regroup_free, state_of, stays, subst, sym, ◌∙◌}
-use Rattle.std.specs.Prelude.{Err}
+use Rattle.ranked_tree.proofs.Common.{AllHave, AreRoots, AreThawed, CameAt, CanMerge, Err, HaveOneAuthority, IsMergedHere, IsOwned, IsRootMerge, LacksPlacesInside, MergesLeaves, RefusesMerge, Roots, State, ap, arith, held_in, holding, leaves_of, refl, regroup_free, state_of, stays, subst, sym, ◌∙◌}
 use Rattle.ranked_tree.proofs.DividedLaws.{merge_keeps_roots, merge_owned, merge_stands}
 use Rattle.ranked_tree.proofs.HeldRegroups.{regroup_on, unmerged_held}
 use Rattle.ranked_tree.proofs.Kept.{keeps_same}

@@ -1,5 +1,4 @@
-use Rattle.ranked_tree.proofs.Common.{AreRoots, CameAt, CanSplit, IsFamilyOf, IsFrozen, IsOwned, IsRootSplit, LacksPlacesFor, RefusesSplit, Roots, Rules, SplitsLeaf, State, ap, arith, held_in, holding, leaves_of, refl, regroup_free, state_of, stays, subst, sym, ◌∙◌}
-use Rattle.std.specs.Prelude.{◌+◌, ◌^◌, Err}
+use Rattle.ranked_tree.proofs.Common.{AreRoots, CameAt, CanSplit, Err, IsFamilyOf, IsFrozen, IsOwned, IsRootSplit, LacksPlacesFor, RefusesSplit, Roots, Rules, SplitsLeaf, State, ap, arith, held_in, holding, leaves_of, refl, regroup_free, state_of, stays, subst, sym, ◌+◌, ◌^◌, ◌∙◌}
 use Rattle.ranked_tree.proofs.DividedLaws.{split_keeps_roots, split_owned, split_stands}
 use Rattle.ranked_tree.proofs.HeldRegroups.{regroup_on, unsplit_held}
 use Rattle.ranked_tree.proofs.Kept.{keeps_same}

@@ -1,5 +1,4 @@
-use Rattle.subtree_map.proofs.Common.{AreEach, Corrects, IsCorrected, Rows, set, subst, sym, ◌∙◌}
-use Rattle.std.proofs.Common.{ℕ, refl}
+use Rattle.subtree_map.proofs.Common.{AreEach, Corrects, IsCorrected, Rows, refl, set, subst, sym, ℕ, ◌∙◌}
 use Rattle.subtree_map.proofs.RowLaws.{at_index, corrects_one}
 use Rattle.subtree_map.proofs.list_changes.correct.Goals as goal
 

@@ -1,5 +1,4 @@
-use Rattle.subtree_map.proofs.Common.{contents, is_from, leaf_cmp, sym, ◌∙◌}
-use Rattle.std.proofs.Common.{[], ◌∷◌}
+use Rattle.subtree_map.proofs.Common.{[], contents, is_from, leaf_cmp, sym, ◌∙◌, ◌∷◌}
 use Rattle.subtree_map.proofs.Firsts.{first_row}
 use Rattle.subtree_map.proofs.list_changes.first_from.Goals as goal
 

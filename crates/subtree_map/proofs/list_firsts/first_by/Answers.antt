@@ -1,5 +1,4 @@
-use Rattle.subtree_map.proofs.Common.{IsFirstBy, Leaf, claimed, contents, entry_at, is_after, leaf_cmp, said, subst, sym, ◌∙◌}
-use Rattle.std.proofs.Common.{Some, None, Option}
+use Rattle.subtree_map.proofs.Common.{IsFirstBy, Leaf, None, Option, Some, claimed, contents, entry_at, is_after, leaf_cmp, said, subst, sym, ◌∙◌}
 use Rattle.std.specs.FinMap as map
 use Rattle.subtree_map.proofs.ListFirsts.{all_pass, first_of_list, left_sorted}
 use Rattle.subtree_map.proofs.list_firsts.first_by.Goals as goal

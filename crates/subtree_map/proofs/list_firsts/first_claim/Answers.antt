@@ -1,5 +1,4 @@
-use Rattle.subtree_map.proofs.Common.{Rows, ap, claimed, entry_at, found, is_after, rows_at, said, sym}
-use Rattle.std.proofs.Common.{◌+◌, take}
+use Rattle.subtree_map.proofs.Common.{Rows, ap, claimed, entry_at, found, is_after, rows_at, said, sym, take, ◌+◌}
 use Rattle.subtree_map.proofs.ListFirsts.{first_as, found_more}
 use Rattle.subtree_map.proofs.RowLaws.{at_index}
 use Rattle.subtree_map.proofs.list_firsts.first_claim.Goals as goal

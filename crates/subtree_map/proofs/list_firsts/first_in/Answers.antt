@@ -1,5 +1,4 @@
-use Rattle.subtree_map.proofs.Common.{claimed, rules}
-use Rattle.std.proofs.Common.{◌≡◌, true, false, is_some}
+use Rattle.subtree_map.proofs.Common.{claimed, false, is_some, rules, true, ◌≡◌}
 use Rattle.subtree_map.proofs.ListFirsts.{first_here, rest_claims, rest_sorted}
 use Rattle.subtree_map.proofs.list_firsts.first_in.Goals as goal
 

@@ -1,6 +1,5 @@
 -- What was passed claims nothing.
-use Rattle.subtree_map.proofs.Common.{Leaf, T, claimed, find, is_sorted, leaf_cmp, said, ◌≡◌}
-use Rattle.std.specs.Prelude.{length}
+use Rattle.subtree_map.proofs.Common.{Leaf, T, claimed, find, is_sorted, leaf_cmp, length, said, ◌≡◌}
 use Rattle.subtree_map.proofs.list_firsts.first_in.Given as goal
 
 abbrev pub invariant-loop-row : goal.invariant-loop-row

@@ -1,5 +1,4 @@
-use Rattle.subtree_map.proofs.Common.{Entry, ap, contents, leaf_cmp, learnt, ◌∙◌}
-use Rattle.std.proofs.Common.{Option}
+use Rattle.subtree_map.proofs.Common.{Entry, Option, ap, contents, leaf_cmp, learnt, ◌∙◌}
 use Rattle.std.specs.FinMap as map
 use Rattle.subtree_map.proofs.RowLaws.{learnt_row}
 use Rattle.subtree_map.proofs.list_learning.learn.Goals as goal

@@ -1,5 +1,4 @@
-use Rattle.subtree_map.proofs.Common.{HasLearnt, Rows, subst, sym, ◌∙◌}
-use Rattle.std.proofs.Common.{refl}
+use Rattle.subtree_map.proofs.Common.{HasLearnt, Rows, refl, subst, sym, ◌∙◌}
 use Rattle.subtree_map.proofs.RowLaws.{at_index, learnt_one}
 use Rattle.subtree_map.proofs.list_learning.learn_one.Goals as goal
 

@@ -1,6 +1,5 @@
 -- The lists to come say what all of them say.
-use Rattle.subtree_map.proofs.Common.{claimed, drop, found}
-use Rattle.std.proofs.Common.{◌≡◌}
+use Rattle.subtree_map.proofs.Common.{claimed, drop, found, ◌≡◌}
 use Rattle.subtree_map.proofs.list_rows.claim_in.Given as goal
 
 abbrev pub invariant-loop-rows : goal.invariant-loop-rows

@@ -1,6 +1,5 @@
 -- The lists to come say what all of them say.
-use Rattle.subtree_map.proofs.Common.{drop, found, promised}
-use Rattle.std.proofs.Common.{◌≡◌}
+use Rattle.subtree_map.proofs.Common.{drop, found, promised, ◌≡◌}
 use Rattle.subtree_map.proofs.list_rows.promise_in.Given as goal
 
 abbrev pub invariant-loop-rows : goal.invariant-loop-rows

@@ -1,5 +1,4 @@
-use Rattle.subtree_map.proofs.Common.{Entry, Hears, IsPut, Rows, ap, entry_at, get_or, heard, length, makes, subst, sym, ◌<◌, ◌∙◌}
-use Rattle.std.proofs.Common.{◌==◌, Option, refl}
+use Rattle.subtree_map.proofs.Common.{Entry, Hears, IsPut, Option, Rows, ap, entry_at, get_or, heard, length, makes, refl, subst, sym, ◌<◌, ◌==◌, ◌∙◌}
 use Rattle.subtree_map.proofs.RowLaws.{at_index, telling_room, turn_ends, turn_goes, turn_starts}
 use Rattle.subtree_map.proofs.list_rows.tell.Goals as goal
 

@@ -1,5 +1,4 @@
-use Rattle.subtree_map.proofs.Common.{rules, sym, ◌∙◌}
-use Rattle.std.proofs.Common.{◌≡◌, false}
+use Rattle.subtree_map.proofs.Common.{false, rules, sym, ◌∙◌, ◌≡◌}
 use Rattle.subtree_map.proofs.Firsts.{none_behind, none_inside}
 use Rattle.subtree_map.proofs.merges.root_inside.Goals as goal
 

@@ -1,5 +1,4 @@
-use Rattle.subtree_map.proofs.Common.{ap, is_inside, sym, ◌∙◌}
-use Rattle.std.proofs.Common.{◌≡◌, true, false}
+use Rattle.subtree_map.proofs.Common.{ap, false, is_inside, sym, true, ◌∙◌, ◌≡◌}
 use Rattle.subtree_map.proofs.TakenOut.{found_next, other_stays, shorter, stays_there}
 use Rattle.subtree_map.proofs.merges.take_inside.Goals as goal
 

@@ -1,5 +1,4 @@
-use Rattle.subtree_map.proofs.Common.{ap, arith, ends_low, span}
-use Rattle.std.proofs.Common.{◌≡◌}
+use Rattle.subtree_map.proofs.Common.{ap, arith, ends_low, span, ◌≡◌}
 use Rattle.subtree_map.proofs.moves.end_of.Goals as goal
 
 pub overflow_add-result : goal.overflow_add-result

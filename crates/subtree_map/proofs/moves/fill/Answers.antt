@@ -1,5 +1,4 @@
-use Rattle.subtree_map.proofs.Common.{arith, leaves_of, tree_of_row, ◌<◌, ◌∙◌}
-use Rattle.std.proofs.Common.{refl, ◌-◌, ◌^◌}
+use Rattle.subtree_map.proofs.Common.{arith, leaves_of, refl, tree_of_row, ◌-◌, ◌<◌, ◌^◌, ◌∙◌}
 use Rattle.subtree_map.proofs.Filled.{walk_starts, walk_room, walk_goes, walk_on, walk_ends}
 use Rattle.subtree_map.proofs.moves.fill.Goals as goal
 

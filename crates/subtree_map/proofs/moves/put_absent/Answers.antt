@@ -1,5 +1,4 @@
-use Rattle.subtree_map.proofs.Common.{rules}
-use Rattle.std.proofs.Common.{◌≡◌, false}
+use Rattle.subtree_map.proofs.Common.{false, rules, ◌≡◌}
 use Rattle.subtree_map.proofs.Filled.{absent_of, filled_one}
 use Rattle.subtree_map.proofs.moves.put_absent.Goals as goal
 

@@ -1,5 +1,4 @@
-use Rattle.subtree_map.proofs.Common.{Fragment, ap, arith, leaf_of, one_shl, subst, ◌<◌, ◌∙◌}
-use Rattle.std.proofs.Common.{refl, ◌+◌, ◌^◌}
+use Rattle.subtree_map.proofs.Common.{Fragment, ap, arith, leaf_of, one_shl, refl, subst, ◌+◌, ◌<◌, ◌^◌, ◌∙◌}
 use Rattle.std.specs.FinMap as map
 use Rattle.subtree_map.proofs.ChildRows.{children_more, children_none}
 use Rattle.subtree_map.proofs.splits.put_children.Goals as goal

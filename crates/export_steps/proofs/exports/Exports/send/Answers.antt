@@ -1,5 +1,4 @@
-use Rattle.export_steps.proofs.Common.{ArePlaced, by_cmp, contents, leaf_cmp, subst, sym}
-use Rattle.std.proofs.Common.{refl}
+use Rattle.export_steps.proofs.Common.{ArePlaced, by_cmp, contents, leaf_cmp, refl, subst, sym}
 use Rattle.export_steps.specs.declared.exports.ExportState.TheVariants as state
 use Rattle.export_steps.proofs.Placed.{steps_placed}
 use Rattle.export_steps.proofs.exports.Exports.send.Goals as goal

@@ -1,5 +1,4 @@
-use Rattle.export_steps.proofs.Common.{ap, arith, len-entries, length, slice_get_past, sym, ◌∙◌, ◌≤◌}
-use Rattle.std.proofs.Common.{◌≡◌}
+use Rattle.export_steps.proofs.Common.{ap, arith, len-entries, length, slice_get_past, sym, ◌∙◌, ◌≡◌, ◌≤◌}
 use Rattle.std.specs.FinMap as map
 use Rattle.export_steps.proofs.exports.Exports.standing.Goals as goal
 

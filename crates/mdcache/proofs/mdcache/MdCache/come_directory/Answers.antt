@@ -1,7 +1,6 @@
-use Rattle.mdcache.proofs.Common.{Core, None, ap, first_leaf, has_place, here, leaf_of, subst, sym, true, with_entry, ◌∙◌, ◌≡◌}
+use Rattle.mdcache.proofs.Common.{Core, None, Some, ap, first_leaf, has_place, here, leaf_of, subst, sym, true, with_entry, ◌∙◌, ◌≡◌}
 use Rattle.std.specs.FinMap as map
 use Rattle.mdcache.proofs.ChangeSteps.{kept_named, roomy_there}
-use Rattle.std.specs.Prelude.{Some}
 use Rattle.mdcache.proofs.mdcache.MdCache.come_directory.Goals as goal
 
 pub add_dir-requires-clause-place : goal.add_dir-requires-clause-place

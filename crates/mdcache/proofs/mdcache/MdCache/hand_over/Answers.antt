@@ -1,5 +1,4 @@
-use Rattle.mdcache.proofs.Common.{Core, HandsOver, subst}
-use Rattle.std.proofs.Common.{OnOk}
+use Rattle.mdcache.proofs.Common.{Core, HandsOver, OnOk, subst}
 use Rattle.mdcache.proofs.GivenLaws.{call_absent, call_cap, call_count, call_given, call_left, call_shown, call_sound}
 use Rattle.mdcache.proofs.mdcache.MdCache.hand_over.Goals as goal
 

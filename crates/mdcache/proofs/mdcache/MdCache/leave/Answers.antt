@@ -1,5 +1,4 @@
-use Rattle.mdcache.proofs.Common.{Core, KeepsNone, ap, leaf_of, none_with_mark, subst, sym}
-use Rattle.std.specs.Prelude.{None}
+use Rattle.mdcache.proofs.Common.{Core, KeepsNone, None, ap, leaf_of, none_with_mark, subst, sym}
 use Rattle.mdcache.proofs.mdcache.MdCache.leave.Goals as goal
 
 pub returns-clause-none : goal.returns-clause-none

@@ -1,5 +1,4 @@
-use Rattle.mdcache.proofs.Common.{Core, HasRoom, KeepsNone, ap, here, leaf_of, none_with_mark, subst, sym, ◌∙◌}
-use Rattle.std.specs.Prelude.{None, Some}
+use Rattle.mdcache.proofs.Common.{Core, HasRoom, KeepsNone, None, Some, ap, here, leaf_of, none_with_mark, subst, sym, ◌∙◌}
 use Rattle.mdcache.proofs.ChangeSteps.{room_left}
 use Rattle.mdcache.proofs.mdcache.MdCache.pass.Goals as goal
 

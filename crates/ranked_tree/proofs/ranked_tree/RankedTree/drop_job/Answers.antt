@@ -1,5 +1,4 @@
-use Rattle.ranked_tree.proofs.Common.{CacheMap, ap, held_in, state_of}
-use Rattle.std.specs.Prelude.{length}
+use Rattle.ranked_tree.proofs.Common.{CacheMap, ap, held_in, length, state_of}
 use Rattle.ranked_tree.proofs.StandLaws.{divided_still, jobs_dropped}
 use Rattle.ranked_tree.proofs.HeldLaws.{owned_same}
 use Rattle.ranked_tree.proofs.Stays.{dropped}

@@ -1,5 +1,4 @@
-use Rattle.ranked_tree.proofs.Common.{Ranked, subst, sym}
-use Rattle.std.specs.Prelude.{◌<◌, length}
+use Rattle.ranked_tree.proofs.Common.{Ranked, length, subst, sym, ◌<◌}
 use Rattle.ranked_tree.proofs.StepLaws.{start_divided, start_holds}
 use Rattle.ranked_tree.proofs.ranked_tree.RankedTree.start.Goals as goal
 

@@ -1,5 +1,4 @@
-use Rattle.subtree_map.proofs.Common.{IsFirst, IsFirstBy, List, Rows, Subtrees, claimed, found, is_after, subst, told}
-use Rattle.std.proofs.Common.{Some}
+use Rattle.subtree_map.proofs.Common.{IsFirst, IsFirstBy, List, Rows, Some, Subtrees, claimed, found, is_after, subst, told}
 use Rattle.std.specs.FinMap as map
 use Rattle.subtree_map.proofs.ListFirsts.{first_as}
 use Rattle.subtree_map.proofs.ToldLaws.{get_told}

@@ -1,5 +1,4 @@
-use Rattle.subtree_map.proofs.Common.{AreEach, Claimed, HaveRoom, Hears, List, Roots, Rows, Subtrees, ap, arith, home_of, length, subst, sym, ◌<◌, ◌∙◌}
-use Rattle.std.proofs.Common.{◌≡◌, ◌-◌}
+use Rattle.subtree_map.proofs.Common.{AreEach, Claimed, HaveRoom, Hears, List, Roots, Rows, Subtrees, ap, arith, home_of, length, subst, sym, ◌-◌, ◌<◌, ◌∙◌, ◌≡◌}
 use Rattle.std.specs.FinMap as map
 use Rattle.subtree_map.proofs.ListsLaws.{closing, room_for, room_less, say_claimed}
 use Rattle.subtree_map.proofs.lists.Lists.insert.Goals as goal

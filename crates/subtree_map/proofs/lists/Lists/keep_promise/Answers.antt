@@ -1,5 +1,4 @@
-use Rattle.subtree_map.proofs.Common.{AreEach, Handed, HaveRoom, Hears, List, Roots, Rows, Subtrees, ap, home_of, length, subst, sym, ◌<◌, ◌∙◌}
-use Rattle.std.proofs.Common.{◌≡◌, Some}
+use Rattle.subtree_map.proofs.Common.{AreEach, Handed, HaveRoom, Hears, List, Roots, Rows, Some, Subtrees, ap, home_of, length, subst, sym, ◌<◌, ◌∙◌, ◌≡◌}
 use Rattle.std.specs.FinMap as map
 use Rattle.subtree_map.proofs.ListsLaws.{closing, kept_room, say_handed}
 use Rattle.subtree_map.proofs.lists.Lists.keep_promise.Goals as goal

@@ -1,5 +1,4 @@
-use Rattle.subtree_map.proofs.Common.{AreEach, HasGrown, HasLearnt, HasSame, List, Roots, Rows, ap, arith, length, subst, with_items, ◌∙◌}
-use Rattle.std.proofs.Common.{◌+◌}
+use Rattle.subtree_map.proofs.Common.{AreEach, HasGrown, HasLearnt, HasSame, List, Roots, Rows, ap, arith, length, subst, with_items, ◌+◌, ◌∙◌}
 use Rattle.subtree_map.proofs.ListsLaws.{closing, same_value, say_grown, say_kept, say_learnt}
 use Rattle.subtree_map.proofs.lists.Lists.learn.Goals as goal
 

@@ -1,5 +1,4 @@
-use Rattle.subtree_map.proofs.Common.{AreEach, HasGrown, HasSame, Hears, List, Promised, Roots, Rows, ap, arith, home_of, length, subst, with_items, ◌<◌, ◌∙◌}
-use Rattle.std.proofs.Common.{◌≡◌, ◌+◌}
+use Rattle.subtree_map.proofs.Common.{AreEach, HasGrown, HasSame, Hears, List, Promised, Roots, Rows, ap, arith, home_of, length, subst, with_items, ◌+◌, ◌<◌, ◌∙◌, ◌≡◌}
 use Rattle.std.specs.FinMap as map
 use Rattle.subtree_map.proofs.ListsLaws.{closing, on_err, room_less, same_value, say_grown, say_kept, say_promised}
 use Rattle.subtree_map.proofs.lists.Lists.promise.Goals as goal

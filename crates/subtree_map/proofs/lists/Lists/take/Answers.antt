@@ -1,5 +1,4 @@
-use Rattle.subtree_map.proofs.Common.{AreEach, Ended, Hears, List, Roots, Rows, ap, length, subst, ◌∙◌}
-use Rattle.std.proofs.Common.{◌≡◌}
+use Rattle.subtree_map.proofs.Common.{AreEach, Ended, Hears, List, Roots, Rows, ap, length, subst, ◌∙◌, ◌≡◌}
 use Rattle.std.specs.FinMap as map
 use Rattle.subtree_map.proofs.ListsLaws.{closing, ended_room, nothing_removed, say_ended}
 use Rattle.subtree_map.proofs.lists.Lists.take.Goals as goal

@@ -1,5 +1,4 @@
-use Rattle.subtree_map.proofs.Common.{AreEach, Hears, List, Roots, Rows, Withdrawn, ap, length, subst, ◌∙◌}
-use Rattle.std.proofs.Common.{◌≡◌}
+use Rattle.subtree_map.proofs.Common.{AreEach, Hears, List, Roots, Rows, Withdrawn, ap, length, subst, ◌∙◌, ◌≡◌}
 use Rattle.std.specs.FinMap as map
 use Rattle.subtree_map.proofs.ListsLaws.{closing, say_withdrawn, withdrawn_room}
 use Rattle.subtree_map.proofs.lists.Lists.withdraw.Goals as goal

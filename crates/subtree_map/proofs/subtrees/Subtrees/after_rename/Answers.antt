@@ -1,5 +1,4 @@
-use Rattle.subtree_map.proofs.Common.{AreFilled, Fragment, IsLostRank, List, Subtrees, leaves_of, length, subst, sym}
-use Rattle.std.proofs.Common.{◌≤◌, IsSome, refl}
+use Rattle.subtree_map.proofs.Common.{AreFilled, Fragment, IsLostRank, IsSome, List, Subtrees, leaves_of, length, refl, subst, sym, ◌≤◌}
 use Rattle.subtree_map.proofs.Moved.{moves_soundly}
 use Rattle.subtree_map.proofs.Settled.{settled_filled, settled_none}
 use Rattle.subtree_map.proofs.subtrees.Subtrees.after_rename.Goals as goal

@@ -1,5 +1,4 @@
-use Rattle.subtree_map.proofs.Common.{sym, ◌∙◌}
-use Rattle.std.proofs.Common.{◌≡◌, true, false}
+use Rattle.subtree_map.proofs.Common.{false, sym, true, ◌∙◌, ◌≡◌}
 use Rattle.subtree_map.proofs.Listed.{bound_here, listed_all, listed_first, listed_push, listed_skip}
 use Rattle.subtree_map.proofs.ListsLaws.{on_err}
 use Rattle.subtree_map.proofs.Rising.{rise_all, rise_first, rise_push, rise_skip}

@@ -1,5 +1,4 @@
-use Rattle.subtree_map.proofs.Common.{Rank, Subtrees, ap, sym, ◌∙◌}
-use Rattle.std.proofs.Common.{◌≡◌}
+use Rattle.subtree_map.proofs.Common.{Rank, Subtrees, ap, sym, ◌∙◌, ◌≡◌}
 use Rattle.std.specs.FinMap as map
 use Rattle.subtree_map.proofs.CutOff.{handed}
 use Rattle.subtree_map.proofs.Options.{not_none, one_value}
