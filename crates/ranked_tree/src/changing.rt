@@ -1,5 +1,5 @@
 //! Changes of the tree, with what they make of the subtree roots.
-ghost use Rattle.std.specs.Prelude.{◌≡◌, ◌≤◌, ◌+◌, IsSome, IfSome, MatchOption, OnOk, OnErr, IfErr, length};
+ghost use Rattle.std.specs.Prelude.{◌≡◌, ◌≤◌, ◌+◌, IsOk, IsSome, IfSome, MatchOption, OnOk, OnErr, IfErr, length};
 ghost use Rattle.std.specs.List.{Contains};
 ghost use Rattle.std.specs.Result.{result_err};
 ghost use Rattle.mds_types.specs.declared.inodes.Inode.{Inode as Node};
@@ -127,7 +127,7 @@ fn moving(change: &Change) -> Option<Ino>
     }
 }
 
-// Makes room for the leaves of a directory that moves, where they lose their rank.
+// Makes room for the leaves of a directory that moves, where they lose their rank and there is none: else nothing is done.
 fn reserve_lost(
     dirs: &Dirs,
     roots: &mut Subtrees,
@@ -135,6 +135,7 @@ fn reserve_lost(
     lost: Option<Rank>,
 ) -> Result<(), Refusal>
     ensures room { OnOk result (IfSome moves (λ dir. IsSome lost → length (leaves_of dirs.now.trees dir.0) ≤ roots.new.room)) }
+    ensures ready { IfSome moves (λ dir. IsSome lost → length (leaves_of dirs.now.trees dir.0) ≤ roots.old.room) → IsOk result × (roots.new ≡ roots.old) }
     ensures same { roots.new.roots ≡ roots.old.roots }
     ensures promises { roots.new.promises ≡ roots.old.promises }
     ensures refused { IfErr result (λ reason. reason ≡ NoMemory) }

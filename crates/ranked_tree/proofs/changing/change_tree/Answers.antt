@@ -1,4 +1,4 @@
-use Rattle.ranked_tree.proofs.Common.{Covers, EndsWith, Err, Fragment, IfSome, Ino, IsNamedIn, IsOwned, IsSome, LacksToMake, List, LoseDirectory, NoneEnds, Option, Roots, Some, ap, came_cap, came_ranks, faults_in, held_in, holding, inl, inr, keeps_itself, keeps_refused, leaves_of, length, reads_keeps, reads_state, state_of, subst, sym, ◌∙◌, ◌≡◌, ◌≤◌}
+use Rattle.ranked_tree.proofs.Common.{Covers, EndsWith, Err, Fragment, IfSome, Ino, IsNamedIn, IsOwned, IsSome, LacksToMake, List, LoseDirectory, NoneEnds, Option, Roots, Some, ap, came_cap, came_ranks, faults_in, held_in, holding, inl, inr, keeps_itself, keeps_refused, leaves_of, length, reads_keeps, reads_state, refl, state_of, subst, sym, ◌∙◌, ◌≡◌, ◌≤◌}
 use Rattle.dentry_cache.specs.Reads.Reads.{stays}
 use Rattle.ranked_tree.proofs.AskLaws.{told_change}
 use Rattle.ranked_tree.proofs.CameForLaws.{changed_held, whole_came}
@@ -12,6 +12,12 @@ use Rattle.ranked_tree.proofs.changing.change_tree.Goals as goal
 
 pub returns-in-Err-clause-changed : goal.returns-in-Err-clause-changed
 returns-in-Err-clause-changed g c = (keeps_refused c.args.tree.now c.args.tree.now c.in-Err.refusal (ap faults_in c.in-Err.ensures.refused) (keeps_itself c.args.tree.now), stays, inl c.in-Err.ensures.refused)
+
+pub returns-in-Err-clause-divided : goal.returns-in-Err-clause-divided
+returns-in-Err-clause-divided g c = record {
+  owned = subst (IsOwned c.args.tree.now) (sym (ap (λ (r : Roots). holding c.args.regions.now.exports r) c.reserve_lost.ensures.same)) c.requires.divided.owned;
+  stand = stand_undone c.args.tree.now c.args.tree.now c.args.regions.now.roots c.reserve_lost.new.roots c.args.regions.now.exports c.requires.divided.stand refl refl c.reserve_lost.ensures.same c.reserve_lost.ensures.promises;
+}
 
 pub change-requires-clause-holds : goal.change-requires-clause-holds
 change-requires-clause-holds g c = hold_each (state_of c.args.tree.now) c.requires.divided.owned.sound.sound (held_in c.args.regions.now) c.args.tree.now.caches c.requires.divided.owned.held c.args.change c.requires.held
