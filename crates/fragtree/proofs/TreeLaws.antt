@@ -1,12 +1,11 @@
 -- What follows from the definitions of trees, picks, splits and merges.
-use Rattle.std.proofs.Common.{◌≡◌, ◌≢◌, ◌↔◌, inl, inr, ℕ, zero, ◌+◌, ◌%◌, ◌^◌, ◌<◌, ◌≤◌, true, false, cond, nat_lt, ◌==◌, List, [], ◌∷◌, length, refl, sym, ap, subst, ◌∙◌, arith}
-use Rattle.std.proofs.lemmas.Bool.Decides.{nat_tests}
+use Rattle.std.proofs.Common.{◌≡◌, ◌≢◌, ◌↔◌, inl, inr, ℕ, zero, ◌+◌, ◌-◌, ◌%◌, ◌^◌, ◌<◌, ◌≤◌, true, false, List, [], ◌∷◌, length, refl, sym, ap, subst, ◌∙◌, arith}
 use Rattle.std.proofs.lemmas.List.{get_or_default}
 use Rattle.std.proofs.lemmas.List.Elements.{Contains-get_or}
 use Rattle.mds_types.specs.Frag.{Fragment, IsFragment, Contains, ContainsFragment, root_fragment, span}
 use Rattle.mds_types.specs.declared.refusals.Refusal.{Refusal}
 use Rattle.mds_types.specs.declared.refusals.Refusal.TheVariants.{NoMemory, NoSuchFrag, BadSplit, TooManyFrags}
-use Rattle.fragtree.specs.FragTree.{Tiles, IsTree, HasLeaf, IsPick, IsChild, IsSplit, IsMerge, RefusesSplit, RefusesMerge, leaves_inside, lies_inside}
+use Rattle.fragtree.specs.FragTree.{Tiles, IsTree, HasLeaf, FitsSplit, IsPick, IsChild, IsSplit, IsMerge, RefusesSplit, RefusesMerge, leaves_inside, lies_inside}
 use Rattle.fragtree.proofs.Ranges.{span_pos, ends_before, ends_within, range_from_Contains, Contains-from_range, range_from_inside, range_from_quotient, quotient_from_range, lies_inside-true}
 use Rattle.fragtree.proofs.Tilings.{IsPlace, between, in_one, leaf_at, low_le_high, one_place}
 -- what is a leaf of a list of them
@@ -100,38 +99,32 @@ module _ (old new : List Fragment) (f : Fragment) (tree : IsTree new) (hash : �
       let ends = ends_within f leaf hf v.0 (omega (arith, w.0)) w.2 in
       pick_from_leaf new hash f tree stands (Contains-from_range f hash hf (omega (arith, w.1, v.1)) (omega (arith, v.2, ends)))
 
+-- a check, the reason where it fails, and what is asked where it holds
+data Turn (Holds : Type 0) (reason : Refusal) (Next : Refusal → Type 0) (a : Refusal) : Type 0 where
+  fails : (Holds → ⊥) → a ≡ reason → Turn Holds reason Next a
+  holds : Holds → Next a → Turn Holds reason Next a
+
+one_turn : (Holds : Type 0) (reason : Refusal) (Next : Refusal → Type 0) → ((a b : Refusal) → Next a → Next b → a ≡ b) → (a b : Refusal) → Turn Holds reason Next a → Turn Holds reason Next b → a ≡ b
+one_turn Holds reason Next one a b (fails not is) (fails not2 is2) = is ∙ sym is2
+one_turn Holds reason Next one a b (fails not is) (holds so next) = absurd (not so)
+one_turn Holds reason Next one a b (holds so next) (fails not is) = absurd (not so)
+one_turn Holds reason Next one a b (holds so next) (holds so2 next2) = one a b next next2
+
 pub one_split_refusal : (leaves : List Fragment) (f : Fragment) (nb : ℕ) (a b : Refusal) → RefusesSplit leaves f nb a → RefusesSplit leaves f nb b → a ≡ b
-one_split_refusal leaves f nb NoSuchFrag NoSuchFrag h k = refl
-one_split_refusal leaves f nb NoSuchFrag BadSplit h k = absurd (h k.0)
-one_split_refusal leaves f nb NoSuchFrag TooManyFrags h k = absurd (h k.0)
-one_split_refusal leaves f nb NoSuchFrag NoMemory h k = absurd (h k.stands)
-one_split_refusal leaves f nb BadSplit NoSuchFrag h k = absurd (k h.0)
-one_split_refusal leaves f nb BadSplit BadSplit h k = refl
-one_split_refusal leaves f nb BadSplit TooManyFrags h k = absurd (h.1 k.1)
-one_split_refusal leaves f nb BadSplit NoMemory h k = absurd (h.1 k.fits)
-one_split_refusal leaves f nb TooManyFrags NoSuchFrag h k = absurd (k h.0)
-one_split_refusal leaves f nb TooManyFrags BadSplit h k = absurd (k.1 h.1)
-one_split_refusal leaves f nb TooManyFrags TooManyFrags h k = refl
-one_split_refusal leaves f nb TooManyFrags NoMemory h k = absurd (omega (arith, h.2, k.few))
-one_split_refusal leaves f nb NoMemory NoSuchFrag h k = absurd (k h.stands)
-one_split_refusal leaves f nb NoMemory BadSplit h k = absurd (k.1 h.fits)
-one_split_refusal leaves f nb NoMemory TooManyFrags h k = absurd (omega (arith, h.few, k.2))
-one_split_refusal leaves f nb NoMemory NoMemory h k = refl
-one_split_refusal leaves f nb NoSuchFrag _ h k = absurd k
-one_split_refusal leaves f nb BadSplit _ h k = absurd k
-one_split_refusal leaves f nb TooManyFrags _ h k = absurd k
-one_split_refusal leaves f nb NoMemory _ h k = absurd k
-one_split_refusal leaves f nb _ b h k = absurd h
-
--- why a merge is refused where so many leaves lie inside
-abbrev merge_refusal : ℕ → Refusal
-merge_refusal count = cond (count == 0) NoSuchFrag (cond (nat_lt 256 count) TooManyFrags NoMemory)
-
-refused_so : (leaves : List Fragment) (f : Fragment) (a : Refusal) → RefusesMerge leaves f a → a ≡ merge_refusal (length (leaves_inside f leaves))
-refused_so leaves f NoSuchFrag none = ap (λ (fs : List Fragment). merge_refusal (length fs)) (sym none)
-refused_so leaves f TooManyFrags many = grind (arith, nat_tests)
-refused_so leaves f NoMemory can = let some = can.some in let few = can.few in grind (arith, nat_tests)
-refused_so leaves f _ h = absurd h
+one_split_refusal leaves f nb a b h k = one_turn _ _ _ (one_turn _ _ _ (one_turn _ _ _ (λ a b p q. p ∙ sym q))) a b (turns a h) (turns b k)
+  where
+    turns : (a : Refusal) → RefusesSplit leaves f nb a → Turn (HasLeaf leaves f) NoSuchFrag (Turn (FitsSplit f nb) BadSplit (Turn (length leaves - 1 + 2 ^ nb ≤ 4096) TooManyFrags (λ a. a ≡ NoMemory))) a
+    turns NoSuchFrag h = fails h refl
+    turns BadSplit h = holds h.0 (fails h.1 refl)
+    turns TooManyFrags h = holds h.0 (holds h.1 (fails (λ few. omega (arith, few, h.2)) refl))
+    turns NoMemory h = holds h.stands (holds h.fits (holds h.few refl))
+    turns _ h = absurd h
 
 pub one_merge_refusal : (leaves : List Fragment) (f : Fragment) (a b : Refusal) → RefusesMerge leaves f a → RefusesMerge leaves f b → a ≡ b
-one_merge_refusal leaves f a b h k = refused_so leaves f a h ∙ sym (refused_so leaves f b k)
+one_merge_refusal leaves f a b h k = one_turn _ _ _ (one_turn _ _ _ (λ a b p q. p ∙ sym q)) a b (turns a h) (turns b k)
+  where
+    turns : (a : Refusal) → RefusesMerge leaves f a → Turn (1 ≤ length (leaves_inside f leaves)) NoSuchFrag (Turn (length (leaves_inside f leaves) ≤ 256) TooManyFrags (λ a. a ≡ NoMemory)) a
+    turns NoSuchFrag h = fails (λ some. omega (arith, some, ap (length {A = Fragment}) h)) refl
+    turns TooManyFrags h = holds (omega (arith, h)) (fails (λ few. omega (arith, few, h)) refl)
+    turns NoMemory h = holds h.some (holds h.few refl)
+    turns _ h = absurd h
