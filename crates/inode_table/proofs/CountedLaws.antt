@@ -1,5 +1,5 @@
 -- How many entries each directory has, beside the tree: the counts stay the tree's where entries come and go.
-use Rattle.std.proofs.Common.{◌≡◌, ◌==◌, ℕ, ◌+◌, ◌-◌, ◌<◌, Bool, true, false, cond, is_some, Option, Some, None, ⊎_elim, refl, sym, ap, subst, ◌∙◌, arith}
+use Rattle.std.proofs.Common.{◌≡◌, ◌==◌, ℕ, ◌+◌, ◌-◌, ◌<◌, true, false, cond, is_some, Option, Some, None, ⊎_elim, refl, sym, ap, subst, ◌∙◌, arith}
 use Rattle.std.proofs.lemmas.Bool.{cond_both, eqb-true}
 use Rattle.std.specs.Ordering.{nat_cmp}
 use Rattle.std.specs.FinMap as map
@@ -12,18 +12,16 @@ use Rattle.mds_types.proofs.CountLaws.{entries_come, entries_go, entries_set, no
 use Rattle.mds_types.proofs.DirectoryLaws.{StandsAs, directory_stands}
 use Rattle.mds_types.proofs.EntryLaws.{get_left, stands_after_put}
 use Rattle.mds_types.proofs.MovedLaws.{MayMove, may_move}
-use Rattle.sorted_map.proofs.NatKeys.{get_beside, get_left as get_left_count, get_put, get_removed, is_same, same_or_apart}
+use Rattle.sorted_map.proofs.NatKeys.{get_beside, get_left as get_left_count, get_put, get_removed, is_apart, is_same, same_or_apart}
 use Rattle.inode_table.specs.Dirs.{Counts, count_of, one_less, one_more, or_zero}
 use Rattle.inode_table.specs.TreeChanges.{MayAdd}
 use Rattle.inode_table.specs.TreeTable.{HoldsCounts, counts_moved}
 
 -- the count of a directory once that of one was set
 pub count_set : (counts : Counts) (k n d : ℕ) → count_of (map.insert counts k n) d ≡ cond (k == d) n (count_of counts d)
-count_set counts k n d = go (k == d) refl
-  where
-    go : (b : Bool) → (k == d) ≡ b → count_of (map.insert counts k n) d ≡ cond b n (count_of counts d)
-    go true is = ap (count_of (map.insert counts k n)) (sym (eqb-true k d is)) ∙ ap or_zero (get_put counts k n)
-    go false is = ap or_zero (get_beside counts k n d (λ same. let clash : true ≡ false = sym (is_same k d (sym same)) ∙ is in cc))
+count_set counts k n d =
+    ⊎_elim (λ same. ap (count_of (map.insert counts k n)) (sym same) ∙ ap or_zero (get_put counts k n) ∙ sym (ap (λ b. cond b n (count_of counts d)) (is_same k d same)))
+    (λ apart. ap or_zero (get_beside counts k n d (λ same. apart (sym same))) ∙ sym (ap (λ b. cond b n (count_of counts d)) (is_apart k d apart))) (same_or_apart k d)
 
 -- and of another directory
 pub count_apart : (counts : Counts) (k n d : ℕ) → (k == d) ≡ false → count_of (map.insert counts k n) d ≡ count_of counts d

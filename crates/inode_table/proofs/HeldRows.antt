@@ -5,7 +5,7 @@ use Rattle.std.specs.Ordering.{nat_cmp}
 use Rattle.std.specs.FinMap as map
 use Rattle.mds_types.specs.declared.dentries.Dentry.{Dentry}
 use Rattle.mds_types.specs.declared.inodes.Inode.{Inode}
-use Rattle.mds_types.specs.Tree.{Tree, is_dir_kind, IsWellFormed}
+use Rattle.mds_types.specs.Tree.{Tree, is_dir_kind, IsUnused, IsWellFormed}
 use Rattle.mds_types.specs.Step.{with_moved}
 use Rattle.mds_types.proofs.DirectoryLaws.{one_dentry}
 use Rattle.mds_types.proofs.EntryLaws.{get_put, get_beside, get_left, stands_after_put, stands_after_removal}
@@ -45,16 +45,11 @@ module _ {X : Type 0} (rows changed : map.FinMap nat_cmp X) (inode : Inode) wher
 -- what has a value then is the inode, or had it before
 pub back : {X : Type 0} (rows new : map.FinMap nat_cmp X) (inode : Inode) → Differ rows new inode → (d : ℕ) (x : X) → map.get new d ≡ Some x
     → ((d ≡ inode.ino.0) × (is_dir_kind inode.kind ≡ true)) ⊎ ((is_dir_kind inode.kind ≡ true → d ≡ inode.ino.0 → ⊥) × (map.get rows d ≡ Some x))
-back rows new inode differ d x is = go (cases_Bool (is_dir_kind inode.kind)) (same_number d inode.ino.0)
+back rows new inode differ d x is =
+    ⊎_elim (λ kinded. ⊎_elim (λ same. inl (same, kinded)) (λ apart. before (λ k. apart)) (same_number d inode.ino.0)) (λ file. before (λ k same. let clash : true ≡ false = sym k ∙ file in cc)) (cases_Bool (is_dir_kind inode.kind))
   where
     before : (is_dir_kind inode.kind ≡ true → d ≡ inode.ino.0 → ⊥) → ((d ≡ inode.ino.0) × (is_dir_kind inode.kind ≡ true)) ⊎ ((is_dir_kind inode.kind ≡ true → d ≡ inode.ino.0 → ⊥) × (map.get rows d ≡ Some x))
     before apart = inr (apart, sym (differ d apart) ∙ is)
-
-    go : (is_dir_kind inode.kind ≡ true) ⊎ (is_dir_kind inode.kind ≡ false) → (d ≡ inode.ino.0) ⊎ (d ≡ inode.ino.0 → ⊥)
-        → ((d ≡ inode.ino.0) × (is_dir_kind inode.kind ≡ true)) ⊎ ((is_dir_kind inode.kind ≡ true → d ≡ inode.ino.0 → ⊥) × (map.get rows d ≡ Some x))
-    go (inl kinded) (inl same) = inl (same, kinded)
-    go kinded (inr apart) = before (λ k. apart)
-    go (inr kinded) same = before (λ k e. let clash : true ≡ false = sym k ∙ kinded in cc)
 
 -- a number is not that of a directory that went
 abbrev pub Spares : Option Inode → ℕ → Type 0
@@ -71,6 +66,14 @@ module _ {X : Type 0} (rows : map.FinMap nat_cmp X) where
       ⊎_elim (λ w. let clash : None ≡ Some x = sym (dir_here rows _ t None (get_removed_row rows t.ino.0) w.1) ∙ ap (map.get (without_row rows (Some t))) (sym w.0) ∙ is in absurd cc)
       (λ w. (λ u one. let alike : t ≡ u = cc in subst (λ (i : Inode). is_dir_kind i.kind ≡ true → q ≡ i.ino.0 → ⊥) alike w.0, w.1))
       (back rows _ t (dir_differ rows _ t (get_left_row rows t.ino.0)) q x is)
+
+-- what has an unused number has no value
+pub none_unused : {X : Type 0} (value : Dentry → Inode → Option X) (tree : Tree) (rows : map.FinMap nat_cmp X) → Holds value tree rows → (n : ℕ) → IsUnused tree n → map.get rows n ≡ None
+none_unused value tree rows holds n unused = go (map.get rows n) refl
+  where
+    go : (o : Option _) → map.get rows n ≡ o → o ≡ None
+    go None is = refl
+    go (Some x) is = let w = holds.stands n x is in absurd (unused.not_there w.0.dir.0 w.0.name w.1 w.2 w.3)
 
 -- ---- the changes
 

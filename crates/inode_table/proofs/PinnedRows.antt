@@ -13,11 +13,11 @@ under x y is = ranked x y Less (sym is)
 -- a row that is found behind another has a greater number
 behind : (first : ℕ) (es : List (ℕ × Directory)) (d : ℕ) → T (below_all nat_cmp first es) → IsSome (find nat_cmp d es) → first < d
 behind first [] d below some = let clash : false ≡ true = some in cc
-behind first (e ∷ es) d below some = go (eq_by_cmp nat_cmp d e.0) refl some (behind first es d (right_of _ _ below))
-  where
-    go : (b : Bool) → eq_by_cmp nat_cmp d e.0 ≡ b → IsSome (cond b (Some e.1) (find nat_cmp d es)) → (IsSome (find nat_cmp d es) → first < d) → first < d
-    go true tied its more = subst (λ (n : ℕ). first < n) (sym (nat_cmp-IsAntisymmetric d e.0 (tie _ tied))) (under first e.0 (less_of _ (left_of _ _ below)))
-    go false apart its more = more its
+behind first (e ∷ es) d below some =
+    elim (eq_by_cmp nat_cmp d e.0) as (λ b. eq_by_cmp nat_cmp d e.0 ≡ b → IsSome (cond b (Some e.1) (find nat_cmp d es)) → first < d) [
+      | true ↦ λ tied its. subst (λ (n : ℕ). first < n) (sym (nat_cmp-IsAntisymmetric d e.0 (tie _ tied))) (under first e.0 (less_of _ (left_of _ _ below)))
+      | false ↦ λ apart its. behind first es d (right_of _ _ below) its
+    ] refl some
 
 there : (o : Option Directory) → IsSome (pin_in o) → IsSome o
 there None none = none
