@@ -133,9 +133,7 @@ around homes height x rootless tall (suc m) y less (h, is, reaches) =
     (h, get_left homes x y apart ∙ is, around homes height x rootless tall m h.parent.0 (omega arith) reaches)
   where
     apart : y ≡ x → ⊥
-    apart same =
-        let length : height ≡ suc m = same_height homes height (suc m) x rootless tall (subst (λ z. Reaches homes (suc m) z) same (h, is, reaches)) in
-        omega arith
+    apart same = omega (arith, same_height homes height (suc m) x rootless tall (subst (λ z. Reaches homes (suc m) z) same (h, is, reaches)), less)
 
 -- a table has one directory fewer without one of its own
 one_fewer : (homes : Homes) (x : ℕ) (home : Home) → map.get homes x ≡ Some home → suc (map.len (map.remove homes x)) ≡ map.len homes
@@ -150,9 +148,7 @@ within_table zero homes x rootless root = omega arith
 within_table (suc n) homes x rootless (h, is, reaches) =
     let left = map.remove homes x in
     let none : map.get left 1 ≡ None = get_left homes x 1 (λ same. not_root homes x h rootless is (sym same)) ∙ rootless in
-    let rest = within_table n left h.parent.0 none (around homes (suc n) x rootless (h, is, reaches) n h.parent.0 (omega arith) reaches) in
-    let fewer = one_fewer homes x h is in
-    omega arith
+    omega (arith, within_table n left h.parent.0 none (around homes (suc n) x rootless (h, is, reaches) n h.parent.0 (omega arith) reaches), one_fewer homes x h is)
 
 -- a step to the parent is one step less to go
 pub nearer : (homes : Homes) (x : ℕ) (home : Home) → IsRooted homes → map.get homes x ≡ Some home → climbed (map.len homes) homes home.parent.0 < climbed (map.len homes) homes x

@@ -30,9 +30,7 @@ within_tree tree d =
     let both = retained dentry-total dentry-exact (is_in d) (map.entries tree) kept (entries_sorted tree) refl in
     let passed : map.len (map.retain_keys tree (is_in d)) ≡ length kept =
     ap (λ (m : Tree). map.len (map.retain_keys m (is_in d))) (sym (contents-entries tree)) ∙ ap (λ (m : Tree). map.len m) (sym both.1) ∙ sym (len_shown dentry_cmp kept both.0) in
-    let few = length-filter_both (λ (e : Dentry × Inode). is_in d e.0) (λ e. not (is_in d e.0)) (λ e. refl) (map.entries tree) in
-    let all = len-entries tree in
-    omega (arith, passed, few, all)
+    omega (arith, passed, length-filter_both (λ (e : Dentry × Inode). is_in d e.0) (λ e. not (is_in d e.0)) (λ e. refl) (map.entries tree), len-entries tree)
 
 -- ---- the entries before some were counted
 
@@ -47,10 +45,7 @@ pub record IsCountedTo (tree : Tree) (left : Entries) (counts : Counts) (pins : 
 pub counted_none : (tree : Tree) (left : Entries) (counts : Counts) (pins : DirPins) → left ≡ map.entries tree → IsCounted map.empty counts pins → IsCountedTo tree left counts pins
 counted_none tree left counts pins all none = subst (λ (es : Entries). IsCountedTo tree es counts pins) (sym all) (record {
   sorted = entries_sorted tree;
-  each = λ d.
-      let zero_is : count_of counts d ≡ 0 = none.each d ∙ none_in_empty d in
-      let whole : entries_in (rest_of (map.entries tree)) d ≡ entries_in tree d = ap (λ (t : Tree). entries_in t d) (contents-entries tree) in
-      omega (arith, zero_is, whole);
+  each = λ d. omega (arith, none.each d, none_in_empty d, ap (λ (t : Tree). entries_in t d) (contents-entries tree));
   within = λ q x is. ap (λ (t : Tree). map.get t q) (sym (contents-entries tree)) ∙ is;
   listed = λ q x is kinded. inl (ap (λ (t : Tree). map.get t q) (contents-entries tree) ∙ is);
   stands = λ d rank is.
@@ -62,10 +57,7 @@ counted_none tree left counts pins all none = subst (λ (es : Entries). IsCounte
 -- all were
 pub counted_all : (tree : Tree) (left : Entries) (counts : Counts) (pins : DirPins) → left ≡ [] → IsCountedTo tree left counts pins → IsCounted tree counts pins
 counted_all tree left counts pins none to = record {
-  each = λ d.
-      let all = to.each d in
-      let nothing : entries_in (rest_of left) d ≡ 0 = ap (λ (t : Tree). entries_in t d) is_empty ∙ none_in_empty d in
-      omega (arith, all, nothing);
+  each = λ d. omega (arith, to.each d, ap (λ (t : Tree). entries_in t d) is_empty, none_in_empty d);
   pinned = record {
     listed = λ q x stands kinded.
         ⊎_elim (λ more. let clash : None ≡ Some x = sym (get-empty dentry_cmp q) ∙ ap (λ (t : Tree). map.get t q) (sym is_empty) ∙ more in absurd cc) (λ pinned. pinned) (to.listed q x stands kinded);
@@ -94,11 +86,7 @@ module _ (tree : Tree) (homes : Homes) (tabled : IsTabled tree homes) (left more
   next_known = known_is tree homes tabled e.0.dir.0 ∙ tabled.whole.parents e.0.dir.0 e.0.name e.1 in_tree
 
   pub next_few : map.len tree < 2 ^ 64 → count_of counts e.0.dir.0 < 2 ^ 64 - 1
-  next_few fits =
-      let all = to.each e.0.dir.0 in
-      let some = some_in (rest_of (e ∷ more)) e.0 e.1 in_rest in
-      let most = within_tree tree e.0.dir.0 in
-      omega (arith, all, some, most, fits)
+  next_few fits = omega (arith, to.each e.0.dir.0, some_in (rest_of (e ∷ more)) e.0 e.1 in_rest, within_tree tree e.0.dir.0, fits)
 
   pub next_listed : is_dir_kind e.1.kind ≡ true → is_some (map.get homes e.1.ino.0) ≡ true
   next_listed kinded = ap is_some (home_of tree homes tabled e.0 e.1 e.1.ino.0 in_tree refl kinded)
@@ -106,9 +94,7 @@ module _ (tree : Tree) (homes : Homes) (tabled : IsTabled tree homes) (left more
   one_counted : (d : ℕ) → count_of (one_more counts e.0.dir.0) d + entries_in (rest_of more) d ≡ entries_in tree d
   one_counted d =
       let now = ap (λ (t : Tree). entries_in t d) taken.1 ∙ entries_go (rest_of (e ∷ more)) d e.0 e.1 in_rest in
-      let counted = count_set counts e.0.dir.0 (count_of counts e.0.dir.0 + 1) d in
-      let some = some_in (rest_of (e ∷ more)) e.0 e.1 in_rest in
-      grind (arith, to.each d, now, counted, some)
+      grind (arith, to.each d, now, count_set counts e.0.dir.0 (count_of counts e.0.dir.0 + 1) d, some_in (rest_of (e ∷ more)) e.0 e.1 in_rest)
 
   -- the next one is counted
   pub counted_next : IsCountedTo tree more (one_more counts e.0.dir.0) (with_pin pins e.1)
