@@ -156,10 +156,8 @@ nearer homes x home rooted is =
     let up = rooted.rooted x home is in
     let rest = parent_reaches homes up.0 x home rooted.rootless is up.1 in
     let few : up.0 ≤ map.len homes = within_table up.0 homes x rooted.rootless up.1 in
-    let here : climbed (map.len homes) homes x ≡ up.0 = climbed_is (map.len homes) homes up.0 x rooted.rootless up.1 few in
-    let longer : up.0 ≡ suc rest.0 = rest.1 in
-    let there : climbed (map.len homes) homes home.parent.0 ≡ rest.0 = climbed_is (map.len homes) homes rest.0 home.parent.0 rooted.rootless rest.2 (omega arith) in
-    omega arith
+    let there = climbed_is (map.len homes) homes rest.0 home.parent.0 rooted.rootless rest.2 (omega (arith, few, rest.1)) in
+    omega (arith, climbed_is (map.len homes) homes up.0 x rooted.rootless up.1 few, rest.1, there)
 
 -- where a directory isn't the parent of x, it is above x exactly if it is above the parent of x
 pub above_parent : (homes : Homes) (d x : ℕ) (home : Home) → map.get homes x ≡ Some home → (home.parent.0 ≡ d → ⊥) → IsAbove homes d x ↔ IsAbove homes d home.parent.0

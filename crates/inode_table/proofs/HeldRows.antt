@@ -88,11 +88,12 @@ module _ {X : Type 0} (value : Dentry → Inode → Option X) (tree : Tree) (row
         (λ w. differ x.ino.0 (λ k. other q x w.0 w.1) ∙ holds.listed q x w.1 dir) (stands_after_put tree dentry inode q x h);
     stands = λ d x is.
         ⊎_elim (λ w. (dentry, inode, get_put tree dentry inode, sym w.0, w.1))
-        (λ w. let s = holds.stands d x w.1 in (s.0, s.1, get_beside tree dentry inode s.0 (elsewhere d s.0 s.1 s.2 s.3 s.4 w.0) ∙ s.2, s.3, s.4)) (back rows new inode differ d x is);
+        (λ w.
+        let s = holds.stands d x w.1 in
+        let before : s.0 ≡ dentry → (s.1.ino.0 ≡ inode.ino.0) × (is_dir_kind s.1.kind ≡ is_dir_kind inode.kind) = λ same. was s.1 (ap (λ p. map.get tree p) (sym same) ∙ s.2) in
+        (s.0, s.1, get_beside tree dentry inode s.0 (λ same. w.0 (sym (before same).1 ∙ s.4) (sym s.3 ∙ (before same).0)) ∙ s.2, s.3, s.4))
+        (back rows new inode differ d x is);
   }
-    where
-      elsewhere : (d : ℕ) (q : Dentry) (x : Inode) → map.get tree q ≡ Some x → x.ino.0 ≡ d → is_dir_kind x.kind ≡ true → (is_dir_kind inode.kind ≡ true → d ≡ inode.ino.0 → ⊥) → q ≡ dentry → ⊥
-      elsewhere d q x stands numbered dir apart same = let before = was x (ap (λ p. map.get tree p) (sym same) ∙ stands) in apart (sym before.1 ∙ dir) (sym numbered ∙ before.0)
 
   -- an entry goes
   pub removed_held : (dentry : Dentry) (gone : Inode) → map.get tree dentry ≡ Some gone → Holds value (map.remove tree dentry) (without_row rows (Some gone))
