@@ -45,7 +45,8 @@ empty_rooted = record {
 }
 
 -- a directory gets a home that is not below it
-placed_rooted : (homes : Homes) (d : ℕ) (home : Home) → IsRooted homes → (d ≡ 1 → ⊥) → is_known homes home.parent.0 ≡ true → (home.parent.0 ≡ d → ⊥) → (IsAbove homes d home.parent.0 → ⊥) → IsRooted (map.insert homes d home)
+placed_rooted : (homes : Homes) (d : ℕ) (home : Home) → IsRooted homes → (d ≡ 1 → ⊥) → is_known homes home.parent.0 ≡ true → (home.parent.0 ≡ d → ⊥)
+    → (IsAbove homes d home.parent.0 → ⊥) → IsRooted (map.insert homes d home)
 placed_rooted homes d home rooted below known other not_below = record {
   rootless = get_beside homes d home 1 (λ same. below (sym same)) ∙ rooted.rootless;
   rooted = λ x h is. ⊎_elim (moved x) (λ apart. let before = rooted.rooted x h (sym (get_beside homes d home x apart) ∙ is) in still before.0 x before.1) (same_or_apart x d);

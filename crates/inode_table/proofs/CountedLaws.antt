@@ -75,7 +75,8 @@ moved_counts tree counts from to inode whole holds move = go (map.get tree to) r
     go None free =
         let came = comes (map.remove tree from) (one_less counts from.dir.0) gone to inode (stays None free) in
         cond_both (from.dir.0 == to.dir.0) counts (one_more (one_less counts from.dir.0) to.dir.0) (HoldsCounts (with_moved tree from to inode))
-        (λ is d. sym (less_and_more counts from.dir.0 d (subst (λ n. 0 < n) (sym (holds from.dir.0)) (some_in tree from inode may.stands))) ∙ ap (λ k. count_of (one_more (one_less counts from.dir.0) k) d) (eqb-true from.dir.0 to.dir.0 is) ∙ came d) (λ is. came)
+        (λ is d.
+        sym (less_and_more counts from.dir.0 d (subst (λ n. 0 < n) (sym (holds from.dir.0)) (some_in tree from inode may.stands))) ∙ ap (λ k. count_of (one_more (one_less counts from.dir.0) k) d) (eqb-true from.dir.0 to.dir.0 is) ∙ came d) (λ is. came)
 
 -- the root alone, in which nothing is
 pub empty_counted : HoldsCounts map.empty (map.insert map.empty 1 0)
