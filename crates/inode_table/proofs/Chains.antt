@@ -45,7 +45,8 @@ empty_rooted = record {
 }
 
 -- a directory gets a home that is not below it
-placed_rooted : (homes : Homes) (d : ℕ) (home : Home) → IsRooted homes → (d ≡ 1 → ⊥) → is_known homes home.parent.0 ≡ true → (home.parent.0 ≡ d → ⊥) → (IsAbove homes d home.parent.0 → ⊥) → IsRooted (map.insert homes d home)
+placed_rooted : (homes : Homes) (d : ℕ) (home : Home) → IsRooted homes → (d ≡ 1 → ⊥) → is_known homes home.parent.0 ≡ true → (home.parent.0 ≡ d → ⊥)
+    → (IsAbove homes d home.parent.0 → ⊥) → IsRooted (map.insert homes d home)
 placed_rooted homes d home rooted below known other not_below = record {
   rootless = get_beside homes d home 1 (λ same. below (sym same)) ∙ rooted.rootless;
   rooted = λ x h is. ⊎_elim (moved x) (λ apart. let before = rooted.rooted x h (sym (get_beside homes d home x apart) ∙ is) in still before.0 x before.1) (same_or_apart x d);
@@ -133,9 +134,7 @@ around homes height x rootless tall (suc m) y less (h, is, reaches) =
     (h, get_left homes x y apart ∙ is, around homes height x rootless tall m h.parent.0 (omega arith) reaches)
   where
     apart : y ≡ x → ⊥
-    apart same =
-        let length : height ≡ suc m = same_height homes height (suc m) x rootless tall (subst (λ z. Reaches homes (suc m) z) same (h, is, reaches)) in
-        omega arith
+    apart same = omega (arith, same_height homes height (suc m) x rootless tall (subst (λ z. Reaches homes (suc m) z) same (h, is, reaches)), less)
 
 -- a table has one directory fewer without one of its own
 one_fewer : (homes : Homes) (x : ℕ) (home : Home) → map.get homes x ≡ Some home → suc (map.len (map.remove homes x)) ≡ map.len homes
@@ -150,9 +149,7 @@ within_table zero homes x rootless root = omega arith
 within_table (suc n) homes x rootless (h, is, reaches) =
     let left = map.remove homes x in
     let none : map.get left 1 ≡ None = get_left homes x 1 (λ same. not_root homes x h rootless is (sym same)) ∙ rootless in
-    let rest = within_table n left h.parent.0 none (around homes (suc n) x rootless (h, is, reaches) n h.parent.0 (omega arith) reaches) in
-    let fewer = one_fewer homes x h is in
-    omega arith
+    omega (arith, within_table n left h.parent.0 none (around homes (suc n) x rootless (h, is, reaches) n h.parent.0 (omega arith) reaches), one_fewer homes x h is)
 
 -- a step to the parent is one step less to go
 pub nearer : (homes : Homes) (x : ℕ) (home : Home) → IsRooted homes → map.get homes x ≡ Some home → climbed (map.len homes) homes home.parent.0 < climbed (map.len homes) homes x
@@ -160,10 +157,8 @@ nearer homes x home rooted is =
     let up = rooted.rooted x home is in
     let rest = parent_reaches homes up.0 x home rooted.rootless is up.1 in
     let few : up.0 ≤ map.len homes = within_table up.0 homes x rooted.rootless up.1 in
-    let here : climbed (map.len homes) homes x ≡ up.0 = climbed_is (map.len homes) homes up.0 x rooted.rootless up.1 few in
-    let longer : up.0 ≡ suc rest.0 = rest.1 in
-    let there : climbed (map.len homes) homes home.parent.0 ≡ rest.0 = climbed_is (map.len homes) homes rest.0 home.parent.0 rooted.rootless rest.2 (omega arith) in
-    omega arith
+    let there = climbed_is (map.len homes) homes rest.0 home.parent.0 rooted.rootless rest.2 (omega (arith, few, rest.1)) in
+    omega (arith, climbed_is (map.len homes) homes up.0 x rooted.rootless up.1 few, rest.1, there)
 
 -- where a directory isn't the parent of x, it is above x exactly if it is above the parent of x
 pub above_parent : (homes : Homes) (d x : ℕ) (home : Home) → map.get homes x ≡ Some home → (home.parent.0 ≡ d → ⊥) → IsAbove homes d x ↔ IsAbove homes d home.parent.0

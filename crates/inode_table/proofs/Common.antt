@@ -1,9 +1,9 @@
 -- Names of other crates, and of this one's definitions, as the proofs of this crate take them.
 pub use Rattle.fragtree.specs.FragTree.{CanSplit, IsPick, IsSplit, IsTree}
-pub use Rattle.inode_table.specs.Dirs.{Counts, Covers, DirPins, Homes, IsAbove, IsTable, Table, count_of, is_known, leaves_of, one_less, one_more, or_whole, or_zero, parent, pinned_at}
+pub use Rattle.inode_table.specs.Dirs.{Counts, DirPins, Homes, IsAbove, IsTable, Table, count_of, is_known, leaves_of, one_more, or_whole, or_zero, parent, pinned_at}
 pub use Rattle.inode_table.specs.Order.{dirs_after, trees_after}
 pub use Rattle.inode_table.specs.Pinned.{IsAfter, IsFirstPinned, IsNextPinned}
-pub use Rattle.inode_table.specs.Rows.{Rows, counts_of, covers_of, has_pin, homes_of, leaves_in, or_first, pin_in, pins_of}
+pub use Rattle.inode_table.specs.Rows.{Rows, counts_of, covers_of, homes_of, leaves_in, or_first, pin_in, pins_of}
 pub use Rattle.inode_table.specs.TreeTable.{IsCounted, IsTabled, with_pin}
 pub use Rattle.inode_table.specs.declared.dirs.Directory.{Directory}
 pub use Rattle.mds_types.proofs.CountLaws.{entries_go, none_in_empty, some_in}
@@ -21,17 +21,15 @@ pub use Rattle.mds_types.specs.declared.refusals.Refusal.{Refusal}
 pub use Rattle.sorted_map.proofs.Bools.{left_of, right_of}
 pub use Rattle.sorted_map.proofs.ContentLaws.{first_taken, len_shown, retained}
 pub use Rattle.sorted_map.proofs.MapLaws.{contents-entries, tie}
-pub use Rattle.sorted_map.proofs.NatKeys.{get_beside, get_put, get_removed, same_or_apart}
+pub use Rattle.sorted_map.proofs.NatKeys.{get_beside, get_put}
 pub use Rattle.sorted_map.specs.SortedMap.{contents, shown}
-pub use Rattle.std.proofs.Common.{Bool, Err, List, None, Ok, OnErr, OnOk, Option, Result, Some, T, [], ap, arith, cond, false, inl, inr, is_some, length, option_map, refl, rules, subst, subst₂, sym, true, ℕ, ⊎_elim, ◌+◌, ◌-◌, ◌<◌, ◌^◌, ◌↔◌, ◌∙◌, ◌∷◌, ◌≡◌, ◌≤◌, ◌⊎◌}
-pub use Rattle.std.proofs.lemmas.Bool.{eqb-true, not-true}
+pub use Rattle.std.proofs.Common.{Err, List, None, Ok, OnErr, OnOk, Option, Result, Some, T, [], ap, arith, cond, false, inl, inr, is_some, length, option_map, refl, rules, subst, subst₂, sym, true, ℕ, ⊎_elim, ◌+◌, ◌-◌, ◌<◌, ◌^◌, ◌↔◌, ◌∙◌, ◌∷◌, ◌≡◌, ◌≤◌, ◌⊎◌}
+pub use Rattle.std.proofs.lemmas.Bool.{not-true}
 pub use Rattle.std.proofs.lemmas.Cmp.{ranked}
-pub use Rattle.std.proofs.lemmas.Result.{on_err_weaker, on_ok_weaker}
 pub use Rattle.std.specs.Cmp.{nat_cmp_total, tied_itself}
-pub use Rattle.std.specs.FinMap.{entries-from_sorted, entries_sorted, find, get-empty, get-entries, get-from_sorted, get-retain_keys, is_sorted, len-entries, nat_cmp-IsAntisymmetric, same_entries_map, same_map}
+pub use Rattle.std.specs.FinMap.{entries_sorted, find, get-empty, get-entries, get-from_sorted, is_sorted, len-entries, nat_cmp-IsAntisymmetric}
 pub use Rattle.std.specs.FinMap.Entries.{below_all, find-where_key, is_sorted-where_key, where_key}
 pub use Rattle.std.specs.Option.{option_copied}
-pub use Rattle.std.specs.Ordering.{MatchOrdering, eq_by_cmp, is_eq, is_lt, nat_cmp}
-pub use Rattle.std.specs.Prelude.{IsSome, filter, slice_get}
-pub use Rattle.std.specs.declared.cmp.Ordering.{Ordering}
-pub use Rattle.std.specs.declared.cmp.Ordering.TheVariants.{Equal, Greater, Less}
+pub use Rattle.std.specs.Ordering.{eq_by_cmp, is_eq, is_lt, nat_cmp}
+pub use Rattle.std.specs.Prelude.{IsSome, slice_get}
+pub use Rattle.std.specs.declared.cmp.Ordering.TheVariants.{Less}

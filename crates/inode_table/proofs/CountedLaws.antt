@@ -1,5 +1,5 @@
 -- How many entries each directory has, beside the tree: the counts stay the tree's where entries come and go.
-use Rattle.std.proofs.Common.{◌≡◌, ◌==◌, ℕ, ◌+◌, ◌-◌, ◌<◌, Bool, true, false, cond, is_some, Option, Some, None, ⊎_elim, refl, sym, ap, subst, ◌∙◌, arith}
+use Rattle.std.proofs.Common.{◌≡◌, ◌==◌, ℕ, ◌+◌, ◌-◌, ◌<◌, true, false, cond, is_some, Option, Some, None, ⊎_elim, refl, sym, ap, subst, ◌∙◌, arith}
 use Rattle.std.proofs.lemmas.Bool.{cond_both, eqb-true}
 use Rattle.std.specs.Ordering.{nat_cmp}
 use Rattle.std.specs.FinMap as map
@@ -12,18 +12,16 @@ use Rattle.mds_types.proofs.CountLaws.{entries_come, entries_go, entries_set, no
 use Rattle.mds_types.proofs.DirectoryLaws.{StandsAs, directory_stands}
 use Rattle.mds_types.proofs.EntryLaws.{get_left, stands_after_put}
 use Rattle.mds_types.proofs.MovedLaws.{MayMove, may_move}
-use Rattle.sorted_map.proofs.NatKeys.{get_beside, get_left as get_left_count, get_put, get_removed, is_same, same_or_apart}
+use Rattle.sorted_map.proofs.NatKeys.{get_beside, get_left as get_left_count, get_put, get_removed, is_apart, is_same, same_or_apart}
 use Rattle.inode_table.specs.Dirs.{Counts, count_of, one_less, one_more, or_zero}
 use Rattle.inode_table.specs.TreeChanges.{MayAdd}
 use Rattle.inode_table.specs.TreeTable.{HoldsCounts, counts_moved}
 
 -- the count of a directory once that of one was set
 pub count_set : (counts : Counts) (k n d : ℕ) → count_of (map.insert counts k n) d ≡ cond (k == d) n (count_of counts d)
-count_set counts k n d = go (k == d) refl
-  where
-    go : (b : Bool) → (k == d) ≡ b → count_of (map.insert counts k n) d ≡ cond b n (count_of counts d)
-    go true is = ap (count_of (map.insert counts k n)) (sym (eqb-true k d is)) ∙ ap or_zero (get_put counts k n)
-    go false is = ap or_zero (get_beside counts k n d (λ same. let clash : true ≡ false = sym (is_same k d (sym same)) ∙ is in cc))
+count_set counts k n d =
+    ⊎_elim (λ same. ap (count_of (map.insert counts k n)) (sym same) ∙ ap or_zero (get_put counts k n) ∙ sym (ap (λ b. cond b n (count_of counts d)) (is_same k d same)))
+    (λ apart. ap or_zero (get_beside counts k n d (λ same. apart (sym same))) ∙ sym (ap (λ b. cond b n (count_of counts d)) (is_apart k d apart))) (same_or_apart k d)
 
 -- and of another directory
 pub count_apart : (counts : Counts) (k n d : ℕ) → (k == d) ≡ false → count_of (map.insert counts k n) d ≡ count_of counts d
@@ -32,10 +30,7 @@ count_apart counts k n d apart = count_set counts k n d ∙ ap (λ b. cond b n (
 module _ (tree : Tree) (counts : Counts) (holds : HoldsCounts tree counts) where
   -- an entry comes to a free dentry,
   pub comes : (p : Dentry) (x : Inode) → map.get tree p ≡ None → HoldsCounts (map.insert tree p x) (one_more counts p.dir.0)
-  comes p x free d =
-      let set = count_set counts p.dir.0 (count_of counts p.dir.0 + 1) d in
-      let come = entries_come tree d p x free in
-      grind (arith, set, come, holds p.dir.0, holds d)
+  comes p x free d = grind (arith, count_set counts p.dir.0 (count_of counts p.dir.0 + 1) d, entries_come tree d p x free, holds p.dir.0, holds d)
 
   -- one is set,
   pub set : (p : Dentry) (was x : Inode) → map.get tree p ≡ Some was → HoldsCounts (map.insert tree p x) counts
@@ -43,10 +38,7 @@ module _ (tree : Tree) (counts : Counts) (holds : HoldsCounts tree counts) where
 
   -- and one goes
   pub goes : (p : Dentry) (was : Inode) → map.get tree p ≡ Some was → HoldsCounts (map.remove tree p) (one_less counts p.dir.0)
-  goes p was stands d =
-      let set = count_set counts p.dir.0 (count_of counts p.dir.0 - 1) d in
-      let go = entries_go tree d p was stands in
-      grind (arith, set, go, holds p.dir.0, holds d)
+  goes p was stands d = grind (arith, count_set counts p.dir.0 (count_of counts p.dir.0 - 1) d, entries_go tree d p was stands, holds p.dir.0, holds d)
 
   -- a directory in which nothing is has the count 0, or none
   module _ (k : ℕ) (nothing : NothingIn tree k) where
@@ -78,15 +70,13 @@ moved_counts tree counts from to inode whole holds move = go (map.get tree to) r
     stays : (o : Option Inode) → map.get tree to ≡ o → map.get (map.remove tree from) to ≡ o
     stays o is = get_left tree from to (λ same. may.apart (sym same)) ∙ is
 
-    some : 0 < count_of counts from.dir.0
-    some = subst (λ n. 0 < n) (sym (holds from.dir.0)) (some_in tree from inode may.stands)
-
     go : (o : Option Inode) → map.get tree to ≡ o → HoldsCounts (with_moved tree from to inode) (counts_moved counts from.dir.0 to.dir.0 (is_some o))
     go (Some t) there = set (map.remove tree from) (one_less counts from.dir.0) gone to t inode (stays (Some t) there)
     go None free =
         let came = comes (map.remove tree from) (one_less counts from.dir.0) gone to inode (stays None free) in
         cond_both (from.dir.0 == to.dir.0) counts (one_more (one_less counts from.dir.0) to.dir.0) (HoldsCounts (with_moved tree from to inode))
-        (λ is d. sym (less_and_more counts from.dir.0 d some) ∙ ap (λ k. count_of (one_more (one_less counts from.dir.0) k) d) (eqb-true from.dir.0 to.dir.0 is) ∙ came d) (λ is. came)
+        (λ is d.
+        sym (less_and_more counts from.dir.0 d (subst (λ n. 0 < n) (sym (holds from.dir.0)) (some_in tree from inode may.stands))) ∙ ap (λ k. count_of (one_more (one_less counts from.dir.0) k) d) (eqb-true from.dir.0 to.dir.0 is) ∙ came d) (λ is. came)
 
 -- the root alone, in which nothing is
 pub empty_counted : HoldsCounts map.empty (map.insert map.empty 1 0)

@@ -5,7 +5,7 @@ use Rattle.std.specs.Ordering.{nat_cmp}
 use Rattle.std.specs.FinMap as map
 use Rattle.mds_types.specs.declared.dentries.Dentry.{Dentry}
 use Rattle.mds_types.specs.declared.inodes.Inode.{Inode}
-use Rattle.mds_types.specs.Tree.{Tree, is_dir_kind, IsWellFormed}
+use Rattle.mds_types.specs.Tree.{Tree, is_dir_kind, IsUnused, IsWellFormed}
 use Rattle.mds_types.specs.Step.{with_moved}
 use Rattle.mds_types.proofs.DirectoryLaws.{one_dentry}
 use Rattle.mds_types.proofs.EntryLaws.{get_put, get_beside, get_left, stands_after_put, stands_after_removal}
@@ -45,16 +45,11 @@ module _ {X : Type 0} (rows changed : map.FinMap nat_cmp X) (inode : Inode) wher
 -- what has a value then is the inode, or had it before
 pub back : {X : Type 0} (rows new : map.FinMap nat_cmp X) (inode : Inode) → Differ rows new inode → (d : ℕ) (x : X) → map.get new d ≡ Some x
     → ((d ≡ inode.ino.0) × (is_dir_kind inode.kind ≡ true)) ⊎ ((is_dir_kind inode.kind ≡ true → d ≡ inode.ino.0 → ⊥) × (map.get rows d ≡ Some x))
-back rows new inode differ d x is = go (cases_Bool (is_dir_kind inode.kind)) (same_number d inode.ino.0)
+back rows new inode differ d x is =
+    ⊎_elim (λ kinded. ⊎_elim (λ same. inl (same, kinded)) (λ apart. before (λ k. apart)) (same_number d inode.ino.0)) (λ file. before (λ k same. let clash : true ≡ false = sym k ∙ file in cc)) (cases_Bool (is_dir_kind inode.kind))
   where
     before : (is_dir_kind inode.kind ≡ true → d ≡ inode.ino.0 → ⊥) → ((d ≡ inode.ino.0) × (is_dir_kind inode.kind ≡ true)) ⊎ ((is_dir_kind inode.kind ≡ true → d ≡ inode.ino.0 → ⊥) × (map.get rows d ≡ Some x))
     before apart = inr (apart, sym (differ d apart) ∙ is)
-
-    go : (is_dir_kind inode.kind ≡ true) ⊎ (is_dir_kind inode.kind ≡ false) → (d ≡ inode.ino.0) ⊎ (d ≡ inode.ino.0 → ⊥)
-        → ((d ≡ inode.ino.0) × (is_dir_kind inode.kind ≡ true)) ⊎ ((is_dir_kind inode.kind ≡ true → d ≡ inode.ino.0 → ⊥) × (map.get rows d ≡ Some x))
-    go (inl kinded) (inl same) = inl (same, kinded)
-    go kinded (inr apart) = before (λ k. apart)
-    go (inr kinded) same = before (λ k e. let clash : true ≡ false = sym k ∙ kinded in cc)
 
 -- a number is not that of a directory that went
 abbrev pub Spares : Option Inode → ℕ → Type 0
@@ -72,6 +67,14 @@ module _ {X : Type 0} (rows : map.FinMap nat_cmp X) where
       (λ w. (λ u one. let alike : t ≡ u = cc in subst (λ (i : Inode). is_dir_kind i.kind ≡ true → q ≡ i.ino.0 → ⊥) alike w.0, w.1))
       (back rows _ t (dir_differ rows _ t (get_left_row rows t.ino.0)) q x is)
 
+-- what has an unused number has no value
+pub none_unused : {X : Type 0} (value : Dentry → Inode → Option X) (tree : Tree) (rows : map.FinMap nat_cmp X) → Holds value tree rows → (n : ℕ) → IsUnused tree n → map.get rows n ≡ None
+none_unused value tree rows holds n unused = go (map.get rows n) refl
+  where
+    go : (o : Option _) → map.get rows n ≡ o → o ≡ None
+    go None is = refl
+    go (Some x) is = let w = holds.stands n x is in absurd (unused.not_there w.0.dir.0 w.0.name w.1 w.2 w.3)
+
 -- ---- the changes
 
 module _ {X : Type 0} (value : Dentry → Inode → Option X) (tree : Tree) (rows : map.FinMap nat_cmp X) (whole : IsWellFormed tree) (holds : Holds value tree rows) where
@@ -85,11 +88,12 @@ module _ {X : Type 0} (value : Dentry → Inode → Option X) (tree : Tree) (row
         (λ w. differ x.ino.0 (λ k. other q x w.0 w.1) ∙ holds.listed q x w.1 dir) (stands_after_put tree dentry inode q x h);
     stands = λ d x is.
         ⊎_elim (λ w. (dentry, inode, get_put tree dentry inode, sym w.0, w.1))
-        (λ w. let s = holds.stands d x w.1 in (s.0, s.1, get_beside tree dentry inode s.0 (elsewhere d s.0 s.1 s.2 s.3 s.4 w.0) ∙ s.2, s.3, s.4)) (back rows new inode differ d x is);
+        (λ w.
+        let s = holds.stands d x w.1 in
+        let before : s.0 ≡ dentry → (s.1.ino.0 ≡ inode.ino.0) × (is_dir_kind s.1.kind ≡ is_dir_kind inode.kind) = λ same. was s.1 (ap (λ p. map.get tree p) (sym same) ∙ s.2) in
+        (s.0, s.1, get_beside tree dentry inode s.0 (λ same. w.0 (sym (before same).1 ∙ s.4) (sym s.3 ∙ (before same).0)) ∙ s.2, s.3, s.4))
+        (back rows new inode differ d x is);
   }
-    where
-      elsewhere : (d : ℕ) (q : Dentry) (x : Inode) → map.get tree q ≡ Some x → x.ino.0 ≡ d → is_dir_kind x.kind ≡ true → (is_dir_kind inode.kind ≡ true → d ≡ inode.ino.0 → ⊥) → q ≡ dentry → ⊥
-      elsewhere d q x stands numbered dir apart same = let before = was x (ap (λ p. map.get tree p) (sym same) ∙ stands) in apart (sym before.1 ∙ dir) (sym numbered ∙ before.0)
 
   -- an entry goes
   pub removed_held : (dentry : Dentry) (gone : Inode) → map.get tree dentry ≡ Some gone → Holds value (map.remove tree dentry) (without_row rows (Some gone))

@@ -12,6 +12,7 @@ use Rattle.inode_table.specs.Dirs.{Counts, DirPins, Homes, one_less, one_more}
 use Rattle.inode_table.specs.TreeChanges.{MayAdd, MaySet, MayRemove}
 use Rattle.inode_table.specs.TreeTable.{HoldsCounts, IsCounted, IsTabled, counts_moved, with_count, with_pin, without_row}
 use Rattle.inode_table.proofs.CountedLaws.{comes, empty_counted, goes, moved_counts, new_is_empty, set, with_none, without_none}
+use Rattle.inode_table.proofs.HeldRows.{one_inode}
 use Rattle.inode_table.proofs.MoveLaws.{replaced_empty}
 use Rattle.inode_table.proofs.PinLaws.{added_pins, empty_pins, moved_pins, removed_pins, set_pins}
 use Rattle.inode_table.proofs.TableLaws.{nothing_in}
@@ -59,8 +60,7 @@ module _ (tree : Tree) (homes : Homes) (tabled : IsTabled tree homes) (counts : 
     where
       empty : (inode : Inode) → found ≡ Some inode → NothingIn (map.remove tree dentry) inode.ino.0
       empty inode is q x stands same =
-          let inodes : Some may.inode ≡ Some inode = sym may.stands ∙ at_dentry ∙ is in
-          let alike : may.inode ≡ inode = cc in
+          let alike = one_inode tree dentry dentry may.inode inode refl may.stands (at_dentry ∙ is) in
           nothing_in tree dentry may.inode tabled.whole may.stands may.empty q x (stands_after_removal tree dentry q x stands).1 (same ∙ ap (λ (i : Inode). i.ino.0) (sym alike))
 
   -- or moves

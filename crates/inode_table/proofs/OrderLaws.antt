@@ -78,16 +78,15 @@ all_pass P x (k ∷ ks) pass (less, above) = ap (λ b. cond b (k ∷ filter P ks
 module _ (P : ℕ → Bool) (up : (j k : ℕ) → P j ≡ true → is_lt (nat_cmp j k) ≡ true → P k ≡ true) (x : ℕ) where
   from_first : (ks : List ℕ) → AreRising ks → slice_get (filter P ks) 0 ≡ Some x → filter P ks ≡ x ∷ behind x ks
   from_first [] rise first = let clash : None ≡ Some x = first in absurd cc
-  from_first (k ∷ ks) (above, rise) first = go (P k) refl (from_first ks rise) first
-    where
-      go : (b : Bool) → P k ≡ b → (slice_get (filter P ks) 0 ≡ Some x → filter P ks ≡ x ∷ behind x ks) → slice_get (cond b (k ∷ filter P ks) (filter P ks)) 0 ≡ Some x
-          → cond b (k ∷ filter P ks) (filter P ks) ≡ x ∷ behind x (k ∷ ks)
-      go true is more f =
-          subst (λ y. k ∷ filter P ks ≡ y ∷ behind y (k ∷ ks)) (same_Some k x f)
-          (ap (λ l. k ∷ l) (all_pass P k ks (λ j. up k j is) above ∙ sym (ap (λ r. cond (is_lt r) (k ∷ behind k ks) (behind k ks)) (tied_itself nat_cmp_total k) ∙ all_pass _ k ks (λ j less. less) above)))
-      go false is more f =
-          let before : is_lt (nat_cmp x k) ≡ false = false_from_ne_true _ (λ less. let clash : true ≡ false = sym (up x k (first_passes P x ks f).0 less) ∙ is in cc) in
-          more f ∙ ap (λ l. x ∷ l) (sym (ap (λ b. cond b (k ∷ behind x ks) (behind x ks)) before))
+  from_first (k ∷ ks) (above, rise) first =
+      elim (P k) as (λ b. P k ≡ b → slice_get (cond b (k ∷ filter P ks) (filter P ks)) 0 ≡ Some x → cond b (k ∷ filter P ks) (filter P ks) ≡ x ∷ behind x (k ∷ ks)) [
+        | true ↦ λ is f.
+            subst (λ y. k ∷ filter P ks ≡ y ∷ behind y (k ∷ ks)) (same_Some k x f)
+            (ap (λ l. k ∷ l) (all_pass P k ks (λ j. up k j is) above ∙ sym (ap (λ r. cond (is_lt r) (k ∷ behind k ks) (behind k ks)) (tied_itself nat_cmp_total k) ∙ all_pass _ k ks (λ j less. less) above)))
+        | false ↦ λ is f.
+            let before : is_lt (nat_cmp x k) ≡ false = false_from_ne_true _ (λ less. let clash : true ≡ false = sym (up x k (first_passes P x ks f).0 less) ∙ is in cc) in
+            from_first ks rise f ∙ ap (λ l. x ∷ l) (sym (ap (λ b. cond b (k ∷ behind x ks) (behind x ks)) before))
+      ] refl first
 
 module _ (homes : Homes) (rootless : map.get homes 1 ≡ None) where
   above_first : (x : ℕ) (es : List (ℕ × Home)) → T (below_all nat_cmp x es) → AreBehind x (list_map (λ e. e.0) es)

@@ -14,7 +14,7 @@ use Rattle.sorted_map.proofs.NatKeys.{get_put as get_put_pin, get_beside as get_
 use Rattle.inode_table.specs.Dirs.{DirPins, pinned_at}
 use Rattle.inode_table.specs.TreeChanges.{MayAdd, MaySet, MayRemove}
 use Rattle.inode_table.specs.TreeTable.{HoldsPins, with_pin, without_row}
-use Rattle.inode_table.proofs.HeldRows.{Differ, Holds, dir_differ, dir_here, moved_held, put_held, removed_held}
+use Rattle.inode_table.proofs.HeldRows.{Differ, Holds, dir_differ, dir_here, moved_held, none_unused, put_held, removed_held}
 use Rattle.inode_table.proofs.TableLaws.{alike_before}
 
 -- ---- one pin
@@ -57,12 +57,8 @@ empty_pins = record {
 -- a new inode has no pin
 pub added_pins : (tree : Tree) (pins : DirPins) (dentry : Dentry) (inode : Inode) → IsWellFormed tree → HoldsPins tree pins → MayAdd tree dentry inode → HoldsPins (map.insert tree dentry inode) pins
 added_pins tree pins dentry inode whole holds may =
-    held_pins _ _ (put_held pin_value tree pins whole (pins_held tree pins holds) pins dentry inode (λ q apart. refl) (λ k. none (map.get pins inode.ino.0) refl ∙ sym may.unpinned)
+    held_pins _ _ (put_held pin_value tree pins whole (pins_held tree pins holds) pins dentry inode (λ q apart. refl) (λ k. none_unused pin_value tree pins (pins_held tree pins holds) inode.ino.0 may.unused ∙ sym may.unpinned)
     (λ q x apart stands. may.unused.not_there q.dir.0 q.name x stands) (λ x stands. let clash : None ≡ Some x = sym may.free ∙ stands in absurd cc))
-  where
-    none : (o : Option Rank) → map.get pins inode.ino.0 ≡ o → o ≡ None
-    none None is = refl
-    none (Some rank) is = let w = holds.stands inode.ino.0 rank is in absurd (may.unused.not_there w.0.dir.0 w.0.name w.1 w.2 w.3)
 
 -- an inode is altered: a directory gets its pin
 pub set_pins : (tree : Tree) (pins : DirPins) (dentry : Dentry) (inode : Inode) → IsWellFormed tree → HoldsPins tree pins → MaySet tree dentry inode → HoldsPins (map.insert tree dentry inode) (with_pin pins inode)

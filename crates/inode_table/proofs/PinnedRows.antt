@@ -13,53 +13,48 @@ under x y is = ranked x y Less (sym is)
 -- a row that is found behind another has a greater number
 behind : (first : ℕ) (es : List (ℕ × Directory)) (d : ℕ) → T (below_all nat_cmp first es) → IsSome (find nat_cmp d es) → first < d
 behind first [] d below some = let clash : false ≡ true = some in cc
-behind first (e ∷ es) d below some = go (eq_by_cmp nat_cmp d e.0) refl some (behind first es d (right_of _ _ below))
-  where
-    go : (b : Bool) → eq_by_cmp nat_cmp d e.0 ≡ b → IsSome (cond b (Some e.1) (find nat_cmp d es)) → (IsSome (find nat_cmp d es) → first < d) → first < d
-    go true tied its more = subst (λ (n : ℕ). first < n) (sym (nat_cmp-IsAntisymmetric d e.0 (tie _ tied))) (under first e.0 (less_of _ (left_of _ _ below)))
-    go false apart its more = more its
+behind first (e ∷ es) d below some =
+    elim (eq_by_cmp nat_cmp d e.0) as (λ b. eq_by_cmp nat_cmp d e.0 ≡ b → IsSome (cond b (Some e.1) (find nat_cmp d es)) → first < d) [
+      | true ↦ λ tied its. subst (λ (n : ℕ). first < n) (sym (nat_cmp-IsAntisymmetric d e.0 (tie _ tied))) (under first e.0 (less_of _ (left_of _ _ below)))
+      | false ↦ λ apart its. behind first es d (right_of _ _ below) its
+    ] refl some
 
 there : (o : Option Directory) → IsSome (pin_in o) → IsSome o
 there None none = none
 there (Some row) its = refl
 
-module _ (row : ℕ × Directory) (rest : List (ℕ × Directory)) (sorted : T (is_sorted nat_cmp (row ∷ rest))) where
-  itself : find nat_cmp row.0 (row ∷ rest) ≡ Some row.1
-  itself = ap (λ r. cond (is_eq r) (Some row.1) (find nat_cmp row.0 rest)) (tied_itself nat_cmp_total row.0)
+module _ (all left rest : List (ℕ × Directory)) (row : ℕ × Directory) (is : left ≡ row ∷ rest) (sorted : T (is_sorted nat_cmp left)) (each : (d : ℕ) → pin_in (find nat_cmp d left) ≡ pin_in (find nat_cmp d all)) where
+  here : T (is_sorted nat_cmp (row ∷ rest))
+  here = subst (λ es. T (is_sorted nat_cmp es)) is sorted
+
+  same : (d : ℕ) → pin_in (find nat_cmp d (row ∷ rest)) ≡ pin_in (find nat_cmp d all)
+  same d = ap (λ es. pin_in (find nat_cmp d es)) (sym is) ∙ each d
+
+  pub rest_sorted : T (is_sorted nat_cmp rest)
+  rest_sorted = right_of _ _ here
 
   -- the first row, if it has a pin
-  first_row : is_some row.1.pin ≡ true → IsFirstPinned (row ∷ rest) (Some (record { 0 = row.0 }))
-  first_row some = (ap (λ o. is_some (pin_in o)) itself ∙ some, λ d its. later d (eq_by_cmp nat_cmp d row.0) refl its)
+  pub first_here : is_some row.1.pin ≡ true → IsFirstPinned all (Some (record { 0 = row.0 }))
+  first_here some = (
+    ap is_some (sym (same row.0)) ∙ ap (λ r. is_some (pin_in (cond (is_eq r) (Some row.1) (find nat_cmp row.0 rest)))) (tied_itself nat_cmp_total row.0) ∙ some,
+    λ d its. later d (eq_by_cmp nat_cmp d row.0) refl (ap is_some (same d) ∙ its),
+  )
     where
       later : (d : ℕ) (b : Bool) → eq_by_cmp nat_cmp d row.0 ≡ b → IsSome (pin_in (cond b (Some row.1) (find nat_cmp d rest))) → row.0 ≤ d
-      later d true tied its = let same : d ≡ row.0 = nat_cmp-IsAntisymmetric d row.0 (tie _ tied) in omega (arith, same)
-      later d false apart its = let more : row.0 < d = behind row.0 rest d (left_of _ _ sorted) (there (find nat_cmp d rest) its) in omega (arith, more)
+      later d true tied its = let one : d ≡ row.0 = nat_cmp-IsAntisymmetric d row.0 (tie _ tied) in omega (arith, one)
+      later d false apart its = let more : row.0 < d = behind row.0 rest d (left_of _ _ here) (there (find nat_cmp d rest) its) in omega (arith, more)
 
-  -- the first row, if it has none, can be passed
-  passed : is_some row.1.pin ≡ false → (d : ℕ) → pin_in (find nat_cmp d rest) ≡ pin_in (find nat_cmp d (row ∷ rest))
-  passed none d = go (eq_by_cmp nat_cmp d row.0) refl
+  -- if it has none, it can be passed
+  pub rest_pins : is_some row.1.pin ≡ false → (d : ℕ) → pin_in (find nat_cmp d rest) ≡ pin_in (find nat_cmp d all)
+  rest_pins none d = go (eq_by_cmp nat_cmp d row.0) refl ∙ same d
     where
       no_pin : (o : Option Rank) → is_some o ≡ false → o ≡ None
       no_pin None is = refl
       no_pin (Some r) is = let clash : true ≡ false = is in cc
 
       go : (b : Bool) → eq_by_cmp nat_cmp d row.0 ≡ b → pin_in (find nat_cmp d rest) ≡ pin_in (cond b (Some row.1) (find nat_cmp d rest))
-      go true tied = ap pin_in (ap (λ k. find nat_cmp k rest) (nat_cmp-IsAntisymmetric d row.0 (tie _ tied)) ∙ not_found_below nat_cmp_total row.0 rest (left_of _ _ sorted)) ∙ sym (no_pin row.1.pin none)
+      go true tied = ap pin_in (ap (λ k. find nat_cmp k rest) (nat_cmp-IsAntisymmetric d row.0 (tie _ tied)) ∙ not_found_below nat_cmp_total row.0 rest (left_of _ _ here)) ∙ sym (no_pin row.1.pin none)
       go false apart = refl
-
-pub first_here : (all left rest : List (ℕ × Directory)) (row : ℕ × Directory) → left ≡ row ∷ rest → T (is_sorted nat_cmp left) → ((d : ℕ) → pin_in (find nat_cmp d left) ≡ pin_in (find nat_cmp d all)) → is_some row.1.pin ≡ true
-    → IsFirstPinned all (Some (record { 0 = row.0 }))
-first_here all left rest row is sorted each some =
-    let here = first_row row rest (subst (λ es. T (is_sorted nat_cmp es)) is sorted) some in
-    let same : (d : ℕ) → pin_in (find nat_cmp d (row ∷ rest)) ≡ pin_in (find nat_cmp d all) = λ d. ap (λ es. pin_in (find nat_cmp d es)) (sym is) ∙ each d in
-    (ap is_some (sym (same row.0)) ∙ here.0, λ d its. here.1 d (ap is_some (same d) ∙ its))
-
-pub rest_sorted : (left rest : List (ℕ × Directory)) (row : ℕ × Directory) → left ≡ row ∷ rest → T (is_sorted nat_cmp left) → T (is_sorted nat_cmp rest)
-rest_sorted left rest row is sorted = right_of _ _ (subst (λ es. T (is_sorted nat_cmp es)) is sorted)
-
-pub rest_pins : (all left rest : List (ℕ × Directory)) (row : ℕ × Directory) → left ≡ row ∷ rest → T (is_sorted nat_cmp left) → ((d : ℕ) → pin_in (find nat_cmp d left) ≡ pin_in (find nat_cmp d all)) → is_some row.1.pin ≡ false
-    → (d : ℕ) → pin_in (find nat_cmp d rest) ≡ pin_in (find nat_cmp d all)
-rest_pins all left rest row is sorted each none d = passed row rest (subst (λ es. T (is_sorted nat_cmp es)) is sorted) none d ∙ ap (λ es. pin_in (find nat_cmp d es)) (sym is) ∙ each d
 
 -- ---- the rows behind a directory
 

@@ -30,7 +30,8 @@ module _ (in_root : ℕ) (root : Option (List Fragment)) (room : ℕ) (rows : Ro
     pub root_count : count_of old.counts d ≡ in_root
     root_count = ap (λ (t : Table). count_of t.counts d) (sym view) ∙ count_at_root in_root rows d top
 
-    pub root_other_leaves : (now : Option (List Fragment)) (leaves : List Fragment) → now ≡ Some leaves → is_known old.homes d ≡ true → IsTree leaves → Becomes (seen in_root now room rows) (record old { trees = map.insert old.trees d leaves })
+    pub root_other_leaves : (now : Option (List Fragment)) (leaves : List Fragment) → now ≡ Some leaves → is_known old.homes d ≡ true → IsTree leaves
+        → Becomes (seen in_root now room rows) (record old { trees = map.insert old.trees d leaves })
     root_other_leaves now leaves set known tree =
         became _ _
         ((λ i. record (seen in_root root room rows) { trees = (ap (λ o. covers_of o rows) set ∙ root_put root rows leaves ∙ ap (λ k. map.insert (covers_of root rows) k leaves) (sym top)) i })
@@ -132,7 +133,8 @@ module _ (in_root : ℕ) (root : Option (List Fragment)) (room : ℕ) (rows : Ro
   splits was leaves now frag bits (Err reason) stood put keep split set whole left = record { split = tt; others = tt; left = (keep left).is; valid = (keep left).table }
 
   pub root_splits : (leaves : Option (List Fragment)) (frag : Fragment) (bits : ℕ) (result : Result (Unit {0}) Refusal) → d ≡ 1 → is_known old.homes d ≡ true
-      → OnOk result (IsSplit (or_whole root) (or_whole leaves) frag bits) → OnOk result (leaves ≡ Some (or_whole leaves)) → OnOk result (IsTree (or_whole leaves)) → OnErr result (leaves ≡ root) → Splits (seen in_root leaves room rows) frag bits result
+      → OnOk result (IsSplit (or_whole root) (or_whole leaves) frag bits) → OnOk result (leaves ≡ Some (or_whole leaves)) → OnOk result (IsTree (or_whole leaves)) → OnErr result (leaves ≡ root)
+      → Splits (seen in_root leaves room rows) frag bits result
   root_splits leaves frag bits result top known =
       splits root leaves _ frag bits result (root_leaves top) (λ set tree. root_other_leaves top leaves _ set known tree) (λ same. became _ _ (ap (λ o. seen in_root o room rows) same ∙ view) old_sound)
 

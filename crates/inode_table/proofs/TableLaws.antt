@@ -4,7 +4,7 @@ use Rattle.std.specs.FinMap as map
 use Rattle.std.specs.FinMap.{get-empty}
 use Rattle.std.specs.Ordering.{nat_cmp}
 use Rattle.std.specs.Cmp.{both_ways}
-use Rattle.std.proofs.lemmas.Bool.{cases_Bool, eqb-true, or_cases, or_left, or_right}
+use Rattle.std.proofs.lemmas.Bool.{cases_Bool, eqb-true, or_cases, or_left, or_right, true_from_ne_false}
 use Rattle.mds_types.specs.declared.dentries.Dentry.{Dentry}
 use Rattle.mds_types.specs.declared.inodes.Inode.{Inode}
 use Rattle.mds_types.specs.Tree.{Tree, dentry_cmp, dentry_of, at, is_directory, is_dir_kind, is_above, has_entries, HasPinOf, IsAbove as IsAboveIn, child, further as further_down, IsWellFormed, NothingIn}
@@ -12,12 +12,12 @@ use Rattle.mds_types.proofs.AboveLaws.{above_exact}
 use Rattle.mds_types.proofs.AttributeLaws.{well-formed-changed}
 use Rattle.mds_types.proofs.RemovedLaws.{well-formed-removed}
 use Rattle.mds_types.proofs.WellFormedLaws.{well-formed-grown}
-use Rattle.mds_types.proofs.DirectoryLaws.{StandsAs, directory_stands, root_stands, entry_stands, one_dentry, nothing_in_empty, nothing_in_file}
+use Rattle.mds_types.proofs.DirectoryLaws.{StandsAs, directory_stands, root_stands, entry_stands, no_directory, one_dentry, nothing_in_empty, nothing_in_file}
 use Rattle.sorted_map.proofs.NatKeys.{is_same, get_put as get_put_home, get_beside as get_beside_home, get_removed as get_removed_home}
 use Rattle.inode_table.specs.declared.dirs.Home.{Home}
 use Rattle.inode_table.specs.Dirs.{Homes, Covers, or_whole, leaves_of, is_known, IsAbove, parent, further, MayCome, IsChildless, MayGo}
 use Rattle.inode_table.proofs.Chains.{some_of}
-use Rattle.inode_table.proofs.HeldRows.{Differ, Holds, Spares, dir_differ, dir_here, left_beside, one_inode, put_held, removed_held}
+use Rattle.inode_table.proofs.HeldRows.{Differ, Holds, Spares, dir_differ, dir_here, left_beside, none_unused, one_inode, put_held, removed_held}
 use Rattle.inode_table.specs.TreeChanges.{KeepLeaves, MayAdd, MaySet, MayRemove}
 use Rattle.inode_table.specs.TreeTable.{HoldsHomes, IsTabled, home_at, with_home, without_cover, without_home, without_row}
 
@@ -58,12 +58,7 @@ module _ (tree : Tree) (homes : Homes) (tabled : IsTabled tree homes) where
 
   -- an entry whose number is a directory's is that directory
   is_dir_entry : (dentry : Dentry) (inode : Inode) → map.get tree dentry ≡ Some inode → is_directory tree inode.ino.0 ≡ true → is_dir_kind inode.kind ≡ true
-  is_dir_entry dentry inode stands here =
-      ⊎_elim (λ root. absurd (tabled.whole.rootless dentry.dir.0 dentry.name inode stands root))
-      (λ (w : StandsAs tree inode.ino.0).
-      let same = one_inode tree w.dentry dentry w.inode inode (one_dentry tree tabled.whole w.dentry dentry w.inode inode w.stands stands w.numbered) w.stands stands in
-      ap (λ (i : Inode). is_dir_kind i.kind) (sym same) ∙ w.kinded)
-      (directory_stands tree inode.ino.0 here)
+  is_dir_entry dentry inode stands here = true_from_ne_false _ (λ file. no_directory tree dentry inode tabled.whole stands file here)
 
   -- and the other way round, for a directory
   above_in_table : (d x : ℕ) → is_directory tree x ≡ true → IsAboveIn tree d x → IsAbove homes d x
@@ -149,13 +144,9 @@ empty_tabled = record {
 pub may_come : (tree : Tree) (homes : Homes) (dentry : Dentry) (inode : Inode) → IsTabled tree homes → MayAdd tree dentry inode → MayCome homes inode.ino.0 (home_at dentry)
 may_come tree homes dentry inode tabled may = record {
   other = may.unused.not_root;
-  fresh = none (map.get homes inode.ino.0) refl;
+  fresh = none_unused home_value tree homes (homes_held tree homes tabled.holds) inode.ino.0 may.unused;
   parent_known = known_is tree homes tabled dentry.dir.0 ∙ may.parent;
 }
-  where
-    none : (o : Option Home) → map.get homes inode.ino.0 ≡ o → o ≡ None
-    none None is = refl
-    none (Some home) is = let w = tabled.holds.stands inode.ino.0 home is in absurd (may.unused.not_there home.parent.0 home.name w.0 w.1 w.2)
 
 -- a new inode has no pin, which its kind allows
 pub no_pin : (tree : Tree) (dentry : Dentry) (inode : Inode) → MayAdd tree dentry inode → HasPinOf inode.kind inode.pin
@@ -190,11 +181,8 @@ set_tabled tree homes dentry inode tabled may = record {
 
 -- nothing is in an inode that may go
 pub nothing_in : (tree : Tree) (dentry : Dentry) (inode : Inode) → IsWellFormed tree → map.get tree dentry ≡ Some inode → (is_dir_kind inode.kind && has_entries tree inode.ino.0) ≡ false → NothingIn tree inode.ino.0
-nothing_in tree dentry inode whole stands empty = go (is_dir_kind inode.kind) refl empty
-  where
-    go : (b : Bool) → is_dir_kind inode.kind ≡ b → (b && has_entries tree inode.ino.0) ≡ false → NothingIn tree inode.ino.0
-    go true kinded none = nothing_in_empty tree inode.ino.0 none
-    go false kinded none = nothing_in_file tree dentry inode whole stands kinded
+nothing_in tree dentry inode whole stands empty =
+    ⊎_elim (λ kinded. nothing_in_empty tree inode.ino.0 (sym (ap (λ b. b && has_entries tree inode.ino.0) kinded) ∙ empty)) (nothing_in_file tree dentry inode whole stands) (dir_or_not inode)
 
 -- what nothing is in is no one's parent
 pub childless : (tree : Tree) (homes : Homes) (d : ℕ) → IsTabled tree homes → NothingIn tree d → IsChildless homes d
@@ -203,9 +191,7 @@ childless tree homes d tabled nothing x home is same = let w = tabled.holds.stan
 pub may_drop : (tree : Tree) (homes : Homes) (dentry : Dentry) (found : Option Inode) → map.get tree dentry ≡ found → IsTabled tree homes → MayRemove tree dentry
     → (gone : Inode) → found ≡ Some gone → is_dir_kind gone.kind ≡ true → MayGo homes gone.ino.0
 may_drop tree homes dentry found at_dentry tabled may gone is kinded =
-    let inodes : Some may.inode ≡ Some gone = sym may.stands ∙ at_dentry ∙ is in
-    let alike : may.inode ≡ gone = cc in
-    subst (λ (i : Inode). MayGo homes i.ino.0) alike (record {
+    subst (λ (i : Inode). MayGo homes i.ino.0) (one_inode tree dentry dentry may.inode gone refl may.stands (at_dentry ∙ is)) (record {
       other = tabled.whole.rootless dentry.dir.0 dentry.name may.inode may.stands;
       childless = childless tree homes may.inode.ino.0 tabled (nothing_in tree dentry may.inode tabled.whole may.stands may.empty);
     })

@@ -58,13 +58,11 @@ module _ (homes : Homes) (covers : Covers) where
       passed_over none = ap (filter has_tree) (next_after homes rootless after x first) ∙ first_of x.0 (dirs_after homes (Some x)) false none
 
       pub fewer_dirs : length (dirs_after homes (Some x)) < length (dirs_after homes after)
-      fewer_dirs =
-          let all = ap length (next_after homes rootless after x first) in
-          let one : length (dirs_after homes after) ≡ length (x.0 ∷ dirs_after homes (Some x)) = all in
-          omega (arith, one)
+      fewer_dirs = let one : length (dirs_after homes after) ≡ length (x.0 ∷ dirs_after homes (Some x)) = ap length (next_after homes rootless after x first) in omega (arith, one)
 
     -- directories without a tree are passed over until the first with one comes
-    found : (ds : List ℕ) (after : Option Ino) (x : Ino) → dirs_after homes after ≡ ds → slice_get (filter has_tree ds) 0 ≡ Some x.0 → (is_known homes x.0 ≡ true) × (filter has_tree ds ≡ x.0 ∷ trees_after homes covers (Some x))
+    found : (ds : List ℕ) (after : Option Ino) (x : Ino) → dirs_after homes after ≡ ds → slice_get (filter has_tree ds) 0 ≡ Some x.0
+        → (is_known homes x.0 ≡ true) × (filter has_tree ds ≡ x.0 ∷ trees_after homes covers (Some x))
     found [] after x all first = let clash : None ≡ Some x.0 = first in absurd cc
     found (d ∷ ds) after x all first =
         let y : Ino = record { 0 = d } in

@@ -11,6 +11,6 @@ pub loop-row-preserved : goal.loop-row-preserved
 loop-row-preserved c =
     let told : is_some c.in-Some.row.now.1.pin ≡ false = search rules in
     record {
-      sorted = rest_sorted c.loop-row.rows c.next.new.self c.in-Some.row.now c.in-Some.ensures.steps c.loop-row.invariant.sorted;
+      sorted = rest_sorted c.args.rows c.loop-row.rows c.next.new.self c.in-Some.row.now c.in-Some.ensures.steps c.loop-row.invariant.sorted c.loop-row.invariant.each;
       each = rest_pins c.args.rows c.loop-row.rows c.next.new.self c.in-Some.row.now c.in-Some.ensures.steps c.loop-row.invariant.sorted c.loop-row.invariant.each told;
     }

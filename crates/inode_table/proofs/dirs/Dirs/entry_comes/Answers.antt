@@ -6,10 +6,7 @@ use Rattle.inode_table.proofs.SeenRows.{other_count, root_count, root_other_coun
 use Rattle.inode_table.proofs.dirs.Dirs.entry_comes.Goals as goal
 
 pub overflow_add-self : goal.overflow_add-self
-overflow_add-self c =
-    let few = c.requires.few in
-    let count = root_count _ _ _ _ _ c.self.view_is c.self.invariant c.args.dir.0 (are_same _ _ c.if-eq.ensures) in
-    omega (arith, few, count)
+overflow_add-self c = omega (arith, c.requires.few, root_count _ _ _ _ _ c.self.view_is c.self.invariant c.args.dir.0 (are_same _ _ c.if-eq.ensures))
 
 pub returns-then-eq : goal.returns-then-eq
 returns-then-eq c = root_other_count _ _ _ _ _ c.self.view_is c.self.invariant c.args.dir.0 (are_same _ _ c.if-eq.ensures) _ (λ (n : ℕ). n + 1) refl
@@ -19,10 +16,7 @@ unreachable-requires c =
     has_known_row c.self.inside.root _ c.args.dir.0 (are_apart _ _ c.if-eq.ensures) (sym c.in_default.ensures.value) (rw (ap (λ (t : Table). t.homes) c.self.view_is) c.requires.known)
 
 pub overflow_add-row : goal.overflow_add-row
-overflow_add-row c =
-    let few = c.requires.few in
-    let count = row_count _ _ _ _ _ c.self.view_is c.self.invariant c.args.dir.0 c.in-Some.row.now c.in-Some.ensures.value (are_apart _ _ c.if-eq.ensures) in
-    omega (arith, few, count)
+overflow_add-row c = omega (arith, c.requires.few, row_count _ _ _ _ _ c.self.view_is c.self.invariant c.args.dir.0 c.in-Some.row.now c.in-Some.ensures.value (are_apart _ _ c.if-eq.ensures))
 
 pub returns : goal.returns
 returns c = (other_count _ _ _ _ _ c.self.view_is c.self.invariant c.args.dir.0 c.in-Some.row.now c.in-Some.ensures.value _ (λ (n : ℕ). n + 1) (are_apart _ _ c.if-eq.ensures) refl).is
