@@ -11,8 +11,8 @@ returns-in-Err-split-clause-split g c numbers inboxes sessions past =
     let free : c.is_pinned.result ≡ false = search rules in (
       (
         inr (inr (inr (inr (inr (
-          c.in_default.ensures.known,
-          c.in_default.ensures.can,
+          c.in-Ok.ensures.known,
+          c.in-Ok.ensures.can,
           c.has_authority.ensures.0 mine,
           (λ frozen. let clash : true ≡ false = sym (c.is_frozen.ensures.1 frozen) ∙ thawed in cc),
           (λ pinned. let clash : false ≡ true = sym free ∙ c.is_pinned.ensures ∙ pinned in cc),
