@@ -1,5 +1,7 @@
 -- What a merge makes of the whole, once all was ready for it.
-use Rattle.mdcache.proofs.Common.{AreCached, At, Base, Bool, CacheMap, Cached, Came, CanMerge, Comes, Contains, Core, Dirfrag, Frag, Fragment, Fresh, HasLeaf, HasUnsaved, Ino, Inode, IsAmongOr, IsCachedIn, IsConcerned, IsFragment, IsListedAnew, IsLive, IsMerge, IsMergeReady, IsMergedInto, IsNewLeaf, IsPick, IsRegrouped, IsSound, IsSoundCore, IsTree, KeepsNone, Keys, Leaf, List, Merge, None, ObjName, Option, ReadsCore, Some, State, Unsaved, ap, are_empty, arith, at, between, cond, dentry_of, ending_at, false, fresh_tied, get_left, get_removed, get_unclean, get_with_frag, has_none, hash_of, holds, in_directory, inl, inr, is_clean_over, is_known, leaf_is, leaf_itself, leaf_of, leaves_in, leaves_inside, leaves_of, lies_inside, list_all, list_any, marked_as, merged_in, merged_leaves, names_of, object_of, one_leaf, reads_came, refl, root_fragment, same_Some, shown, shown_tree, state_of, subst, sym, text_of, texts_differ, tree_of_row, true, unclean, unsaved_at, unsaved_in, with_frag, with_objects, without_leaves, ℕ, ◌+◌, ◌<◌, ◌∙◌, ◌≡◌, ◌⊎◌}
+use Rattle.mdcache.proofs.Common.{AreCached, At, Base, Bool, CacheMap, Cached, Came, CanMerge, Comes, Contains, Core, Dirfrag, Frag, Fragment, Fresh, HasLeaf, HasUnsaved, Ino, Inode, IsAmongOr, IsCachedIn, IsConcerned, IsFragment, IsListedAnew, IsLive, IsMerge, IsMergeReady, IsMergedInto, IsNewLeaf, IsPick, IsRegrouped, IsSound, IsSoundCore, IsTree, KeepsNone, Keys, Leaf, List, Merge, None, NoneEnds, ObjName, Option, ReadsCore, Some, State, Unsaved, ap, are_empty, arith, at, between, cond, dentry_of, ending_at, false, fresh_tied, get_left, get_removed, get_unclean, get_with_frag, has_none, hash_of, holds, in_directory, inl, inr, is_clean_over, is_known, leaf_is, leaf_itself, leaf_of, leaves_in, leaves_inside, leaves_of, lies_inside, list_all, list_any, marked_as, merged_in, merged_leaves, names_of, object_of, one_leaf, reads_came, reads_weaker, refl, root_fragment, same_Some, same_leaf, shown, shown_tree, state_of, subst, sym, text_of, texts_differ, tree_of_row, true, unclean, unsaved_at, unsaved_in, with_frag, with_objects, without_leaves, ℕ, ⊎_elim, ◌+◌, ◌<◌, ◌∙◌, ◌≡◌, ◌⊎◌}
+use Rattle.std.proofs.lemmas.Bool.{false_from_ne_true, true_from_ne_false}
+use Rattle.std.specs.Cmp.{both_ways}
 use Rattle.std.specs.Prelude.{map as each}
 use Rattle.std.specs.FinMap as map
 use Rattle.mds_types.specs.declared.object_names.ObjName.TheVariants.{Tree as TreeOf}
@@ -9,12 +11,13 @@ use Rattle.mdcache.proofs.ChangeSteps.{ends_came_so, still_held, unclean_ended}
 use Rattle.mdcache.proofs.CoreLaws.{reads_cached_so, reads_state}
 use Rattle.mdcache.proofs.GoneLaws.{among, get_without}
 use Rattle.mdcache.proofs.JoinLaws.{from_mapped}
+use Rattle.mdcache.proofs.JoinSteps.{cached_nowhere}
 use Rattle.mdcache.proofs.ListedLaws.{beside_on, texts_on}
 use Rattle.mdcache.proofs.MergeNames.{joined_is, merged_is_new, pick_inside}
 use Rattle.mdcache.proofs.NamedLaws.{pick_at, sound_leaves, stands_at}
 use Rattle.mdcache.proofs.NoNames.{all_pass, no_name, some_fails, some_name}
-use Rattle.mdcache.proofs.RegroupLaws.{apart_live, came_live, dirty_shows, unmapped, which}
-use Rattle.mdcache.proofs.SplitLaws.{has_inside, inside_has, merge_ends, merge_stood, merges_right, not_itself}
+use Rattle.mdcache.proofs.RegroupLaws.{Replaces, apart_live, came_live, dirty_shows, unmapped, which}
+use Rattle.mdcache.proofs.SplitLaws.{has_inside, inside_has, merge_replaces, merges_right, not_itself}
 
 -- what isn't clean of a fragment whose object doesn't count
 fresh_unsaved : (f : Cached) → f.base ≡ Fresh → unsaved_in (Some f) ≡ Some (record { base = f.base; generation = f.generation; dirty = f.dirty })
@@ -28,18 +31,26 @@ module _ (c : Core) (sound : IsSoundCore c) (a : Dirfrag) (known : is_known c.ho
       subst (IsLive c.homes c.covers) (sym w.2) (record { known = known; stands = (has_inside a.frag w.0 (leaves_of c.covers a.dir.0) w.1).0 })
 
   pub merged_nowhere : map.get c.caches.held (leaf_of a) ≡ None
-  merged_nowhere = go (map.get c.caches.held (leaf_of a)) refl
-    where
-      go : (o : Option At) → map.get c.caches.held (leaf_of a) ≡ o → o ≡ None
-      go None is = refl
-      go (Some b) is = absurd (merged_is_new (leaves_of c.covers a.dir.0) a.frag (tree_of_row c.homes c.covers sound.sound.table a.dir.0) can (sound.cached (leaf_of a) b is).live.stands)
+  merged_nowhere = cached_nowhere c sound (leaf_of a) (λ live. merged_is_new (leaves_of c.covers a.dir.0) a.frag (tree_of_row c.homes c.covers sound.sound.table a.dir.0) can live.stands)
+
+  -- leaves that end are live where they are cached, as long as the fragment that comes isn't cached
+  pub ending_or_it : (caches : CacheMap) → map.get caches.held (leaf_of a) ≡ None → (r : ℕ) (q : Leaf) → IsAmongOr a.rank.0 (ending_at c a) (leaf_of a) r q → (b : At) → map.get caches.held q ≡ Some b → IsLive c.homes c.covers q
+  ending_or_it caches absent r q (inl among) b is = ending_live q among.1
+  ending_or_it caches absent r q (inr it) b is = let clash : None ≡ Some b = sym absent ∙ ap (map.get caches.held) (sym it.1) ∙ is in absurd cc
+
+-- what a merge leaves of the whole
+pub record HasMerged (old new : Core) (a : Dirfrag) : Type 0 where
+  pub merged : IsMergedInto (state_of old) (state_of new) a.dir a.frag
+  pub tree : KeepsTree (state_of old) (state_of new) a.dir (merged_leaves old a.dir a.frag)
+  pub came : Came (IsAmongOr a.rank.0 (ending_at old a) (leaf_of a)) (λ r q. Contains (ending_at old a) q) old.caches new.caches
+  pub sound : IsSoundCore new
 
 abbrev fragment_of : ObjName → Fragment
 fragment_of (Frag dir f) = f
 fragment_of (TreeOf dir) = root_fragment
 
 module _ (old mid : Core) (sound : IsSoundCore old) (a : Dirfrag) (merge : Merge) (known : is_known old.homes a.dir.0 ≡ true) (can : CanMerge (leaves_of old.covers a.dir.0) a.frag)
-    (Ends : ℕ → Leaf → Type 0) (reads : ReadsCore (IsAmongOr a.rank.0 (ending_at old a) (leaf_of a)) Ends old mid) (ended : (r : ℕ) (q : Leaf) → Contains (ending_at old a) q → Ends r q) (ready : IsMergeReady mid a merge)
+    (reads : ReadsCore (IsAmongOr a.rank.0 (ending_at old a) (leaf_of a)) NoneEnds old mid) (ready : IsMergeReady mid a merge)
     (new : Core) (left : new ≡ merged_in mid a merge.plan merge.joined new.room) (none : KeepsNone new.caches) where
   abbrev dir : Ino
   dir = a.dir
@@ -70,7 +81,7 @@ module _ (old mid : Core) (sound : IsSoundCore old) (a : Dirfrag) (merge : Merge
   t = state_of made
 
   was : s ≡ state_of old
-  was = reads_state Uses Ends old mid reads
+  was = reads_state Uses NoneEnds old mid reads
 
   mine : IsSound s
   mine = subst IsSound (sym was) sound.sound
@@ -83,11 +94,7 @@ module _ (old mid : Core) (sound : IsSoundCore old) (a : Dirfrag) (merge : Merge
 
   -- cached leaves are sound still
   cached : AreCached s mid.caches
-  cached = reads_cached_so Uses Ends old mid reads sound live
-    where
-      live : (n : ℕ) (q : Leaf) → Uses n q → (b : At) → map.get mid.caches.held q ≡ Some b → IsLive old.homes old.covers q
-      live n q (inl one) b is = ending_live old sound a known can q one.1
-      live n q (inr it) b is = let clash : None ≡ Some b = sym ready.kept.1 ∙ ap (map.get mid.caches.held) (sym it.1) ∙ is in absurd cc
+  cached = reads_cached_so Uses NoneEnds old mid reads sound (ending_or_it old sound a known can mid.caches ready.kept.1)
 
   abbrev row : List Fragment
   row = leaves_of s.covers dir.0
@@ -115,11 +122,7 @@ module _ (old mid : Core) (sound : IsSoundCore old) (a : Dirfrag) (merge : Merge
   comes = ((merged.leaves frag).1 (inr refl), merged_is_new row frag tree can_now)
 
   is_it : (g : Fragment) → Comes row cover g → g ≡ frag
-  is_it g came = go ((merged.leaves g).0 came.0)
-    where
-      go : (HasLeaf row g × (lies_inside frag g ≡ false)) ⊎ (g ≡ frag) → g ≡ frag
-      go (inl old) = absurd (came.1 old.0)
-      go (inr same) = same
+  is_it g came = ⊎_elim (λ old. absurd (came.1 old.0)) (λ same. same) ((merged.leaves g).0 came.0)
 
   not_gone : HasLeaf gone frag → ⊥
   not_gone has = let clash : true ≡ false = sym (has_inside frag frag row has).1 ∙ not_itself frag in cc
@@ -157,21 +160,17 @@ module _ (old mid : Core) (sound : IsSoundCore old) (a : Dirfrag) (merge : Merge
   is_empty f = has_none (names_of s.unsaved s.objects (dir, f))
 
   empty_is : has_none (shown joined) ≡ are_empty s dir gone
-  empty_is = go (has_none (shown joined)) refl (list_all is_empty gone) refl
-    where
-      go : (a : Bool) → has_none (shown joined) ≡ a → (b : Bool) → list_all is_empty gone ≡ b → a ≡ b
-      go true none true all = refl
-      go false some false fails = refl
-      go true none false fails =
-          let f = some_fails is_empty gone fails in
-          let w = some_name (names_of s.unsaved s.objects (dir, f.0)) f.2 in
-          let clash : None ≡ Some w.1 = sym (no_name (shown joined) w.0 none) ∙ found_in f.0 w.0 w.1 f.1 w.2 in
-          cc
-      go false some true all =
-          let w = some_name (shown joined) some in
-          let f = comes_from w.0 w.1 w.2 in
-          let clash : None ≡ Some w.1 = sym (no_name (names_of s.unsaved s.objects (dir, f.0)) w.0 (all_pass is_empty gone all f.0 f.1)) ∙ f.2 in
-          cc
+  empty_is = both_ways (has_none (shown joined)) (list_all is_empty gone)
+      (λ none. true_from_ne_false (list_all is_empty gone) (λ fails.
+      let f = some_fails is_empty gone fails in
+      let w = some_name (names_of s.unsaved s.objects (dir, f.0)) f.2 in
+      let clash : None ≡ Some w.1 = sym (no_name (shown joined) w.0 none) ∙ found_in f.0 w.0 w.1 f.1 w.2 in
+      cc))
+      (λ all. true_from_ne_false (has_none (shown joined)) (λ some.
+      let w = some_name (shown joined) some in
+      let f = comes_from w.0 w.1 w.2 in
+      let clash : None ≡ Some w.1 = sym (no_name (names_of s.unsaved s.objects (dir, f.0)) w.0 (all_pass is_empty gone all f.0 f.1)) ∙ f.2 in
+      cc))
 
   -- ---- what isn't clean
 
@@ -194,11 +193,7 @@ module _ (old mid : Core) (sound : IsSoundCore old) (a : Dirfrag) (merge : Merge
       go false = sym (get_unclean mid.caches q)
 
   it_stays : list_any (leaf_is leaf) ending ≡ false
-  it_stays = go (list_any (leaf_is leaf) ending) refl
-    where
-      go : (b : Bool) → list_any (leaf_is leaf) ending ≡ b → b ≡ false
-      go false is = refl
-      go true is = absurd (not_gone (unmapped dir.0 leaf gone is).1)
+  it_stays = false_from_ne_true (list_any (leaf_is leaf) ending) (λ is. not_gone (unmapped dir.0 leaf gone is).1)
 
   now_unsaved : map.get (unclean made.caches) leaf ≡ Some beyond
   now_unsaved =
@@ -218,18 +213,12 @@ module _ (old mid : Core) (sound : IsSoundCore old) (a : Dirfrag) (merge : Merge
   Apart q = q.0.0 ≡ dir.0 → IsConcerned row cover gone q.1 → ⊥
 
   apart_ending : (q : Leaf) → Apart q → list_any (leaf_is q) ending ≡ false
-  apart_ending q apart = go (list_any (leaf_is q) ending) refl
-    where
-      go : (b : Bool) → list_any (leaf_is q) ending ≡ b → b ≡ false
-      go false is = refl
-      go true is = let w = unmapped dir.0 q gone is in absurd (apart w.0 (inl w.1))
+  apart_ending q apart = false_from_ne_true (list_any (leaf_is q) ending) (λ is. let w = unmapped dir.0 q gone is in apart w.0 (inl w.1))
 
   apart_it : (q : Leaf) → Apart q → leaf_is q leaf ≡ false
-  apart_it q apart = go (leaf_is q leaf) refl
-    where
-      go : (b : Bool) → leaf_is q leaf ≡ b → b ≡ false
-      go false is = refl
-      go true is = let same = one_leaf q leaf is in absurd (apart (ap (λ (l : Leaf). l.0.0) same) (inr (subst (Comes row cover) (sym (ap (λ (l : Leaf). l.1) same)) comes)))
+  apart_it q apart = false_from_ne_true (leaf_is q leaf) (λ is.
+      let same = one_leaf q leaf is in
+      apart (ap (λ (l : Leaf). l.0.0) same) (inr (subst (Comes row cover) (sym (ap (λ (l : Leaf). l.1) same)) comes)))
 
   other_unsaved : (q : Leaf) → Apart q → map.get (unclean made.caches) q ≡ map.get (unclean mid.caches) q
   other_unsaved q apart =
@@ -281,65 +270,58 @@ module _ (old mid : Core) (sound : IsSoundCore old) (a : Dirfrag) (merge : Merge
   is_merged : IsMergedInto s t dir frag
   is_merged = record { can = can_now; cover = cover; merged = merged; regrouped = is_regrouped }
 
-  keeps : KeepsTree s t dir gone
-  keeps = merges_right s t dir frag mine is_merged
-
-  ends : (g : Fragment) → HasLeaf row g → HasLeaf gone g ⊎ HasLeaf cover g
-  ends = merge_ends row cover frag merged
-
-  stood : (g : Fragment) → HasLeaf gone g → HasLeaf row g × (HasLeaf cover g → ⊥)
-  stood = merge_stood row cover frag merged
+  cut : Replaces row gone cover
+  cut = merge_replaces row cover frag merged
 
   -- ---- what is cached
 
   now_cached : AreCached t made.caches
-  now_cached q b is = go (which s mine dir gone cover 1 t is_regrouped ends stood q) (leaf_is q leaf) refl (sym (get_with_frag mid.caches r leaf joined q) ∙ still.1)
+  now_cached q b is = elim (which s mine dir gone cover 1 t is_regrouped cut q) [
+    | inl end ↦ let clash : true ≡ false = sym (among dir.0 q gone end.0 end.1) ∙ sym (ap (list_any (leaf_is q)) ready.planned.leaves) ∙ still.0 in absurd cc
+    | inr stands ↦ elim stands [
+      | inl came ↦
+          let same : q ≡ leaf = (λ i. (record { 0 = came.0 i }, is_it q.1 came.1 i)) in
+          let number = ready.joined.numbered in
+          subst (λ (k : At). IsCachedIn t q k.frag) (same_Some (at r joined) b (sym (ap (λ (y : Bool). cond y (Some (at r joined)) (map.get mid.caches.held q)) (same_leaf q leaf same)) ∙ filled_is)) (record {
+            live = came_live s mine dir gone cover 1 t is_regrouped cut q came.0 came.1.0;
+            tied = fresh_tied joined (object_of t.objects q.0 q.1) ready.joined.fresh;
+            made = omega (arith, number);
+          })
+      | inr apart ↦
+          let before = cached q b (sym (ap (λ (y : Bool). cond y (Some (at r joined)) (map.get mid.caches.held q)) (apart_it q apart)) ∙ filled_is) in
+          let given = before.made in
+          record { live = apart_live s mine dir gone cover 1 t is_regrouped cut q apart before.live; tied = before.tied; made = omega (arith, given) }
+    ]
+  ]
     where
       still : (list_any (leaf_is q) (leaves_in dir merge.plan.leaves.items) ≡ false) × (map.get filled.held q ≡ Some b)
       still = still_held filled (leaves_in dir merge.plan.leaves.items) q b is
 
-      its_leaf : q.0.0 ≡ dir.0 → Comes row cover q.1 → leaf ≡ q
-      its_leaf same came = ap (λ (h : Fragment). (dir, h)) (sym (is_it q.1 came)) ∙ (λ i. (record { 0 = sym same i }, q.1))
-
-      go : ((q.0.0 ≡ dir.0) × HasLeaf gone q.1) ⊎ (((q.0.0 ≡ dir.0) × Comes row cover q.1) ⊎ Apart q) → (y : Bool) → leaf_is q leaf ≡ y → cond y (Some (at r joined)) (map.get mid.caches.held q) ≡ Some b → IsCachedIn t q b.frag
-      go (inl end) y one h = let clash : true ≡ false = sym (among dir.0 q gone end.0 end.1) ∙ sym (ap (list_any (leaf_is q)) ready.planned.leaves) ∙ still.0 in absurd cc
-      go (inr (inl came)) true one h =
-          let number = ready.joined.numbered in
-          subst (λ (k : At). IsCachedIn t q k.frag) (same_Some (at r joined) b h) (record {
-            live = came_live s mine dir gone cover 1 t is_regrouped ends stood q came.0 came.1.0;
-            tied = fresh_tied joined (object_of t.objects q.0 q.1) ready.joined.fresh;
-            made = omega (arith, number);
-          })
-      go (inr (inl came)) false one h =
-          let same : leaf ≡ q = its_leaf came.0 came.1 in
-          let clash : true ≡ false = sym (leaf_itself leaf) ∙ ap (λ (l : Leaf). leaf_is l leaf) same ∙ one in absurd cc
-      go (inr (inr apart)) true one h = let clash : true ≡ false = sym one ∙ apart_it q apart in absurd cc
-      go (inr (inr apart)) false one h =
-          let before = cached q b h in
-          let given = before.made in
-          record { live = apart_live s mine dir gone cover 1 t is_regrouped ends stood q apart before.live; tied = before.tied; made = omega (arith, given) }
+      filled_is : cond (leaf_is q leaf) (Some (at r joined)) (map.get mid.caches.held q) ≡ Some b
+      filled_is = sym (get_with_frag mid.caches r leaf joined q) ∙ still.1
 
   -- ---- of what was before
 
-  pub merge_sound : IsSoundCore new
-  merge_sound = subst IsSoundCore (sym left) (record { sound = keeps.sound; begun = begun; cached = now_cached; none = now_none })
-    where
-      now_none : KeepsNone made.caches
-      now_none = subst (λ (k : Core). KeepsNone k.caches) left none
-
-      begun : 0 < t.next_generation
-      begun = let before : 0 < s.next_generation = subst (λ (u : State). 0 < u.next_generation) (sym was) sound.begun in omega (arith, before)
-
-  pub merge_made : IsMergedInto (state_of old) (state_of new) dir frag
+  merge_made : IsMergedInto (state_of old) (state_of new) dir frag
   merge_made = subst (λ (u : State). IsMergedInto u (state_of new) dir frag) was (subst (λ (k : Core). IsMergedInto s (state_of k) dir frag) (sym left) is_merged)
 
-  pub merge_keeps : KeepsTree (state_of old) (state_of new) dir (merged_leaves old dir frag)
-  merge_keeps = merges_right (state_of old) (state_of new) dir frag sound.sound merge_made
+  abbrev Ends : ℕ → Leaf → Type 0
+  Ends n q = Contains (ending_at old a) q
 
-  pub merge_steps : Came Uses Ends old.caches new.caches
-  merge_steps = subst (λ (k : Core). Came Uses Ends old.caches k.caches) (sym left)
-      (ends_came_so Uses Ends old.caches filled (leaves_in dir merge.plan.leaves.items) (λ n q among. ended n q (subst (λ (ls : List Leaf). Contains ls q) ending_is among))
-      (arrives mid.caches r leaf joined (reads_came Uses Ends old.objects old.caches mid.caches reads.caches) (inr (refl, refl))))
+  pub merge_right : HasMerged old new a
+  merge_right = record {
+    merged = merge_made;
+    tree = merges_right (state_of old) (state_of new) dir frag sound.sound merge_made;
+    came = subst (λ (k : Core). Came Uses Ends old.caches k.caches) (sym left)
+        (ends_came_so Uses Ends old.caches filled (leaves_in dir merge.plan.leaves.items) (λ n q among. subst (λ (ls : List Leaf). Contains ls q) ending_is among)
+        (arrives mid.caches r leaf joined (reads_came Uses Ends old.objects old.caches mid.caches (reads_weaker Uses NoneEnds Uses Ends (λ n q is. is) (λ n q no_end. absurd no_end) old.objects old.caches mid.caches reads.caches)) (inr (refl, refl))));
+    sound = subst IsSoundCore (sym left) (record {
+      sound = (merges_right s t dir frag mine is_merged).sound;
+      begun = (let before : 0 < s.next_generation = subst (λ (u : State). 0 < u.next_generation) (sym was) sound.begun in omega (arith, before));
+      cached = now_cached;
+      none = subst (λ (k : Core). KeepsNone k.caches) left none;
+    });
+  }
     where
       ending_is : leaves_in dir merge.plan.leaves.items ≡ ending_at old a
       ending_is = ready.planned.leaves ∙ ap (λ (u : State). each (in_directory dir.0) (leaves_inside frag (leaves_of u.covers dir.0))) was

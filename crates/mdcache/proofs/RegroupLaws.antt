@@ -32,12 +32,13 @@ some_or_none P holds_or_not (g ∷ fs) = elim (holds_or_not g) [
 pub has_or_not : (fs : List Fragment) (f : Fragment) → HasLeaf fs f ⊎ (HasLeaf fs f → ⊥)
 has_or_not fs f = ⊎_elim (λ found. inl (subst (HasLeaf fs) found.2 found.1)) (λ none. inr (λ has. none f has refl)) (some_or_none (λ g. g ≡ f) (λ g. one_or_other g f) fs)
 
--- a leaf of a directory is among those that some fragments are, if its fragment is one of them
-mapped : (d : ℕ) (f : Fragment) (fs : List Fragment) → HasLeaf fs f → Contains (each (in_directory d) fs) (in_directory d f)
-mapped d f [] (k, within, is) = absurd (omega (arith, within))
-mapped d f (g ∷ gs) (zero, within, is) = (zero, omega arith, ap (in_directory d) is)
-mapped d f (g ∷ gs) (suc k, within, is) = let rest = mapped d f gs (k, omega (arith, within), is) in (suc rest.0, omega (arith, rest.1), rest.2)
+-- what is made of one of some is among what is made of all
+pub contains_mapped : {A B : Type 0} (f : A → B) (xs : List A) (x : A) → Contains xs x → Contains (each f xs) (f x)
+contains_mapped f [] x (k, within, is) = absurd (omega (arith, within))
+contains_mapped f (y ∷ ys) x (zero, within, is) = (zero, omega arith, ap f is)
+contains_mapped f (y ∷ ys) x (suc k, within, is) = let rest = contains_mapped f ys x (k, omega (arith, within), is) in (suc rest.0, omega (arith, rest.1), rest.2)
 
+-- a leaf of a directory is one of those that some fragments are
 pub unmapped : (d : ℕ) (q : Leaf) (fs : List Fragment) → list_any (leaf_is q) (each (in_directory d) fs) ≡ true → (q.0.0 ≡ d) × HasLeaf fs q.1
 unmapped d q [] is = let clash : false ≡ true = is in absurd cc
 unmapped d q (f ∷ fs) is = elim (or_cases (leaf_is q (in_directory d f)) (list_any (leaf_is q) (each (in_directory d) fs)) is) [
@@ -58,11 +59,15 @@ its_unsaved : (P : Unsaved → Type 0) (o : Option Unsaved) → HasUnsaved o P �
 its_unsaved P None has = absurd has
 its_unsaved P (Some u) has = (u, refl, has)
 
+-- some of these leaves end, and each other one is in the cover
+pub record Replaces (row gone cover : List Fragment) : Type 0 where
+  pub ends : (f : Fragment) → HasLeaf row f → HasLeaf gone f ⊎ HasLeaf cover f
+  pub stood : (f : Fragment) → HasLeaf gone f → HasLeaf row f × (HasLeaf cover f → ⊥)
+
 -- ---- the state
 
 module _ (s : State) (sound : IsSound s) (dir : Ino) (gone cover : List Fragment) (count : ℕ) (t : State) (r : IsRegrouped s t dir gone cover count)
-    (ends : (f : Fragment) → HasLeaf (leaves_of s.covers dir.0) f → HasLeaf gone f ⊎ HasLeaf cover f)
-    (stood : (f : Fragment) → HasLeaf gone f → HasLeaf (leaves_of s.covers dir.0) f × (HasLeaf cover f → ⊥)) where
+    (cut : Replaces (leaves_of s.covers dir.0) gone cover) where
   abbrev pub n : State
   n = regrouped s dir gone cover count r.unsaved r.purge
 
@@ -109,7 +114,7 @@ module _ (s : State) (sound : IsSound s) (dir : Ino) (gone cover : List Fragment
   pub apart_live : (leaf : Leaf) → Apart leaf → IsLive s.homes s.covers leaf → IsLive n.homes n.covers leaf
   apart_live leaf apart live = elim (same_number leaf.0.0 dir.0) [
     | inr other ↦ record { known = live.known; stands = subst (λ (fs : List Fragment). HasLeaf fs leaf.1) (sym (cover_on leaf.0.0 other)) live.stands }
-    | inl same ↦ ⊎_elim (λ ended. absurd (apart same (inl ended))) (came_live leaf same) (ends leaf.1 (subst (λ (d : ℕ). HasLeaf (leaves_of s.covers d) leaf.1) same live.stands))
+    | inl same ↦ ⊎_elim (λ ended. absurd (apart same (inl ended))) (came_live leaf same) (cut.ends leaf.1 (subst (λ (d : ℕ). HasLeaf (leaves_of s.covers d) leaf.1) same live.stands))
   ]
 
   in_cover : (leaf : Leaf) → leaf.0.0 ≡ dir.0 → IsLive n.homes n.covers leaf → HasLeaf cover leaf.1
@@ -125,12 +130,12 @@ module _ (s : State) (sound : IsSound s) (dir : Ino) (gone cover : List Fragment
   }
 
   gone_live : (f : Fragment) → HasLeaf gone f → IsLive s.homes s.covers (dir, f)
-  gone_live f ended = record { known = r.known; stands = (stood f ended).0 }
+  gone_live f ended = record { known = r.known; stands = (cut.stood f ended).0 }
 
   -- a leaf of the cover came, or isn't concerned
   live_which : (leaf : Leaf) → IsLive n.homes n.covers leaf → ((leaf.0.0 ≡ dir.0) × Comes row cover leaf.1) ⊎ (Apart leaf × IsLive s.homes s.covers leaf)
   live_which leaf live = elim (which leaf) [
-    | inl ended ↦ absurd ((stood leaf.1 ended.1).1 (in_cover leaf ended.0 live))
+    | inl ended ↦ absurd ((cut.stood leaf.1 ended.1).1 (in_cover leaf ended.0 live))
     | inr stands ↦ ⊎_elim (λ came. inl came) (λ apart. inr (apart, apart_back leaf apart live)) stands
   ]
 
@@ -169,7 +174,7 @@ module _ (s : State) (sound : IsSound s) (dir : Ino) (gone cover : List Fragment
   some_went f comes name inode contains found =
       let p = pick_at s leaves_before (dentry_of dir.0 name) in
       let here : map.get (names_of s.unsaved s.objects (dir, p.0)) name ≡ Some inode = sym (stands_at s leaves_before (dentry_of dir.0 name) p.0 r.known p.1) ∙ found in
-      let ended : HasLeaf gone p.0 = ⊎_elim (λ ended. ended) (λ stands. absurd (comes.1 (subst (HasLeaf row) ((pick_from_leaf cover (hash_of name) f r.whole comes.0 contains).alone p.0 stands p.1.contains) p.1.stands))) (ends p.0 p.1.stands) in
+      let ended : HasLeaf gone p.0 = ⊎_elim (λ ended. ended) (λ stands. absurd (comes.1 (subst (HasLeaf row) ((pick_from_leaf cover (hash_of name) f r.whole comes.0 contains).alone p.0 stands p.1.contains) p.1.stands))) (cut.ends p.0 p.1.stands) in
       false_from_ne_true (are_empty s dir gone) (λ all.
       let none = all_pass (λ (g : Fragment). has_none (names_of s.unsaved s.objects (dir, g))) gone all p.0 ended in
       let clash : None ≡ Some inode = sym (no_name (names_of s.unsaved s.objects (dir, p.0)) name none) ∙ here in
@@ -297,6 +302,6 @@ module _ (s : State) (sound : IsSound s) (dir : Ino) (gone cover : List Fragment
     sound = sound_again n leaves_now (subst (λ (tree : Tree). IsTabled tree s.homes) (sym tree_now) sound.tabled) (subst (λ (tree : Tree). IsCounted tree s.counts s.pins) (sym tree_now) sound.counted);
     tree = tree_now;
     frame = λ leaf none live.
-        let apart = apart_from_gone leaf live (λ same ended. none (subst (Contains (each (in_directory dir.0) gone)) (its leaf same) (mapped dir.0 leaf.1 gone ended))) in
+        let apart = apart_from_gone leaf live (λ same ended. none (subst (Contains (each (in_directory dir.0) gone)) (its leaf same) (contains_mapped (in_directory dir.0) gone leaf.1 ended))) in
         record { live = apart_live leaf apart live; names = apart_names leaf apart };
   })

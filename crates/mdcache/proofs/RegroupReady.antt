@@ -51,18 +51,6 @@ module _ (old new : Core) (left : new ≡ record old { room = new.room }) (less 
   pub last_refused : (count r after : ℕ) (reason : Refusal) → MayNotFind (LacksPlacesIn count new.caches r) new.faults after reason → MayNotFind (LacksPlacesIn count old.caches r) old.faults after reason
   last_refused count r after reason is = not_found_before NoneEnds NoneEnds old new (room_reads NoneEnds NoneEnds) count r after reason (ap (λ (c : Core). c.faults) left) is
 
--- the leaf of a split, and its children, are live where they are cached, as long as no child is
-pub family_live : (c : Core) (a : Dirfrag) (nb : ℕ) → is_known c.homes a.dir.0 ≡ true → CanSplit (leaves_of c.covers a.dir.0) a.frag nb → (caches : CacheMap)
-    → ((i : ℕ) → i < 2 ^ nb → map.get caches.held (a.dir, child_of a.frag i nb) ≡ None) → (r : ℕ) (q : Leaf) → IsFamilyAt a.rank.0 a.dir a.frag nb r q → (b : At) → map.get caches.held q ≡ Some b → IsLive c.homes c.covers q
-family_live c a nb known can caches absent r q (inl it) b is = subst (IsLive c.homes c.covers) (sym it.1) (record { known = known; stands = can.stands })
-family_live c a nb known can caches absent r q (inr child) b is = let clash : None ≡ Some b = sym (absent child.1 child.2) ∙ ap (map.get caches.held) (sym child.3) ∙ is in absurd cc
-
--- leaves that end with a merge are live where they are cached, as long as the fragment that comes isn't cached
-pub ending_or_it : (c : Core) → IsSoundCore c → (a : Dirfrag) → is_known c.homes a.dir.0 ≡ true → CanMerge (leaves_of c.covers a.dir.0) a.frag → (caches : CacheMap) → map.get caches.held (leaf_of a) ≡ None → (r : ℕ) (q : Leaf)
-    → IsAmongOr a.rank.0 (ending_at c a) (leaf_of a) r q → (b : At) → map.get caches.held q ≡ Some b → IsLive c.homes c.covers q
-ending_or_it c sound a known can caches absent r q (inl among) b is = ending_live c sound a known can q among.1
-ending_or_it c sound a known can caches absent r q (inr it) b is = let clash : None ≡ Some b = sym absent ∙ ap (map.get caches.held) (sym it.1) ∙ is in absurd cc
-
 -- ---- the children of a leaf that is fetched
 
 module _ (old mid view : Core) (is : view ≡ mid) (a : Dirfrag) (nb : ℕ) (some : 1 ≤ nb) (reads : ReadsCore (IsThat a.rank.0 (leaf_of a)) NoneEnds old mid) (none_mid : KeepsNone mid.caches)

@@ -1,8 +1,8 @@
 use Rattle.mdcache.proofs.Common.{Contains, Core, IsAmongOr, Leaf, List, NoneEnds, ReadsCore, ap, ending_at, leaf_of, leaves_in, leaves_of, subst, ◌∙◌}
 use Rattle.mdcache.proofs.CoreLaws.{reads_sound_so, reads_state}
 use Rattle.mdcache.proofs.JoinLaws.{itself_apart}
-use Rattle.mdcache.proofs.MergeSteps.{ending_live, merged_nowhere}
-use Rattle.mdcache.proofs.RegroupReady.{ending_or_it, last_reads, last_refused, room_absent, room_holds, room_reads, room_sound, room_there}
+use Rattle.mdcache.proofs.MergeSteps.{ending_live, ending_or_it, merged_nowhere}
+use Rattle.mdcache.proofs.RegroupReady.{last_reads, last_refused, room_absent, room_holds, room_reads, room_sound, room_there}
 use Rattle.mdcache.proofs.mdcache.MdCache.prepare_merge.Goals as goal
 
 pub returns-in-Err-clause-reads : goal.returns-in-Err-clause-reads

@@ -1,6 +1,7 @@
 use Rattle.mdcache.proofs.Common.{IsFamilyAt, child_of, ◌+◌, ◌^◌}
 use Rattle.mdcache.proofs.CoreLaws.{reads_sound_so, reads_state}
-use Rattle.mdcache.proofs.RegroupReady.{family_live, room_absent, room_fetch, last_reads, last_refused, room_reads, room_sound}
+use Rattle.mdcache.proofs.JoinSteps.{family_live}
+use Rattle.mdcache.proofs.RegroupReady.{room_absent, room_fetch, last_reads, last_refused, room_reads, room_sound}
 use Rattle.mdcache.proofs.SplitSteps.{no_child_cached}
 use Rattle.mdcache.proofs.mdcache.MdCache.prepare_split.Goals as goal
 
