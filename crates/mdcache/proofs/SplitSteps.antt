@@ -34,7 +34,6 @@ is_child row cover frag nb divided g came = ⊎_elim (λ old. absurd (came.1 old
 child_comes : (row cover : List Fragment) (frag : Fragment) (nb : ℕ) → IsTree row → CanSplit row frag nb → IsSplit row cover frag nb → (i : ℕ) → i < 2 ^ nb → Comes row cover (child_of frag i nb)
 child_comes row cover frag nb tree can divided i below = ((divided.leaves (child_of frag i nb)).1 (inr (i, below, refl)), no_leaf_yet row frag nb i tree can.stands can.fits.some can.fits.in_all below)
 
-
 -- no child of a leaf is cached anywhere
 pub no_child_cached : (c : Core) → IsSoundCore c → (dir : Ino) (frag : Fragment) (nb : ℕ) → CanSplit (leaves_of c.covers dir.0) frag nb → (i : ℕ) → i < 2 ^ nb → map.get c.caches.held (dir, child_of frag i nb) ≡ None
 no_child_cached c sound dir frag nb can i below = cached_nowhere c sound (dir, child_of frag i nb) (λ live.
