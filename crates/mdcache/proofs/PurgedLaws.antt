@@ -1,5 +1,6 @@
 -- Purges one after the other.
-use Rattle.mdcache.proofs.Common.{ArePurged, Keys, List, None, Objects, Ok, Option, PurgesName, Some, State, [], ap, arith, cond, empty_of_len, false, first_name, get_left, get_removed, inl, inr, is_some, len-entries, len-remove, length, lt-ltb, ltb-true, nat_list_cmp_total, nat_lt, option_map, purged, refl, shown_tree, slice_get, suc, sym, true, zero, ℕ, ◌-◌, ◌<◌, ◌∙◌, ◌∷◌, ◌≡◌, ◌⊎◌}
+use Rattle.mdcache.proofs.Common.{ArePurged, Keys, List, None, Objects, Ok, Option, PurgesName, Some, State, [], ap, arith, cond, empty_of_len, false, first_name, get_left, get_removed, inl, inr, is_some, len-entries, len-remove, length, lt-ltb, ltb-true, nat_list_cmp_total, nat_lt, option_map, purged, refl, shown_tree, slice_get, suc, sym, true, zero, ℕ, ⊎_elim, ◌-◌, ◌<◌, ◌∙◌, ◌∷◌, ◌≡◌, ◌⊎◌}
+use Rattle.std.proofs.lemmas.Bool.{ltb-false}
 use Rattle.std.specs.FinMap as map
 use Rattle.dirfrag_codec.proofs.ByteKeys.{same_or_apart}
 use Rattle.mdcache.proofs.ObjectLaws.{first_stands}
@@ -14,11 +15,7 @@ none_first names none = len-entries names ∙ go (map.entries names) none
 
 -- where none waits the list is empty
 pub no_names : (names : Keys) → nat_lt 0 (map.len names) ≡ false → names ≡ map.empty
-no_names names none = empty_of_len names (go (map.len names) none)
-  where
-    go : (n : ℕ) → nat_lt 0 n ≡ false → n ≡ 0
-    go zero h = refl
-    go (suc n) h = let clash : true ≡ false = sym (lt-ltb 0 (suc n) (omega arith)) ∙ h in absurd cc
+no_names names none = let few = ltb-false 0 (map.len names) none in empty_of_len names (omega (arith, few))
 
 module _ (old now new : State) (so_far : ArePurged old now) (some : nat_lt 0 (map.len now.purge) ≡ true) (before after : ℕ) where
   one_more : (name : List ℕ) → first_name now.purge ≡ Some name → new ≡ purged now name → shown_tree new ≡ shown_tree now → ArePurged old new × (map.len new.purge < map.len now.purge)
@@ -45,16 +42,11 @@ module _ (old now new : State) (so_far : ArePurged old now) (some : nat_lt 0 (ma
           (ap (λ (m : Objects). map.get m q) objects ∙ get_left now.objects name q (apart q w.1) ∙ w.0, ap (λ (m : Keys). map.get m q) list ∙ get_left now.purge name q (apart q w.1) ∙ w.1)
 
       gone : (q : List ℕ) → map.get new.purge q ≡ None → (map.get old.purge q ≡ None) ⊎ (map.get new.objects q ≡ None)
-      gone q off = go (same_or_apart q name)
-        where
-          before_that : (map.get old.purge q ≡ None) ⊎ (map.get now.objects q ≡ None) → map.get new.objects q ≡ map.get now.objects q → (map.get old.purge q ≡ None) ⊎ (map.get new.objects q ≡ None)
-          before_that (inl none) still = inl none
-          before_that (inr none) still = inr (still ∙ none)
-
-          go : (q ≡ name) ⊎ (q ≡ name → ⊥) → (map.get old.purge q ≡ None) ⊎ (map.get new.objects q ≡ None)
-          go (inl same) = inr (ap (λ (m : Objects). map.get m q) objects ∙ ap (map.get (map.remove now.objects name)) same ∙ get_removed now.objects name)
-          go (inr other) =
-              before_that (so_far.gone q (sym (get_left now.purge name q other) ∙ ap (λ (m : Keys). map.get m q) (sym list) ∙ off)) (ap (λ (m : Objects). map.get m q) objects ∙ get_left now.objects name q other)
+      gone q off = elim (same_or_apart q name) [
+        | inl same ↦ inr (ap (λ (m : Objects). map.get m q) objects ∙ ap (map.get (map.remove now.objects name)) same ∙ get_removed now.objects name)
+        | inr other ↦ ⊎_elim (λ none. inl none) (λ none. inr (ap (λ (m : Objects). map.get m q) objects ∙ get_left now.objects name q other ∙ none))
+            (so_far.gone q (sym (get_left now.purge name q other) ∙ ap (λ (m : Keys). map.get m q) (sym list) ∙ off))
+      ]
 
       fewer : map.len new.purge < map.len now.purge
       fewer =

@@ -5,7 +5,7 @@ use Rattle.mds_types.proofs.LeafLaws.{get_removed, same_or_apart}
 use Rattle.objstore.specs.Objects.{written}
 use Rattle.inode_table.specs.Dirs.{IsLive}
 use Rattle.mdcache.specs.Commits.{leaf_of}
-use Rattle.mdcache.proofs.ObjectLaws.{purged_objects, tree_saved_objects}
+use Rattle.mdcache.proofs.ObjectLaws.{purged_right, tree_saved_right}
 use Rattle.mdcache.proofs.TextLaws.{one_text}
 
 -- the objects are those that were there
@@ -90,9 +90,9 @@ module _ (old new : State) where
 
     pub saved_object : (before after : ℕ) (dir : Ino) (result : Result (Unit {0}) Refusal) → SavesTree old new before after dir result → object_of new.objects leaf.0 leaf.1 ≡ object_of old.objects leaf.0 leaf.1
     saved_object before after dir (Err reason) h = ap (λ (s : State). object_of s.objects leaf.0 leaf.1) h.1
-    saved_object before after dir (Ok done) h = ap (λ (s : State). object_of s.objects leaf.0 leaf.1) h.1 ∙ tree_saved_objects old dir sound h.0 leaf live
+    saved_object before after dir (Ok done) h = ap (λ (s : State). object_of s.objects leaf.0 leaf.1) h.1 ∙ (tree_saved_right old dir sound h.0).objects leaf live
 
     pub purged_object : (before after : ℕ) (name : Option (List ℕ)) → first_name old.purge ≡ name → (result : Result (Unit {0}) Refusal) → PurgesName old new before after name result → object_of new.objects leaf.0 leaf.1 ≡ object_of old.objects leaf.0 leaf.1
     purged_object before after None is result h = ap (λ (s : State). object_of s.objects leaf.0 leaf.1) h.1
     purged_object before after (Some name) is (Err reason) h = ap (λ (s : State). object_of s.objects leaf.0 leaf.1) h.1
-    purged_object before after (Some name) is (Ok done) h = ap (λ (s : State). object_of s.objects leaf.0 leaf.1) h.0 ∙ purged_objects old name sound is leaf live
+    purged_object before after (Some name) is (Ok done) h = ap (λ (s : State). object_of s.objects leaf.0 leaf.1) h.0 ∙ (purged_right old name sound is).objects leaf live

@@ -1,10 +1,13 @@
 -- What isn't clean of one rank, after reads and preparations; and where places lack.
-use Rattle.mdcache.proofs.Common.{AllByRecursion, AreCaches, At, Bool, CacheMap, Cached, CanNotKeep, IsButRoom, IsDistinct, IsDistinct-cons, IsDistinct-head, IsDistinct-tail, IsLeft, IsThere, KeepsNone, Leaf, List, None, Objects, Option, Reads, Some, Unsaved, [], all_from, any_tied, ap, arith, at, at_rank, clean_in, cond, contains_key-keys, empty_of_len, false, filter, flips, frees, full_counts, get-empty, get-remove, get_tabulate, get_with_frag, goes, going_at, grows, has_place, here, here_is, inl, inr, is_clean, is_some, kept_at, leaf-total, leaf_is, leaf_itself, len-remove, length, list_any, loaded_clean, loads, not, object_of, one_leaf, order, refl, removed, room, room_unsaved, roomy, roomy_left, same_map, staying, subst, suc, sym, tied_leaf, true, unclean_at, unclean_in, unsaved_at, unsaved_in, with_frag, zero, ℕ, ◌&&◌, ◌+◌, ◌-◌, ◌<◌, ◌==◌, ◌||◌, ◌∙◌, ◌∷◌, ◌≡◌, ◌≤◌, ◌⊎◌}
+use Rattle.mdcache.proofs.Common.{AllByRecursion, AreCaches, At, Bool, CacheMap, Cached, CanNotKeep, IsButRoom, IsDistinct, IsDistinct-cons, IsDistinct-head, IsDistinct-tail, IsLeft, IsThere, KeepsNone, Leaf, List, None, Objects, Option, Reads, Some, Unsaved, [], all_from, any_tied, ap, arith, at, at_rank, clean_in, cond, contains_key-keys, empty_of_len, false, filter, flips, frees, full_counts, get-empty, get-remove, get_tabulate, get_with_frag, goes, going_at, grows, has_place, here, here_is, inl, inr, is_clean, is_some, kept_at, leaf-total, leaf_is, leaf_itself, len-remove, length, list_any, loaded_clean, loads, not, object_of, one_leaf, order, refl, removed, room, room_unsaved, roomy, roomy_left, same_map, staying, subst, suc, sym, tied_leaf, true, unclean_at, unclean_in, unsaved_at, unsaved_in, with_frag, zero, ℕ, ⊎_elim, ◌&&◌, ◌+◌, ◌-◌, ◌<◌, ◌==◌, ◌||◌, ◌∙◌, ◌∷◌, ◌≡◌, ◌≤◌, ◌⊎◌}
+use Rattle.std.proofs.lemmas.Bool.{cases_eq, not-true, or_right}
+use Rattle.std.proofs.lemmas.List.Elements.{All-filter, All-from_recursion, All-weaker, filter_passes, recursion_from_All}
 use Rattle.std.specs.FinMap as finmap
 use Rattle.dentry_cache.specs.Cache.{leaf_cmp}
 use Rattle.dentry_cache.specs.CacheMap.{unclean_of}
 use Rattle.dentry_cache.specs.Reads.Reads.{stays as it_stays, uses}
 use Rattle.dentry_cache.proofs.LeafLaws.{leaf-exact}
+use Rattle.mdcache.proofs.NoneLaws.{there_some}
 
 pub get_unclean_of : (c : CacheMap) (r : ℕ) (q : Leaf) → finmap.get (unclean_of c r) q ≡ unsaved_in (here c r q)
 unfolding unclean_of
@@ -28,20 +31,14 @@ with_beyond c r leaf f s q same = ap (λ (o : Option At). unsaved_in (at_rank s 
     go true one = same ∙ ap (λ (l : Leaf). unsaved_in (at_rank s (finmap.get c.held l))) (sym (one_leaf q leaf one))
     go false apart = refl
 
--- room is no part of it
-room_beyond : (r s : ℕ) (f now : Cached) → IsButRoom f now → unsaved_in (at_rank s (Some (at r now))) ≡ unsaved_in (at_rank s (Some (at r f)))
-room_beyond r s f now same = go (r == s)
-  where
-    go : (b : Bool) → unsaved_in (cond b (Some now) None) ≡ unsaved_in (cond b (Some f) None)
-    go true = room_unsaved f now same
-    go false = refl
+-- what isn't clean is told of a rank as of the fragment there
+at_alike : (b : Bool) (o p : Option Cached) → unsaved_in o ≡ unsaved_in p → unsaved_in (cond b o None) ≡ unsaved_in (cond b p None)
+at_alike true o p same = same
+at_alike false o p same = refl
 
-clean_beyond : (r s : ℕ) (f : Cached) → unsaved_in (Some f) ≡ None → unsaved_in (at_rank s (Some (at r f))) ≡ None
-clean_beyond r s f clean = go (r == s)
-  where
-    go : (b : Bool) → unsaved_in (cond b (Some f) None) ≡ None
-    go true = clean
-    go false = refl
+at_clean : (b : Bool) (o : Option Cached) → unsaved_in o ≡ None → unsaved_in (cond b o None) ≡ None
+at_clean true o clean = clean
+at_clean false o clean = refl
 
 -- what went was clean
 left_beyond : (s : ℕ) (o p : Option At) → IsLeft o p → unsaved_in (at_rank s p) ≡ unsaved_in (at_rank s o)
@@ -50,23 +47,19 @@ left_beyond s o p (inr went) = ap (λ (x : Option At). unsaved_in (at_rank s x))
   where
     go : (o : Option At) → unsaved_at o ≡ None → unsaved_in (at_rank s o) ≡ None
     go None clean = refl
-    go (Some a) clean = on (a.rank == s)
-      where
-        on : (b : Bool) → unsaved_in (cond b (Some a.frag) None) ≡ None
-        on true = clean
-        on false = refl
+    go (Some a) clean = at_clean (a.rank == s) (Some a.frag) clean
 
 module _ (Uses Ends : ℕ → Leaf → Type 0) (objects : Objects) (old : CacheMap) where
   reads_beyond : (s : ℕ) (q : Leaf) (new : CacheMap) → Reads Uses Ends objects old new → unsaved_in (here new s q) ≡ unsaved_in (here old s q)
   reads_beyond s q _ it_stays = refl
   reads_beyond s q _ (uses mid r leaf before named) = reads_beyond s q mid before
   reads_beyond s q _ (grows mid r leaf f now before named is same) =
-      with_beyond mid r leaf now s q (room_beyond r s f now same ∙ ap (λ (o : Option At). unsaved_in (at_rank s o)) (sym (here_is r (finmap.get mid.held leaf) f is)))
+      with_beyond mid r leaf now s q (at_alike (r == s) (Some now) (Some f) (room_unsaved f now same) ∙ ap (λ (o : Option At). unsaved_in (at_rank s o)) (sym (here_is r (finmap.get mid.held leaf) f is)))
       ∙ reads_beyond s q mid before
   reads_beyond s q _ (room mid new r leaf stay before named none stayed made) =
       left_beyond s (finmap.get mid.held q) (finmap.get new.held q) (roomy_left mid new r stay q made) ∙ reads_beyond s q mid before
   reads_beyond s q _ (loads mid r leaf f before named none is) =
-      with_beyond mid r leaf f s q (clean_beyond r s f (loaded_clean leaf.1 (object_of objects leaf.0 leaf.1) f is) ∙ ap (λ (o : Option At). unsaved_in (at_rank s o)) (sym none))
+      with_beyond mid r leaf f s q (at_clean (r == s) (Some f) (loaded_clean leaf.1 (object_of objects leaf.0 leaf.1) f is) ∙ ap (λ (o : Option At). unsaved_in (at_rank s o)) (sym none))
       ∙ reads_beyond s q mid before
   reads_beyond s q _ (frees mid r leaf before ended none) =
       ap (λ (o : Option Cached). unsaved_in (at_rank s (finmap.get (removed mid.held leaf o) q))) (ap (at_rank r) none) ∙ reads_beyond s q mid before
@@ -78,17 +71,13 @@ module _ (Uses Ends : ℕ → Leaf → Type 0) (objects : Objects) (old : CacheM
 
 -- a map without one of its leaves
 len_removed : (m : finmap.FinMap leaf_cmp Unsaved) (leaf : Leaf) → is_some (finmap.get m leaf) ≡ true → finmap.len (finmap.remove m leaf) + 1 ≡ finmap.len m
-len_removed m leaf there = go (finmap.len m) refl
-  where
-    minus : finmap.len (finmap.remove m leaf) ≡ finmap.len m - 1
-    minus = len-remove leaf-total m leaf ∙ ap (λ (b : Bool). cond b (finmap.len m - 1) (finmap.len m)) there
-
-    go : (n : ℕ) → finmap.len m ≡ n → finmap.len (finmap.remove m leaf) + 1 ≡ finmap.len m
-    go zero none =
-        let nothing : finmap.FinMap leaf_cmp Unsaved = finmap.empty in
-        let clash : is_some (finmap.get nothing leaf) ≡ true = subst (λ (k : finmap.FinMap leaf_cmp Unsaved). is_some (finmap.get k leaf) ≡ true) (empty_of_len m none) there in
-        let plain : false ≡ true = sym (ap (λ (o : Option Unsaved). is_some o) (get-empty leaf_cmp leaf)) ∙ clash in absurd cc
-    go (suc n) some = let m1 = minus in omega (arith, m1, some)
+len_removed m leaf there =
+    let minus : finmap.len (finmap.remove m leaf) ≡ finmap.len m - 1 = len-remove leaf-total m leaf ∙ ap (λ (b : Bool). cond b (finmap.len m - 1) (finmap.len m)) there in
+    ⊎_elim
+    (λ none.
+    let clash : false ≡ true = sym (ap (λ (k : finmap.FinMap leaf_cmp Unsaved). is_some (finmap.get k leaf)) (empty_of_len m none) ∙ ap is_some (get-empty leaf_cmp leaf)) ∙ there in
+    absurd cc)
+    (λ some. omega (arith, minus, some)) (cases_eq (finmap.len m) 0)
 
 -- leaves that all have something, none of them twice, are no more than there are with something
 few_keys : (m : finmap.FinMap leaf_cmp Unsaved) (xs : List Leaf) → IsDistinct leaf_is xs → AllByRecursion (λ (x : Leaf). is_some (finmap.get m x) ≡ true) xs → length xs ≤ finmap.len m
@@ -106,67 +95,41 @@ few_keys m (x ∷ xs) distinct all =
       still ys apart.1 have.1,
     )
 
--- those that pass a test
-module _ (p : Leaf → Bool) where
-  all_filtered : (P : Leaf → Type 0) (xs : List Leaf) → AllByRecursion P xs → AllByRecursion P (filter p xs)
-  all_filtered P [] all = tt
-  all_filtered P (x ∷ xs) all = go (p x) (all_filtered P xs all.1)
-    where
-      go : (b : Bool) → AllByRecursion P (filter p xs) → AllByRecursion P (cond b (x ∷ filter p xs) (filter p xs))
-      go true rest = (all.0, rest)
-      go false rest = rest
+-- those that pass a test are apart too
+filtered_distinct : (p : Leaf → Bool) (xs : List Leaf) → IsDistinct leaf_is xs → IsDistinct leaf_is (filter p xs)
+filtered_distinct p [] distinct = distinct
+filtered_distinct p (x ∷ xs) distinct = go (p x) (filtered_distinct p xs (IsDistinct-tail leaf_is x xs distinct))
+  where
+    Apart : Leaf → Type 0
+    Apart y = leaf_is x y ≡ false
 
-  filtered_distinct : (xs : List Leaf) → IsDistinct leaf_is xs → IsDistinct leaf_is (filter p xs)
-  filtered_distinct [] distinct = distinct
-  filtered_distinct (x ∷ xs) distinct = go (p x) (filtered_distinct xs (IsDistinct-tail leaf_is x xs distinct))
-    where
-      go : (b : Bool) → IsDistinct leaf_is (filter p xs) → IsDistinct leaf_is (cond b (x ∷ filter p xs) (filter p xs))
-      go true rest = IsDistinct-cons leaf_is x (filter p xs) (all_filtered (λ (y : Leaf). leaf_is x y ≡ false) xs (IsDistinct-head leaf_is x xs distinct)) rest
-      go false rest = rest
-
-  filtered_pass : (xs : List Leaf) → AllByRecursion (λ (x : Leaf). p x ≡ true) (filter p xs)
-  filtered_pass [] = tt
-  filtered_pass (x ∷ xs) = go (p x) refl (filtered_pass xs)
-    where
-      go : (b : Bool) → p x ≡ b → AllByRecursion (λ (x : Leaf). p x ≡ true) (filter p xs) → AllByRecursion (λ (x : Leaf). p x ≡ true) (cond b (x ∷ filter p xs) (filter p xs))
-      go true seen rest = (seen, rest)
-      go false seen rest = rest
+    go : (b : Bool) → IsDistinct leaf_is (filter p xs) → IsDistinct leaf_is (cond b (x ∷ filter p xs) (filter p xs))
+    go true rest = IsDistinct-cons leaf_is x (filter p xs) (recursion_from_All Apart (filter p xs) (All-filter p Apart xs (All-from_recursion Apart xs (IsDistinct-head leaf_is x xs distinct)))) rest
+    go false rest = rest
 
 -- the places of fragments that aren't clean are no more than those fragments
 pub unclean_few : (c : CacheMap) (r : ℕ) → IsDistinct leaf_is (order c r) → length (unclean_at c r) ≤ finmap.len (unclean_of c r)
-unclean_few c r distinct = few_keys (unclean_of c r) (unclean_at c r) (filtered_distinct (λ (leaf : Leaf). unclean_in (here c r leaf)) (order c r) distinct)
-    (each (unclean_at c r) (filtered_pass (λ (leaf : Leaf). unclean_in (here c r leaf)) (order c r)))
+unclean_few c r distinct = few_keys (unclean_of c r) (unclean_at c r) (filtered_distinct unclean (order c r) distinct)
+    (recursion_from_All (λ (x : Leaf). is_some (finmap.get (unclean_of c r) x) ≡ true) (unclean_at c r)
+    (All-weaker (λ (x : Leaf). unclean x ≡ true) (λ (x : Leaf). is_some (finmap.get (unclean_of c r) x) ≡ true) (λ x is. ap is_some (get_unclean_of c r x) ∙ some (here c r x) is) (unclean_at c r) (filter_passes unclean (order c r))))
   where
+    unclean : Leaf → Bool
+    unclean leaf = unclean_in (here c r leaf)
+
     some : (o : Option Cached) → unclean_in o ≡ true → is_some (unsaved_in o) ≡ true
     some None is = let clash : false ≡ true = is in absurd cc
-    some (Some f) is = go (is_clean f) is
-      where
-        go : (b : Bool) → not b ≡ true → is_some {T = Unsaved} (cond b None (Some (record { base = f.base; generation = f.generation; dirty = f.dirty }))) ≡ true
-        go true is = let clash : false ≡ true = is in absurd cc
-        go false is = refl
-
-    each : (xs : List Leaf) → AllByRecursion (λ (x : Leaf). unclean_in (here c r x) ≡ true) xs → AllByRecursion (λ (x : Leaf). is_some (finmap.get (unclean_of c r) x) ≡ true) xs
-    each [] all = tt
-    each (x ∷ xs) all = (ap (λ (o : Option Unsaved). is_some o) (get_unclean_of c r x) ∙ some (here c r x) all.0, each xs all.1)
+    some (Some f) is = ap (λ (b : Bool). is_some {T = Unsaved} (cond b None (Some (record { base = f.base; generation = f.generation; dirty = f.dirty })))) (not-true (is_clean f) is)
 
 -- where none is kept, no place is that of one
 pub kept_none : (c : CacheMap) (r : ℕ) → KeepsNone c → kept_at c r ≡ []
 kept_none c r none = go (order c r) (λ q is. is)
   where
-    there : (o : Option Cached) → IsThere o → is_some o ≡ true
-    there None h = absurd h
-    there (Some f) h = refl
-
-    either : (a b : Bool) → b ≡ true → (a || b) ≡ true
-    either true b is = refl
-    either false b is = is
-
     go : (xs : List Leaf) → ((q : Leaf) → list_any (leaf_is q) xs ≡ true → has_place c r q ≡ true) → filter (λ (leaf : Leaf). not (is_some (here c r leaf))) xs ≡ []
     go [] among = refl
     go (x ∷ xs) among =
-        let some : is_some (here c r x) ≡ true = there (here c r x) (none r x (among x (ap (λ (b : Bool). b || list_any (leaf_is x) xs) (leaf_itself x)))) in
+        let some : is_some (here c r x) ≡ true = there_some (here c r x) (none r x (among x (ap (λ (b : Bool). b || list_any (leaf_is x) xs) (leaf_itself x)))) in
         ap (λ (b : Bool). cond (not b) (x ∷ filter (λ (leaf : Leaf). not (is_some (here c r leaf))) xs) (filter (λ (leaf : Leaf). not (is_some (here c r leaf))) xs)) some
-        ∙ go xs (λ q is. among q (either (leaf_is q x) (list_any (leaf_is q) xs) is))
+        ∙ go xs (λ q is. among q (or_right (leaf_is q x) (list_any (leaf_is q) xs) is))
 
 -- where no place of a rank is free and none can become so, and none is kept, they lack
 pub full_lacks : (c : CacheMap) (r : ℕ) (stay : Option Leaf) → AreCaches c → KeepsNone c → roomy c r stay ≡ None → c.cap < finmap.len (unclean_of c r) + (1 + staying stay)
