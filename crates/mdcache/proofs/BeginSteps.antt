@@ -10,19 +10,8 @@ use Rattle.mdcache.proofs.NoneLaws.{none_used}
 
 -- ---- what is told of a fragment
 
-abbrev pub told : Option Unsaved → Option (Base × ℕ)
+abbrev told : Option Unsaved → Option (Base × ℕ)
 told o = option_map (λ (u : Unsaved). (u.base, u.generation)) o
-
-pub unclean_told : (o : Option Cached) (f : Cached) (b : Bool) (base : Base) (generation : ℕ) → o ≡ Some f → b ≡ is_clean f → b ≡ false → base ≡ f.base → generation ≡ f.generation → Some (base, generation) ≡ told (unsaved_in o)
-unclean_told o f b base generation there clean apart is_base is_generation = sym (
-    ap (λ (p : Option Cached). told (unsaved_in p)) there ∙ ap (λ (t : Bool). told (cond t None (Some (record { base = f.base; generation = f.generation; dirty = f.dirty })))) (sym clean ∙ apart)
-    ∙ (λ i. Some (sym is_base i, sym is_generation i)))
-
-pub clean_told : (o : Option Cached) (f : Cached) (b : Bool) → o ≡ Some f → b ≡ is_clean f → b ≡ true → None ≡ told (unsaved_in o)
-clean_told o f b there clean is = sym (ap (λ (p : Option Cached). told (unsaved_in p)) there ∙ ap (λ (t : Bool). told (cond t None (Some (record { base = f.base; generation = f.generation; dirty = f.dirty })))) (sym clean ∙ is))
-
-pub absent_told : (o : Option Cached) → o ≡ None → None ≡ told (unsaved_in o)
-absent_told o there = sym (ap (λ (p : Option Cached). told (unsaved_in p)) there)
 
 -- a fragment of which this was told isn't clean
 pub unsaved_from : (o : Option Unsaved) (base : Base) (generation : ℕ) → Some (base, generation) ≡ told o → (u : Unsaved) × (o ≡ Some u) × (u.base ≡ base) × (u.generation ≡ generation)

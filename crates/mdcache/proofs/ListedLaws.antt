@@ -25,10 +25,6 @@ is_left names (text ∷ texts) q none =
     is_left (map.remove names text) texts q (λ has. none (suc has.0, let within = has.1 in omega (arith, within), has.2))
     ∙ get_left names text q (λ same. none (zero, omega arith, sym same))
 
-abbrev fragment_in : ObjName → Fragment
-fragment_in (Frag dir f) = f
-fragment_in (TreeOf dir) = record { bits = 0; value = 0 }
-
 -- a split's list: the leaf's object is on it, the children's are not, and of other names nothing changes
 pub listed_anew : (old : Keys) (dir : Ino) (frag : Fragment) (nb : ℕ) (texts : List (List ℕ)) (Came : Fragment → Type 0) → dir.0 < 2 ^ 64 → IsFragment frag → 1 ≤ nb → frag.bits + nb ≤ 24 → NameChildren dir frag nb texts
     → ((g : Fragment) → Came g → IsChild frag nb g) → ((i : ℕ) → i < 2 ^ nb → Came (child_of frag i nb)) → IsListedAnew old (without_objects (map.insert old (text_of (dir, frag)) tt) texts) dir (frag ∷ []) Came
@@ -45,7 +41,8 @@ listed_anew old dir frag nb texts Came small valid some few named is_child comes
     no_child_text : Contains texts (text_of (dir, frag)) → ⊥
     no_child_text has =
         let child = named.only (text_of (dir, frag)) has in
-        let one : frag ≡ child_of frag child.0 nb = ap fragment_in (texts_differ (Frag dir frag) (Frag dir (child_of frag child.0 nb)) (small, valid) (small, child_is_fragment frag child.0 nb valid few child.1) child.2) in
+        let names : Frag dir frag ≡ Frag dir (child_of frag child.0 nb) = texts_differ (Frag dir frag) (Frag dir (child_of frag child.0 nb)) (small, valid) (small, child_is_fragment frag child.0 nb valid few child.1) child.2 in
+        let one : frag ≡ child_of frag child.0 nb = cc in
         let bits : frag.bits ≡ frag.bits + nb = ap (λ (g : Fragment). g.bits) one in
         omega (arith, bits, some)
 

@@ -45,10 +45,6 @@ pub record HasMerged (old new : Core) (a : Dirfrag) : Type 0 where
   pub came : Came (IsAmongOr a.rank.0 (ending_at old a) (leaf_of a)) (λ r q. Contains (ending_at old a) q) old.caches new.caches
   pub sound : IsSoundCore new
 
-abbrev fragment_of : ObjName → Fragment
-fragment_of (Frag dir f) = f
-fragment_of (TreeOf dir) = root_fragment
-
 module _ (old mid : Core) (sound : IsSoundCore old) (a : Dirfrag) (merge : Merge) (known : is_known old.homes a.dir.0 ≡ true) (can : CanMerge (leaves_of old.covers a.dir.0) a.frag)
     (reads : ReadsCore (IsAmongOr a.rank.0 (ending_at old a) (leaf_of a)) NoneEnds old mid) (ready : IsMergeReady mid a merge)
     (new : Core) (left : new ≡ merged_in mid a merge.plan merge.joined new.room) (none : KeepsNone new.caches) where
@@ -239,7 +235,8 @@ module _ (old mid : Core) (sound : IsSoundCore old) (a : Dirfrag) (merge : Merge
   other_text : (g : Fragment) → HasLeaf gone g → text_of (dir, g) ≡ text_of (dir, frag) → ⊥
   other_text g has same =
       let small = mine.numbered dir.0 known_now in
-      let one : g ≡ frag = ap fragment_of (texts_differ (Frag dir g) (Frag dir frag) (small, is_fragment g (has_inside frag g row has).0) (small, valid) same) in
+      let names : Frag dir g ≡ Frag dir frag = texts_differ (Frag dir g) (Frag dir frag) (small, is_fragment g (has_inside frag g row has).0) (small, valid) same in
+      let one : g ≡ frag = cc in
       not_gone (subst (HasLeaf gone) one has)
 
   listed : t.purge ≡ map.remove on (text_of leaf)

@@ -1,11 +1,10 @@
 -- What isn't clean of one rank, after reads and preparations; and where places lack.
-use Rattle.mdcache.proofs.Common.{AllByRecursion, AreCaches, At, Bool, CacheMap, Cached, CanNotKeep, IsButRoom, IsDistinct, IsDistinct-cons, IsDistinct-head, IsDistinct-tail, IsLeft, IsThere, KeepsNone, Leaf, List, None, Objects, Option, Reads, Some, Unsaved, [], all_from, any_tied, ap, arith, at, at_rank, clean_in, cond, contains_key-keys, empty_of_len, false, filter, flips, frees, full_counts, get-empty, get-remove, get_tabulate, get_with_frag, goes, going_at, grows, has_place, here, here_is, inl, inr, is_clean, is_some, kept_at, leaf-total, leaf_is, leaf_itself, len-remove, length, list_any, loaded_clean, loads, not, object_of, one_leaf, order, refl, removed, room, room_unsaved, roomy, roomy_left, same_map, staying, subst, suc, sym, tied_leaf, true, unclean_at, unclean_in, unsaved_at, unsaved_in, with_frag, zero, ℕ, ⊎_elim, ◌&&◌, ◌+◌, ◌-◌, ◌<◌, ◌==◌, ◌||◌, ◌∙◌, ◌∷◌, ◌≡◌, ◌≤◌, ◌⊎◌}
+use Rattle.mdcache.proofs.Common.{AllByRecursion, AreCaches, At, Bool, CacheMap, Cached, CanNotKeep, IsButRoom, IsDistinct, IsDistinct-cons, IsDistinct-head, IsDistinct-tail, IsLeft, IsThere, KeepsNone, Leaf, List, None, Objects, Option, Reads, Some, Unsaved, [], all_from, any_tied, ap, arith, at, at_rank, clean_in, cond, contains_key-keys, empty_of_len, false, filter, flips, frees, full_counts, get-empty, get-remove, get_tabulate, get_unclean, goes, going_at, grows, has_place, here, here_is, inl, inr, is_clean, is_some, kept_at, leaf-total, leaf_is, leaf_itself, len-remove, length, list_any, loaded_clean, loads, not, object_of, order, reads_held, reads_unclean, refl, removed, room, room_unsaved, roomy, roomy_left, same_map, staying, subst, suc, sym, tied_leaf, true, unclean_at, unclean_in, unsaved_at, unsaved_in, with_frag, zero, ℕ, ⊎_elim, ◌&&◌, ◌+◌, ◌-◌, ◌<◌, ◌==◌, ◌||◌, ◌∙◌, ◌∷◌, ◌≡◌, ◌≤◌, ◌⊎◌}
 use Rattle.std.proofs.lemmas.Bool.{cases_eq, not-true, or_right}
 use Rattle.std.proofs.lemmas.List.Elements.{All-filter, All-from_recursion, All-weaker, filter_passes, recursion_from_All}
 use Rattle.std.specs.FinMap as finmap
 use Rattle.dentry_cache.specs.Cache.{leaf_cmp}
 use Rattle.dentry_cache.specs.CacheMap.{unclean_of}
-use Rattle.dentry_cache.specs.Reads.Reads.{stays as it_stays, uses}
 use Rattle.dentry_cache.proofs.LeafLaws.{leaf-exact}
 use Rattle.mdcache.proofs.NoneLaws.{there_some}
 
@@ -22,15 +21,6 @@ get_unclean_of c r q =
 
 -- ---- reads leave it
 
--- a fragment that comes in place of one with the same beyond its object leaves that of each leaf at each rank
-with_beyond : (c : CacheMap) (r : ℕ) (leaf : Leaf) (f : Cached) (s : ℕ) (q : Leaf) → unsaved_in (at_rank s (Some (at r f))) ≡ unsaved_in (at_rank s (finmap.get c.held leaf))
-    → unsaved_in (here (with_frag c r leaf f) s q) ≡ unsaved_in (here c s q)
-with_beyond c r leaf f s q same = ap (λ (o : Option At). unsaved_in (at_rank s o)) (get_with_frag c r leaf f q) ∙ go (leaf_is q leaf) refl
-  where
-    go : (b : Bool) → leaf_is q leaf ≡ b → unsaved_in (at_rank s (cond b (Some (at r f)) (finmap.get c.held q))) ≡ unsaved_in (here c s q)
-    go true one = same ∙ ap (λ (l : Leaf). unsaved_in (at_rank s (finmap.get c.held l))) (sym (one_leaf q leaf one))
-    go false apart = refl
-
 -- what isn't clean is told of a rank as of the fragment there
 at_alike : (b : Bool) (o p : Option Cached) → unsaved_in o ≡ unsaved_in p → unsaved_in (cond b o None) ≡ unsaved_in (cond b p None)
 at_alike true o p same = same
@@ -40,29 +30,26 @@ at_clean : (b : Bool) (o : Option Cached) → unsaved_in o ≡ None → unsaved_
 at_clean true o clean = clean
 at_clean false o clean = refl
 
--- what went was clean
-left_beyond : (s : ℕ) (o p : Option At) → IsLeft o p → unsaved_in (at_rank s p) ≡ unsaved_in (at_rank s o)
-left_beyond s o p (inl same) = ap (λ (x : Option At). unsaved_in (at_rank s x)) same
-left_beyond s o p (inr went) = ap (λ (x : Option At). unsaved_in (at_rank s x)) went.0 ∙ sym (go o went.1)
-  where
-    go : (o : Option At) → unsaved_at o ≡ None → unsaved_in (at_rank s o) ≡ None
-    go None clean = refl
-    go (Some a) clean = at_clean (a.rank == s) (Some a.frag) clean
+clean_at : (s : ℕ) (o : Option At) → unsaved_at o ≡ None → unsaved_in (at_rank s o) ≡ None
+clean_at s None clean = refl
+clean_at s (Some a) clean = at_clean (a.rank == s) (Some a.frag) clean
 
 module _ (Uses Ends : ℕ → Leaf → Type 0) (objects : Objects) (old : CacheMap) where
   reads_beyond : (s : ℕ) (q : Leaf) (new : CacheMap) → Reads Uses Ends objects old new → unsaved_in (here new s q) ≡ unsaved_in (here old s q)
-  reads_beyond s q _ it_stays = refl
-  reads_beyond s q _ (uses mid r leaf before named) = reads_beyond s q mid before
-  reads_beyond s q _ (grows mid r leaf f now before named is same) =
-      with_beyond mid r leaf now s q (at_alike (r == s) (Some now) (Some f) (room_unsaved f now same) ∙ ap (λ (o : Option At). unsaved_in (at_rank s o)) (sym (here_is r (finmap.get mid.held leaf) f is)))
-      ∙ reads_beyond s q mid before
-  reads_beyond s q _ (room mid new r leaf stay before named none stayed made) =
-      left_beyond s (finmap.get mid.held q) (finmap.get new.held q) (roomy_left mid new r stay q made) ∙ reads_beyond s q mid before
-  reads_beyond s q _ (loads mid r leaf f before named none is) =
-      with_beyond mid r leaf f s q (at_clean (r == s) (Some f) (loaded_clean leaf.1 (object_of objects leaf.0 leaf.1) f is) ∙ ap (λ (o : Option At). unsaved_in (at_rank s o)) (sym none))
-      ∙ reads_beyond s q mid before
-  reads_beyond s q _ (frees mid r leaf before ended none) =
-      ap (λ (o : Option Cached). unsaved_in (at_rank s (finmap.get (removed mid.held leaf o) q))) (ap (at_rank r) none) ∙ reads_beyond s q mid before
+  reads_beyond s q new reads = go (finmap.get new.held q) refl
+    where
+      same : unsaved_at (finmap.get new.held q) ≡ unsaved_at (finmap.get old.held q)
+      same = sym (get_unclean new q) ∙ ap (λ m. finmap.get m q) (reads_unclean Uses Ends objects old new reads) ∙ get_unclean old q
+
+      both_clean : unsaved_at (finmap.get new.held q) ≡ None → unsaved_in (here new s q) ≡ unsaved_in (here old s q)
+      both_clean clean = clean_at s (finmap.get new.held q) clean ∙ sym (clean_at s (finmap.get old.held q) (sym same ∙ clean))
+
+      go : (o : Option At) → finmap.get new.held q ≡ o → unsaved_in (here new s q) ≡ unsaved_in (here old s q)
+      go None is = both_clean (ap unsaved_at is)
+      go (Some a) is = elim (reads_held Uses Ends objects old new reads q a is) [
+        | inl was ↦ ap (λ (o : Option At). unsaved_in (at_rank s o)) is ∙ at_alike (a.rank == s) (Some a.frag) (Some was.0) (room_unsaved was.0 a.frag was.2) ∙ sym (ap (λ (o : Option At). unsaved_in (at_rank s o)) was.1)
+        | inr came ↦ both_clean (ap unsaved_at is ∙ room_unsaved came.1 a.frag came.3 ∙ loaded_clean q.1 (object_of objects q.0 q.1) came.1 came.2)
+      ]
 
   pub reads_unclean_of : (new : CacheMap) → Reads Uses Ends objects old new → (r : ℕ) → unclean_of new r ≡ unclean_of old r
   reads_unclean_of new reads r = same_map leaf-total leaf-exact (unclean_of new r) (unclean_of old r) (λ q. get_unclean_of new r q ∙ reads_beyond r q new reads ∙ sym (get_unclean_of old r q))
