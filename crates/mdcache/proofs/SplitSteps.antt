@@ -51,23 +51,14 @@ module _ (old mid : Core) (sound : IsSoundCore old) (a : Dirfrag) (nb : ℕ) (sp
     (only : (r : ℕ) (q : Leaf) → IsWhole mid.caches r q ⊎ IsChildAt a.rank.0 a.dir a.frag nb r q) (ready : IsSplitReady mid a nb split)
     (new : Core) (divided : IsSplit (leaves_of mid.covers a.dir.0) (leaves_of new.covers a.dir.0) a.frag nb) (whole : IsTree (leaves_of new.covers a.dir.0)) (places : SplitsInto a.rank.0 a.dir a.frag nb split.parts mid.next_version mid.caches new.caches)
     (left : (empty : Bool) × HasCached (here mid.caches a.rank.0 (leaf_of a)) (λ (f : Cached). empty ≡ has_none (shown f)) × (new ≡ split_in mid a nb split.plan (leaves_of new.covers a.dir.0) empty new.caches new.room)) where
-  abbrev dir : Ino
-  dir = a.dir
-
-  abbrev frag : Fragment
-  frag = a.frag
-
   abbrev leaf : Leaf
   leaf = leaf_of a
 
   abbrev cover : List Fragment
-  cover = leaves_of new.covers dir.0
-
-  abbrev r : ℕ
-  r = a.rank.0
+  cover = leaves_of new.covers a.dir.0
 
   abbrev Family : ℕ → Leaf → Type 0
-  Family = IsFamilyAt r dir frag nb
+  Family = IsFamilyAt a.rank.0 a.dir a.frag nb
 
   -- what is left, in its own words
   abbrev made : Core
@@ -85,81 +76,75 @@ module _ (old mid : Core) (sound : IsSoundCore old) (a : Dirfrag) (nb : ℕ) (sp
   mine : IsSound s
   mine = subst IsSound (sym was) sound.sound
 
-  known_now : is_known s.homes dir.0 ≡ true
-  known_now = ap (λ (u : State). is_known u.homes dir.0) was ∙ known
+  known_now : is_known s.homes a.dir.0 ≡ true
+  known_now = ap (λ (u : State). is_known u.homes a.dir.0) was ∙ known
 
-  can_now : CanSplit (leaves_of s.covers dir.0) frag nb
-  can_now = subst (λ (u : State). CanSplit (leaves_of u.covers dir.0) frag nb) (sym was) can
+  can_now : CanSplit (leaves_of s.covers a.dir.0) a.frag nb
+  can_now = subst (λ (u : State). CanSplit (leaves_of u.covers a.dir.0) a.frag nb) (sym was) can
 
-  there : r < length mid.caches.used
-  there = there_after Family Family old mid r reads may.there
+  there : a.rank.0 < length mid.caches.used
+  there = there_after Family Family old mid a.rank.0 reads may.there
 
   -- cached leaves are sound still
   cached : AreCached s mid.caches
   cached = reads_cached_so Family Family old mid reads sound (family_live old a nb known can mid.caches (λ i below. (ready.kept i below).1))
 
   abbrev row : List Fragment
-  row = leaves_of s.covers dir.0
+  row = leaves_of s.covers a.dir.0
 
   tree : IsTree row
-  tree = tree_of_row s.homes s.covers mine.table dir.0
+  tree = tree_of_row s.homes s.covers mine.table a.dir.0
 
   -- the fragment that splits
-  it : (g : Cached) × (here mid.caches r leaf ≡ Some g)
-  it = its (here mid.caches r leaf) (cached_there (SplitsAt r dir frag nb split.parts mid.next_version mid.caches new.caches) (here mid.caches r leaf) places)
+  it : (g : Cached) × (here mid.caches a.rank.0 leaf ≡ Some g)
+  it = its (here mid.caches a.rank.0 leaf) (cached_there (SplitsAt a.rank.0 a.dir a.frag nb split.parts mid.next_version mid.caches new.caches) (here mid.caches a.rank.0 leaf) places)
 
   abbrev f : Cached
   f = it.0
 
-  seen : here mid.caches r leaf ≡ Some f
-  seen = it.1
+  so : (P : Cached → Type 0) → HasCached (here mid.caches a.rank.0 leaf) P → P f
+  so P h = subst (λ (o : Option Cached). HasCached o P) it.1 h
 
-  so : (P : Cached → Type 0) → HasCached (here mid.caches r leaf) P → P f
-  so P h = subst (λ (o : Option Cached). HasCached o P) seen h
-
-  done : SplitsAt r dir frag nb split.parts mid.next_version mid.caches new.caches f
-  done = so (SplitsAt r dir frag nb split.parts mid.next_version mid.caches new.caches) places
+  done : SplitsAt a.rank.0 a.dir a.frag nb split.parts mid.next_version mid.caches new.caches f
+  done = so (SplitsAt a.rank.0 a.dir a.frag nb split.parts mid.next_version mid.caches new.caches) places
 
   count : length split.parts ≡ 2 ^ nb
-  count = (so (IsReadyToSplit frag nb split.parts) ready.ready).1.count
+  count = (so (IsReadyToSplit a.frag nb split.parts) ready.ready).1.count
 
-  free : IsFreeFor mid.caches r leaf
-  free = here_free r (map.get mid.caches.held leaf) (ap (λ (o : Option Cached). is_some o) seen)
-
-  some : 1 ≤ nb
-  some = can.fits.some
+  free : IsFreeFor mid.caches a.rank.0 leaf
+  free = here_free a.rank.0 (map.get mid.caches.held leaf) (ap (λ (o : Option Cached). is_some o) it.1)
 
   any : Part
-  any = record { frag = frag; fragment = f }
+  any = record { frag = a.frag; fragment = f }
 
   -- ---- its names
 
   leaf_shows : names_of s.unsaved s.objects leaf ≡ shown f
-  leaf_shows = shows_so mid cached r leaf f seen
+  leaf_shows = shows_so mid cached a.rank.0 leaf f it.1
 
   -- a child has the names of the tree that it contains
-  child_names : (g : Fragment) → Comes row cover g → (name : List ℕ) → map.get (names_in g (shown f)) name ≡ cond (holds g (hash_of name)) (map.get (shown_tree s) (dentry_of dir.0 name)) None
+  child_names : (g : Fragment) → Comes row cover g → (name : List ℕ) → map.get (names_in g (shown f)) name ≡ cond (holds g (hash_of name)) (map.get (shown_tree s) (dentry_of a.dir.0 name)) None
   child_names g came name = get-names_in g (shown f) name ∙ go (holds g (hash_of name)) refl
     where
-      pick : (p : (h : Fragment) × IsPick row (hash_of name) h) → holds g (hash_of name) ≡ true → frag ≡ p.0
+      pick : (p : (h : Fragment) × IsPick row (hash_of name) h) → holds g (hash_of name) ≡ true → a.frag ≡ p.0
       pick p is = ⊎_elim (λ same. sym same) (λ other.
-          let one = (pick_after_split row cover frag whole (hash_of name) p.0 p.1 nb divided other).alone g came.0 (holds_contains g (hash_of name) is) in
-          absurd (came.1 (subst (HasLeaf row) (sym one) p.1.stands))) (one_or_other p.0 frag)
+          let one = (pick_after_split row cover a.frag whole (hash_of name) p.0 p.1 nb divided other).alone g came.0 (holds_contains g (hash_of name) is) in
+          absurd (came.1 (subst (HasLeaf row) (sym one) p.1.stands))) (one_or_other p.0 a.frag)
 
-      go : (b : Bool) → holds g (hash_of name) ≡ b → cond b (map.get (shown f) name) None ≡ cond b (map.get (shown_tree s) (dentry_of dir.0 name)) None
+      go : (b : Bool) → holds g (hash_of name) ≡ b → cond b (map.get (shown f) name) None ≡ cond b (map.get (shown_tree s) (dentry_of a.dir.0 name)) None
       go false is = refl
       go true is =
-          let p = pick_at s (sound_leaves s mine) (dentry_of dir.0 name) in
+          let p = pick_at s (sound_leaves s mine) (dentry_of a.dir.0 name) in
           ap (λ (m : Names). map.get m name) (sym leaf_shows)
-          ∙ ap (λ (h : Fragment). map.get (names_of s.unsaved s.objects (dir, h)) name) (pick p is)
-          ∙ sym (stands_at s (sound_leaves s mine) (dentry_of dir.0 name) p.0 known_now p.1)
+          ∙ ap (λ (h : Fragment). map.get (names_of s.unsaved s.objects (a.dir, h)) name) (pick p is)
+          ∙ sym (stands_at s (sound_leaves s mine) (dentry_of a.dir.0 name) p.0 known_now p.1)
 
   -- what isn't clean of a child
   abbrev beyond_child : ℕ → Unsaved
   beyond_child i = record { base = Fresh; generation = (slice_index_or split.parts i any).fragment.generation; dirty = (slice_index_or done.0 i any).fragment.dirty }
 
-  unclean_child : (i : ℕ) → i < 2 ^ nb → map.get (unclean new.caches) (dir, child_of frag i nb) ≡ Some (beyond_child i)
-  unclean_child i below = split_unclean_child r dir frag nb split.parts mid.next_version mid.caches new.caches f some count done i any below
+  unclean_child : (i : ℕ) → i < 2 ^ nb → map.get (unclean new.caches) (a.dir, child_of a.frag i nb) ≡ Some (beyond_child i)
+  unclean_child i below = split_unclean_child a.rank.0 a.dir a.frag nb split.parts mid.next_version mid.caches new.caches f can.fits.some count done i any below
 
   number : (i : ℕ) → i < 2 ^ nb → (slice_index_or split.parts i any).fragment.generation ≡ s.next_generation + i
   number i below = ready.numbered i any (omega (arith, below, count))
@@ -167,70 +152,53 @@ module _ (old mid : Core) (sound : IsSoundCore old) (a : Dirfrag) (nb : ℕ) (sp
   within : (i : ℕ) → i < 2 ^ nb → i < length done.0
   within i below = let same = done.1.count in omega (arith, below, count, same)
 
-  new_leaf : (g : Fragment) → Comes row cover g → HasUnsaved (map.get (unclean new.caches) (dir, g)) (IsNewLeaf s dir g (2 ^ nb))
-  new_leaf g came =
-      let child = is_child row cover frag nb divided g came in
-      subst (λ (h : Fragment). HasUnsaved (map.get (unclean new.caches) (dir, h)) (IsNewLeaf s dir h (2 ^ nb))) (sym child.2) (its_own child.0 child.1)
-    where
-      its_own : (i : ℕ) → i < 2 ^ nb → HasUnsaved (map.get (unclean new.caches) (dir, child_of frag i nb)) (IsNewLeaf s dir (child_of frag i nb) (2 ^ nb))
-      its_own i below =
-          let given = number i below in
-          subst (λ (o : Option Unsaved). HasUnsaved o (IsNewLeaf s dir (child_of frag i nb) (2 ^ nb))) (sym (unclean_child i below)) (record {
-            fresh = refl;
-            first = omega (arith, given);
-            last = omega (arith, given, below);
-            dirty = λ name.
-                (done.1.each i any (within i below)).dirty name
-                ∙ ap (λ (o : Option Inode). marked_as s.next_version o None) (child_names (child_of frag i nb) (child_comes row cover frag nb tree can_now divided i below) name);
-          })
-
-  gone_unsaved : (g : Fragment) → HasLeaf (frag ∷ []) g → map.get (unclean new.caches) (dir, g) ≡ None
-  gone_unsaved g has =
-      subst (λ (h : Fragment). map.get (unclean new.caches) (dir, h) ≡ None) (only_one frag g has)
-      (split_unclean_gone r dir frag nb split.parts mid.next_version mid.caches new.caches f some count done free)
-
   abbrev Apart : Leaf → Type 0
-  Apart q = q.0.0 ≡ dir.0 → IsConcerned row cover (frag ∷ []) q.1 → ⊥
+  Apart q = q.0.0 ≡ a.dir.0 → IsConcerned row cover (a.frag ∷ []) q.1 → ⊥
 
   -- a leaf that isn't concerned is neither the one that split nor a child
   apart_from_it : (q : Leaf) → Apart q → leaf_is leaf q ≡ false
   apart_from_it q apart = ⊎_elim (λ same. absurd (apart (ap (λ (l : Leaf). l.0.0) (sym same)) (inl (zero, omega arith, ap (λ (l : Leaf). l.1) same)))) (λ other. other) (leaf_or_apart leaf q)
 
-  no_child_of : (q : Leaf) → Apart q → IsNoChild dir frag nb q
+  no_child_of : (q : Leaf) → Apart q → IsNoChild a.dir a.frag nb q
   no_child_of q apart i below = ⊎_elim
-      (λ same. absurd (apart (ap (λ (l : Leaf). l.0.0) (sym same)) (inr (subst (Comes row cover) (ap (λ (l : Leaf). l.1) same) (child_comes row cover frag nb tree can_now divided i below)))))
-      (λ other. other) (leaf_or_apart (dir, child_of frag i nb) q)
-
-  other_unsaved : (q : Leaf) → Apart q → map.get (unclean new.caches) q ≡ map.get (unclean mid.caches) q
-  other_unsaved q apart = split_unclean_beside r dir frag nb split.parts mid.next_version mid.caches new.caches f some count done q (apart_from_it q apart) (no_child_of q apart)
-
-  -- ---- the purge list
-
-  anew : IsListedAnew s.purge t.purge dir (frag ∷ []) (Comes row cover)
-  anew =
-      subst (λ (o : List ℕ). IsListedAnew s.purge (without_objects (map.insert s.purge o tt) (each string_bytes split.plan.children.items)) dir (frag ∷ []) (Comes row cover)) (sym ready.planned.object)
-      (listed_anew s.purge dir frag nb (each string_bytes split.plan.children.items) (Comes row cover) (mine.numbered dir.0 known_now) (between 0 16777216 row frag tree.tiles can_now.stands).0 some can_now.fits.in_all
-      ready.planned.children (is_child row cover frag nb divided) (child_comes row cover frag nb tree can_now divided))
+      (λ same. absurd (apart (ap (λ (l : Leaf). l.0.0) (sym same)) (inr (subst (Comes row cover) (ap (λ (l : Leaf). l.1) same) (child_comes row cover a.frag nb tree can_now divided i below)))))
+      (λ other. other) (leaf_or_apart (a.dir, child_of a.frag i nb) q)
 
   -- ---- all of it
 
-  empty_is : left.0 ≡ are_empty s dir (frag ∷ [])
+  empty_is : left.0 ≡ are_empty s a.dir (a.frag ∷ [])
   empty_is = so (λ (g : Cached). left.0 ≡ has_none (shown g)) left.1 ∙ ap has_none (sym leaf_shows) ∙ sym (and-true (has_none (names_of s.unsaved s.objects leaf)))
 
-  is_regrouped : IsRegrouped s t dir (frag ∷ []) cover (2 ^ nb)
+  is_regrouped : IsRegrouped s t a.dir (a.frag ∷ []) cover (2 ^ nb)
   is_regrouped = record {
     known = known_now;
     whole = whole;
     unsaved = unclean new.caches;
     purge = t.purge;
     left = λ i. record t { next_version = s.next_version + cond (empty_is i) 0 1 };
-    came = new_leaf;
-    ended = gone_unsaved;
-    others = other_unsaved;
-    listed = anew;
+    came = λ g came.
+        let child = is_child row cover a.frag nb divided g came in
+        let i = child.0 in
+        let below = child.1 in
+        let given = number i below in
+        subst (λ (h : Fragment). HasUnsaved (map.get (unclean new.caches) (a.dir, h)) (IsNewLeaf s a.dir h (2 ^ nb))) (sym child.2)
+        (subst (λ (o : Option Unsaved). HasUnsaved o (IsNewLeaf s a.dir (child_of a.frag i nb) (2 ^ nb))) (sym (unclean_child i below)) (record {
+          fresh = refl;
+          first = omega (arith, given);
+          last = omega (arith, given, below);
+          dirty = λ name.
+              (done.1.each i any (within i below)).dirty name
+              ∙ ap (λ (o : Option Inode). marked_as s.next_version o None) (child_names (child_of a.frag i nb) (child_comes row cover a.frag nb tree can_now divided i below) name);
+        }));
+    ended = λ g has. subst (λ (h : Fragment). map.get (unclean new.caches) (a.dir, h) ≡ None) (only_one a.frag g has)
+        (split_unclean_gone a.rank.0 a.dir a.frag nb split.parts mid.next_version mid.caches new.caches f can.fits.some count done free);
+    others = λ q apart. split_unclean_beside a.rank.0 a.dir a.frag nb split.parts mid.next_version mid.caches new.caches f can.fits.some count done q (apart_from_it q apart) (no_child_of q apart);
+    listed = subst (λ (o : List ℕ). IsListedAnew s.purge (without_objects (map.insert s.purge o tt) (each string_bytes split.plan.children.items)) a.dir (a.frag ∷ []) (Comes row cover)) (sym ready.planned.object)
+        (listed_anew s.purge a.dir a.frag nb (each string_bytes split.plan.children.items) (Comes row cover) (mine.numbered a.dir.0 known_now) (between 0 16777216 row a.frag tree.tiles can_now.stands).0 can.fits.some can_now.fits.in_all
+        ready.planned.children (is_child row cover a.frag nb divided) (child_comes row cover a.frag nb tree can_now divided));
   }
 
-  is_split : IsSplitInto s t dir frag nb
+  is_split : IsSplitInto s t a.dir a.frag nb
   is_split = record {
     can = can_now;
     cover = cover;
@@ -241,54 +209,54 @@ module _ (old mid : Core) (sound : IsSoundCore old) (a : Dirfrag) (nb : ℕ) (sp
 
   -- ---- what is cached
 
-  cut : Replaces row (frag ∷ []) cover
-  cut = split_replaces row cover frag nb some can_now.stands divided
+  cut : Replaces row (a.frag ∷ []) cover
+  cut = split_replaces row cover a.frag nb can.fits.some can_now.stands divided
 
   now_cached : AreCached t new.caches
-  now_cached q b is = elim (which s mine dir (frag ∷ []) cover (2 ^ nb) t is_regrouped cut q) [
+  now_cached q b is = elim (which s mine a.dir (a.frag ∷ []) cover (2 ^ nb) t is_regrouped cut q) [
     | inl end ↦
-        let none : map.get new.caches.held q ≡ None = ap (map.get new.caches.held) (sym (its_leaf end.0) ∙ ap (λ (h : Fragment). (dir, h)) (sym (only_one frag q.1 end.1)))
-        ∙ split_gone r dir frag nb split.parts mid.next_version mid.caches new.caches f some count done free in
+        let none : map.get new.caches.held q ≡ None = ap (map.get new.caches.held) (sym (its_leaf end.0) ∙ ap (λ (h : Fragment). (a.dir, h)) (sym (only_one a.frag q.1 end.1)))
+        ∙ split_gone a.rank.0 a.dir a.frag nb split.parts mid.next_version mid.caches new.caches f can.fits.some count done free in
         let clash : None ≡ Some b = sym none ∙ is in
         absurd cc
     | inr stands ↦ elim stands [
       | inl came ↦
-          let child = is_child row cover frag nb divided q.1 came.1 in
-          let held : map.get new.caches.held q ≡ Some (at r (slice_index_or done.0 child.0 any).fragment) = ap (map.get new.caches.held) (sym (its_leaf came.0) ∙ ap (λ (h : Fragment). (dir, h)) child.2)
-          ∙ split_child r dir frag nb split.parts mid.next_version mid.caches new.caches f some count done child.0 any child.1 in
-          let one : at r (slice_index_or done.0 child.0 any).fragment ≡ b = same_Some (at r (slice_index_or done.0 child.0 any).fragment) b (sym held ∙ is) in
+          let child = is_child row cover a.frag nb divided q.1 came.1 in
+          let held : map.get new.caches.held q ≡ Some (at a.rank.0 (slice_index_or done.0 child.0 any).fragment) = ap (map.get new.caches.held) (sym (its_leaf came.0) ∙ ap (λ (h : Fragment). (a.dir, h)) child.2)
+          ∙ split_child a.rank.0 a.dir a.frag nb split.parts mid.next_version mid.caches new.caches f can.fits.some count done child.0 any child.1 in
+          let one : at a.rank.0 (slice_index_or done.0 child.0 any).fragment ≡ b = same_Some (at a.rank.0 (slice_index_or done.0 child.0 any).fragment) b (sym held ∙ is) in
           let each_is = done.1.each child.0 any (within child.0 child.1) in
           let given : (slice_index_or done.0 child.0 any).fragment.generation ≡ s.next_generation + child.0 = each_is.numbered ∙ number child.0 child.1 in
           let below = child.1 in
           subst (λ (k : At). IsCachedIn t q k.frag) one (record {
-            live = came_live s mine dir (frag ∷ []) cover (2 ^ nb) t is_regrouped cut q came.0 came.1.0;
+            live = came_live s mine a.dir (a.frag ∷ []) cover (2 ^ nb) t is_regrouped cut q came.0 came.1.0;
             tied = fresh_tied (slice_index_or done.0 child.0 any).fragment (object_of t.objects q.0 q.1) each_is.fresh;
             made = omega (arith, given, below);
           })
       | inr apart ↦
-          let before = cached q b (sym (split_beside r dir frag nb split.parts mid.next_version mid.caches new.caches f some count done q (apart_from_it q apart) (no_child_of q apart)) ∙ is) in
+          let before = cached q b (sym (split_beside a.rank.0 a.dir a.frag nb split.parts mid.next_version mid.caches new.caches f can.fits.some count done q (apart_from_it q apart) (no_child_of q apart)) ∙ is) in
           let given = before.made in
-          record { live = apart_live s mine dir (frag ∷ []) cover (2 ^ nb) t is_regrouped cut q apart before.live; tied = before.tied; made = omega (arith, given) }
+          record { live = apart_live s mine a.dir (a.frag ∷ []) cover (2 ^ nb) t is_regrouped cut q apart before.live; tied = before.tied; made = omega (arith, given) }
     ]
   ]
     where
-      its_leaf : q.0.0 ≡ dir.0 → (dir, q.1) ≡ q
+      its_leaf : q.0.0 ≡ a.dir.0 → (a.dir, q.1) ≡ q
       its_leaf same = λ i. (record { 0 = sym same i }, q.1)
 
   -- ---- of what was before
 
-  split_made : IsSplitInto (state_of old) (state_of new) dir frag nb
-  split_made = subst (λ (u : State). IsSplitInto u (state_of new) dir frag nb) was (subst (λ (k : Core). IsSplitInto s (state_of k) dir frag nb) (sym left.2) is_split)
+  split_made : IsSplitInto (state_of old) (state_of new) a.dir a.frag nb
+  split_made = subst (λ (u : State). IsSplitInto u (state_of new) a.dir a.frag nb) was (subst (λ (k : Core). IsSplitInto s (state_of k) a.dir a.frag nb) (sym left.2) is_split)
 
   pub split_right : HasSplit old new a nb
   split_right = record {
     split = split_made;
-    tree = splits_right (state_of old) (state_of new) dir frag nb sound.sound split_made;
-    came = split_came r dir frag nb split.parts mid.next_version mid.caches new.caches f some count done Family Family old.caches (reads_came Family Family old.objects old.caches mid.caches reads.caches) (inl (refl, refl)) (λ i below. inr (refl, i, below, refl));
+    tree = splits_right (state_of old) (state_of new) a.dir a.frag nb sound.sound split_made;
+    came = split_came a.rank.0 a.dir a.frag nb split.parts mid.next_version mid.caches new.caches f can.fits.some count done Family Family old.caches (reads_came Family Family old.objects old.caches mid.caches reads.caches) (inl (refl, refl)) (λ i below. inr (refl, i, below, refl));
     sound = subst IsSoundCore (sym left.2) (record {
-      sound = (splits_right s t dir frag nb mine is_split).sound;
+      sound = (splits_right s t a.dir a.frag nb mine is_split).sound;
       begun = (let before : 0 < s.next_generation = subst (λ (u : State). 0 < u.next_generation) (sym was) sound.begun in omega (arith, before));
       cached = now_cached;
-      none = split_whole r dir frag nb split.parts mid.next_version mid.caches new.caches f some count done there distinct free ready.kept only;
+      none = split_whole a.rank.0 a.dir a.frag nb split.parts mid.next_version mid.caches new.caches f can.fits.some count done there distinct free ready.kept only;
     });
   }
