@@ -76,11 +76,8 @@ module _ (c view : Core) (is : view ≡ c) (sound : IsSoundCore c) (a : Dirfrag)
     abbrev u : Unsaved
     u = found.0
 
-    beside : map.get s.unsaved leaf ≡ Some u
-    beside = found.1
-
     its : (f : Cached) × (here c.caches r leaf ≡ Some f) × (is_clean f ≡ false) × (u ≡ record { base = f.base; generation = f.generation; dirty = f.dirty })
-    its = go (here c.caches r leaf) (sym (unclean_here c.caches r leaf free) ∙ beside)
+    its = go (here c.caches r leaf) (sym (unclean_here c.caches r leaf free) ∙ found.1)
       where
         go : (o : Option Cached) → unsaved_in o ≡ Some u → (f : Cached) × (o ≡ Some f) × (is_clean f ≡ false) × (u ≡ record { base = f.base; generation = f.generation; dirty = f.dirty })
         go None is = let clash : None ≡ Some u = is in absurd cc
@@ -93,7 +90,7 @@ module _ (c view : Core) (is : view ≡ c) (sound : IsSoundCore c) (a : Dirfrag)
 
     pub lacks_number : IsAtEnd view.next_job base → HasBegun c c a (Err NoInodes)
     lacks_number lacks = record {
-      begun = (inr (inr (live, none, u, beside, inl (refl, subst (IsAtEnd s.next_job) (sym found.2) (subst (λ (k : Core). IsAtEnd k.next_job base) is lacks)))), refl);
+      begun = (inr (inr (live, none, u, found.1, inl (refl, subst (IsAtEnd s.next_job) (sym found.2) (subst (λ (k : Core). IsAtEnd k.next_job base) is lacks)))), refl);
       came = stays;
       sound = sound;
     }
@@ -116,7 +113,7 @@ module _ (c view : Core) (is : view ≡ c) (sound : IsSoundCore c) (a : Dirfrag)
 
       pub not_begun : (new : Core) → new ≡ used_core c a room → HasBegun c new a (Err NoMemory)
       not_begun new is_used = subst (λ (k : Core). HasBegun c k a (Err NoMemory)) (sym is_used)
-          (record { begun = (inr (inr (live, none, u, beside, inr (refl, left))), used_state); came = uses c.caches r leaf stays (refl, refl); sound = used_sound })
+          (record { begun = (inr (inr (live, none, u, found.1, inr (refl, left))), used_state); came = uses c.caches r leaf stays (refl, refl); sound = used_sound })
 
       -- and its job stands
       module _ (job : Job) (valid : IsSnap job.snapshot) (taken : HasCached (here c.caches r leaf) (IsJobOf s.next_job leaf job)) where
@@ -156,18 +153,15 @@ module _ (c view : Core) (is : view ≡ c) (sound : IsSoundCore c) (a : Dirfrag)
           counted = subst (λ (j : Job). j.snapshot.counts ≡ counts_of (shown_at (Some (record { base = j.snapshot.base; generation = j.generation; dirty = j.snapshot.names })) object)) (sym job_is) refl;
         }
 
-        begun_core : IsSoundCore begun
-        begun_core = record {
-          sound = subst IsSound (sym begun_state) (begun_sound s job u sound.sound (ap (map.get s.unsaved) one_leaf ∙ beside) (ap (λ (j : Job). j.number) job_is)
-              (subst (λ (j : Job). AreYoung j.snapshot.names s.next_version) (sym job_is) (sound.sound.unsaved leaf u beside).young) (subst (λ (l : Leaf). IsOf job u (object_of s.objects l.0 l.1)) (sym one_leaf) is_of));
-          begun = sound.begun;
-          cached = λ q b is. let was = used_sound.cached q b is in record { live = was.live; tied = was.tied; made = was.made };
-          none = used_sound.none;
-        }
-
         pub begun_is : (new : Core) → new ≡ begun → HasBegun c new a (Ok (Some job))
         begun_is new is_begun = subst (λ (k : Core). HasBegun c k a (Ok (Some job))) (sym is_begun) (record {
-          begun = (live, none, subst (λ (o : Option Unsaved). BeginsWith s (state_of begun) leaf o (Some job)) (sym beside) (job_is, left, begun_state));
+          begun = (live, none, subst (λ (o : Option Unsaved). BeginsWith s (state_of begun) leaf o (Some job)) (sym found.1) (job_is, left, begun_state));
           came = uses c.caches r leaf stays (refl, refl);
-          sound = begun_core;
+          sound = record {
+            sound = subst IsSound (sym begun_state) (begun_sound s job u sound.sound (ap (map.get s.unsaved) one_leaf ∙ found.1) (ap (λ (j : Job). j.number) job_is)
+                (subst (λ (j : Job). AreYoung j.snapshot.names s.next_version) (sym job_is) (sound.sound.unsaved leaf u found.1).young) (subst (λ (l : Leaf). IsOf job u (object_of s.objects l.0 l.1)) (sym one_leaf) is_of));
+            begun = sound.begun;
+            cached = λ q b is. let was = used_sound.cached q b is in record { live = was.live; tied = was.tied; made = was.made };
+            none = used_sound.none;
+          };
         })

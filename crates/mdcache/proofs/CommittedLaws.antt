@@ -76,25 +76,18 @@ module _ (now new : State) (job : Job) (sound : IsSound now) (hand : IsAtHand no
         (subst (HasSpelled (object_of new.objects job.ino job.frag) (next_version job.snapshot.base)) shows_then ended.spelled);
   }
 
-  objects : new.objects ≡ written now.objects (text_of leaf) (write_of job.snapshot)
-  objects = ap (λ (s : State). s.objects) ended.left
-
   object_beside : (name : List ℕ) → (name ≡ text_of leaf → ⊥) → map.get new.objects name ≡ map.get now.objects name
   unfolding written
-  object_beside name apart = ap (λ (m : Objects). map.get m name) objects ∙ get_beside now.objects (text_of leaf) _ name apart
+  object_beside name apart = ap (λ (s : State). map.get s.objects name) ended.left ∙ get_beside now.objects (text_of leaf) _ name apart
 
-  beside : (q : Leaf) → IsLive now.homes now.covers q → (q ≡ leaf → ⊥) → IsAsItWas now new q
-  beside q it_lives apart = (
-    ap (λ m. map.get m q) removed ∙ get_left now.unsaved leaf q apart,
-    object_beside (text_of q) (λ same. apart (one_text now.homes now.covers sound.table sound.numbered q leaf it_lives live same)),
-  )
-
-  pub ended_whole : CommitsWhole now new
+  ended_whole : CommitsWhole now new
   ended_whole = record {
-    left = ended.left ∙ (λ i. record now { unsaved = sym (ap (λ (s : State). s.unsaved) ended.left) i; objects = sym objects i; jobs = sym (ap (λ (s : State). s.jobs) ended.left) i; next_job = now.next_job })
-        ∙ (λ i. record now { unsaved = new.unsaved; objects = new.objects; jobs = new.jobs; next_job = sym (ap (λ (s : State). s.next_job) ended.left) i });
+    left = subst (λ (k : State). k ≡ record now { unsaved = k.unsaved; objects = k.objects; jobs = k.jobs; next_job = k.next_job }) (sym ended.left) refl;
     tree = ended.tree;
-    each = λ q it_lives. ⊎_elim (λ same. inr (subst (IsWritten now new) (sym same) here_written)) (λ apart. inl (beside q it_lives apart)) (same_or_apart q leaf);
+    each = λ q it_lives. ⊎_elim (λ same. inr (subst (IsWritten now new) (sym same) here_written)) (λ apart. inl (
+      ap (λ m. map.get m q) removed ∙ get_left now.unsaved leaf q apart,
+      object_beside (text_of q) (λ same. apart (one_text now.homes now.covers sound.table sound.numbered q leaf it_lives live same)),
+    )) (same_or_apart q leaf);
     others = λ name none. object_beside name (none leaf live);
   }
 

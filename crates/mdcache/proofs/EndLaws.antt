@@ -47,22 +47,19 @@ module _ (c : Core) (r : ℕ) (job : Job) (kept : IsSoundCore c) (stood : map.ge
   abbrev s : State
   s = state_of c
 
-  abbrev pub leaf : Leaf
+  abbrev leaf : Leaf
   leaf = leaf_of job
 
-  abbrev pub snap : Snap
-  snap = job.snapshot
-
-  abbrev pub object : Option Omap
+  abbrev object : Option Omap
   object = object_of s.objects job.ino job.frag
 
-  abbrev pub here : Omap
-  here = object_after snap object
+  abbrev here : Omap
+  here = object_after job.snapshot object
 
-  abbrev pub stands : IsStanding s leaf job
+  abbrev stands : IsStanding s leaf job
   stands = kept.sound.standing leaf job stood
 
-  abbrev pub u : Unsaved
+  abbrev u : Unsaved
   u = stands.unsaved
 
   held : map.get c.caches.held leaf ≡ Some (at r f)
@@ -77,13 +74,11 @@ module _ (c : Core) (r : ℕ) (job : Job) (kept : IsSoundCore c) (stood : map.ge
   tie : IsTied f object
   tie = (kept.cached leaf (at r f) held).tied
 
-  commits : Commits snap f object
-  commits =
+  right : IsRight job.snapshot now object
+  right =
       let o = stands.taken in
-      record { valid = o.valid; based = o.base ∙ ap (λ (v : Unsaved). v.base) its_own; keeps = subst (λ (v : Unsaved). Keeps v.dirty snap.names) its_own o.keeps; counted = o.counted }
-
-  right : IsRight snap now object
-  right = committed_are_tied snap f now object tie commits done
+      let commits : Commits job.snapshot f object = record { valid = o.valid; based = o.base ∙ ap (λ (v : Unsaved). v.base) its_own; keeps = subst (λ (v : Unsaved). Keeps v.dirty job.snapshot.names) its_own o.keeps; counted = o.counted } in
+      committed_are_tied job.snapshot f now object tie commits done
 
   abbrev pub t : State
   t = committed s job u
@@ -103,9 +98,9 @@ module _ (c : Core) (r : ℕ) (job : Job) (kept : IsSoundCore c) (stood : map.ge
 
   -- what isn't clean
 
-  left_unsaved : unsaved_of now ≡ left_of u snap
+  left_unsaved : unsaved_of now ≡ left_of u job.snapshot
   left_unsaved =
-      let dirty : now.dirty ≡ unsettled u.dirty snap.names = done.dirty ∙ ap (λ (v : Unsaved). unsettled v.dirty snap.names) (sym its_own) in
+      let dirty : now.dirty ≡ unsettled u.dirty job.snapshot.names = done.dirty ∙ ap (λ (v : Unsaved). unsettled v.dirty job.snapshot.names) (sym its_own) in
       let generation : now.generation ≡ u.generation = done.generation ∙ ap (λ (v : Unsaved). v.generation) (sym its_own) in
       let based = done.based in
       λ i. cond (is_clean_over (based i) (dirty i)) None (Some (record { base = based i; generation = generation i; dirty = dirty i }))
@@ -113,11 +108,11 @@ module _ (c : Core) (r : ℕ) (job : Job) (kept : IsSoundCore c) (stood : map.ge
   pub now_unclean : unclean (with_frag c.caches r leaf now) ≡ t.unsaved
   now_unclean = unclean_with c.caches r leaf now ∙ (λ i. with_unsaved (unclean c.caches) leaf (left_unsaved i))
 
-  unsaved_here : map.get t.unsaved leaf ≡ left_of u snap
-  unsaved_here = unsaved_here_at s.unsaved leaf leaf (left_of u snap) ∙ ap (λ (b : Bool). cond b (left_of u snap) (map.get s.unsaved leaf)) (leaf_itself leaf)
+  unsaved_here : map.get t.unsaved leaf ≡ left_of u job.snapshot
+  unsaved_here = unsaved_here_at s.unsaved leaf leaf (left_of u job.snapshot) ∙ ap (λ (b : Bool). cond b (left_of u job.snapshot) (map.get s.unsaved leaf)) (leaf_itself leaf)
 
   unsaved_beside : (q : Leaf) → leaf_is q leaf ≡ false → map.get t.unsaved q ≡ map.get s.unsaved q
-  unsaved_beside q apart = unsaved_here_at s.unsaved leaf q (left_of u snap) ∙ ap (λ (b : Bool). cond b (left_of u snap) (map.get s.unsaved q)) apart
+  unsaved_beside q apart = unsaved_here_at s.unsaved leaf q (left_of u job.snapshot) ∙ ap (λ (b : Bool). cond b (left_of u job.snapshot) (map.get s.unsaved q)) apart
 
   -- what is shown
 
@@ -125,10 +120,7 @@ module _ (c : Core) (r : ℕ) (job : Job) (kept : IsSoundCore c) (stood : map.ge
   unfolding names_of
   shows_here =
       (λ i. shown_at ((unsaved_here ∙ sym left_unsaved) i) (object_here i)) ∙ cached_shows now (Some here) right.tied ∙ done.shown ∙ sym (cached_shows f object tie)
-      ∙ (λ i. shown_at (back i) object)
-    where
-      back : unsaved_of f ≡ map.get s.unsaved leaf
-      back = beyond ∙ sym stands.beside
+      ∙ (λ i. shown_at ((beyond ∙ sym stands.beside) i) object)
 
   shows : (q : Leaf) → IsLive s.homes s.covers q → names_of t.unsaved t.objects q ≡ names_of s.unsaved s.objects q
   shows q is = ⊎_elim (λ same. subst (λ (l : Leaf). names_of t.unsaved t.objects l ≡ names_of s.unsaved s.objects l) (sym same) shows_here)
@@ -139,74 +131,62 @@ module _ (c : Core) (r : ℕ) (job : Job) (kept : IsSoundCore c) (stood : map.ge
 
   -- soundness
 
-  younger : AreYoung (unsettled u.dirty snap.names) s.next_version
-  younger name mark is = go (not (is_settled (map.get u.dirty name) (map.get snap.names name))) (sym (get-unsettled u.dirty snap.names name) ∙ is)
+  younger : AreYoung (unsettled u.dirty job.snapshot.names) s.next_version
+  younger name mark is = go (not (is_settled (map.get u.dirty name) (map.get job.snapshot.names name))) (sym (get-unsettled u.dirty job.snapshot.names name) ∙ is)
     where
       go : (b : Bool) → cond b (map.get u.dirty name) None ≡ Some mark → mark.version < s.next_version
       go true h = (kept.sound.unsaved leaf u stands.beside).young name mark h
       go false h = let clash : None ≡ Some mark = h in cc
 
-  left_is : (v : Unsaved) (b : Bool) → cond b None (Some (record { base = Stored (next_version snap.base); generation = u.generation; dirty = unsettled u.dirty snap.names })) ≡ Some v → IsUnsaved t leaf v
+  left_is : (v : Unsaved) (b : Bool) → cond b None (Some (record { base = Stored (next_version job.snapshot.base); generation = u.generation; dirty = unsettled u.dirty job.snapshot.names })) ≡ Some v → IsUnsaved t leaf v
   left_is v true h = let clash : None ≡ Some v = h in cc
   left_is v false h =
-      let same : record { base = Stored (next_version snap.base); generation = u.generation; dirty = unsettled u.dirty snap.names } ≡ v = cc in
+      let same : record { base = Stored (next_version job.snapshot.base); generation = u.generation; dirty = unsettled u.dirty job.snapshot.names } ≡ v = cc in
       subst (IsUnsaved t leaf) same (record { live = live; made = (kept.sound.unsaved leaf u stands.beside).made; young = younger })
 
-  unsaved_stays : (q : Leaf) (v : Unsaved) → map.get t.unsaved q ≡ Some v → IsUnsaved t q v
-  unsaved_stays q v is = elim (leaf_or_apart q leaf) [
-    | inl same ↦ subst (λ (l : Leaf). IsUnsaved t l v) (sym same) (left_is v (map.len (unsettled u.dirty snap.names) == 0) (sym unsaved_here ∙ ap (map.get t.unsaved) (sym same) ∙ is))
-    | inr apart ↦ let before = kept.sound.unsaved q v (sym (unsaved_beside q apart) ∙ is) in record { live = before.live; made = before.made; young = before.young }
-  ]
-
-  spells : SpellsFragment here (next_version snap.base) (names_then snap object)
-  spells = right.spelled
-
-  names_if_clean : map.get t.unsaved leaf ≡ None → names_of t.unsaved t.objects leaf ≡ names_at (Some here)
-  unfolding names_of
-  names_if_clean clean = λ i. shown_at (clean i) (object_here i)
-
   saved_here : map.get t.unsaved leaf ≡ None → IsSaved leaf.1 (Some here)
-  saved_here clean = (next_version snap.base, names_then snap object, (spells, λ name inode has. (kept.sound.placed leaf name inode live (told name inode has)).contains))
-    where
-      told : (name : List ℕ) (inode : Inode) → map.get (names_then snap object) name ≡ Some inode → map.get (names_of s.unsaved s.objects leaf) name ≡ Some inode
-      told name inode has = ap (λ (n : Names). map.get n name) (sym shows_here ∙ names_if_clean clean ∙ sym (spells_what_it_shows here (next_version snap.base) (names_then snap object) spells)) ∙ has
-
-  saved_stays : (q : Leaf) → IsLive s.homes s.covers q → map.get t.unsaved q ≡ None → IsSaved q.1 (object_of t.objects q.0 q.1)
-  saved_stays q is clean = ⊎_elim
-      (λ same. subst (λ (l : Leaf). IsSaved l.1 (object_of t.objects l.0 l.1)) (sym same) (subst (IsSaved leaf.1) (sym object_here) (saved_here (ap (map.get t.unsaved) (sym same) ∙ clean))))
-      (λ apart. subst (IsSaved q.1) (sym (object_beside q is apart)) (kept.sound.saved q is (sym (unsaved_beside q apart) ∙ clean))) (leaf_or_apart q leaf)
-
-  owned_stays : (name : List ℕ) → is_some (map.get t.objects name) ≡ true → IsOwned t name
-  unfolding written
-  owned_stays name has = ⊎_elim (λ same. inl (leaf, live, same)) (λ apart. kept.sound.owned name (ap is_some (sym (get_beside s.objects (text_of leaf) _ name apart)) ∙ has)) (key_or_apart name (text_of leaf))
-
-  stands_stay : (q : Leaf) (i : Job) → map.get t.jobs q ≡ Some i → IsStanding t q i
-  stands_stay q i is = elim (leaf_or_apart q leaf) [
-    | inl same ↦ let clash : None ≡ Some i = sym (get_removed s.jobs leaf) ∙ ap (map.get t.jobs) (sym same) ∙ is in absurd cc
-    | inr apart ↦
-        let before = kept.sound.standing q i (stood_before s leaf q i is) in
-        record {
-          mine = before.mine;
-          given = before.given;
-          young = before.young;
-          unsaved = before.unsaved;
-          beside = unsaved_beside q apart ∙ before.beside;
-          taken = subst (IsOf i before.unsaved) (sym (object_beside q (kept.sound.unsaved q before.unsaved before.beside).live apart)) before.taken;
-        }
-  ]
+  unfolding names_of
+  saved_here clean = (
+    next_version job.snapshot.base,
+    names_then job.snapshot object,
+    (
+      right.spelled,
+      λ name inode has. (kept.sound.placed leaf name inode live
+          (ap (λ (n : Names). map.get n name) (sym shows_here ∙ (λ i. shown_at (clean i) (object_here i)) ∙ sym (spells_what_it_shows here (next_version job.snapshot.base) (names_then job.snapshot object) right.spelled)) ∙ has)).contains,
+    ),
+  )
 
   pub ended_sound : IsSound t
+  unfolding written
   ended_sound = record {
     table = kept.sound.table;
     numbered = kept.sound.numbered;
     tabled = subst (λ tree. IsTabled tree s.homes) (sym tree_stays) kept.sound.tabled;
     counted = subst (λ tree. IsCounted tree s.counts s.pins) (sym tree_stays) kept.sound.counted;
     placed = λ q name inode is has. kept.sound.placed q name inode is (ap (λ (n : Names). map.get n name) (sym (shows q is)) ∙ has);
-    unsaved = unsaved_stays;
-    saved = saved_stays;
-    owned = owned_stays;
+    unsaved = λ q v is. elim (leaf_or_apart q leaf) [
+      | inl same ↦ subst (λ (l : Leaf). IsUnsaved t l v) (sym same) (left_is v (map.len (unsettled u.dirty job.snapshot.names) == 0) (sym unsaved_here ∙ ap (map.get t.unsaved) (sym same) ∙ is))
+      | inr apart ↦ let before = kept.sound.unsaved q v (sym (unsaved_beside q apart) ∙ is) in record { live = before.live; made = before.made; young = before.young }
+    ];
+    saved = λ q is clean. ⊎_elim
+        (λ same. subst (λ (l : Leaf). IsSaved l.1 (object_of t.objects l.0 l.1)) (sym same) (subst (IsSaved leaf.1) (sym object_here) (saved_here (ap (map.get t.unsaved) (sym same) ∙ clean))))
+        (λ apart. subst (IsSaved q.1) (sym (object_beside q is apart)) (kept.sound.saved q is (sym (unsaved_beside q apart) ∙ clean))) (leaf_or_apart q leaf);
+    owned = λ name has.
+        ⊎_elim (λ same. inl (leaf, live, same)) (λ apart. kept.sound.owned name (ap is_some (sym (get_beside s.objects (text_of leaf) _ name apart)) ∙ has)) (key_or_apart name (text_of leaf));
     listed = kept.sound.listed;
-    standing = stands_stay;
+    standing = λ q i is. elim (leaf_or_apart q leaf) [
+      | inl same ↦ let clash : None ≡ Some i = sym (get_removed s.jobs leaf) ∙ ap (map.get t.jobs) (sym same) ∙ is in absurd cc
+      | inr apart ↦
+          let before = kept.sound.standing q i (stood_before s leaf q i is) in
+          record {
+            mine = before.mine;
+            given = before.given;
+            young = before.young;
+            unsaved = before.unsaved;
+            beside = unsaved_beside q apart ∙ before.beside;
+            taken = subst (IsOf i before.unsaved) (sym (object_beside q (kept.sound.unsaved q before.unsaved before.beside).live apart)) before.taken;
+          }
+    ];
     once = λ a b i j p q same. kept.sound.once a b i j (stood_before s leaf a i p) (stood_before s leaf b j q) same;
   }
 
@@ -223,4 +203,4 @@ module _ (c : Core) (r : ℕ) (job : Job) (kept : IsSoundCore c) (stood : map.ge
   ]
 
   pub ended : IsEnded s t job
-  ended = record { stood = stood; unsaved = u; beside = stands.beside; left = refl; spelled = subst (λ o. HasSpelled o (next_version snap.base) (names_then snap object)) (sym object_here) spells; tree = tree_stays }
+  ended = record { stood = stood; unsaved = u; beside = stands.beside; left = refl; spelled = subst (λ o. HasSpelled o (next_version job.snapshot.base) (names_then job.snapshot object)) (sym object_here) right.spelled; tree = tree_stays }

@@ -183,7 +183,7 @@ module _ (old mid : Core) (sound : IsSoundCore old) (a : Dirfrag) (merge : Merge
   other_text : (g : Fragment) → HasLeaf gone g → text_of (a.dir, g) ≡ text_of (a.dir, a.frag) → ⊥
   other_text g has same =
       let small = mine.numbered a.dir.0 known_now in
-      let names : Frag a.dir g ≡ Frag a.dir frag = texts_differ (Frag a.dir g) (Frag a.dir a.frag) (small, (between 0 16777216 row g tree.tiles (has_inside a.frag g row has).0).0) (small, (between 0 16777216 merge.plan.cover a.frag ready.planned.whole.tiles comes.0).0) same in
+      let names : Frag a.dir g ≡ Frag a.dir a.frag = texts_differ (Frag a.dir g) (Frag a.dir a.frag) (small, (between 0 16777216 row g tree.tiles (has_inside a.frag g row has).0).0) (small, (between 0 16777216 merge.plan.cover a.frag ready.planned.whole.tiles comes.0).0) same in
       let one : g ≡ a.frag = cc in
       not_gone (subst (HasLeaf gone) one has)
 

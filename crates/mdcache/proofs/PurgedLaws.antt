@@ -19,7 +19,22 @@ no_names names none = let few = ltb-false 0 (map.len names) none in empty_of_len
 
 module _ (old now new : State) (so_far : ArePurged old now) (some : nat_lt 0 (map.len now.purge) ≡ true) (before after : ℕ) where
   one_more : (name : List ℕ) → first_name now.purge ≡ Some name → new ≡ purged now name → shown_tree new ≡ shown_tree now → ArePurged old new × (map.len new.purge < map.len now.purge)
-  one_more name first left tree = (record { left = is; tree = tree ∙ so_far.tree; others = others; gone = gone }, fewer)
+  one_more name first left tree = (
+    record {
+      left = left ∙ ap (λ (s : State). record s { objects = map.remove now.objects name; purge = map.remove now.purge name }) so_far.left ∙ (λ i. record old { objects = sym objects i; purge = sym list i });
+      tree = tree ∙ so_far.tree;
+      others = λ q none.
+          let w = so_far.others q none in
+          let apart : q ≡ name → ⊥ = λ same. let clash : false ≡ true = ap is_some (sym w.1 ∙ ap (map.get now.purge) same) ∙ stands in cc in
+          (ap (λ (m : Objects). map.get m q) objects ∙ get_left now.objects name q apart ∙ w.0, ap (λ (m : Keys). map.get m q) list ∙ get_left now.purge name q apart ∙ w.1);
+      gone = λ q off. elim (same_or_apart q name) [
+        | inl same ↦ inr (ap (λ (m : Objects). map.get m q) objects ∙ ap (map.get (map.remove now.objects name)) same ∙ get_removed now.objects name)
+        | inr other ↦ ⊎_elim (λ none. inl none) (λ none. inr (ap (λ (m : Objects). map.get m q) objects ∙ get_left now.objects name q other ∙ none))
+            (so_far.gone q (sym (get_left now.purge name q other) ∙ ap (λ (m : Keys). map.get m q) (sym list) ∙ off))
+      ];
+    },
+    fewer,
+  )
     where
       stands : is_some (map.get now.purge name) ≡ true
       stands = first_stands now.purge name first
@@ -29,24 +44,6 @@ module _ (old now new : State) (so_far : ArePurged old now) (some : nat_lt 0 (ma
 
       list : new.purge ≡ map.remove now.purge name
       list = ap (λ (s : State). s.purge) left
-
-      is : new ≡ record old { objects = new.objects; purge = new.purge }
-      is = left ∙ ap (λ (s : State). record s { objects = map.remove now.objects name; purge = map.remove now.purge name }) so_far.left ∙ (λ i. record old { objects = sym objects i; purge = sym list i })
-
-      apart : (q : List ℕ) → map.get now.purge q ≡ None → q ≡ name → ⊥
-      apart q none same = let clash : false ≡ true = ap is_some (sym none ∙ ap (map.get now.purge) same) ∙ stands in cc
-
-      others : (q : List ℕ) → map.get old.purge q ≡ None → (map.get new.objects q ≡ map.get old.objects q) × (map.get new.purge q ≡ None)
-      others q none =
-          let w = so_far.others q none in
-          (ap (λ (m : Objects). map.get m q) objects ∙ get_left now.objects name q (apart q w.1) ∙ w.0, ap (λ (m : Keys). map.get m q) list ∙ get_left now.purge name q (apart q w.1) ∙ w.1)
-
-      gone : (q : List ℕ) → map.get new.purge q ≡ None → (map.get old.purge q ≡ None) ⊎ (map.get new.objects q ≡ None)
-      gone q off = elim (same_or_apart q name) [
-        | inl same ↦ inr (ap (λ (m : Objects). map.get m q) objects ∙ ap (map.get (map.remove now.objects name)) same ∙ get_removed now.objects name)
-        | inr other ↦ ⊎_elim (λ none. inl none) (λ none. inr (ap (λ (m : Objects). map.get m q) objects ∙ get_left now.objects name q other ∙ none))
-            (so_far.gone q (sym (get_left now.purge name q other) ∙ ap (λ (m : Keys). map.get m q) (sym list) ∙ off))
-      ]
 
       fewer : map.len new.purge < map.len now.purge
       fewer =

@@ -1,5 +1,5 @@
 -- A directory gets another cover: the state is sound then, and shows the same tree.
-use Rattle.mdcache.proofs.Common.{AreYoung, Base, Bool, Comes, Contains, Dentry, Fragment, Fresh, HasLeaf, HasUnsaved, Ino, Inode, IsConcerned, IsCounted, IsLive, IsNewLeaf, IsOwned, IsPick, IsRegrouped, IsSaved, IsSound, IsStanding, IsTable, IsTabled, IsUnsaved, Job, Leaf, List, Mark, Names, None, Option, Some, State, StaysAsItIs, Stored, Tree, Unsaved, [], and_right, ap, are_empty, arith, cond, dentry-exact, dentry-total, dentry_of, empty_of_len, eqb-true, false, first_or_later, get-empty, get-patched, has_none, hash_of, holds, holds_contains, in_directory, inl, inode_or, inr, is_known, is_same, is_some, key_cmp, later, leaf_is, leaves_of, list_all, list_any, marked_as, names_at, object_of, one_leaf, one_or_other, or_whole, pick_from_leaf, refl, regrouped, same_Some, same_map, set_table, shown_at, shown_over, shown_tree, span, subst, suc, sym, text_of, tree_of_row, true, zero, ℕ, ⊎_elim, ◌%◌, ◌&&◌, ◌+◌, ◌/◌, ◌<◌, ◌^◌, ◌||◌, ◌∙◌, ◌∷◌, ◌≡◌, ◌≢◌, ◌≤◌, ◌⊎◌}
+use Rattle.mdcache.proofs.Common.{AreYoung, Base, Bool, Comes, Contains, Dentry, Fragment, Fresh, HasLeaf, HasUnsaved, Ino, Inode, IsConcerned, IsCounted, IsLive, IsNewLeaf, IsOwned, IsPick, IsRegrouped, IsSaved, IsSound, IsStanding, IsTable, IsTabled, IsUnsaved, Job, Leaf, List, Mark, Marks, Names, None, Option, Some, State, StaysAsItIs, Stored, Tree, Unsaved, [], and_right, ap, are_empty, arith, cond, dentry-exact, dentry-total, dentry_of, empty_of_len, eqb-true, false, first_or_later, get-empty, get-patched, has_none, hash_of, holds, holds_contains, in_directory, inl, inode_or, inr, is_known, is_same, is_some, key_cmp, later, leaf_is, leaves_of, list_all, list_any, marked_as, names_at, object_of, one_leaf, one_or_other, or_whole, pick_from_leaf, refl, regrouped, same_Some, same_map, set_table, shown_at, shown_over, shown_tree, span, subst, suc, sym, text_of, tree_of_row, true, zero, ℕ, ⊎_elim, ◌%◌, ◌&&◌, ◌+◌, ◌/◌, ◌<◌, ◌^◌, ◌||◌, ◌∙◌, ◌∷◌, ◌≡◌, ◌≢◌, ◌≤◌, ◌⊎◌}
 use Rattle.std.proofs.lemmas.Bool.{cases_Bool, false_from_ne_true, or_cases}
 use Rattle.std.specs.Prelude.{map as each}
 use Rattle.std.specs.FinMap as map
@@ -120,23 +120,20 @@ module _ (s : State) (sound : IsSound s) (dir : Ino) (gone cover : List Fragment
   in_cover : (leaf : Leaf) → leaf.0.0 ≡ dir.0 → IsLive n.homes n.covers leaf → HasLeaf cover leaf.1
   in_cover leaf same live = subst (λ (fs : List Fragment). HasLeaf fs leaf.1) (ap (leaves_of n.covers) same ∙ cover_here) live.stands
 
-  apart_back : (leaf : Leaf) → Apart leaf → IsLive n.homes n.covers leaf → IsLive s.homes s.covers leaf
-  apart_back leaf apart live = record {
-    known = live.known;
-    stands = elim (same_number leaf.0.0 dir.0) [
-      | inr other ↦ subst (λ (fs : List Fragment). HasLeaf fs leaf.1) (cover_on leaf.0.0 other) live.stands
-      | inl same ↦ ⊎_elim (subst (λ (d : ℕ). HasLeaf (leaves_of s.covers d) leaf.1) (sym same)) (λ fresh. absurd (apart same (inr (in_cover leaf same live, fresh)))) (has_or_not row leaf.1)
-    ];
-  }
-
-  gone_live : (f : Fragment) → HasLeaf gone f → IsLive s.homes s.covers (dir, f)
-  gone_live f ended = record { known = r.known; stands = (cut.stood f ended).0 }
-
   -- a leaf of the cover came, or isn't concerned
   live_which : (leaf : Leaf) → IsLive n.homes n.covers leaf → ((leaf.0.0 ≡ dir.0) × Comes row cover leaf.1) ⊎ (Apart leaf × IsLive s.homes s.covers leaf)
   live_which leaf live = elim (which leaf) [
     | inl ended ↦ absurd ((cut.stood leaf.1 ended.1).1 (in_cover leaf ended.0 live))
-    | inr stands ↦ ⊎_elim (λ came. inl came) (λ apart. inr (apart, apart_back leaf apart live)) stands
+    | inr stands ↦ ⊎_elim (λ came. inl came) (λ apart. inr (
+      apart,
+      record {
+        known = live.known;
+        stands = elim (same_number leaf.0.0 dir.0) [
+          | inr other ↦ subst (λ (fs : List Fragment). HasLeaf fs leaf.1) (cover_on leaf.0.0 other) live.stands
+          | inl same ↦ ⊎_elim (subst (λ (d : ℕ). HasLeaf (leaves_of s.covers d) leaf.1) (sym same)) (λ fresh. absurd (apart same (inr (in_cover leaf same live, fresh)))) (has_or_not row leaf.1)
+        ];
+      },
+    )) stands
   ]
 
   -- ---- names
@@ -156,15 +153,6 @@ module _ (s : State) (sound : IsSound s) (dir : Ino) (gone cover : List Fragment
   apart_names leaf apart = names_alike s n leaf (r.others leaf apart) refl
 
   -- ---- soundness
-
-  placed : (leaf : Leaf) (name : List ℕ) (inode : Inode) → IsLive n.homes n.covers leaf → map.get (names_of n.unsaved n.objects leaf) name ≡ Some inode → IsPick (leaves_of n.covers leaf.0.0) (hash_of name) leaf.1
-  placed leaf name inode live has = pick_from_leaf (leaves_of n.covers leaf.0.0) (hash_of name) leaf.1 (tree_of_row n.homes n.covers table leaf.0.0) live.stands (elim (live_which leaf live) [
-    | inl came ↦ elim (cases_Bool (holds leaf.1 (hash_of name))) [
-      | inl is ↦ holds_contains leaf.1 (hash_of name) is
-      | inr out ↦ let clash : None ≡ Some inode = sym (came_names leaf came.0 came.1 name ∙ ap (λ (b : Bool). cond b (map.get (shown_tree s) (dentry_of dir.0 name)) None) out) ∙ has in absurd cc
-    ]
-    | inr old ↦ (sound.placed leaf name inode old.1 (ap (λ (m : Names). map.get m name) (sym (apart_names leaf old.0)) ∙ has)).contains
-  ])
 
   leaves_before : HasSoundLeaves s
   leaves_before = sound_leaves s sound
@@ -191,28 +179,8 @@ module _ (s : State) (sound : IsSound s) (dir : Ino) (gone cover : List Fragment
           let raised : n.next_version ≡ s.next_version + 1 = ap (λ (e : Bool). s.next_version + cond e 0 1) (some_went leaf.1 comes name inode (holds_contains leaf.1 (hash_of name) within) found) in
           omega (arith, its_version, raised)
 
-  no_less : s.next_version ≤ n.next_version
-  no_less = omega arith
-
-  unsaved_now : (leaf : Leaf) (u : Unsaved) → map.get r.unsaved leaf ≡ Some u → IsUnsaved n leaf u
-  unsaved_now leaf u is = elim (which leaf) [
-    | inl ended ↦ let clash : None ≡ Some u = sym (ap (map.get r.unsaved) (sym (its leaf ended.0)) ∙ r.ended leaf.1 ended.1) ∙ is in absurd cc
-    | inr stands ↦ elim stands [
-      | inl came ↦
-          let w = came_is leaf came.0 came.1 in
-          subst (IsUnsaved n leaf) (same_Some w.0 u (sym w.1 ∙ is)) (record { live = came_live leaf came.0 came.1.0; made = w.2.last; young = came_young leaf came.0 came.1 })
-      | inr apart ↦
-          let old = sound.unsaved leaf u (sym (r.others leaf apart) ∙ is) in
-          let made = old.made in
-          record { live = apart_live leaf apart old.live; made = omega (arith, made); young = λ name mark there. let young = old.young name mark there in let more = no_less in omega (arith, young, more) }
-    ]
-  ]
-
-  saved_now : (leaf : Leaf) → IsLive n.homes n.covers leaf → map.get r.unsaved leaf ≡ None → IsSaved leaf.1 (object_of s.objects leaf.0 leaf.1)
-  saved_now leaf live clean = elim (live_which leaf live) [
-    | inl came ↦ let w = came_is leaf came.0 came.1 in let clash : None ≡ Some w.0 = sym clean ∙ w.1 in absurd cc
-    | inr old ↦ sound.saved leaf old.1 (sym (r.others leaf old.0) ∙ clean)
-  ]
+  still_young : (marks : Marks) → AreYoung marks s.next_version → AreYoung marks n.next_version
+  still_young marks young name mark there = let was = young name mark there in omega (arith, was)
 
   owned_now : (name : List ℕ) → IsOwned s name → IsOwned n name
   owned_now name (inl leaf) = elim (which leaf.0) [
@@ -228,20 +196,6 @@ module _ (s : State) (sound : IsSound s) (dir : Ino) (gone cover : List Fragment
     ]
   ]
 
-  listed_now : (leaf : Leaf) → IsLive n.homes n.covers leaf → map.get r.purge (text_of leaf) ≡ None
-  listed_now leaf live = elim (live_which leaf live) [
-    | inl came ↦ ap (λ (l : Leaf). map.get r.purge (text_of l)) (sym (its leaf came.0)) ∙ r.listed.came leaf.1 came.1
-    | inr old ↦ r.listed.others (text_of leaf) (neither old.0 old.1) ∙ sound.listed leaf old.1
-  ]
-    where
-      neither : (apart : Apart leaf) → IsLive s.homes s.covers leaf → (f : Fragment) → HasLeaf gone f ⊎ Comes row cover f → text_of leaf ≡ text_of (dir, f) → ⊥
-      neither apart old f (inl ended) same =
-          let one : leaf ≡ (dir, f) = one_text s.homes s.covers sound.table sound.numbered leaf (dir, f) old (gone_live f ended) same in
-          apart (ap (λ (l : Leaf). l.0.0) one) (inl (subst (HasLeaf gone) (ap (λ (l : Leaf). l.1) (sym one)) ended))
-      neither apart old f (inr came) same =
-          let one : leaf ≡ (dir, f) = one_text s.homes n.covers table sound.numbered leaf (dir, f) live (came_live (dir, f) refl came.0) same in
-          apart (ap (λ (l : Leaf). l.0.0) one) (inr (subst (Comes row cover) (ap (λ (l : Leaf). l.1) (sym one)) came))
-
   -- what stood isn't concerned where it didn't end
   apart_from_gone : (leaf : Leaf) → IsLive s.homes s.covers leaf → (leaf.0.0 ≡ dir.0 → HasLeaf gone leaf.1 → ⊥) → Apart leaf
   apart_from_gone leaf live stays same concerned = ⊎_elim (stays same) (λ came. came.1 (subst (λ (d : ℕ). HasLeaf (leaves_of s.covers d) leaf.1) same live.stands)) concerned
@@ -256,26 +210,50 @@ module _ (s : State) (sound : IsSound s) (dir : Ino) (gone cover : List Fragment
           let j = sound.standing leaf job h in
           (apart_from_gone leaf (sound.unsaved leaf j.unsaved j.beside).live (λ same ended. let clash : true ≡ false = sym (among dir.0 leaf gone same ended) ∙ stays in cc), h)
 
+  -- the name of a leaf that isn't concerned is that of no other
+  not_named : (leaf : Leaf) → IsLive n.homes n.covers leaf → Apart leaf × IsLive s.homes s.covers leaf → (f : Fragment) → HasLeaf gone f ⊎ Comes row cover f → text_of leaf ≡ text_of (dir, f) → ⊥
+  not_named leaf live old f concerned same = old.0 (ap (λ (l : Leaf). l.0.0) one) (subst (IsConcerned row cover gone) (ap (λ (l : Leaf). l.1) (sym one)) concerned)
+    where
+      one : leaf ≡ (dir, f)
+      one = ⊎_elim (λ ended. one_text s.homes s.covers sound.table sound.numbered leaf (dir, f) old.1 (record { known = r.known; stands = (cut.stood f ended).0 }) same)
+          (λ came. one_text s.homes n.covers table sound.numbered leaf (dir, f) live (came_live (dir, f) refl came.0) same) concerned
+
   leaves_now : HasSoundLeaves n
   leaves_now = record {
     table = table;
     numbered = sound.numbered;
-    placed = placed;
-    unsaved = unsaved_now;
-    saved = saved_now;
+    placed = λ leaf name inode live has. pick_from_leaf (leaves_of n.covers leaf.0.0) (hash_of name) leaf.1 (tree_of_row n.homes n.covers table leaf.0.0) live.stands (elim (live_which leaf live) [
+      | inl came ↦ elim (cases_Bool (holds leaf.1 (hash_of name))) [
+        | inl is ↦ holds_contains leaf.1 (hash_of name) is
+        | inr out ↦ let clash : None ≡ Some inode = sym (came_names leaf came.0 came.1 name ∙ ap (λ (b : Bool). cond b (map.get (shown_tree s) (dentry_of dir.0 name)) None) out) ∙ has in absurd cc
+      ]
+      | inr old ↦ (sound.placed leaf name inode old.1 (ap (λ (m : Names). map.get m name) (sym (apart_names leaf old.0)) ∙ has)).contains
+    ]);
+    unsaved = λ leaf u is. elim (which leaf) [
+      | inl ended ↦ let clash : None ≡ Some u = sym (ap (map.get r.unsaved) (sym (its leaf ended.0)) ∙ r.ended leaf.1 ended.1) ∙ is in absurd cc
+      | inr stands ↦ elim stands [
+        | inl came ↦
+            let w = came_is leaf came.0 came.1 in
+            subst (IsUnsaved n leaf) (same_Some w.0 u (sym w.1 ∙ is)) (record { live = came_live leaf came.0 came.1.0; made = w.2.last; young = came_young leaf came.0 came.1 })
+        | inr apart ↦
+            let old = sound.unsaved leaf u (sym (r.others leaf apart) ∙ is) in
+            let made = old.made in
+            record { live = apart_live leaf apart old.live; made = omega (arith, made); young = still_young u.dirty old.young }
+      ]
+    ];
+    saved = λ leaf live clean. elim (live_which leaf live) [
+      | inl came ↦ let w = came_is leaf came.0 came.1 in let clash : None ≡ Some w.0 = sym clean ∙ w.1 in absurd cc
+      | inr old ↦ sound.saved leaf old.1 (sym (r.others leaf old.0) ∙ clean)
+    ];
     owned = λ name there. owned_now name (sound.owned name there);
-    listed = listed_now;
+    listed = λ leaf live. elim (live_which leaf live) [
+      | inl came ↦ ap (λ (l : Leaf). map.get r.purge (text_of l)) (sym (its leaf came.0)) ∙ r.listed.came leaf.1 came.1
+      | inr old ↦ r.listed.others (text_of leaf) (not_named leaf live old) ∙ sound.listed leaf old.1
+    ];
     standing = λ leaf job is.
         let b = job_back leaf job is in
         let old = sound.standing leaf job b.1 in
-        record {
-          mine = old.mine;
-          given = old.given;
-          young = λ name mark there. let young = old.young name mark there in let more = no_less in omega (arith, young, more);
-          unsaved = old.unsaved;
-          beside = r.others leaf b.0 ∙ old.beside;
-          taken = old.taken;
-        };
+        record { mine = old.mine; given = old.given; young = still_young job.snapshot.names old.young; unsaved = old.unsaved; beside = r.others leaf b.0 ∙ old.beside; taken = old.taken };
     once = λ a b i j p q same. sound.once a b i j (job_back a i p).1 (job_back b j q).1 same;
   }
 
