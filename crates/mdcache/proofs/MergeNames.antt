@@ -72,24 +72,29 @@ module _ (s : State) (sound : IsSound s) (dir : Ino) (known : is_known s.homes d
     joined_none (f ∷ fs) was none =
         ap (λ (o : Option Inode). joined fs (marked_as version o was)) (none f (zero, omega arith, refl)) ∙ joined_none fs was (λ g has. none g (later f g fs has))
 
-    module _ (inode : Inode) (there : found ≡ Some inode) where
-      abbrev mark : Option Mark
-      mark = Some (record { version = version; inode = Some inode })
+    -- that of the tree, once it is there
+    abbrev mark : Option Mark
+    mark = marked_as version found None
 
-      stays : (fs : List Fragment) → ((f : Fragment) → HasLeaf fs f → HasLeaf row f) → joined fs mark ≡ mark
-      stays [] within = refl
-      stays (f ∷ fs) within =
-          ⊎_elim (λ is. ap (λ (o : Option Inode). joined fs (marked_as version o mark)) (is ∙ there)) (λ none. ap (λ (o : Option Inode). joined fs (marked_as version o mark)) none) (its f (within f (zero, omega arith, refl)))
-          ∙ stays fs (λ g has. within g (later f g fs has))
+    again : (o : Option Inode) → marked_as version o (marked_as version o None) ≡ marked_as version o None
+    again None = refl
+    again (Some inode) = refl
 
-      comes : (fs : List Fragment) (was : Option Mark) → ((f : Fragment) → HasLeaf fs f → HasLeaf row f) → HasLeaf fs pick.0 → joined fs was ≡ mark
-      comes [] was within has = let none = has.1 in absurd (omega (arith, none))
-      comes (f ∷ fs) was within has = elim (first_or_later f pick.0 fs has) [
-        | inl same ↦
-            ap (λ (o : Option Inode). joined fs (marked_as version o was)) (ap (λ (g : Fragment). map.get (names (dir, g)) name) same ∙ here ∙ there)
-            ∙ stays fs (λ g h. within g (later f g fs h))
-        | inr more ↦ comes fs (marked_as version (map.get (names (dir, f)) name) was) (λ g h. within g (later f g fs h)) more
-      ]
+    stays : (fs : List Fragment) → ((f : Fragment) → HasLeaf fs f → HasLeaf row f) → joined fs mark ≡ mark
+    stays [] within = refl
+    stays (f ∷ fs) within =
+        ap (joined fs) (⊎_elim (λ is. ap (λ (o : Option Inode). marked_as version o mark) is ∙ again found) (λ none. ap (λ (o : Option Inode). marked_as version o mark) none) (its f (within f (zero, omega arith, refl))))
+        ∙ stays fs (λ g has. within g (later f g fs has))
+
+    comes : (fs : List Fragment) → ((f : Fragment) → HasLeaf fs f → HasLeaf row f) → HasLeaf fs pick.0 → joined fs None ≡ mark
+    comes [] within has = let none = has.1 in absurd (omega (arith, none))
+    comes (f ∷ fs) within has =
+        let rest : (g : Fragment) → HasLeaf fs g → HasLeaf row g = λ g h. within g (later f g fs h) in
+        let found_in : map.get (names (dir, f)) name ≡ found → joined (f ∷ fs) None ≡ mark = λ is. ap (λ (o : Option Inode). joined fs (marked_as version o None)) is ∙ stays fs rest in
+        elim (first_or_later f pick.0 fs has) [
+          | inl same ↦ found_in (ap (λ (g : Fragment). map.get (names (dir, g)) name) same ∙ here)
+          | inr more ↦ ⊎_elim found_in (λ none. ap (λ (o : Option Inode). joined fs (marked_as version o None)) none ∙ comes fs rest more) (its f (within f (zero, omega arith, refl)))
+        ]
 
     -- a name of the leaves that are merged is dirty in the joined fragment, if this contains it
     module _ (cover : List Fragment) (frag : Fragment) (whole : IsTree cover) (can : CanMerge row frag) (merged : IsMerge row cover frag) where
@@ -107,14 +112,10 @@ module _ (s : State) (sound : IsSound s) (dir : Ino) (known : is_known s.homes d
 
       pub joined_is : joined gone None ≡ marked_as version (cond (holds frag (hash_of name)) found None) None
       joined_is = elim (cases_Bool (holds frag (hash_of name))) [
-        | inl has ↦ some found refl has ∙ sym (ap (λ (b : Bool). marked_as version (cond b found None) None) has)
+        | inl has ↦ comes gone within (inside_has frag pick.0 row pick.1.stands (told ∙ has)) ∙ sym (ap (λ (b : Bool). marked_as version (cond b found None) None) has)
         | inr out ↦
             joined_none gone None (λ f has. none_beside f (within f has) (λ same.
             let clash : true ≡ false = sym (has_inside frag f row has).1 ∙ ap (lies_inside frag) same ∙ told ∙ out in
             cc))
             ∙ sym (ap (λ (b : Bool). marked_as version (cond b found None) None) out)
       ]
-        where
-          some : (o : Option Inode) → found ≡ o → holds frag (hash_of name) ≡ true → joined gone None ≡ marked_as version found None
-          some None is has = joined_none gone None (λ f in_it. ⊎_elim (λ same. same ∙ is) (λ none. none) (its f (within f in_it))) ∙ sym (ap (λ (o : Option Inode). marked_as version o None) is)
-          some (Some inode) is has = comes inode is gone None within (inside_has frag pick.0 row pick.1.stands (told ∙ has)) ∙ sym (ap (λ (o : Option Inode). marked_as version o None) is)

@@ -3,11 +3,12 @@ use Rattle.mdcache.proofs.Common.{AreAbsent, AreCaches, AreKept, At, CacheMap, C
 use Rattle.std.specs.FinMap as map
 use Rattle.dentry_cache.specs.Reads.Reads.{stays as it_stays}
 use Rattle.dentry_cache.proofs.ChildLaws.{AreDropped, are_dropped}
+use Rattle.dentry_cache.proofs.LacksLaws.{none_kept_at}
 use Rattle.mdcache.proofs.CoreLaws.{first_step, may_fetch, may_fetch_on, next_step, no_less_itself, not_found_before, reads_core_on, reads_core_wider, still_absent, there_after}
 use Rattle.mdcache.proofs.JoinSteps.{hold_on, live_on}
 use Rattle.mdcache.proofs.MergeSteps.{ending_live}
 use Rattle.mdcache.proofs.NoneLaws.{none_absent}
-use Rattle.mdcache.proofs.UncleanOf.{kept_none, unclean_few}
+use Rattle.mdcache.proofs.UncleanOf.{unclean_few}
 
 -- where places of children are given up, what has one had one
 placed_without : (r : ℕ) (dir : Ino) (frag : Fragment) (bits n : ℕ) (c : CacheMap) (s : ℕ) (q : Leaf) → has_place (without_children r dir frag bits n c) s q ≡ true → has_place c s q ≡ true
@@ -92,7 +93,7 @@ module _ (old mid view : Core) (is : view ≡ mid) (a : Dirfrag) (nb : ℕ) (som
       on (inl memory) = inl memory
       on (inr full) =
           let lacks = full.1 in
-          let kept : length (kept_at view.caches r) ≡ 0 = ap (λ (xs : List Leaf). length xs) (kept_none view.caches r none) in
+          let kept : length (kept_at view.caches r) ≡ 0 = none_kept_at view.caches r (none r) in
           let few : length (unclean_at view.caches r) ≤ map.len (unclean_of view.caches r) = unclean_few view.caches r (subst (λ (k : Core). IsDistinct leaf_is (order k.caches r)) (sym is) fetched_distinct) in
           inr (inr (full.0, omega (arith, lacks, kept, few)))
 

@@ -82,9 +82,6 @@ module _ (old mid : Core) (sound : IsSoundCore old) (a : Dirfrag) (nb : ℕ) (sp
   can_now : CanSplit (leaves_of s.covers a.dir.0) a.frag nb
   can_now = subst (λ (u : State). CanSplit (leaves_of u.covers a.dir.0) a.frag nb) (sym was) can
 
-  there : a.rank.0 < length mid.caches.used
-  there = there_after Family Family old mid a.rank.0 reads may.there
-
   -- cached leaves are sound still
   cached : AreCached s mid.caches
   cached = reads_cached_so Family Family old mid reads sound (family_live old a nb known can mid.caches (λ i below. (ready.kept i below).1))
@@ -140,10 +137,8 @@ module _ (old mid : Core) (sound : IsSoundCore old) (a : Dirfrag) (nb : ℕ) (sp
           ∙ sym (stands_at s (sound_leaves s mine) (dentry_of a.dir.0 name) p.0 known_now p.1)
 
   -- what isn't clean of a child
-  abbrev beyond_child : ℕ → Unsaved
-  beyond_child i = record { base = Fresh; generation = (slice_index_or split.parts i any).fragment.generation; dirty = (slice_index_or done.0 i any).fragment.dirty }
-
-  unclean_child : (i : ℕ) → i < 2 ^ nb → map.get (unclean new.caches) (a.dir, child_of a.frag i nb) ≡ Some (beyond_child i)
+  unclean_child : (i : ℕ) → i < 2 ^ nb
+      → map.get (unclean new.caches) (a.dir, child_of a.frag i nb) ≡ Some (record { base = Fresh; generation = (slice_index_or split.parts i any).fragment.generation; dirty = (slice_index_or done.0 i any).fragment.dirty })
   unclean_child i below = split_unclean_child a.rank.0 a.dir a.frag nb split.parts mid.next_version mid.caches new.caches f can.fits.some count done i any below
 
   number : (i : ℕ) → i < 2 ^ nb → (slice_index_or split.parts i any).fragment.generation ≡ s.next_generation + i
@@ -257,6 +252,6 @@ module _ (old mid : Core) (sound : IsSoundCore old) (a : Dirfrag) (nb : ℕ) (sp
       sound = (splits_right s t a.dir a.frag nb mine is_split).sound;
       begun = (let before : 0 < s.next_generation = subst (λ (u : State). 0 < u.next_generation) (sym was) sound.begun in omega (arith, before));
       cached = now_cached;
-      none = split_whole a.rank.0 a.dir a.frag nb split.parts mid.next_version mid.caches new.caches f can.fits.some count done there distinct free ready.kept only;
+      none = split_whole a.rank.0 a.dir a.frag nb split.parts mid.next_version mid.caches new.caches f can.fits.some count done (there_after Family Family old mid a.rank.0 reads may.there) distinct free ready.kept only;
     });
   }

@@ -5,6 +5,7 @@ use Rattle.std.proofs.lemmas.List.Elements.{All-filter, All-from_recursion, All-
 use Rattle.std.specs.FinMap as finmap
 use Rattle.dentry_cache.specs.Cache.{leaf_cmp}
 use Rattle.dentry_cache.specs.CacheMap.{unclean_of}
+use Rattle.dentry_cache.proofs.LacksLaws.{full_lacks as all_unclean}
 use Rattle.dentry_cache.proofs.LeafLaws.{leaf-exact}
 use Rattle.mdcache.proofs.NoneLaws.{there_some}
 
@@ -107,24 +108,12 @@ unclean_few c r distinct = few_keys (unclean_of c r) (unclean_at c r) (filtered_
     some None is = let clash : false ≡ true = is in absurd cc
     some (Some f) is = ap (λ (b : Bool). is_some {T = Unsaved} (cond b None (Some (record { base = f.base; generation = f.generation; dirty = f.dirty })))) (not-true (is_clean f) is)
 
--- where none is kept, no place is that of one
-pub kept_none : (c : CacheMap) (r : ℕ) → KeepsNone c → kept_at c r ≡ []
-kept_none c r none = go (order c r) (λ q is. is)
-  where
-    go : (xs : List Leaf) → ((q : Leaf) → list_any (leaf_is q) xs ≡ true → has_place c r q ≡ true) → filter (λ (leaf : Leaf). not (is_some (here c r leaf))) xs ≡ []
-    go [] among = refl
-    go (x ∷ xs) among =
-        let some : is_some (here c r x) ≡ true = there_some (here c r x) (none r x (among x (ap (λ (b : Bool). b || list_any (leaf_is x) xs) (leaf_itself x)))) in
-        ap (λ (b : Bool). cond (not b) (x ∷ filter (λ (leaf : Leaf). not (is_some (here c r leaf))) xs) (filter (λ (leaf : Leaf). not (is_some (here c r leaf))) xs)) some
-        ∙ go xs (λ q is. among q (or_right (leaf_is q x) (list_any (leaf_is q) xs) is))
-
 -- where no place of a rank is free and none can become so, and none is kept, they lack
 pub full_lacks : (c : CacheMap) (r : ℕ) (stay : Option Leaf) → AreCaches c → KeepsNone c → roomy c r stay ≡ None → c.cap < finmap.len (unclean_of c r) + (1 + staying stay)
 full_lacks c r stay valid none full =
-    let all : c.cap ≤ length (unclean_at c r) + length (kept_at c r) + staying stay = full_counts c r stay valid full in
-    let kept : length (kept_at c r) ≡ 0 = ap (λ (xs : List Leaf). length xs) (kept_none c r none) in
+    let lacks = all_unclean c r stay valid (none r) full in
     let few : length (unclean_at c r) ≤ finmap.len (unclean_of c r) = unclean_few c r (valid.distinct r) in
-    omega (arith, all, kept, few)
+    omega (arith, lacks, few)
 
 -- each passes one of two tests
 two : (g t : Leaf → Bool) (xs : List Leaf) → AllByRecursion (λ (x : Leaf). (g x ≡ true) ⊎ (t x ≡ true)) xs → length xs ≤ length (filter g xs) + length (filter t xs)
