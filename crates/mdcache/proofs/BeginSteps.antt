@@ -123,17 +123,16 @@ module _ (c view : Core) (is : view ≡ c) (sound : IsSoundCore c) (a : Dirfrag)
         abbrev object : Option Omap
         object = object_of s.objects leaf.0 leaf.1
 
-        shows : shown f ≡ shown_at (Some u) object
-        shows = tied_show f object (sound.cached leaf (at r f) (here_is r (map.get c.caches.held leaf) f its.1)).tied ∙ ap (λ (v : Unsaved). shown_at (Some v) object) (sym its.3)
-
         job_is : job ≡ job_for s leaf u
-        job_is = subst (λ (o : Option Cached). HasCached o (IsJobOf s.next_job leaf job)) its.1 taken ∙ (λ i. record {
-          number = s.next_job;
-          ino = leaf.0;
-          frag = leaf.1;
-          generation = (sym its.3 i).generation;
-          snapshot = record { base = (sym its.3 i).base; names = (sym its.3 i).dirty; counts = counts_of (shows i) };
-        })
+        job_is =
+            let shows : shown f ≡ shown_at (Some u) object = tied_show f object (sound.cached leaf (at r f) (here_is r (map.get c.caches.held leaf) f its.1)).tied ∙ ap (λ (v : Unsaved). shown_at (Some v) object) (sym its.3) in
+            subst (λ (o : Option Cached). HasCached o (IsJobOf s.next_job leaf job)) its.1 taken ∙ (λ i. record {
+              number = s.next_job;
+              ino = leaf.0;
+              frag = leaf.1;
+              generation = (sym its.3 i).generation;
+              snapshot = record { base = (sym its.3 i).base; names = (sym its.3 i).dirty; counts = counts_of (shows i) };
+            })
 
         abbrev begun : Core
         begun = with_job_in c a job room

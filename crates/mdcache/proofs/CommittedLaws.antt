@@ -7,16 +7,12 @@ use Rattle.dentry_cache.specs.Cache.{leaf_cmp}
 use Rattle.mdcache.specs.Commits.{leaf_of}
 use Rattle.mdcache.specs.Shown.{names_of}
 use Rattle.mdcache.proofs.AtHandLaws.{ended_are_clean}
+use Rattle.mdcache.proofs.SoundLaws.{names_alike}
 use Rattle.mdcache.proofs.TextLaws.{one_text}
 
 -- jobs alone change, as where they are given up
 pub given_up_whole : (old new : State) (jobs : Jobs) (n : ℕ) → new ≡ record old { jobs = jobs; next_job = n } → CommitsWhole old new
 given_up_whole old new jobs n left = subst (CommitsWhole old) (sym left) (record { left = refl; tree = refl; each = λ leaf live. inl (refl, refl); others = λ name none. refl })
-
--- what a leaf shows, where it is as it was
-shows_as : (old new : State) (leaf : Leaf) → IsAsItWas old new leaf → names_of new.unsaved new.objects leaf ≡ names_of old.unsaved old.objects leaf
-unfolding names_of
-shows_as old new leaf same = λ i. shown_at (same.0 i) (same.1 i)
 
 -- commits after others
 module _ (old mid new : State) (first : CommitsWhole old mid) (second : CommitsWhole mid new) where
@@ -26,7 +22,7 @@ module _ (old mid new : State) (first : CommitsWhole old mid) (second : CommitsW
     unsaved = w.unsaved;
     was = sym a.0 ∙ w.was;
     clean = w.clean;
-    spelled = subst (HasSpelled (object_of new.objects leaf.0 leaf.1) (next_version w.unsaved.base)) (shows_as old mid leaf a) w.spelled;
+    spelled = subst (HasSpelled (object_of new.objects leaf.0 leaf.1) (next_version w.unsaved.base)) (names_alike old mid leaf a.0 a.1) w.spelled;
   })
   each_of leaf (inr w) (inl b) = inr (record {
     unsaved = w.unsaved;

@@ -23,13 +23,10 @@ merged_is_new row frag tree can has =
     let bits : frag.bits ≡ g.bits = ap (λ (f : Fragment). f.bits) one in
     omega (arith, bits, within.0)
 
-contains_holds : (frag : Fragment) (hash : ℕ) → Contains frag hash → holds frag hash ≡ true
-contains_holds frag hash is = is_same ((hash % 2 ^ 24) / span frag.bits) (frag.value / span frag.bits) is
-
 -- the pick of a hash is merged if and only if the fragment contains the hash
 pub pick_inside : (row cover : List Fragment) (frag : Fragment) → IsTree row → IsTree cover → CanMerge row frag → IsMerge row cover frag → (hash : ℕ) (p : Fragment) → IsPick row hash p → lies_inside frag p ≡ holds frag hash
 pick_inside row cover frag tree whole can merged hash p pick = both_ways (lies_inside frag p) (holds frag hash)
-    (λ inside. contains_holds frag hash (merged_after_merge row cover frag whole hash p pick tree merged inside).contains)
+    (λ inside. is_same ((hash % 2 ^ 24) / span frag.bits) (frag.value / span frag.bits) (merged_after_merge row cover frag whole hash p pick tree merged inside).contains)
     (λ has. true_from_ne_false (lies_inside frag p) (λ outside.
     let one : frag ≡ p = (pick_after_merge row cover frag whole hash p pick merged outside).alone frag ((merged.leaves frag).1 (inr refl)) (holds_contains frag hash has) in
     merged_is_new row frag tree can (subst (HasLeaf row) (sym one) pick.stands)))

@@ -19,10 +19,6 @@ use Rattle.mdcache.proofs.NoNames.{all_pass, no_name, some_fails, some_name}
 use Rattle.mdcache.proofs.RegroupLaws.{Replaces, apart_live, came_live, dirty_shows, unmapped, which}
 use Rattle.mdcache.proofs.SplitLaws.{has_inside, inside_has, merge_replaces, merges_right, not_itself}
 
--- what isn't clean of a fragment whose object doesn't count
-fresh_unsaved : (f : Cached) → f.base ≡ Fresh → unsaved_in (Some f) ≡ Some (record { base = f.base; generation = f.generation; dirty = f.dirty })
-fresh_unsaved f fresh = ap (λ (b : Bool). cond b None (Some (record { base = f.base; generation = f.generation; dirty = f.dirty }))) (ap (λ (b : Base). is_clean_over b f.dirty) fresh)
-
 -- the fragment of a merge is cached nowhere before, and the leaves that end are live
 module _ (c : Core) (sound : IsSoundCore c) (a : Dirfrag) (known : is_known c.homes a.dir.0 ≡ true) (can : CanMerge (leaves_of c.covers a.dir.0) a.frag) where
   pub ending_live : (q : Leaf) → Contains (ending_at c a) q → IsLive c.homes c.covers q
@@ -158,11 +154,10 @@ module _ (old mid : Core) (sound : IsSoundCore old) (a : Dirfrag) (merge : Merge
   get_now : (q : Leaf) → map.get (unclean made.caches) q ≡ cond (list_any (leaf_is q) ending) None (cond (leaf_is q leaf) (Some beyond) (map.get (unclean mid.caches) q))
   get_now q =
       ap (λ u. map.get u q) (unclean_ended filled (leaves_in a.dir merge.plan.leaves.items) ∙ ap (without_leaves (unclean filled)) ready.planned.leaves) ∙ get_without (unclean filled) ending q
-      ∙ ap (cond (list_any (leaf_is q) ending) None) (get_unclean filled q ∙ ap unsaved_at (get_with_frag mid.caches a.rank.0 leaf merge.joined q) ∙ go (leaf_is q leaf))
-    where
-      go : (b : Bool) → unsaved_at (cond b (Some (at a.rank.0 merge.joined)) (map.get mid.caches.held q)) ≡ cond b (Some beyond) (map.get (unclean mid.caches) q)
-      go true = fresh_unsaved merge.joined ready.joined.fresh
-      go false = sym (get_unclean mid.caches q)
+      ∙ ap (cond (list_any (leaf_is q) ending) None) (get_unclean filled q ∙ ap unsaved_at (get_with_frag mid.caches a.rank.0 leaf merge.joined q) ∙ elim (leaf_is q leaf) as (λ b. unsaved_at (cond b (Some (at a.rank.0 merge.joined)) (map.get mid.caches.held q)) ≡ cond b (Some beyond) (map.get (unclean mid.caches) q)) [
+        | true ↦ ap (λ (b : Bool). cond b None (Some beyond)) (ap (λ (b : Base). is_clean_over b merge.joined.dirty) ready.joined.fresh)
+        | false ↦ sym (get_unclean mid.caches q)
+      ])
 
   -- of a leaf that doesn't end
   get_still : (q : Leaf) (y : Bool) → (q.0.0 ≡ a.dir.0 → HasLeaf gone q.1 → ⊥) → leaf_is q leaf ≡ y → map.get (unclean made.caches) q ≡ cond y (Some beyond) (map.get (unclean mid.caches) q)

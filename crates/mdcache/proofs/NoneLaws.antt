@@ -3,24 +3,16 @@ use Rattle.mdcache.proofs.Common.{AreCaches, Bool, CacheMap, Cached, Edits, Fetc
 use Rattle.std.proofs.lemmas.Bool.{false_from_ne_true}
 use Rattle.std.specs.FinMap as finmap
 
--- what is there is some
-pub there_some : (o : Option Cached) → IsThere o → is_some o ≡ true
-there_some None h = absurd h
-there_some (Some f) h = refl
-
 module _ (c : CacheMap) (r : ℕ) (leaf : Leaf) (none : KeepsNone c) where
   pub none_used : (new : CacheMap) → IsThere (here c r leaf) → new ≡ used_at c r leaf → KeepsNone new
   none_used new there is = subst KeepsNone (sym is) (λ s q. whole_used c r leaf s q there (none s q))
-
-  pub none_with : (f : Cached) → IsFreeFor c r leaf → KeepsNone (with_frag c r leaf f)
-  none_with f free s q = whole_with_frag c r leaf f s q free (none s q)
 
   pub none_edits : (Change : Cached → Cached → Type 0) (new : CacheMap) → Edits Change r leaf c new → KeepsNone new
   none_edits Change new e = go (here c r leaf) refl e
     where
       go : (o : Option Cached) → here c r leaf ≡ o → IsEdited Change r leaf o c new → KeepsNone new
       go None is e = absurd e
-      go (Some f) is e = subst KeepsNone (sym e.2) (none_with e.0 (here_free r (finmap.get c.held leaf) (ap (λ (o : Option Cached). is_some o) is)))
+      go (Some f) is e = subst KeepsNone (sym e.2) (λ s q. whole_with_frag c r leaf e.0 s q (here_free r (finmap.get c.held leaf) (ap is_some is)) (none s q))
 
   module _ (there : r < length c.used) (valid : AreCaches c) (stay : Option Leaf) where
     pub none_roomy : (mid : CacheMap) → roomy c r stay ≡ Some mid → KeepsNone mid

@@ -84,11 +84,8 @@ abbrev pub no_keys : Keys
 no_keys = map.empty
 
 nothing_left : without_keys no_pairs no_keys ≡ no_pairs
-nothing_left = same_map nat_list_cmp_total exact_bytes (without_keys no_pairs no_keys) no_pairs (λ q. get-without_keys exact_bytes no_pairs no_keys q ∙ none_at (map.contains_key no_keys q) q)
-  where
-    none_at : (b : Bool) (q : List ℕ) → cond b None (map.get no_pairs q) ≡ map.get no_pairs q
-    none_at true q = sym (get-empty key_cmp q)
-    none_at false q = refl
+nothing_left = same_map nat_list_cmp_total exact_bytes (without_keys no_pairs no_keys) no_pairs (λ q. get-without_keys exact_bytes no_pairs no_keys q
+    ∙ elim (map.contains_key no_keys q) as (λ b. cond b None (map.get no_pairs q) ≡ map.get no_pairs q) [ true ↦ sym (get-empty key_cmp q) | false ↦ refl ])
 
 -- the write of a tree's object: its header, and no pairs
 pub tree_written : (objects : Objects) (name header : List ℕ) → written objects name (record { clear = true; header = Some header; set = no_pairs; remove = no_keys }) ≡ map.insert objects name (record { header = header; pairs = no_pairs })

@@ -32,12 +32,10 @@ pub inside_has : (frag f : Fragment) (fs : List Fragment) → HasLeaf fs f → l
 inside_has frag f [] (k, within, is) inside = absurd (omega (arith, within))
 inside_has frag f (g ∷ gs) has inside = elim (first_or_later g f gs has) [
   | inl same ↦ subst (λ (b : Bool). HasLeaf (cond b (g ∷ leaves_inside frag gs) (leaves_inside frag gs)) f) (sym (ap (lies_inside frag) same ∙ inside)) (zero, omega arith, same)
-  | inr more ↦ behind (lies_inside frag g) (inside_has frag f gs more inside)
+  | inr more ↦
+      let rest = inside_has frag f gs more inside in
+      elim (lies_inside frag g) as (λ b. HasLeaf (cond b (g ∷ leaves_inside frag gs) (leaves_inside frag gs)) f) [ true ↦ later g f (leaves_inside frag gs) rest | false ↦ rest ]
 ]
-  where
-    behind : (b : Bool) → HasLeaf (leaves_inside frag gs) f → HasLeaf (cond b (g ∷ leaves_inside frag gs) (leaves_inside frag gs)) f
-    behind true more = later g f (leaves_inside frag gs) more
-    behind false more = more
 
 pub has_inside : (frag f : Fragment) (fs : List Fragment) → HasLeaf (leaves_inside frag fs) f → HasLeaf fs f × (lies_inside frag f ≡ true)
 has_inside frag f fs has = (

@@ -7,18 +7,13 @@ use Rattle.dentry_cache.specs.Cache.{leaf_cmp}
 use Rattle.dentry_cache.specs.CacheMap.{unclean_of}
 use Rattle.dentry_cache.proofs.LacksLaws.{full_lacks as all_unclean}
 use Rattle.dentry_cache.proofs.LeafLaws.{leaf-exact}
-use Rattle.mdcache.proofs.NoneLaws.{there_some}
 
 pub get_unclean_of : (c : CacheMap) (r : ℕ) (q : Leaf) → finmap.get (unclean_of c r) q ≡ unsaved_in (here c r q)
 unfolding unclean_of
 get_unclean_of c r q =
     get_tabulate (λ (q : Leaf). unsaved_in (here c r q)) (finmap.keys c.held) q
     ∙ ap (λ (b : Bool). cond b (unsaved_in (here c r q)) None) (any_tied q (finmap.keys c.held) ∙ sym (contains_key-keys c.held q))
-    ∙ go (finmap.get c.held q)
-  where
-    go : (o : Option At) → cond (is_some o) (unsaved_in (at_rank r o)) None ≡ unsaved_in (at_rank r o)
-    go (Some a) = refl
-    go None = refl
+    ∙ elim (finmap.get c.held q) as (λ o. cond (is_some o) (unsaved_in (at_rank r o)) None ≡ unsaved_in (at_rank r o)) [ Some a ↦ refl | None ↦ refl ]
 
 -- ---- reads leave it
 
@@ -86,14 +81,11 @@ few_keys m (x ∷ xs) distinct all =
 -- those that pass a test are apart too
 filtered_distinct : (p : Leaf → Bool) (xs : List Leaf) → IsDistinct leaf_is xs → IsDistinct leaf_is (filter p xs)
 filtered_distinct p [] distinct = distinct
-filtered_distinct p (x ∷ xs) distinct = go (p x) (filtered_distinct p xs (IsDistinct-tail leaf_is x xs distinct))
-  where
-    Apart : Leaf → Type 0
-    Apart y = leaf_is x y ≡ false
-
-    go : (b : Bool) → IsDistinct leaf_is (filter p xs) → IsDistinct leaf_is (cond b (x ∷ filter p xs) (filter p xs))
-    go true rest = IsDistinct-cons leaf_is x (filter p xs) (recursion_from_All Apart (filter p xs) (All-filter p Apart xs (All-from_recursion Apart xs (IsDistinct-head leaf_is x xs distinct)))) rest
-    go false rest = rest
+filtered_distinct p (x ∷ xs) distinct =
+    let rest = filtered_distinct p xs (IsDistinct-tail leaf_is x xs distinct) in
+    let Apart : Leaf → Type 0 = λ y. leaf_is x y ≡ false in
+    let apart = recursion_from_All Apart (filter p xs) (All-filter p Apart xs (All-from_recursion Apart xs (IsDistinct-head leaf_is x xs distinct))) in
+    elim (p x) as (λ b. IsDistinct leaf_is (cond b (x ∷ filter p xs) (filter p xs))) [ true ↦ IsDistinct-cons leaf_is x (filter p xs) apart rest | false ↦ rest ]
 
 -- the places of fragments that aren't clean are no more than those fragments
 pub unclean_few : (c : CacheMap) (r : ℕ) → IsDistinct leaf_is (order c r) → length (unclean_at c r) ≤ finmap.len (unclean_of c r)
@@ -135,10 +127,6 @@ few_lack count c r valid none lacks =
     let few : length (unclean_at c r) ≤ finmap.len (unclean_of c r) = unclean_few c r (valid.distinct r) in
     omega (arith, lacks, all, few)
   where
-    clean : (b : Bool) → ((b && not false) ≡ true) ⊎ (not b ≡ true)
-    clean true = inl refl
-    clean false = inr refl
-
     on : (o : Option Cached) → IsThere o → ((clean_in o && not false) ≡ true) ⊎ (unclean_in o ≡ true)
     on None h = absurd h
-    on (Some f) h = clean (is_clean f)
+    on (Some f) h = elim (is_clean f) as (λ b. ((b && not false) ≡ true) ⊎ (not b ≡ true)) [ true ↦ inl refl | false ↦ inr refl ]
