@@ -52,9 +52,6 @@ module _ (c view : Core) (is : view ≡ c) (sound : IsSoundCore c) (a : Dirfrag)
   abbrev leaf : Leaf
   leaf = leaf_at a
 
-  abbrev r : ℕ
-  r = a.rank.0
-
   abbrev s : State
   s = state_of c
 
@@ -62,28 +59,28 @@ module _ (c view : Core) (is : view ≡ c) (sound : IsSoundCore c) (a : Dirfrag)
   none = ap (λ (k : Core). map.get k.jobs leaf) (sym is) ∙ none_stands
 
   -- of the fragment is told what isn't clean of its leaf
-  told_is : told (unsaved_in (here view.caches r leaf)) ≡ told (map.get s.unsaved leaf)
-  told_is = ap (λ (k : Core). told (unsaved_in (here k.caches r leaf))) is ∙ ap told (sym (unclean_here c.caches r leaf free))
+  told_is : told (unsaved_in (here view.caches a.rank.0 leaf)) ≡ told (map.get s.unsaved leaf)
+  told_is = ap (λ (k : Core). told (unsaved_in (here k.caches a.rank.0 leaf))) is ∙ ap told (sym (unclean_here c.caches a.rank.0 leaf free))
 
   -- a clean fragment gives nothing
-  pub begins_none : None ≡ told (unsaved_in (here view.caches r leaf)) → HasBegun c c a (Ok None)
+  pub begins_none : None ≡ told (unsaved_in (here view.caches a.rank.0 leaf)) → HasBegun c c a (Ok None)
   begins_none clean = record { begun = (live, none, subst (λ (o : Option Unsaved). BeginsWith s s leaf o None) (sym (none_told (map.get s.unsaved leaf) (clean ∙ told_is))) (refl, refl)); came = stays; sound = sound }
 
-  module _ (base : Base) (generation : ℕ) (is_told : Some (base, generation) ≡ told (unsaved_in (here view.caches r leaf))) where
+  module _ (base : Base) (generation : ℕ) (is_told : Some (base, generation) ≡ told (unsaved_in (here view.caches a.rank.0 leaf))) where
     found : (u : Unsaved) × (map.get s.unsaved leaf ≡ Some u) × (u.base ≡ base) × (u.generation ≡ generation)
     found = unsaved_from (map.get s.unsaved leaf) base generation (is_told ∙ told_is)
 
     abbrev u : Unsaved
     u = found.0
 
-    its : (f : Cached) × (here c.caches r leaf ≡ Some f) × (is_clean f ≡ false) × (u ≡ record { base = f.base; generation = f.generation; dirty = f.dirty })
-    its = go (here c.caches r leaf) (sym (unclean_here c.caches r leaf free) ∙ found.1)
+    its : (f : Cached) × (here c.caches a.rank.0 leaf ≡ Some f) × (is_clean f ≡ false) × (u ≡ record { base = f.base; generation = f.generation; dirty = f.dirty })
+    its = go (here c.caches a.rank.0 leaf) (sym (unclean_here c.caches a.rank.0 leaf free) ∙ found.1)
       where
         go : (o : Option Cached) → unsaved_in o ≡ Some u → (f : Cached) × (o ≡ Some f) × (is_clean f ≡ false) × (u ≡ record { base = f.base; generation = f.generation; dirty = f.dirty })
         go None is = let clash : None ≡ Some u = is in absurd cc
         go (Some f) is = let w = beyond_is f u is in (f, refl, w.0, sym w.1)
 
-    pub can_begin : IsBelowEnd base → HasCached (here c.caches r leaf) (λ (f : Cached). (is_clean f ≡ false) × IsBelowEnd f.base × (generation ≡ f.generation))
+    pub can_begin : IsBelowEnd base → HasCached (here c.caches a.rank.0 leaf) (λ (f : Cached). (is_clean f ≡ false) × IsBelowEnd f.base × (generation ≡ f.generation))
     can_begin below =
         subst (λ (o : Option Cached). HasCached o (λ (f : Cached). (is_clean f ≡ false) × IsBelowEnd f.base × (generation ≡ f.generation))) (sym its.1)
         (its.2, subst IsBelowEnd (sym found.2 ∙ ap (λ (v : Unsaved). v.base) its.3) below, sym found.3 ∙ ap (λ (v : Unsaved). v.generation) its.3)
@@ -98,14 +95,14 @@ module _ (c view : Core) (is : view ≡ c) (sound : IsSoundCore c) (a : Dirfrag)
     -- the leaf is used
     module _ (room : Rooms) (enough : IsAtEnd view.next_job base → ⊥) where
       used_state : state_of (used_core c a room) ≡ s
-      used_state = λ i. record s { unsaved = used_unclean c.caches (used_at c.caches r leaf) r leaf refl i }
+      used_state = λ i. record s { unsaved = used_unclean c.caches (used_at c.caches a.rank.0 leaf) a.rank.0 leaf refl i }
 
       used_sound : IsSoundCore (used_core c a room)
       used_sound = record {
         sound = subst IsSound (sym used_state) sound.sound;
         begun = sound.begun;
-        cached = subst (λ (t : State). AreCached t (used_at c.caches r leaf)) (sym used_state) sound.cached;
-        none = none_used c.caches r leaf sound.none (used_at c.caches r leaf) (subst IsThere (sym its.1) tt) refl;
+        cached = subst (λ (t : State). AreCached t (used_at c.caches a.rank.0 leaf)) (sym used_state) sound.cached;
+        none = none_used c.caches a.rank.0 leaf sound.none (used_at c.caches a.rank.0 leaf) (subst IsThere (sym its.1) tt) refl;
       }
 
       left : IsAtEnd s.next_job u.base → ⊥
@@ -113,19 +110,16 @@ module _ (c view : Core) (is : view ≡ c) (sound : IsSoundCore c) (a : Dirfrag)
 
       pub not_begun : (new : Core) → new ≡ used_core c a room → HasBegun c new a (Err NoMemory)
       not_begun new is_used = subst (λ (k : Core). HasBegun c k a (Err NoMemory)) (sym is_used)
-          (record { begun = (inr (inr (live, none, u, found.1, inr (refl, left))), used_state); came = uses c.caches r leaf stays (refl, refl); sound = used_sound })
+          (record { begun = (inr (inr (live, none, u, found.1, inr (refl, left))), used_state); came = uses c.caches a.rank.0 leaf stays (refl, refl); sound = used_sound })
 
       -- and its job stands
-      module _ (job : Job) (valid : IsSnap job.snapshot) (taken : HasCached (here c.caches r leaf) (IsJobOf s.next_job leaf job)) where
-        abbrev f : Cached
-        f = its.0
-
+      module _ (job : Job) (valid : IsSnap job.snapshot) (taken : HasCached (here c.caches a.rank.0 leaf) (IsJobOf s.next_job leaf job)) where
         abbrev object : Option Omap
         object = object_of s.objects leaf.0 leaf.1
 
         job_is : job ≡ job_for s leaf u
         job_is =
-            let shows : shown f ≡ shown_at (Some u) object = tied_show f object (sound.cached leaf (at r f) (here_is r (map.get c.caches.held leaf) f its.1)).tied ∙ ap (λ (v : Unsaved). shown_at (Some v) object) (sym its.3) in
+            let shows : shown its.0 ≡ shown_at (Some u) object = tied_show its.0 object (sound.cached leaf (at a.rank.0 its.0) (here_is a.rank.0 (map.get c.caches.held leaf) its.0 its.1)).tied ∙ ap (λ (v : Unsaved). shown_at (Some v) object) (sym its.3) in
             subst (λ (o : Option Cached). HasCached o (IsJobOf s.next_job leaf job)) its.1 taken ∙ (λ i. record {
               number = s.next_job;
               ino = leaf.0;
@@ -141,7 +135,7 @@ module _ (c view : Core) (is : view ≡ c) (sound : IsSoundCore c) (a : Dirfrag)
         one_leaf = ap leaf_of job_is
 
         begun_state : state_of begun ≡ with_job s job
-        begun_state = λ i. record s { unsaved = used_unclean c.caches (used_at c.caches r leaf) r leaf refl i; jobs = map.insert s.jobs (sym one_leaf i) job; next_job = s.next_job + 1 }
+        begun_state = λ i. record s { unsaved = used_unclean c.caches (used_at c.caches a.rank.0 leaf) a.rank.0 leaf refl i; jobs = map.insert s.jobs (sym one_leaf i) job; next_job = s.next_job + 1 }
 
         is_of : IsOf job u object
         is_of = record {
@@ -155,7 +149,7 @@ module _ (c view : Core) (is : view ≡ c) (sound : IsSoundCore c) (a : Dirfrag)
         pub begun_is : (new : Core) → new ≡ begun → HasBegun c new a (Ok (Some job))
         begun_is new is_begun = subst (λ (k : Core). HasBegun c k a (Ok (Some job))) (sym is_begun) (record {
           begun = (live, none, subst (λ (o : Option Unsaved). BeginsWith s (state_of begun) leaf o (Some job)) (sym found.1) (job_is, left, begun_state));
-          came = uses c.caches r leaf stays (refl, refl);
+          came = uses c.caches a.rank.0 leaf stays (refl, refl);
           sound = record {
             sound = subst IsSound (sym begun_state) (begun_sound s job u sound.sound (ap (map.get s.unsaved) one_leaf ∙ found.1) (ap (λ (j : Job). j.number) job_is)
                 (subst (λ (j : Job). AreYoung j.snapshot.names s.next_version) (sym job_is) (sound.sound.unsaved leaf u found.1).young) (subst (λ (l : Leaf). IsOf job u (object_of s.objects l.0 l.1)) (sym one_leaf) is_of));

@@ -33,12 +33,12 @@ cached_shows f object tie = elim (cases_Bool (is_clean f)) [
     clean_shows (Stored version) is clean = sym (nothing_patched (names_at object) f.dirty (eqb-true (map.len f.dirty) 0 clean))
 
 -- what a fragment that isn't clean has beyond its object
+some_but : {A : Type 0} (b : Bool) (x y : A) → cond b None (Some x) ≡ Some y → (b ≡ false) × (x ≡ y)
+some_but true x y h = let clash : None ≡ Some y = h in absurd cc
+some_but false x y h = (refl, same_Some x y h)
+
 pub beyond_is : (f : Cached) (u : Unsaved) → unsaved_of f ≡ Some u → (is_clean f ≡ false) × (record { base = f.base; generation = f.generation; dirty = f.dirty } ≡ u)
-beyond_is f u is = go (is_clean f) refl is
-  where
-    go : (b : Bool) → is_clean f ≡ b → cond b None (Some (record { base = f.base; generation = f.generation; dirty = f.dirty })) ≡ Some u → (is_clean f ≡ false) × (record { base = f.base; generation = f.generation; dirty = f.dirty } ≡ u)
-    go true clean h = let clash : None ≡ Some u = h in absurd cc
-    go false dirty h = (dirty, same_Some (record { base = f.base; generation = f.generation; dirty = f.dirty }) u h)
+beyond_is f u is = some_but (is_clean f) (record { base = f.base; generation = f.generation; dirty = f.dirty }) u is
 
 -- ---- a commit ended
 
@@ -108,11 +108,11 @@ module _ (c : Core) (r : ℕ) (job : Job) (kept : IsSoundCore c) (stood : map.ge
   pub now_unclean : unclean (with_frag c.caches r leaf now) ≡ t.unsaved
   now_unclean = unclean_with c.caches r leaf now ∙ (λ i. with_unsaved (unclean c.caches) leaf (left_unsaved i))
 
-  unsaved_here : map.get t.unsaved leaf ≡ left_of u job.snapshot
-  unsaved_here = unsaved_here_at s.unsaved leaf leaf (left_of u job.snapshot) ∙ ap (λ (b : Bool). cond b (left_of u job.snapshot) (map.get s.unsaved leaf)) (leaf_itself leaf)
+  unsaved_now : (q : Leaf) (b : Bool) → leaf_is q leaf ≡ b → map.get t.unsaved q ≡ cond b (left_of u job.snapshot) (map.get s.unsaved q)
+  unsaved_now q b is = unsaved_here_at s.unsaved leaf q (left_of u job.snapshot) ∙ ap (λ (y : Bool). cond y (left_of u job.snapshot) (map.get s.unsaved q)) is
 
-  unsaved_beside : (q : Leaf) → leaf_is q leaf ≡ false → map.get t.unsaved q ≡ map.get s.unsaved q
-  unsaved_beside q apart = unsaved_here_at s.unsaved leaf q (left_of u job.snapshot) ∙ ap (λ (b : Bool). cond b (left_of u job.snapshot) (map.get s.unsaved q)) apart
+  unsaved_here : map.get t.unsaved leaf ≡ left_of u job.snapshot
+  unsaved_here = unsaved_now leaf true (leaf_itself leaf)
 
   -- what is shown
 
@@ -124,7 +124,7 @@ module _ (c : Core) (r : ℕ) (job : Job) (kept : IsSoundCore c) (stood : map.ge
 
   shows : (q : Leaf) → IsLive s.homes s.covers q → names_of t.unsaved t.objects q ≡ names_of s.unsaved s.objects q
   shows q is = ⊎_elim (λ same. subst (λ (l : Leaf). names_of t.unsaved t.objects l ≡ names_of s.unsaved s.objects l) (sym same) shows_here)
-      (λ apart. names_alike s t q (unsaved_beside q apart) (object_beside q is apart)) (leaf_or_apart q leaf)
+      (λ apart. names_alike s t q (unsaved_now q false apart) (object_beside q is apart)) (leaf_or_apart q leaf)
 
   tree_stays : shown_tree t ≡ shown_tree s
   tree_stays = tree_alike s.homes s.covers (names_of t.unsaved t.objects) (names_of s.unsaved s.objects) shows
@@ -137,12 +137,6 @@ module _ (c : Core) (r : ℕ) (job : Job) (kept : IsSoundCore c) (stood : map.ge
       go : (b : Bool) → cond b (map.get u.dirty name) None ≡ Some mark → mark.version < s.next_version
       go true h = (kept.sound.unsaved leaf u stands.beside).young name mark h
       go false h = let clash : None ≡ Some mark = h in cc
-
-  left_is : (v : Unsaved) (b : Bool) → cond b None (Some (record { base = Stored (next_version job.snapshot.base); generation = u.generation; dirty = unsettled u.dirty job.snapshot.names })) ≡ Some v → IsUnsaved t leaf v
-  left_is v true h = let clash : None ≡ Some v = h in cc
-  left_is v false h =
-      let same : record { base = Stored (next_version job.snapshot.base); generation = u.generation; dirty = unsettled u.dirty job.snapshot.names } ≡ v = cc in
-      subst (IsUnsaved t leaf) same (record { live = live; made = (kept.sound.unsaved leaf u stands.beside).made; young = younger })
 
   saved_here : map.get t.unsaved leaf ≡ None → IsSaved leaf.1 (Some here)
   unfolding names_of
@@ -165,12 +159,14 @@ module _ (c : Core) (r : ℕ) (job : Job) (kept : IsSoundCore c) (stood : map.ge
     counted = subst (λ tree. IsCounted tree s.counts s.pins) (sym tree_stays) kept.sound.counted;
     placed = λ q name inode is has. kept.sound.placed q name inode is (ap (λ (n : Names). map.get n name) (sym (shows q is)) ∙ has);
     unsaved = λ q v is. elim (leaf_or_apart q leaf) [
-      | inl same ↦ subst (λ (l : Leaf). IsUnsaved t l v) (sym same) (left_is v (map.len (unsettled u.dirty job.snapshot.names) == 0) (sym unsaved_here ∙ ap (map.get t.unsaved) (sym same) ∙ is))
-      | inr apart ↦ let before = kept.sound.unsaved q v (sym (unsaved_beside q apart) ∙ is) in record { live = before.live; made = before.made; young = before.young }
+      | inl same ↦ subst (λ (l : Leaf). IsUnsaved t l v) (sym same) (subst (IsUnsaved t leaf)
+          (some_but (map.len (unsettled u.dirty job.snapshot.names) == 0) (record { base = Stored (next_version job.snapshot.base); generation = u.generation; dirty = unsettled u.dirty job.snapshot.names }) v (sym unsaved_here ∙ ap (map.get t.unsaved) (sym same) ∙ is)).1
+          (record { live = live; made = (kept.sound.unsaved leaf u stands.beside).made; young = younger }))
+      | inr apart ↦ let before = kept.sound.unsaved q v (sym (unsaved_now q false apart) ∙ is) in record { live = before.live; made = before.made; young = before.young }
     ];
     saved = λ q is clean. ⊎_elim
         (λ same. subst (λ (l : Leaf). IsSaved l.1 (object_of t.objects l.0 l.1)) (sym same) (subst (IsSaved leaf.1) (sym object_here) (saved_here (ap (map.get t.unsaved) (sym same) ∙ clean))))
-        (λ apart. subst (IsSaved q.1) (sym (object_beside q is apart)) (kept.sound.saved q is (sym (unsaved_beside q apart) ∙ clean))) (leaf_or_apart q leaf);
+        (λ apart. subst (IsSaved q.1) (sym (object_beside q is apart)) (kept.sound.saved q is (sym (unsaved_now q false apart) ∙ clean))) (leaf_or_apart q leaf);
     owned = λ name has.
         ⊎_elim (λ same. inl (leaf, live, same)) (λ apart. kept.sound.owned name (ap is_some (sym (get_beside s.objects (text_of leaf) _ name apart)) ∙ has)) (key_or_apart name (text_of leaf));
     listed = kept.sound.listed;
@@ -183,7 +179,7 @@ module _ (c : Core) (r : ℕ) (job : Job) (kept : IsSoundCore c) (stood : map.ge
             given = before.given;
             young = before.young;
             unsaved = before.unsaved;
-            beside = unsaved_beside q apart ∙ before.beside;
+            beside = unsaved_now q false apart ∙ before.beside;
             taken = subst (IsOf i before.unsaved) (sym (object_beside q (kept.sound.unsaved q before.unsaved before.beside).live apart)) before.taken;
           }
     ];

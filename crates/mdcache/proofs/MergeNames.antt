@@ -98,11 +98,8 @@ module _ (s : State) (sound : IsSound s) (dir : Ino) (known : is_known s.homes d
       abbrev gone : List Fragment
       gone = leaves_inside frag row
 
-      tree : IsTree row
-      tree = tree_of_row s.homes s.covers sound.table dir.0
-
       told : lies_inside frag pick.0 ≡ holds frag (hash_of name)
-      told = pick_inside row cover frag tree whole can merged (hash_of name) pick.0 pick.1
+      told = pick_inside row cover frag (tree_of_row s.homes s.covers sound.table dir.0) whole can merged (hash_of name) pick.0 pick.1
 
       within : (f : Fragment) → HasLeaf gone f → HasLeaf row f
       within f has = (has_inside frag f row has).0

@@ -154,14 +154,11 @@ module _ (s : State) (sound : IsSound s) (dir : Ino) (gone cover : List Fragment
 
   -- ---- soundness
 
-  leaves_before : HasSoundLeaves s
-  leaves_before = sound_leaves s sound
-
   -- a name that went to a leaf that came stood in one that ended
   some_went : (f : Fragment) → Comes row cover f → (name : List ℕ) (inode : Inode) → Holds f (hash_of name) → map.get (shown_tree s) (dentry_of dir.0 name) ≡ Some inode → are_empty s dir gone ≡ false
   some_went f comes name inode contains found =
-      let p = pick_at s leaves_before (dentry_of dir.0 name) in
-      let here : map.get (names_of s.unsaved s.objects (dir, p.0)) name ≡ Some inode = sym (stands_at s leaves_before (dentry_of dir.0 name) p.0 r.known p.1) ∙ found in
+      let p = pick_at s (sound_leaves s sound) (dentry_of dir.0 name) in
+      let here : map.get (names_of s.unsaved s.objects (dir, p.0)) name ≡ Some inode = sym (stands_at s (sound_leaves s sound) (dentry_of dir.0 name) p.0 r.known p.1) ∙ found in
       let ended : HasLeaf gone p.0 = ⊎_elim (λ ended. ended) (λ stands. absurd (comes.1 (subst (HasLeaf row) ((pick_from_leaf cover (hash_of name) f r.whole comes.0 contains).alone p.0 stands p.1.contains) p.1.stands))) (cut.ends p.0 p.1.stands) in
       false_from_ne_true (are_empty s dir gone) (λ all.
       let none = all_pass (λ (g : Fragment). has_none (names_of s.unsaved s.objects (dir, g))) gone all p.0 ended in
@@ -260,7 +257,7 @@ module _ (s : State) (sound : IsSound s) (dir : Ino) (gone cover : List Fragment
   -- ---- the tree
 
   tree_now : shown_tree n ≡ shown_tree s
-  tree_now = same_map dentry-total dentry-exact (shown_tree n) (shown_tree s) (λ q. ⊎_elim (stands q) (λ none. stands_nowhere n leaves_now q none ∙ sym (stands_nowhere s leaves_before q none)) (known_or_not s.homes q.dir.0))
+  tree_now = same_map dentry-total dentry-exact (shown_tree n) (shown_tree s) (λ q. ⊎_elim (stands q) (λ none. stands_nowhere n leaves_now q none ∙ sym (stands_nowhere s (sound_leaves s sound) q none)) (known_or_not s.homes q.dir.0))
     where
       stands : (q : Dentry) → is_known s.homes q.dir.0 ≡ true → map.get (shown_tree n) q ≡ map.get (shown_tree s) q
       stands q known =
@@ -272,7 +269,7 @@ module _ (s : State) (sound : IsSound s) (dir : Ino) (gone cover : List Fragment
                 ∙ (λ i. map.get (shown_tree s) (record { dir = record { 0 = sym came.0 i }; name = q.name }))
             | inr old ↦
                 ap (λ (m : Names). map.get m q.name) (apart_names (q.dir, p.0) old.0)
-                ∙ sym (stands_at s leaves_before q p.0 known (pick_from_leaf (leaves_of s.covers q.dir.0) (hash_of q.name) p.0 (tree_of_row s.homes s.covers sound.table q.dir.0) old.1.stands p.1.contains))
+                ∙ sym (stands_at s (sound_leaves s sound) q p.0 known (pick_from_leaf (leaves_of s.covers q.dir.0) (hash_of q.name) p.0 (tree_of_row s.homes s.covers sound.table q.dir.0) old.1.stands p.1.contains))
           ]
 
   pub regroup_right : KeepsTree s t dir gone

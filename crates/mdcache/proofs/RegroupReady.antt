@@ -35,33 +35,30 @@ Child a nb = IsChildAt a.rank.0 a.dir a.frag nb
 
 module _ (old mid view : Core) (is : view ≡ mid) (a : Dirfrag) (nb : ℕ) (some : 1 ≤ nb) (reads : ReadsCore (IsThat a.rank.0 (leaf_of a)) NoneEnds old mid) (none_mid : KeepsNone mid.caches)
     (there : a.rank.0 < length old.caches.used) (absent : (i : ℕ) → i < 2 ^ nb → map.get old.caches.held (a.dir, child_of a.frag i nb) ≡ None) (valid : AreCaches old.caches) (none_old : KeepsNone old.caches) where
-  abbrev r : ℕ
-  r = a.rank.0
-
   -- the fetch alone, where it was refused
   pub fetched_nowhere : (i : ℕ) → i < 2 ^ nb → map.get mid.caches.held (a.dir, child_of a.frag i nb) ≡ None
-  fetched_nowhere i below = still_absent (IsThat r (leaf_of a)) NoneEnds old mid (a.dir, child_of a.frag i nb) reads (λ q that.
+  fetched_nowhere i below = still_absent (IsThat a.rank.0 (leaf_of a)) NoneEnds old mid (a.dir, child_of a.frag i nb) reads (λ q that.
       let clash : true ≡ false = sym (leaf_itself (leaf_of a)) ∙ ap (leaf_is (leaf_of a)) (sym that.1) ∙ no_child a.dir a.frag nb i some in absurd cc) (absent i below)
 
   pub fetched_family : ReadsCore (Family a nb) (Family a nb) old mid
-  fetched_family = reads_core_wider (IsThat r (leaf_of a)) (Family a nb) NoneEnds (Family a nb) old mid (λ s q that. inl that) (λ s q no_end. absurd no_end) reads
+  fetched_family = reads_core_wider (IsThat a.rank.0 (leaf_of a)) (Family a nb) NoneEnds (Family a nb) old mid (λ s q that. inl that) (λ s q no_end. absurd no_end) reads
 
   -- no leaf stands twice in the order of use
-  pub fetched_distinct : IsDistinct leaf_is (order mid.caches r)
-  fetched_distinct = (reads_placed (IsThat r (leaf_of a)) NoneEnds old.objects old.caches valid (λ s q that. subst (λ (n : ℕ). n < length old.caches.used) (sym that.0) there) mid.caches reads.caches).distinct r
+  pub fetched_distinct : IsDistinct leaf_is (order mid.caches a.rank.0)
+  fetched_distinct = (reads_placed (IsThat a.rank.0 (leaf_of a)) NoneEnds old.objects old.caches valid (λ s q that. subst (λ (n : ℕ). n < length old.caches.used) (sym that.0) there) mid.caches reads.caches).distinct a.rank.0
 
   none : KeepsNone view.caches
   none = subst (λ (k : Core). KeepsNone k.caches) (sym is) none_mid
 
-  pub children_absent : AreAbsent view.caches r a.dir a.frag nb
+  pub children_absent : AreAbsent view.caches a.rank.0 a.dir a.frag nb
   children_absent i below =
       let held : map.get view.caches.held (a.dir, child_of a.frag i nb) ≡ None = ap (λ (k : Core). map.get k.caches.held (a.dir, child_of a.frag i nb)) is ∙ fetched_nowhere i below in
-      (none_absent view.caches r (a.dir, child_of a.frag i nb) none held, held)
+      (none_absent view.caches a.rank.0 (a.dir, child_of a.frag i nb) none held, held)
 
-  pub children_there : r < length view.caches.used
-  children_there = subst (λ (k : Core). r < length k.caches.used) (sym is) (there_after (IsThat r (leaf_of a)) NoneEnds old mid r reads there)
+  pub children_there : a.rank.0 < length view.caches.used
+  children_there = subst (λ (k : Core). a.rank.0 < length k.caches.used) (sym is) (there_after (IsThat a.rank.0 (leaf_of a)) NoneEnds old mid a.rank.0 reads there)
 
-  module _ (caches' : CacheMap) (family : ReadsFamily r a.dir a.frag nb view.caches caches') where
+  module _ (caches' : CacheMap) (family : ReadsFamily a.rank.0 a.dir a.frag nb view.caches caches') where
     pub children_reads : ReadsCore (Family a nb) (Family a nb) old (record view { caches = caches' })
     children_reads = next_step (Family a nb) (Family a nb) old view (record view { caches = caches' }) (no_less_itself view.room) refl mid fetched_family is
         (reads_weaker (Family a nb) (Child a nb) (Family a nb) (Family a nb) (λ s q is. is) (λ s q child. inr child) view.objects view.caches caches' (family view.objects))
@@ -69,32 +66,32 @@ module _ (old mid view : Core) (is : view ≡ mid) (a : Dirfrag) (nb : ℕ) (som
     -- from before the fetch on
     all_reads : Reads (Family a nb) (Child a nb) old.objects old.caches caches'
     all_reads = reads_then (Family a nb) (Child a nb) old.objects old.caches mid.caches caches'
-        (reads_weaker (IsThat r (leaf_of a)) NoneEnds (Family a nb) (Child a nb) (λ s q that. inl that) (λ s q no_end. absurd no_end) old.objects old.caches mid.caches reads.caches)
+        (reads_weaker (IsThat a.rank.0 (leaf_of a)) NoneEnds (Family a nb) (Child a nb) (λ s q that. inl that) (λ s q no_end. absurd no_end) old.objects old.caches mid.caches reads.caches)
         (subst (λ (c : CacheMap). Reads (Family a nb) (Child a nb) old.objects c caches') (ap (λ (k : Core). k.caches) is) (family old.objects))
 
-    pub children_distinct : IsDistinct leaf_is (order caches' r)
-    children_distinct = (reads_placed (Family a nb) (Child a nb) old.objects old.caches valid (λ s q named. subst (λ (n : ℕ). n < length old.caches.used) (sym (⊎_elim (λ it. it.0) (λ child. child.0) named)) there) caches' all_reads).distinct r
+    pub children_distinct : IsDistinct leaf_is (order caches' a.rank.0)
+    children_distinct = (reads_placed (Family a nb) (Child a nb) old.objects old.caches valid (λ s q named. subst (λ (n : ℕ). n < length old.caches.used) (sym (⊎_elim (λ it. it.0) (λ child. child.0) named)) there) caches' all_reads).distinct a.rank.0
 
-    module _ (stays : StaysAt r (leaf_of a) view.caches caches') where
+    module _ (stays : StaysAt a.rank.0 (leaf_of a) view.caches caches') where
       pub children_only_so : {A E : Type 0} (result : Result A E) → OnOk result ((s : ℕ) (q : Leaf) → IsWhole caches' s q ⊎ Child a nb s q)
-      children_only_so (Ok x) = readies_whole r a.dir a.frag nb old.objects old.caches caches' there valid none_old all_reads (stays_there (here view.caches r (leaf_of a)) (here caches' r (leaf_of a)) stays)
+      children_only_so (Ok x) = readies_whole a.rank.0 a.dir a.frag nb old.objects old.caches caches' there valid none_old all_reads (stays_there (here view.caches a.rank.0 (leaf_of a)) (here caches' a.rank.0 (leaf_of a)) stays)
       children_only_so (Err e) = tt
 
-      pub children_none_so : {A E : Type 0} (result : Result A E) → OnErr result (AreAbsent caches' r a.dir a.frag nb) → OnErr result (KeepsNone caches')
+      pub children_none_so : {A E : Type 0} (result : Result A E) → OnErr result (AreAbsent caches' a.rank.0 a.dir a.frag nb) → OnErr result (KeepsNone caches')
       children_none_so (Ok x) absent = tt
-      children_none_so (Err e) absent = refused_whole r a.dir a.frag nb old.objects old.caches caches' there valid none_old all_reads (stays_there (here view.caches r (leaf_of a)) (here caches' r (leaf_of a)) stays) absent
+      children_none_so (Err e) absent = refused_whole a.rank.0 a.dir a.frag nb old.objects old.caches caches' there valid none_old all_reads (stays_there (here view.caches a.rank.0 (leaf_of a)) (here caches' a.rank.0 (leaf_of a)) stays) absent
 
-  pub children_refused_so : {A : Type 0} (result : Result A Refusal) → mid.faults ≡ old.faults → IfErr result (MayNotKeepAll (2 ^ nb) view.caches r) → IfErr result (MayNotFind (LacksPlacesIn (2 ^ nb + 1) old.caches r) old.faults view.faults)
+  pub children_refused_so : {A : Type 0} (result : Result A Refusal) → mid.faults ≡ old.faults → IfErr result (MayNotKeepAll (2 ^ nb) view.caches a.rank.0) → IfErr result (MayNotFind (LacksPlacesIn (2 ^ nb + 1) old.caches a.rank.0) old.faults view.faults)
   children_refused_so (Ok x) same refused = tt
   children_refused_so (Err reason) same refused =
-      not_found_before (IsThat r (leaf_of a)) NoneEnds old mid reads (2 ^ nb + 1) r view.faults reason same (subst (λ (k : Core). MayNotFind (LacksPlacesIn (2 ^ nb + 1) k.caches r) k.faults view.faults reason) is (on refused))
+      not_found_before (IsThat a.rank.0 (leaf_of a)) NoneEnds old mid reads (2 ^ nb + 1) a.rank.0 view.faults reason same (subst (λ (k : Core). MayNotFind (LacksPlacesIn (2 ^ nb + 1) k.caches a.rank.0) k.faults view.faults reason) is (on refused))
     where
-      on : MayNotKeepAll (2 ^ nb) view.caches r reason → MayNotFind (LacksPlacesIn (2 ^ nb + 1) view.caches r) view.faults view.faults reason
+      on : MayNotKeepAll (2 ^ nb) view.caches a.rank.0 reason → MayNotFind (LacksPlacesIn (2 ^ nb + 1) view.caches a.rank.0) view.faults view.faults reason
       on (inl memory) = inl memory
       on (inr full) =
           let lacks = full.1 in
-          let kept : length (kept_at view.caches r) ≡ 0 = none_kept_at view.caches r (none r) in
-          let few : length (unclean_at view.caches r) ≤ map.len (unclean_of view.caches r) = unclean_few view.caches r (subst (λ (k : Core). IsDistinct leaf_is (order k.caches r)) (sym is) fetched_distinct) in
+          let kept : length (kept_at view.caches a.rank.0) ≡ 0 = none_kept_at view.caches a.rank.0 (none a.rank.0) in
+          let few : length (unclean_at view.caches a.rank.0) ≤ map.len (unclean_of view.caches a.rank.0) = unclean_few view.caches a.rank.0 (subst (λ (k : Core). IsDistinct leaf_is (order k.caches a.rank.0)) (sym is) fetched_distinct) in
           inr (inr (full.0, omega (arith, lacks, kept, few)))
 
 -- ---- the places of a split's children are given up again

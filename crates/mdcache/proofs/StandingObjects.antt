@@ -34,12 +34,10 @@ housed_objects s (Some spot) (Some put) comes = refl
 pub made_objects : (change : Change) (old new : State) → Makes change old new → ObjectsStay old new
 made_objects change old new makes = ap (λ (s : State). s.objects) makes.2 ∙ first change.takes makes.1
   where
-    ends : (left : State) (takes : Option Spot) (puts : Option (Spot × Inode)) → makes.0 ≡ without (housed left takes puts change.comes) change.gone → makes.0.objects ≡ left.objects
-    ends left takes puts is = ap (λ (s : State). s.objects) is ∙ without_objects (housed left takes puts change.comes) change.gone ∙ housed_objects left takes puts change.comes
-
     second : (left : State) (takes : Option Spot) (puts : Option (Spot × Inode)) → PutsThen left puts (λ named. makes.0 ≡ without (housed named takes puts change.comes) change.gone) → makes.0.objects ≡ left.objects
-    second left takes None is = ends left takes None is
-    second left takes (Some put) (named, is_named, is) = ends named takes (Some put) is ∙ ap (λ (s : State). s.objects) is_named.left
+    second left takes None is = ap (λ (s : State). s.objects) is ∙ without_objects (housed left takes None change.comes) change.gone ∙ housed_objects left takes None change.comes
+    second left takes (Some put) (named, is_named, is) =
+        ap (λ (s : State). s.objects) is ∙ without_objects (housed named takes (Some put) change.comes) change.gone ∙ housed_objects named takes (Some put) change.comes ∙ ap (λ (s : State). s.objects) is_named.left
 
     first : (takes : Option Spot) → TakesThen old takes (λ left. PutsThen left change.puts (λ named. makes.0 ≡ without (housed named takes change.puts change.comes) change.gone)) → makes.0.objects ≡ old.objects
     first None makes = second old None change.puts makes

@@ -1,12 +1,14 @@
 -- What isn't clean of one rank, after reads and preparations; and where places lack.
-use Rattle.mdcache.proofs.Common.{AllByRecursion, AreCaches, At, Bool, CacheMap, Cached, CanNotKeep, IsButRoom, IsDistinct, IsDistinct-cons, IsDistinct-head, IsDistinct-tail, IsLeft, IsThere, KeepsNone, Leaf, List, None, Objects, Option, Reads, Some, Unsaved, [], all_from, any_tied, ap, arith, at, at_rank, clean_in, cond, contains_key-keys, empty_of_len, false, filter, flips, frees, full_counts, get-empty, get-remove, get_tabulate, get_unclean, goes, going_at, grows, has_place, here, here_is, inl, inr, is_clean, is_some, kept_at, leaf-total, leaf_is, leaf_itself, len-remove, length, list_any, loaded_clean, loads, not, object_of, order, reads_held, reads_unclean, refl, removed, room, room_unsaved, roomy, roomy_left, same_map, staying, subst, suc, sym, tied_leaf, true, unclean_at, unclean_in, unsaved_at, unsaved_in, with_frag, zero, ℕ, ⊎_elim, ◌&&◌, ◌+◌, ◌-◌, ◌<◌, ◌==◌, ◌||◌, ◌∙◌, ◌∷◌, ◌≡◌, ◌≤◌, ◌⊎◌}
-use Rattle.std.proofs.lemmas.Bool.{cases_eq, not-true, or_right}
-use Rattle.std.proofs.lemmas.List.Elements.{All-filter, All-from_recursion, All-weaker, filter_passes, recursion_from_All}
+use Rattle.mdcache.proofs.Common.{AllByRecursion, AreCaches, At, Bool, CacheMap, Cached, CanNotKeep, IsButRoom, IsDistinct, IsDistinct-cons, IsDistinct-head, IsDistinct-tail, IsLeft, IsThere, KeepsNone, Leaf, List, None, Objects, Option, Reads, Some, Unsaved, [], all_from, all_of, any_tied, ap, arith, at, at_rank, clean_in, cond, contains_key-keys, empty_of_len, false, filter, flips, frees, full_counts, get-empty, get-remove, get_tabulate, get_unclean, goes, going_at, grows, has_place, here, here_is, inl, inr, is_clean, is_some, kept_at, leaf-total, leaf_is, leaf_itself, len-entries, len-remove, length, list_any, loaded_clean, loads, not, object_of, order, reads_held, reads_unclean, refl, removed, room, room_unsaved, roomy, roomy_left, same_map, staying, subst, suc, sym, tied_leaf, true, unclean_at, unclean_in, unsaved_at, unsaved_in, with_frag, zero, ℕ, ⊎_elim, ◌&&◌, ◌+◌, ◌-◌, ◌<◌, ◌==◌, ◌||◌, ◌∙◌, ◌∷◌, ◌≡◌, ◌≤◌, ◌⊎◌}
+use Rattle.std.proofs.lemmas.Bool.{not-true}
+use Rattle.std.proofs.lemmas.List.Elements.{All-filter, All-from_recursion, filter_passes, recursion_from_All}
+use Rattle.std.proofs.lemmas.Map.Entries.{length-keys_of}
+use Rattle.std.proofs.lemmas.Map.Made.{length-le_from_is_member}
 use Rattle.std.specs.FinMap as finmap
 use Rattle.dentry_cache.specs.Cache.{leaf_cmp}
 use Rattle.dentry_cache.specs.CacheMap.{unclean_of}
 use Rattle.dentry_cache.proofs.LacksLaws.{full_lacks as all_unclean}
-use Rattle.dentry_cache.proofs.LeafLaws.{leaf-exact}
+use Rattle.dentry_cache.proofs.LeafLaws.{leaf-exact, leaf_equivalence}
 
 pub get_unclean_of : (c : CacheMap) (r : ℕ) (q : Leaf) → finmap.get (unclean_of c r) q ≡ unsaved_in (here c r q)
 unfolding unclean_of
@@ -52,32 +54,6 @@ module _ (Uses Ends : ℕ → Leaf → Type 0) (objects : Objects) (old : CacheM
 
 -- ---- where places lack
 
--- a map without one of its leaves
-len_removed : (m : finmap.FinMap leaf_cmp Unsaved) (leaf : Leaf) → is_some (finmap.get m leaf) ≡ true → finmap.len (finmap.remove m leaf) + 1 ≡ finmap.len m
-len_removed m leaf there =
-    let minus : finmap.len (finmap.remove m leaf) ≡ finmap.len m - 1 = len-remove leaf-total m leaf ∙ ap (λ (b : Bool). cond b (finmap.len m - 1) (finmap.len m)) there in
-    ⊎_elim
-    (λ none.
-    let clash : false ≡ true = sym (ap (λ (k : finmap.FinMap leaf_cmp Unsaved). is_some (finmap.get k leaf)) (empty_of_len m none) ∙ ap is_some (get-empty leaf_cmp leaf)) ∙ there in
-    absurd cc)
-    (λ some. omega (arith, minus, some)) (cases_eq (finmap.len m) 0)
-
--- leaves that all have something, none of them twice, are no more than there are with something
-few_keys : (m : finmap.FinMap leaf_cmp Unsaved) (xs : List Leaf) → IsDistinct leaf_is xs → AllByRecursion (λ (x : Leaf). is_some (finmap.get m x) ≡ true) xs → length xs ≤ finmap.len m
-few_keys m [] distinct all = omega arith
-few_keys m (x ∷ xs) distinct all =
-    let fewer : length xs ≤ finmap.len (finmap.remove m x) = few_keys (finmap.remove m x) xs (IsDistinct-tail leaf_is x xs distinct) (still xs (IsDistinct-head leaf_is x xs distinct) all.1) in
-    let one : finmap.len (finmap.remove m x) + 1 ≡ finmap.len m = len_removed m x all.0 in
-    omega (arith, fewer, one)
-  where
-    still : (ys : List Leaf) → AllByRecursion (λ (y : Leaf). leaf_is x y ≡ false) ys → AllByRecursion (λ (y : Leaf). is_some (finmap.get m y) ≡ true) ys
-        → AllByRecursion (λ (y : Leaf). is_some (finmap.get (finmap.remove m x) y) ≡ true) ys
-    still [] apart have = tt
-    still (y ∷ ys) apart have = (
-      ap (λ (o : Option Unsaved). is_some o) (get-remove leaf-total m x y ∙ ap (λ (b : Bool). cond b None (finmap.get m y)) (tied_leaf y x ∙ flips y x ∙ apart.0)) ∙ have.0,
-      still ys apart.1 have.1,
-    )
-
 -- those that pass a test are apart too
 filtered_distinct : (p : Leaf → Bool) (xs : List Leaf) → IsDistinct leaf_is xs → IsDistinct leaf_is (filter p xs)
 filtered_distinct p [] distinct = distinct
@@ -89,9 +65,13 @@ filtered_distinct p (x ∷ xs) distinct =
 
 -- the places of fragments that aren't clean are no more than those fragments
 pub unclean_few : (c : CacheMap) (r : ℕ) → IsDistinct leaf_is (order c r) → length (unclean_at c r) ≤ finmap.len (unclean_of c r)
-unclean_few c r distinct = few_keys (unclean_of c r) (unclean_at c r) (filtered_distinct unclean (order c r) distinct)
-    (recursion_from_All (λ (x : Leaf). is_some (finmap.get (unclean_of c r) x) ≡ true) (unclean_at c r)
-    (All-weaker (λ (x : Leaf). unclean x ≡ true) (λ (x : Leaf). is_some (finmap.get (unclean_of c r) x) ≡ true) (λ x is. ap is_some (get_unclean_of c r x) ∙ some (here c r x) is) (unclean_at c r) (filter_passes unclean (order c r))))
+unclean_few c r distinct =
+    let few = length-le_from_is_member leaf_equivalence (unclean_at c r) (finmap.keys (unclean_of c r)) (filtered_distinct unclean (order c r) distinct) (λ q among.
+    any_tied q (finmap.keys (unclean_of c r)) ∙ sym (contains_key-keys (unclean_of c r) q) ∙ ap is_some (get_unclean_of c r q)
+    ∙ some (here c r q) (all_of (λ (x : Leaf). unclean x ≡ true) q (unclean_at c r) (recursion_from_All (λ (x : Leaf). unclean x ≡ true) (unclean_at c r) (filter_passes unclean (order c r))) among)) in
+    let keys = length-keys_of (finmap.entries (unclean_of c r)) in
+    let all = len-entries (unclean_of c r) in
+    omega (arith, few, keys, all)
   where
     unclean : Leaf → Bool
     unclean leaf = unclean_in (here c r leaf)

@@ -1,4 +1,4 @@
-use Rattle.mdcache.proofs.Common.{Contains, Core, IsAmongOr, Leaf, List, NoneEnds, ReadsCore, ap, ending_at, leaf_of, leaves_in, leaves_of, rules, subst, ◌∙◌}
+use Rattle.mdcache.proofs.Common.{Contains, Core, IsAmongOr, Leaf, List, NoneEnds, ReadsCore, ap, ending_at, leaf_of, leaves_in, leaves_of, rules, state_of, subst, ◌∙◌}
 use Rattle.mdcache.proofs.CoreLaws.{grown_refused, grown_sound, reads_core_on, reads_sound_so, reads_state, still_absent, there_after}
 use Rattle.mdcache.proofs.JoinLaws.{itself_apart}
 use Rattle.mdcache.proofs.JoinSteps.{hold_on, live_on}
@@ -6,12 +6,11 @@ use Rattle.mdcache.proofs.MergeSteps.{ending_live, ending_or_it, merged_nowhere}
 use Rattle.mdcache.proofs.RegroupReady.{room_reads}
 use Rattle.mdcache.proofs.mdcache.MdCache.prepare_merge.Goals as goal
 
-pub returns-in-Err-clause-reads : goal.returns-in-Err-clause-reads
-returns-in-Err-clause-reads g c = room_reads c.args.self.now c.plan_merge.new.self c.plan_merge.ensures.left c.plan_merge.ensures.room _ _
-
-pub returns-in-Err-clause-sound : goal.returns-in-Err-clause-sound
-returns-in-Err-clause-sound g c =
-    grown_sound c.args.self.now c.plan_merge.new.self (room_reads c.args.self.now c.plan_merge.new.self c.plan_merge.ensures.left c.plan_merge.ensures.room) c.requires.sound (ap (λ (k : Core). k.caches) c.plan_merge.ensures.left)
+pub returns-in-Err : goal.returns-in-Err
+returns-in-Err g c =
+    let room = room_reads c.args.self.now c.plan_merge.new.self c.plan_merge.ensures.left c.plan_merge.ensures.room in
+    let sound = grown_sound c.args.self.now c.plan_merge.new.self room c.requires.sound (ap (λ (k : Core). k.caches) c.plan_merge.ensures.left) in
+    record { ready = tt; only = tt; reads = room _ _; sound = sound; undone = ap state_of c.plan_merge.ensures.left; refused = search rules; counted = search rules }
 
 pub join_names-requires : goal.join_names-requires
 join_names-requires g c =

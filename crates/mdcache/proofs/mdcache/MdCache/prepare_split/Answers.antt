@@ -1,16 +1,15 @@
-use Rattle.mdcache.proofs.Common.{Core, NoneEnds, ap, child_of, rules, ◌+◌, ◌^◌}
+use Rattle.mdcache.proofs.Common.{Core, NoneEnds, ap, child_of, rules, state_of, ◌+◌, ◌^◌}
 use Rattle.mdcache.proofs.CoreLaws.{grown_may, grown_refused, grown_sound, reads_core_on, reads_sound_so, reads_state, still_absent}
 use Rattle.mdcache.proofs.JoinSteps.{family_live}
 use Rattle.mdcache.proofs.RegroupReady.{room_reads}
 use Rattle.mdcache.proofs.SplitSteps.{no_child_cached}
 use Rattle.mdcache.proofs.mdcache.MdCache.prepare_split.Goals as goal
 
-pub returns-in-Err-clause-reads : goal.returns-in-Err-clause-reads
-returns-in-Err-clause-reads g c = room_reads c.args.self.now c.plan_split.new.self c.plan_split.ensures.left c.plan_split.ensures.room _ _
-
-pub returns-in-Err-clause-sound : goal.returns-in-Err-clause-sound
-returns-in-Err-clause-sound g c =
-    grown_sound c.args.self.now c.plan_split.new.self (room_reads c.args.self.now c.plan_split.new.self c.plan_split.ensures.left c.plan_split.ensures.room) c.requires.sound (ap (λ (k : Core). k.caches) c.plan_split.ensures.left)
+pub returns-in-Err : goal.returns-in-Err
+returns-in-Err g c =
+    let room = room_reads c.args.self.now c.plan_split.new.self c.plan_split.ensures.left c.plan_split.ensures.room in
+    let sound = grown_sound c.args.self.now c.plan_split.new.self room c.requires.sound (ap (λ (k : Core). k.caches) c.plan_split.ensures.left) in
+    record { ready = tt; only = tt; distinct = tt; reads = room _ _; sound = sound; undone = ap state_of c.plan_split.ensures.left; refused = search rules; counted = search rules }
 
 pub ready_children-requires-clause-may : goal.ready_children-requires-clause-may
 ready_children-requires-clause-may g c =
