@@ -1,6 +1,6 @@
 -- What a merge makes of the whole, once all was ready for it.
 use Rattle.mdcache.proofs.Common.{AreCached, At, Base, Bool, CacheMap, Cached, Came, CanMerge, Comes, Contains, Core, Dirfrag, Frag, Fragment, Fresh, HasLeaf, HasUnsaved, Ino, Inode, IsAmongOr, IsCachedIn, IsConcerned, IsFragment, IsListedAnew, IsLive, IsMerge, IsMergeReady, IsMergedInto, IsNewLeaf, IsPick, IsRegrouped, IsSound, IsSoundCore, IsTree, KeepsNone, Keys, Leaf, List, Merge, None, NoneEnds, ObjName, Option, ReadsCore, Some, State, Unsaved, ap, are_empty, arith, at, between, cond, dentry_of, ending_at, false, fresh_tied, get_left, get_removed, get_unclean, get_with_frag, has_none, hash_of, holds, in_directory, inl, inr, is_clean_over, is_known, leaf_is, leaf_itself, leaf_of, leaves_in, leaves_inside, leaves_of, lies_inside, list_all, list_any, marked_as, merged_in, merged_leaves, names_of, object_of, one_leaf, reads_came, reads_weaker, refl, root_fragment, same_Some, same_leaf, shown, shown_tree, state_of, subst, sym, text_of, texts_differ, tree_of_row, true, unclean, unsaved_at, unsaved_in, with_frag, with_objects, without_leaves, ℕ, ⊎_elim, ◌+◌, ◌<◌, ◌∙◌, ◌≡◌, ◌⊎◌}
-use Rattle.std.proofs.lemmas.Bool.{false_from_ne_true, true_from_ne_false}
+use Rattle.std.proofs.lemmas.Bool.{cases_Bool, false_from_ne_true, true_from_ne_false}
 use Rattle.std.specs.Cmp.{both_ways}
 use Rattle.std.specs.Prelude.{map as each}
 use Rattle.std.specs.FinMap as map
@@ -117,15 +117,13 @@ module _ (old mid : Core) (sound : IsSoundCore old) (a : Dirfrag) (merge : Merge
       shown_is name ∙ ap (λ (b : Bool). cond b (map.get (shown_tree s) (dentry_of a.dir.0 name)) None) (sym (pick_inside row merge.plan.cover a.frag tree ready.planned.whole can_now ready.planned.cover (hash_of name) f pick) ∙ both.1) ∙ tree_has
 
   comes_from : (name : List ℕ) (inode : Inode) → map.get (shown merge.joined) name ≡ Some inode → (f : Fragment) × HasLeaf gone f × (map.get (names_of s.unsaved s.objects (a.dir, f)) name ≡ Some inode)
-  comes_from name inode is = go (holds a.frag (hash_of name)) refl (sym (shown_is name) ∙ is)
-    where
-      p : (f : Fragment) × IsPick row (hash_of name) f
-      p = pick_at s (sound_leaves s mine) (dentry_of a.dir.0 name)
-
-      go : (b : Bool) → holds a.frag (hash_of name) ≡ b → cond b (map.get (shown_tree s) (dentry_of a.dir.0 name)) None ≡ Some inode → (f : Fragment) × HasLeaf gone f × (map.get (names_of s.unsaved s.objects (a.dir, f)) name ≡ Some inode)
-      go false none h = let clash : None ≡ Some inode = h in absurd cc
-      go true has h =
-          (p.0, inside_has a.frag p.0 row p.1.stands (pick_inside row merge.plan.cover a.frag tree ready.planned.whole can_now ready.planned.cover (hash_of name) p.0 p.1 ∙ has), sym (stands_at s (sound_leaves s mine) (dentry_of a.dir.0 name) p.0 known_now p.1) ∙ h)
+  comes_from name inode is = elim (cases_Bool (holds a.frag (hash_of name))) [
+    | inl has ↦
+        let p = pick_at s (sound_leaves s mine) (dentry_of a.dir.0 name) in
+        let found : map.get (shown_tree s) (dentry_of a.dir.0 name) ≡ Some inode = sym (shown_is name ∙ ap (λ (b : Bool). cond b (map.get (shown_tree s) (dentry_of a.dir.0 name)) None) has) ∙ is in
+        (p.0, inside_has a.frag p.0 row p.1.stands (pick_inside row merge.plan.cover a.frag tree ready.planned.whole can_now ready.planned.cover (hash_of name) p.0 p.1 ∙ has), sym (stands_at s (sound_leaves s mine) (dentry_of a.dir.0 name) p.0 known_now p.1) ∙ found)
+    | inr out ↦ let clash : None ≡ Some inode = sym (shown_is name ∙ ap (λ (b : Bool). cond b (map.get (shown_tree s) (dentry_of a.dir.0 name)) None) out) ∙ is in absurd cc
+  ]
 
   abbrev is_empty : Fragment → Bool
   is_empty f = has_none (names_of s.unsaved s.objects (a.dir, f))
@@ -250,7 +248,7 @@ module _ (old mid : Core) (sound : IsSoundCore old) (a : Dirfrag) (merge : Merge
     merged = merge_made;
     tree = merges_right (state_of old) (state_of new) a.dir a.frag sound.sound merge_made;
     came = subst (λ (k : Core). Came Uses Ends old.caches k.caches) (sym left)
-        (ends_came_so Uses Ends old.caches filled (leaves_in a.dir merge.plan.leaves.items) (λ n q among. subst (λ (ls : List Leaf). Contains ls q) ending_is among)
+        (ends_came_so Uses Ends old.caches filled (leaves_in a.dir merge.plan.leaves.items) (λ n q among. subst (λ (ls : List Leaf). Contains ls q) (ready.planned.leaves ∙ ap (λ (u : State). each (in_directory a.dir.0) (leaves_inside a.frag (leaves_of u.covers a.dir.0))) was) among)
         (arrives mid.caches a.rank.0 leaf merge.joined (reads_came Uses Ends old.objects old.caches mid.caches (reads_weaker Uses NoneEnds Uses Ends (λ n q is. is) (λ n q no_end. absurd no_end) old.objects old.caches mid.caches reads.caches)) (inr (refl, refl))));
     sound = subst IsSoundCore (sym left) (record {
       sound = (merges_right s t a.dir a.frag mine is_merged).sound;
@@ -259,6 +257,3 @@ module _ (old mid : Core) (sound : IsSoundCore old) (a : Dirfrag) (merge : Merge
       none = subst (λ (k : Core). KeepsNone k.caches) left none;
     });
   }
-    where
-      ending_is : leaves_in a.dir merge.plan.leaves.items ≡ ending_at old a
-      ending_is = ready.planned.leaves ∙ ap (λ (u : State). each (in_directory a.dir.0) (leaves_inside a.frag (leaves_of u.covers a.dir.0))) was

@@ -1,6 +1,7 @@
 -- What a split makes of the whole, once all was ready for it.
 use Rattle.mdcache.proofs.Common.{AreCached, At, Bool, Cached, Came, CanSplit, Comes, Core, Dirfrag, Fragment, Fresh, HasCached, HasLeaf, HasUnsaved, Ino, Inode, IsCachedIn, IsChild, IsChildAt, IsConcerned, IsDistinct, IsFamilyAt, IsFreeFor, IsListedAnew, IsLive, IsNewLeaf, IsNoChild, IsPick, IsReadyToSplit, IsRegrouped, IsSound, IsSoundCore, IsSplit, IsSplitInto, IsSplitReady, IsTree, IsWhole, KeepsNone, Leaf, List, MayHold, Names, None, Option, Part, ReadsCore, Some, Split, SplitsAt, SplitsInto, State, Unsaved, [], ap, are_empty, arith, at, between, child_of, cond, dentry_of, false, fresh_tied, get-names_in, has_none, hash_of, here, here_free, holds, holds_contains, inl, inr, is_known, is_some, leaf_is, leaf_of, leaf_or_apart, leaves_of, length, marked_as, mul-le-mul_right, names_in, names_of, object_of, one_or_other, order, pick_after_split, reads_came, refl, same_Some, shown, shown_tree, span, span-split, span_pos, split_beside, split_came, split_child, split_gone, split_in, split_unclean_beside, split_unclean_child, split_unclean_gone, split_whole, state_of, string_bytes, subst, suc, sym, tree_of_row, true, unclean, without_objects, zero, ℕ, ⊎_elim, ◌&&◌, ◌*◌, ◌+◌, ◌<◌, ◌^◌, ◌∙◌, ◌∷◌, ◌≡◌, ◌≢◌, ◌≤◌, ◌⊎◌}
 use Rattle.std.proofs.Math.Bool.{and-true}
+use Rattle.std.proofs.lemmas.Bool.{cases_Bool}
 use Rattle.std.specs.Prelude.{map as each}
 use Rattle.std.specs.List.{slice_index_or}
 use Rattle.std.specs.FinMap as map
@@ -121,20 +122,17 @@ module _ (old mid : Core) (sound : IsSoundCore old) (a : Dirfrag) (nb : ℕ) (sp
 
   -- a child has the names of the tree that it contains
   child_names : (g : Fragment) → Comes row cover g → (name : List ℕ) → map.get (names_in g (shown f)) name ≡ cond (holds g (hash_of name)) (map.get (shown_tree s) (dentry_of a.dir.0 name)) None
-  child_names g came name = get-names_in g (shown f) name ∙ go (holds g (hash_of name)) refl
-    where
-      pick : (p : (h : Fragment) × IsPick row (hash_of name) h) → holds g (hash_of name) ≡ true → a.frag ≡ p.0
-      pick p is = ⊎_elim (λ same. sym same) (λ other.
-          let one = (pick_after_split row cover a.frag whole (hash_of name) p.0 p.1 nb divided other).alone g came.0 (holds_contains g (hash_of name) is) in
-          absurd (came.1 (subst (HasLeaf row) (sym one) p.1.stands))) (one_or_other p.0 a.frag)
-
-      go : (b : Bool) → holds g (hash_of name) ≡ b → cond b (map.get (shown f) name) None ≡ cond b (map.get (shown_tree s) (dentry_of a.dir.0 name)) None
-      go false is = refl
-      go true is =
-          let p = pick_at s (sound_leaves s mine) (dentry_of a.dir.0 name) in
-          ap (λ (m : Names). map.get m name) (sym leaf_shows)
-          ∙ ap (λ (h : Fragment). map.get (names_of s.unsaved s.objects (a.dir, h)) name) (pick p is)
-          ∙ sym (stands_at s (sound_leaves s mine) (dentry_of a.dir.0 name) p.0 known_now p.1)
+  child_names g came name = get-names_in g (shown f) name ∙ elim (cases_Bool (holds g (hash_of name))) [
+    | inl has ↦
+        let p = pick_at s (sound_leaves s mine) (dentry_of a.dir.0 name) in
+        let one : a.frag ≡ p.0 = ⊎_elim (λ same. sym same) (λ other.
+        let after = pick_after_split row cover a.frag whole (hash_of name) p.0 p.1 nb divided other in
+        absurd (came.1 (subst (HasLeaf row) (sym (after.alone g came.0 (holds_contains g (hash_of name) has))) p.1.stands))) (one_or_other p.0 a.frag) in
+        ap (λ (b : Bool). cond b (map.get (shown f) name) None) has ∙ ap (λ (m : Names). map.get m name) (sym leaf_shows)
+        ∙ ap (λ (h : Fragment). map.get (names_of s.unsaved s.objects (a.dir, h)) name) one ∙ sym (stands_at s (sound_leaves s mine) (dentry_of a.dir.0 name) p.0 known_now p.1)
+        ∙ sym (ap (λ (b : Bool). cond b (map.get (shown_tree s) (dentry_of a.dir.0 name)) None) has)
+    | inr out ↦ ap (λ (b : Bool). cond b (map.get (shown f) name) None) out ∙ sym (ap (λ (b : Bool). cond b (map.get (shown_tree s) (dentry_of a.dir.0 name)) None) out)
+  ]
 
   -- what isn't clean of a child
   unclean_child : (i : ℕ) → i < 2 ^ nb
@@ -161,16 +159,15 @@ module _ (old mid : Core) (sound : IsSoundCore old) (a : Dirfrag) (nb : ℕ) (sp
 
   -- ---- all of it
 
-  empty_is : left.0 ≡ are_empty s a.dir (a.frag ∷ [])
-  empty_is = so (λ (g : Cached). left.0 ≡ has_none (shown g)) left.1 ∙ ap has_none (sym leaf_shows) ∙ sym (and-true (has_none (names_of s.unsaved s.objects leaf)))
-
   is_regrouped : IsRegrouped s t a.dir (a.frag ∷ []) cover (2 ^ nb)
   is_regrouped = record {
     known = known_now;
     whole = whole;
     unsaved = unclean new.caches;
     purge = t.purge;
-    left = λ i. record t { next_version = s.next_version + cond (empty_is i) 0 1 };
+    left =
+        (let empty : left.0 ≡ are_empty s a.dir (a.frag ∷ []) = so (λ (g : Cached). left.0 ≡ has_none (shown g)) left.1 ∙ ap has_none (sym leaf_shows) ∙ sym (and-true (has_none (names_of s.unsaved s.objects leaf))) in
+        λ i. record t { next_version = s.next_version + cond (empty i) 0 1 });
     came = λ g came.
         let child = is_child row cover a.frag nb divided g came in
         let i = child.0 in

@@ -17,9 +17,6 @@ same_state old new same = ap (λ (s : State). s.objects) same
 
 -- ---- a change of the tree touches no object
 
-new_objects : (s : State) (dentry : Dentry) (inode : Inode) → (with_new s dentry inode).objects ≡ s.objects
-new_objects s dentry inode = elim (is_dir_kind inode.kind) as (λ b. (cond b (with_directory s dentry inode.ino) s).objects ≡ s.objects) [ true ↦ refl | false ↦ refl ]
-
 without_objects : (s : State) (went : Option Ino) → (without s went).objects ≡ s.objects
 without_objects s None = refl
 without_objects s (Some dir) = refl
@@ -27,7 +24,7 @@ without_objects s (Some dir) = refl
 housed_objects : (s : State) (takes : Option Spot) (puts : Option (Spot × Inode)) (comes : Bool) → (housed s takes puts comes).objects ≡ s.objects
 housed_objects s None None comes = refl
 housed_objects s (Some spot) None comes = refl
-housed_objects s None (Some put) true = new_objects s (dentry_at put.0) put.1
+housed_objects s None (Some put) true = elim (is_dir_kind put.1.kind) as (λ b. (cond b (with_directory s (dentry_at put.0) put.1.ino) s).objects ≡ s.objects) [ true ↦ refl | false ↦ refl ]
 housed_objects s None (Some put) false = refl
 housed_objects s (Some spot) (Some put) comes = refl
 
