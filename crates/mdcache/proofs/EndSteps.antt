@@ -35,11 +35,11 @@ module _ (old view : Core) (is : view ≡ old) (sound : IsSoundCore old) (r : �
 
   -- caches in which this fragment changed, as the most recently used
   module _ (Change : Cached → Cached → Type 0) (caches : CacheMap) (edits : Edits Change r leaf view.caches caches) where
-    edits_came : Came (IsThat r leaf) NoneEnds old.caches caches
-    edits_came = subst (λ (k : Core). Came (IsThat r leaf) NoneEnds k.caches caches) is (by_edits r leaf Change view.caches caches edits (λ (k : CacheMap). Came (IsThat r leaf) NoneEnds view.caches k) (λ f then seen change. has view.caches r leaf then stays (refl, refl)))
-
-    edits_none : KeepsNone caches
-    edits_none = none_edits view.caches r leaf now_sound.none Change caches edits
+    edited : Came (IsThat r leaf) NoneEnds old.caches caches × KeepsNone caches
+    edited = (
+      subst (λ (k : Core). Came (IsThat r leaf) NoneEnds k.caches caches) is (by_edits r leaf Change view.caches caches edits (λ (k : CacheMap). Came (IsThat r leaf) NoneEnds view.caches k) (λ f then seen change. has view.caches r leaf then stays (refl, refl))),
+      none_edits view.caches r leaf now_sound.none Change caches edits,
+    )
 
   -- it was refused
   module _ (caches : CacheMap) (objects : Objects) (faults : ℕ) (edits : Edits (λ (f then : Cached). then ≡ record f { places = then.places }) r leaf view.caches caches) (same : objects ≡ view.objects) where
@@ -55,14 +55,14 @@ module _ (old view : Core) (is : view ≡ old) (sound : IsSoundCore old) (r : �
     pub end_refused : (reason : Refusal) → MayRefuse view.faults faults reason → HasEnded old left r faults job (Err reason)
     end_refused reason refused = record {
       ended = (inr (subst (λ (k : Core). map.get k.jobs leaf ≡ Some job) is stood, subst (λ (k : Core). MayRefuse k.faults faults reason) is refused), left_view ∙ ap state_of is);
-      came = edits_came (λ (f then : Cached). then ≡ record f { places = then.places }) caches edits;
+      came = (edited (λ (f then : Cached). then ≡ record f { places = then.places }) caches edits).0;
       sound = record {
         sound = subst IsSound (sym left_view) now_sound.sound;
         begun = now_sound.begun;
         cached = subst (λ (s : State). AreCached s caches) (sym left_view) (by_edits r leaf (λ (f then : Cached). then ≡ record f { places = then.places }) view.caches caches edits (AreCached (state_of view))
             (λ f then seen change. cached_with (state_of view) view.caches r leaf then now_sound.cached (cached_but (state_of view) leaf f then (change ∙ (λ i. record f { room = sym (ap (λ (k : Cached). k.room) change) i; places = then.places }))
             (now_sound.cached leaf (record { rank = r; frag = f }) (here_is r (map.get view.caches.held leaf) f seen)))));
-        none = edits_none (λ (f then : Cached). then ≡ record f { places = then.places }) caches edits;
+        none = (edited (λ (f then : Cached). then ≡ record f { places = then.places }) caches edits).1;
       };
     }
 
@@ -89,6 +89,6 @@ module _ (old view : Core) (is : view ≡ old) (sound : IsSoundCore old) (r : �
     pub end_done : HasEnded old (with_caches caches) r faults job (Ok tt)
     end_done = record {
       ended = subst (λ (k : Core). IsEnded (state_of k) (state_of (with_caches caches)) job) is done.0;
-      came = edits_came (IsCommitted job.snapshot) caches settled;
-      sound = record { sound = done.1; begun = now_sound.begun; cached = done.2; none = edits_none (IsCommitted job.snapshot) caches settled };
+      came = (edited (IsCommitted job.snapshot) caches settled).0;
+      sound = record { sound = done.1; begun = now_sound.begun; cached = done.2; none = (edited (IsCommitted job.snapshot) caches settled).1 };
     }

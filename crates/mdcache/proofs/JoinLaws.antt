@@ -15,12 +15,6 @@ use Rattle.mdcache.proofs.SplitLaws.{has_inside, not_itself}
 pub one_joined : (names : Leaf → Names) (version : ℕ) (leaf : Leaf) (old new : Cached) → TakesIn old new (names leaf) version → HasJoined names version (leaf ∷ []) old new
 one_joined names version leaf old new taken = record { base = ap (λ (f : Cached). f.base) taken.same; generation = ap (λ (f : Cached). f.generation) taken.same; dirty = taken.dirty }
 
--- the item at a place, and what follows it
-item_first : {A : Type 0} (xs : List A) (i : ℕ) (x : A) → i < length xs → x ≡ get_or xs i x → drop i xs ≡ x ∷ drop (i + 1) xs
-item_first xs i x within is =
-    let next : suc i ≡ i + 1 = omega arith in
-    drop-cons xs i x within ∙ (λ k. sym is k ∷ drop (next k) xs)
-
 -- a part is one of the leaves
 pub part_among : (dir : Ino) (parts : List GoingLeaf) (i : ℕ) (part : GoingLeaf) → i < length parts → part ≡ get_or parts i part → Contains (leaves_in dir parts) (dir, part.frag)
 part_among dir parts i part within is = contains_mapped (λ (p : GoingLeaf). (dir, p.frag)) parts part (i, within, sym is)
@@ -30,8 +24,9 @@ pub joined_on : (names now_names : Leaf → Names) (version : ℕ) (dir : Ino) (
     → now_names (dir, part.frag) ≡ names (dir, part.frag) → HasJoined now_names version ((dir, part.frag) ∷ []) old new
     → (name : List ℕ) → name_joined names version (leaves_in dir (drop (i + 1) parts)) name (map.get new.dirty name) ≡ name_joined names version (leaves_in dir (drop i parts)) name (map.get old.dirty name)
 joined_on names now_names version dir parts i part old new within is same joined name =
+    let next : suc i ≡ i + 1 = omega arith in
     ap (name_joined names version (leaves_in dir (drop (i + 1) parts)) name) (joined.dirty name ∙ ap (λ (m : Names). marked_as version (map.get m name) (map.get old.dirty name)) same)
-    ∙ sym (ap (λ (ps : List GoingLeaf). name_joined names version (leaves_in dir ps) name (map.get old.dirty name)) (item_first parts i part within is))
+    ∙ sym (ap (λ (ps : List GoingLeaf). name_joined names version (leaves_in dir ps) name (map.get old.dirty name)) (drop-cons parts i part within ∙ (λ k. sym is k ∷ drop (next k) parts)))
 
 -- ---- the leaves that end
 

@@ -77,20 +77,17 @@ tree_saved_right s dir sound known = other_changed s (tree_text dir) (with_tree_
     several true more some = ltb-true 1 (length leaves) more
     several false few some = let clash : false ≡ true = ap is_some (sym (get_removed s.objects (tree_text dir))) ∙ some in absurd cc
 
-abbrev pub no_pairs : PairMap
+abbrev no_pairs : PairMap
 no_pairs = map.empty
 
-abbrev pub no_keys : Keys
+abbrev no_keys : Keys
 no_keys = map.empty
-
-nothing_left : without_keys no_pairs no_keys ≡ no_pairs
-nothing_left = same_map nat_list_cmp_total exact_bytes (without_keys no_pairs no_keys) no_pairs (λ q. get-without_keys exact_bytes no_pairs no_keys q
-    ∙ elim (map.contains_key no_keys q) as (λ b. cond b None (map.get no_pairs q) ≡ map.get no_pairs q) [ true ↦ sym (get-empty key_cmp q) | false ↦ refl ])
 
 -- the write of a tree's object: its header, and no pairs
 pub tree_written : (objects : Objects) (name header : List ℕ) → written objects name (record { clear = true; header = Some header; set = no_pairs; remove = no_keys }) ≡ map.insert objects name (record { header = header; pairs = no_pairs })
 unfolding written
 tree_written objects name header =
     let op : WriteOp = record { clear = true; header = Some header; set = no_pairs; remove = no_keys } in
-    let old : Omap = unwrap_or (map.get objects name) empty_omap in
-    ap (map.insert objects name) (sym (applied-by-parts op old header no_pairs refl (sym (ap (λ (pairs : PairMap). without_keys pairs no_keys) (overlaid-empty no_pairs) ∙ nothing_left))))
+    let nothing_left : without_keys no_pairs no_keys ≡ no_pairs = same_map nat_list_cmp_total exact_bytes (without_keys no_pairs no_keys) no_pairs (λ q. get-without_keys exact_bytes no_pairs no_keys q
+    ∙ elim (map.contains_key no_keys q) as (λ b. cond b None (map.get no_pairs q) ≡ map.get no_pairs q) [ true ↦ sym (get-empty key_cmp q) | false ↦ refl ]) in
+    ap (map.insert objects name) (sym (applied-by-parts op (unwrap_or (map.get objects name) empty_omap) header no_pairs refl (sym (ap (λ (pairs : PairMap). without_keys pairs no_keys) (overlaid-empty no_pairs) ∙ nothing_left))))

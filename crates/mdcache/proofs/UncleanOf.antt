@@ -19,18 +19,10 @@ get_unclean_of c r q =
 
 -- ---- reads leave it
 
--- what isn't clean is told of a rank as of the fragment there
-at_alike : (b : Bool) (o p : Option Cached) → unsaved_in o ≡ unsaved_in p → unsaved_in (cond b o None) ≡ unsaved_in (cond b p None)
-at_alike true o p same = same
-at_alike false o p same = refl
-
-at_clean : (b : Bool) (o : Option Cached) → unsaved_in o ≡ None → unsaved_in (cond b o None) ≡ None
-at_clean true o clean = clean
-at_clean false o clean = refl
-
+-- what isn't clean nowhere isn't at a rank
 clean_at : (s : ℕ) (o : Option At) → unsaved_at o ≡ None → unsaved_in (at_rank s o) ≡ None
 clean_at s None clean = refl
-clean_at s (Some a) clean = at_clean (a.rank == s) (Some a.frag) clean
+clean_at s (Some a) clean = elim (a.rank == s) as (λ b. unsaved_in (cond b (Some a.frag) None) ≡ None) [ true ↦ clean | false ↦ refl ]
 
 module _ (Uses Ends : ℕ → Leaf → Type 0) (objects : Objects) (old : CacheMap) where
   reads_beyond : (s : ℕ) (q : Leaf) (new : CacheMap) → Reads Uses Ends objects old new → unsaved_in (here new s q) ≡ unsaved_in (here old s q)
@@ -45,7 +37,7 @@ module _ (Uses Ends : ℕ → Leaf → Type 0) (objects : Objects) (old : CacheM
       go : (o : Option At) → finmap.get new.held q ≡ o → unsaved_in (here new s q) ≡ unsaved_in (here old s q)
       go None is = both_clean (ap unsaved_at is)
       go (Some a) is = elim (reads_held Uses Ends objects old new reads q a is) [
-        | inl was ↦ ap (λ (o : Option At). unsaved_in (at_rank s o)) is ∙ at_alike (a.rank == s) (Some a.frag) (Some was.0) (room_unsaved was.0 a.frag was.2) ∙ sym (ap (λ (o : Option At). unsaved_in (at_rank s o)) was.1)
+        | inl was ↦ ap (λ (o : Option At). unsaved_in (at_rank s o)) is ∙ elim (a.rank == s) as (λ b. unsaved_in (cond b (Some a.frag) None) ≡ unsaved_in (cond b (Some was.0) None)) [ true ↦ room_unsaved was.0 a.frag was.2 | false ↦ refl ] ∙ sym (ap (λ (o : Option At). unsaved_in (at_rank s o)) was.1)
         | inr came ↦ both_clean (ap unsaved_at is ∙ room_unsaved came.1 a.frag came.3 ∙ loaded_clean q.1 (object_of objects q.0 q.1) came.1 came.2)
       ]
 
