@@ -36,11 +36,10 @@ keeps_itself (Some mark) = λ same. refl
 
 -- what isn't clean of a leaf that is free for a rank is that of its fragment there
 pub unclean_here : (c : CacheMap) (r : ℕ) (leaf : Leaf) → IsFreeFor c r leaf → map.get (unclean c) leaf ≡ unsaved_in (here c r leaf)
-unclean_here c r leaf free = get_unclean c leaf ∙ go (map.get c.held leaf) free
-  where
-    go : (o : Option At) → IsFree r o → unsaved_at o ≡ unsaved_in (at_rank r o)
-    go None is = refl
-    go (Some a) is = ap (λ (b : Bool). unsaved_in (cond b (Some a.frag) None)) (sym (is_same a.rank r is))
+unclean_here c r leaf free = get_unclean c leaf ∙ elim (map.get c.held leaf) as (λ o. IsFree r o → unsaved_at o ≡ unsaved_in (at_rank r o)) [
+  | None ↦ λ is. refl
+  | Some a ↦ λ is. ap (λ (b : Bool). unsaved_in (cond b (Some a.frag) None)) (sym (is_same a.rank r is))
+] free
 
 -- what a call leaves that begins a commit, or is refused
 pub record HasBegun (old new : Core) (a : Dirfrag) (result : Result (Option Job) Refusal) : Type 0 where

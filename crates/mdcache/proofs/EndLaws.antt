@@ -132,11 +132,10 @@ module _ (c : Core) (r : ℕ) (job : Job) (kept : IsSoundCore c) (stood : map.ge
   -- soundness
 
   younger : AreYoung (unsettled u.dirty job.snapshot.names) s.next_version
-  younger name mark is = go (not (is_settled (map.get u.dirty name) (map.get job.snapshot.names name))) (sym (get-unsettled u.dirty job.snapshot.names name) ∙ is)
-    where
-      go : (b : Bool) → cond b (map.get u.dirty name) None ≡ Some mark → mark.version < s.next_version
-      go true h = (kept.sound.unsaved leaf u stands.beside).young name mark h
-      go false h = let clash : None ≡ Some mark = h in cc
+  younger name mark is = elim (not (is_settled (map.get u.dirty name) (map.get job.snapshot.names name))) as (λ b. cond b (map.get u.dirty name) None ≡ Some mark → mark.version < s.next_version) [
+    | true ↦ (kept.sound.unsaved leaf u stands.beside).young name mark
+    | false ↦ λ h. let clash : None ≡ Some mark = h in absurd cc
+  ] (sym (get-unsettled u.dirty job.snapshot.names name) ∙ is)
 
   saved_here : map.get t.unsaved leaf ≡ None → IsSaved leaf.1 (Some here)
   unfolding names_of

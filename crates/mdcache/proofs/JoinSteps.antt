@@ -39,12 +39,11 @@ live_on Uses Ends old new reads q live = subst (λ (s : State). IsLive s.homes s
 -- a fragment that was made, and has taken the names of leaves in
 pub joined_of : (Uses Ends : ℕ → Leaf → Type 0) (old new : Core) → ReadsCore Uses Ends old new → (leaves : List Leaf) (fresh joined : Cached) → fresh ≡ made_frag old.next_generation
     → HasJoined (names_of (unclean old.caches) old.objects) old.next_version leaves fresh joined → IsJoined new leaves joined
-joined_of Uses Ends old new reads leaves fresh joined made has = record {
-  fresh = has.base ∙ ap (λ (f : Cached). f.base) made;
-  numbered = has.generation ∙ ap (λ (f : Cached). f.generation) made ∙ ap (λ (s : State). s.next_generation) (sym same);
-  dirty = λ name. subst (λ (s : State). map.get joined.dirty name ≡ name_joined (names_of s.unsaved s.objects) s.next_version leaves name None) (sym same)
-      (has.dirty name ∙ ap (λ (o : Option Mark). name_joined (names_of (unclean old.caches) old.objects) old.next_version leaves name o) (ap (λ (f : Cached). map.get f.dirty name) made ∙ get-empty key_cmp name));
-}
-  where
-    same : state_of new ≡ state_of old
-    same = reads_state Uses Ends old new reads
+joined_of Uses Ends old new reads leaves fresh joined made has =
+    let same : state_of new ≡ state_of old = reads_state Uses Ends old new reads in
+    record {
+      fresh = has.base ∙ ap (λ (f : Cached). f.base) made;
+      numbered = has.generation ∙ ap (λ (f : Cached). f.generation) made ∙ ap (λ (s : State). s.next_generation) (sym same);
+      dirty = λ name. subst (λ (s : State). map.get joined.dirty name ≡ name_joined (names_of s.unsaved s.objects) s.next_version leaves name None) (sym same)
+          (has.dirty name ∙ ap (λ (o : Option Mark). name_joined (names_of (unclean old.caches) old.objects) old.next_version leaves name o) (ap (λ (f : Cached). map.get f.dirty name) made ∙ get-empty key_cmp name));
+    }

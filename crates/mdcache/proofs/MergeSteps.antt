@@ -211,29 +211,26 @@ module _ (old mid : Core) (sound : IsSoundCore old) (a : Dirfrag) (merge : Merge
   -- ---- what is cached
 
   now_cached : AreCached t made.caches
-  now_cached q b is = elim (which s mine a.dir gone merge.plan.cover 1 t is_regrouped cut q) [
-    | inl end ↦ let clash : true ≡ false = sym (among a.dir.0 q gone end.0 end.1) ∙ sym (ap (list_any (leaf_is q)) ready.planned.leaves) ∙ still.0 in absurd cc
-    | inr stands ↦ elim stands [
-      | inl came ↦
-          let same : q ≡ leaf = (λ i. (record { 0 = came.0 i }, is_it q.1 came.1 i)) in
-          let number = ready.joined.numbered in
-          subst (λ (k : At). IsCachedIn t q k.frag) (same_Some (at a.rank.0 merge.joined) b (sym (ap (λ (y : Bool). cond y (Some (at a.rank.0 merge.joined)) (map.get mid.caches.held q)) (same_leaf q leaf same)) ∙ filled_is)) (record {
-            live = came_live s mine a.dir gone merge.plan.cover 1 t is_regrouped cut q came.0 came.1.0;
-            tied = fresh_tied merge.joined (object_of t.objects q.0 q.1) ready.joined.fresh;
-            made = omega (arith, number);
-          })
-      | inr apart ↦
-          let before = cached q b (sym (ap (λ (y : Bool). cond y (Some (at a.rank.0 merge.joined)) (map.get mid.caches.held q)) (apart_it q apart)) ∙ filled_is) in
-          let given = before.made in
-          record { live = apart_live s mine a.dir gone merge.plan.cover 1 t is_regrouped cut q apart before.live; tied = before.tied; made = omega (arith, given) }
-    ]
-  ]
-    where
-      still : (list_any (leaf_is q) (leaves_in a.dir merge.plan.leaves.items) ≡ false) × (map.get filled.held q ≡ Some b)
-      still = still_held filled (leaves_in a.dir merge.plan.leaves.items) q b is
-
-      filled_is : cond (leaf_is q leaf) (Some (at a.rank.0 merge.joined)) (map.get mid.caches.held q) ≡ Some b
-      filled_is = sym (get_with_frag mid.caches a.rank.0 leaf merge.joined q) ∙ still.1
+  now_cached q b is =
+      let still = still_held filled (leaves_in a.dir merge.plan.leaves.items) q b is in
+      let filled_is : cond (leaf_is q leaf) (Some (at a.rank.0 merge.joined)) (map.get mid.caches.held q) ≡ Some b = sym (get_with_frag mid.caches a.rank.0 leaf merge.joined q) ∙ still.1 in
+      elim (which s mine a.dir gone merge.plan.cover 1 t is_regrouped cut q) [
+        | inl end ↦ let clash : true ≡ false = sym (among a.dir.0 q gone end.0 end.1) ∙ sym (ap (list_any (leaf_is q)) ready.planned.leaves) ∙ still.0 in absurd cc
+        | inr stands ↦ elim stands [
+          | inl came ↦
+              let same : q ≡ leaf = (λ i. (record { 0 = came.0 i }, is_it q.1 came.1 i)) in
+              let number = ready.joined.numbered in
+              subst (λ (k : At). IsCachedIn t q k.frag) (same_Some (at a.rank.0 merge.joined) b (sym (ap (λ (y : Bool). cond y (Some (at a.rank.0 merge.joined)) (map.get mid.caches.held q)) (same_leaf q leaf same)) ∙ filled_is)) (record {
+                live = came_live s mine a.dir gone merge.plan.cover 1 t is_regrouped cut q came.0 came.1.0;
+                tied = fresh_tied merge.joined (object_of t.objects q.0 q.1) ready.joined.fresh;
+                made = omega (arith, number);
+              })
+          | inr apart ↦
+              let before = cached q b (sym (ap (λ (y : Bool). cond y (Some (at a.rank.0 merge.joined)) (map.get mid.caches.held q)) (apart_it q apart)) ∙ filled_is) in
+              let given = before.made in
+              record { live = apart_live s mine a.dir gone merge.plan.cover 1 t is_regrouped cut q apart before.live; tied = before.tied; made = omega (arith, given) }
+        ]
+      ]
 
   -- ---- of what was before
 

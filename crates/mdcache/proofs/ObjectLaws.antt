@@ -39,18 +39,17 @@ module _ (s : State) (name : List ℕ) (objects : Objects) (sound : IsSound s) (
   owned_beside q apart (inr (inr listed)) = inr (inr (ap is_some (get_left s.purge name q apart) ∙ listed))
 
   other_changed : (is_some (map.get objects name) ≡ true → IsOwned after name) → KeepsLeaves s after
-  other_changed owned = record {
-    objects = same;
-    tree = other_objects_tree s objects (map.remove s.purge name) sound same;
-    sound = other_objects s objects (map.remove s.purge name) sound same
-        (λ q has. ⊎_elim (λ one. subst (IsOwned after) (sym one) (owned (subst (λ (n : List ℕ). is_some (map.get objects n) ≡ true) one has)))
-        (λ apart. owned_beside q apart (sound.owned q (ap is_some (sym (beside q apart)) ∙ has))) (key_or_apart q name))
-        (λ leaf live. get_left s.purge name (text_of leaf) (not_live leaf live) ∙ sound.listed leaf live);
-    cached = other_objects_kept s objects (map.remove s.purge name) sound same;
-  }
-    where
-      same : (leaf : Leaf) → IsLive s.homes s.covers leaf → object_of objects leaf.0 leaf.1 ≡ object_of s.objects leaf.0 leaf.1
-      same leaf live = beside (text_of leaf) (not_live leaf live)
+  other_changed owned =
+      let same : (leaf : Leaf) → IsLive s.homes s.covers leaf → object_of objects leaf.0 leaf.1 ≡ object_of s.objects leaf.0 leaf.1 = λ leaf live. beside (text_of leaf) (not_live leaf live) in
+      record {
+        objects = same;
+        tree = other_objects_tree s objects (map.remove s.purge name) sound same;
+        sound = other_objects s objects (map.remove s.purge name) sound same
+            (λ q has. ⊎_elim (λ one. subst (IsOwned after) (sym one) (owned (subst (λ (n : List ℕ). is_some (map.get objects n) ≡ true) one has)))
+            (λ apart. owned_beside q apart (sound.owned q (ap is_some (sym (beside q apart)) ∙ has))) (key_or_apart q name))
+            (λ leaf live. get_left s.purge name (text_of leaf) (not_live leaf live) ∙ sound.listed leaf live);
+        cached = other_objects_kept s objects (map.remove s.purge name) sound same;
+      }
 
 -- an object is purged
 pub purged_right : (s : State) (name : List ℕ) → IsSound s → first_name s.purge ≡ Some name → KeepsLeaves s (purged s name)

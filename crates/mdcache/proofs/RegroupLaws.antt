@@ -209,11 +209,10 @@ module _ (s : State) (sound : IsSound s) (dir : Ino) (gone cover : List Fragment
 
   -- the name of a leaf that isn't concerned is that of no other
   not_named : (leaf : Leaf) → IsLive n.homes n.covers leaf → Apart leaf × IsLive s.homes s.covers leaf → (f : Fragment) → HasLeaf gone f ⊎ Comes row cover f → text_of leaf ≡ text_of (dir, f) → ⊥
-  not_named leaf live old f concerned same = old.0 (ap (λ (l : Leaf). l.0.0) one) (subst (IsConcerned row cover gone) (ap (λ (l : Leaf). l.1) (sym one)) concerned)
-    where
-      one : leaf ≡ (dir, f)
-      one = ⊎_elim (λ ended. one_text s.homes s.covers sound.table sound.numbered leaf (dir, f) old.1 (record { known = r.known; stands = (cut.stood f ended).0 }) same)
-          (λ came. one_text s.homes n.covers table sound.numbered leaf (dir, f) live (came_live (dir, f) refl came.0) same) concerned
+  not_named leaf live old f concerned same =
+      let one : leaf ≡ (dir, f) = ⊎_elim (λ ended. one_text s.homes s.covers sound.table sound.numbered leaf (dir, f) old.1 (record { known = r.known; stands = (cut.stood f ended).0 }) same)
+      (λ came. one_text s.homes n.covers table sound.numbered leaf (dir, f) live (came_live (dir, f) refl came.0) same) concerned in
+      old.0 (ap (λ (l : Leaf). l.0.0) one) (subst (IsConcerned row cover gone) (ap (λ (l : Leaf). l.1) (sym one)) concerned)
 
   leaves_now : HasSoundLeaves n
   leaves_now = record {

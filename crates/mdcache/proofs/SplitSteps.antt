@@ -207,14 +207,14 @@ module _ (old mid : Core) (sound : IsSoundCore old) (a : Dirfrag) (nb : ℕ) (sp
   now_cached : AreCached t new.caches
   now_cached q b is = elim (which s mine a.dir (a.frag ∷ []) cover (2 ^ nb) t is_regrouped cut q) [
     | inl end ↦
-        let none : map.get new.caches.held q ≡ None = ap (map.get new.caches.held) (sym (its_leaf end.0) ∙ ap (λ (h : Fragment). (a.dir, h)) (sym (only_one a.frag q.1 end.1)))
+        let none : map.get new.caches.held q ≡ None = ap (map.get new.caches.held) ((λ i. (record { 0 = end.0 i }, q.1)) ∙ ap (λ (h : Fragment). (a.dir, h)) (sym (only_one a.frag q.1 end.1)))
         ∙ split_gone a.rank.0 a.dir a.frag nb split.parts mid.next_version mid.caches new.caches f can.fits.some count done free in
         let clash : None ≡ Some b = sym none ∙ is in
         absurd cc
     | inr stands ↦ elim stands [
       | inl came ↦
           let child = is_child row cover a.frag nb divided q.1 came.1 in
-          let held : map.get new.caches.held q ≡ Some (at a.rank.0 (slice_index_or done.0 child.0 any).fragment) = ap (map.get new.caches.held) (sym (its_leaf came.0) ∙ ap (λ (h : Fragment). (a.dir, h)) child.2)
+          let held : map.get new.caches.held q ≡ Some (at a.rank.0 (slice_index_or done.0 child.0 any).fragment) = ap (map.get new.caches.held) ((λ i. (record { 0 = came.0 i }, q.1)) ∙ ap (λ (h : Fragment). (a.dir, h)) child.2)
           ∙ split_child a.rank.0 a.dir a.frag nb split.parts mid.next_version mid.caches new.caches f can.fits.some count done child.0 any child.1 in
           let one : at a.rank.0 (slice_index_or done.0 child.0 any).fragment ≡ b = same_Some (at a.rank.0 (slice_index_or done.0 child.0 any).fragment) b (sym held ∙ is) in
           let each_is = done.1.each child.0 any (within child.0 child.1) in
@@ -231,9 +231,6 @@ module _ (old mid : Core) (sound : IsSoundCore old) (a : Dirfrag) (nb : ℕ) (sp
           record { live = apart_live s mine a.dir (a.frag ∷ []) cover (2 ^ nb) t is_regrouped cut q apart before.live; tied = before.tied; made = omega (arith, given) }
     ]
   ]
-    where
-      its_leaf : q.0.0 ≡ a.dir.0 → (a.dir, q.1) ≡ q
-      its_leaf same = λ i. (record { 0 = sym same i }, q.1)
 
   -- ---- of what was before
 
