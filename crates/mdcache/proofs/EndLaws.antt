@@ -1,5 +1,5 @@
 -- What the end of a commit keeps.
-use Rattle.mdcache.proofs.Common.{AreCached, AreYoung, At, Base, Bool, Cached, Commits, Core, Fresh, HasSpelled, Inode, IsCachedIn, IsCommitted, IsCounted, IsEnded, IsLive, IsOf, IsOwned, IsSaved, IsSound, IsSoundCore, IsStanding, IsTabled, IsTied, IsUnsaved, Job, Keeps, Leaf, List, Marks, Names, None, Omap, Option, Snap, Some, SpellsFragment, State, Stored, Unsaved, ap, arith, at, committed, committed_are_tied, cond, empty_of_len, eq_by_cmp, eqb-true, false, get-unsettled, get_beside, get_put, get_unclean, get_with_frag, here_is, inl, inr, is_clean, is_clean_over, is_settled, is_some, key_cmp, key_itself, key_tied, leaf_is, leaf_itself, leaf_or_apart, names_at, names_then, next_version, none_entries, not, object_after, object_of, one_leaf, refl, same_Some, same_leaf, shown, shown_at, shown_over, shown_tree, spells_what_it_shows, state_of, subst, sym, text_of, tied_show, true, unclean, unclean_with, unsaved_at, unsaved_of, unsettled, with_frag, with_marks, with_unsaved, ℕ, ⊎_elim, ◌<◌, ◌==◌, ◌∙◌, ◌≡◌}
+use Rattle.mdcache.proofs.Common.{AreCached, AreYoung, At, Base, Bool, Cached, Commits, Core, Fresh, HasSpelled, IsCachedIn, IsCommitted, IsCounted, IsEnded, IsLive, IsOf, IsSaved, IsSound, IsSoundCore, IsStanding, IsTabled, IsTied, IsUnsaved, Job, Keeps, Leaf, Marks, Names, None, Omap, Option, Some, State, Stored, Unsaved, ap, arith, at, committed, committed_are_tied, cond, empty_of_len, eqb-true, false, get-unsettled, get_beside, get_put, get_unclean, get_with_frag, here_is, inl, inr, is_clean, is_clean_over, is_settled, is_some, leaf_is, leaf_itself, leaf_or_apart, names_at, names_then, next_version, none_entries, not, object_after, object_of, refl, same_Some, same_leaf, shown, shown_at, shown_over, shown_tree, spells_what_it_shows, state_of, subst, sym, text_of, tied_show, true, unclean, unclean_with, unsaved_at, unsaved_of, unsettled, with_frag, with_marks, with_unsaved, ℕ, ⊎_elim, ◌<◌, ◌==◌, ◌∙◌, ◌≡◌}
 use Rattle.std.specs.FinMap as map
 use Rattle.std.proofs.lemmas.Bool.{cases_Bool}
 use Rattle.mds_types.proofs.LeafLaws.{get_removed}
@@ -11,7 +11,7 @@ use Rattle.dentry_cache.specs.Ties.{IsRight}
 use Rattle.dentry_cache.proofs.CacheLaws.{unsaved_here as unsaved_here_at}
 use Rattle.mdcache.specs.Commits.{leaf_of, left_of}
 use Rattle.mdcache.specs.Shown.{names_of}
-use Rattle.mdcache.proofs.SoundLaws.{get_ended, names_alike, stood_before}
+use Rattle.mdcache.proofs.SoundLaws.{names_alike, stood_before}
 use Rattle.mdcache.proofs.TextLaws.{one_text}
 use Rattle.mdcache.proofs.TreeLaws.{tree_alike}
 

@@ -1,5 +1,5 @@
 -- What the end of a commit leaves, done or refused.
-use Rattle.mdcache.proofs.Common.{AreCached, At, Bool, CacheMap, Cached, Came, Core, Edits, Ends, Err, IsCommitted, IsEnded, IsFree, IsFreeFor, IsSound, IsSoundCore, IsThat, IsThere, Job, Jobs, KeepsNone, Leaf, MayRefuse, None, NoneEnds, Objects, Ok, Option, Refusal, Result, Rooms, Some, State, Unsaved, WriteOp, ap, at_rank, by_edits, cond, edits_unclean, get_unclean, has, here, here_is, inr, is_same, leaf_text, refl, state_of, stays, subst, sym, unsaved_at, unsaved_in, with_frag, write_of, written, ℕ, ◌∙◌, ◌≡◌}
+use Rattle.mdcache.proofs.Common.{AreCached, At, Bool, CacheMap, Cached, Came, Core, Edits, Ends, Err, IsCommitted, IsEnded, IsFree, IsFreeFor, IsSound, IsSoundCore, IsThat, IsThere, Job, Jobs, KeepsNone, Leaf, MayRefuse, None, NoneEnds, Objects, Ok, Option, Refusal, Result, Rooms, Some, State, WriteOp, ap, at_rank, by_edits, cond, edits_unclean, get_unclean, has, here, here_is, inr, is_same, leaf_text, refl, state_of, stays, subst, sym, unsaved_at, unsaved_in, with_frag, write_of, written, ℕ, ◌∙◌, ◌≡◌}
 use Rattle.std.specs.FinMap as map
 use Rattle.mdcache.specs.Commits.{leaf_of}
 use Rattle.mdcache.proofs.CoreLaws.{cached_but}

@@ -1,5 +1,5 @@
 -- All jobs are given up.
-use Rattle.mdcache.proofs.Common.{Core, IsSound, IsSoundCore, Jobs, KeepsNone, None, Rooms, Some, State, get-empty, refl, state_of, subst, sym, ℕ, ◌<◌, ◌∙◌, ◌≡◌}
+use Rattle.mdcache.proofs.Common.{Core, IsSound, IsSoundCore, Jobs, KeepsNone, None, Rooms, Some, State, get-empty, state_of, subst, sym, ℕ, ◌<◌, ◌∙◌, ◌≡◌}
 use Rattle.std.specs.FinMap as map
 
 numbered_sound : (s : State) (n : ℕ) → IsSound s → IsSound (record s { jobs = map.empty; next_job = n })

@@ -1,5 +1,5 @@
 -- The names of leaves, taken into a fragment one leaf after the other; and the leaves that end with a merge.
-use Rattle.mdcache.proofs.Common.{Bool, Cached, Contains, ContainsFragment, Fragment, GoingLeaf, HasJoined, HasLeaf, Ino, IsTrue, Leaf, List, Names, TakesIn, [], ap, arith, cond, drop, drop-cons, false, get_or, in_directory, later, leaves_in, leaves_inside, length, lies_inside, marked_as, name_joined, nat_lt, nat_tests, refl, span, subst, suc, sym, true, zero, ℕ, ◌&&◌, ◌++◌, ◌+◌, ◌/◌, ◌<◌, ◌==◌, ◌↔◌, ◌∙◌, ◌∷◌, ◌≡◌, ◌≤◌}
+use Rattle.mdcache.proofs.Common.{Bool, Cached, Contains, ContainsFragment, Fragment, GoingLeaf, HasJoined, HasLeaf, Ino, IsTrue, Leaf, List, Names, TakesIn, [], ap, arith, cond, drop, drop-cons, false, get_or, in_directory, later, leaves_in, leaves_inside, length, lies_inside, marked_as, name_joined, nat_lt, refl, span, suc, sym, true, zero, ℕ, ◌++◌, ◌+◌, ◌/◌, ◌<◌, ◌==◌, ◌↔◌, ◌∙◌, ◌∷◌, ◌≡◌}
 use Rattle.std.proofs.lemmas.Bool.{and_from, and_parts, eq-eqb, eqb-true, lt-ltb}
 use Rattle.std.proofs.lemmas.List.{append-nil, append_assoc, map-append}
 use Rattle.std.proofs.lemmas.List.Elements.{filter-append}

@@ -1,8 +1,7 @@
 -- The purge list, where a leaf was split and where leaves were merged.
-use Rattle.mdcache.proofs.Common.{Contains, Frag, Fragment, HasLeaf, Ino, IsChild, IsFragment, IsListedAnew, Keys, List, NameChildren, None, ObjName, Some, [], ap, arith, child_is_fragment, child_of, get_beside, get_left, get_put, get_removed, in_directory, inl, inr, refl, subst, suc, sym, text_of, texts_differ, with_objects, without_objects, zero, ℕ, ⊎_elim, ◌+◌, ◌<◌, ◌^◌, ◌∙◌, ◌∷◌, ◌≡◌, ◌≤◌, ◌⊎◌}
+use Rattle.mdcache.proofs.Common.{Contains, Frag, Fragment, HasLeaf, Ino, IsChild, IsFragment, IsListedAnew, Keys, List, NameChildren, None, Some, [], ap, arith, child_is_fragment, child_of, get_beside, get_left, get_put, get_removed, in_directory, inl, inr, refl, subst, suc, sym, text_of, texts_differ, with_objects, without_objects, zero, ℕ, ⊎_elim, ◌+◌, ◌<◌, ◌^◌, ◌∙◌, ◌∷◌, ◌≡◌, ◌≤◌}
 use Rattle.std.specs.Prelude.{map as each}
 use Rattle.std.specs.FinMap as map
-use Rattle.mds_types.specs.declared.object_names.ObjName.TheVariants.{Tree as TreeOf}
 use Rattle.dirfrag_codec.proofs.ByteKeys.{same_or_apart as key_or_apart}
 use Rattle.mdcache.proofs.SplitLaws.{only_one}
 

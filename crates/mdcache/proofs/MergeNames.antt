@@ -1,11 +1,10 @@
 -- The names of leaves that are merged are those that the joined fragment contains.
-use Rattle.mdcache.proofs.Common.{Bool, CanMerge, Fragment, HasLeaf, Ino, Inode, IsFragment, IsMerge, IsPick, IsSound, IsTree, Leaf, List, Mark, Names, None, Option, Some, State, [], ap, arith, between, cond, dentry_of, false, first_or_later, get_or, hash_of, holds, holds_contains, in_directory, inl, inr, is_known, is_same, later, leaves_inside, leaves_of, length, lies_inside, marked_as, merged_after_merge, name_joined, names_of, one_or_other, pick_after_merge, range_from_inside, refl, shown_tree, span, span_pos, subst, sym, tree_of_row, true, zero, ℕ, ⊎_elim, ◌%◌, ◌/◌, ◌^◌, ◌∙◌, ◌∷◌, ◌≡◌, ◌≤◌, ◌⊎◌}
+use Rattle.mdcache.proofs.Common.{Bool, CanMerge, Fragment, HasLeaf, Ino, Inode, IsMerge, IsPick, IsSound, IsTree, Leaf, List, Mark, Names, None, Option, Some, State, [], ap, arith, between, cond, dentry_of, false, first_or_later, get_or, hash_of, holds, holds_contains, in_directory, inl, inr, is_known, is_same, later, leaves_inside, leaves_of, lies_inside, marked_as, merged_after_merge, name_joined, names_of, one_or_other, pick_after_merge, range_from_inside, refl, shown_tree, span, span_pos, subst, sym, tree_of_row, true, zero, ℕ, ⊎_elim, ◌%◌, ◌/◌, ◌^◌, ◌∙◌, ◌∷◌, ◌≡◌, ◌⊎◌}
 use Rattle.std.proofs.lemmas.Bool.{cases_Bool, true_from_ne_false}
 use Rattle.std.proofs.lemmas.List.Elements.{Contains-get_or}
 use Rattle.std.specs.Cmp.{both_ways}
 use Rattle.std.specs.Prelude.{map as each}
 use Rattle.std.specs.FinMap as map
-use Rattle.mds_types.specs.Frag.{Contains}
 use Rattle.fragtree.proofs.Spelled.{one_leaf as one_of_hash}
 use Rattle.mdcache.proofs.NamedLaws.{pick_at, sound_leaves, stands_at}
 use Rattle.mdcache.proofs.SplitLaws.{has_inside, inside_has}

@@ -1,10 +1,9 @@
 -- What a merge makes of the whole, once all was ready for it.
-use Rattle.mdcache.proofs.Common.{AreCached, At, Base, Bool, CacheMap, Cached, Came, CanMerge, Comes, Contains, Core, Dirfrag, Frag, Fragment, Fresh, HasLeaf, HasUnsaved, Ino, Inode, IsAmongOr, IsCachedIn, IsConcerned, IsFragment, IsListedAnew, IsLive, IsMerge, IsMergeReady, IsMergedInto, IsNewLeaf, IsPick, IsRegrouped, IsSound, IsSoundCore, IsTree, KeepsNone, Keys, Leaf, List, Merge, None, NoneEnds, ObjName, Option, ReadsCore, Some, State, Unsaved, ap, are_empty, arith, at, between, cond, dentry_of, ending_at, false, fresh_tied, get_left, get_removed, get_unclean, get_with_frag, has_none, hash_of, holds, in_directory, inl, inr, is_clean_over, is_known, leaf_is, leaf_itself, leaf_of, leaves_in, leaves_inside, leaves_of, lies_inside, list_all, list_any, marked_as, merged_in, merged_leaves, names_of, object_of, one_leaf, reads_came, reads_weaker, refl, root_fragment, same_Some, same_leaf, shown, shown_tree, state_of, subst, sym, text_of, texts_differ, tree_of_row, true, unclean, unsaved_at, unsaved_in, with_frag, with_objects, without_leaves, ℕ, ⊎_elim, ◌+◌, ◌<◌, ◌∙◌, ◌≡◌, ◌⊎◌}
+use Rattle.mdcache.proofs.Common.{AreCached, At, Base, Bool, CacheMap, Came, CanMerge, Comes, Contains, Core, Dirfrag, Frag, Fragment, HasLeaf, HasUnsaved, Inode, IsAmongOr, IsCachedIn, IsConcerned, IsListedAnew, IsLive, IsMergeReady, IsMergedInto, IsNewLeaf, IsRegrouped, IsSound, IsSoundCore, IsTree, KeepsNone, Keys, Leaf, List, Merge, None, NoneEnds, Option, ReadsCore, Some, State, Unsaved, ap, are_empty, arith, at, between, cond, dentry_of, ending_at, false, fresh_tied, get_left, get_removed, get_unclean, get_with_frag, has_none, hash_of, holds, in_directory, inl, inr, is_clean_over, is_known, leaf_is, leaf_itself, leaf_of, leaves_in, leaves_inside, leaves_of, list_all, list_any, marked_as, merged_in, merged_leaves, names_of, object_of, one_leaf, reads_came, reads_weaker, refl, same_Some, same_leaf, shown, shown_tree, state_of, subst, sym, text_of, texts_differ, tree_of_row, true, unclean, unsaved_at, with_frag, with_objects, without_leaves, ℕ, ⊎_elim, ◌+◌, ◌<◌, ◌∙◌, ◌≡◌}
 use Rattle.std.proofs.lemmas.Bool.{cases_Bool, false_from_ne_true, true_from_ne_false}
 use Rattle.std.specs.Cmp.{both_ways}
 use Rattle.std.specs.Prelude.{map as each}
 use Rattle.std.specs.FinMap as map
-use Rattle.mds_types.specs.declared.object_names.ObjName.TheVariants.{Tree as TreeOf}
 use Rattle.dentry_cache.specs.Came.Came.{has as arrives}
 use Rattle.mdcache.specs.Splits.{KeepsTree}
 use Rattle.mdcache.proofs.ChangeSteps.{ends_came_so, still_held, unclean_ended}

@@ -1,5 +1,5 @@
 -- A purge and a commit of a directory's tree change no object of a live leaf.
-use Rattle.mdcache.proofs.Common.{AreCached, Bool, CacheMap, Fragment, Ino, IsLive, IsOwned, IsSound, Keys, Leaf, List, None, Objects, Omap, Option, PairMap, Some, State, WriteOp, [], ap, applied-by-parts, cond, empty_omap, eq_by_cmp, exact_bytes, false, find, first_name, get-empty, get-entries, get-without_keys, get_beside, get_left, get_removed, inl, inr, is_known, is_some, key_cmp, key_itself, key_tied, leaves_of, length, ltb-true, nat_list_cmp_total, nat_lt, object_of, option_map, overlaid-empty, purged, refl, same_map, shown_tree, slice_get, subst, sym, text_of, tree_object, tree_saved, tree_text, true, unwrap_or, with_tree_at, without_keys, ℕ, ⊎_elim, ◌<◌, ◌∙◌, ◌∷◌, ◌≡◌, ◌⊎◌}
+use Rattle.mdcache.proofs.Common.{AreCached, Bool, CacheMap, Fragment, Ino, IsLive, IsOwned, IsSound, Keys, Leaf, List, None, Objects, Option, PairMap, Some, State, WriteOp, [], ap, applied-by-parts, cond, empty_omap, eq_by_cmp, exact_bytes, false, find, first_name, get-empty, get-entries, get-without_keys, get_beside, get_left, get_removed, inl, inr, is_known, is_some, key_cmp, key_itself, leaves_of, length, ltb-true, nat_list_cmp_total, nat_lt, object_of, option_map, overlaid-empty, purged, refl, same_map, shown_tree, slice_get, subst, sym, text_of, tree_object, tree_saved, tree_text, true, unwrap_or, with_tree_at, without_keys, ℕ, ⊎_elim, ◌<◌, ◌∙◌, ◌∷◌, ◌≡◌}
 use Rattle.dirfrag_codec.proofs.ByteKeys.{same_or_apart as key_or_apart}
 use Rattle.std.specs.FinMap as map
 use Rattle.objstore.specs.Objects.{written}

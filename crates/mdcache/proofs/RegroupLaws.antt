@@ -1,5 +1,5 @@
 -- A directory gets another cover: the state is sound then, and shows the same tree.
-use Rattle.mdcache.proofs.Common.{AreYoung, Base, Bool, Comes, Contains, Dentry, Fragment, Fresh, HasLeaf, HasUnsaved, Ino, Inode, IsConcerned, IsCounted, IsLive, IsNewLeaf, IsOwned, IsPick, IsRegrouped, IsSaved, IsSound, IsStanding, IsTable, IsTabled, IsUnsaved, Job, Leaf, List, Mark, Marks, Names, None, Option, Some, State, StaysAsItIs, Stored, Tree, Unsaved, [], and_right, ap, are_empty, arith, cond, dentry-exact, dentry-total, dentry_of, empty_of_len, eqb-true, false, first_or_later, get-empty, get-patched, has_none, hash_of, holds, holds_contains, in_directory, inl, inode_or, inr, is_known, is_same, is_some, key_cmp, later, leaf_is, leaves_of, list_all, list_any, marked_as, names_at, object_of, one_leaf, one_or_other, or_whole, pick_from_leaf, refl, regrouped, same_Some, same_map, set_table, shown_at, shown_over, shown_tree, span, subst, suc, sym, text_of, tree_of_row, true, zero, ℕ, ⊎_elim, ◌%◌, ◌&&◌, ◌+◌, ◌/◌, ◌<◌, ◌^◌, ◌||◌, ◌∙◌, ◌∷◌, ◌≡◌, ◌≢◌, ◌≤◌, ◌⊎◌}
+use Rattle.mdcache.proofs.Common.{AreYoung, Base, Bool, Comes, Contains, Dentry, Fragment, Fresh, HasLeaf, HasUnsaved, Ino, Inode, IsConcerned, IsCounted, IsLive, IsNewLeaf, IsOwned, IsRegrouped, IsSound, IsTable, IsTabled, IsUnsaved, Job, Leaf, List, Mark, Marks, Names, None, Option, Some, State, Stored, Tree, Unsaved, [], ap, are_empty, arith, cond, dentry-exact, dentry-total, dentry_of, false, first_or_later, get-empty, get-patched, has_none, hash_of, holds, holds_contains, in_directory, inl, inode_or, inr, is_known, is_same, is_some, key_cmp, later, leaf_is, leaves_of, list_any, marked_as, names_at, object_of, one_leaf, one_or_other, or_whole, pick_from_leaf, refl, regrouped, same_Some, same_map, set_table, shown_at, shown_over, shown_tree, span, subst, suc, sym, text_of, tree_of_row, true, zero, ℕ, ⊎_elim, ◌%◌, ◌+◌, ◌/◌, ◌<◌, ◌^◌, ◌∙◌, ◌∷◌, ◌≡◌, ◌⊎◌}
 use Rattle.std.proofs.lemmas.Bool.{cases_Bool, false_from_ne_true, or_cases}
 use Rattle.std.specs.Prelude.{map as each}
 use Rattle.std.specs.FinMap as map

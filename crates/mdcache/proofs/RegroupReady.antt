@@ -1,12 +1,10 @@
 -- What is made ready for a split or a merge: first room and names are planned, then the place that was kept is given up, then leaves are read.
-use Rattle.mdcache.proofs.Common.{AreAbsent, AreCaches, AreKept, At, CacheMap, Cached, CanMerge, CanSplit, Core, Dirfrag, Err, Fragment, HasCached, IfErr, Ino, IsAmongOr, IsButPlaces, IsChildAt, IsDistinct, IsFamilyAt, IsLive, IsNoLess, IsSoundCore, IsThat, IsThere, IsWhole, KeepsNone, LacksPlacesIn, Leaf, List, MayFetch, MayHold, MayNotFind, MayNotKeepAll, None, NoneEnds, Ok, OnErr, OnOk, Option, Reads, ReadsCore, ReadsFamily, Refusal, Result, Some, StaysAt, ap, arith, at_rank, child_of, ending_at, false, has_place, here, inl, inr, is_known, kept_at, leaf_is, leaf_itself, leaf_of, leaves_of, length, no_child, order, placed_given_up, readies_whole, reads_placed, reads_then, reads_weaker, refl, refused_whole, subst, suc, sym, true, unclean_at, unclean_of, without_children, zero, ℕ, ⊎_elim, ◌+◌, ◌<◌, ◌^◌, ◌∙◌, ◌≡◌, ◌≤◌, ◌⊎◌}
+use Rattle.mdcache.proofs.Common.{AreAbsent, AreCaches, AreKept, CacheMap, Cached, Core, Dirfrag, Err, Fragment, HasCached, IfErr, Ino, IsButPlaces, IsChildAt, IsDistinct, IsFamilyAt, IsNoLess, IsThat, IsThere, IsWhole, KeepsNone, LacksPlacesIn, Leaf, MayNotFind, MayNotKeepAll, None, NoneEnds, Ok, OnErr, OnOk, Option, Reads, ReadsCore, ReadsFamily, Refusal, Result, Some, StaysAt, ap, arith, at_rank, child_of, false, has_place, here, inl, inr, kept_at, leaf_is, leaf_itself, leaf_of, length, no_child, order, placed_given_up, readies_whole, reads_placed, reads_then, reads_weaker, refl, refused_whole, subst, suc, sym, true, unclean_at, unclean_of, without_children, zero, ℕ, ⊎_elim, ◌+◌, ◌<◌, ◌^◌, ◌∙◌, ◌≡◌, ◌≤◌, ◌⊎◌}
 use Rattle.std.specs.FinMap as map
 use Rattle.dentry_cache.specs.Reads.Reads.{stays as it_stays}
 use Rattle.dentry_cache.proofs.ChildLaws.{AreDropped, are_dropped}
 use Rattle.dentry_cache.proofs.LacksLaws.{none_kept_at}
-use Rattle.mdcache.proofs.CoreLaws.{first_step, may_fetch, may_fetch_on, next_step, no_less_itself, not_found_before, reads_core_on, reads_core_wider, still_absent, there_after}
-use Rattle.mdcache.proofs.JoinSteps.{hold_on, live_on}
-use Rattle.mdcache.proofs.MergeSteps.{ending_live}
+use Rattle.mdcache.proofs.CoreLaws.{first_step, next_step, no_less_itself, not_found_before, reads_core_wider, still_absent, there_after}
 use Rattle.mdcache.proofs.NoneLaws.{none_absent}
 use Rattle.mdcache.proofs.UncleanOf.{unclean_few}
 

@@ -1,5 +1,5 @@
 -- No two objects of leaves and trees have one name.
-use Rattle.mdcache.proofs.Common.{Bool, Covers, Frag, Homes, Ino, IsFragment, IsLive, IsTable, Leaf, ObjName, ap, between, false, is_known, leaves_of, root_fragment, text_of, texts_differ, tree_of_row, tree_text, true, ℕ, ◌<◌, ◌^◌, ◌≡◌}
+use Rattle.mdcache.proofs.Common.{Covers, Frag, Homes, Ino, IsFragment, IsLive, IsTable, Leaf, between, is_known, leaves_of, text_of, texts_differ, tree_of_row, tree_text, true, ℕ, ◌<◌, ◌^◌, ◌≡◌}
 use Rattle.mds_types.specs.declared.object_names.ObjName.TheVariants.{Tree}
 
 module _ (homes : Homes) (covers : Covers) (table : IsTable homes covers) (numbered : (d : ℕ) → is_known homes d ≡ true → d < 2 ^ 64) where

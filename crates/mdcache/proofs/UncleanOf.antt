@@ -1,11 +1,10 @@
 -- What isn't clean of one rank, after reads and preparations; and where places lack.
-use Rattle.mdcache.proofs.Common.{AllByRecursion, AreCaches, At, Bool, CacheMap, Cached, CanNotKeep, IsButRoom, IsDistinct, IsDistinct-cons, IsDistinct-head, IsDistinct-tail, IsLeft, IsThere, KeepsNone, Leaf, List, None, Objects, Option, Reads, Some, Unsaved, [], all_from, all_of, any_tied, ap, arith, at, at_rank, clean_in, cond, contains_key-keys, empty_of_len, false, filter, flips, frees, full_counts, get-empty, get-remove, get_tabulate, get_unclean, goes, going_at, grows, has_place, here, here_is, inl, inr, is_clean, is_some, kept_at, leaf-total, leaf_is, leaf_itself, len-entries, len-remove, length, list_any, loaded_clean, loads, not, object_of, order, reads_held, reads_unclean, refl, removed, room, room_unsaved, roomy, roomy_left, same_map, staying, subst, suc, sym, tied_leaf, true, unclean_at, unclean_in, unsaved_at, unsaved_in, with_frag, zero, ℕ, ⊎_elim, ◌&&◌, ◌+◌, ◌-◌, ◌<◌, ◌==◌, ◌||◌, ◌∙◌, ◌∷◌, ◌≡◌, ◌≤◌, ◌⊎◌}
+use Rattle.mdcache.proofs.Common.{AllByRecursion, AreCaches, At, Bool, CacheMap, Cached, CanNotKeep, IsDistinct, IsDistinct-cons, IsDistinct-head, IsDistinct-tail, IsThere, KeepsNone, Leaf, List, None, Objects, Option, Reads, Some, Unsaved, [], all_from, all_of, any_tied, ap, arith, at_rank, clean_in, cond, contains_key-keys, false, filter, get_tabulate, get_unclean, goes, going_at, here, inl, inr, is_clean, is_some, leaf-total, leaf_is, len-entries, length, loaded_clean, not, object_of, order, reads_held, reads_unclean, refl, room_unsaved, roomy, same_map, staying, suc, sym, true, unclean_at, unclean_in, unsaved_at, unsaved_in, ℕ, ◌&&◌, ◌+◌, ◌<◌, ◌==◌, ◌∙◌, ◌∷◌, ◌≡◌, ◌≤◌, ◌⊎◌}
 use Rattle.std.proofs.lemmas.Bool.{not-true}
 use Rattle.std.proofs.lemmas.List.Elements.{All-filter, All-from_recursion, filter_passes, recursion_from_All}
 use Rattle.std.proofs.lemmas.Map.Entries.{length-keys_of}
 use Rattle.std.proofs.lemmas.Map.Made.{length-le_from_is_member}
 use Rattle.std.specs.FinMap as finmap
-use Rattle.dentry_cache.specs.Cache.{leaf_cmp}
 use Rattle.dentry_cache.specs.CacheMap.{unclean_of}
 use Rattle.dentry_cache.proofs.LacksLaws.{full_lacks as all_unclean}
 use Rattle.dentry_cache.proofs.LeafLaws.{leaf-exact, leaf_equivalence}

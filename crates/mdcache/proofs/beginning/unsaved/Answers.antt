@@ -1,4 +1,4 @@
-use Rattle.mdcache.proofs.Common.{Some, ap, option_copied, sym, ◌∙◌}
+use Rattle.mdcache.proofs.Common.{Some}
 use Rattle.mdcache.proofs.beginning.unsaved.Goals as goal
 
 pub returns-in-Some : goal.returns-in-Some

@@ -1,4 +1,4 @@
-use Rattle.mdcache.proofs.Common.{IsFamilyAt, reads_came, rules}
+use Rattle.mdcache.proofs.Common.{reads_came, rules}
 use Rattle.mdcache.proofs.CoreLaws.{reads_sound_so, reads_state, there_after}
 use Rattle.mdcache.proofs.JoinSteps.{family_live}
 use Rattle.mdcache.proofs.RegroupReady.{given_up}
