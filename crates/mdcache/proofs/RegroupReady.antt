@@ -56,7 +56,7 @@ module _ (old mid view : Core) (is : view ≡ mid) (a : Dirfrag) (nb : ℕ) (som
   pub children_there : a.rank.0 < length view.caches.used
   children_there = subst (λ (k : Core). a.rank.0 < length k.caches.used) (sym is) (there_after (IsThat a.rank.0 (leaf_of a)) NoneEnds old mid a.rank.0 reads there)
 
-  module _ (caches' : CacheMap) (family : ReadsFamily a.rank.0 a.dir a.frag nb view.caches caches') where
+  module _ (caches' : CacheMap) (family : ReadsFamily a.rank.0 a.dir a.frag nb view.caches caches') (stays : StaysAt a.rank.0 (leaf_of a) view.caches caches') where
     pub children_reads : ReadsCore (Family a nb) (Family a nb) old (record view { caches = caches' })
     children_reads = next_step (Family a nb) (Family a nb) old view (record view { caches = caches' }) (no_less_itself view.room) refl mid fetched_family is
         (reads_weaker (Family a nb) (Child a nb) (Family a nb) (Family a nb) (λ s q is. is) (λ s q child. inr child) view.objects view.caches caches' (family view.objects))
@@ -70,18 +70,14 @@ module _ (old mid view : Core) (is : view ≡ mid) (a : Dirfrag) (nb : ℕ) (som
     pub children_distinct : IsDistinct leaf_is (order caches' a.rank.0)
     children_distinct = (reads_placed (Family a nb) (Child a nb) old.objects old.caches valid (λ s q named. subst (λ (n : ℕ). n < length old.caches.used) (sym (⊎_elim (λ it. it.0) (λ child. child.0) named)) there) caches' all_reads).distinct a.rank.0
 
-    module _ (stays : StaysAt a.rank.0 (leaf_of a) view.caches caches') where
-      pub children_only_so : {A E : Type 0} (result : Result A E) → OnOk result ((s : ℕ) (q : Leaf) → IsWhole caches' s q ⊎ Child a nb s q)
-      children_only_so (Ok x) = readies_whole a.rank.0 a.dir a.frag nb old.objects old.caches caches' there valid none_old all_reads (stays_there (here view.caches a.rank.0 (leaf_of a)) (here caches' a.rank.0 (leaf_of a)) stays)
-      children_only_so (Err e) = tt
+    pub children_only : (s : ℕ) (q : Leaf) → IsWhole caches' s q ⊎ Child a nb s q
+    children_only = readies_whole a.rank.0 a.dir a.frag nb old.objects old.caches caches' there valid none_old all_reads (stays_there (here view.caches a.rank.0 (leaf_of a)) (here caches' a.rank.0 (leaf_of a)) stays)
 
-      pub children_none_so : {A E : Type 0} (result : Result A E) → OnErr result (AreAbsent caches' a.rank.0 a.dir a.frag nb) → OnErr result (KeepsNone caches')
-      children_none_so (Ok x) absent = tt
-      children_none_so (Err e) absent = refused_whole a.rank.0 a.dir a.frag nb old.objects old.caches caches' there valid none_old all_reads (stays_there (here view.caches a.rank.0 (leaf_of a)) (here caches' a.rank.0 (leaf_of a)) stays) absent
+    pub children_none : AreAbsent caches' a.rank.0 a.dir a.frag nb → KeepsNone caches'
+    children_none = refused_whole a.rank.0 a.dir a.frag nb old.objects old.caches caches' there valid none_old all_reads (stays_there (here view.caches a.rank.0 (leaf_of a)) (here caches' a.rank.0 (leaf_of a)) stays)
 
-  pub children_refused_so : {A : Type 0} (result : Result A Refusal) → mid.faults ≡ old.faults → IfErr result (MayNotKeepAll (2 ^ nb) view.caches a.rank.0) → IfErr result (MayNotFind (LacksPlacesIn (2 ^ nb + 1) old.caches a.rank.0) old.faults view.faults)
-  children_refused_so (Ok x) same refused = tt
-  children_refused_so (Err reason) same refused =
+  pub children_refused : mid.faults ≡ old.faults → (reason : Refusal) → MayNotKeepAll (2 ^ nb) view.caches a.rank.0 reason → MayNotFind (LacksPlacesIn (2 ^ nb + 1) old.caches a.rank.0) old.faults view.faults reason
+  children_refused same reason refused =
       not_found_before (IsThat a.rank.0 (leaf_of a)) NoneEnds old mid reads (2 ^ nb + 1) a.rank.0 view.faults reason same (subst (λ (k : Core). MayNotFind (LacksPlacesIn (2 ^ nb + 1) k.caches a.rank.0) k.faults view.faults reason) is (on refused))
     where
       on : MayNotKeepAll (2 ^ nb) view.caches a.rank.0 reason → MayNotFind (LacksPlacesIn (2 ^ nb + 1) view.caches a.rank.0) view.faults view.faults reason
