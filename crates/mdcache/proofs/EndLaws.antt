@@ -139,15 +139,10 @@ module _ (c : Core) (r : ℕ) (job : Job) (kept : IsSoundCore c) (stood : map.ge
 
   saved_here : map.get t.unsaved leaf ≡ None → IsSaved leaf.1 (Some here)
   unfolding names_of
-  saved_here clean = (
-    next_version job.snapshot.base,
-    names_then job.snapshot object,
-    (
-      right.spelled,
-      λ name inode has. (kept.sound.placed leaf name inode live
-          (ap (λ (n : Names). map.get n name) (sym shows_here ∙ (λ i. shown_at (clean i) (object_here i)) ∙ sym (spells_what_it_shows here (next_version job.snapshot.base) (names_then job.snapshot object) right.spelled)) ∙ has)).contains,
-    ),
-  )
+  saved_here clean =
+      let same : names_of s.unsaved s.objects leaf ≡ names_then job.snapshot object =
+      sym shows_here ∙ (λ i. shown_at (clean i) (object_here i)) ∙ sym (spells_what_it_shows here (next_version job.snapshot.base) (names_then job.snapshot object) right.spelled) in
+      (next_version job.snapshot.base, names_then job.snapshot object, (right.spelled, λ name inode has. (kept.sound.placed leaf name inode live (ap (λ (n : Names). map.get n name) same ∙ has)).contains))
 
   pub ended_sound : IsSound t
   unfolding written

@@ -124,17 +124,12 @@ module _ (s : State) (sound : IsSound s) (dir : Ino) (gone cover : List Fragment
   live_which : (leaf : Leaf) → IsLive n.homes n.covers leaf → ((leaf.0.0 ≡ dir.0) × Comes row cover leaf.1) ⊎ (Apart leaf × IsLive s.homes s.covers leaf)
   live_which leaf live = elim (which leaf) [
     | inl ended ↦ absurd ((cut.stood leaf.1 ended.1).1 (in_cover leaf ended.0 live))
-    | inr stands ↦ ⊎_elim (λ came. inl came) (λ apart. inr (
-      apart,
-      record {
-        known = live.known;
-        stands = elim (same_number leaf.0.0 dir.0) [
-          | inr other ↦ subst (λ (fs : List Fragment). HasLeaf fs leaf.1) (cover_on leaf.0.0 other) live.stands
-          | inl same ↦ ⊎_elim (subst (λ (d : ℕ). HasLeaf (leaves_of s.covers d) leaf.1) (sym same)) (λ fresh. absurd (apart same (inr (in_cover leaf same live, fresh)))) (has_or_not row leaf.1)
-        ];
-      },
-    )) stands
+    | inr stands ↦ ⊎_elim (λ came. inl came) (λ apart. inr (apart, record { known = live.known; stands = before apart (same_number leaf.0.0 dir.0) })) stands
   ]
+    where
+      before : Apart leaf → (leaf.0.0 ≡ dir.0) ⊎ (leaf.0.0 ≡ dir.0 → ⊥) → HasLeaf (leaves_of s.covers leaf.0.0) leaf.1
+      before apart (inr other) = subst (λ (fs : List Fragment). HasLeaf fs leaf.1) (cover_on leaf.0.0 other) live.stands
+      before apart (inl same) = ⊎_elim (subst (λ (d : ℕ). HasLeaf (leaves_of s.covers d) leaf.1) (sym same)) (λ fresh. absurd (apart same (inr (in_cover leaf same live, fresh)))) (has_or_not row leaf.1)
 
   -- ---- names
 
