@@ -84,9 +84,9 @@ module _ (c view : Core) (is : view ≡ c) (sound : IsSoundCore c) (a : Dirfrag)
         subst (λ (o : Option Cached). HasCached o (λ (f : Cached). (is_clean f ≡ false) × IsBelowEnd f.base × (generation ≡ f.generation))) (sym its.1)
         (its.2, subst IsBelowEnd (sym found.2 ∙ ap (λ (v : Unsaved). v.base) its.3) below, sym found.3 ∙ ap (λ (v : Unsaved). v.generation) its.3)
 
-    pub lacks_number : IsAtEnd view.next_job base → HasBegun c c a (Err NoInodes)
-    lacks_number lacks = record {
-      begun = (inr (inr (live, none, u, found.1, inl (refl, subst (IsAtEnd s.next_job) (sym found.2) (subst (λ (k : Core). IsAtEnd k.next_job base) is lacks)))), refl);
+    pub lacks_number : (reason : Refusal) → (reason ≡ NoInodes) × IsAtEnd view.next_job base → HasBegun c c a (Err reason)
+    lacks_number reason why = record {
+      begun = (inr (inr (live, none, u, found.1, inl (why.0, subst (IsAtEnd s.next_job) (sym found.2) (subst (λ (k : Core). IsAtEnd k.next_job base) is why.1)))), refl);
       came = stays;
       sound = sound;
     }
@@ -107,9 +107,9 @@ module _ (c view : Core) (is : view ≡ c) (sound : IsSoundCore c) (a : Dirfrag)
       left : IsAtEnd s.next_job u.base → ⊥
       left lacks = enough (subst (λ (k : Core). IsAtEnd k.next_job base) (sym is) (subst (IsAtEnd s.next_job) found.2 lacks))
 
-      pub not_begun : (new : Core) → new ≡ used_core c a room → HasBegun c new a (Err NoMemory)
-      not_begun new is_used = subst (λ (k : Core). HasBegun c k a (Err NoMemory)) (sym is_used)
-          (record { begun = (inr (inr (live, none, u, found.1, inr (refl, left))), used_state); came = uses c.caches a.rank.0 leaf stays (refl, refl); sound = used_sound })
+      pub not_begun : (new : Core) → new ≡ used_core c a room → (reason : Refusal) → reason ≡ NoMemory → HasBegun c new a (Err reason)
+      not_begun new is_used reason why = subst (λ (k : Core). HasBegun c k a (Err reason)) (sym is_used)
+          (record { begun = (inr (inr (live, none, u, found.1, inr (why, left))), used_state); came = uses c.caches a.rank.0 leaf stays (refl, refl); sound = used_sound })
 
       -- and its job stands
       module _ (job : Job) (valid : IsSnap job.snapshot) (taken : HasCached (here c.caches a.rank.0 leaf) (IsJobOf s.next_job leaf job)) where

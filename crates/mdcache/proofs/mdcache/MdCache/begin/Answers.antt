@@ -1,4 +1,4 @@
-use Rattle.mdcache.proofs.Common.{Begins, Err, Refusal, leaf_of, rules, state_of, stays, subst, sym, ◌∙◌}
+use Rattle.mdcache.proofs.Common.{rules, stays, sym, ◌∙◌}
 use Rattle.mdcache.proofs.BeginSteps.{begins_none, begun_is, can_begin, lacks_number, none_found, not_begun}
 use Rattle.mdcache.proofs.mdcache.MdCache.begin.Goals as goal
 
@@ -12,13 +12,8 @@ returns-in_default g c =
 
 pub returns-in-Err : goal.returns-in-Err
 returns-in-Err g c =
-    let its = lacks_number c.args.self.now _ c.self.view_is c.requires.sound c.args.at.now c.requires.holds.alone c.requires.live (none_found c.get.result _ c.is_some.result c.get.ensures c.is_some.ensures c.if-is_some.false) c.in-Some.base c.in-Some.generation (sym c.in-Some.is ∙ c.unsaved.ensures) c.in-Err.ensures.err.1 in
-    record {
-      begun = subst (λ (reason : Refusal). Begins (state_of c.args.self.now) (state_of c.args.self.now) (leaf_of c.args.at.now) (Err reason)) (sym c.in-Err.ensures.err.0) its.begun;
-      came = its.came;
-      faults = search rules;
-      sound = its.sound;
-    }
+    let its = lacks_number c.args.self.now _ c.self.view_is c.requires.sound c.args.at.now c.requires.holds.alone c.requires.live (none_found c.get.result _ c.is_some.result c.get.ensures c.is_some.ensures c.if-is_some.false) c.in-Some.base c.in-Some.generation (sym c.in-Some.is ∙ c.unsaved.ensures) c.in-Err.refusal c.in-Err.ensures.err in
+    record { begun = its.begun; came = its.came; faults = search rules; sound = its.sound }
 
 pub begin_at-requires-clause-begins : goal.begin_at-requires-clause-begins
 begin_at-requires-clause-begins g c =
@@ -31,10 +26,5 @@ returns-in-Ok g c =
 
 pub returns-in-Err-begin_at : goal.returns-in-Err-begin_at
 returns-in-Err-begin_at g c =
-    let its = not_begun c.args.self.now _ c.self.view_is c.requires.sound c.args.at.now c.requires.holds.alone c.requires.live (none_found c.get.result _ c.is_some.result c.get.ensures c.is_some.ensures c.if-is_some.false) c.in-Some.base c.in-Some.generation (sym c.in-Some.is ∙ c.unsaved.ensures) c.begin_at.new.self.room c.in_default-check_numbers.ensures.ok.0 c.begin_at.new.self c.in-Err-begin_at.ensures.left in
-    record {
-      begun = subst (λ (reason : Refusal). Begins (state_of c.args.self.now) (state_of c.begin_at.new.self) (leaf_of c.args.at.now) (Err reason)) (sym c.in-Err-begin_at.ensures.err) its.begun;
-      came = its.came;
-      faults = search rules;
-      sound = its.sound;
-    }
+    let its = not_begun c.args.self.now _ c.self.view_is c.requires.sound c.args.at.now c.requires.holds.alone c.requires.live (none_found c.get.result _ c.is_some.result c.get.ensures c.is_some.ensures c.if-is_some.false) c.in-Some.base c.in-Some.generation (sym c.in-Some.is ∙ c.unsaved.ensures) c.begin_at.new.self.room c.in_default-check_numbers.ensures.ok.0 c.begin_at.new.self c.in-Err-begin_at.ensures.left c.in-Err-begin_at.refusal c.in-Err-begin_at.ensures.err in
+    record { begun = its.begun; came = its.came; faults = search rules; sound = its.sound }
