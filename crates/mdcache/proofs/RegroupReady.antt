@@ -1,5 +1,5 @@
 -- What is made ready for a split or a merge: first room and names are planned, then the place that was kept is given up, then leaves are read.
-use Rattle.mdcache.proofs.Common.{AreAbsent, AreCaches, AreKept, CacheMap, Cached, Core, Dirfrag, Err, Fragment, HasCached, IfErr, Ino, IsButPlaces, IsChildAt, IsDistinct, IsFamilyAt, IsNoLess, IsThat, IsThere, IsWhole, KeepsNone, LacksPlacesIn, Leaf, MayNotFind, MayNotKeepAll, None, NoneEnds, Ok, OnErr, OnOk, Option, Reads, ReadsCore, ReadsFamily, Refusal, Result, Some, StaysAt, ap, arith, at_rank, child_of, false, has_place, here, inl, inr, kept_at, leaf_is, leaf_itself, leaf_of, length, no_child, order, placed_given_up, readies_whole, reads_placed, reads_then, reads_weaker, refl, refused_whole, subst, suc, sym, true, unclean_at, unclean_of, without_children, zero, ℕ, ⊎_elim, ◌+◌, ◌<◌, ◌^◌, ◌∙◌, ◌≡◌, ◌≤◌, ◌⊎◌}
+use Rattle.mdcache.proofs.Common.{AreAbsent, AreCaches, AreKept, CacheMap, Cached, Core, Dirfrag, Fragment, HasCached, Ino, IsButPlaces, IsChildAt, IsDistinct, IsFamilyAt, IsNoLess, IsThat, IsThere, IsWhole, KeepsNone, LacksPlacesIn, Leaf, MayNotFind, MayNotKeepAll, None, NoneEnds, Option, Reads, ReadsCore, ReadsFamily, Refusal, Some, StaysAt, ap, arith, at_rank, child_of, false, has_place, here, inl, inr, kept_at, leaf_is, leaf_itself, leaf_of, length, no_child, order, placed_given_up, readies_whole, reads_placed, reads_then, reads_weaker, refl, refused_whole, subst, suc, sym, true, unclean_at, unclean_of, without_children, zero, ℕ, ⊎_elim, ◌+◌, ◌<◌, ◌^◌, ◌∙◌, ◌≡◌, ◌≤◌, ◌⊎◌}
 use Rattle.std.specs.FinMap as map
 use Rattle.dentry_cache.specs.Reads.Reads.{stays as it_stays}
 use Rattle.dentry_cache.proofs.ChildLaws.{AreDropped, are_dropped}
