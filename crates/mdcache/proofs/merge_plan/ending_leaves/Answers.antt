@@ -1,6 +1,6 @@
 use Rattle.mdcache.proofs.Common.{Fragment, List, [], ap, in_directory, leaves_in, leaves_inside, sym, text_of, texts_in, ◌++◌, ◌∙◌, ◌∷◌, ◌≡◌}
 use Rattle.std.specs.Prelude.{map as each}
-use mathlib.Core.List.{map-map}
+use Rattle.std.proofs.lemmas.Simd.{map-map}
 use Rattle.mdcache.proofs.JoinLaws.{inside_on}
 use Rattle.mdcache.proofs.merge_plan.ending_leaves.Goals as goal
 

@@ -1,5 +1,5 @@
 use Rattle.mdcache.proofs.Common.{Fragment, GoingLeaf, [], ap, in_directory, leaves_in, leaves_inside, string_bytes, sym, text_of, texts_in, ◌++◌, ◌∙◌, ◌∷◌}
-use mathlib.Core.List.{map-map}
+use Rattle.std.proofs.lemmas.Simd.{map-map}
 use Rattle.mdcache.proofs.JoinLaws.{inside_none, inside_one}
 use Rattle.mdcache.proofs.merge_plan.push_inside.Goals as goal
 
