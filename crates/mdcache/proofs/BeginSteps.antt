@@ -1,27 +1,17 @@
 -- What the beginning of a commit leaves, done or not.
-use Rattle.mdcache.proofs.Common.{AreCached, AreYoung, At, Base, Begins, BeginsWith, Bool, Bor, CacheMap, Cached, Core, Dirfrag, Err, HasCached, IsAtEnd, IsBelowEnd, IsFree, IsFreeFor, IsJobOf, IsLive, IsOf, IsSnap, IsSound, IsSoundCore, IsThere, Job, Leaf, Mark, NoInodes, NoMemory, None, Ok, Omap, Option, Rooms, Some, State, Unsaved, ap, at, at_rank, cond, counts_of, false, get_unclean, here, here_is, inl, inr, is_clean, is_same, is_some, job_for, object_of, option_copied, option_map, refl, same_Some, shown, shown_at, state_of, subst, sym, tied_show, true, unclean, unsaved_at, unsaved_in, used_at, used_core, used_unclean, with_job, with_job_in, ℕ, ◌+◌, ◌∙◌, ◌≡◌}
+use Rattle.mdcache.proofs.Common.{AreCached, AreYoung, Base, Begins, BeginsWith, Bool, Bor, CacheMap, Cached, Came, Core, Dirfrag, Err, HasCached, IsAtEnd, IsBelowEnd, IsFree, IsFreeFor, IsJobOf, IsLive, IsOf, IsSnap, IsSound, IsSoundCore, IsThat, IsThere, Job, Leaf, Mark, NoInodes, NoMemory, None, NoneEnds, Ok, Omap, Option, Refusal, Result, Rooms, Some, State, Unsaved, ap, at, at_rank, cond, counts_of, false, get_unclean, here, here_is, inl, inr, is_clean, is_same, is_some, job_for, object_of, option_copied, option_map, refl, shown, shown_at, state_of, stays, subst, sym, tied_show, true, unclean, unsaved_at, unsaved_in, used_at, used_core, used_unclean, uses, with_job, with_job_in, ℕ, ◌+◌, ◌∙◌, ◌≡◌}
 use Rattle.std.specs.FinMap as map
 use Rattle.mds_types.specs.Leaf.{leaf_of as leaf_at}
 use Rattle.dentry_cache.specs.Ties.{KeepsAt}
 use Rattle.mdcache.specs.Commits.{leaf_of}
+use Rattle.mdcache.proofs.EndLaws.{beyond_is}
 use Rattle.mdcache.proofs.SoundLaws.{begun_sound}
 use Rattle.mdcache.proofs.NoneLaws.{none_used}
 
 -- ---- what is told of a fragment
 
-abbrev pub told : Option Unsaved → Option (Base × ℕ)
+abbrev told : Option Unsaved → Option (Base × ℕ)
 told o = option_map (λ (u : Unsaved). (u.base, u.generation)) o
-
-pub unclean_told : (o : Option Cached) (f : Cached) (b : Bool) (base : Base) (generation : ℕ) → o ≡ Some f → b ≡ is_clean f → b ≡ false → base ≡ f.base → generation ≡ f.generation → Some (base, generation) ≡ told (unsaved_in o)
-unclean_told o f b base generation there clean apart is_base is_generation = sym (
-    ap (λ (p : Option Cached). told (unsaved_in p)) there ∙ ap (λ (t : Bool). told (cond t None (Some (record { base = f.base; generation = f.generation; dirty = f.dirty })))) (sym clean ∙ apart)
-    ∙ (λ i. Some (sym is_base i, sym is_generation i)))
-
-pub clean_told : (o : Option Cached) (f : Cached) (b : Bool) → o ≡ Some f → b ≡ is_clean f → b ≡ true → None ≡ told (unsaved_in o)
-clean_told o f b there clean is = sym (ap (λ (p : Option Cached). told (unsaved_in p)) there ∙ ap (λ (t : Bool). told (cond t None (Some (record { base = f.base; generation = f.generation; dirty = f.dirty })))) (sym clean ∙ is))
-
-pub absent_told : (o : Option Cached) → o ≡ None → None ≡ told (unsaved_in o)
-absent_told o there = sym (ap (λ (p : Option Cached). told (unsaved_in p)) there)
 
 -- a fragment of which this was told isn't clean
 pub unsaved_from : (o : Option Unsaved) (base : Base) (generation : ℕ) → Some (base, generation) ≡ told o → (u : Unsaved) × (o ≡ Some u) × (u.base ≡ base) × (u.generation ≡ generation)
@@ -46,117 +36,124 @@ keeps_itself (Some mark) = λ same. refl
 
 -- what isn't clean of a leaf that is free for a rank is that of its fragment there
 pub unclean_here : (c : CacheMap) (r : ℕ) (leaf : Leaf) → IsFreeFor c r leaf → map.get (unclean c) leaf ≡ unsaved_in (here c r leaf)
-unclean_here c r leaf free = get_unclean c leaf ∙ go (map.get c.held leaf) free
-  where
-    go : (o : Option At) → IsFree r o → unsaved_at o ≡ unsaved_in (at_rank r o)
-    go None is = refl
-    go (Some a) is = ap (λ (b : Bool). unsaved_in (cond b (Some a.frag) None)) (sym (is_same a.rank r is))
+unclean_here c r leaf free = get_unclean c leaf ∙ elim (map.get c.held leaf) as (λ o. IsFree r o → unsaved_at o ≡ unsaved_in (at_rank r o)) [
+  | None ↦ λ is. refl
+  | Some a ↦ λ is. ap (λ (b : Bool). unsaved_in (cond b (Some a.frag) None)) (sym (is_same a.rank r is))
+] free
 
-module _ (c : Core) (sound : IsSoundCore c) (a : Dirfrag) (free : IsFreeFor c.caches a.rank.0 (leaf_at a)) (live : IsLive c.homes c.covers (leaf_at a)) (none : map.get c.jobs (leaf_at a) ≡ None) where
+-- what a call leaves that begins a commit, or is refused
+pub record HasBegun (old new : Core) (a : Dirfrag) (result : Result (Option Job) Refusal) : Type 0 where
+  pub begun : Begins (state_of old) (state_of new) (leaf_at a) result
+  pub came : Came (IsThat a.rank.0 (leaf_at a)) NoneEnds old.caches new.caches
+  pub sound : IsSoundCore new
+
+module _ (c view : Core) (is : view ≡ c) (sound : IsSoundCore c) (a : Dirfrag) (free : IsFreeFor c.caches a.rank.0 (leaf_at a)) (live : IsLive c.homes c.covers (leaf_at a)) (none_stands : map.get view.jobs (leaf_at a) ≡ None) where
   abbrev leaf : Leaf
   leaf = leaf_at a
-
-  abbrev r : ℕ
-  r = a.rank.0
 
   abbrev s : State
   s = state_of c
 
+  none : map.get s.jobs leaf ≡ None
+  none = ap (λ (k : Core). map.get k.jobs leaf) (sym is) ∙ none_stands
+
+  -- of the fragment is told what isn't clean of its leaf
+  told_is : told (unsaved_in (here view.caches a.rank.0 leaf)) ≡ told (map.get s.unsaved leaf)
+  told_is = ap (λ (k : Core). told (unsaved_in (here k.caches a.rank.0 leaf))) is ∙ ap told (sym (unclean_here c.caches a.rank.0 leaf free))
+
   -- a clean fragment gives nothing
-  pub begins_none : map.get s.unsaved leaf ≡ None → Begins s s leaf (Ok None)
-  begins_none clean = (live, none, subst (λ (o : Option Unsaved). BeginsWith s s leaf o None) (sym clean) (refl, refl))
+  pub begins_none : None ≡ told (unsaved_in (here view.caches a.rank.0 leaf)) → HasBegun c c a (Ok None)
+  begins_none clean = record { begun = (live, none, subst (λ (o : Option Unsaved). BeginsWith s s leaf o None) (sym (none_told (map.get s.unsaved leaf) (clean ∙ told_is))) (refl, refl)); came = stays; sound = sound }
 
-  module _ (u : Unsaved) (beside : map.get s.unsaved leaf ≡ Some u) where
-    its : (f : Cached) × (here c.caches r leaf ≡ Some f) × (is_clean f ≡ false) × (u ≡ record { base = f.base; generation = f.generation; dirty = f.dirty })
-    its = go (here c.caches r leaf) (sym (unclean_here c.caches r leaf free) ∙ beside)
+  module _ (base : Base) (generation : ℕ) (is_told : Some (base, generation) ≡ told (unsaved_in (here view.caches a.rank.0 leaf))) where
+    found : (u : Unsaved) × (map.get s.unsaved leaf ≡ Some u) × (u.base ≡ base) × (u.generation ≡ generation)
+    found = unsaved_from (map.get s.unsaved leaf) base generation (is_told ∙ told_is)
+
+    abbrev u : Unsaved
+    u = found.0
+
+    its : (f : Cached) × (here c.caches a.rank.0 leaf ≡ Some f) × (is_clean f ≡ false) × (u ≡ record { base = f.base; generation = f.generation; dirty = f.dirty })
+    its = go (here c.caches a.rank.0 leaf) (sym (unclean_here c.caches a.rank.0 leaf free) ∙ found.1)
       where
-        on : (f : Cached) (b : Bool) → is_clean f ≡ b → cond b None (Some (record { base = f.base; generation = f.generation; dirty = f.dirty })) ≡ Some u → (is_clean f ≡ false) × (u ≡ record { base = f.base; generation = f.generation; dirty = f.dirty })
-        on f true is h = let clash : None ≡ Some u = h in absurd cc
-        on f false is h = (is, sym (same_Some (record { base = f.base; generation = f.generation; dirty = f.dirty }) u h))
-
         go : (o : Option Cached) → unsaved_in o ≡ Some u → (f : Cached) × (o ≡ Some f) × (is_clean f ≡ false) × (u ≡ record { base = f.base; generation = f.generation; dirty = f.dirty })
         go None is = let clash : None ≡ Some u = is in absurd cc
-        go (Some f) is = let w = on f (is_clean f) refl is in (f, refl, w.0, w.1)
+        go (Some f) is = let w = beyond_is f u is in (f, refl, w.0, sym w.1)
 
-    there : IsThere (here c.caches r leaf)
-    there = subst IsThere (sym its.1) tt
-
-    pub can_begin : (generation : ℕ) → u.generation ≡ generation → IsBelowEnd u.base → HasCached (here c.caches r leaf) (λ (f : Cached). (is_clean f ≡ false) × IsBelowEnd f.base × (generation ≡ f.generation))
-    can_begin generation is below =
+    pub can_begin : IsBelowEnd base → HasCached (here c.caches a.rank.0 leaf) (λ (f : Cached). (is_clean f ≡ false) × IsBelowEnd f.base × (generation ≡ f.generation))
+    can_begin below =
         subst (λ (o : Option Cached). HasCached o (λ (f : Cached). (is_clean f ≡ false) × IsBelowEnd f.base × (generation ≡ f.generation))) (sym its.1)
-        (its.2, subst (λ (v : Unsaved). IsBelowEnd v.base) its.3 below, sym is ∙ ap (λ (v : Unsaved). v.generation) its.3)
+        (its.2, subst IsBelowEnd (sym found.2 ∙ ap (λ (v : Unsaved). v.base) its.3) below, sym found.3 ∙ ap (λ (v : Unsaved). v.generation) its.3)
 
-    pub lacks_number : IsAtEnd s.next_job u.base → Begins s s leaf (Err NoInodes)
-    lacks_number lacks = (inr (inr (live, none, u, beside, inl (refl, lacks))), refl)
+    pub lacks_number : (reason : Refusal) → (reason ≡ NoInodes) × IsAtEnd view.next_job base → HasBegun c c a (Err reason)
+    lacks_number reason why = record {
+      begun = (inr (inr (live, none, u, found.1, inl (why.0, subst (IsAtEnd s.next_job) (sym found.2) (subst (λ (k : Core). IsAtEnd k.next_job base) is why.1)))), refl);
+      came = stays;
+      sound = sound;
+    }
 
     -- the leaf is used
-    module _ (room : Rooms) where
+    module _ (room : Rooms) (enough : IsAtEnd view.next_job base → ⊥) where
       used_state : state_of (used_core c a room) ≡ s
-      used_state = λ i. record s { unsaved = used_unclean c.caches (used_at c.caches r leaf) r leaf refl i }
+      used_state = λ i. record s { unsaved = used_unclean c.caches (used_at c.caches a.rank.0 leaf) a.rank.0 leaf refl i }
 
-      pub used_sound : IsSoundCore (used_core c a room)
+      used_sound : IsSoundCore (used_core c a room)
       used_sound = record {
         sound = subst IsSound (sym used_state) sound.sound;
         begun = sound.begun;
-        cached = subst (λ (t : State). AreCached t (used_at c.caches r leaf)) (sym used_state) sound.cached;
-        none = none_used c.caches r leaf sound.none (used_at c.caches r leaf) there refl;
+        cached = subst (λ (t : State). AreCached t (used_at c.caches a.rank.0 leaf)) (sym used_state) sound.cached;
+        none = none_used c.caches a.rank.0 leaf sound.none (used_at c.caches a.rank.0 leaf) (subst IsThere (sym its.1) tt) refl;
       }
 
-      module _ (lacks : IsAtEnd s.next_job u.base → ⊥) where
-        pub not_begun : Begins s (state_of (used_core c a room)) leaf (Err NoMemory)
-        not_begun = (inr (inr (live, none, u, beside, inr (refl, lacks))), used_state)
+      left : IsAtEnd s.next_job u.base → ⊥
+      left lacks = enough (subst (λ (k : Core). IsAtEnd k.next_job base) (sym is) (subst (IsAtEnd s.next_job) found.2 lacks))
 
-        -- and its job stands
-        module _ (job : Job) (valid : IsSnap job.snapshot) (taken : HasCached (here c.caches r leaf) (IsJobOf s.next_job leaf job)) where
-          abbrev f : Cached
-          f = its.0
+      pub not_begun : (new : Core) → new ≡ used_core c a room → (reason : Refusal) → reason ≡ NoMemory → HasBegun c new a (Err reason)
+      not_begun new is_used reason why = subst (λ (k : Core). HasBegun c k a (Err reason)) (sym is_used)
+          (record { begun = (inr (inr (live, none, u, found.1, inr (why, left))), used_state); came = uses c.caches a.rank.0 leaf stays (refl, refl); sound = used_sound })
 
-          abbrev object : Option Omap
-          object = object_of s.objects leaf.0 leaf.1
+      -- and its job stands
+      module _ (job : Job) (valid : IsSnap job.snapshot) (taken : HasCached (here c.caches a.rank.0 leaf) (IsJobOf s.next_job leaf job)) where
+        abbrev object : Option Omap
+        object = object_of s.objects leaf.0 leaf.1
 
-          of_it : IsJobOf s.next_job leaf job f
-          of_it = subst (λ (o : Option Cached). HasCached o (IsJobOf s.next_job leaf job)) its.1 taken
+        job_is : job ≡ job_for s leaf u
+        job_is =
+            let shows : shown its.0 ≡ shown_at (Some u) object = tied_show its.0 object (sound.cached leaf (at a.rank.0 its.0) (here_is a.rank.0 (map.get c.caches.held leaf) its.0 its.1)).tied ∙ ap (λ (v : Unsaved). shown_at (Some v) object) (sym its.3) in
+            subst (λ (o : Option Cached). HasCached o (IsJobOf s.next_job leaf job)) its.1 taken ∙ (λ i. record {
+              number = s.next_job;
+              ino = leaf.0;
+              frag = leaf.1;
+              generation = (sym its.3 i).generation;
+              snapshot = record { base = (sym its.3 i).base; names = (sym its.3 i).dirty; counts = counts_of (shows i) };
+            })
 
-          shows : shown f ≡ shown_at (Some u) object
-          shows = tied_show f object (sound.cached leaf (at r f) (here_is r (map.get c.caches.held leaf) f its.1)).tied ∙ ap (λ (v : Unsaved). shown_at (Some v) object) (sym its.3)
+        abbrev begun : Core
+        begun = with_job_in c a job room
 
-          job_is : job ≡ job_for s leaf u
-          job_is = of_it ∙ (λ i. record {
-            number = s.next_job;
-            ino = leaf.0;
-            frag = leaf.1;
-            generation = (sym its.3 i).generation;
-            snapshot = record { base = (sym its.3 i).base; names = (sym its.3 i).dirty; counts = counts_of (shows i) };
-          })
+        one_leaf : leaf_of job ≡ leaf
+        one_leaf = ap leaf_of job_is
 
-          abbrev begun : Core
-          begun = with_job_in c a job room
+        begun_state : state_of begun ≡ with_job s job
+        begun_state = λ i. record s { unsaved = used_unclean c.caches (used_at c.caches a.rank.0 leaf) a.rank.0 leaf refl i; jobs = map.insert s.jobs (sym one_leaf i) job; next_job = s.next_job + 1 }
 
-          one_leaf : leaf_of job ≡ leaf
-          one_leaf = ap leaf_of job_is
+        is_of : IsOf job u object
+        is_of = record {
+          valid = valid;
+          base = ap (λ (j : Job). j.snapshot.base) job_is;
+          generation = ap (λ (j : Job). j.generation) job_is;
+          keeps = λ name. subst (λ (j : Job). KeepsAt (map.get u.dirty name) (map.get j.snapshot.names name)) (sym job_is) (keeps_itself (map.get u.dirty name));
+          counted = subst (λ (j : Job). j.snapshot.counts ≡ counts_of (shown_at (Some (record { base = j.snapshot.base; generation = j.generation; dirty = j.snapshot.names })) object)) (sym job_is) refl;
+        }
 
-          begun_state : state_of begun ≡ with_job s job
-          begun_state = λ i. record s { unsaved = used_unclean c.caches (used_at c.caches r leaf) r leaf refl i; jobs = map.insert s.jobs (sym one_leaf i) job; next_job = s.next_job + 1 }
-
-          pub begun_is : Begins s (state_of begun) leaf (Ok (Some job))
-          begun_is = (live, none, subst (λ (o : Option Unsaved). BeginsWith s (state_of begun) leaf o (Some job)) (sym beside) (job_is, lacks, begun_state))
-
-          is_of : IsOf job u object
-          is_of = record {
-            valid = valid;
-            base = ap (λ (j : Job). j.snapshot.base) job_is;
-            generation = ap (λ (j : Job). j.generation) job_is;
-            keeps = λ name. subst (λ (j : Job). KeepsAt (map.get u.dirty name) (map.get j.snapshot.names name)) (sym job_is) (keeps_itself (map.get u.dirty name));
-            counted = subst (λ (j : Job). j.snapshot.counts ≡ counts_of (shown_at (Some (record { base = j.snapshot.base; generation = j.generation; dirty = j.snapshot.names })) object)) (sym job_is) refl;
-          }
-
-          pub begun_core : IsSoundCore begun
-          begun_core = record {
-            sound = subst IsSound (sym begun_state) (begun_sound s job u sound.sound (ap (map.get s.unsaved) one_leaf ∙ beside) (ap (λ (j : Job). j.number) job_is) young (subst (λ (l : Leaf). IsOf job u (object_of s.objects l.0 l.1)) (sym one_leaf) is_of));
+        pub begun_is : (new : Core) → new ≡ begun → HasBegun c new a (Ok (Some job))
+        begun_is new is_begun = subst (λ (k : Core). HasBegun c k a (Ok (Some job))) (sym is_begun) (record {
+          begun = (live, none, subst (λ (o : Option Unsaved). BeginsWith s (state_of begun) leaf o (Some job)) (sym found.1) (job_is, left, begun_state));
+          came = uses c.caches a.rank.0 leaf stays (refl, refl);
+          sound = record {
+            sound = subst IsSound (sym begun_state) (begun_sound s job u sound.sound (ap (map.get s.unsaved) one_leaf ∙ found.1) (ap (λ (j : Job). j.number) job_is)
+                (subst (λ (j : Job). AreYoung j.snapshot.names s.next_version) (sym job_is) (sound.sound.unsaved leaf u found.1).young) (subst (λ (l : Leaf). IsOf job u (object_of s.objects l.0 l.1)) (sym one_leaf) is_of));
             begun = sound.begun;
             cached = λ q b is. let was = used_sound.cached q b is in record { live = was.live; tied = was.tied; made = was.made };
             none = used_sound.none;
-          }
-            where
-              young : AreYoung job.snapshot.names s.next_version
-              young = subst (λ (j : Job). AreYoung j.snapshot.names s.next_version) (sym job_is) (sound.sound.unsaved leaf u beside).young
+          };
+        })

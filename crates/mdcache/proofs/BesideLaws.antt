@@ -2,7 +2,7 @@
 use Rattle.mdcache.proofs.Common.{AreCached, AreCaches, CacheMap, Core, Err, Ino, IsDropped, IsSound, IsSoundCore, Job, Jobs, KeepsNone, Keys, Leaf, List, None, Objects, Ok, OnErr, OnOk, Option, Purges, PurgesName, Refusal, Result, Rooms, Some, State, ap, clean_there, evicted, first_name, given_up, goes, held_given_up, is_known, last_passes, leaves_of, length, not, option_map, order, purged, refl, same_Some, shown_tree, state_of, subst, sym, tree_saved, tree_text, true, unclean, unclean_gone, victim, whole_given_up, with_tree_at, ℕ, ◌<◌, ◌∙◌, ◌≡◌}
 use Rattle.std.specs.FinMap as map
 use Rattle.dentry_cache.specs.Cache.{stays}
-use Rattle.mdcache.proofs.ObjectLaws.{purged_cached, purged_sound, purged_tree, tree_saved_cached, tree_saved_sound, tree_saved_tree}
+use Rattle.mdcache.proofs.ObjectLaws.{purged_right, tree_saved_right}
 use Rattle.mdcache.proofs.SoundLaws.{dropped_sound}
 
 module _ (old view : Core) (is : view ≡ old) (sound : IsSoundCore old) where
@@ -38,15 +38,15 @@ module _ (old view : Core) (is : view ≡ old) (sound : IsSoundCore old) where
 
     pub purge_sound : IsSoundCore less
     purge_sound = record {
-      sound = subst IsSound (sym is_purged) (purged_sound (state_of view) name now.sound first);
+      sound = subst IsSound (sym is_purged) (purged_right (state_of view) name now.sound first).sound;
       begun = now.begun;
-      cached = subst (λ (s : State). AreCached s view.caches) (sym is_purged) (purged_cached (state_of view) name now.sound first view.caches now.cached);
+      cached = subst (λ (s : State). AreCached s view.caches) (sym is_purged) ((purged_right (state_of view) name now.sound first).cached view.caches now.cached);
       none = now.none;
     }
 
     pub purge_purged : (before after : ℕ) → Purges (state_of old) (state_of less) before after (Ok tt)
     purge_purged before after = subst (λ (k : Core). Purges (state_of k) (state_of less) before after (Ok tt)) is
-        (subst (λ (o : Option (List ℕ)). PurgesName (state_of view) (state_of less) before after o (Ok tt)) (sym first) (is_purged, ap shown_tree is_purged ∙ purged_tree (state_of view) name now.sound first))
+        (subst (λ (o : Option (List ℕ)). PurgesName (state_of view) (state_of less) before after o (Ok tt)) (sym first) (is_purged, ap shown_tree is_purged ∙ (purged_right (state_of view) name now.sound first).tree))
 
   -- the object of a directory's tree is brought up to date
   module _ (dir : Ino) (objects : Objects) (purge : Keys) (faults : ℕ) (room : Rooms) (known : is_known view.homes dir.0 ≡ true) (saved : objects ≡ with_tree_at view.objects (tree_text dir) (leaves_of view.covers dir.0)) (listed : purge ≡ map.remove view.purge (tree_text dir)) where
@@ -58,15 +58,15 @@ module _ (old view : Core) (is : view ≡ old) (sound : IsSoundCore old) where
 
     pub tree_sound : IsSoundCore written
     tree_sound = record {
-      sound = subst IsSound (sym is_written) (tree_saved_sound (state_of view) dir now.sound known);
+      sound = subst IsSound (sym is_written) (tree_saved_right (state_of view) dir now.sound known).sound;
       begun = now.begun;
-      cached = subst (λ (s : State). AreCached s view.caches) (sym is_written) (tree_saved_cached (state_of view) dir now.sound known view.caches now.cached);
+      cached = subst (λ (s : State). AreCached s view.caches) (sym is_written) ((tree_saved_right (state_of view) dir now.sound known).cached view.caches now.cached);
       none = now.none;
     }
 
     pub tree_is : (is_known old.homes dir.0 ≡ true) × (state_of written ≡ tree_saved (state_of old) dir) × (shown_tree (state_of written) ≡ shown_tree (state_of old))
     tree_is = subst (λ (k : Core). (is_known k.homes dir.0 ≡ true) × (state_of written ≡ tree_saved (state_of k) dir) × (shown_tree (state_of written) ≡ shown_tree (state_of k))) is
-        (known, is_written, ap shown_tree is_written ∙ tree_saved_tree (state_of view) dir now.sound known)
+        (known, is_written, ap shown_tree is_written ∙ (tree_saved_right (state_of view) dir now.sound known).tree)
 
   -- the least recently used of a rank's clean fragments goes
   module _ (r : ℕ) (caches : CacheMap) (there : r < length view.caches.used) (valid : AreCaches view.caches) where

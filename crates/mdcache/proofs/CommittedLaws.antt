@@ -1,5 +1,5 @@
 -- Commits of whole fragments, one after the other.
-use Rattle.mdcache.proofs.Common.{Base, Bool, CommitsWhole, Ends, Err, HasSpelled, IsAsItWas, IsAtHand, IsEnded, IsLive, IsSound, IsWritten, Job, Jobs, LacksNumbers, Leaf, List, MayNotCommit, None, Objects, Ok, Refusal, Result, Some, State, Unsaved, UnsavedLeaves, ap, arith, cond, false, get_beside, inl, inr, len-empty, names_at, names_then, next_version, object_of, refl, same_Some, shown_at, shown_over, shown_tree, subst, sym, text_of, true, write_of, ℕ, ◌+◌, ◌<◌, ◌∙◌, ◌≡◌, ◌⊎◌}
+use Rattle.mdcache.proofs.Common.{Base, Bool, CommitsWhole, Ends, Err, HasSpelled, IsAsItWas, IsAtHand, IsEnded, IsLive, IsSound, IsWritten, Job, Jobs, LacksNumbers, Leaf, List, MayNotCommit, None, Ok, Refusal, Result, Some, State, Unsaved, UnsavedLeaves, ap, arith, cond, false, get_beside, inl, inr, len-empty, names_at, names_then, next_version, object_of, refl, same_Some, shown_at, shown_over, subst, sym, text_of, true, ℕ, ⊎_elim, ◌+◌, ◌<◌, ◌∙◌, ◌≡◌, ◌⊎◌}
 use Rattle.std.specs.FinMap as map
 use Rattle.mds_types.proofs.LeafLaws.{get_left, get_removed, same_or_apart}
 use Rattle.objstore.specs.Objects.{written}
@@ -7,41 +7,22 @@ use Rattle.dentry_cache.specs.Cache.{leaf_cmp}
 use Rattle.mdcache.specs.Commits.{leaf_of}
 use Rattle.mdcache.specs.Shown.{names_of}
 use Rattle.mdcache.proofs.AtHandLaws.{ended_are_clean}
+use Rattle.mdcache.proofs.SoundLaws.{names_alike}
 use Rattle.mdcache.proofs.TextLaws.{one_text}
 
--- what changes no leaf and no object
-pub jobs_alone : (old new : State) → new ≡ record old { jobs = new.jobs; next_job = new.next_job } → CommitsWhole old new
-jobs_alone old new left = record {
-  left = left ∙ (λ i. record old { unsaved = sym (ap (λ (s : State). s.unsaved) left) i; objects = sym (ap (λ (s : State). s.objects) left) i; jobs = new.jobs; next_job = new.next_job });
-  tree = ap shown_tree left;
-  each = λ leaf live. inl (ap (λ (s : State). map.get s.unsaved leaf) left, ap (λ (s : State). object_of s.objects leaf.0 leaf.1) left);
-  others = λ name none. ap (λ (s : State). map.get s.objects name) left;
-}
-
--- jobs that are given up
+-- jobs alone change, as where they are given up
 pub given_up_whole : (old new : State) (jobs : Jobs) (n : ℕ) → new ≡ record old { jobs = jobs; next_job = n } → CommitsWhole old new
-given_up_whole old new jobs n left = jobs_alone old new (left ∙ (λ i. record old { jobs = sym (ap (λ (s : State). s.jobs) left) i; next_job = sym (ap (λ (s : State). s.next_job) left) i }))
-
--- what a leaf shows, where it is as it was
-shows_as : (old new : State) (leaf : Leaf) → IsAsItWas old new leaf → names_of new.unsaved new.objects leaf ≡ names_of old.unsaved old.objects leaf
-unfolding names_of
-shows_as old new leaf same = λ i. shown_at (same.0 i) (same.1 i)
+given_up_whole old new jobs n left = subst (CommitsWhole old) (sym left) (record { left = refl; tree = refl; each = λ leaf live. inl (refl, refl); others = λ name none. refl })
 
 -- commits after others
 module _ (old mid new : State) (first : CommitsWhole old mid) (second : CommitsWhole mid new) where
-  live_still : (leaf : Leaf) → IsLive old.homes old.covers leaf → IsLive mid.homes mid.covers leaf
-  live_still leaf live = subst (λ (s : State). IsLive s.homes s.covers leaf) (sym first.left) live
-
-  live_before : (leaf : Leaf) → IsLive mid.homes mid.covers leaf → IsLive old.homes old.covers leaf
-  live_before leaf live = subst (λ (s : State). IsLive s.homes s.covers leaf) first.left live
-
   each_of : (leaf : Leaf) → IsAsItWas old mid leaf ⊎ IsWritten old mid leaf → IsAsItWas mid new leaf ⊎ IsWritten mid new leaf → IsAsItWas old new leaf ⊎ IsWritten old new leaf
   each_of leaf (inl a) (inl b) = inl (b.0 ∙ a.0, b.1 ∙ a.1)
   each_of leaf (inl a) (inr w) = inr (record {
     unsaved = w.unsaved;
     was = sym a.0 ∙ w.was;
     clean = w.clean;
-    spelled = subst (HasSpelled (object_of new.objects leaf.0 leaf.1) (next_version w.unsaved.base)) (shows_as old mid leaf a) w.spelled;
+    spelled = subst (HasSpelled (object_of new.objects leaf.0 leaf.1) (next_version w.unsaved.base)) (names_alike old mid leaf a.0 a.1) w.spelled;
   })
   each_of leaf (inr w) (inl b) = inr (record {
     unsaved = w.unsaved;
@@ -55,8 +36,8 @@ module _ (old mid new : State) (first : CommitsWhole old mid) (second : CommitsW
   whole_then = record {
     left = second.left ∙ (λ i. record (first.left i) { unsaved = new.unsaved; objects = new.objects; jobs = new.jobs; next_job = new.next_job });
     tree = second.tree ∙ first.tree;
-    each = λ leaf live. each_of leaf (first.each leaf live) (second.each leaf (live_still leaf live));
-    others = λ name none. second.others name (λ leaf live. none leaf (live_before leaf live)) ∙ first.others name none;
+    each = λ leaf live. each_of leaf (first.each leaf live) (second.each leaf (subst (λ (s : State). IsLive s.homes s.covers leaf) (sym first.left) live));
+    others = λ name none. second.others name (λ leaf live. none leaf (subst (λ (s : State). IsLive s.homes s.covers leaf) first.left live)) ∙ first.others name none;
   }
 
 -- a commit of a fragment that hasn't changed since it began
@@ -91,36 +72,25 @@ module _ (now new : State) (job : Job) (sound : IsSound now) (hand : IsAtHand no
         (subst (HasSpelled (object_of new.objects job.ino job.frag) (next_version job.snapshot.base)) shows_then ended.spelled);
   }
 
-  objects : new.objects ≡ written now.objects (text_of leaf) (write_of job.snapshot)
-  objects = ap (λ (s : State). s.objects) ended.left
-
   object_beside : (name : List ℕ) → (name ≡ text_of leaf → ⊥) → map.get new.objects name ≡ map.get now.objects name
   unfolding written
-  object_beside name apart = ap (λ (m : Objects). map.get m name) objects ∙ get_beside now.objects (text_of leaf) _ name apart
+  object_beside name apart = ap (λ (s : State). map.get s.objects name) ended.left ∙ get_beside now.objects (text_of leaf) _ name apart
 
-  beside : (q : Leaf) → IsLive now.homes now.covers q → (q ≡ leaf → ⊥) → IsAsItWas now new q
-  beside q it_lives apart = (
-    ap (λ m. map.get m q) removed ∙ get_left now.unsaved leaf q apart,
-    object_beside (text_of q) (λ same. apart (one_text now.homes now.covers sound.table sound.numbered q leaf it_lives live same)),
-  )
-
-  pub ended_whole : CommitsWhole now new
+  ended_whole : CommitsWhole now new
   ended_whole = record {
-    left = ended.left ∙ (λ i. record now { unsaved = sym (ap (λ (s : State). s.unsaved) ended.left) i; objects = sym objects i; jobs = sym (ap (λ (s : State). s.jobs) ended.left) i; next_job = now.next_job })
-        ∙ (λ i. record now { unsaved = new.unsaved; objects = new.objects; jobs = new.jobs; next_job = sym (ap (λ (s : State). s.next_job) ended.left) i });
+    left = subst (λ (k : State). k ≡ record now { unsaved = k.unsaved; objects = k.objects; jobs = k.jobs; next_job = k.next_job }) (sym ended.left) refl;
     tree = ended.tree;
-    each = λ q it_lives. go q it_lives (same_or_apart q leaf);
+    each = λ q it_lives. ⊎_elim (λ same. inr (subst (IsWritten now new) (sym same) here_written)) (λ apart. inl (
+      ap (λ m. map.get m q) removed ∙ get_left now.unsaved leaf q apart,
+      object_beside (text_of q) (λ same. apart (one_text now.homes now.covers sound.table sound.numbered q leaf it_lives live same)),
+    )) (same_or_apart q leaf);
     others = λ name none. object_beside name (none leaf live);
   }
-    where
-      go : (q : Leaf) → IsLive now.homes now.covers q → (q ≡ leaf) ⊎ (q ≡ leaf → ⊥) → IsAsItWas now new q ⊎ IsWritten now new q
-      go q it_lives (inl same) = inr (subst (IsWritten now new) (sym same) here_written)
-      go q it_lives (inr apart) = inl (beside q it_lives apart)
 
 -- done or not
 pub ends_whole : (now new : State) (before after : ℕ) (job : Job) → IsSound now → IsAtHand now job → (result : Result (Unit {0}) Refusal) → Ends now new before after job result → CommitsWhole now new
 ends_whole now new before after job sound hand (Ok done) ended = ended_whole now new job sound hand ended
-ends_whole now new before after job sound hand (Err reason) refused = subst (CommitsWhole now) (sym refused.1) (jobs_alone now now refl)
+ends_whole now new before after job sound hand (Err reason) refused = subst (CommitsWhole now) (sym refused.1) (given_up_whole now now _ _ refl)
 
 -- ---- batch after batch
 
@@ -128,11 +98,9 @@ ends_whole now new before after job sound hand (Err reason) refused = subst (Com
 pub lacked_before : (n : ℕ) (old now : State) (before after : ℕ) (reason : Refusal) → CommitsWhole old now → IsSound now → now.next_job ≡ old.next_job → MayNotCommit n now before after reason → MayNotCommit n old before after reason
 lacked_before n old now before after reason whole sound number (inl may) = inl may
 lacked_before n old now before after reason whole sound number (inr (no_number, inl lacks)) = inr (no_number, inl (subst (LacksNumbers n) number lacks))
-lacked_before n old now before after reason whole sound number (inr (no_number, inr (leaf, u, is, above))) = go (whole.each leaf (subst (λ (s : State). IsLive s.homes s.covers leaf) whole.left (sound.unsaved leaf u is).live))
-  where
-    go : IsAsItWas old now leaf ⊎ IsWritten old now leaf → MayNotCommit n old before after reason
-    go (inl same) = inr (no_number, inr (leaf, u, sym same.0 ∙ is, above))
-    go (inr w) = let clash : None ≡ Some u = sym w.clean ∙ is in absurd cc
+lacked_before n old now before after reason whole sound number (inr (no_number, inr (leaf, u, is, above))) =
+    ⊎_elim (λ same. inr (no_number, inr (leaf, u, sym same.0 ∙ is, above))) (λ w. let clash : None ≡ Some u = sym w.clean ∙ is in absurd cc)
+    (whole.each leaf (subst (λ (s : State). IsLive s.homes s.covers leaf) whole.left (sound.unsaved leaf u is).live))
 
 -- each turn leaves less to do
 pub turn_ends : (some : Bool) (old new : UnsavedLeaves) → (some ≡ true → map.len new < map.len old) → (some ≡ false → new ≡ map.empty) → map.len new + cond some 1 0 < map.len old + 1

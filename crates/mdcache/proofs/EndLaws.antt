@@ -1,14 +1,17 @@
 -- What the end of a commit keeps.
-use Rattle.mdcache.proofs.Common.{AreCached, AreYoung, At, Base, Bool, Cached, Commits, Core, Fresh, HasSpelled, Inode, IsCachedIn, IsCommitted, IsCounted, IsEnded, IsLive, IsOf, IsOwned, IsSaved, IsSound, IsSoundCore, IsStanding, IsTabled, IsTied, IsUnsaved, Job, Keeps, Leaf, List, Marks, Names, None, Omap, Option, Snap, Some, SpellsFragment, State, Stored, Unsaved, ap, arith, at, committed, committed_are_tied, cond, empty_of_len, eq_by_cmp, eqb-true, false, get-unsettled, get_beside, get_put, get_unclean, get_with_frag, here_is, inl, is_clean, is_clean_over, is_settled, is_some, key_cmp, key_itself, key_tied, leaf_is, leaf_itself, names_at, names_then, next_version, none_entries, not, object_after, object_of, one_leaf, refl, same_Some, same_leaf, shown, shown_at, shown_over, shown_tree, spells_what_it_shows, state_of, subst, sym, text_of, tied_show, true, unclean, unclean_with, unsaved_at, unsaved_of, unsettled, with_frag, with_marks, with_unsaved, ℕ, ◌<◌, ◌==◌, ◌∙◌, ◌≡◌}
+use Rattle.mdcache.proofs.Common.{AreCached, AreYoung, At, Base, Bool, Cached, Commits, Core, Fresh, HasSpelled, IsCachedIn, IsCommitted, IsCounted, IsEnded, IsLive, IsOf, IsSaved, IsSound, IsSoundCore, IsStanding, IsTabled, IsTied, IsUnsaved, Job, Keeps, Leaf, Marks, Names, None, Omap, Option, Some, State, Stored, Unsaved, ap, arith, at, committed, committed_are_tied, cond, empty_of_len, eqb-true, false, get-unsettled, get_beside, get_put, get_unclean, get_with_frag, here_is, inl, inr, is_clean, is_clean_over, is_settled, is_some, leaf_is, leaf_itself, leaf_or_apart, names_at, names_then, next_version, none_entries, not, object_after, object_of, refl, same_Some, same_leaf, shown, shown_at, shown_over, shown_tree, spells_what_it_shows, state_of, subst, sym, text_of, tied_show, true, unclean, unclean_with, unsaved_at, unsaved_of, unsettled, with_frag, with_marks, with_unsaved, ℕ, ⊎_elim, ◌<◌, ◌==◌, ◌∙◌, ◌≡◌}
 use Rattle.std.specs.FinMap as map
+use Rattle.std.proofs.lemmas.Bool.{cases_Bool}
+use Rattle.mds_types.proofs.LeafLaws.{get_removed}
 use Rattle.objstore.specs.Objects.{written}
+use Rattle.dirfrag_codec.proofs.ByteKeys.{same_or_apart as key_or_apart}
 use Rattle.cached_frag.specs.Marks.{patched}
 use Rattle.dentry_cache.specs.CacheMap.{here as here_of}
 use Rattle.dentry_cache.specs.Ties.{IsRight}
 use Rattle.dentry_cache.proofs.CacheLaws.{unsaved_here as unsaved_here_at}
 use Rattle.mdcache.specs.Commits.{leaf_of, left_of}
 use Rattle.mdcache.specs.Shown.{names_of}
-use Rattle.mdcache.proofs.SoundLaws.{get_ended, names_alike, stood_before}
+use Rattle.mdcache.proofs.SoundLaws.{names_alike, stood_before}
 use Rattle.mdcache.proofs.TextLaws.{one_text}
 use Rattle.mdcache.proofs.TreeLaws.{tree_alike}
 
@@ -20,23 +23,22 @@ nothing_patched names marks none = ap (λ es. with_marks names es) (none_entries
 
 -- a cached fragment shows what isn't clean of it over its object
 pub cached_shows : (f : Cached) (object : Option Omap) → IsTied f object → shown_at (unsaved_of f) object ≡ shown f
-cached_shows f object tie = go (is_clean f) refl
+cached_shows f object tie = elim (cases_Bool (is_clean f)) [
+  | inl clean ↦ ap (λ (b : Bool). shown_at (cond b None (Some (record { base = f.base; generation = f.generation; dirty = f.dirty }))) object) clean ∙ clean_shows f.base refl clean ∙ sym (tied_show f object tie)
+  | inr dirty ↦ ap (λ (b : Bool). shown_at (cond b None (Some (record { base = f.base; generation = f.generation; dirty = f.dirty }))) object) dirty ∙ sym (tied_show f object tie)
+]
   where
     clean_shows : (b : Base) → f.base ≡ b → is_clean_over b f.dirty ≡ true → names_at object ≡ shown_over b (names_at object) f.dirty
     clean_shows Fresh is clean = let clash : false ≡ true = clean in cc
     clean_shows (Stored version) is clean = sym (nothing_patched (names_at object) f.dirty (eqb-true (map.len f.dirty) 0 clean))
 
-    go : (b : Bool) → is_clean f ≡ b → shown_at (cond b None (Some (record { base = f.base; generation = f.generation; dirty = f.dirty }))) object ≡ shown f
-    go true clean = clean_shows f.base refl clean ∙ sym (tied_show f object tie)
-    go false dirty = sym (tied_show f object tie)
-
 -- what a fragment that isn't clean has beyond its object
-beyond_is : (f : Cached) (u : Unsaved) → unsaved_of f ≡ Some u → record { base = f.base; generation = f.generation; dirty = f.dirty } ≡ u
-beyond_is f u is = go (is_clean f) is
-  where
-    go : (b : Bool) → cond b None (Some (record { base = f.base; generation = f.generation; dirty = f.dirty })) ≡ Some u → record { base = f.base; generation = f.generation; dirty = f.dirty } ≡ u
-    go true h = let clash : None ≡ Some u = h in cc
-    go false h = same_Some (record { base = f.base; generation = f.generation; dirty = f.dirty }) u h
+some_but : {A : Type 0} (b : Bool) (x y : A) → cond b None (Some x) ≡ Some y → (b ≡ false) × (x ≡ y)
+some_but true x y h = let clash : None ≡ Some y = h in absurd cc
+some_but false x y h = (refl, same_Some x y h)
+
+pub beyond_is : (f : Cached) (u : Unsaved) → unsaved_of f ≡ Some u → (is_clean f ≡ false) × (record { base = f.base; generation = f.generation; dirty = f.dirty } ≡ u)
+beyond_is f u is = some_but (is_clean f) (record { base = f.base; generation = f.generation; dirty = f.dirty }) u is
 
 -- ---- a commit ended
 
@@ -45,22 +47,19 @@ module _ (c : Core) (r : ℕ) (job : Job) (kept : IsSoundCore c) (stood : map.ge
   abbrev s : State
   s = state_of c
 
-  abbrev pub leaf : Leaf
+  abbrev leaf : Leaf
   leaf = leaf_of job
 
-  abbrev pub snap : Snap
-  snap = job.snapshot
-
-  abbrev pub object : Option Omap
+  abbrev object : Option Omap
   object = object_of s.objects job.ino job.frag
 
-  abbrev pub here : Omap
-  here = object_after snap object
+  abbrev here : Omap
+  here = object_after job.snapshot object
 
-  abbrev pub stands : IsStanding s leaf job
+  abbrev stands : IsStanding s leaf job
   stands = kept.sound.standing leaf job stood
 
-  abbrev pub u : Unsaved
+  abbrev u : Unsaved
   u = stands.unsaved
 
   held : map.get c.caches.held leaf ≡ Some (at r f)
@@ -70,18 +69,16 @@ module _ (c : Core) (r : ℕ) (job : Job) (kept : IsSoundCore c) (stood : map.ge
   beyond = sym (get_unclean c.caches leaf ∙ ap unsaved_at held) ∙ stands.beside
 
   its_own : u ≡ record { base = f.base; generation = f.generation; dirty = f.dirty }
-  its_own = sym (beyond_is f u beyond)
+  its_own = sym (beyond_is f u beyond).1
 
   tie : IsTied f object
   tie = (kept.cached leaf (at r f) held).tied
 
-  commits : Commits snap f object
-  commits =
+  right : IsRight job.snapshot now object
+  right =
       let o = stands.taken in
-      record { valid = o.valid; based = o.base ∙ ap (λ (v : Unsaved). v.base) its_own; keeps = subst (λ (v : Unsaved). Keeps v.dirty snap.names) its_own o.keeps; counted = o.counted }
-
-  right : IsRight snap now object
-  right = committed_are_tied snap f now object tie commits done
+      let commits : Commits job.snapshot f object = record { valid = o.valid; based = o.base ∙ ap (λ (v : Unsaved). v.base) its_own; keeps = subst (λ (v : Unsaved). Keeps v.dirty job.snapshot.names) its_own o.keeps; counted = o.counted } in
+      committed_are_tied job.snapshot f now object tie commits done
 
   abbrev pub t : State
   t = committed s job u
@@ -101,9 +98,9 @@ module _ (c : Core) (r : ℕ) (job : Job) (kept : IsSoundCore c) (stood : map.ge
 
   -- what isn't clean
 
-  left_unsaved : unsaved_of now ≡ left_of u snap
+  left_unsaved : unsaved_of now ≡ left_of u job.snapshot
   left_unsaved =
-      let dirty : now.dirty ≡ unsettled u.dirty snap.names = done.dirty ∙ ap (λ (v : Unsaved). unsettled v.dirty snap.names) (sym its_own) in
+      let dirty : now.dirty ≡ unsettled u.dirty job.snapshot.names = done.dirty ∙ ap (λ (v : Unsaved). unsettled v.dirty job.snapshot.names) (sym its_own) in
       let generation : now.generation ≡ u.generation = done.generation ∙ ap (λ (v : Unsaved). v.generation) (sym its_own) in
       let based = done.based in
       λ i. cond (is_clean_over (based i) (dirty i)) None (Some (record { base = based i; generation = generation i; dirty = dirty i }))
@@ -111,11 +108,11 @@ module _ (c : Core) (r : ℕ) (job : Job) (kept : IsSoundCore c) (stood : map.ge
   pub now_unclean : unclean (with_frag c.caches r leaf now) ≡ t.unsaved
   now_unclean = unclean_with c.caches r leaf now ∙ (λ i. with_unsaved (unclean c.caches) leaf (left_unsaved i))
 
-  unsaved_here : map.get t.unsaved leaf ≡ left_of u snap
-  unsaved_here = unsaved_here_at s.unsaved leaf leaf (left_of u snap) ∙ ap (λ (b : Bool). cond b (left_of u snap) (map.get s.unsaved leaf)) (leaf_itself leaf)
+  unsaved_now : (q : Leaf) (b : Bool) → leaf_is q leaf ≡ b → map.get t.unsaved q ≡ cond b (left_of u job.snapshot) (map.get s.unsaved q)
+  unsaved_now q b is = unsaved_here_at s.unsaved leaf q (left_of u job.snapshot) ∙ ap (λ (y : Bool). cond y (left_of u job.snapshot) (map.get s.unsaved q)) is
 
-  unsaved_beside : (q : Leaf) → leaf_is q leaf ≡ false → map.get t.unsaved q ≡ map.get s.unsaved q
-  unsaved_beside q apart = unsaved_here_at s.unsaved leaf q (left_of u snap) ∙ ap (λ (b : Bool). cond b (left_of u snap) (map.get s.unsaved q)) apart
+  unsaved_here : map.get t.unsaved leaf ≡ left_of u job.snapshot
+  unsaved_here = unsaved_now leaf true (leaf_itself leaf)
 
   -- what is shown
 
@@ -123,123 +120,77 @@ module _ (c : Core) (r : ℕ) (job : Job) (kept : IsSoundCore c) (stood : map.ge
   unfolding names_of
   shows_here =
       (λ i. shown_at ((unsaved_here ∙ sym left_unsaved) i) (object_here i)) ∙ cached_shows now (Some here) right.tied ∙ done.shown ∙ sym (cached_shows f object tie)
-      ∙ (λ i. shown_at (back i) object)
-    where
-      back : unsaved_of f ≡ map.get s.unsaved leaf
-      back = beyond ∙ sym stands.beside
+      ∙ (λ i. shown_at ((beyond ∙ sym stands.beside) i) object)
 
   shows : (q : Leaf) → IsLive s.homes s.covers q → names_of t.unsaved t.objects q ≡ names_of s.unsaved s.objects q
-  shows q is = go (leaf_is q leaf) refl
-    where
-      go : (b : Bool) → leaf_is q leaf ≡ b → names_of t.unsaved t.objects q ≡ names_of s.unsaved s.objects q
-      go true same = subst (λ (l : Leaf). names_of t.unsaved t.objects l ≡ names_of s.unsaved s.objects l) (sym (one_leaf q leaf same)) shows_here
-      go false apart = names_alike s t q (unsaved_beside q apart) (object_beside q is apart)
+  shows q is = ⊎_elim (λ same. subst (λ (l : Leaf). names_of t.unsaved t.objects l ≡ names_of s.unsaved s.objects l) (sym same) shows_here)
+      (λ apart. names_alike s t q (unsaved_now q false apart) (object_beside q is apart)) (leaf_or_apart q leaf)
 
-  pub tree_stays : shown_tree t ≡ shown_tree s
+  tree_stays : shown_tree t ≡ shown_tree s
   tree_stays = tree_alike s.homes s.covers (names_of t.unsaved t.objects) (names_of s.unsaved s.objects) shows
 
   -- soundness
 
-  younger : AreYoung (unsettled u.dirty snap.names) s.next_version
-  younger name mark is = go (not (is_settled (map.get u.dirty name) (map.get snap.names name))) (sym (get-unsettled u.dirty snap.names name) ∙ is)
-    where
-      go : (b : Bool) → cond b (map.get u.dirty name) None ≡ Some mark → mark.version < s.next_version
-      go true h = (kept.sound.unsaved leaf u stands.beside).young name mark h
-      go false h = let clash : None ≡ Some mark = h in cc
-
-  left_is : (v : Unsaved) (b : Bool) → cond b None (Some (record { base = Stored (next_version snap.base); generation = u.generation; dirty = unsettled u.dirty snap.names })) ≡ Some v → IsUnsaved t leaf v
-  left_is v true h = let clash : None ≡ Some v = h in cc
-  left_is v false h =
-      let same : record { base = Stored (next_version snap.base); generation = u.generation; dirty = unsettled u.dirty snap.names } ≡ v = cc in
-      subst (IsUnsaved t leaf) same (record { live = live; made = (kept.sound.unsaved leaf u stands.beside).made; young = younger })
-
-  unsaved_stays : (q : Leaf) (v : Unsaved) → map.get t.unsaved q ≡ Some v → IsUnsaved t q v
-  unsaved_stays q v is = go (leaf_is q leaf) refl
-    where
-      go : (b : Bool) → leaf_is q leaf ≡ b → IsUnsaved t q v
-      go true same =
-          let key = one_leaf q leaf same in
-          subst (λ (l : Leaf). IsUnsaved t l v) (sym key) (left_is v (map.len (unsettled u.dirty snap.names) == 0) (sym unsaved_here ∙ ap (map.get t.unsaved) (sym key) ∙ is))
-      go false apart = let before = kept.sound.unsaved q v (sym (unsaved_beside q apart) ∙ is) in record { live = before.live; made = before.made; young = before.young }
-
-  spells : SpellsFragment here (next_version snap.base) (names_then snap object)
-  spells = right.spelled
-
-  names_if_clean : map.get t.unsaved leaf ≡ None → names_of t.unsaved t.objects leaf ≡ names_at (Some here)
-  unfolding names_of
-  names_if_clean clean = λ i. shown_at (clean i) (object_here i)
+  younger : AreYoung (unsettled u.dirty job.snapshot.names) s.next_version
+  younger name mark is = elim (not (is_settled (map.get u.dirty name) (map.get job.snapshot.names name))) as (λ b. cond b (map.get u.dirty name) None ≡ Some mark → mark.version < s.next_version) [
+    | true ↦ (kept.sound.unsaved leaf u stands.beside).young name mark
+    | false ↦ λ h. let clash : None ≡ Some mark = h in absurd cc
+  ] (sym (get-unsettled u.dirty job.snapshot.names name) ∙ is)
 
   saved_here : map.get t.unsaved leaf ≡ None → IsSaved leaf.1 (Some here)
-  saved_here clean = (next_version snap.base, names_then snap object, (spells, λ name inode has. (kept.sound.placed leaf name inode live (told name inode has)).contains))
-    where
-      told : (name : List ℕ) (inode : Inode) → map.get (names_then snap object) name ≡ Some inode → map.get (names_of s.unsaved s.objects leaf) name ≡ Some inode
-      told name inode has = ap (λ (n : Names). map.get n name) (sym shows_here ∙ names_if_clean clean ∙ sym (spells_what_it_shows here (next_version snap.base) (names_then snap object) spells)) ∙ has
-
-  saved_stays : (q : Leaf) → IsLive s.homes s.covers q → map.get t.unsaved q ≡ None → IsSaved q.1 (object_of t.objects q.0 q.1)
-  saved_stays q is clean = go (leaf_is q leaf) refl
-    where
-      go : (b : Bool) → leaf_is q leaf ≡ b → IsSaved q.1 (object_of t.objects q.0 q.1)
-      go true same =
-          let key = one_leaf q leaf same in
-          subst (λ (l : Leaf). IsSaved l.1 (object_of t.objects l.0 l.1)) (sym key) (subst (IsSaved leaf.1) (sym object_here) (saved_here (ap (map.get t.unsaved) (sym key) ∙ clean)))
-      go false apart = subst (IsSaved q.1) (sym (object_beside q is apart)) (kept.sound.saved q is (sym (unsaved_beside q apart) ∙ clean))
-
-  owned_stays : (name : List ℕ) → is_some (map.get t.objects name) ≡ true → IsOwned t name
-  unfolding written
-  owned_stays name has = go (eq_by_cmp key_cmp name (text_of leaf)) refl
-    where
-      go : (b : Bool) → eq_by_cmp key_cmp name (text_of leaf) ≡ b → IsOwned t name
-      go true same = inl (leaf, live, key_tied name (text_of leaf) same)
-      go false apart =
-          kept.sound.owned name (ap (λ (o : Option Omap). is_some o) (sym (get_beside s.objects (text_of leaf) _ name (λ same. let clash : true ≡ false = sym (ap (λ (k : List ℕ). eq_by_cmp key_cmp k (text_of leaf)) same ∙ key_itself (text_of leaf)) ∙ apart in cc))) ∙ has)
-
-  stands_stay : (q : Leaf) (i : Job) → map.get t.jobs q ≡ Some i → IsStanding t q i
-  stands_stay q i is = go (leaf_is q leaf) refl
-    where
-      before : IsStanding s q i
-      before = kept.sound.standing q i (stood_before s leaf q i is)
-
-      go : (b : Bool) → leaf_is q leaf ≡ b → IsStanding t q i
-      go true same = let clash : None ≡ Some i = sym (get_ended s leaf q ∙ ap (λ (b : Bool). cond b None (map.get s.jobs q)) same) ∙ is in cc
-      go false apart = record {
-        mine = before.mine;
-        given = before.given;
-        young = before.young;
-        unsaved = before.unsaved;
-        beside = unsaved_beside q apart ∙ before.beside;
-        taken = subst (IsOf i before.unsaved) (sym (object_beside q (kept.sound.unsaved q before.unsaved before.beside).live apart)) before.taken;
-      }
+  unfolding names_of
+  saved_here clean =
+      let same : names_of s.unsaved s.objects leaf ≡ names_then job.snapshot object =
+      sym shows_here ∙ (λ i. shown_at (clean i) (object_here i)) ∙ sym (spells_what_it_shows here (next_version job.snapshot.base) (names_then job.snapshot object) right.spelled) in
+      (next_version job.snapshot.base, names_then job.snapshot object, (right.spelled, λ name inode has. (kept.sound.placed leaf name inode live (ap (λ (n : Names). map.get n name) same ∙ has)).contains))
 
   pub ended_sound : IsSound t
+  unfolding written
   ended_sound = record {
     table = kept.sound.table;
     numbered = kept.sound.numbered;
     tabled = subst (λ tree. IsTabled tree s.homes) (sym tree_stays) kept.sound.tabled;
     counted = subst (λ tree. IsCounted tree s.counts s.pins) (sym tree_stays) kept.sound.counted;
     placed = λ q name inode is has. kept.sound.placed q name inode is (ap (λ (n : Names). map.get n name) (sym (shows q is)) ∙ has);
-    unsaved = unsaved_stays;
-    saved = saved_stays;
-    owned = owned_stays;
+    unsaved = λ q v is. elim (leaf_or_apart q leaf) [
+      | inl same ↦ subst (λ (l : Leaf). IsUnsaved t l v) (sym same) (subst (IsUnsaved t leaf)
+          (some_but (map.len (unsettled u.dirty job.snapshot.names) == 0) (record { base = Stored (next_version job.snapshot.base); generation = u.generation; dirty = unsettled u.dirty job.snapshot.names }) v (sym unsaved_here ∙ ap (map.get t.unsaved) (sym same) ∙ is)).1
+          (record { live = live; made = (kept.sound.unsaved leaf u stands.beside).made; young = younger }))
+      | inr apart ↦ let before = kept.sound.unsaved q v (sym (unsaved_now q false apart) ∙ is) in record { live = before.live; made = before.made; young = before.young }
+    ];
+    saved = λ q is clean. ⊎_elim
+        (λ same. subst (λ (l : Leaf). IsSaved l.1 (object_of t.objects l.0 l.1)) (sym same) (subst (IsSaved leaf.1) (sym object_here) (saved_here (ap (map.get t.unsaved) (sym same) ∙ clean))))
+        (λ apart. subst (IsSaved q.1) (sym (object_beside q is apart)) (kept.sound.saved q is (sym (unsaved_now q false apart) ∙ clean))) (leaf_or_apart q leaf);
+    owned = λ name has.
+        ⊎_elim (λ same. inl (leaf, live, same)) (λ apart. kept.sound.owned name (ap is_some (sym (get_beside s.objects (text_of leaf) _ name apart)) ∙ has)) (key_or_apart name (text_of leaf));
     listed = kept.sound.listed;
-    standing = stands_stay;
+    standing = λ q i is. elim (leaf_or_apart q leaf) [
+      | inl same ↦ let clash : None ≡ Some i = sym (get_removed s.jobs leaf) ∙ ap (map.get t.jobs) (sym same) ∙ is in absurd cc
+      | inr apart ↦
+          let before = kept.sound.standing q i (stood_before s leaf q i is) in
+          record {
+            mine = before.mine;
+            given = before.given;
+            young = before.young;
+            unsaved = before.unsaved;
+            beside = unsaved_now q false apart ∙ before.beside;
+            taken = subst (IsOf i before.unsaved) (sym (object_beside q (kept.sound.unsaved q before.unsaved before.beside).live apart)) before.taken;
+          }
+    ];
     once = λ a b i j p q same. kept.sound.once a b i j (stood_before s leaf a i p) (stood_before s leaf b j q) same;
   }
 
   pub ended_cached : AreCached t (with_frag c.caches r leaf now)
-  ended_cached q a is = go (leaf_is q leaf) refl (sym (get_with_frag c.caches r leaf now q) ∙ is)
-    where
-      mine : IsCachedIn t leaf now
-      mine = record {
-        live = live;
-        tied = subst (IsTied now) (sym object_here) right.tied;
-        made = (let given = (kept.cached leaf (at r f) held).made in let generation = done.generation in omega (arith, given, generation));
-      }
-
-      go : (b : Bool) → leaf_is q leaf ≡ b → cond b (Some (at r now)) (map.get c.caches.held q) ≡ Some a → IsCachedIn t q a.frag
-      go true one h = subst (λ (l : Leaf). IsCachedIn t l a.frag) (sym (one_leaf q leaf one)) (subst (IsCachedIn t leaf) (ap (λ (x : At). x.frag) (same_Some (at r now) a h)) mine)
-      go false apart h =
-          let was = kept.cached q a h in
-          record { live = was.live; tied = subst (IsTied a.frag) (sym (object_beside q was.live apart)) was.tied; made = was.made }
+  ended_cached q a is = elim (leaf_or_apart q leaf) [
+    | inl same ↦
+        let now_is : at r now ≡ a = same_Some (at r now) a (sym (get_with_frag c.caches r leaf now q ∙ ap (λ (b : Bool). cond b (Some (at r now)) (map.get c.caches.held q)) (same_leaf q leaf same)) ∙ is) in
+        let given = (kept.cached leaf (at r f) held).made in
+        let generation = done.generation in
+        subst (λ (l : Leaf). IsCachedIn t l a.frag) (sym same) (subst (λ (x : At). IsCachedIn t leaf x.frag) now_is (record { live = live; tied = subst (IsTied now) (sym object_here) right.tied; made = omega (arith, given, generation) }))
+    | inr apart ↦
+        let was = kept.cached q a (sym (get_with_frag c.caches r leaf now q ∙ ap (λ (b : Bool). cond b (Some (at r now)) (map.get c.caches.held q)) apart) ∙ is) in
+        record { live = was.live; tied = subst (IsTied a.frag) (sym (object_beside q was.live apart)) was.tied; made = was.made }
+  ]
 
   pub ended : IsEnded s t job
-  ended = record { stood = stood; unsaved = u; beside = stands.beside; left = refl; spelled = subst (λ o. HasSpelled o (next_version snap.base) (names_then snap object)) (sym object_here) spells; tree = tree_stays }
+  ended = record { stood = stood; unsaved = u; beside = stands.beside; left = refl; spelled = subst (λ o. HasSpelled o (next_version job.snapshot.base) (names_then job.snapshot object)) (sym object_here) right.spelled; tree = tree_stays }

@@ -1,18 +1,15 @@
 -- The purge list, where a leaf was split and where leaves were merged.
-use Rattle.mdcache.proofs.Common.{Contains, Frag, Fragment, HasLeaf, Ino, IsChild, IsFragment, IsListedAnew, Keys, List, NameChildren, None, ObjName, Some, [], ap, arith, child_is_fragment, child_of, get_beside, get_left, get_put, get_removed, in_directory, inl, inr, refl, subst, suc, sym, text_of, texts_differ, with_objects, without_objects, zero, ℕ, ◌+◌, ◌<◌, ◌^◌, ◌∙◌, ◌∷◌, ◌≡◌, ◌≤◌, ◌⊎◌}
+use Rattle.mdcache.proofs.Common.{Contains, Frag, Fragment, HasLeaf, Ino, IsChild, IsFragment, IsListedAnew, Keys, List, NameChildren, None, Some, [], ap, arith, child_is_fragment, child_of, get_beside, get_left, get_put, get_removed, in_directory, inl, inr, refl, subst, suc, sym, text_of, texts_differ, with_objects, without_objects, zero, ℕ, ⊎_elim, ◌+◌, ◌<◌, ◌^◌, ◌∙◌, ◌∷◌, ◌≡◌, ◌≤◌}
 use Rattle.std.specs.Prelude.{map as each}
 use Rattle.std.specs.FinMap as map
-use Rattle.mds_types.specs.declared.object_names.ObjName.TheVariants.{Tree as TreeOf}
 use Rattle.dirfrag_codec.proofs.ByteKeys.{same_or_apart as key_or_apart}
+use Rattle.mdcache.proofs.SplitLaws.{only_one}
 
 -- what isn't on the list stays off it
 stays_off : (names : Keys) (texts : List (List ℕ)) (q : List ℕ) → map.get names q ≡ None → map.get (without_objects names texts) q ≡ None
 stays_off names [] q none = none
-stays_off names (text ∷ texts) q none = stays_off (map.remove names text) texts q (go (key_or_apart q text))
-  where
-    go : (q ≡ text) ⊎ (q ≡ text → ⊥) → map.get (map.remove names text) q ≡ None
-    go (inl same) = ap (map.get (map.remove names text)) same ∙ get_removed names text
-    go (inr apart) = get_left names text q apart ∙ none
+stays_off names (text ∷ texts) q none =
+    stays_off (map.remove names text) texts q (⊎_elim (λ same. ap (map.get (map.remove names text)) same ∙ get_removed names text) (λ apart. get_left names text q apart ∙ none) (key_or_apart q text))
 
 -- a name that was taken off isn't on it,
 is_off : (names : Keys) (texts : List (List ℕ)) (q : List ℕ) → Contains texts q → map.get (without_objects names texts) q ≡ None
@@ -27,15 +24,11 @@ is_left names (text ∷ texts) q none =
     is_left (map.remove names text) texts q (λ has. none (suc has.0, let within = has.1 in omega (arith, within), has.2))
     ∙ get_left names text q (λ same. none (zero, omega arith, sym same))
 
-abbrev fragment_in : ObjName → Fragment
-fragment_in (Frag dir f) = f
-fragment_in (TreeOf dir) = record { bits = 0; value = 0 }
-
 -- a split's list: the leaf's object is on it, the children's are not, and of other names nothing changes
 pub listed_anew : (old : Keys) (dir : Ino) (frag : Fragment) (nb : ℕ) (texts : List (List ℕ)) (Came : Fragment → Type 0) → dir.0 < 2 ^ 64 → IsFragment frag → 1 ≤ nb → frag.bits + nb ≤ 24 → NameChildren dir frag nb texts
     → ((g : Fragment) → Came g → IsChild frag nb g) → ((i : ℕ) → i < 2 ^ nb → Came (child_of frag i nb)) → IsListedAnew old (without_objects (map.insert old (text_of (dir, frag)) tt) texts) dir (frag ∷ []) Came
 listed_anew old dir frag nb texts Came small valid some few named is_child comes = record {
-  ended = λ g has. subst (λ (h : Fragment). map.get (without_objects (map.insert old (text_of (dir, frag)) tt) texts) (text_of (dir, h)) ≡ Some tt) (only g has)
+  ended = λ g has. subst (λ (h : Fragment). map.get (without_objects (map.insert old (text_of (dir, frag)) tt) texts) (text_of (dir, h)) ≡ Some tt) (only_one frag g has)
       (is_left (map.insert old (text_of (dir, frag)) tt) texts (text_of (dir, frag)) no_child_text ∙ get_put old (text_of (dir, frag)) tt);
   came = λ g came. let child = is_child g came in
       is_off (map.insert old (text_of (dir, frag)) tt) texts (text_of (dir, g)) (subst (λ (h : Fragment). Contains texts (text_of (dir, h))) (sym child.2) (named.each child.0 child.1));
@@ -44,14 +37,11 @@ listed_anew old dir frag nb texts Came small valid some few named is_child comes
       ∙ get_beside old (text_of (dir, frag)) tt name (none frag (inl (zero, omega arith, refl)));
 }
   where
-    only : (g : Fragment) → HasLeaf (frag ∷ []) g → frag ≡ g
-    only g (zero, within, is) = is
-    only g (suc k, within, is) = absurd (omega (arith, within))
-
     no_child_text : Contains texts (text_of (dir, frag)) → ⊥
     no_child_text has =
         let child = named.only (text_of (dir, frag)) has in
-        let one : frag ≡ child_of frag child.0 nb = ap fragment_in (texts_differ (Frag dir frag) (Frag dir (child_of frag child.0 nb)) (small, valid) (small, child_is_fragment frag child.0 nb valid few child.1) child.2) in
+        let names : Frag dir frag ≡ Frag dir (child_of frag child.0 nb) = texts_differ (Frag dir frag) (Frag dir (child_of frag child.0 nb)) (small, valid) (small, child_is_fragment frag child.0 nb valid few child.1) child.2 in
+        let one : frag ≡ child_of frag child.0 nb = cc in
         let bits : frag.bits ≡ frag.bits + nb = ap (λ (g : Fragment). g.bits) one in
         omega (arith, bits, some)
 
@@ -60,11 +50,8 @@ listed_anew old dir frag nb texts Came small valid some few named is_child comes
 -- the list with names that came on it has them, and those that it had
 came_on : (names : Keys) (texts : List (List ℕ)) (q : List ℕ) → map.get names q ≡ Some tt → map.get (with_objects names texts) q ≡ Some tt
 came_on names [] q has = has
-came_on names (text ∷ texts) q has = came_on (map.insert names text tt) texts q (go (key_or_apart q text))
-  where
-    go : (q ≡ text) ⊎ (q ≡ text → ⊥) → map.get (map.insert names text tt) q ≡ Some tt
-    go (inl same) = ap (map.get (map.insert names text tt)) same ∙ get_put names text tt
-    go (inr apart) = get_beside names text tt q apart ∙ has
+came_on names (text ∷ texts) q has =
+    came_on (map.insert names text tt) texts q (⊎_elim (λ same. ap (map.get (map.insert names text tt)) same ∙ get_put names text tt) (λ apart. get_beside names text tt q apart ∙ has) (key_or_apart q text))
 
 pub texts_on : (names : Keys) (dir : Ino) (fs : List Fragment) (f : Fragment) → HasLeaf fs f → map.get (with_objects names (each text_of (each (in_directory dir.0) fs))) (text_of (dir, f)) ≡ Some tt
 texts_on names dir [] f (k, stands, is) = absurd (omega (arith, stands))

@@ -1,56 +1,34 @@
 -- The names of leaves that are merged are those that the joined fragment contains.
-use Rattle.mdcache.proofs.Common.{Bool, CanMerge, Fragment, HasLeaf, Ino, Inode, IsFragment, IsMerge, IsPick, IsSound, IsTree, Leaf, List, Mark, Names, None, Option, Some, State, [], ap, arith, between, cond, dentry_of, false, first_or_later, hash_of, holds, holds_contains, in_directory, inl, inr, is_known, is_same, later, leaves_inside, leaves_of, length, lies_inside, marked_as, merged_after_merge, name_joined, names_of, pick_after_merge, range_from_inside, refl, shown_tree, span, span_pos, subst, sym, tree_of_row, true, zero, ℕ, ◌%◌, ◌/◌, ◌^◌, ◌∙◌, ◌∷◌, ◌≡◌, ◌≤◌, ◌⊎◌}
+use Rattle.mdcache.proofs.Common.{Bool, CanMerge, Fragment, HasLeaf, Ino, Inode, IsMerge, IsPick, IsSound, IsTree, Leaf, List, Mark, Names, None, Option, Some, State, [], ap, arith, between, cond, dentry_of, false, first_or_later, get_or, hash_of, holds, holds_contains, in_directory, inl, inr, is_known, is_same, later, leaves_inside, leaves_of, lies_inside, marked_as, merged_after_merge, name_joined, names_of, one_or_other, pick_after_merge, range_from_inside, refl, shown_tree, span, span_pos, subst, sym, tree_of_row, true, zero, ℕ, ⊎_elim, ◌%◌, ◌/◌, ◌^◌, ◌∙◌, ◌∷◌, ◌≡◌, ◌⊎◌}
+use Rattle.std.proofs.lemmas.Bool.{cases_Bool, true_from_ne_false}
+use Rattle.std.proofs.lemmas.List.Elements.{Contains-get_or}
+use Rattle.std.specs.Cmp.{both_ways}
 use Rattle.std.specs.Prelude.{map as each}
 use Rattle.std.specs.FinMap as map
-use Rattle.mds_types.specs.Frag.{Contains}
 use Rattle.fragtree.proofs.Spelled.{one_leaf as one_of_hash}
 use Rattle.mdcache.proofs.NamedLaws.{pick_at, sound_leaves, stands_at}
 use Rattle.mdcache.proofs.SplitLaws.{has_inside, inside_has}
 
 -- ---- the fragment of a merge
 
--- where leaves can be merged, one lies inside
-some_inside : (leaves : List Fragment) (f : Fragment) → 1 ≤ length (leaves_inside f leaves) → (g : Fragment) × HasLeaf leaves g × (lies_inside f g ≡ true)
-some_inside leaves f some = go (leaves_inside f leaves) refl some
-  where
-    go : (ls : List Fragment) → leaves_inside f leaves ≡ ls → 1 ≤ length ls → (g : Fragment) × HasLeaf leaves g × (lies_inside f g ≡ true)
-    go [] is more = absurd (omega (arith, more))
-    go (g ∷ gs) is more =
-        let has = has_inside f g leaves (subst (λ (ls : List Fragment). HasLeaf ls g) (sym is) (zero, omega arith, refl)) in
-        (g, has.0, has.1)
-
 -- the fragment is no leaf before the merge
 pub merged_is_new : (row : List Fragment) (frag : Fragment) → IsTree row → CanMerge row frag → HasLeaf row frag → ⊥
 merged_is_new row frag tree can has =
-    let g = some_inside row frag can.some in
-    let valid : IsFragment frag = (between 0 16777216 row frag tree.tiles has).0 in
-    let within = range_from_inside frag g.0 valid g.2 in
-    let positive = span_pos g.0.bits in
-    let one : frag ≡ g.0 = one_of_hash row frag g.0 g.0.value tree has g.1 within.1 within.2 (omega arith) (omega (arith, positive)) in
-    let bits : frag.bits ≡ g.0.bits = ap (λ (f : Fragment). f.bits) one in
+    let g = get_or (leaves_inside frag row) 0 frag in
+    let both = has_inside frag g row (Contains-get_or (leaves_inside frag row) 0 frag can.some) in
+    let within = range_from_inside frag g (between 0 16777216 row frag tree.tiles has).0 both.1 in
+    let positive = span_pos g.bits in
+    let one : frag ≡ g = one_of_hash row frag g g.value tree has both.0 within.1 within.2 (omega arith) (omega (arith, positive)) in
+    let bits : frag.bits ≡ g.bits = ap (λ (f : Fragment). f.bits) one in
     omega (arith, bits, within.0)
-
-contains_holds : (frag : Fragment) (hash : ℕ) → Contains frag hash → holds frag hash ≡ true
-contains_holds frag hash is = is_same ((hash % 2 ^ 24) / span frag.bits) (frag.value / span frag.bits) is
 
 -- the pick of a hash is merged if and only if the fragment contains the hash
 pub pick_inside : (row cover : List Fragment) (frag : Fragment) → IsTree row → IsTree cover → CanMerge row frag → IsMerge row cover frag → (hash : ℕ) (p : Fragment) → IsPick row hash p → lies_inside frag p ≡ holds frag hash
-pick_inside row cover frag tree whole can merged hash p pick = go (lies_inside frag p) refl (holds frag hash) refl
-  where
-    stands : HasLeaf cover frag
-    stands = (merged.leaves frag).1 (inr refl)
-
-    go : (a : Bool) → lies_inside frag p ≡ a → (b : Bool) → holds frag hash ≡ b → a ≡ b
-    go true inside true has = refl
-    go false outside false none = refl
-    go true inside false none =
-        let now = merged_after_merge row cover frag whole hash p pick tree merged inside in
-        let clash : true ≡ false = sym (contains_holds frag hash now.contains) ∙ none in
-        cc
-    go false outside true has =
-        let now = pick_after_merge row cover frag whole hash p pick merged outside in
-        let one : frag ≡ p = now.alone frag stands (holds_contains frag hash has) in
-        absurd (merged_is_new row frag tree can (subst (HasLeaf row) (sym one) pick.stands))
+pick_inside row cover frag tree whole can merged hash p pick = both_ways (lies_inside frag p) (holds frag hash)
+    (λ inside. is_same ((hash % 2 ^ 24) / span frag.bits) (frag.value / span frag.bits) (merged_after_merge row cover frag whole hash p pick tree merged inside).contains)
+    (λ has. true_from_ne_false (lies_inside frag p) (λ outside.
+    let one : frag ≡ p = (pick_after_merge row cover frag whole hash p pick merged outside).alone frag ((merged.leaves frag).1 (inr refl)) (holds_contains frag hash has) in
+    merged_is_new row frag tree can (subst (HasLeaf row) (sym one) pick.stands)))
 
 -- ---- a name of the leaves that were merged
 
@@ -67,17 +45,7 @@ module _ (s : State) (sound : IsSound s) (dir : Ino) (known : is_known s.homes d
   abbrev found : Option Inode
   found = map.get (shown_tree s) (dentry_of dir.0 name)
 
-  -- a leaf has the name, if it is its pick and the tree has it
-  its : (f : Fragment) → HasLeaf row f → (map.get (names (dir, f)) name ≡ found) ⊎ (map.get (names (dir, f)) name ≡ None)
-  its f has = go (map.get (names (dir, f)) name) refl
-    where
-      go : (o : Option Inode) → map.get (names (dir, f)) name ≡ o → (o ≡ found) ⊎ (o ≡ None)
-      go None is = inr refl
-      go (Some inode) is =
-          let one : f ≡ pick.0 = pick.1.alone f has (sound.placed (dir, f) name inode (record { known = known; stands = has }) is).contains in
-          inl (sym (stands_at s (sound_leaves s sound) (dentry_of dir.0 name) pick.0 known pick.1 ∙ ap (λ (g : Fragment). map.get (names (dir, g)) name) (sym one) ∙ is))
-
-  -- of all leaves the pick alone has it
+  -- of all leaves the pick alone has it, if the tree has it
   none_beside : (f : Fragment) → HasLeaf row f → (f ≡ pick.0 → ⊥) → map.get (names (dir, f)) name ≡ None
   none_beside f has apart = go (map.get (names (dir, f)) name) refl
     where
@@ -88,6 +56,9 @@ module _ (s : State) (sound : IsSound s) (dir : Ino) (known : is_known s.homes d
   here : map.get (names (dir, pick.0)) name ≡ found
   here = sym (stands_at s (sound_leaves s sound) (dentry_of dir.0 name) pick.0 known pick.1)
 
+  its : (f : Fragment) → HasLeaf row f → (map.get (names (dir, f)) name ≡ found) ⊎ (map.get (names (dir, f)) name ≡ None)
+  its f has = ⊎_elim (λ same. inl (ap (λ (g : Fragment). map.get (names (dir, g)) name) same ∙ here)) (λ apart. inr (none_beside f has apart)) (one_or_other f pick.0)
+
   module _ (version : ℕ) where
     abbrev joined : List Fragment → Option Mark → Option Mark
     joined fs was = name_joined names version (each (in_directory dir.0) fs) name was
@@ -97,58 +68,47 @@ module _ (s : State) (sound : IsSound s) (dir : Ino) (known : is_known s.homes d
     joined_none (f ∷ fs) was none =
         ap (λ (o : Option Inode). joined fs (marked_as version o was)) (none f (zero, omega arith, refl)) ∙ joined_none fs was (λ g has. none g (later f g fs has))
 
-    module _ (inode : Inode) (there : found ≡ Some inode) where
-      abbrev mark : Option Mark
-      mark = Some (record { version = version; inode = Some inode })
+    -- that of the tree, once it is there
+    abbrev mark : Option Mark
+    mark = marked_as version found None
 
-      stays : (fs : List Fragment) → ((f : Fragment) → HasLeaf fs f → HasLeaf row f) → joined fs mark ≡ mark
-      stays [] within = refl
-      stays (f ∷ fs) within = step (its f (within f (zero, omega arith, refl))) ∙ stays fs (λ g has. within g (later f g fs has))
-        where
-          step : (map.get (names (dir, f)) name ≡ found) ⊎ (map.get (names (dir, f)) name ≡ None) → joined fs (marked_as version (map.get (names (dir, f)) name) mark) ≡ joined fs mark
-          step (inl is) = ap (λ (o : Option Inode). joined fs (marked_as version o mark)) (is ∙ there)
-          step (inr none) = ap (λ (o : Option Inode). joined fs (marked_as version o mark)) none
+    again : (o : Option Inode) → marked_as version o (marked_as version o None) ≡ marked_as version o None
+    again None = refl
+    again (Some inode) = refl
 
-      comes : (fs : List Fragment) (was : Option Mark) → ((f : Fragment) → HasLeaf fs f → HasLeaf row f) → HasLeaf fs pick.0 → joined fs was ≡ mark
-      comes [] was within has = let none = has.1 in absurd (omega (arith, none))
-      comes (f ∷ fs) was within has = go (comes fs (marked_as version (map.get (names (dir, f)) name) was) (λ g h. within g (later f g fs h))) (first_or_later f pick.0 fs has)
-        where
-          go : (HasLeaf fs pick.0 → joined (f ∷ fs) was ≡ mark) → (f ≡ pick.0) ⊎ HasLeaf fs pick.0 → joined (f ∷ fs) was ≡ mark
-          go next (inl same) =
-              ap (λ (o : Option Inode). joined fs (marked_as version o was)) (ap (λ (g : Fragment). map.get (names (dir, g)) name) same ∙ here ∙ there)
-              ∙ stays fs (λ g h. within g (later f g fs h))
-          go next (inr more) = next more
+    stays : (fs : List Fragment) → ((f : Fragment) → HasLeaf fs f → HasLeaf row f) → joined fs mark ≡ mark
+    stays [] within = refl
+    stays (f ∷ fs) within =
+        ap (joined fs) (⊎_elim (λ is. ap (λ (o : Option Inode). marked_as version o mark) is ∙ again found) (λ none. ap (λ (o : Option Inode). marked_as version o mark) none) (its f (within f (zero, omega arith, refl))))
+        ∙ stays fs (λ g has. within g (later f g fs has))
+
+    comes : (fs : List Fragment) → ((f : Fragment) → HasLeaf fs f → HasLeaf row f) → HasLeaf fs pick.0 → joined fs None ≡ mark
+    comes [] within has = let none = has.1 in absurd (omega (arith, none))
+    comes (f ∷ fs) within has =
+        let rest : (g : Fragment) → HasLeaf fs g → HasLeaf row g = λ g h. within g (later f g fs h) in
+        let found_in : map.get (names (dir, f)) name ≡ found → joined (f ∷ fs) None ≡ mark = λ is. ap (λ (o : Option Inode). joined fs (marked_as version o None)) is ∙ stays fs rest in
+        elim (first_or_later f pick.0 fs has) [
+          | inl same ↦ found_in (ap (λ (g : Fragment). map.get (names (dir, g)) name) same ∙ here)
+          | inr more ↦ ⊎_elim found_in (λ none. ap (λ (o : Option Inode). joined fs (marked_as version o None)) none ∙ comes fs rest more) (its f (within f (zero, omega arith, refl)))
+        ]
 
     -- a name of the leaves that are merged is dirty in the joined fragment, if this contains it
     module _ (cover : List Fragment) (frag : Fragment) (whole : IsTree cover) (can : CanMerge row frag) (merged : IsMerge row cover frag) where
       abbrev gone : List Fragment
       gone = leaves_inside frag row
 
-      tree : IsTree row
-      tree = tree_of_row s.homes s.covers sound.table dir.0
-
       told : lies_inside frag pick.0 ≡ holds frag (hash_of name)
-      told = pick_inside row cover frag tree whole can merged (hash_of name) pick.0 pick.1
+      told = pick_inside row cover frag (tree_of_row s.homes s.covers sound.table dir.0) whole can merged (hash_of name) pick.0 pick.1
 
       within : (f : Fragment) → HasLeaf gone f → HasLeaf row f
       within f has = (has_inside frag f row has).0
 
       pub joined_is : joined gone None ≡ marked_as version (cond (holds frag (hash_of name)) found None) None
-      joined_is = go (holds frag (hash_of name)) refl
-        where
-          outside : holds frag (hash_of name) ≡ false → (f : Fragment) → HasLeaf gone f → f ≡ pick.0 → ⊥
-          outside is f has same =
-              let clash : true ≡ false = sym (has_inside frag f row has).1 ∙ ap (lies_inside frag) same ∙ told ∙ is in
-              cc
-
-          some : (o : Option Inode) → found ≡ o → holds frag (hash_of name) ≡ true → joined gone None ≡ marked_as version o None
-          some None is has = joined_none gone None (λ f in_it. either (its f (within f in_it)))
-            where
-              either : {o : Option Inode} → (o ≡ found) ⊎ (o ≡ None) → o ≡ None
-              either (inl same) = same ∙ is
-              either (inr none) = none
-          some (Some inode) is has = comes inode is gone None within (inside_has frag pick.0 row pick.1.stands (told ∙ has))
-
-          go : (b : Bool) → holds frag (hash_of name) ≡ b → joined gone None ≡ marked_as version (cond b found None) None
-          go false is = joined_none gone None (λ f has. none_beside f (within f has) (outside is f has))
-          go true is = some found refl is
+      joined_is = elim (cases_Bool (holds frag (hash_of name))) [
+        | inl has ↦ comes gone within (inside_has frag pick.0 row pick.1.stands (told ∙ has)) ∙ sym (ap (λ (b : Bool). marked_as version (cond b found None) None) has)
+        | inr out ↦
+            joined_none gone None (λ f has. none_beside f (within f has) (λ same.
+            let clash : true ≡ false = sym (has_inside frag f row has).1 ∙ ap (lies_inside frag) same ∙ told ∙ out in
+            cc))
+            ∙ sym (ap (λ (b : Bool). marked_as version (cond b found None) None) out)
+      ]

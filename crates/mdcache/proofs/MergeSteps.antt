@@ -1,24 +1,22 @@
 -- What a merge makes of the whole, once all was ready for it.
-use Rattle.mdcache.proofs.Common.{AreCached, At, Base, Bool, CacheMap, Cached, Came, CanMerge, Comes, Contains, Core, Dirfrag, Frag, Fragment, Fresh, HasLeaf, HasUnsaved, Ino, Inode, IsAmongOr, IsCachedIn, IsConcerned, IsFragment, IsListedAnew, IsLive, IsMerge, IsMergeReady, IsMergedInto, IsNewLeaf, IsPick, IsRegrouped, IsSound, IsSoundCore, IsTree, KeepsNone, Keys, Leaf, List, Merge, None, ObjName, Option, ReadsCore, Some, State, Unsaved, ap, are_empty, arith, at, between, cond, dentry_of, ending_at, false, fresh_tied, get_left, get_removed, get_unclean, get_with_frag, has_none, hash_of, holds, in_directory, inl, inr, is_clean_over, is_known, leaf_is, leaf_itself, leaf_of, leaves_in, leaves_inside, leaves_of, lies_inside, list_all, list_any, marked_as, merged_in, merged_leaves, names_of, object_of, one_leaf, reads_came, refl, root_fragment, same_Some, shown, shown_tree, state_of, subst, sym, text_of, texts_differ, tree_of_row, true, unclean, unsaved_at, unsaved_in, with_frag, with_objects, without_leaves, ℕ, ◌+◌, ◌<◌, ◌∙◌, ◌≡◌, ◌⊎◌}
+use Rattle.mdcache.proofs.Common.{AreCached, At, Base, Bool, CacheMap, Came, CanMerge, Comes, Contains, Core, Dirfrag, Frag, Fragment, HasLeaf, HasUnsaved, Inode, IsAmongOr, IsCachedIn, IsConcerned, IsListedAnew, IsLive, IsMergeReady, IsMergedInto, IsNewLeaf, IsRegrouped, IsSound, IsSoundCore, IsTree, KeepsNone, Keys, Leaf, List, Merge, None, NoneEnds, Option, ReadsCore, Some, State, Unsaved, ap, are_empty, arith, at, between, cond, dentry_of, ending_at, false, fresh_tied, get_left, get_removed, get_unclean, get_with_frag, has_none, hash_of, holds, in_directory, inl, inr, is_clean_over, is_known, leaf_is, leaf_itself, leaf_of, leaves_in, leaves_inside, leaves_of, list_all, list_any, marked_as, merged_in, merged_leaves, names_of, object_of, one_leaf, reads_came, reads_weaker, refl, same_Some, same_leaf, shown, shown_tree, state_of, subst, sym, text_of, texts_differ, tree_of_row, true, unclean, unsaved_at, with_frag, with_objects, without_leaves, ℕ, ⊎_elim, ◌+◌, ◌<◌, ◌∙◌, ◌≡◌}
+use Rattle.std.proofs.lemmas.Bool.{cases_Bool, false_from_ne_true, true_from_ne_false}
+use Rattle.std.specs.Cmp.{both_ways}
 use Rattle.std.specs.Prelude.{map as each}
 use Rattle.std.specs.FinMap as map
-use Rattle.mds_types.specs.declared.object_names.ObjName.TheVariants.{Tree as TreeOf}
 use Rattle.dentry_cache.specs.Came.Came.{has as arrives}
 use Rattle.mdcache.specs.Splits.{KeepsTree}
 use Rattle.mdcache.proofs.ChangeSteps.{ends_came_so, still_held, unclean_ended}
 use Rattle.mdcache.proofs.CoreLaws.{reads_cached_so, reads_state}
 use Rattle.mdcache.proofs.GoneLaws.{among, get_without}
 use Rattle.mdcache.proofs.JoinLaws.{from_mapped}
+use Rattle.mdcache.proofs.JoinSteps.{cached_nowhere}
 use Rattle.mdcache.proofs.ListedLaws.{beside_on, texts_on}
 use Rattle.mdcache.proofs.MergeNames.{joined_is, merged_is_new, pick_inside}
 use Rattle.mdcache.proofs.NamedLaws.{pick_at, sound_leaves, stands_at}
 use Rattle.mdcache.proofs.NoNames.{all_pass, no_name, some_fails, some_name}
-use Rattle.mdcache.proofs.RegroupLaws.{apart_live, came_live, dirty_shows, unmapped, which}
-use Rattle.mdcache.proofs.SplitLaws.{has_inside, inside_has, merge_ends, merge_stood, merges_right, not_itself}
-
--- what isn't clean of a fragment whose object doesn't count
-fresh_unsaved : (f : Cached) → f.base ≡ Fresh → unsaved_in (Some f) ≡ Some (record { base = f.base; generation = f.generation; dirty = f.dirty })
-fresh_unsaved f fresh = ap (λ (b : Bool). cond b None (Some (record { base = f.base; generation = f.generation; dirty = f.dirty }))) (ap (λ (b : Base). is_clean_over b f.dirty) fresh)
+use Rattle.mdcache.proofs.RegroupLaws.{Replaces, apart_live, came_live, dirty_shows, unmapped, which}
+use Rattle.mdcache.proofs.SplitLaws.{has_inside, inside_has, merge_replaces, merges_right, not_itself}
 
 -- the fragment of a merge is cached nowhere before, and the leaves that end are live
 module _ (c : Core) (sound : IsSoundCore c) (a : Dirfrag) (known : is_known c.homes a.dir.0 ≡ true) (can : CanMerge (leaves_of c.covers a.dir.0) a.frag) where
@@ -28,40 +26,32 @@ module _ (c : Core) (sound : IsSoundCore c) (a : Dirfrag) (known : is_known c.ho
       subst (IsLive c.homes c.covers) (sym w.2) (record { known = known; stands = (has_inside a.frag w.0 (leaves_of c.covers a.dir.0) w.1).0 })
 
   pub merged_nowhere : map.get c.caches.held (leaf_of a) ≡ None
-  merged_nowhere = go (map.get c.caches.held (leaf_of a)) refl
-    where
-      go : (o : Option At) → map.get c.caches.held (leaf_of a) ≡ o → o ≡ None
-      go None is = refl
-      go (Some b) is = absurd (merged_is_new (leaves_of c.covers a.dir.0) a.frag (tree_of_row c.homes c.covers sound.sound.table a.dir.0) can (sound.cached (leaf_of a) b is).live.stands)
+  merged_nowhere = cached_nowhere c sound (leaf_of a) (λ live. merged_is_new (leaves_of c.covers a.dir.0) a.frag (tree_of_row c.homes c.covers sound.sound.table a.dir.0) can live.stands)
 
-abbrev fragment_of : ObjName → Fragment
-fragment_of (Frag dir f) = f
-fragment_of (TreeOf dir) = root_fragment
+  -- leaves that end are live where they are cached, as long as the fragment that comes isn't cached
+  pub ending_or_it : (caches : CacheMap) → map.get caches.held (leaf_of a) ≡ None → (r : ℕ) (q : Leaf) → IsAmongOr a.rank.0 (ending_at c a) (leaf_of a) r q → (b : At) → map.get caches.held q ≡ Some b → IsLive c.homes c.covers q
+  ending_or_it caches absent r q (inl among) b is = ending_live q among.1
+  ending_or_it caches absent r q (inr it) b is = let clash : None ≡ Some b = sym absent ∙ ap (map.get caches.held) (sym it.1) ∙ is in absurd cc
+
+-- what a merge leaves of the whole
+pub record HasMerged (old new : Core) (a : Dirfrag) : Type 0 where
+  pub merged : IsMergedInto (state_of old) (state_of new) a.dir a.frag
+  pub tree : KeepsTree (state_of old) (state_of new) a.dir (merged_leaves old a.dir a.frag)
+  pub came : Came (IsAmongOr a.rank.0 (ending_at old a) (leaf_of a)) (λ r q. Contains (ending_at old a) q) old.caches new.caches
+  pub sound : IsSoundCore new
 
 module _ (old mid : Core) (sound : IsSoundCore old) (a : Dirfrag) (merge : Merge) (known : is_known old.homes a.dir.0 ≡ true) (can : CanMerge (leaves_of old.covers a.dir.0) a.frag)
-    (Ends : ℕ → Leaf → Type 0) (reads : ReadsCore (IsAmongOr a.rank.0 (ending_at old a) (leaf_of a)) Ends old mid) (ended : (r : ℕ) (q : Leaf) → Contains (ending_at old a) q → Ends r q) (ready : IsMergeReady mid a merge)
+    (reads : ReadsCore (IsAmongOr a.rank.0 (ending_at old a) (leaf_of a)) NoneEnds old mid) (ready : IsMergeReady mid a merge)
     (new : Core) (left : new ≡ merged_in mid a merge.plan merge.joined new.room) (none : KeepsNone new.caches) where
-  abbrev dir : Ino
-  dir = a.dir
-
-  abbrev frag : Fragment
-  frag = a.frag
-
   abbrev leaf : Leaf
   leaf = leaf_of a
 
-  abbrev r : ℕ
-  r = a.rank.0
-
   abbrev Uses : ℕ → Leaf → Type 0
-  Uses = IsAmongOr r (ending_at old a) leaf
-
-  abbrev joined : Cached
-  joined = merge.joined
+  Uses = IsAmongOr a.rank.0 (ending_at old a) leaf
 
   -- what is left, in its own words
   abbrev made : Core
-  made = merged_in mid a merge.plan joined new.room
+  made = merged_in mid a merge.plan merge.joined new.room
 
   abbrev s : State
   s = state_of mid
@@ -70,276 +60,196 @@ module _ (old mid : Core) (sound : IsSoundCore old) (a : Dirfrag) (merge : Merge
   t = state_of made
 
   was : s ≡ state_of old
-  was = reads_state Uses Ends old mid reads
+  was = reads_state Uses NoneEnds old mid reads
 
   mine : IsSound s
   mine = subst IsSound (sym was) sound.sound
 
-  known_now : is_known s.homes dir.0 ≡ true
-  known_now = ap (λ (u : State). is_known u.homes dir.0) was ∙ known
+  known_now : is_known s.homes a.dir.0 ≡ true
+  known_now = ap (λ (u : State). is_known u.homes a.dir.0) was ∙ known
 
-  can_now : CanMerge (leaves_of s.covers dir.0) frag
-  can_now = subst (λ (u : State). CanMerge (leaves_of u.covers dir.0) frag) (sym was) can
+  can_now : CanMerge (leaves_of s.covers a.dir.0) a.frag
+  can_now = subst (λ (u : State). CanMerge (leaves_of u.covers a.dir.0) a.frag) (sym was) can
 
   -- cached leaves are sound still
   cached : AreCached s mid.caches
-  cached = reads_cached_so Uses Ends old mid reads sound live
-    where
-      live : (n : ℕ) (q : Leaf) → Uses n q → (b : At) → map.get mid.caches.held q ≡ Some b → IsLive old.homes old.covers q
-      live n q (inl one) b is = ending_live old sound a known can q one.1
-      live n q (inr it) b is = let clash : None ≡ Some b = sym ready.kept.1 ∙ ap (map.get mid.caches.held) (sym it.1) ∙ is in absurd cc
+  cached = reads_cached_so Uses NoneEnds old mid reads sound (ending_or_it old sound a known can mid.caches ready.kept.1)
 
   abbrev row : List Fragment
-  row = leaves_of s.covers dir.0
-
-  abbrev cover : List Fragment
-  cover = merge.plan.cover
+  row = leaves_of s.covers a.dir.0
 
   abbrev gone : List Fragment
-  gone = leaves_inside frag row
+  gone = leaves_inside a.frag row
 
   abbrev ending : List Leaf
-  ending = each (in_directory dir.0) gone
-
-  merged : IsMerge row cover frag
-  merged = ready.planned.cover
-
-  whole : IsTree cover
-  whole = ready.planned.whole
+  ending = each (in_directory a.dir.0) gone
 
   tree : IsTree row
-  tree = tree_of_row s.homes s.covers mine.table dir.0
+  tree = tree_of_row s.homes s.covers mine.table a.dir.0
 
   -- the joined fragment alone comes
-  comes : Comes row cover frag
-  comes = ((merged.leaves frag).1 (inr refl), merged_is_new row frag tree can_now)
+  comes : Comes row merge.plan.cover a.frag
+  comes = ((ready.planned.cover.leaves a.frag).1 (inr refl), merged_is_new row a.frag tree can_now)
 
-  is_it : (g : Fragment) → Comes row cover g → g ≡ frag
-  is_it g came = go ((merged.leaves g).0 came.0)
-    where
-      go : (HasLeaf row g × (lies_inside frag g ≡ false)) ⊎ (g ≡ frag) → g ≡ frag
-      go (inl old) = absurd (came.1 old.0)
-      go (inr same) = same
+  is_it : (g : Fragment) → Comes row merge.plan.cover g → g ≡ a.frag
+  is_it g came = ⊎_elim (λ old. absurd (came.1 old.0)) (λ same. same) ((ready.planned.cover.leaves g).0 came.0)
 
-  not_gone : HasLeaf gone frag → ⊥
-  not_gone has = let clash : true ≡ false = sym (has_inside frag frag row has).1 ∙ not_itself frag in cc
+  not_gone : HasLeaf gone a.frag → ⊥
+  not_gone has = let clash : true ≡ false = sym (has_inside a.frag a.frag row has).1 ∙ not_itself a.frag in cc
 
   -- ---- its names
 
-  dirty_is : (name : List ℕ) → map.get joined.dirty name ≡ marked_as s.next_version (cond (holds frag (hash_of name)) (map.get (shown_tree s) (dentry_of dir.0 name)) None) None
-  dirty_is name = ready.joined.dirty name ∙ joined_is s mine dir known_now name s.next_version cover frag whole can_now merged
+  dirty_is : (name : List ℕ) → map.get merge.joined.dirty name ≡ marked_as s.next_version (cond (holds a.frag (hash_of name)) (map.get (shown_tree s) (dentry_of a.dir.0 name)) None) None
+  dirty_is name = ready.joined.dirty name ∙ joined_is s mine a.dir known_now name s.next_version merge.plan.cover a.frag ready.planned.whole can_now ready.planned.cover
 
-  shown_is : (name : List ℕ) → map.get (shown joined) name ≡ cond (holds frag (hash_of name)) (map.get (shown_tree s) (dentry_of dir.0 name)) None
+  shown_is : (name : List ℕ) → map.get (shown merge.joined) name ≡ cond (holds a.frag (hash_of name)) (map.get (shown_tree s) (dentry_of a.dir.0 name)) None
   shown_is name =
-      dirty_shows joined.base joined.clean (record { base = joined.base; generation = joined.generation; dirty = joined.dirty }) s.next_version name (cond (holds frag (hash_of name)) (map.get (shown_tree s) (dentry_of dir.0 name)) None)
+      dirty_shows merge.joined.base merge.joined.clean (record { base = merge.joined.base; generation = merge.joined.generation; dirty = merge.joined.dirty }) s.next_version name (cond (holds a.frag (hash_of name)) (map.get (shown_tree s) (dentry_of a.dir.0 name)) None)
       ready.joined.fresh (dirty_is name)
 
   -- none of the leaves shows a name, if and only if the joined fragment shows none
-  found_in : (f : Fragment) (name : List ℕ) (inode : Inode) → HasLeaf gone f → map.get (names_of s.unsaved s.objects (dir, f)) name ≡ Some inode → map.get (shown joined) name ≡ Some inode
+  found_in : (f : Fragment) (name : List ℕ) (inode : Inode) → HasLeaf gone f → map.get (names_of s.unsaved s.objects (a.dir, f)) name ≡ Some inode → map.get (shown merge.joined) name ≡ Some inode
   found_in f name inode has is =
-      let both = has_inside frag f row has in
-      let pick = mine.placed (dir, f) name inode (record { known = known_now; stands = both.0 }) is in
-      let tree_has : map.get (shown_tree s) (dentry_of dir.0 name) ≡ Some inode = stands_at s (sound_leaves s mine) (dentry_of dir.0 name) f known_now pick ∙ is in
-      shown_is name ∙ ap (λ (b : Bool). cond b (map.get (shown_tree s) (dentry_of dir.0 name)) None) (sym (pick_inside row cover frag tree whole can_now merged (hash_of name) f pick) ∙ both.1) ∙ tree_has
+      let both = has_inside a.frag f row has in
+      let pick = mine.placed (a.dir, f) name inode (record { known = known_now; stands = both.0 }) is in
+      let tree_has : map.get (shown_tree s) (dentry_of a.dir.0 name) ≡ Some inode = stands_at s (sound_leaves s mine) (dentry_of a.dir.0 name) f known_now pick ∙ is in
+      shown_is name ∙ ap (λ (b : Bool). cond b (map.get (shown_tree s) (dentry_of a.dir.0 name)) None) (sym (pick_inside row merge.plan.cover a.frag tree ready.planned.whole can_now ready.planned.cover (hash_of name) f pick) ∙ both.1) ∙ tree_has
 
-  comes_from : (name : List ℕ) (inode : Inode) → map.get (shown joined) name ≡ Some inode → (f : Fragment) × HasLeaf gone f × (map.get (names_of s.unsaved s.objects (dir, f)) name ≡ Some inode)
-  comes_from name inode is = go (holds frag (hash_of name)) refl (sym (shown_is name) ∙ is)
-    where
-      p : (f : Fragment) × IsPick row (hash_of name) f
-      p = pick_at s (sound_leaves s mine) (dentry_of dir.0 name)
-
-      go : (b : Bool) → holds frag (hash_of name) ≡ b → cond b (map.get (shown_tree s) (dentry_of dir.0 name)) None ≡ Some inode → (f : Fragment) × HasLeaf gone f × (map.get (names_of s.unsaved s.objects (dir, f)) name ≡ Some inode)
-      go false none h = let clash : None ≡ Some inode = h in absurd cc
-      go true has h =
-          (p.0, inside_has frag p.0 row p.1.stands (pick_inside row cover frag tree whole can_now merged (hash_of name) p.0 p.1 ∙ has), sym (stands_at s (sound_leaves s mine) (dentry_of dir.0 name) p.0 known_now p.1) ∙ h)
+  comes_from : (name : List ℕ) (inode : Inode) → map.get (shown merge.joined) name ≡ Some inode → (f : Fragment) × HasLeaf gone f × (map.get (names_of s.unsaved s.objects (a.dir, f)) name ≡ Some inode)
+  comes_from name inode is = elim (cases_Bool (holds a.frag (hash_of name))) [
+    | inl has ↦
+        let p = pick_at s (sound_leaves s mine) (dentry_of a.dir.0 name) in
+        let found : map.get (shown_tree s) (dentry_of a.dir.0 name) ≡ Some inode = sym (shown_is name ∙ ap (λ (b : Bool). cond b (map.get (shown_tree s) (dentry_of a.dir.0 name)) None) has) ∙ is in
+        (p.0, inside_has a.frag p.0 row p.1.stands (pick_inside row merge.plan.cover a.frag tree ready.planned.whole can_now ready.planned.cover (hash_of name) p.0 p.1 ∙ has), sym (stands_at s (sound_leaves s mine) (dentry_of a.dir.0 name) p.0 known_now p.1) ∙ found)
+    | inr out ↦ let clash : None ≡ Some inode = sym (shown_is name ∙ ap (λ (b : Bool). cond b (map.get (shown_tree s) (dentry_of a.dir.0 name)) None) out) ∙ is in absurd cc
+  ]
 
   abbrev is_empty : Fragment → Bool
-  is_empty f = has_none (names_of s.unsaved s.objects (dir, f))
+  is_empty f = has_none (names_of s.unsaved s.objects (a.dir, f))
 
-  empty_is : has_none (shown joined) ≡ are_empty s dir gone
-  empty_is = go (has_none (shown joined)) refl (list_all is_empty gone) refl
-    where
-      go : (a : Bool) → has_none (shown joined) ≡ a → (b : Bool) → list_all is_empty gone ≡ b → a ≡ b
-      go true none true all = refl
-      go false some false fails = refl
-      go true none false fails =
-          let f = some_fails is_empty gone fails in
-          let w = some_name (names_of s.unsaved s.objects (dir, f.0)) f.2 in
-          let clash : None ≡ Some w.1 = sym (no_name (shown joined) w.0 none) ∙ found_in f.0 w.0 w.1 f.1 w.2 in
-          cc
-      go false some true all =
-          let w = some_name (shown joined) some in
-          let f = comes_from w.0 w.1 w.2 in
-          let clash : None ≡ Some w.1 = sym (no_name (names_of s.unsaved s.objects (dir, f.0)) w.0 (all_pass is_empty gone all f.0 f.1)) ∙ f.2 in
-          cc
+  empty_is : has_none (shown merge.joined) ≡ are_empty s a.dir gone
+  empty_is = both_ways (has_none (shown merge.joined)) (list_all is_empty gone)
+      (λ none. true_from_ne_false (list_all is_empty gone) (λ fails.
+      let f = some_fails is_empty gone fails in
+      let w = some_name (names_of s.unsaved s.objects (a.dir, f.0)) f.2 in
+      let clash : None ≡ Some w.1 = sym (no_name (shown merge.joined) w.0 none) ∙ found_in f.0 w.0 w.1 f.1 w.2 in
+      cc))
+      (λ all. true_from_ne_false (has_none (shown merge.joined)) (λ some.
+      let w = some_name (shown merge.joined) some in
+      let f = comes_from w.0 w.1 w.2 in
+      let clash : None ≡ Some w.1 = sym (no_name (names_of s.unsaved s.objects (a.dir, f.0)) w.0 (all_pass is_empty gone all f.0 f.1)) ∙ f.2 in
+      cc))
 
   -- ---- what isn't clean
 
   abbrev filled : CacheMap
-  filled = with_frag mid.caches r leaf joined
+  filled = with_frag mid.caches a.rank.0 leaf merge.joined
 
   abbrev beyond : Unsaved
-  beyond = record { base = joined.base; generation = joined.generation; dirty = joined.dirty }
-
-  unclean_now : unclean made.caches ≡ without_leaves (unclean filled) ending
-  unclean_now = unclean_ended filled (leaves_in dir merge.plan.leaves.items) ∙ ap (without_leaves (unclean filled)) ready.planned.leaves
+  beyond = record { base = merge.joined.base; generation = merge.joined.generation; dirty = merge.joined.dirty }
 
   get_now : (q : Leaf) → map.get (unclean made.caches) q ≡ cond (list_any (leaf_is q) ending) None (cond (leaf_is q leaf) (Some beyond) (map.get (unclean mid.caches) q))
   get_now q =
-      ap (λ u. map.get u q) unclean_now ∙ get_without (unclean filled) ending q
-      ∙ ap (cond (list_any (leaf_is q) ending) None) (get_unclean filled q ∙ ap unsaved_at (get_with_frag mid.caches r leaf joined q) ∙ go (leaf_is q leaf))
-    where
-      go : (b : Bool) → unsaved_at (cond b (Some (at r joined)) (map.get mid.caches.held q)) ≡ cond b (Some beyond) (map.get (unclean mid.caches) q)
-      go true = fresh_unsaved joined ready.joined.fresh
-      go false = sym (get_unclean mid.caches q)
+      ap (λ u. map.get u q) (unclean_ended filled (leaves_in a.dir merge.plan.leaves.items) ∙ ap (without_leaves (unclean filled)) ready.planned.leaves) ∙ get_without (unclean filled) ending q
+      ∙ ap (cond (list_any (leaf_is q) ending) None) (get_unclean filled q ∙ ap unsaved_at (get_with_frag mid.caches a.rank.0 leaf merge.joined q) ∙ elim (leaf_is q leaf) as (λ b. unsaved_at (cond b (Some (at a.rank.0 merge.joined)) (map.get mid.caches.held q)) ≡ cond b (Some beyond) (map.get (unclean mid.caches) q)) [
+        | true ↦ ap (λ (b : Bool). cond b None (Some beyond)) (ap (λ (b : Base). is_clean_over b merge.joined.dirty) ready.joined.fresh)
+        | false ↦ sym (get_unclean mid.caches q)
+      ])
 
-  it_stays : list_any (leaf_is leaf) ending ≡ false
-  it_stays = go (list_any (leaf_is leaf) ending) refl
-    where
-      go : (b : Bool) → list_any (leaf_is leaf) ending ≡ b → b ≡ false
-      go false is = refl
-      go true is = absurd (not_gone (unmapped dir.0 leaf gone is).1)
+  -- of a leaf that doesn't end
+  get_still : (q : Leaf) (y : Bool) → (q.0.0 ≡ a.dir.0 → HasLeaf gone q.1 → ⊥) → leaf_is q leaf ≡ y → map.get (unclean made.caches) q ≡ cond y (Some beyond) (map.get (unclean mid.caches) q)
+  get_still q y stays is =
+      let apart = false_from_ne_true (list_any (leaf_is q) ending) (λ among. let w = unmapped a.dir.0 q gone among in stays w.0 w.1) in
+      get_now q ∙ (λ i. cond (apart i) None (cond (is i) (Some beyond) (map.get (unclean mid.caches) q)))
 
-  now_unsaved : map.get (unclean made.caches) leaf ≡ Some beyond
-  now_unsaved =
-      get_now leaf ∙ ap (λ (b : Bool). cond b None (cond (leaf_is leaf leaf) (Some beyond) (map.get (unclean mid.caches) leaf))) it_stays
-      ∙ ap (λ (b : Bool). cond b (Some beyond) (map.get (unclean mid.caches) leaf)) (leaf_itself leaf)
-
-  new_leaf : (g : Fragment) → Comes row cover g → HasUnsaved (map.get (unclean made.caches) (dir, g)) (IsNewLeaf s dir g 1)
-  new_leaf g came =
-      let number = ready.joined.numbered in
-      subst (λ (h : Fragment). HasUnsaved (map.get (unclean made.caches) (dir, h)) (IsNewLeaf s dir h 1)) (sym (is_it g came))
-      (subst (λ (o : Option Unsaved). HasUnsaved o (IsNewLeaf s dir frag 1)) (sym now_unsaved) (record { fresh = ready.joined.fresh; first = omega (arith, number); last = omega (arith, number); dirty = dirty_is }))
-
-  gone_unsaved : (g : Fragment) → HasLeaf gone g → map.get (unclean made.caches) (dir, g) ≡ None
-  gone_unsaved g has = get_now (dir, g) ∙ ap (λ (b : Bool). cond b None (cond (leaf_is (dir, g) leaf) (Some beyond) (map.get (unclean mid.caches) (dir, g)))) (among dir.0 (dir, g) gone refl has)
-
-  abbrev Apart : Leaf → Type 0
-  Apart q = q.0.0 ≡ dir.0 → IsConcerned row cover gone q.1 → ⊥
-
-  apart_ending : (q : Leaf) → Apart q → list_any (leaf_is q) ending ≡ false
-  apart_ending q apart = go (list_any (leaf_is q) ending) refl
-    where
-      go : (b : Bool) → list_any (leaf_is q) ending ≡ b → b ≡ false
-      go false is = refl
-      go true is = let w = unmapped dir.0 q gone is in absurd (apart w.0 (inl w.1))
-
-  apart_it : (q : Leaf) → Apart q → leaf_is q leaf ≡ false
-  apart_it q apart = go (leaf_is q leaf) refl
-    where
-      go : (b : Bool) → leaf_is q leaf ≡ b → b ≡ false
-      go false is = refl
-      go true is = let same = one_leaf q leaf is in absurd (apart (ap (λ (l : Leaf). l.0.0) same) (inr (subst (Comes row cover) (sym (ap (λ (l : Leaf). l.1) same)) comes)))
-
-  other_unsaved : (q : Leaf) → Apart q → map.get (unclean made.caches) q ≡ map.get (unclean mid.caches) q
-  other_unsaved q apart =
-      get_now q ∙ ap (λ (b : Bool). cond b None (cond (leaf_is q leaf) (Some beyond) (map.get (unclean mid.caches) q))) (apart_ending q apart)
-      ∙ ap (λ (b : Bool). cond b (Some beyond) (map.get (unclean mid.caches) q)) (apart_it q apart)
+  apart_it : (q : Leaf) → (q.0.0 ≡ a.dir.0 → IsConcerned row merge.plan.cover gone q.1 → ⊥) → leaf_is q leaf ≡ false
+  apart_it q apart = false_from_ne_true (leaf_is q leaf) (λ is.
+      let same = one_leaf q leaf is in
+      apart (ap (λ (l : Leaf). l.0.0) same) (inr (subst (Comes row merge.plan.cover) (sym (ap (λ (l : Leaf). l.1) same)) comes)))
 
   -- ---- the purge list
-
-  is_fragment : (g : Fragment) → HasLeaf row g → IsFragment g
-  is_fragment g has = (between 0 16777216 row g tree.tiles has).0
-
-  valid : IsFragment frag
-  valid = (between 0 16777216 cover frag whole.tiles comes.0).0
 
   abbrev on : Keys
   on = with_objects s.purge (each text_of ending)
 
-  other_text : (g : Fragment) → HasLeaf gone g → text_of (dir, g) ≡ text_of (dir, frag) → ⊥
+  other_text : (g : Fragment) → HasLeaf gone g → text_of (a.dir, g) ≡ text_of (a.dir, a.frag) → ⊥
   other_text g has same =
-      let small = mine.numbered dir.0 known_now in
-      let one : g ≡ frag = ap fragment_of (texts_differ (Frag dir g) (Frag dir frag) (small, is_fragment g (has_inside frag g row has).0) (small, valid) same) in
+      let small = mine.numbered a.dir.0 known_now in
+      let names : Frag a.dir g ≡ Frag a.dir a.frag = texts_differ (Frag a.dir g) (Frag a.dir a.frag) (small, (between 0 16777216 row g tree.tiles (has_inside a.frag g row has).0).0) (small, (between 0 16777216 merge.plan.cover a.frag ready.planned.whole.tiles comes.0).0) same in
+      let one : g ≡ a.frag = cc in
       not_gone (subst (HasLeaf gone) one has)
-
-  listed : t.purge ≡ map.remove on (text_of leaf)
-  listed = λ i. map.remove (with_objects s.purge (ready.planned.texts i)) (ready.planned.object i)
-
-  anew : IsListedAnew s.purge t.purge dir gone (Comes row cover)
-  anew = subst (λ (names : Keys). IsListedAnew s.purge names dir gone (Comes row cover)) (sym listed) (record {
-    ended = λ g has. get_left on (text_of (dir, frag)) (text_of (dir, g)) (other_text g has) ∙ texts_on s.purge dir gone g has;
-    came = λ g came. ap (λ (h : Fragment). map.get (map.remove on (text_of (dir, frag))) (text_of (dir, h))) (is_it g came) ∙ get_removed on (text_of (dir, frag));
-    others = λ name none. get_left on (text_of (dir, frag)) name (none frag (inr comes)) ∙ beside_on s.purge dir gone name (λ g has. none g (inl has));
-  })
 
   -- ---- all of it
 
-  is_regrouped : IsRegrouped s t dir gone cover 1
+  is_regrouped : IsRegrouped s t a.dir gone merge.plan.cover 1
   is_regrouped = record {
     known = known_now;
-    whole = whole;
+    whole = ready.planned.whole;
     unsaved = unclean made.caches;
     purge = t.purge;
     left = λ i. record t { jobs = without_leaves s.jobs (ready.planned.leaves i); next_version = s.next_version + cond (empty_is i) 0 1 };
-    came = new_leaf;
-    ended = gone_unsaved;
-    others = other_unsaved;
-    listed = anew;
+    came = λ g came.
+        let number = ready.joined.numbered in
+        subst (λ (h : Fragment). HasUnsaved (map.get (unclean made.caches) (a.dir, h)) (IsNewLeaf s a.dir h 1)) (sym (is_it g came))
+        (subst (λ (o : Option Unsaved). HasUnsaved o (IsNewLeaf s a.dir a.frag 1)) (sym (get_still leaf true (λ same. not_gone) (leaf_itself leaf))) (record { fresh = ready.joined.fresh; first = omega (arith, number); last = omega (arith, number); dirty = dirty_is }));
+    ended = λ g has. get_now (a.dir, g) ∙ ap (λ (b : Bool). cond b None (cond (leaf_is (a.dir, g) leaf) (Some beyond) (map.get (unclean mid.caches) (a.dir, g)))) (among a.dir.0 (a.dir, g) gone refl has);
+    others = λ q apart. get_still q false (λ same has. apart same (inl has)) (apart_it q apart);
+    listed = subst (λ (names : Keys). IsListedAnew s.purge names a.dir gone (Comes row merge.plan.cover)) (λ i. map.remove (with_objects s.purge (sym ready.planned.texts i)) (sym ready.planned.object i)) (record {
+      ended = λ g has. get_left on (text_of (a.dir, a.frag)) (text_of (a.dir, g)) (other_text g has) ∙ texts_on s.purge a.dir gone g has;
+      came = λ g came. ap (λ (h : Fragment). map.get (map.remove on (text_of (a.dir, a.frag))) (text_of (a.dir, h))) (is_it g came) ∙ get_removed on (text_of (a.dir, a.frag));
+      others = λ name none. get_left on (text_of (a.dir, a.frag)) name (none a.frag (inr comes)) ∙ beside_on s.purge a.dir gone name (λ g has. none g (inl has));
+    });
   }
 
-  is_merged : IsMergedInto s t dir frag
-  is_merged = record { can = can_now; cover = cover; merged = merged; regrouped = is_regrouped }
+  is_merged : IsMergedInto s t a.dir a.frag
+  is_merged = record { can = can_now; cover = merge.plan.cover; merged = ready.planned.cover; regrouped = is_regrouped }
 
-  keeps : KeepsTree s t dir gone
-  keeps = merges_right s t dir frag mine is_merged
-
-  ends : (g : Fragment) → HasLeaf row g → HasLeaf gone g ⊎ HasLeaf cover g
-  ends = merge_ends row cover frag merged
-
-  stood : (g : Fragment) → HasLeaf gone g → HasLeaf row g × (HasLeaf cover g → ⊥)
-  stood = merge_stood row cover frag merged
+  cut : Replaces row gone merge.plan.cover
+  cut = merge_replaces row merge.plan.cover a.frag ready.planned.cover
 
   -- ---- what is cached
 
   now_cached : AreCached t made.caches
-  now_cached q b is = go (which s mine dir gone cover 1 t is_regrouped ends stood q) (leaf_is q leaf) refl (sym (get_with_frag mid.caches r leaf joined q) ∙ still.1)
-    where
-      still : (list_any (leaf_is q) (leaves_in dir merge.plan.leaves.items) ≡ false) × (map.get filled.held q ≡ Some b)
-      still = still_held filled (leaves_in dir merge.plan.leaves.items) q b is
-
-      its_leaf : q.0.0 ≡ dir.0 → Comes row cover q.1 → leaf ≡ q
-      its_leaf same came = ap (λ (h : Fragment). (dir, h)) (sym (is_it q.1 came)) ∙ (λ i. (record { 0 = sym same i }, q.1))
-
-      go : ((q.0.0 ≡ dir.0) × HasLeaf gone q.1) ⊎ (((q.0.0 ≡ dir.0) × Comes row cover q.1) ⊎ Apart q) → (y : Bool) → leaf_is q leaf ≡ y → cond y (Some (at r joined)) (map.get mid.caches.held q) ≡ Some b → IsCachedIn t q b.frag
-      go (inl end) y one h = let clash : true ≡ false = sym (among dir.0 q gone end.0 end.1) ∙ sym (ap (list_any (leaf_is q)) ready.planned.leaves) ∙ still.0 in absurd cc
-      go (inr (inl came)) true one h =
-          let number = ready.joined.numbered in
-          subst (λ (k : At). IsCachedIn t q k.frag) (same_Some (at r joined) b h) (record {
-            live = came_live s mine dir gone cover 1 t is_regrouped ends stood q came.0 came.1.0;
-            tied = fresh_tied joined (object_of t.objects q.0 q.1) ready.joined.fresh;
-            made = omega (arith, number);
-          })
-      go (inr (inl came)) false one h =
-          let same : leaf ≡ q = its_leaf came.0 came.1 in
-          let clash : true ≡ false = sym (leaf_itself leaf) ∙ ap (λ (l : Leaf). leaf_is l leaf) same ∙ one in absurd cc
-      go (inr (inr apart)) true one h = let clash : true ≡ false = sym one ∙ apart_it q apart in absurd cc
-      go (inr (inr apart)) false one h =
-          let before = cached q b h in
-          let given = before.made in
-          record { live = apart_live s mine dir gone cover 1 t is_regrouped ends stood q apart before.live; tied = before.tied; made = omega (arith, given) }
+  now_cached q b is =
+      let still = still_held filled (leaves_in a.dir merge.plan.leaves.items) q b is in
+      let filled_is : cond (leaf_is q leaf) (Some (at a.rank.0 merge.joined)) (map.get mid.caches.held q) ≡ Some b = sym (get_with_frag mid.caches a.rank.0 leaf merge.joined q) ∙ still.1 in
+      elim (which s mine a.dir gone merge.plan.cover 1 t is_regrouped cut q) [
+        | inl end ↦ let clash : true ≡ false = sym (among a.dir.0 q gone end.0 end.1) ∙ sym (ap (list_any (leaf_is q)) ready.planned.leaves) ∙ still.0 in absurd cc
+        | inr stands ↦ elim stands [
+          | inl came ↦
+              let same : q ≡ leaf = (λ i. (record { 0 = came.0 i }, is_it q.1 came.1 i)) in
+              let number = ready.joined.numbered in
+              subst (λ (k : At). IsCachedIn t q k.frag) (same_Some (at a.rank.0 merge.joined) b (sym (ap (λ (y : Bool). cond y (Some (at a.rank.0 merge.joined)) (map.get mid.caches.held q)) (same_leaf q leaf same)) ∙ filled_is)) (record {
+                live = came_live s mine a.dir gone merge.plan.cover 1 t is_regrouped cut q came.0 came.1.0;
+                tied = fresh_tied merge.joined (object_of t.objects q.0 q.1) ready.joined.fresh;
+                made = omega (arith, number);
+              })
+          | inr apart ↦
+              let before = cached q b (sym (ap (λ (y : Bool). cond y (Some (at a.rank.0 merge.joined)) (map.get mid.caches.held q)) (apart_it q apart)) ∙ filled_is) in
+              let given = before.made in
+              record { live = apart_live s mine a.dir gone merge.plan.cover 1 t is_regrouped cut q apart before.live; tied = before.tied; made = omega (arith, given) }
+        ]
+      ]
 
   -- ---- of what was before
 
-  pub merge_sound : IsSoundCore new
-  merge_sound = subst IsSoundCore (sym left) (record { sound = keeps.sound; begun = begun; cached = now_cached; none = now_none })
-    where
-      now_none : KeepsNone made.caches
-      now_none = subst (λ (k : Core). KeepsNone k.caches) left none
+  merge_made : IsMergedInto (state_of old) (state_of new) a.dir a.frag
+  merge_made = subst (λ (u : State). IsMergedInto u (state_of new) a.dir a.frag) was (subst (λ (k : Core). IsMergedInto s (state_of k) a.dir a.frag) (sym left) is_merged)
 
-      begun : 0 < t.next_generation
-      begun = let before : 0 < s.next_generation = subst (λ (u : State). 0 < u.next_generation) (sym was) sound.begun in omega (arith, before)
+  abbrev Ends : ℕ → Leaf → Type 0
+  Ends n q = Contains (ending_at old a) q
 
-  pub merge_made : IsMergedInto (state_of old) (state_of new) dir frag
-  merge_made = subst (λ (u : State). IsMergedInto u (state_of new) dir frag) was (subst (λ (k : Core). IsMergedInto s (state_of k) dir frag) (sym left) is_merged)
-
-  pub merge_keeps : KeepsTree (state_of old) (state_of new) dir (merged_leaves old dir frag)
-  merge_keeps = merges_right (state_of old) (state_of new) dir frag sound.sound merge_made
-
-  pub merge_steps : Came Uses Ends old.caches new.caches
-  merge_steps = subst (λ (k : Core). Came Uses Ends old.caches k.caches) (sym left)
-      (ends_came_so Uses Ends old.caches filled (leaves_in dir merge.plan.leaves.items) (λ n q among. ended n q (subst (λ (ls : List Leaf). Contains ls q) ending_is among))
-      (arrives mid.caches r leaf joined (reads_came Uses Ends old.objects old.caches mid.caches reads.caches) (inr (refl, refl))))
-    where
-      ending_is : leaves_in dir merge.plan.leaves.items ≡ ending_at old a
-      ending_is = ready.planned.leaves ∙ ap (λ (u : State). each (in_directory dir.0) (leaves_inside frag (leaves_of u.covers dir.0))) was
+  pub merge_right : HasMerged old new a
+  merge_right = record {
+    merged = merge_made;
+    tree = merges_right (state_of old) (state_of new) a.dir a.frag sound.sound merge_made;
+    came = subst (λ (k : Core). Came Uses Ends old.caches k.caches) (sym left)
+        (ends_came_so Uses Ends old.caches filled (leaves_in a.dir merge.plan.leaves.items) (λ n q among. subst (λ (ls : List Leaf). Contains ls q) (ready.planned.leaves ∙ ap (λ (u : State). each (in_directory a.dir.0) (leaves_inside a.frag (leaves_of u.covers a.dir.0))) was) among)
+        (arrives mid.caches a.rank.0 leaf merge.joined (reads_came Uses Ends old.objects old.caches mid.caches (reads_weaker Uses NoneEnds Uses Ends (λ n q is. is) (λ n q no_end. absurd no_end) old.objects old.caches mid.caches reads.caches)) (inr (refl, refl))));
+    sound = subst IsSoundCore (sym left) (record {
+      sound = (merges_right s t a.dir a.frag mine is_merged).sound;
+      begun = (let before : 0 < s.next_generation = subst (λ (u : State). 0 < u.next_generation) (sym was) sound.begun in omega (arith, before));
+      cached = now_cached;
+      none = subst (λ (k : Core). KeepsNone k.caches) left none;
+    });
+  }

@@ -1,25 +1,18 @@
 -- Which places are kept, after each call of the caches.
-use Rattle.mdcache.proofs.Common.{AreCaches, Bool, CacheMap, Cached, Edits, FetchesAt, IsEdited, IsFree, IsFreeFor, IsThere, KeepsAt, KeepsNone, KeepsOnlyAt, Leaf, MakesRoomAt, None, Omap, Option, Rank, Some, absent_roomy, ap, at_rank, cond, false, has_place, has_used, here, here_free, inl, inr, is_same, is_some, leaf_is, leaf_itself, length, placed_used, ranks_roomy, refl, roomy, roomy_stays, subst, sym, true, used_at, whole_roomy, whole_used, whole_with_frag, with_frag, ℕ, ◌&&◌, ◌<◌, ◌∙◌, ◌≡◌, ◌⊎◌}
+use Rattle.mdcache.proofs.Common.{AreCaches, Bool, CacheMap, Cached, Edits, FetchesAt, IsEdited, IsFree, IsThere, KeepsAt, KeepsNone, KeepsOnlyAt, Leaf, MakesRoomAt, None, Omap, Option, Rank, Some, absent_roomy, ap, at_rank, cond, false, has_place, has_used, here, here_free, inl, inr, is_same, is_some, leaf_is, leaf_itself, length, placed_used, ranks_roomy, refl, roomy, roomy_stays, subst, sym, true, used_at, whole_roomy, whole_used, whole_with_frag, ℕ, ⊎_elim, ◌&&◌, ◌<◌, ◌∙◌, ◌≡◌}
+use Rattle.std.proofs.lemmas.Bool.{false_from_ne_true}
 use Rattle.std.specs.FinMap as finmap
-
--- what is there is some
-pub there_some : (o : Option Cached) → IsThere o → is_some o ≡ true
-there_some None h = absurd h
-there_some (Some f) h = refl
 
 module _ (c : CacheMap) (r : ℕ) (leaf : Leaf) (none : KeepsNone c) where
   pub none_used : (new : CacheMap) → IsThere (here c r leaf) → new ≡ used_at c r leaf → KeepsNone new
   none_used new there is = subst KeepsNone (sym is) (λ s q. whole_used c r leaf s q there (none s q))
-
-  pub none_with : (f : Cached) → IsFreeFor c r leaf → KeepsNone (with_frag c r leaf f)
-  none_with f free s q = whole_with_frag c r leaf f s q free (none s q)
 
   pub none_edits : (Change : Cached → Cached → Type 0) (new : CacheMap) → Edits Change r leaf c new → KeepsNone new
   none_edits Change new e = go (here c r leaf) refl e
     where
       go : (o : Option Cached) → here c r leaf ≡ o → IsEdited Change r leaf o c new → KeepsNone new
       go None is e = absurd e
-      go (Some f) is e = subst KeepsNone (sym e.2) (none_with e.0 (here_free r (finmap.get c.held leaf) (ap (λ (o : Option Cached). is_some o) is)))
+      go (Some f) is e = subst KeepsNone (sym e.2) (λ s q. whole_with_frag c r leaf e.0 s q (here_free r (finmap.get c.held leaf) (ap is_some is)) (none s q))
 
   module _ (there : r < length c.used) (valid : AreCaches c) (stay : Option Leaf) where
     pub none_roomy : (mid : CacheMap) → roomy c r stay ≡ Some mid → KeepsNone mid
@@ -37,15 +30,8 @@ module _ (c : CacheMap) (r : ℕ) (leaf : Leaf) (none : KeepsNone c) where
 
     -- a place that was kept is the only one
     pub only_kept : (new : CacheMap) (rank : Rank) → rank.0 ≡ r → finmap.get c.held leaf ≡ None → KeepsAt r leaf stay c new → KeepsOnlyAt (Some (rank, leaf)) new
-    only_kept new rank same absent k = subst (KeepsOnlyAt (Some (rank, leaf))) (sym k.2) (λ s q placed. go s q (placed_used k.0 r leaf s q placed))
-      where
-        go : (s : ℕ) (q : Leaf) → (has_place k.0 s q ≡ true) ⊎ ((s ≡ r) × (q ≡ leaf))
-            → IsThere (here (used_at k.0 r leaf) s q) ⊎ ((finmap.get (used_at k.0 r leaf).held q ≡ None) × (◌≡◌ {A = Option (Rank × Leaf)} (Some (rank, leaf)) (Some (record { 0 = s }, q))))
-        go s q (inl was) = inl (none_roomy k.0 k.1 s q was)
-        go s q (inr one) = inr (
-          ap (finmap.get k.0.held) one.1 ∙ absent_roomy c k.0 r stay leaf k.1 absent,
-          λ i. Some (record { 0 = (same ∙ sym one.0) i }, sym one.1 i),
-        )
+    only_kept new rank same absent k = subst (KeepsOnlyAt (Some (rank, leaf))) (sym k.2) (λ s q placed. ⊎_elim (λ was. inl (none_roomy k.0 k.1 s q was))
+        (λ one. inr (ap (finmap.get k.0.held) one.1 ∙ absent_roomy c k.0 r stay leaf k.1 absent, λ i. Some (record { 0 = (same ∙ sym one.0) i }, sym one.1 i))) (placed_used k.0 r leaf s q placed))
 
     pub kept_for : (new : CacheMap) → finmap.get c.held leaf ≡ None → KeepsAt r leaf stay c new → has_place new r leaf ≡ true
     kept_for new absent k =
@@ -55,11 +41,7 @@ module _ (c : CacheMap) (r : ℕ) (leaf : Leaf) (none : KeepsNone c) where
 
 -- a leaf that is cached nowhere has no place where none is kept
 pub none_absent : (c : CacheMap) (r : ℕ) (q : Leaf) → KeepsNone c → finmap.get c.held q ≡ None → has_place c r q ≡ false
-none_absent c r q none absent = go (has_place c r q) refl
-  where
-    go : (b : Bool) → has_place c r q ≡ b → has_place c r q ≡ false
-    go false is = is
-    go true is = absurd (subst IsThere (ap (at_rank r) absent) (none r q is))
+none_absent c r q none absent = false_from_ne_true (has_place c r q) (λ is. subst IsThere (ap (at_rank r) absent) (none r q is))
 
 -- a fragment that is to stay is where it was, as it was, once a place is kept for another leaf
 pub kept_stays : (c new : CacheMap) (r : ℕ) (leaf one : Leaf) → r < length c.used → KeepsAt r leaf (Some one) c new → finmap.get new.held one ≡ finmap.get c.held one
@@ -70,8 +52,4 @@ pub none_only : (kept : Option (Rank × Leaf)) (c : CacheMap) → KeepsNone c �
 none_only kept c none r leaf placed = inl (none r leaf placed)
 
 pub only_none : (c : CacheMap) → KeepsOnlyAt None c → KeepsNone c
-only_none c only r leaf placed = go (only r leaf placed)
-  where
-    go : IsThere (here c r leaf) ⊎ ((finmap.get c.held leaf ≡ None) × (◌≡◌ {A = Option (Rank × Leaf)} None (Some (record { 0 = r }, leaf)))) → IsThere (here c r leaf)
-    go (inl there) = there
-    go (inr kept) = let clash = kept.1 in absurd cc
+only_none c only r leaf placed = ⊎_elim (λ there. there) (λ kept. let clash = kept.1 in absurd cc) (only r leaf placed)

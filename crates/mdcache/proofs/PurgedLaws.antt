@@ -1,5 +1,6 @@
 -- Purges one after the other.
-use Rattle.mdcache.proofs.Common.{ArePurged, Keys, List, None, Objects, Ok, Option, PurgesName, Some, State, [], ap, arith, cond, empty_of_len, false, first_name, get_left, get_removed, inl, inr, is_some, len-entries, len-remove, length, lt-ltb, ltb-true, nat_list_cmp_total, nat_lt, option_map, purged, refl, shown_tree, slice_get, suc, sym, true, zero, ℕ, ◌-◌, ◌<◌, ◌∙◌, ◌∷◌, ◌≡◌, ◌⊎◌}
+use Rattle.mdcache.proofs.Common.{ArePurged, Keys, List, None, Ok, Option, PurgesName, Some, State, [], ap, arith, cond, empty_of_len, false, first_name, get_left, get_removed, inl, inr, is_some, len-entries, len-remove, length, ltb-true, nat_list_cmp_total, nat_lt, option_map, purged, refl, shown_tree, slice_get, subst, sym, true, ℕ, ⊎_elim, ◌-◌, ◌<◌, ◌∙◌, ◌∷◌, ◌≡◌}
+use Rattle.std.proofs.lemmas.Bool.{ltb-false}
 use Rattle.std.specs.FinMap as map
 use Rattle.dirfrag_codec.proofs.ByteKeys.{same_or_apart}
 use Rattle.mdcache.proofs.ObjectLaws.{first_stands}
@@ -14,53 +15,29 @@ none_first names none = len-entries names ∙ go (map.entries names) none
 
 -- where none waits the list is empty
 pub no_names : (names : Keys) → nat_lt 0 (map.len names) ≡ false → names ≡ map.empty
-no_names names none = empty_of_len names (go (map.len names) none)
-  where
-    go : (n : ℕ) → nat_lt 0 n ≡ false → n ≡ 0
-    go zero h = refl
-    go (suc n) h = let clash : true ≡ false = sym (lt-ltb 0 (suc n) (omega arith)) ∙ h in absurd cc
+no_names names none = let few = ltb-false 0 (map.len names) none in empty_of_len names (omega (arith, few))
 
 module _ (old now new : State) (so_far : ArePurged old now) (some : nat_lt 0 (map.len now.purge) ≡ true) (before after : ℕ) where
   one_more : (name : List ℕ) → first_name now.purge ≡ Some name → new ≡ purged now name → shown_tree new ≡ shown_tree now → ArePurged old new × (map.len new.purge < map.len now.purge)
-  one_more name first left tree = (record { left = is; tree = tree ∙ so_far.tree; others = others; gone = gone }, fewer)
-    where
-      stands : is_some (map.get now.purge name) ≡ true
-      stands = first_stands now.purge name first
-
-      objects : new.objects ≡ map.remove now.objects name
-      objects = ap (λ (s : State). s.objects) left
-
-      list : new.purge ≡ map.remove now.purge name
-      list = ap (λ (s : State). s.purge) left
-
-      is : new ≡ record old { objects = new.objects; purge = new.purge }
-      is = left ∙ ap (λ (s : State). record s { objects = map.remove now.objects name; purge = map.remove now.purge name }) so_far.left ∙ (λ i. record old { objects = sym objects i; purge = sym list i })
-
-      apart : (q : List ℕ) → map.get now.purge q ≡ None → q ≡ name → ⊥
-      apart q none same = let clash : false ≡ true = ap is_some (sym none ∙ ap (map.get now.purge) same) ∙ stands in cc
-
-      others : (q : List ℕ) → map.get old.purge q ≡ None → (map.get new.objects q ≡ map.get old.objects q) × (map.get new.purge q ≡ None)
-      others q none =
-          let w = so_far.others q none in
-          (ap (λ (m : Objects). map.get m q) objects ∙ get_left now.objects name q (apart q w.1) ∙ w.0, ap (λ (m : Keys). map.get m q) list ∙ get_left now.purge name q (apart q w.1) ∙ w.1)
-
-      gone : (q : List ℕ) → map.get new.purge q ≡ None → (map.get old.purge q ≡ None) ⊎ (map.get new.objects q ≡ None)
-      gone q off = go (same_or_apart q name)
-        where
-          before_that : (map.get old.purge q ≡ None) ⊎ (map.get now.objects q ≡ None) → map.get new.objects q ≡ map.get now.objects q → (map.get old.purge q ≡ None) ⊎ (map.get new.objects q ≡ None)
-          before_that (inl none) still = inl none
-          before_that (inr none) still = inr (still ∙ none)
-
-          go : (q ≡ name) ⊎ (q ≡ name → ⊥) → (map.get old.purge q ≡ None) ⊎ (map.get new.objects q ≡ None)
-          go (inl same) = inr (ap (λ (m : Objects). map.get m q) objects ∙ ap (map.get (map.remove now.objects name)) same ∙ get_removed now.objects name)
-          go (inr other) =
-              before_that (so_far.gone q (sym (get_left now.purge name q other) ∙ ap (λ (m : Keys). map.get m q) (sym list) ∙ off)) (ap (λ (m : Objects). map.get m q) objects ∙ get_left now.objects name q other)
-
-      fewer : map.len new.purge < map.len now.purge
-      fewer =
-          let less : map.len new.purge ≡ map.len now.purge - 1 = ap (λ (m : Keys). map.len m) list ∙ len-remove nat_list_cmp_total now.purge name ∙ ap (λ b. cond {A = ℕ} b (map.len now.purge - 1) (map.len now.purge)) stands in
-          let one = ltb-true 0 (map.len now.purge) some in
-          omega (arith, less, one)
+  one_more name first left tree =
+      let stands = first_stands now.purge name first in
+      subst (λ (k : State). ArePurged old k × (map.len k.purge < map.len now.purge)) (sym left) (
+        record {
+          left = ap (λ (s : State). record s { objects = map.remove now.objects name; purge = map.remove now.purge name }) so_far.left;
+          tree = sym (ap shown_tree left) ∙ tree ∙ so_far.tree;
+          others = λ q none.
+              let w = so_far.others q none in
+              let apart : q ≡ name → ⊥ = λ same. let clash : false ≡ true = ap is_some (sym w.1 ∙ ap (map.get now.purge) same) ∙ stands in cc in
+              (get_left now.objects name q apart ∙ w.0, get_left now.purge name q apart ∙ w.1);
+          gone = λ q off. elim (same_or_apart q name) [
+            | inl same ↦ inr (ap (map.get (map.remove now.objects name)) same ∙ get_removed now.objects name)
+            | inr other ↦ ⊎_elim (λ none. inl none) (λ none. inr (get_left now.objects name q other ∙ none)) (so_far.gone q (sym (get_left now.purge name q other) ∙ off))
+          ];
+        },
+        let less : map.len (map.remove now.purge name) ≡ map.len now.purge - 1 = len-remove nat_list_cmp_total now.purge name ∙ ap (λ b. cond {A = ℕ} b (map.len now.purge - 1) (map.len now.purge)) stands in
+            let one = ltb-true 0 (map.len now.purge) some in
+            omega (arith, less, one),
+      )
 
   pub purged_more : PurgesName now new before after (first_name now.purge) (Ok tt) → ArePurged old new × (map.len new.purge < map.len now.purge)
   purged_more is = go (first_name now.purge) refl is

@@ -1,13 +1,12 @@
 -- What is made ready for a split or a merge: first room and names are planned, then the place that was kept is given up, then leaves are read.
-use Rattle.mdcache.proofs.Common.{AreAbsent, AreCaches, AreKept, At, CacheMap, Cached, CanMerge, CanSplit, Core, Dirfrag, Err, Fragment, HasCached, IfErr, Ino, IsAmongOr, IsButPlaces, IsChildAt, IsDistinct, IsFamilyAt, IsLive, IsNoLess, IsSoundCore, IsThat, IsThere, IsWhole, KeepsNone, LacksPlacesIn, Leaf, List, MayFetch, MayHold, MayNotFind, MayNotKeepAll, None, NoneEnds, Ok, OnErr, OnOk, Option, Reads, ReadsCore, ReadsFamily, Refusal, Result, Some, StaysAt, ap, arith, at_rank, child_of, ending_at, false, has_place, here, inl, inr, is_known, kept_at, leaf_is, leaf_itself, leaf_of, leaves_of, length, no_child, order, placed_given_up, readies_whole, reads_placed, reads_then, reads_weaker, refl, refused_whole, subst, suc, sym, true, unclean_at, unclean_of, without_children, zero, ℕ, ◌+◌, ◌<◌, ◌^◌, ◌∙◌, ◌≡◌, ◌≤◌, ◌⊎◌}
+use Rattle.mdcache.proofs.Common.{AreAbsent, AreCaches, AreKept, CacheMap, Cached, Core, Dirfrag, Fragment, HasCached, Ino, IsButPlaces, IsChildAt, IsDistinct, IsFamilyAt, IsNoLess, IsThat, IsThere, IsWhole, KeepsNone, LacksPlacesIn, Leaf, MayNotFind, MayNotKeepAll, None, NoneEnds, Option, Reads, ReadsCore, ReadsFamily, Refusal, Some, StaysAt, ap, arith, at_rank, child_of, false, has_place, here, inl, inr, kept_at, leaf_is, leaf_itself, leaf_of, length, no_child, order, placed_given_up, readies_whole, reads_placed, reads_then, reads_weaker, refl, refused_whole, subst, suc, sym, true, unclean_at, unclean_of, without_children, zero, ℕ, ⊎_elim, ◌+◌, ◌<◌, ◌^◌, ◌∙◌, ◌≡◌, ◌≤◌, ◌⊎◌}
 use Rattle.std.specs.FinMap as map
 use Rattle.dentry_cache.specs.Reads.Reads.{stays as it_stays}
 use Rattle.dentry_cache.proofs.ChildLaws.{AreDropped, are_dropped}
-use Rattle.mdcache.proofs.CoreLaws.{first_step, may_fetch, may_fetch_on, next_step, no_less_itself, not_found_before, reads_core_on, reads_core_wider, still_absent, there_after}
-use Rattle.mdcache.proofs.JoinSteps.{hold_on, live_on}
-use Rattle.mdcache.proofs.MergeSteps.{ending_live}
+use Rattle.dentry_cache.proofs.LacksLaws.{none_kept_at}
+use Rattle.mdcache.proofs.CoreLaws.{first_step, next_step, no_less_itself, not_found_before, reads_core_wider, still_absent, there_after}
 use Rattle.mdcache.proofs.NoneLaws.{none_absent}
-use Rattle.mdcache.proofs.UncleanOf.{kept_none, unclean_few}
+use Rattle.mdcache.proofs.UncleanOf.{unclean_few}
 
 -- where places of children are given up, what has one had one
 placed_without : (r : ℕ) (dir : Ino) (frag : Fragment) (bits n : ℕ) (c : CacheMap) (s : ℕ) (q : Leaf) → has_place (without_children r dir frag bits n c) s q ≡ true → has_place c s q ≡ true
@@ -20,161 +19,99 @@ stays_there None now h = absurd h
 stays_there (Some f) None h = absurd h
 stays_there (Some f) (Some g) h = tt
 
--- ---- room
-
-module _ (old new : Core) (left : new ≡ record old { room = new.room }) (less : IsNoLess old.room new.room) where
-  pub room_reads : (Uses Ends : ℕ → Leaf → Type 0) → ReadsCore Uses Ends old new
-  room_reads Uses Ends = subst (ReadsCore Uses Ends old) (sym left) (first_step Uses Ends old old (record old { room = new.room }) less refl refl it_stays)
-
-  pub room_sound : IsSoundCore old → IsSoundCore new
-  room_sound sound = subst IsSoundCore (sym left) (record { sound = sound.sound; begun = sound.begun; cached = sound.cached; none = sound.none })
-
-  pub room_fetch : (a : Dirfrag) → IsSoundCore old → MayHold old.caches a.rank (leaf_of a) → IsLive old.homes old.covers (leaf_of a) → MayFetch new a
-  room_fetch a sound holds live = may_fetch_on NoneEnds NoneEnds old new (room_reads NoneEnds NoneEnds) a (λ r no_use. absurd no_use) (may_fetch old sound a holds live)
-
-  pub room_holds : (a : Dirfrag) → IsSoundCore old → IsLive old.homes old.covers (leaf_of a) → MayHold old.caches a.rank (leaf_of a) → IsLive new.homes new.covers (leaf_of a) × MayHold new.caches a.rank (leaf_of a)
-  room_holds a sound live holds =
-      let all : ReadsCore NoneEnds NoneEnds old new = room_reads NoneEnds NoneEnds in
-      (live_on NoneEnds NoneEnds old new all (leaf_of a) live, hold_on NoneEnds NoneEnds old new all sound a (λ r no_use. absurd no_use) live holds)
-
-  pub room_there : (r : ℕ) → r < length old.caches.used → r < length new.caches.used
-  room_there r there = there_after NoneEnds NoneEnds old new r (room_reads NoneEnds NoneEnds) there
-
-  pub room_absent : (q : Leaf) → map.get old.caches.held q ≡ None → map.get new.caches.held q ≡ None
-  room_absent q none = still_absent NoneEnds NoneEnds old new q (room_reads NoneEnds NoneEnds) (λ r no_use. no_use) none
-
-  -- then leaves are read
-  pub last_reads : (Uses Ends : ℕ → Leaf → Type 0) (last : Core) → ReadsCore Uses Ends new last → ReadsCore Uses Ends old last
-  last_reads Uses Ends last reads = reads_core_on Uses Ends old new last (room_reads Uses Ends) reads
-
-  -- and why that is refused
-  pub last_refused : (count r after : ℕ) (reason : Refusal) → MayNotFind (LacksPlacesIn count new.caches r) new.faults after reason → MayNotFind (LacksPlacesIn count old.caches r) old.faults after reason
-  last_refused count r after reason is = not_found_before NoneEnds NoneEnds old new (room_reads NoneEnds NoneEnds) count r after reason (ap (λ (c : Core). c.faults) left) is
-
--- the leaf of a split, and its children, are live where they are cached, as long as no child is
-pub family_live : (c : Core) (a : Dirfrag) (nb : ℕ) → is_known c.homes a.dir.0 ≡ true → CanSplit (leaves_of c.covers a.dir.0) a.frag nb → (caches : CacheMap)
-    → ((i : ℕ) → i < 2 ^ nb → map.get caches.held (a.dir, child_of a.frag i nb) ≡ None) → (r : ℕ) (q : Leaf) → IsFamilyAt a.rank.0 a.dir a.frag nb r q → (b : At) → map.get caches.held q ≡ Some b → IsLive c.homes c.covers q
-family_live c a nb known can caches absent r q (inl it) b is = subst (IsLive c.homes c.covers) (sym it.1) (record { known = known; stands = can.stands })
-family_live c a nb known can caches absent r q (inr child) b is = let clash : None ≡ Some b = sym (absent child.1 child.2) ∙ ap (map.get caches.held) (sym child.3) ∙ is in absurd cc
-
--- leaves that end with a merge are live where they are cached, as long as the fragment that comes isn't cached
-pub ending_or_it : (c : Core) → IsSoundCore c → (a : Dirfrag) → is_known c.homes a.dir.0 ≡ true → CanMerge (leaves_of c.covers a.dir.0) a.frag → (caches : CacheMap) → map.get caches.held (leaf_of a) ≡ None → (r : ℕ) (q : Leaf)
-    → IsAmongOr a.rank.0 (ending_at c a) (leaf_of a) r q → (b : At) → map.get caches.held q ≡ Some b → IsLive c.homes c.covers q
-ending_or_it c sound a known can caches absent r q (inl among) b is = ending_live c sound a known can q among.1
-ending_or_it c sound a known can caches absent r q (inr it) b is = let clash : None ≡ Some b = sym absent ∙ ap (map.get caches.held) (sym it.1) ∙ is in absurd cc
+-- room grew alone
+pub room_reads : (old new : Core) → new ≡ record old { room = new.room } → IsNoLess old.room new.room → (Uses Ends : ℕ → Leaf → Type 0) → ReadsCore Uses Ends old new
+room_reads old new left less Uses Ends = subst (ReadsCore Uses Ends old) (sym left) (first_step Uses Ends old old (record old { room = new.room }) less refl refl it_stays)
 
 -- ---- the children of a leaf that is fetched
 
+abbrev Family : Dirfrag → ℕ → ℕ → Leaf → Type 0
+Family a nb = IsFamilyAt a.rank.0 a.dir a.frag nb
+
+abbrev Child : Dirfrag → ℕ → ℕ → Leaf → Type 0
+Child a nb = IsChildAt a.rank.0 a.dir a.frag nb
+
 module _ (old mid view : Core) (is : view ≡ mid) (a : Dirfrag) (nb : ℕ) (some : 1 ≤ nb) (reads : ReadsCore (IsThat a.rank.0 (leaf_of a)) NoneEnds old mid) (none_mid : KeepsNone mid.caches)
-    (there : a.rank.0 < length old.caches.used) (absent : (i : ℕ) → i < 2 ^ nb → map.get old.caches.held (a.dir, child_of a.frag i nb) ≡ None) where
-  abbrev r : ℕ
-  r = a.rank.0
+    (there : a.rank.0 < length old.caches.used) (absent : (i : ℕ) → i < 2 ^ nb → map.get old.caches.held (a.dir, child_of a.frag i nb) ≡ None) (valid : AreCaches old.caches) (none_old : KeepsNone old.caches) where
+  -- the fetch alone, where it was refused
+  pub fetched_nowhere : (i : ℕ) → i < 2 ^ nb → map.get mid.caches.held (a.dir, child_of a.frag i nb) ≡ None
+  fetched_nowhere i below = still_absent (IsThat a.rank.0 (leaf_of a)) NoneEnds old mid (a.dir, child_of a.frag i nb) reads (λ q that.
+      let clash : true ≡ false = sym (leaf_itself (leaf_of a)) ∙ ap (leaf_is (leaf_of a)) (sym that.1) ∙ no_child a.dir a.frag nb i some in absurd cc) (absent i below)
 
-  not_it : (i : ℕ) (q : ℕ) → IsThat r (leaf_of a) q (a.dir, child_of a.frag i nb) → ⊥
-  not_it i q that =
-      let clash : true ≡ false = sym (leaf_itself (leaf_of a)) ∙ ap (leaf_is (leaf_of a)) (sym that.1) ∙ no_child a.dir a.frag nb i some in absurd cc
+  pub fetched_family : ReadsCore (Family a nb) (Family a nb) old mid
+  fetched_family = reads_core_wider (IsThat a.rank.0 (leaf_of a)) (Family a nb) NoneEnds (Family a nb) old mid (λ s q that. inl that) (λ s q no_end. absurd no_end) reads
 
-  nowhere : (i : ℕ) → i < 2 ^ nb → map.get mid.caches.held (a.dir, child_of a.frag i nb) ≡ None
-  nowhere i below = still_absent (IsThat r (leaf_of a)) NoneEnds old mid (a.dir, child_of a.frag i nb) reads (λ q that. not_it i q that) (absent i below)
+  -- no leaf stands twice in the order of use
+  pub fetched_distinct : IsDistinct leaf_is (order mid.caches a.rank.0)
+  fetched_distinct = (reads_placed (IsThat a.rank.0 (leaf_of a)) NoneEnds old.objects old.caches valid (λ s q that. subst (λ (n : ℕ). n < length old.caches.used) (sym that.0) there) mid.caches reads.caches).distinct a.rank.0
 
   none : KeepsNone view.caches
   none = subst (λ (k : Core). KeepsNone k.caches) (sym is) none_mid
 
-  pub children_absent : AreAbsent view.caches r a.dir a.frag nb
+  pub children_absent : AreAbsent view.caches a.rank.0 a.dir a.frag nb
   children_absent i below =
-      let held : map.get view.caches.held (a.dir, child_of a.frag i nb) ≡ None = ap (λ (k : Core). map.get k.caches.held (a.dir, child_of a.frag i nb)) is ∙ nowhere i below in
-      (none_absent view.caches r (a.dir, child_of a.frag i nb) none held, held)
+      let held : map.get view.caches.held (a.dir, child_of a.frag i nb) ≡ None = ap (λ (k : Core). map.get k.caches.held (a.dir, child_of a.frag i nb)) is ∙ fetched_nowhere i below in
+      (none_absent view.caches a.rank.0 (a.dir, child_of a.frag i nb) none held, held)
 
-  pub children_there : r < length view.caches.used
-  children_there = subst (λ (k : Core). r < length k.caches.used) (sym is) (there_after (IsThat r (leaf_of a)) NoneEnds old mid r reads there)
+  pub children_there : a.rank.0 < length view.caches.used
+  children_there = subst (λ (k : Core). a.rank.0 < length k.caches.used) (sym is) (there_after (IsThat a.rank.0 (leaf_of a)) NoneEnds old mid a.rank.0 reads there)
 
-  -- the fetch alone, where it was refused
-  pub fetched_family : ReadsCore (IsFamilyAt r a.dir a.frag nb) (IsFamilyAt r a.dir a.frag nb) old mid
-  fetched_family = reads_core_wider (IsThat r (leaf_of a)) (IsFamilyAt r a.dir a.frag nb) NoneEnds (IsFamilyAt r a.dir a.frag nb) old mid (λ s q that. inl that) (λ s q no_end. absurd no_end) reads
-
-  pub fetched_nowhere : (i : ℕ) → i < 2 ^ nb → map.get mid.caches.held (a.dir, child_of a.frag i nb) ≡ None
-  fetched_nowhere = nowhere
-
-  -- no leaf stands twice in the order of use
-  module _ (valid : AreCaches old.caches) (none_old : KeepsNone old.caches) where
-    distinct_mid : IsDistinct leaf_is (order mid.caches r)
-    distinct_mid = (reads_placed (IsThat r (leaf_of a)) NoneEnds old.objects old.caches valid (λ s q that. subst (λ (n : ℕ). n < length old.caches.used) (sym that.0) there) mid.caches reads.caches).distinct r
-
-    pub fetched_distinct : IsDistinct leaf_is (order mid.caches r)
-    fetched_distinct = distinct_mid
-
-  module _ (caches' : CacheMap) (family : ReadsFamily r a.dir a.frag nb view.caches caches') where
-    pub children_reads : ReadsCore (IsFamilyAt r a.dir a.frag nb) (IsFamilyAt r a.dir a.frag nb) old (record view { caches = caches' })
-    children_reads = next_step (IsFamilyAt r a.dir a.frag nb) (IsFamilyAt r a.dir a.frag nb) old view (record view { caches = caches' }) (no_less_itself view.room) refl mid fetched_family is
-        (reads_weaker (IsFamilyAt r a.dir a.frag nb) (IsChildAt r a.dir a.frag nb) (IsFamilyAt r a.dir a.frag nb) (IsFamilyAt r a.dir a.frag nb) (λ s q is. is) (λ s q child. inr child) view.objects view.caches caches' (family view.objects))
+  module _ (caches' : CacheMap) (family : ReadsFamily a.rank.0 a.dir a.frag nb view.caches caches') (stays : StaysAt a.rank.0 (leaf_of a) view.caches caches') where
+    pub children_reads : ReadsCore (Family a nb) (Family a nb) old (record view { caches = caches' })
+    children_reads = next_step (Family a nb) (Family a nb) old view (record view { caches = caches' }) (no_less_itself view.room) refl mid fetched_family is
+        (reads_weaker (Family a nb) (Child a nb) (Family a nb) (Family a nb) (λ s q is. is) (λ s q child. inr child) view.objects view.caches caches' (family view.objects))
 
     -- from before the fetch on
-    all_reads : Reads (IsFamilyAt r a.dir a.frag nb) (IsChildAt r a.dir a.frag nb) old.objects old.caches caches'
-    all_reads = reads_then (IsFamilyAt r a.dir a.frag nb) (IsChildAt r a.dir a.frag nb) old.objects old.caches mid.caches caches'
-        (reads_weaker (IsThat r (leaf_of a)) NoneEnds (IsFamilyAt r a.dir a.frag nb) (IsChildAt r a.dir a.frag nb) (λ s q that. inl that) (λ s q no_end. absurd no_end) old.objects old.caches mid.caches reads.caches)
-        (subst (λ (c : CacheMap). Reads (IsFamilyAt r a.dir a.frag nb) (IsChildAt r a.dir a.frag nb) old.objects c caches') (ap (λ (k : Core). k.caches) is) (family old.objects))
+    all_reads : Reads (Family a nb) (Child a nb) old.objects old.caches caches'
+    all_reads = reads_then (Family a nb) (Child a nb) old.objects old.caches mid.caches caches'
+        (reads_weaker (IsThat a.rank.0 (leaf_of a)) NoneEnds (Family a nb) (Child a nb) (λ s q that. inl that) (λ s q no_end. absurd no_end) old.objects old.caches mid.caches reads.caches)
+        (subst (λ (c : CacheMap). Reads (Family a nb) (Child a nb) old.objects c caches') (ap (λ (k : Core). k.caches) is) (family old.objects))
 
-    module _ (valid : AreCaches old.caches) (none_old : KeepsNone old.caches) where
-      in_ranks : (s : ℕ) (q : Leaf) → IsFamilyAt r a.dir a.frag nb s q → s < length old.caches.used
-      in_ranks s q (inl it) = subst (λ (n : ℕ). n < length old.caches.used) (sym it.0) there
-      in_ranks s q (inr child) = subst (λ (n : ℕ). n < length old.caches.used) (sym child.0) there
+    pub children_distinct : IsDistinct leaf_is (order caches' a.rank.0)
+    children_distinct = (reads_placed (Family a nb) (Child a nb) old.objects old.caches valid (λ s q named. subst (λ (n : ℕ). n < length old.caches.used) (sym (⊎_elim (λ it. it.0) (λ child. child.0) named)) there) caches' all_reads).distinct a.rank.0
 
-      pub children_distinct : IsDistinct leaf_is (order caches' r)
-      children_distinct = (reads_placed (IsFamilyAt r a.dir a.frag nb) (IsChildAt r a.dir a.frag nb) old.objects old.caches valid in_ranks caches' all_reads).distinct r
+    pub children_only : (s : ℕ) (q : Leaf) → IsWhole caches' s q ⊎ Child a nb s q
+    children_only = readies_whole a.rank.0 a.dir a.frag nb old.objects old.caches caches' there valid none_old all_reads (stays_there (here view.caches a.rank.0 (leaf_of a)) (here caches' a.rank.0 (leaf_of a)) stays)
 
-      module _ (stays : StaysAt r (leaf_of a) view.caches caches') where
-        it_stays_there : IsThere (here caches' r (leaf_of a))
-        it_stays_there = stays_there (here view.caches r (leaf_of a)) (here caches' r (leaf_of a)) stays
+    pub children_none : AreAbsent caches' a.rank.0 a.dir a.frag nb → KeepsNone caches'
+    children_none = refused_whole a.rank.0 a.dir a.frag nb old.objects old.caches caches' there valid none_old all_reads (stays_there (here view.caches a.rank.0 (leaf_of a)) (here caches' a.rank.0 (leaf_of a)) stays)
 
-        pub children_only_so : {A E : Type 0} (result : Result A E) → OnOk result ((s : ℕ) (q : Leaf) → IsWhole caches' s q ⊎ IsChildAt r a.dir a.frag nb s q)
-        children_only_so (Ok x) = readies_whole r a.dir a.frag nb old.objects old.caches caches' there valid none_old all_reads it_stays_there
-        children_only_so (Err e) = tt
-
-        pub children_none_so : {A E : Type 0} (result : Result A E) → OnErr result (AreAbsent caches' r a.dir a.frag nb) → OnErr result (KeepsNone caches')
-        children_none_so (Ok x) absent = tt
-        children_none_so (Err e) absent = refused_whole r a.dir a.frag nb old.objects old.caches caches' there valid none_old all_reads it_stays_there absent
-
-  module _ (valid : AreCaches old.caches) (none_old : KeepsNone old.caches) where
-    children_refused : (reason : Refusal) → mid.faults ≡ old.faults → MayNotKeepAll (2 ^ nb) view.caches r reason → MayNotFind (LacksPlacesIn (2 ^ nb + 1) old.caches r) old.faults view.faults reason
-    children_refused reason same refused =
-        not_found_before (IsThat r (leaf_of a)) NoneEnds old mid reads (2 ^ nb + 1) r view.faults reason same (subst (λ (k : Core). MayNotFind (LacksPlacesIn (2 ^ nb + 1) k.caches r) k.faults view.faults reason) is (on refused))
-      where
-        on : MayNotKeepAll (2 ^ nb) view.caches r reason → MayNotFind (LacksPlacesIn (2 ^ nb + 1) view.caches r) view.faults view.faults reason
-        on (inl memory) = inl memory
-        on (inr full) =
-            let lacks = full.1 in
-            let kept : length (kept_at view.caches r) ≡ 0 = ap (λ (xs : List Leaf). length xs) (kept_none view.caches r none) in
-            let few : length (unclean_at view.caches r) ≤ map.len (unclean_of view.caches r) = unclean_few view.caches r (subst (λ (k : Core). IsDistinct leaf_is (order k.caches r)) (sym is) (distinct_mid valid none_old)) in
-            inr (inr (full.0, omega (arith, lacks, kept, few)))
-
-    pub children_refused_so : {A : Type 0} (result : Result A Refusal) → mid.faults ≡ old.faults → IfErr result (MayNotKeepAll (2 ^ nb) view.caches r) → IfErr result (MayNotFind (LacksPlacesIn (2 ^ nb + 1) old.caches r) old.faults view.faults)
-    children_refused_so (Ok x) same refused = tt
-    children_refused_so (Err reason) same refused = children_refused reason same refused
+  pub children_refused : mid.faults ≡ old.faults → (reason : Refusal) → MayNotKeepAll (2 ^ nb) view.caches a.rank.0 reason → MayNotFind (LacksPlacesIn (2 ^ nb + 1) old.caches a.rank.0) old.faults view.faults reason
+  children_refused same reason refused =
+      not_found_before (IsThat a.rank.0 (leaf_of a)) NoneEnds old mid reads (2 ^ nb + 1) a.rank.0 view.faults reason same (subst (λ (k : Core). MayNotFind (LacksPlacesIn (2 ^ nb + 1) k.caches a.rank.0) k.faults view.faults reason) is (on refused))
+    where
+      on : MayNotKeepAll (2 ^ nb) view.caches a.rank.0 reason → MayNotFind (LacksPlacesIn (2 ^ nb + 1) view.caches a.rank.0) view.faults view.faults reason
+      on (inl memory) = inl memory
+      on (inr full) =
+          let lacks = full.1 in
+          let kept : length (kept_at view.caches a.rank.0) ≡ 0 = none_kept_at view.caches a.rank.0 (none a.rank.0) in
+          let few : length (unclean_at view.caches a.rank.0) ≤ map.len (unclean_of view.caches a.rank.0) = unclean_few view.caches a.rank.0 (subst (λ (k : Core). IsDistinct leaf_is (order k.caches a.rank.0)) (sym is) fetched_distinct) in
+          inr (inr (full.0, omega (arith, lacks, kept, few)))
 
 -- ---- the places of a split's children are given up again
 
-module _ (old mid : Core) (a : Dirfrag) (nb : ℕ) (reads : ReadsCore (IsFamilyAt a.rank.0 a.dir a.frag nb) (IsFamilyAt a.rank.0 a.dir a.frag nb) old mid) (there : a.rank.0 < length mid.caches.used) (distinct : IsDistinct leaf_is (order mid.caches a.rank.0))
-    (kept : AreKept mid.caches a.rank.0 a.dir a.frag nb) (only : (s : ℕ) (q : Leaf) → IsWhole mid.caches s q ⊎ IsChildAt a.rank.0 a.dir a.frag nb s q)
+-- the leaf can be split as before, and no place is kept
+pub record HasGivenUp (old last : Core) (a : Dirfrag) (nb : ℕ) : Type 0 where
+  pub reads : ReadsCore (Family a nb) (Family a nb) old last
+  pub absent : (i : ℕ) → i < 2 ^ nb → map.get last.caches.held (a.dir, child_of a.frag i nb) ≡ None
+  pub none : KeepsNone last.caches
+
+module _ (old mid : Core) (a : Dirfrag) (nb : ℕ) (reads : ReadsCore (Family a nb) (Family a nb) old mid) (there : a.rank.0 < length old.caches.used) (distinct : IsDistinct leaf_is (order mid.caches a.rank.0))
+    (kept : AreKept mid.caches a.rank.0 a.dir a.frag nb) (only : (s : ℕ) (q : Leaf) → IsWhole mid.caches s q ⊎ Child a nb s q)
     (last : Core) (left : last ≡ record mid { caches = without_children a.rank.0 a.dir a.frag nb (2 ^ nb) mid.caches }) where
   abbrev freed : CacheMap
   freed = without_children a.rank.0 a.dir a.frag nb (2 ^ nb) mid.caches
 
   dropped : AreDropped a.rank.0 a.dir a.frag nb (2 ^ nb) mid.caches freed
-  dropped = are_dropped a.rank.0 a.dir a.frag nb (2 ^ nb) mid.caches (omega arith) there distinct (λ i below. (kept i below).1)
+  dropped = are_dropped a.rank.0 a.dir a.frag nb (2 ^ nb) mid.caches (omega arith) (there_after (Family a nb) (Family a nb) old mid a.rank.0 reads there) distinct (λ i below. (kept i below).1)
 
-  pub dropped_reads : ReadsCore (IsFamilyAt a.rank.0 a.dir a.frag nb) (IsFamilyAt a.rank.0 a.dir a.frag nb) old last
-  dropped_reads = subst (ReadsCore (IsFamilyAt a.rank.0 a.dir a.frag nb) (IsFamilyAt a.rank.0 a.dir a.frag nb) old) (sym left)
-      (next_step (IsFamilyAt a.rank.0 a.dir a.frag nb) (IsFamilyAt a.rank.0 a.dir a.frag nb) old mid (record mid { caches = freed }) (no_less_itself mid.room) refl mid reads refl
-      (reads_weaker (IsFamilyAt a.rank.0 a.dir a.frag nb) (IsChildAt a.rank.0 a.dir a.frag nb) (IsFamilyAt a.rank.0 a.dir a.frag nb) (IsFamilyAt a.rank.0 a.dir a.frag nb) (λ s q is. is) (λ s q child. inr child) mid.objects mid.caches freed (dropped.reads mid.objects)))
-
-  pub dropped_absent : (i : ℕ) → i < 2 ^ nb → map.get last.caches.held (a.dir, child_of a.frag i nb) ≡ None
-  dropped_absent i below = ap (λ (k : Core). map.get k.caches.held (a.dir, child_of a.frag i nb)) left ∙ ap (λ m. map.get m (a.dir, child_of a.frag i nb)) dropped.held ∙ (kept i below).1
-
-  pub dropped_none : KeepsNone last.caches
-  dropped_none = subst (λ (k : Core). KeepsNone k.caches) (sym left) (λ s q placed. go s q placed (only s q))
-    where
-      go : (s : ℕ) (q : Leaf) → has_place freed s q ≡ true → IsWhole mid.caches s q ⊎ IsChildAt a.rank.0 a.dir a.frag nb s q → IsThere (here freed s q)
-      go s q placed (inl whole) = subst (λ m. IsThere (at_rank s (map.get m q))) (sym dropped.held) (whole (placed_without a.rank.0 a.dir a.frag nb (2 ^ nb) mid.caches s q placed))
-      go s q placed (inr child) =
-          let clash : true ≡ false = sym placed ∙ (λ i. has_place freed (child.0 i) (child.3 i)) ∙ dropped.none child.1 child.2 in
-          absurd cc
+  pub given_up : HasGivenUp old last a nb
+  given_up = subst (λ (k : Core). HasGivenUp old k a nb) (sym left) (record {
+    reads = next_step (Family a nb) (Family a nb) old mid (record mid { caches = freed }) (no_less_itself mid.room) refl mid reads refl
+        (reads_weaker (Family a nb) (Child a nb) (Family a nb) (Family a nb) (λ s q is. is) (λ s q child. inr child) mid.objects mid.caches freed (dropped.reads mid.objects));
+    absent = λ i below. ap (λ m. map.get m (a.dir, child_of a.frag i nb)) dropped.held ∙ (kept i below).1;
+    none = λ s q placed. ⊎_elim (λ whole. subst (λ m. IsThere (at_rank s (map.get m q))) (sym dropped.held) (whole (placed_without a.rank.0 a.dir a.frag nb (2 ^ nb) mid.caches s q placed)))
+        (λ child.
+        let clash : true ≡ false = sym placed ∙ (λ i. has_place freed (child.0 i) (child.3 i)) ∙ dropped.none child.1 child.2 in
+        absurd cc) (only s q);
+  })

@@ -1,5 +1,7 @@
 -- What a split makes of the whole, once all was ready for it.
-use Rattle.mdcache.proofs.Common.{AreCached, At, Bool, Cached, Came, CanSplit, Comes, Core, Dirfrag, Fragment, Fresh, HasCached, HasLeaf, HasUnsaved, Ino, Inode, IsCachedIn, IsChild, IsChildAt, IsConcerned, IsDistinct, IsFamilyAt, IsFreeFor, IsListedAnew, IsLive, IsNewLeaf, IsNoChild, IsPick, IsReadyToSplit, IsRegrouped, IsSound, IsSoundCore, IsSplit, IsSplitInto, IsSplitReady, IsTree, IsWhole, KeepsNone, Leaf, List, MayHold, Names, None, Option, Part, ReadsCore, Some, Split, SplitsAt, SplitsInto, State, Unsaved, [], ap, are_empty, arith, at, between, child_of, cond, dentry_of, false, fresh_tied, get-names_in, has_none, hash_of, here, here_free, holds, holds_contains, inl, inr, is_known, is_some, leaf_is, leaf_of, leaf_or_apart, leaves_of, length, marked_as, mul-le-mul_right, names_in, names_of, object_of, one_or_other, order, pick_after_split, reads_came, refl, same_Some, shown, shown_tree, span, span-split, span_pos, split_beside, split_came, split_child, split_gone, split_in, split_unclean_beside, split_unclean_child, split_unclean_gone, split_whole, state_of, string_bytes, subst, suc, sym, tree_of_row, true, unclean, without_objects, zero, ℕ, ◌&&◌, ◌*◌, ◌+◌, ◌<◌, ◌^◌, ◌∙◌, ◌∷◌, ◌≡◌, ◌≢◌, ◌≤◌, ◌⊎◌}
+use Rattle.mdcache.proofs.Common.{AreCached, At, Bool, Cached, Came, CanSplit, Comes, Core, Dirfrag, Fragment, Fresh, HasCached, HasLeaf, HasUnsaved, Ino, Inode, IsCachedIn, IsChild, IsChildAt, IsConcerned, IsDistinct, IsFamilyAt, IsFreeFor, IsListedAnew, IsNewLeaf, IsNoChild, IsReadyToSplit, IsRegrouped, IsSound, IsSoundCore, IsSplit, IsSplitInto, IsSplitReady, IsTree, IsWhole, Leaf, List, MayHold, Names, None, Option, Part, ReadsCore, Some, Split, SplitsAt, SplitsInto, State, Unsaved, [], ap, are_empty, arith, at, between, child_of, cond, dentry_of, false, fresh_tied, get-names_in, has_none, hash_of, here, here_free, holds, holds_contains, inl, inr, is_known, is_some, leaf_is, leaf_of, leaf_or_apart, leaves_of, length, marked_as, mul-le-mul_right, names_in, names_of, object_of, one_or_other, order, pick_after_split, reads_came, refl, same_Some, shown, shown_tree, span, span-split, span_pos, split_beside, split_came, split_child, split_gone, split_in, split_unclean_beside, split_unclean_child, split_unclean_gone, split_whole, state_of, string_bytes, subst, sym, tree_of_row, true, unclean, without_objects, zero, ℕ, ⊎_elim, ◌*◌, ◌+◌, ◌<◌, ◌^◌, ◌∙◌, ◌∷◌, ◌≡◌, ◌≤◌, ◌⊎◌}
+use Rattle.std.proofs.Math.Bool.{and-true}
+use Rattle.std.proofs.lemmas.Bool.{cases_Bool}
 use Rattle.std.specs.Prelude.{map as each}
 use Rattle.std.specs.List.{slice_index_or}
 use Rattle.std.specs.FinMap as map
@@ -7,10 +9,11 @@ use Rattle.fragtree.proofs.Spelled.{one_leaf as one_of_hash}
 use Rattle.mdcache.specs.Splits.{KeepsTree}
 use Rattle.mdcache.proofs.ChangeSteps.{cached_there, its}
 use Rattle.mdcache.proofs.CoreLaws.{reads_cached_so, reads_state, shows_so, there_after}
+use Rattle.mdcache.proofs.JoinSteps.{cached_nowhere, family_live}
 use Rattle.mdcache.proofs.ListedLaws.{listed_anew}
 use Rattle.mdcache.proofs.NamedLaws.{pick_at, sound_leaves, stands_at}
-use Rattle.mdcache.proofs.RegroupLaws.{apart_live, came_live, which}
-use Rattle.mdcache.proofs.SplitLaws.{split_ends, split_stood, splits_right}
+use Rattle.mdcache.proofs.RegroupLaws.{Replaces, apart_live, came_live, which}
+use Rattle.mdcache.proofs.SplitLaws.{only_one, split_replaces, splits_right}
 
 -- a child is no leaf of a tree that has the fragment
 pub no_leaf_yet : (leaves : List Fragment) (frag : Fragment) (nb i : ℕ) → IsTree leaves → HasLeaf leaves frag → 1 ≤ nb → frag.bits + nb ≤ 24 → i < 2 ^ nb → HasLeaf leaves (child_of frag i nb) → ⊥
@@ -27,47 +30,36 @@ no_leaf_yet leaves frag nb i tree stands some few below child =
 
 -- a leaf that came is a child, and the other way round
 is_child : (row cover : List Fragment) (frag : Fragment) (nb : ℕ) → IsSplit row cover frag nb → (g : Fragment) → Comes row cover g → IsChild frag nb g
-is_child row cover frag nb divided g came = go ((divided.leaves g).0 came.0)
-  where
-    go : (HasLeaf row g × (g ≢ frag)) ⊎ IsChild frag nb g → IsChild frag nb g
-    go (inl old) = absurd (came.1 old.0)
-    go (inr child) = child
+is_child row cover frag nb divided g came = ⊎_elim (λ old. absurd (came.1 old.0)) (λ child. child) ((divided.leaves g).0 came.0)
 
 child_comes : (row cover : List Fragment) (frag : Fragment) (nb : ℕ) → IsTree row → CanSplit row frag nb → IsSplit row cover frag nb → (i : ℕ) → i < 2 ^ nb → Comes row cover (child_of frag i nb)
 child_comes row cover frag nb tree can divided i below = ((divided.leaves (child_of frag i nb)).1 (inr (i, below, refl)), no_leaf_yet row frag nb i tree can.stands can.fits.some can.fits.in_all below)
 
-and_true : (b : Bool) → (b && true) ≡ b
-and_true true = refl
-and_true false = refl
-
 -- no child of a leaf is cached anywhere
 pub no_child_cached : (c : Core) → IsSoundCore c → (dir : Ino) (frag : Fragment) (nb : ℕ) → CanSplit (leaves_of c.covers dir.0) frag nb → (i : ℕ) → i < 2 ^ nb → map.get c.caches.held (dir, child_of frag i nb) ≡ None
-no_child_cached c sound dir frag nb can i below = go (map.get c.caches.held (dir, child_of frag i nb)) refl
-  where
-    go : (o : Option At) → map.get c.caches.held (dir, child_of frag i nb) ≡ o → o ≡ None
-    go None is = refl
-    go (Some a) is =
-        absurd (no_leaf_yet (leaves_of c.covers dir.0) frag nb i (tree_of_row c.homes c.covers sound.sound.table dir.0) can.stands can.fits.some can.fits.in_all below (sound.cached (dir, child_of frag i nb) a is).live.stands)
+no_child_cached c sound dir frag nb can i below = cached_nowhere c sound (dir, child_of frag i nb) (λ live.
+    no_leaf_yet (leaves_of c.covers dir.0) frag nb i (tree_of_row c.homes c.covers sound.sound.table dir.0) can.stands can.fits.some can.fits.in_all below live.stands)
+
+-- what a split leaves of the whole
+pub record HasSplit (old new : Core) (a : Dirfrag) (nb : ℕ) : Type 0 where
+  pub split : IsSplitInto (state_of old) (state_of new) a.dir a.frag nb
+  pub tree : KeepsTree (state_of old) (state_of new) a.dir (a.frag ∷ [])
+  pub came : Came (IsFamilyAt a.rank.0 a.dir a.frag nb) (IsFamilyAt a.rank.0 a.dir a.frag nb) old.caches new.caches
+  pub sound : IsSoundCore new
 
 module _ (old mid : Core) (sound : IsSoundCore old) (a : Dirfrag) (nb : ℕ) (split : Split) (may : MayHold old.caches a.rank (leaf_of a)) (known : is_known old.homes a.dir.0 ≡ true)
-    (can : CanSplit (leaves_of old.covers a.dir.0) a.frag nb) (Ends : ℕ → Leaf → Type 0) (reads : ReadsCore (IsFamilyAt a.rank.0 a.dir a.frag nb) Ends old mid) (ended : Ends a.rank.0 (leaf_of a)) (distinct : IsDistinct leaf_is (order mid.caches a.rank.0))
+    (can : CanSplit (leaves_of old.covers a.dir.0) a.frag nb) (reads : ReadsCore (IsFamilyAt a.rank.0 a.dir a.frag nb) (IsFamilyAt a.rank.0 a.dir a.frag nb) old mid) (distinct : IsDistinct leaf_is (order mid.caches a.rank.0))
     (only : (r : ℕ) (q : Leaf) → IsWhole mid.caches r q ⊎ IsChildAt a.rank.0 a.dir a.frag nb r q) (ready : IsSplitReady mid a nb split)
     (new : Core) (divided : IsSplit (leaves_of mid.covers a.dir.0) (leaves_of new.covers a.dir.0) a.frag nb) (whole : IsTree (leaves_of new.covers a.dir.0)) (places : SplitsInto a.rank.0 a.dir a.frag nb split.parts mid.next_version mid.caches new.caches)
     (left : (empty : Bool) × HasCached (here mid.caches a.rank.0 (leaf_of a)) (λ (f : Cached). empty ≡ has_none (shown f)) × (new ≡ split_in mid a nb split.plan (leaves_of new.covers a.dir.0) empty new.caches new.room)) where
-  abbrev dir : Ino
-  dir = a.dir
-
-  abbrev frag : Fragment
-  frag = a.frag
-
   abbrev leaf : Leaf
   leaf = leaf_of a
 
   abbrev cover : List Fragment
-  cover = leaves_of new.covers dir.0
+  cover = leaves_of new.covers a.dir.0
 
-  abbrev r : ℕ
-  r = a.rank.0
+  abbrev Family : ℕ → Leaf → Type 0
+  Family = IsFamilyAt a.rank.0 a.dir a.frag nb
 
   -- what is left, in its own words
   abbrev made : Core
@@ -80,95 +72,72 @@ module _ (old mid : Core) (sound : IsSoundCore old) (a : Dirfrag) (nb : ℕ) (sp
   t = state_of made
 
   was : s ≡ state_of old
-  was = reads_state (IsFamilyAt r dir frag nb) Ends old mid reads
+  was = reads_state Family Family old mid reads
 
   mine : IsSound s
   mine = subst IsSound (sym was) sound.sound
 
-  known_now : is_known s.homes dir.0 ≡ true
-  known_now = ap (λ (u : State). is_known u.homes dir.0) was ∙ known
+  known_now : is_known s.homes a.dir.0 ≡ true
+  known_now = ap (λ (u : State). is_known u.homes a.dir.0) was ∙ known
 
-  can_now : CanSplit (leaves_of s.covers dir.0) frag nb
-  can_now = subst (λ (u : State). CanSplit (leaves_of u.covers dir.0) frag nb) (sym was) can
-
-  there : r < length mid.caches.used
-  there = there_after (IsFamilyAt r dir frag nb) Ends old mid r reads may.there
+  can_now : CanSplit (leaves_of s.covers a.dir.0) a.frag nb
+  can_now = subst (λ (u : State). CanSplit (leaves_of u.covers a.dir.0) a.frag nb) (sym was) can
 
   -- cached leaves are sound still
   cached : AreCached s mid.caches
-  cached = reads_cached_so (IsFamilyAt r dir frag nb) Ends old mid reads sound live
-    where
-      live : (n : ℕ) (q : Leaf) → IsFamilyAt r dir frag nb n q → (b : At) → map.get mid.caches.held q ≡ Some b → IsLive old.homes old.covers q
-      live n q (inl it) b is = subst (IsLive old.homes old.covers) (sym it.1) (record { known = known; stands = can.stands })
-      live n q (inr child) b is = let clash : None ≡ Some b = sym (ready.kept child.1 child.2).1 ∙ ap (map.get mid.caches.held) (sym child.3) ∙ is in absurd cc
+  cached = reads_cached_so Family Family old mid reads sound (family_live old a nb known can mid.caches (λ i below. (ready.kept i below).1))
 
   abbrev row : List Fragment
-  row = leaves_of s.covers dir.0
+  row = leaves_of s.covers a.dir.0
 
   tree : IsTree row
-  tree = tree_of_row s.homes s.covers mine.table dir.0
+  tree = tree_of_row s.homes s.covers mine.table a.dir.0
 
   -- the fragment that splits
-  it : (g : Cached) × (here mid.caches r leaf ≡ Some g)
-  it = its (here mid.caches r leaf) (cached_there (SplitsAt r dir frag nb split.parts mid.next_version mid.caches new.caches) (here mid.caches r leaf) places)
+  it : (g : Cached) × (here mid.caches a.rank.0 leaf ≡ Some g)
+  it = its (here mid.caches a.rank.0 leaf) (cached_there (SplitsAt a.rank.0 a.dir a.frag nb split.parts mid.next_version mid.caches new.caches) (here mid.caches a.rank.0 leaf) places)
 
   abbrev f : Cached
   f = it.0
 
-  seen : here mid.caches r leaf ≡ Some f
-  seen = it.1
+  so : (P : Cached → Type 0) → HasCached (here mid.caches a.rank.0 leaf) P → P f
+  so P h = subst (λ (o : Option Cached). HasCached o P) it.1 h
 
-  so : (P : Cached → Type 0) → HasCached (here mid.caches r leaf) P → P f
-  so P h = subst (λ (o : Option Cached). HasCached o P) seen h
-
-  done : SplitsAt r dir frag nb split.parts mid.next_version mid.caches new.caches f
-  done = so (SplitsAt r dir frag nb split.parts mid.next_version mid.caches new.caches) places
+  done : SplitsAt a.rank.0 a.dir a.frag nb split.parts mid.next_version mid.caches new.caches f
+  done = so (SplitsAt a.rank.0 a.dir a.frag nb split.parts mid.next_version mid.caches new.caches) places
 
   count : length split.parts ≡ 2 ^ nb
-  count = (so (IsReadyToSplit frag nb split.parts) ready.ready).1.count
+  count = (so (IsReadyToSplit a.frag nb split.parts) ready.ready).1.count
 
-  free : IsFreeFor mid.caches r leaf
-  free = here_free r (map.get mid.caches.held leaf) (ap (λ (o : Option Cached). is_some o) seen)
-
-  some : 1 ≤ nb
-  some = can.fits.some
+  free : IsFreeFor mid.caches a.rank.0 leaf
+  free = here_free a.rank.0 (map.get mid.caches.held leaf) (ap (λ (o : Option Cached). is_some o) it.1)
 
   any : Part
-  any = record { frag = frag; fragment = f }
+  any = record { frag = a.frag; fragment = f }
 
   -- ---- its names
 
   leaf_shows : names_of s.unsaved s.objects leaf ≡ shown f
-  leaf_shows = shows_so mid cached r leaf f seen
+  leaf_shows = shows_so mid cached a.rank.0 leaf f it.1
 
   -- a child has the names of the tree that it contains
-  child_names : (g : Fragment) → Comes row cover g → (name : List ℕ) → map.get (names_in g (shown f)) name ≡ cond (holds g (hash_of name)) (map.get (shown_tree s) (dentry_of dir.0 name)) None
-  child_names g came name = get-names_in g (shown f) name ∙ go (holds g (hash_of name)) refl
-    where
-      pick : (p : (h : Fragment) × IsPick row (hash_of name) h) → holds g (hash_of name) ≡ true → frag ≡ p.0
-      pick p is = either (one_or_other p.0 frag)
-        where
-          either : (p.0 ≡ frag) ⊎ (p.0 ≢ frag) → frag ≡ p.0
-          either (inl same) = sym same
-          either (inr other) =
-              let after = pick_after_split row cover frag whole (hash_of name) p.0 p.1 nb divided other in
-              let one : g ≡ p.0 = after.alone g came.0 (holds_contains g (hash_of name) is) in
-              absurd (came.1 (subst (HasLeaf row) (sym one) p.1.stands))
-
-      go : (b : Bool) → holds g (hash_of name) ≡ b → cond b (map.get (shown f) name) None ≡ cond b (map.get (shown_tree s) (dentry_of dir.0 name)) None
-      go false is = refl
-      go true is =
-          let p = pick_at s (sound_leaves s mine) (dentry_of dir.0 name) in
-          ap (λ (m : Names). map.get m name) (sym leaf_shows)
-          ∙ ap (λ (h : Fragment). map.get (names_of s.unsaved s.objects (dir, h)) name) (pick p is)
-          ∙ sym (stands_at s (sound_leaves s mine) (dentry_of dir.0 name) p.0 known_now p.1)
+  child_names : (g : Fragment) → Comes row cover g → (name : List ℕ) → map.get (names_in g (shown f)) name ≡ cond (holds g (hash_of name)) (map.get (shown_tree s) (dentry_of a.dir.0 name)) None
+  child_names g came name = get-names_in g (shown f) name ∙ elim (cases_Bool (holds g (hash_of name))) [
+    | inl has ↦
+        let p = pick_at s (sound_leaves s mine) (dentry_of a.dir.0 name) in
+        let one : a.frag ≡ p.0 = ⊎_elim (λ same. sym same) (λ other.
+        let after = pick_after_split row cover a.frag whole (hash_of name) p.0 p.1 nb divided other in
+        absurd (came.1 (subst (HasLeaf row) (sym (after.alone g came.0 (holds_contains g (hash_of name) has))) p.1.stands))) (one_or_other p.0 a.frag) in
+        ap (λ (b : Bool). cond b (map.get (shown f) name) None) has ∙ ap (λ (m : Names). map.get m name) (sym leaf_shows)
+        ∙ ap (λ (h : Fragment). map.get (names_of s.unsaved s.objects (a.dir, h)) name) one ∙ sym (stands_at s (sound_leaves s mine) (dentry_of a.dir.0 name) p.0 known_now p.1)
+        ∙ sym (ap (λ (b : Bool). cond b (map.get (shown_tree s) (dentry_of a.dir.0 name)) None) has)
+    | inr out ↦ ap (λ (b : Bool). cond b (map.get (shown f) name) None) out ∙ sym (ap (λ (b : Bool). cond b (map.get (shown_tree s) (dentry_of a.dir.0 name)) None) out)
+  ]
 
   -- what isn't clean of a child
-  abbrev beyond_child : ℕ → Unsaved
-  beyond_child i = record { base = Fresh; generation = (slice_index_or split.parts i any).fragment.generation; dirty = (slice_index_or done.0 i any).fragment.dirty }
-
-  unclean_child : (i : ℕ) → i < 2 ^ nb → map.get (unclean new.caches) (dir, child_of frag i nb) ≡ Some (beyond_child i)
-  unclean_child i below = split_unclean_child r dir frag nb split.parts mid.next_version mid.caches new.caches f some count done i any below
+  unclean_child : (i : ℕ) → i < 2 ^ nb
+      → map.get (unclean new.caches) (a.dir, child_of a.frag i nb) ≡ Some (record { base = Fresh; generation = (slice_index_or split.parts i any).fragment.generation; dirty = (slice_index_or done.0 i any).fragment.dirty })
+  unclean_child i below = split_unclean_child a.rank.0 a.dir a.frag nb split.parts mid.next_version mid.caches new.caches f can.fits.some count done i any below
 
   number : (i : ℕ) → i < 2 ^ nb → (slice_index_or split.parts i any).fragment.generation ≡ s.next_generation + i
   number i below = ready.numbered i any (omega (arith, below, count))
@@ -176,80 +145,52 @@ module _ (old mid : Core) (sound : IsSoundCore old) (a : Dirfrag) (nb : ℕ) (sp
   within : (i : ℕ) → i < 2 ^ nb → i < length done.0
   within i below = let same = done.1.count in omega (arith, below, count, same)
 
-  new_leaf : (g : Fragment) → Comes row cover g → HasUnsaved (map.get (unclean new.caches) (dir, g)) (IsNewLeaf s dir g (2 ^ nb))
-  new_leaf g came =
-      let child = is_child row cover frag nb divided g came in
-      subst (λ (h : Fragment). HasUnsaved (map.get (unclean new.caches) (dir, h)) (IsNewLeaf s dir h (2 ^ nb))) (sym child.2) (its_own child.0 child.1)
-    where
-      its_own : (i : ℕ) → i < 2 ^ nb → HasUnsaved (map.get (unclean new.caches) (dir, child_of frag i nb)) (IsNewLeaf s dir (child_of frag i nb) (2 ^ nb))
-      its_own i below =
-          let given = number i below in
-          subst (λ (o : Option Unsaved). HasUnsaved o (IsNewLeaf s dir (child_of frag i nb) (2 ^ nb))) (sym (unclean_child i below)) (record {
-            fresh = refl;
-            first = omega (arith, given);
-            last = omega (arith, given, below);
-            dirty = λ name.
-                (done.1.each i any (within i below)).dirty name
-                ∙ ap (λ (o : Option Inode). marked_as s.next_version o None) (child_names (child_of frag i nb) (child_comes row cover frag nb tree can_now divided i below) name);
-          })
-
-  only_it : (g : Fragment) → HasLeaf (frag ∷ []) g → frag ≡ g
-  only_it g (zero, within, is) = is
-  only_it g (suc k, within, is) = absurd (omega (arith, within))
-
-  gone_unsaved : (g : Fragment) → HasLeaf (frag ∷ []) g → map.get (unclean new.caches) (dir, g) ≡ None
-  gone_unsaved g has =
-      subst (λ (h : Fragment). map.get (unclean new.caches) (dir, h) ≡ None) (only_it g has)
-      (split_unclean_gone r dir frag nb split.parts mid.next_version mid.caches new.caches f some count done free)
-
   abbrev Apart : Leaf → Type 0
-  Apart q = q.0.0 ≡ dir.0 → IsConcerned row cover (frag ∷ []) q.1 → ⊥
+  Apart q = q.0.0 ≡ a.dir.0 → IsConcerned row cover (a.frag ∷ []) q.1 → ⊥
 
   -- a leaf that isn't concerned is neither the one that split nor a child
   apart_from_it : (q : Leaf) → Apart q → leaf_is leaf q ≡ false
-  apart_from_it q apart = go (leaf_or_apart leaf q)
-    where
-      go : (leaf ≡ q) ⊎ (leaf_is leaf q ≡ false) → leaf_is leaf q ≡ false
-      go (inl same) = absurd (apart (ap (λ (l : Leaf). l.0.0) (sym same)) (inl (zero, omega arith, ap (λ (l : Leaf). l.1) same)))
-      go (inr other) = other
+  apart_from_it q apart = ⊎_elim (λ same. absurd (apart (ap (λ (l : Leaf). l.0.0) (sym same)) (inl (zero, omega arith, ap (λ (l : Leaf). l.1) same)))) (λ other. other) (leaf_or_apart leaf q)
 
-  no_child_of : (q : Leaf) → Apart q → IsNoChild dir frag nb q
-  no_child_of q apart i below = go (leaf_or_apart (dir, child_of frag i nb) q)
-    where
-      go : ((dir, child_of frag i nb) ≡ q) ⊎ (leaf_is (dir, child_of frag i nb) q ≡ false) → leaf_is (dir, child_of frag i nb) q ≡ false
-      go (inl same) = absurd (apart (ap (λ (l : Leaf). l.0.0) (sym same)) (inr (subst (Comes row cover) (ap (λ (l : Leaf). l.1) same) (child_comes row cover frag nb tree can_now divided i below))))
-      go (inr other) = other
-
-  other_unsaved : (q : Leaf) → Apart q → map.get (unclean new.caches) q ≡ map.get (unclean mid.caches) q
-  other_unsaved q apart = split_unclean_beside r dir frag nb split.parts mid.next_version mid.caches new.caches f some count done q (apart_from_it q apart) (no_child_of q apart)
-
-  -- ---- the purge list
-
-  anew : IsListedAnew s.purge t.purge dir (frag ∷ []) (Comes row cover)
-  anew =
-      subst (λ (o : List ℕ). IsListedAnew s.purge (without_objects (map.insert s.purge o tt) (each string_bytes split.plan.children.items)) dir (frag ∷ []) (Comes row cover)) (sym ready.planned.object)
-      (listed_anew s.purge dir frag nb (each string_bytes split.plan.children.items) (Comes row cover) (mine.numbered dir.0 known_now) (between 0 16777216 row frag tree.tiles can_now.stands).0 some can_now.fits.in_all
-      ready.planned.children (is_child row cover frag nb divided) (child_comes row cover frag nb tree can_now divided))
+  no_child_of : (q : Leaf) → Apart q → IsNoChild a.dir a.frag nb q
+  no_child_of q apart i below = ⊎_elim
+      (λ same. absurd (apart (ap (λ (l : Leaf). l.0.0) (sym same)) (inr (subst (Comes row cover) (ap (λ (l : Leaf). l.1) same) (child_comes row cover a.frag nb tree can_now divided i below)))))
+      (λ other. other) (leaf_or_apart (a.dir, child_of a.frag i nb) q)
 
   -- ---- all of it
 
-  empty_is : left.0 ≡ are_empty s dir (frag ∷ [])
-  empty_is = so (λ (g : Cached). left.0 ≡ has_none (shown g)) left.1 ∙ ap has_none (sym leaf_shows) ∙ sym (and_true (has_none (names_of s.unsaved s.objects leaf)))
-
-  is_regrouped : IsRegrouped s t dir (frag ∷ []) cover (2 ^ nb)
+  is_regrouped : IsRegrouped s t a.dir (a.frag ∷ []) cover (2 ^ nb)
   is_regrouped = record {
     known = known_now;
     whole = whole;
     unsaved = unclean new.caches;
     purge = t.purge;
-    left = λ i. record t { next_version = s.next_version + cond (empty_is i) 0 1 };
-    came = new_leaf;
-    ended = gone_unsaved;
-    others = other_unsaved;
-    listed = anew;
+    left =
+        (let empty : left.0 ≡ are_empty s a.dir (a.frag ∷ []) = so (λ (g : Cached). left.0 ≡ has_none (shown g)) left.1 ∙ ap has_none (sym leaf_shows) ∙ sym (and-true (has_none (names_of s.unsaved s.objects leaf))) in
+        λ i. record t { next_version = s.next_version + cond (empty i) 0 1 });
+    came = λ g came.
+        let child = is_child row cover a.frag nb divided g came in
+        let i = child.0 in
+        let below = child.1 in
+        let given = number i below in
+        subst (λ (h : Fragment). HasUnsaved (map.get (unclean new.caches) (a.dir, h)) (IsNewLeaf s a.dir h (2 ^ nb))) (sym child.2)
+        (subst (λ (o : Option Unsaved). HasUnsaved o (IsNewLeaf s a.dir (child_of a.frag i nb) (2 ^ nb))) (sym (unclean_child i below)) (record {
+          fresh = refl;
+          first = omega (arith, given);
+          last = omega (arith, given, below);
+          dirty = λ name.
+              (done.1.each i any (within i below)).dirty name
+              ∙ ap (λ (o : Option Inode). marked_as s.next_version o None) (child_names (child_of a.frag i nb) (child_comes row cover a.frag nb tree can_now divided i below) name);
+        }));
+    ended = λ g has. subst (λ (h : Fragment). map.get (unclean new.caches) (a.dir, h) ≡ None) (only_one a.frag g has)
+        (split_unclean_gone a.rank.0 a.dir a.frag nb split.parts mid.next_version mid.caches new.caches f can.fits.some count done free);
+    others = λ q apart. split_unclean_beside a.rank.0 a.dir a.frag nb split.parts mid.next_version mid.caches new.caches f can.fits.some count done q (apart_from_it q apart) (no_child_of q apart);
+    listed = subst (λ (o : List ℕ). IsListedAnew s.purge (without_objects (map.insert s.purge o tt) (each string_bytes split.plan.children.items)) a.dir (a.frag ∷ []) (Comes row cover)) (sym ready.planned.object)
+        (listed_anew s.purge a.dir a.frag nb (each string_bytes split.plan.children.items) (Comes row cover) (mine.numbered a.dir.0 known_now) (between 0 16777216 row a.frag tree.tiles can_now.stands).0 can.fits.some can_now.fits.in_all
+        ready.planned.children (is_child row cover a.frag nb divided) (child_comes row cover a.frag nb tree can_now divided));
   }
 
-  is_split : IsSplitInto s t dir frag nb
+  is_split : IsSplitInto s t a.dir a.frag nb
   is_split = record {
     can = can_now;
     cover = cover;
@@ -258,64 +199,53 @@ module _ (old mid : Core) (sound : IsSoundCore old) (a : Dirfrag) (nb : ℕ) (sp
     numbered = λ i below. subst (λ (o : Option Unsaved). HasUnsaved o (λ u. u.generation ≡ s.next_generation + i)) (sym (unclean_child i below)) (number i below);
   }
 
-  keeps : KeepsTree s t dir (frag ∷ [])
-  keeps = splits_right s t dir frag nb mine is_split
-
   -- ---- what is cached
 
-  ends : (g : Fragment) → HasLeaf row g → HasLeaf (frag ∷ []) g ⊎ HasLeaf cover g
-  ends = split_ends row cover frag nb divided
-
-  stood : (g : Fragment) → HasLeaf (frag ∷ []) g → HasLeaf row g × (HasLeaf cover g → ⊥)
-  stood = split_stood row cover frag nb some can_now.stands divided
+  cut : Replaces row (a.frag ∷ []) cover
+  cut = split_replaces row cover a.frag nb can.fits.some can_now.stands divided
 
   now_cached : AreCached t new.caches
-  now_cached q b is = go (which s mine dir (frag ∷ []) cover (2 ^ nb) t is_regrouped ends stood q)
-    where
-      its_leaf : q.0.0 ≡ dir.0 → (dir, q.1) ≡ q
-      its_leaf same = λ i. (record { 0 = sym same i }, q.1)
-
-      go : ((q.0.0 ≡ dir.0) × HasLeaf (frag ∷ []) q.1) ⊎ (((q.0.0 ≡ dir.0) × Comes row cover q.1) ⊎ Apart q) → IsCachedIn t q b.frag
-      go (inl end) =
-          let none : map.get new.caches.held q ≡ None = ap (map.get new.caches.held) (sym (its_leaf end.0) ∙ ap (λ (h : Fragment). (dir, h)) (sym (only_it q.1 end.1)))
-          ∙ split_gone r dir frag nb split.parts mid.next_version mid.caches new.caches f some count done free in
-          let clash : None ≡ Some b = sym none ∙ is in
-          absurd cc
-      go (inr (inl came)) =
-          let child = is_child row cover frag nb divided q.1 came.1 in
-          let held : map.get new.caches.held q ≡ Some (at r (slice_index_or done.0 child.0 any).fragment) = ap (map.get new.caches.held) (sym (its_leaf came.0) ∙ ap (λ (h : Fragment). (dir, h)) child.2)
-          ∙ split_child r dir frag nb split.parts mid.next_version mid.caches new.caches f some count done child.0 any child.1 in
-          let one : at r (slice_index_or done.0 child.0 any).fragment ≡ b = same_Some (at r (slice_index_or done.0 child.0 any).fragment) b (sym held ∙ is) in
+  now_cached q b is = elim (which s mine a.dir (a.frag ∷ []) cover (2 ^ nb) t is_regrouped cut q) [
+    | inl end ↦
+        let none : map.get new.caches.held q ≡ None = ap (map.get new.caches.held) ((λ i. (record { 0 = end.0 i }, q.1)) ∙ ap (λ (h : Fragment). (a.dir, h)) (sym (only_one a.frag q.1 end.1)))
+        ∙ split_gone a.rank.0 a.dir a.frag nb split.parts mid.next_version mid.caches new.caches f can.fits.some count done free in
+        let clash : None ≡ Some b = sym none ∙ is in
+        absurd cc
+    | inr stands ↦ elim stands [
+      | inl came ↦
+          let child = is_child row cover a.frag nb divided q.1 came.1 in
+          let held : map.get new.caches.held q ≡ Some (at a.rank.0 (slice_index_or done.0 child.0 any).fragment) = ap (map.get new.caches.held) ((λ i. (record { 0 = came.0 i }, q.1)) ∙ ap (λ (h : Fragment). (a.dir, h)) child.2)
+          ∙ split_child a.rank.0 a.dir a.frag nb split.parts mid.next_version mid.caches new.caches f can.fits.some count done child.0 any child.1 in
+          let one : at a.rank.0 (slice_index_or done.0 child.0 any).fragment ≡ b = same_Some (at a.rank.0 (slice_index_or done.0 child.0 any).fragment) b (sym held ∙ is) in
           let each_is = done.1.each child.0 any (within child.0 child.1) in
           let given : (slice_index_or done.0 child.0 any).fragment.generation ≡ s.next_generation + child.0 = each_is.numbered ∙ number child.0 child.1 in
           let below = child.1 in
           subst (λ (k : At). IsCachedIn t q k.frag) one (record {
-            live = came_live s mine dir (frag ∷ []) cover (2 ^ nb) t is_regrouped ends stood q came.0 came.1.0;
+            live = came_live s mine a.dir (a.frag ∷ []) cover (2 ^ nb) t is_regrouped cut q came.0 came.1.0;
             tied = fresh_tied (slice_index_or done.0 child.0 any).fragment (object_of t.objects q.0 q.1) each_is.fresh;
             made = omega (arith, given, below);
           })
-      go (inr (inr apart)) =
-          let before = cached q b (sym (split_beside r dir frag nb split.parts mid.next_version mid.caches new.caches f some count done q (apart_from_it q apart) (no_child_of q apart)) ∙ is) in
+      | inr apart ↦
+          let before = cached q b (sym (split_beside a.rank.0 a.dir a.frag nb split.parts mid.next_version mid.caches new.caches f can.fits.some count done q (apart_from_it q apart) (no_child_of q apart)) ∙ is) in
           let given = before.made in
-          record { live = apart_live s mine dir (frag ∷ []) cover (2 ^ nb) t is_regrouped ends stood q apart before.live; tied = before.tied; made = omega (arith, given) }
-
-  now_whole : KeepsNone new.caches
-  now_whole = split_whole r dir frag nb split.parts mid.next_version mid.caches new.caches f some count done there distinct free ready.kept only
+          record { live = apart_live s mine a.dir (a.frag ∷ []) cover (2 ^ nb) t is_regrouped cut q apart before.live; tied = before.tied; made = omega (arith, given) }
+    ]
+  ]
 
   -- ---- of what was before
 
-  pub split_sound : IsSoundCore new
-  split_sound = subst IsSoundCore (sym left.2) (record { sound = keeps.sound; begun = begun; cached = now_cached; none = now_whole })
-    where
-      begun : 0 < t.next_generation
-      begun = let before : 0 < s.next_generation = subst (λ (u : State). 0 < u.next_generation) (sym was) sound.begun in omega (arith, before)
+  split_made : IsSplitInto (state_of old) (state_of new) a.dir a.frag nb
+  split_made = subst (λ (u : State). IsSplitInto u (state_of new) a.dir a.frag nb) was (subst (λ (k : Core). IsSplitInto s (state_of k) a.dir a.frag nb) (sym left.2) is_split)
 
-  pub split_made : IsSplitInto (state_of old) (state_of new) dir frag nb
-  split_made = subst (λ (u : State). IsSplitInto u (state_of new) dir frag nb) was (subst (λ (k : Core). IsSplitInto s (state_of k) dir frag nb) (sym left.2) is_split)
-
-  pub split_keeps : KeepsTree (state_of old) (state_of new) dir (frag ∷ [])
-  split_keeps = splits_right (state_of old) (state_of new) dir frag nb sound.sound split_made
-
-  pub split_steps : Came (IsFamilyAt r dir frag nb) Ends old.caches new.caches
-  split_steps = split_came r dir frag nb split.parts mid.next_version mid.caches new.caches f some count done (IsFamilyAt r dir frag nb) Ends old.caches
-      (reads_came (IsFamilyAt r dir frag nb) Ends old.objects old.caches mid.caches reads.caches) ended (λ i below. inr (refl, i, below, refl))
+  pub split_right : HasSplit old new a nb
+  split_right = record {
+    split = split_made;
+    tree = splits_right (state_of old) (state_of new) a.dir a.frag nb sound.sound split_made;
+    came = split_came a.rank.0 a.dir a.frag nb split.parts mid.next_version mid.caches new.caches f can.fits.some count done Family Family old.caches (reads_came Family Family old.objects old.caches mid.caches reads.caches) (inl (refl, refl)) (λ i below. inr (refl, i, below, refl));
+    sound = subst IsSoundCore (sym left.2) (record {
+      sound = (splits_right s t a.dir a.frag nb mine is_split).sound;
+      begun = (let before : 0 < s.next_generation = subst (λ (u : State). 0 < u.next_generation) (sym was) sound.begun in omega (arith, before));
+      cached = now_cached;
+      none = split_whole a.rank.0 a.dir a.frag nb split.parts mid.next_version mid.caches new.caches f can.fits.some count done (there_after Family Family old mid a.rank.0 reads may.there) distinct free ready.kept only;
+    });
+  }

@@ -1,11 +1,11 @@
 -- No call touches the object of a fragment while a job stands for it.
-use Rattle.mdcache.proofs.Common.{BeginsWith, Bool, Change, Dentry, Drops, Ends, Err, Fragment, Ino, Inode, IsRegrouped, IsSound, Job, Leaf, List, Makes, None, Ok, Option, PurgesName, PutsThen, Refusal, Result, SavesTree, Some, Spot, State, TakesThen, Unsaved, ap, cond, dentry_at, false, first_name, get_beside, housed, inl, inr, is_dir_kind, object_of, refl, sym, text_of, true, with_directory, with_new, without, write_of, ℕ, ◌∙◌, ◌≡◌, ◌⊎◌}
+use Rattle.mdcache.proofs.Common.{BeginsWith, Bool, Change, Drops, Ends, Err, Fragment, Ino, Inode, IsRegrouped, IsSound, Job, Leaf, List, Makes, None, Ok, Option, PurgesName, PutsThen, Refusal, Result, SavesTree, Some, Spot, State, TakesThen, Unsaved, ap, cond, dentry_at, false, first_name, get_beside, housed, inl, inr, is_dir_kind, object_of, refl, sym, text_of, true, with_directory, without, ℕ, ◌∙◌, ◌≡◌}
 use Rattle.std.specs.FinMap as map
 use Rattle.mds_types.proofs.LeafLaws.{get_removed, same_or_apart}
 use Rattle.objstore.specs.Objects.{written}
 use Rattle.inode_table.specs.Dirs.{IsLive}
 use Rattle.mdcache.specs.Commits.{leaf_of}
-use Rattle.mdcache.proofs.ObjectLaws.{purged_objects, tree_saved_objects}
+use Rattle.mdcache.proofs.ObjectLaws.{purged_right, tree_saved_right}
 use Rattle.mdcache.proofs.TextLaws.{one_text}
 
 -- the objects are those that were there
@@ -17,13 +17,6 @@ same_state old new same = ap (λ (s : State). s.objects) same
 
 -- ---- a change of the tree touches no object
 
-new_objects : (s : State) (dentry : Dentry) (inode : Inode) → (with_new s dentry inode).objects ≡ s.objects
-new_objects s dentry inode = go (is_dir_kind inode.kind)
-  where
-    go : (b : Bool) → (cond b (with_directory s dentry inode.ino) s).objects ≡ s.objects
-    go true = refl
-    go false = refl
-
 without_objects : (s : State) (went : Option Ino) → (without s went).objects ≡ s.objects
 without_objects s None = refl
 without_objects s (Some dir) = refl
@@ -31,24 +24,19 @@ without_objects s (Some dir) = refl
 housed_objects : (s : State) (takes : Option Spot) (puts : Option (Spot × Inode)) (comes : Bool) → (housed s takes puts comes).objects ≡ s.objects
 housed_objects s None None comes = refl
 housed_objects s (Some spot) None comes = refl
-housed_objects s None (Some put) true = new_objects s (dentry_at put.0) put.1
+housed_objects s None (Some put) true = elim (is_dir_kind put.1.kind) as (λ b. (cond b (with_directory s (dentry_at put.0) put.1.ino) s).objects ≡ s.objects) [ true ↦ refl | false ↦ refl ]
 housed_objects s None (Some put) false = refl
 housed_objects s (Some spot) (Some put) comes = refl
 
 pub made_objects : (change : Change) (old new : State) → Makes change old new → ObjectsStay old new
 made_objects change old new makes = ap (λ (s : State). s.objects) makes.2 ∙ first change.takes makes.1
   where
-    altered : State
-    altered = makes.0
+    second : (left : State) (takes : Option Spot) (puts : Option (Spot × Inode)) → PutsThen left puts (λ named. makes.0 ≡ without (housed named takes puts change.comes) change.gone) → makes.0.objects ≡ left.objects
+    second left takes None is = ap (λ (s : State). s.objects) is ∙ without_objects (housed left takes None change.comes) change.gone ∙ housed_objects left takes None change.comes
+    second left takes (Some put) (named, is_named, is) =
+        ap (λ (s : State). s.objects) is ∙ without_objects (housed named takes (Some put) change.comes) change.gone ∙ housed_objects named takes (Some put) change.comes ∙ ap (λ (s : State). s.objects) is_named.left
 
-    ends : (left : State) (takes : Option Spot) (puts : Option (Spot × Inode)) → altered ≡ without (housed left takes puts change.comes) change.gone → altered.objects ≡ left.objects
-    ends left takes puts is = ap (λ (s : State). s.objects) is ∙ without_objects (housed left takes puts change.comes) change.gone ∙ housed_objects left takes puts change.comes
-
-    second : (left : State) (takes : Option Spot) (puts : Option (Spot × Inode)) → PutsThen left puts (λ named. altered ≡ without (housed named takes puts change.comes) change.gone) → altered.objects ≡ left.objects
-    second left takes None is = ends left takes None is
-    second left takes (Some put) (named, is_named, is) = ends named takes (Some put) is ∙ ap (λ (s : State). s.objects) is_named.left
-
-    first : (takes : Option Spot) → TakesThen old takes (λ left. PutsThen left change.puts (λ named. altered ≡ without (housed named takes change.puts change.comes) change.gone)) → altered.objects ≡ old.objects
+    first : (takes : Option Spot) → TakesThen old takes (λ left. PutsThen left change.puts (λ named. makes.0 ≡ without (housed named takes change.puts change.comes) change.gone)) → makes.0.objects ≡ old.objects
     first None makes = second old None change.puts makes
     first (Some spot) (left, is_named, makes) = second left (Some spot) change.puts makes ∙ ap (λ (s : State). s.objects) is_named.left
 
@@ -77,22 +65,18 @@ module _ (old new : State) where
     pub ended_object : (stands : map.get new.jobs leaf ≡ Some job) (before after : ℕ) (other : Job) (result : Result (Unit {0}) Refusal) → Ends old new before after other result → object_of new.objects leaf.0 leaf.1 ≡ object_of old.objects leaf.0 leaf.1
     unfolding written
     ended_object stands before after other (Err reason) h = ap (λ (s : State). object_of s.objects leaf.0 leaf.1) h.1
-    ended_object stands before after other (Ok done) h = ap (λ (s : State). object_of s.objects leaf.0 leaf.1) h.left ∙ go (same_or_apart leaf (leaf_of other))
-      where
-        other_live : IsLive old.homes old.covers (leaf_of other)
-        other_live = (sound.unsaved (leaf_of other) h.unsaved h.beside).live
-
-        go : (leaf ≡ leaf_of other) ⊎ (leaf ≡ leaf_of other → ⊥) → object_of (written old.objects (text_of (leaf_of other)) (write_of other.snapshot)) leaf.0 leaf.1 ≡ object_of old.objects leaf.0 leaf.1
-        go (inl same) =
-            let clash : None ≡ Some job = sym (get_removed old.jobs (leaf_of other)) ∙ ap (map.get (map.remove old.jobs (leaf_of other))) (sym same) ∙ sym (ap (λ (s : State). map.get s.jobs leaf) h.left) ∙ stands in
-            absurd cc
-        go (inr apart) = get_beside old.objects (text_of (leaf_of other)) _ (text_of leaf) (λ same. apart (one_text old.homes old.covers sound.table sound.numbered leaf (leaf_of other) live other_live same))
+    ended_object stands before after other (Ok done) h = ap (λ (s : State). object_of s.objects leaf.0 leaf.1) h.left ∙ elim (same_or_apart leaf (leaf_of other)) [
+      | inl same ↦
+          let clash : None ≡ Some job = sym (get_removed old.jobs (leaf_of other)) ∙ ap (map.get (map.remove old.jobs (leaf_of other))) (sym same) ∙ sym (ap (λ (s : State). map.get s.jobs leaf) h.left) ∙ stands in
+          absurd cc
+      | inr apart ↦ get_beside old.objects (text_of (leaf_of other)) _ (text_of leaf) (λ same. apart (one_text old.homes old.covers sound.table sound.numbered leaf (leaf_of other) live (sound.unsaved (leaf_of other) h.unsaved h.beside).live same))
+    ]
 
     pub saved_object : (before after : ℕ) (dir : Ino) (result : Result (Unit {0}) Refusal) → SavesTree old new before after dir result → object_of new.objects leaf.0 leaf.1 ≡ object_of old.objects leaf.0 leaf.1
     saved_object before after dir (Err reason) h = ap (λ (s : State). object_of s.objects leaf.0 leaf.1) h.1
-    saved_object before after dir (Ok done) h = ap (λ (s : State). object_of s.objects leaf.0 leaf.1) h.1 ∙ tree_saved_objects old dir sound h.0 leaf live
+    saved_object before after dir (Ok done) h = ap (λ (s : State). object_of s.objects leaf.0 leaf.1) h.1 ∙ (tree_saved_right old dir sound h.0).objects leaf live
 
     pub purged_object : (before after : ℕ) (name : Option (List ℕ)) → first_name old.purge ≡ name → (result : Result (Unit {0}) Refusal) → PurgesName old new before after name result → object_of new.objects leaf.0 leaf.1 ≡ object_of old.objects leaf.0 leaf.1
     purged_object before after None is result h = ap (λ (s : State). object_of s.objects leaf.0 leaf.1) h.1
     purged_object before after (Some name) is (Err reason) h = ap (λ (s : State). object_of s.objects leaf.0 leaf.1) h.1
-    purged_object before after (Some name) is (Ok done) h = ap (λ (s : State). object_of s.objects leaf.0 leaf.1) h.0 ∙ purged_objects old name sound is leaf live
+    purged_object before after (Some name) is (Ok done) h = ap (λ (s : State). object_of s.objects leaf.0 leaf.1) h.0 ∙ (purged_right old name sound is).objects leaf live

@@ -1,180 +1,82 @@
 -- What isn't clean of one rank, after reads and preparations; and where places lack.
-use Rattle.mdcache.proofs.Common.{AllByRecursion, AreCaches, At, Bool, CacheMap, Cached, CanNotKeep, IsButRoom, IsDistinct, IsDistinct-cons, IsDistinct-head, IsDistinct-tail, IsLeft, IsThere, KeepsNone, Leaf, List, None, Objects, Option, Reads, Some, Unsaved, [], all_from, any_tied, ap, arith, at, at_rank, clean_in, cond, contains_key-keys, empty_of_len, false, filter, flips, frees, full_counts, get-empty, get-remove, get_tabulate, get_with_frag, goes, going_at, grows, has_place, here, here_is, inl, inr, is_clean, is_some, kept_at, leaf-total, leaf_is, leaf_itself, len-remove, length, list_any, loaded_clean, loads, not, object_of, one_leaf, order, refl, removed, room, room_unsaved, roomy, roomy_left, same_map, staying, subst, suc, sym, tied_leaf, true, unclean_at, unclean_in, unsaved_at, unsaved_in, with_frag, zero, ℕ, ◌&&◌, ◌+◌, ◌-◌, ◌<◌, ◌==◌, ◌||◌, ◌∙◌, ◌∷◌, ◌≡◌, ◌≤◌, ◌⊎◌}
+use Rattle.mdcache.proofs.Common.{AllByRecursion, AreCaches, At, Bool, CacheMap, Cached, CanNotKeep, IsDistinct, IsDistinct-cons, IsDistinct-head, IsDistinct-tail, IsThere, KeepsNone, Leaf, List, None, Objects, Option, Reads, Some, Unsaved, [], all_from, all_of, any_tied, ap, arith, at_rank, clean_in, cond, contains_key-keys, false, filter, get_tabulate, get_unclean, goes, going_at, here, inl, inr, is_clean, is_some, leaf-total, leaf_is, len-entries, length, loaded_clean, not, object_of, order, reads_held, reads_unclean, refl, room_unsaved, roomy, same_map, staying, suc, sym, true, unclean_at, unclean_in, unsaved_at, unsaved_in, ℕ, ◌&&◌, ◌+◌, ◌<◌, ◌==◌, ◌∙◌, ◌∷◌, ◌≡◌, ◌≤◌, ◌⊎◌}
+use Rattle.std.proofs.lemmas.Bool.{not-true}
+use Rattle.std.proofs.lemmas.List.Elements.{All-filter, All-from_recursion, filter_passes, recursion_from_All}
+use Rattle.std.proofs.lemmas.Map.Entries.{length-keys_of}
+use Rattle.std.proofs.lemmas.Map.Made.{length-le_from_is_member}
 use Rattle.std.specs.FinMap as finmap
-use Rattle.dentry_cache.specs.Cache.{leaf_cmp}
 use Rattle.dentry_cache.specs.CacheMap.{unclean_of}
-use Rattle.dentry_cache.specs.Reads.Reads.{stays as it_stays, uses}
-use Rattle.dentry_cache.proofs.LeafLaws.{leaf-exact}
+use Rattle.dentry_cache.proofs.LacksLaws.{full_lacks as all_unclean}
+use Rattle.dentry_cache.proofs.LeafLaws.{leaf-exact, leaf_equivalence}
 
 pub get_unclean_of : (c : CacheMap) (r : ℕ) (q : Leaf) → finmap.get (unclean_of c r) q ≡ unsaved_in (here c r q)
 unfolding unclean_of
 get_unclean_of c r q =
     get_tabulate (λ (q : Leaf). unsaved_in (here c r q)) (finmap.keys c.held) q
     ∙ ap (λ (b : Bool). cond b (unsaved_in (here c r q)) None) (any_tied q (finmap.keys c.held) ∙ sym (contains_key-keys c.held q))
-    ∙ go (finmap.get c.held q)
-  where
-    go : (o : Option At) → cond (is_some o) (unsaved_in (at_rank r o)) None ≡ unsaved_in (at_rank r o)
-    go (Some a) = refl
-    go None = refl
+    ∙ elim (finmap.get c.held q) as (λ o. cond (is_some o) (unsaved_in (at_rank r o)) None ≡ unsaved_in (at_rank r o)) [ Some a ↦ refl | None ↦ refl ]
 
 -- ---- reads leave it
 
--- a fragment that comes in place of one with the same beyond its object leaves that of each leaf at each rank
-with_beyond : (c : CacheMap) (r : ℕ) (leaf : Leaf) (f : Cached) (s : ℕ) (q : Leaf) → unsaved_in (at_rank s (Some (at r f))) ≡ unsaved_in (at_rank s (finmap.get c.held leaf))
-    → unsaved_in (here (with_frag c r leaf f) s q) ≡ unsaved_in (here c s q)
-with_beyond c r leaf f s q same = ap (λ (o : Option At). unsaved_in (at_rank s o)) (get_with_frag c r leaf f q) ∙ go (leaf_is q leaf) refl
-  where
-    go : (b : Bool) → leaf_is q leaf ≡ b → unsaved_in (at_rank s (cond b (Some (at r f)) (finmap.get c.held q))) ≡ unsaved_in (here c s q)
-    go true one = same ∙ ap (λ (l : Leaf). unsaved_in (at_rank s (finmap.get c.held l))) (sym (one_leaf q leaf one))
-    go false apart = refl
-
--- room is no part of it
-room_beyond : (r s : ℕ) (f now : Cached) → IsButRoom f now → unsaved_in (at_rank s (Some (at r now))) ≡ unsaved_in (at_rank s (Some (at r f)))
-room_beyond r s f now same = go (r == s)
-  where
-    go : (b : Bool) → unsaved_in (cond b (Some now) None) ≡ unsaved_in (cond b (Some f) None)
-    go true = room_unsaved f now same
-    go false = refl
-
-clean_beyond : (r s : ℕ) (f : Cached) → unsaved_in (Some f) ≡ None → unsaved_in (at_rank s (Some (at r f))) ≡ None
-clean_beyond r s f clean = go (r == s)
-  where
-    go : (b : Bool) → unsaved_in (cond b (Some f) None) ≡ None
-    go true = clean
-    go false = refl
-
--- what went was clean
-left_beyond : (s : ℕ) (o p : Option At) → IsLeft o p → unsaved_in (at_rank s p) ≡ unsaved_in (at_rank s o)
-left_beyond s o p (inl same) = ap (λ (x : Option At). unsaved_in (at_rank s x)) same
-left_beyond s o p (inr went) = ap (λ (x : Option At). unsaved_in (at_rank s x)) went.0 ∙ sym (go o went.1)
-  where
-    go : (o : Option At) → unsaved_at o ≡ None → unsaved_in (at_rank s o) ≡ None
-    go None clean = refl
-    go (Some a) clean = on (a.rank == s)
-      where
-        on : (b : Bool) → unsaved_in (cond b (Some a.frag) None) ≡ None
-        on true = clean
-        on false = refl
+-- what isn't clean nowhere isn't at a rank
+clean_at : (s : ℕ) (o : Option At) → unsaved_at o ≡ None → unsaved_in (at_rank s o) ≡ None
+clean_at s None clean = refl
+clean_at s (Some a) clean = elim (a.rank == s) as (λ b. unsaved_in (cond b (Some a.frag) None) ≡ None) [ true ↦ clean | false ↦ refl ]
 
 module _ (Uses Ends : ℕ → Leaf → Type 0) (objects : Objects) (old : CacheMap) where
   reads_beyond : (s : ℕ) (q : Leaf) (new : CacheMap) → Reads Uses Ends objects old new → unsaved_in (here new s q) ≡ unsaved_in (here old s q)
-  reads_beyond s q _ it_stays = refl
-  reads_beyond s q _ (uses mid r leaf before named) = reads_beyond s q mid before
-  reads_beyond s q _ (grows mid r leaf f now before named is same) =
-      with_beyond mid r leaf now s q (room_beyond r s f now same ∙ ap (λ (o : Option At). unsaved_in (at_rank s o)) (sym (here_is r (finmap.get mid.held leaf) f is)))
-      ∙ reads_beyond s q mid before
-  reads_beyond s q _ (room mid new r leaf stay before named none stayed made) =
-      left_beyond s (finmap.get mid.held q) (finmap.get new.held q) (roomy_left mid new r stay q made) ∙ reads_beyond s q mid before
-  reads_beyond s q _ (loads mid r leaf f before named none is) =
-      with_beyond mid r leaf f s q (clean_beyond r s f (loaded_clean leaf.1 (object_of objects leaf.0 leaf.1) f is) ∙ ap (λ (o : Option At). unsaved_in (at_rank s o)) (sym none))
-      ∙ reads_beyond s q mid before
-  reads_beyond s q _ (frees mid r leaf before ended none) =
-      ap (λ (o : Option Cached). unsaved_in (at_rank s (finmap.get (removed mid.held leaf o) q))) (ap (at_rank r) none) ∙ reads_beyond s q mid before
+  reads_beyond s q new reads = go (finmap.get new.held q) refl
+    where
+      same : unsaved_at (finmap.get new.held q) ≡ unsaved_at (finmap.get old.held q)
+      same = sym (get_unclean new q) ∙ ap (λ m. finmap.get m q) (reads_unclean Uses Ends objects old new reads) ∙ get_unclean old q
+
+      both_clean : unsaved_at (finmap.get new.held q) ≡ None → unsaved_in (here new s q) ≡ unsaved_in (here old s q)
+      both_clean clean = clean_at s (finmap.get new.held q) clean ∙ sym (clean_at s (finmap.get old.held q) (sym same ∙ clean))
+
+      go : (o : Option At) → finmap.get new.held q ≡ o → unsaved_in (here new s q) ≡ unsaved_in (here old s q)
+      go None is = both_clean (ap unsaved_at is)
+      go (Some a) is = elim (reads_held Uses Ends objects old new reads q a is) [
+        | inl was ↦ ap (λ (o : Option At). unsaved_in (at_rank s o)) is ∙ elim (a.rank == s) as (λ b. unsaved_in (cond b (Some a.frag) None) ≡ unsaved_in (cond b (Some was.0) None)) [ true ↦ room_unsaved was.0 a.frag was.2 | false ↦ refl ] ∙ sym (ap (λ (o : Option At). unsaved_in (at_rank s o)) was.1)
+        | inr came ↦ both_clean (ap unsaved_at is ∙ room_unsaved came.1 a.frag came.3 ∙ loaded_clean q.1 (object_of objects q.0 q.1) came.1 came.2)
+      ]
 
   pub reads_unclean_of : (new : CacheMap) → Reads Uses Ends objects old new → (r : ℕ) → unclean_of new r ≡ unclean_of old r
   reads_unclean_of new reads r = same_map leaf-total leaf-exact (unclean_of new r) (unclean_of old r) (λ q. get_unclean_of new r q ∙ reads_beyond r q new reads ∙ sym (get_unclean_of old r q))
 
 -- ---- where places lack
 
--- a map without one of its leaves
-len_removed : (m : finmap.FinMap leaf_cmp Unsaved) (leaf : Leaf) → is_some (finmap.get m leaf) ≡ true → finmap.len (finmap.remove m leaf) + 1 ≡ finmap.len m
-len_removed m leaf there = go (finmap.len m) refl
-  where
-    minus : finmap.len (finmap.remove m leaf) ≡ finmap.len m - 1
-    minus = len-remove leaf-total m leaf ∙ ap (λ (b : Bool). cond b (finmap.len m - 1) (finmap.len m)) there
-
-    go : (n : ℕ) → finmap.len m ≡ n → finmap.len (finmap.remove m leaf) + 1 ≡ finmap.len m
-    go zero none =
-        let nothing : finmap.FinMap leaf_cmp Unsaved = finmap.empty in
-        let clash : is_some (finmap.get nothing leaf) ≡ true = subst (λ (k : finmap.FinMap leaf_cmp Unsaved). is_some (finmap.get k leaf) ≡ true) (empty_of_len m none) there in
-        let plain : false ≡ true = sym (ap (λ (o : Option Unsaved). is_some o) (get-empty leaf_cmp leaf)) ∙ clash in absurd cc
-    go (suc n) some = let m1 = minus in omega (arith, m1, some)
-
--- leaves that all have something, none of them twice, are no more than there are with something
-few_keys : (m : finmap.FinMap leaf_cmp Unsaved) (xs : List Leaf) → IsDistinct leaf_is xs → AllByRecursion (λ (x : Leaf). is_some (finmap.get m x) ≡ true) xs → length xs ≤ finmap.len m
-few_keys m [] distinct all = omega arith
-few_keys m (x ∷ xs) distinct all =
-    let fewer : length xs ≤ finmap.len (finmap.remove m x) = few_keys (finmap.remove m x) xs (IsDistinct-tail leaf_is x xs distinct) (still xs (IsDistinct-head leaf_is x xs distinct) all.1) in
-    let one : finmap.len (finmap.remove m x) + 1 ≡ finmap.len m = len_removed m x all.0 in
-    omega (arith, fewer, one)
-  where
-    still : (ys : List Leaf) → AllByRecursion (λ (y : Leaf). leaf_is x y ≡ false) ys → AllByRecursion (λ (y : Leaf). is_some (finmap.get m y) ≡ true) ys
-        → AllByRecursion (λ (y : Leaf). is_some (finmap.get (finmap.remove m x) y) ≡ true) ys
-    still [] apart have = tt
-    still (y ∷ ys) apart have = (
-      ap (λ (o : Option Unsaved). is_some o) (get-remove leaf-total m x y ∙ ap (λ (b : Bool). cond b None (finmap.get m y)) (tied_leaf y x ∙ flips y x ∙ apart.0)) ∙ have.0,
-      still ys apart.1 have.1,
-    )
-
--- those that pass a test
-module _ (p : Leaf → Bool) where
-  all_filtered : (P : Leaf → Type 0) (xs : List Leaf) → AllByRecursion P xs → AllByRecursion P (filter p xs)
-  all_filtered P [] all = tt
-  all_filtered P (x ∷ xs) all = go (p x) (all_filtered P xs all.1)
-    where
-      go : (b : Bool) → AllByRecursion P (filter p xs) → AllByRecursion P (cond b (x ∷ filter p xs) (filter p xs))
-      go true rest = (all.0, rest)
-      go false rest = rest
-
-  filtered_distinct : (xs : List Leaf) → IsDistinct leaf_is xs → IsDistinct leaf_is (filter p xs)
-  filtered_distinct [] distinct = distinct
-  filtered_distinct (x ∷ xs) distinct = go (p x) (filtered_distinct xs (IsDistinct-tail leaf_is x xs distinct))
-    where
-      go : (b : Bool) → IsDistinct leaf_is (filter p xs) → IsDistinct leaf_is (cond b (x ∷ filter p xs) (filter p xs))
-      go true rest = IsDistinct-cons leaf_is x (filter p xs) (all_filtered (λ (y : Leaf). leaf_is x y ≡ false) xs (IsDistinct-head leaf_is x xs distinct)) rest
-      go false rest = rest
-
-  filtered_pass : (xs : List Leaf) → AllByRecursion (λ (x : Leaf). p x ≡ true) (filter p xs)
-  filtered_pass [] = tt
-  filtered_pass (x ∷ xs) = go (p x) refl (filtered_pass xs)
-    where
-      go : (b : Bool) → p x ≡ b → AllByRecursion (λ (x : Leaf). p x ≡ true) (filter p xs) → AllByRecursion (λ (x : Leaf). p x ≡ true) (cond b (x ∷ filter p xs) (filter p xs))
-      go true seen rest = (seen, rest)
-      go false seen rest = rest
+-- those that pass a test are apart too
+filtered_distinct : (p : Leaf → Bool) (xs : List Leaf) → IsDistinct leaf_is xs → IsDistinct leaf_is (filter p xs)
+filtered_distinct p [] distinct = distinct
+filtered_distinct p (x ∷ xs) distinct =
+    let rest = filtered_distinct p xs (IsDistinct-tail leaf_is x xs distinct) in
+    let Apart : Leaf → Type 0 = λ y. leaf_is x y ≡ false in
+    let apart = recursion_from_All Apart (filter p xs) (All-filter p Apart xs (All-from_recursion Apart xs (IsDistinct-head leaf_is x xs distinct))) in
+    elim (p x) as (λ b. IsDistinct leaf_is (cond b (x ∷ filter p xs) (filter p xs))) [ true ↦ IsDistinct-cons leaf_is x (filter p xs) apart rest | false ↦ rest ]
 
 -- the places of fragments that aren't clean are no more than those fragments
 pub unclean_few : (c : CacheMap) (r : ℕ) → IsDistinct leaf_is (order c r) → length (unclean_at c r) ≤ finmap.len (unclean_of c r)
-unclean_few c r distinct = few_keys (unclean_of c r) (unclean_at c r) (filtered_distinct (λ (leaf : Leaf). unclean_in (here c r leaf)) (order c r) distinct)
-    (each (unclean_at c r) (filtered_pass (λ (leaf : Leaf). unclean_in (here c r leaf)) (order c r)))
+unclean_few c r distinct =
+    let few = length-le_from_is_member leaf_equivalence (unclean_at c r) (finmap.keys (unclean_of c r)) (filtered_distinct unclean (order c r) distinct) (λ q among.
+    any_tied q (finmap.keys (unclean_of c r)) ∙ sym (contains_key-keys (unclean_of c r) q) ∙ ap is_some (get_unclean_of c r q)
+    ∙ some (here c r q) (all_of (λ (x : Leaf). unclean x ≡ true) q (unclean_at c r) (recursion_from_All (λ (x : Leaf). unclean x ≡ true) (unclean_at c r) (filter_passes unclean (order c r))) among)) in
+    let keys = length-keys_of (finmap.entries (unclean_of c r)) in
+    let all = len-entries (unclean_of c r) in
+    omega (arith, few, keys, all)
   where
+    unclean : Leaf → Bool
+    unclean leaf = unclean_in (here c r leaf)
+
     some : (o : Option Cached) → unclean_in o ≡ true → is_some (unsaved_in o) ≡ true
     some None is = let clash : false ≡ true = is in absurd cc
-    some (Some f) is = go (is_clean f) is
-      where
-        go : (b : Bool) → not b ≡ true → is_some {T = Unsaved} (cond b None (Some (record { base = f.base; generation = f.generation; dirty = f.dirty }))) ≡ true
-        go true is = let clash : false ≡ true = is in absurd cc
-        go false is = refl
-
-    each : (xs : List Leaf) → AllByRecursion (λ (x : Leaf). unclean_in (here c r x) ≡ true) xs → AllByRecursion (λ (x : Leaf). is_some (finmap.get (unclean_of c r) x) ≡ true) xs
-    each [] all = tt
-    each (x ∷ xs) all = (ap (λ (o : Option Unsaved). is_some o) (get_unclean_of c r x) ∙ some (here c r x) all.0, each xs all.1)
-
--- where none is kept, no place is that of one
-pub kept_none : (c : CacheMap) (r : ℕ) → KeepsNone c → kept_at c r ≡ []
-kept_none c r none = go (order c r) (λ q is. is)
-  where
-    there : (o : Option Cached) → IsThere o → is_some o ≡ true
-    there None h = absurd h
-    there (Some f) h = refl
-
-    either : (a b : Bool) → b ≡ true → (a || b) ≡ true
-    either true b is = refl
-    either false b is = is
-
-    go : (xs : List Leaf) → ((q : Leaf) → list_any (leaf_is q) xs ≡ true → has_place c r q ≡ true) → filter (λ (leaf : Leaf). not (is_some (here c r leaf))) xs ≡ []
-    go [] among = refl
-    go (x ∷ xs) among =
-        let some : is_some (here c r x) ≡ true = there (here c r x) (none r x (among x (ap (λ (b : Bool). b || list_any (leaf_is x) xs) (leaf_itself x)))) in
-        ap (λ (b : Bool). cond (not b) (x ∷ filter (λ (leaf : Leaf). not (is_some (here c r leaf))) xs) (filter (λ (leaf : Leaf). not (is_some (here c r leaf))) xs)) some
-        ∙ go xs (λ q is. among q (either (leaf_is q x) (list_any (leaf_is q) xs) is))
+    some (Some f) is = ap (λ (b : Bool). is_some {T = Unsaved} (cond b None (Some (record { base = f.base; generation = f.generation; dirty = f.dirty })))) (not-true (is_clean f) is)
 
 -- where no place of a rank is free and none can become so, and none is kept, they lack
 pub full_lacks : (c : CacheMap) (r : ℕ) (stay : Option Leaf) → AreCaches c → KeepsNone c → roomy c r stay ≡ None → c.cap < finmap.len (unclean_of c r) + (1 + staying stay)
 full_lacks c r stay valid none full =
-    let all : c.cap ≤ length (unclean_at c r) + length (kept_at c r) + staying stay = full_counts c r stay valid full in
-    let kept : length (kept_at c r) ≡ 0 = ap (λ (xs : List Leaf). length xs) (kept_none c r none) in
+    let lacks = all_unclean c r stay valid (none r) full in
     let few : length (unclean_at c r) ≤ finmap.len (unclean_of c r) = unclean_few c r (valid.distinct r) in
-    omega (arith, all, kept, few)
+    omega (arith, lacks, few)
 
 -- each passes one of two tests
 two : (g t : Leaf → Bool) (xs : List Leaf) → AllByRecursion (λ (x : Leaf). (g x ≡ true) ⊎ (t x ≡ true)) xs → length xs ≤ length (filter g xs) + length (filter t xs)
@@ -196,10 +98,6 @@ few_lack count c r valid none lacks =
     let few : length (unclean_at c r) ≤ finmap.len (unclean_of c r) = unclean_few c r (valid.distinct r) in
     omega (arith, lacks, all, few)
   where
-    clean : (b : Bool) → ((b && not false) ≡ true) ⊎ (not b ≡ true)
-    clean true = inl refl
-    clean false = inr refl
-
     on : (o : Option Cached) → IsThere o → ((clean_in o && not false) ≡ true) ⊎ (unclean_in o ≡ true)
     on None h = absurd h
-    on (Some f) h = clean (is_clean f)
+    on (Some f) h = elim (is_clean f) as (λ b. ((b && not false) ≡ true) ⊎ (not b ≡ true)) [ true ↦ inl refl | false ↦ inr refl ]

@@ -1,14 +1,14 @@
 -- Each turn commits some leaves, or finds that all is clean.
 use Rattle.mdcache.proofs.Common.{HasFragment, MayNotCommit, NoneEnds, arith, came_ranks, cond, refl, state_of, subst, sym, unclean, ℕ, ◌+◌, ◌<◌, ◌∙◌, ◌≤◌}
 use Rattle.std.specs.FinMap as map
-use Rattle.mdcache.proofs.CommittedLaws.{jobs_alone, lacked_before, turn_ends, whole_then}
+use Rattle.mdcache.proofs.CommittedLaws.{given_up_whole, lacked_before, turn_ends, whole_then}
 use Rattle.mdcache.proofs.KeptTree.{kept_itself, steps_keep_tree}
 use Rattle.mdcache.proofs.batches.commit_batches.Goals as goal
 
 pub loop-more-init : goal.loop-more-init
 loop-more-init g c = record {
   clean = λ none. absurd cc;
-  whole = jobs_alone (state_of c.args.tree.now) (state_of c.args.tree.now) refl;
+  whole = given_up_whole (state_of c.args.tree.now) (state_of c.args.tree.now) _ _ refl;
   jobs = c.requires.none;
   number = refl;
   few = c.requires.few;

@@ -1,5 +1,6 @@
 use Rattle.mdcache.proofs.Common.{Fragment, GoingLeaf, [], ap, in_directory, leaves_in, leaves_inside, string_bytes, sym, text_of, texts_in, ◌++◌, ◌∙◌, ◌∷◌}
-use Rattle.mdcache.proofs.JoinLaws.{inside_none, inside_one, mapped_twice}
+use Rattle.std.proofs.lemmas.Simd.{map-map}
+use Rattle.mdcache.proofs.JoinLaws.{inside_none, inside_one}
 use Rattle.mdcache.proofs.merge_plan.push_inside.Goals as goal
 
 pub returns-then-not-is_inside-clause-leaves : goal.returns-then-not-is_inside-clause-leaves
@@ -8,7 +9,7 @@ returns-then-not-is_inside-clause-leaves c = inside_none (in_directory c.args.di
 pub returns-then-not-is_inside-clause-texts : goal.returns-then-not-is_inside-clause-texts
 returns-then-not-is_inside-clause-texts c =
     inside_none (λ (f : Fragment). text_of (in_directory c.args.dir.0 f)) c.args.frag c.args.leaf (texts_in c.args.parts.now.items) (sym c.is_inside.ensures ∙ c.if-not-is_inside.true)
-    ∙ ap (λ l. texts_in c.args.parts.now.items ++ l) (sym (mapped_twice text_of (in_directory c.args.dir.0) (leaves_inside c.args.frag (c.args.leaf ∷ []))))
+    ∙ ap (λ l. texts_in c.args.parts.now.items ++ l) (sym (map-map text_of (in_directory c.args.dir.0) (leaves_inside c.args.frag (c.args.leaf ∷ []))))
 
 pub returns-clause-leaves : goal.returns-clause-leaves
 returns-clause-leaves c =
@@ -19,4 +20,4 @@ pub returns-clause-texts : goal.returns-clause-texts
 returns-clause-texts c =
     inside_one (λ (part : GoingLeaf). string_bytes part.object) (λ (f : Fragment). text_of (in_directory c.args.dir.0 f)) c.args.frag c.args.leaf c.args.parts.now.items c.push.new.self.items c.in_ok-part_of.field-0 (sym c.is_inside.ensures ∙ c.if-not-is_inside.false) c.in_ok-push.ensures.items
     c.in_ok-part_of.ensures.text
-    ∙ ap (λ l. texts_in c.args.parts.now.items ++ l) (sym (mapped_twice text_of (in_directory c.args.dir.0) (leaves_inside c.args.frag (c.args.leaf ∷ []))))
+    ∙ ap (λ l. texts_in c.args.parts.now.items ++ l) (sym (map-map text_of (in_directory c.args.dir.0) (leaves_inside c.args.frag (c.args.leaf ∷ []))))

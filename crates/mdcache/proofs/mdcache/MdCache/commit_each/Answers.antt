@@ -1,7 +1,7 @@
 -- The jobs of all leaves begin, are encoded, and end.
 use Rattle.mdcache.proofs.Common.{AllByRecursion, AreApart, IsReadyAt, ap, leaves_of_writes, state_of, subst, sym, ◌∙◌}
 use Rattle.mdcache.proofs.BatchLaws.{begun_ready, leaves_ready}
-use Rattle.mdcache.proofs.CommittedLaws.{jobs_alone, whole_then}
+use Rattle.mdcache.proofs.CommittedLaws.{given_up_whole, whole_then}
 use Rattle.mdcache.proofs.KeptTree.{steps_keep_tree}
 use Rattle.mdcache.proofs.mdcache.MdCache.commit_each.Goals as goal
 
@@ -15,7 +15,7 @@ end_each-ended-requires-clause-apart g c =
 
 pub returns-clause-whole : goal.returns-clause-whole
 returns-clause-whole g c =
-    whole_then (state_of c.args.self.now) (state_of c.begin_each.new.self) (state_of c.end_each-ended.new.self) (jobs_alone (state_of c.args.self.now) (state_of c.begin_each.new.self) c.in-Ok.ensures.left) c.end_each-ended.ensures.whole
+    whole_then (state_of c.args.self.now) (state_of c.begin_each.new.self) (state_of c.end_each-ended.new.self) (given_up_whole (state_of c.args.self.now) (state_of c.begin_each.new.self) _ _ c.in-Ok.ensures.left) c.end_each-ended.ensures.whole
 
 pub returns-clause-tree : goal.returns-clause-tree
 returns-clause-tree g c = steps_keep_tree c.args.self.now c.begin_each.new.self c.end_each-ended.new.self c.in-Ok.ensures.tree c.end_each-ended.ensures.tree

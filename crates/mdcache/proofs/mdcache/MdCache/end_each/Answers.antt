@@ -1,7 +1,7 @@
 -- Each turn ends the first commit that is left.
 use Rattle.mdcache.proofs.Common.{AllByRecursion, AreApart, IsReadyAt, arith, drop, leaves_of_writes, refl, state_of, subst, ◌+◌}
 use Rattle.mdcache.proofs.BatchLaws.{one_less, stay_ready, writes_left}
-use Rattle.mdcache.proofs.CommittedLaws.{jobs_alone, whole_then}
+use Rattle.mdcache.proofs.CommittedLaws.{given_up_whole, whole_then}
 use Rattle.mdcache.proofs.KeptTree.{kept_itself, steps_keep_tree}
 use Rattle.mdcache.proofs.mdcache.MdCache.end_each.Goals as goal
 
@@ -9,7 +9,7 @@ pub loop-one-init : goal.loop-one-init
 loop-one-init g c = record {
   rest = c.requires.begun;
   apart = c.requires.apart;
-  whole = jobs_alone (state_of c.args.self.now) (state_of c.args.self.now) refl;
+  whole = given_up_whole (state_of c.args.self.now) (state_of c.args.self.now) _ _ refl;
   fewer = omega arith;
   tree = kept_itself c.args.self.now;
   faults = refl;

@@ -7,17 +7,16 @@ use Rattle.mdcache.proofs.mdcache.MdCache.join_leaves.Goals as goal
 pub loop-part-init : goal.loop-part-init
 loop-part-init g c = record { reads = reads_itself (IsAmong c.args.at.now.rank.0 (leaves_in c.args.at.now.dir c.args.leaves.now)) NoneEnds c.args.self.now; sound = c.requires.sound; none = c.requires.none; faults = refl; base = refl; generation = refl; dirty = λ name. refl }
 
-pub join_leaf-requires-clause-sound : goal.join_leaf-requires-clause-sound
-join_leaf-requires-clause-sound g c = c.loop-part.invariant.sound
-
-pub join_leaf-requires-clause-none : goal.join_leaf-requires-clause-none
-join_leaf-requires-clause-none g c = c.loop-part.invariant.none
-
-pub join_leaf-requires-clause-live : goal.join_leaf-requires-clause-live
-join_leaf-requires-clause-live g c = live_on (IsAmong c.args.at.now.rank.0 (leaves_in c.args.at.now.dir c.args.leaves.now)) NoneEnds c.args.self.now c.loop-part.self c.loop-part.invariant.reads (c.args.at.now.dir, c.part-item.result.frag) (c.requires.live (c.args.at.now.dir, c.part-item.result.frag) (part_among c.args.at.now.dir c.args.leaves.now c.loop-part.part-index c.part-item.result c.loop-part-test.true c.part-item.is)).0
-
-pub join_leaf-requires-clause-holds : goal.join_leaf-requires-clause-holds
-join_leaf-requires-clause-holds g c = let m = c.requires.live (c.args.at.now.dir, c.part-item.result.frag) (part_among c.args.at.now.dir c.args.leaves.now c.loop-part.part-index c.part-item.result c.loop-part-test.true c.part-item.is) in hold_on (IsAmong c.args.at.now.rank.0 (leaves_in c.args.at.now.dir c.args.leaves.now)) NoneEnds c.args.self.now c.loop-part.self c.loop-part.invariant.reads c.requires.sound (record { dir = c.args.at.now.dir; frag = c.part-item.result.frag; rank = c.args.at.now.rank }) (λ r is. is.0) m.0 m.1
+pub join_leaf-requires : goal.join_leaf-requires
+join_leaf-requires g c =
+    let inv = c.loop-part.invariant in
+    let m = c.requires.live (c.args.at.now.dir, c.part-item.result.frag) (part_among c.args.at.now.dir c.args.leaves.now c.loop-part.part-index c.part-item.result c.loop-part-test.true c.part-item.is) in
+    record {
+      sound = inv.sound;
+      none = inv.none;
+      live = live_on _ _ c.args.self.now c.loop-part.self inv.reads (c.args.at.now.dir, c.part-item.result.frag) m.0;
+      holds = hold_on _ _ c.args.self.now c.loop-part.self inv.reads c.requires.sound (record { dir = c.args.at.now.dir; frag = c.part-item.result.frag; rank = c.args.at.now.rank }) (λ r is. is.0) m.0 m.1;
+    }
 
 pub loop-part-preserved : goal.loop-part-preserved
 loop-part-preserved g c =

@@ -1,34 +1,30 @@
-use Rattle.mdcache.proofs.Common.{IsFamilyAt, inl, reads_came, refl}
+use Rattle.mdcache.proofs.Common.{reads_came, rules}
 use Rattle.mdcache.proofs.CoreLaws.{reads_sound_so, reads_state, there_after}
-use Rattle.mdcache.proofs.RegroupReady.{dropped_absent, dropped_none, dropped_reads, family_live}
-use Rattle.mdcache.proofs.SplitSteps.{split_keeps, split_made, split_sound, split_steps}
+use Rattle.mdcache.proofs.JoinSteps.{family_live}
+use Rattle.mdcache.proofs.RegroupReady.{given_up}
+use Rattle.mdcache.proofs.SplitSteps.{split_right}
 use Rattle.mdcache.proofs.mdcache.MdCache.split_leaf.Goals as goal
 
 pub returns-in-Err-clause-came : goal.returns-in-Err-clause-came
-returns-in-Err-clause-came g c = reads_came (IsFamilyAt c.args.at.now.rank.0 c.args.at.now.dir c.args.at.now.frag c.args.nb) (IsFamilyAt c.args.at.now.rank.0 c.args.at.now.dir c.args.at.now.frag c.args.nb) c.args.self.now.objects c.args.self.now.caches c.prepare_split.new.self.caches c.in-Err.ensures.reads.caches
+returns-in-Err-clause-came g c = reads_came _ _ c.args.self.now.objects c.args.self.now.caches c.prepare_split.new.self.caches c.in-Err.ensures.reads.caches
 
 pub commit_split-requires-clause-there : goal.commit_split-requires-clause-there
-commit_split-requires-clause-there g c = there_after (IsFamilyAt c.args.at.now.rank.0 c.args.at.now.dir c.args.at.now.frag c.args.nb) (IsFamilyAt c.args.at.now.rank.0 c.args.at.now.dir c.args.at.now.frag c.args.nb) c.args.self.now c.prepare_split.new.self c.args.at.now.rank.0 c.in-Ok.ensures.reads c.requires.holds.there
+commit_split-requires-clause-there g c = there_after _ _ c.args.self.now c.prepare_split.new.self c.args.at.now.rank.0 c.in-Ok.ensures.reads c.requires.holds.there
 
-pub returns-in-Err-commit_split-clause-undone : goal.returns-in-Err-commit_split-clause-undone
-returns-in-Err-commit_split-clause-undone g c = reads_state (IsFamilyAt c.args.at.now.rank.0 c.args.at.now.dir c.args.at.now.frag c.args.nb) (IsFamilyAt c.args.at.now.rank.0 c.args.at.now.dir c.args.at.now.frag c.args.nb) c.args.self.now c.commit_split.new.self (dropped_reads c.args.self.now c.prepare_split.new.self c.args.at.now c.args.nb c.in-Ok.ensures.reads (there_after (IsFamilyAt c.args.at.now.rank.0 c.args.at.now.dir c.args.at.now.frag c.args.nb) (IsFamilyAt c.args.at.now.rank.0 c.args.at.now.dir c.args.at.now.frag c.args.nb) c.args.self.now c.prepare_split.new.self c.args.at.now.rank.0 c.in-Ok.ensures.reads c.requires.holds.there) c.in-Ok.ensures.distinct c.in-Ok.ensures.ready.kept c.in-Ok.ensures.only c.commit_split.new.self c.in-Err-commit_split.ensures.left)
+pub returns-in-Err-commit_split : goal.returns-in-Err-commit_split
+returns-in-Err-commit_split g c =
+    let its = given_up c.args.self.now c.prepare_split.new.self c.args.at.now c.args.nb c.in-Ok.ensures.reads c.requires.holds.there c.in-Ok.ensures.distinct c.in-Ok.ensures.ready.kept c.in-Ok.ensures.only c.commit_split.new.self c.in-Err-commit_split.ensures.left in
+    record {
+      split = tt;
+      tree = tt;
+      undone = reads_state _ _ c.args.self.now c.commit_split.new.self its.reads;
+      came = reads_came _ _ c.args.self.now.objects c.args.self.now.caches c.commit_split.new.self.caches its.reads.caches;
+      refused = search rules;
+      counted = search rules;
+      sound = reads_sound_so _ _ c.args.self.now c.commit_split.new.self its.reads c.requires.sound (family_live c.args.self.now c.args.at.now c.args.nb c.requires.known c.requires.can c.commit_split.new.self.caches its.absent) its.none;
+    }
 
-pub returns-in-Err-commit_split-clause-came : goal.returns-in-Err-commit_split-clause-came
-returns-in-Err-commit_split-clause-came g c = reads_came (IsFamilyAt c.args.at.now.rank.0 c.args.at.now.dir c.args.at.now.frag c.args.nb) (IsFamilyAt c.args.at.now.rank.0 c.args.at.now.dir c.args.at.now.frag c.args.nb) c.args.self.now.objects c.args.self.now.caches c.commit_split.new.self.caches (dropped_reads c.args.self.now c.prepare_split.new.self c.args.at.now c.args.nb c.in-Ok.ensures.reads (there_after (IsFamilyAt c.args.at.now.rank.0 c.args.at.now.dir c.args.at.now.frag c.args.nb) (IsFamilyAt c.args.at.now.rank.0 c.args.at.now.dir c.args.at.now.frag c.args.nb) c.args.self.now c.prepare_split.new.self c.args.at.now.rank.0 c.in-Ok.ensures.reads c.requires.holds.there) c.in-Ok.ensures.distinct c.in-Ok.ensures.ready.kept c.in-Ok.ensures.only c.commit_split.new.self c.in-Err-commit_split.ensures.left).caches
-
-pub returns-in-Err-commit_split-clause-sound : goal.returns-in-Err-commit_split-clause-sound
-returns-in-Err-commit_split-clause-sound g c =
-    reads_sound_so (IsFamilyAt c.args.at.now.rank.0 c.args.at.now.dir c.args.at.now.frag c.args.nb) (IsFamilyAt c.args.at.now.rank.0 c.args.at.now.dir c.args.at.now.frag c.args.nb) c.args.self.now c.commit_split.new.self (dropped_reads c.args.self.now c.prepare_split.new.self c.args.at.now c.args.nb c.in-Ok.ensures.reads (there_after (IsFamilyAt c.args.at.now.rank.0 c.args.at.now.dir c.args.at.now.frag c.args.nb) (IsFamilyAt c.args.at.now.rank.0 c.args.at.now.dir c.args.at.now.frag c.args.nb) c.args.self.now c.prepare_split.new.self c.args.at.now.rank.0 c.in-Ok.ensures.reads c.requires.holds.there) c.in-Ok.ensures.distinct c.in-Ok.ensures.ready.kept c.in-Ok.ensures.only c.commit_split.new.self c.in-Err-commit_split.ensures.left) c.requires.sound
-    (family_live c.args.self.now c.args.at.now c.args.nb c.requires.known c.requires.can c.commit_split.new.self.caches (dropped_absent c.args.self.now c.prepare_split.new.self c.args.at.now c.args.nb c.in-Ok.ensures.reads (there_after (IsFamilyAt c.args.at.now.rank.0 c.args.at.now.dir c.args.at.now.frag c.args.nb) (IsFamilyAt c.args.at.now.rank.0 c.args.at.now.dir c.args.at.now.frag c.args.nb) c.args.self.now c.prepare_split.new.self c.args.at.now.rank.0 c.in-Ok.ensures.reads c.requires.holds.there) c.in-Ok.ensures.distinct c.in-Ok.ensures.ready.kept c.in-Ok.ensures.only c.commit_split.new.self c.in-Err-commit_split.ensures.left)) (dropped_none c.args.self.now c.prepare_split.new.self c.args.at.now c.args.nb c.in-Ok.ensures.reads (there_after (IsFamilyAt c.args.at.now.rank.0 c.args.at.now.dir c.args.at.now.frag c.args.nb) (IsFamilyAt c.args.at.now.rank.0 c.args.at.now.dir c.args.at.now.frag c.args.nb) c.args.self.now c.prepare_split.new.self c.args.at.now.rank.0 c.in-Ok.ensures.reads c.requires.holds.there) c.in-Ok.ensures.distinct c.in-Ok.ensures.ready.kept c.in-Ok.ensures.only c.commit_split.new.self c.in-Err-commit_split.ensures.left)
-
-pub returns-clause-split : goal.returns-clause-split
-returns-clause-split g c = split_made c.args.self.now c.prepare_split.new.self c.requires.sound c.args.at.now c.args.nb c.in-Ok.split c.requires.holds c.requires.known c.requires.can (IsFamilyAt c.args.at.now.rank.0 c.args.at.now.dir c.args.at.now.frag c.args.nb) c.in-Ok.ensures.reads (inl (refl, refl)) c.in-Ok.ensures.distinct c.in-Ok.ensures.only c.in-Ok.ensures.ready c.commit_split.new.self c.in_default.ensures.divided c.in_default.ensures.whole c.in_default.ensures.places c.in_default.ensures.split
-
-pub returns-clause-tree : goal.returns-clause-tree
-returns-clause-tree g c = split_keeps c.args.self.now c.prepare_split.new.self c.requires.sound c.args.at.now c.args.nb c.in-Ok.split c.requires.holds c.requires.known c.requires.can (IsFamilyAt c.args.at.now.rank.0 c.args.at.now.dir c.args.at.now.frag c.args.nb) c.in-Ok.ensures.reads (inl (refl, refl)) c.in-Ok.ensures.distinct c.in-Ok.ensures.only c.in-Ok.ensures.ready c.commit_split.new.self c.in_default.ensures.divided c.in_default.ensures.whole c.in_default.ensures.places c.in_default.ensures.split
-
-pub returns-clause-came : goal.returns-clause-came
-returns-clause-came g c = split_steps c.args.self.now c.prepare_split.new.self c.requires.sound c.args.at.now c.args.nb c.in-Ok.split c.requires.holds c.requires.known c.requires.can (IsFamilyAt c.args.at.now.rank.0 c.args.at.now.dir c.args.at.now.frag c.args.nb) c.in-Ok.ensures.reads (inl (refl, refl)) c.in-Ok.ensures.distinct c.in-Ok.ensures.only c.in-Ok.ensures.ready c.commit_split.new.self c.in_default.ensures.divided c.in_default.ensures.whole c.in_default.ensures.places c.in_default.ensures.split
-
-pub returns-clause-sound : goal.returns-clause-sound
-returns-clause-sound g c = split_sound c.args.self.now c.prepare_split.new.self c.requires.sound c.args.at.now c.args.nb c.in-Ok.split c.requires.holds c.requires.known c.requires.can (IsFamilyAt c.args.at.now.rank.0 c.args.at.now.dir c.args.at.now.frag c.args.nb) c.in-Ok.ensures.reads (inl (refl, refl)) c.in-Ok.ensures.distinct c.in-Ok.ensures.only c.in-Ok.ensures.ready c.commit_split.new.self c.in_default.ensures.divided c.in_default.ensures.whole c.in_default.ensures.places c.in_default.ensures.split
+pub returns : goal.returns
+returns g c =
+    let its = split_right c.args.self.now c.prepare_split.new.self c.requires.sound c.args.at.now c.args.nb c.in-Ok.split c.requires.holds c.requires.known c.requires.can c.in-Ok.ensures.reads c.in-Ok.ensures.distinct c.in-Ok.ensures.only c.in-Ok.ensures.ready c.commit_split.new.self c.in_default.ensures.divided c.in_default.ensures.whole c.in_default.ensures.places c.in_default.ensures.split in
+    record { split = its.split; tree = its.tree; undone = tt; came = its.came; refused = tt; counted = search rules; sound = its.sound }
