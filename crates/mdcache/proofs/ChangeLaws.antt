@@ -1,5 +1,6 @@
 -- The four changes are right.
-use Rattle.mdcache.proofs.Common.{Alters, Bool, Change, ChangesAreRight, ChangesOnly, Contains, Counts, Covers, Dentry, DirPins, Fragment, HasLeaf, HasNumber, Homes, Ino, Inode, IsCounted, IsLeafAt, IsLive, IsMove, IsNamed, IsRight, IsSound, IsTable, IsTabled, IsUntouched, IsWellFormed, KeepLeaves, Leaf, List, MayChange, MayCome, MayGo, MayRemove, None, NothingIn, Option, Shape, Some, Spot, State, StaysAsItIs, Tree, [], add, added_counted, added_tabled, adds, ap, arith, changed, cond, counts_moved, dentry_at, dir_or_not, directory_at, entry_stands, false, first_or_later, fragments_of, home_at, in_directory, inl, inr, is_dir_kind, is_directory, is_known, is_some, known_is, leaf_is, leaf_of, leaf_or_apart, leaves, leaves_gone, leaves_kept, leaves_of, may_come, may_drop, may_relocate, may_replace, move, moved_counted, moved_tabled, moves, nat_cmp, noted, nothing_in, one_less, refl, remove, removed_counted, removed_tabled, removes, replaced_empty, rows_but, set, set_counted, set_tabled, sets, shape_of, shown_tree, stands_after_removal, subst, suc, sym, true, with_dir, with_directory, with_file, with_home, with_home_at, with_moved, without, without_cover, without_directory, without_home, without_row, zero, ℕ, ◌<◌, ◌^◌, ◌∙◌, ◌∷◌, ◌≡◌, ◌⊎◌}
+use Rattle.mdcache.proofs.Common.{Alters, Bool, Change, ChangesAreRight, ChangesOnly, Contains, Counts, Covers, Dentry, DirPins, Fragment, HasLeaf, HasNumber, Homes, Ino, Inode, IsCounted, IsLeafAt, IsLive, IsMove, IsNamed, IsRight, IsSound, IsTable, IsTabled, IsUntouched, IsWellFormed, KeepLeaves, Leaf, List, MayChange, MayCome, MayGo, MayRemove, None, NothingIn, Option, Shape, Some, Spot, State, StaysAsItIs, Tree, [], add, added_counted, added_tabled, adds, ap, arith, changed, cond, counts_moved, dentry_at, dir_or_not, directory_at, entry_stands, false, first_or_later, fragments_of, home_at, in_directory, inl, inr, is_dir_kind, is_directory, is_known, is_some, known_is, leaf_is, leaf_of, leaf_or_apart, leaves, leaves_gone, leaves_kept, leaves_of, may_come, may_drop, may_relocate, may_replace, move, moved_counted, moved_tabled, moves, nat_cmp, noted, nothing_in, one_leaf, one_less, refl, remove, removed_counted, removed_tabled, removes, replaced_empty, rows_but, same_Some, set, set_counted, set_tabled, sets, shape_of, shown_tree, stands_after_removal, subst, suc, sym, true, with_dir, with_directory, with_file, with_home, with_home_at, with_moved, without, without_cover, without_directory, without_home, without_row, zero, ℕ, ◌<◌, ◌^◌, ◌∙◌, ◌∷◌, ◌≡◌, ◌⊎◌}
+use Rattle.std.proofs.lemmas.Bool.{cond_both, false_from_ne_true}
 use Rattle.std.specs.Prelude.{map as each}
 use Rattle.std.specs.FinMap as map
 use Rattle.inode_table.specs.Dirs.{MayMove as MayRelocate}
@@ -14,11 +15,7 @@ stays_on a b c leaf first second = record { live = second.live; names = second.n
 
 -- a leaf that isn't on a list isn't its first, nor on the rest
 not_first : (q leaf : Leaf) (rest : List Leaf) → (Contains (leaf ∷ rest) q → ⊥) → leaf_is q leaf ≡ false
-not_first q leaf rest none = go (leaf_or_apart q leaf)
-  where
-    go : (q ≡ leaf) ⊎ (leaf_is q leaf ≡ false) → leaf_is q leaf ≡ false
-    go (inl same) = absurd (none (zero, omega arith, sym same))
-    go (inr apart) = apart
+not_first q leaf rest none = false_from_ne_true _ (λ same. none (zero, omega arith, sym (one_leaf q leaf same)))
 
 not_later : (q leaf : Leaf) (rest : List Leaf) → (Contains (leaf ∷ rest) q → ⊥) → Contains rest q → ⊥
 not_later q leaf rest none (k, stands, is) = none (suc k, omega (arith, stands), is)
@@ -80,24 +77,26 @@ noted_right change old new counts pins altered counted = record {
 -- rows of directories without that of a directory that went
 row_gone : {X : Type 0} (rows : map.FinMap nat_cmp X) (found : Option Inode) → rows_but rows (directory_at found) ≡ without_row rows found
 row_gone rows None = refl
-row_gone rows (Some inode) = go (is_dir_kind inode.kind)
-  where
-    go : (b : Bool) → rows_but rows (cond b (Some inode.ino) None) ≡ cond b (map.remove rows inode.ino.0) rows
-    go true = refl
-    go false = refl
+row_gone rows (Some inode) = elim (is_dir_kind inode.kind) as (λ b. rows_but rows (cond b (Some inode.ino) None) ≡ cond b (map.remove rows inode.ino.0) rows) [ true ↦ refl | false ↦ refl ]
+
+-- a name got an inode, and no directory comes
+named_altered : (change : Change) (spot : Spot) (inode : Inode) (old new : State) → IsNamedSo old new (dentry_at spot) spot.at.frag (Some inode) → IsTabled (map.insert (shown_tree old) (dentry_at spot) inode) old.homes
+    → map.insert (shown_tree old) (dentry_at spot) inode ≡ changed (shown_tree old) change → leaf_of spot.at ∷ [] ≡ fragments_of old.covers change → IsAltered change old new
+named_altered change spot inode old new so tabled tree leaves = record {
+  sound = so.leaves;
+  tabled = tabled_as _ _ _ _ so.tree so.homes tabled;
+  tree = so.tree ∙ tree;
+  leaves = λ d is. ap (λ (c : Covers). leaves_of c d) so.covers;
+  frame = λ leaf none live. so.stays leaf (not_first leaf (leaf_of spot.at) [] (subst (λ (ls : List Leaf). Contains ls leaf → ⊥) (sym leaves) none)) live;
+}
 
 -- ---- other attributes
 
 set_altered : (spot : Spot) (inode : Inode) (old new : State) → IsSound old → MayChange (shown_tree old) old.covers (sets spot inode) → Alters (sets spot inode) old new → IsAltered (sets spot inode) old new
 set_altered spot inode old new sound may makes =
     let so = named_so old makes.0 (dentry_at spot) spot.at.frag (Some inode) (sound_leaves old sound) (entry_known old (dentry_at spot) may.takes.before sound may.takes.stands) may.carries.put makes.1 in
-    subst (IsAltered (sets spot inode) old) (sym makes.2) (record {
-      sound = so.leaves;
-      tabled = (tabled_as (map.insert (shown_tree old) (dentry_at spot) inode) (shown_tree makes.0) old.homes makes.0.homes so.tree so.homes (set_tabled (shown_tree old) old.homes (dentry_at spot) inode sound.tabled may.takes));
-      tree = so.tree;
-      leaves = λ d is. ap (λ (c : Covers). leaves_of c d) so.covers;
-      frame = λ leaf none live. so.stays leaf (not_first leaf (leaf_of spot.at) [] none) live;
-    })
+    subst (IsAltered (sets spot inode) old) (sym makes.2)
+    (named_altered (sets spot inode) spot inode old makes.0 so (set_tabled (shown_tree old) old.homes (dentry_at spot) inode sound.tabled may.takes) refl refl)
 
 -- ---- a new inode
 
@@ -107,13 +106,7 @@ module _ (spot : Spot) (inode : Inode) (old named : State) (sound : IsSound old)
   grown_tabled = added_tabled (shown_tree old) old.homes (dentry_at spot) inode sound.tabled may.takes
 
   added_file : is_dir_kind inode.kind ≡ false → IsAltered (adds spot inode) old named
-  added_file kinded = record {
-    sound = so.leaves;
-    tabled = tabled_as (map.insert (shown_tree old) (dentry_at spot) inode) (shown_tree named) (with_home old.homes (dentry_at spot) inode) named.homes so.tree (so.homes ∙ sym (with_file old.homes (dentry_at spot) inode kinded)) grown_tabled;
-    tree = so.tree;
-    leaves = λ d is. ap (λ (c : Covers). leaves_of c d) so.covers;
-    frame = λ leaf none live. so.stays leaf (not_first leaf (leaf_of spot.at) [] none) live;
-  }
+  added_file kinded = named_altered (adds spot inode) spot inode old named so (subst (IsTabled (map.insert (shown_tree old) (dentry_at spot) inode)) (with_file old.homes (dentry_at spot) inode kinded) grown_tabled) refl refl
 
   added_dir : is_dir_kind inode.kind ≡ true → IsAltered (adds spot inode) old (with_directory named (dentry_at spot) inode.ino)
   added_dir kinded = record {
@@ -140,17 +133,12 @@ module _ (spot : Spot) (inode : Inode) (old named : State) (sound : IsSound old)
 
 add_altered : (spot : Spot) (inode : Inode) (old new : State) → IsSound old → inode.ino.0 < 2 ^ 64 → MayChange (shown_tree old) old.covers (adds spot inode) → Alters (adds spot inode) old new
     → IsAltered (adds spot inode) old new
-add_altered spot inode old new sound fits may makes = go (dir_or_not inode)
+add_altered spot inode old new sound fits may makes =
+    subst (IsAltered (adds spot inode) old) (sym makes.2) (cond_both (is_dir_kind inode.kind) (with_directory makes.0 (dentry_at spot) inode.ino) makes.0 (IsAltered (adds spot inode) old)
+    (added_dir spot inode old makes.0 sound fits may so) (added_file spot inode old makes.0 sound fits may so))
   where
     so : IsNamedSo old makes.0 (dentry_at spot) spot.at.frag (Some inode)
     so = named_so old makes.0 (dentry_at spot) spot.at.frag (Some inode) (sound_leaves old sound) (dir_known old (dentry_at spot) sound may.takes.parent) may.carries.put makes.1
-
-    is_with : (b : Bool) → is_dir_kind inode.kind ≡ b → new ≡ cond b (with_directory makes.0 (dentry_at spot) inode.ino) makes.0
-    is_with b is = makes.2 ∙ ap (λ (c : Bool). cond c (with_directory makes.0 (dentry_at spot) inode.ino) makes.0) is
-
-    go : (is_dir_kind inode.kind ≡ true) ⊎ (is_dir_kind inode.kind ≡ false) → IsAltered (adds spot inode) old new
-    go (inl kinded) = subst (IsAltered (adds spot inode) old) (sym (is_with true kinded)) (added_dir spot inode old makes.0 sound fits may so kinded)
-    go (inr kinded) = subst (IsAltered (adds spot inode) old) (sym (is_with false kinded)) (added_file spot inode old makes.0 sound fits may so kinded)
 
 -- ---- what goes
 
@@ -186,36 +174,58 @@ none_left : (named : State) → HasSoundLeaves named → IsLeftSo named named No
 none_left named sound = record { leaves = sound; tree = refl; stays = λ leaf none live. record { live = live; names = refl } }
 
 -- the table and the leaves of directories without what stood at a dentry
-homes_without : (s : State) (found : Option Inode) → (without s (directory_at found)).homes ≡ without_home s.homes found
-homes_without s None = refl
-homes_without s (Some inode) = go (is_dir_kind inode.kind)
-  where
-    go : (b : Bool) → (without s (cond b (Some inode.ino) None)).homes ≡ cond b (map.remove s.homes inode.ino.0) s.homes
-    go true = refl
-    go false = refl
-
-covers_without : (s : State) (found : Option Inode) → (without s (directory_at found)).covers ≡ without_cover s.covers found
-covers_without s None = refl
-covers_without s (Some inode) = go (is_dir_kind inode.kind)
-  where
-    go : (b : Bool) → (without s (cond b (Some inode.ino) None)).covers ≡ cond b (map.remove s.covers inode.ino.0) s.covers
-    go true = refl
-    go false = refl
+tables_without : (s : State) (found : Option Inode) → ((without s (directory_at found)).homes ≡ without_home s.homes found) × ((without s (directory_at found)).covers ≡ without_cover s.covers found)
+tables_without s None = (refl, refl)
+tables_without s (Some inode) = elim (is_dir_kind inode.kind)
+    as (λ b. ((without s (cond b (Some inode.ino) None)).homes ≡ cond b (map.remove s.homes inode.ino.0) s.homes) × ((without s (cond b (Some inode.ino) None)).covers ≡ cond b (map.remove s.covers inode.ino.0) s.covers)) [
+      | true ↦ (refl, refl)
+      | false ↦ (refl, refl)
+    ]
 
 -- what stood at a dentry goes, whatever it was
 left_so : (named : State) (found : Option Inode) → HasSoundLeaves named
     → ((inode : Inode) → found ≡ Some inode → is_dir_kind inode.kind ≡ true → MayGo named.homes inode.ino.0 × (is_known named.homes inode.ino.0 ≡ true) × NothingIn (shown_tree named) inode.ino.0)
     → IsLeftSo named (without named (directory_at found)) (directory_at found)
 left_so named None sound may = none_left named sound
-left_so named (Some inode) sound may = go (is_dir_kind inode.kind) refl
-  where
-    go : (b : Bool) → is_dir_kind inode.kind ≡ b → IsLeftSo named (without named (cond b (Some inode.ino) None)) (cond b (Some inode.ino) None)
-    go true kinded = let m = may inode refl kinded in dir_left named inode.ino sound m.0 m.1 m.2
-    go false kinded = none_left named sound
+left_so named (Some inode) sound may = cond_both (is_dir_kind inode.kind) (Some inode.ino) None (λ g. IsLeftSo named (without named g) g)
+    (λ kinded. let m = may inode refl kinded in dir_left named inode.ino sound m.0 m.1 m.2) (λ kinded. none_left named sound)
 
 -- an entry that stands for a directory is known
 stands_known : (s : State) (dentry : Dentry) (inode : Inode) → IsSound s → map.get (shown_tree s) dentry ≡ Some inode → is_dir_kind inode.kind ≡ true → is_known s.homes inode.ino.0 ≡ true
 stands_known s dentry inode sound stands kinded = known_is (shown_tree s) s.homes sound.tabled inode.ino.0 ∙ entry_stands (shown_tree s) dentry inode stands kinded
+
+-- an entry went from a dentry, or came there in place of another, and what stood there goes after it
+gone_altered : (change : Change) (old before new : State) (tree : Tree) (homes : Homes) (dentry : Dentry) (gone : Option Ino) → gone ≡ directory_at (map.get (shown_tree old) dentry) → new ≡ without before gone → IsSound old → HasSoundLeaves before
+    → shown_tree before ≡ tree → before.homes ≡ homes → before.covers ≡ old.covers → changed (shown_tree old) change ≡ tree → IsTabled tree (without_home homes (map.get (shown_tree old) dentry))
+    → ((inode : Inode) → map.get (shown_tree old) dentry ≡ Some inode → is_dir_kind inode.kind ≡ true → MayGo homes inode.ino.0 × (is_known before.homes inode.ino.0 ≡ true) × NothingIn tree inode.ino.0)
+    → ((leaf : Leaf) → (Contains (fragments_of old.covers change) leaf → ⊥) → IsLive old.homes old.covers leaf → StaysAsItIs old before leaf × (Contains (leaves_gone old.covers gone) leaf → ⊥)) → IsAltered change old new
+gone_altered change old before new tree homes dentry gone goes is sound leaves shown housed covered makes tabled may stays = record {
+  sound = its.leaves;
+  tabled = tabled_now;
+  tree = its.tree ∙ shown ∙ sym makes;
+  leaves = leaves_kept (shown_tree old) (shown_tree new) new.homes homes old.covers new.covers dentry found tabled_now sound.tabled.whole refl homes_are
+      (ap (λ (t : State). t.covers) now ∙ (tables_without before found).1 ∙ ap (λ (c : Covers). without_cover c found) covered);
+  frame = λ leaf none live.
+      let first = stays leaf none live in
+      stays_on old before new leaf first.0 (its.stays leaf (λ has. first.1 (subst (λ (c : Covers). Contains (leaves_gone c gone) leaf) covered has)) first.0.live);
+}
+  where
+    found : Option Inode
+    found = map.get (shown_tree old) dentry
+
+    now : new ≡ without before (directory_at found)
+    now = is ∙ ap (without before) goes
+
+    its : IsLeftSo before new gone
+    its = subst (λ (g : Option Ino). IsLeftSo before new g) (sym goes) (subst (λ (t : State). IsLeftSo before t (directory_at found)) (sym now) (left_so before found leaves (λ inode stood kinded.
+        let m = may inode stood kinded in
+        (subst (λ (h : Homes). MayGo h inode.ino.0) (sym housed) m.0, m.1, subst (λ (t : Tree). NothingIn t inode.ino.0) (sym shown) m.2))))
+
+    homes_are : new.homes ≡ without_home homes found
+    homes_are = ap (λ (t : State). t.homes) now ∙ (tables_without before found).0 ∙ ap (λ (h : Homes). without_home h found) housed
+
+    tabled_now : IsTabled (shown_tree new) new.homes
+    tabled_now = tabled_as _ _ _ _ (its.tree ∙ shown) homes_are tabled
 
 -- ---- a removal
 
@@ -224,52 +234,21 @@ removed_empty : (tree : Tree) (dentry : Dentry) → IsWellFormed tree → (may :
 removed_empty tree dentry whole may q x stands same = nothing_in tree dentry may.inode whole may.stands may.empty q x (stands_after_removal tree dentry q x stands).1 same
 
 remove_altered : (spot : Spot) (gone : Option Ino) (old new : State) → IsSound old → MayChange (shown_tree old) old.covers (removes spot gone) → Alters (removes spot gone) old new → IsAltered (removes spot gone) old new
-remove_altered spot gone old new sound may makes = record {
-  sound = its.leaves;
-  tabled = tabled_as (map.remove (shown_tree old) (dentry_at spot)) (shown_tree new) (without_home old.homes found) new.homes tree homes tabled;
-  tree = tree;
-  leaves = leaves_kept (shown_tree old) (shown_tree new) new.homes old.homes old.covers new.covers (dentry_at spot) found (tabled_as (map.remove (shown_tree old) (dentry_at spot)) (shown_tree new) (without_home old.homes found) new.homes tree homes tabled)
-      sound.tabled.whole refl homes covers;
-  frame = λ leaf none live.
-      let first = so.stays leaf (not_first leaf (leaf_of spot.at) (leaves_gone old.covers gone) none) live in
-      stays_on old named new leaf first (its.stays leaf (λ has. not_later leaf (leaf_of spot.at) (leaves_gone old.covers gone) none (subst (λ (c : Covers). Contains (leaves_gone c gone) leaf) so.covers has)) first.live);
-}
+remove_altered spot gone old new sound may makes =
+    gone_altered (removes spot gone) old makes.0 new (map.remove (shown_tree old) (dentry_at spot)) old.homes (dentry_at spot) gone may.carries.gone makes.2 sound so.leaves so.tree so.homes so.covers refl
+    (removed_tabled (shown_tree old) old.homes (dentry_at spot) _ refl sound.tabled may.takes) may_leave
+    (λ leaf none live. (so.stays leaf (not_first leaf (leaf_of spot.at) (leaves_gone old.covers gone) none) live, not_later leaf (leaf_of spot.at) (leaves_gone old.covers gone) none))
   where
-    named : State
-    named = makes.0
+    so : IsNamedSo old makes.0 (dentry_at spot) spot.at.frag None
+    so = named_so old makes.0 (dentry_at spot) spot.at.frag None (sound_leaves old sound) (entry_known old (dentry_at spot) may.takes.inode sound may.takes.stands) may.carries.taken makes.1
 
-    found : Option Inode
-    found = map.get (shown_tree old) (dentry_at spot)
-
-    so : IsNamedSo old named (dentry_at spot) spot.at.frag None
-    so = named_so old named (dentry_at spot) spot.at.frag None (sound_leaves old sound) (entry_known old (dentry_at spot) may.takes.inode sound may.takes.stands) may.carries.taken makes.1
-
-    is : new ≡ without named (directory_at found)
-    is = makes.2 ∙ ap (without named) may.carries.gone
-
-    may_leave : (inode : Inode) → found ≡ Some inode → is_dir_kind inode.kind ≡ true → MayGo named.homes inode.ino.0 × (is_known named.homes inode.ino.0 ≡ true) × NothingIn (shown_tree named) inode.ino.0
-    may_leave inode there kinded =
-        let inodes : Some may.takes.inode ≡ Some inode = sym may.takes.stands ∙ there in
-        let alike : may.takes.inode ≡ inode = cc in (
-          subst (λ (h : Homes). MayGo h inode.ino.0) (sym so.homes) (may_drop (shown_tree old) old.homes (dentry_at spot) found refl sound.tabled may.takes inode there kinded),
-          ap (λ (h : Homes). is_known h inode.ino.0) so.homes ∙ stands_known old (dentry_at spot) inode sound there kinded,
-          subst (λ (t : Tree). NothingIn t inode.ino.0) (sym so.tree) (subst (λ (i : Inode). NothingIn (map.remove (shown_tree old) (dentry_at spot)) i.ino.0) alike (removed_empty (shown_tree old) (dentry_at spot) sound.tabled.whole may.takes)),
-        )
-
-    its : IsLeftSo named new gone
-    its = subst (λ (g : Option Ino). IsLeftSo named new g) (sym may.carries.gone) (subst (λ (t : State). IsLeftSo named t (directory_at found)) (sym is) (left_so named found so.leaves may_leave))
-
-    tree : shown_tree new ≡ map.remove (shown_tree old) (dentry_at spot)
-    tree = its.tree ∙ so.tree
-
-    homes : new.homes ≡ without_home old.homes found
-    homes = ap (λ (t : State). t.homes) is ∙ homes_without named found ∙ ap (λ (h : Homes). without_home h found) so.homes
-
-    covers : new.covers ≡ without_cover old.covers found
-    covers = ap (λ (t : State). t.covers) is ∙ covers_without named found ∙ ap (λ (c : Covers). without_cover c found) so.covers
-
-    tabled : IsTabled (map.remove (shown_tree old) (dentry_at spot)) (without_home old.homes found)
-    tabled = removed_tabled (shown_tree old) old.homes (dentry_at spot) found refl sound.tabled may.takes
+    may_leave : (inode : Inode) → map.get (shown_tree old) (dentry_at spot) ≡ Some inode → is_dir_kind inode.kind ≡ true
+        → MayGo old.homes inode.ino.0 × (is_known makes.0.homes inode.ino.0 ≡ true) × NothingIn (map.remove (shown_tree old) (dentry_at spot)) inode.ino.0
+    may_leave inode there kinded = (
+      may_drop (shown_tree old) old.homes (dentry_at spot) _ refl sound.tabled may.takes inode there kinded,
+      ap (λ (h : Homes). is_known h inode.ino.0) so.homes ∙ stands_known old (dentry_at spot) inode sound there kinded,
+      subst (λ (i : Inode). NothingIn (map.remove (shown_tree old) (dentry_at spot)) i.ino.0) (same_Some may.takes.inode inode (sym may.takes.stands ∙ there)) (removed_empty (shown_tree old) (dentry_at spot) sound.tabled.whole may.takes),
+    )
 
 -- ---- a move
 
@@ -283,9 +262,6 @@ module _ (source target : Spot) (inode : Inode) (gone : Option Ino) (old new : S
 
   abbrev there : State
   there = with_home_at in_place (dentry_at target) inode
-
-  abbrev found : Option Inode
-  found = map.get (shown_tree old) (dentry_at target)
 
   moved_so : IsMove (shown_tree old) (dentry_at source) (dentry_at target) inode
   moved_so = may.takes
@@ -325,60 +301,25 @@ module _ (source target : Spot) (inode : Inode) (gone : Option Ino) (old new : S
   housed_homes : there.homes ≡ with_home old.homes (dentry_at target) inode
   housed_homes = ap (λ (h : Homes). with_home h (dentry_at target) inode) same_homes
 
-  is : new ≡ without there (directory_at found)
-  is = makes.2.2 ∙ ap (without there) may.carries.gone
-
-  may_leave : (i : Inode) → found ≡ Some i → is_dir_kind i.kind ≡ true → MayGo there.homes i.ino.0 × (is_known there.homes i.ino.0 ≡ true) × NothingIn (shown_tree there) i.ino.0
+  may_leave : (i : Inode) → map.get (shown_tree old) (dentry_at target) ≡ Some i → is_dir_kind i.kind ≡ true
+      → MayGo (with_home old.homes (dentry_at target) inode) i.ino.0 × (is_known there.homes i.ino.0 ≡ true) × NothingIn (with_moved (shown_tree old) (dentry_at source) (dentry_at target) inode) i.ino.0
   may_leave i stood kinded = (
-    subst (λ (h : Homes). MayGo h i.ino.0) (sym housed_homes) (may_replace (shown_tree old) old.homes (dentry_at source) (dentry_at target) inode sound.tabled moved_so i stood),
+    may_replace (shown_tree old) old.homes (dentry_at source) (dentry_at target) inode sound.tabled moved_so i stood,
     known_still i.ino.0 ∙ ap (λ (h : Homes). is_known h i.ino.0) same_homes ∙ stands_known old (dentry_at target) i sound stood kinded,
-    subst (λ (t : Tree). NothingIn t i.ino.0) (sym housed_tree) (replaced_empty (shown_tree old) (dentry_at source) (dentry_at target) inode sound.tabled.whole moved_so i stood),
+    replaced_empty (shown_tree old) (dentry_at source) (dentry_at target) inode sound.tabled.whole moved_so i stood,
   )
 
-  its : IsLeftSo there new gone
-  its = subst (λ (g : Option Ino). IsLeftSo there new g) (sym may.carries.gone) (subst (λ (t : State). IsLeftSo there t (directory_at found)) (sym is) (left_so there found housed_leaves may_leave))
-
-  tree_is : shown_tree new ≡ with_moved (shown_tree old) (dentry_at source) (dentry_at target) inode
-  tree_is = its.tree ∙ housed_tree
-
-  homes_are : new.homes ≡ without_home (with_home old.homes (dentry_at target) inode) found
-  homes_are = ap (λ (t : State). t.homes) is ∙ homes_without there found ∙ ap (λ (h : Homes). without_home h found) housed_homes
-
-  covers_are : new.covers ≡ without_cover old.covers found
-  covers_are = ap (λ (t : State). t.covers) is ∙ covers_without there found ∙ ap (λ (c : Covers). without_cover c found) same_covers
-
-  tabled_now : IsTabled (shown_tree new) new.homes
-  tabled_now = tabled_as (with_moved (shown_tree old) (dentry_at source) (dentry_at target) inode) (shown_tree new) (without_home (with_home old.homes (dentry_at target) inode) found) new.homes tree_is homes_are (moved_tabled (shown_tree old) old.homes (dentry_at source) (dentry_at target) inode sound.tabled moved_so)
-
-  untouched : (leaf : Leaf) → (Contains (fragments_of old.covers (moves source target inode gone)) leaf → ⊥) → IsLive old.homes old.covers leaf → StaysAsItIs old new leaf
-  untouched leaf none live = stays_on old in_place new leaf at_second (stays_on in_place there new leaf at_third (its.stays leaf others at_third.live))
-    where
-      rest : List Leaf
-      rest = leaves_gone old.covers gone
-
-      not_from : Contains (leaf_of target.at ∷ rest) leaf → ⊥
-      not_from = not_later leaf (leaf_of source.at) (leaf_of target.at ∷ rest) none
-
-      at_first : StaysAsItIs old out leaf
-      at_first = first.stays leaf (not_first leaf (leaf_of source.at) (leaf_of target.at ∷ rest) none) live
-
-      at_second : StaysAsItIs old in_place leaf
-      at_second = stays_on old out in_place leaf at_first (second.stays leaf (not_first leaf (leaf_of target.at) rest not_from) at_first.live)
-
-      at_third : StaysAsItIs in_place there leaf
-      at_third = record { live = rehomed_live in_place there.homes second.leaves table_still known_still leaf at_second.live; names = refl }
-
-      others : Contains (leaves_gone there.covers gone) leaf → ⊥
-      others has = not_later leaf (leaf_of target.at) rest not_from (subst (λ (c : Covers). Contains (leaves_gone c gone) leaf) same_covers has)
+  untouched : (leaf : Leaf) → (Contains (fragments_of old.covers (moves source target inode gone)) leaf → ⊥) → IsLive old.homes old.covers leaf → StaysAsItIs old there leaf × (Contains (leaves_gone old.covers gone) leaf → ⊥)
+  untouched leaf none live =
+      let rest = leaves_gone old.covers gone in
+      let not_from = not_later leaf (leaf_of source.at) (leaf_of target.at ∷ rest) none in
+      let at_first = first.stays leaf (not_first leaf (leaf_of source.at) (leaf_of target.at ∷ rest) none) live in
+      let at_second = stays_on old out in_place leaf at_first (second.stays leaf (not_first leaf (leaf_of target.at) rest not_from) at_first.live) in
+      (stays_on old in_place there leaf at_second (record { live = rehomed_live in_place there.homes second.leaves table_still known_still leaf at_second.live; names = refl }), not_later leaf (leaf_of target.at) rest not_from)
 
   move_altered : IsAltered (moves source target inode gone) old new
-  move_altered = record {
-    sound = its.leaves;
-    tabled = tabled_now;
-    tree = tree_is;
-    leaves = leaves_kept (shown_tree old) (shown_tree new) new.homes (with_home old.homes (dentry_at target) inode) old.covers new.covers (dentry_at target) found tabled_now sound.tabled.whole refl homes_are covers_are;
-    frame = untouched;
-  }
+  move_altered = gone_altered (moves source target inode gone) old there new (with_moved (shown_tree old) (dentry_at source) (dentry_at target) inode) (with_home old.homes (dentry_at target) inode) (dentry_at target) gone may.carries.gone makes.2.2 sound
+      housed_leaves housed_tree housed_homes same_covers refl (moved_tabled (shown_tree old) old.homes (dentry_at source) (dentry_at target) inode sound.tabled moved_so) may_leave untouched
 
 -- ---- every change
 
@@ -388,32 +329,24 @@ altered_by _ (set spot inode) old new sound fits may makes = set_altered spot in
 altered_by _ (remove spot went) old new sound fits may makes = remove_altered spot went old new sound may makes
 altered_by _ (move from to inode went) old new sound fits may makes = move_altered from to inode went old new sound may makes
 
+-- so are the rows of counts and pins without those of what went
+rows_gone : (tree : Tree) (counts : Counts) (pins : DirPins) (found : Option Inode) (went : Option Ino) → went ≡ directory_at found → IsCounted tree (without_row counts found) (without_row pins found)
+    → IsCounted tree (rows_but counts went) (rows_but pins went)
+rows_gone tree counts pins found went goes counted =
+    subst (λ (g : Option Ino). IsCounted tree (rows_but counts g) (rows_but pins g)) (sym goes) (subst (λ (c : Counts). IsCounted tree c (rows_but pins (directory_at found))) (sym (row_gone counts found))
+    (subst (IsCounted tree (without_row counts found)) (sym (row_gone pins found)) counted))
+
 -- the counts and the pins that a change makes are those of the changed tree
 counted_by : (change : Change) → Shape change → (old new : State) → IsSound old → MayChange (shown_tree old) old.covers change → IsCounted (changed (shown_tree old) change) (noted old change new).counts (noted old change new).pins
 counted_by _ (add spot inode) old new sound may = added_counted (shown_tree old) old.homes sound.tabled old.counts old.pins sound.counted (dentry_at spot) inode may.takes
 counted_by _ (set spot inode) old new sound may = set_counted (shown_tree old) old.homes sound.tabled old.counts old.pins sound.counted (dentry_at spot) inode may.takes
 counted_by _ (remove spot went) old new sound may =
-    subst (λ (g : Option Ino). IsCounted (map.remove (shown_tree old) (dentry_at spot)) (rows_but (one_less old.counts spot.at.dir.0) g) (rows_but old.pins g)) (sym may.carries.gone)
-    (subst (λ (c : Counts). IsCounted (map.remove (shown_tree old) (dentry_at spot)) c (rows_but old.pins (directory_at found))) (sym (row_gone (one_less old.counts spot.at.dir.0) found))
-    (subst (IsCounted (map.remove (shown_tree old) (dentry_at spot)) (without_row (one_less old.counts spot.at.dir.0) found)) (sym (row_gone old.pins found))
-    (removed_counted (shown_tree old) old.homes sound.tabled old.counts old.pins sound.counted (dentry_at spot) found refl may.takes)))
-  where
-    found : Option Inode
-    found = map.get (shown_tree old) (dentry_at spot)
+    rows_gone (map.remove (shown_tree old) (dentry_at spot)) (one_less old.counts spot.at.dir.0) old.pins (map.get (shown_tree old) (dentry_at spot)) went may.carries.gone
+    (removed_counted (shown_tree old) old.homes sound.tabled old.counts old.pins sound.counted (dentry_at spot) _ refl may.takes)
 counted_by _ (move from to inode went) old new sound may =
-    subst (λ (g : Option Ino). IsCounted tree (rows_but counts g) (rows_but old.pins g)) (sym may.carries.gone)
-    (subst (λ (c : Counts). IsCounted tree c (rows_but old.pins (directory_at found))) (sym (row_gone counts found))
-    (subst (IsCounted tree (without_row counts found)) (sym (row_gone old.pins found))
-    (moved_counted (shown_tree old) old.homes sound.tabled old.counts old.pins sound.counted (dentry_at from) (dentry_at to) inode may.takes)))
-  where
-    found : Option Inode
-    found = map.get (shown_tree old) (dentry_at to)
-
-    tree : Tree
-    tree = with_moved (shown_tree old) (dentry_at from) (dentry_at to) inode
-
-    counts : Counts
-    counts = counts_moved old.counts from.at.dir.0 to.at.dir.0 (is_some found)
+    let found = map.get (shown_tree old) (dentry_at to) in
+    rows_gone (with_moved (shown_tree old) (dentry_at from) (dentry_at to) inode) (counts_moved old.counts from.at.dir.0 to.at.dir.0 (is_some found)) old.pins found went may.carries.gone
+    (moved_counted (shown_tree old) old.homes sound.tabled old.counts old.pins sound.counted (dentry_at from) (dentry_at to) inode may.takes)
 
 pub changes_are_right : ChangesAreRight
 changes_are_right change old new sound fits may makes =

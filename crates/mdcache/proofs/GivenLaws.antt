@@ -1,6 +1,7 @@
 -- A state once leaves were handed over: sound, and of the same tree.
 use Rattle.mdcache.proofs.Common.{AreCaches, AreCleanAt, AreHanded, AreUncleanAt, At, Base, Bool, CacheMap, Cached, Core, Err, Fresh, GivenOverIsRight, HandsOver, HaveNoJobs, HaveNoPlace, IsCachedIn, IsCounted, IsFrom, IsGivenOver, IsSound, IsSoundCore, IsStanding, IsTabled, IsThere, IsTied, IsTiedAt, IsUnsaved, IsUntouched, IsWholeBut, Job, KeepsNone, Leaf, List, MayNotHandOver, Names, None, NoneEnds, Ok, Omap, Option, Refusal, Some, State, Stored, Tree, Unsaved, UnsavedLeaves, WantsPlace, [], all_from, all_of, ap, arith, by_keeping, cap_roomy, cond, drop, false, given_up, handed, handed_from, has_place, here, imported, inl, inr, kept_all, leaf_is, length, list_any, moved, moved_all, moved_as, none_beside, object_of, ranks_handed, ranks_wants, refl, same_Some, shown_at, shown_in, shown_tree, state_of, subst, sym, true, unclean, unclean_in, wants_from, whole_handed, whole_wants, without_all, ℕ, ◌+◌, ◌<◌, ◌∙◌, ◌∷◌, ◌≡◌, ◌≢◌, ◌⊎◌}
-use Rattle.std.proofs.Common.{option_map, Result, IfErr, OnErr, OnOk}
+use Rattle.std.proofs.lemmas.Bool.{false_from_ne_true}
+use Rattle.std.proofs.Common.{⊎_elim, option_map, Result, IfErr, OnErr, OnOk}
 use Rattle.std.specs.FinMap as map
 use Rattle.mdcache.specs.Shown.{names_of}
 use Rattle.mdcache.proofs.TreeLaws.{tree_alike}
@@ -131,6 +132,17 @@ cap_wants r leaves old new w =
 
 -- ---- the tree with its caches
 
+-- what a call leaves
+pub record IsHandedOver (from to : ℕ) (leaves clean : List Leaf) (res : Result (Unit {0}) Refusal) (old new : Core) : Type 0 where
+  pub handed : OnOk res (HandsOver from to leaves clean old.caches new.caches)
+  pub given : OnOk res (IsGivenOver leaves (state_of old) (state_of new))
+  pub shown : shown_in new ≡ shown_in old
+  pub left : OnErr res (state_of new ≡ state_of old)
+  pub beside : new ≡ record old { caches = new.caches }
+  pub count : length new.caches.used ≡ length old.caches.used
+  pub cap : new.caches.cap ≡ old.caches.cap
+  pub sound : IsSoundCore new
+
 -- a fragment that was taken over is tied as it was
 tied_imported : (g : Cached) (object : Option Omap) → IsTied g object → IsTied (imported g) object
 tied_imported g object is = go g.base object is
@@ -145,16 +157,9 @@ module _ (c : Core) (sound : IsSoundCore c) (from to : ℕ) (apart : from ≢ to
   whole_first r q placed = inl (sound.none r q placed)
 
   -- these leaves have no place at the other rank
-  no_places : HaveNoPlace c.caches to leaves
-  no_places = all_from (λ (leaf : Leaf). has_place c.caches to leaf ≡ false) leaves (λ q among. none q (all_of (λ (l : Leaf). unclean_in (here c.caches from l) ≡ true) q leaves cached among) (has_place c.caches to q) refl)
-    where
-      on : (q : Leaf) → unclean_in (here c.caches from q) ≡ true → IsThere (here c.caches to q) ⊎ NoneEnds to q → ⊥
-      on q dirty (inl is) = subst IsThere (none_beside c.caches from to q apart dirty) is
-      on q dirty (inr never) = absurd never
-
-      none : (q : Leaf) → unclean_in (here c.caches from q) ≡ true → (b : Bool) → has_place c.caches to q ≡ b → b ≡ false
-      none q dirty false seen = refl
-      none q dirty true seen = absurd (on q dirty (whole_first to q seen))
+  pub no_places : HaveNoPlace c.caches to leaves
+  no_places = all_from (λ (leaf : Leaf). has_place c.caches to leaf ≡ false) leaves (λ q among. false_from_ne_true _ (λ placed.
+      subst IsThere (none_beside c.caches from to q apart (all_of (λ (l : Leaf). unclean_in (here c.caches from l) ≡ true) q leaves cached among)) (sound.none to q placed)))
 
   module _ (caches : CacheMap) (valid : AreCaches c.caches) where
     abbrev after : Core
@@ -169,98 +174,46 @@ module _ (c : Core) (sound : IsSoundCore c) (from to : ℕ) (apart : from ≢ to
           go g was (inr same) = subst (IsCachedIn (state_of c) q) (sym same) (record { live = was.live; tied = tied_imported g (object_of c.objects q.0 q.1) was.tied; made = sound.begun })
 
       none_so : KeepsNone caches
-      none_so r q placed = go (whole r q placed)
-        where
-          go : IsThere (here caches r q) ⊎ NoneEnds r q → IsThere (here caches r q)
-          go (inl is) = is
-          go (inr never) = absurd never
+      none_so r q placed = ⊎_elim (λ is. is) (λ never. absurd never) (whole r q placed)
 
       core_sound : IsSound (state_of after) → IsSoundCore after
       core_sound state = record { sound = state; begun = sound.begun; cached = λ q a seen. let w = cached_so q a seen in record { live = w.live; tied = w.tied; made = w.made }; none = none_so }
 
-    -- handed over
-    module _ (jobless : HaveNoJobs c.jobs leaves) (h : HandsOver from to leaves clean c.caches caches) (given : AreHanded leaves (unclean c.caches) (unclean caches)) where
-      pub handed_sound : IsSoundCore after
-      handed_sound = core_sound (handed_from from to apart leaves clean c.caches caches cached h) (whole_handed from to apart leaves clean c.caches caches cached h valid there other NoneEnds whole_first) (sound_now (state_of c) (unclean caches) leaves sound.sound jobless given)
-
-      pub handed_shown : shown_in after ≡ shown_in c
-      handed_shown = tree_now (state_of c) (unclean caches) leaves sound.sound jobless given
-
-      pub handed_given : IsGivenOver leaves (state_of c) (state_of after)
-      handed_given = record { unsaved = given; beside = refl }
-
-    -- refused
-    module _ (left : unclean caches ≡ unclean c.caches) where
-      pub left_state : state_of after ≡ state_of c
-      left_state = λ i. record (state_of c) { unsaved = left i }
-
-      pub left_shown : shown_in after ≡ shown_in c
-      left_shown = ap shown_tree left_state
-
-      pub left_sound : (reason : Refusal) → MayNotHandOver to leaves c.caches caches reason → IsSoundCore after
-      left_sound reason (inl none) = subst (λ (k : CacheMap). IsSoundCore (record c { caches = k })) (sym none.2) sound
-      left_sound reason (inr wants) =
+    by : (res : Result (Unit {0}) Refusal) → HaveNoJobs c.jobs leaves → OnOk res (HandsOver from to leaves clean c.caches caches) → IfErr res (MayNotHandOver to leaves c.caches caches) → OnOk res (AreHanded leaves (unclean c.caches) (unclean caches))
+        → OnErr res (unclean caches ≡ unclean c.caches) → IsHandedOver from to leaves clean res c after
+    by (Ok done) jobless h refused given left = record {
+      handed = h;
+      given = record { unsaved = given; beside = refl };
+      shown = tree_now (state_of c) (unclean caches) leaves sound.sound jobless given;
+      left = tt;
+      beside = refl;
+      count = ranks_handed from to apart leaves clean c.caches caches cached h valid there other NoneEnds whole_first;
+      cap = cap_handed from to leaves clean c.caches caches h;
+      sound = core_sound (handed_from from to apart leaves clean c.caches caches cached h) (whole_handed from to apart leaves clean c.caches caches cached h valid there other NoneEnds whole_first)
+          (sound_now (state_of c) (unclean caches) leaves sound.sound jobless given);
+    }
+    by (Err reason) jobless h refused given left = record {
+      handed = tt;
+      given = tt;
+      shown = ap shown_tree same;
+      left = same;
+      beside = refl;
+      count = ⊎_elim (λ none. ap (λ (k : CacheMap). length k.used) none.2) (λ wants. ranks_wants from to apart leaves c.caches caches cached wants.2 valid other NoneEnds whole_first) refused;
+      cap = ⊎_elim (λ none. ap (λ (k : CacheMap). k.cap) none.2) (λ wants. cap_wants to leaves c.caches caches wants.2) refused;
+      sound = ⊎_elim (λ none. subst (λ (k : CacheMap). IsSoundCore (record c { caches = k })) (sym none.2) sound) (λ wants.
           core_sound (λ q a seen. record { was = a; held = wants_from from to apart leaves c.caches caches cached wants.2 q a seen; frag = inl refl }) (whole_wants from to apart leaves c.caches caches cached wants.2 valid other NoneEnds whole_first)
-          (subst IsSound (sym left_state) sound.sound)
+          (subst IsSound (sym same) sound.sound)) refused;
+    }
+      where
+        same : state_of after ≡ state_of c
+        same = λ i. record (state_of c) { unsaved = left i }
 
--- ---- a call
-
-module _ (old view : Core) (is : view ≡ old) (sound : IsSoundCore old) (from to : ℕ) (apart : from ≢ to) (there : from < length old.caches.used) (other : to < length old.caches.used) (leaves clean : List Leaf) (cached : AreUncleanAt old.caches from leaves) where
-  sound_view : IsSoundCore view
-  sound_view = subst IsSoundCore (sym is) sound
-
-  there_view : from < length view.caches.used
-  there_view = subst (λ (k : Core). from < length k.caches.used) (sym is) there
-
-  other_view : to < length view.caches.used
-  other_view = subst (λ (k : Core). to < length k.caches.used) (sym is) other
-
-  cached_view : AreUncleanAt view.caches from leaves
-  cached_view = subst (λ (k : Core). AreUncleanAt k.caches from leaves) (sym is) cached
-
-  -- the leaves have no places at the other rank
-  pub call_absent : HaveNoPlace view.caches to leaves
-  call_absent = no_places view sound_view from to apart there_view other_view leaves clean cached_view
-
-  module _ (caches : CacheMap) (valid : AreCaches view.caches) where
-    abbrev then : Core
-    then = record view { caches = caches }
-
-    module _ (saved : AreCleanAt old.caches from clean) (jobless : HaveNoJobs old.jobs leaves) where
-      jobless_view : HaveNoJobs view.jobs leaves
-      jobless_view = subst (λ (k : Core). HaveNoJobs k.jobs leaves) (sym is) jobless
-
-      saved_view : AreCleanAt view.caches from clean
-      saved_view = subst (λ (k : Core). AreCleanAt k.caches from clean) (sym is) saved
-
-      pub call_sound : {A : Type 0} (res : Result A Refusal) → OnOk res (HandsOver from to leaves clean view.caches caches) → IfErr res (MayNotHandOver to leaves view.caches caches) → (AreCleanAt view.caches from clean → OnOk res (AreHanded leaves (unclean view.caches) (unclean caches))) → OnErr res (unclean caches ≡ unclean view.caches) → IsSoundCore then
-      call_sound (Ok a) handed refused unsaved left = handed_sound view sound_view from to apart there_view other_view leaves clean cached_view caches valid jobless_view handed (unsaved saved_view)
-      call_sound (Err e) handed refused unsaved left = left_sound view sound_view from to apart there_view other_view leaves clean cached_view caches valid left e refused
-
-      pub call_shown : {A : Type 0} (res : Result A Refusal) → OnOk res (HandsOver from to leaves clean view.caches caches) → (AreCleanAt view.caches from clean → OnOk res (AreHanded leaves (unclean view.caches) (unclean caches))) → OnErr res (unclean caches ≡ unclean view.caches) → shown_in then ≡ shown_in old
-      call_shown (Ok a) handed unsaved left = handed_shown view sound_view from to apart there_view other_view leaves clean cached_view caches valid jobless_view handed (unsaved saved_view) ∙ ap shown_in is
-      call_shown (Err e) handed unsaved left = left_shown view sound_view from to apart there_view other_view leaves clean cached_view caches valid left ∙ ap shown_in is
-
-      pub call_given : {A : Type 0} (res : Result A Refusal) → OnOk res (HandsOver from to leaves clean view.caches caches) → (AreCleanAt view.caches from clean → OnOk res (AreHanded leaves (unclean view.caches) (unclean caches))) → OnOk res (IsGivenOver leaves (state_of old) (state_of then))
-      call_given (Ok a) handed unsaved = subst (λ (k : Core). IsGivenOver leaves (state_of k) (state_of then)) is (handed_given view sound_view from to apart there_view other_view leaves clean cached_view caches valid jobless_view handed (unsaved saved_view))
-      call_given (Err e) handed unsaved = tt
-
-    pub call_left : {A : Type 0} (res : Result A Refusal) → OnErr res (unclean caches ≡ unclean view.caches) → OnErr res (state_of then ≡ state_of old)
-    call_left (Ok a) left = tt
-    call_left (Err e) left = left_state view sound_view from to apart there_view other_view leaves clean cached_view caches valid left ∙ ap state_of is
-
-    -- there are as many ranks, with as many places each
-    module _ {A : Type 0} where
-      pub call_count : (res : Result A Refusal) → OnOk res (HandsOver from to leaves clean view.caches caches) → IfErr res (MayNotHandOver to leaves view.caches caches) → length caches.used ≡ length old.caches.used
-      call_count (Ok a) handed refused =
-          ranks_handed from to apart leaves clean view.caches caches cached_view handed valid there_view other_view NoneEnds
-          (whole_first view sound_view from to apart there_view other_view leaves clean cached_view) ∙ ap (λ (k : Core). length k.caches.used) is
-      call_count (Err e) handed (inl none) = ap (λ (k : CacheMap). length k.used) none.2 ∙ ap (λ (k : Core). length k.caches.used) is
-      call_count (Err e) handed (inr wants) =
-          ranks_wants from to apart leaves view.caches caches cached_view wants.2 valid other_view NoneEnds
-          (whole_first view sound_view from to apart there_view other_view leaves clean cached_view) ∙ ap (λ (k : Core). length k.caches.used) is
-
-      pub call_cap : (res : Result A Refusal) → OnOk res (HandsOver from to leaves clean view.caches caches) → IfErr res (MayNotHandOver to leaves view.caches caches) → caches.cap ≡ old.caches.cap
-      call_cap (Ok a) handed refused = cap_handed from to leaves clean view.caches caches handed ∙ ap (λ (k : Core). k.caches.cap) is
-      call_cap (Err e) handed (inl none) = ap (λ (k : CacheMap). k.cap) none.2 ∙ ap (λ (k : Core). k.caches.cap) is
-      call_cap (Err e) handed (inr wants) = cap_wants to leaves view.caches caches wants.2 ∙ ap (λ (k : Core). k.caches.cap) is
+-- so of what is seen of the parts that are there
+pub called : (old view : Core) → view ≡ old → IsSoundCore old → (from to : ℕ) → from ≢ to → from < length old.caches.used → to < length old.caches.used → (leaves clean : List Leaf) → AreUncleanAt old.caches from leaves
+    → AreCleanAt old.caches from clean → HaveNoJobs old.jobs leaves → (caches : CacheMap) → AreCaches view.caches → (res : Result (Unit {0}) Refusal) → OnOk res (HandsOver from to leaves clean view.caches caches)
+    → IfErr res (MayNotHandOver to leaves view.caches caches) → (AreCleanAt view.caches from clean → OnOk res (AreHanded leaves (unclean view.caches) (unclean caches))) → OnErr res (unclean caches ≡ unclean view.caches)
+    → IsHandedOver from to leaves clean res old (record view { caches = caches })
+called old view is sound from to apart there other leaves clean cached saved jobless caches valid res handed refused unsaved left = subst (λ (k : Core). IsHandedOver from to leaves clean res k (record view { caches = caches })) is
+    (by view (subst IsSoundCore (sym is) sound) from to apart (subst (λ (k : Core). from < length k.caches.used) (sym is) there) (subst (λ (k : Core). to < length k.caches.used) (sym is) other) leaves clean
+    (subst (λ (k : Core). AreUncleanAt k.caches from leaves) (sym is) cached) caches valid res (subst (λ (k : Core). HaveNoJobs k.jobs leaves) (sym is) jobless) handed refused
+    (unsaved (subst (λ (k : Core). AreCleanAt k.caches from clean) (sym is) saved)) left)
