@@ -9,62 +9,35 @@ use Rattle.mdcache.proofs.TreeLaws.{tree_alike}
 -- ---- states
 
 -- what is unsaved now was so, but for its generation
-record WasSo (leaves : List Leaf) (o : Option Unsaved) (leaf : Leaf) (u : Unsaved) : Type 0 where
-  was : Unsaved
-  there : o ≡ Some was
-  base : u.base ≡ was.base
-  dirty : u.dirty ≡ was.dirty
-  generation : (u.generation ≡ 0) ⊎ (u.generation ≡ was.generation)
-
-was_so : (leaves : List Leaf) (leaf : Leaf) (o : Option Unsaved) (u : Unsaved) → handed leaves leaf o ≡ Some u → WasSo leaves o leaf u
-was_so leaves leaf o u is = go (list_any (leaf_is leaf) leaves) o is
+as_was : (leaves : List Leaf) (leaf : Leaf) (o : Option Unsaved) → (handed leaves leaf o ≡ o) ⊎ ((v : Unsaved) × (o ≡ Some v) × (handed leaves leaf o ≡ Some (record v { generation = 0 })))
+as_was leaves leaf o = go (list_any (leaf_is leaf) leaves) o
   where
-    go : (b : Bool) (o : Option Unsaved) → cond b (option_map (λ (v : Unsaved). record v { generation = 0 }) o) o ≡ Some u → WasSo leaves o leaf u
-    go true None is = let clash : None ≡ Some u = is in absurd cc
-    go false None is = let clash : None ≡ Some u = is in absurd cc
-    go true (Some v) is =
-        let same : record v { generation = 0 } ≡ u = same_Some (record v { generation = 0 }) u is in
-        record { was = v; there = refl; base = ap (λ (x : Unsaved). x.base) (sym same); dirty = ap (λ (x : Unsaved). x.dirty) (sym same); generation = inl (ap (λ (x : Unsaved). x.generation) (sym same)) }
-    go false (Some v) is =
-        let same : v ≡ u = same_Some v u is in
-        record { was = v; there = refl; base = ap (λ (x : Unsaved). x.base) (sym same); dirty = ap (λ (x : Unsaved). x.dirty) (sym same); generation = inr (ap (λ (x : Unsaved). x.generation) (sym same)) }
-
--- it shows what it showed
-shows_still : (leaves : List Leaf) (leaf : Leaf) (o : Option Unsaved) (object : Option Omap) → shown_at (handed leaves leaf o) object ≡ shown_at o object
-shows_still leaves leaf o object = go (list_any (leaf_is leaf) leaves) o
-  where
-    go : (b : Bool) (o : Option Unsaved) → shown_at (cond b (option_map (λ (v : Unsaved). record v { generation = 0 }) o) o) object ≡ shown_at o object
-    go true None = refl
-    go true (Some v) = refl
-    go false o = refl
+    go : (b : Bool) (o : Option Unsaved) → (cond b (option_map (λ (v : Unsaved). record v { generation = 0 }) o) o ≡ o) ⊎ ((v : Unsaved) × (o ≡ Some v) × (cond b (option_map (λ (v : Unsaved). record v { generation = 0 }) o) o ≡ Some (record v { generation = 0 })))
+    go true None = inl refl
+    go true (Some v) = inr (v, refl, refl)
+    go false o = inl refl
 
 module _ (old : State) (unsaved : UnsavedLeaves) (leaves : List Leaf) (sound : IsSound old) (jobless : HaveNoJobs old.jobs leaves) (given : AreHanded leaves old.unsaved unsaved) where
   abbrev now : State
   now = record old { unsaved = unsaved }
 
+  was : (leaf : Leaf) → (map.get unsaved leaf ≡ map.get old.unsaved leaf) ⊎ ((v : Unsaved) × (map.get old.unsaved leaf ≡ Some v) × (map.get unsaved leaf ≡ Some (record v { generation = 0 })))
+  was leaf = ⊎_elim (λ same. inl (given leaf ∙ same)) (λ w. inr (w.0, w.1, given leaf ∙ w.2)) (as_was leaves leaf (map.get old.unsaved leaf))
+
   pub same_names : (leaf : Leaf) → names_of unsaved old.objects leaf ≡ names_of old.unsaved old.objects leaf
   unfolding names_of
-  same_names leaf = ap (λ (o : Option Unsaved). shown_at o (object_of old.objects leaf.0 leaf.1)) (given leaf) ∙ shows_still leaves leaf (map.get old.unsaved leaf) (object_of old.objects leaf.0 leaf.1)
+  same_names leaf =
+      let shows = λ (o : Option Unsaved). shown_at o (object_of old.objects leaf.0 leaf.1) in
+      ⊎_elim (ap shows) (λ w. ap shows w.2 ∙ sym (ap shows w.1)) (was leaf)
 
   none_before : (leaf : Leaf) → map.get unsaved leaf ≡ None → map.get old.unsaved leaf ≡ None
-  none_before leaf none = go (list_any (leaf_is leaf) leaves) (map.get old.unsaved leaf) (sym (given leaf) ∙ none)
-    where
-      go : (b : Bool) (o : Option Unsaved) → cond b (option_map (λ (v : Unsaved). record v { generation = 0 }) o) o ≡ None → o ≡ None
-      go true None is = refl
-      go true (Some v) is = let clash : Some (record v { generation = 0 }) ≡ None = is in absurd cc
-      go false o is = is
+  none_before leaf none = ⊎_elim (λ same. sym same ∙ none) (λ w. let clash : None ≡ Some (record w.0 { generation = 0 }) = sym none ∙ w.2 in absurd cc) (was leaf)
 
   unsaved_now : (leaf : Leaf) (u : Unsaved) → map.get unsaved leaf ≡ Some u → IsUnsaved now leaf u
-  unsaved_now leaf u is = go (was_so leaves leaf (map.get old.unsaved leaf) u (sym (given leaf) ∙ is))
-    where
-      go : WasSo leaves (map.get old.unsaved leaf) leaf u → IsUnsaved now leaf u
-      go w =
-          let before = sound.unsaved leaf w.was w.there in
-          record { live = before.live; made = made before.made w.generation; young = λ name mark at. before.young name mark (ap (λ m. map.get m name) (sym w.dirty) ∙ at) }
-        where
-          made : w.was.generation < old.next_generation → (u.generation ≡ 0) ⊎ (u.generation ≡ w.was.generation) → u.generation < old.next_generation
-          made lt (inl none) = omega (arith, lt, none)
-          made lt (inr same) = omega (arith, lt, same)
+  unsaved_now leaf u is = ⊎_elim (λ same. let before = sound.unsaved leaf u (sym same ∙ is) in record { live = before.live; made = before.made; young = before.young })
+      (λ w.
+      let before = sound.unsaved leaf w.0 w.1 in
+      subst (IsUnsaved now leaf) (same_Some (record w.0 { generation = 0 }) u (sym w.2 ∙ is)) (record { live = before.live; made = omega (arith, before.made); young = before.young })) (was leaf)
 
   standing_now : (leaf : Leaf) (job : Job) → map.get old.jobs leaf ≡ Some job → IsStanding now leaf job
   standing_now leaf job is =
@@ -104,11 +77,7 @@ given_right old new leaves sound jobless given =
 -- ---- each rank has as many places as before
 
 cap_moved : (c : CacheMap) (from to : ℕ) (leaf : Leaf) → (moved c from to leaf).cap ≡ c.cap
-cap_moved c from to leaf = go (here c from leaf)
-  where
-    go : (o : Option Cached) → (moved_as (given_up c from leaf) to leaf o).cap ≡ c.cap
-    go None = refl
-    go (Some f) = refl
+cap_moved c from to leaf = elim (here c from leaf) as (λ o. (moved_as (given_up c from leaf) to leaf o).cap ≡ c.cap) [ None ↦ refl | Some f ↦ refl ]
 
 cap_moved_all : (c : CacheMap) (from to : ℕ) (leaves : List Leaf) → (moved_all c from to leaves).cap ≡ c.cap
 cap_moved_all c from to [] = refl

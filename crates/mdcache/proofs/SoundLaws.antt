@@ -1,5 +1,7 @@
 -- What keeps a state sound.
-use Rattle.mdcache.proofs.Common.{AreCached, AreYoung, Bool, CacheMap, IsCounted, IsLive, IsOf, IsOwned, IsSaved, IsSound, IsStanding, IsTabled, IsTied, Job, Keys, Leaf, List, Names, None, Objects, Some, State, Unsaved, ap, arith, cond, false, get-insert, get-remove, inl, inr, is_some, leaf-total, leaf_is, object_of, one_leaf, refl, shown_at, shown_tree, subst, sym, text_of, tied_leaf, true, with_job, ℕ, ◌∙◌, ◌≡◌, ◌⊎◌}
+use Rattle.mdcache.proofs.Common.{AreCached, AreYoung, Bool, CacheMap, IsCounted, IsLive, IsOf, IsOwned, IsSaved, IsSound, IsStanding, IsTabled, IsTied, Job, Keys, Leaf, List, Names, None, Objects, Some, State, Unsaved, ap, arith, cond, false, get-insert, get-remove, inl, inr, is_some, leaf-total, leaf_is, object_of, one_leaf, refl, same_Some, shown_at, shown_tree, subst, sym, text_of, tied_leaf, true, with_job, ℕ, ◌∙◌, ◌≡◌, ◌⊎◌}
+use Rattle.std.proofs.Common.{⊎_elim}
+use Rattle.std.proofs.lemmas.Bool.{cond_both}
 use Rattle.std.specs.FinMap as map
 use Rattle.mdcache.specs.Commits.{leaf_of}
 use Rattle.mdcache.specs.Shown.{names_of}
@@ -64,11 +66,7 @@ get_ended s leaf q = get-remove leaf-total s.jobs leaf q ∙ ap (λ (b : Bool). 
 
 -- a job that stands after another ended stood before
 pub stood_before : (s : State) (leaf q : Leaf) (job : Job) → map.get (map.remove s.jobs leaf) q ≡ Some job → map.get s.jobs q ≡ Some job
-stood_before s leaf q job is = go (leaf_is q leaf) (sym (get_ended s leaf q) ∙ is)
-  where
-    go : (b : Bool) → cond b None (map.get s.jobs q) ≡ Some job → map.get s.jobs q ≡ Some job
-    go true h = let clash : None ≡ Some job = h in cc
-    go false h = h
+stood_before s leaf q job is = cond_both (leaf_is q leaf) None (map.get s.jobs q) (λ o. o ≡ Some job → map.get s.jobs q ≡ Some job) (λ gone h. let clash : None ≡ Some job = h in absurd cc) (λ stays h. h) (sym (get_ended s leaf q) ∙ is)
 
 pub dropped_sound : (s : State) (leaf : Leaf) → IsSound s → IsSound (record s { jobs = map.remove s.jobs leaf })
 dropped_sound s leaf sound = record {
@@ -91,27 +89,17 @@ module _ (s : State) (job : Job) (u : Unsaved) (sound : IsSound s) (beside : map
   begun = with_job s job
 
   begun_or_before : (q : Leaf) (i : Job) → map.get begun.jobs q ≡ Some i → ((q ≡ leaf_of job) × (job ≡ i)) ⊎ (map.get s.jobs q ≡ Some i)
-  begun_or_before q i is = go (leaf_is q (leaf_of job)) refl (sym (get_job s (leaf_of job) q job) ∙ is)
-    where
-      go : (b : Bool) → leaf_is q (leaf_of job) ≡ b → cond b (Some job) (map.get s.jobs q) ≡ Some i → ((q ≡ leaf_of job) × (job ≡ i)) ⊎ (map.get s.jobs q ≡ Some i)
-      go true same h = inl (one_leaf q (leaf_of job) same, cc)
-      go false same h = inr h
-
-  first_stands : IsStanding begun (leaf_of job) job
-  first_stands = record { mine = refl; given = omega (arith, number); young = young; unsaved = u; beside = beside; taken = taken }
-
-  stands_still : (q : Leaf) (i : Job) → IsStanding s q i → IsStanding begun q i
-  stands_still q i old = let given = old.given in record { mine = old.mine; given = omega (arith, given); young = old.young; unsaved = old.unsaved; beside = old.beside; taken = old.taken }
+  begun_or_before q i is = cond_both (leaf_is q (leaf_of job)) (Some job) (map.get s.jobs q) (λ o. o ≡ Some i → ((q ≡ leaf_of job) × (job ≡ i)) ⊎ (map.get s.jobs q ≡ Some i))
+      (λ same h. inl (one_leaf q (leaf_of job) same, same_Some job i h)) (λ apart h. inr h) (sym (get_job s (leaf_of job) q job) ∙ is)
 
   all_stand : (q : Leaf) (i : Job) → map.get begun.jobs q ≡ Some i → IsStanding begun q i
-  all_stand q i is = go (begun_or_before q i is)
-    where
-      go : ((q ≡ leaf_of job) × (job ≡ i)) ⊎ (map.get s.jobs q ≡ Some i) → IsStanding begun q i
-      go (inl same) = subst (λ (j : Job). IsStanding begun q j) same.1 (subst (λ (l : Leaf). IsStanding begun l job) (sym same.0) first_stands)
-      go (inr old) = stands_still q i (sound.standing q i old)
+  all_stand q i is = ⊎_elim
+      (λ same. subst (λ (j : Job). IsStanding begun q j) same.1
+      (subst (λ (l : Leaf). IsStanding begun l job) (sym same.0) (record { mine = refl; given = omega (arith, number); young = young; unsaved = u; beside = beside; taken = taken })))
+      (λ before. let old = sound.standing q i before in record { mine = old.mine; given = omega (arith, old.given); young = old.young; unsaved = old.unsaved; beside = old.beside; taken = old.taken }) (begun_or_before q i is)
 
   below : (q : Leaf) (i : Job) → map.get s.jobs q ≡ Some i → i.number ≡ job.number → ⊥
-  below q i is same = let given = (sound.standing q i is).given in omega (arith, given, same, number)
+  below q i is same = omega (arith, (sound.standing q i is).given, same, number)
 
   one_number : (a b : Leaf) (i j : Job) → map.get begun.jobs a ≡ Some i → map.get begun.jobs b ≡ Some j → i.number ≡ j.number → a ≡ b
   one_number a b i j p q same = go (begun_or_before a i p) (begun_or_before b j q)
