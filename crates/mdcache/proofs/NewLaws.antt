@@ -1,6 +1,9 @@
 -- The state over an empty store is sound.
 use Rattle.mdcache.proofs.Common.{AreCached, Bool, CacheMap, Contains, Core, Counts, Covers, DirPins, Homes, IsCounted, IsFree, IsFreeFor, IsLive, IsSound, IsSoundCore, IsTable, IsTabled, IsUnsaved, Jobs, KeepsNone, Keys, Leaf, Mark, Names, None, Objects, Omap, Option, Rooms, Some, State, Unsaved, UnsavedLeaves, [], ap, arith, cached_root, cond, dentry-exact, dentry-total, dentry_cmp, directories, empty_tabled, entries_in, entries_of, entries_under, eqb-true, false, get-empty, get-from_entries, get-insert, get_unclean, is_known, is_some, key_cmp, leaf-total, leaf_is, leaf_itself, leaves_of, len-empty, list_any, nat_cmp, new_caches, new_root, new_state, no_caches, none_counted, none_entries, none_with_frag, object_of, one_leaf, or_whole, refl, replicate, root_fragment, root_leaf, same_map, shown_at, shown_tree, state_of, subst, suc, sym, text_of, tied_leaf, true, unclean, unclean_with, unsaved_at, zero, ℕ, ◌++◌, ◌==◌, ◌||◌, ◌∙◌, ◌∷◌, ◌≡◌}
 use Rattle.std.specs.Prelude.{get_or, map as each}
+use Rattle.std.proofs.Common.{⊎_elim}
+use Rattle.std.proofs.lemmas.Bool.{or_cases}
+use Rattle.std.proofs.lemmas.Option.{cond_some}
 use Rattle.std.specs.FinMap as map
 use Rattle.dentry_cache.specs.Cache.{leaf_cmp}
 use Rattle.dentry_cache.proofs.LeafLaws.{leaf-exact}
@@ -18,11 +21,7 @@ one_leaf_each : (d : ℕ) → leaves_of no_covers d ≡ root_fragment ∷ []
 one_leaf_each d = ap or_whole (get-empty nat_cmp d)
 
 root_known : (d : ℕ) → is_known no_homes d ≡ true → d ≡ 1
-root_known d known = eqb-true d 1 (go (d == 1) (sym (ap (λ o. (d == 1) || is_some o) (get-empty nat_cmp d)) ∙ known))
-  where
-    go : (b : Bool) → (b || false) ≡ true → b ≡ true
-    go true h = refl
-    go false h = h
+root_known d known = eqb-true d 1 (⊎_elim (λ is. is) (λ clash. let clash : false ≡ true = clash in absurd cc) (or_cases (d == 1) false (sym (ap (λ o. (d == 1) || is_some o) (get-empty nat_cmp d)) ∙ known)))
 
 pub live_root : (leaf : Leaf) → IsLive no_homes no_covers leaf → leaf ≡ root_leaf
 live_root leaf live =
@@ -75,22 +74,18 @@ module _ (limit : ℕ) where
   new_tree = ap (λ es. map.from_entries es) no_entries ∙ same_map dentry-total dentry-exact (map.from_entries []) map.empty (λ q. get-from_entries dentry-total [] q ∙ sym (get-empty dentry_cmp q))
 
   unsaved_root : (leaf : Leaf) (u : Unsaved) → map.get (new_state limit).unsaved leaf ≡ Some u → IsUnsaved (new_state limit) leaf u
-  unsaved_root leaf u is = go (leaf_is leaf root_leaf) refl (sym (its_unsaved leaf) ∙ is)
-    where
-      go : (b : Bool) → leaf_is leaf root_leaf ≡ b → cond b (Some new_root) None ≡ Some u → IsUnsaved (new_state limit) leaf u
-      go true same h =
-          let its : new_root ≡ u = cc in
-          subst (λ (v : Unsaved). IsUnsaved (new_state limit) leaf v) its (subst (λ (l : Leaf). IsUnsaved (new_state limit) l new_root) (sym (one_leaf leaf root_leaf same)) (record {
-            live = root_live;
-            made = omega arith;
-            young = λ name mark has. let clash : None ≡ Some mark = sym (get-empty key_cmp name) ∙ has in absurd cc;
-          }))
-      go false apart h = let clash : None ≡ Some u = h in absurd cc
+  unsaved_root leaf u is =
+      let its = cond_some (leaf_is leaf root_leaf) new_root u (sym (its_unsaved leaf) ∙ is) in
+      subst (λ (v : Unsaved). IsUnsaved (new_state limit) leaf v) its.1 (subst (λ (l : Leaf). IsUnsaved (new_state limit) l new_root) (sym (one_leaf leaf root_leaf its.0)) (record {
+        live = root_live;
+        made = omega arith;
+        young = λ name mark has. let clash : None ≡ Some mark = sym (get-empty key_cmp name) ∙ has in absurd cc;
+      }))
 
   pub new_sound : IsSound (new_state limit)
   new_sound = record {
     table = no_table;
-    numbered = λ d known. let root = root_known d known in omega (arith, root);
+    numbered = λ d known. omega (arith, root_known d known);
     tabled = subst (λ tree. IsTabled tree no_homes) (sym new_tree) empty_tabled;
     counted = subst (λ tree. IsCounted tree (map.insert map.empty 1 0) map.empty) (sym new_tree) none_counted;
     placed = λ leaf name inode live has.
@@ -165,8 +160,5 @@ module _ (limit ranks places : ℕ) (homes : Homes) (covers : Covers) (counts : 
     sound = subst IsSound (sym new_is) (new_sound limit);
     begun = omega arith;
     cached = subst (λ (s : State). AreCached s caches) (sym new_is) (subst (AreCached (new_state limit)) (sym its) (new_cached ranks places limit));
-    none = now_none;
+    none = subst KeepsNone (sym its) (new_none ranks places);
   }
-    where
-      now_none : KeepsNone caches
-      now_none = subst KeepsNone (sym its) (new_none ranks places)
