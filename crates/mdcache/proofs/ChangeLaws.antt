@@ -48,7 +48,7 @@ named_so old new dentry f inode sound known pick named =
 dir_known : (s : State) (dentry : Dentry) → IsSound s → is_directory (shown_tree s) dentry.dir.0 ≡ true → is_known s.homes dentry.dir.0 ≡ true
 dir_known s dentry sound is = known_is (shown_tree s) s.homes sound.tabled dentry.dir.0 ∙ is
 
-entry_known : (s : State) (dentry : Dentry) (inode : Inode) → IsSound s → map.get (shown_tree s) dentry ≡ Some inode → is_known s.homes dentry.dir.0 ≡ true
+pub entry_known : (s : State) (dentry : Dentry) (inode : Inode) → IsSound s → map.get (shown_tree s) dentry ≡ Some inode → is_known s.homes dentry.dir.0 ≡ true
 entry_known s dentry inode sound stands = dir_known s dentry sound (sound.tabled.whole.parents dentry.dir.0 dentry.name inode stands)
 
 -- a table of one tree is that of another that is equal
@@ -229,10 +229,6 @@ gone_altered change old before new tree homes dentry gone goes is sound leaves s
 
 -- ---- a removal
 
--- where an entry went, nothing is in what stood there
-removed_empty : (tree : Tree) (dentry : Dentry) → IsWellFormed tree → (may : MayRemove tree dentry) → NothingIn (map.remove tree dentry) may.inode.ino.0
-removed_empty tree dentry whole may q x stands same = nothing_in tree dentry may.inode whole may.stands may.empty q x (stands_after_removal tree dentry q x stands).1 same
-
 remove_altered : (spot : Spot) (gone : Option Ino) (old new : State) → IsSound old → MayChange (shown_tree old) old.covers (removes spot gone) → Alters (removes spot gone) old new → IsAltered (removes spot gone) old new
 remove_altered spot gone old new sound may makes =
     gone_altered (removes spot gone) old makes.0 new (map.remove (shown_tree old) (dentry_at spot)) old.homes (dentry_at spot) gone may.carries.gone makes.2 sound so.leaves so.tree so.homes so.covers refl
@@ -247,7 +243,8 @@ remove_altered spot gone old new sound may makes =
     may_leave inode there kinded = (
       may_drop (shown_tree old) old.homes (dentry_at spot) _ refl sound.tabled may.takes inode there kinded,
       ap (λ (h : Homes). is_known h inode.ino.0) so.homes ∙ stands_known old (dentry_at spot) inode sound there kinded,
-      subst (λ (i : Inode). NothingIn (map.remove (shown_tree old) (dentry_at spot)) i.ino.0) (same_Some may.takes.inode inode (sym may.takes.stands ∙ there)) (removed_empty (shown_tree old) (dentry_at spot) sound.tabled.whole may.takes),
+      subst (λ (i : Inode). NothingIn (map.remove (shown_tree old) (dentry_at spot)) i.ino.0) (same_Some may.takes.inode inode (sym may.takes.stands ∙ there)) (λ q x stands same.
+          nothing_in (shown_tree old) (dentry_at spot) may.takes.inode sound.tabled.whole may.takes.stands may.takes.empty q x (stands_after_removal (shown_tree old) (dentry_at spot) q x stands).1 same),
     )
 
 -- ---- a move
@@ -263,15 +260,12 @@ module _ (source target : Spot) (inode : Inode) (gone : Option Ino) (old new : S
   abbrev there : State
   there = with_home_at in_place (dentry_at target) inode
 
-  moved_so : IsMove (shown_tree old) (dentry_at source) (dentry_at target) inode
-  moved_so = may.takes
-
   first : IsNamedSo old out (dentry_at source) source.at.frag None
-  first = named_so old out (dentry_at source) source.at.frag None (sound_leaves old sound) (entry_known old (dentry_at source) inode sound moved_so.stands) may.carries.taken makes.1
+  first = named_so old out (dentry_at source) source.at.frag None (sound_leaves old sound) (entry_known old (dentry_at source) inode sound may.takes.stands) may.carries.taken makes.1
 
   second : IsNamedSo out in_place (dentry_at target) target.at.frag (Some inode)
   second =
-      named_so out in_place (dentry_at target) target.at.frag (Some inode) first.leaves (ap (λ (h : Homes). is_known h (dentry_at target).dir.0) first.homes ∙ dir_known old (dentry_at target) sound moved_so.parent)
+      named_so out in_place (dentry_at target) target.at.frag (Some inode) first.leaves (ap (λ (h : Homes). is_known h (dentry_at target).dir.0) first.homes ∙ dir_known old (dentry_at target) sound may.takes.parent)
       (subst (λ (c : Covers). IsLeafAt c (dentry_at target) target.at.frag) (sym first.covers) may.carries.put) makes.2.1
 
   same_homes : in_place.homes ≡ old.homes
@@ -280,11 +274,8 @@ module _ (source target : Spot) (inode : Inode) (gone : Option Ino) (old new : S
   same_covers : in_place.covers ≡ old.covers
   same_covers = second.covers ∙ first.covers
 
-  named_tree_is : shown_tree in_place ≡ with_moved (shown_tree old) (dentry_at source) (dentry_at target) inode
-  named_tree_is = second.tree ∙ ap (λ (t : Tree). map.insert t (dentry_at target) inode) first.tree
-
   relocates : is_dir_kind inode.kind ≡ true → MayRelocate in_place.homes inode.ino.0 (home_at (dentry_at target))
-  relocates kinded = subst (λ (h : Homes). MayRelocate h inode.ino.0 (home_at (dentry_at target))) (sym same_homes) (may_relocate (shown_tree old) old.homes (dentry_at source) (dentry_at target) inode sound.tabled moved_so kinded)
+  relocates kinded = subst (λ (h : Homes). MayRelocate h inode.ino.0 (home_at (dentry_at target))) (sym same_homes) (may_relocate (shown_tree old) old.homes (dentry_at source) (dentry_at target) inode sound.tabled may.takes kinded)
 
   known_still : (d : ℕ) → is_known there.homes d ≡ is_known in_place.homes d
   known_still = moved_known in_place.homes in_place.covers second.leaves.table (dentry_at target) inode relocates
@@ -292,21 +283,12 @@ module _ (source target : Spot) (inode : Inode) (gone : Option Ino) (old new : S
   table_still : IsTable there.homes in_place.covers
   table_still = moved_home in_place.homes in_place.covers second.leaves.table (dentry_at target) inode relocates
 
-  housed_leaves : HasSoundLeaves there
-  housed_leaves = rehomed_leaves in_place there.homes second.leaves table_still known_still
-
-  housed_tree : shown_tree there ≡ with_moved (shown_tree old) (dentry_at source) (dentry_at target) inode
-  housed_tree = rehomed_tree in_place there.homes second.leaves table_still known_still ∙ named_tree_is
-
-  housed_homes : there.homes ≡ with_home old.homes (dentry_at target) inode
-  housed_homes = ap (λ (h : Homes). with_home h (dentry_at target) inode) same_homes
-
   may_leave : (i : Inode) → map.get (shown_tree old) (dentry_at target) ≡ Some i → is_dir_kind i.kind ≡ true
       → MayGo (with_home old.homes (dentry_at target) inode) i.ino.0 × (is_known there.homes i.ino.0 ≡ true) × NothingIn (with_moved (shown_tree old) (dentry_at source) (dentry_at target) inode) i.ino.0
   may_leave i stood kinded = (
-    may_replace (shown_tree old) old.homes (dentry_at source) (dentry_at target) inode sound.tabled moved_so i stood,
+    may_replace (shown_tree old) old.homes (dentry_at source) (dentry_at target) inode sound.tabled may.takes i stood,
     known_still i.ino.0 ∙ ap (λ (h : Homes). is_known h i.ino.0) same_homes ∙ stands_known old (dentry_at target) i sound stood kinded,
-    replaced_empty (shown_tree old) (dentry_at source) (dentry_at target) inode sound.tabled.whole moved_so i stood,
+    replaced_empty (shown_tree old) (dentry_at source) (dentry_at target) inode sound.tabled.whole may.takes i stood,
   )
 
   untouched : (leaf : Leaf) → (Contains (fragments_of old.covers (moves source target inode gone)) leaf → ⊥) → IsLive old.homes old.covers leaf → StaysAsItIs old there leaf × (Contains (leaves_gone old.covers gone) leaf → ⊥)
@@ -319,7 +301,8 @@ module _ (source target : Spot) (inode : Inode) (gone : Option Ino) (old new : S
 
   move_altered : IsAltered (moves source target inode gone) old new
   move_altered = gone_altered (moves source target inode gone) old there new (with_moved (shown_tree old) (dentry_at source) (dentry_at target) inode) (with_home old.homes (dentry_at target) inode) (dentry_at target) gone may.carries.gone makes.2.2 sound
-      housed_leaves housed_tree housed_homes same_covers refl (moved_tabled (shown_tree old) old.homes (dentry_at source) (dentry_at target) inode sound.tabled moved_so) may_leave untouched
+      (rehomed_leaves in_place there.homes second.leaves table_still known_still) (rehomed_tree in_place there.homes second.leaves table_still known_still ∙ second.tree ∙ ap (λ (t : Tree). map.insert t (dentry_at target) inode) first.tree)
+      (ap (λ (h : Homes). with_home h (dentry_at target) inode) same_homes) same_covers refl (moved_tabled (shown_tree old) old.homes (dentry_at source) (dentry_at target) inode sound.tabled may.takes) may_leave untouched
 
 -- ---- every change
 

@@ -76,19 +76,11 @@ module _ (Uses Ends : ℕ → Leaf → Type 0) (kept : Option (Rank × Leaf)) (o
         only = put_only c a name inode w.0 w.1 before.cached kept before.only;
       }
 
-    -- entries were counted, or a pin set
-    pub made_noted : (counts : Counts) (pins : DirPins) → HasMade Uses Ends kept old (record c { counts = counts; pins = pins })
-    made_noted counts pins = record {
+    -- a directory moved, or a file; entries were counted, or a pin set
+    pub made_tables : (homes : Homes) (counts : Counts) (pins : DirPins) → ((leaf : Leaf) → IsLive c.homes c.covers leaf → IsLive homes c.covers leaf) → HasMade Uses Ends kept old (record c { homes = homes; counts = counts; pins = pins })
+    made_tables homes counts pins live = record {
       came = before.came;
-      cached = cached_on (state_of c) (state_of (record c { counts = counts; pins = pins })) c.caches (λ leaf live. live) refl (omega arith) before.cached;
-      only = before.only;
-    }
-
-    -- a directory moved, or a file
-    pub made_home : (homes : Homes) → ((leaf : Leaf) → IsLive c.homes c.covers leaf → IsLive homes c.covers leaf) → HasMade Uses Ends kept old (record c { homes = homes })
-    made_home homes live = record {
-      came = before.came;
-      cached = cached_on (state_of c) (state_of (record c { homes = homes })) c.caches live refl (omega arith) before.cached;
+      cached = cached_on (state_of c) (state_of (record c { homes = homes; counts = counts; pins = pins })) c.caches live refl (omega arith) before.cached;
       only = before.only;
     }
 

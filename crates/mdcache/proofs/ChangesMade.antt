@@ -6,7 +6,7 @@ use Rattle.mdcache.specs.Core.{moved, with_dir}
 use Rattle.mdcache.proofs.ChangeLaws.{changes_are_right}
 use Rattle.mdcache.proofs.CoreLaws.{dir_known, reads_state, shows_names}
 use Rattle.mdcache.proofs.TreeLookups.{at_dentry}
-use Rattle.mdcache.proofs.ChangeSteps.{HasMade, cached_there, is_gone, is_named, kept_named, left, made_dir, made_first, made_gone, made_home, made_named, made_noted, roomy_there, sound_made, there_left}
+use Rattle.mdcache.proofs.ChangeSteps.{HasMade, cached_there, is_gone, is_named, kept_named, left, made_dir, made_first, made_gone, made_named, made_tables, roomy_there, sound_made, there_left}
 use Rattle.mdcache.proofs.HomeLaws.{first_live, grown_live, moved_known}
 use Rattle.mdcache.proofs.NamedLaws.{sound_leaves}
 use Rattle.mdcache.proofs.NoneLaws.{none_only}
@@ -53,10 +53,6 @@ may_still Uses change old mid reads may = subst (λ (s : State). MayChange (show
 
 -- ---- counts and pins
 
--- an entry that stands is in a directory that is known
-pub entry_known : (c : Core) → IsSoundCore c → (dentry : Dentry) (inode : Inode) → map.get (shown_in c) dentry ≡ Some inode → is_known c.homes dentry.dir.0 ≡ true
-entry_known c sound dentry inode stands = dir_known c sound dentry.dir.0 (sound.sound.tabled.whole.parents dentry.dir.0 dentry.name inode stands)
-
 -- one more fits where a new inode comes
 pub new_fits : (s : State) → IsSound s → (spot : Spot) (inode : Inode) → MayChange (shown_tree s) s.covers (adds spot inode) → count_of s.counts spot.at.dir.0 < 2 ^ 64 - 1
 new_fits s sound spot inode may = omega (arith, may.takes.spaced, sound.counted.each spot.at.dir.0)
@@ -88,7 +84,7 @@ module _ (old new : Core) (sound : IsSound (state_of old)) (begun : 0 < old.next
         let before = first_made (sets spot inode) old cached none in
         subst (IsDone (sets spot inode) old) (sym is)
         (done (sets spot inode) old (pinned now inode) sound not_new may (state_of now, (state_of now, is_named _ _ None old old before place spot.name (Some inode) there, refl), refl)
-        (made_noted _ _ None old now (made_named _ _ None old old before place spot.name (Some inode) there (refl, refl)) old.counts (with_pin old.pins inode)) begun)
+        (made_tables _ _ None old now (made_named _ _ None old old before place spot.name (Some inode) there (refl, refl)) old.homes old.counts (with_pin old.pins inode) (λ leaf live. live)) begun)
 
     pub file_done : KeepsNone old.caches → is_dir_kind inode.kind ≡ false → inode.ino.0 < 2 ^ 64 → MayChange (shown_in old) old.covers (adds spot inode) → new ≡ with_entry now place.dir → IsDone (adds spot inode) old new
     file_done none file number may is =
@@ -98,7 +94,7 @@ module _ (old new : Core) (sound : IsSound (state_of old)) (begun : 0 < old.next
           (state_of now, is_named _ _ None old old before place spot.name (Some inode) there, sym (ap (λ (b : Bool). cond b (with_directory (state_of now) (dentry_at spot) inode.ino) (state_of now)) file)),
           ap (λ (b : Bool). record (state_of now) { counts = cond b (map.insert (one_more old.counts place.dir.0) inode.ino.0 0) (one_more old.counts place.dir.0) }) (sym file),
         )
-        (made_noted _ _ None old now (made_named _ _ None old old before place spot.name (Some inode) there (inl (refl, refl))) (one_more old.counts place.dir.0) old.pins) begun)
+        (made_tables _ _ None old now (made_named _ _ None old old before place spot.name (Some inode) there (inl (refl, refl))) old.homes (one_more old.counts place.dir.0) old.pins (λ leaf live. live)) begun)
 
     abbrev first : Dirfrag
     first = record { dir = inode.ino; frag = root_fragment; rank = spot.at.rank }
@@ -122,7 +118,7 @@ module _ (old new : Core) (sound : IsSound (state_of old)) (begun : 0 < old.next
       dir_grown =
           let leaves = sound_leaves (state_of old) sound in
           let named = made_named _ _ kept old old before_dir place spot.name (Some inode) there (inl (refl, refl)) in
-          made_dir _ _ old (with_entry now place.dir) first (made_noted _ _ kept old now named (one_more old.counts place.dir.0) old.pins)
+          made_dir _ _ old (with_entry now place.dir) first (made_tables _ _ kept old now named old.homes (one_more old.counts place.dir.0) old.pins (λ leaf live. live))
           (kept_named old place spot.name (Some inode) there (first_leaf inode.ino) kept_place rank).1 (home_at (dentry_at spot)) (text_of (first_leaf inode.ino)) rooms
           (first_live (state_of old) leaves (dentry_at spot) inode.ino dir_may_come fits) (grown_live (state_of old) leaves (dentry_at spot) inode.ino dir_may_come fits) (inr (refl, refl))
 
@@ -220,7 +216,7 @@ module _ (old new : Core) (sound : IsSoundCore old) (source target : Spot) (inod
     there_first = cached_there (λ (f : Cached). 1 < f.room) (here old.caches source.at.rank.0 (leaf_of source.at)) two
 
     housed_made : HasMade (IsNamedIn change) (EndsWith change) None old housed
-    housed_made = made_home _ _ None old left_name (made_named _ _ None old old before_move source.at source.name None there_first (inl (refl, refl))) (with_home old.homes (dentry_at target) inode)
+    housed_made = made_tables _ _ None old left_name (made_named _ _ None old old before_move source.at source.name None there_first (inl (refl, refl))) (with_home old.homes (dentry_at target) inode) old.counts old.pins
         (λ leaf live. record { known = moved_known old.homes old.covers sound.sound.table (dentry_at target) inode relocates leaf.0.0 ∙ live.known; stands = live.stands })
 
     there_second : IsThere (here housed.caches target.at.rank.0 (leaf_of target.at))

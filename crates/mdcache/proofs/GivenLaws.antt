@@ -136,11 +136,11 @@ module _ (c : Core) (sound : IsSoundCore c) (from to : ℕ) (apart : from ≢ to
 
     module _ (each : (q : Leaf) (a : At) → map.get caches.held q ≡ Some a → IsFrom (map.get c.caches.held q) a) (whole : IsWholeBut NoneEnds caches) where
       cached_so : (q : Leaf) (a : At) → map.get caches.held q ≡ Some a → IsCachedIn (state_of c) q a.frag
-      cached_so q a seen = let f = each q a seen in go f.was.frag (sound.cached q f.was f.held) f.frag
-        where
-          go : (g : Cached) → IsCachedIn (state_of c) q g → (a.frag ≡ g) ⊎ (a.frag ≡ imported g) → IsCachedIn (state_of c) q a.frag
-          go g was (inl same) = subst (IsCachedIn (state_of c) q) (sym same) was
-          go g was (inr same) = subst (IsCachedIn (state_of c) q) (sym same) (record { live = was.live; tied = tied_imported g (object_of c.objects q.0 q.1) was.tied; made = sound.begun })
+      cached_so q a seen =
+          let f = each q a seen in
+          let was = sound.cached q f.was f.held in
+          ⊎_elim (λ same. subst (IsCachedIn (state_of c) q) (sym same) was)
+          (λ same. subst (IsCachedIn (state_of c) q) (sym same) (record { live = was.live; tied = tied_imported f.was.frag (object_of c.objects q.0 q.1) was.tied; made = sound.begun })) f.frag
 
       none_so : KeepsNone caches
       none_so r q placed = ⊎_elim (λ is. is) (λ never. absurd never) (whole r q placed)

@@ -132,33 +132,19 @@ module _ (ranks places : ℕ) where
 
 -- ---- the whole
 
-module _ (limit ranks places : ℕ) (homes : Homes) (covers : Covers) (counts : Counts) (pins : DirPins) (caches : CacheMap) (objects : Objects) (faults : ℕ) (room : Rooms) (no_dirs : homes ≡ map.empty) (no_trees : covers ≡ map.empty) (no_entry : counts ≡ map.insert map.empty 1 0) (no_pins : pins ≡ map.empty) (its : caches ≡ new_caches ranks places) (none : objects ≡ map.empty)
-    (jobs : Jobs) (purge : Keys) (no_jobs : jobs ≡ map.empty) (no_purge : purge ≡ map.empty) where
-  abbrev made : Core
-  made = record {
-    limit = limit;
-    homes = homes;
-    covers = covers;
-    counts = counts;
-    pins = pins;
-    caches = caches;
-    objects = objects;
-    faults = faults;
-    jobs = jobs;
-    purge = purge;
-    next_job = 1;
-    next_generation = 2;
-    next_version = 1;
-    room = room;
-  }
-
-  pub new_is : state_of made ≡ new_state limit
-  new_is = (λ i. record (state_of made) { homes = no_dirs i; covers = no_trees i; counts = no_entry i; pins = no_pins i; unsaved = unclean (its i); objects = none i; jobs = no_jobs i; purge = no_purge i }) ∙ (λ i. record (new_state limit) { unsaved = new_unclean ranks places i })
-
-  pub new_core : IsSoundCore made
-  new_core = record {
-    sound = subst IsSound (sym new_is) (new_sound limit);
-    begun = omega arith;
-    cached = subst (λ (s : State). AreCached s caches) (sym new_is) (subst (AreCached (new_state limit)) (sym its) (new_cached ranks places limit));
-    none = subst KeepsNone (sym its) (new_none ranks places);
-  }
+-- a core that is so in each part
+pub new_core : (ranks places : ℕ) (m : Core) → m.homes ≡ map.empty → m.covers ≡ map.empty → m.counts ≡ map.insert map.empty 1 0 → m.pins ≡ map.empty → m.caches ≡ new_caches ranks places → m.objects ≡ map.empty
+    → m.jobs ≡ map.empty → m.purge ≡ map.empty → m.next_job ≡ 1 → m.next_generation ≡ 2 → m.next_version ≡ 1 → (state_of m ≡ new_state m.limit) × IsSoundCore m
+new_core ranks places m homes covers counts pins caches objects jobs purge job generation version = (
+  is,
+  record {
+    sound = subst IsSound (sym is) (new_sound m.limit);
+    begun = omega (arith, generation);
+    cached = subst (λ (s : State). AreCached s m.caches) (sym is) (subst (AreCached (new_state m.limit)) (sym caches) (new_cached ranks places m.limit));
+    none = subst KeepsNone (sym caches) (new_none ranks places);
+  },
+)
+  where
+    is : state_of m ≡ new_state m.limit
+    is = (λ i. record { limit = m.limit; homes = homes i; covers = covers i; counts = counts i; pins = pins i; unsaved = unclean (caches i); objects = objects i; jobs = jobs i; purge = purge i; next_job = job i; next_generation = generation i; next_version = version i })
+        ∙ (λ i. record (new_state m.limit) { unsaved = new_unclean ranks places i })

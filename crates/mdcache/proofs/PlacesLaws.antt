@@ -3,6 +3,7 @@ use Rattle.mdcache.proofs.Common.{AllByRecursion, AreApart, AreCaches, At, Bool,
 use Rattle.std.specs.List.{IsDistinct}
 use Rattle.std.proofs.Common.{⊎_elim}
 use Rattle.std.proofs.lemmas.Bool.{cond_both}
+use Rattle.std.specs.List.{take-map}
 use Rattle.std.specs.FinMap as map
 use Rattle.mds_types.proofs.LeafLaws.{leaf-total, one_leaf, same_leaf}
 
@@ -19,15 +20,10 @@ all_take P zero xs all = tt
 all_take P (suc n) [] all = tt
 all_take P (suc n) (x ∷ xs) (one, all) = (one, all_take P n xs all)
 
-others_take : (leaf : Leaf) (n : ℕ) (xs : List Dirfrag) → NotAmong leaf (leaves_at xs) → NotAmong leaf (leaves_at (take n xs))
-others_take leaf zero xs others = tt
-others_take leaf (suc n) [] others = tt
-others_take leaf (suc n) (x ∷ xs) (other, others) = (other, others_take leaf n xs others)
-
-apart_take : (n : ℕ) (xs : List Dirfrag) → AreApart (leaves_at xs) → AreApart (leaves_at (take n xs))
+apart_take : (n : ℕ) (xs : List Leaf) → AreApart xs → AreApart (take n xs)
 apart_take zero xs apart = tt
 apart_take (suc n) [] apart = tt
-apart_take (suc n) (x ∷ xs) (others, apart) = (others_take (leaf_of x) n xs others, apart_take n xs apart)
+apart_take (suc n) (x ∷ xs) (others, apart) = (all_take (λ (q : Leaf). q ≡ x → ⊥) n xs others, apart_take n xs apart)
 
 apart_append : (xs ys : List Leaf) → AreApart xs → AreApart ys → AllByRecursion (λ (x : Leaf). NotAmong x ys) xs → AreApart (xs ++ ys)
 apart_append [] ys apart more none = more
@@ -100,7 +96,7 @@ module _ (c : CacheMap) where
   each_order (leaves ∷ used) distinct = (distinct 0, each_order used (λ r. distinct (suc r)))
 
   pub listed_apart : AreCaches c → (n : ℕ) → AreApart (leaves_at (take n (unclean_places c)))
-  listed_apart valid n = apart_take n (unclean_places c) (from_apart 0 c.used (omega arith) (each_order c.used valid.distinct))
+  listed_apart valid n = subst AreApart (take-map (λ (a : Dirfrag). leaf_of a) n (unclean_places c)) (apart_take n (leaves_at (unclean_places c)) (from_apart 0 c.used (omega arith) (each_order c.used valid.distinct)))
 
   -- ---- where none is listed
 

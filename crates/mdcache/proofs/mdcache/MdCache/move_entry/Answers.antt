@@ -1,7 +1,8 @@
-use Rattle.mdcache.proofs.Common.{Cached, Core, HasCached, IfSome, Ino, Inode, IsRecordable, List, MayChange, MayGo, MayMove, Names, Option, ap, dentry_at, dir_going, here, leaf_of, length, moves, shown_in, subst, sym, with_home, ℕ, ◌<◌, ◌∙◌}
+use Rattle.mdcache.proofs.Common.{Cached, Core, HasCached, IfSome, Ino, Inode, IsRecordable, List, MayChange, MayGo, MayMove, Names, Option, ap, dentry_at, dir_going, here, leaf_of, length, moves, shown_in, state_of, subst, sym, with_home, ℕ, ◌<◌, ◌∙◌}
 use Rattle.std.specs.FinMap as map
 use Rattle.cached_frag.specs.Cached.{shown as shown_of}
-use Rattle.mdcache.proofs.ChangesMade.{IsDone, after_reads, counts_fit, entry_known, entry_moved, may_still, relocates, replaces}
+use Rattle.mdcache.proofs.ChangeLaws.{entry_known}
+use Rattle.mdcache.proofs.ChangesMade.{IsDone, after_reads, counts_fit, entry_moved, may_still, relocates, replaces}
 use Rattle.mdcache.proofs.CoreLaws.{dir_known, of_names, there_after}
 use Rattle.mdcache.proofs.PrepareLaws.{dir_live, entry_live, shows_entry}
 use Rattle.mdcache.proofs.mdcache.MdCache.move_entry.Goals as goal
@@ -31,7 +32,7 @@ pass-requires g c =
       source = ready.source;
       target = ready.target;
       version = ready.number;
-      from = entry_known now ready.sound (dentry_at c.args.from) c.args.inode may.takes.stands;
+      from = entry_known (state_of now) (dentry_at c.args.from) c.args.inode ready.sound.sound may.takes.stands;
       to = dir_known now ready.sound _ may.takes.parent;
       few = counts_fit now now ready.sound c.args.from c.args.to c.args.inode c.in-Ok.moving.going so ready.target;
       home = λ kinded. subst (λ (name : List ℕ). MayMove now.homes c.args.inode.ino.0 (record { parent = c.args.to.at.dir; name = name })) (sym ready.moving.0)

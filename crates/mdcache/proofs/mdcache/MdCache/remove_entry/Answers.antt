@@ -1,5 +1,6 @@
-use Rattle.mdcache.proofs.Common.{Core, Ino, MayChange, Option, ap, dentry_at, removes, shown_in, subst, sym, ◌∙◌}
-use Rattle.mdcache.proofs.ChangesMade.{IsDone, after_reads, entry_known, may_go, may_still, removal_done}
+use Rattle.mdcache.proofs.Common.{Core, Ino, MayChange, Option, ap, dentry_at, removes, shown_in, state_of, subst, sym, ◌∙◌}
+use Rattle.mdcache.proofs.ChangeLaws.{entry_known}
+use Rattle.mdcache.proofs.ChangesMade.{IsDone, after_reads, may_go, may_still, removal_done}
 use Rattle.mdcache.proofs.CoreLaws.{not_ready_wider, there_after}
 use Rattle.mdcache.proofs.PrepareLaws.{entry_live, one_or_two}
 use Rattle.mdcache.proofs.mdcache.MdCache.remove_entry.Goals as goal
@@ -16,7 +17,7 @@ leave-requires g c =
       there = there_after _ _ _ _ _ c.ready_removal.ensures.reads c.requires.holds.taken.there;
       room = ready.ready.room;
       version = ready.ready.number;
-      known = entry_known now ready.sound (dentry_at c.args.spot) may.takes.inode may.takes.stands;
+      known = entry_known (state_of now) (dentry_at c.args.spot) may.takes.inode ready.sound.sound may.takes.stands;
       may = may_go now ready.sound c.args.spot _ may;
       purge = ready.going.2;
     }
