@@ -6,7 +6,7 @@ use Rattle.std.specs.FinMap as map
 use Rattle.inode_table.specs.Dirs.{MayMove as MayRelocate}
 use Rattle.mdcache.proofs.NamedLaws.{HasSoundLeaves, named_leaves, named_tree, recounted_leaves, shows_beside, sound_again, sound_leaves, with_at}
 use Rattle.mdcache.proofs.HomeLaws.{grown_leaves, grown_live, grown_names, grown_tree, moved_home, moved_known, rehomed_leaves, rehomed_live, rehomed_tree}
-use Rattle.mdcache.proofs.GoneLaws.{left_leaves, left_live, left_names, left_tree}
+use Rattle.mdcache.proofs.GoneLaws.{left_leaves, left_live, left_names, left_tree, one_of_those}
 
 -- ---- what stays
 
@@ -148,25 +148,12 @@ record IsLeftSo (named new : State) (gone : Option Ino) : Type 0 where
   tree : shown_tree new ≡ shown_tree named
   stays : (leaf : Leaf) → (Contains (leaves_gone named.covers gone) leaf → ⊥) → IsLive named.homes named.covers leaf → StaysAsItIs named new leaf
 
--- a leaf of a directory that goes is one of those of it
-one_of_those : (covers : Covers) (d : ℕ) (leaf : Leaf) → (Contains (leaves covers d) leaf → ⊥) → HasLeaf (leaves_of covers leaf.0.0) leaf.1 → leaf.0.0 ≡ d → ⊥
-one_of_those covers d leaf none stands same =
-    none (subst (λ (l : Leaf). Contains (leaves covers d) l) (λ i. (record { 0 = sym same i }, leaf.1)) (mapped (leaves_of covers d) (subst (λ (e : ℕ). HasLeaf (leaves_of covers e) leaf.1) same stands)))
-  where
-    mapped : (fs : List Fragment) → HasLeaf fs leaf.1 → Contains (each (in_directory d) fs) (in_directory d leaf.1)
-    mapped [] (k, stands, is) = absurd (omega (arith, stands))
-    mapped (g ∷ gs) has = go (mapped gs) (first_or_later g leaf.1 gs has)
-      where
-        go : (HasLeaf gs leaf.1 → Contains (each (in_directory d) gs) (in_directory d leaf.1)) → (g ≡ leaf.1) ⊎ HasLeaf gs leaf.1 → Contains (each (in_directory d) (g ∷ gs)) (in_directory d leaf.1)
-        go next (inl here) = (zero, omega arith, ap (in_directory d) here)
-        go next (inr more) = let n = next more in let stands = n.1 in (suc n.0, omega (arith, stands), n.2)
-
 dir_left : (named : State) (dir : Ino) → HasSoundLeaves named → MayGo named.homes dir.0 → is_known named.homes dir.0 ≡ true → NothingIn (shown_tree named) dir.0 → IsLeftSo named (without_directory named dir) (Some dir)
 dir_left named dir sound may known nothing = record {
   leaves = left_leaves named sound dir may known nothing;
   tree = left_tree named sound dir may known nothing;
   stays = λ leaf none live.
-      let apart = one_of_those named.covers dir.0 leaf none live.stands in
+      let apart : leaf.0.0 ≡ dir.0 → ⊥ = λ same. none (one_of_those dir.0 leaf (leaves_of named.covers dir.0) same (subst (λ (d : ℕ). HasLeaf (leaves_of named.covers d) leaf.1) same live.stands)) in
       record { live = left_live named sound dir may known nothing leaf apart live; names = left_names named sound dir may known nothing leaf apart };
 }
 

@@ -1,5 +1,5 @@
 -- A directory goes in which nothing is: nothing of it is left but names of objects to be removed, and the tree stays.
-use Rattle.mdcache.proofs.Common.{Bool, Dentry, Fragment, HasLeaf, Home, Ino, Inode, IsLive, IsOwned, IsPick, IsStanding, Job, Keys, Leaf, List, MayGo, Names, None, NothingIn, Option, Some, State, Unsaved, [], ap, arith, cond, dentry-exact, dentry-total, dropped_table, false, first_or_later, get-remove, get_beside, get_put, hash_of, in_directory, inl, inr, is_apart, is_known, is_some, later, leaf-total, leaf_is, leaf_itself, leaves, leaves_of, list_any, names_of, objects_of, one_leaf, or_left, or_right, or_whole, refl, same_map, shown_tree, subst, sym, text_of, tied_leaf, tree_text, true, with_objects, without_directory, without_leaves, zero, ℕ, ◌==◌, ◌||◌, ◌∙◌, ◌∷◌, ◌≡◌, ◌⊎◌}
+use Rattle.mdcache.proofs.Common.{Bool, Contains, Dentry, Fragment, HasLeaf, Home, Ino, Inode, IsLive, IsOwned, IsPick, IsStanding, Job, Keys, Leaf, List, MayGo, Names, None, NothingIn, Option, Some, State, Unsaved, [], ap, arith, cond, dentry-exact, dentry-total, dropped_table, false, first_or_later, get-remove, get_beside, get_put, hash_of, in_directory, inl, inr, is_apart, is_known, is_some, later, leaf-total, leaf_is, leaf_itself, leaves, leaves_of, list_any, names_of, objects_of, one_leaf, or_left, or_right, or_whole, refl, same_map, shown_tree, subst, suc, sym, text_of, tied_leaf, tree_text, true, with_objects, without_directory, without_leaves, zero, ℕ, ◌==◌, ◌||◌, ◌∙◌, ◌∷◌, ◌≡◌, ◌⊎◌}
 use Rattle.std.specs.Prelude.{map as each}
 use Rattle.std.proofs.Common.{⊎_elim}
 use Rattle.std.proofs.lemmas.Bool.{cond_both, false_from_ne_true}
@@ -27,7 +27,13 @@ get_without kept (l ∷ ls) q =
     either false true o = refl
     either false false o = refl
 
--- the leaves of a directory are among those of it,
+-- a leaf of a directory is one of those of it,
+pub one_of_those : (d : ℕ) (q : Leaf) (fs : List Fragment) → q.0.0 ≡ d → HasLeaf fs q.1 → Contains (each (in_directory d) fs) q
+one_of_those d q [] same (k, stands, is) = absurd (omega (arith, stands))
+one_of_those d q (f ∷ fs) same (zero, stands, is) = (zero, omega arith, λ i. (record { 0 = sym same i }, is i))
+one_of_those d q (f ∷ fs) same (suc k, stands, is) = let n = one_of_those d q fs same (k, omega (arith, stands), is) in (suc n.0, omega (arith, n.1), n.2)
+
+-- so they are among them,
 pub among : (d : ℕ) (q : Leaf) (fs : List Fragment) → q.0.0 ≡ d → HasLeaf fs q.1 → list_any (leaf_is q) (each (in_directory d) fs) ≡ true
 among d q [] same (k, stands, is) = absurd (omega (arith, stands))
 among d q (f ∷ fs) same has = ⊎_elim
