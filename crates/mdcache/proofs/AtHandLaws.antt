@@ -27,16 +27,15 @@ begun_are_at_hand old new leaf job begun = elim (map.get old.unsaved leaf) as (�
 ] refl begun.2
 
 pub begun_leave_at_hand : BegunLeaveAtHand
-begun_leave_at_hand old new leaf job other begun apart hand = go (map.get old.unsaved leaf) begun.2
-  where
-    go : (o : Option Unsaved) → BeginsWith old new leaf o (Some job) → IsAtHand new other
-    go None (none, same) = absurd cc
-    go (Some u) (made, lacks, left) = record {
-      stands = ap (λ (t : State). map.get t.jobs (leaf_of other)) left ∙ get_beside old.jobs (leaf_of job) job (leaf_of other) (λ same. apart (same ∙ ap leaf_of made)) ∙ hand.stands;
-      unsaved = hand.unsaved;
-      beside = ap (λ (t : State). map.get t.unsaved (leaf_of other)) left ∙ hand.beside;
-      names = hand.names;
-    }
+begun_leave_at_hand old new leaf job other begun apart hand = elim (map.get old.unsaved leaf) as (λ o. BeginsWith old new leaf o (Some job) → IsAtHand new other) [
+  | None ↦ λ none. let clash : Some job ≡ None = none.0 in absurd cc
+  | Some u ↦ λ b. record {
+    stands = ap (λ (t : State). map.get t.jobs (leaf_of other)) b.2 ∙ get_beside old.jobs (leaf_of job) job (leaf_of other) (λ same. apart (same ∙ ap leaf_of b.0)) ∙ hand.stands;
+    unsaved = hand.unsaved;
+    beside = ap (λ (t : State). map.get t.unsaved (leaf_of other)) b.2 ∙ hand.beside;
+    names = hand.names;
+  }
+] begun.2
 
 pub ended_are_clean : EndedAreClean
 ended_are_clean old new job hand ended =

@@ -50,11 +50,6 @@ pub record HasMade (Uses Ends : ℕ → Leaf → Type 0) (kept : Option (Rank ×
   pub cached : AreCached (state_of new) new.caches
   pub only : KeepsOnlyAt kept new.caches
 
--- so all is sound where none is kept
-pub sound_made : (Uses Ends : ℕ → Leaf → Type 0) (old new : Core) → HasMade Uses Ends None old new → IsSound (state_of new) → 0 < new.next_generation → IsSoundCore new
-sound_made Uses Ends old new made sound begun =
-    record { sound = sound; begun = begun; cached = made.cached; none = only_none new.caches made.only }
-
 module _ (Uses Ends : ℕ → Leaf → Type 0) (kept : Option (Rank × Leaf)) (old : Core) where
   pub made_first : AreCached (state_of old) old.caches → KeepsOnlyAt kept old.caches → HasMade Uses Ends kept old old
   made_first cached only = record { came = stays; cached = cached; only = only }
@@ -251,7 +246,3 @@ room_left c r s source target name mark two one = by (here c r source) refl two
         subst HasRoom (sym (ap (λ (k : CacheMap). here k s target) (ap (edited_as c r source (λ (g : Cached). marked g name mark)) seen) ∙ here_with_frag c r source (marked f name mark) s target))
         (cond_both (leaf_is target source) (cond (r == s) (Some (marked f name mark)) None) (here c s target) HasRoom (λ same. cond_both (r == s) (Some (marked f name mark)) None HasRoom (λ rank. omega (arith, two))
         (λ apart. subst HasRoom (ap (here c s) (one_leaf target source same) ∙ ap (at_rank s) (here_is r (map.get c.held source) f seen) ∙ ap (λ b. cond b (Some f) None) apart) one)) (λ apart. one))
-
--- so it is there
-pub there_left : (c : CacheMap) (r s : ℕ) (source target : Leaf) (name : List ℕ) (mark : Mark) → HasCached (here c r source) (λ (f : Cached). 1 < f.room) → HasRoom (here c s target) → IsThere (here (with_mark c r source name mark) s target)
-there_left c r s source target name mark two one = roomy_there (here (with_mark c r source name mark) s target) (room_left c r s source target name mark two one)

@@ -6,10 +6,10 @@ use Rattle.mdcache.specs.Core.{moved, with_dir}
 use Rattle.mdcache.proofs.ChangeLaws.{changes_are_right}
 use Rattle.mdcache.proofs.CoreLaws.{dir_known, reads_state, shows_names}
 use Rattle.mdcache.proofs.TreeLookups.{at_dentry}
-use Rattle.mdcache.proofs.ChangeSteps.{HasMade, cached_there, is_gone, is_named, kept_named, left, made_dir, made_first, made_gone, made_named, made_tables, roomy_there, sound_made, there_left}
+use Rattle.mdcache.proofs.ChangeSteps.{HasMade, cached_there, is_gone, is_named, kept_named, left, made_dir, made_first, made_gone, made_named, made_tables, room_left, roomy_there}
 use Rattle.mdcache.proofs.HomeLaws.{first_live, grown_live, moved_known}
 use Rattle.mdcache.proofs.NamedLaws.{sound_leaves}
-use Rattle.mdcache.proofs.NoneLaws.{none_only}
+use Rattle.mdcache.proofs.NoneLaws.{none_only, only_none}
 
 -- all that the steps of a change leave
 pub record IsDone (change : Change) (old new : Core) : Type 0 where
@@ -26,7 +26,7 @@ done change old new sound number may made has begun =
       made = made;
       right = right;
       came = has.came;
-      sound = sound_made (IsNamedIn change) (EndsWith change) old new has right.sound begun;
+      sound = record { sound = right.sound; begun = begun; cached = has.cached; none = only_none new.caches has.only };
     }
 
 -- nothing comes
@@ -220,7 +220,7 @@ module _ (old new : Core) (sound : IsSoundCore old) (source target : Spot) (inod
         (λ leaf live. record { known = moved_known old.homes old.covers sound.sound.table (dentry_at target) inode relocates leaf.0.0 ∙ live.known; stands = live.stands })
 
     there_second : IsThere (here housed.caches target.at.rank.0 (leaf_of target.at))
-    there_second = there_left old.caches source.at.rank.0 target.at.rank.0 (leaf_of source.at) (leaf_of target.at) source.name (record { version = old.next_version; inode = None }) two one
+    there_second = roomy_there _ (room_left old.caches source.at.rank.0 target.at.rank.0 (leaf_of source.at) (leaf_of target.at) source.name (record { version = old.next_version; inode = None }) two one)
 
     named_twice : IsNamed (state_of left_name) (record (state_of came_name) { homes = old.homes }) (leaf_of target.at) target.name (Some inode)
     named_twice =

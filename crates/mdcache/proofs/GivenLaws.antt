@@ -76,12 +76,11 @@ given_right old new leaves sound jobless given =
 
 -- ---- each rank has as many places as before
 
-cap_moved : (c : CacheMap) (from to : ℕ) (leaf : Leaf) → (moved c from to leaf).cap ≡ c.cap
-cap_moved c from to leaf = elim (here c from leaf) as (λ o. (moved_as (given_up c from leaf) to leaf o).cap ≡ c.cap) [ None ↦ refl | Some f ↦ refl ]
-
-cap_moved_all : (c : CacheMap) (from to : ℕ) (leaves : List Leaf) → (moved_all c from to leaves).cap ≡ c.cap
-cap_moved_all c from to [] = refl
-cap_moved_all c from to (leaf ∷ leaves) = cap_moved (moved_all c from to leaves) from to leaf ∙ cap_moved_all c from to leaves
+cap_moved : (c : CacheMap) (from to : ℕ) (leaves : List Leaf) → (moved_all c from to leaves).cap ≡ c.cap
+cap_moved c from to [] = refl
+cap_moved c from to (leaf ∷ leaves) =
+    let mid = moved_all c from to leaves in
+    elim (here mid from leaf) as (λ o. (moved_as (given_up mid from leaf) to leaf o).cap ≡ mid.cap) [ None ↦ refl | Some f ↦ refl ] ∙ cap_moved c from to leaves
 
 cap_without_all : (c : CacheMap) (r : ℕ) (leaves : List Leaf) → (without_all c r leaves).cap ≡ c.cap
 cap_without_all c r [] = refl
@@ -93,7 +92,7 @@ cap_kept c r leaves new kept =
 
 cap_handed : (from to : ℕ) (leaves clean : List Leaf) (old new : CacheMap) → HandsOver from to leaves clean old new → new.cap ≡ old.cap
 cap_handed from to leaves clean old new h =
-    ap (λ (k : CacheMap). k.cap) h.2 ∙ cap_without_all (moved_all h.0 from to leaves) from clean ∙ cap_moved_all h.0 from to leaves ∙ cap_kept old to leaves h.0 h.1
+    ap (λ (k : CacheMap). k.cap) h.2 ∙ cap_without_all (moved_all h.0 from to leaves) from clean ∙ cap_moved h.0 from to leaves ∙ cap_kept old to leaves h.0 h.1
 
 cap_wants : (r : ℕ) (leaves : List Leaf) (old new : CacheMap) → WantsPlace r leaves old new → new.cap ≡ old.cap
 cap_wants r leaves old new w =

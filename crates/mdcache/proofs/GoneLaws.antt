@@ -121,11 +121,6 @@ module _ (s : State) (sound : HasSoundLeaves s) (dir : Ino) (may : MayGo s.homes
   pub left_names : (leaf : Leaf) → (leaf.0.0 ≡ dir.0 → ⊥) → names_of left.unsaved left.objects leaf ≡ names_of s.unsaved s.objects leaf
   left_names leaf apart = names_alike s left leaf (kept_on s.unsaved leaf apart) refl
 
-  placed_left : (leaf : Leaf) (name : List ℕ) (inode : Inode) → IsLive left.homes left.covers leaf → map.get (names_of left.unsaved left.objects leaf) name ≡ Some inode → IsPick (leaves_of left.covers leaf.0.0) (hash_of name) leaf.1
-  placed_left leaf name inode live has =
-      let b = live_back leaf live in
-      subst (λ (fs : List Fragment). IsPick fs (hash_of name) leaf.1) (sym (cover_on leaf.0.0 b.0)) (sound.placed leaf name inode b.1 (ap (λ (n : Names). map.get n name) (sym (left_names leaf b.0)) ∙ has))
-
   owned_left : (name : List ℕ) → IsOwned s name → IsOwned left name
   owned_left name (inl leaf) = ⊎_elim
       (λ same. inr (inr (ap (λ (n : List ℕ). is_some (map.get left.purge n)) leaf.2
@@ -138,29 +133,25 @@ module _ (s : State) (sound : HasSoundLeaves s) (dir : Ino) (may : MayGo s.homes
       (λ apart. inr (inl (d.0, row_left s.covers dir.0 d.0.0 apart d.1, d.2))) (same_number d.0.0 dir.0)
   owned_left name (inr (inr listed)) = inr (inr (stays_listed s.purge (objects_of s dir) name listed))
 
-  listed_left : (leaf : Leaf) → IsLive left.homes left.covers leaf → map.get left.purge (text_of leaf) ≡ None
-  listed_left leaf live =
-      let b = live_back leaf live in
-      not_listed (map.insert s.purge (tree_text dir) tt) dir.0 (text_of leaf) (leaves_of s.covers dir.0)
-      (get_beside s.purge (tree_text dir) tt (text_of leaf) (no_tree_text s.homes s.covers sound.table sound.numbered leaf dir b.1 known) ∙ sound.listed leaf b.1)
-      (λ f stands same. b.0 (ap (λ (l : Leaf). l.0.0) (one_text s.homes s.covers sound.table sound.numbered leaf (in_directory dir.0 f) b.1 (record { known = known; stands = stands }) same)))
-
-  standing_left : (leaf : Leaf) (job : Job) → map.get left.jobs leaf ≡ Some job → IsStanding left leaf job
-  standing_left leaf job is =
-      let b = job_back leaf job is in
-      let old = sound.standing leaf job b.1 in
-      record { mine = old.mine; given = old.given; young = old.young; unsaved = old.unsaved; beside = kept_on s.unsaved leaf b.0 ∙ old.beside; taken = old.taken }
-
   pub left_leaves : HasSoundLeaves left
   left_leaves = record {
     table = dropped_table s.homes s.covers dir.0 sound.table may.childless;
     numbered = λ d is. sound.numbered d (known_back d is).1;
-    placed = placed_left;
+    placed = λ leaf name inode live has.
+        let b = live_back leaf live in
+        subst (λ (fs : List Fragment). IsPick fs (hash_of name) leaf.1) (sym (cover_on leaf.0.0 b.0)) (sound.placed leaf name inode b.1 (ap (λ (n : Names). map.get n name) (sym (left_names leaf b.0)) ∙ has));
     unsaved = λ q u is. let b = unsaved_back q u is in let old = sound.unsaved q u b.1 in record { live = left_live q b.0 old.live; made = old.made; young = old.young };
     saved = λ leaf live clean. let b = live_back leaf live in sound.saved leaf b.1 (sym (kept_on s.unsaved leaf b.0) ∙ clean);
     owned = λ name there. owned_left name (sound.owned name there);
-    listed = listed_left;
-    standing = standing_left;
+    listed = λ leaf live.
+        let b = live_back leaf live in
+        not_listed (map.insert s.purge (tree_text dir) tt) dir.0 (text_of leaf) (leaves_of s.covers dir.0)
+        (get_beside s.purge (tree_text dir) tt (text_of leaf) (no_tree_text s.homes s.covers sound.table sound.numbered leaf dir b.1 known) ∙ sound.listed leaf b.1)
+        (λ f stands same. b.0 (ap (λ (l : Leaf). l.0.0) (one_text s.homes s.covers sound.table sound.numbered leaf (in_directory dir.0 f) b.1 (record { known = known; stands = stands }) same)));
+    standing = λ leaf job is.
+        let b = job_back leaf job is in
+        let old = sound.standing leaf job b.1 in
+        record { mine = old.mine; given = old.given; young = old.young; unsaved = old.unsaved; beside = kept_on s.unsaved leaf b.0 ∙ old.beside; taken = old.taken };
     once = λ a b i j p q same. sound.once a b i j (job_back a i p).1 (job_back b j q).1 same;
   }
 

@@ -138,9 +138,6 @@ module _ (s : State) (sound : HasSoundLeaves s) (dentry : Dentry) (f : Fragment)
       ∙ marked_beside (names_of s.unsaved s.objects leaf) dentry.name inode name (other same) ∙ ap (λ (l : Leaf). map.get (names_of s.unsaved s.objects l) name) (sym same))
       (λ apart. ap (λ (n : Names). map.get n name) (shows_beside q apart)) (leaf_or_apart q leaf)
 
-  this_name : map.get (names_of t.unsaved t.objects leaf) dentry.name ≡ inode
-  this_name = ap (λ (n : Names). map.get n dentry.name) shows_here ∙ marked_here (names_of s.unsaved s.objects leaf) dentry.name inode
-
   placed_still : (q : Leaf) (name : List ℕ) (i : Inode) → IsLive s.homes s.covers q → map.get (names_of t.unsaved t.objects q) name ≡ Some i → IsPick (leaves_of s.covers q.0.0) (hash_of name) q.1
   placed_still q name i is has = go (leaf_or_apart q leaf) (key_or_apart name dentry.name)
     where
@@ -178,11 +175,6 @@ module _ (s : State) (sound : HasSoundLeaves s) (dentry : Dentry) (f : Fragment)
       let its = same_Some v w (sym unsaved_here ∙ ap (map.get t.unsaved) (sym same) ∙ is) in
       subst (IsUnsaved t q) its (subst (λ (l : Leaf). IsUnsaved t l v) (sym same) (record { live = live; made = made (map.get s.unsaved leaf) refl stands; young = younger })))
       (λ apart. let old = sound.unsaved q w (sym (unsaved_beside q apart) ∙ is) in record { live = old.live; made = old.made; young = raised w.dirty old.young }) (leaf_or_apart q leaf)
-
-  saved_still : (q : Leaf) → IsLive s.homes s.covers q → map.get t.unsaved q ≡ None → IsSaved q.1 (object_of s.objects q.0 q.1)
-  saved_still q is clean =
-      let apart = false_from_ne_true (leaf_is q leaf) (λ same. let clash : None ≡ Some v = sym clean ∙ ap (map.get t.unsaved) (one_leaf q leaf same) ∙ unsaved_here in cc) in
-      sound.saved q is (sym (unsaved_beside q apart) ∙ clean)
 
   -- jobs
 
@@ -224,7 +216,9 @@ module _ (s : State) (sound : HasSoundLeaves s) (dentry : Dentry) (f : Fragment)
     numbered = sound.numbered;
     placed = placed_still;
     unsaved = unsaved_still;
-    saved = saved_still;
+    saved = λ q is clean.
+        let apart = false_from_ne_true (leaf_is q leaf) (λ same. let clash : None ≡ Some v = sym clean ∙ ap (map.get t.unsaved) (one_leaf q leaf same) ∙ unsaved_here in cc) in
+        sound.saved q is (sym (unsaved_beside q apart) ∙ clean);
     owned = λ name there. sound.owned name there;
     listed = sound.listed;
     standing = λ q job is. standing_still q job (sound.standing q job is);
@@ -237,7 +231,7 @@ module _ (s : State) (sound : HasSoundLeaves s) (dentry : Dentry) (f : Fragment)
   stands_so q = go (same_or_apart q dentry) (known_or_not s.homes q.dir.0)
     where
       go : (q ≡ dentry) ⊎ (q ≡ dentry → ⊥) → (is_known s.homes q.dir.0 ≡ true) ⊎ (is_known s.homes q.dir.0 ≡ false) → map.get (shown_tree t) q ≡ map.get (with_at (shown_tree s) dentry inode) q
-      go (inl same) either = ap (map.get (shown_tree t)) same ∙ stands_at t named_leaves dentry f live.known pick ∙ this_name ∙ sym (ap (map.get (with_at (shown_tree s) dentry inode)) same ∙ get_here (shown_tree s) dentry inode)
+      go (inl same) either = ap (map.get (shown_tree t)) same ∙ stands_at t named_leaves dentry f live.known pick ∙ ap (λ (n : Names). map.get n dentry.name) shows_here ∙ marked_here (names_of s.unsaved s.objects leaf) dentry.name inode ∙ sym (ap (map.get (with_at (shown_tree s) dentry inode)) same ∙ get_here (shown_tree s) dentry inode)
       go (inr apart) (inl known) =
           let p = pick_at s sound q in
           stands_at t named_leaves q p.0 known p.1

@@ -113,11 +113,8 @@ module _ (ranks places : ℕ) where
   pub none_kept : KeepsNone (no_caches ranks places)
   none_kept s q placed = absurd (none_placed ranks s q placed)
 
-  free : IsFreeFor (no_caches ranks places) 0 root_leaf
-  free = subst (IsFree 0) (sym (none_held ranks places root_leaf)) tt
-
   pub new_none : KeepsNone (new_caches ranks places)
-  new_none = none_with_frag (no_caches ranks places) (new_caches ranks places) 0 root_leaf cached_root free none_kept refl
+  new_none = none_with_frag (no_caches ranks places) (new_caches ranks places) 0 root_leaf cached_root (subst (IsFree 0) (sym (none_held ranks places root_leaf)) tt) none_kept refl
 
   pub none_unclean : unclean (no_caches ranks places) ≡ map.empty
   none_unclean = same_map leaf-total leaf-exact (unclean (no_caches ranks places)) map.empty

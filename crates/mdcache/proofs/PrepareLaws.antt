@@ -37,17 +37,14 @@ module _ (c : Core) (sound : IsSoundCore c) (dentry : Dentry) (leaf : Fragment) 
 
 -- for a new inode that is no directory a version alone
 pub file_lacks : {P Q : Type 0} (inode : Inode) → is_dir_kind inode.kind ≡ false → P ⊎ ((is_dir_kind inode.kind ≡ true) × Q) → P
-file_lacks inode file (inl lacks) = lacks
-file_lacks inode file (inr (dir, other)) = let clash : true ≡ false = sym dir ∙ file in absurd cc
+file_lacks inode file = ⊎_elim (λ lacks. lacks) (λ needs. let clash : true ≡ false = sym needs.0 ∙ file in absurd cc)
 
 -- for a directory a generation too
 pub directory_lacks : {P Q : Type 0} (inode : Inode) → is_dir_kind inode.kind ≡ true → P ⊎ Q → P ⊎ ((is_dir_kind inode.kind ≡ true) × Q)
-directory_lacks inode dir (inl lacks) = inl lacks
-directory_lacks inode dir (inr lacks) = inr (dir, lacks)
+directory_lacks inode dir = ⊎_elim inl (λ lacks. inr (dir, lacks))
 
 pub directory_needs : {P Q : Type 0} (inode : Inode) → P ⊎ ((is_dir_kind inode.kind ≡ true) × Q) → P ⊎ Q
-directory_needs inode (inl lacks) = inl lacks
-directory_needs inode (inr (dir, lacks)) = inr lacks
+directory_needs inode = ⊎_elim inl (λ needs. inr needs.1)
 
 -- where one place lacks two do
 pub one_or_two : (c : Core) (rank : Rank) → LacksPlacesAt 1 c rank → LacksPlacesAt 2 c rank

@@ -37,19 +37,12 @@ module _ (s : State) (objects : Objects) (purge : Keys) (sound : IsSound s) wher
       saved = λ leaf live clean. subst (IsSaved leaf.1) (sym (same leaf live)) (sound.saved leaf live clean);
       owned = owned;
       listed = listed;
-      standing = λ leaf job is. stands leaf job (sound.standing leaf job is);
+      standing = λ leaf job is.
+          let old = sound.standing leaf job is in
+          let taken = subst (IsOf job old.unsaved) (sym (same leaf (sound.unsaved leaf old.unsaved old.beside).live)) old.taken in
+          record { mine = old.mine; given = old.given; young = old.young; unsaved = old.unsaved; beside = old.beside; taken = taken };
       once = sound.once;
     }
-      where
-        stands : (leaf : Leaf) (job : Job) → IsStanding s leaf job → IsStanding now leaf job
-        stands leaf job old = record {
-          mine = old.mine;
-          given = old.given;
-          young = old.young;
-          unsaved = old.unsaved;
-          beside = old.beside;
-          taken = subst (IsOf job old.unsaved) (sym (same leaf (sound.unsaved leaf old.unsaved old.beside).live)) old.taken;
-        }
 
     pub other_objects_kept : (caches : CacheMap) → AreCached s caches → AreCached now caches
     other_objects_kept caches old leaf a there =
