@@ -4,12 +4,10 @@ use Rattle.std.specs.FinMap as map
 use Rattle.mds_types.proofs.LeafLaws.{get_beside, get_left, get_put}
 use Rattle.mdcache.specs.Commits.{leaf_of, left_of}
 
-settled_itself : (dirty : Marks) → unsettled dirty dirty ≡ map.empty
-settled_itself dirty = one_map (unsettled dirty dirty) map.empty (λ q. get-unsettled dirty dirty q
-    ∙ elim (map.get dirty q) as (λ m. cond (not (is_settled m m)) m None ≡ None) [ None ↦ refl | Some m ↦ ap (λ b. cond (not b) (Some m) None) (eq-eqb m.version m.version refl) ] ∙ sym (get-empty _ q))
-
 nothing_left : (version generation : ℕ) (dirty : Marks) → stored_with version generation (unsettled dirty dirty) ≡ None
-nothing_left version generation dirty = ap (stored_with version generation) (settled_itself dirty)
+nothing_left version generation dirty =
+    ap (stored_with version generation) (one_map (unsettled dirty dirty) map.empty (λ q. get-unsettled dirty dirty q
+    ∙ elim (map.get dirty q) as (λ m. cond (not (is_settled m m)) m None ≡ None) [ None ↦ refl | Some m ↦ ap (λ b. cond (not b) (Some m) None) (eq-eqb m.version m.version refl) ] ∙ sym (get-empty _ q)))
     ∙ ap (λ b. cond {A = Option Unsaved} b None (Some (record { base = Stored version; generation = generation; dirty = map.empty }))) (eq-eqb (map.len (map.empty {X = Mark} {R = key_cmp})) 0 (len-empty key_cmp Mark))
 
 pub begun_are_at_hand : BegunAreAtHand

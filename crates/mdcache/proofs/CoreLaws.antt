@@ -94,14 +94,11 @@ still_absent Uses Ends old new q reads unnamed none = elim (map.get new.caches.h
 ] refl
 
 -- one after the other
-no_less_on : (a b c : Rooms) → IsNoLess a b → IsNoLess b c → IsNoLess a c
-no_less_on a b c p q = record { dirs = omega (arith, p.dirs, q.dirs); jobs = omega (arith, p.jobs, q.jobs); purge = omega (arith, p.purge, q.purge) }
-
 pub reads_core_on : (Uses Ends : ℕ → Leaf → Type 0) (old mid new : Core) → ReadsCore Uses Ends old mid → ReadsCore Uses Ends mid new → ReadsCore Uses Ends old new
 reads_core_on Uses Ends old mid new first second = record {
   caches = reads_then Uses Ends old.objects old.caches mid.caches new.caches first.caches
       (subst (λ (o : Objects). Reads Uses Ends o mid.caches new.caches) (ap (λ (c : Core). c.objects) first.beside) second.caches);
-  room = no_less_on old.room mid.room new.room first.room second.room;
+  room = record { dirs = omega (arith, first.room.dirs, second.room.dirs); jobs = omega (arith, first.room.jobs, second.room.jobs); purge = omega (arith, first.room.purge, second.room.purge) };
   beside = second.beside ∙ ap (λ (c : Core). record c { caches = new.caches; faults = new.faults; room = new.room }) first.beside;
 }
 

@@ -30,9 +30,6 @@ module _ (old : State) (unsaved : UnsavedLeaves) (leaves : List Leaf) (sound : I
       let shows = λ (o : Option Unsaved). shown_at o (object_of old.objects leaf.0 leaf.1) in
       ⊎_elim (ap shows) (λ w. ap shows w.2 ∙ sym (ap shows w.1)) (was leaf)
 
-  none_before : (leaf : Leaf) → map.get unsaved leaf ≡ None → map.get old.unsaved leaf ≡ None
-  none_before leaf none = ⊎_elim (λ same. sym same ∙ none) (λ w. let clash : None ≡ Some (record w.0 { generation = 0 }) = sym none ∙ w.2 in absurd cc) (was leaf)
-
   unsaved_now : (leaf : Leaf) (u : Unsaved) → map.get unsaved leaf ≡ Some u → IsUnsaved now leaf u
   unsaved_now leaf u is = ⊎_elim (λ same. let before = sound.unsaved leaf u (sym same ∙ is) in record { live = before.live; made = before.made; young = before.young })
       (λ w.
@@ -59,7 +56,7 @@ module _ (old : State) (unsaved : UnsavedLeaves) (leaves : List Leaf) (sound : I
     counted = subst (λ (t : Tree). IsCounted t old.counts old.pins) (sym tree_now) sound.counted;
     placed = λ leaf name inode live is. sound.placed leaf name inode live (ap (λ (names : Names). map.get names name) (sym (same_names leaf)) ∙ is);
     unsaved = unsaved_now;
-    saved = λ leaf live none. sound.saved leaf live (none_before leaf none);
+    saved = λ leaf live none. sound.saved leaf live (⊎_elim (λ same. sym same ∙ none) (λ w. let clash : None ≡ Some (record w.0 { generation = 0 }) = sym none ∙ w.2 in absurd cc) (was leaf));
     owned = sound.owned;
     listed = sound.listed;
     standing = standing_now;
@@ -89,14 +86,6 @@ cap_without_all c r (leaf ∷ leaves) = cap_without_all c r leaves
 cap_kept : (c : CacheMap) (r : ℕ) (leaves : List Leaf) (new : CacheMap) → kept_all c r leaves ≡ Some new → new.cap ≡ c.cap
 cap_kept c r leaves new kept =
     by_keeping c r (λ (leaf : Leaf). Unit {0}) (λ (k : CacheMap). k.cap ≡ c.cap) refl (λ before mid made so. cap_roomy before mid r None made ∙ so) (λ mid leaf named so. so) leaves (all_from (λ (leaf : Leaf). Unit {0}) leaves (λ q among. tt)) new kept
-
-cap_handed : (from to : ℕ) (leaves clean : List Leaf) (old new : CacheMap) → HandsOver from to leaves clean old new → new.cap ≡ old.cap
-cap_handed from to leaves clean old new h =
-    ap (λ (k : CacheMap). k.cap) h.2 ∙ cap_without_all (moved_all h.0 from to leaves) from clean ∙ cap_moved h.0 from to leaves ∙ cap_kept old to leaves h.0 h.1
-
-cap_wants : (r : ℕ) (leaves : List Leaf) (old new : CacheMap) → WantsPlace r leaves old new → new.cap ≡ old.cap
-cap_wants r leaves old new w =
-    ap (λ (k : CacheMap). k.cap) w.6 ∙ cap_without_all w.4 r (drop (w.0 + 1) leaves) ∙ cap_roomy w.2 w.4 r None w.5 ∙ cap_kept old r (drop (w.0 + 1) leaves) w.2 w.3
 
 -- ---- the tree with its caches
 
@@ -141,11 +130,8 @@ module _ (c : Core) (sound : IsSoundCore c) (from to : ℕ) (apart : from ≢ to
           ⊎_elim (λ same. subst (IsCachedIn (state_of c) q) (sym same) was)
           (λ same. subst (IsCachedIn (state_of c) q) (sym same) (record { live = was.live; tied = tied_imported f.was.frag (object_of c.objects q.0 q.1) was.tied; made = sound.begun })) f.frag
 
-      none_so : KeepsNone caches
-      none_so r q placed = ⊎_elim (λ is. is) (λ never. absurd never) (whole r q placed)
-
       core_sound : IsSound (state_of after) → IsSoundCore after
-      core_sound state = record { sound = state; begun = sound.begun; cached = λ q a seen. let w = cached_so q a seen in record { live = w.live; tied = w.tied; made = w.made }; none = none_so }
+      core_sound state = record { sound = state; begun = sound.begun; cached = λ q a seen. let w = cached_so q a seen in record { live = w.live; tied = w.tied; made = w.made }; none = λ r q placed. ⊎_elim (λ is. is) (λ never. absurd never) (whole r q placed) }
 
     by : (res : Result (Unit {0}) Refusal) → HaveNoJobs c.jobs leaves → OnOk res (HandsOver from to leaves clean c.caches caches) → IfErr res (MayNotHandOver to leaves c.caches caches) → OnOk res (AreHanded leaves (unclean c.caches) (unclean caches))
         → OnErr res (unclean caches ≡ unclean c.caches) → IsHandedOver from to leaves clean res c after
@@ -156,7 +142,7 @@ module _ (c : Core) (sound : IsSoundCore c) (from to : ℕ) (apart : from ≢ to
       left = tt;
       beside = refl;
       count = ranks_handed from to apart leaves clean c.caches caches cached h valid there other NoneEnds whole_first;
-      cap = cap_handed from to leaves clean c.caches caches h;
+      cap = ap (λ (k : CacheMap). k.cap) h.2 ∙ cap_without_all (moved_all h.0 from to leaves) from clean ∙ cap_moved h.0 from to leaves ∙ cap_kept c.caches to leaves h.0 h.1;
       sound = core_sound (handed_from from to apart leaves clean c.caches caches cached h) (whole_handed from to apart leaves clean c.caches caches cached h valid there other NoneEnds whole_first)
           (sound_now (state_of c) (unclean caches) leaves sound.sound jobless given);
     }
@@ -167,7 +153,9 @@ module _ (c : Core) (sound : IsSoundCore c) (from to : ℕ) (apart : from ≢ to
       left = same;
       beside = refl;
       count = ⊎_elim (λ none. ap (λ (k : CacheMap). length k.used) none.2) (λ wants. ranks_wants from to apart leaves c.caches caches cached wants.2 valid other NoneEnds whole_first) refused;
-      cap = ⊎_elim (λ none. ap (λ (k : CacheMap). k.cap) none.2) (λ wants. cap_wants to leaves c.caches caches wants.2) refused;
+      cap = ⊎_elim (λ none. ap (λ (k : CacheMap). k.cap) none.2) (λ wants.
+          let w = wants.2 in
+          ap (λ (k : CacheMap). k.cap) w.6 ∙ cap_without_all w.4 to (drop (w.0 + 1) leaves) ∙ cap_roomy w.2 w.4 to None w.5 ∙ cap_kept c.caches to (drop (w.0 + 1) leaves) w.2 w.3) refused;
       sound = ⊎_elim (λ none. subst (λ (k : CacheMap). IsSoundCore (record c { caches = k })) (sym none.2) sound) (λ wants.
           core_sound (λ q a seen. record { was = a; held = wants_from from to apart leaves c.caches caches cached wants.2 q a seen; frag = inl refl }) (whole_wants from to apart leaves c.caches caches cached wants.2 valid other NoneEnds whole_first)
           (subst IsSound (sym same) sound.sound)) refused;

@@ -112,9 +112,6 @@ module _ (s : State) (sound : HasSoundLeaves s) (dir : Ino) (may : MayGo s.homes
   kept_back kept q x live is = cond_both (list_any (leaf_is q) ls) None (map.get kept q) (λ o. o ≡ Some x → (q.0.0 ≡ dir.0 → ⊥) × (map.get kept q ≡ Some x)) (λ has h. let clash : None ≡ Some x = h in absurd cc)
       (λ none h. (λ same. let clash : true ≡ false = sym (among dir.0 q (leaves_of s.covers dir.0) same (subst (λ (d : ℕ). HasLeaf (leaves_of s.covers d) q.1) same (live x h).stands)) ∙ none in cc, h)) (sym (get_without kept ls q) ∙ is)
 
-  unsaved_back : (q : Leaf) (u : Unsaved) → map.get left.unsaved q ≡ Some u → (q.0.0 ≡ dir.0 → ⊥) × (map.get s.unsaved q ≡ Some u)
-  unsaved_back q u is = kept_back s.unsaved q u (λ v there. (sound.unsaved q v there).live) is
-
   job_back : (q : Leaf) (job : Job) → map.get left.jobs q ≡ Some job → (q.0.0 ≡ dir.0 → ⊥) × (map.get s.jobs q ≡ Some job)
   job_back q job is = kept_back s.jobs q job (λ i there. let old = sound.standing q i there in (sound.unsaved q old.unsaved old.beside).live) is
 
@@ -140,7 +137,7 @@ module _ (s : State) (sound : HasSoundLeaves s) (dir : Ino) (may : MayGo s.homes
     placed = λ leaf name inode live has.
         let b = live_back leaf live in
         subst (λ (fs : List Fragment). IsPick fs (hash_of name) leaf.1) (sym (cover_on leaf.0.0 b.0)) (sound.placed leaf name inode b.1 (ap (λ (n : Names). map.get n name) (sym (left_names leaf b.0)) ∙ has));
-    unsaved = λ q u is. let b = unsaved_back q u is in let old = sound.unsaved q u b.1 in record { live = left_live q b.0 old.live; made = old.made; young = old.young };
+    unsaved = λ q u is. let b = kept_back s.unsaved q u (λ v there. (sound.unsaved q v there).live) is in let old = sound.unsaved q u b.1 in record { live = left_live q b.0 old.live; made = old.made; young = old.young };
     saved = λ leaf live clean. let b = live_back leaf live in sound.saved leaf b.1 (sym (kept_on s.unsaved leaf b.0) ∙ clean);
     owned = λ name there. owned_left name (sound.owned name there);
     listed = λ leaf live.

@@ -227,18 +227,15 @@ module _ (s : State) (sound : HasSoundLeaves s) (dentry : Dentry) (f : Fragment)
 
   -- the tree
 
-  stands_so : (q : Dentry) → map.get (shown_tree t) q ≡ map.get (with_at (shown_tree s) dentry inode) q
-  stands_so q = go (same_or_apart q dentry) (known_or_not s.homes q.dir.0)
+  pub named_tree : shown_tree t ≡ with_at (shown_tree s) dentry inode
+  named_tree = same_map dentry-total dentry-exact (shown_tree t) (with_at (shown_tree s) dentry inode) (λ q. go q (same_or_apart q dentry) (known_or_not s.homes q.dir.0))
     where
-      go : (q ≡ dentry) ⊎ (q ≡ dentry → ⊥) → (is_known s.homes q.dir.0 ≡ true) ⊎ (is_known s.homes q.dir.0 ≡ false) → map.get (shown_tree t) q ≡ map.get (with_at (shown_tree s) dentry inode) q
-      go (inl same) either = ap (map.get (shown_tree t)) same ∙ stands_at t named_leaves dentry f live.known pick ∙ ap (λ (n : Names). map.get n dentry.name) shows_here ∙ marked_here (names_of s.unsaved s.objects leaf) dentry.name inode ∙ sym (ap (map.get (with_at (shown_tree s) dentry inode)) same ∙ get_here (shown_tree s) dentry inode)
-      go (inr apart) (inl known) =
+      go : (q : Dentry) → (q ≡ dentry) ⊎ (q ≡ dentry → ⊥) → (is_known s.homes q.dir.0 ≡ true) ⊎ (is_known s.homes q.dir.0 ≡ false) → map.get (shown_tree t) q ≡ map.get (with_at (shown_tree s) dentry inode) q
+      go q (inl same) either = ap (map.get (shown_tree t)) same ∙ stands_at t named_leaves dentry f live.known pick ∙ ap (λ (n : Names). map.get n dentry.name) shows_here ∙ marked_here (names_of s.unsaved s.objects leaf) dentry.name inode ∙ sym (ap (map.get (with_at (shown_tree s) dentry inode)) same ∙ get_here (shown_tree s) dentry inode)
+      go q (inr apart) (inl known) =
           let p = pick_at s sound q in
           stands_at t named_leaves q p.0 known p.1
           ∙ same_name (q.dir, p.0) q.name (λ one n. apart (λ i. record { dir = (one i).0; name = n i }))
           ∙ sym (stands_at s sound q p.0 known p.1)
           ∙ sym (get_elsewhere (shown_tree s) dentry inode q apart)
-      go (inr apart) (inr unknown) = stands_nowhere t named_leaves q unknown ∙ sym (stands_nowhere s sound q unknown) ∙ sym (get_elsewhere (shown_tree s) dentry inode q apart)
-
-  pub named_tree : shown_tree t ≡ with_at (shown_tree s) dentry inode
-  named_tree = same_map dentry-total dentry-exact (shown_tree t) (with_at (shown_tree s) dentry inode) stands_so
+      go q (inr apart) (inr unknown) = stands_nowhere t named_leaves q unknown ∙ sym (stands_nowhere s sound q unknown) ∙ sym (get_elsewhere (shown_tree s) dentry inode q apart)

@@ -120,15 +120,6 @@ module _ (ranks places : ℕ) where
   none_unclean = same_map leaf-total leaf-exact (unclean (no_caches ranks places)) map.empty
       (λ q. get_unclean (no_caches ranks places) q ∙ ap unsaved_at (none_held ranks places q) ∙ sym (get-empty leaf_cmp q))
 
-  pub new_unclean : unclean (new_caches ranks places) ≡ map.insert no_leaves root_leaf new_root
-  new_unclean = unclean_with (no_caches ranks places) 0 root_leaf cached_root ∙ ap (λ (u : UnsavedLeaves). map.insert u root_leaf new_root) none_unclean
-
-  pub new_cached : (limit : ℕ) → AreCached (new_state limit) (new_caches ranks places)
-  new_cached limit = cached_with (new_state limit) (no_caches ranks places) 0 root_leaf cached_root (λ q a is. let clash : None ≡ Some a = sym (none_held ranks places q) ∙ is in absurd cc)
-      (record { live = root_live; tied = tt; made = omega arith })
-
--- ---- the whole
-
 -- a core that is so in each part
 pub new_core : (ranks places : ℕ) (m : Core) → m.homes ≡ map.empty → m.covers ≡ map.empty → m.counts ≡ map.insert map.empty 1 0 → m.pins ≡ map.empty → m.caches ≡ new_caches ranks places → m.objects ≡ map.empty
     → m.jobs ≡ map.empty → m.purge ≡ map.empty → m.next_job ≡ 1 → m.next_generation ≡ 2 → m.next_version ≡ 1 → (state_of m ≡ new_state m.limit) × IsSoundCore m
@@ -137,11 +128,12 @@ new_core ranks places m homes covers counts pins caches objects jobs purge job g
   record {
     sound = subst IsSound (sym is) (new_sound m.limit);
     begun = omega (arith, generation);
-    cached = subst (λ (s : State). AreCached s m.caches) (sym is) (subst (AreCached (new_state m.limit)) (sym caches) (new_cached ranks places m.limit));
+    cached = subst (λ (s : State). AreCached s m.caches) (sym is) (subst (AreCached (new_state m.limit)) (sym caches)
+        (cached_with (new_state m.limit) (no_caches ranks places) 0 root_leaf cached_root (λ q a is. let clash : None ≡ Some a = sym (none_held ranks places q) ∙ is in absurd cc) (record { live = root_live; tied = tt; made = omega arith })));
     none = subst KeepsNone (sym caches) (new_none ranks places);
   },
 )
   where
     is : state_of m ≡ new_state m.limit
     is = (λ i. record { limit = m.limit; homes = homes i; covers = covers i; counts = counts i; pins = pins i; unsaved = unclean (caches i); objects = objects i; jobs = jobs i; purge = purge i; next_job = job i; next_generation = generation i; next_version = version i })
-        ∙ (λ i. record (new_state m.limit) { unsaved = new_unclean ranks places i })
+        ∙ (λ i. record (new_state m.limit) { unsaved = (unclean_with (no_caches ranks places) 0 root_leaf cached_root ∙ ap (λ (u : UnsavedLeaves). map.insert u root_leaf new_root) (none_unclean ranks places)) i })

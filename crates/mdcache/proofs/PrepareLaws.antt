@@ -35,17 +35,6 @@ module _ (c : Core) (sound : IsSoundCore c) (dentry : Dentry) (leaf : Fragment) 
 
 -- ---- what lacks
 
--- for a new inode that is no directory a version alone
-pub file_lacks : {P Q : Type 0} (inode : Inode) → is_dir_kind inode.kind ≡ false → P ⊎ ((is_dir_kind inode.kind ≡ true) × Q) → P
-file_lacks inode file = ⊎_elim (λ lacks. lacks) (λ needs. let clash : true ≡ false = sym needs.0 ∙ file in absurd cc)
-
--- for a directory a generation too
-pub directory_lacks : {P Q : Type 0} (inode : Inode) → is_dir_kind inode.kind ≡ true → P ⊎ Q → P ⊎ ((is_dir_kind inode.kind ≡ true) × Q)
-directory_lacks inode dir = ⊎_elim inl (λ lacks. inr (dir, lacks))
-
-pub directory_needs : {P Q : Type 0} (inode : Inode) → P ⊎ ((is_dir_kind inode.kind ≡ true) × Q) → P ⊎ Q
-directory_needs inode = ⊎_elim inl (λ needs. inr needs.1)
-
 -- where one place lacks two do
 pub one_or_two : (c : Core) (rank : Rank) → LacksPlacesAt 1 c rank → LacksPlacesAt 2 c rank
 one_or_two c rank lacks = omega (arith, lacks)
@@ -64,6 +53,3 @@ pub first_live_so : (c : Core) (r : ℕ) (leaf first : Leaf) (caches : CacheMap)
     → (s : ℕ) (q : Leaf) → IsThat r leaf s q ⊎ IsThat r first s q → (a : At) → map.get caches.held q ≡ Some a → IsLive c.homes c.covers q
 first_live_so c r leaf first caches live absent s q (inl is) a at = subst (IsLive c.homes c.covers) (sym is.1) live
 first_live_so c r leaf first caches live absent s q (inr is) a at = let clash : None ≡ Some a = sym absent ∙ ap (map.get caches.held) (sym is.1) ∙ at in absurd cc
-
-pub two_left : (version generation : ℕ) → version < 18446744073709551615 → generation < 18446744073709551615 → (18446744073709551615 < version + 1) ⊎ (18446744073709551615 < generation + 1) → ⊥
-two_left version generation first second = ⊎_elim (λ lacks. omega (arith, first, lacks)) (λ lacks. omega (arith, second, lacks))

@@ -67,15 +67,12 @@ module _ (names : Leaf → Names) where
           ∙ ap (λ b. cond (b || list_any (eq_by_cmp nat_cmp d) dirs) x None) (sym (unsigned_tied d e ∙ is_same d e (sym same)))
       go false is = ap (λ b. cond (b || list_any (eq_by_cmp nat_cmp d) dirs) x None) (sym (unsigned_tied d e ∙ is_apart d e (λ same. let clash : true ≡ false = sym (is_same e d (sym same)) ∙ is in cc)))
 
-  listed : (homes : Homes) (d : ℕ) → list_any (eq_by_cmp nat_cmp d) (directories homes) ≡ is_known homes d
-  listed homes d = λ i. unsigned_tied d 1 i || sym (contains_key-keys homes d) i
-
   found : (homes : Homes) (covers : Covers) (d : ℕ) (name : List ℕ) → finmap.get (tree_of homes covers names) (dentry_of d name) ≡ cond (is_known homes d) (first_of d name (leaves_of covers d)) None
   unfolding tree_of
   found homes covers d name =
       get-from_entries dentry-total (entries_in names covers (directories homes)) (dentry_of d name)
       ∙ found_in covers d name (directories homes)
-      ∙ ap (λ b. cond b (first_of d name (leaves_of covers d)) None) (listed homes d)
+      ∙ ap (λ b. cond b (first_of d name (leaves_of covers d)) None) (λ i. unsigned_tied d 1 i || sym (contains_key-keys homes d) i)
 
   -- what no other leaf has, the one leaf tells
   only_one : (d : ℕ) (name : List ℕ) (f : Fragment) (fs : List Fragment) → ((g : Fragment) (inode : Inode) → HasLeaf fs g → finmap.get (names (record { 0 = d }, g)) name ≡ Some inode → g ≡ f)

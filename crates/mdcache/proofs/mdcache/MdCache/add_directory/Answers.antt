@@ -1,7 +1,8 @@
 use Rattle.mdcache.proofs.Common.{Core, IsSound, List, MayCome, State, adds, ap, dentry_at, known_is, may_come, rules, subst, sym, ℕ, ◌<◌, ◌∙◌}
+use Rattle.std.proofs.Common.{⊎_elim, inl, inr}
 use Rattle.mdcache.proofs.ChangesMade.{after_reads, directory_done, may_still, new_fits}
 use Rattle.mdcache.proofs.CoreLaws.{not_ready_wider, reads_state, there_after}
-use Rattle.mdcache.proofs.PrepareLaws.{dir_live, directory_lacks, directory_needs, new_recordable}
+use Rattle.mdcache.proofs.PrepareLaws.{dir_live, new_recordable}
 use Rattle.mdcache.proofs.mdcache.MdCache.add_directory.Goals as goal
 
 pub ready_directory-requires-clause-live : goal.ready_directory-requires-clause-live
@@ -40,5 +41,5 @@ returns-in-Ok g c =
 pub returns-in-Err-clause-changed : goal.returns-in-Err-clause-changed
 returns-in-Err-clause-changed g c = (
   c.ready_directory.ensures.reads,
-  not_ready_wider _ _ _ _ _ _ c.in-Err.refusal (directory_lacks c.args.inode c.requires.directory) (directory_needs c.args.inode) (λ lacks. lacks) c.in-Err.ensures.refused,
+  not_ready_wider _ _ _ _ _ _ c.in-Err.refusal (⊎_elim inl (λ lacks. inr (c.requires.directory, lacks))) (⊎_elim inl (λ needs. inr needs.1)) (λ lacks. lacks) c.in-Err.ensures.refused,
 )

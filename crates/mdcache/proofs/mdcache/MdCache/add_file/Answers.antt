@@ -1,7 +1,8 @@
 use Rattle.mdcache.proofs.Common.{Core, NoneEnds, adds, ap, dentry_at, inl, rules, ◌∙◌}
+use Rattle.std.proofs.Common.{⊎_elim, true, false, sym, ◌≡◌}
 use Rattle.mdcache.proofs.ChangesMade.{after_reads, file_done, may_still, new_fits}
 use Rattle.mdcache.proofs.CoreLaws.{dir_known, not_ready_wider, reads_core_wider, there_after}
-use Rattle.mdcache.proofs.PrepareLaws.{dir_live, file_lacks, new_recordable, one_or_two}
+use Rattle.mdcache.proofs.PrepareLaws.{dir_live, new_recordable, one_or_two}
 use Rattle.mdcache.proofs.mdcache.MdCache.add_file.Goals as goal
 
 pub ready_name-requires-clause-live : goal.ready_name-requires-clause-live
@@ -34,5 +35,5 @@ returns-in-Ok g c =
 pub returns-in-Err-clause-changed : goal.returns-in-Err-clause-changed
 returns-in-Err-clause-changed g c = (
   reads_core_wider _ _ NoneEnds NoneEnds _ _ (λ r q is. inl is) (λ r q no_end. no_end) c.ready_name.ensures.reads,
-  not_ready_wider _ _ _ _ _ _ c.in-Err.refusal (λ lacks. inl lacks) (file_lacks c.args.inode c.requires.file) (one_or_two c.args.self.now c.args.spot.at.rank) c.in-Err.ensures.refused,
+  not_ready_wider _ _ _ _ _ _ c.in-Err.refusal (λ lacks. inl lacks) (⊎_elim (λ lacks. lacks) (λ needs. let clash : true ≡ false = sym needs.0 ∙ c.requires.file in absurd cc)) (one_or_two c.args.self.now c.args.spot.at.rank) c.in-Err.ensures.refused,
 )

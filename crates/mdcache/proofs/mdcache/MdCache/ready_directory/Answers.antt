@@ -1,6 +1,7 @@
 use Rattle.mdcache.proofs.Common.{Core, IsThat, Leaf, NoneEnds, Table, ap, first_leaf, leaf_of, rules, ℕ, ◌<◌, ◌⊎◌}
+use Rattle.std.proofs.Common.{⊎_elim, arith}
 use Rattle.mdcache.proofs.CoreLaws.{dirs_grown, grown_may, grown_refused, grown_sound, grows_by, not_ready, on_err_so, reads_cached_so, reads_core_on, reads_itself, reads_sound_so, still_absent}
-use Rattle.mdcache.proofs.PrepareLaws.{first_live_so, first_nowhere, two_left}
+use Rattle.mdcache.proofs.PrepareLaws.{first_live_so, first_nowhere}
 use Rattle.mdcache.proofs.mdcache.MdCache.ready_directory.Goals as goal
 
 pub returns-in-Err-clause-reads : goal.returns-in-Err-clause-reads
@@ -51,6 +52,6 @@ returns-in-Err-ready_first g c =
     let reads = reads_core_on Uses NoneEnds c.args.self.now _ c.ready_first.new.self (room Uses NoneEnds) c.ready_first.ensures.reads in
     let live = first_live_so c.args.self.now c.args.spot.now.at.rank.0 (leaf_of c.args.spot.now.at) (first_leaf c.args.dir) c.ready_first.new.self.caches c.requires.live c.ready_first.ensures.absent in
     let sound = reads_sound_so Uses NoneEnds c.args.self.now c.ready_first.new.self reads c.requires.sound live c.in-Err-ready_first.ensures.none in
-    let refused = not_ready _ _ c.args.self.now.faults c.ready_first.new.self.faults c.in-Err-ready_first.refusal (two_left c.args.self.now.next_version c.args.self.now.next_generation version generation)
+    let refused = not_ready _ _ c.args.self.now.faults c.ready_first.new.self.faults c.in-Err-ready_first.refusal (⊎_elim (λ lacks. omega (arith, version, lacks)) (λ lacks. omega (arith, generation, lacks)))
     (grown_refused c.args.self.now _ room c.requires.sound 2 c.args.spot.now.at.rank.0 c.ready_first.new.self.faults c.in-Err-ready_first.refusal (ap (λ (k : Core). k.faults) c.self.view_is) c.in-Err-ready_first.ensures.refused) in
     record { ready = tt; place = tt; only = tt; cached = tt; reads = reads; sound = sound; counted = search rules; refused = refused }
