@@ -4,7 +4,7 @@ use Rattle.std.proofs.lemmas.Bool.{cond_both, false_from_ne_true}
 use Rattle.std.specs.Prelude.{map as each}
 use Rattle.std.specs.FinMap as map
 use Rattle.inode_table.specs.Dirs.{MayMove as MayRelocate}
-use Rattle.mdcache.proofs.NamedLaws.{HasSoundLeaves, named_leaves, named_tree, recounted_leaves, shows_beside, sound_again, sound_leaves, with_at}
+use Rattle.mdcache.proofs.NamedLaws.{HasSoundLeaves, named_leaves, named_tree, shows_beside, sound_leaves, with_at}
 use Rattle.mdcache.proofs.HomeLaws.{grown_leaves, grown_live, grown_names, grown_tree, moved_home, moved_known, rehomed_leaves, rehomed_live, rehomed_tree}
 use Rattle.mdcache.proofs.GoneLaws.{left_leaves, left_live, left_names, left_tree, one_of_those}
 
@@ -68,11 +68,26 @@ record IsAltered (change : Change) (old new : State) : Type 0 where
 -- and then all
 noted_right : (change : Change) (old new : State) (counts : Counts) (pins : DirPins) → IsAltered change old new → IsCounted (changed (shown_tree old) change) counts pins → IsRight change old (record new { counts = counts; pins = pins })
 noted_right change old new counts pins altered counted = record {
-  sound = sound_again (record new { counts = counts; pins = pins }) (recounted_leaves new counts pins altered.sound) altered.tabled (subst (λ (t : Tree). IsCounted t counts pins) (sym altered.tree) counted);
+  sound = record {
+    table = its.table;
+    numbered = its.numbered;
+    tabled = altered.tabled;
+    counted = subst (λ (t : Tree). IsCounted t counts pins) (sym altered.tree) counted;
+    placed = its.placed;
+    unsaved = λ leaf u is. let old = its.unsaved leaf u is in record { live = old.live; made = old.made; young = old.young };
+    saved = its.saved;
+    owned = λ name there. its.owned name there;
+    listed = its.listed;
+    standing = λ leaf job is. let old = its.standing leaf job is in record { mine = old.mine; given = old.given; young = old.young; unsaved = old.unsaved; beside = old.beside; taken = old.taken };
+    once = its.once;
+  };
   tree = altered.tree;
   leaves = altered.leaves;
   frame = λ leaf none live. let still = altered.frame leaf none live in record { live = still.live; names = still.names };
 }
+  where
+    its : HasSoundLeaves new
+    its = altered.sound
 
 -- rows of directories without that of a directory that went
 row_gone : {X : Type 0} (rows : map.FinMap nat_cmp X) (found : Option Inode) → rows_but rows (directory_at found) ≡ without_row rows found
@@ -100,45 +115,33 @@ set_altered spot inode old new sound may makes =
 
 -- ---- a new inode
 
-module _ (spot : Spot) (inode : Inode) (old named : State) (sound : IsSound old) (fits : inode.ino.0 < 2 ^ 64) (may : MayChange (shown_tree old) old.covers (adds spot inode))
-    (so : IsNamedSo old named (dentry_at spot) spot.at.frag (Some inode)) where
-  grown_tabled : IsTabled (map.insert (shown_tree old) (dentry_at spot) inode) (with_home old.homes (dentry_at spot) inode)
-  grown_tabled = added_tabled (shown_tree old) old.homes (dentry_at spot) inode sound.tabled may.takes
+-- a directory comes with it
+added_dir : (spot : Spot) (inode : Inode) (old named : State) → IsSound old → inode.ino.0 < 2 ^ 64 → MayChange (shown_tree old) old.covers (adds spot inode) → IsNamedSo old named (dentry_at spot) spot.at.frag (Some inode) → is_dir_kind inode.kind ≡ true
+    → IsAltered (adds spot inode) old (with_directory named (dentry_at spot) inode.ino)
+added_dir spot inode old named sound fits may so kinded = record {
+  sound = grown_leaves named so.leaves (dentry_at spot) inode.ino come fits;
+  tabled = tabled_as _ _ _ _ tree (ap (λ (h : Homes). map.insert h inode.ino.0 (home_at (dentry_at spot))) so.homes ∙ sym (with_dir old.homes (dentry_at spot) inode kinded))
+      (added_tabled (shown_tree old) old.homes (dentry_at spot) inode sound.tabled may.takes);
+  tree = tree;
+  leaves = λ d is. ap (λ (c : Covers). leaves_of c d) so.covers;
+  frame = λ leaf none live.
+      let first = so.stays leaf (not_first leaf (leaf_of spot.at) [] none) live in
+      stays_on old named _ leaf first (record { live = grown_live named so.leaves (dentry_at spot) inode.ino come fits leaf first.live; names = grown_names named so.leaves (dentry_at spot) inode.ino come fits leaf first.live });
+}
+  where
+    come : MayCome named.homes inode.ino.0 (home_at (dentry_at spot))
+    come = subst (λ (h : Homes). MayCome h inode.ino.0 (home_at (dentry_at spot))) (sym so.homes) (may_come (shown_tree old) old.homes (dentry_at spot) inode sound.tabled may.takes)
 
-  added_file : is_dir_kind inode.kind ≡ false → IsAltered (adds spot inode) old named
-  added_file kinded = named_altered (adds spot inode) spot inode old named so (subst (IsTabled (map.insert (shown_tree old) (dentry_at spot) inode)) (with_file old.homes (dentry_at spot) inode kinded) grown_tabled) refl refl
-
-  added_dir : is_dir_kind inode.kind ≡ true → IsAltered (adds spot inode) old (with_directory named (dentry_at spot) inode.ino)
-  added_dir kinded = record {
-    sound = grown_leaves named so.leaves (dentry_at spot) inode.ino come fits;
-    tabled = tabled_as (map.insert (shown_tree old) (dentry_at spot) inode) (shown_tree grown) (with_home old.homes (dentry_at spot) inode) grown.homes tree homes grown_tabled;
-    tree = tree;
-    leaves = λ d is. ap (λ (c : Covers). leaves_of c d) so.covers;
-    frame = λ leaf none live.
-        let first = so.stays leaf (not_first leaf (leaf_of spot.at) [] none) live in
-        stays_on old named grown leaf first (record { live = grown_live named so.leaves (dentry_at spot) inode.ino come fits leaf first.live; names = grown_names named so.leaves (dentry_at spot) inode.ino come fits leaf first.live });
-  }
-    where
-      grown : State
-      grown = with_directory named (dentry_at spot) inode.ino
-
-      come : MayCome named.homes inode.ino.0 (home_at (dentry_at spot))
-      come = subst (λ (h : Homes). MayCome h inode.ino.0 (home_at (dentry_at spot))) (sym so.homes) (may_come (shown_tree old) old.homes (dentry_at spot) inode sound.tabled may.takes)
-
-      tree : shown_tree grown ≡ map.insert (shown_tree old) (dentry_at spot) inode
-      tree = grown_tree named so.leaves (dentry_at spot) inode.ino come fits ∙ so.tree
-
-      homes : grown.homes ≡ with_home old.homes (dentry_at spot) inode
-      homes = ap (λ (h : Homes). map.insert h inode.ino.0 (home_at (dentry_at spot))) so.homes ∙ sym (with_dir old.homes (dentry_at spot) inode kinded)
+    tree : shown_tree (with_directory named (dentry_at spot) inode.ino) ≡ map.insert (shown_tree old) (dentry_at spot) inode
+    tree = grown_tree named so.leaves (dentry_at spot) inode.ino come fits ∙ so.tree
 
 add_altered : (spot : Spot) (inode : Inode) (old new : State) → IsSound old → inode.ino.0 < 2 ^ 64 → MayChange (shown_tree old) old.covers (adds spot inode) → Alters (adds spot inode) old new
     → IsAltered (adds spot inode) old new
 add_altered spot inode old new sound fits may makes =
-    subst (IsAltered (adds spot inode) old) (sym makes.2) (cond_both (is_dir_kind inode.kind) (with_directory makes.0 (dentry_at spot) inode.ino) makes.0 (IsAltered (adds spot inode) old)
-    (added_dir spot inode old makes.0 sound fits may so) (added_file spot inode old makes.0 sound fits may so))
-  where
-    so : IsNamedSo old makes.0 (dentry_at spot) spot.at.frag (Some inode)
-    so = named_so old makes.0 (dentry_at spot) spot.at.frag (Some inode) (sound_leaves old sound) (dir_known old (dentry_at spot) sound may.takes.parent) may.carries.put makes.1
+    let so = named_so old makes.0 (dentry_at spot) spot.at.frag (Some inode) (sound_leaves old sound) (dir_known old (dentry_at spot) sound may.takes.parent) may.carries.put makes.1 in
+    subst (IsAltered (adds spot inode) old) (sym makes.2) (cond_both (is_dir_kind inode.kind) (with_directory makes.0 (dentry_at spot) inode.ino) makes.0 (IsAltered (adds spot inode) old) (added_dir spot inode old makes.0 sound fits may so)
+    (λ file. named_altered (adds spot inode) spot inode old makes.0 so (subst (IsTabled (map.insert (shown_tree old) (dentry_at spot) inode)) (with_file old.homes (dentry_at spot) inode file)
+    (added_tabled (shown_tree old) old.homes (dentry_at spot) inode sound.tabled may.takes)) refl refl))
 
 -- ---- what goes
 
@@ -236,60 +239,34 @@ remove_altered spot gone old new sound may makes =
 
 -- ---- a move
 
-module _ (source target : Spot) (inode : Inode) (gone : Option Ino) (old new : State) (sound : IsSound old) (may : MayChange (shown_tree old) old.covers (moves source target inode gone))
-    (makes : Alters (moves source target inode gone) old new) where
-  abbrev out : State
-  out = makes.0
-
-  abbrev in_place : State
-  in_place = makes.2.0
-
-  abbrev there : State
-  there = with_home_at in_place (dentry_at target) inode
-
-  first : IsNamedSo old out (dentry_at source) source.at.frag None
-  first = named_so old out (dentry_at source) source.at.frag None (sound_leaves old sound) (entry_known old (dentry_at source) inode sound may.takes.stands) may.carries.taken makes.1
-
-  second : IsNamedSo out in_place (dentry_at target) target.at.frag (Some inode)
-  second =
-      named_so out in_place (dentry_at target) target.at.frag (Some inode) first.leaves (ap (λ (h : Homes). is_known h (dentry_at target).dir.0) first.homes ∙ dir_known old (dentry_at target) sound may.takes.parent)
-      (subst (λ (c : Covers). IsLeafAt c (dentry_at target) target.at.frag) (sym first.covers) may.carries.put) makes.2.1
-
-  same_homes : in_place.homes ≡ old.homes
-  same_homes = second.homes ∙ first.homes
-
-  same_covers : in_place.covers ≡ old.covers
-  same_covers = second.covers ∙ first.covers
-
-  relocates : is_dir_kind inode.kind ≡ true → MayRelocate in_place.homes inode.ino.0 (home_at (dentry_at target))
-  relocates kinded = subst (λ (h : Homes). MayRelocate h inode.ino.0 (home_at (dentry_at target))) (sym same_homes) (may_relocate (shown_tree old) old.homes (dentry_at source) (dentry_at target) inode sound.tabled may.takes kinded)
-
-  known_still : (d : ℕ) → is_known there.homes d ≡ is_known in_place.homes d
-  known_still = moved_known in_place.homes in_place.covers second.leaves.table (dentry_at target) inode relocates
-
-  table_still : IsTable there.homes in_place.covers
-  table_still = moved_home in_place.homes in_place.covers second.leaves.table (dentry_at target) inode relocates
-
-  may_leave : (i : Inode) → map.get (shown_tree old) (dentry_at target) ≡ Some i → is_dir_kind i.kind ≡ true
-      → MayGo (with_home old.homes (dentry_at target) inode) i.ino.0 × (is_known there.homes i.ino.0 ≡ true) × NothingIn (with_moved (shown_tree old) (dentry_at source) (dentry_at target) inode) i.ino.0
-  may_leave i stood kinded = (
-    may_replace (shown_tree old) old.homes (dentry_at source) (dentry_at target) inode sound.tabled may.takes i stood,
-    known_still i.ino.0 ∙ ap (λ (h : Homes). is_known h i.ino.0) same_homes ∙ stands_known old (dentry_at target) i sound stood kinded,
-    replaced_empty (shown_tree old) (dentry_at source) (dentry_at target) inode sound.tabled.whole may.takes i stood,
-  )
-
-  untouched : (leaf : Leaf) → (Contains (fragments_of old.covers (moves source target inode gone)) leaf → ⊥) → IsLive old.homes old.covers leaf → StaysAsItIs old there leaf × (Contains (leaves_gone old.covers gone) leaf → ⊥)
-  untouched leaf none live =
-      let rest = leaves_gone old.covers gone in
-      let not_from = not_later leaf (leaf_of source.at) (leaf_of target.at ∷ rest) none in
-      let at_first = first.stays leaf (not_first leaf (leaf_of source.at) (leaf_of target.at ∷ rest) none) live in
-      let at_second = stays_on old out in_place leaf at_first (second.stays leaf (not_first leaf (leaf_of target.at) rest not_from) at_first.live) in
-      (stays_on old in_place there leaf at_second (record { live = rehomed_live in_place there.homes second.leaves table_still known_still leaf at_second.live; names = refl }), not_later leaf (leaf_of target.at) rest not_from)
-
-  move_altered : IsAltered (moves source target inode gone) old new
-  move_altered = gone_altered (moves source target inode gone) old there new (with_moved (shown_tree old) (dentry_at source) (dentry_at target) inode) (with_home old.homes (dentry_at target) inode) (dentry_at target) gone may.carries.gone makes.2.2 sound
-      (rehomed_leaves in_place there.homes second.leaves table_still known_still) (rehomed_tree in_place there.homes second.leaves table_still known_still ∙ second.tree ∙ ap (λ (t : Tree). map.insert t (dentry_at target) inode) first.tree)
-      (ap (λ (h : Homes). with_home h (dentry_at target) inode) same_homes) same_covers refl (moved_tabled (shown_tree old) old.homes (dentry_at source) (dentry_at target) inode sound.tabled may.takes) may_leave untouched
+move_altered : (source target : Spot) (inode : Inode) (gone : Option Ino) (old new : State) → IsSound old → MayChange (shown_tree old) old.covers (moves source target inode gone) → Alters (moves source target inode gone) old new
+    → IsAltered (moves source target inode gone) old new
+move_altered source target inode gone old new sound may makes =
+    let out = makes.0 in
+    let in_place = makes.2.0 in
+    let there = with_home_at in_place (dentry_at target) inode in
+    let first = named_so old out (dentry_at source) source.at.frag None (sound_leaves old sound) (entry_known old (dentry_at source) inode sound may.takes.stands) may.carries.taken makes.1 in
+    let second = named_so out in_place (dentry_at target) target.at.frag (Some inode) first.leaves (ap (λ (h : Homes). is_known h (dentry_at target).dir.0) first.homes ∙ dir_known old (dentry_at target) sound may.takes.parent)
+    (subst (λ (c : Covers). IsLeafAt c (dentry_at target) target.at.frag) (sym first.covers) may.carries.put) makes.2.1 in
+    let homes : in_place.homes ≡ old.homes = second.homes ∙ first.homes in
+    let relocates : is_dir_kind inode.kind ≡ true → MayRelocate in_place.homes inode.ino.0 (home_at (dentry_at target)) = λ kinded.
+    subst (λ (h : Homes). MayRelocate h inode.ino.0 (home_at (dentry_at target))) (sym homes) (may_relocate (shown_tree old) old.homes (dentry_at source) (dentry_at target) inode sound.tabled may.takes kinded) in
+    let known = moved_known in_place.homes in_place.covers second.leaves.table (dentry_at target) inode relocates in
+    let table = moved_home in_place.homes in_place.covers second.leaves.table (dentry_at target) inode relocates in
+    gone_altered (moves source target inode gone) old there new (with_moved (shown_tree old) (dentry_at source) (dentry_at target) inode) (with_home old.homes (dentry_at target) inode) (dentry_at target) gone may.carries.gone makes.2.2 sound
+    (rehomed_leaves in_place there.homes second.leaves table known) (rehomed_tree in_place there.homes second.leaves table known ∙ second.tree ∙ ap (λ (t : Tree). map.insert t (dentry_at target) inode) first.tree)
+    (ap (λ (h : Homes). with_home h (dentry_at target) inode) homes) (second.covers ∙ first.covers) refl (moved_tabled (shown_tree old) old.homes (dentry_at source) (dentry_at target) inode sound.tabled may.takes)
+    (λ i stood kinded. (
+      may_replace (shown_tree old) old.homes (dentry_at source) (dentry_at target) inode sound.tabled may.takes i stood,
+      known i.ino.0 ∙ ap (λ (h : Homes). is_known h i.ino.0) homes ∙ stands_known old (dentry_at target) i sound stood kinded,
+      replaced_empty (shown_tree old) (dentry_at source) (dentry_at target) inode sound.tabled.whole may.takes i stood,
+    ))
+    (λ leaf none live.
+    let rest = leaves_gone old.covers gone in
+    let not_from = not_later leaf (leaf_of source.at) (leaf_of target.at ∷ rest) none in
+    let at_first = first.stays leaf (not_first leaf (leaf_of source.at) (leaf_of target.at ∷ rest) none) live in
+    let at_second = stays_on old out in_place leaf at_first (second.stays leaf (not_first leaf (leaf_of target.at) rest not_from) at_first.live) in
+    (stays_on old in_place there leaf at_second (record { live = rehomed_live in_place there.homes second.leaves table known leaf at_second.live; names = refl }), not_later leaf (leaf_of target.at) rest not_from))
 
 -- ---- every change
 

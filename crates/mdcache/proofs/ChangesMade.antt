@@ -171,74 +171,55 @@ module _ (old new : Core) (sound : IsSoundCore old) (source target : Spot) (inod
   abbrev change : Change
   change = moves source target inode (dir_going going)
 
-  is_move : IsMove (shown_in old) (dentry_at source) (dentry_at target) inode
-  is_move = may.takes
-
   -- a directory may have its home there,
   pub relocates : is_dir_kind inode.kind ≡ true → MayMove old.homes inode.ino.0 (home_at (dentry_at target))
-  relocates kinded = may_relocate (shown_in old) old.homes (dentry_at source) (dentry_at target) inode sound.sound.tabled is_move kinded
+  relocates kinded = may_relocate (shown_in old) old.homes (dentry_at source) (dentry_at target) inode sound.sound.tabled may.takes kinded
 
   -- and one that is replaced may go then
   pub replaces : IfSome (dir_going going) (λ (dir : Ino). MayGo (with_home old.homes (dentry_at target) inode) dir.0)
   replaces = subst (λ (d : Option Ino). IfSome d (λ (dir : Ino). MayGo (with_home old.homes (dentry_at target) inode) dir.0)) (sym may.carries.gone)
-      (if_directory (λ (dir : Ino). MayGo (with_home old.homes (dentry_at target) inode) dir.0) (map.get (shown_in old) (dentry_at target)) (λ i is dir. may_replace (shown_in old) old.homes (dentry_at source) (dentry_at target) inode sound.sound.tabled is_move i is))
+      (if_directory (λ (dir : Ino). MayGo (with_home old.homes (dentry_at target) inode) dir.0) (map.get (shown_in old) (dentry_at target)) (λ i is dir. may_replace (shown_in old) old.homes (dentry_at source) (dentry_at target) inode sound.sound.tabled may.takes i is))
 
   -- its new name is shown where something stands there
   pub stands_at_target : HasRoom (here old.caches target.at.rank.0 (leaf_of target.at)) → shows old target.at target.name ≡ is_some (map.get (shown_in old) (dentry_at target))
   stands_at_target room =
       shows_names old sound target.at target.name (roomy_there (here old.caches target.at.rank.0 (leaf_of target.at)) room)
-      ∙ ap is_some (sym (at_dentry (state_of old) sound.sound target.at.dir.0 target.name target.at.frag (dir_known old sound target.at.dir.0 is_move.parent) may.carries.put))
+      ∙ ap is_some (sym (at_dentry (state_of old) sound.sound target.at.dir.0 target.name target.at.frag (dir_known old sound target.at.dir.0 may.takes.parent) may.carries.put))
 
   -- and what comes to another directory, where nothing does, can be counted there
   pub counts_fit : HasRoom (here old.caches target.at.rank.0 (leaf_of target.at)) → shows old target.at target.name ≡ false → (source.at.dir.0 == target.at.dir.0) ≡ false → count_of old.counts target.at.dir.0 < 2 ^ 64 - 1
   counts_fit room none apart = elim (map.get (shown_in old) (dentry_at target)) as (λ o. is_some o ≡ false → HasSpace (shown_in old) (dentry_at source) (dentry_at target) o → count_of old.counts target.at.dir.0 < 2 ^ 64 - 1) [
     | None ↦ λ is space. omega (arith, space apart, sound.sound.counted.each target.at.dir.0)
     | Some i ↦ λ is space. let clash : true ≡ false = is in absurd cc
-  ] (sym (stands_at_target room) ∙ none) is_move.spaced
+  ] (sym (stands_at_target room) ∙ none) may.takes.spaced
 
   module _ (two : HasCached (here old.caches source.at.rank.0 (leaf_of source.at)) (λ (f : Cached). 1 < f.room)) (one : HasRoom (here old.caches target.at.rank.0 (leaf_of target.at))) (leaves_stand : IsGoingOrNone old.covers going) (rooms : Rooms) where
-    abbrev left_name : Core
-    left_name = named old source.at source.name None
-
-    abbrev housed : Core
-    housed = record left_name { homes = with_home old.homes (dentry_at target) inode }
-
-    abbrev came_name : Core
-    came_name = named housed target.at target.name (Some inode)
-
-    abbrev counts_now : Counts
-    counts_now = counts_moved old.counts source.at.dir.0 target.at.dir.0 (shows old target.at target.name)
-
-    before_move : HasMade (IsNamedIn change) (EndsWith change) None old old
-    before_move = first_made change old sound.cached sound.none
-
-    there_first : IsThere (here old.caches source.at.rank.0 (leaf_of source.at))
-    there_first = cached_there (λ (f : Cached). 1 < f.room) (here old.caches source.at.rank.0 (leaf_of source.at)) two
-
-    housed_made : HasMade (IsNamedIn change) (EndsWith change) None old housed
-    housed_made = made_tables _ _ None old left_name (made_named _ _ None old old before_move source.at source.name None there_first (inl (refl, refl))) (with_home old.homes (dentry_at target) inode) old.counts old.pins
-        (λ leaf live. record { known = moved_known old.homes old.covers sound.sound.table (dentry_at target) inode relocates leaf.0.0 ∙ live.known; stands = live.stands })
-
-    there_second : IsThere (here housed.caches target.at.rank.0 (leaf_of target.at))
-    there_second = roomy_there _ (room_left old.caches source.at.rank.0 target.at.rank.0 (leaf_of source.at) (leaf_of target.at) source.name (record { version = old.next_version; inode = None }) two one)
-
-    named_twice : IsNamed (state_of left_name) (record (state_of came_name) { homes = old.homes }) (leaf_of target.at) target.name (Some inode)
-    named_twice =
-        let named = is_named _ _ None old housed housed_made target.at target.name (Some inode) there_second in
-        record { before = named.before; stands = named.stands; left = λ i. record (named.left i) { homes = old.homes } }
-
     pub entry_moved : (name : List ℕ) → name ≡ target.name
         → new ≡ without_dir (moved old source.at source.name target.at target.name name inode) (dir_going going) (leaves_going going) (texts_going going) rooms → (KeepsNone old.caches → KeepsNone new.caches)
         → IsDone change old new
     entry_moved name its is none =
-        let now : new ≡ left came_name counts_now going leaves_stand rooms = is ∙ ap (λ (n : List ℕ). without_dir (moved old source.at source.name target.at target.name n inode) (dir_going going) (leaves_going going) (texts_going going) rooms) its in
-        subst (IsDone change old) (sym now) (done change old (left came_name counts_now going leaves_stand rooms) sound.sound not_new may (
+        let left_name = named old source.at source.name None in
+        let housed = record left_name { homes = with_home old.homes (dentry_at target) inode } in
+        let came_name = named housed target.at target.name (Some inode) in
+        let counts = counts_moved old.counts source.at.dir.0 target.at.dir.0 (shows old target.at target.name) in
+        let before = first_made change old sound.cached sound.none in
+        let there_first = cached_there (λ (f : Cached). 1 < f.room) (here old.caches source.at.rank.0 (leaf_of source.at)) two in
+        let housed_made = made_tables _ _ None old left_name (made_named _ _ None old old before source.at source.name None there_first (inl (refl, refl))) (with_home old.homes (dentry_at target) inode) old.counts old.pins
+        (λ leaf live. record { known = moved_known old.homes old.covers sound.sound.table (dentry_at target) inode relocates leaf.0.0 ∙ live.known; stands = live.stands }) in
+        let there_second = roomy_there _ (room_left old.caches source.at.rank.0 target.at.rank.0 (leaf_of source.at) (leaf_of target.at) source.name (record { version = old.next_version; inode = None }) two one) in
+        let named = is_named _ _ None old housed housed_made target.at target.name (Some inode) there_second in
+        let now : new ≡ left came_name counts going leaves_stand rooms = is ∙ ap (λ (n : List ℕ). without_dir (moved old source.at source.name target.at target.name n inode) (dir_going going) (leaves_going going) (texts_going going) rooms) its in
+        subst (IsDone change old) (sym now) (done change old (left came_name counts going leaves_stand rooms) sound.sound not_new may (
           without (state_of came_name) (dir_going going),
-          (state_of left_name, is_named _ _ None old old before_move source.at source.name None there_first, (record (state_of came_name) { homes = old.homes }, named_twice, refl)),
-          is_gone came_name counts_now going leaves_stand rooms ∙ ap (λ (b : Bool). record (without (state_of came_name) (dir_going going)) {
+          (
+            state_of left_name,
+            is_named _ _ None old old before source.at source.name None there_first,
+            (record (state_of came_name) { homes = old.homes }, record { before = named.before; stands = named.stands; left = λ i. record (named.left i) { homes = old.homes } }, refl),
+          ),
+          is_gone came_name counts going leaves_stand rooms ∙ ap (λ (b : Bool). record (without (state_of came_name) (dir_going going)) {
             counts = rows_but (counts_moved old.counts source.at.dir.0 target.at.dir.0 b) (dir_going going);
             pins = rows_but old.pins (dir_going going);
           }) (stands_at_target one),
         )
-        (made_gone came_name counts_now going leaves_stand rooms _ _ old (λ r q is. is) (made_named _ _ None old housed housed_made target.at target.name (Some inode) there_second (inr (refl, refl)))
+        (made_gone came_name counts going leaves_stand rooms _ _ old (λ r q is. is) (made_named _ _ None old housed housed_made target.at target.name (Some inode) there_second (inr (refl, refl)))
         (λ was. subst (λ (k : Core). KeepsNone k.caches) now (none sound.none))) sound.begun)

@@ -42,24 +42,6 @@ sound_again s leaves tabled counted = record {
   once = leaves.once;
 }
 
--- whatever the counts and the pins are
-module _ (s : State) (counts : Entries) (pins : DirPins) (sound : HasSoundLeaves s) where
-  abbrev recounted : State
-  recounted = record s { counts = counts; pins = pins }
-
-  pub recounted_leaves : HasSoundLeaves recounted
-  recounted_leaves = record {
-    table = sound.table;
-    numbered = sound.numbered;
-    placed = sound.placed;
-    unsaved = λ leaf u is. let old = sound.unsaved leaf u is in record { live = old.live; made = old.made; young = old.young };
-    saved = sound.saved;
-    owned = λ name there. sound.owned name there;
-    listed = sound.listed;
-    standing = λ leaf job is. let old = sound.standing leaf job is in record { mine = old.mine; given = old.given; young = old.young; unsaved = old.unsaved; beside = old.beside; taken = old.taken };
-    once = sound.once;
-  }
-
 -- ---- what stands in a tree whose leaves are sound
 
 module _ (s : State) (sound : HasSoundLeaves s) where
