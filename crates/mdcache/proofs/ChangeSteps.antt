@@ -117,22 +117,15 @@ filled_none c a f only absent s q placed = ⊎_elim (λ is. is) (λ own. absurd 
 
 module _ (Uses Ends : ℕ → Leaf → Type 0) (old c : Core) (a : Dirfrag) (before : HasMade Uses Ends (Some (a.rank, leaf_of a)) old c) (absent : map.get c.caches.held (leaf_of a) ≡ None) (home : Home) (object : List ℕ) (room : Rooms)
     (live : IsLive (map.insert c.homes a.dir.0 home) c.covers (leaf_of a)) (still : (leaf : Leaf) → IsLive c.homes c.covers leaf → IsLive (map.insert c.homes a.dir.0 home) c.covers leaf) where
-  abbrev grown : Core
-  grown = with_dir c a home object room
-
-  abbrev fresh : Cached
-  fresh = made_frag c.next_generation
-
-  -- no place is kept then
-  none : KeepsNone grown.caches
-  none = filled_none c.caches a fresh before.only absent
-
-  pub made_dir : Uses a.rank.0 (leaf_of a) → HasMade Uses Ends None old grown
-  made_dir uses = record {
-    came = has c.caches a.rank.0 (leaf_of a) fresh before.came uses;
-    cached = cached_with (state_of grown) c.caches a.rank.0 (leaf_of a) fresh (cached_on (state_of c) (state_of grown) c.caches still refl (omega arith) before.cached) (record { live = live; tied = tt; made = omega arith });
-    only = none_only None grown.caches none;
-  }
+  pub made_dir : Uses a.rank.0 (leaf_of a) → HasMade Uses Ends None old (with_dir c a home object room)
+  made_dir uses =
+      let fresh = made_frag c.next_generation in
+      let grown = state_of (with_dir c a home object room) in
+      record {
+        came = has c.caches a.rank.0 (leaf_of a) fresh before.came uses;
+        cached = cached_with grown c.caches a.rank.0 (leaf_of a) fresh (cached_on (state_of c) grown c.caches still refl (omega arith) before.cached) (record { live = live; tied = tt; made = omega arith });
+        only = none_only None (with_dir c a home object room).caches (filled_none c.caches a fresh before.only absent);
+      }
 
 -- ---- leaves end
 

@@ -105,41 +105,25 @@ module _ (old new : Core) (sound : IsSound (state_of old)) (begun : 0 < old.next
     -- a directory has its home, and its leaf, for which a place is kept
     module _ (only : KeepsOnlyAt kept old.caches) (kept_place : IsKeptFor old.caches spot.at.rank.0 (first_leaf inode.ino)) (kinded : is_dir_kind inode.kind ≡ true) (fits : inode.ino.0 < 2 ^ 64) (rank : spot.at.rank.0 < length old.caches.used)
         (may : MayChange (shown_in old) old.covers (adds spot inode)) (rooms : Rooms) where
-      abbrev grown : Core
-      grown = with_dir (with_entry now place.dir) first (home_at (dentry_at spot)) (text_of (first_leaf inode.ino)) rooms
-
-      dir_may_come : MayCome old.homes inode.ino.0 (home_at (dentry_at spot))
-      dir_may_come = may_come (shown_in old) old.homes (dentry_at spot) inode sound.tabled may.takes
-
-      before_dir : HasMade (IsNamedIn (adds spot inode)) (EndsWith (adds spot inode)) kept old old
-      before_dir = made_first _ _ kept old cached only
-
-      dir_grown : HasMade (IsNamedIn (adds spot inode)) (EndsWith (adds spot inode)) None old grown
-      dir_grown =
-          let leaves = sound_leaves (state_of old) sound in
-          let named = made_named _ _ kept old old before_dir place spot.name (Some inode) there (inl (refl, refl)) in
-          made_dir _ _ old (with_entry now place.dir) first (made_tables _ _ kept old now named old.homes (one_more old.counts place.dir.0) old.pins (λ leaf live. live))
-          (kept_named old place spot.name (Some inode) there (first_leaf inode.ino) kept_place rank).1 (home_at (dentry_at spot)) (text_of (first_leaf inode.ino)) rooms
-          (first_live (state_of old) leaves (dentry_at spot) inode.ino dir_may_come fits) (grown_live (state_of old) leaves (dentry_at spot) inode.ino dir_may_come fits) (inr (refl, refl))
-
-      abbrev with_leaf : State
-      with_leaf = record (with_directory (state_of now) (dentry_at spot) inode.ino) { counts = map.insert (one_more old.counts place.dir.0) inode.ino.0 0 }
-
-      is_noted : with_leaf ≡ record (with_new (state_of now) (dentry_at spot) inode) { counts = with_count (one_more old.counts place.dir.0) inode; pins = old.pins }
-      is_noted = sym (ap (λ (b : Bool). record (cond b (with_directory (state_of now) (dentry_at spot) inode.ino) (state_of now)) {
-        counts = cond b (map.insert (one_more old.counts place.dir.0) inode.ino.0 0) (one_more old.counts place.dir.0);
-        pins = old.pins;
-      }) kinded)
-
       pub directory_done : (made : NewDirectory) → made.name ≡ spot.name → string_bytes made.object ≡ text_of (first_leaf inode.ino)
           → new ≡ with_dir (with_entry now place.dir) first (record { parent = spot.at.dir; name = made.name }) (string_bytes made.object) rooms → IsDone (adds spot inode) old new
       directory_done made name object is =
+          let leaves = sound_leaves (state_of old) sound in
+          let come = may_come (shown_in old) old.homes (dentry_at spot) inode sound.tabled may.takes in
+          let counts = one_more old.counts place.dir.0 in
+          let before = made_first (IsNamedIn (adds spot inode)) (EndsWith (adds spot inode)) kept old cached only in
+          let named = made_named _ _ kept old old before place spot.name (Some inode) there (inl (refl, refl)) in
+          let grown = made_dir _ _ old (with_entry now place.dir) first (made_tables _ _ kept old now named old.homes counts old.pins (λ leaf live. live))
+          (kept_named old place spot.name (Some inode) there (first_leaf inode.ino) kept_place rank).1 (home_at (dentry_at spot)) (text_of (first_leaf inode.ino)) rooms
+          (first_live (state_of old) leaves (dentry_at spot) inode.ino come fits) (grown_live (state_of old) leaves (dentry_at spot) inode.ino come fits) (inr (refl, refl)) in
+          let with_leaf : State = record (with_directory (state_of now) (dentry_at spot) inode.ino) { counts = map.insert counts inode.ino.0 0 } in
           subst (IsDone (adds spot inode) old) (sym (is ∙ (λ i. with_dir (with_entry now place.dir) first (record { parent = spot.at.dir; name = name i }) (object i) rooms)))
-          (done (adds spot inode) old grown sound (λ new. fits) may (
+          (done (adds spot inode) old (with_dir (with_entry now place.dir) first (home_at (dentry_at spot)) (text_of (first_leaf inode.ino)) rooms) sound (λ new. fits) may (
             with_new (state_of now) (dentry_at spot) inode,
-            (state_of now, is_named _ _ kept old old before_dir place spot.name (Some inode) there, refl),
-            (λ i. record with_leaf { unsaved = unclean_with now.caches spot.at.rank.0 (first_leaf inode.ino) (made_frag now.next_generation) i }) ∙ is_noted,
-          ) dir_grown (omega (arith, begun)))
+            (state_of now, is_named _ _ kept old old before place spot.name (Some inode) there, refl),
+            (λ i. record with_leaf { unsaved = unclean_with now.caches spot.at.rank.0 (first_leaf inode.ino) (made_frag now.next_generation) i })
+                ∙ sym (ap (λ (b : Bool). record (cond b (with_directory (state_of now) (dentry_at spot) inode.ino) (state_of now)) { counts = cond b (map.insert counts inode.ino.0 0) counts; pins = old.pins }) kinded),
+          ) grown (omega (arith, begun)))
 
   -- a name went, and the directory that stood there, if one did
   module _ (going : Option Going) (none : KeepsNone old.caches) (stands : IsGoingOrNone old.covers going) (may : MayChange (shown_in old) old.covers (removes spot (dir_going going))) (rooms : Rooms) where

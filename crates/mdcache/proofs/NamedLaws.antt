@@ -133,20 +133,16 @@ module _ (s : State) (sound : HasSoundLeaves s) (dentry : Dentry) (f : Fragment)
 
   -- what isn't clean
 
-  made : (o : Option Unsaved) → map.get s.unsaved leaf ≡ o → IsAsItStands o (object_of s.objects dentry.dir f) s.next_generation u → u.generation < s.next_generation
-  made (Some w) is h = omega (arith, (sound.unsaved leaf w is).made, ap (λ (x : Unsaved). x.generation) h)
-  made None is h = h.2
-
-  young_before : (o : Option Unsaved) → map.get s.unsaved leaf ≡ o → IsAsItStands o (object_of s.objects dentry.dir f) s.next_generation u → AreYoung u.dirty s.next_version
-  young_before (Some w) is h = subst (λ (x : Unsaved). AreYoung x.dirty s.next_version) (sym h) (sound.unsaved leaf w is).young
-  young_before None is h = λ name mark has. let clash : None ≡ Some mark = sym (ap (λ (m : Marks). map.get m name) h.1 ∙ get-empty key_cmp name) ∙ has in absurd cc
+  before : (o : Option Unsaved) → map.get s.unsaved leaf ≡ o → IsAsItStands o (object_of s.objects dentry.dir f) s.next_generation u → (u.generation < s.next_generation) × AreYoung u.dirty s.next_version
+  before (Some w) is h = let old = sound.unsaved leaf w is in subst (λ (x : Unsaved). (x.generation < s.next_generation) × AreYoung x.dirty s.next_version) (sym h) (old.made, old.young)
+  before None is h = (h.2, λ name mark has. let clash : None ≡ Some mark = sym (ap (λ (m : Marks). map.get m name) h.1 ∙ get-empty key_cmp name) ∙ has in absurd cc)
 
   younger : AreYoung v.dirty t.next_version
   younger name mark has = ⊎_elim
       (λ same.
       let its = same_Some (record { version = s.next_version; inode = inode }) mark (sym (ap (map.get v.dirty) same ∙ get_put u.dirty dentry.name _) ∙ has) in
       omega (arith, ap (λ (m : Mark). m.version) its))
-      (λ apart. omega (arith, young_before (map.get s.unsaved leaf) refl stands name mark (sym (get_beside u.dirty dentry.name _ name apart) ∙ has))) (key_or_apart name dentry.name)
+      (λ apart. omega (arith, (before (map.get s.unsaved leaf) refl stands).1 name mark (sym (get_beside u.dirty dentry.name _ name apart) ∙ has))) (key_or_apart name dentry.name)
 
   raised : (marks : Marks) → AreYoung marks s.next_version → AreYoung marks t.next_version
   raised marks young name mark has = omega (arith, young name mark has)
@@ -155,7 +151,7 @@ module _ (s : State) (sound : HasSoundLeaves s) (dentry : Dentry) (f : Fragment)
   unsaved_still q w is = ⊎_elim
       (λ same.
       let its = same_Some v w (sym unsaved_here ∙ ap (map.get t.unsaved) (sym same) ∙ is) in
-      subst (IsUnsaved t q) its (subst (λ (l : Leaf). IsUnsaved t l v) (sym same) (record { live = live; made = made (map.get s.unsaved leaf) refl stands; young = younger })))
+      subst (IsUnsaved t q) its (subst (λ (l : Leaf). IsUnsaved t l v) (sym same) (record { live = live; made = (before (map.get s.unsaved leaf) refl stands).0; young = younger })))
       (λ apart. let old = sound.unsaved q w (sym (unsaved_beside q apart) ∙ is) in record { live = old.live; made = old.made; young = raised w.dirty old.young }) (leaf_or_apart q leaf)
 
   -- jobs
@@ -170,23 +166,22 @@ module _ (s : State) (sound : HasSoundLeaves s) (dentry : Dentry) (f : Fragment)
       new (Some then) is = λ same. absurd (omega (arith, young name then is, same))
 
   standing_here : (job : Job) → IsStanding s leaf job → IsStanding t leaf job
-  standing_here job old = record {
-    mine = old.mine;
-    given = old.given;
-    young = raised job.snapshot.names old.young;
-    unsaved = v;
-    beside = unsaved_here;
-    taken = record {
-      valid = old.taken.valid;
-      base = old.taken.base ∙ ap (λ (x : Unsaved). x.base) its;
-      generation = old.taken.generation ∙ ap (λ (x : Unsaved). x.generation) its;
-      keeps = keeps job (subst (λ (x : Unsaved). Keeps x.dirty job.snapshot.names) its old.taken.keeps) old.young;
-      counted = old.taken.counted;
-    };
-  }
-    where
-      its : old.unsaved ≡ u
-      its = sym (subst (λ o. IsAsItStands o (object_of s.objects dentry.dir f) s.next_generation u) old.beside stands)
+  standing_here job old =
+      let its : old.unsaved ≡ u = sym (subst (λ o. IsAsItStands o (object_of s.objects dentry.dir f) s.next_generation u) old.beside stands) in
+      record {
+        mine = old.mine;
+        given = old.given;
+        young = raised job.snapshot.names old.young;
+        unsaved = v;
+        beside = unsaved_here;
+        taken = record {
+          valid = old.taken.valid;
+          base = old.taken.base ∙ ap (λ (x : Unsaved). x.base) its;
+          generation = old.taken.generation ∙ ap (λ (x : Unsaved). x.generation) its;
+          keeps = keeps job (subst (λ (x : Unsaved). Keeps x.dirty job.snapshot.names) its old.taken.keeps) old.young;
+          counted = old.taken.counted;
+        };
+      }
 
   standing_still : (q : Leaf) (job : Job) → IsStanding s q job → IsStanding t q job
   standing_still q job old = ⊎_elim (λ same. subst (λ (l : Leaf). IsStanding t l job) (sym same) (standing_here job (subst (λ (l : Leaf). IsStanding s l job) same old)))
