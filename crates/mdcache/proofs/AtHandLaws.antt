@@ -1,5 +1,5 @@
 -- Commits of whole fragments.
-use Rattle.mdcache.proofs.Common.{BeginsWith, BegunAreAtHand, BegunLeaveAtHand, EndedAreClean, IsAtHand, Job, Mark, Marks, None, Option, OthersStayAtHand, Some, State, Stored, Unsaved, ap, cond, eq-eqb, get-empty, get-unsettled, is_settled, key_cmp, len-empty, next_version, not, one_map, refl, same_Some, stored_with, sym, unsettled, with_unsaved, ℕ, ◌==◌, ◌∙◌, ◌≡◌}
+use Rattle.mdcache.proofs.Common.{BeginsWith, BegunAreAtHand, BegunLeaveAtHand, EndedAreClean, IsAtHand, Job, Mark, Marks, None, Option, OthersStayAtHand, Some, State, Stored, Unsaved, ap, cond, eq-eqb, get-empty, get-unsettled, is_settled, key_cmp, len-empty, next_version, not, one_map, refl, same_Some, stored_with, sym, unsettled, with_unsaved, ℕ, ◌∙◌, ◌≡◌}
 use Rattle.std.specs.FinMap as map
 use Rattle.mds_types.proofs.LeafLaws.{get_beside, get_left, get_put}
 use Rattle.mdcache.specs.Commits.{leaf_of, left_of}

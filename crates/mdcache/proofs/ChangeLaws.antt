@@ -1,7 +1,6 @@
 -- The four changes are right.
-use Rattle.mdcache.proofs.Common.{Alters, Bool, Change, ChangesAreRight, ChangesOnly, Contains, Counts, Covers, Dentry, DirPins, Fragment, HasLeaf, HasNumber, Homes, Ino, Inode, IsCounted, IsLeafAt, IsLive, IsMove, IsNamed, IsRight, IsSound, IsTable, IsTabled, IsUntouched, IsWellFormed, KeepLeaves, Leaf, List, MayChange, MayCome, MayGo, MayRemove, None, NothingIn, Option, Shape, Some, Spot, State, StaysAsItIs, Tree, [], add, added_counted, added_tabled, adds, ap, arith, changed, cond, counts_moved, dentry_at, dir_or_not, directory_at, entry_stands, false, first_or_later, fragments_of, home_at, in_directory, inl, inr, is_dir_kind, is_directory, is_known, is_some, known_is, leaf_is, leaf_of, leaf_or_apart, leaves, leaves_gone, leaves_kept, leaves_of, may_come, may_drop, may_relocate, may_replace, move, moved_counted, moved_tabled, moves, nat_cmp, noted, nothing_in, one_leaf, one_less, refl, remove, removed_counted, removed_tabled, removes, replaced_empty, rows_but, same_Some, set, set_counted, set_tabled, sets, shape_of, shown_tree, stands_after_removal, subst, suc, sym, true, with_dir, with_directory, with_file, with_home, with_home_at, with_moved, without, without_cover, without_directory, without_home, without_row, zero, ℕ, ◌<◌, ◌^◌, ◌∙◌, ◌∷◌, ◌≡◌, ◌⊎◌}
+use Rattle.mdcache.proofs.Common.{Alters, Change, ChangesAreRight, ChangesOnly, Contains, Counts, Covers, Dentry, DirPins, Fragment, HasLeaf, HasNumber, Homes, Ino, Inode, IsCounted, IsLeafAt, IsLive, IsNamed, IsRight, IsSound, IsTabled, IsUntouched, KeepLeaves, Leaf, List, MayChange, MayCome, MayGo, None, NothingIn, Option, Shape, Some, Spot, State, StaysAsItIs, Tree, [], add, added_counted, added_tabled, adds, ap, arith, changed, cond, counts_moved, dentry_at, directory_at, entry_stands, false, fragments_of, home_at, is_dir_kind, is_directory, is_known, is_some, known_is, leaf_is, leaf_of, leaves, leaves_gone, leaves_kept, leaves_of, may_come, may_drop, may_relocate, may_replace, move, moved_counted, moved_tabled, moves, nat_cmp, noted, nothing_in, one_leaf, one_less, refl, remove, removed_counted, removed_tabled, removes, replaced_empty, rows_but, same_Some, set, set_counted, set_tabled, sets, shape_of, shown_tree, stands_after_removal, subst, suc, sym, true, with_dir, with_directory, with_file, with_home, with_home_at, with_moved, without, without_cover, without_directory, without_home, without_row, zero, ℕ, ◌<◌, ◌^◌, ◌∙◌, ◌∷◌, ◌≡◌}
 use Rattle.std.proofs.lemmas.Bool.{cond_both, false_from_ne_true}
-use Rattle.std.specs.Prelude.{map as each}
 use Rattle.std.specs.FinMap as map
 use Rattle.inode_table.specs.Dirs.{MayMove as MayRelocate}
 use Rattle.mdcache.proofs.NamedLaws.{HasSoundLeaves, named_leaves, named_tree, shows_beside, sound_leaves, with_at}

@@ -1,7 +1,6 @@
 -- A state once leaves were handed over: sound, and of the same tree.
-use Rattle.mdcache.proofs.Common.{AreCaches, AreCleanAt, AreHanded, AreUncleanAt, At, Base, Bool, CacheMap, Cached, Core, Err, Fresh, GivenOverIsRight, HandsOver, HaveNoJobs, HaveNoPlace, IsCachedIn, IsCounted, IsFrom, IsGivenOver, IsSound, IsSoundCore, IsStanding, IsTabled, IsThere, IsTied, IsTiedAt, IsUnsaved, IsUntouched, IsWholeBut, Job, KeepsNone, Leaf, List, MayNotHandOver, Names, None, NoneEnds, Ok, Omap, Option, Refusal, Some, State, Stored, Tree, Unsaved, UnsavedLeaves, WantsPlace, [], all_from, all_of, ap, arith, by_keeping, cap_roomy, cond, drop, false, given_up, handed, handed_from, has_place, here, imported, inl, inr, kept_all, leaf_is, length, list_any, moved, moved_all, moved_as, none_beside, object_of, ranks_handed, ranks_wants, refl, same_Some, shown_at, shown_in, shown_tree, state_of, subst, sym, true, unclean, unclean_in, wants_from, whole_handed, whole_wants, without_all, ℕ, ◌+◌, ◌<◌, ◌∙◌, ◌∷◌, ◌≡◌, ◌≢◌, ◌⊎◌}
+use Rattle.mdcache.proofs.Common.{AreCaches, AreCleanAt, AreHanded, AreUncleanAt, At, Base, Bool, CacheMap, Cached, Core, Err, Fresh, GivenOverIsRight, HandsOver, HaveNoJobs, HaveNoPlace, IfErr, IsCachedIn, IsCounted, IsFrom, IsGivenOver, IsSound, IsSoundCore, IsStanding, IsTabled, IsThere, IsTied, IsTiedAt, IsUnsaved, IsUntouched, IsWholeBut, Job, Leaf, List, MayNotHandOver, Names, None, NoneEnds, Ok, Omap, OnErr, OnOk, Option, Refusal, Result, Some, State, Stored, Tree, Unsaved, UnsavedLeaves, [], all_from, all_of, ap, arith, by_keeping, cap_roomy, cond, drop, false, given_up, handed, handed_from, has_place, here, imported, inl, inr, kept_all, leaf_is, length, list_any, moved_all, moved_as, none_beside, object_of, option_map, ranks_handed, ranks_wants, refl, same_Some, shown_at, shown_in, shown_tree, state_of, subst, sym, true, unclean, unclean_in, wants_from, whole_handed, whole_wants, without_all, ℕ, ⊎_elim, ◌+◌, ◌<◌, ◌∙◌, ◌∷◌, ◌≡◌, ◌≢◌, ◌⊎◌}
 use Rattle.std.proofs.lemmas.Bool.{false_from_ne_true}
-use Rattle.std.proofs.Common.{⊎_elim, option_map, Result, IfErr, OnErr, OnOk}
 use Rattle.std.specs.FinMap as map
 use Rattle.mdcache.specs.Shown.{names_of}
 use Rattle.mdcache.proofs.TreeLaws.{tree_alike}

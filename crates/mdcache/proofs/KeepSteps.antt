@@ -1,8 +1,7 @@
 -- A place that is kept for a leaf that will come, beside one that stays: what it leaves, and why it is refused.
-use Rattle.mdcache.proofs.Common.{AreCaches, CacheMap, Cached, Core, Err, IfErr, IsKeptFor, KeepsAt, KeepsNone, KeepsOnlyAt, LacksPlacesIn, Leaf, MakesRoomAt, MayNotFind, MayNotKeepAt, None, NoneEnds, Ok, OnErr, OnOk, Option, Rank, Reads, ReadsCore, Refusal, Result, Some, StaysNamed, absent_roomy, ap, at_rank, false, has_place, here, inl, inr, keeps_reads, length, refl, room_reads, staying, subst, sym, ℕ, ◌+◌, ◌<◌, ◌∙◌, ◌≡◌}
+use Rattle.mdcache.proofs.Common.{AreCaches, CacheMap, Cached, Core, Err, IfErr, IsKeptFor, KeepsAt, KeepsNone, KeepsOnlyAt, LacksPlacesIn, Leaf, MakesRoomAt, MayNotFind, MayNotKeepAt, None, NoneEnds, Ok, OnErr, OnOk, Option, Rank, ReadsCore, Refusal, Result, Some, StaysNamed, absent_roomy, ap, at_rank, false, has_place, here, inl, inr, keeps_reads, length, on_ok_weaker, refl, room_reads, staying, subst, sym, ℕ, ⊎_elim, ◌+◌, ◌<◌, ◌∙◌, ◌≡◌}
 use Rattle.std.specs.FinMap as map
-use Rattle.std.proofs.Common.{⊎_elim}
-use Rattle.std.proofs.lemmas.Result.{on_err_weaker, on_ok_weaker}
+use Rattle.std.proofs.lemmas.Result.{on_err_weaker}
 use Rattle.dentry_cache.specs.Reads.Reads.{stays as it_stays}
 use Rattle.mdcache.proofs.CoreLaws.{if_err, next_step, no_less_itself, not_found_before}
 use Rattle.mdcache.proofs.NoneLaws.{kept_for, kept_stays, none_absent, none_room, only_kept}

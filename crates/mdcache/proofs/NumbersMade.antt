@@ -1,5 +1,5 @@
 -- Each rank's numbers, one rank after the other.
-use Rattle.mdcache.proofs.Common.{AreNumbers, List, None, Some, Supply, Tree, [], ap, arith, length, refl, same_Some, slice_get, subst, suc, sym, zero, ℕ, ◌++◌, ◌+◌, ◌∙◌, ◌∷◌, ◌≡◌}
+use Rattle.mdcache.proofs.Common.{AreNumbers, List, None, Some, Supply, Tree, [], ap, length, refl, same_Some, slice_get, subst, suc, sym, zero, ℕ, ◌++◌, ◌+◌, ◌∙◌, ◌∷◌, ◌≡◌}
 use Rattle.std.proofs.lemmas.List.{length-append}
 use Rattle.cold_store.specs.Numbers.{IsNext}
 

@@ -1,7 +1,6 @@
 -- The leaves that aren't clean, as they are listed: each is so at its rank, no two are one, and where none is listed all is clean.
-use Rattle.mdcache.proofs.Common.{AllByRecursion, AreApart, AreCaches, At, Bool, CacheMap, Dirfrag, IsFree, IsUncleanAt, Leaf, List, None, NotAmong, Option, Some, Unsaved, [], ap, arith, at_rank, cond, eq-eqb, eqb-true, false, get-empty, get_or, get_unclean, here, inl, inr, is_some, leaf-exact, leaf_is, leaf_of, leaves_at, length, list_any, map-append, or_cases, refl, same_map, subst, suc, sym, take, true, unclean, unclean_among, unclean_from, unclean_places, unsaved_at, unsaved_in, zero, ℕ, ◌++◌, ◌+◌, ◌<◌, ◌==◌, ◌∙◌, ◌∷◌, ◌≡◌, ◌≤◌, ◌⊎◌}
+use Rattle.mdcache.proofs.Common.{AllByRecursion, AreApart, AreCaches, At, CacheMap, Dirfrag, IsFree, IsUncleanAt, Leaf, List, None, NotAmong, Option, Some, [], ap, arith, at_rank, cond, eq-eqb, eqb-true, false, get-empty, get_or, get_unclean, here, is_some, leaf-exact, leaf_is, leaf_of, leaves_at, length, list_any, map-append, or_cases, refl, same_map, subst, suc, sym, take, true, unclean, unclean_among, unclean_from, unclean_places, unsaved_at, unsaved_in, zero, ℕ, ⊎_elim, ◌++◌, ◌+◌, ◌<◌, ◌==◌, ◌∙◌, ◌∷◌, ◌≡◌, ◌≤◌}
 use Rattle.std.specs.List.{IsDistinct}
-use Rattle.std.proofs.Common.{⊎_elim}
 use Rattle.std.proofs.lemmas.Bool.{cond_both}
 use Rattle.std.specs.List.{take-map}
 use Rattle.std.specs.FinMap as map

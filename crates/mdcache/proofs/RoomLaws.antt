@@ -1,5 +1,5 @@
 -- Fragments that got room.
-use Rattle.mdcache.proofs.Common.{Bool, CacheMap, Cached, Edits, HasCached, HasRoom, IsButRoom, IsEdited, Leaf, None, Option, Some, ap, arith, at_rank, cond, eqb-true, false, here, here_is, here_put, here_with_frag, leaf_is, one_leaf, refl, room_changed, subst, sym, true, ℕ, ◌<◌, ◌==◌, ◌∙◌, ◌≡◌, ◌≤◌}
+use Rattle.mdcache.proofs.Common.{Bool, CacheMap, Cached, Edits, HasCached, HasRoom, IsButRoom, IsEdited, Leaf, None, Option, Some, ap, arith, at_rank, cond, eqb-true, here, here_is, here_put, here_with_frag, leaf_is, one_leaf, refl, room_changed, subst, sym, ℕ, ◌<◌, ◌==◌, ◌∙◌, ◌≡◌, ◌≤◌}
 use Rattle.std.proofs.lemmas.Bool.{cond_both}
 use Rattle.std.specs.FinMap as finmap
 

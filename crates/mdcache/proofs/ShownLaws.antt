@@ -1,6 +1,5 @@
 -- What stands in the shown tree: a name of a directory of the table stands for what the leaf has that its hash picks.
-use Rattle.mdcache.proofs.Common.{Bool, Covers, Dentry, Fragment, HasLeaf, Homes, Inode, Leaf, List, Names, None, Option, Some, [], ap, append_assoc, arith, cond, contains_key-keys, dentry-total, dentry_cmp, dentry_of, directories, entries_in, entries_of, entries_under, eq_by_cmp, eqb-true, false, find, first_or_later, get-entries, get-from_entries, inl, inr, is_apart, is_known, is_same, key_cmp, later, leaves_of, list_any, nat_cmp, option_or, refl, sym, tied_dentry, true, unsigned_tied, zero, ℕ, ◌&&◌, ◌++◌, ◌==◌, ◌||◌, ◌∙◌, ◌∷◌, ◌≡◌, ◌⊎◌}
-use Rattle.std.proofs.Common.{⊎_elim}
+use Rattle.mdcache.proofs.Common.{Bool, Covers, Dentry, Fragment, HasLeaf, Homes, Inode, Leaf, List, Names, None, Option, Some, [], ap, append_assoc, arith, cond, contains_key-keys, dentry-total, dentry_cmp, dentry_of, directories, entries_in, entries_of, entries_under, eq_by_cmp, eqb-true, false, find, first_or_later, get-entries, get-from_entries, inl, inr, is_apart, is_known, is_same, key_cmp, later, leaves_of, list_any, nat_cmp, option_or, refl, sym, tied_dentry, true, unsigned_tied, zero, ℕ, ⊎_elim, ◌&&◌, ◌++◌, ◌==◌, ◌||◌, ◌∙◌, ◌∷◌, ◌≡◌, ◌⊎◌}
 use Rattle.std.specs.FinMap as finmap
 use Rattle.mdcache.specs.Shown.{tree_of}
 

@@ -1,6 +1,5 @@
 -- What keeps a state sound.
-use Rattle.mdcache.proofs.Common.{AreCached, AreYoung, Bool, CacheMap, IsCounted, IsLive, IsOf, IsOwned, IsSaved, IsSound, IsStanding, IsTabled, IsTied, Job, Jobs, Keys, Leaf, List, Names, None, Objects, Some, State, Unsaved, ap, arith, cond, false, get-insert, get-remove, inl, inr, is_some, leaf-total, leaf_is, object_of, one_leaf, refl, same_Some, shown_at, shown_tree, subst, sym, text_of, tied_leaf, true, with_job, ℕ, ◌∙◌, ◌≡◌, ◌⊎◌}
-use Rattle.std.proofs.Common.{⊎_elim}
+use Rattle.mdcache.proofs.Common.{AreCached, AreYoung, Bool, CacheMap, IsCounted, IsLive, IsOf, IsOwned, IsSaved, IsSound, IsStanding, IsTabled, IsTied, Job, Jobs, Keys, Leaf, List, Names, None, Objects, Some, State, Unsaved, ap, arith, cond, get-insert, get-remove, inl, inr, is_some, leaf-total, leaf_is, object_of, one_leaf, refl, same_Some, shown_at, shown_tree, subst, sym, text_of, tied_leaf, true, with_job, ℕ, ⊎_elim, ◌∙◌, ◌≡◌, ◌⊎◌}
 use Rattle.std.proofs.lemmas.Bool.{cond_both}
 use Rattle.std.specs.FinMap as map
 use Rattle.mdcache.specs.Commits.{leaf_of}

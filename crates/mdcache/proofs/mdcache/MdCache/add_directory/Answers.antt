@@ -1,5 +1,4 @@
-use Rattle.mdcache.proofs.Common.{Core, IsSound, List, MayCome, State, adds, ap, dentry_at, known_is, may_come, rules, subst, sym, ℕ, ◌<◌, ◌∙◌}
-use Rattle.std.proofs.Common.{⊎_elim, inl, inr}
+use Rattle.mdcache.proofs.Common.{Core, IsSound, List, MayCome, State, adds, ap, dentry_at, inl, inr, known_is, may_come, subst, sym, ℕ, ⊎_elim, ◌<◌, ◌∙◌}
 use Rattle.mdcache.proofs.ChangesMade.{after_reads, directory_done, may_still, new_fits}
 use Rattle.mdcache.proofs.CoreLaws.{not_ready_wider, reads_state, there_after}
 use Rattle.mdcache.proofs.PrepareLaws.{dir_live, new_recordable}

@@ -1,5 +1,4 @@
-use Rattle.mdcache.proofs.Common.{Core, NoneEnds, adds, ap, dentry_at, inl, rules, ◌∙◌}
-use Rattle.std.proofs.Common.{⊎_elim, true, false, sym, ◌≡◌}
+use Rattle.mdcache.proofs.Common.{Core, NoneEnds, adds, ap, dentry_at, false, inl, sym, true, ⊎_elim, ◌∙◌, ◌≡◌}
 use Rattle.mdcache.proofs.ChangesMade.{after_reads, file_done, may_still, new_fits}
 use Rattle.mdcache.proofs.CoreLaws.{dir_known, not_ready_wider, reads_core_wider, there_after}
 use Rattle.mdcache.proofs.PrepareLaws.{dir_live, new_recordable, one_or_two}

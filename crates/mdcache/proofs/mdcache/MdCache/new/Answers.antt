@@ -1,4 +1,4 @@
-use Rattle.mdcache.proofs.Common.{Listed, Standing, ap, refl, rules}
+use Rattle.mdcache.proofs.Common.{Listed, Standing, ap, refl}
 use Rattle.mdcache.proofs.NewLaws.{new_core}
 use Rattle.mdcache.proofs.mdcache.MdCache.new.Goals as goal
 

@@ -1,4 +1,4 @@
-use Rattle.mdcache.proofs.Common.{Core, IfSome, Inode, IsRecordable, Option, ap, dentry_at, sets, subst, sym, ◌∙◌}
+use Rattle.mdcache.proofs.Common.{Core, IfSome, Inode, IsRecordable, Option, ap, dentry_at, subst, sym, ◌∙◌}
 use Rattle.mdcache.proofs.ChangesMade.{after_reads, may_still, set_done, set_listed}
 use Rattle.mdcache.proofs.CoreLaws.{not_ready_wider, there_after}
 use Rattle.mdcache.proofs.PrepareLaws.{entry_live, one_or_two, set_recordable, shows_entry}
