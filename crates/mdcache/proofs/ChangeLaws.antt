@@ -1,11 +1,11 @@
 -- The four changes are right.
-use Rattle.mdcache.proofs.Common.{Alters, Bool, Change, ChangesAreRight, ChangesOnly, Contains, Counts, Covers, Dentry, DirPins, Fragment, HasLeaf, HasNumber, Homes, Ino, Inode, IsCounted, IsLeafAt, IsLive, IsMove, IsNamed, IsRight, IsSound, IsTable, IsTabled, IsUntouched, IsWellFormed, KeepLeaves, Leaf, List, MayChange, MayCome, MayGo, MayRemove, None, NothingIn, Option, Shape, Some, Spot, State, StaysAsItIs, Tree, [], add, added_counted, added_tabled, adds, ap, arith, changed, cond, counts_moved, dentry_at, dir_or_not, directory_at, entry_stands, false, first_or_later, fragments_of, home_at, in_directory, inl, inr, is_dir_kind, is_directory, is_known, is_some, known_is, leaf_is, leaf_of, leaf_or_apart, leaves, leaves_gone, leaves_kept, leaves_of, may_come, may_drop, may_relocate, may_replace, move, moved_counted, moved_tabled, moves, nat_cmp, noted, nothing_in, one_less, refl, remove, removed_counted, removed_tabled, removes, replaced_empty, rows_but, set, set_counted, set_tabled, sets, shape_of, shown_tree, stands_after_removal, subst, suc, sym, true, with_dir, with_directory, with_file, with_home, with_home_at, with_moved, without, without_cover, without_directory, without_home, without_row, zero, ℕ, ◌<◌, ◌^◌, ◌∙◌, ◌∷◌, ◌≡◌, ◌⊎◌}
-use Rattle.std.specs.Prelude.{map as each}
+use Rattle.mdcache.proofs.Common.{Alters, Change, ChangesAreRight, ChangesOnly, Contains, Counts, Covers, Dentry, DirPins, Fragment, HasLeaf, HasNumber, Homes, Ino, Inode, IsCounted, IsLeafAt, IsLive, IsNamed, IsRight, IsSound, IsTabled, IsUntouched, KeepLeaves, Leaf, List, MayChange, MayCome, MayGo, None, NothingIn, Option, Shape, Some, Spot, State, StaysAsItIs, Tree, [], add, added_counted, added_tabled, adds, ap, arith, changed, cond, counts_moved, dentry_at, directory_at, entry_stands, false, fragments_of, home_at, is_dir_kind, is_directory, is_known, is_some, known_is, leaf_is, leaf_of, leaves, leaves_gone, leaves_kept, leaves_of, may_come, may_drop, may_relocate, may_replace, move, moved_counted, moved_tabled, moves, nat_cmp, noted, nothing_in, one_leaf, one_less, refl, remove, removed_counted, removed_tabled, removes, replaced_empty, rows_but, same_Some, set, set_counted, set_tabled, sets, shape_of, shown_tree, stands_after_removal, subst, suc, sym, true, with_dir, with_directory, with_file, with_home, with_home_at, with_moved, without, without_cover, without_directory, without_home, without_row, zero, ℕ, ◌<◌, ◌^◌, ◌∙◌, ◌∷◌, ◌≡◌}
+use Rattle.std.proofs.lemmas.Bool.{cond_both, false_from_ne_true}
 use Rattle.std.specs.FinMap as map
 use Rattle.inode_table.specs.Dirs.{MayMove as MayRelocate}
-use Rattle.mdcache.proofs.NamedLaws.{HasSoundLeaves, named_leaves, named_tree, recounted_leaves, shows_beside, sound_again, sound_leaves, with_at}
+use Rattle.mdcache.proofs.NamedLaws.{HasSoundLeaves, named_leaves, named_tree, shows_beside, sound_leaves, with_at}
 use Rattle.mdcache.proofs.HomeLaws.{grown_leaves, grown_live, grown_names, grown_tree, moved_home, moved_known, rehomed_leaves, rehomed_live, rehomed_tree}
-use Rattle.mdcache.proofs.GoneLaws.{left_leaves, left_live, left_names, left_tree}
+use Rattle.mdcache.proofs.GoneLaws.{left_leaves, left_live, left_names, left_tree, one_of_those}
 
 -- ---- what stays
 
@@ -14,11 +14,7 @@ stays_on a b c leaf first second = record { live = second.live; names = second.n
 
 -- a leaf that isn't on a list isn't its first, nor on the rest
 not_first : (q leaf : Leaf) (rest : List Leaf) → (Contains (leaf ∷ rest) q → ⊥) → leaf_is q leaf ≡ false
-not_first q leaf rest none = go (leaf_or_apart q leaf)
-  where
-    go : (q ≡ leaf) ⊎ (leaf_is q leaf ≡ false) → leaf_is q leaf ≡ false
-    go (inl same) = absurd (none (zero, omega arith, sym same))
-    go (inr apart) = apart
+not_first q leaf rest none = false_from_ne_true _ (λ same. none (zero, omega arith, sym (one_leaf q leaf same)))
 
 not_later : (q leaf : Leaf) (rest : List Leaf) → (Contains (leaf ∷ rest) q → ⊥) → Contains rest q → ⊥
 not_later q leaf rest none (k, stands, is) = none (suc k, omega (arith, stands), is)
@@ -51,7 +47,7 @@ named_so old new dentry f inode sound known pick named =
 dir_known : (s : State) (dentry : Dentry) → IsSound s → is_directory (shown_tree s) dentry.dir.0 ≡ true → is_known s.homes dentry.dir.0 ≡ true
 dir_known s dentry sound is = known_is (shown_tree s) s.homes sound.tabled dentry.dir.0 ∙ is
 
-entry_known : (s : State) (dentry : Dentry) (inode : Inode) → IsSound s → map.get (shown_tree s) dentry ≡ Some inode → is_known s.homes dentry.dir.0 ≡ true
+pub entry_known : (s : State) (dentry : Dentry) (inode : Inode) → IsSound s → map.get (shown_tree s) dentry ≡ Some inode → is_known s.homes dentry.dir.0 ≡ true
 entry_known s dentry inode sound stands = dir_known s dentry sound (sound.tabled.whole.parents dentry.dir.0 dentry.name inode stands)
 
 -- a table of one tree is that of another that is equal
@@ -71,86 +67,80 @@ record IsAltered (change : Change) (old new : State) : Type 0 where
 -- and then all
 noted_right : (change : Change) (old new : State) (counts : Counts) (pins : DirPins) → IsAltered change old new → IsCounted (changed (shown_tree old) change) counts pins → IsRight change old (record new { counts = counts; pins = pins })
 noted_right change old new counts pins altered counted = record {
-  sound = sound_again (record new { counts = counts; pins = pins }) (recounted_leaves new counts pins altered.sound) altered.tabled (subst (λ (t : Tree). IsCounted t counts pins) (sym altered.tree) counted);
+  sound = record {
+    table = its.table;
+    numbered = its.numbered;
+    tabled = altered.tabled;
+    counted = subst (λ (t : Tree). IsCounted t counts pins) (sym altered.tree) counted;
+    placed = its.placed;
+    unsaved = λ leaf u is. let old = its.unsaved leaf u is in record { live = old.live; made = old.made; young = old.young };
+    saved = its.saved;
+    owned = λ name there. its.owned name there;
+    listed = its.listed;
+    standing = λ leaf job is. let old = its.standing leaf job is in record { mine = old.mine; given = old.given; young = old.young; unsaved = old.unsaved; beside = old.beside; taken = old.taken };
+    once = its.once;
+  };
   tree = altered.tree;
   leaves = altered.leaves;
   frame = λ leaf none live. let still = altered.frame leaf none live in record { live = still.live; names = still.names };
 }
+  where
+    its : HasSoundLeaves new
+    its = altered.sound
 
 -- rows of directories without that of a directory that went
 row_gone : {X : Type 0} (rows : map.FinMap nat_cmp X) (found : Option Inode) → rows_but rows (directory_at found) ≡ without_row rows found
 row_gone rows None = refl
-row_gone rows (Some inode) = go (is_dir_kind inode.kind)
-  where
-    go : (b : Bool) → rows_but rows (cond b (Some inode.ino) None) ≡ cond b (map.remove rows inode.ino.0) rows
-    go true = refl
-    go false = refl
+row_gone rows (Some inode) = elim (is_dir_kind inode.kind) as (λ b. rows_but rows (cond b (Some inode.ino) None) ≡ cond b (map.remove rows inode.ino.0) rows) [ true ↦ refl | false ↦ refl ]
+
+-- a name got an inode, and no directory comes
+named_altered : (change : Change) (spot : Spot) (inode : Inode) (old new : State) → IsNamedSo old new (dentry_at spot) spot.at.frag (Some inode) → IsTabled (map.insert (shown_tree old) (dentry_at spot) inode) old.homes
+    → map.insert (shown_tree old) (dentry_at spot) inode ≡ changed (shown_tree old) change → leaf_of spot.at ∷ [] ≡ fragments_of old.covers change → IsAltered change old new
+named_altered change spot inode old new so tabled tree leaves = record {
+  sound = so.leaves;
+  tabled = tabled_as _ _ _ _ so.tree so.homes tabled;
+  tree = so.tree ∙ tree;
+  leaves = λ d is. ap (λ (c : Covers). leaves_of c d) so.covers;
+  frame = λ leaf none live. so.stays leaf (not_first leaf (leaf_of spot.at) [] (subst (λ (ls : List Leaf). Contains ls leaf → ⊥) (sym leaves) none)) live;
+}
 
 -- ---- other attributes
 
 set_altered : (spot : Spot) (inode : Inode) (old new : State) → IsSound old → MayChange (shown_tree old) old.covers (sets spot inode) → Alters (sets spot inode) old new → IsAltered (sets spot inode) old new
 set_altered spot inode old new sound may makes =
     let so = named_so old makes.0 (dentry_at spot) spot.at.frag (Some inode) (sound_leaves old sound) (entry_known old (dentry_at spot) may.takes.before sound may.takes.stands) may.carries.put makes.1 in
-    subst (IsAltered (sets spot inode) old) (sym makes.2) (record {
-      sound = so.leaves;
-      tabled = (tabled_as (map.insert (shown_tree old) (dentry_at spot) inode) (shown_tree makes.0) old.homes makes.0.homes so.tree so.homes (set_tabled (shown_tree old) old.homes (dentry_at spot) inode sound.tabled may.takes));
-      tree = so.tree;
-      leaves = λ d is. ap (λ (c : Covers). leaves_of c d) so.covers;
-      frame = λ leaf none live. so.stays leaf (not_first leaf (leaf_of spot.at) [] none) live;
-    })
+    subst (IsAltered (sets spot inode) old) (sym makes.2)
+    (named_altered (sets spot inode) spot inode old makes.0 so (set_tabled (shown_tree old) old.homes (dentry_at spot) inode sound.tabled may.takes) refl refl)
 
 -- ---- a new inode
 
-module _ (spot : Spot) (inode : Inode) (old named : State) (sound : IsSound old) (fits : inode.ino.0 < 2 ^ 64) (may : MayChange (shown_tree old) old.covers (adds spot inode))
-    (so : IsNamedSo old named (dentry_at spot) spot.at.frag (Some inode)) where
-  grown_tabled : IsTabled (map.insert (shown_tree old) (dentry_at spot) inode) (with_home old.homes (dentry_at spot) inode)
-  grown_tabled = added_tabled (shown_tree old) old.homes (dentry_at spot) inode sound.tabled may.takes
+-- a directory comes with it
+added_dir : (spot : Spot) (inode : Inode) (old named : State) → IsSound old → inode.ino.0 < 2 ^ 64 → MayChange (shown_tree old) old.covers (adds spot inode) → IsNamedSo old named (dentry_at spot) spot.at.frag (Some inode) → is_dir_kind inode.kind ≡ true
+    → IsAltered (adds spot inode) old (with_directory named (dentry_at spot) inode.ino)
+added_dir spot inode old named sound fits may so kinded = record {
+  sound = grown_leaves named so.leaves (dentry_at spot) inode.ino come fits;
+  tabled = tabled_as _ _ _ _ tree (ap (λ (h : Homes). map.insert h inode.ino.0 (home_at (dentry_at spot))) so.homes ∙ sym (with_dir old.homes (dentry_at spot) inode kinded))
+      (added_tabled (shown_tree old) old.homes (dentry_at spot) inode sound.tabled may.takes);
+  tree = tree;
+  leaves = λ d is. ap (λ (c : Covers). leaves_of c d) so.covers;
+  frame = λ leaf none live.
+      let first = so.stays leaf (not_first leaf (leaf_of spot.at) [] none) live in
+      stays_on old named _ leaf first (record { live = grown_live named so.leaves (dentry_at spot) inode.ino come fits leaf first.live; names = grown_names named so.leaves (dentry_at spot) inode.ino come fits leaf first.live });
+}
+  where
+    come : MayCome named.homes inode.ino.0 (home_at (dentry_at spot))
+    come = subst (λ (h : Homes). MayCome h inode.ino.0 (home_at (dentry_at spot))) (sym so.homes) (may_come (shown_tree old) old.homes (dentry_at spot) inode sound.tabled may.takes)
 
-  added_file : is_dir_kind inode.kind ≡ false → IsAltered (adds spot inode) old named
-  added_file kinded = record {
-    sound = so.leaves;
-    tabled = tabled_as (map.insert (shown_tree old) (dentry_at spot) inode) (shown_tree named) (with_home old.homes (dentry_at spot) inode) named.homes so.tree (so.homes ∙ sym (with_file old.homes (dentry_at spot) inode kinded)) grown_tabled;
-    tree = so.tree;
-    leaves = λ d is. ap (λ (c : Covers). leaves_of c d) so.covers;
-    frame = λ leaf none live. so.stays leaf (not_first leaf (leaf_of spot.at) [] none) live;
-  }
-
-  added_dir : is_dir_kind inode.kind ≡ true → IsAltered (adds spot inode) old (with_directory named (dentry_at spot) inode.ino)
-  added_dir kinded = record {
-    sound = grown_leaves named so.leaves (dentry_at spot) inode.ino come fits;
-    tabled = tabled_as (map.insert (shown_tree old) (dentry_at spot) inode) (shown_tree grown) (with_home old.homes (dentry_at spot) inode) grown.homes tree homes grown_tabled;
-    tree = tree;
-    leaves = λ d is. ap (λ (c : Covers). leaves_of c d) so.covers;
-    frame = λ leaf none live.
-        let first = so.stays leaf (not_first leaf (leaf_of spot.at) [] none) live in
-        stays_on old named grown leaf first (record { live = grown_live named so.leaves (dentry_at spot) inode.ino come fits leaf first.live; names = grown_names named so.leaves (dentry_at spot) inode.ino come fits leaf first.live });
-  }
-    where
-      grown : State
-      grown = with_directory named (dentry_at spot) inode.ino
-
-      come : MayCome named.homes inode.ino.0 (home_at (dentry_at spot))
-      come = subst (λ (h : Homes). MayCome h inode.ino.0 (home_at (dentry_at spot))) (sym so.homes) (may_come (shown_tree old) old.homes (dentry_at spot) inode sound.tabled may.takes)
-
-      tree : shown_tree grown ≡ map.insert (shown_tree old) (dentry_at spot) inode
-      tree = grown_tree named so.leaves (dentry_at spot) inode.ino come fits ∙ so.tree
-
-      homes : grown.homes ≡ with_home old.homes (dentry_at spot) inode
-      homes = ap (λ (h : Homes). map.insert h inode.ino.0 (home_at (dentry_at spot))) so.homes ∙ sym (with_dir old.homes (dentry_at spot) inode kinded)
+    tree : shown_tree (with_directory named (dentry_at spot) inode.ino) ≡ map.insert (shown_tree old) (dentry_at spot) inode
+    tree = grown_tree named so.leaves (dentry_at spot) inode.ino come fits ∙ so.tree
 
 add_altered : (spot : Spot) (inode : Inode) (old new : State) → IsSound old → inode.ino.0 < 2 ^ 64 → MayChange (shown_tree old) old.covers (adds spot inode) → Alters (adds spot inode) old new
     → IsAltered (adds spot inode) old new
-add_altered spot inode old new sound fits may makes = go (dir_or_not inode)
-  where
-    so : IsNamedSo old makes.0 (dentry_at spot) spot.at.frag (Some inode)
-    so = named_so old makes.0 (dentry_at spot) spot.at.frag (Some inode) (sound_leaves old sound) (dir_known old (dentry_at spot) sound may.takes.parent) may.carries.put makes.1
-
-    is_with : (b : Bool) → is_dir_kind inode.kind ≡ b → new ≡ cond b (with_directory makes.0 (dentry_at spot) inode.ino) makes.0
-    is_with b is = makes.2 ∙ ap (λ (c : Bool). cond c (with_directory makes.0 (dentry_at spot) inode.ino) makes.0) is
-
-    go : (is_dir_kind inode.kind ≡ true) ⊎ (is_dir_kind inode.kind ≡ false) → IsAltered (adds spot inode) old new
-    go (inl kinded) = subst (IsAltered (adds spot inode) old) (sym (is_with true kinded)) (added_dir spot inode old makes.0 sound fits may so kinded)
-    go (inr kinded) = subst (IsAltered (adds spot inode) old) (sym (is_with false kinded)) (added_file spot inode old makes.0 sound fits may so kinded)
+add_altered spot inode old new sound fits may makes =
+    let so = named_so old makes.0 (dentry_at spot) spot.at.frag (Some inode) (sound_leaves old sound) (dir_known old (dentry_at spot) sound may.takes.parent) may.carries.put makes.1 in
+    subst (IsAltered (adds spot inode) old) (sym makes.2) (cond_both (is_dir_kind inode.kind) (with_directory makes.0 (dentry_at spot) inode.ino) makes.0 (IsAltered (adds spot inode) old) (added_dir spot inode old makes.0 sound fits may so)
+    (λ file. named_altered (adds spot inode) spot inode old makes.0 so (subst (IsTabled (map.insert (shown_tree old) (dentry_at spot) inode)) (with_file old.homes (dentry_at spot) inode file)
+    (added_tabled (shown_tree old) old.homes (dentry_at spot) inode sound.tabled may.takes)) refl refl))
 
 -- ---- what goes
 
@@ -160,25 +150,12 @@ record IsLeftSo (named new : State) (gone : Option Ino) : Type 0 where
   tree : shown_tree new ≡ shown_tree named
   stays : (leaf : Leaf) → (Contains (leaves_gone named.covers gone) leaf → ⊥) → IsLive named.homes named.covers leaf → StaysAsItIs named new leaf
 
--- a leaf of a directory that goes is one of those of it
-one_of_those : (covers : Covers) (d : ℕ) (leaf : Leaf) → (Contains (leaves covers d) leaf → ⊥) → HasLeaf (leaves_of covers leaf.0.0) leaf.1 → leaf.0.0 ≡ d → ⊥
-one_of_those covers d leaf none stands same =
-    none (subst (λ (l : Leaf). Contains (leaves covers d) l) (λ i. (record { 0 = sym same i }, leaf.1)) (mapped (leaves_of covers d) (subst (λ (e : ℕ). HasLeaf (leaves_of covers e) leaf.1) same stands)))
-  where
-    mapped : (fs : List Fragment) → HasLeaf fs leaf.1 → Contains (each (in_directory d) fs) (in_directory d leaf.1)
-    mapped [] (k, stands, is) = absurd (omega (arith, stands))
-    mapped (g ∷ gs) has = go (mapped gs) (first_or_later g leaf.1 gs has)
-      where
-        go : (HasLeaf gs leaf.1 → Contains (each (in_directory d) gs) (in_directory d leaf.1)) → (g ≡ leaf.1) ⊎ HasLeaf gs leaf.1 → Contains (each (in_directory d) (g ∷ gs)) (in_directory d leaf.1)
-        go next (inl here) = (zero, omega arith, ap (in_directory d) here)
-        go next (inr more) = let n = next more in let stands = n.1 in (suc n.0, omega (arith, stands), n.2)
-
 dir_left : (named : State) (dir : Ino) → HasSoundLeaves named → MayGo named.homes dir.0 → is_known named.homes dir.0 ≡ true → NothingIn (shown_tree named) dir.0 → IsLeftSo named (without_directory named dir) (Some dir)
 dir_left named dir sound may known nothing = record {
   leaves = left_leaves named sound dir may known nothing;
   tree = left_tree named sound dir may known nothing;
   stays = λ leaf none live.
-      let apart = one_of_those named.covers dir.0 leaf none live.stands in
+      let apart : leaf.0.0 ≡ dir.0 → ⊥ = λ same. none (one_of_those dir.0 leaf (leaves_of named.covers dir.0) same (subst (λ (d : ℕ). HasLeaf (leaves_of named.covers d) leaf.1) same live.stands)) in
       record { live = left_live named sound dir may known nothing leaf apart live; names = left_names named sound dir may known nothing leaf apart };
 }
 
@@ -186,199 +163,109 @@ none_left : (named : State) → HasSoundLeaves named → IsLeftSo named named No
 none_left named sound = record { leaves = sound; tree = refl; stays = λ leaf none live. record { live = live; names = refl } }
 
 -- the table and the leaves of directories without what stood at a dentry
-homes_without : (s : State) (found : Option Inode) → (without s (directory_at found)).homes ≡ without_home s.homes found
-homes_without s None = refl
-homes_without s (Some inode) = go (is_dir_kind inode.kind)
-  where
-    go : (b : Bool) → (without s (cond b (Some inode.ino) None)).homes ≡ cond b (map.remove s.homes inode.ino.0) s.homes
-    go true = refl
-    go false = refl
-
-covers_without : (s : State) (found : Option Inode) → (without s (directory_at found)).covers ≡ without_cover s.covers found
-covers_without s None = refl
-covers_without s (Some inode) = go (is_dir_kind inode.kind)
-  where
-    go : (b : Bool) → (without s (cond b (Some inode.ino) None)).covers ≡ cond b (map.remove s.covers inode.ino.0) s.covers
-    go true = refl
-    go false = refl
+tables_without : (s : State) (found : Option Inode) → ((without s (directory_at found)).homes ≡ without_home s.homes found) × ((without s (directory_at found)).covers ≡ without_cover s.covers found)
+tables_without s None = (refl, refl)
+tables_without s (Some inode) = elim (is_dir_kind inode.kind)
+    as (λ b. ((without s (cond b (Some inode.ino) None)).homes ≡ cond b (map.remove s.homes inode.ino.0) s.homes) × ((without s (cond b (Some inode.ino) None)).covers ≡ cond b (map.remove s.covers inode.ino.0) s.covers)) [
+      | true ↦ (refl, refl)
+      | false ↦ (refl, refl)
+    ]
 
 -- what stood at a dentry goes, whatever it was
 left_so : (named : State) (found : Option Inode) → HasSoundLeaves named
     → ((inode : Inode) → found ≡ Some inode → is_dir_kind inode.kind ≡ true → MayGo named.homes inode.ino.0 × (is_known named.homes inode.ino.0 ≡ true) × NothingIn (shown_tree named) inode.ino.0)
     → IsLeftSo named (without named (directory_at found)) (directory_at found)
 left_so named None sound may = none_left named sound
-left_so named (Some inode) sound may = go (is_dir_kind inode.kind) refl
-  where
-    go : (b : Bool) → is_dir_kind inode.kind ≡ b → IsLeftSo named (without named (cond b (Some inode.ino) None)) (cond b (Some inode.ino) None)
-    go true kinded = let m = may inode refl kinded in dir_left named inode.ino sound m.0 m.1 m.2
-    go false kinded = none_left named sound
+left_so named (Some inode) sound may = cond_both (is_dir_kind inode.kind) (Some inode.ino) None (λ g. IsLeftSo named (without named g) g)
+    (λ kinded. let m = may inode refl kinded in dir_left named inode.ino sound m.0 m.1 m.2) (λ kinded. none_left named sound)
 
 -- an entry that stands for a directory is known
 stands_known : (s : State) (dentry : Dentry) (inode : Inode) → IsSound s → map.get (shown_tree s) dentry ≡ Some inode → is_dir_kind inode.kind ≡ true → is_known s.homes inode.ino.0 ≡ true
 stands_known s dentry inode sound stands kinded = known_is (shown_tree s) s.homes sound.tabled inode.ino.0 ∙ entry_stands (shown_tree s) dentry inode stands kinded
 
--- ---- a removal
-
--- where an entry went, nothing is in what stood there
-removed_empty : (tree : Tree) (dentry : Dentry) → IsWellFormed tree → (may : MayRemove tree dentry) → NothingIn (map.remove tree dentry) may.inode.ino.0
-removed_empty tree dentry whole may q x stands same = nothing_in tree dentry may.inode whole may.stands may.empty q x (stands_after_removal tree dentry q x stands).1 same
-
-remove_altered : (spot : Spot) (gone : Option Ino) (old new : State) → IsSound old → MayChange (shown_tree old) old.covers (removes spot gone) → Alters (removes spot gone) old new → IsAltered (removes spot gone) old new
-remove_altered spot gone old new sound may makes = record {
+-- an entry went from a dentry, or came there in place of another, and what stood there goes after it
+gone_altered : (change : Change) (old before new : State) (tree : Tree) (homes : Homes) (dentry : Dentry) (gone : Option Ino) → gone ≡ directory_at (map.get (shown_tree old) dentry) → new ≡ without before gone → IsSound old → HasSoundLeaves before
+    → shown_tree before ≡ tree → before.homes ≡ homes → before.covers ≡ old.covers → changed (shown_tree old) change ≡ tree → IsTabled tree (without_home homes (map.get (shown_tree old) dentry))
+    → ((inode : Inode) → map.get (shown_tree old) dentry ≡ Some inode → is_dir_kind inode.kind ≡ true → MayGo homes inode.ino.0 × (is_known before.homes inode.ino.0 ≡ true) × NothingIn tree inode.ino.0)
+    → ((leaf : Leaf) → (Contains (fragments_of old.covers change) leaf → ⊥) → IsLive old.homes old.covers leaf → StaysAsItIs old before leaf × (Contains (leaves_gone old.covers gone) leaf → ⊥)) → IsAltered change old new
+gone_altered change old before new tree homes dentry gone goes is sound leaves shown housed covered makes tabled may stays = record {
   sound = its.leaves;
-  tabled = tabled_as (map.remove (shown_tree old) (dentry_at spot)) (shown_tree new) (without_home old.homes found) new.homes tree homes tabled;
-  tree = tree;
-  leaves = leaves_kept (shown_tree old) (shown_tree new) new.homes old.homes old.covers new.covers (dentry_at spot) found (tabled_as (map.remove (shown_tree old) (dentry_at spot)) (shown_tree new) (without_home old.homes found) new.homes tree homes tabled)
-      sound.tabled.whole refl homes covers;
+  tabled = tabled_now;
+  tree = its.tree ∙ shown ∙ sym makes;
+  leaves = leaves_kept (shown_tree old) (shown_tree new) new.homes homes old.covers new.covers dentry found tabled_now sound.tabled.whole refl homes_are
+      (ap (λ (t : State). t.covers) now ∙ (tables_without before found).1 ∙ ap (λ (c : Covers). without_cover c found) covered);
   frame = λ leaf none live.
-      let first = so.stays leaf (not_first leaf (leaf_of spot.at) (leaves_gone old.covers gone) none) live in
-      stays_on old named new leaf first (its.stays leaf (λ has. not_later leaf (leaf_of spot.at) (leaves_gone old.covers gone) none (subst (λ (c : Covers). Contains (leaves_gone c gone) leaf) so.covers has)) first.live);
+      let first = stays leaf none live in
+      stays_on old before new leaf first.0 (its.stays leaf (λ has. first.1 (subst (λ (c : Covers). Contains (leaves_gone c gone) leaf) covered has)) first.0.live);
 }
   where
-    named : State
-    named = makes.0
-
     found : Option Inode
-    found = map.get (shown_tree old) (dentry_at spot)
+    found = map.get (shown_tree old) dentry
 
-    so : IsNamedSo old named (dentry_at spot) spot.at.frag None
-    so = named_so old named (dentry_at spot) spot.at.frag None (sound_leaves old sound) (entry_known old (dentry_at spot) may.takes.inode sound may.takes.stands) may.carries.taken makes.1
+    now : new ≡ without before (directory_at found)
+    now = is ∙ ap (without before) goes
 
-    is : new ≡ without named (directory_at found)
-    is = makes.2 ∙ ap (without named) may.carries.gone
+    its : IsLeftSo before new gone
+    its = subst (λ (g : Option Ino). IsLeftSo before new g) (sym goes) (subst (λ (t : State). IsLeftSo before t (directory_at found)) (sym now) (left_so before found leaves (λ inode stood kinded.
+        let m = may inode stood kinded in
+        (subst (λ (h : Homes). MayGo h inode.ino.0) (sym housed) m.0, m.1, subst (λ (t : Tree). NothingIn t inode.ino.0) (sym shown) m.2))))
 
-    may_leave : (inode : Inode) → found ≡ Some inode → is_dir_kind inode.kind ≡ true → MayGo named.homes inode.ino.0 × (is_known named.homes inode.ino.0 ≡ true) × NothingIn (shown_tree named) inode.ino.0
-    may_leave inode there kinded =
-        let inodes : Some may.takes.inode ≡ Some inode = sym may.takes.stands ∙ there in
-        let alike : may.takes.inode ≡ inode = cc in (
-          subst (λ (h : Homes). MayGo h inode.ino.0) (sym so.homes) (may_drop (shown_tree old) old.homes (dentry_at spot) found refl sound.tabled may.takes inode there kinded),
-          ap (λ (h : Homes). is_known h inode.ino.0) so.homes ∙ stands_known old (dentry_at spot) inode sound there kinded,
-          subst (λ (t : Tree). NothingIn t inode.ino.0) (sym so.tree) (subst (λ (i : Inode). NothingIn (map.remove (shown_tree old) (dentry_at spot)) i.ino.0) alike (removed_empty (shown_tree old) (dentry_at spot) sound.tabled.whole may.takes)),
-        )
+    homes_are : new.homes ≡ without_home homes found
+    homes_are = ap (λ (t : State). t.homes) now ∙ (tables_without before found).0 ∙ ap (λ (h : Homes). without_home h found) housed
 
-    its : IsLeftSo named new gone
-    its = subst (λ (g : Option Ino). IsLeftSo named new g) (sym may.carries.gone) (subst (λ (t : State). IsLeftSo named t (directory_at found)) (sym is) (left_so named found so.leaves may_leave))
+    tabled_now : IsTabled (shown_tree new) new.homes
+    tabled_now = tabled_as _ _ _ _ (its.tree ∙ shown) homes_are tabled
 
-    tree : shown_tree new ≡ map.remove (shown_tree old) (dentry_at spot)
-    tree = its.tree ∙ so.tree
+-- ---- a removal
 
-    homes : new.homes ≡ without_home old.homes found
-    homes = ap (λ (t : State). t.homes) is ∙ homes_without named found ∙ ap (λ (h : Homes). without_home h found) so.homes
+remove_altered : (spot : Spot) (gone : Option Ino) (old new : State) → IsSound old → MayChange (shown_tree old) old.covers (removes spot gone) → Alters (removes spot gone) old new → IsAltered (removes spot gone) old new
+remove_altered spot gone old new sound may makes =
+    gone_altered (removes spot gone) old makes.0 new (map.remove (shown_tree old) (dentry_at spot)) old.homes (dentry_at spot) gone may.carries.gone makes.2 sound so.leaves so.tree so.homes so.covers refl
+    (removed_tabled (shown_tree old) old.homes (dentry_at spot) _ refl sound.tabled may.takes) may_leave
+    (λ leaf none live. (so.stays leaf (not_first leaf (leaf_of spot.at) (leaves_gone old.covers gone) none) live, not_later leaf (leaf_of spot.at) (leaves_gone old.covers gone) none))
+  where
+    so : IsNamedSo old makes.0 (dentry_at spot) spot.at.frag None
+    so = named_so old makes.0 (dentry_at spot) spot.at.frag None (sound_leaves old sound) (entry_known old (dentry_at spot) may.takes.inode sound may.takes.stands) may.carries.taken makes.1
 
-    covers : new.covers ≡ without_cover old.covers found
-    covers = ap (λ (t : State). t.covers) is ∙ covers_without named found ∙ ap (λ (c : Covers). without_cover c found) so.covers
-
-    tabled : IsTabled (map.remove (shown_tree old) (dentry_at spot)) (without_home old.homes found)
-    tabled = removed_tabled (shown_tree old) old.homes (dentry_at spot) found refl sound.tabled may.takes
+    may_leave : (inode : Inode) → map.get (shown_tree old) (dentry_at spot) ≡ Some inode → is_dir_kind inode.kind ≡ true
+        → MayGo old.homes inode.ino.0 × (is_known makes.0.homes inode.ino.0 ≡ true) × NothingIn (map.remove (shown_tree old) (dentry_at spot)) inode.ino.0
+    may_leave inode there kinded = (
+      may_drop (shown_tree old) old.homes (dentry_at spot) _ refl sound.tabled may.takes inode there kinded,
+      ap (λ (h : Homes). is_known h inode.ino.0) so.homes ∙ stands_known old (dentry_at spot) inode sound there kinded,
+      subst (λ (i : Inode). NothingIn (map.remove (shown_tree old) (dentry_at spot)) i.ino.0) (same_Some may.takes.inode inode (sym may.takes.stands ∙ there)) (λ q x stands same.
+          nothing_in (shown_tree old) (dentry_at spot) may.takes.inode sound.tabled.whole may.takes.stands may.takes.empty q x (stands_after_removal (shown_tree old) (dentry_at spot) q x stands).1 same),
+    )
 
 -- ---- a move
 
-module _ (source target : Spot) (inode : Inode) (gone : Option Ino) (old new : State) (sound : IsSound old) (may : MayChange (shown_tree old) old.covers (moves source target inode gone))
-    (makes : Alters (moves source target inode gone) old new) where
-  abbrev out : State
-  out = makes.0
-
-  abbrev in_place : State
-  in_place = makes.2.0
-
-  abbrev there : State
-  there = with_home_at in_place (dentry_at target) inode
-
-  abbrev found : Option Inode
-  found = map.get (shown_tree old) (dentry_at target)
-
-  moved_so : IsMove (shown_tree old) (dentry_at source) (dentry_at target) inode
-  moved_so = may.takes
-
-  first : IsNamedSo old out (dentry_at source) source.at.frag None
-  first = named_so old out (dentry_at source) source.at.frag None (sound_leaves old sound) (entry_known old (dentry_at source) inode sound moved_so.stands) may.carries.taken makes.1
-
-  second : IsNamedSo out in_place (dentry_at target) target.at.frag (Some inode)
-  second =
-      named_so out in_place (dentry_at target) target.at.frag (Some inode) first.leaves (ap (λ (h : Homes). is_known h (dentry_at target).dir.0) first.homes ∙ dir_known old (dentry_at target) sound moved_so.parent)
-      (subst (λ (c : Covers). IsLeafAt c (dentry_at target) target.at.frag) (sym first.covers) may.carries.put) makes.2.1
-
-  same_homes : in_place.homes ≡ old.homes
-  same_homes = second.homes ∙ first.homes
-
-  same_covers : in_place.covers ≡ old.covers
-  same_covers = second.covers ∙ first.covers
-
-  named_tree_is : shown_tree in_place ≡ with_moved (shown_tree old) (dentry_at source) (dentry_at target) inode
-  named_tree_is = second.tree ∙ ap (λ (t : Tree). map.insert t (dentry_at target) inode) first.tree
-
-  relocates : is_dir_kind inode.kind ≡ true → MayRelocate in_place.homes inode.ino.0 (home_at (dentry_at target))
-  relocates kinded = subst (λ (h : Homes). MayRelocate h inode.ino.0 (home_at (dentry_at target))) (sym same_homes) (may_relocate (shown_tree old) old.homes (dentry_at source) (dentry_at target) inode sound.tabled moved_so kinded)
-
-  known_still : (d : ℕ) → is_known there.homes d ≡ is_known in_place.homes d
-  known_still = moved_known in_place.homes in_place.covers second.leaves.table (dentry_at target) inode relocates
-
-  table_still : IsTable there.homes in_place.covers
-  table_still = moved_home in_place.homes in_place.covers second.leaves.table (dentry_at target) inode relocates
-
-  housed_leaves : HasSoundLeaves there
-  housed_leaves = rehomed_leaves in_place there.homes second.leaves table_still known_still
-
-  housed_tree : shown_tree there ≡ with_moved (shown_tree old) (dentry_at source) (dentry_at target) inode
-  housed_tree = rehomed_tree in_place there.homes second.leaves table_still known_still ∙ named_tree_is
-
-  housed_homes : there.homes ≡ with_home old.homes (dentry_at target) inode
-  housed_homes = ap (λ (h : Homes). with_home h (dentry_at target) inode) same_homes
-
-  is : new ≡ without there (directory_at found)
-  is = makes.2.2 ∙ ap (without there) may.carries.gone
-
-  may_leave : (i : Inode) → found ≡ Some i → is_dir_kind i.kind ≡ true → MayGo there.homes i.ino.0 × (is_known there.homes i.ino.0 ≡ true) × NothingIn (shown_tree there) i.ino.0
-  may_leave i stood kinded = (
-    subst (λ (h : Homes). MayGo h i.ino.0) (sym housed_homes) (may_replace (shown_tree old) old.homes (dentry_at source) (dentry_at target) inode sound.tabled moved_so i stood),
-    known_still i.ino.0 ∙ ap (λ (h : Homes). is_known h i.ino.0) same_homes ∙ stands_known old (dentry_at target) i sound stood kinded,
-    subst (λ (t : Tree). NothingIn t i.ino.0) (sym housed_tree) (replaced_empty (shown_tree old) (dentry_at source) (dentry_at target) inode sound.tabled.whole moved_so i stood),
-  )
-
-  its : IsLeftSo there new gone
-  its = subst (λ (g : Option Ino). IsLeftSo there new g) (sym may.carries.gone) (subst (λ (t : State). IsLeftSo there t (directory_at found)) (sym is) (left_so there found housed_leaves may_leave))
-
-  tree_is : shown_tree new ≡ with_moved (shown_tree old) (dentry_at source) (dentry_at target) inode
-  tree_is = its.tree ∙ housed_tree
-
-  homes_are : new.homes ≡ without_home (with_home old.homes (dentry_at target) inode) found
-  homes_are = ap (λ (t : State). t.homes) is ∙ homes_without there found ∙ ap (λ (h : Homes). without_home h found) housed_homes
-
-  covers_are : new.covers ≡ without_cover old.covers found
-  covers_are = ap (λ (t : State). t.covers) is ∙ covers_without there found ∙ ap (λ (c : Covers). without_cover c found) same_covers
-
-  tabled_now : IsTabled (shown_tree new) new.homes
-  tabled_now = tabled_as (with_moved (shown_tree old) (dentry_at source) (dentry_at target) inode) (shown_tree new) (without_home (with_home old.homes (dentry_at target) inode) found) new.homes tree_is homes_are (moved_tabled (shown_tree old) old.homes (dentry_at source) (dentry_at target) inode sound.tabled moved_so)
-
-  untouched : (leaf : Leaf) → (Contains (fragments_of old.covers (moves source target inode gone)) leaf → ⊥) → IsLive old.homes old.covers leaf → StaysAsItIs old new leaf
-  untouched leaf none live = stays_on old in_place new leaf at_second (stays_on in_place there new leaf at_third (its.stays leaf others at_third.live))
-    where
-      rest : List Leaf
-      rest = leaves_gone old.covers gone
-
-      not_from : Contains (leaf_of target.at ∷ rest) leaf → ⊥
-      not_from = not_later leaf (leaf_of source.at) (leaf_of target.at ∷ rest) none
-
-      at_first : StaysAsItIs old out leaf
-      at_first = first.stays leaf (not_first leaf (leaf_of source.at) (leaf_of target.at ∷ rest) none) live
-
-      at_second : StaysAsItIs old in_place leaf
-      at_second = stays_on old out in_place leaf at_first (second.stays leaf (not_first leaf (leaf_of target.at) rest not_from) at_first.live)
-
-      at_third : StaysAsItIs in_place there leaf
-      at_third = record { live = rehomed_live in_place there.homes second.leaves table_still known_still leaf at_second.live; names = refl }
-
-      others : Contains (leaves_gone there.covers gone) leaf → ⊥
-      others has = not_later leaf (leaf_of target.at) rest not_from (subst (λ (c : Covers). Contains (leaves_gone c gone) leaf) same_covers has)
-
-  move_altered : IsAltered (moves source target inode gone) old new
-  move_altered = record {
-    sound = its.leaves;
-    tabled = tabled_now;
-    tree = tree_is;
-    leaves = leaves_kept (shown_tree old) (shown_tree new) new.homes (with_home old.homes (dentry_at target) inode) old.covers new.covers (dentry_at target) found tabled_now sound.tabled.whole refl homes_are covers_are;
-    frame = untouched;
-  }
+move_altered : (source target : Spot) (inode : Inode) (gone : Option Ino) (old new : State) → IsSound old → MayChange (shown_tree old) old.covers (moves source target inode gone) → Alters (moves source target inode gone) old new
+    → IsAltered (moves source target inode gone) old new
+move_altered source target inode gone old new sound may makes =
+    let out = makes.0 in
+    let in_place = makes.2.0 in
+    let there = with_home_at in_place (dentry_at target) inode in
+    let first = named_so old out (dentry_at source) source.at.frag None (sound_leaves old sound) (entry_known old (dentry_at source) inode sound may.takes.stands) may.carries.taken makes.1 in
+    let second = named_so out in_place (dentry_at target) target.at.frag (Some inode) first.leaves (ap (λ (h : Homes). is_known h (dentry_at target).dir.0) first.homes ∙ dir_known old (dentry_at target) sound may.takes.parent)
+    (subst (λ (c : Covers). IsLeafAt c (dentry_at target) target.at.frag) (sym first.covers) may.carries.put) makes.2.1 in
+    let homes : in_place.homes ≡ old.homes = second.homes ∙ first.homes in
+    let relocates : is_dir_kind inode.kind ≡ true → MayRelocate in_place.homes inode.ino.0 (home_at (dentry_at target)) = λ kinded.
+    subst (λ (h : Homes). MayRelocate h inode.ino.0 (home_at (dentry_at target))) (sym homes) (may_relocate (shown_tree old) old.homes (dentry_at source) (dentry_at target) inode sound.tabled may.takes kinded) in
+    let known = moved_known in_place.homes in_place.covers second.leaves.table (dentry_at target) inode relocates in
+    let table = moved_home in_place.homes in_place.covers second.leaves.table (dentry_at target) inode relocates in
+    gone_altered (moves source target inode gone) old there new (with_moved (shown_tree old) (dentry_at source) (dentry_at target) inode) (with_home old.homes (dentry_at target) inode) (dentry_at target) gone may.carries.gone makes.2.2 sound
+    (rehomed_leaves in_place there.homes second.leaves table known) (rehomed_tree in_place there.homes second.leaves table known ∙ second.tree ∙ ap (λ (t : Tree). map.insert t (dentry_at target) inode) first.tree)
+    (ap (λ (h : Homes). with_home h (dentry_at target) inode) homes) (second.covers ∙ first.covers) refl (moved_tabled (shown_tree old) old.homes (dentry_at source) (dentry_at target) inode sound.tabled may.takes)
+    (λ i stood kinded. (
+      may_replace (shown_tree old) old.homes (dentry_at source) (dentry_at target) inode sound.tabled may.takes i stood,
+      known i.ino.0 ∙ ap (λ (h : Homes). is_known h i.ino.0) homes ∙ stands_known old (dentry_at target) i sound stood kinded,
+      replaced_empty (shown_tree old) (dentry_at source) (dentry_at target) inode sound.tabled.whole may.takes i stood,
+    ))
+    (λ leaf none live.
+    let rest = leaves_gone old.covers gone in
+    let not_from = not_later leaf (leaf_of source.at) (leaf_of target.at ∷ rest) none in
+    let at_first = first.stays leaf (not_first leaf (leaf_of source.at) (leaf_of target.at ∷ rest) none) live in
+    let at_second = stays_on old out in_place leaf at_first (second.stays leaf (not_first leaf (leaf_of target.at) rest not_from) at_first.live) in
+    (stays_on old in_place there leaf at_second (record { live = rehomed_live in_place there.homes second.leaves table known leaf at_second.live; names = refl }), not_later leaf (leaf_of target.at) rest not_from))
 
 -- ---- every change
 
@@ -388,32 +275,24 @@ altered_by _ (set spot inode) old new sound fits may makes = set_altered spot in
 altered_by _ (remove spot went) old new sound fits may makes = remove_altered spot went old new sound may makes
 altered_by _ (move from to inode went) old new sound fits may makes = move_altered from to inode went old new sound may makes
 
+-- so are the rows of counts and pins without those of what went
+rows_gone : (tree : Tree) (counts : Counts) (pins : DirPins) (found : Option Inode) (went : Option Ino) → went ≡ directory_at found → IsCounted tree (without_row counts found) (without_row pins found)
+    → IsCounted tree (rows_but counts went) (rows_but pins went)
+rows_gone tree counts pins found went goes counted =
+    subst (λ (g : Option Ino). IsCounted tree (rows_but counts g) (rows_but pins g)) (sym goes) (subst (λ (c : Counts). IsCounted tree c (rows_but pins (directory_at found))) (sym (row_gone counts found))
+    (subst (IsCounted tree (without_row counts found)) (sym (row_gone pins found)) counted))
+
 -- the counts and the pins that a change makes are those of the changed tree
 counted_by : (change : Change) → Shape change → (old new : State) → IsSound old → MayChange (shown_tree old) old.covers change → IsCounted (changed (shown_tree old) change) (noted old change new).counts (noted old change new).pins
 counted_by _ (add spot inode) old new sound may = added_counted (shown_tree old) old.homes sound.tabled old.counts old.pins sound.counted (dentry_at spot) inode may.takes
 counted_by _ (set spot inode) old new sound may = set_counted (shown_tree old) old.homes sound.tabled old.counts old.pins sound.counted (dentry_at spot) inode may.takes
 counted_by _ (remove spot went) old new sound may =
-    subst (λ (g : Option Ino). IsCounted (map.remove (shown_tree old) (dentry_at spot)) (rows_but (one_less old.counts spot.at.dir.0) g) (rows_but old.pins g)) (sym may.carries.gone)
-    (subst (λ (c : Counts). IsCounted (map.remove (shown_tree old) (dentry_at spot)) c (rows_but old.pins (directory_at found))) (sym (row_gone (one_less old.counts spot.at.dir.0) found))
-    (subst (IsCounted (map.remove (shown_tree old) (dentry_at spot)) (without_row (one_less old.counts spot.at.dir.0) found)) (sym (row_gone old.pins found))
-    (removed_counted (shown_tree old) old.homes sound.tabled old.counts old.pins sound.counted (dentry_at spot) found refl may.takes)))
-  where
-    found : Option Inode
-    found = map.get (shown_tree old) (dentry_at spot)
+    rows_gone (map.remove (shown_tree old) (dentry_at spot)) (one_less old.counts spot.at.dir.0) old.pins (map.get (shown_tree old) (dentry_at spot)) went may.carries.gone
+    (removed_counted (shown_tree old) old.homes sound.tabled old.counts old.pins sound.counted (dentry_at spot) _ refl may.takes)
 counted_by _ (move from to inode went) old new sound may =
-    subst (λ (g : Option Ino). IsCounted tree (rows_but counts g) (rows_but old.pins g)) (sym may.carries.gone)
-    (subst (λ (c : Counts). IsCounted tree c (rows_but old.pins (directory_at found))) (sym (row_gone counts found))
-    (subst (IsCounted tree (without_row counts found)) (sym (row_gone old.pins found))
-    (moved_counted (shown_tree old) old.homes sound.tabled old.counts old.pins sound.counted (dentry_at from) (dentry_at to) inode may.takes)))
-  where
-    found : Option Inode
-    found = map.get (shown_tree old) (dentry_at to)
-
-    tree : Tree
-    tree = with_moved (shown_tree old) (dentry_at from) (dentry_at to) inode
-
-    counts : Counts
-    counts = counts_moved old.counts from.at.dir.0 to.at.dir.0 (is_some found)
+    let found = map.get (shown_tree old) (dentry_at to) in
+    rows_gone (with_moved (shown_tree old) (dentry_at from) (dentry_at to) inode) (counts_moved old.counts from.at.dir.0 to.at.dir.0 (is_some found)) old.pins found went may.carries.gone
+    (moved_counted (shown_tree old) old.homes sound.tabled old.counts old.pins sound.counted (dentry_at from) (dentry_at to) inode may.takes)
 
 pub changes_are_right : ChangesAreRight
 changes_are_right change old new sound fits may makes =

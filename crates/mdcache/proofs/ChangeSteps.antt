@@ -1,12 +1,13 @@
 -- What the steps of a change leave, one after the other.
-use Rattle.mdcache.proofs.Common.{AreCached, AreCaches, At, Bool, CacheMap, Cached, Came, Contains, Core, Counts, DirPins, Dirfrag, Fragment, Going, GoingLeaf, HasCached, HasLeaf, HasRoom, Home, Homes, Ino, Inode, IsCachedIn, IsFree, IsGoingOrNone, IsKeptFor, IsLive, IsNamed, IsSound, IsSoundCore, IsThere, IsTied, KeepsNone, KeepsOnlyAt, Leaf, List, Mark, None, Option, Rank, Rooms, Some, State, UnsavedLeaves, [], ap, arith, at, at_rank, cond, dir_going, edited_as, ended, ended_all, ended_at, ends, false, get_given_up, get_with_frag, given_up, has, has_place, has_with_mark, here, here_beside, here_is, here_put, here_with_frag, holder_there, inl, inr, is_some, leaf_is, leaf_of, leaves, leaves_going, leaves_in, leaves_of, length, list_any, made_frag, marked, named, none_given_up, object_of, one_leaf, or_whole, placed_used, refl, removed, rows_but, same_Some, state_of, stays, subst, suc, sym, texts_going, true, unclean, unclean_alike, unclean_given_up, unsaved_at, with_frag, with_objects, without, without_dir, without_leaves, zero, ℕ, ◌&&◌, ◌<◌, ◌==◌, ◌||◌, ◌∙◌, ◌∷◌, ◌≡◌, ◌≤◌, ◌⊎◌}
+use Rattle.mdcache.proofs.Common.{AreCached, AreCaches, At, Bool, CacheMap, Cached, Came, Contains, Core, Counts, DirPins, Dirfrag, Fragment, Going, GoingLeaf, HasCached, HasLeaf, HasRoom, Home, Homes, Ino, Inode, IsCachedIn, IsFree, IsGoingOrNone, IsKeptFor, IsLive, IsNamed, IsThere, IsTied, KeepsNone, KeepsOnlyAt, Leaf, List, Mark, None, Option, Rank, Rooms, Some, State, UnsavedLeaves, [], ap, arith, at, at_rank, cond, dir_going, edited_as, ended, ended_all, ended_at, ends, false, get_given_up, get_with_frag, given_up, has, has_place, has_with_mark, here, here_is, here_put, here_with_frag, holder_there, is_some, leaf_is, leaf_of, leaves, leaves_going, leaves_in, leaves_of, length, list_any, made_frag, marked, named, none_given_up, object_of, one_leaf, or_whole, refl, removed, rows_but, same_Some, state_of, stays, subst, suc, sym, texts_going, true, unclean, unclean_alike, unclean_given_up, unsaved_at, with_frag, with_objects, without, without_dir, without_leaves, zero, ℕ, ⊎_elim, ◌&&◌, ◌<◌, ◌==◌, ◌||◌, ◌∙◌, ◌∷◌, ◌≡◌, ◌≤◌}
+use Rattle.std.proofs.lemmas.Bool.{cond_both, false_from_ne_true}
 use Rattle.std.specs.FinMap as map
 use Rattle.sorted_map.proofs.NatKeys.{get_left as get_left_home}
 use Rattle.dentry_cache.specs.CacheMap.{with_mark}
 use Rattle.mdcache.specs.Core.{with_dir}
 use Rattle.mdcache.proofs.GoneLaws.{among}
 use Rattle.mdcache.proofs.NoneLaws.{none_only, only_none}
-use Rattle.mdcache.proofs.PutLaws.{cached_with, mark, marked_is, put_cached, put_named, put_only}
+use Rattle.mdcache.proofs.PutLaws.{cached_with, mark, marked_is, put_cached, put_named, put_only, with_only}
 
 -- the fragment that is there
 pub its : (o : Option Cached) → IsThere o → (f : Cached) × (o ≡ Some f)
@@ -29,7 +30,7 @@ cached_on s t caches live objects more cached leaf a is =
     record {
       live = live leaf was.live;
       tied = subst (λ o. IsTied a.frag (object_of o leaf.0 leaf.1)) (sym objects) was.tied;
-      made = (let given = was.made in omega (arith, given, more));
+      made = omega (arith, was.made, more);
     }
 
 -- a leaf that isn't among those of a directory that goes stands still
@@ -40,20 +41,13 @@ left_live_at s dir leaf live none = record {
 }
   where
     apart : leaf.0.0 ≡ dir.0 → ⊥
-    apart same =
-        let clash : true ≡ false = sym (among dir.0 leaf (leaves_of s.covers dir.0) same (subst (λ (d : ℕ). HasLeaf (leaves_of s.covers d) leaf.1) same live.stands)) ∙ none in
-        cc
+    apart same = let clash : true ≡ false = sym (among dir.0 leaf (leaves_of s.covers dir.0) same (subst (λ (d : ℕ). HasLeaf (leaves_of s.covers d) leaf.1) same live.stands)) ∙ none in cc
 
 -- the caches came from those before, their fragments are sound, and a place that is kept is this one
 pub record HasMade (Uses Ends : ℕ → Leaf → Type 0) (kept : Option (Rank × Leaf)) (old new : Core) : Type 0 where
   pub came : Came Uses Ends old.caches new.caches
   pub cached : AreCached (state_of new) new.caches
   pub only : KeepsOnlyAt kept new.caches
-
--- so all is sound where none is kept
-pub sound_made : (Uses Ends : ℕ → Leaf → Type 0) (old new : Core) → HasMade Uses Ends None old new → IsSound (state_of new) → 0 < new.next_generation → IsSoundCore new
-sound_made Uses Ends old new made sound begun =
-    record { sound = sound; begun = begun; cached = made.cached; none = only_none new.caches made.only }
 
 module _ (Uses Ends : ℕ → Leaf → Type 0) (kept : Option (Rank × Leaf)) (old : Core) where
   pub made_first : AreCached (state_of old) old.caches → KeepsOnlyAt kept old.caches → HasMade Uses Ends kept old old
@@ -62,125 +56,84 @@ module _ (Uses Ends : ℕ → Leaf → Type 0) (kept : Option (Rank × Leaf)) (o
   module _ (c : Core) (before : HasMade Uses Ends kept old c) where
     -- a name of a leaf changed
     module _ (a : Dirfrag) (name : List ℕ) (inode : Option Inode) (there : IsThere (here c.caches a.rank.0 (leaf_of a))) where
-      f : Cached
-      f = (its (here c.caches a.rank.0 (leaf_of a)) there).0
-
-      seen : here c.caches a.rank.0 (leaf_of a) ≡ Some f
-      unfolding f its
-      seen = (its (here c.caches a.rank.0 (leaf_of a)) there).1
+      abbrev w : (f : Cached) × (here c.caches a.rank.0 (leaf_of a) ≡ Some f)
+      w = its (here c.caches a.rank.0 (leaf_of a)) there
 
       pub is_named : IsNamed (state_of c) (state_of (named c a name inode)) (leaf_of a) name inode
-      is_named = put_named c a name inode f seen before.cached
+      is_named = put_named c a name inode w.0 w.1 before.cached
 
       pub made_named : Uses a.rank.0 (leaf_of a) → HasMade Uses Ends kept old (named c a name inode)
       made_named uses = record {
-        came = subst (Came Uses Ends old.caches) (sym (marked_is c a name inode f seen before.cached))
-            (has c.caches a.rank.0 (leaf_of a) (marked f name (mark c a name inode f seen before.cached)) before.came uses);
-        cached = cached_on (state_of c) (state_of (named c a name inode)) (named c a name inode).caches (λ leaf live. live) refl (omega arith) (put_cached c a name inode f seen before.cached);
-        only = put_only c a name inode f seen before.cached kept before.only;
+        came = subst (Came Uses Ends old.caches) (sym (marked_is c a name inode w.0 w.1 before.cached))
+            (has c.caches a.rank.0 (leaf_of a) (marked w.0 name (mark c a name inode w.0 w.1 before.cached)) before.came uses);
+        cached = cached_on (state_of c) (state_of (named c a name inode)) (named c a name inode).caches (λ leaf live. live) refl (omega arith) (put_cached c a name inode w.0 w.1 before.cached);
+        only = put_only c a name inode w.0 w.1 before.cached kept before.only;
       }
 
-    -- entries were counted, or a pin set
-    pub made_noted : (counts : Counts) (pins : DirPins) → HasMade Uses Ends kept old (record c { counts = counts; pins = pins })
-    made_noted counts pins = record {
+    -- a directory moved, or a file; entries were counted, or a pin set
+    pub made_tables : (homes : Homes) (counts : Counts) (pins : DirPins) → ((leaf : Leaf) → IsLive c.homes c.covers leaf → IsLive homes c.covers leaf) → HasMade Uses Ends kept old (record c { homes = homes; counts = counts; pins = pins })
+    made_tables homes counts pins live = record {
       came = before.came;
-      cached = cached_on (state_of c) (state_of (record c { counts = counts; pins = pins })) c.caches (λ leaf live. live) refl (omega arith) before.cached;
-      only = before.only;
-    }
-
-    -- a directory moved, or a file
-    pub made_home : (homes : Homes) → ((leaf : Leaf) → IsLive c.homes c.covers leaf → IsLive homes c.covers leaf) → HasMade Uses Ends kept old (record c { homes = homes })
-    made_home homes live = record {
-      came = before.came;
-      cached = cached_on (state_of c) (state_of (record c { homes = homes })) c.caches live refl (omega arith) before.cached;
+      cached = cached_on (state_of c) (state_of (record c { homes = homes; counts = counts; pins = pins })) c.caches live refl (omega arith) before.cached;
       only = before.only;
     }
 
 -- ---- a place is kept for a leaf that comes
 
 module _ (c : Core) (a : Dirfrag) (name : List ℕ) (inode : Option Inode) (there : IsThere (here c.caches a.rank.0 (leaf_of a))) (first : Leaf) (kept : IsKeptFor c.caches a.rank.0 first) (rank : a.rank.0 < length c.caches.used) where
-  g : Cached
-  g = (its (here c.caches a.rank.0 (leaf_of a)) there).0
+  abbrev g : (f : Cached) × (here c.caches a.rank.0 (leaf_of a) ≡ Some f)
+  g = its (here c.caches a.rank.0 (leaf_of a)) there
 
-  sees : here c.caches a.rank.0 (leaf_of a) ≡ Some g
-  unfolding g its
-  sees = (its (here c.caches a.rank.0 (leaf_of a)) there).1
-
-  held : map.get c.caches.held (leaf_of a) ≡ Some (at a.rank.0 g)
-  held = here_is a.rank.0 (map.get c.caches.held (leaf_of a)) g sees
+  held : map.get c.caches.held (leaf_of a) ≡ Some (at a.rank.0 g.0)
+  held = here_is a.rank.0 (map.get c.caches.held (leaf_of a)) g.0 g.1
 
   abbrev its_mark : Mark
   its_mark = record { version = c.next_version; inode = inode }
 
   pub kept_named : IsKeptFor (named c a name inode).caches a.rank.0 first
   kept_named = (
-    has_with_mark c.caches a.rank.0 (leaf_of a) name its_mark g a.rank.0 first rank sees ∙ yes ((a.rank.0 == a.rank.0) && leaf_is first (leaf_of a)),
-    ap (λ (k : CacheMap). map.get k.held first) (ap (edited_as c.caches a.rank.0 (leaf_of a) (λ (f : Cached). marked f name its_mark)) sees) ∙ get_with_frag c.caches a.rank.0 (leaf_of a) (marked g name its_mark) first
-        ∙ ap (λ (b : Bool). cond b (Some (at a.rank.0 (marked g name its_mark))) (map.get c.caches.held first)) (apart (leaf_is first (leaf_of a)) refl) ∙ kept.1,
+    has_with_mark c.caches a.rank.0 (leaf_of a) name its_mark g.0 a.rank.0 first rank g.1
+        ∙ cond_both ((a.rank.0 == a.rank.0) && leaf_is first (leaf_of a)) true (has_place c.caches a.rank.0 first) (λ b. b ≡ true) (λ its. refl) (λ other. kept.0),
+    ap (λ (k : CacheMap). map.get k.held first) (ap (edited_as c.caches a.rank.0 (leaf_of a) (λ (f : Cached). marked f name its_mark)) g.1) ∙ get_with_frag c.caches a.rank.0 (leaf_of a) (marked g.0 name its_mark) first
+        ∙ ap (λ (b : Bool). cond b (Some (at a.rank.0 (marked g.0 name its_mark))) (map.get c.caches.held first))
+        (false_from_ne_true _ (λ one. let clash : None ≡ Some (at a.rank.0 g.0) = sym kept.1 ∙ ap (map.get c.caches.held) (one_leaf first (leaf_of a) one) ∙ held in cc)) ∙ kept.1,
   )
-    where
-      yes : (b : Bool) → cond b true (has_place c.caches a.rank.0 first) ≡ true
-      yes true = refl
-      yes false = kept.0
-
-      apart : (b : Bool) → leaf_is first (leaf_of a) ≡ b → leaf_is first (leaf_of a) ≡ false
-      apart true one = let clash : None ≡ Some (at a.rank.0 g) = sym kept.1 ∙ ap (map.get c.caches.held) (one_leaf first (leaf_of a) one) ∙ held in absurd cc
-      apart false two = two
 
 -- where a fragment comes into the one place that is kept, none is kept then
 pub filled_none : (c : CacheMap) (a : Dirfrag) (f : Cached) → KeepsOnlyAt (Some (a.rank, leaf_of a)) c → map.get c.held (leaf_of a) ≡ None → KeepsNone (with_frag c a.rank.0 (leaf_of a) f)
-filled_none c a f only absent s q placed = go (placed_used c a.rank.0 (leaf_of a) s q placed)
+filled_none c a f only absent s q placed = ⊎_elim (λ is. is) (λ own. absurd (clash own.0 own.1)) (with_only (Some (a.rank, leaf_of a)) c a.rank.0 (leaf_of a) f (subst (IsFree a.rank.0) (sym absent) tt) rank only s q placed)
   where
-    at_its : (s : ℕ) (q : Leaf) → s ≡ a.rank.0 → q ≡ leaf_of a → IsThere (here (with_frag c a.rank.0 (leaf_of a) f) s q)
-    at_its s q rank leaf = subst (λ (k : ℕ). IsThere (here (with_frag c a.rank.0 (leaf_of a) f) k q)) (sym rank) (subst (λ (l : Leaf). IsThere (here (with_frag c a.rank.0 (leaf_of a) f) a.rank.0 l)) (sym leaf) (subst IsThere (sym (here_put c a.rank.0 (leaf_of a) f)) tt))
+    both : (t : ℕ) (l : Leaf) → ◌≡◌ {A = Option (Rank × Leaf)} (Some (a.rank, leaf_of a)) (Some (record { 0 = t }, l)) → ◌≡◌ {A = Rank × Leaf} (a.rank, leaf_of a) (record { 0 = t }, l)
+    both t l own = same_Some (a.rank, leaf_of a) (record { 0 = t }, l) own
 
-    gone_at : (o : Option At) → o ≡ None → IsThere (at_rank s o) → ⊥
-    gone_at o is h = subst IsThere (ap (at_rank s) is) h
+    rank : (t : ℕ) → map.get c.held (leaf_of a) ≡ None → ◌≡◌ {A = Option (Rank × Leaf)} (Some (a.rank, leaf_of a)) (Some (record { 0 = t }, leaf_of a)) → t ≡ a.rank.0
+    rank t none own = sym (ap (λ (p : Rank × Leaf). p.0.0) (both t (leaf_of a) own))
 
-    beside : (b : Bool) → leaf_is q (leaf_of a) ≡ b → IsThere (here c s q) → IsThere (here (with_frag c a.rank.0 (leaf_of a) f) s q)
-    beside true one h = absurd (gone_at (map.get c.held q) (ap (map.get c.held) (one_leaf q (leaf_of a) one) ∙ absent) h)
-    beside false apart h = subst IsThere (sym (here_beside c a.rank.0 (leaf_of a) f s q apart)) h
-
-    on : IsThere (here c s q) ⊎ ((map.get c.held q ≡ None) × (◌≡◌ {A = Option (Rank × Leaf)} (Some (a.rank, leaf_of a)) (Some (record { 0 = s }, q)))) → IsThere (here (with_frag c a.rank.0 (leaf_of a) f) s q)
-    on (inl h) = beside (leaf_is q (leaf_of a)) refl h
-    on (inr own) =
-        let both : ◌≡◌ {A = Rank × Leaf} (a.rank, leaf_of a) (record { 0 = s }, q) = same_Some (a.rank, leaf_of a) (record { 0 = s }, q) own.1 in
-        at_its s q (sym (ap (λ (p : Rank × Leaf). p.0.0) both)) (sym (ap (λ (p : Rank × Leaf). p.1) both))
-
-    go : (has_place c s q ≡ true) ⊎ ((s ≡ a.rank.0) × (q ≡ leaf_of a)) → IsThere (here (with_frag c a.rank.0 (leaf_of a) f) s q)
-    go (inl was) = on (only s q was)
-    go (inr same) = at_its s q same.0 same.1
+    clash : map.get (with_frag c a.rank.0 (leaf_of a) f).held q ≡ None → ◌≡◌ {A = Option (Rank × Leaf)} (Some (a.rank, leaf_of a)) (Some (record { 0 = s }, q)) → ⊥
+    clash none own = subst IsThere (ap (at_rank a.rank.0) (ap (map.get (with_frag c a.rank.0 (leaf_of a) f).held) (ap (λ (p : Rank × Leaf). p.1) (both s q own)) ∙ none)) (subst IsThere (sym (here_put c a.rank.0 (leaf_of a) f)) tt)
 
 -- ---- a directory comes
 
 module _ (Uses Ends : ℕ → Leaf → Type 0) (old c : Core) (a : Dirfrag) (before : HasMade Uses Ends (Some (a.rank, leaf_of a)) old c) (absent : map.get c.caches.held (leaf_of a) ≡ None) (home : Home) (object : List ℕ) (room : Rooms)
     (live : IsLive (map.insert c.homes a.dir.0 home) c.covers (leaf_of a)) (still : (leaf : Leaf) → IsLive c.homes c.covers leaf → IsLive (map.insert c.homes a.dir.0 home) c.covers leaf) where
-  abbrev grown : Core
-  grown = with_dir c a home object room
-
-  abbrev fresh : Cached
-  fresh = made_frag c.next_generation
-
-  -- no place is kept then
-  none : KeepsNone grown.caches
-  none = filled_none c.caches a fresh before.only absent
-
-  pub made_dir : Uses a.rank.0 (leaf_of a) → HasMade Uses Ends None old grown
-  made_dir uses = record {
-    came = has c.caches a.rank.0 (leaf_of a) fresh before.came uses;
-    cached = cached_with (state_of grown) c.caches a.rank.0 (leaf_of a) fresh (cached_on (state_of c) (state_of grown) c.caches still refl (omega arith) before.cached) (record { live = live; tied = tt; made = omega arith });
-    only = none_only None grown.caches none;
-  }
+  pub made_dir : Uses a.rank.0 (leaf_of a) → HasMade Uses Ends None old (with_dir c a home object room)
+  made_dir uses =
+      let fresh = made_frag c.next_generation in
+      let grown = state_of (with_dir c a home object room) in
+      record {
+        came = has c.caches a.rank.0 (leaf_of a) fresh before.came uses;
+        cached = cached_with grown c.caches a.rank.0 (leaf_of a) fresh (cached_on (state_of c) grown c.caches still refl (omega arith) before.cached) (record { live = live; tied = tt; made = omega arith });
+        only = none_only None (with_dir c a home object room).caches (filled_none c.caches a fresh before.only absent);
+      }
 
 -- ---- leaves end
 
 -- what isn't clean of a leaf that ends is gone
 ended_unclean : (c : CacheMap) (leaf : Leaf) → unclean (ended c leaf) ≡ map.remove (unclean c) leaf
-ended_unclean c leaf = go (map.get c.held leaf) refl
-  where
-    go : (o : Option At) → map.get c.held leaf ≡ o → unclean (ended_at c leaf o) ≡ map.remove (unclean c) leaf
-    go None is = unclean_alike c (given_up c 0 leaf) (λ q. ap unsaved_at (sym (ap (λ (o : Option Cached). map.get (removed c.held leaf o) q) (ap (at_rank 0) is)))) ∙ unclean_given_up c 0 leaf (subst (IsFree 0) (sym is) tt)
-    go (Some a) is = unclean_given_up c a.rank leaf (subst (IsFree a.rank) (sym is) refl)
+ended_unclean c leaf = elim (map.get c.held leaf) as (λ o. map.get c.held leaf ≡ o → unclean (ended_at c leaf o) ≡ map.remove (unclean c) leaf) [
+  | None ↦ λ is. unclean_alike c (given_up c 0 leaf) (λ q. ap unsaved_at (sym (ap (λ (o : Option Cached). map.get (removed c.held leaf o) q) (ap (at_rank 0) is)))) ∙ unclean_given_up c 0 leaf (subst (IsFree 0) (sym is) tt)
+  | Some a ↦ λ is. unclean_given_up c a.rank leaf (subst (IsFree a.rank) (sym is) refl)
+] refl
 
 pub unclean_ended : (c : CacheMap) (ls : List Leaf) → unclean (ended_all c ls) ≡ without_leaves (unclean c) ls
 unclean_ended c [] = refl
@@ -190,17 +143,11 @@ unclean_ended c (leaf ∷ ls) = unclean_ended (ended c leaf) ls ∙ ap (λ (u : 
 ended_held : (c : CacheMap) (leaf q : Leaf) (a : At) → map.get (ended c leaf).held q ≡ Some a → (leaf_is q leaf ≡ false) × (map.get c.held q ≡ Some a)
 ended_held c leaf q a is = go (map.get c.held leaf) refl is
   where
-    by : (o : Option At) → map.get c.held leaf ≡ o → (b : Bool) → leaf_is q leaf ≡ b → cond b None (map.get c.held q) ≡ Some a → (leaf_is q leaf ≡ false) × (map.get c.held q ≡ Some a)
-    by o at true one h = let clash : None ≡ Some a = h in absurd cc
-    by o at false apart h = (apart, h)
-
-    none : (b : Bool) → leaf_is q leaf ≡ b → map.get c.held leaf ≡ None → map.get c.held q ≡ Some a → (leaf_is q leaf ≡ false) × (map.get c.held q ≡ Some a)
-    none true one gone h = let clash : None ≡ Some a = sym gone ∙ ap (map.get c.held) (sym (one_leaf q leaf one)) ∙ h in absurd cc
-    none false apart gone h = (apart, h)
-
     go : (o : Option At) → map.get c.held leaf ≡ o → map.get (ended_at c leaf o).held q ≡ Some a → (leaf_is q leaf ≡ false) × (map.get c.held q ≡ Some a)
-    go None at h = none (leaf_is q leaf) refl at h
-    go (Some b) at h = by (Some b) at (leaf_is q leaf) refl (sym (get_given_up c b.rank leaf q (subst (IsFree b.rank) (sym at) refl)) ∙ h)
+    go None at h = (false_from_ne_true _ (λ one. let clash : None ≡ Some a = sym at ∙ ap (map.get c.held) (sym (one_leaf q leaf one)) ∙ h in cc), h)
+    go (Some b) at h =
+        cond_both (leaf_is q leaf) None (map.get c.held q) (λ o. o ≡ Some a → (leaf_is q leaf ≡ false) × (map.get c.held q ≡ Some a)) (λ one h. let clash : None ≡ Some a = h in absurd cc) (λ apart h. (apart, h))
+        (sym (get_given_up c b.rank leaf q (subst (IsFree b.rank) (sym at) refl)) ∙ h)
 
 pub still_held : (c : CacheMap) (ls : List Leaf) (q : Leaf) (a : At) → map.get (ended_all c ls).held q ≡ Some a → (list_any (leaf_is q) ls ≡ false) × (map.get c.held q ≡ Some a)
 still_held c [] q a is = (refl, is)
@@ -212,11 +159,8 @@ still_held c (leaf ∷ ls) q a is =
 -- the caches came from those before by ends of leaves that are named so
 pub ends_came_so : (Uses Ends : ℕ → Leaf → Type 0) (old c : CacheMap) (ls : List Leaf) → ((r : ℕ) (leaf : Leaf) → Contains ls leaf → Ends r leaf) → Came Uses Ends old c → Came Uses Ends old (ended_all c ls)
 ends_came_so Uses Ends old c [] named came = came
-ends_came_so Uses Ends old c (leaf ∷ ls) named came = ends_came_so Uses Ends old (ended c leaf) ls (λ r q has. named r q (suc has.0, (let within = has.1 in omega (arith, within)), has.2)) (go (map.get c.held leaf))
-  where
-    go : (o : Option At) → Came Uses Ends old (ended_at c leaf o)
-    go None = came
-    go (Some a) = ends c a.rank leaf came (named a.rank leaf (zero, omega arith, refl))
+ends_came_so Uses Ends old c (leaf ∷ ls) named came = ends_came_so Uses Ends old (ended c leaf) ls (λ r q has. named r q (suc has.0, omega (arith, has.1), has.2))
+    (elim (map.get c.held leaf) as (λ o. Came Uses Ends old (ended_at c leaf o)) [ None ↦ came | Some a ↦ ends c a.rank leaf came (named a.rank leaf (zero, omega arith, refl)) ])
 
 -- so where all leaves of a directory are
 pub ends_came : (Uses Ends : ℕ → Leaf → Type 0) (old c : CacheMap) (dir : Ino) (parts : List GoingLeaf) → ((r : ℕ) (leaf : Leaf) → leaf.0 ≡ dir → Ends r leaf) → Came Uses Ends old c → Came Uses Ends old (ended_all c (leaves_in dir parts))
@@ -229,11 +173,10 @@ ends_came Uses Ends old c dir parts named = ends_came_so Uses Ends old c (leaves
 
 -- and no place is kept then, if none was
 pub none_ended : (c : CacheMap) (leaf : Leaf) → AreCaches c → KeepsNone c → KeepsNone (ended c leaf)
-none_ended c leaf valid none = go (map.get c.held leaf) refl
-  where
-    go : (o : Option At) → map.get c.held leaf ≡ o → KeepsNone (ended_at c leaf o)
-    go None is = none
-    go (Some a) is = none_given_up c (given_up c a.rank leaf) a.rank leaf (holder_there c leaf a valid is) valid none refl
+none_ended c leaf valid none = elim (map.get c.held leaf) as (λ o. map.get c.held leaf ≡ o → KeepsNone (ended_at c leaf o)) [
+  | None ↦ λ is. none
+  | Some a ↦ λ is. none_given_up c (given_up c a.rank leaf) a.rank leaf (holder_there c leaf a valid is) valid none refl
+] refl
 
 -- ---- a directory goes, or none
 
@@ -292,19 +235,6 @@ room_left c r s source target name mark two one = by (here c r source) refl two
     by : (o : Option Cached) → here c r source ≡ o → HasCached o (λ (f : Cached). 1 < f.room) → HasRoom (here (with_mark c r source name mark) s target)
     by None seen two = absurd two
     by (Some f) seen two =
-        subst HasRoom (sym (ap (λ (k : CacheMap). here k s target) (ap (edited_as c r source (λ (g : Cached). marked g name mark)) seen) ∙ here_with_frag c r source (marked f name mark) s target)) (on (leaf_is target source) refl)
-      where
-        room : 0 < (marked f name mark).room
-        room = omega (arith, two)
-
-        at_its : (b : Bool) → (r == s) ≡ b → HasRoom (cond b (Some f) None) → HasRoom (cond b (Some (marked f name mark)) None)
-        at_its true same h = room
-        at_its false apart h = h
-
-        on : (b : Bool) → leaf_is target source ≡ b → HasRoom (cond b (cond (r == s) (Some (marked f name mark)) None) (here c s target))
-        on true same = at_its (r == s) refl (subst HasRoom (ap (here c s) (one_leaf target source same) ∙ ap (at_rank s) (here_is r (map.get c.held source) f seen)) one)
-        on false apart = one
-
--- so it is there
-pub there_left : (c : CacheMap) (r s : ℕ) (source target : Leaf) (name : List ℕ) (mark : Mark) → HasCached (here c r source) (λ (f : Cached). 1 < f.room) → HasRoom (here c s target) → IsThere (here (with_mark c r source name mark) s target)
-there_left c r s source target name mark two one = roomy_there (here (with_mark c r source name mark) s target) (room_left c r s source target name mark two one)
+        subst HasRoom (sym (ap (λ (k : CacheMap). here k s target) (ap (edited_as c r source (λ (g : Cached). marked g name mark)) seen) ∙ here_with_frag c r source (marked f name mark) s target))
+        (cond_both (leaf_is target source) (cond (r == s) (Some (marked f name mark)) None) (here c s target) HasRoom (λ same. cond_both (r == s) (Some (marked f name mark)) None HasRoom (λ rank. omega (arith, two))
+        (λ apart. subst HasRoom (ap (here c s) (one_leaf target source same) ∙ ap (at_rank s) (here_is r (map.get c.held source) f seen) ∙ ap (λ b. cond b (Some f) None) apart) one)) (λ apart. one))

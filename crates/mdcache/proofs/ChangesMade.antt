@@ -1,14 +1,15 @@
 -- What a change makes, once its steps are known.
-use Rattle.mdcache.proofs.Common.{AreCached, Bool, Cached, Came, Change, Core, Counts, Dentry, Dirfrag, EndsWith, Going, HasCached, HasNumber, HasRoom, HasSpace, IfSome, Ino, Inode, IsChanged, IsGoingOrNone, IsKeptFor, IsMove, IsNamed, IsNamedIn, IsRight, IsSound, IsSoundCore, IsThere, KeepsNone, KeepsOnlyAt, Leaf, List, Makes, MayChange, MayCome, MayGo, MayMove, NewDirectory, None, NoneEnds, Option, Rank, ReadsCore, Rooms, Some, Spot, State, adds, ap, arith, cond, count_of, counts_moved, dentry_at, dir_going, directory_at, false, first_leaf, here, home_at, inl, inr, is_dir_kind, is_known, is_some, leaf_of, leaves_going, length, made_frag, may_come, may_drop, may_relocate, may_replace, moves, named, one_less, one_more, pinned, refl, removes, root_fragment, rows_but, sets, shown_in, shown_tree, shows, state_of, string_bytes, subst, sym, text_of, texts_going, true, unclean_with, with_count, with_directory, with_entry, with_home, with_new, with_pin, without, without_dir, without_entry, ℕ, ◌-◌, ◌<◌, ◌==◌, ◌^◌, ◌∙◌, ◌≡◌}
+use Rattle.mdcache.proofs.Common.{AreCached, Bool, Cached, Came, Change, Core, Dirfrag, EndsWith, Going, HasCached, HasNumber, HasRoom, HasSpace, IfSome, Ino, Inode, IsChanged, IsGoingOrNone, IsKeptFor, IsNamedIn, IsRight, IsSound, IsSoundCore, IsThere, KeepsNone, KeepsOnlyAt, Leaf, List, Makes, MayChange, MayGo, MayMove, NewDirectory, None, NoneEnds, Option, Rank, ReadsCore, Rooms, Some, Spot, State, adds, ap, arith, cond, count_of, counts_moved, dentry_at, dir_going, directory_at, false, first_leaf, here, home_at, inl, inr, is_dir_kind, is_some, leaf_of, leaves_going, length, made_frag, may_come, may_drop, may_relocate, may_replace, moves, named, one_less, one_more, pinned, refl, removes, root_fragment, rows_but, sets, shown_in, shown_tree, shows, state_of, string_bytes, subst, sym, text_of, texts_going, true, unclean_with, with_directory, with_entry, with_home, with_new, with_pin, without, without_dir, without_entry, ℕ, ◌-◌, ◌<◌, ◌==◌, ◌^◌, ◌∙◌, ◌≡◌}
+use Rattle.std.proofs.lemmas.Bool.{cond_both}
 use Rattle.std.specs.FinMap as map
 use Rattle.mdcache.specs.Core.{moved, with_dir}
 use Rattle.mdcache.proofs.ChangeLaws.{changes_are_right}
 use Rattle.mdcache.proofs.CoreLaws.{dir_known, reads_state, shows_names}
 use Rattle.mdcache.proofs.TreeLookups.{at_dentry}
-use Rattle.mdcache.proofs.ChangeSteps.{HasMade, cached_there, is_gone, is_named, kept_named, left, made_dir, made_first, made_gone, made_home, made_named, made_noted, roomy_there, sound_made, there_left}
+use Rattle.mdcache.proofs.ChangeSteps.{HasMade, cached_there, is_gone, is_named, kept_named, left, made_dir, made_first, made_gone, made_named, made_tables, room_left, roomy_there}
 use Rattle.mdcache.proofs.HomeLaws.{first_live, grown_live, moved_known}
 use Rattle.mdcache.proofs.NamedLaws.{sound_leaves}
-use Rattle.mdcache.proofs.NoneLaws.{none_only}
+use Rattle.mdcache.proofs.NoneLaws.{none_only, only_none}
 
 -- all that the steps of a change leave
 pub record IsDone (change : Change) (old new : Core) : Type 0 where
@@ -25,7 +26,7 @@ done change old new sound number may made has begun =
       made = made;
       right = right;
       came = has.came;
-      sound = sound_made (IsNamedIn change) (EndsWith change) old new has right.sound begun;
+      sound = record { sound = right.sound; begun = begun; cached = has.cached; none = only_none new.caches has.only };
     }
 
 -- nothing comes
@@ -52,22 +53,19 @@ may_still Uses change old mid reads may = subst (λ (s : State). MayChange (show
 
 -- ---- counts and pins
 
--- an entry that stands is in a directory that is known
-pub entry_known : (c : Core) → IsSoundCore c → (dentry : Dentry) (inode : Inode) → map.get (shown_in c) dentry ≡ Some inode → is_known c.homes dentry.dir.0 ≡ true
-entry_known c sound dentry inode stands = dir_known c sound dentry.dir.0 (sound.sound.tabled.whole.parents dentry.dir.0 dentry.name inode stands)
-
 -- one more fits where a new inode comes
 pub new_fits : (s : State) → IsSound s → (spot : Spot) (inode : Inode) → MayChange (shown_tree s) s.covers (adds spot inode) → count_of s.counts spot.at.dir.0 < 2 ^ 64 - 1
-new_fits s sound spot inode may =
-    let few = may.takes.spaced in
-    let count = sound.counted.each spot.at.dir.0 in
-    omega (arith, few, count)
+new_fits s sound spot inode may = omega (arith, may.takes.spaced, sound.counted.each spot.at.dir.0)
 
 -- a directory that is altered is in the table
 pub set_listed : (c : Core) → IsSoundCore c → (spot : Spot) (inode : Inode) → MayChange (shown_in c) c.covers (sets spot inode) → is_dir_kind inode.kind ≡ true → is_some (map.get c.homes inode.ino.0) ≡ true
 set_listed c sound spot inode may kinded =
     ap (λ (n : Ino). is_some (map.get c.homes n.0)) may.takes.number
     ∙ ap is_some (sound.sound.tabled.holds.listed (dentry_at spot) may.takes.before may.takes.stands (sym (ap is_dir_kind may.takes.kind) ∙ kinded))
+
+-- before the first step
+first_made : (change : Change) (old : Core) → AreCached (state_of old) old.caches → KeepsNone old.caches → HasMade (IsNamedIn change) (EndsWith change) None old old
+first_made change old cached none = made_first _ _ None old cached (none_only None old.caches none)
 
 module _ (old new : Core) (sound : IsSound (state_of old)) (begun : 0 < old.next_generation) (cached : AreCached (state_of old) old.caches) (spot : Spot) (room : HasRoom (here old.caches spot.at.rank.0 (leaf_of spot.at))) where
   abbrev place : Dirfrag
@@ -81,41 +79,22 @@ module _ (old new : Core) (sound : IsSound (state_of old)) (begun : 0 < old.next
     abbrev now : Core
     now = named old place spot.name (Some inode)
 
-    abbrev SetUses : ℕ → Leaf → Type 0
-    SetUses = IsNamedIn (sets spot inode)
-
-    abbrev SetEnds : ℕ → Leaf → Type 0
-    SetEnds = EndsWith (sets spot inode)
-
-    before_set : KeepsNone old.caches → HasMade SetUses SetEnds None old old
-    before_set none = made_first SetUses SetEnds None old cached (none_only None old.caches none)
-
     pub set_done : KeepsNone old.caches → MayChange (shown_in old) old.covers (sets spot inode) → new ≡ pinned now inode → IsDone (sets spot inode) old new
-    set_done none may is = subst (IsDone (sets spot inode) old) (sym is)
-        (done (sets spot inode) old (pinned now inode) sound not_new may (state_of now, (state_of now, is_named SetUses SetEnds None old old (before_set none) place spot.name (Some inode) there, refl), refl)
-        (made_noted SetUses SetEnds None old now (made_named SetUses SetEnds None old old (before_set none) place spot.name (Some inode) there (refl, refl)) old.counts (with_pin old.pins inode)) begun)
-
-    abbrev AddUses : ℕ → Leaf → Type 0
-    AddUses = IsNamedIn (adds spot inode)
-
-    abbrev AddEnds : ℕ → Leaf → Type 0
-    AddEnds = EndsWith (adds spot inode)
-
-    before_file : KeepsNone old.caches → HasMade AddUses AddEnds None old old
-    before_file none = made_first AddUses AddEnds None old cached (none_only None old.caches none)
+    set_done none may is =
+        let before = first_made (sets spot inode) old cached none in
+        subst (IsDone (sets spot inode) old) (sym is)
+        (done (sets spot inode) old (pinned now inode) sound not_new may (state_of now, (state_of now, is_named _ _ None old old before place spot.name (Some inode) there, refl), refl)
+        (made_tables _ _ None old now (made_named _ _ None old old before place spot.name (Some inode) there (refl, refl)) old.homes old.counts (with_pin old.pins inode) (λ leaf live. live)) begun)
 
     pub file_done : KeepsNone old.caches → is_dir_kind inode.kind ≡ false → inode.ino.0 < 2 ^ 64 → MayChange (shown_in old) old.covers (adds spot inode) → new ≡ with_entry now place.dir → IsDone (adds spot inode) old new
-    file_done none file number may is = subst (IsDone (adds spot inode) old) (sym is)
-        (done (adds spot inode) old (with_entry now place.dir) sound (λ new. number) may (
+    file_done none file number may is =
+        let before = first_made (adds spot inode) old cached none in
+        subst (IsDone (adds spot inode) old) (sym is) (done (adds spot inode) old (with_entry now place.dir) sound (λ new. number) may (
           state_of now,
-          (
-            state_of now,
-            is_named AddUses AddEnds None old old (before_file none) place spot.name (Some inode) there,
-            sym (ap (λ (b : Bool). cond b (with_directory (state_of now) (dentry_at spot) inode.ino) (state_of now)) file),
-          ),
+          (state_of now, is_named _ _ None old old before place spot.name (Some inode) there, sym (ap (λ (b : Bool). cond b (with_directory (state_of now) (dentry_at spot) inode.ino) (state_of now)) file)),
           ap (λ (b : Bool). record (state_of now) { counts = cond b (map.insert (one_more old.counts place.dir.0) inode.ino.0 0) (one_more old.counts place.dir.0) }) (sym file),
         )
-        (made_noted AddUses AddEnds None old now (made_named AddUses AddEnds None old old (before_file none) place spot.name (Some inode) there (inl (refl, refl))) (one_more old.counts place.dir.0) old.pins) begun)
+        (made_tables _ _ None old now (made_named _ _ None old old before place spot.name (Some inode) there (inl (refl, refl))) old.homes (one_more old.counts place.dir.0) old.pins (λ leaf live. live)) begun)
 
     abbrev first : Dirfrag
     first = record { dir = inode.ino; frag = root_fragment; rank = spot.at.rank }
@@ -126,86 +105,49 @@ module _ (old new : Core) (sound : IsSound (state_of old)) (begun : 0 < old.next
     -- a directory has its home, and its leaf, for which a place is kept
     module _ (only : KeepsOnlyAt kept old.caches) (kept_place : IsKeptFor old.caches spot.at.rank.0 (first_leaf inode.ino)) (kinded : is_dir_kind inode.kind ≡ true) (fits : inode.ino.0 < 2 ^ 64) (rank : spot.at.rank.0 < length old.caches.used)
         (may : MayChange (shown_in old) old.covers (adds spot inode)) (rooms : Rooms) where
-      abbrev grown : Core
-      grown = with_dir (with_entry now place.dir) first (home_at (dentry_at spot)) (text_of (first_leaf inode.ino)) rooms
-
-      pub dir_may_come : MayCome old.homes inode.ino.0 (home_at (dentry_at spot))
-      dir_may_come = may_come (shown_in old) old.homes (dentry_at spot) inode sound.tabled may.takes
-
-      before_dir : HasMade AddUses AddEnds kept old old
-      before_dir = made_first AddUses AddEnds kept old cached only
-
-      dir_named : HasMade AddUses AddEnds kept old (with_entry now place.dir)
-      dir_named = made_noted AddUses AddEnds kept old now
-          (made_named AddUses AddEnds kept old old before_dir place spot.name (Some inode) there (inl (refl, refl))) (one_more old.counts place.dir.0) old.pins
-
-      dir_grown : HasMade AddUses AddEnds None old grown
-      dir_grown = made_dir AddUses AddEnds old (with_entry now place.dir) first dir_named
-          (kept_named old place spot.name (Some inode) there (first_leaf inode.ino) kept_place rank).1 (home_at (dentry_at spot)) (text_of (first_leaf inode.ino)) rooms
-          (first_live (state_of old) (sound_leaves (state_of old) sound) (dentry_at spot) inode.ino dir_may_come fits)
-          (grown_live (state_of old) (sound_leaves (state_of old) sound) (dentry_at spot) inode.ino dir_may_come fits) (inr (refl, refl))
-
-      abbrev with_leaf : State
-      with_leaf = record (with_directory (state_of now) (dentry_at spot) inode.ino) { counts = map.insert (one_more old.counts place.dir.0) inode.ino.0 0 }
-
-      is_with_leaf : state_of grown ≡ with_leaf
-      is_with_leaf = λ i. record with_leaf { unsaved = unclean_with now.caches spot.at.rank.0 (first_leaf inode.ino) (made_frag now.next_generation) i }
-
-      abbrev noted_new : State
-      noted_new = record (with_new (state_of now) (dentry_at spot) inode) { counts = with_count (one_more old.counts place.dir.0) inode; pins = old.pins }
-
-      is_noted : with_leaf ≡ noted_new
-      is_noted = sym (ap (λ (b : Bool). record (cond b (with_directory (state_of now) (dentry_at spot) inode.ino) (state_of now)) {
-        counts = cond b (map.insert (one_more old.counts place.dir.0) inode.ino.0 0) (one_more old.counts place.dir.0);
-        pins = old.pins;
-      }) kinded)
-
-      dir_done : new ≡ grown → IsDone (adds spot inode) old new
-      dir_done is = subst (IsDone (adds spot inode) old) (sym is)
-          (done (adds spot inode) old grown sound (λ new. fits) may
-          (with_new (state_of now) (dentry_at spot) inode, (state_of now, is_named AddUses AddEnds kept old old before_dir place spot.name (Some inode) there, refl), is_with_leaf ∙ is_noted)
-          dir_grown (omega (arith, begun)))
-
       pub directory_done : (made : NewDirectory) → made.name ≡ spot.name → string_bytes made.object ≡ text_of (first_leaf inode.ino)
           → new ≡ with_dir (with_entry now place.dir) first (record { parent = spot.at.dir; name = made.name }) (string_bytes made.object) rooms → IsDone (adds spot inode) old new
       directory_done made name object is =
-          dir_done (is ∙ (λ i. with_dir (with_entry now place.dir) first (record { parent = spot.at.dir; name = name i }) (object i) rooms))
+          let leaves = sound_leaves (state_of old) sound in
+          let come = may_come (shown_in old) old.homes (dentry_at spot) inode sound.tabled may.takes in
+          let counts = one_more old.counts place.dir.0 in
+          let before = made_first (IsNamedIn (adds spot inode)) (EndsWith (adds spot inode)) kept old cached only in
+          let named = made_named _ _ kept old old before place spot.name (Some inode) there (inl (refl, refl)) in
+          let grown = made_dir _ _ old (with_entry now place.dir) first (made_tables _ _ kept old now named old.homes counts old.pins (λ leaf live. live))
+          (kept_named old place spot.name (Some inode) there (first_leaf inode.ino) kept_place rank).1 (home_at (dentry_at spot)) (text_of (first_leaf inode.ino)) rooms
+          (first_live (state_of old) leaves (dentry_at spot) inode.ino come fits) (grown_live (state_of old) leaves (dentry_at spot) inode.ino come fits) (inr (refl, refl)) in
+          let with_leaf : State = record (with_directory (state_of now) (dentry_at spot) inode.ino) { counts = map.insert counts inode.ino.0 0 } in
+          subst (IsDone (adds spot inode) old) (sym (is ∙ (λ i. with_dir (with_entry now place.dir) first (record { parent = spot.at.dir; name = name i }) (object i) rooms)))
+          (done (adds spot inode) old (with_dir (with_entry now place.dir) first (home_at (dentry_at spot)) (text_of (first_leaf inode.ino)) rooms) sound (λ new. fits) may (
+            with_new (state_of now) (dentry_at spot) inode,
+            (state_of now, is_named _ _ kept old old before place spot.name (Some inode) there, refl),
+            (λ i. record with_leaf { unsaved = unclean_with now.caches spot.at.rank.0 (first_leaf inode.ino) (made_frag now.next_generation) i })
+                ∙ sym (ap (λ (b : Bool). record (cond b (with_directory (state_of now) (dentry_at spot) inode.ino) (state_of now)) { counts = cond b (map.insert counts inode.ino.0 0) counts; pins = old.pins }) kinded),
+          ) grown (omega (arith, begun)))
 
   -- a name went, and the directory that stood there, if one did
   module _ (going : Option Going) (none : KeepsNone old.caches) (stands : IsGoingOrNone old.covers going) (may : MayChange (shown_in old) old.covers (removes spot (dir_going going))) (rooms : Rooms) where
-    abbrev RemoveUses : ℕ → Leaf → Type 0
-    RemoveUses = IsNamedIn (removes spot (dir_going going))
-
-    abbrev RemoveEnds : ℕ → Leaf → Type 0
-    RemoveEnds = EndsWith (removes spot (dir_going going))
-
     abbrev erased : Core
     erased = named old place spot.name None
 
-    abbrev gone : Core
-    gone = left erased (one_less old.counts place.dir.0) going stands rooms
-
-    before_removal : HasMade RemoveUses RemoveEnds None old old
-    before_removal = made_first RemoveUses RemoveEnds None old cached (none_only None old.caches none)
-
     pub removal_done : new ≡ without_dir (without_entry erased place.dir) (dir_going going) (leaves_going going) (texts_going going) rooms → (KeepsNone old.caches → KeepsNone new.caches) → IsDone (removes spot (dir_going going)) old new
-    removal_done is stays_none = subst (IsDone (removes spot (dir_going going)) old) (sym is)
-        (done (removes spot (dir_going going)) old gone sound not_new may
-        (without (state_of erased) (dir_going going), (state_of erased, is_named RemoveUses RemoveEnds None old old before_removal place spot.name None there, refl), is_gone erased (one_less old.counts place.dir.0) going stands rooms)
-        (made_gone erased (one_less old.counts place.dir.0) going stands rooms RemoveUses RemoveEnds old (λ r q is. is)
-        (made_named RemoveUses RemoveEnds None old old before_removal place spot.name None there (refl, refl)) (λ was. subst (λ (k : Core). KeepsNone k.caches) is (stays_none none))) begun)
+    removal_done is stays_none =
+        let change = removes spot (dir_going going) in
+        let before = first_made change old cached none in
+        let counts = one_less old.counts place.dir.0 in
+        subst (IsDone change old) (sym is) (done change old (left erased counts going stands rooms) sound not_new may
+        (without (state_of erased) (dir_going going), (state_of erased, is_named _ _ None old old before place spot.name None there, refl), is_gone erased counts going stands rooms)
+        (made_gone erased counts going stands rooms _ _ old (λ r q is. is) (made_named _ _ None old old before place spot.name None there (refl, refl)) (λ was. subst (λ (k : Core). KeepsNone k.caches) is (stays_none none))) begun)
+
+-- of a directory that stands somewhere, if one does
+if_directory : (P : Ino → Type 0) (found : Option Inode) → ((i : Inode) → found ≡ Some i → is_dir_kind i.kind ≡ true → P i.ino) → IfSome (directory_at found) P
+if_directory P None so = tt
+if_directory P (Some i) so = cond_both (is_dir_kind i.kind) (Some i.ino) None (λ d. IfSome d P) (so i refl) (λ file. tt)
 
 -- a directory that goes with an entry may go
 pub may_go : (c : Core) → IsSoundCore c → (spot : Spot) (went : Option Ino) → MayChange (shown_in c) c.covers (removes spot went) → IfSome went (λ (dir : Ino). MayGo c.homes dir.0)
-may_go c sound spot went may = subst (λ (d : Option Ino). IfSome d (λ (dir : Ino). MayGo c.homes dir.0)) (sym may.carries.gone) (go (map.get (shown_in c) (dentry_at spot)) refl)
-  where
-    by : (inode : Inode) (b : Bool) → map.get (shown_in c) (dentry_at spot) ≡ Some inode → is_dir_kind inode.kind ≡ b → IfSome (cond b (Some inode.ino) None) (λ (dir : Ino). MayGo c.homes dir.0)
-    by inode true is kinded = may_drop (shown_in c) c.homes (dentry_at spot) (Some inode) is sound.sound.tabled may.takes inode refl kinded
-    by inode false is kinded = tt
-
-    go : (o : Option Inode) → map.get (shown_in c) (dentry_at spot) ≡ o → IfSome (directory_at o) (λ (dir : Ino). MayGo c.homes dir.0)
-    go None is = tt
-    go (Some inode) is = by inode (is_dir_kind inode.kind) is refl
+may_go c sound spot went may = subst (λ (d : Option Ino). IfSome d (λ (dir : Ino). MayGo c.homes dir.0)) (sym may.carries.gone)
+    (if_directory (λ (dir : Ino). MayGo c.homes dir.0) (map.get (shown_in c) (dentry_at spot)) (λ inode is kinded. may_drop (shown_in c) c.homes (dentry_at spot) (Some inode) is sound.sound.tabled may.takes inode refl kinded))
 
 -- ---- an entry moves
 
@@ -213,112 +155,55 @@ module _ (old new : Core) (sound : IsSoundCore old) (source target : Spot) (inod
   abbrev change : Change
   change = moves source target inode (dir_going going)
 
-  is_move : IsMove (shown_in old) (dentry_at source) (dentry_at target) inode
-  is_move = may.takes
-
   -- a directory may have its home there,
   pub relocates : is_dir_kind inode.kind ≡ true → MayMove old.homes inode.ino.0 (home_at (dentry_at target))
-  relocates kinded = may_relocate (shown_in old) old.homes (dentry_at source) (dentry_at target) inode sound.sound.tabled is_move kinded
+  relocates kinded = may_relocate (shown_in old) old.homes (dentry_at source) (dentry_at target) inode sound.sound.tabled may.takes kinded
 
   -- and one that is replaced may go then
   pub replaces : IfSome (dir_going going) (λ (dir : Ino). MayGo (with_home old.homes (dentry_at target) inode) dir.0)
-  replaces = subst (λ (d : Option Ino). IfSome d (λ (dir : Ino). MayGo (with_home old.homes (dentry_at target) inode) dir.0)) (sym may.carries.gone) (go (map.get (shown_in old) (dentry_at target)) refl)
-    where
-      by : (i : Inode) (b : Bool) → map.get (shown_in old) (dentry_at target) ≡ Some i → IfSome (cond b (Some i.ino) None) (λ (dir : Ino). MayGo (with_home old.homes (dentry_at target) inode) dir.0)
-      by i true is = may_replace (shown_in old) old.homes (dentry_at source) (dentry_at target) inode sound.sound.tabled is_move i is
-      by i false is = tt
-
-      go : (o : Option Inode) → map.get (shown_in old) (dentry_at target) ≡ o → IfSome (directory_at o) (λ (dir : Ino). MayGo (with_home old.homes (dentry_at target) inode) dir.0)
-      go None is = tt
-      go (Some i) is = by i (is_dir_kind i.kind) is
+  replaces = subst (λ (d : Option Ino). IfSome d (λ (dir : Ino). MayGo (with_home old.homes (dentry_at target) inode) dir.0)) (sym may.carries.gone)
+      (if_directory (λ (dir : Ino). MayGo (with_home old.homes (dentry_at target) inode) dir.0) (map.get (shown_in old) (dentry_at target)) (λ i is dir. may_replace (shown_in old) old.homes (dentry_at source) (dentry_at target) inode sound.sound.tabled may.takes i is))
 
   -- its new name is shown where something stands there
   pub stands_at_target : HasRoom (here old.caches target.at.rank.0 (leaf_of target.at)) → shows old target.at target.name ≡ is_some (map.get (shown_in old) (dentry_at target))
   stands_at_target room =
       shows_names old sound target.at target.name (roomy_there (here old.caches target.at.rank.0 (leaf_of target.at)) room)
-      ∙ ap is_some (sym (at_dentry (state_of old) sound.sound target.at.dir.0 target.name target.at.frag (dir_known old sound target.at.dir.0 is_move.parent) may.carries.put))
+      ∙ ap is_some (sym (at_dentry (state_of old) sound.sound target.at.dir.0 target.name target.at.frag (dir_known old sound target.at.dir.0 may.takes.parent) may.carries.put))
 
   -- and what comes to another directory, where nothing does, can be counted there
   pub counts_fit : HasRoom (here old.caches target.at.rank.0 (leaf_of target.at)) → shows old target.at target.name ≡ false → (source.at.dir.0 == target.at.dir.0) ≡ false → count_of old.counts target.at.dir.0 < 2 ^ 64 - 1
-  counts_fit room none apart = by (map.get (shown_in old) (dentry_at target)) (sym (stands_at_target room) ∙ none) is_move.spaced
-    where
-      by : (o : Option Inode) → is_some o ≡ false → HasSpace (shown_in old) (dentry_at source) (dentry_at target) o → count_of old.counts target.at.dir.0 < 2 ^ 64 - 1
-      by None is space = let few = space apart in let count = sound.sound.counted.each target.at.dir.0 in omega (arith, few, count)
-      by (Some i) is space = let clash : true ≡ false = is in cc
+  counts_fit room none apart = elim (map.get (shown_in old) (dentry_at target)) as (λ o. is_some o ≡ false → HasSpace (shown_in old) (dentry_at source) (dentry_at target) o → count_of old.counts target.at.dir.0 < 2 ^ 64 - 1) [
+    | None ↦ λ is space. omega (arith, space apart, sound.sound.counted.each target.at.dir.0)
+    | Some i ↦ λ is space. let clash : true ≡ false = is in absurd cc
+  ] (sym (stands_at_target room) ∙ none) may.takes.spaced
 
   module _ (two : HasCached (here old.caches source.at.rank.0 (leaf_of source.at)) (λ (f : Cached). 1 < f.room)) (one : HasRoom (here old.caches target.at.rank.0 (leaf_of target.at))) (leaves_stand : IsGoingOrNone old.covers going) (rooms : Rooms) where
-    abbrev MoveUses : ℕ → Leaf → Type 0
-    MoveUses = IsNamedIn change
-
-    abbrev MoveEnds : ℕ → Leaf → Type 0
-    MoveEnds = EndsWith change
-
-    abbrev first_place : Dirfrag
-    first_place = source.at
-
-    abbrev second_place : Dirfrag
-    second_place = target.at
-
-    abbrev left_name : Core
-    left_name = named old first_place source.name None
-
-    abbrev housed : Core
-    housed = record left_name { homes = with_home old.homes (dentry_at target) inode }
-
-    abbrev came_name : Core
-    came_name = named housed second_place target.name (Some inode)
-
-    abbrev counts_now : Counts
-    counts_now = counts_moved old.counts source.at.dir.0 target.at.dir.0 (shows old second_place target.name)
-
-    abbrev all_gone : Core
-    all_gone = left came_name counts_now going leaves_stand rooms
-
-    stood : shows old second_place target.name ≡ is_some (map.get (shown_in old) (dentry_at target))
-    stood = stands_at_target one
-
-    before_move : HasMade MoveUses MoveEnds None old old
-    before_move = made_first MoveUses MoveEnds None old sound.cached (none_only None old.caches sound.none)
-
-    there_first : IsThere (here old.caches first_place.rank.0 (leaf_of first_place))
-    there_first = cached_there (λ (f : Cached). 1 < f.room) (here old.caches first_place.rank.0 (leaf_of first_place)) two
-
-    left_made : HasMade MoveUses MoveEnds None old left_name
-    left_made = made_named MoveUses MoveEnds None old old before_move first_place source.name None there_first (inl (refl, refl))
-
-    housed_made : HasMade MoveUses MoveEnds None old housed
-    housed_made = made_home MoveUses MoveEnds None old left_name left_made (with_home old.homes (dentry_at target) inode)
-        (λ leaf live. record { known = moved_known old.homes old.covers sound.sound.table (dentry_at target) inode relocates leaf.0.0 ∙ live.known; stands = live.stands })
-
-    there_second : IsThere (here housed.caches second_place.rank.0 (leaf_of second_place))
-    there_second = there_left old.caches source.at.rank.0 target.at.rank.0 (leaf_of source.at) (leaf_of target.at) source.name (record { version = old.next_version; inode = None }) two one
-
-    came_made : HasMade MoveUses MoveEnds None old came_name
-    came_made = made_named MoveUses MoveEnds None old housed housed_made second_place target.name (Some inode) there_second (inr (refl, refl))
-
-    named_twice : IsNamed (state_of left_name) (record (state_of came_name) { homes = old.homes }) (leaf_of target.at) target.name (Some inode)
-    named_twice =
-        let named = is_named MoveUses MoveEnds None old housed housed_made second_place target.name (Some inode) there_second in
-        record { before = named.before; stands = named.stands; left = λ i. record (named.left i) { homes = old.homes } }
-
-    move_done : new ≡ all_gone → (KeepsNone old.caches → KeepsNone new.caches) → IsDone change old new
-    move_done is none = subst (IsDone change old) (sym is)
-        (done change old all_gone sound.sound not_new may (
+    pub entry_moved : (name : List ℕ) → name ≡ target.name
+        → new ≡ without_dir (moved old source.at source.name target.at target.name name inode) (dir_going going) (leaves_going going) (texts_going going) rooms → (KeepsNone old.caches → KeepsNone new.caches)
+        → IsDone change old new
+    entry_moved name its is none =
+        let left_name = named old source.at source.name None in
+        let housed = record left_name { homes = with_home old.homes (dentry_at target) inode } in
+        let came_name = named housed target.at target.name (Some inode) in
+        let counts = counts_moved old.counts source.at.dir.0 target.at.dir.0 (shows old target.at target.name) in
+        let before = first_made change old sound.cached sound.none in
+        let there_first = cached_there (λ (f : Cached). 1 < f.room) (here old.caches source.at.rank.0 (leaf_of source.at)) two in
+        let housed_made = made_tables _ _ None old left_name (made_named _ _ None old old before source.at source.name None there_first (inl (refl, refl))) (with_home old.homes (dentry_at target) inode) old.counts old.pins
+        (λ leaf live. record { known = moved_known old.homes old.covers sound.sound.table (dentry_at target) inode relocates leaf.0.0 ∙ live.known; stands = live.stands }) in
+        let there_second = roomy_there _ (room_left old.caches source.at.rank.0 target.at.rank.0 (leaf_of source.at) (leaf_of target.at) source.name (record { version = old.next_version; inode = None }) two one) in
+        let named = is_named _ _ None old housed housed_made target.at target.name (Some inode) there_second in
+        let now : new ≡ left came_name counts going leaves_stand rooms = is ∙ ap (λ (n : List ℕ). without_dir (moved old source.at source.name target.at target.name n inode) (dir_going going) (leaves_going going) (texts_going going) rooms) its in
+        subst (IsDone change old) (sym now) (done change old (left came_name counts going leaves_stand rooms) sound.sound not_new may (
           without (state_of came_name) (dir_going going),
           (
             state_of left_name,
-            is_named MoveUses MoveEnds None old old before_move first_place source.name None there_first,
-            (record (state_of came_name) { homes = old.homes }, named_twice, refl),
+            is_named _ _ None old old before source.at source.name None there_first,
+            (record (state_of came_name) { homes = old.homes }, record { before = named.before; stands = named.stands; left = λ i. record (named.left i) { homes = old.homes } }, refl),
           ),
-          is_gone came_name counts_now going leaves_stand rooms ∙ ap (λ (b : Bool). record (without (state_of came_name) (dir_going going)) {
+          is_gone came_name counts going leaves_stand rooms ∙ ap (λ (b : Bool). record (without (state_of came_name) (dir_going going)) {
             counts = rows_but (counts_moved old.counts source.at.dir.0 target.at.dir.0 b) (dir_going going);
             pins = rows_but old.pins (dir_going going);
-          }) stood,
+          }) (stands_at_target one),
         )
-        (made_gone came_name counts_now going leaves_stand rooms MoveUses MoveEnds old (λ r q is. is) came_made (λ was. subst (λ (k : Core). KeepsNone k.caches) is (none sound.none))) sound.begun)
-
-    pub entry_moved : (name : List ℕ) → name ≡ target.name
-        → new ≡ without_dir (moved old first_place source.name second_place target.name name inode) (dir_going going) (leaves_going going) (texts_going going) rooms → (KeepsNone old.caches → KeepsNone new.caches)
-        → IsDone change old new
-    entry_moved name its is none =
-        move_done (is ∙ ap (λ (n : List ℕ). without_dir (moved old first_place source.name second_place target.name n inode) (dir_going going) (leaves_going going) (texts_going going) rooms) its) none
+        (made_gone came_name counts going leaves_stand rooms _ _ old (λ r q is. is) (made_named _ _ None old housed housed_made target.at target.name (Some inode) there_second (inr (refl, refl)))
+        (λ was. subst (λ (k : Core). KeepsNone k.caches) now (none sound.none))) sound.begun)

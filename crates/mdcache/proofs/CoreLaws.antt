@@ -1,8 +1,10 @@
 -- What reads and preparations leave of the tree over caches and a store, and what they find.
-use Rattle.mdcache.proofs.Common.{AreCached, At, Base, CacheMap, Cached, Came, Core, Counts, Covers, Dentry, DirPins, Dirfrag, Edits, Err, Fragment, Fresh, HasCached, Homes, IfErr, IfOk, Ino, Inode, IsButRoom, IsCachedIn, IsFree, IsLive, IsNoLess, IsPick, IsReadOf, IsSaved, IsSound, IsSoundCore, IsThat, IsThere, IsTiedAt, KeepsNone, KeepsState, Keys, LacksPlacesIn, Leaf, List, Loads, MayFetch, MayHold, MayNotBeReady, MayNotFind, Names, None, NoneEnds, Objects, Ok, Omap, OnErr, OnOk, Option, Reads, ReadsCore, Refusal, Result, Rooms, Some, State, Stored, UnsavedLeaves, ap, arith, at, came_cap, came_ranks, edits_reads, faults_told, fetched_are_tied, get_unclean, hash_of, here, here_is, inl, inr, is_directory, is_known, is_some, known_is, leaf_of, leaves_of, length, object_of, reads_came, reads_held, reads_then, reads_unclean, reads_weaker, refl, shown, shown_at, shown_in, shows, shows_in, state_of, subst, suc, sym, true, unclean, unclean_of, unsaved_at, used_at, used_reads, zero, ℕ, ◌+◌, ◌<◌, ◌∙◌, ◌≡◌, ◌≤◌, ◌⊎◌}
+use Rattle.mdcache.proofs.Common.{AreCached, At, Base, CacheMap, Cached, Came, Core, Counts, Covers, Dentry, DirPins, Dirfrag, Edits, Err, Fragment, Fresh, HasCached, Homes, IfErr, IfOk, IfOk-weaker, Ino, Inode, IsButRoom, IsCachedIn, IsFree, IsLive, IsNoLess, IsPick, IsSaved, IsSound, IsSoundCore, IsThat, IsThere, IsTiedAt, KeepsNone, KeepsState, Keys, LacksPlacesIn, Leaf, List, Loads, MayFetch, MayHold, MayNotBeReady, MayNotFind, Names, None, NoneEnds, Objects, Ok, Omap, OnErr, OnOk, Option, Reads, ReadsCore, Refusal, Result, Rooms, Some, State, Stored, UnsavedLeaves, ap, arith, at, came_cap, came_ranks, edits_reads, faults_told, fetched_are_tied, get_unclean, hash_of, here, here_is, inl, inr, is_directory, is_known, is_some, known_is, leaf_of, leaves_of, length, object_of, reads_came, reads_held, reads_then, reads_unclean, reads_weaker, refl, shown, shown_at, shown_in, shows, shows_in, state_of, subst, suc, sym, true, unclean, unsaved_at, used_at, used_reads, zero, ℕ, ⊎_elim, ◌+◌, ◌<◌, ◌∙◌, ◌≡◌, ◌≤◌, ◌⊎◌}
+use Rattle.std.proofs.lemmas.Result.{IfErr-weaker}
 use Rattle.std.specs.FinMap as map
 use Rattle.dentry_cache.specs.Reads.Reads.{stays as it_stays}
 use Rattle.mdcache.specs.Shown.{names_of}
+pub use Rattle.std.proofs.lemmas.Result.{on_ok_weaker as on_ok}
 use Rattle.mdcache.proofs.EndLaws.{cached_shows}
 use Rattle.mdcache.proofs.UncleanOf.{reads_unclean_of}
 use Rattle.mdcache.proofs.TreeLookups.{at_dentry}
@@ -28,7 +30,7 @@ loaded_cached : (s : State) (leaf : Leaf) (f : Cached) → 0 < s.next_generation
 loaded_cached s leaf f begun live loads = record {
   live = live;
   tied = fetched_are_tied leaf.1 (object_of s.objects leaf.0 leaf.1) f loads;
-  made = (let first = loaded_first leaf f (object_of s.objects leaf.0 leaf.1) loads in omega (arith, begun, first));
+  made = omega (arith, begun, loaded_first leaf f (object_of s.objects leaf.0 leaf.1) loads);
 }
 
 -- ---- what reads leave
@@ -45,11 +47,10 @@ module _ (Uses Ends : ℕ → Leaf → Type 0) (old new : Core) (reads : ReadsCo
   AreLive = (r : ℕ) (q : Leaf) → Uses r q → (a : At) → map.get new.caches.held q ≡ Some a → IsLive old.homes old.covers q
 
   pub reads_cached_so : IsSoundCore old → AreLive → (leaf : Leaf) (a : At) → map.get new.caches.held leaf ≡ Some a → IsCachedIn (state_of new) leaf a.frag
-  reads_cached_so sound live leaf a is = subst (λ (s : State). IsCachedIn s leaf a.frag) (sym reads_state) (go (reads_held Uses Ends old.objects old.caches new.caches reads.caches leaf a is))
-    where
-      go : IsReadOf Uses old.objects leaf (map.get old.caches.held leaf) a → IsCachedIn (state_of old) leaf a.frag
-      go (inl was) = cached_but (state_of old) leaf was.0 a.frag was.2 (sound.cached leaf (at a.rank was.0) was.1)
-      go (inr came) = cached_but (state_of old) leaf came.1 a.frag came.3 (loaded_cached (state_of old) leaf came.1 sound.begun (live a.rank leaf came.0 a is) came.2)
+  reads_cached_so sound live leaf a is = subst (λ (s : State). IsCachedIn s leaf a.frag) (sym reads_state) (⊎_elim
+      (λ was. cached_but (state_of old) leaf was.0 a.frag was.2 (sound.cached leaf (at a.rank was.0) was.1))
+      (λ came. cached_but (state_of old) leaf came.1 a.frag came.3 (loaded_cached (state_of old) leaf came.1 sound.begun (live a.rank leaf came.0 a is) came.2))
+      (reads_held Uses Ends old.objects old.caches new.caches reads.caches leaf a is))
 
   pub reads_sound_so : IsSoundCore old → AreLive → KeepsNone new.caches → IsSoundCore new
   reads_sound_so sound live none = record {
@@ -74,46 +75,29 @@ module _ (Uses Ends : ℕ → Leaf → Type 0) (old new : Core) (reads : ReadsCo
   -- a leaf that could be fetched still can
   pub may_fetch_on : (a : Dirfrag) → ((r : ℕ) → Uses r (leaf_of a) → r ≡ a.rank.0) → MayFetch old a → MayFetch new a
   may_fetch_on a mine may = record {
-    there = (let count : length new.caches.used ≡ length old.caches.used = came_ranks Uses Ends old.caches new.caches came in let there = may.there in omega (arith, count, there));
+    there = subst (λ (n : ℕ). a.rank.0 < n) (sym (came_ranks Uses Ends old.caches new.caches came)) may.there;
     free = free (map.get new.caches.held (leaf_of a)) refl;
     saved = λ none. subst (λ (s : State). IsSaved a.frag (object_of s.objects a.dir a.frag)) (sym reads_state)
         (may.saved (ap (λ (m : UnsavedLeaves). map.get m (leaf_of a)) (sym (reads_unclean Uses Ends old.objects old.caches new.caches reads.caches)) ∙ none));
   }
     where
-      was : (b : At) → map.get old.caches.held (leaf_of a) ≡ Some b → b.rank ≡ a.rank.0
-      was b is = subst (IsFree a.rank.0) is may.free
-
       free : (o : Option At) → map.get new.caches.held (leaf_of a) ≡ o → IsFree a.rank.0 o
       free None is = tt
-      free (Some b) is = by (reads_held Uses Ends old.objects old.caches new.caches reads.caches (leaf_of a) b is)
-        where
-          by : IsReadOf Uses old.objects (leaf_of a) (map.get old.caches.held (leaf_of a)) b → b.rank ≡ a.rank.0
-          by (inl stood) = was (at b.rank stood.0) stood.1
-          by (inr read) = mine b.rank read.0
+      free (Some b) is = ⊎_elim (λ stood. subst (IsFree a.rank.0) stood.1 may.free) (λ read. mine b.rank read.0) (reads_held Uses Ends old.objects old.caches new.caches reads.caches (leaf_of a) b is)
 
 -- a leaf that was cached nowhere, and isn't named, is cached nowhere
 pub still_absent : (Uses Ends : ℕ → Leaf → Type 0) (old new : Core) (q : Leaf) → ReadsCore Uses Ends old new → ((r : ℕ) → Uses r q → ⊥) → map.get old.caches.held q ≡ None → map.get new.caches.held q ≡ None
-still_absent Uses Ends old new q reads unnamed none = go (map.get new.caches.held q) refl
-  where
-    go : (o : Option At) → map.get new.caches.held q ≡ o → map.get new.caches.held q ≡ None
-    go None is = is
-    go (Some a) is = by (reads_held Uses Ends old.objects old.caches new.caches reads.caches q a is)
-      where
-        by : IsReadOf Uses old.objects q (map.get old.caches.held q) a → map.get new.caches.held q ≡ None
-        by (inl was) = let clash : None ≡ Some (at a.rank was.0) = sym none ∙ was.1 in absurd cc
-        by (inr read) = absurd (unnamed a.rank read.0)
+still_absent Uses Ends old new q reads unnamed none = elim (map.get new.caches.held q) as (λ o. map.get new.caches.held q ≡ o → o ≡ None) [
+  | None ↦ λ is. refl
+  | Some a ↦ λ is. absurd (⊎_elim (λ was. let clash : None ≡ Some (at a.rank was.0) = sym none ∙ was.1 in cc) (λ read. unnamed a.rank read.0) (reads_held Uses Ends old.objects old.caches new.caches reads.caches q a is))
+] refl
 
 -- one after the other
-no_less_on : (a b c : Rooms) → IsNoLess a b → IsNoLess b c → IsNoLess a c
-no_less_on a b c p q =
-    let d = p.dirs in let e = q.dirs in let j = p.jobs in let k = q.jobs in let x = p.purge in let y = q.purge in
-    record { dirs = omega (arith, d, e); jobs = omega (arith, j, k); purge = omega (arith, x, y) }
-
 pub reads_core_on : (Uses Ends : ℕ → Leaf → Type 0) (old mid new : Core) → ReadsCore Uses Ends old mid → ReadsCore Uses Ends mid new → ReadsCore Uses Ends old new
 reads_core_on Uses Ends old mid new first second = record {
   caches = reads_then Uses Ends old.objects old.caches mid.caches new.caches first.caches
       (subst (λ (o : Objects). Reads Uses Ends o mid.caches new.caches) (ap (λ (c : Core). c.objects) first.beside) second.caches);
-  room = no_less_on old.room mid.room new.room first.room second.room;
+  room = record { dirs = omega (arith, first.room.dirs, second.room.dirs); jobs = omega (arith, first.room.jobs, second.room.jobs); purge = omega (arith, first.room.purge, second.room.purge) };
   beside = second.beside ∙ ap (λ (c : Core). record c { caches = new.caches; faults = new.faults; room = new.room }) first.beside;
 }
 
@@ -178,19 +162,17 @@ module _ (c : Core) (sound : IsSoundCore c) where
 
   -- what holds of the shown names of a cached fragment holds of those of its leaf
   pub of_names : (P : Names → Type 0) (r : ℕ) (leaf : Leaf) → HasCached (here c.caches r leaf) (λ (f : Cached). P (shown f)) → P (names_of (unclean c.caches) c.objects leaf)
-  of_names P r leaf has = go (here c.caches r leaf) refl has
-    where
-      go : (o : Option Cached) → here c.caches r leaf ≡ o → HasCached o (λ (f : Cached). P (shown f)) → P (names_of (unclean c.caches) c.objects leaf)
-      go None there h = absurd h
-      go (Some f) there h = subst P (sym (shows_cached r leaf f there)) h
+  of_names P r leaf has = elim (here c.caches r leaf) as (λ o. here c.caches r leaf ≡ o → HasCached o (λ (f : Cached). P (shown f)) → P (names_of (unclean c.caches) c.objects leaf)) [
+    | None ↦ λ there h. absurd h
+    | Some f ↦ λ there h. subst P (sym (shows_cached r leaf f there)) h
+  ] refl has
 
   -- a cached fragment shows a name where its leaf does
   pub shows_names : (a : Dirfrag) (name : List ℕ) → IsThere (here c.caches a.rank.0 (leaf_of a)) → shows c a name ≡ is_some (map.get (names_of (unclean c.caches) c.objects (leaf_of a)) name)
-  shows_names a name there = go (here c.caches a.rank.0 (leaf_of a)) refl there
-    where
-      go : (o : Option Cached) → here c.caches a.rank.0 (leaf_of a) ≡ o → IsThere o → shows_in o name ≡ is_some (map.get (names_of (unclean c.caches) c.objects (leaf_of a)) name)
-      go None is h = absurd h
-      go (Some f) is h = ap (λ (names : Names). is_some (map.get names name)) (sym (shows_cached a.rank.0 (leaf_of a) f is))
+  shows_names a name there = elim (here c.caches a.rank.0 (leaf_of a)) as (λ o. here c.caches a.rank.0 (leaf_of a) ≡ o → IsThere o → shows_in o name ≡ is_some (map.get (names_of (unclean c.caches) c.objects (leaf_of a)) name)) [
+    | None ↦ λ is h. absurd h
+    | Some f ↦ λ is h. ap (λ (names : Names). is_some (map.get names name)) (sym (shows_cached a.rank.0 (leaf_of a) f is))
+  ] refl there
 
   -- what is found in the leaf of a dentry is what stands there
   pub found_there : (r : ℕ) (dentry : Dentry) (f : Fragment) (found : Option Inode) → is_known c.homes dentry.dir.0 ≡ true → IsPick (leaves_of c.covers dentry.dir.0) (hash_of dentry.name) f
@@ -201,12 +183,10 @@ module _ (c : Core) (sound : IsSoundCore c) where
 -- ---- why a read is refused, said of what was before others
 
 pub if_ok : {A E : Type 0} (P Q : A → Type 0) (r : Result A E) → ((x : A) → P x → Q x) → IfOk r P → IfOk r Q
-if_ok P Q (Ok x) f h = f x h
-if_ok P Q (Err e) f h = tt
+if_ok P Q r = IfOk-weaker r P Q
 
 pub if_err : {A E : Type 0} (P Q : E → Type 0) (r : Result A E) → ((e : E) → P e → Q e) → IfErr r P → IfErr r Q
-if_err P Q (Ok x) f h = tt
-if_err P Q (Err e) f h = f e h
+if_err P Q r = IfErr-weaker r P Q
 
 pub on_err_so : {A E P : Type 0} (r : Result A E) → P → OnErr r P
 on_err_so (Ok x) p = tt
@@ -215,10 +195,6 @@ on_err_so (Err e) p = p
 pub ok_so : {A E P : Type 0} (r : Result A E) → P → OnOk r P
 ok_so (Ok x) p = p
 ok_so (Err e) p = tt
-
-pub on_ok : {A E P Q : Type 0} (r : Result A E) → (P → Q) → OnOk r P → OnOk r Q
-on_ok (Ok x) f h = f h
-on_ok (Err e) f h = tt
 
 pub not_found_weaker : (P Q : Type 0) (before after : ℕ) (reason : Refusal) → (P → Q) → MayNotFind P before after reason → MayNotFind Q before after reason
 not_found_weaker P Q before after reason f (inl memory) = inl memory
@@ -232,9 +208,7 @@ cached_so P Q (Some g) f h = f g h
 module _ (Uses Ends : ℕ → Leaf → Type 0) (old mid : Core) (reads : ReadsCore Uses Ends old mid) where
   pub lacks_before : (count r : ℕ) → LacksPlacesIn count mid.caches r → LacksPlacesIn count old.caches r
   lacks_before count r lacks =
-      let cap : mid.caches.cap ≡ old.caches.cap = came_cap Uses Ends old.caches mid.caches (reads_came Uses Ends old.objects old.caches mid.caches reads.caches) in
-      let few : map.len (unclean_of mid.caches r) ≡ map.len (unclean_of old.caches r) = ap (λ m. map.len m) (reads_unclean_of Uses Ends old.objects old.caches mid.caches reads.caches r) in
-      omega (arith, cap, few, lacks)
+      omega (arith, came_cap Uses Ends old.caches mid.caches (reads_came Uses Ends old.objects old.caches mid.caches reads.caches), ap (λ m. map.len m) (reads_unclean_of Uses Ends old.objects old.caches mid.caches reads.caches r), lacks)
 
   pub not_found_before : (count r after : ℕ) (reason : Refusal) → mid.faults ≡ old.faults → MayNotFind (LacksPlacesIn count mid.caches r) mid.faults after reason → MayNotFind (LacksPlacesIn count old.caches r) old.faults after reason
   not_found_before count r after reason same (inl memory) = inl memory
@@ -244,11 +218,7 @@ module _ (Uses Ends : ℕ → Leaf → Type 0) (old mid : Core) (reads : ReadsCo
 pub not_found_pair : (Uses Ends : ℕ → Leaf → Type 0) (old mid : Core) → ReadsCore Uses Ends old mid → (count r t after : ℕ) (reason : Refusal) → mid.faults ≡ old.faults
     → MayNotFind (LacksPlacesIn count mid.caches r ⊎ LacksPlacesIn count mid.caches t) mid.faults after reason → MayNotFind (LacksPlacesIn count old.caches r ⊎ LacksPlacesIn count old.caches t) old.faults after reason
 not_found_pair Uses Ends old mid reads count r t after reason same is = subst (λ (n : ℕ). MayNotFind (LacksPlacesIn count old.caches r ⊎ LacksPlacesIn count old.caches t) n after reason) same
-    (not_found_weaker (LacksPlacesIn count mid.caches r ⊎ LacksPlacesIn count mid.caches t) (LacksPlacesIn count old.caches r ⊎ LacksPlacesIn count old.caches t) mid.faults after reason go is)
-  where
-    go : LacksPlacesIn count mid.caches r ⊎ LacksPlacesIn count mid.caches t → LacksPlacesIn count old.caches r ⊎ LacksPlacesIn count old.caches t
-    go (inl lacks) = inl (lacks_before Uses Ends old mid reads count r lacks)
-    go (inr lacks) = inr (lacks_before Uses Ends old mid reads count t lacks)
+    (not_found_weaker _ _ mid.faults after reason (⊎_elim (λ lacks. inl (lacks_before Uses Ends old mid reads count r lacks)) (λ lacks. inr (lacks_before Uses Ends old mid reads count t lacks))) is)
 
 -- ---- a read of leaves that are live
 
@@ -271,8 +241,7 @@ pub that_live : (c : Core) (r : ℕ) (leaf : Leaf) → IsLive c.homes c.covers l
 that_live c r leaf live s q is = subst (IsLive c.homes c.covers) (sym is.1) live
 
 pub two_live : (c : Core) (a b : ℕ) (one two : Leaf) → IsLive c.homes c.covers one → IsLive c.homes c.covers two → (s : ℕ) (q : Leaf) → IsThat a one s q ⊎ IsThat b two s q → IsLive c.homes c.covers q
-two_live c a b one two first second s q (inl is) = that_live c a one first s q is
-two_live c a b one two first second s q (inr is) = that_live c b two second s q is
+two_live c a b one two first second s q = ⊎_elim (that_live c a one first s q) (that_live c b two second s q)
 
 -- ---- a change is made ready
 
@@ -293,7 +262,7 @@ dirs_grown Uses Ends old view is homes covers counts pins room same_homes same_c
 -- room where nothing is done if it is there
 pub grows_by : (old new : ℕ) → (0 < old → new ≡ old) → old ≤ new
 grows_by zero new ready = omega arith
-grows_by (suc n) new ready = let same = ready (omega arith) in omega (arith, same)
+grows_by (suc n) new ready = omega (arith, ready (omega arith))
 
 -- why it isn't, once numbers are known to be left
 pub not_ready : (Lacks P : Type 0) (before after : ℕ) (reason : Refusal) → (Lacks → ⊥) → MayNotFind P before after reason → MayNotBeReady Lacks P before after reason

@@ -1,6 +1,7 @@
 -- A fetch of a leaf: what it leaves, and why it is refused.
-use Rattle.mdcache.proofs.Common.{AreCaches, Bool, CacheMap, Core, Dirfrag, Err, FetchesAt, Fragment, IfErr, IsAbsent, IsNewest, IsSaved, IsThere, KeepsNone, LacksPlacesIn, Leaf, List, Loads, MakesRoomAt, MayFetch, MayNotFetchAt, MayNotFind, None, NoneEnds, Objects, Ok, Omap, OnErr, OnOk, Option, Reads, ReadsCore, Refusal, Result, Some, StaysNamed, [], ap, arith, at, at_rank, cond, false, faults_told, fetched_reads, first, get_or-set_same, get_unclean, get_with_frag, has_place, here, inl, inr, leaf_is, leaf_of, length, object_of, one_leaf, order, ranks_roomy, refl, result_err, room_reads, roomy, roomy_stays, slice_get, staying, subst, sym, true, unclean, unsaved_at, used_at, ℕ, ◌+◌, ◌<◌, ◌∙◌, ◌≡◌}
+use Rattle.mdcache.proofs.Common.{AreCaches, Bool, CacheMap, Core, Dirfrag, Err, FetchesAt, Fragment, IfErr, IsAbsent, IsNewest, IsSaved, IsThere, KeepsNone, LacksPlacesIn, Leaf, List, Loads, MakesRoomAt, MayFetch, MayNotFetchAt, MayNotFind, None, NoneEnds, Objects, Ok, Omap, OnErr, OnOk, Option, Reads, ReadsCore, Refusal, Result, Some, StaysNamed, [], ap, arith, at, at_rank, cond, false, faults_told, fetched_reads, first, get_or-set_same, get_unclean, get_with_frag, has_place, here, inl, inr, leaf_is, leaf_of, length, object_of, one_leaf, order, ranks_roomy, refl, result_err, room_reads, roomy, roomy_stays, slice_get, staying, subst, sym, true, unsaved_at, used_at, ℕ, ⊎_elim, ◌+◌, ◌<◌, ◌∙◌, ◌≡◌}
 use Rattle.std.specs.FinMap as map
+use Rattle.std.proofs.lemmas.Bool.{false_from_ne_true}
 use Rattle.dentry_cache.specs.Reads.Reads.{stays as it_stays}
 use Rattle.mdcache.proofs.CoreLaws.{first_step, no_less_itself}
 use Rattle.mdcache.proofs.NoneLaws.{none_fetched, none_room}
@@ -20,87 +21,62 @@ newest_fetched c new r leaf stay object true there is = subst (λ (k : CacheMap)
 newest_fetched c new r leaf stay object false there f =
     subst (λ (k : CacheMap). IsNewest k r leaf) (sym f.5) (newest_used f.3 r leaf (subst (λ (n : ℕ). r < n) (sym (ranks_roomy c f.3 r stay f.4)) there))
 
-module _ (old view : Core) (is : view ≡ old) (a : Dirfrag) (may : MayFetch old a) (none : KeepsNone old.caches) (stay : Option Leaf) (result : Result (Unit {0}) Refusal)
-    (caches' : CacheMap) (objects' : Objects) (faults' : ℕ) (valid : AreCaches view.caches)
-    (fetched : OnOk result (FetchesAt a.rank.0 (leaf_of a) stay (object_of view.objects a.dir a.frag) (has_place view.caches a.rank.0 (leaf_of a)) view.caches caches'))
-    (absent : OnErr result (IsAbsent view.caches a.rank.0 (leaf_of a))) (left : OnErr result (MakesRoomAt a.rank.0 stay view.caches caches')) (same : objects' ≡ view.objects) where
-  may_now : MayFetch view a
-  may_now = subst (λ (k : Core). MayFetch k a) (sym is) may
-
-  none_now : KeepsNone view.caches
-  none_now = subst (λ (k : Core). KeepsNone k.caches) (sym is) none
-
-  abbrev pub after : Core
-  after = record view { caches = caches'; objects = objects'; faults = faults' }
-
-  pub fetch_reads : (Uses : ℕ → Leaf → Type 0) → Uses a.rank.0 (leaf_of a) → StaysNamed Uses stay → ReadsCore Uses NoneEnds old after
-  fetch_reads Uses named stayed = first_step Uses NoneEnds old view after (no_less_itself view.room) (λ i. record view { caches = caches'; objects = same i; faults = faults' }) is (go result fetched absent left)
-    where
-      go : (r : Result (Unit {0}) Refusal) → OnOk r (FetchesAt a.rank.0 (leaf_of a) stay (object_of view.objects a.dir a.frag) (has_place view.caches a.rank.0 (leaf_of a)) view.caches caches')
-          → OnErr r (IsAbsent view.caches a.rank.0 (leaf_of a)) → OnErr r (MakesRoomAt a.rank.0 stay view.caches caches') → Reads Uses NoneEnds view.objects view.caches caches'
-      go (Ok done) fetched absent left =
-          fetched_reads Uses NoneEnds view.objects view.caches view.caches caches' a.rank.0 (leaf_of a) stay it_stays named stayed (has_place view.caches a.rank.0 (leaf_of a)) refl fetched
-      go (Err reason) fetched absent left = room_reads Uses NoneEnds view.objects view.caches view.caches caches' a.rank.0 (leaf_of a) stay it_stays named stayed absent.0 left
-
-  pub fetch_newest : OnOk result (IsNewest caches' a.rank.0 (leaf_of a))
-  fetch_newest = go result fetched
-    where
-      go : (r : Result (Unit {0}) Refusal) → OnOk r (FetchesAt a.rank.0 (leaf_of a) stay (object_of view.objects a.dir a.frag) (has_place view.caches a.rank.0 (leaf_of a)) view.caches caches') → OnOk r (IsNewest caches' a.rank.0 (leaf_of a))
-      go (Ok done) fetched = newest_fetched view.caches caches' a.rank.0 (leaf_of a) stay (object_of view.objects a.dir a.frag) (has_place view.caches a.rank.0 (leaf_of a)) may_now.there fetched
-      go (Err reason) fetched = tt
-
-  pub fetch_none : KeepsNone caches'
-  fetch_none = go result fetched left
-    where
-      go : (r : Result (Unit {0}) Refusal) → OnOk r (FetchesAt a.rank.0 (leaf_of a) stay (object_of view.objects a.dir a.frag) (has_place view.caches a.rank.0 (leaf_of a)) view.caches caches')
-          → OnErr r (MakesRoomAt a.rank.0 stay view.caches caches') → KeepsNone caches'
-      go (Ok done) fetched left =
-          none_fetched view.caches a.rank.0 (leaf_of a) none_now may_now.there valid stay (object_of view.objects a.dir a.frag) caches' (has_place view.caches a.rank.0 (leaf_of a)) refl fetched
-      go (Err reason) fetched left = none_room view.caches a.rank.0 (leaf_of a) none_now may_now.there valid stay caches' left
-
+-- what a fetch leaves, and why it is refused
+pub record IsFetched (Uses : ℕ → Leaf → Type 0) (a : Dirfrag) (stay : Option Leaf) (result : Result (Unit {0}) Refusal) (old new : Core) : Type 0 where
+  pub reads : ReadsCore Uses NoneEnds old new
+  pub none : KeepsNone new.caches
+  pub newest : OnOk result (IsNewest new.caches a.rank.0 (leaf_of a))
   -- the one to stay is where it was, as it was
-  pub fetch_stays : (r : ℕ) (one : Leaf) → stay ≡ Some one → IsThere (here old.caches r one) → here caches' r one ≡ here old.caches r one
-  fetch_stays r one stays there = ap (at_rank r) (go result fetched absent left) ∙ ap (λ (k : Core). here k.caches r one) is
-    where
-      was : map.get view.caches.held one ≡ None → ⊥
-      was gone = subst IsThere (ap (λ (k : Core). here k.caches r one) (sym is) ∙ ap (at_rank r) gone) there
+  pub stays : (r : ℕ) (one : Leaf) → stay ≡ Some one → IsThere (here old.caches r one) → here new.caches r one ≡ here old.caches r one
+  pub refused : IfErr result (MayNotFind (LacksPlacesIn (1 + staying stay) old.caches a.rank.0) old.faults new.faults)
 
-      kept : (mid : CacheMap) → roomy view.caches a.rank.0 stay ≡ Some mid → map.get mid.held one ≡ map.get view.caches.held one
-      kept mid made = roomy_stays view.caches mid a.rank.0 one may_now.there (ap (roomy view.caches a.rank.0) (sym stays) ∙ made)
+module _ (a : Dirfrag) (stay : Option Leaf) (Uses : ℕ → Leaf → Type 0) (named : Uses a.rank.0 (leaf_of a)) (stayed : StaysNamed Uses stay) (caches' : CacheMap) (objects' : Objects) (faults' : ℕ) where
+  module _ (c : Core) (may : MayFetch c a) (none : KeepsNone c.caches) (valid : AreCaches c.caches) (same : objects' ≡ c.objects) where
+    abbrev object : Option Omap
+    object = object_of c.objects a.dir a.frag
 
-      by : (b : Bool) → FetchesAt a.rank.0 (leaf_of a) stay (object_of view.objects a.dir a.frag) b view.caches caches' → map.get caches'.held one ≡ map.get view.caches.held one
-      by true is = ap (λ (c : CacheMap). map.get c.held one) is
-      by false f = ap (λ (c : CacheMap). map.get c.held one) f.5 ∙ get_with_frag f.3 a.rank.0 (leaf_of a) f.1 one ∙ on (leaf_is one (leaf_of a)) refl
-        where
-          on : (b : Bool) → leaf_is one (leaf_of a) ≡ b → cond b (Some (at a.rank.0 f.1)) (map.get f.3.held one) ≡ map.get view.caches.held one
-          on true same = absurd (was (ap (map.get view.caches.held) (one_leaf one (leaf_of a) same) ∙ f.0))
-          on false apart = kept f.3 f.4
+    step : Reads Uses NoneEnds c.objects c.caches caches' → ReadsCore Uses NoneEnds c (record c { caches = caches'; objects = objects'; faults = faults' })
+    step = first_step Uses NoneEnds c c _ (no_less_itself c.room) (λ i. record c { caches = caches'; objects = same i; faults = faults' }) refl
 
-      go : (r : Result (Unit {0}) Refusal) → OnOk r (FetchesAt a.rank.0 (leaf_of a) stay (object_of view.objects a.dir a.frag) (has_place view.caches a.rank.0 (leaf_of a)) view.caches caches')
-          → OnErr r (IsAbsent view.caches a.rank.0 (leaf_of a)) → OnErr r (MakesRoomAt a.rank.0 stay view.caches caches') → map.get caches'.held one ≡ map.get view.caches.held one
-      go (Ok done) fetched absent left = by (has_place view.caches a.rank.0 (leaf_of a)) fetched
-      go (Err reason) fetched absent left = on left
-        where
-          on : MakesRoomAt a.rank.0 stay view.caches caches' → map.get caches'.held one ≡ map.get view.caches.held one
-          on (inl same) = ap (λ (c : CacheMap). map.get c.held one) same
-          on (inr made) = kept caches' made
+    kept : (r : ℕ) (one : Leaf) (mid : CacheMap) → stay ≡ Some one → roomy c.caches a.rank.0 stay ≡ Some mid → here mid r one ≡ here c.caches r one
+    kept r one mid stays made = ap (at_rank r) (roomy_stays c.caches mid a.rank.0 one may.there (ap (roomy c.caches a.rank.0) (sym stays) ∙ made))
 
-  pub fetch_refused : IfErr result (MayNotFetchAt a.rank.0 (leaf_of a) stay (object_of view.objects a.dir a.frag) view.caches) → faults' ≡ view.faults + faults_told (result_err result)
-      → IfErr result (MayNotFind (LacksPlacesIn (1 + staying stay) old.caches a.rank.0) old.faults faults')
-  fetch_refused refused counted = subst (λ (k : Core). IfErr result (MayNotFind (LacksPlacesIn (1 + staying stay) k.caches a.rank.0) k.faults faults')) is (go result absent refused counted)
-    where
-      go : (r : Result (Unit {0}) Refusal) → OnErr r (IsAbsent view.caches a.rank.0 (leaf_of a)) → IfErr r (MayNotFetchAt a.rank.0 (leaf_of a) stay (object_of view.objects a.dir a.frag) view.caches)
-          → faults' ≡ view.faults + faults_told (result_err r) → IfErr r (MayNotFind (LacksPlacesIn (1 + staying stay) view.caches a.rank.0) view.faults faults')
-      go (Ok done) absent refused counted = tt
-      go (Err reason) absent refused counted = on refused
-        where
-          clean : map.get (unclean view.caches) (leaf_of a) ≡ None
-          clean = get_unclean view.caches (leaf_of a) ∙ ap unsaved_at absent.1
+    stays_in : (b : Bool) → FetchesAt a.rank.0 (leaf_of a) stay object b c.caches caches' → (r : ℕ) (one : Leaf) → stay ≡ Some one → IsThere (here c.caches r one) → here caches' r one ≡ here c.caches r one
+    stays_in true is r one stays there = ap (λ (k : CacheMap). here k r one) is
+    stays_in false f r one stays there = ap (λ (k : CacheMap). here k r one) f.5 ∙ ap (at_rank r) (get_with_frag f.3 a.rank.0 (leaf_of a) f.1 one ∙ ap (λ (b : Bool). cond b (Some (at a.rank.0 f.1)) (map.get f.3.held one)) apart) ∙ kept r one f.3 stays f.4
+      where
+        apart : leaf_is one (leaf_of a) ≡ false
+        apart = false_from_ne_true _ (λ same. subst IsThere (ap (at_rank r) (ap (map.get c.caches.held) (one_leaf one (leaf_of a) same) ∙ f.0)) there)
 
-          on : MayNotFetchAt a.rank.0 (leaf_of a) stay (object_of view.objects a.dir a.frag) view.caches reason → MayNotFind (LacksPlacesIn (1 + staying stay) view.caches a.rank.0) view.faults faults' reason
-          on (inl memory) = inl memory
-          on (inr (inl fault)) =
-              let told : faults' ≡ view.faults + 1 = counted ∙ ap (λ (e : Refusal). view.faults + faults_told (Some e)) fault in
-              inr (inl (fault, omega (arith, told)))
-          on (inr (inr (inl damaged))) = absurd (not_damaged a.frag (object_of view.objects a.dir a.frag) (may_now.saved clean) damaged.1)
-          on (inr (inr (inr full))) = inr (inr (full.0, full_lacks view.caches a.rank.0 stay valid none_now full.1))
+    by : (result : Result (Unit {0}) Refusal) → OnOk result (FetchesAt a.rank.0 (leaf_of a) stay object (has_place c.caches a.rank.0 (leaf_of a)) c.caches caches') → OnErr result (IsAbsent c.caches a.rank.0 (leaf_of a))
+        → OnErr result (MakesRoomAt a.rank.0 stay c.caches caches') → IfErr result (MayNotFetchAt a.rank.0 (leaf_of a) stay object c.caches) → faults' ≡ c.faults + faults_told (result_err result)
+        → IsFetched Uses a stay result c (record c { caches = caches'; objects = objects'; faults = faults' })
+    by (Ok done) fetched absent left refused counted = record {
+      reads = step (fetched_reads Uses NoneEnds c.objects c.caches c.caches caches' a.rank.0 (leaf_of a) stay it_stays named stayed _ refl fetched);
+      none = none_fetched c.caches a.rank.0 (leaf_of a) none may.there valid stay object caches' _ refl fetched;
+      newest = newest_fetched c.caches caches' a.rank.0 (leaf_of a) stay object _ may.there fetched;
+      stays = stays_in _ fetched;
+      refused = tt;
+    }
+    by (Err reason) fetched absent left refused counted = record {
+      reads = step (room_reads Uses NoneEnds c.objects c.caches c.caches caches' a.rank.0 (leaf_of a) stay it_stays named stayed absent.0 left);
+      none = none_room c.caches a.rank.0 (leaf_of a) none may.there valid stay caches' left;
+      newest = tt;
+      stays = λ r one stays there. ⊎_elim (λ same. ap (λ (k : CacheMap). here k r one) same) (kept r one caches' stays) left;
+      refused = why refused;
+    }
+      where
+        why : MayNotFetchAt a.rank.0 (leaf_of a) stay object c.caches reason → MayNotFind (LacksPlacesIn (1 + staying stay) c.caches a.rank.0) c.faults faults' reason
+        why (inl memory) = inl memory
+        why (inr (inl fault)) = inr (inl (fault, omega (arith, counted ∙ ap (λ (e : Refusal). c.faults + faults_told (Some e)) fault)))
+        why (inr (inr (inl damaged))) = absurd (not_damaged a.frag object (may.saved (get_unclean c.caches (leaf_of a) ∙ ap unsaved_at absent.1)) damaged.1)
+        why (inr (inr (inr full))) = inr (inr (full.0, full_lacks c.caches a.rank.0 stay valid none full.1))
+
+  -- so of what is seen of the parts that are there
+  pub fetched : (old view : Core) → view ≡ old → MayFetch old a → KeepsNone old.caches → (result : Result (Unit {0}) Refusal) → AreCaches view.caches
+      → OnOk result (FetchesAt a.rank.0 (leaf_of a) stay (object_of view.objects a.dir a.frag) (has_place view.caches a.rank.0 (leaf_of a)) view.caches caches')
+      → OnErr result (IsAbsent view.caches a.rank.0 (leaf_of a)) → OnErr result (MakesRoomAt a.rank.0 stay view.caches caches') → objects' ≡ view.objects
+      → IfErr result (MayNotFetchAt a.rank.0 (leaf_of a) stay (object_of view.objects a.dir a.frag) view.caches) → faults' ≡ view.faults + faults_told (result_err result)
+      → IsFetched Uses a stay result old (record view { caches = caches'; objects = objects'; faults = faults' })
+  fetched old view is may none result valid takes absent left same refused counted = subst (λ (k : Core). IsFetched Uses a stay result k (record view { caches = caches'; objects = objects'; faults = faults' })) is
+      (by view (subst (λ (k : Core). MayFetch k a) (sym is) may) (subst (λ (k : Core). KeepsNone k.caches) (sym is) none) valid same result takes absent left refused counted)

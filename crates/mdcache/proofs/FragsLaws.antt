@@ -20,16 +20,12 @@ keeps_itself a = record { state = refl; unclean = λ rank. refl; count = refl; c
 pub keeps_on : (a b c : Core) (told : Option Refusal) → KeepsState a b None → KeepsState b c told
     → KeepsState a c told
 keeps_on a b c told p q =
-    let first = p.counted in
-    let second = q.counted in
-    record { state = q.state ∙ p.state; unclean = λ rank. q.unclean rank ∙ p.unclean rank; count = q.count ∙ p.count; cap = q.cap ∙ p.cap; counted = omega (arith, first, second) }
+    record { state = q.state ∙ p.state; unclean = λ rank. q.unclean rank ∙ p.unclean rank; count = q.count ∙ p.count; cap = q.cap ∙ p.cap; counted = omega (arith, p.counted, q.counted) }
 
 -- a refusal that is no fault counts none
 pub keeps_refused : (a b : Core) (reason : Refusal) → faults_in reason ≡ 0 → KeepsState a b None
     → KeepsState a b (Some reason)
-keeps_refused a b reason none p =
-    let counted = p.counted in
-    record { state = p.state; unclean = p.unclean; count = p.count; cap = p.cap; counted = omega (arith, counted, none) }
+keeps_refused a b reason none p = record { state = p.state; unclean = p.unclean; count = p.count; cap = p.cap; counted = omega (arith, p.counted, none) }
 
 -- a state that is the same has the same leaves with the same names
 pub untouched_by : (a b : Core) (leaf : Leaf) (told : Option Refusal) → KeepsState a b told → IsUntouched (state_of a) (state_of b) leaf
@@ -39,17 +35,11 @@ untouched_by a b leaf told kept live = record {
 }
 
 pub untouched_on : (a b c : Core) (leaf : Leaf) → IsUntouched (state_of a) (state_of b) leaf → IsUntouched (state_of b) (state_of c) leaf → IsUntouched (state_of a) (state_of c) leaf
-untouched_on a b c leaf p q live =
-    let first = p live in
-    let second = q first.live in
-    record { live = second.live; names = second.names ∙ first.names }
+untouched_on a b c leaf p q live = let second = q (p live).live in record { live = second.live; names = second.names ∙ (p live).names }
 
 -- places that lack now lacked before
 pub lacked_at : (count : ℕ) (a b : Core) (rank : Rank) → KeepsState a b None → LacksPlacesAt count b rank → LacksPlacesAt count a rank
-lacked_at count a b rank kept lacks =
-    let cap = kept.cap in
-    let same = ap (λ (m : UnsavedLeaves). map.len m) (kept.unclean rank.0) in
-    omega (arith, cap, same, lacks)
+lacked_at count a b rank kept lacks = omega (arith, kept.cap, ap (λ (m : UnsavedLeaves). map.len m) (kept.unclean rank.0), lacks)
 
 -- so it is with a rank that holds a leaf of a directory that is asked for, where these are told by the state
 pub lacked_asked : (count : ℕ) (Asked : State → ℕ → Type 0) (Holds : State → Leaf → Rank → Type 0) (a b : Core) → KeepsState a b None
@@ -66,9 +56,7 @@ lacked_asked count Asked Holds a b kept (leaf, asked, rank, holds, lacks) = (
 -- why a call is refused after others that were not, where places that lack now lacked before
 pub refused_later : (Now Before : Type 0) (a b c : Core) (op : Op) (reason : Refusal) → (Now → Before) → KeepsState a b None → MayRefuse Now b c op reason → MayRefuse Before a c op reason
 refused_later Now Before a b c op reason so kept (inl memory) = inl memory
-refused_later Now Before a b c op reason so kept (inr (inl (is, rose))) =
-    let counted = kept.counted in
-    inr (inl (is, omega (arith, counted, rose)))
+refused_later Now Before a b c op reason so kept (inr (inl (is, rose))) = inr (inl (is, omega (arith, kept.counted, rose)))
 refused_later Now Before a b c op reason so kept (inr (inr (inl (is, lacks)))) = inr (inr (inl (is, so lacks)))
 refused_later Now Before a b c op reason so kept (inr (inr (inr (is, lacks)))) = inr (inr (inr (is, subst (λ (s : State). LacksFor op s) kept.state lacks)))
 

@@ -1,6 +1,6 @@
 -- A state once leaves were handed over: sound, and of the same tree.
-use Rattle.mdcache.proofs.Common.{AreCaches, AreCleanAt, AreHanded, AreUncleanAt, At, Base, Bool, CacheMap, Cached, Core, Err, Fresh, GivenOverIsRight, HandsOver, HaveNoJobs, HaveNoPlace, IsCachedIn, IsCounted, IsFrom, IsGivenOver, IsSound, IsSoundCore, IsStanding, IsTabled, IsThere, IsTied, IsTiedAt, IsUnsaved, IsUntouched, IsWholeBut, Job, KeepsNone, Leaf, List, MayNotHandOver, Names, None, NoneEnds, Ok, Omap, Option, Refusal, Some, State, Stored, Tree, Unsaved, UnsavedLeaves, WantsPlace, [], all_from, all_of, ap, arith, by_keeping, cap_roomy, cond, drop, false, given_up, handed, handed_from, has_place, here, imported, inl, inr, kept_all, leaf_is, length, list_any, moved, moved_all, moved_as, none_beside, object_of, ranks_handed, ranks_wants, refl, same_Some, shown_at, shown_in, shown_tree, state_of, subst, sym, true, unclean, unclean_in, wants_from, whole_handed, whole_wants, without_all, ℕ, ◌+◌, ◌<◌, ◌∙◌, ◌∷◌, ◌≡◌, ◌≢◌, ◌⊎◌}
-use Rattle.std.proofs.Common.{option_map, Result, IfErr, OnErr, OnOk}
+use Rattle.mdcache.proofs.Common.{AreCaches, AreCleanAt, AreHanded, AreUncleanAt, At, Base, Bool, CacheMap, Cached, Core, Err, Fresh, GivenOverIsRight, HandsOver, HaveNoJobs, HaveNoPlace, IfErr, IsCachedIn, IsCounted, IsFrom, IsGivenOver, IsSound, IsSoundCore, IsStanding, IsTabled, IsThere, IsTied, IsTiedAt, IsUnsaved, IsUntouched, IsWholeBut, Job, Leaf, List, MayNotHandOver, Names, None, NoneEnds, Ok, Omap, OnErr, OnOk, Option, Refusal, Result, Some, State, Stored, Tree, Unsaved, UnsavedLeaves, [], all_from, all_of, ap, arith, by_keeping, cap_roomy, cond, drop, false, given_up, handed, handed_from, has_place, here, imported, inl, inr, kept_all, leaf_is, length, list_any, moved_all, moved_as, none_beside, object_of, option_map, ranks_handed, ranks_wants, refl, same_Some, shown_at, shown_in, shown_tree, state_of, subst, sym, true, unclean, unclean_in, wants_from, whole_handed, whole_wants, without_all, ℕ, ⊎_elim, ◌+◌, ◌<◌, ◌∙◌, ◌∷◌, ◌≡◌, ◌≢◌, ◌⊎◌}
+use Rattle.std.proofs.lemmas.Bool.{false_from_ne_true}
 use Rattle.std.specs.FinMap as map
 use Rattle.mdcache.specs.Shown.{names_of}
 use Rattle.mdcache.proofs.TreeLaws.{tree_alike}
@@ -8,62 +8,32 @@ use Rattle.mdcache.proofs.TreeLaws.{tree_alike}
 -- ---- states
 
 -- what is unsaved now was so, but for its generation
-record WasSo (leaves : List Leaf) (o : Option Unsaved) (leaf : Leaf) (u : Unsaved) : Type 0 where
-  was : Unsaved
-  there : o ≡ Some was
-  base : u.base ≡ was.base
-  dirty : u.dirty ≡ was.dirty
-  generation : (u.generation ≡ 0) ⊎ (u.generation ≡ was.generation)
-
-was_so : (leaves : List Leaf) (leaf : Leaf) (o : Option Unsaved) (u : Unsaved) → handed leaves leaf o ≡ Some u → WasSo leaves o leaf u
-was_so leaves leaf o u is = go (list_any (leaf_is leaf) leaves) o is
+as_was : (leaves : List Leaf) (leaf : Leaf) (o : Option Unsaved) → (handed leaves leaf o ≡ o) ⊎ ((v : Unsaved) × (o ≡ Some v) × (handed leaves leaf o ≡ Some (record v { generation = 0 })))
+as_was leaves leaf o = go (list_any (leaf_is leaf) leaves) o
   where
-    go : (b : Bool) (o : Option Unsaved) → cond b (option_map (λ (v : Unsaved). record v { generation = 0 }) o) o ≡ Some u → WasSo leaves o leaf u
-    go true None is = let clash : None ≡ Some u = is in absurd cc
-    go false None is = let clash : None ≡ Some u = is in absurd cc
-    go true (Some v) is =
-        let same : record v { generation = 0 } ≡ u = same_Some (record v { generation = 0 }) u is in
-        record { was = v; there = refl; base = ap (λ (x : Unsaved). x.base) (sym same); dirty = ap (λ (x : Unsaved). x.dirty) (sym same); generation = inl (ap (λ (x : Unsaved). x.generation) (sym same)) }
-    go false (Some v) is =
-        let same : v ≡ u = same_Some v u is in
-        record { was = v; there = refl; base = ap (λ (x : Unsaved). x.base) (sym same); dirty = ap (λ (x : Unsaved). x.dirty) (sym same); generation = inr (ap (λ (x : Unsaved). x.generation) (sym same)) }
-
--- it shows what it showed
-shows_still : (leaves : List Leaf) (leaf : Leaf) (o : Option Unsaved) (object : Option Omap) → shown_at (handed leaves leaf o) object ≡ shown_at o object
-shows_still leaves leaf o object = go (list_any (leaf_is leaf) leaves) o
-  where
-    go : (b : Bool) (o : Option Unsaved) → shown_at (cond b (option_map (λ (v : Unsaved). record v { generation = 0 }) o) o) object ≡ shown_at o object
-    go true None = refl
-    go true (Some v) = refl
-    go false o = refl
+    go : (b : Bool) (o : Option Unsaved) → (cond b (option_map (λ (v : Unsaved). record v { generation = 0 }) o) o ≡ o) ⊎ ((v : Unsaved) × (o ≡ Some v) × (cond b (option_map (λ (v : Unsaved). record v { generation = 0 }) o) o ≡ Some (record v { generation = 0 })))
+    go true None = inl refl
+    go true (Some v) = inr (v, refl, refl)
+    go false o = inl refl
 
 module _ (old : State) (unsaved : UnsavedLeaves) (leaves : List Leaf) (sound : IsSound old) (jobless : HaveNoJobs old.jobs leaves) (given : AreHanded leaves old.unsaved unsaved) where
   abbrev now : State
   now = record old { unsaved = unsaved }
 
+  was : (leaf : Leaf) → (map.get unsaved leaf ≡ map.get old.unsaved leaf) ⊎ ((v : Unsaved) × (map.get old.unsaved leaf ≡ Some v) × (map.get unsaved leaf ≡ Some (record v { generation = 0 })))
+  was leaf = ⊎_elim (λ same. inl (given leaf ∙ same)) (λ w. inr (w.0, w.1, given leaf ∙ w.2)) (as_was leaves leaf (map.get old.unsaved leaf))
+
   pub same_names : (leaf : Leaf) → names_of unsaved old.objects leaf ≡ names_of old.unsaved old.objects leaf
   unfolding names_of
-  same_names leaf = ap (λ (o : Option Unsaved). shown_at o (object_of old.objects leaf.0 leaf.1)) (given leaf) ∙ shows_still leaves leaf (map.get old.unsaved leaf) (object_of old.objects leaf.0 leaf.1)
-
-  none_before : (leaf : Leaf) → map.get unsaved leaf ≡ None → map.get old.unsaved leaf ≡ None
-  none_before leaf none = go (list_any (leaf_is leaf) leaves) (map.get old.unsaved leaf) (sym (given leaf) ∙ none)
-    where
-      go : (b : Bool) (o : Option Unsaved) → cond b (option_map (λ (v : Unsaved). record v { generation = 0 }) o) o ≡ None → o ≡ None
-      go true None is = refl
-      go true (Some v) is = let clash : Some (record v { generation = 0 }) ≡ None = is in absurd cc
-      go false o is = is
+  same_names leaf =
+      let shows = λ (o : Option Unsaved). shown_at o (object_of old.objects leaf.0 leaf.1) in
+      ⊎_elim (ap shows) (λ w. ap shows w.2 ∙ sym (ap shows w.1)) (was leaf)
 
   unsaved_now : (leaf : Leaf) (u : Unsaved) → map.get unsaved leaf ≡ Some u → IsUnsaved now leaf u
-  unsaved_now leaf u is = go (was_so leaves leaf (map.get old.unsaved leaf) u (sym (given leaf) ∙ is))
-    where
-      go : WasSo leaves (map.get old.unsaved leaf) leaf u → IsUnsaved now leaf u
-      go w =
-          let before = sound.unsaved leaf w.was w.there in
-          record { live = before.live; made = made before.made w.generation; young = λ name mark at. before.young name mark (ap (λ m. map.get m name) (sym w.dirty) ∙ at) }
-        where
-          made : w.was.generation < old.next_generation → (u.generation ≡ 0) ⊎ (u.generation ≡ w.was.generation) → u.generation < old.next_generation
-          made lt (inl none) = omega (arith, lt, none)
-          made lt (inr same) = omega (arith, lt, same)
+  unsaved_now leaf u is = ⊎_elim (λ same. let before = sound.unsaved leaf u (sym same ∙ is) in record { live = before.live; made = before.made; young = before.young })
+      (λ w.
+      let before = sound.unsaved leaf w.0 w.1 in
+      subst (IsUnsaved now leaf) (same_Some (record w.0 { generation = 0 }) u (sym w.2 ∙ is)) (record { live = before.live; made = omega (arith, before.made); young = before.young })) (was leaf)
 
   standing_now : (leaf : Leaf) (job : Job) → map.get old.jobs leaf ≡ Some job → IsStanding now leaf job
   standing_now leaf job is =
@@ -85,7 +55,7 @@ module _ (old : State) (unsaved : UnsavedLeaves) (leaves : List Leaf) (sound : I
     counted = subst (λ (t : Tree). IsCounted t old.counts old.pins) (sym tree_now) sound.counted;
     placed = λ leaf name inode live is. sound.placed leaf name inode live (ap (λ (names : Names). map.get names name) (sym (same_names leaf)) ∙ is);
     unsaved = unsaved_now;
-    saved = λ leaf live none. sound.saved leaf live (none_before leaf none);
+    saved = λ leaf live none. sound.saved leaf live (⊎_elim (λ same. sym same ∙ none) (λ w. let clash : None ≡ Some (record w.0 { generation = 0 }) = sym none ∙ w.2 in absurd cc) (was leaf));
     owned = sound.owned;
     listed = sound.listed;
     standing = standing_now;
@@ -102,16 +72,11 @@ given_right old new leaves sound jobless given =
 
 -- ---- each rank has as many places as before
 
-cap_moved : (c : CacheMap) (from to : ℕ) (leaf : Leaf) → (moved c from to leaf).cap ≡ c.cap
-cap_moved c from to leaf = go (here c from leaf)
-  where
-    go : (o : Option Cached) → (moved_as (given_up c from leaf) to leaf o).cap ≡ c.cap
-    go None = refl
-    go (Some f) = refl
-
-cap_moved_all : (c : CacheMap) (from to : ℕ) (leaves : List Leaf) → (moved_all c from to leaves).cap ≡ c.cap
-cap_moved_all c from to [] = refl
-cap_moved_all c from to (leaf ∷ leaves) = cap_moved (moved_all c from to leaves) from to leaf ∙ cap_moved_all c from to leaves
+cap_moved : (c : CacheMap) (from to : ℕ) (leaves : List Leaf) → (moved_all c from to leaves).cap ≡ c.cap
+cap_moved c from to [] = refl
+cap_moved c from to (leaf ∷ leaves) =
+    let mid = moved_all c from to leaves in
+    elim (here mid from leaf) as (λ o. (moved_as (given_up mid from leaf) to leaf o).cap ≡ mid.cap) [ None ↦ refl | Some f ↦ refl ] ∙ cap_moved c from to leaves
 
 cap_without_all : (c : CacheMap) (r : ℕ) (leaves : List Leaf) → (without_all c r leaves).cap ≡ c.cap
 cap_without_all c r [] = refl
@@ -121,15 +86,18 @@ cap_kept : (c : CacheMap) (r : ℕ) (leaves : List Leaf) (new : CacheMap) → ke
 cap_kept c r leaves new kept =
     by_keeping c r (λ (leaf : Leaf). Unit {0}) (λ (k : CacheMap). k.cap ≡ c.cap) refl (λ before mid made so. cap_roomy before mid r None made ∙ so) (λ mid leaf named so. so) leaves (all_from (λ (leaf : Leaf). Unit {0}) leaves (λ q among. tt)) new kept
 
-cap_handed : (from to : ℕ) (leaves clean : List Leaf) (old new : CacheMap) → HandsOver from to leaves clean old new → new.cap ≡ old.cap
-cap_handed from to leaves clean old new h =
-    ap (λ (k : CacheMap). k.cap) h.2 ∙ cap_without_all (moved_all h.0 from to leaves) from clean ∙ cap_moved_all h.0 from to leaves ∙ cap_kept old to leaves h.0 h.1
-
-cap_wants : (r : ℕ) (leaves : List Leaf) (old new : CacheMap) → WantsPlace r leaves old new → new.cap ≡ old.cap
-cap_wants r leaves old new w =
-    ap (λ (k : CacheMap). k.cap) w.6 ∙ cap_without_all w.4 r (drop (w.0 + 1) leaves) ∙ cap_roomy w.2 w.4 r None w.5 ∙ cap_kept old r (drop (w.0 + 1) leaves) w.2 w.3
-
 -- ---- the tree with its caches
+
+-- what a call leaves
+pub record IsHandedOver (from to : ℕ) (leaves clean : List Leaf) (res : Result (Unit {0}) Refusal) (old new : Core) : Type 0 where
+  pub handed : OnOk res (HandsOver from to leaves clean old.caches new.caches)
+  pub given : OnOk res (IsGivenOver leaves (state_of old) (state_of new))
+  pub shown : shown_in new ≡ shown_in old
+  pub left : OnErr res (state_of new ≡ state_of old)
+  pub beside : new ≡ record old { caches = new.caches }
+  pub count : length new.caches.used ≡ length old.caches.used
+  pub cap : new.caches.cap ≡ old.caches.cap
+  pub sound : IsSoundCore new
 
 -- a fragment that was taken over is tied as it was
 tied_imported : (g : Cached) (object : Option Omap) → IsTied g object → IsTied (imported g) object
@@ -145,16 +113,9 @@ module _ (c : Core) (sound : IsSoundCore c) (from to : ℕ) (apart : from ≢ to
   whole_first r q placed = inl (sound.none r q placed)
 
   -- these leaves have no place at the other rank
-  no_places : HaveNoPlace c.caches to leaves
-  no_places = all_from (λ (leaf : Leaf). has_place c.caches to leaf ≡ false) leaves (λ q among. none q (all_of (λ (l : Leaf). unclean_in (here c.caches from l) ≡ true) q leaves cached among) (has_place c.caches to q) refl)
-    where
-      on : (q : Leaf) → unclean_in (here c.caches from q) ≡ true → IsThere (here c.caches to q) ⊎ NoneEnds to q → ⊥
-      on q dirty (inl is) = subst IsThere (none_beside c.caches from to q apart dirty) is
-      on q dirty (inr never) = absurd never
-
-      none : (q : Leaf) → unclean_in (here c.caches from q) ≡ true → (b : Bool) → has_place c.caches to q ≡ b → b ≡ false
-      none q dirty false seen = refl
-      none q dirty true seen = absurd (on q dirty (whole_first to q seen))
+  pub no_places : HaveNoPlace c.caches to leaves
+  no_places = all_from (λ (leaf : Leaf). has_place c.caches to leaf ≡ false) leaves (λ q among. false_from_ne_true _ (λ placed.
+      subst IsThere (none_beside c.caches from to q apart (all_of (λ (l : Leaf). unclean_in (here c.caches from l) ≡ true) q leaves cached among)) (sound.none to q placed)))
 
   module _ (caches : CacheMap) (valid : AreCaches c.caches) where
     abbrev after : Core
@@ -162,105 +123,52 @@ module _ (c : Core) (sound : IsSoundCore c) (from to : ℕ) (apart : from ≢ to
 
     module _ (each : (q : Leaf) (a : At) → map.get caches.held q ≡ Some a → IsFrom (map.get c.caches.held q) a) (whole : IsWholeBut NoneEnds caches) where
       cached_so : (q : Leaf) (a : At) → map.get caches.held q ≡ Some a → IsCachedIn (state_of c) q a.frag
-      cached_so q a seen = let f = each q a seen in go f.was.frag (sound.cached q f.was f.held) f.frag
-        where
-          go : (g : Cached) → IsCachedIn (state_of c) q g → (a.frag ≡ g) ⊎ (a.frag ≡ imported g) → IsCachedIn (state_of c) q a.frag
-          go g was (inl same) = subst (IsCachedIn (state_of c) q) (sym same) was
-          go g was (inr same) = subst (IsCachedIn (state_of c) q) (sym same) (record { live = was.live; tied = tied_imported g (object_of c.objects q.0 q.1) was.tied; made = sound.begun })
-
-      none_so : KeepsNone caches
-      none_so r q placed = go (whole r q placed)
-        where
-          go : IsThere (here caches r q) ⊎ NoneEnds r q → IsThere (here caches r q)
-          go (inl is) = is
-          go (inr never) = absurd never
+      cached_so q a seen =
+          let f = each q a seen in
+          let was = sound.cached q f.was f.held in
+          ⊎_elim (λ same. subst (IsCachedIn (state_of c) q) (sym same) was)
+          (λ same. subst (IsCachedIn (state_of c) q) (sym same) (record { live = was.live; tied = tied_imported f.was.frag (object_of c.objects q.0 q.1) was.tied; made = sound.begun })) f.frag
 
       core_sound : IsSound (state_of after) → IsSoundCore after
-      core_sound state = record { sound = state; begun = sound.begun; cached = λ q a seen. let w = cached_so q a seen in record { live = w.live; tied = w.tied; made = w.made }; none = none_so }
+      core_sound state = record { sound = state; begun = sound.begun; cached = λ q a seen. let w = cached_so q a seen in record { live = w.live; tied = w.tied; made = w.made }; none = λ r q placed. ⊎_elim (λ is. is) (λ never. absurd never) (whole r q placed) }
 
-    -- handed over
-    module _ (jobless : HaveNoJobs c.jobs leaves) (h : HandsOver from to leaves clean c.caches caches) (given : AreHanded leaves (unclean c.caches) (unclean caches)) where
-      pub handed_sound : IsSoundCore after
-      handed_sound = core_sound (handed_from from to apart leaves clean c.caches caches cached h) (whole_handed from to apart leaves clean c.caches caches cached h valid there other NoneEnds whole_first) (sound_now (state_of c) (unclean caches) leaves sound.sound jobless given)
-
-      pub handed_shown : shown_in after ≡ shown_in c
-      handed_shown = tree_now (state_of c) (unclean caches) leaves sound.sound jobless given
-
-      pub handed_given : IsGivenOver leaves (state_of c) (state_of after)
-      handed_given = record { unsaved = given; beside = refl }
-
-    -- refused
-    module _ (left : unclean caches ≡ unclean c.caches) where
-      pub left_state : state_of after ≡ state_of c
-      left_state = λ i. record (state_of c) { unsaved = left i }
-
-      pub left_shown : shown_in after ≡ shown_in c
-      left_shown = ap shown_tree left_state
-
-      pub left_sound : (reason : Refusal) → MayNotHandOver to leaves c.caches caches reason → IsSoundCore after
-      left_sound reason (inl none) = subst (λ (k : CacheMap). IsSoundCore (record c { caches = k })) (sym none.2) sound
-      left_sound reason (inr wants) =
+    by : (res : Result (Unit {0}) Refusal) → HaveNoJobs c.jobs leaves → OnOk res (HandsOver from to leaves clean c.caches caches) → IfErr res (MayNotHandOver to leaves c.caches caches) → OnOk res (AreHanded leaves (unclean c.caches) (unclean caches))
+        → OnErr res (unclean caches ≡ unclean c.caches) → IsHandedOver from to leaves clean res c after
+    by (Ok done) jobless h refused given left = record {
+      handed = h;
+      given = record { unsaved = given; beside = refl };
+      shown = tree_now (state_of c) (unclean caches) leaves sound.sound jobless given;
+      left = tt;
+      beside = refl;
+      count = ranks_handed from to apart leaves clean c.caches caches cached h valid there other NoneEnds whole_first;
+      cap = ap (λ (k : CacheMap). k.cap) h.2 ∙ cap_without_all (moved_all h.0 from to leaves) from clean ∙ cap_moved h.0 from to leaves ∙ cap_kept c.caches to leaves h.0 h.1;
+      sound = core_sound (handed_from from to apart leaves clean c.caches caches cached h) (whole_handed from to apart leaves clean c.caches caches cached h valid there other NoneEnds whole_first)
+          (sound_now (state_of c) (unclean caches) leaves sound.sound jobless given);
+    }
+    by (Err reason) jobless h refused given left = record {
+      handed = tt;
+      given = tt;
+      shown = ap shown_tree same;
+      left = same;
+      beside = refl;
+      count = ⊎_elim (λ none. ap (λ (k : CacheMap). length k.used) none.2) (λ wants. ranks_wants from to apart leaves c.caches caches cached wants.2 valid other NoneEnds whole_first) refused;
+      cap = ⊎_elim (λ none. ap (λ (k : CacheMap). k.cap) none.2) (λ wants.
+          let w = wants.2 in
+          ap (λ (k : CacheMap). k.cap) w.6 ∙ cap_without_all w.4 to (drop (w.0 + 1) leaves) ∙ cap_roomy w.2 w.4 to None w.5 ∙ cap_kept c.caches to (drop (w.0 + 1) leaves) w.2 w.3) refused;
+      sound = ⊎_elim (λ none. subst (λ (k : CacheMap). IsSoundCore (record c { caches = k })) (sym none.2) sound) (λ wants.
           core_sound (λ q a seen. record { was = a; held = wants_from from to apart leaves c.caches caches cached wants.2 q a seen; frag = inl refl }) (whole_wants from to apart leaves c.caches caches cached wants.2 valid other NoneEnds whole_first)
-          (subst IsSound (sym left_state) sound.sound)
+          (subst IsSound (sym same) sound.sound)) refused;
+    }
+      where
+        same : state_of after ≡ state_of c
+        same = λ i. record (state_of c) { unsaved = left i }
 
--- ---- a call
-
-module _ (old view : Core) (is : view ≡ old) (sound : IsSoundCore old) (from to : ℕ) (apart : from ≢ to) (there : from < length old.caches.used) (other : to < length old.caches.used) (leaves clean : List Leaf) (cached : AreUncleanAt old.caches from leaves) where
-  sound_view : IsSoundCore view
-  sound_view = subst IsSoundCore (sym is) sound
-
-  there_view : from < length view.caches.used
-  there_view = subst (λ (k : Core). from < length k.caches.used) (sym is) there
-
-  other_view : to < length view.caches.used
-  other_view = subst (λ (k : Core). to < length k.caches.used) (sym is) other
-
-  cached_view : AreUncleanAt view.caches from leaves
-  cached_view = subst (λ (k : Core). AreUncleanAt k.caches from leaves) (sym is) cached
-
-  -- the leaves have no places at the other rank
-  pub call_absent : HaveNoPlace view.caches to leaves
-  call_absent = no_places view sound_view from to apart there_view other_view leaves clean cached_view
-
-  module _ (caches : CacheMap) (valid : AreCaches view.caches) where
-    abbrev then : Core
-    then = record view { caches = caches }
-
-    module _ (saved : AreCleanAt old.caches from clean) (jobless : HaveNoJobs old.jobs leaves) where
-      jobless_view : HaveNoJobs view.jobs leaves
-      jobless_view = subst (λ (k : Core). HaveNoJobs k.jobs leaves) (sym is) jobless
-
-      saved_view : AreCleanAt view.caches from clean
-      saved_view = subst (λ (k : Core). AreCleanAt k.caches from clean) (sym is) saved
-
-      pub call_sound : {A : Type 0} (res : Result A Refusal) → OnOk res (HandsOver from to leaves clean view.caches caches) → IfErr res (MayNotHandOver to leaves view.caches caches) → (AreCleanAt view.caches from clean → OnOk res (AreHanded leaves (unclean view.caches) (unclean caches))) → OnErr res (unclean caches ≡ unclean view.caches) → IsSoundCore then
-      call_sound (Ok a) handed refused unsaved left = handed_sound view sound_view from to apart there_view other_view leaves clean cached_view caches valid jobless_view handed (unsaved saved_view)
-      call_sound (Err e) handed refused unsaved left = left_sound view sound_view from to apart there_view other_view leaves clean cached_view caches valid left e refused
-
-      pub call_shown : {A : Type 0} (res : Result A Refusal) → OnOk res (HandsOver from to leaves clean view.caches caches) → (AreCleanAt view.caches from clean → OnOk res (AreHanded leaves (unclean view.caches) (unclean caches))) → OnErr res (unclean caches ≡ unclean view.caches) → shown_in then ≡ shown_in old
-      call_shown (Ok a) handed unsaved left = handed_shown view sound_view from to apart there_view other_view leaves clean cached_view caches valid jobless_view handed (unsaved saved_view) ∙ ap shown_in is
-      call_shown (Err e) handed unsaved left = left_shown view sound_view from to apart there_view other_view leaves clean cached_view caches valid left ∙ ap shown_in is
-
-      pub call_given : {A : Type 0} (res : Result A Refusal) → OnOk res (HandsOver from to leaves clean view.caches caches) → (AreCleanAt view.caches from clean → OnOk res (AreHanded leaves (unclean view.caches) (unclean caches))) → OnOk res (IsGivenOver leaves (state_of old) (state_of then))
-      call_given (Ok a) handed unsaved = subst (λ (k : Core). IsGivenOver leaves (state_of k) (state_of then)) is (handed_given view sound_view from to apart there_view other_view leaves clean cached_view caches valid jobless_view handed (unsaved saved_view))
-      call_given (Err e) handed unsaved = tt
-
-    pub call_left : {A : Type 0} (res : Result A Refusal) → OnErr res (unclean caches ≡ unclean view.caches) → OnErr res (state_of then ≡ state_of old)
-    call_left (Ok a) left = tt
-    call_left (Err e) left = left_state view sound_view from to apart there_view other_view leaves clean cached_view caches valid left ∙ ap state_of is
-
-    -- there are as many ranks, with as many places each
-    module _ {A : Type 0} where
-      pub call_count : (res : Result A Refusal) → OnOk res (HandsOver from to leaves clean view.caches caches) → IfErr res (MayNotHandOver to leaves view.caches caches) → length caches.used ≡ length old.caches.used
-      call_count (Ok a) handed refused =
-          ranks_handed from to apart leaves clean view.caches caches cached_view handed valid there_view other_view NoneEnds
-          (whole_first view sound_view from to apart there_view other_view leaves clean cached_view) ∙ ap (λ (k : Core). length k.caches.used) is
-      call_count (Err e) handed (inl none) = ap (λ (k : CacheMap). length k.used) none.2 ∙ ap (λ (k : Core). length k.caches.used) is
-      call_count (Err e) handed (inr wants) =
-          ranks_wants from to apart leaves view.caches caches cached_view wants.2 valid other_view NoneEnds
-          (whole_first view sound_view from to apart there_view other_view leaves clean cached_view) ∙ ap (λ (k : Core). length k.caches.used) is
-
-      pub call_cap : (res : Result A Refusal) → OnOk res (HandsOver from to leaves clean view.caches caches) → IfErr res (MayNotHandOver to leaves view.caches caches) → caches.cap ≡ old.caches.cap
-      call_cap (Ok a) handed refused = cap_handed from to leaves clean view.caches caches handed ∙ ap (λ (k : Core). k.caches.cap) is
-      call_cap (Err e) handed (inl none) = ap (λ (k : CacheMap). k.cap) none.2 ∙ ap (λ (k : Core). k.caches.cap) is
-      call_cap (Err e) handed (inr wants) = cap_wants to leaves view.caches caches wants.2 ∙ ap (λ (k : Core). k.caches.cap) is
+-- so of what is seen of the parts that are there
+pub called : (old view : Core) → view ≡ old → IsSoundCore old → (from to : ℕ) → from ≢ to → from < length old.caches.used → to < length old.caches.used → (leaves clean : List Leaf) → AreUncleanAt old.caches from leaves
+    → AreCleanAt old.caches from clean → HaveNoJobs old.jobs leaves → (caches : CacheMap) → AreCaches view.caches → (res : Result (Unit {0}) Refusal) → OnOk res (HandsOver from to leaves clean view.caches caches)
+    → IfErr res (MayNotHandOver to leaves view.caches caches) → (AreCleanAt view.caches from clean → OnOk res (AreHanded leaves (unclean view.caches) (unclean caches))) → OnErr res (unclean caches ≡ unclean view.caches)
+    → IsHandedOver from to leaves clean res old (record view { caches = caches })
+called old view is sound from to apart there other leaves clean cached saved jobless caches valid res handed refused unsaved left = subst (λ (k : Core). IsHandedOver from to leaves clean res k (record view { caches = caches })) is
+    (by view (subst IsSoundCore (sym is) sound) from to apart (subst (λ (k : Core). from < length k.caches.used) (sym is) there) (subst (λ (k : Core). to < length k.caches.used) (sym is) other) leaves clean
+    (subst (λ (k : Core). AreUncleanAt k.caches from leaves) (sym is) cached) caches valid res (subst (λ (k : Core). HaveNoJobs k.jobs leaves) (sym is) jobless) handed refused
+    (unsaved (subst (λ (k : Core). AreCleanAt k.caches from clean) (sym is) saved)) left)

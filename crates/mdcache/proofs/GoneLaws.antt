@@ -1,6 +1,7 @@
 -- A directory goes in which nothing is: nothing of it is left but names of objects to be removed, and the tree stays.
-use Rattle.mdcache.proofs.Common.{Bool, Dentry, Fragment, HasLeaf, Home, Ino, Inode, IsLive, IsOwned, IsPick, IsStanding, Job, Keys, Leaf, List, MayGo, Names, None, NothingIn, Option, Some, State, Unsaved, [], ap, arith, cond, dentry-exact, dentry-total, dropped_table, false, first_or_later, get-remove, get_beside, get_put, hash_of, in_directory, inl, inr, is_apart, is_known, is_some, later, leaf-total, leaf_is, leaf_itself, leaves, leaves_of, list_any, names_of, objects_of, one_leaf, or_left, or_right, or_whole, refl, same_map, shown_tree, subst, sym, text_of, tied_leaf, tree_text, true, with_objects, without_directory, without_leaves, zero, ℕ, ◌==◌, ◌||◌, ◌∙◌, ◌∷◌, ◌≡◌, ◌⊎◌}
+use Rattle.mdcache.proofs.Common.{Bool, Contains, Dentry, Fragment, HasLeaf, Home, Ino, Inode, IsLive, IsOwned, IsPick, Job, Keys, Leaf, List, MayGo, Names, None, NothingIn, Option, Some, State, [], ap, arith, cond, dentry-exact, dentry-total, dropped_table, false, first_or_later, get-remove, get_beside, get_put, hash_of, in_directory, inl, inr, is_apart, is_known, is_some, later, leaf-total, leaf_is, leaf_itself, leaves, leaves_of, list_any, names_of, objects_of, one_leaf, or_left, or_right, or_whole, refl, same_map, shown_tree, subst, suc, sym, text_of, tied_leaf, tree_text, true, with_objects, without_directory, without_leaves, zero, ℕ, ⊎_elim, ◌==◌, ◌||◌, ◌∙◌, ◌∷◌, ◌≡◌, ◌⊎◌}
 use Rattle.std.specs.Prelude.{map as each}
+use Rattle.std.proofs.lemmas.Bool.{cond_both, false_from_ne_true}
 use Rattle.std.specs.FinMap as map
 use Rattle.sorted_map.proofs.NatKeys.{get_left as get_left_home, get_removed as get_removed_home, same_or_apart as same_number}
 use Rattle.dirfrag_codec.proofs.ByteKeys.{same_or_apart as key_or_apart}
@@ -25,36 +26,31 @@ get_without kept (l ∷ ls) q =
     either false true o = refl
     either false false o = refl
 
--- the leaves of a directory are among those of it,
+-- a leaf of a directory is one of those of it,
+pub one_of_those : (d : ℕ) (q : Leaf) (fs : List Fragment) → q.0.0 ≡ d → HasLeaf fs q.1 → Contains (each (in_directory d) fs) q
+one_of_those d q [] same (k, stands, is) = absurd (omega (arith, stands))
+one_of_those d q (f ∷ fs) same (zero, stands, is) = (zero, omega arith, λ i. (record { 0 = sym same i }, is i))
+one_of_those d q (f ∷ fs) same (suc k, stands, is) = let n = one_of_those d q fs same (k, omega (arith, stands), is) in (suc n.0, omega (arith, n.1), n.2)
+
+-- so they are among them,
 pub among : (d : ℕ) (q : Leaf) (fs : List Fragment) → q.0.0 ≡ d → HasLeaf fs q.1 → list_any (leaf_is q) (each (in_directory d) fs) ≡ true
 among d q [] same (k, stands, is) = absurd (omega (arith, stands))
-among d q (f ∷ fs) same has = go (among d q fs same) (first_or_later f q.1 fs has)
-  where
-    go : (HasLeaf fs q.1 → list_any (leaf_is q) (each (in_directory d) fs) ≡ true) → (f ≡ q.1) ⊎ HasLeaf fs q.1 → (leaf_is q (in_directory d f) || list_any (leaf_is q) (each (in_directory d) fs)) ≡ true
-    go next (inl here) =
-        let its : in_directory d f ≡ q = λ i. (record { 0 = sym same i }, here i) in
-        or_left (leaf_is q (in_directory d f)) (list_any (leaf_is q) (each (in_directory d) fs)) (ap (leaf_is q) its ∙ leaf_itself q)
-    go next (inr more) = or_right (leaf_is q (in_directory d f)) (list_any (leaf_is q) (each (in_directory d) fs)) (next more)
+among d q (f ∷ fs) same has = ⊎_elim
+    (λ here. let its : in_directory d f ≡ q = λ i. (record { 0 = sym same i }, here i) in or_left (leaf_is q (in_directory d f)) _ (ap (leaf_is q) its ∙ leaf_itself q))
+    (λ more. or_right (leaf_is q (in_directory d f)) _ (among d q fs same more)) (first_or_later f q.1 fs has)
 
 -- and those of another aren't
 elsewhere : (d : ℕ) (q : Leaf) (fs : List Fragment) → (q.0.0 ≡ d → ⊥) → list_any (leaf_is q) (each (in_directory d) fs) ≡ false
 elsewhere d q [] apart = refl
-elsewhere d q (f ∷ fs) apart = go (leaf_is q (in_directory d f)) refl (elsewhere d q fs apart)
-  where
-    go : (b : Bool) → leaf_is q (in_directory d f) ≡ b → list_any (leaf_is q) (each (in_directory d) fs) ≡ false → (leaf_is q (in_directory d f) || list_any (leaf_is q) (each (in_directory d) fs)) ≡ false
-    go true is rest = absurd (apart (ap (λ (l : Leaf). l.0.0) (one_leaf q (in_directory d f) is)))
-    go false is rest = ap (λ (b : Bool). b || list_any (leaf_is q) (each (in_directory d) fs)) is ∙ rest
+elsewhere d q (f ∷ fs) apart = λ i. false_from_ne_true (leaf_is q (in_directory d f)) (λ is. apart (ap (λ (l : Leaf). l.0.0) (one_leaf q (in_directory d f) is))) i || elsewhere d q fs apart i
 
 -- ---- a list with more names
 
 -- a name that was on it is on it still,
 stays_listed : (names : Keys) (more : List (List ℕ)) (q : List ℕ) → is_some (map.get names q) ≡ true → is_some (map.get (with_objects names more) q) ≡ true
 stays_listed names [] q has = has
-stays_listed names (n ∷ more) q has = stays_listed (map.insert names n tt) more q (go (key_or_apart q n))
-  where
-    go : (q ≡ n) ⊎ (q ≡ n → ⊥) → is_some (map.get (map.insert names n tt) q) ≡ true
-    go (inl same) = ap (λ (o : Option (Unit {0})). is_some o) (ap (map.get (map.insert names n tt)) same ∙ get_put names n tt)
-    go (inr apart) = ap (λ (o : Option (Unit {0})). is_some o) (get_beside names n tt q apart) ∙ has
+stays_listed names (n ∷ more) q has = stays_listed (map.insert names n tt) more q (⊎_elim (λ same. ap is_some (ap (map.get (map.insert names n tt)) same ∙ get_put names n tt))
+    (λ apart. ap is_some (get_beside names n tt q apart) ∙ has) (key_or_apart q n))
 
 -- and so is one of the others;
 first_listed : (names : Keys) (n : List ℕ) (more : List (List ℕ)) → is_some (map.get (with_objects names (n ∷ more)) n) ≡ true
@@ -62,15 +58,12 @@ first_listed names n more = stays_listed (map.insert names n tt) more n (ap (λ 
 
 leaf_listed : (names : Keys) (d : ℕ) (q : Leaf) (fs : List Fragment) → q.0.0 ≡ d → HasLeaf fs q.1 → is_some (map.get (with_objects names (each text_of (each (in_directory d) fs))) (text_of q)) ≡ true
 leaf_listed names d q [] same (k, stands, is) = absurd (omega (arith, stands))
-leaf_listed names d q (f ∷ fs) same has = go (leaf_listed (map.insert names (text_of (in_directory d f)) tt) d q fs same) (first_or_later f q.1 fs has)
-  where
-    go : (HasLeaf fs q.1 → is_some (map.get (with_objects (map.insert names (text_of (in_directory d f)) tt) (each text_of (each (in_directory d) fs))) (text_of q)) ≡ true) → (f ≡ q.1) ⊎ HasLeaf fs q.1
-        → is_some (map.get (with_objects names (each text_of (each (in_directory d) (f ∷ fs)))) (text_of q)) ≡ true
-    go next (inl here) =
-        let its : in_directory d f ≡ q = λ i. (record { 0 = sym same i }, here i) in
-        ap (λ (l : Leaf). is_some (map.get (with_objects names (text_of (in_directory d f) ∷ each text_of (each (in_directory d) fs))) (text_of l))) (sym its)
-        ∙ first_listed names (text_of (in_directory d f)) (each text_of (each (in_directory d) fs))
-    go next (inr more) = next more
+leaf_listed names d q (f ∷ fs) same has = ⊎_elim
+    (λ here.
+    let its : in_directory d f ≡ q = λ i. (record { 0 = sym same i }, here i) in
+    ap (λ (l : Leaf). is_some (map.get (with_objects names (text_of (in_directory d f) ∷ each text_of (each (in_directory d) fs))) (text_of l))) (sym its)
+    ∙ first_listed names (text_of (in_directory d f)) (each text_of (each (in_directory d) fs)))
+    (leaf_listed (map.insert names (text_of (in_directory d f)) tt) d q fs same) (first_or_later f q.1 fs has)
 
 -- a name that is none of them isn't on it, if it wasn't
 not_listed : (names : Keys) (d : ℕ) (q : List ℕ) (fs : List Fragment) → map.get names q ≡ None → ((f : Fragment) → HasLeaf fs f → q ≡ text_of (in_directory d f) → ⊥)
@@ -92,11 +85,8 @@ module _ (s : State) (sound : HasSoundLeaves s) (dir : Ino) (may : MayGo s.homes
   unknown = λ i. is_apart dir.0 1 may.other i || is_some (get_removed_home s.homes dir.0 i)
 
   known_back : (d : ℕ) → is_known left.homes d ≡ true → (d ≡ dir.0 → ⊥) × (is_known s.homes d ≡ true)
-  known_back d is = go (same_number d dir.0)
-    where
-      go : (d ≡ dir.0) ⊎ (d ≡ dir.0 → ⊥) → (d ≡ dir.0 → ⊥) × (is_known s.homes d ≡ true)
-      go (inl same) = let clash : true ≡ false = sym is ∙ ap (is_known left.homes) same ∙ unknown in absurd cc
-      go (inr apart) = (apart, ap (λ (o : Option Home). (d == 1) || is_some o) (sym (get_left_home s.homes dir.0 d apart)) ∙ is)
+  known_back d is = ⊎_elim (λ same. let clash : true ≡ false = sym is ∙ ap (is_known left.homes) same ∙ unknown in absurd cc)
+      (λ apart. (apart, ap (λ (o : Option Home). (d == 1) || is_some o) (sym (get_left_home s.homes dir.0 d apart)) ∙ is)) (same_number d dir.0)
 
   known_on : (d : ℕ) → (d ≡ dir.0 → ⊥) → is_known left.homes d ≡ is_known s.homes d
   known_on d apart = ap (λ (o : Option Home). (d == 1) || is_some o) (get_left_home s.homes dir.0 d apart)
@@ -118,14 +108,8 @@ module _ (s : State) (sound : HasSoundLeaves s) (dir : Ino) (may : MayGo s.homes
   kept_on kept q apart = get_without kept ls q ∙ ap (λ (b : Bool). cond b None (map.get kept q)) (elsewhere dir.0 q (leaves_of s.covers dir.0) apart)
 
   kept_back : {X : Type 0} (kept : map.FinMap leaf_cmp X) (q : Leaf) (x : X) → ((x : X) → map.get kept q ≡ Some x → IsLive s.homes s.covers q) → map.get (without_leaves kept ls) q ≡ Some x → (q.0.0 ≡ dir.0 → ⊥) × (map.get kept q ≡ Some x)
-  kept_back kept q x live is = go (list_any (leaf_is q) ls) refl (sym (get_without kept ls q) ∙ is)
-    where
-      go : (b : Bool) → list_any (leaf_is q) ls ≡ b → cond b None (map.get kept q) ≡ Some x → (q.0.0 ≡ dir.0 → ⊥) × (map.get kept q ≡ Some x)
-      go true has h = let clash : None ≡ Some x = h in absurd cc
-      go false none h = (λ same. let clash : true ≡ false = sym (among dir.0 q (leaves_of s.covers dir.0) same (subst (λ (d : ℕ). HasLeaf (leaves_of s.covers d) q.1) same (live x h).stands)) ∙ none in cc, h)
-
-  unsaved_back : (q : Leaf) (u : Unsaved) → map.get left.unsaved q ≡ Some u → (q.0.0 ≡ dir.0 → ⊥) × (map.get s.unsaved q ≡ Some u)
-  unsaved_back q u is = kept_back s.unsaved q u (λ v there. (sound.unsaved q v there).live) is
+  kept_back kept q x live is = cond_both (list_any (leaf_is q) ls) None (map.get kept q) (λ o. o ≡ Some x → (q.0.0 ≡ dir.0 → ⊥) × (map.get kept q ≡ Some x)) (λ has h. let clash : None ≡ Some x = h in absurd cc)
+      (λ none h. (λ same. let clash : true ≡ false = sym (among dir.0 q (leaves_of s.covers dir.0) same (subst (λ (d : ℕ). HasLeaf (leaves_of s.covers d) q.1) same (live x h).stands)) ∙ none in cc, h)) (sym (get_without kept ls q) ∙ is)
 
   job_back : (q : Leaf) (job : Job) → map.get left.jobs q ≡ Some job → (q.0.0 ≡ dir.0 → ⊥) × (map.get s.jobs q ≡ Some job)
   job_back q job is = kept_back s.jobs q job (λ i there. let old = sound.standing q i there in (sound.unsaved q old.unsaved old.beside).live) is
@@ -133,51 +117,37 @@ module _ (s : State) (sound : HasSoundLeaves s) (dir : Ino) (may : MayGo s.homes
   pub left_names : (leaf : Leaf) → (leaf.0.0 ≡ dir.0 → ⊥) → names_of left.unsaved left.objects leaf ≡ names_of s.unsaved s.objects leaf
   left_names leaf apart = names_alike s left leaf (kept_on s.unsaved leaf apart) refl
 
-  placed_left : (leaf : Leaf) (name : List ℕ) (inode : Inode) → IsLive left.homes left.covers leaf → map.get (names_of left.unsaved left.objects leaf) name ≡ Some inode → IsPick (leaves_of left.covers leaf.0.0) (hash_of name) leaf.1
-  placed_left leaf name inode live has =
-      let b = live_back leaf live in
-      subst (λ (fs : List Fragment). IsPick fs (hash_of name) leaf.1) (sym (cover_on leaf.0.0 b.0)) (sound.placed leaf name inode b.1 (ap (λ (n : Names). map.get n name) (sym (left_names leaf b.0)) ∙ has))
-
   owned_left : (name : List ℕ) → IsOwned s name → IsOwned left name
-  owned_left name (inl leaf) = go (same_number leaf.0.0.0 dir.0)
-    where
-      go : (leaf.0.0.0 ≡ dir.0) ⊎ (leaf.0.0.0 ≡ dir.0 → ⊥) → IsOwned left name
-      go (inl same) =
-          inr (inr (ap (λ (n : List ℕ). is_some (map.get left.purge n)) leaf.2
-          ∙ leaf_listed (map.insert s.purge (tree_text dir) tt) dir.0 leaf.0 (leaves_of s.covers dir.0) same (subst (λ (d : ℕ). HasLeaf (leaves_of s.covers d) leaf.0.1) same leaf.1.stands)))
-      go (inr apart) = inl (leaf.0, left_live leaf.0 apart leaf.1, leaf.2)
-  owned_left name (inr (inl d)) = go (same_number d.0.0 dir.0)
-    where
-      go : (d.0.0 ≡ dir.0) ⊎ (d.0.0 ≡ dir.0 → ⊥) → IsOwned left name
-      go (inl same) =
-          let its : d.0 ≡ dir = λ i. record { 0 = same i } in
-          inr (inr (ap (λ (n : List ℕ). is_some (map.get left.purge n)) (d.2 ∙ ap tree_text its) ∙ first_listed s.purge (tree_text dir) (each text_of ls)))
-      go (inr apart) = inr (inl (d.0, row_left s.covers dir.0 d.0.0 apart d.1, d.2))
+  owned_left name (inl leaf) = ⊎_elim
+      (λ same. inr (inr (ap (λ (n : List ℕ). is_some (map.get left.purge n)) leaf.2
+      ∙ leaf_listed (map.insert s.purge (tree_text dir) tt) dir.0 leaf.0 (leaves_of s.covers dir.0) same (subst (λ (d : ℕ). HasLeaf (leaves_of s.covers d) leaf.0.1) same leaf.1.stands))))
+      (λ apart. inl (leaf.0, left_live leaf.0 apart leaf.1, leaf.2)) (same_number leaf.0.0.0 dir.0)
+  owned_left name (inr (inl d)) = ⊎_elim
+      (λ same.
+      let its : d.0 ≡ dir = λ i. record { 0 = same i } in
+      inr (inr (ap (λ (n : List ℕ). is_some (map.get left.purge n)) (d.2 ∙ ap tree_text its) ∙ first_listed s.purge (tree_text dir) (each text_of ls))))
+      (λ apart. inr (inl (d.0, row_left s.covers dir.0 d.0.0 apart d.1, d.2))) (same_number d.0.0 dir.0)
   owned_left name (inr (inr listed)) = inr (inr (stays_listed s.purge (objects_of s dir) name listed))
-
-  listed_left : (leaf : Leaf) → IsLive left.homes left.covers leaf → map.get left.purge (text_of leaf) ≡ None
-  listed_left leaf live =
-      let b = live_back leaf live in
-      not_listed (map.insert s.purge (tree_text dir) tt) dir.0 (text_of leaf) (leaves_of s.covers dir.0)
-      (get_beside s.purge (tree_text dir) tt (text_of leaf) (no_tree_text s.homes s.covers sound.table sound.numbered leaf dir b.1 known) ∙ sound.listed leaf b.1)
-      (λ f stands same. b.0 (ap (λ (l : Leaf). l.0.0) (one_text s.homes s.covers sound.table sound.numbered leaf (in_directory dir.0 f) b.1 (record { known = known; stands = stands }) same)))
-
-  standing_left : (leaf : Leaf) (job : Job) → map.get left.jobs leaf ≡ Some job → IsStanding left leaf job
-  standing_left leaf job is =
-      let b = job_back leaf job is in
-      let old = sound.standing leaf job b.1 in
-      record { mine = old.mine; given = old.given; young = old.young; unsaved = old.unsaved; beside = kept_on s.unsaved leaf b.0 ∙ old.beside; taken = old.taken }
 
   pub left_leaves : HasSoundLeaves left
   left_leaves = record {
     table = dropped_table s.homes s.covers dir.0 sound.table may.childless;
     numbered = λ d is. sound.numbered d (known_back d is).1;
-    placed = placed_left;
-    unsaved = λ q u is. let b = unsaved_back q u is in let old = sound.unsaved q u b.1 in record { live = left_live q b.0 old.live; made = old.made; young = old.young };
+    placed = λ leaf name inode live has.
+        let b = live_back leaf live in
+        subst (λ (fs : List Fragment). IsPick fs (hash_of name) leaf.1) (sym (cover_on leaf.0.0 b.0)) (sound.placed leaf name inode b.1 (ap (λ (n : Names). map.get n name) (sym (left_names leaf b.0)) ∙ has));
+    unsaved = λ q u is. let b = kept_back s.unsaved q u (λ v there. (sound.unsaved q v there).live) is in let old = sound.unsaved q u b.1 in record { live = left_live q b.0 old.live; made = old.made; young = old.young };
     saved = λ leaf live clean. let b = live_back leaf live in sound.saved leaf b.1 (sym (kept_on s.unsaved leaf b.0) ∙ clean);
     owned = λ name there. owned_left name (sound.owned name there);
-    listed = listed_left;
-    standing = standing_left;
+    listed = λ leaf live.
+        let b = live_back leaf live in
+        not_listed (map.insert s.purge (tree_text dir) tt) dir.0 (text_of leaf) (leaves_of s.covers dir.0)
+        (get_beside s.purge (tree_text dir) tt (text_of leaf) (no_tree_text s.homes s.covers sound.table sound.numbered leaf dir b.1 known) ∙ sound.listed leaf b.1)
+        (λ f stands same. b.0 (ap (λ (l : Leaf). l.0.0) (one_text s.homes s.covers sound.table sound.numbered leaf (in_directory dir.0 f) b.1 (record { known = known; stands = stands }) same)));
+    standing = λ leaf job is.
+        let b = job_back leaf job is in
+        let old = sound.standing leaf job b.1 in
+        record { mine = old.mine; given = old.given; young = old.young; unsaved = old.unsaved; beside = kept_on s.unsaved leaf b.0 ∙ old.beside; taken = old.taken };
     once = λ a b i j p q same. sound.once a b i j (job_back a i p).1 (job_back b j q).1 same;
   }
 

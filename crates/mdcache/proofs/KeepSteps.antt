@@ -1,10 +1,16 @@
 -- A place that is kept for a leaf that will come, beside one that stays: what it leaves, and why it is refused.
-use Rattle.mdcache.proofs.Common.{AreCaches, CacheMap, Cached, Core, Err, IfErr, IsKeptFor, KeepsAt, KeepsNone, KeepsOnlyAt, LacksPlacesIn, Leaf, MakesRoomAt, MayNotFind, MayNotKeepAt, None, NoneEnds, Ok, OnErr, OnOk, Option, Rank, Reads, ReadsCore, Refusal, Result, Some, StaysNamed, absent_roomy, ap, at_rank, false, has_place, here, inl, inr, keeps_reads, length, refl, room_reads, staying, subst, sym, ℕ, ◌+◌, ◌<◌, ◌∙◌, ◌≡◌}
+use Rattle.mdcache.proofs.Common.{AreCaches, CacheMap, Cached, Core, Err, IfErr, IsKeptFor, KeepsAt, KeepsNone, KeepsOnlyAt, LacksPlacesIn, Leaf, MakesRoomAt, MayNotFind, MayNotKeepAt, None, NoneEnds, Ok, OnErr, OnOk, Option, Rank, ReadsCore, Refusal, Result, Some, StaysNamed, absent_roomy, ap, at_rank, false, has_place, here, inl, inr, keeps_reads, length, on_ok_weaker, refl, room_reads, staying, subst, sym, ℕ, ⊎_elim, ◌+◌, ◌<◌, ◌∙◌, ◌≡◌}
 use Rattle.std.specs.FinMap as map
+use Rattle.std.proofs.lemmas.Result.{on_err_weaker}
 use Rattle.dentry_cache.specs.Reads.Reads.{stays as it_stays}
-use Rattle.mdcache.proofs.CoreLaws.{next_step, no_less_itself, not_found_before}
+use Rattle.mdcache.proofs.CoreLaws.{if_err, next_step, no_less_itself, not_found_before}
 use Rattle.mdcache.proofs.NoneLaws.{kept_for, kept_stays, none_absent, none_room, only_kept}
 use Rattle.mdcache.proofs.UncleanOf.{full_lacks}
+
+-- what both outcomes leave
+either : {A E X P Q : Type 0} (r : Result A E) → (P → X) → (Q → X) → OnOk r P → OnErr r Q → X
+either (Ok x) f g p q = f p
+either (Err e) f g p q = g q
 
 module _ (Uses : ℕ → Leaf → Type 0) (old mid view : Core) (is : view ≡ mid) (before : ReadsCore Uses NoneEnds old mid) (none_mid : KeepsNone mid.caches)
     (rank : Rank) (leaf : Leaf) (stay : Option Leaf) (there_mid : rank.0 < length mid.caches.used) (absent_mid : map.get mid.caches.held leaf ≡ None) (named : Uses rank.0 leaf) (stayed : StaysNamed Uses stay)
@@ -23,64 +29,33 @@ module _ (Uses : ℕ → Leaf → Type 0) (old mid view : Core) (is : view ≡ m
   keep_absent = none_absent view.caches rank.0 leaf none absent
 
   -- the leaf is cached nowhere still
+  nowhere_kept : KeepsAt rank.0 leaf stay view.caches caches' → map.get caches'.held leaf ≡ None
+  nowhere_kept k = ap (λ (c : CacheMap). map.get c.held leaf) k.2 ∙ absent_roomy view.caches k.0 rank.0 stay leaf k.1 absent
+
   pub keep_nowhere : map.get caches'.held leaf ≡ None
-  keep_nowhere = go result kept left
-    where
-      go : (r : Result (Unit {0}) Refusal) → OnOk r (KeepsAt rank.0 leaf stay view.caches caches') → OnErr r (MakesRoomAt rank.0 stay view.caches caches') → map.get caches'.held leaf ≡ None
-      go (Ok done) kept left = ap (λ (k : CacheMap). map.get k.held leaf) kept.2 ∙ absent_roomy view.caches kept.0 rank.0 stay leaf kept.1 absent
-      go (Err reason) kept (inl same) = ap (λ (k : CacheMap). map.get k.held leaf) same ∙ absent
-      go (Err reason) kept (inr made) = absent_roomy view.caches caches' rank.0 stay leaf made absent
+  keep_nowhere = either result nowhere_kept (⊎_elim (λ same. ap (λ (k : CacheMap). map.get k.held leaf) same ∙ absent) (λ made. absent_roomy view.caches caches' rank.0 stay leaf made absent)) kept left
 
   pub keep_reads : ReadsCore Uses NoneEnds old (record view { caches = caches' })
-  keep_reads = next_step Uses NoneEnds old view (record view { caches = caches' }) (no_less_itself view.room) refl mid before is (go result kept left)
-    where
-      go : (r : Result (Unit {0}) Refusal) → OnOk r (KeepsAt rank.0 leaf stay view.caches caches') → OnErr r (MakesRoomAt rank.0 stay view.caches caches') → Reads Uses NoneEnds view.objects view.caches caches'
-      go (Ok done) kept left = keeps_reads Uses NoneEnds view.objects view.caches view.caches caches' rank.0 leaf stay it_stays named stayed keep_absent kept
-      go (Err reason) kept left = room_reads Uses NoneEnds view.objects view.caches view.caches caches' rank.0 leaf stay it_stays named stayed keep_absent left
+  keep_reads = next_step Uses NoneEnds old view (record view { caches = caches' }) (no_less_itself view.room) refl mid before is
+      (either result (keeps_reads Uses NoneEnds view.objects view.caches view.caches caches' rank.0 leaf stay it_stays named stayed keep_absent)
+      (room_reads Uses NoneEnds view.objects view.caches view.caches caches' rank.0 leaf stay it_stays named stayed keep_absent) kept left)
 
   pub keep_place : OnOk result (IsKeptFor caches' rank.0 leaf)
-  keep_place = go result kept
-    where
-      go : (r : Result (Unit {0}) Refusal) → OnOk r (KeepsAt rank.0 leaf stay view.caches caches') → OnOk r (IsKeptFor caches' rank.0 leaf)
-      go (Ok done) k = (
-        kept_for view.caches rank.0 leaf none there valid stay caches' absent k,
-        ap (λ (c : CacheMap). map.get c.held leaf) k.2 ∙ absent_roomy view.caches k.0 rank.0 stay leaf k.1 absent,
-      )
-      go (Err reason) k = tt
+  keep_place = on_ok_weaker result (λ k. (kept_for view.caches rank.0 leaf none there valid stay caches' absent k, nowhere_kept k)) kept
 
   pub keep_only : OnOk result (KeepsOnlyAt (Some (rank, leaf)) caches')
-  keep_only = go result kept
-    where
-      go : (r : Result (Unit {0}) Refusal) → OnOk r (KeepsAt rank.0 leaf stay view.caches caches') → OnOk r (KeepsOnlyAt (Some (rank, leaf)) caches')
-      go (Ok done) k = only_kept view.caches rank.0 leaf none there valid stay caches' rank refl absent k
-      go (Err reason) k = tt
+  keep_only = on_ok_weaker result (only_kept view.caches rank.0 leaf none there valid stay caches' rank refl absent) kept
 
   pub keep_none : OnErr result (KeepsNone caches')
-  keep_none = go result left
-    where
-      go : (r : Result (Unit {0}) Refusal) → OnErr r (MakesRoomAt rank.0 stay view.caches caches') → OnErr r (KeepsNone caches')
-      go (Ok done) l = tt
-      go (Err reason) l = none_room view.caches rank.0 leaf none there valid stay caches' l
+  keep_none = on_err_weaker result (none_room view.caches rank.0 leaf none there valid stay caches') left
 
   -- what is to stay is there as it was
   pub keep_stays : (P : Option Cached → Type 0) (one : Leaf) (s : ℕ) → stay ≡ Some one → P (here mid.caches s one) → OnOk result (P (here caches' s one))
-  keep_stays P one s is_one has = go result kept
-    where
-      go : (r : Result (Unit {0}) Refusal) → OnOk r (KeepsAt rank.0 leaf stay view.caches caches') → OnOk r (P (here caches' s one))
-      go (Ok done) k =
-          subst P (sym (ap (at_rank s) (kept_stays view.caches caches' rank.0 leaf one there (subst (λ (o : Option Leaf). KeepsAt rank.0 leaf o view.caches caches') is_one k))))
-          (subst (λ (c : Core). P (here c.caches s one)) (sym is) has)
-      go (Err reason) k = tt
+  keep_stays P one s is_one has = on_ok_weaker result (λ k.
+      subst P (sym (ap (at_rank s) (kept_stays view.caches caches' rank.0 leaf one there (subst (λ (o : Option Leaf). KeepsAt rank.0 leaf o view.caches caches') is_one k))))
+      (subst (λ (c : Core). P (here c.caches s one)) (sym is) has)) kept
 
   pub keep_refused : IfErr result (MayNotKeepAt rank.0 stay view.caches) → mid.faults ≡ old.faults → IfErr result (MayNotFind (LacksPlacesIn (1 + staying stay) old.caches rank.0) old.faults view.faults)
-  keep_refused refused same = go result refused
-    where
-      on : (reason : Refusal) → MayNotKeepAt rank.0 stay view.caches reason → MayNotFind (LacksPlacesIn (1 + staying stay) view.caches rank.0) view.faults view.faults reason
-      on reason (inl memory) = inl memory
-      on reason (inr full) = inr (inr (full.0, full_lacks view.caches rank.0 stay valid none full.1))
-
-      go : (r : Result (Unit {0}) Refusal) → IfErr r (MayNotKeepAt rank.0 stay view.caches) → IfErr r (MayNotFind (LacksPlacesIn (1 + staying stay) old.caches rank.0) old.faults view.faults)
-      go (Ok done) refused = tt
-      go (Err reason) refused =
-          not_found_before Uses NoneEnds old mid before (1 + staying stay) rank.0 view.faults reason same
-          (subst (λ (k : Core). MayNotFind (LacksPlacesIn (1 + staying stay) k.caches rank.0) k.faults view.faults reason) is (on reason refused))
+  keep_refused refused same = if_err _ _ result (λ reason why. not_found_before Uses NoneEnds old mid before (1 + staying stay) rank.0 view.faults reason same
+      (subst (λ (k : Core). MayNotFind (LacksPlacesIn (1 + staying stay) k.caches rank.0) k.faults view.faults reason) is
+      (⊎_elim inl (λ full. inr (inr (full.0, full_lacks view.caches rank.0 stay valid none full.1))) why))) refused

@@ -1,9 +1,10 @@
 -- A name of a leaf gets an inode, or is removed: all but the table of directories is sound as before, and the tree has the name so.
-use Rattle.mdcache.proofs.Common.{AreYoung, Base, Bool, Dentry, DirPins, Fragment, Fresh, Homes, Inode, IsAsItStands, IsCounted, IsLeafAt, IsLive, IsOwned, IsPick, IsSaved, IsSound, IsStanding, IsTable, IsTabled, IsUnsaved, Job, Keeps, Leaf, List, Mark, Marks, Names, None, Omap, Option, Some, State, Stored, Tree, Unsaved, ap, arith, cond, dentry-exact, dentry-total, dentry_of, dirtied, false, get-empty, get-insert, get_beside, get_put, hash_of, inl, inr, is_known, is_some, key_cmp, leaf-total, leaf_is, leaf_itself, leaf_or_apart, leaves_of, marked_beside, marked_here, names_at, object_of, only_below, refl, same_map, shown_at, shown_over, shown_put, shown_tree, some_pick, subst, sym, text_of, tied_leaf, tree_of_row, true, with_mark, with_name, ℕ, ◌+◌, ◌<◌, ◌^◌, ◌∙◌, ◌≡◌, ◌⊎◌}
+use Rattle.mdcache.proofs.Common.{AreYoung, Bool, Dentry, Fragment, Fresh, Homes, Inode, IsAsItStands, IsCounted, IsLeafAt, IsLive, IsOwned, IsPick, IsSaved, IsSound, IsStanding, IsTable, IsTabled, IsUnsaved, Job, Keeps, Leaf, List, Mark, Marks, Names, None, Omap, Option, Some, State, Stored, Tree, Unsaved, ap, arith, cond, dentry-exact, dentry-total, dirtied, false, get-empty, get-insert, get_beside, get_put, hash_of, inl, inr, is_known, is_some, key_cmp, leaf-total, leaf_is, leaf_itself, leaf_or_apart, leaves_of, marked_beside, marked_here, names_at, object_of, one_leaf, only_below, refl, same_Some, same_leaf, same_map, shown_at, shown_over, shown_put, shown_tree, some_pick, subst, sym, text_of, tied_leaf, tree_of_row, true, with_mark, with_name, ℕ, ⊎_elim, ◌<◌, ◌^◌, ◌∙◌, ◌≡◌, ◌⊎◌}
+use Rattle.std.proofs.lemmas.Bool.{cases_Bool, false_from_ne_true}
+use Rattle.dirfrag_codec.proofs.ByteKeys.{same_or_apart as key_or_apart}
 use Rattle.std.specs.FinMap as map
 use Rattle.mds_types.proofs.EntryLaws.{get_put as get_dentry, get_beside as get_other_dentry, get_removed, get_left as get_left_dentry, same_or_apart}
 use Rattle.dentry_cache.specs.Ties.{KeepsAt}
-use Rattle.inode_table.specs.Dirs.{Counts as Entries}
 use Rattle.mdcache.specs.Changes.{Counts}
 use Rattle.mdcache.specs.Shown.{names_of}
 use Rattle.mdcache.proofs.ShownLaws.{found_at, found_nowhere}
@@ -39,29 +40,6 @@ sound_again s leaves tabled counted = record {
   once = leaves.once;
 }
 
--- whatever the counts and the pins are
-module _ (s : State) (counts : Entries) (pins : DirPins) (sound : HasSoundLeaves s) where
-  abbrev recounted : State
-  recounted = record s { counts = counts; pins = pins }
-
-  owned_still : (name : List ℕ) → IsOwned s name → IsOwned recounted name
-  owned_still name (inl leaf) = inl leaf
-  owned_still name (inr (inl dir)) = inr (inl dir)
-  owned_still name (inr (inr listed)) = inr (inr listed)
-
-  pub recounted_leaves : HasSoundLeaves recounted
-  recounted_leaves = record {
-    table = sound.table;
-    numbered = sound.numbered;
-    placed = sound.placed;
-    unsaved = λ leaf u is. let old = sound.unsaved leaf u is in record { live = old.live; made = old.made; young = old.young };
-    saved = sound.saved;
-    owned = λ name there. owned_still name (sound.owned name there);
-    listed = sound.listed;
-    standing = λ leaf job is. let old = sound.standing leaf job is in record { mine = old.mine; given = old.given; young = old.young; unsaved = old.unsaved; beside = old.beside; taken = old.taken };
-    once = sound.once;
-  }
-
 -- ---- what stands in a tree whose leaves are sound
 
 module _ (s : State) (sound : HasSoundLeaves s) where
@@ -78,11 +56,7 @@ module _ (s : State) (sound : HasSoundLeaves s) where
 
 -- a directory is known or isn't
 pub known_or_not : (homes : Homes) (d : ℕ) → (is_known homes d ≡ true) ⊎ (is_known homes d ≡ false)
-known_or_not homes d = go (is_known homes d) refl
-  where
-    go : (b : Bool) → is_known homes d ≡ b → (b ≡ true) ⊎ (b ≡ false)
-    go true is = inl refl
-    go false is = inr refl
+known_or_not homes d = cases_Bool (is_known homes d)
 
 -- the tree with an inode at a dentry, or with none
 abbrev pub with_at : Tree → Dentry → Option Inode → Tree
@@ -102,11 +76,7 @@ get_elsewhere tree p (Some inode) q apart = get_other_dentry tree p inode q apar
 -- a fragment as it stands shows what its leaf shows
 as_it_shows : (o : Option Unsaved) (object : Option Omap) (next : ℕ) (u : Unsaved) → IsAsItStands o object next u → shown_over u.base (names_at object) u.dirty ≡ shown_at o object
 as_it_shows (Some v) object next u is = ap (λ (w : Unsaved). shown_over w.base (names_at object) w.dirty) is
-as_it_shows None object next u is = go u.base is.0
-  where
-    go : (b : Base) → Counts b object → shown_over b (names_at object) u.dirty ≡ names_at object
-    go Fresh h = absurd h
-    go (Stored version) h = only_below (names_at object) u.dirty is.1
+as_it_shows None object next u is = elim u.base as (λ b. Counts b object → shown_over b (names_at object) u.dirty ≡ names_at object) [ Fresh ↦ λ h. absurd h | Stored version ↦ λ h. only_below (names_at object) u.dirty is.1 ] is.0
 
 module _ (s : State) (sound : HasSoundLeaves s) (dentry : Dentry) (f : Fragment) (inode : Option Inode) (live : IsLive s.homes s.covers (dentry.dir, f)) (pick : IsLeafAt s.covers dentry f)
     (u : Unsaved) (stands : IsAsItStands (map.get s.unsaved (dentry.dir, f)) (object_of s.objects dentry.dir f) s.next_generation u) where
@@ -142,121 +112,78 @@ module _ (s : State) (sound : HasSoundLeaves s) (dentry : Dentry) (f : Fragment)
 
   -- a name of a leaf that isn't this one stands for what it stood for
   same_name : (q : Leaf) (name : List ℕ) → (q ≡ leaf → name ≡ dentry.name → ⊥) → map.get (names_of t.unsaved t.objects q) name ≡ map.get (names_of s.unsaved s.objects q) name
-  same_name q name other = go (leaf_or_apart q leaf)
-    where
-      go : (q ≡ leaf) ⊎ (leaf_is q leaf ≡ false) → map.get (names_of t.unsaved t.objects q) name ≡ map.get (names_of s.unsaved s.objects q) name
-      go (inl same) =
-          ap (λ (l : Leaf). map.get (names_of t.unsaved t.objects l) name) same ∙ ap (λ (n : Names). map.get n name) shows_here
-          ∙ marked_beside (names_of s.unsaved s.objects leaf) dentry.name inode name (other same) ∙ ap (λ (l : Leaf). map.get (names_of s.unsaved s.objects l) name) (sym same)
-      go (inr apart) = ap (λ (n : Names). map.get n name) (shows_beside q apart)
-
-  this_name : map.get (names_of t.unsaved t.objects leaf) dentry.name ≡ inode
-  this_name = ap (λ (n : Names). map.get n dentry.name) shows_here ∙ marked_here (names_of s.unsaved s.objects leaf) dentry.name inode
-
-  this_or_other : (q : Leaf) (name : List ℕ) → ((q ≡ leaf) × (name ≡ dentry.name)) ⊎ (q ≡ leaf → name ≡ dentry.name → ⊥)
-  this_or_other q name = go (same_or_apart (dentry_of q.0.0 name) dentry) (leaf_or_apart q leaf)
-    where
-      go : (dentry_of q.0.0 name ≡ dentry) ⊎ (dentry_of q.0.0 name ≡ dentry → ⊥) → (q ≡ leaf) ⊎ (leaf_is q leaf ≡ false) → ((q ≡ leaf) × (name ≡ dentry.name)) ⊎ (q ≡ leaf → name ≡ dentry.name → ⊥)
-      go (inl same) (inl one) = inl (one, ap (λ (p : Dentry). p.name) same)
-      go (inl same) (inr apart) = inr (λ one n. let clash : true ≡ false = sym (leaf_itself leaf) ∙ ap (λ (l : Leaf). leaf_is l leaf) (sym one) ∙ apart in cc)
-      go (inr apart) either = inr (λ one n. apart (λ i. record { dir = (one i).0; name = n i }))
+  same_name q name other = ⊎_elim
+      (λ same.
+      ap (λ (l : Leaf). map.get (names_of t.unsaved t.objects l) name) same ∙ ap (λ (n : Names). map.get n name) shows_here
+      ∙ marked_beside (names_of s.unsaved s.objects leaf) dentry.name inode name (other same) ∙ ap (λ (l : Leaf). map.get (names_of s.unsaved s.objects l) name) (sym same))
+      (λ apart. ap (λ (n : Names). map.get n name) (shows_beside q apart)) (leaf_or_apart q leaf)
 
   placed_still : (q : Leaf) (name : List ℕ) (i : Inode) → IsLive s.homes s.covers q → map.get (names_of t.unsaved t.objects q) name ≡ Some i → IsPick (leaves_of s.covers q.0.0) (hash_of name) q.1
-  placed_still q name i is has = go (this_or_other q name)
+  placed_still q name i is has = go (leaf_or_apart q leaf) (key_or_apart name dentry.name)
     where
-      go : ((q ≡ leaf) × (name ≡ dentry.name)) ⊎ (q ≡ leaf → name ≡ dentry.name → ⊥) → IsPick (leaves_of s.covers q.0.0) (hash_of name) q.1
-      go (inl same) = subst (λ (n : List ℕ). IsPick (leaves_of s.covers q.0.0) (hash_of n) q.1) (sym same.1) (subst (λ (l : Leaf). IsPick (leaves_of s.covers l.0.0) (hash_of dentry.name) l.1) (sym same.0) pick)
-      go (inr other) = sound.placed q name i is (sym (same_name q name other) ∙ has)
+      other : (q ≡ leaf → name ≡ dentry.name → ⊥) → IsPick (leaves_of s.covers q.0.0) (hash_of name) q.1
+      other apart = sound.placed q name i is (sym (same_name q name apart) ∙ has)
+
+      go : (q ≡ leaf) ⊎ (leaf_is q leaf ≡ false) → (name ≡ dentry.name) ⊎ (name ≡ dentry.name → ⊥) → IsPick (leaves_of s.covers q.0.0) (hash_of name) q.1
+      go (inl one) (inl same) = subst (λ (n : List ℕ). IsPick (leaves_of s.covers q.0.0) (hash_of n) q.1) (sym same) (subst (λ (l : Leaf). IsPick (leaves_of s.covers l.0.0) (hash_of dentry.name) l.1) (sym one) pick)
+      go (inl one) (inr apart) = other (λ o n. apart n)
+      go (inr apart) either = other (λ one n. let clash : true ≡ false = sym (same_leaf q leaf one) ∙ apart in cc)
 
   -- what isn't clean
 
-  made : (o : Option Unsaved) → map.get s.unsaved leaf ≡ o → IsAsItStands o (object_of s.objects dentry.dir f) s.next_generation u → u.generation < s.next_generation
-  made (Some w) is h = let old = (sound.unsaved leaf w is).made in let same = ap (λ (x : Unsaved). x.generation) h in omega (arith, old, same)
-  made None is h = h.2
-
-  young_before : (o : Option Unsaved) → map.get s.unsaved leaf ≡ o → IsAsItStands o (object_of s.objects dentry.dir f) s.next_generation u → AreYoung u.dirty s.next_version
-  young_before (Some w) is h = subst (λ (x : Unsaved). AreYoung x.dirty s.next_version) (sym h) (sound.unsaved leaf w is).young
-  young_before None is h = λ name mark has. let clash : None ≡ Some mark = sym (ap (λ (m : Marks). map.get m name) h.1 ∙ get-empty key_cmp name) ∙ has in absurd cc
+  before : (o : Option Unsaved) → map.get s.unsaved leaf ≡ o → IsAsItStands o (object_of s.objects dentry.dir f) s.next_generation u → (u.generation < s.next_generation) × AreYoung u.dirty s.next_version
+  before (Some w) is h = let old = sound.unsaved leaf w is in subst (λ (x : Unsaved). (x.generation < s.next_generation) × AreYoung x.dirty s.next_version) (sym h) (old.made, old.young)
+  before None is h = (h.2, λ name mark has. let clash : None ≡ Some mark = sym (ap (λ (m : Marks). map.get m name) h.1 ∙ get-empty key_cmp name) ∙ has in absurd cc)
 
   younger : AreYoung v.dirty t.next_version
-  younger name mark has = go (name_is name)
-    where
-      name_is : (name : List ℕ) → (name ≡ dentry.name) ⊎ (name ≡ dentry.name → ⊥)
-      name_is name = from (same_or_apart (dentry_of dentry.dir.0 name) dentry)
-        where
-          from : (dentry_of dentry.dir.0 name ≡ dentry) ⊎ (dentry_of dentry.dir.0 name ≡ dentry → ⊥) → (name ≡ dentry.name) ⊎ (name ≡ dentry.name → ⊥)
-          from (inl same) = inl (ap (λ (p : Dentry). p.name) same)
-          from (inr apart) = inr (λ n. apart (λ i. record { dir = dentry.dir; name = n i }))
-
-      go : (name ≡ dentry.name) ⊎ (name ≡ dentry.name → ⊥) → mark.version < s.next_version + 1
-      go (inl same) =
-          let both : Some (record { version = s.next_version; inode = inode }) ≡ Some mark = sym (ap (map.get v.dirty) same ∙ get_put u.dirty dentry.name _) ∙ has in
-          let its : record { version = s.next_version; inode = inode } ≡ mark = cc in
-          let version = ap (λ (m : Mark). m.version) its in
-          omega (arith, version)
-      go (inr apart) =
-          let old = young_before (map.get s.unsaved leaf) refl stands name mark (sym (get_beside u.dirty dentry.name _ name apart) ∙ has) in
-          omega (arith, old)
+  younger name mark has = ⊎_elim
+      (λ same.
+      let its = same_Some (record { version = s.next_version; inode = inode }) mark (sym (ap (map.get v.dirty) same ∙ get_put u.dirty dentry.name _) ∙ has) in
+      omega (arith, ap (λ (m : Mark). m.version) its))
+      (λ apart. omega (arith, (before (map.get s.unsaved leaf) refl stands).1 name mark (sym (get_beside u.dirty dentry.name _ name apart) ∙ has))) (key_or_apart name dentry.name)
 
   raised : (marks : Marks) → AreYoung marks s.next_version → AreYoung marks t.next_version
-  raised marks young name mark has = let old = young name mark has in omega (arith, old)
+  raised marks young name mark has = omega (arith, young name mark has)
 
   unsaved_still : (q : Leaf) (w : Unsaved) → map.get t.unsaved q ≡ Some w → IsUnsaved t q w
-  unsaved_still q w is = go (leaf_or_apart q leaf)
-    where
-      go : (q ≡ leaf) ⊎ (leaf_is q leaf ≡ false) → IsUnsaved t q w
-      go (inl same) =
-          let both : Some v ≡ Some w = sym unsaved_here ∙ ap (map.get t.unsaved) (sym same) ∙ is in
-          let its : v ≡ w = cc in
-          subst (IsUnsaved t q) its (subst (λ (l : Leaf). IsUnsaved t l v) (sym same) (record { live = live; made = made (map.get s.unsaved leaf) refl stands; young = younger }))
-      go (inr apart) = let old = sound.unsaved q w (sym (unsaved_beside q apart) ∙ is) in record { live = old.live; made = old.made; young = raised w.dirty old.young }
-
-  saved_still : (q : Leaf) → IsLive s.homes s.covers q → map.get t.unsaved q ≡ None → IsSaved q.1 (object_of s.objects q.0 q.1)
-  saved_still q is clean = go (leaf_or_apart q leaf)
-    where
-      go : (q ≡ leaf) ⊎ (leaf_is q leaf ≡ false) → IsSaved q.1 (object_of s.objects q.0 q.1)
-      go (inl same) = let clash : None ≡ Some v = sym clean ∙ ap (map.get t.unsaved) same ∙ unsaved_here in absurd cc
-      go (inr apart) = sound.saved q is (sym (unsaved_beside q apart) ∙ clean)
+  unsaved_still q w is = ⊎_elim
+      (λ same.
+      let its = same_Some v w (sym unsaved_here ∙ ap (map.get t.unsaved) (sym same) ∙ is) in
+      subst (IsUnsaved t q) its (subst (λ (l : Leaf). IsUnsaved t l v) (sym same) (record { live = live; made = (before (map.get s.unsaved leaf) refl stands).0; young = younger })))
+      (λ apart. let old = sound.unsaved q w (sym (unsaved_beside q apart) ∙ is) in record { live = old.live; made = old.made; young = raised w.dirty old.young }) (leaf_or_apart q leaf)
 
   -- jobs
 
   keeps : (job : Job) → Keeps u.dirty job.snapshot.names → AreYoung job.snapshot.names s.next_version → Keeps v.dirty job.snapshot.names
-  keeps job old young name = go (same_or_apart (dentry_of dentry.dir.0 name) dentry)
+  keeps job old young name = ⊎_elim
+      (λ same. subst (λ o. KeepsAt o (map.get job.snapshot.names name)) (sym (ap (map.get v.dirty) same ∙ get_put u.dirty dentry.name _)) (new (map.get job.snapshot.names name) refl))
+      (λ apart. subst (λ o. KeepsAt o (map.get job.snapshot.names name)) (sym (get_beside u.dirty dentry.name _ name apart)) (old name)) (key_or_apart name dentry.name)
     where
       new : (o : Option Mark) → map.get job.snapshot.names name ≡ o → KeepsAt (Some (record { version = s.next_version; inode = inode })) o
       new None is = tt
-      new (Some then) is = λ same. let before = young name then is in absurd (omega (arith, before, same))
-
-      go : (dentry_of dentry.dir.0 name ≡ dentry) ⊎ (dentry_of dentry.dir.0 name ≡ dentry → ⊥) → KeepsAt (map.get v.dirty name) (map.get job.snapshot.names name)
-      go (inl same) =
-          subst (λ o. KeepsAt o (map.get job.snapshot.names name)) (sym (ap (map.get v.dirty) (ap (λ (p : Dentry). p.name) same) ∙ get_put u.dirty dentry.name _)) (new (map.get job.snapshot.names name) refl)
-      go (inr apart) = subst (λ o. KeepsAt o (map.get job.snapshot.names name)) (sym (get_beside u.dirty dentry.name _ name (λ n. apart (λ i. record { dir = dentry.dir; name = n i })))) (old name)
+      new (Some then) is = λ same. absurd (omega (arith, young name then is, same))
 
   standing_here : (job : Job) → IsStanding s leaf job → IsStanding t leaf job
-  standing_here job old = record {
-    mine = old.mine;
-    given = old.given;
-    young = raised job.snapshot.names old.young;
-    unsaved = v;
-    beside = unsaved_here;
-    taken = record {
-      valid = old.taken.valid;
-      base = old.taken.base ∙ ap (λ (x : Unsaved). x.base) its;
-      generation = old.taken.generation ∙ ap (λ (x : Unsaved). x.generation) its;
-      keeps = keeps job (subst (λ (x : Unsaved). Keeps x.dirty job.snapshot.names) its old.taken.keeps) old.young;
-      counted = old.taken.counted;
-    };
-  }
-    where
-      its : old.unsaved ≡ u
-      its = sym (subst (λ o. IsAsItStands o (object_of s.objects dentry.dir f) s.next_generation u) old.beside stands)
+  standing_here job old =
+      let its : old.unsaved ≡ u = sym (subst (λ o. IsAsItStands o (object_of s.objects dentry.dir f) s.next_generation u) old.beside stands) in
+      record {
+        mine = old.mine;
+        given = old.given;
+        young = raised job.snapshot.names old.young;
+        unsaved = v;
+        beside = unsaved_here;
+        taken = record {
+          valid = old.taken.valid;
+          base = old.taken.base ∙ ap (λ (x : Unsaved). x.base) its;
+          generation = old.taken.generation ∙ ap (λ (x : Unsaved). x.generation) its;
+          keeps = keeps job (subst (λ (x : Unsaved). Keeps x.dirty job.snapshot.names) its old.taken.keeps) old.young;
+          counted = old.taken.counted;
+        };
+      }
 
   standing_still : (q : Leaf) (job : Job) → IsStanding s q job → IsStanding t q job
-  standing_still q job old = go (leaf_or_apart q leaf)
-    where
-      go : (q ≡ leaf) ⊎ (leaf_is q leaf ≡ false) → IsStanding t q job
-      go (inl same) = subst (λ (l : Leaf). IsStanding t l job) (sym same) (standing_here job (subst (λ (l : Leaf). IsStanding s l job) same old))
-      go (inr apart) = record { mine = old.mine; given = old.given; young = raised job.snapshot.names old.young; unsaved = old.unsaved; beside = unsaved_beside q apart ∙ old.beside; taken = old.taken }
+  standing_still q job old = ⊎_elim (λ same. subst (λ (l : Leaf). IsStanding t l job) (sym same) (standing_here job (subst (λ (l : Leaf). IsStanding s l job) same old)))
+      (λ apart. record { mine = old.mine; given = old.given; young = raised job.snapshot.names old.young; unsaved = old.unsaved; beside = unsaved_beside q apart ∙ old.beside; taken = old.taken }) (leaf_or_apart q leaf)
 
   pub named_leaves : HasSoundLeaves t
   named_leaves = record {
@@ -264,7 +191,9 @@ module _ (s : State) (sound : HasSoundLeaves s) (dentry : Dentry) (f : Fragment)
     numbered = sound.numbered;
     placed = placed_still;
     unsaved = unsaved_still;
-    saved = saved_still;
+    saved = λ q is clean.
+        let apart = false_from_ne_true (leaf_is q leaf) (λ same. let clash : None ≡ Some v = sym clean ∙ ap (map.get t.unsaved) (one_leaf q leaf same) ∙ unsaved_here in cc) in
+        sound.saved q is (sym (unsaved_beside q apart) ∙ clean);
     owned = λ name there. sound.owned name there;
     listed = sound.listed;
     standing = λ q job is. standing_still q job (sound.standing q job is);
@@ -273,18 +202,15 @@ module _ (s : State) (sound : HasSoundLeaves s) (dentry : Dentry) (f : Fragment)
 
   -- the tree
 
-  stands_so : (q : Dentry) → map.get (shown_tree t) q ≡ map.get (with_at (shown_tree s) dentry inode) q
-  stands_so q = go (same_or_apart q dentry) (known_or_not s.homes q.dir.0)
+  pub named_tree : shown_tree t ≡ with_at (shown_tree s) dentry inode
+  named_tree = same_map dentry-total dentry-exact (shown_tree t) (with_at (shown_tree s) dentry inode) (λ q. go q (same_or_apart q dentry) (known_or_not s.homes q.dir.0))
     where
-      go : (q ≡ dentry) ⊎ (q ≡ dentry → ⊥) → (is_known s.homes q.dir.0 ≡ true) ⊎ (is_known s.homes q.dir.0 ≡ false) → map.get (shown_tree t) q ≡ map.get (with_at (shown_tree s) dentry inode) q
-      go (inl same) either = ap (map.get (shown_tree t)) same ∙ stands_at t named_leaves dentry f live.known pick ∙ this_name ∙ sym (ap (map.get (with_at (shown_tree s) dentry inode)) same ∙ get_here (shown_tree s) dentry inode)
-      go (inr apart) (inl known) =
+      go : (q : Dentry) → (q ≡ dentry) ⊎ (q ≡ dentry → ⊥) → (is_known s.homes q.dir.0 ≡ true) ⊎ (is_known s.homes q.dir.0 ≡ false) → map.get (shown_tree t) q ≡ map.get (with_at (shown_tree s) dentry inode) q
+      go q (inl same) either = ap (map.get (shown_tree t)) same ∙ stands_at t named_leaves dentry f live.known pick ∙ ap (λ (n : Names). map.get n dentry.name) shows_here ∙ marked_here (names_of s.unsaved s.objects leaf) dentry.name inode ∙ sym (ap (map.get (with_at (shown_tree s) dentry inode)) same ∙ get_here (shown_tree s) dentry inode)
+      go q (inr apart) (inl known) =
           let p = pick_at s sound q in
           stands_at t named_leaves q p.0 known p.1
           ∙ same_name (q.dir, p.0) q.name (λ one n. apart (λ i. record { dir = (one i).0; name = n i }))
           ∙ sym (stands_at s sound q p.0 known p.1)
           ∙ sym (get_elsewhere (shown_tree s) dentry inode q apart)
-      go (inr apart) (inr unknown) = stands_nowhere t named_leaves q unknown ∙ sym (stands_nowhere s sound q unknown) ∙ sym (get_elsewhere (shown_tree s) dentry inode q apart)
-
-  pub named_tree : shown_tree t ≡ with_at (shown_tree s) dentry inode
-  named_tree = same_map dentry-total dentry-exact (shown_tree t) (with_at (shown_tree s) dentry inode) stands_so
+      go q (inr apart) (inr unknown) = stands_nowhere t named_leaves q unknown ∙ sym (stands_nowhere s sound q unknown) ∙ sym (get_elsewhere (shown_tree s) dentry inode q apart)

@@ -1,6 +1,7 @@
 -- The state over an empty store is sound.
-use Rattle.mdcache.proofs.Common.{AreCached, Bool, CacheMap, Contains, Core, Counts, Covers, DirPins, Homes, IsCounted, IsFree, IsFreeFor, IsLive, IsSound, IsSoundCore, IsTable, IsTabled, IsUnsaved, Jobs, KeepsNone, Keys, Leaf, Mark, Names, None, Objects, Omap, Option, Rooms, Some, State, Unsaved, UnsavedLeaves, [], ap, arith, cached_root, cond, dentry-exact, dentry-total, dentry_cmp, directories, empty_tabled, entries_in, entries_of, entries_under, eqb-true, false, get-empty, get-from_entries, get-insert, get_unclean, is_known, is_some, key_cmp, leaf-total, leaf_is, leaf_itself, leaves_of, len-empty, list_any, nat_cmp, new_caches, new_root, new_state, no_caches, none_counted, none_entries, none_with_frag, object_of, one_leaf, or_whole, refl, replicate, root_fragment, root_leaf, same_map, shown_at, shown_tree, state_of, subst, suc, sym, text_of, tied_leaf, true, unclean, unclean_with, unsaved_at, zero, ℕ, ◌++◌, ◌==◌, ◌||◌, ◌∙◌, ◌∷◌, ◌≡◌}
+use Rattle.mdcache.proofs.Common.{AreCached, Bool, Contains, Core, Covers, Homes, IsCounted, IsFree, IsLive, IsSound, IsSoundCore, IsTable, IsTabled, IsUnsaved, KeepsNone, Leaf, Mark, Names, None, Omap, Option, Some, State, Unsaved, UnsavedLeaves, [], ap, arith, cached_root, cond, dentry-exact, dentry-total, dentry_cmp, directories, empty_tabled, entries_in, entries_of, entries_under, eqb-true, false, get-empty, get-from_entries, get-insert, get_unclean, is_known, is_some, key_cmp, leaf-total, leaf_is, leaf_itself, leaves_of, len-empty, list_any, nat_cmp, new_caches, new_root, new_state, no_caches, none_counted, none_entries, none_with_frag, object_of, one_leaf, or_cases, or_whole, refl, replicate, root_fragment, root_leaf, same_map, shown_at, shown_tree, state_of, subst, suc, sym, text_of, tied_leaf, true, unclean, unclean_with, unsaved_at, zero, ℕ, ⊎_elim, ◌++◌, ◌==◌, ◌||◌, ◌∙◌, ◌∷◌, ◌≡◌}
 use Rattle.std.specs.Prelude.{get_or, map as each}
+use Rattle.std.proofs.lemmas.Option.{cond_some}
 use Rattle.std.specs.FinMap as map
 use Rattle.dentry_cache.specs.Cache.{leaf_cmp}
 use Rattle.dentry_cache.proofs.LeafLaws.{leaf-exact}
@@ -18,11 +19,7 @@ one_leaf_each : (d : ℕ) → leaves_of no_covers d ≡ root_fragment ∷ []
 one_leaf_each d = ap or_whole (get-empty nat_cmp d)
 
 root_known : (d : ℕ) → is_known no_homes d ≡ true → d ≡ 1
-root_known d known = eqb-true d 1 (go (d == 1) (sym (ap (λ o. (d == 1) || is_some o) (get-empty nat_cmp d)) ∙ known))
-  where
-    go : (b : Bool) → (b || false) ≡ true → b ≡ true
-    go true h = refl
-    go false h = h
+root_known d known = eqb-true d 1 (⊎_elim (λ is. is) (λ clash. let clash : false ≡ true = clash in absurd cc) (or_cases (d == 1) false (sym (ap (λ o. (d == 1) || is_some o) (get-empty nat_cmp d)) ∙ known)))
 
 pub live_root : (leaf : Leaf) → IsLive no_homes no_covers leaf → leaf ≡ root_leaf
 live_root leaf live =
@@ -75,22 +72,18 @@ module _ (limit : ℕ) where
   new_tree = ap (λ es. map.from_entries es) no_entries ∙ same_map dentry-total dentry-exact (map.from_entries []) map.empty (λ q. get-from_entries dentry-total [] q ∙ sym (get-empty dentry_cmp q))
 
   unsaved_root : (leaf : Leaf) (u : Unsaved) → map.get (new_state limit).unsaved leaf ≡ Some u → IsUnsaved (new_state limit) leaf u
-  unsaved_root leaf u is = go (leaf_is leaf root_leaf) refl (sym (its_unsaved leaf) ∙ is)
-    where
-      go : (b : Bool) → leaf_is leaf root_leaf ≡ b → cond b (Some new_root) None ≡ Some u → IsUnsaved (new_state limit) leaf u
-      go true same h =
-          let its : new_root ≡ u = cc in
-          subst (λ (v : Unsaved). IsUnsaved (new_state limit) leaf v) its (subst (λ (l : Leaf). IsUnsaved (new_state limit) l new_root) (sym (one_leaf leaf root_leaf same)) (record {
-            live = root_live;
-            made = omega arith;
-            young = λ name mark has. let clash : None ≡ Some mark = sym (get-empty key_cmp name) ∙ has in absurd cc;
-          }))
-      go false apart h = let clash : None ≡ Some u = h in absurd cc
+  unsaved_root leaf u is =
+      let its = cond_some (leaf_is leaf root_leaf) new_root u (sym (its_unsaved leaf) ∙ is) in
+      subst (λ (v : Unsaved). IsUnsaved (new_state limit) leaf v) its.1 (subst (λ (l : Leaf). IsUnsaved (new_state limit) l new_root) (sym (one_leaf leaf root_leaf its.0)) (record {
+        live = root_live;
+        made = omega arith;
+        young = λ name mark has. let clash : None ≡ Some mark = sym (get-empty key_cmp name) ∙ has in absurd cc;
+      }))
 
   pub new_sound : IsSound (new_state limit)
   new_sound = record {
     table = no_table;
-    numbered = λ d known. let root = root_known d known in omega (arith, root);
+    numbered = λ d known. omega (arith, root_known d known);
     tabled = subst (λ tree. IsTabled tree no_homes) (sym new_tree) empty_tabled;
     counted = subst (λ tree. IsCounted tree (map.insert map.empty 1 0) map.empty) (sym new_tree) none_counted;
     placed = λ leaf name inode live has.
@@ -118,55 +111,27 @@ module _ (ranks places : ℕ) where
   pub none_kept : KeepsNone (no_caches ranks places)
   none_kept s q placed = absurd (none_placed ranks s q placed)
 
-  free : IsFreeFor (no_caches ranks places) 0 root_leaf
-  free = subst (IsFree 0) (sym (none_held ranks places root_leaf)) tt
-
   pub new_none : KeepsNone (new_caches ranks places)
-  new_none = none_with_frag (no_caches ranks places) (new_caches ranks places) 0 root_leaf cached_root free none_kept refl
+  new_none = none_with_frag (no_caches ranks places) (new_caches ranks places) 0 root_leaf cached_root (subst (IsFree 0) (sym (none_held ranks places root_leaf)) tt) none_kept refl
 
   pub none_unclean : unclean (no_caches ranks places) ≡ map.empty
   none_unclean = same_map leaf-total leaf-exact (unclean (no_caches ranks places)) map.empty
       (λ q. get_unclean (no_caches ranks places) q ∙ ap unsaved_at (none_held ranks places q) ∙ sym (get-empty leaf_cmp q))
 
-  pub new_unclean : unclean (new_caches ranks places) ≡ map.insert no_leaves root_leaf new_root
-  new_unclean = unclean_with (no_caches ranks places) 0 root_leaf cached_root ∙ ap (λ (u : UnsavedLeaves). map.insert u root_leaf new_root) none_unclean
-
-  pub new_cached : (limit : ℕ) → AreCached (new_state limit) (new_caches ranks places)
-  new_cached limit = cached_with (new_state limit) (no_caches ranks places) 0 root_leaf cached_root (λ q a is. let clash : None ≡ Some a = sym (none_held ranks places q) ∙ is in absurd cc)
-      (record { live = root_live; tied = tt; made = omega arith })
-
--- ---- the whole
-
-module _ (limit ranks places : ℕ) (homes : Homes) (covers : Covers) (counts : Counts) (pins : DirPins) (caches : CacheMap) (objects : Objects) (faults : ℕ) (room : Rooms) (no_dirs : homes ≡ map.empty) (no_trees : covers ≡ map.empty) (no_entry : counts ≡ map.insert map.empty 1 0) (no_pins : pins ≡ map.empty) (its : caches ≡ new_caches ranks places) (none : objects ≡ map.empty)
-    (jobs : Jobs) (purge : Keys) (no_jobs : jobs ≡ map.empty) (no_purge : purge ≡ map.empty) where
-  abbrev made : Core
-  made = record {
-    limit = limit;
-    homes = homes;
-    covers = covers;
-    counts = counts;
-    pins = pins;
-    caches = caches;
-    objects = objects;
-    faults = faults;
-    jobs = jobs;
-    purge = purge;
-    next_job = 1;
-    next_generation = 2;
-    next_version = 1;
-    room = room;
-  }
-
-  pub new_is : state_of made ≡ new_state limit
-  new_is = (λ i. record (state_of made) { homes = no_dirs i; covers = no_trees i; counts = no_entry i; pins = no_pins i; unsaved = unclean (its i); objects = none i; jobs = no_jobs i; purge = no_purge i }) ∙ (λ i. record (new_state limit) { unsaved = new_unclean ranks places i })
-
-  pub new_core : IsSoundCore made
-  new_core = record {
-    sound = subst IsSound (sym new_is) (new_sound limit);
-    begun = omega arith;
-    cached = subst (λ (s : State). AreCached s caches) (sym new_is) (subst (AreCached (new_state limit)) (sym its) (new_cached ranks places limit));
-    none = now_none;
-  }
-    where
-      now_none : KeepsNone caches
-      now_none = subst KeepsNone (sym its) (new_none ranks places)
+-- a core that is so in each part
+pub new_core : (ranks places : ℕ) (m : Core) → m.homes ≡ map.empty → m.covers ≡ map.empty → m.counts ≡ map.insert map.empty 1 0 → m.pins ≡ map.empty → m.caches ≡ new_caches ranks places → m.objects ≡ map.empty
+    → m.jobs ≡ map.empty → m.purge ≡ map.empty → m.next_job ≡ 1 → m.next_generation ≡ 2 → m.next_version ≡ 1 → (state_of m ≡ new_state m.limit) × IsSoundCore m
+new_core ranks places m homes covers counts pins caches objects jobs purge job generation version = (
+  is,
+  record {
+    sound = subst IsSound (sym is) (new_sound m.limit);
+    begun = omega (arith, generation);
+    cached = subst (λ (s : State). AreCached s m.caches) (sym is) (subst (AreCached (new_state m.limit)) (sym caches)
+        (cached_with (new_state m.limit) (no_caches ranks places) 0 root_leaf cached_root (λ q a is. let clash : None ≡ Some a = sym (none_held ranks places q) ∙ is in absurd cc) (record { live = root_live; tied = tt; made = omega arith })));
+    none = subst KeepsNone (sym caches) (new_none ranks places);
+  },
+)
+  where
+    is : state_of m ≡ new_state m.limit
+    is = (λ i. record { limit = m.limit; homes = homes i; covers = covers i; counts = counts i; pins = pins i; unsaved = unclean (caches i); objects = objects i; jobs = jobs i; purge = purge i; next_job = job i; next_generation = generation i; next_version = version i })
+        ∙ (λ i. record (new_state m.limit) { unsaved = (unclean_with (no_caches ranks places) 0 root_leaf cached_root ∙ ap (λ (u : UnsavedLeaves). map.insert u root_leaf new_root) (none_unclean ranks places)) i })

@@ -1,6 +1,8 @@
 -- The leaves that aren't clean, as they are listed: each is so at its rank, no two are one, and where none is listed all is clean.
-use Rattle.mdcache.proofs.Common.{AllByRecursion, AreApart, AreCaches, At, Bool, CacheMap, Dirfrag, IsFree, IsUncleanAt, Leaf, List, None, NotAmong, Option, Some, Unsaved, [], ap, arith, at_rank, cond, eq-eqb, eqb-true, false, get-empty, get_or, get_unclean, here, inl, inr, is_some, leaf-exact, leaf_is, leaf_of, leaves_at, length, list_any, map-append, or_cases, refl, same_map, subst, suc, sym, take, true, unclean, unclean_among, unclean_from, unclean_places, unsaved_at, unsaved_in, zero, ℕ, ◌++◌, ◌+◌, ◌<◌, ◌==◌, ◌∙◌, ◌∷◌, ◌≡◌, ◌≤◌, ◌⊎◌}
+use Rattle.mdcache.proofs.Common.{AllByRecursion, AreApart, AreCaches, At, CacheMap, Dirfrag, IsFree, IsUncleanAt, Leaf, List, None, NotAmong, Option, Some, [], ap, arith, at_rank, cond, eq-eqb, eqb-true, false, get-empty, get_or, get_unclean, here, is_some, leaf-exact, leaf_is, leaf_of, leaves_at, length, list_any, map-append, or_cases, refl, same_map, subst, suc, sym, take, true, unclean, unclean_among, unclean_from, unclean_places, unsaved_at, unsaved_in, zero, ℕ, ⊎_elim, ◌++◌, ◌+◌, ◌<◌, ◌==◌, ◌∙◌, ◌∷◌, ◌≡◌, ◌≤◌}
 use Rattle.std.specs.List.{IsDistinct}
+use Rattle.std.proofs.lemmas.Bool.{cond_both}
+use Rattle.std.specs.List.{take-map}
 use Rattle.std.specs.FinMap as map
 use Rattle.mds_types.proofs.LeafLaws.{leaf-total, one_leaf, same_leaf}
 
@@ -17,28 +19,23 @@ all_take P zero xs all = tt
 all_take P (suc n) [] all = tt
 all_take P (suc n) (x ∷ xs) (one, all) = (one, all_take P n xs all)
 
-others_take : (leaf : Leaf) (n : ℕ) (xs : List Dirfrag) → NotAmong leaf (leaves_at xs) → NotAmong leaf (leaves_at (take n xs))
-others_take leaf zero xs others = tt
-others_take leaf (suc n) [] others = tt
-others_take leaf (suc n) (x ∷ xs) (other, others) = (other, others_take leaf n xs others)
-
-apart_take : (n : ℕ) (xs : List Dirfrag) → AreApart (leaves_at xs) → AreApart (leaves_at (take n xs))
+apart_take : (n : ℕ) (xs : List Leaf) → AreApart xs → AreApart (take n xs)
 apart_take zero xs apart = tt
 apart_take (suc n) [] apart = tt
-apart_take (suc n) (x ∷ xs) (others, apart) = (others_take (leaf_of x) n xs others, apart_take n xs apart)
+apart_take (suc n) (x ∷ xs) (others, apart) = (all_take (λ (q : Leaf). q ≡ x → ⊥) n xs others, apart_take n xs apart)
 
 apart_append : (xs ys : List Leaf) → AreApart xs → AreApart ys → AllByRecursion (λ (x : Leaf). NotAmong x ys) xs → AreApart (xs ++ ys)
 apart_append [] ys apart more none = more
 apart_append (x ∷ xs) ys (others, apart) more (other, none) = (all_append (λ (q : Leaf). q ≡ x → ⊥) xs ys others other, apart_append xs ys apart more none)
 
+abbrev place_at : ℕ → Leaf → Dirfrag
+place_at r leaf = record { dir = leaf.0; frag = leaf.1; rank = record { 0 = r } }
+
 -- a fragment with something unsaved is at its rank, and at no other
 free_there : (r : ℕ) (o : Option At) → is_some (unsaved_in (at_rank r o)) ≡ true → IsFree r o × (is_some (unsaved_at o) ≡ true)
 free_there r None dirty = let clash : false ≡ true = dirty in absurd cc
-free_there r (Some a) dirty = go (a.rank == r) refl dirty
-  where
-    go : (b : Bool) → (a.rank == r) ≡ b → is_some (unsaved_in (cond b (Some a.frag) None)) ≡ true → (a.rank ≡ r) × (is_some (unsaved_in (Some a.frag)) ≡ true)
-    go true is dirty = (eqb-true a.rank r is, dirty)
-    go false is dirty = let clash : false ≡ true = dirty in absurd cc
+free_there r (Some a) dirty = cond_both (a.rank == r) (Some a.frag) None (λ o. is_some (unsaved_in o) ≡ true → (a.rank ≡ r) × (is_some (unsaved_in (Some a.frag)) ≡ true)) (λ is dirty. (eqb-true a.rank r is, dirty))
+    (λ apart none. let clash : false ≡ true = none in absurd cc) dirty
 
 module _ (c : CacheMap) where
   unclean_at : (r : ℕ) (q : Leaf) → r < length c.used → is_some (unsaved_in (here c r q)) ≡ true → IsUncleanAt c (record { dir = q.0; frag = q.1; rank = record { 0 = r } })
@@ -46,19 +43,15 @@ module _ (c : CacheMap) where
 
   among_all : (r : ℕ) → r < length c.used → (leaves : List Leaf) → AllByRecursion (λ (a : Dirfrag). IsUncleanAt c a × (a.rank.0 ≡ r)) (unclean_among c r leaves)
   among_all r within [] = tt
-  among_all r within (q ∷ leaves) = go (is_some (unsaved_in (here c r q))) refl (among_all r within leaves)
-    where
-      go : (b : Bool) → is_some (unsaved_in (here c r q)) ≡ b → AllByRecursion (λ (a : Dirfrag). IsUncleanAt c a × (a.rank.0 ≡ r)) (unclean_among c r leaves)
-          → AllByRecursion (λ (a : Dirfrag). IsUncleanAt c a × (a.rank.0 ≡ r)) (cond b (record { dir = q.0; frag = q.1; rank = record { 0 = r } } ∷ unclean_among c r leaves) (unclean_among c r leaves))
-      go true dirty all = ((unclean_at r q within dirty, refl), all)
-      go false clean all = all
+  among_all r within (q ∷ leaves) = cond_both (is_some (unsaved_in (here c r q))) (place_at r q ∷ unclean_among c r leaves) (unclean_among c r leaves) (AllByRecursion (λ (a : Dirfrag). IsUncleanAt c a × (a.rank.0 ≡ r)))
+      (λ dirty. ((unclean_at r q within dirty, refl), among_all r within leaves)) (λ clean. among_all r within leaves)
 
   from_all : (r : ℕ) (used : List (List Leaf)) → r + length used ≤ length c.used → AllByRecursion (λ (a : Dirfrag). IsUncleanAt c a × (r ≤ a.rank.0)) (unclean_from c r used)
   from_all r [] within = tt
   from_all r (leaves ∷ used) within =
       all_append (λ (a : Dirfrag). IsUncleanAt c a × (r ≤ a.rank.0)) (unclean_among c r leaves) (unclean_from c (r + 1) used)
-      (all_weaker (λ (a : Dirfrag). IsUncleanAt c a × (a.rank.0 ≡ r)) (λ (a : Dirfrag). IsUncleanAt c a × (r ≤ a.rank.0)) (λ a is. let at = is.1 in (is.0, omega (arith, at))) (unclean_among c r leaves) (among_all r (omega (arith, within)) leaves))
-      (all_weaker (λ (a : Dirfrag). IsUncleanAt c a × (r + 1 ≤ a.rank.0)) (λ (a : Dirfrag). IsUncleanAt c a × (r ≤ a.rank.0)) (λ a is. let at = is.1 in (is.0, omega (arith, at))) (unclean_from c (r + 1) used) (from_all (r + 1) used (omega (arith, within))))
+      (all_weaker (λ (a : Dirfrag). IsUncleanAt c a × (a.rank.0 ≡ r)) (λ (a : Dirfrag). IsUncleanAt c a × (r ≤ a.rank.0)) (λ a is. (is.0, omega (arith, is.1))) (unclean_among c r leaves) (among_all r (omega (arith, within)) leaves))
+      (all_weaker (λ (a : Dirfrag). IsUncleanAt c a × (r + 1 ≤ a.rank.0)) (λ (a : Dirfrag). IsUncleanAt c a × (r ≤ a.rank.0)) (λ a is. (is.0, omega (arith, is.1))) (unclean_from c (r + 1) used) (from_all (r + 1) used (omega (arith, within))))
 
   pub listed_unclean : (n : ℕ) → AllByRecursion (IsUncleanAt c) (take n (unclean_places c))
   listed_unclean n = all_take (IsUncleanAt c) n (unclean_places c) (all_weaker (λ (a : Dirfrag). IsUncleanAt c a × (0 ≤ a.rank.0)) (IsUncleanAt c) (λ a is. is.0) (unclean_places c) (from_all 0 c.used (omega arith)))
@@ -66,28 +59,21 @@ module _ (c : CacheMap) where
   -- ---- no two are one
 
   one_rank : (a b : Dirfrag) → IsUncleanAt c a → IsUncleanAt c b → leaf_of b ≡ leaf_of a → a.rank.0 ≡ b.rank.0
-  one_rank a b this that same = go (map.get c.held (leaf_of a)) refl this.holds.alone (subst (λ q. IsFree b.rank.0 (map.get c.held q)) same that.holds.alone)
-    where
-      go : (o : Option At) → map.get c.held (leaf_of a) ≡ o → IsFree a.rank.0 o → IsFree b.rank.0 o → a.rank.0 ≡ b.rank.0
-      go None none first second = let clash : false ≡ true = ap is_some (sym (get_unclean c (leaf_of a) ∙ ap unsaved_at none)) ∙ this.dirty in absurd cc
-      go (Some x) is first second = sym first ∙ second
+  one_rank a b this that same = elim (map.get c.held (leaf_of a)) as (λ o. map.get c.held (leaf_of a) ≡ o → IsFree a.rank.0 o → IsFree b.rank.0 o → a.rank.0 ≡ b.rank.0) [
+    | None ↦ λ none first second. let clash : false ≡ true = ap is_some (sym (get_unclean c (leaf_of a) ∙ ap unsaved_at none)) ∙ this.dirty in absurd cc
+    | Some x ↦ λ is first second. sym first ∙ second
+  ] refl this.holds.alone (subst (λ q. IsFree b.rank.0 (map.get c.held q)) same that.holds.alone)
 
   not_in : (r : ℕ) (q : Leaf) (leaves : List Leaf) → AllByRecursion (λ y. leaf_is q y ≡ false) leaves → NotAmong q (leaves_at (unclean_among c r leaves))
   not_in r q [] others = tt
-  not_in r q (y ∷ leaves) (other, others) = go (is_some (unsaved_in (here c r y))) (not_in r q leaves others)
-    where
-      go : (b : Bool) → NotAmong q (leaves_at (unclean_among c r leaves)) → NotAmong q (leaves_at (cond b (record { dir = y.0; frag = y.1; rank = record { 0 = r } } ∷ unclean_among c r leaves) (unclean_among c r leaves)))
-      go true more = ((λ same. let clash : true ≡ false = sym (same_leaf q y (sym same)) ∙ other in cc), more)
-      go false more = more
+  not_in r q (y ∷ leaves) (other, others) = cond_both (is_some (unsaved_in (here c r y))) (place_at r y ∷ unclean_among c r leaves) (unclean_among c r leaves) (λ places. NotAmong q (leaves_at places))
+      (λ dirty. ((λ same. let clash : true ≡ false = sym (same_leaf q y (sym same)) ∙ other in cc), not_in r q leaves others)) (λ clean. not_in r q leaves others)
 
   among_apart : (r : ℕ) (leaves : List Leaf) → IsDistinct leaf_is leaves → AreApart (leaves_at (unclean_among c r leaves))
   unfolding IsDistinct
   among_apart r [] distinct = tt
-  among_apart r (q ∷ leaves) (others, distinct) = go (is_some (unsaved_in (here c r q))) (among_apart r leaves distinct)
-    where
-      go : (b : Bool) → AreApart (leaves_at (unclean_among c r leaves)) → AreApart (leaves_at (cond b (record { dir = q.0; frag = q.1; rank = record { 0 = r } } ∷ unclean_among c r leaves) (unclean_among c r leaves)))
-      go true more = (not_in r q leaves others, more)
-      go false more = more
+  among_apart r (q ∷ leaves) (others, distinct) = cond_both (is_some (unsaved_in (here c r q))) (place_at r q ∷ unclean_among c r leaves) (unclean_among c r leaves) (λ places. AreApart (leaves_at places))
+      (λ dirty. (not_in r q leaves others, among_apart r leaves distinct)) (λ clean. among_apart r leaves distinct)
 
   crosses : (r : ℕ) (a : Dirfrag) → IsUncleanAt c a → a.rank.0 ≡ r → (bs : List Dirfrag) → AllByRecursion (λ (b : Dirfrag). IsUncleanAt c b × (r + 1 ≤ b.rank.0)) bs → NotAmong (leaf_of a) (leaves_at bs)
   crosses r a this at [] all = tt
@@ -109,22 +95,16 @@ module _ (c : CacheMap) where
   each_order (leaves ∷ used) distinct = (distinct 0, each_order used (λ r. distinct (suc r)))
 
   pub listed_apart : AreCaches c → (n : ℕ) → AreApart (leaves_at (take n (unclean_places c)))
-  listed_apart valid n = apart_take n (unclean_places c) (from_apart 0 c.used (omega arith) (each_order c.used valid.distinct))
+  listed_apart valid n = subst AreApart (take-map (λ (a : Dirfrag). leaf_of a) n (unclean_places c)) (apart_take n (leaves_at (unclean_places c)) (from_apart 0 c.used (omega arith) (each_order c.used valid.distinct)))
 
   -- ---- where none is listed
 
   among_some : (r : ℕ) (q : Leaf) (leaves : List Leaf) → list_any (leaf_is q) leaves ≡ true → is_some (unsaved_in (here c r q)) ≡ true → unclean_among c r leaves ≡ [] → ⊥
   among_some r q [] has dirty none = let clash : false ≡ true = has in cc
-  among_some r q (x ∷ leaves) has dirty none = go (is_some (unsaved_in (here c r x))) refl (λ more rest. among_some r q leaves more dirty rest) none
-    where
-      go : (b : Bool) → is_some (unsaved_in (here c r x)) ≡ b → (list_any (leaf_is q) leaves ≡ true → unclean_among c r leaves ≡ [] → ⊥)
-          → cond b (record { dir = x.0; frag = x.1; rank = record { 0 = r } } ∷ unclean_among c r leaves) (unclean_among c r leaves) ≡ [] → ⊥
-      go true is rest none = let clash : (record { dir = x.0; frag = x.1; rank = record { 0 = r } } ∷ unclean_among c r leaves) ≡ [] = none in cc
-      go false clean rest none = by (or_cases (leaf_is q x) (list_any (leaf_is q) leaves) has)
-        where
-          by : (leaf_is q x ≡ true) ⊎ (list_any (leaf_is q) leaves ≡ true) → ⊥
-          by (inl same) = let clash : false ≡ true = sym clean ∙ ap (λ y. is_some (unsaved_in (here c r y))) (sym (one_leaf q x same)) ∙ dirty in cc
-          by (inr more) = rest more none
+  among_some r q (x ∷ leaves) has dirty none = cond_both (is_some (unsaved_in (here c r x))) (place_at r x ∷ unclean_among c r leaves) (unclean_among c r leaves) (λ places. places ≡ [] → ⊥)
+      (λ unclean none. let clash : (place_at r x ∷ unclean_among c r leaves) ≡ [] = none in cc)
+      (λ clean none. ⊎_elim (λ same. let clash : false ≡ true = sym clean ∙ ap (λ y. is_some (unsaved_in (here c r y))) (sym (one_leaf q x same)) ∙ dirty in cc) (λ more. among_some r q leaves more dirty none)
+      (or_cases (leaf_is q x) (list_any (leaf_is q) leaves) has)) none
 
   first_none : {A : Type 0} (xs ys : List A) → xs ++ ys ≡ [] → (xs ≡ []) × (ys ≡ [])
   first_none [] ys none = (refl, none)
@@ -138,14 +118,14 @@ module _ (c : CacheMap) where
 
   none_listed : AreCaches c → unclean_places c ≡ [] → (q : Leaf) → (o : Option At) → map.get c.held q ≡ o → unsaved_at o ≡ None
   none_listed valid none q None is = refl
-  none_listed valid none q (Some a) is = go (unsaved_in (Some a.frag)) refl
+  none_listed valid none q (Some a) is = elim (unsaved_in (Some a.frag)) as (λ u. unsaved_in (Some a.frag) ≡ u → u ≡ None) [
+    | None ↦ λ clean. refl
+    | Some u ↦ λ dirty. absurd (from_some 0 c.used a.rank q (valid.placed a.rank q (ap is_some at))
+        (subst (λ n. is_some (unsaved_in (here c n q)) ≡ true) (let same : a.rank ≡ 0 + a.rank = omega arith in same) (ap (λ o. is_some (unsaved_in o)) at ∙ ap is_some dirty)) none)
+  ] refl
     where
       at : here c a.rank q ≡ Some a.frag
       at = ap (at_rank a.rank) is ∙ ap (λ b. cond b (Some a.frag) None) (eq-eqb a.rank a.rank refl)
-
-      go : (u : Option Unsaved) → unsaved_in (Some a.frag) ≡ u → u ≡ None
-      go None clean = refl
-      go (Some u) dirty = absurd (from_some 0 c.used a.rank q (valid.placed a.rank q (ap is_some at)) (subst (λ n. is_some (unsaved_in (here c n q)) ≡ true) (let same : a.rank ≡ 0 + a.rank = omega arith in same) (ap (λ o. is_some (unsaved_in o)) at ∙ ap is_some dirty)) none)
 
   pub nothing_listed : AreCaches c → (n : ℕ) → take (suc n) (unclean_places c) ≡ [] → unclean c ≡ map.empty
   nothing_listed valid n none = same_map leaf-total leaf-exact (unclean c) map.empty (λ q. get_unclean c q ∙ none_listed valid (all_none (unclean_places c) none) q (map.get c.held q) refl ∙ sym (get-empty _ q))

@@ -1,7 +1,7 @@
 -- What a change that may be made tells of its leaves and inodes.
-use Rattle.mdcache.proofs.Common.{At, CacheMap, Core, Dentry, Fragment, HasTarget, IfSome, Ino, Inode, IsLeafAt, IsLive, IsRankNumber, IsRecordable, IsSoundCore, IsThat, LacksPlacesAt, Leaf, MayAdd, MaySet, None, Option, Rank, Some, Tree, ap, arith, false, first_leaf, hash_of, inl, inr, is_dir_kind, is_directory, is_known, names_of, no_pin, refl, shown_in, state_of, subst, sym, true, unclean, ℕ, ◌+◌, ◌<◌, ◌∙◌, ◌≡◌, ◌≤◌, ◌⊎◌}
+use Rattle.mdcache.proofs.Common.{At, CacheMap, Core, Dentry, Fragment, HasTarget, IfSome, Ino, Inode, IsLeafAt, IsLive, IsRankNumber, IsRecordable, IsSoundCore, IsThat, LacksPlacesAt, Leaf, MayAdd, MaySet, None, Option, Rank, Some, Tree, ap, arith, false, first_leaf, hash_of, inl, inr, is_directory, is_known, names_of, no_pin, refl, shown_in, state_of, subst, sym, true, unclean, ℕ, ◌∙◌, ◌≡◌, ◌≤◌, ◌⊎◌}
 use Rattle.std.specs.FinMap as map
-use Rattle.mdcache.proofs.CoreLaws.{dir_known, pick_live}
+use Rattle.mdcache.proofs.CoreLaws.{pick_live}
 use Rattle.mdcache.proofs.TreeLookups.{at_dentry}
 
 -- ---- inodes that a record allows
@@ -24,32 +24,15 @@ module _ (c : Core) (sound : IsSoundCore c) (dentry : Dentry) (leaf : Fragment) 
   dir_live is pick = pick_live c sound dentry.dir (hash_of dentry.name) leaf is pick
 
   module _ (inode : Inode) (stands : map.get (shown_in c) dentry ≡ Some inode) (pick : IsLeafAt c.covers dentry leaf) where
-    parent : is_directory (shown_in c) dentry.dir.0 ≡ true
-    parent = sound.sound.tabled.whole.parents dentry.dir.0 dentry.name inode stands
-
     -- that of an entry
     pub entry_live : IsLive c.homes c.covers (dentry.dir, leaf)
-    entry_live = dir_live parent pick
+    entry_live = dir_live (sound.sound.tabled.whole.parents dentry.dir.0 dentry.name inode stands) pick
 
     -- which shows it
     pub shows_entry : map.get (shown_in c) dentry ≡ map.get (names_of (unclean c.caches) c.objects (dentry.dir, leaf)) dentry.name
-    shows_entry = at_dentry (state_of c) sound.sound dentry.dir.0 dentry.name leaf (dir_known c sound dentry.dir.0 parent) pick
+    shows_entry = at_dentry (state_of c) sound.sound dentry.dir.0 dentry.name leaf entry_live.known pick
 
 -- ---- what lacks
-
--- for a new inode that is no directory a version alone
-pub file_lacks : {P Q : Type 0} (inode : Inode) → is_dir_kind inode.kind ≡ false → P ⊎ ((is_dir_kind inode.kind ≡ true) × Q) → P
-file_lacks inode file (inl lacks) = lacks
-file_lacks inode file (inr (dir, other)) = let clash : true ≡ false = sym dir ∙ file in absurd cc
-
--- for a directory a generation too
-pub directory_lacks : {P Q : Type 0} (inode : Inode) → is_dir_kind inode.kind ≡ true → P ⊎ Q → P ⊎ ((is_dir_kind inode.kind ≡ true) × Q)
-directory_lacks inode dir (inl lacks) = inl lacks
-directory_lacks inode dir (inr lacks) = inr (dir, lacks)
-
-pub directory_needs : {P Q : Type 0} (inode : Inode) → P ⊎ ((is_dir_kind inode.kind ≡ true) × Q) → P ⊎ Q
-directory_needs inode (inl lacks) = inl lacks
-directory_needs inode (inr (dir, lacks)) = inr lacks
 
 -- where one place lacks two do
 pub one_or_two : (c : Core) (rank : Rank) → LacksPlacesAt 1 c rank → LacksPlacesAt 2 c rank
@@ -59,18 +42,13 @@ one_or_two c rank lacks = omega (arith, lacks)
 
 -- a cached fragment is live, so none is of a directory that isn't there
 pub first_nowhere : (c : Core) → IsSoundCore c → (dir : Ino) → is_known c.homes dir.0 ≡ false → map.get c.caches.held (first_leaf dir) ≡ None
-first_nowhere c sound dir unknown = go (map.get c.caches.held (first_leaf dir)) refl
-  where
-    go : (o : Option At) → map.get c.caches.held (first_leaf dir) ≡ o → map.get c.caches.held (first_leaf dir) ≡ None
-    go None is = is
-    go (Some a) is = let clash : true ≡ false = sym (sound.cached (first_leaf dir) a is).live.known ∙ unknown in absurd cc
+first_nowhere c sound dir unknown = elim (map.get c.caches.held (first_leaf dir)) as (λ o. map.get c.caches.held (first_leaf dir) ≡ o → o ≡ None) [
+  | None ↦ λ is. refl
+  | Some a ↦ λ is. let clash : true ≡ false = sym (sound.cached (first_leaf dir) a is).live.known ∙ unknown in absurd cc
+] refl
 
 -- what is used for it is live where it is cached: the leaf of the dentry
 pub first_live_so : (c : Core) (r : ℕ) (leaf first : Leaf) (caches : CacheMap) → IsLive c.homes c.covers leaf → map.get caches.held first ≡ None
     → (s : ℕ) (q : Leaf) → IsThat r leaf s q ⊎ IsThat r first s q → (a : At) → map.get caches.held q ≡ Some a → IsLive c.homes c.covers q
 first_live_so c r leaf first caches live absent s q (inl is) a at = subst (IsLive c.homes c.covers) (sym is.1) live
 first_live_so c r leaf first caches live absent s q (inr is) a at = let clash : None ≡ Some a = sym absent ∙ ap (map.get caches.held) (sym is.1) ∙ at in absurd cc
-
-pub two_left : (version generation : ℕ) → version < 18446744073709551615 → generation < 18446744073709551615 → (18446744073709551615 < version + 1) ⊎ (18446744073709551615 < generation + 1) → ⊥
-two_left version generation first second (inl lacks) = omega (arith, first, lacks)
-two_left version generation first second (inr lacks) = omega (arith, second, lacks)

@@ -1,5 +1,6 @@
 -- What a change of one name leaves.
-use Rattle.mdcache.proofs.Common.{AreCached, At, Base, Bool, CacheMap, Cached, Core, Dirfrag, Fresh, Inode, IsAsItStands, IsCachedIn, IsFree, IsFreeFor, IsNamed, IsThere, IsTied, IsTiedAt, KeepsOnlyAt, Leaf, List, Mark, Marks, None, Omap, Option, Rank, Some, State, Stored, Unsaved, ap, at, at_rank, changed_are_tied, cond, dirtied, edited_as, empty_of_len, eqb-true, false, get-empty, get_put, get_unclean, get_with_frag, has_place, here, here_beside, here_is, here_put, inl, inr, is_clean, is_clean_over, key_cmp, leaf_is, leaf_of, marked, named, object_of, one_leaf, placed_used, refl, same_Some, state_of, subst, sym, true, unclean, unsaved_at, unsaved_of, with_frag, with_unsaved, ℕ, ◌+◌, ◌<◌, ◌==◌, ◌∙◌, ◌≡◌, ◌⊎◌}
+use Rattle.mdcache.proofs.Common.{AreCached, At, Base, Bool, CacheMap, Cached, Core, Dirfrag, Fresh, Inode, IsAsItStands, IsCachedIn, IsFree, IsFreeFor, IsNamed, IsThere, IsTied, IsTiedAt, KeepsOnlyAt, Leaf, List, Mark, Marks, None, Omap, Option, Rank, Some, State, Stored, Unsaved, ap, at, at_rank, changed_are_tied, cond, dirtied, edited_as, empty_of_len, eqb-true, false, get-empty, get_put, get_unclean, get_with_frag, here, here_beside, here_is, here_put, inl, inr, is_clean, is_clean_over, key_cmp, leaf_is, leaf_of, leaf_or_apart, marked, named, object_of, one_leaf, placed_used, refl, same_Some, state_of, subst, sym, true, unclean, unsaved_at, unsaved_of, with_frag, with_unsaved, ℕ, ⊎_elim, ◌+◌, ◌<◌, ◌==◌, ◌∙◌, ◌≡◌, ◌⊎◌}
+use Rattle.std.proofs.lemmas.Bool.{cond_both, false_from_ne_true, true_from_ne_false}
 use Rattle.std.specs.FinMap as map
 use Rattle.dentry_cache.proofs.CameLaws.{marked_unclean as now_unclean}
 use Rattle.mdcache.specs.Changes.{Counts}
@@ -13,13 +14,9 @@ none_dirty marks h = empty_of_len marks (eqb-true (map.len marks) 0 h)
 -- a fragment in which a name was marked isn't clean
 marked_unclean : (base : Base) (dirty : Marks) (name : List ℕ) (mark : Mark) → is_clean_over base (map.insert dirty name mark) ≡ false
 marked_unclean Fresh dirty name mark = refl
-marked_unclean (Stored version) dirty name mark = go (map.len (map.insert dirty name mark) == 0) refl
-  where
-    go : (b : Bool) → (map.len (map.insert dirty name mark) == 0) ≡ b → b ≡ false
-    go true none =
-        let clash : None ≡ Some mark = sym (ap (λ (m : Marks). map.get m name) (none_dirty (map.insert dirty name mark) none) ∙ get-empty key_cmp name) ∙ get_put dirty name mark in
-        absurd cc
-    go false some = refl
+marked_unclean (Stored version) dirty name mark = false_from_ne_true _ (λ none.
+    let clash : None ≡ Some mark = sym (ap (λ (m : Marks). map.get m name) (none_dirty (map.insert dirty name mark) none) ∙ get-empty key_cmp name) ∙ get_put dirty name mark in
+    cc)
 
 -- of a clean fragment the object counts, and no name is dirty
 clean_counts : (base : Base) (f : Cached) (object : Option Omap) → is_clean_over base f.dirty ≡ true → IsTiedAt base f object → Counts base object × (f.dirty ≡ map.empty)
@@ -32,53 +29,34 @@ abbrev pub beyond : Cached → Unsaved
 beyond f = record { base = f.base; generation = f.generation; dirty = f.dirty }
 
 as_it_stands : (f : Cached) (object : Option Omap) (next : ℕ) → IsTied f object → f.generation < next → IsAsItStands (unsaved_of f) object next (beyond f)
-as_it_stands f object next tie given = go (is_clean f) refl
-  where
-    go : (b : Bool) → is_clean f ≡ b → IsAsItStands (cond b None (Some (beyond f))) object next (beyond f)
-    go true clean = let c = clean_counts f.base f object clean tie in (c.0, c.1, given)
-    go false dirty = refl
+as_it_stands f object next tie given =
+    cond_both (is_clean f) None (Some (beyond f)) (λ o. IsAsItStands o object next (beyond f)) (λ clean. let c = clean_counts f.base f object clean tie in (c.0, c.1, given)) (λ dirty. refl)
 
 -- ---- a fragment comes to a place, or in place of another
 
 -- each cached fragment is sound once one is, which comes
 pub cached_with : (s : State) (c : CacheMap) (r : ℕ) (leaf : Leaf) (f : Cached) → AreCached s c → IsCachedIn s leaf f → AreCached s (with_frag c r leaf f)
-cached_with s c r leaf f cached mine q a is = go (leaf_is q leaf) refl (sym (get_with_frag c r leaf f q) ∙ is)
-  where
-    go : (b : Bool) → leaf_is q leaf ≡ b → cond b (Some (at r f)) (map.get c.held q) ≡ Some a → IsCachedIn s q a.frag
-    go true one h = subst (λ (l : Leaf). IsCachedIn s l a.frag) (sym (one_leaf q leaf one)) (subst (IsCachedIn s leaf) (ap (λ (x : At). x.frag) (same_Some (at r f) a h)) mine)
-    go false apart h = cached q a h
+cached_with s c r leaf f cached mine q a is = cond_both (leaf_is q leaf) (Some (at r f)) (map.get c.held q) (λ o. o ≡ Some a → IsCachedIn s q a.frag)
+    (λ one h. subst (λ (l : Leaf). IsCachedIn s l a.frag) (sym (one_leaf q leaf one)) (subst (IsCachedIn s leaf) (ap (λ (x : At). x.frag) (same_Some (at r f) a h)) mine)) (λ apart h. cached q a h) (sym (get_with_frag c r leaf f q) ∙ is)
 
--- a place that is kept stays so where another leaf's fragment comes
-pub only_with : (kept : Option (Rank × Leaf)) (c : CacheMap) (r : ℕ) (leaf : Leaf) (f : Cached) → IsFreeFor c r leaf → IsThere (here c r leaf) → KeepsOnlyAt kept c → KeepsOnlyAt kept (with_frag c r leaf f)
-only_with kept c r leaf f free there only s q placed = go (placed_used c r leaf s q placed)
+-- where the leaf of a fragment that comes had a place kept at its rank alone, the places that are kept stay so
+pub with_only : (kept : Option (Rank × Leaf)) (c : CacheMap) (r : ℕ) (leaf : Leaf) (f : Cached) → IsFreeFor c r leaf → ((s : ℕ) → map.get c.held leaf ≡ None → kept ≡ Some (record { 0 = s }, leaf) → s ≡ r) → KeepsOnlyAt kept c
+    → KeepsOnlyAt kept (with_frag c r leaf f)
+with_only kept c r leaf f free its only s q placed = ⊎_elim (λ was. on (leaf_or_apart q leaf) (only s q was)) (λ same. inl (there same.0 same.1)) (placed_used c r leaf s q placed)
   where
+    there : s ≡ r → q ≡ leaf → IsThere (here (with_frag c r leaf f) s q)
+    there rank same = subst IsThere (sym ((λ i. here (with_frag c r leaf f) (rank i) (same i)) ∙ here_put c r leaf f)) tt
+
     of_rank : (o : Option At) → IsFree r o → IsThere (at_rank s o) → s ≡ r
-    of_rank None free here_is = absurd here_is
-    of_rank (Some a) free here_is = by (a.rank == s) refl here_is
-      where
-        by : (b : Bool) → (a.rank == s) ≡ b → IsThere (cond b (Some a.frag) None) → s ≡ r
-        by true same h = sym (eqb-true a.rank s same) ∙ free
-        by false apart h = absurd h
+    of_rank None free is = absurd is
+    of_rank (Some a) free is = sym (eqb-true a.rank s (true_from_ne_false _ (λ apart. subst IsThere (ap (λ b. cond b (Some a.frag) None) apart) is))) ∙ free
 
-    now : IsThere (here (with_frag c r leaf f) r leaf)
-    now = subst IsThere (sym (here_put c r leaf f)) tt
-
-    none_at : (o : Option At) → o ≡ None → IsThere (at_rank r o) → ⊥
-    none_at o is h = subst IsThere (ap (at_rank r) is) h
-
-    on : (b : Bool) → leaf_is q leaf ≡ b → IsThere (here c s q) ⊎ ((map.get c.held q ≡ None) × (kept ≡ Some (record { 0 = s }, q)))
+    on : (q ≡ leaf) ⊎ (leaf_is q leaf ≡ false) → IsThere (here c s q) ⊎ ((map.get c.held q ≡ None) × (kept ≡ Some (record { 0 = s }, q)))
         → IsThere (here (with_frag c r leaf f) s q) ⊎ ((map.get (with_frag c r leaf f).held q ≡ None) × (kept ≡ Some (record { 0 = s }, q)))
-    on true one (inl here_is) =
-        let leaf_same = one_leaf q leaf one in
-        let rank_same = of_rank (map.get c.held leaf) free (subst (λ (l : Leaf). IsThere (here c s l)) leaf_same here_is) in
-        inl (subst (λ (k : ℕ). IsThere (here (with_frag c r leaf f) k q)) (sym rank_same) (subst (λ (l : Leaf). IsThere (here (with_frag c r leaf f) r l)) (sym leaf_same) now))
-    on true one (inr none) = absurd (none_at (map.get c.held leaf) (ap (map.get c.held) (sym (one_leaf q leaf one)) ∙ none.0) there)
-    on false apart (inl here_is) = inl (subst IsThere (sym (here_beside c r leaf f s q apart)) here_is)
-    on false apart (inr none) = inr (get_with_frag c r leaf f q ∙ ap (λ (b : Bool). cond b (Some (at r f)) (map.get c.held q)) apart ∙ none.0, none.1)
-
-    go : (has_place c s q ≡ true) ⊎ ((s ≡ r) × (q ≡ leaf)) → IsThere (here (with_frag c r leaf f) s q) ⊎ ((map.get (with_frag c r leaf f).held q ≡ None) × (kept ≡ Some (record { 0 = s }, q)))
-    go (inl was) = on (leaf_is q leaf) refl (only s q was)
-    go (inr same) = inl (subst (λ (k : ℕ). IsThere (here (with_frag c r leaf f) k q)) (sym same.0) (subst (λ (l : Leaf). IsThere (here (with_frag c r leaf f) r l)) (sym same.1) now))
+    on (inl one) (inl is) = inl (there (of_rank (map.get c.held leaf) free (subst (λ (l : Leaf). IsThere (here c s l)) one is)) one)
+    on (inl one) (inr none) = inl (there (its s (ap (map.get c.held) (sym one) ∙ none.0) (subst (λ (l : Leaf). kept ≡ Some (record { 0 = s }, l)) one none.1)) one)
+    on (inr apart) (inl is) = inl (subst IsThere (sym (here_beside c r leaf f s q apart)) is)
+    on (inr apart) (inr none) = inr (get_with_frag c r leaf f q ∙ ap (λ (b : Bool). cond b (Some (at r f)) (map.get c.held q)) apart ∙ none.0, none.1)
 
 -- ---- one name changed
 
@@ -120,4 +98,4 @@ module _ (c : Core) (a : Dirfrag) (name : List ℕ) (inode : Option Inode) (f : 
 
   pub put_only : (kept : Option (Rank × Leaf)) → KeepsOnlyAt kept c.caches → KeepsOnlyAt kept new.caches
   put_only kept only = subst (KeepsOnlyAt kept) (sym marked_is)
-      (only_with kept c.caches a.rank.0 (leaf_of a) (marked f name mark) (subst (IsFree a.rank.0) (sym held) refl) (subst IsThere (sym there) tt) only)
+      (with_only kept c.caches a.rank.0 (leaf_of a) (marked f name mark) (subst (IsFree a.rank.0) (sym held) refl) (λ s none own. let clash : None ≡ Some (at a.rank.0 f) = sym none ∙ held in absurd cc) only)

@@ -1,5 +1,6 @@
 -- Fragments that got room.
-use Rattle.mdcache.proofs.Common.{Bool, CacheMap, Cached, Edits, HasCached, HasRoom, IsButRoom, IsEdited, Leaf, None, Option, Some, ap, arith, at_rank, cond, eqb-true, false, here, here_is, here_put, here_with_frag, leaf_is, one_leaf, refl, room_changed, subst, sym, true, ℕ, ◌<◌, ◌==◌, ◌∙◌, ◌≡◌, ◌≤◌}
+use Rattle.mdcache.proofs.Common.{Bool, CacheMap, Cached, Edits, HasCached, HasRoom, IsButRoom, IsEdited, Leaf, None, Option, Some, ap, arith, at_rank, cond, eqb-true, here, here_is, here_put, here_with_frag, leaf_is, one_leaf, refl, room_changed, subst, sym, ℕ, ◌<◌, ◌==◌, ◌∙◌, ◌≡◌, ◌≤◌}
+use Rattle.std.proofs.lemmas.Bool.{cond_both}
 use Rattle.std.specs.FinMap as finmap
 
 -- what a call for room leaves has other room at most
@@ -8,11 +9,10 @@ other_room f now is = room_changed f now is.0
 
 -- a fragment that was changed so is there so
 pub edited_has : (Change : Cached → Cached → Type 0) (P : Cached → Type 0) (r : ℕ) (leaf : Leaf) (old new : CacheMap) → ((f now : Cached) → Change f now → P now) → Edits Change r leaf old new → HasCached (here new r leaf) P
-edited_has Change P r leaf old new so e = go (here old r leaf) e
-  where
-    go : (o : Option Cached) → IsEdited Change r leaf o old new → HasCached (here new r leaf) P
-    go None e = absurd e
-    go (Some f) e = subst (λ (o : Option Cached). HasCached o P) (sym (ap (λ (c : CacheMap). here c r leaf) e.2 ∙ here_put old r leaf e.0)) (so f e.0 e.1)
+edited_has Change P r leaf old new so e = elim (here old r leaf) as (λ o. IsEdited Change r leaf o old new → HasCached (here new r leaf) P) [
+  | None ↦ λ e. absurd e
+  | Some f ↦ λ e. subst (λ (o : Option Cached). HasCached o P) (sym (ap (λ (c : CacheMap). here c r leaf) e.2 ∙ here_put old r leaf e.0)) (so f e.0 e.1)
+] e
 
 pub has_rooms : (changes r : ℕ) (leaf : Leaf) (old new : CacheMap) → Edits (λ (f now : Cached). changes ≤ now.room) r leaf old new → HasCached (here new r leaf) (λ (f : Cached). changes ≤ f.room)
 has_rooms changes r leaf old new e = edited_has (λ (f now : Cached). changes ≤ now.room) (λ (f : Cached). changes ≤ f.room) r leaf old new (λ f now is. is) e
@@ -27,18 +27,10 @@ stays_roomy r s leaf one old new e has = go (here old r leaf) refl e
 
     go : (o : Option Cached) → here old r leaf ≡ o → IsEdited (λ (f now : Cached). (now ≡ record f { room = now.room }) × (f.room ≤ now.room)) r leaf o old new → Roomy (here new s one)
     go None is e = absurd e
-    go (Some f) is e = subst Roomy (sym (ap (λ (c : CacheMap). here c s one) e.2 ∙ here_with_frag old r leaf e.0 s one)) (on (leaf_is one leaf) refl (r == s) refl)
-      where
-        on : (a : Bool) → leaf_is one leaf ≡ a → (b : Bool) → (r == s) ≡ b → Roomy (cond a (cond b (Some e.0) None) (here old s one))
-        on true same true rank =
-            let was : here old s one ≡ Some f = ap (here old s) (one_leaf one leaf same) ∙ ap (λ (n : ℕ). here old n leaf) (sym (eqb-true r s rank)) ∙ is in
-            let roomy : 1 < f.room = subst Roomy was has in
-            let more = e.1.1 in
-            omega (arith, roomy, more)
-        on true same false rank =
-            let none : here old s one ≡ None = ap (here old s) (one_leaf one leaf same) ∙ ap (at_rank s) (here_is r (finmap.get old.held leaf) f is) ∙ ap (λ (b : Bool). cond b (Some f) None) rank in
-            subst Roomy none has
-        on false apart b rank = has
+    go (Some f) is e = subst Roomy (sym (ap (λ (c : CacheMap). here c s one) e.2 ∙ here_with_frag old r leaf e.0 s one)) (cond_both (leaf_is one leaf) (cond (r == s) (Some e.0) None) (here old s one) Roomy
+        (λ same. cond_both (r == s) (Some e.0) None Roomy
+        (λ rank. omega (arith, subst Roomy (ap (here old s) (one_leaf one leaf same) ∙ ap (λ (n : ℕ). here old n leaf) (sym (eqb-true r s rank)) ∙ is) has, e.1.1))
+        (λ rank. subst Roomy (ap (here old s) (one_leaf one leaf same) ∙ ap (at_rank s) (here_is r (finmap.get old.held leaf) f is) ∙ ap (λ (b : Bool). cond b (Some f) None) rank) has)) (λ apart. has))
 
 pub has_room : (o : Option Cached) → HasCached o (λ (f : Cached). 1 ≤ f.room) → HasRoom o
 has_room None h = absurd h

@@ -1,5 +1,5 @@
 -- What stands in the shown tree: a name of a directory of the table stands for what the leaf has that its hash picks.
-use Rattle.mdcache.proofs.Common.{Bool, Covers, Dentry, Fragment, HasLeaf, Homes, Inode, Leaf, List, Names, None, Option, Some, [], ap, append_assoc, arith, cond, contains_key-keys, dentry-total, dentry_cmp, dentry_of, directories, entries_in, entries_of, entries_under, eq_by_cmp, eqb-true, false, find, first_or_later, get-entries, get-from_entries, inl, inr, is_apart, is_known, is_same, key_cmp, later, leaves_of, list_any, nat_cmp, option_or, refl, sym, tied_dentry, true, unsigned_tied, zero, ℕ, ◌&&◌, ◌++◌, ◌==◌, ◌||◌, ◌∙◌, ◌∷◌, ◌≡◌, ◌⊎◌}
+use Rattle.mdcache.proofs.Common.{Bool, Covers, Dentry, Fragment, HasLeaf, Homes, Inode, Leaf, List, Names, None, Option, Some, [], ap, append_assoc, arith, cond, contains_key-keys, dentry-total, dentry_cmp, dentry_of, directories, entries_in, entries_of, entries_under, eq_by_cmp, eqb-true, false, find, first_or_later, get-entries, get-from_entries, inl, inr, is_apart, is_known, is_same, key_cmp, later, leaves_of, list_any, nat_cmp, option_or, refl, sym, tied_dentry, true, unsigned_tied, zero, ℕ, ⊎_elim, ◌&&◌, ◌++◌, ◌==◌, ◌||◌, ◌∙◌, ◌∷◌, ◌≡◌, ◌⊎◌}
 use Rattle.std.specs.FinMap as finmap
 use Rattle.mdcache.specs.Shown.{tree_of}
 
@@ -66,37 +66,23 @@ module _ (names : Leaf → Names) where
           ∙ ap (λ b. cond (b || list_any (eq_by_cmp nat_cmp d) dirs) x None) (sym (unsigned_tied d e ∙ is_same d e (sym same)))
       go false is = ap (λ b. cond (b || list_any (eq_by_cmp nat_cmp d) dirs) x None) (sym (unsigned_tied d e ∙ is_apart d e (λ same. let clash : true ≡ false = sym (is_same e d (sym same)) ∙ is in cc)))
 
-  listed : (homes : Homes) (d : ℕ) → list_any (eq_by_cmp nat_cmp d) (directories homes) ≡ is_known homes d
-  listed homes d = λ i. unsigned_tied d 1 i || sym (contains_key-keys homes d) i
-
   found : (homes : Homes) (covers : Covers) (d : ℕ) (name : List ℕ) → finmap.get (tree_of homes covers names) (dentry_of d name) ≡ cond (is_known homes d) (first_of d name (leaves_of covers d)) None
   unfolding tree_of
   found homes covers d name =
       get-from_entries dentry-total (entries_in names covers (directories homes)) (dentry_of d name)
       ∙ found_in covers d name (directories homes)
-      ∙ ap (λ b. cond b (first_of d name (leaves_of covers d)) None) (listed homes d)
+      ∙ ap (λ b. cond b (first_of d name (leaves_of covers d)) None) (λ i. unsigned_tied d 1 i || sym (contains_key-keys homes d) i)
 
   -- what no other leaf has, the one leaf tells
   only_one : (d : ℕ) (name : List ℕ) (f : Fragment) (fs : List Fragment) → ((g : Fragment) (inode : Inode) → HasLeaf fs g → finmap.get (names (record { 0 = d }, g)) name ≡ Some inode → g ≡ f)
       → HasLeaf fs f ⊎ (finmap.get (names (record { 0 = d }, f)) name ≡ None) → first_of d name fs ≡ finmap.get (names (record { 0 = d }, f)) name
   only_one d name f [] only (inl (k, stands, is)) = absurd (omega (arith, stands))
   only_one d name f [] only (inr none) = sym none
-  only_one d name f (g ∷ gs) only has = go (only_one d name f gs (λ h inode stands. only h inode (later g h gs stands))) (finmap.get (names (record { 0 = d }, g)) name) refl
-    where
-      behind : finmap.get (names (record { 0 = d }, g)) name ≡ None → HasLeaf (g ∷ gs) f ⊎ (finmap.get (names (record { 0 = d }, f)) name ≡ None) → HasLeaf gs f ⊎ (finmap.get (names (record { 0 = d }, f)) name ≡ None)
-      behind none (inr nothing) = inr nothing
-      behind none (inl stands) = which (first_or_later g f gs stands)
-        where
-          which : (g ≡ f) ⊎ HasLeaf gs f → HasLeaf gs f ⊎ (finmap.get (names (record { 0 = d }, f)) name ≡ None)
-          which (inl same) = inr (ap (λ (h : Fragment). finmap.get (names (record { 0 = d }, h)) name) (sym same) ∙ none)
-          which (inr more) = inl more
-
-      go : (HasLeaf gs f ⊎ (finmap.get (names (record { 0 = d }, f)) name ≡ None) → first_of d name gs ≡ finmap.get (names (record { 0 = d }, f)) name) → (o : Option Inode)
-          → finmap.get (names (record { 0 = d }, g)) name ≡ o → option_or (finmap.get (names (record { 0 = d }, g)) name) (first_of d name gs) ≡ finmap.get (names (record { 0 = d }, f)) name
-      go next None is = ap (λ o. option_or o (first_of d name gs)) is ∙ next (behind is has)
-      go next (Some i) is =
-          ap (λ o. option_or o (first_of d name gs)) is ∙ sym is
-          ∙ ap (λ (h : Fragment). finmap.get (names (record { 0 = d }, h)) name) (only g i (zero, omega arith, refl) is)
+  only_one d name f (g ∷ gs) only has = elim (finmap.get (names (record { 0 = d }, g)) name) as (λ o. finmap.get (names (record { 0 = d }, g)) name ≡ o → option_or o (first_of d name gs) ≡ finmap.get (names (record { 0 = d }, f)) name) [
+    | None ↦ λ is. only_one d name f gs (λ h inode stands. only h inode (later g h gs stands)) (⊎_elim
+        (λ stands. ⊎_elim (λ same. inr (ap (λ (h : Fragment). finmap.get (names (record { 0 = d }, h)) name) (sym same) ∙ is)) (λ more. inl more) (first_or_later g f gs stands)) (λ nothing. inr nothing) has)
+    | Some i ↦ λ is. sym is ∙ ap (λ (h : Fragment). finmap.get (names (record { 0 = d }, h)) name) (only g i (zero, omega arith, refl) is)
+  ] refl
 
   -- a name of a directory that is known stands for what its leaf has
   pub found_at : (homes : Homes) (covers : Covers) (d : ℕ) (name : List ℕ) (f : Fragment) → is_known homes d ≡ true → HasLeaf (leaves_of covers d) f

@@ -1,5 +1,6 @@
 -- What keeps a state sound.
-use Rattle.mdcache.proofs.Common.{AreCached, AreYoung, Bool, CacheMap, IsCounted, IsLive, IsOf, IsOwned, IsSaved, IsSound, IsStanding, IsTabled, IsTied, Job, Keys, Leaf, List, Names, None, Objects, Some, State, Unsaved, ap, arith, cond, false, get-insert, get-remove, inl, inr, is_some, leaf-total, leaf_is, object_of, one_leaf, refl, shown_at, shown_tree, subst, sym, text_of, tied_leaf, true, with_job, ℕ, ◌∙◌, ◌≡◌, ◌⊎◌}
+use Rattle.mdcache.proofs.Common.{AreCached, AreYoung, Bool, CacheMap, IsCounted, IsLive, IsOf, IsOwned, IsSaved, IsSound, IsStanding, IsTabled, IsTied, Job, Jobs, Keys, Leaf, List, Names, None, Objects, Some, State, Unsaved, ap, arith, cond, get-insert, get-remove, inl, inr, is_some, leaf-total, leaf_is, object_of, one_leaf, refl, same_Some, shown_at, shown_tree, subst, sym, text_of, tied_leaf, true, with_job, ℕ, ⊎_elim, ◌∙◌, ◌≡◌, ◌⊎◌}
+use Rattle.std.proofs.lemmas.Bool.{cond_both}
 use Rattle.std.specs.FinMap as map
 use Rattle.mdcache.specs.Commits.{leaf_of}
 use Rattle.mdcache.specs.Shown.{names_of}
@@ -35,19 +36,12 @@ module _ (s : State) (objects : Objects) (purge : Keys) (sound : IsSound s) wher
       saved = λ leaf live clean. subst (IsSaved leaf.1) (sym (same leaf live)) (sound.saved leaf live clean);
       owned = owned;
       listed = listed;
-      standing = λ leaf job is. stands leaf job (sound.standing leaf job is);
+      standing = λ leaf job is.
+          let old = sound.standing leaf job is in
+          let taken = subst (IsOf job old.unsaved) (sym (same leaf (sound.unsaved leaf old.unsaved old.beside).live)) old.taken in
+          record { mine = old.mine; given = old.given; young = old.young; unsaved = old.unsaved; beside = old.beside; taken = taken };
       once = sound.once;
     }
-      where
-        stands : (leaf : Leaf) (job : Job) → IsStanding s leaf job → IsStanding now leaf job
-        stands leaf job old = record {
-          mine = old.mine;
-          given = old.given;
-          young = old.young;
-          unsaved = old.unsaved;
-          beside = old.beside;
-          taken = subst (IsOf job old.unsaved) (sym (same leaf (sound.unsaved leaf old.unsaved old.beside).live)) old.taken;
-        }
 
     pub other_objects_kept : (caches : CacheMap) → AreCached s caches → AreCached now caches
     other_objects_kept caches old leaf a there =
@@ -56,22 +50,17 @@ module _ (s : State) (objects : Objects) (purge : Keys) (sound : IsSound s) wher
 
 -- ---- jobs
 
-pub get_job : (s : State) (leaf q : Leaf) (job : Job) → map.get (map.insert s.jobs leaf job) q ≡ cond (leaf_is q leaf) (Some job) (map.get s.jobs q)
-get_job s leaf q job = get-insert leaf-total s.jobs leaf job q ∙ ap (λ (b : Bool). cond b (Some job) (map.get s.jobs q)) (tied_leaf q leaf)
-
 pub get_ended : (s : State) (leaf q : Leaf) → map.get (map.remove s.jobs leaf) q ≡ cond (leaf_is q leaf) None (map.get s.jobs q)
 get_ended s leaf q = get-remove leaf-total s.jobs leaf q ∙ ap (λ (b : Bool). cond b None (map.get s.jobs q)) (tied_leaf q leaf)
 
 -- a job that stands after another ended stood before
 pub stood_before : (s : State) (leaf q : Leaf) (job : Job) → map.get (map.remove s.jobs leaf) q ≡ Some job → map.get s.jobs q ≡ Some job
-stood_before s leaf q job is = go (leaf_is q leaf) (sym (get_ended s leaf q) ∙ is)
-  where
-    go : (b : Bool) → cond b None (map.get s.jobs q) ≡ Some job → map.get s.jobs q ≡ Some job
-    go true h = let clash : None ≡ Some job = h in cc
-    go false h = h
+stood_before s leaf q job is = cond_both (leaf_is q leaf) None (map.get s.jobs q) (λ o. o ≡ Some job → map.get s.jobs q ≡ Some job) (λ gone h. let clash : None ≡ Some job = h in absurd cc) (λ stays h. h) (sym (get_ended s leaf q) ∙ is)
 
-pub dropped_sound : (s : State) (leaf : Leaf) → IsSound s → IsSound (record s { jobs = map.remove s.jobs leaf })
-dropped_sound s leaf sound = record {
+-- all is sound with other jobs that stand, and whose numbers are one each
+jobs_sound : (s : State) (jobs : Jobs) (next : ℕ) → IsSound s → ((q : Leaf) (i : Job) → map.get jobs q ≡ Some i → IsStanding (record s { jobs = jobs; next_job = next }) q i)
+    → ((a b : Leaf) (i j : Job) → map.get jobs a ≡ Some i → map.get jobs b ≡ Some j → i.number ≡ j.number → a ≡ b) → IsSound (record s { jobs = jobs; next_job = next })
+jobs_sound s jobs next sound standing once = record {
   table = sound.table;
   numbered = sound.numbered;
   tabled = sound.tabled;
@@ -81,9 +70,14 @@ dropped_sound s leaf sound = record {
   saved = sound.saved;
   owned = λ name there. sound.owned name there;
   listed = sound.listed;
-  standing = λ q job is. let old = sound.standing q job (stood_before s leaf q job is) in record { mine = old.mine; given = old.given; young = old.young; unsaved = old.unsaved; beside = old.beside; taken = old.taken };
-  once = λ a b i j p q same. sound.once a b i j (stood_before s leaf a i p) (stood_before s leaf b j q) same;
+  standing = standing;
+  once = once;
 }
+
+pub dropped_sound : (s : State) (leaf : Leaf) → IsSound s → IsSound (record s { jobs = map.remove s.jobs leaf })
+dropped_sound s leaf sound = jobs_sound s (map.remove s.jobs leaf) s.next_job sound
+    (λ q job is. let old = sound.standing q job (stood_before s leaf q job is) in record { mine = old.mine; given = old.given; young = old.young; unsaved = old.unsaved; beside = old.beside; taken = old.taken })
+    (λ a b i j p q same. sound.once a b i j (stood_before s leaf a i p) (stood_before s leaf b j q) same)
 
 module _ (s : State) (job : Job) (u : Unsaved) (sound : IsSound s) (beside : map.get s.unsaved (leaf_of job) ≡ Some u) (number : job.number ≡ s.next_job)
     (young : AreYoung job.snapshot.names s.next_version) (taken : IsOf job u (object_of s.objects job.ino job.frag)) where
@@ -91,27 +85,17 @@ module _ (s : State) (job : Job) (u : Unsaved) (sound : IsSound s) (beside : map
   begun = with_job s job
 
   begun_or_before : (q : Leaf) (i : Job) → map.get begun.jobs q ≡ Some i → ((q ≡ leaf_of job) × (job ≡ i)) ⊎ (map.get s.jobs q ≡ Some i)
-  begun_or_before q i is = go (leaf_is q (leaf_of job)) refl (sym (get_job s (leaf_of job) q job) ∙ is)
-    where
-      go : (b : Bool) → leaf_is q (leaf_of job) ≡ b → cond b (Some job) (map.get s.jobs q) ≡ Some i → ((q ≡ leaf_of job) × (job ≡ i)) ⊎ (map.get s.jobs q ≡ Some i)
-      go true same h = inl (one_leaf q (leaf_of job) same, cc)
-      go false same h = inr h
-
-  first_stands : IsStanding begun (leaf_of job) job
-  first_stands = record { mine = refl; given = omega (arith, number); young = young; unsaved = u; beside = beside; taken = taken }
-
-  stands_still : (q : Leaf) (i : Job) → IsStanding s q i → IsStanding begun q i
-  stands_still q i old = let given = old.given in record { mine = old.mine; given = omega (arith, given); young = old.young; unsaved = old.unsaved; beside = old.beside; taken = old.taken }
+  begun_or_before q i is = cond_both (leaf_is q (leaf_of job)) (Some job) (map.get s.jobs q) (λ o. o ≡ Some i → ((q ≡ leaf_of job) × (job ≡ i)) ⊎ (map.get s.jobs q ≡ Some i))
+      (λ same h. inl (one_leaf q (leaf_of job) same, same_Some job i h)) (λ apart h. inr h) (sym (get-insert leaf-total s.jobs (leaf_of job) job q ∙ ap (λ (b : Bool). cond b (Some job) (map.get s.jobs q)) (tied_leaf q (leaf_of job))) ∙ is)
 
   all_stand : (q : Leaf) (i : Job) → map.get begun.jobs q ≡ Some i → IsStanding begun q i
-  all_stand q i is = go (begun_or_before q i is)
-    where
-      go : ((q ≡ leaf_of job) × (job ≡ i)) ⊎ (map.get s.jobs q ≡ Some i) → IsStanding begun q i
-      go (inl same) = subst (λ (j : Job). IsStanding begun q j) same.1 (subst (λ (l : Leaf). IsStanding begun l job) (sym same.0) first_stands)
-      go (inr old) = stands_still q i (sound.standing q i old)
+  all_stand q i is = ⊎_elim
+      (λ same. subst (λ (j : Job). IsStanding begun q j) same.1
+      (subst (λ (l : Leaf). IsStanding begun l job) (sym same.0) (record { mine = refl; given = omega (arith, number); young = young; unsaved = u; beside = beside; taken = taken })))
+      (λ before. let old = sound.standing q i before in record { mine = old.mine; given = omega (arith, old.given); young = old.young; unsaved = old.unsaved; beside = old.beside; taken = old.taken }) (begun_or_before q i is)
 
   below : (q : Leaf) (i : Job) → map.get s.jobs q ≡ Some i → i.number ≡ job.number → ⊥
-  below q i is same = let given = (sound.standing q i is).given in omega (arith, given, same, number)
+  below q i is same = omega (arith, (sound.standing q i is).given, same, number)
 
   one_number : (a b : Leaf) (i j : Job) → map.get begun.jobs a ≡ Some i → map.get begun.jobs b ≡ Some j → i.number ≡ j.number → a ≡ b
   one_number a b i j p q same = go (begun_or_before a i p) (begun_or_before b j q)
@@ -123,16 +107,4 @@ module _ (s : State) (job : Job) (u : Unsaved) (sound : IsSound s) (beside : map
       go (inr x) (inr y) = sound.once a b i j x y same
 
   pub begun_sound : IsSound begun
-  begun_sound = record {
-    table = sound.table;
-    numbered = sound.numbered;
-    tabled = sound.tabled;
-    counted = sound.counted;
-    placed = sound.placed;
-    unsaved = λ q v is. let old = sound.unsaved q v is in record { live = old.live; made = old.made; young = old.young };
-    saved = sound.saved;
-    owned = λ name there. sound.owned name there;
-    listed = sound.listed;
-    standing = all_stand;
-    once = one_number;
-  }
+  begun_sound = jobs_sound s begun.jobs begun.next_job sound all_stand one_number

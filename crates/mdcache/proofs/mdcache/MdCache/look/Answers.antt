@@ -7,13 +7,12 @@ find-requires-clause-may g c =
     may_fetch c.args.self.now c.requires.sound _ c.requires.holds
     (pick_live c.args.self.now c.requires.sound c.args.at.now.dir (hash_of c.args.name.now) c.args.at.now.frag c.requires.known c.requires.leaf)
 
-pub returns-clause-found : goal.returns-clause-found
-returns-clause-found g c = if_ok _ _ c.find.result (λ found has.
-    read_found (IsThat c.args.at.now.rank.0 (c.args.at.now.dir, c.args.at.now.frag)) c.args.self.now c.find.new.self c.find.ensures.reads c.requires.sound c.find.ensures.none
-    (that_live c.args.self.now c.args.at.now.rank.0 (c.args.at.now.dir, c.args.at.now.frag) (pick_live c.args.self.now c.requires.sound c.args.at.now.dir (hash_of c.args.name.now) c.args.at.now.frag c.requires.known c.requires.leaf))
-    c.args.at.now.rank.0 (record { dir = c.args.at.now.dir; name = c.args.name.now }) c.args.at.now.frag found c.requires.known c.requires.leaf has) c.find.ensures.found
-
-pub returns-clause-sound : goal.returns-clause-sound
-returns-clause-sound g c =
-    read_sound (IsThat c.args.at.now.rank.0 (c.args.at.now.dir, c.args.at.now.frag)) c.args.self.now c.find.new.self c.find.ensures.reads c.requires.sound c.find.ensures.none
-    (that_live c.args.self.now c.args.at.now.rank.0 (c.args.at.now.dir, c.args.at.now.frag) (pick_live c.args.self.now c.requires.sound c.args.at.now.dir (hash_of c.args.name.now) c.args.at.now.frag c.requires.known c.requires.leaf))
+pub returns : goal.returns
+returns g c =
+    let at = c.args.at.now in
+    let old = c.args.self.now in
+    let e = c.find.ensures in
+    let live = that_live old at.rank.0 (at.dir, at.frag) (pick_live old c.requires.sound at.dir (hash_of c.args.name.now) at.frag c.requires.known c.requires.leaf) in
+    let found = if_ok _ _ c.find.result (λ found has. read_found (IsThat at.rank.0 (at.dir, at.frag)) old c.find.new.self e.reads c.requires.sound e.none live at.rank.0 (record { dir = at.dir; name = c.args.name.now }) at.frag found c.requires.known c.requires.leaf has) e.found in
+    let sound = read_sound (IsThat at.rank.0 (at.dir, at.frag)) old c.find.new.self e.reads c.requires.sound e.none live in
+    record { found = found; newest = e.newest; reads = e.reads; sound = sound; counted = e.counted; refused = e.refused }

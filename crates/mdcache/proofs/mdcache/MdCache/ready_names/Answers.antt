@@ -8,23 +8,16 @@ pub reserve-requires-clause-there : goal.reserve-requires-clause-there
 reserve-requires-clause-there g c =
     subst (λ (k : Core). c.args.at.now.rank.0 < length k.caches.used) (sym c.self.view_is) (there_after (IsThat c.args.at.now.rank.0 (leaf_of c.args.at.now)) NoneEnds c.args.self.now c.fetch.new.self c.args.at.now.rank.0 c.fetch.ensures.reads c.requires.may.there)
 
-pub returns-in_err-reserve-clause-reads : goal.returns-in_err-reserve-clause-reads
-returns-in_err-reserve-clause-reads g c =
-    room_step (IsThat c.args.at.now.rank.0 (leaf_of c.args.at.now)) NoneEnds c.args.self.now c.fetch.new.self _ c.self.view_is c.fetch.ensures.reads c.args.at.now.rank.0 (leaf_of c.args.at.now) (refl, refl) c.reserve.new.self _ other_room c.reserve.ensures.same
+pub returns-in_err-reserve : goal.returns-in_err-reserve
+returns-in_err-reserve g c =
+    let reads = room_step (IsThat c.args.at.now.rank.0 (leaf_of c.args.at.now)) NoneEnds c.args.self.now c.fetch.new.self _ c.self.view_is c.fetch.ensures.reads c.args.at.now.rank.0 (leaf_of c.args.at.now) (refl, refl) c.reserve.new.self _ other_room c.reserve.ensures.same in
+    let none = none_edits c.self.inside.caches c.args.at.now.rank.0 (leaf_of c.args.at.now) (subst (λ (k : Core). KeepsNone k.caches) (sym c.self.view_is) c.fetch.ensures.none) _ c.reserve.new.self c.reserve.ensures.same in
+    record { room = search rules; reads = reads; none = none; refused = search rules; counted = search rules }
 
-pub returns-in_err-reserve-clause-none : goal.returns-in_err-reserve-clause-none
-returns-in_err-reserve-clause-none g c =
-    none_edits c.self.inside.caches c.args.at.now.rank.0 (leaf_of c.args.at.now) (subst (λ (k : Core). KeepsNone k.caches) (sym c.self.view_is) c.fetch.ensures.none) _ c.reserve.new.self c.reserve.ensures.same
-
-pub returns-clause-reads : goal.returns-clause-reads
-returns-clause-reads g c =
-    room_step (IsThat c.args.at.now.rank.0 (leaf_of c.args.at.now)) NoneEnds c.args.self.now c.fetch.new.self _ c.self.view_is c.fetch.ensures.reads c.args.at.now.rank.0 (leaf_of c.args.at.now) (refl, refl) c.reserve.new.self _ other_room c.reserve.ensures.same
-
-pub returns-clause-none : goal.returns-clause-none
-returns-clause-none g c =
-    none_edits c.self.inside.caches c.args.at.now.rank.0 (leaf_of c.args.at.now) (subst (λ (k : Core). KeepsNone k.caches) (sym c.self.view_is) c.fetch.ensures.none) _ c.reserve.new.self c.reserve.ensures.same
-
-pub returns-clause-room : goal.returns-clause-room
-returns-clause-room g c =
+pub returns : goal.returns
+returns g c =
     let roomy : Edits (λ (f now : Cached). c.args.changes ≤ now.room) c.args.at.now.rank.0 (leaf_of c.args.at.now) c.self.inside.caches c.reserve.new.self = search rules in
-    has_rooms c.args.changes c.args.at.now.rank.0 (leaf_of c.args.at.now) c.self.inside.caches c.reserve.new.self roomy
+    let room = has_rooms c.args.changes c.args.at.now.rank.0 (leaf_of c.args.at.now) c.self.inside.caches c.reserve.new.self roomy in
+    let reads = room_step (IsThat c.args.at.now.rank.0 (leaf_of c.args.at.now)) NoneEnds c.args.self.now c.fetch.new.self _ c.self.view_is c.fetch.ensures.reads c.args.at.now.rank.0 (leaf_of c.args.at.now) (refl, refl) c.reserve.new.self _ other_room c.reserve.ensures.same in
+    let none = none_edits c.self.inside.caches c.args.at.now.rank.0 (leaf_of c.args.at.now) (subst (λ (k : Core). KeepsNone k.caches) (sym c.self.view_is) c.fetch.ensures.none) _ c.reserve.new.self c.reserve.ensures.same in
+    record { room = room; reads = reads; none = none; refused = tt; counted = search rules }
