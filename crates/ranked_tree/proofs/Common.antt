@@ -134,8 +134,8 @@ pub use Rattle.ranked_tree.specs.declared.regions.Regions.{Regions}
 pub use Rattle.sorted_map.proofs.MapLaws.{tie}
 pub use Rattle.sorted_map.proofs.NatKeys.{is_same}
 pub use Rattle.sorted_map.specs.SortedMap.{contents}
-pub use Rattle.std.proofs.Common.{Bool, Err, IsTrue, List, MatchBool, None, Ok, Option, Result, Some, [], ap, ap₂, arith, cond, false, inl, inr, length, nat_lt, not, option_map, refl, rules, subst, suc, sym, true, zero, ℕ, ◌%◌, ◌&&◌, ◌+◌, ◌/◌, ◌<◌, ◌==◌, ◌^◌, ◌↔◌, ◌∙◌, ◌∷◌, ◌≡◌, ◌≤◌, ◌⊎◌}
-pub use Rattle.std.proofs.lemmas.Bool.{and_from, and_parts, and_right, cases_lt, eq-eqb, eqb-true}
+pub use Rattle.std.proofs.Common.{Bool, Err, IsTrue, List, MatchBool, None, Ok, Option, Result, Some, [], ap, ap₂, arith, cond, false, inl, inr, length, nat_lt, not, option_map, refl, rules, subst, suc, sym, true, zero, ℕ, ◌%◌, ◌&&◌, ◌+◌, ◌/◌, ◌<◌, ◌==◌, ◌^◌, ◌↔◌, ◌∙◌, ◌∷◌, ◌≡◌, ◌≤◌, ◌⊎◌, ⊎_elim}
+pub use Rattle.std.proofs.lemmas.Bool.{and_from, and_parts, and_right, cases_lt, cond_both, eq-eqb, eqb-true, false≢true, true≢false}
 pub use Rattle.std.proofs.lemmas.Bool.Decides.{nat_tests}
 pub use Rattle.std.proofs.lemmas.List.{length-replicate}
 pub use Rattle.std.proofs.lemmas.Option.{none-some, same_Some}

@@ -1,5 +1,5 @@
 -- What an eviction leaves: what isn't clean, and whose each fragment is.
-use Rattle.ranked_tree.proofs.Common.{At, Bool, CacheMap, Came, Core, Err, IfErr, IsOwned, IsSoundCore, KeepsState, None, NoneEnds, NothingToEvict, Ok, OnErr, OnOk, Option, Refusal, Result, Roots, Some, ap, arith, at_rank, came_cap, came_ranks, clean_there, cond, ends, evicted, false, faults_told, get_unclean_of, given_up, goes, here, here_given_up, last_passes, leaf_is, length, one_leaf, option_map, order, refl, result_err, same_Some, same_map, state_of, stays, subst, sym, true, unclean_of, unsaved_at, unsaved_in, victim, ℕ, ◌&&◌, ◌+◌, ◌==◌, ◌∙◌, ◌≡◌}
+use Rattle.ranked_tree.proofs.Common.{At, Bool, CacheMap, Came, Core, Err, IfErr, IsOwned, IsSoundCore, KeepsState, None, NoneEnds, NothingToEvict, Ok, OnErr, OnOk, Option, Refusal, Result, Roots, Some, ap, arith, at_rank, came_cap, came_ranks, clean_there, cond, ends, evicted, false, faults_told, get_unclean_of, given_up, goes, here, here_given_up, last_passes, leaf_is, length, one_leaf, option_map, order, refl, result_err, same_Some, same_map, state_of, stays, subst, sym, true, unclean, unclean_of, unsaved_at, unsaved_in, victim, ℕ, ◌&&◌, ◌+◌, ◌==◌, ◌∙◌, ◌≡◌}
 use Rattle.std.specs.FinMap as map
 use Rattle.dentry_cache.specs.Cache.{Leaf}
 use Rattle.dentry_cache.proofs.LeafLaws.{leaf-exact, leaf-total}
@@ -65,5 +65,5 @@ module _ (old new : Core) (r : ℕ) where
     evict_owned roots sound owned = go result went left
       where
         go : (x : Result (Unit {0}) Refusal) → OnOk x (evicted old.caches r None ≡ Some new.caches) → OnErr x (new ≡ old) → IsOwned new roots
-        go (Ok done) ok err = owned_came NoneEnds AnyEnds old new roots (came ok) sound (ap (λ (s : TreeState). s.homes) state) (ap (λ (s : TreeState). s.covers) state) (λ r q never live. absurd never) owned
+        go (Ok done) ok err = owned_came NoneEnds AnyEnds old new (came ok) sound roots (ap (λ (s : TreeState). s.homes) state) (ap (λ (s : TreeState). s.covers) state) (λ r q never live. absurd never) owned
         go (Err reason) ok err = subst (λ (k : Core). IsOwned k roots) (sym err) owned

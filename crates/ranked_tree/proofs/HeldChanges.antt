@@ -1,11 +1,11 @@
 -- What a change of the tree leaves: each cached fragment is at its leaf's authority then.
-use Rattle.ranked_tree.proofs.Common.{AreHeld, AreHeldAt, At, Bool, Came, Change, Core, Covers, Dirfrag, EndsWith, Fragment, HasLeaf, HoldsAt, Home, Homes, IfSome, Ino, Inode, IsLive, IsNamedIn, IsOwned, IsPick, IsSome, IsSound, IsSoundCore, IsTable, IsThat, KeepsAuthorities, Leaf, List, Makes, MayChange, MayCome, MayGo, None, Option, Rank, Roots, Rules, Shape, Some, Spot, [], add, adds, ap, came_held, dentry_at, false, first_leaf, hash_of, home_at, inherited, inl, inr, is_dir_kind, is_known, is_some, leaf_of, leaves_of, may_come, move, moved_known, only_leaf, or_whole, refl, remove, root_fragment, rows_but, set, shape_of, shown_in, shown_tree, state_of, still_known, subst, sym, true, with_home, ℕ, ◌==◌, ◌||◌, ◌∙◌, ◌∷◌, ◌≡◌, ◌⊎◌}
+use Rattle.ranked_tree.proofs.Common.{AreHeld, AreHeldAt, Bool, Came, Change, Core, Covers, Dirfrag, EndsWith, Fragment, HasLeaf, HoldsAt, Home, Homes, IfSome, Ino, Inode, IsLive, IsNamedIn, IsOwned, IsPick, IsSome, IsSound, IsSoundCore, IsTable, IsThat, KeepsAuthorities, Leaf, List, Makes, MayChange, MayCome, MayGo, None, Option, Rank, Roots, Rules, Shape, Some, Spot, [], add, adds, ap, dentry_at, false, first_leaf, get_beside, get_left, get_put, hash_of, home_at, inherited, inl, inr, is_dir_kind, is_known, is_some, leaf_of, leaves_of, may_come, move, moved_known, only_leaf, or_whole, refl, remove, root_fragment, rows_but, rules, same_or_apart, set, shape_of, shown_in, shown_tree, state_of, still_known, subst, sym, true, with_home, ℕ, ◌==◌, ◌||◌, ◌∙◌, ◌∷◌, ◌≡◌, ◌⊎◌}
 use Rattle.std.specs.FinMap as map
 use Rattle.sorted_map.proofs.NatKeys as nat
 use Rattle.mdcache.specs.State.{State as TreeState}
 use Rattle.ranked_tree.proofs.MoveLaws.{relocates, replaces}
 use Rattle.ranked_tree.proofs.ChangedTables.{TablesAre, added_tables, grown_tables, moved_tables, removed_tables, set_tables}
-use Rattle.ranked_tree.proofs.HeldLaws.{HaveCaches, held_after, is_that}
+use Rattle.ranked_tree.proofs.HeldLaws.{HaveCaches, held_since, is_that}
 use Rattle.ranked_tree.proofs.HolderLaws.{added_live, new_is_not_live, removed_live, set_live, source_live, target_live, was_unknown}
 use Rattle.ranked_tree.proofs.RootLaws.{is_elsewhere}
 use Rattle.ranked_tree.proofs.SubtreeLaws.{over, removable}
@@ -162,9 +162,4 @@ module _ (old new : Core) (before after : Roots) (owned : IsOwned old before) (n
   pub change_held : (change : Change) → AreHeldAt (state_of old) before change → MayChange (shown_in old) old.covers change → Makes change (state_of old) (state_of new) → (change.comes ≡ true → after ≡ before) → HaveCaches after new.caches
       → Came (IsNamedIn change) (EndsWith change) old.caches new.caches → AreHeld (state_of new) new.caches after
   change_held change holders may makes follow have came =
-      held_after (state_of new) new.caches after have now_sound.none
-      (λ leaf a is. go leaf a (now_sound.cached leaf a is).live (came_held (IsNamedIn change) (EndsWith change) old.caches new.caches came leaf a is))
-    where
-      go : (leaf : Leaf) (a : At) → IsLive new.homes new.covers leaf → (map.get old.caches.held leaf ≡ Some a) ⊎ IsNamedIn change a.rank leaf → Rules (state_of new) after leaf (record { 0 = a.rank })
-      go leaf a live (inl was) = keeps leaf (record { 0 = a.rank }) (owned.sound.cached leaf a was).live live (owned.held.cached leaf a was)
-      go leaf a live (inr is) = named change holders may makes follow a.rank leaf is live
+      held_since (IsNamedIn change) (EndsWith change) old new came now_sound before after owned keeps have (named change holders may makes follow)

@@ -1,5 +1,5 @@
 -- Each cached fragment stays at the rank that holds its leaf. Here the roots are those with the ranks that hold their regions.
-use Rattle.ranked_tree.proofs.Common.{AreHeld, At, CacheMap, Cached, Came, Core, IsFree, IsLive, IsOwned, IsSoundCore, IsThat, IsThere, KeepsNone, Leaf, MayHold, None, NoneEnds, Option, Rank, ReadsCore, Roots, Rules, Some, UsedAt, UsesAt, ap, came_held, came_ranks, came_weaker, has_place, here, here_is, inl, inr, length, one_authority, reads_came, reads_state, refl, state_of, subst, sym, true, ℕ, ◌<◌, ◌≡◌, ◌⊎◌}
+use Rattle.ranked_tree.proofs.Common.{AreHeld, At, CacheMap, Cached, Came, Core, Ends, IsFree, IsLive, IsOwned, IsSoundCore, IsThat, IsThere, KeepsAuthorities, KeepsNone, Leaf, MayHold, None, NoneEnds, Option, Rank, ReadsCore, Roots, Rules, Some, UsedAt, UsesAt, ap, came_held, came_ranks, came_weaker, has_place, here, here_is, length, one_authority, reads_came, reads_state, refl, rules, state_of, subst, sym, true, ℕ, ⊎_elim, ◌<◌, ◌≡◌}
 use Rattle.std.specs.FinMap as map
 use Rattle.mdcache.specs.State.{State as TreeState}
 
@@ -50,19 +50,20 @@ pub that_came : (tree : TreeState) (roots : Roots) (leaf : Leaf) (rank : Rank) �
 that_came tree roots leaf rank rules old new came =
     came_weaker (IsThat rank.0 leaf) NoneEnds (UsedAt (Rules tree roots leaf) (λ (q : Leaf). q ≡ leaf)) NoneEnds (λ r q that. (subst (λ (n : ℕ). Rules tree roots leaf (record { 0 = n })) (sym that.0) rules, that.1)) (λ r q none. none) old new came
 
--- where directories, leaves and roots stay, and each leaf that is used is so at its authority
-module _ (Uses Ends : ℕ → Leaf → Type 0) (old new : Core) (roots : Roots) (came : Came Uses Ends old.caches new.caches) (sound : IsSoundCore new) (homes : new.homes ≡ old.homes) (covers : new.covers ≡ old.covers)
-    (holds : (r : ℕ) (q : Leaf) → Uses r q → IsLive old.homes old.covers q → Rules (state_of old) roots q (record { 0 = r })) (owned : IsOwned old roots) where
-  at : (leaf : Leaf) (a : At) → map.get new.caches.held leaf ≡ Some a → (map.get old.caches.held leaf ≡ Some a) ⊎ Uses a.rank leaf → Rules (state_of old) roots leaf (record { 0 = a.rank })
-  at leaf a is (inl was) = owned.held.cached leaf a was
-  at leaf a is (inr uses) = holds a.rank leaf uses (rw (← homes, ← covers) (sound.cached leaf a is).live)
+-- where each leaf that stays keeps its authority, and each that is used is so at its own
+module _ (Uses Ends : ℕ → Leaf → Type 0) (old new : Core) (came : Came Uses Ends old.caches new.caches) (sound : IsSoundCore new) where
+  pub held_since : (before after : Roots) → IsOwned old before → KeepsAuthorities (state_of old) (state_of new) before after → HaveCaches after new.caches
+      → ((r : ℕ) (q : Leaf) → Uses r q → IsLive new.homes new.covers q → Rules (state_of new) after q (record { 0 = r })) → AreHeld (state_of new) new.caches after
+  held_since before after owned keeps have at = held_after (state_of new) new.caches after have sound.none (λ leaf a is.
+      let live = (sound.cached leaf a is).live in
+      ⊎_elim (λ was. keeps leaf (record { 0 = a.rank }) (owned.sound.cached leaf a was).live live (owned.held.cached leaf a was)) (λ used. at a.rank leaf used live) (came_held Uses Ends old.caches new.caches came leaf a is))
 
-  pub owned_came : IsOwned new roots
-  owned_came = record {
+  -- directories, leaves and roots stay
+  pub owned_came : (roots : Roots) → new.homes ≡ old.homes → new.covers ≡ old.covers → ((r : ℕ) (q : Leaf) → Uses r q → IsLive old.homes old.covers q → Rules (state_of old) roots q (record { 0 = r })) → IsOwned old roots → IsOwned new roots
+  owned_came roots homes covers holds owned = record {
     sound = sound;
     valid = rw (homes, covers) owned.valid;
-    held = held_after (state_of new) new.caches roots (still_have (state_of old) old.caches new.caches roots owned.held (came_ranks Uses Ends old.caches new.caches came)) sound.none
-        (λ leaf a is. rw (homes, covers) (at leaf a is (came_held Uses Ends old.caches new.caches came leaf a is)));
+    held = held_since roots roots owned (λ leaf rank was is. rw (homes, covers) (λ rules. rules)) (still_have (state_of old) old.caches new.caches roots owned.held (came_ranks Uses Ends old.caches new.caches came)) (rw (homes, covers) holds);
   }
 
 -- reads of leaves at their authorities
@@ -71,7 +72,7 @@ module _ (Uses Ends : ℕ → Leaf → Type 0) (old new : Core) (roots : Roots) 
   pub owned_reads : IsOwned new roots
   owned_reads =
       let same = reads_state Uses Ends old new reads in
-      owned_came Uses Ends old new roots (reads_came Uses Ends old.objects old.caches new.caches reads.caches) sound (ap (λ (s : TreeState). s.homes) same) (ap (λ (s : TreeState). s.covers) same) holds owned
+      owned_came Uses Ends old new (reads_came Uses Ends old.objects old.caches new.caches reads.caches) sound roots (ap (λ (s : TreeState). s.homes) same) (ap (λ (s : TreeState). s.covers) same) holds owned
 
 -- a read at the authority of a leaf
 pub owned_read : (Ends : ℕ → Leaf → Type 0) (old new : Core) (roots : Roots) (leaf : Leaf) (rank : Rank) → Rules (state_of old) roots leaf rank → ReadsCore (IsThat rank.0 leaf) Ends old new → IsSoundCore new → IsOwned old roots → IsOwned new roots

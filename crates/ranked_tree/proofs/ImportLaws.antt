@@ -308,7 +308,7 @@ module _ (old new : Core) (regions : Regions) (later : Standing) (root : Leaf) (
       valid = rw (homes_stay, covers_stay) divided.stand.valid;
       placed = placed;
       ranked = λ leaf rank is. subst (λ (n : ℕ). rank.0 < n) (sym count) (divided.stand.ranked leaf rank is);
-      there = subst (λ (n : ℕ). AreThere n later) (sym count) (step_there regions.exports later root Sent Imported (length old.caches.used) (Ok tt) step divided.stand.there);
+      there = subst (λ (n : ℕ). AreThere n later) (sym count) (step_there (length old.caches.used) regions.exports later root Sent Imported step divided.stand.there);
       unbegun = λ leaf job is frozen. divided.stand.unbegun leaf job (ap (λ (s : TreeState). map.get s.jobs leaf) (sym takes.renewed.left) ∙ is)
           ((hands.frozen leaf).0 (over (λ (h : Homes) (cs : Covers). IsFrozen later regions.roots.roots h cs leaf) old.homes new.homes old.covers new.covers (sym homes_stay) (sym covers_stay) frozen));
     }

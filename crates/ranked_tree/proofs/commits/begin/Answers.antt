@@ -17,7 +17,7 @@ pub returns-clause-divided : goal.returns-clause-divided
 returns-clause-divided g c =
     let stay = begun_stays (state_of c.args.tree.now) (state_of c.begin.new.self) (leaf_of c.args.at.now) c.begin.result c.begin.ensures.begun in
     divided_begun c.args.tree.now c.begin.new.self c.args.regions.now c.requires.divided
-    (owned_came (IsThat c.args.at.now.rank.0 (leaf_of c.args.at.now)) NoneEnds c.args.tree.now c.begin.new.self (held_in c.args.regions.now) c.begin.ensures.came c.begin.ensures.sound stay.0 stay.1 (λ r q that live. is_that (state_of c.args.tree.now) (held_in c.args.regions.now) (leaf_of c.args.at.now) c.args.at.now.rank c.requires.held r q that) c.requires.divided.owned)
+    (owned_came (IsThat c.args.at.now.rank.0 (leaf_of c.args.at.now)) NoneEnds c.args.tree.now c.begin.new.self c.begin.ensures.came c.begin.ensures.sound (held_in c.args.regions.now) stay.0 stay.1 (λ r q that live. is_that (state_of c.args.tree.now) (held_in c.args.regions.now) (leaf_of c.args.at.now) c.args.at.now.rank c.requires.held r q that) c.requires.divided.owned)
     (returns-clause-count g c) (leaf_of c.args.at.now) c.requires.thawed c.begin.result c.begin.ensures.begun stay.0 stay.1
 
 pub returns-clause-came : goal.returns-clause-came

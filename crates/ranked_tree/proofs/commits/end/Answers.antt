@@ -28,7 +28,7 @@ returns-clause-divided g c =
     let rules_here : Rules (state_of c.args.tree.now) (held_in c.args.regions.now) (leaf_of c.args.encoded.now.job) c.in-Some.rank
     = subst (λ (job : Job). Rules (state_of c.args.tree.now) (held_in c.args.regions.now) (leaf_of job) c.in-Some.rank) c.job-job.ensures.job c.in-Some.ensures.1 in
     divided_still c.args.tree.now c.end.new.self c.args.regions.now c.requires.divided
-    (owned_came (IsThat c.in-Some.rank.0 (leaf_of c.args.encoded.now.job)) NoneEnds c.args.tree.now c.end.new.self (held_in c.args.regions.now) c.end.ensures.came c.end.ensures.sound stay.0 stay.1 (λ r q that live. is_that (state_of c.args.tree.now) (held_in c.args.regions.now) (leaf_of c.args.encoded.now.job) c.in-Some.rank rules_here r q that) c.requires.divided.owned)
+    (owned_came (IsThat c.in-Some.rank.0 (leaf_of c.args.encoded.now.job)) NoneEnds c.args.tree.now c.end.new.self c.end.ensures.came c.end.ensures.sound (held_in c.args.regions.now) stay.0 stay.1 (λ r q that live. is_that (state_of c.args.tree.now) (held_in c.args.regions.now) (leaf_of c.args.encoded.now.job) c.in-Some.rank rules_here r q that) c.requires.divided.owned)
     (returns-clause-count g c) (jobs_ended (state_of c.args.tree.now) (state_of c.end.new.self) c.args.tree.now.faults c.end.new.self.faults c.args.encoded.now.job c.end.result c.end.ensures.ended) stay.0 stay.1
 
 pub returns-in_default-clause-came : goal.returns-in_default-clause-came

@@ -9,7 +9,7 @@ invariant_of-self g c =
     let done = c.flush-done in
     let kept = done.ensures.tree in
     divided_still c.self.inside.tree done.new.self c.self.inside.regions c.self.invariant
-    (owned_came (HasFragment c.self.inside.tree.caches) NoneEnds c.self.inside.tree done.new.self (held_in c.self.inside.regions) kept.caches done.ensures.sound kept.homes kept.covers
+    (owned_came (HasFragment c.self.inside.tree.caches) NoneEnds c.self.inside.tree done.new.self kept.caches done.ensures.sound (held_in c.self.inside.regions) kept.homes kept.covers
     (holds_what_it_has c.self.inside.tree (held_in c.self.inside.regions) c.self.invariant.owned) c.self.invariant.owned)
     (came_ranks (HasFragment c.self.inside.tree.caches) NoneEnds c.self.inside.tree.caches done.new.self.caches kept.caches) (no_jobs c.self.inside.tree done.new.self done.ensures.jobs) kept.homes kept.covers
 
