@@ -56,7 +56,7 @@ pub use Rattle.inode_table.proofs.Tables.{still_known, tree_of_row}
 pub use Rattle.inode_table.specs.Dirs.{Counts, Covers, Homes, IsLeafAt, IsLive, IsTable, MayCome, MayGo, MayMove, RefusesLeaves, count_of, is_known, leaves_of, or_whole}
 pub use Rattle.inode_table.specs.TreeTable.{home_at, with_home}
 pub use Rattle.inode_table.specs.declared.dirs.Home.{Home}
-pub use Rattle.mdcache.proofs.CoreLaws.{reads_keeps, reads_state}
+pub use Rattle.mdcache.proofs.CoreLaws.{not_found_weaker, reads_keeps, reads_state}
 pub use Rattle.mdcache.proofs.CountLaws.{regroup_free}
 pub use Rattle.mdcache.proofs.FragsLaws.{keeps_itself, keeps_on, keeps_refused, lacked_at, refused_later}
 pub use Rattle.mdcache.proofs.GatherLaws.{gathers_listed, leaf_more}
@@ -139,7 +139,7 @@ pub use Rattle.std.proofs.lemmas.Bool.{and_from, and_parts, and_right, cases_lt,
 pub use Rattle.std.proofs.lemmas.Bool.Decides.{nat_tests}
 pub use Rattle.std.proofs.lemmas.List.{length-replicate}
 pub use Rattle.std.proofs.lemmas.Option.{none-some, same_Some}
-pub use Rattle.std.proofs.lemmas.Result.{on_ok_weaker}
+pub use Rattle.std.proofs.lemmas.Result.{IfErr-weaker, IfOk-weaker, on_err_weaker, on_ok_weaker}
 pub use Rattle.std.specs.Cmp.{tied_itself}
 pub use Rattle.std.specs.FinMap.{empty_of_len, find, get-empty, get-entries, same_map}
 pub use Rattle.std.specs.List.{Contains, IsDistinct, list_all, list_any}

@@ -74,10 +74,6 @@ module _ (Uses Ends : ℕ → Leaf → Type 0) (old new : Core) (roots : Roots) 
       let same = reads_state Uses Ends old new reads in
       owned_came Uses Ends old new (reads_came Uses Ends old.objects old.caches new.caches reads.caches) sound roots (ap (λ (s : TreeState). s.homes) same) (ap (λ (s : TreeState). s.covers) same) holds owned
 
--- a read at the authority of a leaf
-pub owned_read : (Ends : ℕ → Leaf → Type 0) (old new : Core) (roots : Roots) (leaf : Leaf) (rank : Rank) → Rules (state_of old) roots leaf rank → ReadsCore (IsThat rank.0 leaf) Ends old new → IsSoundCore new → IsOwned old roots → IsOwned new roots
-owned_read Ends old new roots leaf rank rules reads sound owned = owned_reads (IsThat rank.0 leaf) Ends old new roots reads sound (λ r q that live. is_that (state_of old) roots leaf rank rules r q that) owned
-
 -- the caches stay
 pub owned_same : (old new : Core) (roots : Roots) → new.homes ≡ old.homes → new.covers ≡ old.covers → new.caches ≡ old.caches → IsSoundCore new → IsOwned old roots → IsOwned new roots
 owned_same old new roots homes covers caches sound owned = record {
