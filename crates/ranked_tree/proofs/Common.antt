@@ -97,7 +97,7 @@ pub use Rattle.mdcache.specs.StandingJobs.{IsNext, Jobs, is_behind}
 pub use Rattle.mdcache.specs.State.{State}
 pub use Rattle.mds_types.proofs.DirectoryLaws.{entries_there, entry_stands}
 pub use Rattle.mds_types.proofs.LeafLaws.{get_beside, get_left, get_put, get_removed, leaf-exact, leaf-total, same_or_apart}
-pub use Rattle.mds_types.proofs.ListingLaws.{names_are_listed, no_entries_listed}
+pub use Rattle.mds_types.proofs.ListingLaws.{less_is, names_are_listed, no_entries_listed}
 pub use Rattle.mds_types.specs.Frag.{Fragment, IsFragment, child_of, root_fragment, span}
 pub use Rattle.mds_types.specs.Leaf.{leaf_cmp, leaf_of}
 pub use Rattle.mds_types.specs.Shape.{Lists, Looks, Moves, Removes, Sets, Unlinks, shape}

@@ -1,5 +1,5 @@
 -- What a change of the tree leaves: each cached fragment is at its leaf's authority then.
-use Rattle.ranked_tree.proofs.Common.{AreHeld, AreHeldAt, Bool, Came, Change, Core, Covers, Dirfrag, EndsWith, Fragment, HasLeaf, HoldsAt, Home, Homes, IfSome, Ino, Inode, IsLive, IsNamedIn, IsOwned, IsPick, IsSome, IsSound, IsSoundCore, IsTable, IsThat, KeepsAuthorities, Leaf, List, Makes, MayChange, MayCome, MayGo, None, Option, Rank, Roots, Rules, Shape, Some, Spot, [], add, adds, ap, dentry_at, false, first_leaf, get_beside, get_left, get_put, hash_of, home_at, inherited, inl, inr, is_dir_kind, is_known, is_some, leaf_of, leaves_of, may_come, move, moved_known, only_leaf, or_whole, refl, remove, root_fragment, rows_but, rules, same_or_apart, set, shape_of, shown_in, shown_tree, state_of, still_known, subst, sym, true, with_home, ℕ, ◌==◌, ◌||◌, ◌∙◌, ◌∷◌, ◌≡◌, ◌⊎◌}
+use Rattle.ranked_tree.proofs.Common.{AreHeld, AreHeldAt, Bool, Came, Change, Core, Covers, Dirfrag, EndsWith, Fragment, HasLeaf, HoldsAt, Home, Homes, IfSome, Ino, Inode, IsLive, IsNamedIn, IsOwned, IsPick, IsSome, IsSound, IsSoundCore, IsTable, IsThat, KeepsAuthorities, Leaf, List, Makes, MayChange, MayCome, MayGo, None, Option, Rank, Roots, Rules, Shape, Some, Spot, [], add, adds, ap, dentry_at, false, first_leaf, get_beside, get_left, get_put, hash_of, home_at, inherited, inl, inr, is_dir_kind, is_some, leaf_of, leaves_of, may_come, move, moved_known, only_leaf, or_whole, refl, remove, root_fragment, rows_but, rules, same_or_apart, set, shape_of, shown_in, shown_tree, state_of, still_known, subst, sym, true, with_home, ℕ, ◌==◌, ◌||◌, ◌∙◌, ◌∷◌, ◌≡◌, ◌⊎◌}
 use Rattle.std.specs.FinMap as map
 use Rattle.sorted_map.proofs.NatKeys as nat
 use Rattle.mdcache.specs.State.{State as TreeState}
@@ -23,13 +23,6 @@ IsComing change q = IsComingBy change.comes change.puts q
 
 -- a leaf of tables in which a directory came
 module _ (homes : Homes) (covers : Covers) (table : IsTable homes covers) (dir : Ino) (home : Home) (come : MayCome homes dir.0 home) where
-  unknown : is_known homes dir.0 ≡ false
-  unknown = go (is_known homes dir.0) refl
-    where
-      go : (b : Bool) → is_known homes dir.0 ≡ b → b ≡ false
-      go true is = absurd (was_unknown homes dir.0 home come is)
-      go false is = refl
-
   no_row : leaves_of covers dir.0 ≡ root_fragment ∷ []
   no_row = go (map.get covers dir.0) refl
     where

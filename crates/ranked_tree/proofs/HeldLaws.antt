@@ -1,5 +1,5 @@
 -- Each cached fragment stays at the rank that holds its leaf. Here the roots are those with the ranks that hold their regions.
-use Rattle.ranked_tree.proofs.Common.{AreHeld, At, CacheMap, Cached, Came, Core, Ends, IsFree, IsLive, IsOwned, IsSoundCore, IsThat, IsThere, KeepsAuthorities, KeepsNone, Leaf, MayHold, None, NoneEnds, Option, Rank, ReadsCore, Roots, Rules, Some, UsedAt, UsesAt, ap, came_held, came_ranks, came_weaker, has_place, here, here_is, length, one_authority, reads_came, reads_state, refl, rules, state_of, subst, sym, true, ℕ, ⊎_elim, ◌<◌, ◌≡◌}
+use Rattle.ranked_tree.proofs.Common.{AreHeld, At, CacheMap, Cached, Came, Core, Ends, IsFree, IsLive, IsOwned, IsSoundCore, IsThat, IsThere, KeepsAuthorities, KeepsNone, Leaf, MayHold, None, NoneEnds, Option, Rank, ReadsCore, Roots, Rules, Some, UsedAt, UsesAt, ap, came_cap, came_held, came_ranks, came_weaker, has_place, here, here_is, length, one_authority, reads_came, reads_state, refl, rules, state_of, subst, sym, true, ℕ, ⊎_elim, ◌<◌, ◌≡◌}
 use Rattle.std.specs.FinMap as map
 use Rattle.mdcache.specs.State.{State as TreeState}
 
@@ -45,11 +45,6 @@ still_have tree caches later roots held count leaf rank is = subst (λ (n : ℕ)
 pub is_that : (tree : TreeState) (roots : Roots) (leaf : Leaf) (rank : Rank) → Rules tree roots leaf rank → (r : ℕ) (q : Leaf) → IsThat rank.0 leaf r q → Rules tree roots q (record { 0 = r })
 is_that tree roots leaf rank rules r q that = subst (λ (n : ℕ). Rules tree roots q (record { 0 = n })) (sym that.0) (subst (λ (l : Leaf). Rules tree roots l rank) (sym that.1) rules)
 
--- uses of that leaf at its authority
-pub that_came : (tree : TreeState) (roots : Roots) (leaf : Leaf) (rank : Rank) → Rules tree roots leaf rank → (old new : CacheMap) → Came (IsThat rank.0 leaf) NoneEnds old new → UsesAt (Rules tree roots leaf) leaf old new
-that_came tree roots leaf rank rules old new came =
-    came_weaker (IsThat rank.0 leaf) NoneEnds (UsedAt (Rules tree roots leaf) (λ (q : Leaf). q ≡ leaf)) NoneEnds (λ r q that. (subst (λ (n : ℕ). Rules tree roots leaf (record { 0 = n })) (sym that.0) rules, that.1)) (λ r q none. none) old new came
-
 -- where each leaf that stays keeps its authority, and each that is used is so at its own
 module _ (Uses Ends : ℕ → Leaf → Type 0) (old new : Core) (came : Came Uses Ends old.caches new.caches) (sound : IsSoundCore new) where
   pub held_since : (before after : Roots) → IsOwned old before → KeepsAuthorities (state_of old) (state_of new) before after → HaveCaches after new.caches
@@ -74,11 +69,18 @@ module _ (Uses Ends : ℕ → Leaf → Type 0) (old new : Core) (roots : Roots) 
       let same = reads_state Uses Ends old new reads in
       owned_came Uses Ends old new (reads_came Uses Ends old.objects old.caches new.caches reads.caches) sound roots (ap (λ (s : TreeState). s.homes) same) (ap (λ (s : TreeState). s.covers) same) holds owned
 
--- the caches stay
-pub owned_same : (old new : Core) (roots : Roots) → new.homes ≡ old.homes → new.covers ≡ old.covers → new.caches ≡ old.caches → IsSoundCore new → IsOwned old roots → IsOwned new roots
-owned_same old new roots homes covers caches sound owned = record {
-  sound = sound;
-  valid = rw (homes, covers) owned.valid;
-  held = held_after (state_of new) new.caches roots (still_have (state_of old) old.caches new.caches roots owned.held (ap (λ (k : CacheMap). length k.used) caches)) sound.none
-      (λ leaf a is. rw (homes, covers) (owned.held.cached leaf a (rw (← caches) is)));
+-- uses of a leaf at its authority, where directories and leaves stay
+pub record IsUsed (old new : Core) (roots : Roots) (leaf : Leaf) : Type 0 where
+  pub came : UsesAt (Rules (state_of old) roots leaf) leaf old.caches new.caches
+  pub count : length new.caches.used ≡ length old.caches.used
+  pub cap : new.caches.cap ≡ old.caches.cap
+  pub owned : IsOwned new roots
+
+pub used_at : (old new : Core) (roots : Roots) (leaf : Leaf) (rank : Rank) → IsOwned old roots → Rules (state_of old) roots leaf rank → Came (IsThat rank.0 leaf) NoneEnds old.caches new.caches → IsSoundCore new → new.homes ≡ old.homes → new.covers ≡ old.covers → IsUsed old new roots leaf
+used_at old new roots leaf rank owned rules came sound homes covers = record {
+  came = came_weaker (IsThat rank.0 leaf) NoneEnds (UsedAt (Rules (state_of old) roots leaf) (λ (q : Leaf). q ≡ leaf)) NoneEnds
+      (λ r q that. (subst (λ (n : ℕ). Rules (state_of old) roots leaf (record { 0 = n })) (sym that.0) rules, that.1)) (λ r q none. none) old.caches new.caches came;
+  count = came_ranks (IsThat rank.0 leaf) NoneEnds old.caches new.caches came;
+  cap = came_cap (IsThat rank.0 leaf) NoneEnds old.caches new.caches came;
+  owned = owned_came (IsThat rank.0 leaf) NoneEnds old new came sound roots homes covers (λ r q that live. is_that (state_of old) roots leaf rank rules r q that) owned;
 }

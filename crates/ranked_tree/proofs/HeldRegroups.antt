@@ -1,16 +1,11 @@
 -- What splits and merges leave: each cached fragment is at its leaf's authority then.
-use Rattle.ranked_tree.proofs.Common.{AllHave, AreHeld, AreRoots, CacheMap, Came, CameAt, CanMerge, CanSplit, Contains, Core, FitsSplit, Fragment, GivesToChildren, HasLeaf, HaveOneAuthority, Ino, IsAmongOr, IsFamilyAt, IsFamilyOf, IsFragment, IsLive, IsMergedHere, IsOwned, IsSound, IsSoundCore, KeepsAuthorities, Leaf, MayHold, MayNotRegroup, MergesLeaves, Rank, Refusal, RefusesLeaves, RefusesMerge, RefusesSplit, Roots, Rules, SplitsLeaf, TakesOver, UsedAt, and_from, ap, arith, came_weaker, child_is_new, child_of, ending_at, eq-eqb, from_mapped, has_inside, in_directory, inl, inr, is_inside, is_known, leaves, leaves_inside, leaves_of, lies_inside, merged_is_new, range_from_inside, refl, rules, some_authority, some_inside, state_of, subst, sym, tree_of_row}
+use Rattle.ranked_tree.proofs.Common.{AllHave, AreHeld, AreRoots, CacheMap, Came, CameAt, CanMerge, CanSplit, Contains, Core, FitsSplit, Fragment, GivesToChildren, HasLeaf, HaveOneAuthority, Ino, IsAmongOr, IsFamilyAt, IsFamilyOf, IsFragment, IsLive, IsMergedHere, IsOwned, IsSound, IsSoundCore, KeepsAuthorities, Leaf, MayHold, MayNotRegroup, MergesLeaves, Rank, Refusal, RefusesMerge, RefusesSplit, Roots, Rules, SplitsLeaf, TakesOver, UsedAt, and_from, ap, arith, came_weaker, child_is_new, child_of, ending_at, eq-eqb, from_mapped, has_inside, in_directory, inl, inr, is_inside, is_known, leaves, leaves_inside, leaves_of, lies_inside, merged_is_new, range_from_inside, refl, rules, some_authority, some_inside, state_of, subst, sym, tree_of_row}
 use Rattle.std.specs.Prelude.{◌≡◌, ◌<◌, ◌==◌, ◌^◌, ℕ, true, map as each, length, List, Result, Ok, Err}
 use Rattle.std.specs.FinMap as map
 use Rattle.mdcache.specs.State.{State as TreeState}
 use Rattle.ranked_tree.proofs.HeldLaws.{HaveCaches, held_since, may_hold, owned_came}
 
 -- ---- why it was refused, in the words of whose places lack
-
--- what the leaves refuse is refused before anything is done
-pub not_begun : (Can : Type 0) (Refuses : Refusal → Type 0) (s : TreeState) (dir : Ino) (count : ℕ) (NoPlace : Type 0) (before after : ℕ) (reason : Refusal) → RefusesLeaves Refuses s.homes dir reason → MayNotRegroup Can Refuses s dir count NoPlace before after reason
-not_begun Can Refuses s dir count NoPlace before after reason (inl none) = inl none
-not_begun Can Refuses s dir count NoPlace before after reason (inr their) = inr (inl their)
 
 pub regroup_on : (Can : Type 0) (Refuses : Refusal → Type 0) (s : TreeState) (dir : Ino) (count : ℕ) (NoPlace Fewer : Type 0) (before after : ℕ) (reason : Refusal) → (NoPlace → Fewer)
     → MayNotRegroup Can Refuses s dir count NoPlace before after reason → MayNotRegroup Can Refuses s dir count Fewer before after reason

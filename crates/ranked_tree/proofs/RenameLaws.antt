@@ -1,14 +1,10 @@
 -- What a directory's move needs of the roots: it keeps its leaves, and the rank that they inherit is known at both its dentries.
-use Rattle.ranked_tree.proofs.Common.{Bool, Change, Covers, Home, Homes, IfSome, Ino, Inode, IsInheritedAt, IsLostRank, IsRight, IsSettled, IsSound, IsSpot, MatchOption, MayChange, MayMove, None, Option, Rank, Roots, Rules, SettleMoving, Shape, Some, Spot, State, Tree, [], add, changed, cond, dentry_at, dir_moved, dir_moving, directory_at, entry_stands, false, home_at, is_dir_kind, is_directory, leaf_of, leaves_of, move, moves, refl, remove, same_Some, set, shape_of, shown_tree, subst, sym, taken, true, ◌≡◌, ◌≢◌}
+use Rattle.ranked_tree.proofs.Common.{Bool, Change, Covers, Home, Homes, IfSome, Ino, Inode, IsInheritedAt, IsLostRank, IsRight, IsSettled, IsSound, IsSpot, MatchOption, MayChange, MayMove, None, Option, Rank, Roots, Rules, SettleMoving, Shape, Some, Spot, State, Tree, [], add, changed, cond, dentry_at, dir_moved, dir_moving, directory_at, entry_stands, false, home_at, is_dir_kind, is_directory, leaf_of, leaves, leaves_of, move, moves, refl, remove, rules, same_Some, set, shape_of, shown_tree, subst, sym, taken, true, ◌≡◌, ◌≢◌}
 use Rattle.std.specs.FinMap as map
 use Rattle.mds_types.proofs.EntryLaws.{get_put}
 use Rattle.ranked_tree.proofs.SubtreeLaws.{moves_there, settled_at, settled_none}
 
--- nothing moves without a name that goes, or without one that gets an inode
-pub none_taken : (P : Ino → Type 0) (takes : Option Spot) (puts : Option (Spot × Inode)) → takes ≡ None → IfSome (dir_moved takes puts) P
-none_taken P None puts is = tt
-none_taken P (Some spot) puts is = let clash : Some spot ≡ None = is in absurd cc
-
+-- nothing moves without a name that gets an inode
 pub none_put : (takes : Option Spot) (puts : Option (Spot × Inode)) → puts ≡ None → dir_moved takes puts ≡ None
 none_put None puts is = refl
 none_put (Some spot) None is = refl

@@ -1,8 +1,9 @@
 -- What is kept of the exports that stand: by what changes neither directories nor roots, and by what changes no frozen leaf.
-use Rattle.ranked_tree.proofs.Common.{AllHave, Alters, AreFrozenRegionsKept, AreRoots, AreThawed, Begins, BeginsWith, CacheMap, CameAt, Change, Core, Covers, Drops, Ends, Err, Fragment, HasAuthority, HaveOneAuthority, Homes, Ino, IsDivided, IsFamilyOf, IsFrozen, IsFrozenIn, IsLive, IsMergedHere, IsOwned, IsSound, Job, Jobs, KeepsAuthorities, KeepsHolders, Leaf, List, Makes, MayChange, NearestRoot, NoNewRank, None, Ok, Option, Rank, Refusal, Regions, Result, Roots, Rules, Shape, Some, StandSoundly, Standing, StandingExport, Subtrees, Unsaved, UsedAt, add, ap, came_weaker, cond_both, dentry_at, get-empty, get_beside, get_holding, get_left, get_removed, get_without, held_in, holder_is, holder_or, holding, imported_freezes, inl, inr, is_dir_kind, is_imported, keep_frozen, keep_holders, leaf-exact, leaf-total, leaf_cmp, leaf_is, leaves, length, list_any, move, none-some, option_map, refl, region_holder, remove, rules, same_Some, same_map, same_or_apart, set, shape_of, shown_tree, state_of, subst, sym, unclean, with_directory, without, without_leaves, ℕ, ⊎_elim, ◌<◌, ◌∙◌, ◌≡◌, ◌≢◌, ◌⊎◌}
+use Rattle.ranked_tree.proofs.Common.{AllHave, Alters, AreFrozenRegionsKept, AreRoots, AreThawed, Begins, BeginsWith, CacheMap, CameAt, Change, Core, Covers, Drops, Ends, Err, Fragment, HasAuthority, HaveOneAuthority, Homes, Ino, IsDivided, IsFamilyOf, IsFrozen, IsFrozenIn, IsLive, IsMergedHere, IsOwned, IsSound, IsSoundCore, Job, Jobs, KeepsAuthorities, KeepsHolders, Leaf, List, Makes, MayChange, NearestRoot, NoNewRank, None, Ok, Option, Rank, Refusal, Regions, Result, Roots, Rules, Shape, Some, StandSoundly, Standing, StandingExport, Subtrees, Unsaved, UsedAt, add, ap, came_weaker, cond_both, dentry_at, get-empty, get_beside, get_holding, get_left, get_removed, get_without, held_in, holder_is, holder_or, holding, imported_freezes, inl, inr, is_dir_kind, is_imported, keep_frozen, keep_holders, leaf-exact, leaf-total, leaf_cmp, leaf_is, leaves, length, list_any, move, none-some, option_map, refl, region_holder, remove, rules, same_Some, same_map, same_or_apart, set, shape_of, shown_tree, state_of, subst, sym, unclean, with_directory, without, without_leaves, ℕ, ⊎_elim, ◌<◌, ◌∙◌, ◌≡◌, ◌≢◌, ◌⊎◌}
 use Rattle.std.specs.FinMap as map
 use Rattle.mdcache.specs.Commits.{leaf_of}
 use Rattle.mdcache.specs.State.{State as TreeState}
+use Rattle.ranked_tree.proofs.HeldLaws.{held_after}
 
 -- ---- jobs
 
@@ -135,6 +136,16 @@ divided_still old new regions divided owned count fewer homes covers = record {
   owned = owned;
   stand = stand_still (state_of old) (state_of new) (length old.caches.used) (length new.caches.used) regions.roots regions.roots regions.exports divided.stand count (λ leaf job is frozen. fewer leaf job is) homes covers refl refl;
 }
+
+-- nor do the caches
+pub divided_same : (old new : Core) (regions : Regions) → IsDivided old regions → new.caches ≡ old.caches → IsSoundCore new → FewerJobs (state_of old) (state_of new) → new.homes ≡ old.homes → new.covers ≡ old.covers → IsDivided new regions
+divided_same old new regions divided caches sound fewer homes covers =
+    let count : length new.caches.used ≡ length old.caches.used = ap (λ (k : CacheMap). length k.used) caches in
+    divided_still old new regions divided (record {
+      sound = sound;
+      valid = rw (homes, covers) divided.owned.valid;
+      held = held_after (state_of new) new.caches (held_in regions) (rw count divided.owned.held.ranks) sound.none (λ leaf a is. rw (homes, covers) (divided.owned.held.cached leaf a (ap (λ (k : CacheMap). map.get k.held leaf) (sym caches) ∙ is)));
+    }) count fewer homes covers
 
 -- a commit of a leaf that isn't frozen began, or was refused
 module _ (old new : Core) (regions : Regions) (divided : IsDivided old regions) (owned : IsOwned new (held_in regions)) (count : length new.caches.used ≡ length old.caches.used) (at : Leaf) (thawed : IsFrozenIn (state_of old) regions at → ⊥) where
