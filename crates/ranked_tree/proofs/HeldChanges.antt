@@ -1,12 +1,12 @@
 -- What a change of the tree leaves: each cached fragment is at its leaf's authority then.
-use Rattle.ranked_tree.proofs.Common.{AreHeld, AreHeldAt, Bool, Came, Change, Core, Covers, Dirfrag, EndsWith, Fragment, HasLeaf, HoldsAt, Home, Homes, IfSome, Ino, Inode, IsLive, IsNamedIn, IsOwned, IsPick, IsSome, IsSound, IsSoundCore, IsTable, IsThat, KeepsAuthorities, Leaf, List, Makes, MayChange, MayCome, MayGo, None, Option, Rank, Roots, Rules, Shape, Some, Spot, [], add, adds, ap, dentry_at, false, first_leaf, get_beside, get_left, get_put, hash_of, home_at, inherited, inl, inr, is_dir_kind, is_some, leaf_of, leaves_of, may_come, move, moved_known, only_leaf, or_whole, refl, remove, root_fragment, rows_but, rules, same_or_apart, set, shape_of, shown_in, shown_tree, state_of, still_known, subst, sym, true, with_home, ℕ, ◌==◌, ◌||◌, ◌∙◌, ◌∷◌, ◌≡◌, ◌⊎◌}
+use Rattle.ranked_tree.proofs.Common.{AreHeld, AreHeldAt, Bool, Came, Change, Core, Covers, EndsWith, Fragment, HasLeaf, Home, Homes, IfSome, Ino, Inode, IsLive, IsNamedIn, IsOwned, IsPick, IsSome, IsSound, IsSoundCore, IsTable, IsThat, KeepsAuthorities, Leaf, List, Makes, MayChange, MayCome, MayGo, None, Option, Rank, Roots, Rules, Shape, Some, Spot, [], add, adds, ap, dentry_at, false, first_leaf, get_beside, get_left, get_put, hash_of, home_at, inherited, inl, inr, is_dir_kind, is_some, leaf_of, leaves_of, may_come, move, moved_known, only_leaf, or_whole, refl, remove, root_fragment, rows_but, rules, same_or_apart, set, shape_of, shown_in, shown_tree, state_of, still_known, subst, sym, true, with_home, ℕ, ⊎_elim, ◌==◌, ◌||◌, ◌∙◌, ◌∷◌, ◌≡◌, ◌⊎◌}
 use Rattle.std.specs.FinMap as map
 use Rattle.sorted_map.proofs.NatKeys as nat
 use Rattle.mdcache.specs.State.{State as TreeState}
 use Rattle.ranked_tree.proofs.MoveLaws.{relocates, replaces}
 use Rattle.ranked_tree.proofs.ChangedTables.{TablesAre, added_tables, grown_tables, moved_tables, removed_tables, set_tables}
 use Rattle.ranked_tree.proofs.HeldLaws.{HaveCaches, held_since, is_that}
-use Rattle.ranked_tree.proofs.HolderLaws.{added_live, new_is_not_live, removed_live, set_live, source_live, target_live, was_unknown}
+use Rattle.ranked_tree.proofs.HolderLaws.{named_by, new_is_not_live, put_live, was_unknown}
 use Rattle.ranked_tree.proofs.RootLaws.{is_elsewhere}
 use Rattle.ranked_tree.proofs.SubtreeLaws.{over, removable}
 
@@ -104,7 +104,7 @@ module _ (old new : Core) (before after : Roots) (owned : IsOwned old before) (n
     comes = may_come (shown_in old) old.homes (dentry_at spot) inode sound.tabled may.takes
 
     holder_live : IsLive old.homes old.covers holder
-    holder_live = added_live (state_of old) sound spot inode may
+    holder_live = put_live (state_of old) sound (adds spot inode) may (spot, inode) refl
 
     holder_stays : IsLive new.homes new.covers holder
     holder_stays =
@@ -133,23 +133,18 @@ module _ (old new : Core) (before after : Roots) (owned : IsOwned old before) (n
   -- a leaf that a change names is used at its authority
   named : (change : Change) → AreHeldAt (state_of old) before change → MayChange (shown_in old) old.covers change → Makes change (state_of old) (state_of new) → (change.comes ≡ true → after ≡ before) → (r : ℕ) (q : Leaf) → IsNamedIn change r q → IsLive new.homes new.covers q
       → Rules (state_of new) after q (record { 0 = r })
-  named change held may makes follow r q is live = go change (shape_of (shown_in old) old.covers change may) held may makes follow is
+  named change held may makes follow r q is live =
+      ⊎_elim (λ its. keeps q (record { 0 = r }) its.1 live its.2)
+      (λ come.
+      coming come.0 come.1 (subst (MayChange (shown_in old) old.covers) come.2 may) (subst (λ (c : Change). Makes c (state_of old) (state_of new)) come.2 makes) (follow (ap (λ (c : Change). c.comes) come.2)) (subst (AreHeldAt (state_of old) before) come.2 held) come.3)
+      (named_by (state_of old) sound before change may held r q is)
     where
-      -- one that was live
-      old_leaf : (at : Dirfrag) → IsLive old.homes old.covers (leaf_of at) → HoldsAt (state_of old) before at → IsThat at.rank.0 (leaf_of at) r q → Rules (state_of new) after q (record { 0 = r })
-      old_leaf at lived holds that = keeps q (record { 0 = r }) (subst (IsLive old.homes old.covers) (sym that.1) lived) live (is_that (state_of old) before (leaf_of at) at.rank holds r q that)
-
-      go : (change : Change) → Shape change → AreHeldAt (state_of old) before change → MayChange (shown_in old) old.covers change → Makes change (state_of old) (state_of new) → (change.comes ≡ true → after ≡ before) → IsNamedIn change r q → Rules (state_of new) after q (record { 0 = r })
-      go _ (add spot inode) held may makes follow (inl that) = old_leaf spot.at (added_live (state_of old) sound spot inode may) held.put that
-      go _ (add spot inode) held may makes follow (inr that) = by (stood (adds spot inode) (state_of old) (state_of new) sound may makes q live)
-        where
-          by : IsLive old.homes old.covers q ⊎ IsComing (adds spot inode) q → Rules (state_of new) after q (record { 0 = r })
-          by (inl lived) = absurd (new_is_not_live (state_of old) sound spot inode may (subst (IsLive old.homes old.covers) that.1 lived))
-          by (inr comes) = is_that (state_of new) after (first_leaf inode.ino) spot.at.rank (first_inherits spot inode may makes (follow refl) spot.at.rank held.put comes.0) r q that
-      go _ (set spot inode) held may makes follow that = old_leaf spot.at (set_live (state_of old) sound spot inode may) held.put that
-      go _ (remove spot went) held may makes follow that = old_leaf spot.at (removed_live (state_of old) sound spot went may) held.taken that
-      go _ (move source target inode went) held may makes follow (inl that) = old_leaf source.at (source_live (state_of old) sound source target inode went may) held.taken that
-      go _ (move source target inode went) held may makes follow (inr that) = old_leaf target.at (target_live (state_of old) sound source target inode went may) held.put that
+      coming : (spot : Spot) (inode : Inode) → MayChange (shown_in old) old.covers (adds spot inode) → Makes (adds spot inode) (state_of old) (state_of new) → after ≡ before → AreHeldAt (state_of old) before (adds spot inode) → IsThat spot.at.rank.0 (first_leaf inode.ino) r q
+          → Rules (state_of new) after q (record { 0 = r })
+      coming spot inode able done same at that =
+          ⊎_elim (λ lived. absurd (new_is_not_live (state_of old) sound spot inode able (subst (IsLive old.homes old.covers) that.1 lived)))
+          (λ comes. is_that (state_of new) after (first_leaf inode.ino) spot.at.rank (first_inherits spot inode able done same spot.at.rank at.put comes.0) r q that)
+          (stood (adds spot inode) (state_of old) (state_of new) sound able done q live)
 
   -- a change leaves each cached fragment at its leaf's authority
   pub change_held : (change : Change) → AreHeldAt (state_of old) before change → MayChange (shown_in old) old.covers change → Makes change (state_of old) (state_of new) → (change.comes ≡ true → after ≡ before) → HaveCaches after new.caches

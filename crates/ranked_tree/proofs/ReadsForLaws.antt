@@ -1,10 +1,9 @@
 -- What reads of a directory's leaves make of the caches, one after the other.
-use Rattle.ranked_tree.proofs.Common.{AreHeldAt, AsksFor, Change, Concerns, ConcernsIn, Core, Dentry, HoldsAt, Inode, IsChangeIn, IsNamedIn, IsSound, IsThat, KeepsRanked, KeepsState, Leaf, Lists, Looks, MayChange, Moves, NamesBy, NamesDir, None, NoneEnds, Op, Option, PutsAt, Ranked, Reads, ReadsCore, ReadsFor, Refusal, Removes, Roots, Rules, Sets, Shape, Some, Spot, TakesAt, Tree, Unlinks, add, ap, dentry_at, false, held_roots, inl, inr, is_known, keeps_on, leaf_of, may_come, move, none-some, reads_then, reads_weaker, remove, set, shape_of, shown_tree, state_of, subst, sym, ℕ, ⊎_elim, ◌∙◌, ◌≡◌}
+use Rattle.ranked_tree.proofs.Common.{AreHeldAt, AsksFor, Change, Concerns, ConcernsIn, Core, Dentry, Inode, IsChangeIn, IsNamedIn, IsSound, KeepsRanked, KeepsState, Leaf, Lists, Looks, MayChange, Moves, NamesBy, NamesDir, None, NoneEnds, Op, Option, PutsAt, Ranked, Reads, ReadsCore, ReadsFor, Refusal, Removes, Roots, Sets, Some, Spot, TakesAt, Tree, Unlinks, ap, dentry_at, false, held_roots, inl, inr, is_known, keeps_on, may_come, none-some, reads_then, reads_weaker, shown_tree, state_of, subst, sym, ℕ, ⊎_elim, ◌∙◌, ◌≡◌}
 use Rattle.mds_types.specs.Shape.{Shape as OpShape, Makes}
 use Rattle.mdcache.specs.State.{State as TreeState}
 use Rattle.ranked_tree.proofs.AskLaws.{held_still}
-use Rattle.ranked_tree.proofs.HeldLaws.{is_that}
-use Rattle.ranked_tree.proofs.HolderLaws.{is_unknown}
+use Rattle.ranked_tree.proofs.HolderLaws.{is_unknown, named_by}
 
 -- reads after others
 pub reads_on : (roots : Roots) (Asked : ℕ → Type 0) (a b c : Core) → KeepsState a b None → ReadsFor roots Asked a b → ReadsFor roots Asked b c → ReadsFor roots Asked a c
@@ -29,21 +28,13 @@ keeps_ranked_on a b c op told first second = record {
 }
 
 -- the leaves that a change names lie in directories that it names, each at its rank, or it is that of a directory that comes
-module _ (old : Core) (roots : Roots) where
-  at_spot : (spot : Spot) → HoldsAt (state_of old) roots spot.at → (r : ℕ) (q : Leaf) → IsThat spot.at.rank.0 (leaf_of spot.at) r q → (q.0.0 ≡ spot.at.dir.0) × Rules (state_of old) roots q (record { 0 = r })
-  at_spot spot holds r q that = (ap (λ (l : Leaf). l.0.0) that.1, is_that (state_of old) roots (leaf_of spot.at) spot.at.rank holds r q that)
-
-  pub asks_change : (change : Change) → IsSound (state_of old) → MayChange (shown_tree (state_of old)) old.covers change → AreHeldAt (state_of old) roots change → (r : ℕ) (q : Leaf) → IsNamedIn change r q → AsksFor (state_of old) roots (NamesDir change) r q
-  asks_change change sound may held r q is = go change (shape_of (shown_tree (state_of old)) old.covers change may) may held is
-    where
-      go : (made : Change) → Shape made → MayChange (shown_tree (state_of old)) old.covers made → AreHeldAt (state_of old) roots made → IsNamedIn made r q → AsksFor (state_of old) roots (NamesDir made) r q
-      go _ (add spot inode) able at (inl that) = inl (at_spot spot at.put r q that)
-      go _ (add spot inode) able at (inr that) =
-          inr (subst (λ (l : Leaf). is_known old.homes l.0.0 ≡ false) (sym that.1) (is_unknown old.homes inode.ino.0 _ (may_come (shown_tree (state_of old)) old.homes (dentry_at spot) inode sound.tabled able.takes)), ap (λ (l : Leaf). l.1) that.1)
-      go _ (set spot inode) able at that = inl (at_spot spot at.put r q that)
-      go _ (remove spot went) able at that = inl (at_spot spot at.taken r q that)
-      go _ (move source target inode went) able at (inl that) = let here = at_spot source at.taken r q that in inl (inl here.0, here.1)
-      go _ (move source target inode went) able at (inr that) = let there = at_spot target at.put r q that in inl (inr there.0, there.1)
+pub asks_change : (old : Core) (roots : Roots) (change : Change) → IsSound (state_of old) → MayChange (shown_tree (state_of old)) old.covers change → AreHeldAt (state_of old) roots change → (r : ℕ) (q : Leaf) → IsNamedIn change r q → AsksFor (state_of old) roots (NamesDir change) r q
+asks_change old roots change sound may held r q is =
+    ⊎_elim (λ its. inl (its.0, its.2))
+    (λ new.
+    let come = may_come (shown_tree (state_of old)) old.homes (dentry_at new.0) new.1 sound.tabled (subst (MayChange (shown_tree (state_of old)) old.covers) new.2 may).takes in
+    inr (subst (λ (l : Leaf). is_known old.homes l.0.0 ≡ false) (sym new.3.1) (is_unknown old.homes new.1.ino.0 _ come), ap (λ (l : Leaf). l.1) new.3.1))
+    (named_by (state_of old) sound roots change may held r q is)
 
 -- reads of them
 pub reads_change : (old new : Core) (roots : Roots) (change : Change) → IsSound (state_of old) → MayChange (shown_tree (state_of old)) old.covers change → AreHeldAt (state_of old) roots change → ReadsCore (IsNamedIn change) NoneEnds old new

@@ -1,5 +1,5 @@
 -- What a change of the tree makes of the roots, and of every leaf's authority.
-use Rattle.ranked_tree.proofs.Common.{AreRoots, Bool, Change, Covers, Dentry, FollowChange, Fragment, GivesToChildren, HasAuthority, HaveOneAuthority, Homes, IfSome, Ino, Inode, IsMergedInto, IsRootMerge, IsRootSplit, IsSettled, IsSound, IsSplitInto, IsSubtrees, IsTable, LoseDirectory, Makes, MatchBool, MatchOption, MayChange, MayGo, MayMove, None, Option, Roots, SettleBy, SettleMove, SettleMoving, Shape, Some, Spot, State, TakesOver, add, ap, cond, dentry_at, dir_moved, dir_moving, directory_at, false, home_at, is_dir_kind, may_come, may_drop, move, moved_home, moved_known, refl, remove, removes, rows_but, same_Some, set, shape_of, shown_tree, subst, sym, true, with_dir, with_file, with_home, ℕ, ◌∙◌, ◌≡◌}
+use Rattle.ranked_tree.proofs.Common.{AreRoots, Bool, Change, Covers, Dentry, FollowChange, Fragment, GivesToChildren, HasAuthority, HaveOneAuthority, Homes, IfSome, Ino, Inode, IsMergedInto, IsRootMerge, IsRootSplit, IsSettled, IsSound, IsSplitInto, IsSubtrees, IsTable, LoseDirectory, Makes, MatchBool, MayChange, MayGo, MayMove, None, Option, Roots, SettleMove, Shape, Some, Spot, State, TakesOver, add, ap, cond, dentry_at, directory_at, false, home_at, is_dir_kind, may_come, may_drop, move, moved_home, moved_known, refl, remove, removes, rows_but, set, shape_of, shown_tree, subst, sym, true, with_dir, with_file, with_home, ℕ, ◌∙◌, ◌≡◌}
 use Rattle.std.specs.FinMap as map
 use Rattle.ranked_tree.proofs.MoveLaws.{relocates, replaces}
 use Rattle.ranked_tree.proofs.ChangedTables.{TablesAre, added_tables, grown_tables, moved_tables, removed_tables, set_tables}
@@ -92,48 +92,6 @@ soundly _ (move source target inode went) old new before after sound may makes f
 pub changes_soundly : (change : Change) (old new : State) (before after : Roots) → IsSound old → MayChange (shown_tree old) old.covers change → Makes change old new → FollowChange change old before after → AreRoots old before
     → IsSoundChange before after old.homes new.homes old.covers new.covers
 changes_soundly change old new before after sound may makes follow valid = soundly change (shape_of (shown_tree old) old.covers change may) old new before after sound may makes follow valid
-
--- ---- what is about to move
-
-module _ (tree : State) where
-  -- a directory that moves may have its home there
-  pub moves_there : (change : Change) → IsSound tree → MayChange (shown_tree tree) tree.covers change → (put : Spot × Inode) → change.puts ≡ Some put → IfSome (dir_moving change) (λ (dir : Ino). MayMove tree.homes dir.0 (home_at (dentry_at put.0)))
-  moves_there change sound may = go change (shape_of (shown_tree tree) tree.covers change may) may
-    where
-      go : (made : Change) → Shape made → MayChange (shown_tree tree) tree.covers made → (put : Spot × Inode) → made.puts ≡ Some put → IfSome (dir_moving made) (λ (dir : Ino). MayMove tree.homes dir.0 (home_at (dentry_at put.0)))
-      go _ (add spot inode) able put is = tt
-      go _ (set spot inode) able put is = tt
-      go _ (remove spot went) able put is = tt
-      go _ (move source target inode went) able put is =
-          subst (λ (p : Spot × Inode). IfSome (directory_at (Some inode)) (λ (dir : Ino). MayMove tree.homes dir.0 (home_at (dentry_at p.0)))) (same_Some (target, inode) put is) (by (is_dir_kind inode.kind) refl)
-        where
-          by : (b : Bool) → is_dir_kind inode.kind ≡ b → IfSome (cond b (Some inode.ino) None) (λ (dir : Ino). MayMove tree.homes dir.0 (home_at (dentry_at target)))
-          by true kinded = relocates tree sound source target inode went able kinded
-          by false kinded = tt
-
-  -- it is settled, where it is a directory
-  pub settled_at : (change : Change) (put : Spot × Inode) → change.puts ≡ Some put → (before after : Roots) → MatchOption (dir_moving change) (after ≡ before) (λ (dir : Ino). IsSettled before after tree.homes tree.covers dir.0 (home_at (dentry_at put.0))) → SettleMoving change tree before after
-  settled_at change put is before after = go change.takes change.puts is
-    where
-      Told : Spot → Option Ino → Type 0
-      Told to d = MatchOption d (after ≡ before) (λ (dir : Ino). IsSettled before after tree.homes tree.covers dir.0 (home_at (dentry_at to)))
-
-      go : (takes : Option Spot) (puts : Option (Spot × Inode)) → puts ≡ Some put → Told put.0 (dir_moved takes puts) → SettleBy takes puts tree before after
-      go None puts same told = told
-      go (Some spot) None same told = told
-      go (Some spot) (Some to) same told = by (is_dir_kind to.1.kind) (subst (λ (p : Spot × Inode). Told p.0 (directory_at (Some to.1))) (sym (same_Some to put same)) told)
-        where
-          by : (b : Bool) → Told to.0 (cond b (Some to.1.ino) None) → MatchBool b (IsSettled before after tree.homes tree.covers to.1.ino.0 (home_at (dentry_at to.0))) (after ≡ before)
-          by true its = its
-          by false its = its
-
-  pub settled_none : (change : Change) → change.puts ≡ None → (before after : Roots) → after ≡ before → SettleMoving change tree before after
-  settled_none change is before after = go change.takes change.puts is
-    where
-      go : (takes : Option Spot) (puts : Option (Spot × Inode)) → puts ≡ None → after ≡ before → SettleBy takes puts tree before after
-      go None puts same roots = roots
-      go (Some spot) None same roots = roots
-      go (Some spot) (Some to) same roots = let clash : Some to ≡ None = same in cc
 
 -- ---- splits and merges
 
