@@ -51,7 +51,7 @@ pub use Rattle.fragtree.proofs.Ranges.{Contains-from_range, ends_before, ends_lo
 pub use Rattle.fragtree.proofs.TreeLaws.{only_leaf, some_pick}
 pub use Rattle.fragtree.specs.FragTree.{CanMerge, CanSplit, FitsSplit, HasLeaf, IsChild, IsMerge, IsPick, IsSplit, IsTree, RefusesMerge, RefusesSplit, leaves_inside, lies_inside}
 pub use Rattle.inode_table.proofs.MoveLaws.{may_relocate, may_replace}
-pub use Rattle.inode_table.proofs.TableLaws.{home_of, known_is, may_come, may_drop, with_dir, with_file}
+pub use Rattle.inode_table.proofs.TableLaws.{dir_or_not, home_of, known_is, may_come, may_drop, with_dir, with_file}
 pub use Rattle.inode_table.proofs.Tables.{still_known, tree_of_row}
 pub use Rattle.inode_table.specs.Dirs.{Counts, Covers, Homes, IsLeafAt, IsLive, IsTable, MayCome, MayGo, MayMove, RefusesLeaves, count_of, is_known, leaves_of, or_whole}
 pub use Rattle.inode_table.specs.TreeTable.{home_at, with_home}

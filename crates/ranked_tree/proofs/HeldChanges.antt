@@ -1,5 +1,5 @@
 -- What a change of the tree leaves: each cached fragment is at its leaf's authority then.
-use Rattle.ranked_tree.proofs.Common.{AreHeld, AreHeldAt, Bool, Came, Change, Core, Covers, EndsWith, Fragment, HasLeaf, Home, Homes, IfSome, Ino, Inode, IsLive, IsNamedIn, IsOwned, IsPick, IsSome, IsSound, IsSoundCore, IsTable, IsThat, KeepsAuthorities, Leaf, List, Makes, MayChange, MayCome, MayGo, None, Option, Rank, Roots, Rules, Shape, Some, Spot, [], add, adds, ap, dentry_at, false, first_leaf, get_beside, get_left, get_put, hash_of, home_at, inherited, inl, inr, is_dir_kind, is_some, leaf_of, leaves_of, may_come, move, moved_known, only_leaf, or_whole, refl, remove, root_fragment, rows_but, rules, same_or_apart, set, shape_of, shown_in, shown_tree, state_of, still_known, subst, sym, true, with_home, ℕ, ⊎_elim, ◌==◌, ◌||◌, ◌∙◌, ◌∷◌, ◌≡◌, ◌⊎◌}
+use Rattle.ranked_tree.proofs.Common.{AreHeld, AreHeldAt, Bool, Came, Change, Core, Covers, EndsWith, Fragment, HasLeaf, Home, Homes, IfSome, Ino, Inode, IsLive, IsNamedIn, IsOwned, IsPick, IsSome, IsSound, IsSoundCore, IsTable, IsThat, KeepsAuthorities, Leaf, List, Makes, MayChange, MayCome, MayGo, None, Option, Rank, Roots, Rules, Shape, Some, Spot, [], add, adds, ap, dentry_at, dir_or_not, false, first_leaf, get_beside, get_left, get_put, hash_of, home_at, inherited, inl, inr, is_dir_kind, is_some, leaf_of, leaves_of, may_come, move, moved_known, only_leaf, or_whole, refl, remove, root_fragment, rows_but, rules, same_or_apart, set, shape_of, shown_in, shown_tree, state_of, still_known, subst, sym, true, with_home, ℕ, ⊎_elim, ◌==◌, ◌||◌, ◌∙◌, ◌∷◌, ◌≡◌, ◌⊎◌}
 use Rattle.std.specs.FinMap as map
 use Rattle.sorted_map.proofs.NatKeys as nat
 use Rattle.mdcache.specs.State.{State as TreeState}
@@ -8,7 +8,7 @@ use Rattle.ranked_tree.proofs.ChangedTables.{TablesAre, added_tables, grown_tabl
 use Rattle.ranked_tree.proofs.HeldLaws.{HaveCaches, held_since, is_that}
 use Rattle.ranked_tree.proofs.HolderLaws.{named_by, new_is_not_live, put_live, was_unknown}
 use Rattle.ranked_tree.proofs.RootLaws.{is_elsewhere}
-use Rattle.ranked_tree.proofs.SubtreeLaws.{over, removable}
+use Rattle.ranked_tree.proofs.SubtreeLaws.{removable}
 
 -- ---- which leaves come
 
@@ -52,31 +52,18 @@ live_before homes covers (Some dir) leaf may live =
 
 -- a leaf that stands after a change stood before, or is that of the directory that came
 stood_so : (change : Change) → Shape change → (old new : TreeState) → IsSound old → MayChange (shown_tree old) old.covers change → Makes change old new → (leaf : Leaf) → IsLive new.homes new.covers leaf → IsLive old.homes old.covers leaf ⊎ IsComing change leaf
-stood_so _ (set spot inode) old new sound may makes leaf live =
-    let tables = set_tables old new spot inode makes in
-    inl (over (λ (h : Homes) (cs : Covers). IsLive h cs leaf) old.homes new.homes old.covers new.covers (sym tables.0) (sym tables.1) live)
-stood_so _ (add spot inode) old new sound may makes leaf live = go (is_dir_kind inode.kind) refl
-  where
-    first_or : is_dir_kind inode.kind ≡ true → IsLive old.homes old.covers leaf ⊎ (leaf ≡ first_leaf inode.ino) → IsLive old.homes old.covers leaf ⊎ IsComing (adds spot inode) leaf
-    first_or kinded (inl was) = inl was
-    first_or kinded (inr same) = inr (kinded, same)
-
-    go : (b : Bool) → is_dir_kind inode.kind ≡ b → IsLive old.homes old.covers leaf ⊎ IsComing (adds spot inode) leaf
-    go true kinded =
-        let tables = grown_tables old new spot inode kinded makes in
-        first_or kinded (live_or_first old.homes old.covers sound.table inode.ino (home_at (dentry_at spot)) (may_come (shown_tree old) old.homes (dentry_at spot) inode sound.tabled may.takes) leaf
-        (over (λ (h : Homes) (cs : Covers). IsLive h cs leaf) (map.insert old.homes inode.ino.0 (home_at (dentry_at spot))) new.homes old.covers new.covers (sym tables.0) (sym tables.1) live))
-    go false kinded =
-        let tables = added_tables old new spot inode kinded makes in
-        inl (over (λ (h : Homes) (cs : Covers). IsLive h cs leaf) old.homes new.homes old.covers new.covers (sym tables.0) (sym tables.1) live)
+stood_so _ (set spot inode) old new sound may makes leaf live = let tables = set_tables old new spot inode makes in inl (rw (← tables.0, ← tables.1) live)
+stood_so _ (add spot inode) old new sound may makes leaf live =
+    ⊎_elim (λ kinded.
+    let tables = grown_tables old new spot inode kinded makes in
+    ⊎_elim (λ was. inl was) (λ same. inr (kinded, same))
+    (live_or_first old.homes old.covers sound.table inode.ino (home_at (dentry_at spot)) (may_come (shown_tree old) old.homes (dentry_at spot) inode sound.tabled may.takes) leaf (rw (← tables.0, ← tables.1) live)))
+    (λ kinded. let tables = added_tables old new spot inode kinded makes in inl (rw (← tables.0, ← tables.1) live)) (dir_or_not inode)
 stood_so _ (remove spot went) old new sound may makes leaf live =
-    let tables = removed_tables old new spot went makes in
-    inl (live_before old.homes old.covers went leaf (removable old spot went sound may)
-    (over (λ (h : Homes) (cs : Covers). IsLive h cs leaf) (rows_but old.homes went) new.homes (rows_but old.covers went) new.covers (sym tables.0) (sym tables.1) live))
+    let tables = removed_tables old new spot went makes in inl (live_before old.homes old.covers went leaf (removable old spot went sound may) (rw (← tables.0, ← tables.1) live))
 stood_so _ (move source target inode went) old new sound may makes leaf live =
     let tables = moved_tables old new source target inode went makes in
-    let moved = live_before (with_home old.homes (dentry_at target) inode) old.covers went leaf (replaces old sound source target inode went may)
-    (over (λ (h : Homes) (cs : Covers). IsLive h cs leaf) (rows_but (with_home old.homes (dentry_at target) inode) went) new.homes (rows_but old.covers went) new.covers (sym tables.0) (sym tables.1) live) in
+    let moved = live_before (with_home old.homes (dentry_at target) inode) old.covers went leaf (replaces old sound source target inode went may) (rw (← tables.0, ← tables.1) live) in
     inl (record { known = sym (moved_known old.homes old.covers sound.table (dentry_at target) inode (relocates old sound source target inode went may) leaf.0.0) ∙ moved.known; stands = moved.stands })
 
 pub stood : (change : Change) (old new : TreeState) → IsSound old → MayChange (shown_tree old) old.covers change → Makes change old new → (leaf : Leaf) → IsLive new.homes new.covers leaf → IsLive old.homes old.covers leaf ⊎ IsComing change leaf
@@ -107,9 +94,7 @@ module _ (old new : Core) (before after : Roots) (owned : IsOwned old before) (n
     holder_live = put_live (state_of old) sound (adds spot inode) may (spot, inode) refl
 
     holder_stays : IsLive new.homes new.covers holder
-    holder_stays =
-        over (λ (h : Homes) (cs : Covers). IsLive h cs holder) new.homes (map.insert old.homes inode.ino.0 (home_at (dentry_at spot))) new.covers old.covers tables.0 tables.1
-        (record { known = still_known old.homes inode.ino.0 (home_at (dentry_at spot)) spot.at.dir.0 holder_live.known; stands = holder_live.stands })
+    holder_stays = rw (tables.0, tables.1) (record { known = still_known old.homes inode.ino.0 (home_at (dentry_at spot)) spot.at.dir.0 holder_live.known; stands = holder_live.stands })
 
     no_root : map.get after first ≡ None
     no_root = go (map.get after first) refl
