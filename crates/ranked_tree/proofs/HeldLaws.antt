@@ -4,13 +4,9 @@ use Rattle.std.specs.FinMap as map
 use Rattle.mdcache.specs.State.{State as TreeState}
 
 module _ (tree : TreeState) (caches : CacheMap) (roots : Roots) (held : AreHeld tree caches roots) (leaf : Leaf) (rank : Rank) (rules : Rules tree roots leaf rank) where
-  -- there is a cache for the authority of a leaf,
-  is_there : rank.0 < length caches.used
-  is_there = held.ranks rules.root rank rules.ranked
-
-  -- and no other rank has the leaf
+  -- there is a cache for the authority of a leaf, and no other rank has the leaf
   pub may_hold : MayHold caches rank leaf
-  may_hold = record { there = is_there; alone = alone_at (map.get caches.held leaf) refl }
+  may_hold = record { there = held.ranks rules.root rank rules.ranked; alone = alone_at (map.get caches.held leaf) refl }
     where
       alone_at : (o : Option At) → map.get caches.held leaf ≡ o → IsFree rank.0 o
       alone_at None is = tt
@@ -37,10 +33,6 @@ held_after new later after ranks none cached = record {
   ranks = ranks;
 }
 
--- they have them still
-pub still_have : (tree : TreeState) (caches later : CacheMap) (roots : Roots) → AreHeld tree caches roots → length later.used ≡ length caches.used → HaveCaches roots later
-still_have tree caches later roots held count leaf rank is = subst (λ (n : ℕ). rank.0 < n) (sym count) (held.ranks leaf rank is)
-
 -- the authority of a leaf at a rank of this number
 pub is_that : (tree : TreeState) (roots : Roots) (leaf : Leaf) (rank : Rank) → Rules tree roots leaf rank → (r : ℕ) (q : Leaf) → IsThat rank.0 leaf r q → Rules tree roots q (record { 0 = r })
 is_that tree roots leaf rank rules r q that = subst (λ (n : ℕ). Rules tree roots q (record { 0 = n })) (sym that.0) (subst (λ (l : Leaf). Rules tree roots l rank) (sym that.1) rules)
@@ -58,7 +50,7 @@ module _ (Uses Ends : ℕ → Leaf → Type 0) (old new : Core) (came : Came Use
   owned_came roots homes covers holds owned = record {
     sound = sound;
     valid = rw (homes, covers) owned.valid;
-    held = held_since roots roots owned (λ leaf rank was is. rw (homes, covers) (λ rules. rules)) (still_have (state_of old) old.caches new.caches roots owned.held (came_ranks Uses Ends old.caches new.caches came)) (rw (homes, covers) holds);
+    held = held_since roots roots owned (λ leaf rank was is. rw (homes, covers) (λ rules. rules)) (rw (came_ranks Uses Ends old.caches new.caches came) owned.held.ranks) (rw (homes, covers) holds);
   }
 
 -- reads of leaves at their authorities

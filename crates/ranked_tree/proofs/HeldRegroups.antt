@@ -1,5 +1,5 @@
 -- What splits and merges leave: each cached fragment is at its leaf's authority then.
-use Rattle.ranked_tree.proofs.Common.{AllHave, AreHeld, AreRoots, CacheMap, Came, CameAt, CanMerge, CanSplit, Contains, Core, FitsSplit, Fragment, GivesToChildren, HasLeaf, HaveOneAuthority, Ino, IsAmongOr, IsFamilyAt, IsFamilyOf, IsFragment, IsLive, IsMergedHere, IsOwned, IsSound, IsSoundCore, KeepsAuthorities, Leaf, MayHold, MayNotRegroup, MergesLeaves, Rank, Refusal, RefusesMerge, RefusesSplit, Roots, Rules, SplitsLeaf, TakesOver, UsedAt, and_from, ap, arith, came_weaker, child_is_new, child_of, ending_at, eq-eqb, from_mapped, has_inside, in_directory, inl, inr, is_inside, is_known, leaves, leaves_inside, leaves_of, lies_inside, merged_is_new, range_from_inside, refl, rules, some_authority, some_inside, state_of, subst, sym, tree_of_row}
+use Rattle.ranked_tree.proofs.Common.{AllHave, AreHeld, AreRoots, CacheMap, Came, CameAt, CanMerge, CanSplit, Contains, Core, FitsSplit, Fragment, GivesToChildren, HasLeaf, HaveOneAuthority, Ino, IsAmongOr, IsFamilyAt, IsFamilyOf, IsFragment, IsLive, IsMergedHere, IsOwned, IsSound, IsSoundCore, KeepsAuthorities, Leaf, MayHold, MayNotRegroup, MergesLeaves, Rank, Refusal, RefusesMerge, RefusesSplit, Roots, Rules, SplitsLeaf, TakesOver, UsedAt, and_from, ap, arith, came_weaker, child_is_new, child_of, ending_at, eq-eqb, from_mapped, has_inside, in_directory, inl, inr, is_inside, is_known, leaves, leaves_inside, leaves_of, lies_inside, merged_is_new, not_found_weaker, range_from_inside, refl, rules, some_authority, some_inside, state_of, subst, sym, tree_of_row, ⊎_elim}
 use Rattle.std.specs.Prelude.{◌≡◌, ◌<◌, ◌==◌, ◌^◌, ℕ, true, map as each, length, List, Result, Ok, Err}
 use Rattle.std.specs.FinMap as map
 use Rattle.mdcache.specs.State.{State as TreeState}
@@ -9,12 +9,9 @@ use Rattle.ranked_tree.proofs.HeldLaws.{HaveCaches, held_since, may_hold, owned_
 
 pub regroup_on : (Can : Type 0) (Refuses : Refusal → Type 0) (s : TreeState) (dir : Ino) (count : ℕ) (NoPlace Fewer : Type 0) (before after : ℕ) (reason : Refusal) → (NoPlace → Fewer)
     → MayNotRegroup Can Refuses s dir count NoPlace before after reason → MayNotRegroup Can Refuses s dir count Fewer before after reason
-regroup_on Can Refuses s dir count NoPlace Fewer before after reason less (inl unknown) = inl unknown
-regroup_on Can Refuses s dir count NoPlace Fewer before after reason less (inr (inl refused)) = inr (inl refused)
-regroup_on Can Refuses s dir count NoPlace Fewer before after reason less (inr (inr (known, can, inl number))) = inr (inr (known, can, inl number))
-regroup_on Can Refuses s dir count NoPlace Fewer before after reason less (inr (inr (known, can, inr (has, inl memory)))) = inr (inr (known, can, inr (has, inl memory)))
-regroup_on Can Refuses s dir count NoPlace Fewer before after reason less (inr (inr (known, can, inr (has, inr (inl fault))))) = inr (inr (known, can, inr (has, inr (inl fault))))
-regroup_on Can Refuses s dir count NoPlace Fewer before after reason less (inr (inr (known, can, inr (has, inr (inr (is, lacks)))))) = inr (inr (known, can, inr (has, inr (inr (is, less lacks)))))
+regroup_on Can Refuses s dir count NoPlace Fewer before after reason less =
+    ⊎_elim (λ unknown. inl unknown) (⊎_elim (λ refused. inr (inl refused))
+    (λ may. inr (inr (may.0, may.1, ⊎_elim (λ number. inl number) (λ has. inr (has.0, not_found_weaker NoPlace Fewer before after reason less has.1)) may.2))))
 
 pub split_on : (NoPlace Fewer : Type 0) (old new : Core) (dir : Ino) (frag : Fragment) (nb : ℕ) (result : Result (Unit {0}) Refusal) → (NoPlace → Fewer) → SplitsLeaf NoPlace old new dir frag nb result → SplitsLeaf Fewer old new dir frag nb result
 split_on NoPlace Fewer old new dir frag nb (Ok done) less split = split

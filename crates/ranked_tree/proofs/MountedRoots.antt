@@ -1,5 +1,5 @@
 -- The roots of a tree that was mounted are its own, and each rank caches what it holds: rank 0 the one leaf of a new tree, and no rank anything else.
-use Rattle.ranked_tree.proofs.Common.{AreFilled, AreHeld, AreRoots, AreTopRoots, At, CacheMap, Core, Covers, HasLeaf, IsMounted, IsNew, IsOwned, IsSoundCore, Mounts, None, Objects, Option, Rank, Roots, Rules, Some, State, Tree, [], ap, arith, get-empty, get_beside, inl, inr, is_known, is_some, leaf-exact, leaf-total, leaf_cmp, leaves_of, length, length-replicate, live_root, new_roots, no_covers, no_homes, one_value, refl, root_fragment, root_leaf, root_live, same_map, same_or_apart, state_of, subst, sym, ℕ, ◌<◌, ◌∙◌, ◌≡◌}
+use Rattle.ranked_tree.proofs.Common.{AreFilled, AreHeld, AreRoots, AreTopRoots, At, CacheMap, Core, Covers, HasLeaf, IsMounted, IsOwned, IsSoundCore, Mounts, None, Objects, Option, Rank, Roots, Rules, Some, State, Tree, [], ap, arith, get-empty, get_beside, inl, inr, is_known, is_some, leaf-exact, leaf-total, leaf_cmp, leaves_of, length, length-replicate, live_root, new_roots, no_covers, no_homes, one_value, refl, root_fragment, root_leaf, root_live, same_map, same_or_apart, state_of, subst, sym, ℕ, ⊎_elim, ◌<◌, ◌∙◌, ◌≡◌}
 use Rattle.std.specs.FinMap as map
 use Rattle.mds_types.specs.Leaf.{Leaf}
 use Rattle.subtree_map.specs.Changes.{leaf_of}
@@ -61,13 +61,10 @@ module _ (limit : ℕ) (objects : Objects) (ranks places : ℕ) (some : 0 < rank
       none : (leaf : Leaf) (a : At) → map.get c.caches.held leaf ≡ Some a → Rules (state_of c) roots leaf (record { 0 = a.rank })
       none leaf a is = let clash : None ≡ Some a = sym (ap (λ (cs : CacheMap). map.get cs.held leaf) m.caches ∙ get-empty leaf_cmp leaf) ∙ is in absurd cc
 
-  made_held : IsNew limit ranks places tree c → AreHeld (state_of c) c.caches roots
-  made_held new = new_are_held c roots limit ranks places some new.state new.caches (top_of_none roots (subst (λ (cs : Covers). AreTopRoots cs roots) (ap (λ (s : State). s.covers) new.state) top))
-
   -- a mounted tree with its roots
   pub mounted_owned : Mounts limit objects ranks places tree c → IsOwned c roots
-  mounted_owned m = record { sound = sound; valid = top_are_roots (state_of c) roots top; held = held m }
-    where
-      held : Mounts limit objects ranks places tree c → AreHeld (state_of c) c.caches roots
-      held (inl new) = made_held new.1
-      held (inr walked) = walked_held walked.1
+  mounted_owned m = record {
+    sound = sound;
+    valid = top_are_roots (state_of c) roots top;
+    held = ⊎_elim (λ new. new_are_held c roots limit ranks places some new.1.state new.1.caches (top_of_none roots (subst (λ (cs : Covers). AreTopRoots cs roots) (ap (λ (s : State). s.covers) new.1.state) top))) (λ walked. walked_held walked.1) m;
+  }

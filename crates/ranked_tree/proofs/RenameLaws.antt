@@ -1,5 +1,5 @@
 -- What a directory's move needs of the roots: it keeps its leaves, and the rank that they inherit is known at both its dentries.
-use Rattle.ranked_tree.proofs.Common.{Bool, Change, Covers, Home, Homes, IfSome, Ino, Inode, IsInheritedAt, IsLostRank, IsRight, IsSettled, IsSound, IsSpot, MatchBool, MatchOption, MayChange, MayMove, None, Option, Rank, Roots, Rules, SettleMoving, Shape, Some, Spot, State, Tree, add, changed, cond, dentry_at, dir_moving, directory_at, entry_stands, false, home_at, is_dir_kind, is_directory, leaf_of, leaves, leaves_of, move, moves, refl, remove, rules, same_Some, set, shape_of, shown_tree, subst, sym, taken, true, ◌≡◌, ◌≢◌}
+use Rattle.ranked_tree.proofs.Common.{Bool, Change, Covers, Home, Homes, IfSome, Ino, Inode, IsInheritedAt, IsLostRank, IsRight, IsSettled, IsSound, IsSpot, MatchBool, MatchOption, MayChange, MayMove, None, Option, Rank, Roots, Rules, SettleMoving, Shape, Some, Spot, State, Tree, add, changed, cond, cond_both, dentry_at, dir_moving, directory_at, entry_stands, false, home_at, is_dir_kind, is_directory, leaf_of, leaves, leaves_of, move, moves, refl, remove, rules, same_Some, set, shape_of, shown_tree, subst, sym, taken, true, ◌≡◌, ◌≢◌}
 use Rattle.std.specs.FinMap as map
 use Rattle.mds_types.proofs.EntryLaws.{get_put}
 use Rattle.ranked_tree.proofs.MoveLaws.{relocates}
@@ -22,7 +22,8 @@ module _ (s : State) (sound : IsSound s) (roots : Roots) where
       go _ (set spot inode) able t p n = tt
       go _ (remove spot went) able t p n = tt
       go _ (move source target inode went) able t p n =
-          subst (λ (q : Spot × Inode). IfSome (directory_at (Some inode)) (λ (dir : Ino). IsLostRank roots s.homes s.covers dir.0 (home_at (dentry_at q.0)) lost)) (same_Some (target, inode) put n) (by (is_dir_kind inode.kind) refl)
+          subst (λ (q : Spot × Inode). IfSome (directory_at (Some inode)) (λ (dir : Ino). IsLostRank roots s.homes s.covers dir.0 (home_at (dentry_at q.0)) lost)) (same_Some (target, inode) put n)
+          (cond_both (is_dir_kind inode.kind) (Some inode.ino) None (λ o. IfSome o (λ (dir : Ino). IsLostRank roots s.homes s.covers dir.0 (home_at (dentry_at target)) lost)) (at lost is) (λ file. tt))
         where
           stood : is_dir_kind inode.kind ≡ true → map.get s.homes inode.ino.0 ≡ Some (home_at (dentry_at source))
           stood kinded = sound.tabled.holds.listed (dentry_at source) inode able.takes.stands kinded
@@ -37,10 +38,6 @@ module _ (s : State) (sound : IsSound s) (roots : Roots) where
           at None same kinded = (home_at (dentry_at source), was, stood kinded, before, subst (IsInheritedAt roots s.homes s.covers (home_at (dentry_at target))) (sym same) after)
           at (Some rank) (that, apart) kinded = subst (λ (r : Rank). IsLostRank roots s.homes s.covers inode.ino.0 (home_at (dentry_at target)) (Some r)) (sym that) (home_at (dentry_at source), other, stood kinded, before, after, apart)
 
-          by : (b : Bool) → is_dir_kind inode.kind ≡ b → IfSome (cond b (Some inode.ino) None) (λ (dir : Ino). IsLostRank roots s.homes s.covers dir.0 (home_at (dentry_at target)) lost)
-          by true kinded = at lost is kinded
-          by false kinded = tt
-
 -- a directory that moved has the leaves that it had
 pub leaves_stay : (old new : State) (change : Change) → MayChange (shown_tree old) old.covers change → IsRight change old new → IfSome (dir_moving change) (λ (dir : Ino). leaves_of old.covers dir.0 ≡ leaves_of new.covers dir.0)
 leaves_stay old new change may right = go change (shape_of (shown_tree old) old.covers change may) right
@@ -49,16 +46,12 @@ leaves_stay old new change may right = go change (shape_of (shown_tree old) old.
     go _ (add spot inode) is = tt
     go _ (set spot inode) is = tt
     go _ (remove spot went) is = tt
-    go _ (move source target inode went) is = by (is_dir_kind inode.kind) refl
-      where
-        left : Tree
-        left = taken (shown_tree old) (Some source)
-
-        by : (b : Bool) → is_dir_kind inode.kind ≡ b → IfSome (cond b (Some inode.ino) None) (λ (dir : Ino). leaves_of old.covers dir.0 ≡ leaves_of new.covers dir.0)
-        by true kinded =
-            sym (is.leaves inode.ino.0 (subst (λ (t : Tree). is_directory t inode.ino.0 ≡ true) (sym is.tree)
-            (entry_stands (changed (shown_tree old) (moves source target inode went)) (dentry_at target) inode (get_put left (dentry_at target) inode) kinded)))
-        by false kinded = tt
+    go _ (move source target inode went) is =
+        cond_both (is_dir_kind inode.kind) (Some inode.ino) None (λ o. IfSome o (λ (dir : Ino). leaves_of old.covers dir.0 ≡ leaves_of new.covers dir.0))
+        (λ kinded.
+        sym (is.leaves inode.ino.0 (subst (λ (t : Tree). is_directory t inode.ino.0 ≡ true) (sym is.tree)
+        (entry_stands (changed (shown_tree old) (moves source target inode went)) (dentry_at target) inode (get_put (taken (shown_tree old) (Some source)) (dentry_at target) inode) kinded))))
+        (λ file. tt)
 
 -- so there is room for as many as before
 pub room_still : (d : Option Ino) (covers now : Covers) (P : Ino → Covers → Type 0) → ((dir : Ino) → leaves_of covers dir.0 ≡ leaves_of now dir.0 → P dir covers → P dir now)

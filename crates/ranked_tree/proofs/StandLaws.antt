@@ -204,13 +204,9 @@ pub one_holds : (exports : Standing) (roots : Roots) (homes : Homes) (covers : C
 one_holds exports roots homes covers dir frag thawed one a b r s in_a in_b live_a live_b has_a has_b =
     one a b r s in_a in_b live_a live_b (thawed_rules exports roots homes covers a r (thawed a in_a live_a) has_a) (thawed_rules exports roots homes covers b s (thawed b in_b live_b) has_b)
 
--- the one that holds them is the authority of each,
+-- the one that holds them is the authority of each
 pub all_rule : (exports : Standing) (roots : Roots) (homes : Homes) (covers : Covers) (dir : Ino) (frag : Fragment) (rank : Rank) → AreThawed exports roots homes covers dir frag → AllHave homes covers (holding exports roots) dir frag rank → AllHave homes covers roots dir frag rank
 all_rule exports roots homes covers dir frag rank thawed all leaf live inside = thawed_rules exports roots homes covers leaf rank (thawed leaf inside live) (all leaf live inside)
-
--- and that holds each
-all_held : (exports : Standing) (roots : Roots) (homes : Homes) (covers : Covers) (dir : Ino) (frag : Fragment) (rank : Rank) → AreThawed exports roots homes covers dir frag → AllHave homes covers roots dir frag rank → AllHave homes covers (holding exports roots) dir frag rank
-all_held exports roots homes covers dir frag rank thawed all leaf live inside = thawed_held exports roots homes covers leaf rank (thawed leaf inside live) (all leaf live inside)
 
 -- what was used at the authority of a leaf that isn't frozen was used at the rank that holds it
 module _ (exports : Standing) (roots : Roots) (old : Core) (dir : Ino) (frag : Fragment) where
@@ -222,4 +218,4 @@ module _ (exports : Standing) (roots : Roots) (old : Core) (dir : Ino) (frag : F
   pub merged_held : (new : CacheMap) → AreThawed exports roots old.homes old.covers dir frag → CameAt (AllHave old.homes old.covers roots dir frag) (IsMergedHere old.covers dir frag) old.caches new → CameAt (AllHave old.homes old.covers (holding exports roots) dir frag) (IsMergedHere old.covers dir frag) old.caches new
   merged_held new thawed came =
       came_weaker (UsedAt (AllHave old.homes old.covers roots dir frag) (IsMergedHere old.covers dir frag)) (λ r q. IsMergedHere old.covers dir frag q) (UsedAt (AllHave old.homes old.covers (holding exports roots) dir frag) (IsMergedHere old.covers dir frag)) (λ r q. IsMergedHere old.covers dir frag q)
-      (λ r q used. (all_held exports roots old.homes old.covers dir frag (record { 0 = r }) thawed used.0, used.1)) (λ r q ends. ends) old.caches new came
+      (λ r q used. ((λ leaf live inside. thawed_held exports roots old.homes old.covers leaf (record { 0 = r }) (thawed leaf inside live) (used.0 leaf live inside)), used.1)) (λ r q ends. ends) old.caches new came
