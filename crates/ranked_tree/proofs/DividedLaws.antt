@@ -10,7 +10,7 @@ use Rattle.ranked_tree.proofs.HeldChanges.{change_held}
 use Rattle.ranked_tree.proofs.HeldLaws.{HaveCaches}
 use Rattle.ranked_tree.proofs.HeldRegroups.{merge_held, split_held}
 use Rattle.ranked_tree.proofs.RootLaws.{IsSoundChange}
-use Rattle.ranked_tree.proofs.StandLaws.{FewerJobs, change_jobs, family_held, held_bound, jobs_without, keeps_held, merged_held, stand_kept, thawed_held, thawed_rules}
+use Rattle.ranked_tree.proofs.StandLaws.{FewerJobs, change_jobs, all_held, came_by, held_bound, jobs_without, keeps_held, stand_kept, thawed_held, thawed_rules}
 use Rattle.ranked_tree.proofs.SubtreeLaws.{changes_soundly, children_have, merge_soundly, split_soundly, takes_over}
 
 -- where a directory comes the roots stay
@@ -51,12 +51,13 @@ module _ (old new : Core) (regions : Regions) (now : Subtrees) (divided : IsDivi
       → FollowChange change (state_of old) was.roots now.roots → LoseDirectory was.promises now.promises change.gone → ((leaf : Leaf) → Contains (fragments_of old.covers change) leaf → IsFrozenIn (state_of old) regions leaf → ⊥)
       → Came (IsNamedIn change) (EndsWith change) old.caches new.caches → IsKept
   change_divided change holders may makes follow promises thawed came =
+      let shape = shape_of (shown_in old) old.covers change may in
       event (change_jobs change (state_of old) (state_of new) may makes)
-      (change_keeps exports (state_of old) (state_of new) was now divided.owned.sound.sound divided.stand.valid divided.stand.placed change may makes follow promises thawed)
-      (changes_soundly change (state_of old) (state_of new) was.roots now.roots divided.owned.sound.sound may makes follow divided.stand.valid)
+      (change_keeps exports (state_of old) (state_of new) was now divided.owned.sound.sound divided.stand.valid divided.stand.placed change shape may makes follow promises thawed)
+      (changes_soundly change shape (state_of old) (state_of new) was.roots now.roots divided.owned.sound.sound may makes follow divided.stand.valid)
       (λ keeps have.
       change_held old new (held_in regions) (holding exports now.roots) divided.owned later keeps change holders may makes
-      (λ comes. ap (λ (r : Roots). holding exports r) (adds_keep change (shape_of (shown_in old) old.covers change may) (state_of old) was.roots now.roots follow comes)) have came)
+      (λ comes. ap (λ (r : Roots). holding exports r) (adds_keep change shape (state_of old) was.roots now.roots follow comes)) have came)
 
   -- leaves of a directory are regrouped
   module _ (dir : Ino) (gone cover : List Fragment) (more : ℕ) (regrouped : IsRegrouped (state_of old) (state_of new) dir gone cover more) where
@@ -87,7 +88,7 @@ module _ (old new : Core) (regions : Regions) (now : Subtrees) (divided : IsDivi
         event (fewer_jobs dir (frag ∷ []) split.cover (2 ^ nb) split.regrouped) kept (split_soundly (state_of old) (state_of new) was.roots now.roots divided.owned.sound.sound divided.stand.valid dir frag nb split roots)
         (λ keeps have.
         split_held old new (held_in regions) (holding exports now.roots) divided.owned count later dir frag nb (record { known = split.regrouped.known; stands = split.can.stands })
-        (family_held exports was.roots old dir frag nb new.caches thawed came) keeps have gives)
+        (came_by (Rules (state_of old) was.roots (dir, frag)) _ (IsFamilyOf dir frag nb) old.caches new.caches (λ rank. thawed_held exports was.roots old.homes old.covers (dir, frag) rank thawed) came) keeps have gives)
       where
         kept : AreFrozenRegionsKept exports was now old.homes new.homes old.covers new.covers
         kept = subst (λ (h : Homes). AreFrozenRegionsKept exports was now old.homes h old.covers new.covers) (sym (homes_now dir (frag ∷ []) split.cover (2 ^ nb) split.regrouped)) (after_split exports was now old.homes old.covers new.covers over (record {
@@ -116,7 +117,7 @@ module _ (old new : Core) (regions : Regions) (now : Subtrees) (divided : IsDivi
         → CameAt (AllHave old.homes old.covers was.roots dir frag) (IsMergedHere old.covers dir frag) old.caches new.caches → IsKept
     merge_divided merge roots one thawed came =
         event (fewer_jobs dir inside merge.cover 1 merge.regrouped) kept (merge_soundly (state_of old) (state_of new) was.roots now.roots divided.owned.sound.sound divided.stand.valid dir frag merge roots one)
-        (λ keeps have. merge_held old new (held_in regions) (holding exports now.roots) divided.owned count later dir frag merge.regrouped.known merge.can (merged_held exports was.roots old dir frag new.caches thawed came) keeps have takes)
+        (λ keeps have. merge_held old new (held_in regions) (holding exports now.roots) divided.owned count later dir frag merge.regrouped.known merge.can (came_by (AllHave old.homes old.covers was.roots dir frag) _ (IsMergedHere old.covers dir frag) old.caches new.caches (all_held exports was.roots old.homes old.covers dir frag thawed) came) keeps have takes)
       where
         inside : List Fragment
         inside = leaves_inside frag (leaves_of old.covers dir.0)

@@ -1,5 +1,5 @@
 -- What a change of the tree leaves of frozen regions, where it changes no frozen leaf: each of their leaves.
-use Rattle.ranked_tree.proofs.Common.{AreFrozenRegionsKept, ArePlaced, AreRoots, Bool, Change, Contains, Covers, FollowChange, Fragment, HasLeaf, HoldsDentry, Home, Homes, IfSome, Ino, Inode, IsFrozen, IsInRegion, IsLive, IsPick, IsSettled, IsSound, Leaf, List, LoseDirectory, Makes, MatchBool, MayChange, MayGo, MayMove, None, Option, Roots, Shape, Some, Spot, Standing, StandsOver, Subtrees, [], add, adds, after_making, after_move, after_removal, arith, dentry_at, dir_or_not, false, first, fragments_of, hash_of, home_at, home_of, in_directory, is_dir_kind, keep_frozen, later, leaf_of, leaves, leaves_gone, leaves_of, may_come, move, moved_home, moved_known, moves, one_holder, one_value, refl, remove, rows_but, set, shape_of, shown_tree, subst, suc, sym, true, with_dir, with_file, with_home, zero, ℕ, ⊎_elim, ◌↔◌, ◌∙◌, ◌∷◌, ◌≡◌}
+use Rattle.ranked_tree.proofs.Common.{AreFrozenRegionsKept, ArePlaced, AreRoots, Bool, Change, Contains, Covers, FollowChange, Fragment, HasLeaf, HoldsDentry, Home, Homes, IfSome, Ino, Inode, IsFrozen, IsInRegion, IsLive, IsPick, IsSettled, IsSound, Leaf, List, LoseDirectory, Makes, MatchBool, MayChange, MayGo, MayMove, None, Option, Roots, Shape, Some, Spot, Standing, StandsOver, Subtrees, [], add, adds, after_making, after_move, after_removal, arith, dentry_at, dir_or_not, false, first, fragments_of, hash_of, home_at, home_of, in_directory, is_dir_kind, keep_frozen, later, leaf_of, leaves, leaves_gone, leaves_of, may_come, move, moved_home, moved_known, moves, one_holder, one_value, refl, remove, rows_but, set, shown_tree, subst, suc, sym, true, with_dir, with_file, with_home, zero, ℕ, ⊎_elim, ◌↔◌, ◌∙◌, ◌∷◌, ◌≡◌}
 use Rattle.std.proofs.Common.{map as each}
 use Rattle.std.specs.FinMap as map
 use Rattle.mdcache.specs.State.{State as TreeState}
@@ -129,20 +129,17 @@ module _ (standing : Standing) where
       changed = refl;
     })
 
-    by_shape : (change : Change) → Shape change → MayChange (shown_tree old) old.covers change → Makes change old new → FollowChange change old was.roots now.roots → LoseDirectory was.promises now.promises change.gone → IsThawed change → AllKept
-    by_shape _ (set spot inode) may makes follow promises thawed = let tables = set_tables old new spot inode makes in rw (tables.0, tables.1) (still was now old.homes old.covers (follow.2 ∙ follow.1) promises placed)
-    by_shape _ (add spot inode) may makes follow promises thawed =
+    pub change_keeps : (change : Change) → Shape change → MayChange (shown_tree old) old.covers change → Makes change old new → FollowChange change old was.roots now.roots → LoseDirectory was.promises now.promises change.gone → IsThawed change → AllKept
+    change_keeps _ (set spot inode) may makes follow promises thawed = let tables = set_tables old new spot inode makes in rw (tables.0, tables.1) (still was now old.homes old.covers (follow.2 ∙ follow.1) promises placed)
+    change_keeps _ (add spot inode) may makes follow promises thawed =
         ⊎_elim (λ kinded.
         let tables = grown_tables old new spot inode kinded makes in
         let grown = map.insert old.homes inode.ino.0 (home_at (dentry_at spot)) in
         let come = comes spot inode may thawed in
         rw (tables.0, tables.1) (both was was now old.homes grown grown old.covers old.covers old.covers come (still was now grown old.covers (follow.2 ∙ follow.1) promises come.placed)))
         (λ kinded. let tables = added_tables old new spot inode kinded makes in rw (tables.0, tables.1) (still was now old.homes old.covers (follow.2 ∙ follow.1) promises placed)) (dir_or_not inode)
-    by_shape _ (remove spot went) may makes follow promises thawed =
+    change_keeps _ (remove spot went) may makes follow promises thawed =
         let tables = removed_tables old new spot went makes in
         rw (tables.0, tables.1) (loses was now old.homes old.covers went over (removable old spot went sound may) (λ leaf live has frozen. thawed leaf (later (leaf_of spot.at) leaf (leaves_gone old.covers went) has) frozen)
         (subst (λ (r : Roots). LoseDirectory r now.roots went) follow.1 follow.2) promises)
-    by_shape _ (move from to inode went) may makes follow promises thawed = rename_keeps from to inode went may makes follow promises thawed
-
-    pub change_keeps : (change : Change) → MayChange (shown_tree old) old.covers change → Makes change old new → FollowChange change old was.roots now.roots → LoseDirectory was.promises now.promises change.gone → IsThawed change → AllKept
-    change_keeps change may makes follow promises thawed = by_shape change (shape_of (shown_tree old) old.covers change may) may makes follow promises thawed
+    change_keeps _ (move from to inode went) may makes follow promises thawed = rename_keeps from to inode went may makes follow promises thawed

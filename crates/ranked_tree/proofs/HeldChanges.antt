@@ -1,5 +1,5 @@
 -- What a change of the tree leaves: each cached fragment is at its leaf's authority then.
-use Rattle.ranked_tree.proofs.Common.{AreHeld, AreHeldAt, Bool, Came, Change, Core, Covers, EndsWith, Fragment, HasLeaf, Home, Homes, IfSome, Ino, Inode, IsLive, IsNamedIn, IsOwned, IsPick, IsSome, IsSound, IsSoundCore, IsTable, IsThat, KeepsAuthorities, Leaf, List, Makes, MayChange, MayCome, MayGo, None, Option, Rank, Roots, Rules, Shape, Some, Spot, [], add, adds, ap, dentry_at, dir_or_not, false, first_leaf, get_beside, get_left, get_put, hash_of, home_at, inherited, inl, inr, is_dir_kind, is_some, leaf_of, leaves_of, may_come, move, moved_known, only_leaf, or_whole, refl, remove, root_fragment, rows_but, rules, same_or_apart, set, shape_of, shown_in, shown_tree, state_of, still_known, subst, sym, true, with_home, ℕ, ⊎_elim, ◌==◌, ◌||◌, ◌∙◌, ◌∷◌, ◌≡◌, ◌⊎◌}
+use Rattle.ranked_tree.proofs.Common.{AreHeld, AreHeldAt, Bool, Came, Change, Core, Covers, EndsWith, Fragment, HasLeaf, Home, Homes, IfSome, Ino, Inode, IsLive, IsNamedIn, IsOwned, IsPick, IsSome, IsSound, IsSoundCore, IsTable, IsThat, KeepsAuthorities, Leaf, List, Makes, MayChange, MayCome, MayGo, None, Option, Rank, Roots, Rules, Shape, Some, Spot, [], add, adds, ap, dentry_at, dir_or_not, false, first_leaf, get_beside, get_left, get_put, hash_of, home_at, inherited, inl, inr, is_dir_kind, is_some, leaf_of, leaves_of, may_come, move, moved_known, only_leaf, or_whole, refl, remove, root_fragment, rows_but, rules, same_or_apart, set, shown_in, shown_tree, state_of, still_known, subst, sym, true, with_home, ℕ, ⊎_elim, ◌==◌, ◌||◌, ◌∙◌, ◌∷◌, ◌≡◌, ◌⊎◌}
 use Rattle.std.specs.FinMap as map
 use Rattle.sorted_map.proofs.NatKeys as nat
 use Rattle.mdcache.specs.State.{State as TreeState}
@@ -31,14 +31,11 @@ module _ (homes : Homes) (covers : Covers) (table : IsTable homes covers) (dir :
       go (Some fs) is = absurd (was_unknown homes dir.0 home come (table.known dir.0 fs is))
 
   pub live_or_first : (leaf : Leaf) → IsLive (map.insert homes dir.0 home) covers leaf → IsLive homes covers leaf ⊎ (leaf ≡ first_leaf dir)
-  live_or_first leaf live = go (nat.same_or_apart leaf.0.0 dir.0)
-    where
-      go : (leaf.0.0 ≡ dir.0) ⊎ (leaf.0.0 ≡ dir.0 → ⊥) → IsLive homes covers leaf ⊎ (leaf ≡ first_leaf dir)
-      go (inl same) =
-          let stands : HasLeaf (root_fragment ∷ []) leaf.1 = subst (λ (fs : List Fragment). HasLeaf fs leaf.1) (ap (leaves_of covers) same ∙ no_row) live.stands in
-          let only = only_leaf root_fragment leaf.1 stands in
-          inr (λ i. (record { 0 = same i }, only i))
-      go (inr apart) = inl (record { known = ap (λ (o : Option Home). (leaf.0.0 == 1) || is_some o) (sym (nat.get_beside homes dir.0 home leaf.0.0 apart)) ∙ live.known; stands = live.stands })
+  live_or_first leaf live =
+      ⊎_elim (λ same.
+      let only = only_leaf root_fragment leaf.1 (subst (λ (fs : List Fragment). HasLeaf fs leaf.1) (ap (leaves_of covers) same ∙ no_row) live.stands) in
+      inr (λ i. (record { 0 = same i }, only i)))
+      (λ apart. inl (record { known = ap (λ (o : Option Home). (leaf.0.0 == 1) || is_some o) (sym (nat.get_beside homes dir.0 home leaf.0.0 apart)) ∙ live.known; stands = live.stands })) (nat.same_or_apart leaf.0.0 dir.0)
 
 -- a leaf of tables from which a directory went, or none did
 live_before : (homes : Homes) (covers : Covers) (went : Option Ino) (leaf : Leaf) → IfSome went (λ (dir : Ino). MayGo homes dir.0) → IsLive (rows_but homes went) (rows_but covers went) leaf → IsLive homes covers leaf
@@ -51,23 +48,20 @@ live_before homes covers (Some dir) leaf may live =
     }
 
 -- a leaf that stands after a change stood before, or is that of the directory that came
-stood_so : (change : Change) → Shape change → (old new : TreeState) → IsSound old → MayChange (shown_tree old) old.covers change → Makes change old new → (leaf : Leaf) → IsLive new.homes new.covers leaf → IsLive old.homes old.covers leaf ⊎ IsComing change leaf
-stood_so _ (set spot inode) old new sound may makes leaf live = let tables = set_tables old new spot inode makes in inl (rw (← tables.0, ← tables.1) live)
-stood_so _ (add spot inode) old new sound may makes leaf live =
+stood : (change : Change) → Shape change → (old new : TreeState) → IsSound old → MayChange (shown_tree old) old.covers change → Makes change old new → (leaf : Leaf) → IsLive new.homes new.covers leaf → IsLive old.homes old.covers leaf ⊎ IsComing change leaf
+stood _ (set spot inode) old new sound may makes leaf live = let tables = set_tables old new spot inode makes in inl (rw (← tables.0, ← tables.1) live)
+stood _ (add spot inode) old new sound may makes leaf live =
     ⊎_elim (λ kinded.
     let tables = grown_tables old new spot inode kinded makes in
     ⊎_elim (λ was. inl was) (λ same. inr (kinded, same))
     (live_or_first old.homes old.covers sound.table inode.ino (home_at (dentry_at spot)) (may_come (shown_tree old) old.homes (dentry_at spot) inode sound.tabled may.takes) leaf (rw (← tables.0, ← tables.1) live)))
     (λ kinded. let tables = added_tables old new spot inode kinded makes in inl (rw (← tables.0, ← tables.1) live)) (dir_or_not inode)
-stood_so _ (remove spot went) old new sound may makes leaf live =
+stood _ (remove spot went) old new sound may makes leaf live =
     let tables = removed_tables old new spot went makes in inl (live_before old.homes old.covers went leaf (removable old spot went sound may) (rw (← tables.0, ← tables.1) live))
-stood_so _ (move source target inode went) old new sound may makes leaf live =
+stood _ (move source target inode went) old new sound may makes leaf live =
     let tables = moved_tables old new source target inode went makes in
     let moved = live_before (with_home old.homes (dentry_at target) inode) old.covers went leaf (replaces old sound source target inode went may) (rw (← tables.0, ← tables.1) live) in
     inl (record { known = sym (moved_known old.homes old.covers sound.table (dentry_at target) inode (relocates old sound source target inode went may) leaf.0.0) ∙ moved.known; stands = moved.stands })
-
-pub stood : (change : Change) (old new : TreeState) → IsSound old → MayChange (shown_tree old) old.covers change → Makes change old new → (leaf : Leaf) → IsLive new.homes new.covers leaf → IsLive old.homes old.covers leaf ⊎ IsComing change leaf
-stood change old new sound may makes leaf live = stood_so change (shape_of (shown_tree old) old.covers change may) old new sound may makes leaf live
 
 -- ---- whose it is
 
@@ -129,7 +123,7 @@ module _ (old new : Core) (before after : Roots) (owned : IsOwned old before) (n
       coming spot inode able done same at that =
           ⊎_elim (λ lived. absurd (new_is_not_live (state_of old) sound spot inode able (subst (IsLive old.homes old.covers) that.1 lived)))
           (λ comes. is_that (state_of new) after (first_leaf inode.ino) spot.at.rank (first_inherits spot inode able done same spot.at.rank at.put comes.0) r q that)
-          (stood (adds spot inode) (state_of old) (state_of new) sound able done q live)
+          (stood (adds spot inode) (add spot inode) (state_of old) (state_of new) sound able done q live)
 
   -- a change leaves each cached fragment at its leaf's authority
   pub change_held : (change : Change) → AreHeldAt (state_of old) before change → MayChange (shown_in old) old.covers change → Makes change (state_of old) (state_of new) → (change.comes ≡ true → after ≡ before) → HaveCaches after new.caches

@@ -1,5 +1,5 @@
 -- What becomes of the roots and of every leaf's authority where directories come, move and go: from the table of directories alone.
-use Rattle.ranked_tree.proofs.Common.{AreGone, BecomesMerged, BecomesSplit, CanMerge, Covers, FitsSplit, Fragment, HasAuthority, HasLeaf, HaveOneAuthority, Home, Homes, Ino, IsChild, IsInheritedAt, IsLive, IsMerge, IsRootMerge, IsRootSplit, IsSettled, IsSome, IsSplit, IsSubtrees, IsTable, IsTree, KeepAuthority, Leaf, List, MayCome, MayGo, MayMove, NoNewRank, None, Option, Rank, Roots, Some, adopted_authority, adopted_valid, and_right, ap, arith, child_is_new, cond_both, drops_soundly, false, get_removed, inl, inr, is_inside, is_known, is_some, leaves, leaves_now, leaves_of, lies_inside, merges_soundly, moves_soundly, nat_lt, nat_tests, not_none, one_value, refl, same_or_apart, some_authority, some_holder, span, splits_soundly, subst, sym, tree_of_row, true, value_of, ℕ, ⊎_elim, ◌&&◌, ◌+◌, ◌/◌, ◌==◌, ◌||◌, ◌∙◌, ◌≡◌, ◌≢◌, ◌⊎◌}
+use Rattle.ranked_tree.proofs.Common.{AreGone, BecomesMerged, BecomesSplit, CanMerge, Covers, FitsSplit, Fragment, HasAuthority, HasLeaf, HaveOneAuthority, Home, Homes, Ino, IsChild, IsInheritedAt, IsLive, IsMerge, IsRootMerge, IsRootSplit, IsSettled, IsSome, IsSplit, IsSubtrees, IsTable, IsTree, KeepAuthority, Leaf, List, MayCome, MayGo, MayMove, NoNewRank, None, Option, Rank, Roots, Some, adopted_authority, adopted_valid, and_right, ap, arith, child_is_new, cond_both, drops_soundly, false, get_removed, inl, inr, is_inside, is_known, is_some, leaves, leaves_now, leaves_of, lies_inside, merges_soundly, moves_soundly, nat_lt, nat_tests, not_none, one_value, refl, same_or_apart, some_authority, some_holder, span, splits_soundly, subst, sym, tree_of_row, true, value_of, ℕ, ⊎_elim, ◌&&◌, ◌+◌, ◌/◌, ◌==◌, ◌||◌, ◌∙◌, ◌≡◌, ◌≢◌}
 use Rattle.std.specs.FinMap as map
 use Rattle.sorted_map.proofs.NatKeys as nat
 use Rattle.mds_types.proofs.LeafLaws.{same_or_apart as same_leaf_or_apart}
@@ -20,9 +20,6 @@ sound_on a b c homes between now covers middle later first second stands = recor
   ranks = λ leaf rank has. let found = second.ranks leaf rank has in first.ranks found.0 rank found.1;
 }
 
-not_less : (n : ℕ) → nat_lt n n ≡ false
-not_less n = grind (arith, nat_tests)
-
 -- a leaf of a directory that went stands no more
 pub is_elsewhere : (homes : Homes) (covers : Covers) (d : ℕ) (leaf : Leaf) → (d ≡ 1 → ⊥) → IsLive (map.remove homes d) covers leaf → leaf.0.0 ≢ d
 is_elsewhere homes covers d leaf other live same =
@@ -30,9 +27,6 @@ is_elsewhere homes covers d leaf other live same =
     let none : (d == 1) || is_some (map.get (map.remove homes d) d) ≡ false = λ i. nat.is_apart d 1 other i || is_some (nat.get_removed homes d i) in
     let clash : true ≡ false = sym known ∙ none in
     cc
-
-same_rank : (a b : Rank) → (a ≡ b) ⊎ (a ≡ b → ⊥)
-same_rank a b = ⊎_elim (λ same. inl (λ i. record { 0 = same i })) (λ apart. inr (λ same. apart (ap (λ (r : Rank). r.0) same))) (nat.same_or_apart a.0 b.0)
 
 module _ (before after : Roots) (homes : Homes) (covers : Covers) (table : IsTable homes covers) (valid : IsSubtrees before homes covers) where
   -- the roots stay, and so do the directories
@@ -47,10 +41,6 @@ module _ (before after : Roots) (homes : Homes) (covers : Covers) (table : IsTab
     ranks = λ leaf rank has. (leaf, has);
   })
 
-  lost_ranks : (d : ℕ) → AreGone before after d → NoNewRank before after
-  lost_ranks d gone leaf rank has =
-      ⊎_elim (λ same. absurd (not_none _ rank (gone.gone leaf same) has)) (λ apart. (leaf, sym (gone.others leaf apart) ∙ has)) (nat.same_or_apart leaf.0.0 d)
-
   -- a directory goes, and its roots with it
   pub lost : (d : ℕ) → AreGone before after d → MayGo homes d → IsSoundChange before after homes (map.remove homes d) covers (map.remove covers d)
   lost d gone may =
@@ -58,7 +48,7 @@ module _ (before after : Roots) (homes : Homes) (covers : Covers) (table : IsTab
       record {
         keeps = λ leaf rank was is has. sound.0 leaf leaf rank was (is_elsewhere homes (map.remove covers d) d leaf may.other is, refl) has;
         valid = sound.1;
-        ranks = lost_ranks d gone;
+        ranks = λ leaf rank has. ⊎_elim (λ same. absurd (not_none _ rank (gone.gone leaf same) has)) (λ apart. (leaf, sym (gone.others leaf apart) ∙ has)) (nat.same_or_apart leaf.0.0 d);
       }
 
   -- a root that was made before a move has the rank of the leaf's authority, which is that of a root
@@ -75,8 +65,10 @@ module _ (before after : Roots) (homes : Homes) (covers : Covers) (table : IsTab
           let stands : IsLive homes covers holder.0 = record { known = subst (λ (i : Ino). is_known homes i.0 ≡ true) (sym holder.1.parent) parent; stands = subst (λ (i : Ino). HasLeaf (leaves_of covers i.0) holder.0.1) (sym holder.1.parent) holder.1.pick.stands } in
           let there = some_authority before homes covers table valid holder.0 stands in
           let inherits : IsInheritedAt before homes covers home there.0 = record { holder = holder.0; holds = holder.1; has = there.1 } in
-          ⊎_elim (λ same. absurd (not_none _ rank (settled.same leaf its.0 live own none its.1 (subst (IsInheritedAt before homes covers home) (sym same) inherits)) has))
-          (λ apart. (its.1.root, subst (λ (r : Rank). map.get before its.1.root ≡ Some r) (one_value _ its.0 rank (settled.lost leaf its.0 there.0 live own none its.1 inherits apart) has) its.1.ranked)) (same_rank its.0 there.0)
+          ⊎_elim (λ same. absurd (not_none _ rank (settled.same leaf its.0 live own none its.1 (subst (IsInheritedAt before homes covers home) (λ i. record { 0 = sym same i }) inherits)) has))
+          (λ apart.
+          let rank_is = one_value _ its.0 rank (settled.lost leaf its.0 there.0 live own none its.1 inherits (λ same. apart (ap (λ (r : Rank). r.0) same))) has in
+          (its.1.root, subst (λ (r : Rank). map.get before its.1.root ≡ Some r) rank_is its.1.ranked)) (nat.same_or_apart its.0.0 there.0.0)
 
       go : (o : Option Rank) → map.get before leaf ≡ o → Found
       go (Some r) was = (leaf, sym (settled.kept leaf (ap is_some was)) ∙ has)
@@ -103,12 +95,10 @@ module _ (before after : Roots) (homes : Homes) (covers : Covers) (table : IsTab
     both : KeepAuthority before after homes homes covers later (BecomesSplit d f nb) × IsSubtrees after homes later
     both = splits_soundly before after d f nb split homes covers later to table valid divided has fits whole becomes
 
-    no_leaf_still : HasLeaf to f → ⊥
-    no_leaf_still still = ⊎_elim (λ its. its.1 refl) (λ child. let more : f.bits ≡ f.bits + nb = ap (λ (g : Fragment). g.bits) child.2 in omega (arith, more, fits.some)) ((divided.leaves f).0 still)
-
     is_other : (leaf : Leaf) → IsLive homes later leaf → leaf ≢ at_f
     is_other leaf live same =
-        no_leaf_still (subst (λ (fs : List Fragment). HasLeaf fs f) (leaves_now covers later d to becomes) (subst (λ (l : Leaf). HasLeaf (leaves_of later l.0.0) l.1) same live.stands))
+        ⊎_elim (λ its. its.1 refl) (λ child. let more : f.bits ≡ f.bits + nb = ap (λ (g : Fragment). g.bits) child.2 in omega (arith, more, fits.some))
+        ((divided.leaves f).0 (subst (λ (fs : List Fragment). HasLeaf fs f) (leaves_now covers later d to becomes) (subst (λ (l : Leaf). HasLeaf (leaves_of later l.0.0) l.1) same live.stands)))
 
     -- what was a root was a leaf, so it is no child
     no_child : (leaf : Leaf) → IsSome (map.get before leaf) → (g : Fragment) → IsChild f nb g → leaf ≢ leaf_of d g
@@ -139,7 +129,7 @@ module _ (before after : Roots) (homes : Homes) (covers : Covers) (table : IsTab
 
     none_inside : (g : Fragment) → HasLeaf to g → lies_inside f g ≡ false
     none_inside g has =
-        ⊎_elim (λ its. its.1) (λ same. ap (lies_inside f) same ∙ (λ i. not_less f.bits i && (f.value / span f.bits == f.value / span f.bits))) ((merged.leaves g).0 has)
+        ⊎_elim (λ its. its.1) (λ same. ap (lies_inside f) same ∙ (λ i. (let less : nat_lt f.bits f.bits ≡ false = grind (arith, nat_tests) in less) i && (f.value / span f.bits == f.value / span f.bits))) ((merged.leaves g).0 has)
 
     is_outside : (leaf : Leaf) → IsLive homes later leaf → is_inside d f leaf ≡ false
     is_outside leaf live =

@@ -1,5 +1,5 @@
 -- What is kept of the exports that stand: by what changes neither directories nor roots, and by what changes no frozen leaf.
-use Rattle.ranked_tree.proofs.Common.{AllHave, Alters, AreFrozenRegionsKept, AreRoots, AreThawed, Begins, BeginsWith, CacheMap, CameAt, Change, Core, Covers, Drops, Ends, Err, Fragment, HasAuthority, HaveOneAuthority, Homes, Ino, IsDivided, IsFamilyOf, IsFrozen, IsFrozenIn, IsLive, IsMergedHere, IsOwned, IsSound, IsSoundCore, Job, Jobs, KeepsAuthorities, KeepsHolders, Leaf, List, Makes, MayChange, NearestRoot, NoNewRank, None, Ok, Option, Rank, Refusal, Regions, Result, Roots, Rules, Shape, Some, StandSoundly, Standing, StandingExport, Subtrees, Unsaved, UsedAt, add, ap, came_weaker, cond_both, dentry_at, get-empty, get_beside, get_holding, get_left, get_removed, get_without, held_in, holder_is, holder_or, holding, imported_freezes, inl, inr, is_dir_kind, is_imported, keep_frozen, keep_holders, leaf-exact, leaf-total, leaf_cmp, leaf_is, leaves, length, list_any, move, none-some, option_map, refl, region_holder, remove, rules, same_Some, same_map, same_or_apart, set, shape_of, shown_tree, state_of, subst, sym, unclean, with_directory, without, without_leaves, ℕ, ⊎_elim, ◌<◌, ◌∙◌, ◌≡◌, ◌≢◌, ◌⊎◌}
+use Rattle.ranked_tree.proofs.Common.{AllHave, Alters, AreFrozenRegionsKept, AreRoots, AreThawed, Begins, BeginsWith, CacheMap, CameAt, Change, Core, Covers, Drops, Ends, Err, Fragment, HasAuthority, HaveOneAuthority, Homes, Ino, IsDivided, IsFrozen, IsFrozenIn, IsLive, IsOwned, IsSound, IsSoundCore, Job, Jobs, KeepsAuthorities, KeepsHolders, Leaf, List, Makes, MayChange, NearestRoot, NoNewRank, None, Ok, Option, Rank, Refusal, Regions, Result, Roots, Shape, Some, StandSoundly, Standing, StandingExport, Subtrees, Unsaved, UsedAt, add, ap, came_weaker, cond_both, dentry_at, get-empty, get_beside, get_holding, get_left, get_removed, get_without, held_in, holder_is, holder_or, holding, imported_freezes, is_dir_kind, is_imported, keep_frozen, keep_holders, leaf-exact, leaf-total, leaf_cmp, leaf_is, leaves, length, list_any, move, none-some, option_map, refl, region_holder, remove, rules, same_Some, same_map, same_or_apart, set, shape_of, shown_tree, state_of, subst, sym, unclean, with_directory, without, without_leaves, ℕ, ⊎_elim, ◌<◌, ◌∙◌, ◌≡◌}
 use Rattle.std.specs.FinMap as map
 use Rattle.mdcache.specs.Commits.{leaf_of}
 use Rattle.mdcache.specs.State.{State as TreeState}
@@ -156,11 +156,9 @@ module _ (old new : Core) (regions : Regions) (divided : IsDivided old regions) 
       go : (u : Option Unsaved) (made : Option Job) → BeginsWith (state_of old) (state_of new) at u made → map.get old.jobs leaf ≡ Some job
       go None made b = same_jobs (state_of old) (state_of new) (ap (λ (s : TreeState). s.jobs) b.1) leaf job is
       go (Some u) None b = absurd b
-      go (Some u) (Some made) b = by (same_or_apart leaf (leaf_of made))
-        where
-          by : (leaf ≡ leaf_of made) ⊎ (leaf ≢ leaf_of made) → map.get old.jobs leaf ≡ Some job
-          by (inl same) = absurd (thawed (subst (λ (l : Leaf). IsFrozenIn (state_of old) regions l) (same ∙ ap leaf_of b.0) frozen))
-          by (inr apart) = sym (get_beside old.jobs (leaf_of made) made leaf apart) ∙ ap (λ (s : TreeState). map.get s.jobs leaf) (sym b.2) ∙ is
+      go (Some u) (Some made) b =
+          ⊎_elim (λ same. absurd (thawed (subst (λ (l : Leaf). IsFrozenIn (state_of old) regions l) (same ∙ ap leaf_of b.0) frozen)))
+          (λ apart. sym (get_beside old.jobs (leaf_of made) made leaf apart) ∙ ap (λ (s : TreeState). map.get s.jobs leaf) (sym b.2) ∙ is) (same_or_apart leaf (leaf_of made))
 
   pub divided_begun : (result : Result (Option Job) Refusal) → Begins (state_of old) (state_of new) at result → new.homes ≡ old.homes → new.covers ≡ old.covers → IsDivided new regions
   divided_begun result begins homes covers = record {
@@ -208,14 +206,10 @@ one_holds exports roots homes covers dir frag thawed one a b r s in_a in_b live_
 pub all_rule : (exports : Standing) (roots : Roots) (homes : Homes) (covers : Covers) (dir : Ino) (frag : Fragment) (rank : Rank) → AreThawed exports roots homes covers dir frag → AllHave homes covers (holding exports roots) dir frag rank → AllHave homes covers roots dir frag rank
 all_rule exports roots homes covers dir frag rank thawed all leaf live inside = thawed_rules exports roots homes covers leaf rank (thawed leaf inside live) (all leaf live inside)
 
--- what was used at the authority of a leaf that isn't frozen was used at the rank that holds it
-module _ (exports : Standing) (roots : Roots) (old : Core) (dir : Ino) (frag : Fragment) where
-  pub family_held : (nb : ℕ) (new : CacheMap) → (IsFrozen exports roots old.homes old.covers (dir, frag) → ⊥) → CameAt (Rules (state_of old) roots (dir, frag)) (IsFamilyOf dir frag nb) old.caches new → CameAt (Rules (state_of old) (holding exports roots) (dir, frag)) (IsFamilyOf dir frag nb) old.caches new
-  family_held nb new thawed came =
-      came_weaker (UsedAt (Rules (state_of old) roots (dir, frag)) (IsFamilyOf dir frag nb)) (λ r q. IsFamilyOf dir frag nb q) (UsedAt (Rules (state_of old) (holding exports roots) (dir, frag)) (IsFamilyOf dir frag nb)) (λ r q. IsFamilyOf dir frag nb q)
-      (λ r q used. (thawed_held exports roots old.homes old.covers (dir, frag) (record { 0 = r }) thawed used.0, used.1)) (λ r q ends. ends) old.caches new came
+-- what was used at ranks that hold leaves was used at ranks of which more is known
+pub came_by : (Holds More : Rank → Type 0) (Named : Leaf → Type 0) (old new : CacheMap) → ((rank : Rank) → Holds rank → More rank) → CameAt Holds Named old new → CameAt More Named old new
+came_by Holds More Named old new more came = came_weaker (UsedAt Holds Named) (λ r q. Named q) (UsedAt More Named) (λ r q. Named q) (λ r q used. (more (record { 0 = r }) used.0, used.1)) (λ r q ends. ends) old new came
 
-  pub merged_held : (new : CacheMap) → AreThawed exports roots old.homes old.covers dir frag → CameAt (AllHave old.homes old.covers roots dir frag) (IsMergedHere old.covers dir frag) old.caches new → CameAt (AllHave old.homes old.covers (holding exports roots) dir frag) (IsMergedHere old.covers dir frag) old.caches new
-  merged_held new thawed came =
-      came_weaker (UsedAt (AllHave old.homes old.covers roots dir frag) (IsMergedHere old.covers dir frag)) (λ r q. IsMergedHere old.covers dir frag q) (UsedAt (AllHave old.homes old.covers (holding exports roots) dir frag) (IsMergedHere old.covers dir frag)) (λ r q. IsMergedHere old.covers dir frag q)
-      (λ r q used. ((λ leaf live inside. thawed_held exports roots old.homes old.covers leaf (record { 0 = r }) (thawed leaf inside live) (used.0 leaf live inside)), used.1)) (λ r q ends. ends) old.caches new came
+-- where the leaves inside a fragment aren't frozen, whose authority a rank is it holds
+pub all_held : (exports : Standing) (roots : Roots) (homes : Homes) (covers : Covers) (dir : Ino) (frag : Fragment) → AreThawed exports roots homes covers dir frag → (rank : Rank) → AllHave homes covers roots dir frag rank → AllHave homes covers (holding exports roots) dir frag rank
+all_held exports roots homes covers dir frag thawed rank all leaf live inside = thawed_held exports roots homes covers leaf rank (thawed leaf inside live) (all leaf live inside)

@@ -1,5 +1,5 @@
 -- What a change of the tree makes of the roots, and of every leaf's authority.
-use Rattle.ranked_tree.proofs.Common.{AreRoots, Bool, Change, Covers, Dentry, FollowChange, Fragment, GivesToChildren, HasAuthority, HaveOneAuthority, Homes, IfSome, Ino, Inode, IsMergedInto, IsRootMerge, IsRootSplit, IsSettled, IsSound, IsSplitInto, IsSubtrees, IsTable, LoseDirectory, Makes, MatchBool, MayChange, MayGo, MayMove, None, Option, Roots, SettleMove, Shape, Some, Spot, State, TakesOver, add, ap, dentry_at, dir_or_not, false, home_at, is_dir_kind, may_come, may_drop, move, moved_home, moved_known, refl, remove, removes, rows_but, set, shape_of, shown_tree, subst, sym, true, with_dir, with_file, with_home, ℕ, ⊎_elim, ◌∙◌, ◌≡◌}
+use Rattle.ranked_tree.proofs.Common.{AreRoots, Bool, Change, Covers, Dentry, FollowChange, Fragment, GivesToChildren, HasAuthority, HaveOneAuthority, Homes, IfSome, Ino, Inode, IsMergedInto, IsRootMerge, IsRootSplit, IsSettled, IsSound, IsSplitInto, IsSubtrees, IsTable, LoseDirectory, Makes, MatchBool, MayChange, MayGo, MayMove, None, Option, Roots, SettleMove, Shape, Some, Spot, State, TakesOver, add, ap, dentry_at, dir_or_not, false, home_at, is_dir_kind, may_come, may_drop, move, moved_home, moved_known, refl, remove, removes, rows_but, set, shown_tree, subst, sym, true, with_dir, with_file, with_home, ℕ, ⊎_elim, ◌∙◌, ◌≡◌}
 use Rattle.std.specs.FinMap as map
 use Rattle.ranked_tree.proofs.MoveLaws.{if_dir, relocates, replaces}
 use Rattle.ranked_tree.proofs.ChangedTables.{added_tables, grown_tables, moved_tables, removed_tables, set_tables}
@@ -26,18 +26,18 @@ module _ (old : State) (before settled : Roots) (to : Dentry) (inode : Inode) (s
       go false kinded same = rw (with_file old.homes to inode kinded) (unchanged before settled old.homes old.covers sound.table valid same)
 
 -- every change keeps the authority of every leaf that stays
-soundly : (change : Change) → Shape change → (old new : State) (before after : Roots) → IsSound old → MayChange (shown_tree old) old.covers change → Makes change old new → FollowChange change old before after → AreRoots old before
+pub changes_soundly : (change : Change) → Shape change → (old new : State) (before after : Roots) → IsSound old → MayChange (shown_tree old) old.covers change → Makes change old new → FollowChange change old before after → AreRoots old before
     → IsSoundChange before after old.homes new.homes old.covers new.covers
-soundly _ (set spot inode) old new before after sound may makes follow valid = let tables = set_tables old new spot inode makes in rw (tables.0, tables.1) (unchanged before after old.homes old.covers sound.table valid (follow.2 ∙ follow.1))
-soundly _ (add spot inode) old new before after sound may makes follow valid =
+changes_soundly _ (set spot inode) old new before after sound may makes follow valid = let tables = set_tables old new spot inode makes in rw (tables.0, tables.1) (unchanged before after old.homes old.covers sound.table valid (follow.2 ∙ follow.1))
+changes_soundly _ (add spot inode) old new before after sound may makes follow valid =
     ⊎_elim (λ kinded.
     let tables = grown_tables old new spot inode kinded makes in
     rw (tables.0, tables.1) (grown before after old.homes old.covers sound.table valid inode.ino.0 (home_at (dentry_at spot)) (may_come (shown_tree old) old.homes (dentry_at spot) inode sound.tabled may.takes) (follow.2 ∙ follow.1)))
     (λ kinded. let tables = added_tables old new spot inode kinded makes in rw (tables.0, tables.1) (unchanged before after old.homes old.covers sound.table valid (follow.2 ∙ follow.1))) (dir_or_not inode)
-soundly _ (remove spot went) old new before after sound may makes follow valid =
+changes_soundly _ (remove spot went) old new before after sound may makes follow valid =
     let tables = removed_tables old new spot went makes in
     rw (tables.0, tables.1) (lose before after old.homes old.covers went sound.table valid (subst (λ (r : Roots). LoseDirectory r after went) follow.1 follow.2) (removable old spot went sound may))
-soundly _ (move source target inode went) old new before after sound may makes follow valid =
+changes_soundly _ (move source target inode went) old new before after sound may makes follow valid =
     let settled = follow.0 in
     let moved_homes = with_home old.homes (dentry_at target) inode in
     let able = relocates old sound source target inode went may in
@@ -46,10 +46,6 @@ soundly _ (move source target inode went) old new before after sound may makes f
     rw (tables.0, tables.1) (sound_on before settled after old.homes moved_homes (rows_but moved_homes went) old.covers old.covers (rows_but old.covers went) first
     (lose settled after moved_homes old.covers went (moved_home old.homes old.covers sound.table (dentry_at target) inode able) first.valid follow.2 (replaces old sound source target inode went may))
     (λ leaf was is. record { known = moved_known old.homes old.covers sound.table (dentry_at target) inode able leaf.0.0 ∙ was.known; stands = was.stands }))
-
-pub changes_soundly : (change : Change) (old new : State) (before after : Roots) → IsSound old → MayChange (shown_tree old) old.covers change → Makes change old new → FollowChange change old before after → AreRoots old before
-    → IsSoundChange before after old.homes new.homes old.covers new.covers
-changes_soundly change old new before after sound may makes follow valid = soundly change (shape_of (shown_tree old) old.covers change may) old new before after sound may makes follow valid
 
 -- ---- splits and merges
 

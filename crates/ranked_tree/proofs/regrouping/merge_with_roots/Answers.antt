@@ -2,7 +2,7 @@ use Rattle.ranked_tree.proofs.Common.{AllHave, AreThawed, CameAt, CanMerge, Err,
 use Rattle.ranked_tree.proofs.DividedLaws.{merge_divided}
 use Rattle.ranked_tree.proofs.HeldRegroups.{regroup_on, unmerged_owned}
 use Rattle.ranked_tree.proofs.Kept.{keeps_same}
-use Rattle.ranked_tree.proofs.StandLaws.{merged_held, undone}
+use Rattle.ranked_tree.proofs.StandLaws.{all_held, came_by, undone}
 use Rattle.ranked_tree.proofs.SubtreeLaws.{takes_over}
 use Rattle.ranked_tree.proofs.regrouping.merge_with_roots.Goals as goal
 
@@ -39,7 +39,7 @@ returns-in-Err-merge_held g c =
     let its = c.in-Err-merge_held.ensures in
     let came = subst (λ (r : Roots). CameAt (AllHave c.args.tree.now.homes c.args.tree.now.covers r c.args.dir c.args.frag) (IsMergedHere c.args.tree.now.covers c.args.dir c.args.frag) c.args.tree.now.caches c.merge_held.new.tree.caches) same its.came in
     let owned = unmerged_owned c.args.tree.now c.merge_held.new.tree (held_in c.args.regions.now) (held_in c.args.regions.now) c.requires.divided.owned its.count its.sound c.args.dir c.args.frag c.requires.known c.requires.can
-    (merged_held c.args.regions.now.exports c.args.regions.now.roots.roots c.args.tree.now c.args.dir c.args.frag c.merge_held.new.tree.caches c.requires.thawed came) its.merged.1 in
+    (came_by (AllHave c.args.tree.now.homes c.args.tree.now.covers c.args.regions.now.roots.roots c.args.dir c.args.frag) _ (IsMergedHere c.args.tree.now.covers c.args.dir c.args.frag) _ _ (all_held c.args.regions.now.exports c.args.regions.now.roots.roots c.args.tree.now.homes c.args.tree.now.covers c.args.dir c.args.frag c.requires.thawed) came) its.merged.1 in
     record {
       merged = subst (λ (r : Roots). MergesLeaves (LacksPlacesInside 1 c.args.tree.now r c.args.dir c.args.frag) c.args.tree.now c.merge_held.new.tree c.args.dir c.args.frag (Err c.in-Err-merge_held.refusal)) same its.merged;
       came = came;

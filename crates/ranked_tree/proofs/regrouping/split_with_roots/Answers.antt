@@ -2,7 +2,7 @@ use Rattle.ranked_tree.proofs.Common.{CameAt, CanSplit, Err, IsFamilyOf, IsFroze
 use Rattle.ranked_tree.proofs.DividedLaws.{split_divided}
 use Rattle.ranked_tree.proofs.HeldRegroups.{regroup_on, unsplit_owned}
 use Rattle.ranked_tree.proofs.Kept.{keeps_same}
-use Rattle.ranked_tree.proofs.StandLaws.{family_held, undone}
+use Rattle.ranked_tree.proofs.StandLaws.{came_by, thawed_held, undone}
 use Rattle.ranked_tree.proofs.SubtreeLaws.{children_have}
 use Rattle.ranked_tree.proofs.regrouping.split_with_roots.Goals as goal
 
@@ -36,7 +36,7 @@ returns-in-Err-split_held g c =
     let its = c.in-Err-split_held.ensures in
     let came = subst (λ (r : Roots). CameAt (Rules (state_of c.args.tree.now) r (leaf_of c.args.at.now)) (IsFamilyOf c.args.at.now.dir c.args.at.now.frag c.args.bits) c.args.tree.now.caches c.split_held.new.tree.caches) same its.came in
     let owned = unsplit_owned c.args.tree.now c.split_held.new.tree (held_in c.args.regions.now) (held_in c.args.regions.now) c.requires.divided.owned its.count its.sound c.args.at.now.dir c.args.at.now.frag c.args.bits (record { known = c.requires.known; stands = c.requires.can.stands })
-    (family_held c.args.regions.now.exports c.args.regions.now.roots.roots c.args.tree.now c.args.at.now.dir c.args.at.now.frag c.args.bits c.split_held.new.tree.caches c.requires.thawed came) its.split.1 c.requires.can.fits in
+    (came_by (Rules (state_of c.args.tree.now) c.args.regions.now.roots.roots (leaf_of c.args.at.now)) _ (IsFamilyOf c.args.at.now.dir c.args.at.now.frag c.args.bits) _ _ (λ rank. thawed_held c.args.regions.now.exports c.args.regions.now.roots.roots c.args.tree.now.homes c.args.tree.now.covers (leaf_of c.args.at.now) rank c.requires.thawed) came) its.split.1 c.requires.can.fits in
     record {
       split = subst (λ (r : Roots). SplitsLeaf (LacksPlacesFor (2 ^ c.args.bits + 1) c.args.tree.now r (leaf_of c.args.at.now)) c.args.tree.now c.split_held.new.tree c.args.at.now.dir c.args.at.now.frag c.args.bits (Err c.in-Err-split_held.refusal)) same its.split;
       came = came;
