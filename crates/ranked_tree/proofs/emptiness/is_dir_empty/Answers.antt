@@ -1,4 +1,4 @@
-use Rattle.ranked_tree.proofs.Common.{Fragment, IfOk-weaker, List, ap, has_none, leaves, leaves_of, list_all, names_of, refl, state_of, ◌∙◌}
+use Rattle.ranked_tree.proofs.Common.{Fragment, IfOk-weaker, List, ap, has_none, leaves_of, list_all, names_of, refl, state_of, ◌∙◌}
 use Rattle.ranked_tree.proofs.WalkLaws.{told_empty}
 use Rattle.ranked_tree.proofs.AskLaws.{dir_known, leaf_live}
 use Rattle.dentry_cache.specs.Reads.Reads.{stays}

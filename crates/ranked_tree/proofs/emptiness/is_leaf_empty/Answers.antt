@@ -1,4 +1,4 @@
-use Rattle.ranked_tree.proofs.Common.{held_in, rules}
+use Rattle.ranked_tree.proofs.Common.{held_in}
 use Rattle.ranked_tree.proofs.AskLaws.{read_of}
 use Rattle.ranked_tree.proofs.emptiness.is_leaf_empty.Goals as goal
 

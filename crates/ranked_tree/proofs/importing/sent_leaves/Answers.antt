@@ -1,4 +1,4 @@
-use Rattle.ranked_tree.proofs.Common.{ap, false, false≢true, inr, is_freezing, is_imported, sym, true, ◌∙◌}
+use Rattle.ranked_tree.proofs.Common.{ap, false≢true, inr, is_freezing, is_imported, sym, ◌∙◌}
 use Rattle.ranked_tree.proofs.ImportLaws.{given_cached, given_many, given_spelled, given_wrong}
 use Rattle.ranked_tree.proofs.SendLaws.{held_here, versions_here}
 use Rattle.ranked_tree.proofs.importing.sent_leaves.Goals as goal

@@ -1,4 +1,4 @@
-use Rattle.ranked_tree.proofs.Common.{AreCachedOf, IfErr-weaker, IsInRegionOf, IsSpelledBy, RegionLeaves, inl, inr, leaves, length, state_of, subst, sym, unclean, ⊎_elim, ◌≡◌}
+use Rattle.ranked_tree.proofs.Common.{AreCachedOf, IfErr-weaker, IsInRegionOf, IsSpelledBy, RegionLeaves, inl, inr, length, state_of, subst, sym, ⊎_elim, ◌≡◌}
 use Rattle.ranked_tree.proofs.ImportLaws.{may_not, ready, still_divided, took}
 use Rattle.ranked_tree.proofs.importing.take_region.Goals as goal
 

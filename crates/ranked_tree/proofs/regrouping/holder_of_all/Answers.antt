@@ -1,4 +1,4 @@
-use Rattle.ranked_tree.proofs.Common.{Covers, Fragment, HasLeaf, IsInsideAt, IsLive, None, Option, held_in, leaves_of, rules, state_of, subst, ℕ}
+use Rattle.ranked_tree.proofs.Common.{Covers, Fragment, HasLeaf, IsInsideAt, IsLive, None, Option, held_in, leaves_of, state_of, subst, ℕ}
 use Rattle.ranked_tree.proofs.HeldRegroups.{all_as_one, may_hold_all, none_before}
 use Rattle.ranked_tree.proofs.InsideLaws.{is_within}
 use Rattle.ranked_tree.proofs.regrouping.holder_of_all.Goals as goal

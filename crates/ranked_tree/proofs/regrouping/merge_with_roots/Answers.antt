@@ -1,4 +1,4 @@
-use Rattle.ranked_tree.proofs.Common.{AllHave, AreThawed, CameAt, CanMerge, Err, HaveOneAuthority, IsMergedHere, IsOwned, IsRootMerge, LacksPlacesInside, MergesLeaves, RefusesMerge, Roots, arith, held_in, holding, leaves, leaves_of, refl, regroup_free, state_of, stays, subst, sym, ◌∙◌}
+use Rattle.ranked_tree.proofs.Common.{AllHave, AreThawed, CameAt, CanMerge, Err, HaveOneAuthority, IsMergedHere, IsOwned, IsRootMerge, LacksPlacesInside, MergesLeaves, RefusesMerge, Roots, arith, held_in, holding, leaves_of, refl, regroup_free, state_of, stays, subst, sym, ◌∙◌}
 use Rattle.ranked_tree.proofs.DividedLaws.{merge_divided}
 use Rattle.ranked_tree.proofs.HeldRegroups.{regroup_on, unmerged_owned}
 use Rattle.ranked_tree.proofs.Kept.{keeps_same}

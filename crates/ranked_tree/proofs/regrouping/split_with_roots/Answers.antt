@@ -1,4 +1,4 @@
-use Rattle.ranked_tree.proofs.Common.{CameAt, CanSplit, Err, IsFamilyOf, IsFrozen, IsOwned, IsRootSplit, LacksPlacesFor, RefusesSplit, Roots, Rules, SplitsLeaf, arith, held_in, holding, leaf_of, leaves, leaves_of, refl, regroup_free, state_of, stays, subst, sym, ◌+◌, ◌^◌, ◌∙◌}
+use Rattle.ranked_tree.proofs.Common.{CameAt, CanSplit, Err, IsFamilyOf, IsFrozen, IsOwned, IsRootSplit, LacksPlacesFor, RefusesSplit, Roots, Rules, SplitsLeaf, arith, held_in, holding, leaf_of, leaves_of, refl, regroup_free, state_of, stays, subst, sym, ◌+◌, ◌^◌, ◌∙◌}
 use Rattle.ranked_tree.proofs.DividedLaws.{split_divided}
 use Rattle.ranked_tree.proofs.HeldRegroups.{regroup_on, unsplit_owned}
 use Rattle.ranked_tree.proofs.Kept.{keeps_same}

@@ -1,4 +1,4 @@
-use Rattle.ranked_tree.proofs.Common.{Core, State, ap, evicted, held_in, state_of}
+use Rattle.ranked_tree.proofs.Common.{Core, State, ap, held_in, state_of}
 use Rattle.ranked_tree.proofs.StandLaws.{divided_still, same_jobs}
 use Rattle.ranked_tree.proofs.EvictLaws.{evict_keeps, evict_owned}
 use Rattle.ranked_tree.proofs.ranked_tree.RankedTree.evict.Goals as goal

@@ -1,4 +1,4 @@
-use Rattle.ranked_tree.proofs.Common.{KeepsAuthorities, Ranked, held_roots, state_of, subst, sym}
+use Rattle.ranked_tree.proofs.Common.{KeepsAuthorities, Ranked, state_of, subst, sym}
 use Rattle.ranked_tree.proofs.StepLaws.{MayFreeze, freeze_authorities, freeze_divided, freeze_holders}
 use Rattle.ranked_tree.proofs.ranked_tree.RankedTree.freeze.Goals as goal
 
