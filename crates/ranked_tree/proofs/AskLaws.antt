@@ -40,15 +40,11 @@ held_still a b op told kept = ap (λ (r : Roots). holding b.exports r) kept.root
 
 -- ---- why an operation is refused
 
--- fewer places than two, where there is none
-lacks_more : (core : Core) (rank : Rank) → LacksPlacesAt 1 core rank → LacksPlacesAt 2 core rank
-lacks_more core rank lacks = omega (arith, lacks)
-
 -- where places lack at a leaf of a directory that it concerns
 pub asked : (old new : Ranked) (op : Op) (reason : Refusal) (Lacks : Type 0) → (Lacks → LacksPlacesAsked 1 old.tree (held_roots old) (Concerns (shown_tree (state_of old.tree)) op)) → MayNotFind Lacks old.tree.faults new.tree.faults reason → MayRefuse old new op reason
 asked old new op reason Lacks so (inl memory) = inl memory
 asked old new op reason Lacks so (inr (inl fault)) = inr (inl fault)
-asked old new op reason Lacks so (inr (inr (is, lacks))) = let (leaf, concerns, (rank, rules, few)) = so lacks in inr (inr (inl (is, (leaf, concerns, (rank, rules, lacks_more old.tree rank few)))))
+asked old new op reason Lacks so (inr (inr (is, lacks))) = let (leaf, concerns, (rank, rules, few)) = so lacks in inr (inr (inl (is, (leaf, concerns, (rank, rules, omega (arith, few))))))
 
 -- after reads for it that were not refused
 pub ranked_later : (a b c : Ranked) (op : Op) (reason : Refusal) → KeepsRanked a b op None → MayRefuse b c op reason → MayRefuse a c op reason

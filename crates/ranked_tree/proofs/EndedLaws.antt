@@ -39,11 +39,8 @@ still_behind (Some at) next behind leaf is = ap is_lt (leaf-total.trans at next 
 -- ---- whether a leaf is in the region, by its nearest root
 
 module _ (roots : Roots) (root : Leaf) (homes : Homes) (covers : Covers) (leaf : Leaf) where
-  abbrev FindsRoot : Option Leaf → Type 0
+  abbrev pub FindsRoot : Option Leaf → Type 0
   FindsRoot found = MatchOption found ((near : Leaf) → NearestRoot roots homes covers leaf near → ⊥) (NearestRoot roots homes covers leaf)
-
-  pub found_inside : (found : Option Leaf) → FindsRoot found → found ≡ Some root → NearestRoot roots homes covers leaf root
-  found_inside found is same = subst FindsRoot same is
 
   pub found_outside : (found : Option Leaf) → FindsRoot found → (found ≡ Some root → ⊥) → NearestRoot roots homes covers leaf root → ⊥
   found_outside None is apart near = is root near

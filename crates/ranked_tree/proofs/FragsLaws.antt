@@ -1,5 +1,5 @@
 -- What calls for an operation keep, and why they are refused, in the words of the operation.
-use Rattle.ranked_tree.proofs.Common.{Bool, Change, ChangesHeld, Concerns, Core, Dirfrag, Err, FollowsChange, HoldsAt, IfErr, IfErr-weaker, Ino, IsAt, IsChangeIn, IsChangeOf, IsChangedHeld, IsLive, IsPick, IsSound, KeepsAll, KeepsRanked, KeepsState, LacksBy, LacksForIn, LacksNumbers, LacksPlacesAsked, LacksPlacesDir, LacksToMake, Lists, Looks, MayNotFind, MayRefuse, Moves, NamesDir, Ok, OnErr, OnOk, Op, Option, Ranked, ReadsFor, Refusal, Regions, Removes, Result, Sets, Unlinks, ap, false, held_in, held_roots, inl, inr, is_dir_kind, is_directory, leaf_of, leaves_of, refl, result_err, shape, shown_tree, state_of, subst, sym, true, ℕ, ⊎_elim, ◌∙◌, ◌≡◌}
+use Rattle.ranked_tree.proofs.Common.{Bool, Change, ChangesHeld, Concerns, Core, Dirfrag, Err, FollowsChange, HoldsAt, IfErr, IfErr-weaker, Ino, IsAt, IsChangeIn, IsChangeOf, IsChangedHeld, IsLive, IsPick, IsSound, KeepsAll, KeepsRanked, KeepsState, LacksBy, LacksForIn, LacksNumbers, LacksPlacesAsked, LacksPlacesDir, LacksToMake, Lists, Looks, MayNotFind, MayRefuse, Moves, NamesDir, Ok, OnErr, OnOk, Op, Option, Ranked, ReadsDir, Refusal, Regions, Removes, Result, Sets, Unlinks, ap, false, held_in, held_roots, inl, inr, is_dir_kind, is_directory, leaf_of, leaves, leaves_of, refl, result_err, shape, shown_tree, state_of, subst, sym, true, ℕ, ⊎_elim, ◌∙◌, ◌≡◌}
 use Rattle.mds_types.specs.Shape.{Shape, Makes}
 use Rattle.mdcache.specs.State.{State as TreeState}
 use Rattle.ranked_tree.proofs.HolderLaws.{pick_live}
@@ -11,24 +11,20 @@ abbrev pub over : Core → Regions → Ranked
 over tree regions = record { tree = tree; subtrees = regions.roots; exports = regions.exports }
 
 module _ (tree new : Core) (regions : Regions) (now : Ranked) (is : over tree regions ≡ now) (op : Op) where
-  -- reads of directories that the operation concerns
-  pub keeps_all : (Asked : ℕ → Type 0) (told : Option Refusal) → ((d : ℕ) → Asked d → Concerns (shown_tree (state_of now.tree)) op d) → KeepsState tree new told → ReadsFor (held_in regions) Asked tree new
+  -- reads of a directory that the operation concerns
+  pub keeps_dir : (dir : Ino) (told : Option Refusal) → Concerns (shown_tree (state_of now.tree)) op dir.0 → KeepsState tree new told → ReadsDir (held_in regions) dir tree new
       → KeepsAll (shown_tree (state_of now.tree)) (shown_tree (state_of new)) now.tree.covers new.covers (KeepsRanked now (over new regions) op told)
-  keeps_all Asked told more kept reads = subst (λ (n : Ranked). KeepsAll (shown_tree (state_of n.tree)) (shown_tree (state_of new)) n.tree.covers new.covers (KeepsRanked n (over new regions) op told)) is (record {
+  keeps_dir dir told concerns kept reads = subst (λ (n : Ranked). KeepsAll (shown_tree (state_of n.tree)) (shown_tree (state_of new)) n.tree.covers new.covers (KeepsRanked n (over new regions) op told)) is (record {
     tree = ap (λ (s : TreeState). shown_tree s) kept.state;
     leaves = ap (λ (s : TreeState). s.covers) kept.state;
     follows = record {
       tree = kept;
       roots = refl;
       exports = refl;
-      reads = reads_less (held_in regions) Asked (Concerns (shown_tree (state_of tree)) op) tree new (λ d asked. subst (λ (n : Ranked). Concerns (shown_tree (state_of n.tree)) op d) (sym is) (more d asked)) reads;
+      reads = reads_less (held_in regions) (λ (d : ℕ). d ≡ dir.0) (Concerns (shown_tree (state_of tree)) op) tree new
+          (λ d same. subst (λ (n : Ranked). Concerns (shown_tree (state_of n.tree)) op d) (sym is) (subst (λ (x : ℕ). Concerns (shown_tree (state_of now.tree)) op x) (sym same) concerns)) reads;
     };
   })
-
-  -- so of one directory
-  pub keeps_dir : (dir : Ino) (told : Option Refusal) → Concerns (shown_tree (state_of now.tree)) op dir.0 → KeepsState tree new told → ReadsFor (held_in regions) (λ (d : ℕ). d ≡ dir.0) tree new
-      → KeepsAll (shown_tree (state_of now.tree)) (shown_tree (state_of new)) now.tree.covers new.covers (KeepsRanked now (over new regions) op told)
-  keeps_dir dir told concerns kept reads = keeps_all (λ (d : ℕ). d ≡ dir.0) told (λ d same. subst (λ (x : ℕ). Concerns (shown_tree (state_of now.tree)) op x) (sym same) concerns) kept reads
 
   -- a look at their leaves was refused
   pub looks_refused : {X : Type 0} (result : Result X Refusal) (Lacks : Type 0) → (Lacks → LacksPlacesAsked 1 tree (held_in regions) (Concerns (shown_tree (state_of now.tree)) op)) → IfErr result (MayNotFind Lacks tree.faults new.faults) → IfErr result (MayRefuse now (over new regions) op)

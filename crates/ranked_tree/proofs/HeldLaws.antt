@@ -1,5 +1,5 @@
 -- Each cached fragment stays at the rank that holds its leaf. Here the roots are those with the ranks that hold their regions.
-use Rattle.ranked_tree.proofs.Common.{AreHeld, At, CacheMap, Cached, Came, Core, IsFree, IsLive, IsOwned, IsSoundCore, IsThat, IsThere, KeepsAuthorities, KeepsNone, Leaf, MayHold, None, NoneEnds, Option, Rank, ReadsCore, Roots, Rules, Some, UsedAt, UsesAt, ap, came_cap, came_held, came_ranks, came_weaker, has_place, here, here_is, length, one_authority, reads_came, reads_state, refl, rules, state_of, subst, sym, true, ℕ, ⊎_elim, ◌<◌, ◌≡◌}
+use Rattle.ranked_tree.proofs.Common.{AreHeld, At, CacheMap, Cached, Came, Core, Ends, IsFree, IsLive, IsOwned, IsSoundCore, IsThat, IsThere, KeepsAuthorities, KeepsNone, Leaf, MayHold, None, NoneEnds, Option, Rank, ReadsCore, Roots, Rules, Some, UsedAt, UsesAt, ap, came_cap, came_held, came_ranks, came_weaker, has_place, here, here_is, length, one_authority, reads_came, reads_state, refl, rules, state_of, subst, sym, true, ℕ, ⊎_elim, ◌<◌, ◌≡◌}
 use Rattle.std.specs.FinMap as map
 use Rattle.mdcache.specs.State.{State as TreeState}
 
@@ -12,14 +12,17 @@ module _ (tree : TreeState) (caches : CacheMap) (roots : Roots) (held : AreHeld 
       alone_at None is = tt
       alone_at (Some a) is = ap (λ (r : Rank). r.0) (one_authority roots tree.homes tree.covers leaf (record { 0 = a.rank }) rank (held.cached leaf a is) rules)
 
--- each place is that of a cached fragment
-pub placed_at : (tree : TreeState) (caches : CacheMap) (roots : Roots) → KeepsNone caches → ((leaf : Leaf) (a : At) → map.get caches.held leaf ≡ Some a → Rules tree roots leaf (record { 0 = a.rank }))
-    → (r : ℕ) (leaf : Leaf) → has_place caches r leaf ≡ true → IsLive tree.homes tree.covers leaf → Rules tree roots leaf (record { 0 = r })
-placed_at tree caches roots none cached r leaf placed live = of_frag (here caches r leaf) refl (none r leaf placed)
+-- a rank holds each leaf whose fragment it has, and each place is that of a cached fragment
+pub there_held : (tree : TreeState) (caches : CacheMap) (roots : Roots) → ((leaf : Leaf) (a : At) → map.get caches.held leaf ≡ Some a → Rules tree roots leaf (record { 0 = a.rank })) → (r : ℕ) (leaf : Leaf) → IsThere (here caches r leaf) → Rules tree roots leaf (record { 0 = r })
+there_held tree caches roots cached r leaf there = of_frag (here caches r leaf) refl there
   where
     of_frag : (o : Option Cached) → here caches r leaf ≡ o → IsThere o → Rules tree roots leaf (record { 0 = r })
     of_frag None is h = absurd h
     of_frag (Some f) is h = cached leaf (record { rank = r; frag = f }) (here_is r (map.get caches.held leaf) f is)
+
+pub placed_at : (tree : TreeState) (caches : CacheMap) (roots : Roots) → KeepsNone caches → ((leaf : Leaf) (a : At) → map.get caches.held leaf ≡ Some a → Rules tree roots leaf (record { 0 = a.rank }))
+    → (r : ℕ) (leaf : Leaf) → has_place caches r leaf ≡ true → IsLive tree.homes tree.covers leaf → Rules tree roots leaf (record { 0 = r })
+placed_at tree caches roots none cached r leaf placed live = there_held tree caches roots cached r leaf (none r leaf placed)
 
 -- the ranks of roots have caches
 abbrev pub HaveCaches : Roots → CacheMap → Type 0

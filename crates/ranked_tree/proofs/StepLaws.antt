@@ -1,5 +1,5 @@
 -- What the steps of an export leave of a tree that is divided among ranks.
-use Rattle.ranked_tree.proofs.Common.{ArePlaced, AreRoots, CacheMap, Cancels, ComesTo, Core, Covers, EndsRegion, Err, ExportState, Finishes, FreezesSoundly, Frozen, Homes, IsDivided, IsFreeze, IsFrozen, IsFrozenIn, IsFrozenLeaf, IsLive, IsOwned, IsSome, IsSoundCore, Job, KeepsAuthorities, KeepsOutside, Leaf, NearestRoot, Ok, Option, Prepared, Preps, Rank, Ranked, Refusal, Regions, Result, Roots, Rules, Sent, Some, StandSoundly, Standing, StandingExport, Started, Starts, Steps, Subtrees, ap, cancel_holding, cancels_soundly, come_to, finish_holding, finishes_soundly, freezes_soundly, get_beside, get_put, held_in, holder_is, holding, is_freezing, is_some, leaf_cmp, length, not_none, prep_holding, prep_soundly, refl, rules, same_Some, same_or_apart, send_holding, send_soundly, start_holding, start_soundly, state_of, subst, sym, valid_so, ℕ, ⊎_elim, ◌<◌, ◌∙◌, ◌≡◌, ◌≢◌, ◌⊎◌}
+use Rattle.ranked_tree.proofs.Common.{ArePlaced, AreRoots, CacheMap, Cancels, ComesTo, Core, Covers, EndsRegion, Err, ExportState, Finishes, FreezesSoundly, Frozen, Homes, IsDivided, IsFreeze, IsFrozen, IsFrozenLeaf, IsLive, IsOwned, IsSome, IsSoundCore, KeepsAuthorities, KeepsOutside, Leaf, NearestRoot, Ok, Option, Prepared, Preps, Rank, Ranked, Refusal, Regions, Result, Roots, Rules, Sent, Some, StandSoundly, Standing, StandingExport, Started, Starts, Steps, Subtrees, ap, cancel_holding, cancels_soundly, come_to, finish_holding, finishes_soundly, freezes_soundly, get_beside, get_put, held_in, holder_is, holding, is_freezing, is_some, leaf_cmp, length, not_none, prep_holding, prep_soundly, refl, rules, same_Some, same_or_apart, send_holding, send_soundly, start_holding, start_soundly, state_of, subst, sym, valid_so, ℕ, ⊎_elim, ◌<◌, ◌∙◌, ◌≡◌, ◌≢◌}
 use Rattle.std.specs.FinMap as map
 use Rattle.mdcache.specs.State.{State as TreeState}
 use Rattle.ranked_tree.proofs.HeldLaws.{held_after}
@@ -144,14 +144,11 @@ module _ (old new : Core) (was now : Regions) (root : Leaf) (divided : IsDivided
           placed = placed;
           ranked = rw count_stays (put_ranked (length old.caches.used) was.roots.roots now.roots.roots root is.step.export.exporter is.roots its.0 divided.stand.ranked);
           there = rw count_stays (put_there (length old.caches.used) was.exports now.exports root (come_to Frozen is.step.export) is.step.changed its divided.stand.there);
-          unbegun = λ leaf job stands frozen. unbegun leaf job stands ((soundly.frozen leaf).0 (rw (← homes_stay, ← covers_stay) frozen));
+          -- a job that stands stood, and its leaf isn't in the region
+          unbegun = λ leaf job stands frozen.
+              let outside : NearestRoot now.roots.roots old.homes old.covers leaf root → ⊥ = λ inside. not_none _ job (ends.ended leaf inside) stands in
+              ⊎_elim outside (divided.stand.unbegun leaf job (sym (ends.others leaf outside) ∙ stands)) ((soundly.frozen leaf).0 (rw (← homes_stay, ← covers_stay) frozen));
         }
-      where
-        -- a job that stands stood, and its leaf isn't in the region
-        unbegun : (leaf : Leaf) (job : Job) → map.get new.jobs leaf ≡ Some job → NearestRoot now.roots.roots old.homes old.covers leaf root ⊎ IsFrozenIn (state_of old) was leaf → ⊥
-        unbegun leaf job stands =
-            let outside : NearestRoot now.roots.roots old.homes old.covers leaf root → ⊥ = λ inside. not_none _ job (ends.ended leaf inside) stands in
-            ⊎_elim outside (divided.stand.unbegun leaf job (sym (ends.others leaf outside) ∙ stands))
 
     pub freeze_divided : IsDivided new now
     freeze_divided = record {
