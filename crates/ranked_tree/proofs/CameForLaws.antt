@@ -35,8 +35,5 @@ changed_held old new roots change sound now may holders is = record {
   right = is.right;
   between = is.between;
   read = reads_weaker (IsNamedIn change) NoneEnds (AsksFor (state_of old) roots (NamesDir change)) NoneEnds (asks_change old roots change sound may holders) (λ r q none. none) old.objects old.caches is.between is.read;
-  came = came_weaker (IsNamedIn change) (EndsWith change) (AsksFor (state_of old) roots (NamesDir change)) (IsGone (shown_tree (state_of new))) (asks_change old roots change sound may holders) gone is.between new.caches is.came;
+  came = came_weaker (IsNamedIn change) (EndsWith change) (AsksFor (state_of old) roots (NamesDir change)) (IsGone (shown_tree (state_of new))) (asks_change old roots change sound may holders) (λ r q ends. sym (known_is (shown_tree (state_of new)) new.homes now.tabled q.0.0) ∙ gone_unknown change (shape_of (shown_tree (state_of old)) old.covers change may) (state_of old) (state_of new) sound may is.made q.0 ends) is.between new.caches is.came;
 }
-  where
-    gone : (r : ℕ) (q : Leaf) → EndsWith change r q → IsGone (shown_tree (state_of new)) r q
-    gone r q ends = sym (known_is (shown_tree (state_of new)) new.homes now.tabled q.0.0) ∙ gone_unknown change (shape_of (shown_tree (state_of old)) old.covers change may) (state_of old) (state_of new) sound may is.made q.0 ends

@@ -6,13 +6,9 @@ use Rattle.std.specs.FinMap as map
 abbrev pub TablesAre : State → Homes → Covers → Type 0
 TablesAre s homes covers = (s.homes ≡ homes) × (s.covers ≡ covers)
 
-homes_without : (s : State) (went : Option Ino) → (without s went).homes ≡ rows_but s.homes went
-homes_without s None = refl
-homes_without s (Some dir) = refl
-
-covers_without : (s : State) (went : Option Ino) → (without s went).covers ≡ rows_but s.covers went
-covers_without s None = refl
-covers_without s (Some dir) = refl
+tables_without : (s : State) (went : Option Ino) → TablesAre (without s went) (rows_but s.homes went) (rows_but s.covers went)
+tables_without s None = (refl, refl)
+tables_without s (Some dir) = (refl, refl)
 
 tables_of : (a b : State) → a ≡ b → TablesAre a b.homes b.covers
 tables_of a b same = (ap (λ (s : State). s.homes) same, ap (λ (s : State). s.covers) same)
@@ -39,14 +35,14 @@ module _ (old new : State) where
 
   pub removed_tables : (spot : Spot) (went : Option Ino) → Makes (removes spot went) old new → TablesAre new (rows_but old.homes went) (rows_but old.covers went)
   removed_tables spot went makes = on new _ _ _ makes.2 (on makes.0 (without makes.1.0 went) _ _ makes.1.2 (
-    homes_without makes.1.0 went ∙ ap (λ (s : State). rows_but s.homes went) makes.1.1.left,
-    covers_without makes.1.0 went ∙ ap (λ (s : State). rows_but s.covers went) makes.1.1.left,
+    (tables_without makes.1.0 went).0 ∙ ap (λ (s : State). rows_but s.homes went) makes.1.1.left,
+    (tables_without makes.1.0 went).1 ∙ ap (λ (s : State). rows_but s.covers went) makes.1.1.left,
   ))
 
   pub moved_tables : (source target : Spot) (inode : Inode) (went : Option Ino) → Makes (moves source target inode went) old new → TablesAre new (rows_but (with_home old.homes (dentry_at target) inode) went) (rows_but old.covers went)
   moved_tables source target inode went (altered, (left, is_left, (named, is_named, is)), noted_is) =
       let before = on named _ _ _ is_named.left (tables_of left _ is_left.left) in
       on new _ _ _ noted_is (on altered (without (with_home_at named (dentry_at target) inode) went) _ _ is (
-        homes_without (with_home_at named (dentry_at target) inode) went ∙ ap (λ (h : Homes). rows_but (with_home h (dentry_at target) inode) went) before.0,
-        covers_without (with_home_at named (dentry_at target) inode) went ∙ ap (λ (c : Covers). rows_but c went) before.1,
+        (tables_without (with_home_at named (dentry_at target) inode) went).0 ∙ ap (λ (h : Homes). rows_but (with_home h (dentry_at target) inode) went) before.0,
+        (tables_without (with_home_at named (dentry_at target) inode) went).1 ∙ ap (λ (c : Covers). rows_but c went) before.1,
       ))

@@ -1,7 +1,8 @@
 -- The jobs of a region end, leaf by leaf.
-use Rattle.ranked_tree.proofs.Common.{Bool, Covers, EndsInside, EndsRegion, Homes, IsNext, IsSome, Job, Jobs, Leaf, List, MatchOption, NearestRoot, None, Option, Roots, Some, [], ap, arith, cond, cond_both, eq_by_cmp, false, false≢true, find, get-entries, get_left, get_removed, inl, inr, is_behind, is_lt, leaf-exact, leaf-total, leaf_cmp, less_is, none-some, not, one_root, refl, same_or_apart, stood_before, subst, suc, sym, tie, tied_itself, true, true≢false, value_of, ℕ, ⊎_elim, ◌+◌, ◌<◌, ◌∙◌, ◌∷◌, ◌≡◌, ◌≢◌, ◌≤◌}
+use Rattle.ranked_tree.proofs.Common.{Bool, Covers, EndsInside, EndsRegion, Homes, IsNext, IsSome, Job, Jobs, Leaf, List, MatchOption, NearestRoot, None, Option, Roots, Some, [], ap, arith, cond, cond_both, eq_by_cmp, false, false≢true, find, get-entries, get_left, get_removed, inl, inr, is_behind, is_lt, is_some, leaf-exact, leaf-total, leaf_cmp, less_is, none-some, not, one_root, refl, same_or_apart, stood_before, subst, suc, sym, tie, tied_itself, true, true≢false, value_of, ℕ, ⊎_elim, ◌+◌, ◌<◌, ◌∙◌, ◌∷◌, ◌≡◌, ◌≢◌, ◌≤◌}
 use Rattle.std.specs.FinMap as map
 use Rattle.mdcache.specs.State.{State as TreeState}
+use Rattle.ranked_tree.proofs.HeldLaws.{none_unless}
 use Rattle.ranked_tree.proofs.StandLaws.{FewerJobs, same_jobs}
 
 -- ---- how many are to come
@@ -109,11 +110,9 @@ module _ (roots : Roots) (root : Leaf) where
 
       -- of a leaf between the last and the next none stood
       between : (leaf : Leaf) → leaf ≢ next → is_behind (Some next) leaf ≡ false → IsInside old leaf → map.get now.jobs leaf ≡ None
-      between leaf apart not inside = cond_both (is_behind last leaf) true true (λ any. map.get now.jobs leaf ≡ None) (by (map.get now.jobs leaf) refl) (λ before. so_far.ended leaf before inside)
-        where
-          by : (o : Option Job) → map.get now.jobs leaf ≡ o → is_behind last leaf ≡ true → map.get now.jobs leaf ≡ None
-          by None none behind = none
-          by (Some job) stands behind = absurd (⊎_elim apart (λ after. true≢false (sym (ap is_lt after) ∙ not)) (first.2 leaf behind (subst IsSome (sym stands) refl)))
+      between leaf apart not inside =
+          cond_both (is_behind last leaf) true true (λ any. map.get now.jobs leaf ≡ None)
+          (λ behind. none_unless (map.get now.jobs leaf) (λ job stands. ⊎_elim apart (λ after. true≢false (sym (ap is_lt after) ∙ not)) (first.2 leaf behind (ap is_some stands)))) (λ before. so_far.ended leaf before inside)
 
       pub ended_on : HaveEnded old new (Some next)
       ended_on = record {

@@ -18,11 +18,8 @@ clean_beyond s (Some a) clean = cond_both (a.rank == s) (Some a.frag) None (λ o
 gone_unclean : (c : CacheMap) (r : ℕ) (v : Leaf) → goes c r None v ≡ true → (s : ℕ) → unclean_of (given_up c r v) s ≡ unclean_of c s
 gone_unclean c r v passes s = same_map leaf-total leaf-exact (unclean_of (given_up c r v) s) (unclean_of c s) (λ q. get_unclean_of (given_up c r v) s q ∙ ap unsaved_in (here_given_up c r v s q) ∙ at q (leaf_is q v) refl (r == s) ∙ sym (get_unclean_of c s q))
   where
-    none : unsaved_at (map.get c.held v) ≡ None
-    none = clean_there r (map.get c.held v) true passes
-
     at : (q : Leaf) (b : Bool) → leaf_is q v ≡ b → (k : Bool) → unsaved_in (cond (b && k) None (here c s q)) ≡ unsaved_in (here c s q)
-    at q true one true = sym (ap (λ (l : Leaf). unsaved_in (here c s l)) (one_leaf q v one) ∙ clean_beyond s (map.get c.held v) none)
+    at q true one true = sym (ap (λ (l : Leaf). unsaved_in (here c s l)) (one_leaf q v one) ∙ clean_beyond s (map.get c.held v) (clean_there r (map.get c.held v) true passes))
     at q true one false = refl
     at q false beside k = refl
 

@@ -5,7 +5,7 @@ use Rattle.sorted_map.proofs.NatKeys as nat
 use Rattle.mdcache.specs.State.{State as TreeState}
 use Rattle.ranked_tree.proofs.MoveLaws.{relocates, replaces}
 use Rattle.ranked_tree.proofs.ChangedTables.{TablesAre, added_tables, grown_tables, moved_tables, removed_tables, set_tables}
-use Rattle.ranked_tree.proofs.HeldLaws.{HaveCaches, held_since, is_that}
+use Rattle.ranked_tree.proofs.HeldLaws.{HaveCaches, held_since, is_that, none_unless}
 use Rattle.ranked_tree.proofs.HolderLaws.{named_by, new_is_not_live, put_live, was_unknown}
 use Rattle.ranked_tree.proofs.RootLaws.{is_elsewhere}
 use Rattle.ranked_tree.proofs.SubtreeLaws.{removable}
@@ -24,11 +24,7 @@ IsComing change q = IsComingBy change.comes change.puts q
 -- a leaf of tables in which a directory came
 module _ (homes : Homes) (covers : Covers) (table : IsTable homes covers) (dir : Ino) (home : Home) (come : MayCome homes dir.0 home) where
   no_row : leaves_of covers dir.0 ≡ root_fragment ∷ []
-  no_row = go (map.get covers dir.0) refl
-    where
-      go : (row : Option (List Fragment)) → map.get covers dir.0 ≡ row → or_whole (map.get covers dir.0) ≡ root_fragment ∷ []
-      go None is = ap or_whole is
-      go (Some fs) is = absurd (was_unknown homes dir.0 home come (table.known dir.0 fs is))
+  no_row = ap or_whole (none_unless (map.get covers dir.0) (λ fs is. was_unknown homes dir.0 home come (table.known dir.0 fs is)))
 
   pub live_or_first : (leaf : Leaf) → IsLive (map.insert homes dir.0 home) covers leaf → IsLive homes covers leaf ⊎ (leaf ≡ first_leaf dir)
   live_or_first leaf live =
@@ -91,13 +87,8 @@ module _ (old new : Core) (before after : Roots) (owned : IsOwned old before) (n
     holder_stays = rw (tables.0, tables.1) (record { known = still_known old.homes inode.ino.0 (home_at (dentry_at spot)) spot.at.dir.0 holder_live.known; stands = holder_live.stands })
 
     no_root : map.get after first ≡ None
-    no_root = go (map.get after first) refl
-      where
-        go : (o : Option Rank) → map.get after first ≡ o → map.get after first ≡ None
-        go None is = is
-        go (Some rank) is =
-            let was : IsSome (map.get before first) = ap is_some (sym (ap (λ (r : Roots). map.get r first) follow) ∙ is) in
-            absurd (was_unknown old.homes inode.ino.0 (home_at (dentry_at spot)) comes (owned.valid.live first was).known)
+    no_root = none_unless (map.get after first) (λ rank is.
+        let was : IsSome (map.get before first) = ap is_some (sym (ap (λ (r : Roots). map.get r first) follow) ∙ is) in was_unknown old.homes inode.ino.0 (home_at (dentry_at spot)) comes (owned.valid.live first was).known)
 
     pub first_inherits : Rules (state_of new) after first rank
     first_inherits =

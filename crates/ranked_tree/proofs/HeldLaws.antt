@@ -12,6 +12,11 @@ module _ (tree : TreeState) (caches : CacheMap) (roots : Roots) (held : AreHeld 
       alone_at None is = tt
       alone_at (Some a) is = ap (λ (r : Rank). r.0) (one_authority roots tree.homes tree.covers leaf (record { 0 = a.rank }) rank (held.cached leaf a is) rules)
 
+-- there is none where no value can be the one
+pub none_unless : {X : Type 0} (o : Option X) → ((x : X) → o ≡ Some x → ⊥) → o ≡ None
+none_unless {X} None never = refl
+none_unless {X} (Some x) never = absurd (never x refl)
+
 -- a rank holds each leaf whose fragment it has, and each place is that of a cached fragment
 pub there_held : (tree : TreeState) (caches : CacheMap) (roots : Roots) → ((leaf : Leaf) (a : At) → map.get caches.held leaf ≡ Some a → Rules tree roots leaf (record { 0 = a.rank })) → (r : ℕ) (leaf : Leaf) → IsThere (here caches r leaf) → Rules tree roots leaf (record { 0 = r })
 there_held tree caches roots cached r leaf there = of_frag (here caches r leaf) refl there

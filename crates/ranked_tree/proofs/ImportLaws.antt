@@ -4,7 +4,7 @@ use Rattle.std.proofs.Common.{◌≢◌, is_some, map as list_map}
 use Rattle.std.specs.FinMap as map
 use Rattle.export_steps.specs.Handover.{HandsOver as HandsRegionOver}
 use Rattle.mdcache.specs.State.{State as TreeState}
-use Rattle.ranked_tree.proofs.HeldLaws.{held_after}
+use Rattle.ranked_tree.proofs.HeldLaws.{held_after, none_unless}
 use Rattle.ranked_tree.proofs.SendLaws.{at_root, export_here, of_tree, region_held, region_here}
 use Rattle.ranked_tree.proofs.StandLaws.{divided_still, held_bound, same_jobs}
 use Rattle.ranked_tree.proofs.StepLaws.{step_there}
@@ -19,11 +19,7 @@ module _ (core : Core) (regions : Regions) (divided : IsDivided core regions) (r
   at_home = region_here core regions divided root export stands (ap is_freezing sent) (ap is_imported sent)
 
   no_job : (leaf : Leaf) → In leaf → map.get core.jobs leaf ≡ None
-  no_job leaf near = go (map.get core.jobs leaf) refl
-    where
-      go : (o : Option Job) → map.get core.jobs leaf ≡ o → map.get core.jobs leaf ≡ None
-      go None is = is
-      go (Some job) is = absurd (divided.stand.unbegun leaf job is (record { root = root; export = export; nearest = near; stands = stands; freezing = ap is_freezing sent }))
+  no_job leaf near = none_unless (map.get core.jobs leaf) (λ job is. divided.stand.unbegun leaf job is (record { root = root; export = export; nearest = near; stands = stands; freezing = ap is_freezing sent }))
 
   module _ (leaves : RegionLeaves) (cached : AreCachedOf In core.caches export.exporter.0 leaves) where
     -- what is handed over: the leaves of the region that are unclean, with no job, and those that are clean

@@ -3,7 +3,7 @@ use Rattle.ranked_tree.proofs.Common.{AreFilled, AreHeld, AreRoots, AreTopRoots,
 use Rattle.std.specs.FinMap as map
 use Rattle.mds_types.specs.Leaf.{Leaf}
 use Rattle.subtree_map.specs.Changes.{leaf_of}
-use Rattle.ranked_tree.proofs.HeldLaws.{placed_at}
+use Rattle.ranked_tree.proofs.HeldLaws.{none_unless, placed_at}
 use Rattle.ranked_tree.proofs.NewLaws.{new_are_held, root_is}
 
 -- the leaves of the root directory where there was no root
@@ -35,16 +35,15 @@ first_ranked covers roots top leaf rank has =
 pub top_of_none : (roots : Roots) → AreTopRoots no_covers roots → roots ≡ new_roots
 top_of_none roots top = same_map leaf-total leaf-exact roots new_roots at
   where
-    other : (leaf : Leaf) → (leaf ≡ root_leaf → ⊥) → (o : Option Rank) → map.get roots leaf ≡ o → map.get roots leaf ≡ None
-    other leaf apart None is = is
-    other leaf apart (Some rank) is =
+    other : (leaf : Leaf) → (leaf ≡ root_leaf → ⊥) → map.get roots leaf ≡ None
+    other leaf apart = none_unless (map.get roots leaf) (λ rank is.
         let at = top.alone leaf (ap is_some is) in
-        absurd (apart (live_root leaf (record { known = ap (is_known no_homes) at.0; stands = subst (λ d. HasLeaf (leaves_of no_covers d) leaf.1) (sym at.0) at.1 })))
+        apart (live_root leaf (record { known = ap (is_known no_homes) at.0; stands = subst (λ d. HasLeaf (leaves_of no_covers d) leaf.1) (sym at.0) at.1 })))
 
     at : (leaf : Leaf) → map.get roots leaf ≡ map.get new_roots leaf
     at leaf = elim (same_or_apart leaf root_leaf) [
       | inl same ↦ ap (map.get roots) same ∙ top.ranked root_fragment root_live.stands ∙ sym root_is ∙ ap (map.get new_roots) (sym same)
-      | inr apart ↦ other leaf apart (map.get roots leaf) refl ∙ sym (get_beside map.empty root_leaf (record { 0 = 0 }) leaf apart ∙ get-empty leaf_cmp leaf)
+      | inr apart ↦ other leaf apart ∙ sym (get_beside map.empty root_leaf (record { 0 = 0 }) leaf apart ∙ get-empty leaf_cmp leaf)
     ]
 
 module _ (limit : ℕ) (objects : Objects) (ranks places : ℕ) (some : 0 < ranks) (tree : Tree) (c : Core) (roots : Roots) (sound : IsSoundCore c) (top : AreTopRoots c.covers roots) where

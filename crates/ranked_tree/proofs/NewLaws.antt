@@ -37,9 +37,6 @@ new_are_held core roots limit ranks places some state caches is =
     many : length (new_caches ranks places).used ≡ ranks
     many = ranks_with_frag (no_caches ranks places) 0 root_leaf cached_root ∙ length-replicate ranks []
 
-    only : (leaf : Leaf) (rank : Rank) → map.get new_roots leaf ≡ Some rank → rank ≡ first_rank
-    only leaf rank has = one_value (map.get new_roots root_leaf) rank first_rank (ap (map.get new_roots) (sym (one_root leaf (ap is_some has))) ∙ has) root_is
-
     its : (leaf : Leaf) (a : At) → map.get (new_caches ranks places).held leaf ≡ Some a → Rules (new_state limit) new_roots leaf (record { 0 = a.rank })
     its leaf a has = let w = only_cached ranks places leaf a has in subst (λ (n : ℕ). Rules (new_state limit) new_roots leaf (record { 0 = n })) (sym w.1) (subst (λ (l : Leaf). Rules (new_state limit) new_roots l first_rank) (sym w.0) (record { root = root_leaf; nearest = itself root_leaf first_rank root_is; ranked = root_is }))
 
@@ -47,5 +44,5 @@ new_are_held core roots limit ranks places some state caches is =
     here = record {
       cached = its;
       placed = placed_at (new_state limit) (new_caches ranks places) new_roots (new_none ranks places) its;
-      ranks = λ leaf rank has. subst (λ (r : Rank). r.0 < length (new_caches ranks places).used) (sym (only leaf rank has)) (subst (λ (n : ℕ). 0 < n) (sym many) some);
+      ranks = λ leaf rank has. subst (λ (r : Rank). r.0 < length (new_caches ranks places).used) (sym (one_value (map.get new_roots root_leaf) rank first_rank (ap (map.get new_roots) (sym (one_root leaf (ap is_some has))) ∙ has) root_is)) (subst (λ (n : ℕ). 0 < n) (sym many) some);
     }
