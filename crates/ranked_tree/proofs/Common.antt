@@ -135,7 +135,7 @@ pub use Rattle.sorted_map.proofs.MapLaws.{tie}
 pub use Rattle.sorted_map.proofs.NatKeys.{is_same}
 pub use Rattle.sorted_map.specs.SortedMap.{contents}
 pub use Rattle.std.proofs.Common.{Bool, Err, IsTrue, List, MatchBool, None, Ok, Option, Result, Some, [], ap, ap₂, arith, cond, false, inl, inr, length, nat_lt, not, option_map, refl, rules, subst, suc, sym, true, zero, ℕ, ◌%◌, ◌&&◌, ◌+◌, ◌/◌, ◌<◌, ◌==◌, ◌^◌, ◌↔◌, ◌∙◌, ◌∷◌, ◌≡◌, ◌≤◌, ◌⊎◌, ⊎_elim}
-pub use Rattle.std.proofs.lemmas.Bool.{and_from, and_parts, and_right, cases_lt, cond_both, eq-eqb, eqb-true, false≢true, true≢false}
+pub use Rattle.std.proofs.lemmas.Bool.{and_from, and_parts, and_right, cases_Bool, cases_lt, cond_both, eq-eqb, eqb-true, false≢true, true≢false}
 pub use Rattle.std.proofs.lemmas.Bool.Decides.{nat_tests}
 pub use Rattle.std.proofs.lemmas.List.{length-replicate}
 pub use Rattle.std.proofs.lemmas.Option.{IfSome_then, none-some, same_Some}

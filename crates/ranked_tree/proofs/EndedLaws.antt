@@ -1,5 +1,5 @@
 -- The jobs of a region end, leaf by leaf.
-use Rattle.ranked_tree.proofs.Common.{Bool, Covers, EndsInside, EndsRegion, Homes, IsNext, IsSome, Job, Jobs, Leaf, List, MatchOption, NearestRoot, None, Option, Roots, Some, [], ap, arith, cond, cond_both, eq_by_cmp, false, false≢true, find, get-entries, get_left, get_removed, inl, inr, is_behind, is_lt, is_some, leaf-exact, leaf-total, leaf_cmp, less_is, none-some, not, one_root, refl, same_or_apart, stood_before, subst, suc, sym, tie, tied_itself, true, true≢false, value_of, ℕ, ⊎_elim, ◌+◌, ◌<◌, ◌∙◌, ◌∷◌, ◌≡◌, ◌≢◌, ◌≤◌}
+use Rattle.ranked_tree.proofs.Common.{Bool, Covers, EndsInside, EndsRegion, Homes, IsNext, IsSome, Job, Jobs, Leaf, List, MatchOption, NearestRoot, None, Option, Roots, Some, [], ap, arith, cases_Bool, cond, cond_both, eq_by_cmp, false, false≢true, find, get-entries, get_left, get_removed, inl, inr, is_behind, is_lt, is_some, leaf-exact, leaf-total, leaf_cmp, less_is, none-some, not, one_root, refl, same_or_apart, stood_before, subst, suc, sym, tie, tied_itself, true, true≢false, value_of, ℕ, ⊎_elim, ◌+◌, ◌<◌, ◌∙◌, ◌∷◌, ◌≡◌, ◌≢◌, ◌≤◌}
 use Rattle.std.specs.FinMap as map
 use Rattle.mdcache.specs.State.{State as TreeState}
 use Rattle.ranked_tree.proofs.HeldLaws.{none_unless}
@@ -70,7 +70,7 @@ module _ (roots : Roots) (root : Leaf) where
 
   pub all_ended : (old now : TreeState) (last : Option Leaf) → HaveEnded old now last → IsNext now.jobs last None → EndsRegion old now roots root
   all_ended old now last so_far none = record {
-    ended = λ leaf inside. cond_both (is_behind last leaf) true true (λ any. map.get now.jobs leaf ≡ None) (none leaf) (λ before. so_far.ended leaf before inside);
+    ended = λ leaf inside. ⊎_elim (none leaf) (λ before. so_far.ended leaf before inside) (cases_Bool (is_behind last leaf));
     others = so_far.others;
     left = so_far.left;
   }
@@ -111,8 +111,7 @@ module _ (roots : Roots) (root : Leaf) where
       -- of a leaf between the last and the next none stood
       between : (leaf : Leaf) → leaf ≢ next → is_behind (Some next) leaf ≡ false → IsInside old leaf → map.get now.jobs leaf ≡ None
       between leaf apart not inside =
-          cond_both (is_behind last leaf) true true (λ any. map.get now.jobs leaf ≡ None)
-          (λ behind. none_unless (map.get now.jobs leaf) (λ job stands. ⊎_elim apart (λ after. true≢false (sym (ap is_lt after) ∙ not)) (first.2 leaf behind (ap is_some stands)))) (λ before. so_far.ended leaf before inside)
+          ⊎_elim (λ behind. none_unless (map.get now.jobs leaf) (λ job stands. ⊎_elim apart (λ after. true≢false (sym (ap is_lt after) ∙ not)) (first.2 leaf behind (ap is_some stands)))) (λ before. so_far.ended leaf before inside) (cases_Bool (is_behind last leaf))
 
       pub ended_on : HaveEnded old new (Some next)
       ended_on = record {

@@ -1,5 +1,5 @@
 -- What becomes of the roots and of every leaf's authority where directories come, move and go: from the table of directories alone.
-use Rattle.ranked_tree.proofs.Common.{AreGone, BecomesMerged, BecomesSplit, CanMerge, Covers, FitsSplit, Fragment, HasAuthority, HasLeaf, HaveOneAuthority, Home, Homes, Ino, IsChild, IsInheritedAt, IsLive, IsMerge, IsRootMerge, IsRootSplit, IsSettled, IsSome, IsSplit, IsSubtrees, IsTable, IsTree, KeepAuthority, Leaf, List, MayCome, MayGo, MayMove, NoNewRank, None, Option, Rank, Roots, Some, adopted_authority, adopted_valid, and_right, ap, arith, child_is_new, cond_both, drops_soundly, false, inl, inr, is_inside, is_known, is_some, leaves_now, leaves_of, lies_inside, merges_soundly, moves_soundly, nat_lt, nat_tests, not_none, one_value, refl, some_authority, some_holder, span, splits_soundly, subst, sym, tree_of_row, true, value_of, ℕ, ⊎_elim, ◌&&◌, ◌+◌, ◌/◌, ◌==◌, ◌||◌, ◌∙◌, ◌≡◌, ◌≢◌}
+use Rattle.ranked_tree.proofs.Common.{AreGone, BecomesMerged, BecomesSplit, CanMerge, Covers, FitsSplit, Fragment, HasAuthority, HasLeaf, HaveOneAuthority, Home, Homes, Ino, IsChild, IsInheritedAt, IsLive, IsMerge, IsRootMerge, IsRootSplit, IsSettled, IsSome, IsSplit, IsSubtrees, IsTable, IsTree, KeepAuthority, Leaf, List, MayCome, MayGo, MayMove, NoNewRank, None, Option, Rank, Roots, Some, adopted_authority, adopted_valid, and_right, ap, arith, child_is_new, cond_both, drops_soundly, cases_Bool, false, inl, inr, is_inside, is_known, is_some, leaves_now, leaves_of, lies_inside, merges_soundly, moves_soundly, nat_lt, nat_tests, not_none, one_value, refl, some_authority, some_holder, span, splits_soundly, subst, sym, tree_of_row, true, value_of, ℕ, ⊎_elim, ◌&&◌, ◌+◌, ◌/◌, ◌==◌, ◌||◌, ◌∙◌, ◌≡◌, ◌≢◌}
 use Rattle.std.specs.FinMap as map
 use Rattle.sorted_map.proofs.NatKeys as nat
 use Rattle.mds_types.proofs.LeafLaws.{same_or_apart as same_leaf_or_apart}
@@ -129,7 +129,8 @@ module _ (before after : Roots) (homes : Homes) (covers : Covers) (table : IsTab
 
     none_inside : (g : Fragment) → HasLeaf to g → lies_inside f g ≡ false
     none_inside g has =
-        ⊎_elim (λ its. its.1) (λ same. ap (lies_inside f) same ∙ (λ i. (let less : nat_lt f.bits f.bits ≡ false = grind (arith, nat_tests) in less) i && (f.value / span f.bits == f.value / span f.bits))) ((merged.leaves g).0 has)
+        let equal : nat_lt f.bits f.bits ≡ false = grind (arith, nat_tests) in
+        ⊎_elim (λ its. its.1) (λ same. ap (lies_inside f) same ∙ (λ i. equal i && (f.value / span f.bits == f.value / span f.bits))) ((merged.leaves g).0 has)
 
     is_outside : (leaf : Leaf) → IsLive homes later leaf → is_inside d f leaf ≡ false
     is_outside leaf live =
@@ -140,7 +141,7 @@ module _ (before after : Roots) (homes : Homes) (covers : Covers) (table : IsTab
     merge_ranks leaf rank is =
         ⊎_elim (λ same. let found = merge.rank rank (ap (map.get after) (sym same) ∙ is) in (found.0, found.2))
         (λ apart.
-        cond_both (is_inside d f leaf) true true (λ any. (other : Leaf) × (map.get before other ≡ Some rank)) (λ inside. absurd (not_none _ rank (merge.gone leaf inside) is)) (λ outside. (leaf, sym (merge.others leaf outside apart) ∙ is)))
+        ⊎_elim (λ inside. absurd (not_none _ rank (merge.gone leaf inside) is)) (λ outside. (leaf, sym (merge.others leaf outside apart) ∙ is)) (cases_Bool (is_inside d f leaf)))
         (same_leaf_or_apart leaf (leaf_of d f))
 
     pub merged_soundly : IsSoundChange before after homes homes covers later
