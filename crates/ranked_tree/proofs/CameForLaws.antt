@@ -1,5 +1,5 @@
 -- What a change makes of the caches, in the words of directories and the ranks that hold their leaves.
-use Rattle.ranked_tree.proofs.Common.{AreHeldAt, AsksFor, Came, Change, Core, EndsWith, Homes, IfSome, Ino, IsChanged, IsChangedHeld, IsGone, IsNamedIn, IsSound, Leaf, Makes, MayChange, MayGo, NamesDir, None, NoneEnds, Option, Roots, Shape, Some, add, came_then, came_weaker, dentry_at, false, is_known, is_some, known_is, move, none-some, reads_came, reads_weaker, remove, rows_but, same_Some, set, shape_of, shown_tree, state_of, subst, sym, with_home, ℕ, ◌||◌, ◌∙◌, ◌≡◌}
+use Rattle.ranked_tree.proofs.Common.{AreHeldAt, AsksFor, Came, Change, Core, EndsWith, Homes, IfSome, Ino, IsChanged, IsChangedHeld, IsGone, IsNamedIn, IsSound, Makes, MayChange, MayGo, NamesDir, None, NoneEnds, Option, Roots, Shape, Some, add, came_then, came_weaker, dentry_at, false, is_known, is_some, known_is, move, none-some, reads_came, reads_weaker, remove, rows_but, same_Some, set, shape_of, shown_tree, state_of, subst, sym, with_home, ◌||◌, ◌∙◌, ◌≡◌}
 use Rattle.std.specs.FinMap as map
 use Rattle.sorted_map.proofs.NatKeys as nat
 use Rattle.mdcache.specs.State.{State as TreeState}

@@ -1,5 +1,5 @@
 -- What calls for an operation keep, and why they are refused, in the words of the operation.
-use Rattle.ranked_tree.proofs.Common.{Bool, Change, ChangesHeld, Concerns, Core, Dirfrag, Err, FollowsChange, HoldsAt, IfErr, IfErr-weaker, Ino, IsAt, IsChangeIn, IsChangeOf, IsChangedHeld, IsLive, IsPick, IsSound, KeepsAll, KeepsRanked, KeepsState, LacksBy, LacksForIn, LacksNumbers, LacksPlacesAsked, LacksPlacesDir, LacksToMake, Lists, Looks, MayNotFind, MayRefuse, Moves, NamesDir, Ok, OnErr, OnOk, Op, Option, Ranked, ReadsDir, Refusal, Regions, Removes, Result, Sets, Unlinks, ap, false, held_in, held_roots, inl, inr, is_dir_kind, is_directory, leaf_of, leaves, leaves_of, refl, result_err, shape, shown_tree, state_of, subst, sym, true, ℕ, ⊎_elim, ◌∙◌, ◌≡◌}
+use Rattle.ranked_tree.proofs.Common.{Bool, Change, ChangesHeld, Concerns, Core, Dirfrag, Err, FollowsChange, HoldsAt, IfErr, IfErr-weaker, Ino, IsAt, IsChangeIn, IsChangeOf, IsChangedHeld, IsLive, IsPick, IsSound, KeepsAll, KeepsRanked, KeepsState, LacksBy, LacksForIn, LacksNumbers, LacksPlacesAsked, LacksPlacesDir, LacksToMake, Lists, Looks, MayNotFind, MayRefuse, Moves, NamesDir, Ok, OnErr, OnOk, Op, Option, Ranked, ReadsDir, Refusal, Regions, Removes, Result, Sets, Unlinks, ap, false, held_in, held_roots, inl, inr, is_dir_kind, is_directory, leaf_of, leaves_of, refl, result_err, shape, shown_tree, state_of, subst, sym, true, ℕ, ⊎_elim, ◌∙◌, ◌≡◌}
 use Rattle.mds_types.specs.Shape.{Shape, Makes}
 use Rattle.mdcache.specs.State.{State as TreeState}
 use Rattle.ranked_tree.proofs.HolderLaws.{pick_live}
