@@ -1,18 +1,25 @@
 -- Why a read is refused, in the words of all ranks, and of a call that ends with the read.
-use Rattle.ranked_tree.proofs.Common.{AreHeldAt, Change, Concerns, Core, Err, Fragment, HasLeaf, HoldsAt, IfErr, IfOk, IfSome, Ino, Inode, IsLive, IsSound, KeepsRanked, KeepsState, LacksPlacesAsked, LacksPlacesAt, LacksPlacesBy, LacksPlacesDir, LacksPlacesFor, LacksPlacesOf, List, MayNotBeReady, MayNotFind, MayRefuse, NamesBy, NamesDir, None, Ok, Op, Option, Rank, Ranked, Refusal, Result, Roots, Rules, Some, Spot, Standing, ap, arith, held_roots, holding, inl, inr, is_directory, is_known, known_is, lacked_at, leaf_of, leaves_of, refl, refused_later, shown_tree, state_of, subst, sym, true, ℕ, ◌∙◌, ◌≡◌}
+use Rattle.ranked_tree.proofs.Common.{AreHeldAt, AsksFor, Change, Concerns, Core, Fragment, HasLeaf, HoldsAt, IfErr, IfErr-weaker, IfSome, Ino, Inode, IsLive, IsOwned, IsSound, IsSoundCore, IsThat, KeepsRanked, KeepsState, LacksPlacesAsked, LacksPlacesAt, LacksPlacesBy, LacksPlacesDir, LacksPlacesFor, LacksPlacesOf, List, MayNotBeReady, MayNotFind, MayRefuse, NamesBy, NamesDir, None, NoneEnds, Op, Option, Rank, Ranked, ReadsCore, ReadsDir, Refusal, Result, Roots, Rules, Some, Spot, Standing, ap, arith, faults_told, held_roots, holding, inl, inr, is_directory, is_known, known_is, lacked_at, leaf_of, leaves, leaves_of, not_found_weaker, reads_keeps, reads_weaker, refl, refused_later, result_err, rules, shown_tree, state_of, subst, sym, true, ℕ, ⊎_elim, ◌+◌, ◌∙◌, ◌≡◌}
 use Rattle.mds_types.specs.Leaf.{Leaf}
 use Rattle.mdcache.specs.State.{State as TreeState}
+use Rattle.ranked_tree.proofs.HeldLaws.{is_that, owned_reads}
 
--- what lacks at the rank that holds a leaf
-pub told_for : (X : Type 0) (result : Result X Refusal) (old : Core) (roots : Roots) (leaf : Leaf) (after : ℕ) (rank : Rank) → Rules (state_of old) roots leaf rank
-    → IfErr result (MayNotFind (LacksPlacesAt 1 old rank) old.faults after) → IfErr result (MayNotFind (LacksPlacesFor 1 old roots leaf) old.faults after)
-told_for X (Ok x) old roots leaf after rank rules h = tt
-told_for X (Err reason) old roots leaf after rank rules h = go h
-  where
-    go : MayNotFind (LacksPlacesAt 1 old rank) old.faults after reason → MayNotFind (LacksPlacesFor 1 old roots leaf) old.faults after reason
-    go (inl memory) = inl memory
-    go (inr (inl fault)) = inr (inl fault)
-    go (inr (inr (is, lacks))) = inr (inr (is, (rank, rules, lacks)))
+-- what is known of a read of one leaf at the rank that holds it
+pub record IsReadOf {X : Type 0} (old new : Core) (roots : Roots) (leaf : Leaf) (result : Result X Refusal) : Type 0 where
+  pub kept : KeepsState old new (result_err result)
+  pub reads : ReadsDir roots leaf.0 old new
+  pub owned : IsOwned new roots
+  pub refused : IfErr result (MayNotFind (LacksPlacesFor 1 old roots leaf) old.faults new.faults)
+
+pub read_of : {X : Type 0} (old new : Core) (roots : Roots) (leaf : Leaf) (rank : Rank) (result : Result X Refusal) → IsOwned old roots → Rules (state_of old) roots leaf rank → ReadsCore (IsThat rank.0 leaf) NoneEnds old new → IsSoundCore new
+    → new.faults ≡ old.faults + faults_told (result_err result) → IfErr result (MayNotFind (LacksPlacesAt 1 old rank) old.faults new.faults) → IsReadOf old new roots leaf result
+read_of {X} old new roots leaf rank result owned rules reads sound counted because = record {
+  kept = reads_keeps (IsThat rank.0 leaf) NoneEnds old new reads (result_err result) counted;
+  reads = reads_weaker (IsThat rank.0 leaf) NoneEnds (AsksFor (state_of old) roots (λ (d : ℕ). d ≡ leaf.0.0)) NoneEnds
+      (λ r q that. inl (ap (λ (l : Leaf). l.0.0) that.1, is_that (state_of old) roots leaf rank rules r q that)) (λ r q none. none) old.objects old.caches new.caches reads.caches;
+  owned = owned_reads (IsThat rank.0 leaf) NoneEnds old new roots reads sound (λ r q that live. is_that (state_of old) roots leaf rank rules r q that) owned;
+  refused = IfErr-weaker result _ _ (λ reason. not_found_weaker _ _ old.faults new.faults reason (λ lacks. (rank, rules, lacks))) because;
+}
 
 -- reads before it change nothing of what lacks at the rank that holds a leaf
 pub lacks_still : (count : ℕ) (a b : Core) (roots : Roots) (leaf : Leaf) → KeepsState a b None → LacksPlacesFor count b roots leaf → LacksPlacesFor count a roots leaf
@@ -33,21 +40,11 @@ held_still a b op told kept = ap (λ (r : Roots). holding b.exports r) kept.root
 
 -- ---- why an operation is refused
 
--- fewer places than two, where there is none
-lacks_more : (core : Core) (rank : Rank) → LacksPlacesAt 1 core rank → LacksPlacesAt 2 core rank
-lacks_more core rank lacks = omega (arith, lacks)
-
-module _ (old new : Ranked) (op : Op) where
-  pub asked_for : (reason : Refusal) (leaf : Leaf) → Concerns (shown_tree (state_of old.tree)) op leaf.0.0 → MayNotFind (LacksPlacesFor 1 old.tree (held_roots old) leaf) old.tree.faults new.tree.faults reason → MayRefuse old new op reason
-  asked_for reason leaf concerns (inl memory) = inl memory
-  asked_for reason leaf concerns (inr (inl fault)) = inr (inl fault)
-  asked_for reason leaf concerns (inr (inr (is, (rank, rules, lacks)))) = inr (inr (inl (is, (leaf, concerns, (rank, rules, lacks_more old.tree rank lacks)))))
-
-  pub asked_dir : (reason : Refusal) (dir : Ino) → Concerns (shown_tree (state_of old.tree)) op dir.0 → MayNotFind (LacksPlacesDir 1 old.tree (held_roots old) dir) old.tree.faults new.tree.faults reason → MayRefuse old new op reason
-  asked_dir reason dir concerns (inl memory) = inl memory
-  asked_dir reason dir concerns (inr (inl fault)) = inr (inl fault)
-  asked_dir reason dir concerns (inr (inr (is, (leaf, here, (rank, rules, lacks))))) =
-      inr (inr (inl (is, (leaf, subst (λ (d : ℕ). Concerns (shown_tree (state_of old.tree)) op d) (sym here) concerns, (rank, rules, lacks_more old.tree rank lacks)))))
+-- where places lack at a leaf of a directory that it concerns
+pub asked : (old new : Ranked) (op : Op) (reason : Refusal) (Lacks : Type 0) → (Lacks → LacksPlacesAsked 1 old.tree (held_roots old) (Concerns (shown_tree (state_of old.tree)) op)) → MayNotFind Lacks old.tree.faults new.tree.faults reason → MayRefuse old new op reason
+asked old new op reason Lacks so (inl memory) = inl memory
+asked old new op reason Lacks so (inr (inl fault)) = inr (inl fault)
+asked old new op reason Lacks so (inr (inr (is, lacks))) = let (leaf, concerns, (rank, rules, few)) = so lacks in inr (inr (inl (is, (leaf, concerns, (rank, rules, omega (arith, few))))))
 
 -- after reads for it that were not refused
 pub ranked_later : (a b c : Ranked) (op : Op) (reason : Refusal) → KeepsRanked a b op None → MayRefuse b c op reason → MayRefuse a c op reason
@@ -76,14 +73,8 @@ lacks_asked old roots change held = go change.takes change.puts held.taken held.
 
 pub told_change : (X Lacks : Type 0) (result : Result X Refusal) (old : Core) (roots : Roots) (change : Change) (after : ℕ) → AreHeldAt (state_of old) roots change → IfErr result (MayNotBeReady Lacks (LacksPlacesOf old change) old.faults after)
     → IfErr result (MayNotBeReady Lacks (LacksPlacesAsked 2 old roots (NamesDir change)) old.faults after)
-told_change X Lacks (Ok x) old roots change after held h = tt
-told_change X Lacks (Err reason) old roots change after held h = go h
-  where
-    go : MayNotBeReady Lacks (LacksPlacesOf old change) old.faults after reason → MayNotBeReady Lacks (LacksPlacesAsked 2 old roots (NamesDir change)) old.faults after reason
-    go (inl numbers) = inl numbers
-    go (inr (none, inl memory)) = inr (none, inl memory)
-    go (inr (none, inr (inl fault))) = inr (none, inr (inl fault))
-    go (inr (none, inr (inr (is, lacks)))) = inr (none, inr (inr (is, lacks_asked old roots change held lacks)))
+told_change X Lacks result old roots change after held =
+    IfErr-weaker result _ _ (λ reason. ⊎_elim (λ numbers. inl numbers) (λ other. inr (other.0, not_found_weaker _ _ old.faults after reason (lacks_asked old roots change held) other.1)))
 
 -- ---- what is still so
 
@@ -98,8 +89,3 @@ module _ (s : TreeState) (sound : IsSound s) (dir : Ino) (is : is_directory (sho
 
   pub leaf_live : (leaves : List Fragment) → leaves ≡ leaves_of s.covers dir.0 → (f : Fragment) → HasLeaf leaves f → IsLive s.homes s.covers (dir, f)
   leaf_live leaves are f has = record { known = dir_known; stands = subst (λ (fs : List Fragment). HasLeaf fs f) are has }
-
--- what holds of an answer
-pub map_if_ok : {X E : Type 0} {P Q : X → Type 0} (result : Result X E) → ((x : X) → P x → Q x) → IfOk result P → IfOk result Q
-map_if_ok (Ok x) f h = f x h
-map_if_ok (Err e) f h = tt

@@ -1,21 +1,18 @@
 -- Whose a leaf is that was found.
 use Rattle.ranked_tree.proofs.Common.{Bool, Core, Covers, Dirfrag, Fragment, HasAuthority, HasLeaf, HoldsAt, Home, Homes, Ino, IsAt, IsLeafAt, IsLive, IsOwned, IsPick, IsTrue, Leaf, MatchOption, None, Option, Rank, Roots, Rules, Some, ap, false, is_directory, is_known, known_is, leaf_of, leaves_of, none-some, one_authority, same_Some, shown_tree, state_of, subst, sym, true, ℕ, ◌↔◌, ◌∙◌, ◌≡◌}
 
--- whether the authority that was found is this rank
-pub authority_is : (roots : Roots) (homes : Homes) (covers : Covers) (leaf : Leaf) (rank : Rank) (found : Option Rank) (same : Bool) → (same ≡ true → found ≡ Some rank) → (found ≡ Some rank → same ≡ true)
-    → MatchOption found ((other : Rank) → HasAuthority roots homes covers leaf other → ⊥) (HasAuthority roots homes covers leaf) → IsTrue same ↔ HasAuthority roots homes covers leaf rank
-authority_is roots homes covers leaf rank None same there back tells = (λ told. absurd (none-some rank (there told)), λ has. absurd (tells rank has))
-authority_is roots homes covers leaf rank (Some its) same there back tells = (
-  λ told. subst (HasAuthority roots homes covers leaf) (same_Some its rank (there told)) tells,
-  λ has. back (ap Some (one_authority roots homes covers leaf its rank tells has)),
-)
-
 -- whether the authority, which this rank is, is that one
 pub authority_same : (roots : Roots) (homes : Homes) (covers : Covers) (leaf : Leaf) (its rank : Rank) (same : Bool) → (same ≡ true → its ≡ rank) → (its ≡ rank → same ≡ true) → HasAuthority roots homes covers leaf its → IsTrue same ↔ HasAuthority roots homes covers leaf rank
 authority_same roots homes covers leaf its rank same there back has = (
   λ told. subst (HasAuthority roots homes covers leaf) (there told) has,
   λ other. back (one_authority roots homes covers leaf its rank has other),
 )
+
+-- whether the authority that was found is
+pub authority_is : (roots : Roots) (homes : Homes) (covers : Covers) (leaf : Leaf) (rank : Rank) (found : Option Rank) (same : Bool) → (same ≡ true → found ≡ Some rank) → (found ≡ Some rank → same ≡ true)
+    → MatchOption found ((other : Rank) → HasAuthority roots homes covers leaf other → ⊥) (HasAuthority roots homes covers leaf) → IsTrue same ↔ HasAuthority roots homes covers leaf rank
+authority_is roots homes covers leaf rank None same there back tells = (λ told. absurd (none-some rank (there told)), λ has. absurd (tells rank has))
+authority_is roots homes covers leaf rank (Some its) same there back tells = authority_same roots homes covers leaf its rank same (λ told. same_Some its rank (there told)) (λ one. back (ap Some one)) tells
 
 -- where a hash falls, told of the directory table, is told of the tree
 module _ (core : Core) (roots : Roots) (owned : IsOwned core roots) (dir : Ino) (hash : ℕ) (homes : Homes) (covers : Covers) (same : homes ≡ core.homes) (alike : covers ≡ core.covers) where

@@ -1,72 +1,48 @@
 -- What a change of the tree makes of the directory table.
-use Rattle.ranked_tree.proofs.Common.{Alters, Bool, Change, Covers, Homes, Ino, Inode, Makes, None, Option, Some, Spot, State, adds, ap, cond, dentry_at, false, home_at, is_dir_kind, moves, noted, refl, removes, rows_but, sets, true, with_directory, with_home, with_home_at, without, ◌∙◌, ◌≡◌}
+use Rattle.ranked_tree.proofs.Common.{Bool, Covers, Homes, Ino, Inode, Makes, None, Option, Some, Spot, State, adds, ap, cond, dentry_at, false, home_at, is_dir_kind, moves, refl, removes, rows_but, sets, true, with_directory, with_home, with_home_at, without, ◌∙◌, ◌≡◌}
 use Rattle.std.specs.FinMap as map
 
 -- the tables of a state are these
 abbrev pub TablesAre : State → Homes → Covers → Type 0
 TablesAre s homes covers = (s.homes ≡ homes) × (s.covers ≡ covers)
 
-homes_without : (s : State) (went : Option Ino) → (without s went).homes ≡ rows_but s.homes went
-homes_without s None = refl
-homes_without s (Some dir) = refl
+tables_without : (s : State) (went : Option Ino) → TablesAre (without s went) (rows_but s.homes went) (rows_but s.covers went)
+tables_without s None = (refl, refl)
+tables_without s (Some dir) = (refl, refl)
 
-covers_without : (s : State) (went : Option Ino) → (without s went).covers ≡ rows_but s.covers went
-covers_without s None = refl
-covers_without s (Some dir) = refl
+tables_of : (a b : State) → a ≡ b → TablesAre a b.homes b.covers
+tables_of a b same = (ap (λ (s : State). s.homes) same, ap (λ (s : State). s.covers) same)
 
--- ---- names and directories
+on : (a b : State) (homes : Homes) (covers : Covers) → a ≡ b → TablesAre b homes covers → TablesAre a homes covers
+on a b homes covers same tables = (ap (λ (s : State). s.homes) same ∙ tables.0, ap (λ (s : State). s.covers) same ∙ tables.1)
 
-module _ (old new : State) where
-  set_altered : (spot : Spot) (inode : Inode) → Alters (sets spot inode) old new → TablesAre new old.homes old.covers
-  set_altered spot inode makes = (ap (λ (s : State). s.homes) makes.2 ∙ ap (λ (s : State). s.homes) makes.1.left, ap (λ (s : State). s.covers) makes.2 ∙ ap (λ (s : State). s.covers) makes.1.left)
-
-  -- a directory comes
-  grown_altered : (spot : Spot) (inode : Inode) → is_dir_kind inode.kind ≡ true → Alters (adds spot inode) old new → TablesAre new (map.insert old.homes inode.ino.0 (home_at (dentry_at spot))) old.covers
-  grown_altered spot inode kinded makes =
-      let is : new ≡ with_directory makes.0 (dentry_at spot) inode.ino = makes.2 ∙ ap (λ (b : Bool). cond b (with_directory makes.0 (dentry_at spot) inode.ino) makes.0) kinded in (
-        ap (λ (s : State). s.homes) is ∙ ap (λ (s : State). map.insert s.homes inode.ino.0 (home_at (dentry_at spot))) makes.1.left,
-        ap (λ (s : State). s.covers) is ∙ ap (λ (s : State). s.covers) makes.1.left,
-      )
-
-  -- another inode comes
-  added_altered : (spot : Spot) (inode : Inode) → is_dir_kind inode.kind ≡ false → Alters (adds spot inode) old new → TablesAre new old.homes old.covers
-  added_altered spot inode kinded makes =
-      let is : new ≡ makes.0 = makes.2 ∙ ap (λ (b : Bool). cond b (with_directory makes.0 (dentry_at spot) inode.ino) makes.0) kinded in
-      (ap (λ (s : State). s.homes) is ∙ ap (λ (s : State). s.homes) makes.1.left, ap (λ (s : State). s.covers) is ∙ ap (λ (s : State). s.covers) makes.1.left)
-
-  removed_altered : (spot : Spot) (went : Option Ino) → Alters (removes spot went) old new → TablesAre new (rows_but old.homes went) (rows_but old.covers went)
-  removed_altered spot went makes = (
-    ap (λ (s : State). s.homes) makes.2 ∙ homes_without makes.0 went ∙ ap (λ (s : State). rows_but s.homes went) makes.1.left,
-    ap (λ (s : State). s.covers) makes.2 ∙ covers_without makes.0 went ∙ ap (λ (s : State). rows_but s.covers went) makes.1.left,
-  )
-
-  moved_altered : (source target : Spot) (inode : Inode) (went : Option Ino) → Alters (moves source target inode went) old new → TablesAre new (rows_but (with_home old.homes (dentry_at target) inode) went) (rows_but old.covers went)
-  moved_altered source target inode went (left, is_left, (named, is_named, is)) =
-      let homed : named.homes ≡ old.homes = ap (λ (s : State). s.homes) is_named.left ∙ ap (λ (s : State). s.homes) is_left.left in
-      let covered : named.covers ≡ old.covers = ap (λ (s : State). s.covers) is_named.left ∙ ap (λ (s : State). s.covers) is_left.left in (
-        ap (λ (s : State). s.homes) is ∙ homes_without (with_home_at named (dentry_at target) inode) went ∙ ap (λ (h : Homes). rows_but (with_home h (dentry_at target) inode) went) homed,
-        ap (λ (s : State). s.covers) is ∙ covers_without (with_home_at named (dentry_at target) inode) went ∙ ap (λ (c : Covers). rows_but c went) covered,
-      )
-
--- ---- a change
-
--- the counts and the pins are none of these
-as_noted : (old new altered : State) (change : Change) (homes : Homes) (covers : Covers) → new ≡ noted old change altered → TablesAre altered homes covers → TablesAre new homes covers
-as_noted old new altered change homes covers is tables = (ap (λ (s : State). s.homes) is ∙ tables.0, ap (λ (s : State). s.covers) is ∙ tables.1)
+-- ---- a change; the counts and the pins are none of these
 
 module _ (old new : State) where
   pub set_tables : (spot : Spot) (inode : Inode) → Makes (sets spot inode) old new → TablesAre new old.homes old.covers
-  set_tables spot inode makes = as_noted old new makes.0 (sets spot inode) old.homes old.covers makes.2 (set_altered old makes.0 spot inode makes.1)
+  set_tables spot inode makes = on new _ _ _ makes.2 (on makes.0 _ _ _ makes.1.2 (tables_of makes.1.0 _ makes.1.1.left))
+
+  -- a directory comes, or another inode
+  housed : (spot : Spot) (inode : Inode) (b : Bool) → is_dir_kind inode.kind ≡ b → (makes : Makes (adds spot inode) old new) → TablesAre new (cond b (with_directory makes.1.0 (dentry_at spot) inode.ino) makes.1.0).homes (cond b (with_directory makes.1.0 (dentry_at spot) inode.ino) makes.1.0).covers
+  housed spot inode b kinded makes = on new _ _ _ makes.2 (tables_of makes.0 _ (makes.1.2 ∙ ap (λ (k : Bool). cond k (with_directory makes.1.0 (dentry_at spot) inode.ino) makes.1.0) kinded))
 
   pub grown_tables : (spot : Spot) (inode : Inode) → is_dir_kind inode.kind ≡ true → Makes (adds spot inode) old new → TablesAre new (map.insert old.homes inode.ino.0 (home_at (dentry_at spot))) old.covers
-  grown_tables spot inode kinded makes = as_noted old new makes.0 (adds spot inode) (map.insert old.homes inode.ino.0 (home_at (dentry_at spot))) old.covers makes.2 (grown_altered old makes.0 spot inode kinded makes.1)
+  grown_tables spot inode kinded makes =
+      let its = housed spot inode true kinded makes in (its.0 ∙ ap (λ (s : State). map.insert s.homes inode.ino.0 (home_at (dentry_at spot))) makes.1.1.left, its.1 ∙ ap (λ (s : State). s.covers) makes.1.1.left)
 
   pub added_tables : (spot : Spot) (inode : Inode) → is_dir_kind inode.kind ≡ false → Makes (adds spot inode) old new → TablesAre new old.homes old.covers
-  added_tables spot inode kinded makes = as_noted old new makes.0 (adds spot inode) old.homes old.covers makes.2 (added_altered old makes.0 spot inode kinded makes.1)
+  added_tables spot inode kinded makes = let its = housed spot inode false kinded makes in (its.0 ∙ ap (λ (s : State). s.homes) makes.1.1.left, its.1 ∙ ap (λ (s : State). s.covers) makes.1.1.left)
 
   pub removed_tables : (spot : Spot) (went : Option Ino) → Makes (removes spot went) old new → TablesAre new (rows_but old.homes went) (rows_but old.covers went)
-  removed_tables spot went makes = as_noted old new makes.0 (removes spot went) (rows_but old.homes went) (rows_but old.covers went) makes.2 (removed_altered old makes.0 spot went makes.1)
+  removed_tables spot went makes = on new _ _ _ makes.2 (on makes.0 (without makes.1.0 went) _ _ makes.1.2 (
+    (tables_without makes.1.0 went).0 ∙ ap (λ (s : State). rows_but s.homes went) makes.1.1.left,
+    (tables_without makes.1.0 went).1 ∙ ap (λ (s : State). rows_but s.covers went) makes.1.1.left,
+  ))
 
   pub moved_tables : (source target : Spot) (inode : Inode) (went : Option Ino) → Makes (moves source target inode went) old new → TablesAre new (rows_but (with_home old.homes (dentry_at target) inode) went) (rows_but old.covers went)
-  moved_tables source target inode went makes =
-      as_noted old new makes.0 (moves source target inode went) (rows_but (with_home old.homes (dentry_at target) inode) went) (rows_but old.covers went) makes.2 (moved_altered old makes.0 source target inode went makes.1)
+  moved_tables source target inode went (altered, (left, is_left, (named, is_named, is)), noted_is) =
+      let before = on named _ _ _ is_named.left (tables_of left _ is_left.left) in
+      on new _ _ _ noted_is (on altered (without (with_home_at named (dentry_at target) inode) went) _ _ is (
+        (tables_without (with_home_at named (dentry_at target) inode) went).0 ∙ ap (λ (h : Homes). rows_but (with_home h (dentry_at target) inode) went) before.0,
+        (tables_without (with_home_at named (dentry_at target) inode) went).1 ∙ ap (λ (c : Covers). rows_but c went) before.1,
+      ))

@@ -17,7 +17,7 @@ pub use Rattle.dentry_cache.specs.CacheMap.{AreCaches, At, CacheMap, IsFree, at,
 pub use Rattle.dentry_cache.specs.CacheSplits.{IsFamilyAt}
 pub use Rattle.dentry_cache.specs.Came.{Came, IsThat, NoneEnds}
 pub use Rattle.dentry_cache.specs.Came.Came.{ends, stays}
-pub use Rattle.dentry_cache.specs.Handing.{AreCleanAt, AreUncleanAt, HandsOver, MayNotHandOver, handed, moved_all}
+pub use Rattle.dentry_cache.specs.Handing.{AreCleanAt, AreUncleanAt, HandsOver, MayNotHandOver, moved_all}
 pub use Rattle.dentry_cache.specs.Loading.{object_of}
 pub use Rattle.dentry_cache.specs.Reads.{Reads}
 pub use Rattle.dentry_cache.specs.Ties.{IsTiedAt}
@@ -32,7 +32,7 @@ pub use Rattle.export_regions.proofs.ManyLaws.{all_so}
 pub use Rattle.export_regions.proofs.NameLaws.{how_many}
 pub use Rattle.export_regions.proofs.PickLaws.{each_passes, passing_picked, picked_distinct, picked_passes}
 pub use Rattle.export_regions.proofs.WhereLaws.{IsHere, here_of}
-pub use Rattle.export_regions.specs.Regions.{AreCachedOf, HasTooMany, IsExportOf, IsIn, RegionLeaves, UncleanLeaves, sent_names, sent_of, values}
+pub use Rattle.export_regions.specs.Regions.{AreCachedOf, HasTooMany, IsExportOf, IsIn, RegionLeaves, UncleanLeaves, sent_of}
 pub use Rattle.export_regions.specs.Sending.{AreAtTheirRank, HasVersion, HaveVersions, MayNotSend}
 pub use Rattle.export_regions.specs.Spelling.{IsSpelled}
 pub use Rattle.export_regions.specs.declared.spelling.Spelled.{Spelled}
@@ -43,7 +43,7 @@ pub use Rattle.export_steps.proofs.HoldingSteps.{cancel_holding, finish_holding,
 pub use Rattle.export_steps.specs.Handover.{FreezesSoundly}
 pub use Rattle.export_steps.specs.Holder.{HasHolder, IsFrozen, holder_or, holding, is_imported, region_holder}
 pub use Rattle.export_steps.specs.Regions.{AreFrozenRegionsKept, StandsOver}
-pub use Rattle.export_steps.specs.Standing.{ArePlaced, Cancels, ComesTo, Finishes, IsFinish, IsFreeze, Preps, Standing, Starts, Steps, come_to, is_freezing}
+pub use Rattle.export_steps.specs.Standing.{ArePlaced, Cancels, ComesTo, Finishes, IsFreeze, Preps, Standing, Starts, Steps, come_to, is_freezing}
 pub use Rattle.export_steps.specs.declared.exports.ExportState.{ExportState}
 pub use Rattle.export_steps.specs.declared.exports.ExportState.TheVariants.{Frozen, Imported, Prepared, Sent, Started}
 pub use Rattle.export_steps.specs.declared.exports.StandingExport.{StandingExport}
@@ -51,12 +51,12 @@ pub use Rattle.fragtree.proofs.Ranges.{Contains-from_range, ends_before, ends_lo
 pub use Rattle.fragtree.proofs.TreeLaws.{only_leaf, some_pick}
 pub use Rattle.fragtree.specs.FragTree.{CanMerge, CanSplit, FitsSplit, HasLeaf, IsChild, IsMerge, IsPick, IsSplit, IsTree, RefusesMerge, RefusesSplit, leaves_inside, lies_inside}
 pub use Rattle.inode_table.proofs.MoveLaws.{may_relocate, may_replace}
-pub use Rattle.inode_table.proofs.TableLaws.{home_of, known_is, may_come, may_drop, with_dir, with_file}
+pub use Rattle.inode_table.proofs.TableLaws.{dir_or_not, home_of, known_is, may_come, may_drop, with_dir, with_file}
 pub use Rattle.inode_table.proofs.Tables.{still_known, tree_of_row}
-pub use Rattle.inode_table.specs.Dirs.{Counts, Covers, Homes, IsLeafAt, IsLive, IsTable, MayCome, MayGo, MayMove, RefusesLeaves, count_of, is_known, leaves_of, or_whole}
+pub use Rattle.inode_table.specs.Dirs.{Counts, Covers, Homes, IsLeafAt, IsLive, IsTable, MayCome, MayGo, MayMove, count_of, is_known, leaves_of, or_whole}
 pub use Rattle.inode_table.specs.TreeTable.{home_at, with_home}
 pub use Rattle.inode_table.specs.declared.dirs.Home.{Home}
-pub use Rattle.mdcache.proofs.CoreLaws.{reads_keeps, reads_state}
+pub use Rattle.mdcache.proofs.CoreLaws.{not_found_weaker, reads_keeps, reads_state}
 pub use Rattle.mdcache.proofs.CountLaws.{regroup_free}
 pub use Rattle.mdcache.proofs.FragsLaws.{keeps_itself, keeps_on, keeps_refused, lacked_at, refused_later}
 pub use Rattle.mdcache.proofs.GatherLaws.{gathers_listed, leaf_more}
@@ -69,17 +69,17 @@ pub use Rattle.mdcache.proofs.SoundLaws.{stood_before}
 pub use Rattle.mdcache.proofs.SplitLaws.{has_inside}
 pub use Rattle.mdcache.proofs.TreeLookups.{at_dentry}
 pub use Rattle.mdcache.proofs.UncleanOf.{few_lack, get_unclean_of}
-pub use Rattle.mdcache.specs.Changes.{Alters, Makes, first_leaf, noted, with_directory, with_home_at, without, without_leaves}
+pub use Rattle.mdcache.specs.Changes.{Alters, Makes, first_leaf, with_directory, with_home_at, without, without_leaves}
 pub use Rattle.mdcache.specs.Changing.{IsChanged}
 pub use Rattle.mdcache.specs.Commits.{Begins, BeginsWith, Drops, Ends}
 pub use Rattle.mdcache.specs.Core.{Core, IsSoundCore, LacksPlacesAt, ReadsCore, shown_in, state_of}
 pub use Rattle.mdcache.specs.Flushed.{HasFragment}
-pub use Rattle.mdcache.specs.Frags.{KeepsState, LacksBy, LacksForIn, LacksPlacesBy, LacksPlacesOf, LacksToMake, dir_moved, dir_moving}
+pub use Rattle.mdcache.specs.Frags.{KeepsState, LacksBy, LacksForIn, LacksPlacesBy, LacksPlacesOf, LacksToMake, dir_moving}
 pub use Rattle.mdcache.specs.Given.{HaveNoJobs, IsGivenOver}
 pub use Rattle.mdcache.specs.Going.{rows_but}
 pub use Rattle.mdcache.specs.Joining.{IsAmongOr}
 pub use Rattle.mdcache.specs.Made.{IsRight}
-pub use Rattle.mdcache.specs.Mounted.{IsMounted, IsNew, Mounts}
+pub use Rattle.mdcache.specs.Mounted.{IsMounted, Mounts}
 pub use Rattle.mdcache.specs.New.{cached_root, new_caches, new_state, root_leaf}
 pub use Rattle.mdcache.specs.Objects.{PurgesName, SavesTree}
 pub use Rattle.mdcache.specs.Pages.{IsPageOf, gathered}
@@ -97,7 +97,7 @@ pub use Rattle.mdcache.specs.StandingJobs.{IsNext, Jobs, is_behind}
 pub use Rattle.mdcache.specs.State.{State}
 pub use Rattle.mds_types.proofs.DirectoryLaws.{entries_there, entry_stands}
 pub use Rattle.mds_types.proofs.LeafLaws.{get_beside, get_left, get_put, get_removed, leaf-exact, leaf-total, same_or_apart}
-pub use Rattle.mds_types.proofs.ListingLaws.{names_are_listed, no_entries_listed}
+pub use Rattle.mds_types.proofs.ListingLaws.{less_is, names_are_listed, no_entries_listed}
 pub use Rattle.mds_types.specs.Frag.{Fragment, IsFragment, child_of, root_fragment, span}
 pub use Rattle.mds_types.specs.Leaf.{leaf_cmp, leaf_of}
 pub use Rattle.mds_types.specs.Shape.{Lists, Looks, Moves, Removes, Sets, Unlinks, shape}
@@ -123,32 +123,30 @@ pub use Rattle.namespace_ops.specs.declared.plans.Spot.{Spot}
 pub use Rattle.objstore.specs.Objects.{Objects, faults_in, faults_told}
 pub use Rattle.objstore.specs.Omap.{Omap, key_cmp}
 pub use Rattle.ranked_tree.specs.Changing.{ChangesHeld, FollowsChange, IsChangedHeld}
-pub use Rattle.ranked_tree.specs.Exported.{AreThawed, EndsInside, EndsRegion, IsAnyFrozen, IsDivided, IsFrozenIn, IsUnder, StandSoundly, held_in}
+pub use Rattle.ranked_tree.specs.Exported.{AreThawed, EndsInside, EndsRegion, IsDivided, IsFrozenIn, StandSoundly, held_in}
 pub use Rattle.ranked_tree.specs.Held.{AreHeld, AreHeldAt, AsksFor, CameAt, IsFamilyOf, IsGone, IsMergedHere, IsOwned, LacksPlacesAsked, LacksPlacesDir, LacksPlacesFor, LacksPlacesInside, NamesBy, NamesDir, ReadsDir, ReadsFor, UsedAt, UsesAt}
-pub use Rattle.ranked_tree.specs.Importing.{ComeToImporter, HandsRegion, Imports, IsRenewed, IsSpelledBy, KeepsRegion, MayNotImport, Takes, imported_unsaved}
+pub use Rattle.ranked_tree.specs.Importing.{ComeToImporter, HandsRegion, Imports, IsRenewed, IsSpelledBy, MayNotImport, Takes, imported_unsaved}
 pub use Rattle.ranked_tree.specs.Mounted.{AreTopRoots}
 pub use Rattle.ranked_tree.specs.Ranked.{IsFrozenLeaf, KeepsRanked, MayRefuse, Ranked, held_roots, new_roots}
 pub use Rattle.ranked_tree.specs.Sending.{IsInRegionOf, RefusesSend, Sends, SpellsPrepared, SpellsRegion}
-pub use Rattle.ranked_tree.specs.Subtrees.{AllHave, AreRoots, FollowChange, GivesToChildren, HoldsAt, IsInsideAt, KeepsAuthorities, KeepsHolders, KeepsOutside, KeepsRoots, LoseDirectory, NoNewRank, Rules, SettleBy, SettleMove, SettleMoving, TakesOver}
+pub use Rattle.ranked_tree.specs.Subtrees.{AllHave, AreRoots, FollowChange, GivesToChildren, HoldsAt, IsInsideAt, KeepsAuthorities, KeepsHolders, KeepsOutside, KeepsRoots, LoseDirectory, NoNewRank, Rules, SettleMove, SettleMoving, TakesOver}
 pub use Rattle.ranked_tree.specs.declared.regions.Regions.{Regions}
 pub use Rattle.sorted_map.proofs.MapLaws.{tie}
 pub use Rattle.sorted_map.proofs.NatKeys.{is_same}
 pub use Rattle.sorted_map.specs.SortedMap.{contents}
-pub use Rattle.std.proofs.Common.{Bool, Err, IsTrue, List, MatchBool, None, Ok, Option, Result, Some, [], ap, ap₂, arith, cond, false, inl, inr, length, nat_lt, not, option_map, refl, rules, subst, suc, sym, true, zero, ℕ, ◌%◌, ◌&&◌, ◌+◌, ◌/◌, ◌<◌, ◌==◌, ◌^◌, ◌↔◌, ◌∙◌, ◌∷◌, ◌≡◌, ◌≤◌, ◌⊎◌}
-pub use Rattle.std.proofs.lemmas.Bool.{and_from, and_parts, and_right, cases_lt, eq-eqb, eqb-true}
+pub use Rattle.std.proofs.Common.{Bool, Err, IsTrue, List, MatchBool, None, Ok, Option, Result, Some, [], ap, ap₂, arith, cond, false, inl, inr, length, nat_lt, not, option_map, refl, rules, subst, suc, sym, true, zero, ℕ, ◌%◌, ◌&&◌, ◌+◌, ◌/◌, ◌<◌, ◌==◌, ◌^◌, ◌↔◌, ◌∙◌, ◌∷◌, ◌≡◌, ◌≤◌, ◌⊎◌, ⊎_elim}
+pub use Rattle.std.proofs.lemmas.Bool.{and_from, and_parts, and_right, cases_Bool, cases_lt, cond_both, eq-eqb, eqb-true, false≢true, true≢false}
 pub use Rattle.std.proofs.lemmas.Bool.Decides.{nat_tests}
 pub use Rattle.std.proofs.lemmas.List.{length-replicate}
-pub use Rattle.std.proofs.lemmas.Option.{none-some, same_Some}
-pub use Rattle.std.proofs.lemmas.Result.{on_ok_weaker}
+pub use Rattle.std.proofs.lemmas.Option.{IfSome_then, none-some, same_Some}
+pub use Rattle.std.proofs.lemmas.Result.{IfErr-weaker, IfOk-weaker, on_ok_weaker}
 pub use Rattle.std.specs.Cmp.{tied_itself}
 pub use Rattle.std.specs.FinMap.{empty_of_len, find, get-empty, get-entries, same_map}
 pub use Rattle.std.specs.List.{Contains, IsDistinct, list_all, list_any}
 pub use Rattle.std.specs.Option.{option_copied}
 pub use Rattle.std.specs.Ordering.{eq_by_cmp, is_lt}
-pub use Rattle.std.specs.Prelude.{IfErr, IfOk, IfSome, IsErr, IsErrAnd, IsSome, MatchOption, OnErr, OnOk, is_some, take, ◌-◌, ◌||◌, ◌≢◌}
+pub use Rattle.std.specs.Prelude.{IfErr, IfOk, IfSome, IsErrAnd, IsSome, MatchOption, OnErr, OnOk, is_some, take, ◌-◌, ◌||◌, ◌≢◌}
 pub use Rattle.std.specs.Result.{result_err}
-pub use Rattle.std.specs.declared.cmp.Ordering.{Ordering}
-pub use Rattle.std.specs.declared.cmp.Ordering.TheVariants.{Equal, Greater, Less}
 pub use Rattle.subtree_map.proofs.Adopted.{adopted_authority, adopted_valid}
 pub use Rattle.subtree_map.proofs.Covers.{child_is_new, contains_start, leaves_now, merged_is_new, some_inside}
 pub use Rattle.subtree_map.proofs.Dropped.{drops_soundly}

@@ -1,5 +1,5 @@
 -- What an eviction leaves: what isn't clean, and whose each fragment is.
-use Rattle.ranked_tree.proofs.Common.{At, Bool, CacheMap, Came, Core, Err, IfErr, IsOwned, IsSoundCore, KeepsState, None, NoneEnds, NothingToEvict, Ok, OnErr, OnOk, Option, Refusal, Result, Roots, Some, ap, arith, at_rank, came_cap, came_ranks, clean_there, cond, ends, evicted, false, faults_told, get_unclean_of, given_up, goes, here, here_given_up, last_passes, leaf_is, length, one_leaf, option_map, order, refl, result_err, same_Some, same_map, state_of, stays, subst, sym, true, unclean_of, unsaved_at, unsaved_in, victim, ℕ, ◌&&◌, ◌+◌, ◌==◌, ◌∙◌, ◌≡◌}
+use Rattle.ranked_tree.proofs.Common.{At, Bool, CacheMap, Came, Core, Err, IfErr, IsOwned, IsSoundCore, KeepsState, None, NoneEnds, NothingToEvict, Ok, OnErr, OnOk, Option, Refusal, Result, Roots, Some, ap, arith, at_rank, came_cap, came_ranks, clean_there, cond, cond_both, ends, evicted, false, faults_told, get_unclean_of, given_up, goes, here, here_given_up, last_passes, leaf_is, length, one_leaf, option_map, order, refl, result_err, same_Some, same_map, state_of, stays, subst, sym, true, unclean_of, unsaved_at, unsaved_in, victim, ℕ, ◌&&◌, ◌+◌, ◌==◌, ◌∙◌, ◌≡◌}
 use Rattle.std.specs.FinMap as map
 use Rattle.dentry_cache.specs.Cache.{Leaf}
 use Rattle.dentry_cache.proofs.LeafLaws.{leaf-exact, leaf-total}
@@ -12,21 +12,14 @@ AnyEnds r leaf = Unit {0}
 
 clean_beyond : (s : ℕ) (o : Option At) → unsaved_at o ≡ None → unsaved_in (at_rank s o) ≡ None
 clean_beyond s None clean = refl
-clean_beyond s (Some a) clean = go (a.rank == s)
-  where
-    go : (b : Bool) → unsaved_in (cond b (Some a.frag) None) ≡ None
-    go true = clean
-    go false = refl
+clean_beyond s (Some a) clean = cond_both (a.rank == s) (Some a.frag) None (λ o. unsaved_in o ≡ None) (λ here_so. clean) (λ elsewhere. refl)
 
 -- a clean fragment went
 gone_unclean : (c : CacheMap) (r : ℕ) (v : Leaf) → goes c r None v ≡ true → (s : ℕ) → unclean_of (given_up c r v) s ≡ unclean_of c s
 gone_unclean c r v passes s = same_map leaf-total leaf-exact (unclean_of (given_up c r v) s) (unclean_of c s) (λ q. get_unclean_of (given_up c r v) s q ∙ ap unsaved_in (here_given_up c r v s q) ∙ at q (leaf_is q v) refl (r == s) ∙ sym (get_unclean_of c s q))
   where
-    none : unsaved_at (map.get c.held v) ≡ None
-    none = clean_there r (map.get c.held v) true passes
-
     at : (q : Leaf) (b : Bool) → leaf_is q v ≡ b → (k : Bool) → unsaved_in (cond (b && k) None (here c s q)) ≡ unsaved_in (here c s q)
-    at q true one true = sym (ap (λ (l : Leaf). unsaved_in (here c s l)) (one_leaf q v one) ∙ clean_beyond s (map.get c.held v) none)
+    at q true one true = sym (ap (λ (l : Leaf). unsaved_in (here c s l)) (one_leaf q v one) ∙ clean_beyond s (map.get c.held v) (clean_there r (map.get c.held v) true passes))
     at q true one false = refl
     at q false beside k = refl
 
@@ -41,29 +34,23 @@ module _ (old new : Core) (r : ℕ) where
   came : evicted old.caches r None ≡ Some new.caches → Came NoneEnds AnyEnds old.caches new.caches
   came = by_victim (Came NoneEnds AnyEnds old.caches) (λ v passes. ends old.caches r v stays tt)
 
-  module _ (result : Result (Unit {0}) Refusal) (went : OnOk result (evicted old.caches r None ≡ Some new.caches)) (left : OnErr result (new ≡ old)) (state : state_of new ≡ state_of old) where
-    pub evict_keeps : IfErr result (λ reason. reason ≡ NothingToEvict) → new.faults ≡ old.faults → KeepsState old new (result_err result)
-    evict_keeps refused faults = go result went left refused
-      where
-        go : (x : Result (Unit {0}) Refusal) → OnOk x (evicted old.caches r None ≡ Some new.caches) → OnErr x (new ≡ old) → IfErr x (λ reason. reason ≡ NothingToEvict) → KeepsState old new (result_err x)
-        go (Ok done) ok err why = record {
-          state = state;
-          unclean = by_victim (λ (k : CacheMap). (s : ℕ) → unclean_of k s ≡ unclean_of old.caches s) (λ v passes s. gone_unclean old.caches r v passes s) ok;
-          count = came_ranks NoneEnds AnyEnds old.caches new.caches (came ok);
-          cap = came_cap NoneEnds AnyEnds old.caches new.caches (came ok);
-          counted = omega (arith, faults);
-        }
-        go (Err reason) ok err why = record {
-          state = state;
-          unclean = λ s. ap (λ (k : Core). unclean_of k.caches s) err;
-          count = ap (λ (k : Core). length k.caches.used) err;
-          cap = ap (λ (k : Core). k.caches.cap) err;
-          counted = subst (λ (x : Refusal). new.faults ≡ old.faults + faults_told (Some x)) (sym why) (omega (arith, faults));
-        }
+  module _ (state : state_of new ≡ state_of old) where
+    pub evict_keeps : (result : Result (Unit {0}) Refusal) → OnOk result (evicted old.caches r None ≡ Some new.caches) → OnErr result (new ≡ old) → IfErr result (λ reason. reason ≡ NothingToEvict) → new.faults ≡ old.faults → KeepsState old new (result_err result)
+    evict_keeps (Ok done) went left why faults = record {
+      state = state;
+      unclean = by_victim (λ (k : CacheMap). (s : ℕ) → unclean_of k s ≡ unclean_of old.caches s) (λ v passes s. gone_unclean old.caches r v passes s) went;
+      count = came_ranks NoneEnds AnyEnds old.caches new.caches (came went);
+      cap = came_cap NoneEnds AnyEnds old.caches new.caches (came went);
+      counted = omega (arith, faults);
+    }
+    evict_keeps (Err reason) went left why faults = record {
+      state = state;
+      unclean = λ s. ap (λ (k : Core). unclean_of k.caches s) left;
+      count = ap (λ (k : Core). length k.caches.used) left;
+      cap = ap (λ (k : Core). k.caches.cap) left;
+      counted = subst (λ (x : Refusal). new.faults ≡ old.faults + faults_told (Some x)) (sym why) (omega (arith, faults));
+    }
 
-    pub evict_owned : (roots : Roots) → IsSoundCore new → IsOwned old roots → IsOwned new roots
-    evict_owned roots sound owned = go result went left
-      where
-        go : (x : Result (Unit {0}) Refusal) → OnOk x (evicted old.caches r None ≡ Some new.caches) → OnErr x (new ≡ old) → IsOwned new roots
-        go (Ok done) ok err = owned_came NoneEnds AnyEnds old new roots (came ok) sound (ap (λ (s : TreeState). s.homes) state) (ap (λ (s : TreeState). s.covers) state) (λ r q never live. absurd never) owned
-        go (Err reason) ok err = subst (λ (k : Core). IsOwned k roots) (sym err) owned
+    pub evict_owned : (result : Result (Unit {0}) Refusal) → OnOk result (evicted old.caches r None ≡ Some new.caches) → OnErr result (new ≡ old) → (roots : Roots) → IsSoundCore new → IsOwned old roots → IsOwned new roots
+    evict_owned (Ok done) went left roots sound owned = owned_came NoneEnds AnyEnds old new (came went) sound roots (ap (λ (s : TreeState). s.homes) state) (ap (λ (s : TreeState). s.covers) state) (λ r q never live. absurd never) owned
+    evict_owned (Err reason) went left roots sound owned = subst (λ (k : Core). IsOwned k roots) (sym left) owned

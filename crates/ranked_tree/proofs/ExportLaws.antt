@@ -1,5 +1,5 @@
 -- What a change of the tree leaves of frozen regions, where it changes no frozen leaf: each of their leaves.
-use Rattle.ranked_tree.proofs.Common.{AreFrozenRegionsKept, ArePlaced, AreRoots, Bool, Change, Contains, Covers, FollowChange, Fragment, HasLeaf, HoldsDentry, Home, Homes, IfSome, Ino, Inode, IsFrozen, IsInRegion, IsLive, IsSettled, IsSound, Leaf, List, LoseDirectory, Makes, MatchBool, MayChange, MayGo, MayMove, None, Option, Roots, SettleMove, Shape, Some, Spot, Standing, StandsOver, Subtrees, [], add, adds, after_making, after_move, after_removal, ap, arith, dentry_at, false, first, fragments_of, home_at, home_of, in_directory, is_dir_kind, keep_frozen, later, leaf_of, leaves, leaves_gone, leaves_of, may_come, move, moved_home, moved_known, moves, one_holder, one_value, refl, remove, rows_but, set, shape_of, shown_tree, subst, suc, sym, true, with_dir, with_file, with_home, zero, ℕ, ◌↔◌, ◌∙◌, ◌∷◌, ◌≡◌}
+use Rattle.ranked_tree.proofs.Common.{AreFrozenRegionsKept, ArePlaced, AreRoots, Bool, Change, Contains, Covers, FollowChange, Fragment, HasLeaf, HoldsDentry, Home, Homes, IfSome, Ino, Inode, IsFrozen, IsInRegion, IsLive, IsPick, IsSettled, IsSound, Leaf, List, LoseDirectory, Makes, MatchBool, MayChange, MayGo, MayMove, None, Option, Roots, Shape, Some, Spot, Standing, StandsOver, Subtrees, [], add, adds, after_making, after_move, after_removal, arith, dentry_at, dir_or_not, false, first, fragments_of, hash_of, home_at, home_of, in_directory, is_dir_kind, keep_frozen, later, leaf_of, leaves, leaves_gone, leaves_of, may_come, move, moved_home, moved_known, moves, one_holder, one_value, refl, remove, rows_but, set, shown_tree, subst, suc, sym, true, with_dir, with_file, with_home, zero, ℕ, ⊎_elim, ◌↔◌, ◌∙◌, ◌∷◌, ◌≡◌}
 use Rattle.std.proofs.Common.{map as each}
 use Rattle.std.specs.FinMap as map
 use Rattle.mdcache.specs.State.{State as TreeState}
@@ -26,10 +26,7 @@ module _ (standing : Standing) where
   pub still : (was now : Subtrees) (homes : Homes) (covers : Covers) → now.roots ≡ was.roots → now.promises ≡ was.promises → ArePlaced standing was → Kept was now homes homes covers covers
   still was now homes covers roots promises placed = record {
     regions = λ root export stands freezing leaf. subst (λ (r : Roots). IsInRegion was.roots homes covers root leaf ↔ IsInRegion r homes covers root leaf) (sym roots) (λ its. its, λ its. its);
-    placed = record {
-      ranked = λ root export stands freezing. ap (λ (r : Roots). map.get r root) roots ∙ placed.ranked root export stands freezing;
-      promised = λ root export stands freezing. ap (λ (r : Roots). map.get r root) promises ∙ placed.promised root export stands freezing;
-    };
+    placed = record { ranked = rw roots placed.ranked; promised = rw promises placed.promised };
   }
 
   -- one step after another
@@ -41,10 +38,6 @@ module _ (standing : Standing) where
     );
     placed = two.placed;
   }
-
-  at_tables : (was now : Subtrees) (homes later there : Homes) (covers later_covers under : Covers) → later ≡ there → later_covers ≡ under → Kept was now homes there covers under → Kept was now homes later covers later_covers
-  at_tables was now homes later there covers later_covers under same alike kept =
-      subst (λ (h : Homes). Kept was now homes h covers later_covers) (sym same) (subst (λ (c : Covers). Kept was now homes there covers c) (sym alike) kept)
 
   -- a directory goes, or none does
   loses : (was now : Subtrees) (homes : Homes) (covers : Covers) (went : Option Ino) → StandsOver standing was homes covers → IfSome went (λ (dir : Ino). MayGo homes dir.0)
@@ -73,6 +66,12 @@ module _ (standing : Standing) where
     abbrev AllKept : Type 0
     AllKept = Kept was now old.homes new.homes old.covers new.covers
 
+    -- who holds the dentry of a spot whose leaf isn't frozen isn't
+    at_spot : (spot : Spot) → IsPick (leaves_of old.covers spot.at.dir.0) (hash_of spot.name) spot.at.frag → (IsFrozen standing was.roots old.homes old.covers (leaf_of spot.at) → ⊥)
+        → (holder : Leaf) → HoldsDentry old.covers (home_at (dentry_at spot)) holder → IsFrozen standing was.roots old.homes old.covers holder → ⊥
+    at_spot spot pick thawed holder holds frozen =
+        thawed (subst (λ (l : Leaf). IsFrozen standing was.roots old.homes old.covers l) (one_holder old.covers (home_at (dentry_at spot)) holder (leaf_of spot.at) holds (record { parent = refl; pick = pick })) frozen)
+
     -- a rename: what moves has its home there, and what it replaces goes
     module _ (from to : Spot) (inode : Inode) (went : Option Ino) (may : MayChange (shown_tree old) old.covers (moves from to inode went)) (makes : Makes (moves from to inode went) old new)
         (follow : FollowChange (moves from to inode went) old was.roots now.roots) (promises : LoseDirectory was.promises now.promises went) (thawed : IsThawed (moves from to inode went)) where
@@ -82,63 +81,42 @@ module _ (standing : Standing) where
       abbrev moved : Homes
       moved = with_home old.homes (dentry_at to) inode
 
-      abbrev source : Leaf
-      source = leaf_of from.at
-
-      abbrev target : Leaf
-      target = leaf_of to.at
-
-      settles_may : is_dir_kind inode.kind ≡ true → MayMove old.homes inode.ino.0 (home_at (dentry_at to))
-      settles_may = relocates old sound from to inode went may
-
-      settles : SettleMove old was.roots follow.0 (dentry_at to) inode
-      settles = follow.1
-
-      at_source : (holder : Leaf) → HoldsDentry old.covers (home_at (dentry_at from)) holder → IsFrozen standing was.roots old.homes old.covers holder → ⊥
-      at_source holder holds frozen =
-          thawed source (first source (target ∷ leaves_gone old.covers went))
-          (subst (λ (l : Leaf). IsFrozen standing was.roots old.homes old.covers l) (one_holder old.covers (home_at (dentry_at from)) holder source holds (record { parent = refl; pick = may.carries.taken })) frozen)
-
-      at_target : (holder : Leaf) → HoldsDentry old.covers (home_at (dentry_at to)) holder → IsFrozen standing was.roots old.homes old.covers holder → ⊥
-      at_target holder holds frozen =
-          thawed target (later source target (target ∷ leaves_gone old.covers went) (first target (leaves_gone old.covers went)))
-          (subst (λ (l : Leaf). IsFrozen standing was.roots old.homes old.covers l) (one_holder old.covers (home_at (dentry_at to)) holder target holds (record { parent = refl; pick = may.carries.put })) frozen)
+      able : is_dir_kind inode.kind ≡ true → MayMove old.homes inode.ino.0 (home_at (dentry_at to))
+      able = relocates old sound from to inode went may
 
       moving : (b : Bool) → is_dir_kind inode.kind ≡ b → MatchBool b (IsSettled was.roots follow.0 old.homes old.covers inode.ino.0 (home_at (dentry_at to))) (follow.0 ≡ was.roots) → Kept was mid old.homes moved old.covers old.covers
       moving true kinded its = after_move standing was mid old.homes moved old.covers over (record {
         dir = inode.ino.0;
         home = home_at (dentry_at to);
-        may = settles_may kinded;
+        may = able kinded;
         from_thawed = λ home holder stands holds.
             let there = home_of (shown_tree old) old.homes sound.tabled (dentry_at from) inode inode.ino.0 may.takes.stands refl kinded in
-            at_source holder (subst (λ (h : Home). HoldsDentry old.covers h holder) (one_value _ home (home_at (dentry_at from)) stands there) holds);
-        to_thawed = at_target;
+            at_spot from may.carries.taken (thawed (leaf_of from.at) (first (leaf_of from.at) (leaf_of to.at ∷ leaves_gone old.covers went)))
+            holder (subst (λ (h : Home). HoldsDentry old.covers h holder) (one_value _ home (home_at (dentry_at from)) stands there) holds);
+        to_thawed = at_spot to may.carries.put (thawed (leaf_of to.at) (later (leaf_of from.at) (leaf_of to.at) (leaf_of to.at ∷ leaves_gone old.covers went) (first (leaf_of to.at) (leaves_gone old.covers went))));
         changed = with_dir old.homes (dentry_at to) inode kinded;
         roots = its;
         promises = refl;
       })
-      moving false kinded same = at_tables was mid old.homes moved old.homes old.covers old.covers old.covers (with_file old.homes (dentry_at to) inode kinded) refl (still was mid old.homes old.covers same refl placed)
+      moving false kinded same = rw (with_file old.homes (dentry_at to) inode kinded) (still was mid old.homes old.covers same refl placed)
 
       one : Kept was mid old.homes moved old.covers old.covers
-      one = moving (is_dir_kind inode.kind) refl settles
-
-      lived : (leaf : Leaf) → IsLive moved old.covers leaf → IsLive old.homes old.covers leaf
-      lived leaf live = record { known = sym (moved_known old.homes old.covers sound.table (dentry_at to) inode settles_may leaf.0.0) ∙ live.known; stands = live.stands }
+      one = moving (is_dir_kind inode.kind) refl follow.1
 
       two : Kept mid now moved (rows_but moved went) old.covers (rows_but old.covers went)
       two = loses mid now moved old.covers went
-          (record { table = moved_home old.homes old.covers sound.table (dentry_at to) inode settles_may; valid = (rehomes old was.roots follow.0 (dentry_at to) inode sound valid settles_may settles).valid; placed = one.placed })
+          (record { table = moved_home old.homes old.covers sound.table (dentry_at to) inode able; valid = (rehomes old was.roots follow.0 (dentry_at to) inode sound valid able follow.1).valid; placed = one.placed })
           (replaces old sound from to inode went may)
           (λ leaf live has frozen.
-          thawed leaf (later source leaf (target ∷ leaves_gone old.covers went) (later target leaf (leaves_gone old.covers went) has))
-          ((keep_frozen standing was mid old.homes moved old.covers old.covers one leaf (lived leaf live) live).1 frozen))
+          let lived : IsLive old.homes old.covers leaf = record { known = sym (moved_known old.homes old.covers sound.table (dentry_at to) inode able leaf.0.0) ∙ live.known; stands = live.stands } in
+          thawed leaf (later (leaf_of from.at) leaf (leaf_of to.at ∷ leaves_gone old.covers went) (later (leaf_of to.at) leaf (leaves_gone old.covers went) has))
+          ((keep_frozen standing was mid old.homes moved old.covers old.covers one leaf lived live).1 frozen))
           follow.2 promises
 
       rename_keeps : AllKept
       rename_keeps =
           let tables = moved_tables old new from to inode went makes in
-          at_tables was now old.homes new.homes (rows_but moved went) old.covers new.covers (rows_but old.covers went) tables.0 tables.1
-          (both was mid now old.homes moved (rows_but moved went) old.covers old.covers (rows_but old.covers went) one two)
+          rw (tables.0, tables.1) (both was mid now old.homes moved (rows_but moved went) old.covers old.covers (rows_but old.covers went) one two)
 
     -- a new directory, whose dentry's leaf is thawed
     comes : (spot : Spot) (inode : Inode) → MayChange (shown_tree old) old.covers (adds spot inode) → IsThawed (adds spot inode)
@@ -147,34 +125,21 @@ module _ (standing : Standing) where
       dir = inode.ino.0;
       home = home_at (dentry_at spot);
       may = may_come (shown_tree old) old.homes (dentry_at spot) inode sound.tabled may.takes;
-      thawed = λ holder holds frozen.
-          thawed (leaf_of spot.at) (first (leaf_of spot.at) [])
-          (subst (λ (l : Leaf). IsFrozen standing was.roots old.homes old.covers l) (one_holder old.covers (home_at (dentry_at spot)) holder (leaf_of spot.at) holds (record { parent = refl; pick = may.carries.put })) frozen);
+      thawed = at_spot spot may.carries.put (thawed (leaf_of spot.at) (first (leaf_of spot.at) []));
       changed = refl;
     })
 
-    by_shape : (change : Change) → Shape change → MayChange (shown_tree old) old.covers change → Makes change old new → FollowChange change old was.roots now.roots → LoseDirectory was.promises now.promises change.gone → IsThawed change → AllKept
-    by_shape _ (set spot inode) may makes follow promises thawed =
-        let tables = set_tables old new spot inode makes in
-        at_tables was now old.homes new.homes old.homes old.covers new.covers old.covers tables.0 tables.1 (still was now old.homes old.covers (follow.2 ∙ follow.1) promises placed)
-    by_shape _ (add spot inode) may makes follow promises thawed = go (is_dir_kind inode.kind) refl
-      where
-        go : (b : Bool) → is_dir_kind inode.kind ≡ b → AllKept
-        go true kinded =
-            let tables = grown_tables old new spot inode kinded makes in
-            let grown = map.insert old.homes inode.ino.0 (home_at (dentry_at spot)) in
-            let come = comes spot inode may thawed in
-            at_tables was now old.homes new.homes grown old.covers new.covers old.covers tables.0 tables.1
-            (both was was now old.homes grown grown old.covers old.covers old.covers come (still was now grown old.covers (follow.2 ∙ follow.1) promises come.placed))
-        go false kinded =
-            let tables = added_tables old new spot inode kinded makes in
-            at_tables was now old.homes new.homes old.homes old.covers new.covers old.covers tables.0 tables.1 (still was now old.homes old.covers (follow.2 ∙ follow.1) promises placed)
-    by_shape _ (remove spot went) may makes follow promises thawed =
+    pub change_keeps : (change : Change) → Shape change → MayChange (shown_tree old) old.covers change → Makes change old new → FollowChange change old was.roots now.roots → LoseDirectory was.promises now.promises change.gone → IsThawed change → AllKept
+    change_keeps _ (set spot inode) may makes follow promises thawed = let tables = set_tables old new spot inode makes in rw (tables.0, tables.1) (still was now old.homes old.covers (follow.2 ∙ follow.1) promises placed)
+    change_keeps _ (add spot inode) may makes follow promises thawed =
+        ⊎_elim (λ kinded.
+        let tables = grown_tables old new spot inode kinded makes in
+        let grown = map.insert old.homes inode.ino.0 (home_at (dentry_at spot)) in
+        let come = comes spot inode may thawed in
+        rw (tables.0, tables.1) (both was was now old.homes grown grown old.covers old.covers old.covers come (still was now grown old.covers (follow.2 ∙ follow.1) promises come.placed)))
+        (λ kinded. let tables = added_tables old new spot inode kinded makes in rw (tables.0, tables.1) (still was now old.homes old.covers (follow.2 ∙ follow.1) promises placed)) (dir_or_not inode)
+    change_keeps _ (remove spot went) may makes follow promises thawed =
         let tables = removed_tables old new spot went makes in
-        at_tables was now old.homes new.homes (rows_but old.homes went) old.covers new.covers (rows_but old.covers went) tables.0 tables.1
-        (loses was now old.homes old.covers went over (removable old spot went sound may) (λ leaf live has frozen. thawed leaf (later (leaf_of spot.at) leaf (leaves_gone old.covers went) has) frozen)
+        rw (tables.0, tables.1) (loses was now old.homes old.covers went over (removable old spot went sound may) (λ leaf live has frozen. thawed leaf (later (leaf_of spot.at) leaf (leaves_gone old.covers went) has) frozen)
         (subst (λ (r : Roots). LoseDirectory r now.roots went) follow.1 follow.2) promises)
-    by_shape _ (move from to inode went) may makes follow promises thawed = rename_keeps from to inode went may makes follow promises thawed
-
-    pub change_keeps : (change : Change) → MayChange (shown_tree old) old.covers change → Makes change old new → FollowChange change old was.roots now.roots → LoseDirectory was.promises now.promises change.gone → IsThawed change → AllKept
-    change_keeps change may makes follow promises thawed = by_shape change (shape_of (shown_tree old) old.covers change may) may makes follow promises thawed
+    change_keeps _ (move from to inode went) may makes follow promises thawed = rename_keeps from to inode went may makes follow promises thawed

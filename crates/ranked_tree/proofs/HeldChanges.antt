@@ -1,14 +1,14 @@
 -- What a change of the tree leaves: each cached fragment is at its leaf's authority then.
-use Rattle.ranked_tree.proofs.Common.{AreHeld, AreHeldAt, At, Bool, Came, Change, Core, Covers, Dirfrag, EndsWith, Fragment, HasLeaf, HoldsAt, Home, Homes, IfSome, Ino, Inode, IsLive, IsNamedIn, IsOwned, IsPick, IsSome, IsSound, IsSoundCore, IsTable, IsThat, KeepsAuthorities, Leaf, List, Makes, MayChange, MayCome, MayGo, None, Option, Rank, Roots, Rules, Shape, Some, Spot, [], add, adds, ap, came_held, dentry_at, false, first_leaf, hash_of, home_at, inherited, inl, inr, is_dir_kind, is_known, is_some, leaf_of, leaves_of, may_come, move, moved_known, only_leaf, or_whole, refl, remove, root_fragment, rows_but, set, shape_of, shown_in, shown_tree, state_of, still_known, subst, sym, true, with_home, ℕ, ◌==◌, ◌||◌, ◌∙◌, ◌∷◌, ◌≡◌, ◌⊎◌}
+use Rattle.ranked_tree.proofs.Common.{AreHeld, AreHeldAt, Bool, Came, Change, Core, Covers, EndsWith, Fragment, HasLeaf, Home, Homes, IfSome, Ino, Inode, IsLive, IsNamedIn, IsOwned, IsPick, IsSome, IsSound, IsSoundCore, IsTable, IsThat, KeepsAuthorities, Leaf, List, Makes, MayChange, MayCome, MayGo, None, Option, Rank, Roots, Rules, Shape, Some, Spot, [], add, adds, ap, dentry_at, dir_or_not, false, first_leaf, hash_of, home_at, inherited, inl, inr, is_dir_kind, is_some, leaf_of, leaves_of, may_come, move, moved_known, only_leaf, or_whole, refl, remove, root_fragment, rows_but, set, shown_in, shown_tree, state_of, still_known, subst, sym, true, with_home, ℕ, ⊎_elim, ◌==◌, ◌||◌, ◌∙◌, ◌∷◌, ◌≡◌, ◌⊎◌}
 use Rattle.std.specs.FinMap as map
 use Rattle.sorted_map.proofs.NatKeys as nat
 use Rattle.mdcache.specs.State.{State as TreeState}
 use Rattle.ranked_tree.proofs.MoveLaws.{relocates, replaces}
 use Rattle.ranked_tree.proofs.ChangedTables.{TablesAre, added_tables, grown_tables, moved_tables, removed_tables, set_tables}
-use Rattle.ranked_tree.proofs.HeldLaws.{HaveCaches, held_after, is_that}
-use Rattle.ranked_tree.proofs.HolderLaws.{added_live, new_is_not_live, removed_live, set_live, source_live, target_live, was_unknown}
+use Rattle.ranked_tree.proofs.HeldLaws.{HaveCaches, held_since, is_that, none_unless}
+use Rattle.ranked_tree.proofs.HolderLaws.{named_by, new_is_not_live, put_live, was_unknown}
 use Rattle.ranked_tree.proofs.RootLaws.{is_elsewhere}
-use Rattle.ranked_tree.proofs.SubtreeLaws.{over, removable}
+use Rattle.ranked_tree.proofs.SubtreeLaws.{removable}
 
 -- ---- which leaves come
 
@@ -23,29 +23,15 @@ IsComing change q = IsComingBy change.comes change.puts q
 
 -- a leaf of tables in which a directory came
 module _ (homes : Homes) (covers : Covers) (table : IsTable homes covers) (dir : Ino) (home : Home) (come : MayCome homes dir.0 home) where
-  unknown : is_known homes dir.0 ≡ false
-  unknown = go (is_known homes dir.0) refl
-    where
-      go : (b : Bool) → is_known homes dir.0 ≡ b → b ≡ false
-      go true is = absurd (was_unknown homes dir.0 home come is)
-      go false is = refl
-
   no_row : leaves_of covers dir.0 ≡ root_fragment ∷ []
-  no_row = go (map.get covers dir.0) refl
-    where
-      go : (row : Option (List Fragment)) → map.get covers dir.0 ≡ row → or_whole (map.get covers dir.0) ≡ root_fragment ∷ []
-      go None is = ap or_whole is
-      go (Some fs) is = absurd (was_unknown homes dir.0 home come (table.known dir.0 fs is))
+  no_row = ap or_whole (none_unless (map.get covers dir.0) (λ fs is. was_unknown homes dir.0 home come (table.known dir.0 fs is)))
 
   pub live_or_first : (leaf : Leaf) → IsLive (map.insert homes dir.0 home) covers leaf → IsLive homes covers leaf ⊎ (leaf ≡ first_leaf dir)
-  live_or_first leaf live = go (nat.same_or_apart leaf.0.0 dir.0)
-    where
-      go : (leaf.0.0 ≡ dir.0) ⊎ (leaf.0.0 ≡ dir.0 → ⊥) → IsLive homes covers leaf ⊎ (leaf ≡ first_leaf dir)
-      go (inl same) =
-          let stands : HasLeaf (root_fragment ∷ []) leaf.1 = subst (λ (fs : List Fragment). HasLeaf fs leaf.1) (ap (leaves_of covers) same ∙ no_row) live.stands in
-          let only = only_leaf root_fragment leaf.1 stands in
-          inr (λ i. (record { 0 = same i }, only i))
-      go (inr apart) = inl (record { known = ap (λ (o : Option Home). (leaf.0.0 == 1) || is_some o) (sym (nat.get_beside homes dir.0 home leaf.0.0 apart)) ∙ live.known; stands = live.stands })
+  live_or_first leaf live =
+      ⊎_elim (λ same.
+      let only = only_leaf root_fragment leaf.1 (subst (λ (fs : List Fragment). HasLeaf fs leaf.1) (ap (leaves_of covers) same ∙ no_row) live.stands) in
+      inr (λ i. (record { 0 = same i }, only i)))
+      (λ apart. inl (record { known = ap (λ (o : Option Home). (leaf.0.0 == 1) || is_some o) (sym (nat.get_beside homes dir.0 home leaf.0.0 apart)) ∙ live.known; stands = live.stands })) (nat.same_or_apart leaf.0.0 dir.0)
 
 -- a leaf of tables from which a directory went, or none did
 live_before : (homes : Homes) (covers : Covers) (went : Option Ino) (leaf : Leaf) → IfSome went (λ (dir : Ino). MayGo homes dir.0) → IsLive (rows_but homes went) (rows_but covers went) leaf → IsLive homes covers leaf
@@ -58,36 +44,20 @@ live_before homes covers (Some dir) leaf may live =
     }
 
 -- a leaf that stands after a change stood before, or is that of the directory that came
-stood_so : (change : Change) → Shape change → (old new : TreeState) → IsSound old → MayChange (shown_tree old) old.covers change → Makes change old new → (leaf : Leaf) → IsLive new.homes new.covers leaf → IsLive old.homes old.covers leaf ⊎ IsComing change leaf
-stood_so _ (set spot inode) old new sound may makes leaf live =
-    let tables = set_tables old new spot inode makes in
-    inl (over (λ (h : Homes) (cs : Covers). IsLive h cs leaf) old.homes new.homes old.covers new.covers (sym tables.0) (sym tables.1) live)
-stood_so _ (add spot inode) old new sound may makes leaf live = go (is_dir_kind inode.kind) refl
-  where
-    first_or : is_dir_kind inode.kind ≡ true → IsLive old.homes old.covers leaf ⊎ (leaf ≡ first_leaf inode.ino) → IsLive old.homes old.covers leaf ⊎ IsComing (adds spot inode) leaf
-    first_or kinded (inl was) = inl was
-    first_or kinded (inr same) = inr (kinded, same)
-
-    go : (b : Bool) → is_dir_kind inode.kind ≡ b → IsLive old.homes old.covers leaf ⊎ IsComing (adds spot inode) leaf
-    go true kinded =
-        let tables = grown_tables old new spot inode kinded makes in
-        first_or kinded (live_or_first old.homes old.covers sound.table inode.ino (home_at (dentry_at spot)) (may_come (shown_tree old) old.homes (dentry_at spot) inode sound.tabled may.takes) leaf
-        (over (λ (h : Homes) (cs : Covers). IsLive h cs leaf) (map.insert old.homes inode.ino.0 (home_at (dentry_at spot))) new.homes old.covers new.covers (sym tables.0) (sym tables.1) live))
-    go false kinded =
-        let tables = added_tables old new spot inode kinded makes in
-        inl (over (λ (h : Homes) (cs : Covers). IsLive h cs leaf) old.homes new.homes old.covers new.covers (sym tables.0) (sym tables.1) live)
-stood_so _ (remove spot went) old new sound may makes leaf live =
-    let tables = removed_tables old new spot went makes in
-    inl (live_before old.homes old.covers went leaf (removable old spot went sound may)
-    (over (λ (h : Homes) (cs : Covers). IsLive h cs leaf) (rows_but old.homes went) new.homes (rows_but old.covers went) new.covers (sym tables.0) (sym tables.1) live))
-stood_so _ (move source target inode went) old new sound may makes leaf live =
+stood : (change : Change) → Shape change → (old new : TreeState) → IsSound old → MayChange (shown_tree old) old.covers change → Makes change old new → (leaf : Leaf) → IsLive new.homes new.covers leaf → IsLive old.homes old.covers leaf ⊎ IsComing change leaf
+stood _ (set spot inode) old new sound may makes leaf live = let tables = set_tables old new spot inode makes in inl (rw (← tables.0, ← tables.1) live)
+stood _ (add spot inode) old new sound may makes leaf live =
+    ⊎_elim (λ kinded.
+    let tables = grown_tables old new spot inode kinded makes in
+    ⊎_elim (λ was. inl was) (λ same. inr (kinded, same))
+    (live_or_first old.homes old.covers sound.table inode.ino (home_at (dentry_at spot)) (may_come (shown_tree old) old.homes (dentry_at spot) inode sound.tabled may.takes) leaf (rw (← tables.0, ← tables.1) live)))
+    (λ kinded. let tables = added_tables old new spot inode kinded makes in inl (rw (← tables.0, ← tables.1) live)) (dir_or_not inode)
+stood _ (remove spot went) old new sound may makes leaf live =
+    let tables = removed_tables old new spot went makes in inl (live_before old.homes old.covers went leaf (removable old spot went sound may) (rw (← tables.0, ← tables.1) live))
+stood _ (move source target inode went) old new sound may makes leaf live =
     let tables = moved_tables old new source target inode went makes in
-    let moved = live_before (with_home old.homes (dentry_at target) inode) old.covers went leaf (replaces old sound source target inode went may)
-    (over (λ (h : Homes) (cs : Covers). IsLive h cs leaf) (rows_but (with_home old.homes (dentry_at target) inode) went) new.homes (rows_but old.covers went) new.covers (sym tables.0) (sym tables.1) live) in
+    let moved = live_before (with_home old.homes (dentry_at target) inode) old.covers went leaf (replaces old sound source target inode went may) (rw (← tables.0, ← tables.1) live) in
     inl (record { known = sym (moved_known old.homes old.covers sound.table (dentry_at target) inode (relocates old sound source target inode went may) leaf.0.0) ∙ moved.known; stands = moved.stands })
-
-pub stood : (change : Change) (old new : TreeState) → IsSound old → MayChange (shown_tree old) old.covers change → Makes change old new → (leaf : Leaf) → IsLive new.homes new.covers leaf → IsLive old.homes old.covers leaf ⊎ IsComing change leaf
-stood change old new sound may makes leaf live = stood_so change (shape_of (shown_tree old) old.covers change may) old new sound may makes leaf live
 
 -- ---- whose it is
 
@@ -111,21 +81,14 @@ module _ (old new : Core) (before after : Roots) (owned : IsOwned old before) (n
     comes = may_come (shown_in old) old.homes (dentry_at spot) inode sound.tabled may.takes
 
     holder_live : IsLive old.homes old.covers holder
-    holder_live = added_live (state_of old) sound spot inode may
+    holder_live = put_live (state_of old) sound (adds spot inode) may (spot, inode) refl
 
     holder_stays : IsLive new.homes new.covers holder
-    holder_stays =
-        over (λ (h : Homes) (cs : Covers). IsLive h cs holder) new.homes (map.insert old.homes inode.ino.0 (home_at (dentry_at spot))) new.covers old.covers tables.0 tables.1
-        (record { known = still_known old.homes inode.ino.0 (home_at (dentry_at spot)) spot.at.dir.0 holder_live.known; stands = holder_live.stands })
+    holder_stays = rw (tables.0, tables.1) (record { known = still_known old.homes inode.ino.0 (home_at (dentry_at spot)) spot.at.dir.0 holder_live.known; stands = holder_live.stands })
 
     no_root : map.get after first ≡ None
-    no_root = go (map.get after first) refl
-      where
-        go : (o : Option Rank) → map.get after first ≡ o → map.get after first ≡ None
-        go None is = is
-        go (Some rank) is =
-            let was : IsSome (map.get before first) = ap is_some (sym (ap (λ (r : Roots). map.get r first) follow) ∙ is) in
-            absurd (was_unknown old.homes inode.ino.0 (home_at (dentry_at spot)) comes (owned.valid.live first was).known)
+    no_root = none_unless (map.get after first) (λ rank is.
+        let was : IsSome (map.get before first) = ap is_some (sym (ap (λ (r : Roots). map.get r first) follow) ∙ is) in was_unknown old.homes inode.ino.0 (home_at (dentry_at spot)) comes (owned.valid.live first was).known)
 
     pub first_inherits : Rules (state_of new) after first rank
     first_inherits =
@@ -140,31 +103,21 @@ module _ (old new : Core) (before after : Roots) (owned : IsOwned old before) (n
   -- a leaf that a change names is used at its authority
   named : (change : Change) → AreHeldAt (state_of old) before change → MayChange (shown_in old) old.covers change → Makes change (state_of old) (state_of new) → (change.comes ≡ true → after ≡ before) → (r : ℕ) (q : Leaf) → IsNamedIn change r q → IsLive new.homes new.covers q
       → Rules (state_of new) after q (record { 0 = r })
-  named change held may makes follow r q is live = go change (shape_of (shown_in old) old.covers change may) held may makes follow is
+  named change held may makes follow r q is live =
+      ⊎_elim (λ its. keeps q (record { 0 = r }) its.1 live its.2)
+      (λ come.
+      coming come.0 come.1 (subst (MayChange (shown_in old) old.covers) come.2 may) (subst (λ (c : Change). Makes c (state_of old) (state_of new)) come.2 makes) (follow (ap (λ (c : Change). c.comes) come.2)) (subst (AreHeldAt (state_of old) before) come.2 held) come.3)
+      (named_by (state_of old) sound before change may held r q is)
     where
-      -- one that was live
-      old_leaf : (at : Dirfrag) → IsLive old.homes old.covers (leaf_of at) → HoldsAt (state_of old) before at → IsThat at.rank.0 (leaf_of at) r q → Rules (state_of new) after q (record { 0 = r })
-      old_leaf at lived holds that = keeps q (record { 0 = r }) (subst (IsLive old.homes old.covers) (sym that.1) lived) live (is_that (state_of old) before (leaf_of at) at.rank holds r q that)
-
-      go : (change : Change) → Shape change → AreHeldAt (state_of old) before change → MayChange (shown_in old) old.covers change → Makes change (state_of old) (state_of new) → (change.comes ≡ true → after ≡ before) → IsNamedIn change r q → Rules (state_of new) after q (record { 0 = r })
-      go _ (add spot inode) held may makes follow (inl that) = old_leaf spot.at (added_live (state_of old) sound spot inode may) held.put that
-      go _ (add spot inode) held may makes follow (inr that) = by (stood (adds spot inode) (state_of old) (state_of new) sound may makes q live)
-        where
-          by : IsLive old.homes old.covers q ⊎ IsComing (adds spot inode) q → Rules (state_of new) after q (record { 0 = r })
-          by (inl lived) = absurd (new_is_not_live (state_of old) sound spot inode may (subst (IsLive old.homes old.covers) that.1 lived))
-          by (inr comes) = is_that (state_of new) after (first_leaf inode.ino) spot.at.rank (first_inherits spot inode may makes (follow refl) spot.at.rank held.put comes.0) r q that
-      go _ (set spot inode) held may makes follow that = old_leaf spot.at (set_live (state_of old) sound spot inode may) held.put that
-      go _ (remove spot went) held may makes follow that = old_leaf spot.at (removed_live (state_of old) sound spot went may) held.taken that
-      go _ (move source target inode went) held may makes follow (inl that) = old_leaf source.at (source_live (state_of old) sound source target inode went may) held.taken that
-      go _ (move source target inode went) held may makes follow (inr that) = old_leaf target.at (target_live (state_of old) sound source target inode went may) held.put that
+      coming : (spot : Spot) (inode : Inode) → MayChange (shown_in old) old.covers (adds spot inode) → Makes (adds spot inode) (state_of old) (state_of new) → after ≡ before → AreHeldAt (state_of old) before (adds spot inode) → IsThat spot.at.rank.0 (first_leaf inode.ino) r q
+          → Rules (state_of new) after q (record { 0 = r })
+      coming spot inode able done same at that =
+          ⊎_elim (λ lived. absurd (new_is_not_live (state_of old) sound spot inode able (subst (IsLive old.homes old.covers) that.1 lived)))
+          (λ comes. is_that (state_of new) after (first_leaf inode.ino) spot.at.rank (first_inherits spot inode able done same spot.at.rank at.put comes.0) r q that)
+          (stood (adds spot inode) (add spot inode) (state_of old) (state_of new) sound able done q live)
 
   -- a change leaves each cached fragment at its leaf's authority
   pub change_held : (change : Change) → AreHeldAt (state_of old) before change → MayChange (shown_in old) old.covers change → Makes change (state_of old) (state_of new) → (change.comes ≡ true → after ≡ before) → HaveCaches after new.caches
       → Came (IsNamedIn change) (EndsWith change) old.caches new.caches → AreHeld (state_of new) new.caches after
   change_held change holders may makes follow have came =
-      held_after (state_of new) new.caches after have now_sound.none
-      (λ leaf a is. go leaf a (now_sound.cached leaf a is).live (came_held (IsNamedIn change) (EndsWith change) old.caches new.caches came leaf a is))
-    where
-      go : (leaf : Leaf) (a : At) → IsLive new.homes new.covers leaf → (map.get old.caches.held leaf ≡ Some a) ⊎ IsNamedIn change a.rank leaf → Rules (state_of new) after leaf (record { 0 = a.rank })
-      go leaf a live (inl was) = keeps leaf (record { 0 = a.rank }) (owned.sound.cached leaf a was).live live (owned.held.cached leaf a was)
-      go leaf a live (inr is) = named change holders may makes follow a.rank leaf is live
+      held_since (IsNamedIn change) (EndsWith change) old new came now_sound before after owned keeps have (named change holders may makes follow)

@@ -1,29 +1,33 @@
 -- Each cached fragment stays at the rank that holds its leaf. Here the roots are those with the ranks that hold their regions.
-use Rattle.ranked_tree.proofs.Common.{AreHeld, At, CacheMap, Cached, Came, Core, IsFree, IsLive, IsOwned, IsSoundCore, IsThat, IsThere, KeepsNone, Leaf, MayHold, None, NoneEnds, Option, Rank, ReadsCore, Roots, Rules, Some, UsedAt, UsesAt, ap, came_held, came_ranks, came_weaker, has_place, here, here_is, inl, inr, length, one_authority, reads_came, reads_state, refl, state_of, subst, sym, true, ℕ, ◌<◌, ◌≡◌, ◌⊎◌}
+use Rattle.ranked_tree.proofs.Common.{AreHeld, At, CacheMap, Cached, Came, Core, IsFree, IsLive, IsOwned, IsSoundCore, IsThat, IsThere, KeepsAuthorities, KeepsNone, Leaf, MayHold, None, NoneEnds, Option, Rank, ReadsCore, Roots, Rules, Some, UsedAt, UsesAt, ap, came_cap, came_held, came_ranks, came_weaker, has_place, here, here_is, length, one_authority, reads_came, reads_state, refl, rules, state_of, subst, sym, true, ℕ, ⊎_elim, ◌<◌, ◌≡◌}
 use Rattle.std.specs.FinMap as map
 use Rattle.mdcache.specs.State.{State as TreeState}
 
 module _ (tree : TreeState) (caches : CacheMap) (roots : Roots) (held : AreHeld tree caches roots) (leaf : Leaf) (rank : Rank) (rules : Rules tree roots leaf rank) where
-  -- there is a cache for the authority of a leaf,
-  is_there : rank.0 < length caches.used
-  is_there = held.ranks rules.root rank rules.ranked
-
-  -- and no other rank has the leaf
+  -- there is a cache for the authority of a leaf, and no other rank has the leaf
   pub may_hold : MayHold caches rank leaf
-  may_hold = record { there = is_there; alone = alone_at (map.get caches.held leaf) refl }
+  may_hold = record { there = held.ranks rules.root rank rules.ranked; alone = alone_at (map.get caches.held leaf) refl }
     where
       alone_at : (o : Option At) → map.get caches.held leaf ≡ o → IsFree rank.0 o
       alone_at None is = tt
       alone_at (Some a) is = ap (λ (r : Rank). r.0) (one_authority roots tree.homes tree.covers leaf (record { 0 = a.rank }) rank (held.cached leaf a is) rules)
 
--- each place is that of a cached fragment
-pub placed_at : (tree : TreeState) (caches : CacheMap) (roots : Roots) → KeepsNone caches → ((leaf : Leaf) (a : At) → map.get caches.held leaf ≡ Some a → Rules tree roots leaf (record { 0 = a.rank }))
-    → (r : ℕ) (leaf : Leaf) → has_place caches r leaf ≡ true → IsLive tree.homes tree.covers leaf → Rules tree roots leaf (record { 0 = r })
-placed_at tree caches roots none cached r leaf placed live = of_frag (here caches r leaf) refl (none r leaf placed)
+-- there is none where no value can be the one
+pub none_unless : {X : Type 0} (o : Option X) → ((x : X) → o ≡ Some x → ⊥) → o ≡ None
+none_unless {X} None never = refl
+none_unless {X} (Some x) never = absurd (never x refl)
+
+-- a rank holds each leaf whose fragment it has, and each place is that of a cached fragment
+pub there_held : (tree : TreeState) (caches : CacheMap) (roots : Roots) → ((leaf : Leaf) (a : At) → map.get caches.held leaf ≡ Some a → Rules tree roots leaf (record { 0 = a.rank })) → (r : ℕ) (leaf : Leaf) → IsThere (here caches r leaf) → Rules tree roots leaf (record { 0 = r })
+there_held tree caches roots cached r leaf there = of_frag (here caches r leaf) refl there
   where
     of_frag : (o : Option Cached) → here caches r leaf ≡ o → IsThere o → Rules tree roots leaf (record { 0 = r })
     of_frag None is h = absurd h
     of_frag (Some f) is h = cached leaf (record { rank = r; frag = f }) (here_is r (map.get caches.held leaf) f is)
+
+pub placed_at : (tree : TreeState) (caches : CacheMap) (roots : Roots) → KeepsNone caches → ((leaf : Leaf) (a : At) → map.get caches.held leaf ≡ Some a → Rules tree roots leaf (record { 0 = a.rank }))
+    → (r : ℕ) (leaf : Leaf) → has_place caches r leaf ≡ true → IsLive tree.homes tree.covers leaf → Rules tree roots leaf (record { 0 = r })
+placed_at tree caches roots none cached r leaf placed live = there_held tree caches roots cached r leaf (none r leaf placed)
 
 -- the ranks of roots have caches
 abbrev pub HaveCaches : Roots → CacheMap → Type 0
@@ -37,32 +41,24 @@ held_after new later after ranks none cached = record {
   ranks = ranks;
 }
 
--- they have them still
-pub still_have : (tree : TreeState) (caches later : CacheMap) (roots : Roots) → AreHeld tree caches roots → length later.used ≡ length caches.used → HaveCaches roots later
-still_have tree caches later roots held count leaf rank is = subst (λ (n : ℕ). rank.0 < n) (sym count) (held.ranks leaf rank is)
-
 -- the authority of a leaf at a rank of this number
 pub is_that : (tree : TreeState) (roots : Roots) (leaf : Leaf) (rank : Rank) → Rules tree roots leaf rank → (r : ℕ) (q : Leaf) → IsThat rank.0 leaf r q → Rules tree roots q (record { 0 = r })
 is_that tree roots leaf rank rules r q that = subst (λ (n : ℕ). Rules tree roots q (record { 0 = n })) (sym that.0) (subst (λ (l : Leaf). Rules tree roots l rank) (sym that.1) rules)
 
--- uses of that leaf at its authority
-pub that_came : (tree : TreeState) (roots : Roots) (leaf : Leaf) (rank : Rank) → Rules tree roots leaf rank → (old new : CacheMap) → Came (IsThat rank.0 leaf) NoneEnds old new → UsesAt (Rules tree roots leaf) leaf old new
-that_came tree roots leaf rank rules old new came =
-    came_weaker (IsThat rank.0 leaf) NoneEnds (UsedAt (Rules tree roots leaf) (λ (q : Leaf). q ≡ leaf)) NoneEnds (λ r q that. (subst (λ (n : ℕ). Rules tree roots leaf (record { 0 = n })) (sym that.0) rules, that.1)) (λ r q none. none) old new came
+-- where each leaf that stays keeps its authority, and each that is used is so at its own
+module _ (Uses Ends : ℕ → Leaf → Type 0) (old new : Core) (came : Came Uses Ends old.caches new.caches) (sound : IsSoundCore new) where
+  pub held_since : (before after : Roots) → IsOwned old before → KeepsAuthorities (state_of old) (state_of new) before after → HaveCaches after new.caches
+      → ((r : ℕ) (q : Leaf) → Uses r q → IsLive new.homes new.covers q → Rules (state_of new) after q (record { 0 = r })) → AreHeld (state_of new) new.caches after
+  held_since before after owned keeps have at = held_after (state_of new) new.caches after have sound.none (λ leaf a is.
+      let live = (sound.cached leaf a is).live in
+      ⊎_elim (λ was. keeps leaf (record { 0 = a.rank }) (owned.sound.cached leaf a was).live live (owned.held.cached leaf a was)) (λ used. at a.rank leaf used live) (came_held Uses Ends old.caches new.caches came leaf a is))
 
--- where directories, leaves and roots stay, and each leaf that is used is so at its authority
-module _ (Uses Ends : ℕ → Leaf → Type 0) (old new : Core) (roots : Roots) (came : Came Uses Ends old.caches new.caches) (sound : IsSoundCore new) (homes : new.homes ≡ old.homes) (covers : new.covers ≡ old.covers)
-    (holds : (r : ℕ) (q : Leaf) → Uses r q → IsLive old.homes old.covers q → Rules (state_of old) roots q (record { 0 = r })) (owned : IsOwned old roots) where
-  at : (leaf : Leaf) (a : At) → map.get new.caches.held leaf ≡ Some a → (map.get old.caches.held leaf ≡ Some a) ⊎ Uses a.rank leaf → Rules (state_of old) roots leaf (record { 0 = a.rank })
-  at leaf a is (inl was) = owned.held.cached leaf a was
-  at leaf a is (inr uses) = holds a.rank leaf uses (rw (← homes, ← covers) (sound.cached leaf a is).live)
-
-  pub owned_came : IsOwned new roots
-  owned_came = record {
+  -- directories, leaves and roots stay
+  pub owned_came : (roots : Roots) → new.homes ≡ old.homes → new.covers ≡ old.covers → ((r : ℕ) (q : Leaf) → Uses r q → IsLive old.homes old.covers q → Rules (state_of old) roots q (record { 0 = r })) → IsOwned old roots → IsOwned new roots
+  owned_came roots homes covers holds owned = record {
     sound = sound;
     valid = rw (homes, covers) owned.valid;
-    held = held_after (state_of new) new.caches roots (still_have (state_of old) old.caches new.caches roots owned.held (came_ranks Uses Ends old.caches new.caches came)) sound.none
-        (λ leaf a is. rw (homes, covers) (at leaf a is (came_held Uses Ends old.caches new.caches came leaf a is)));
+    held = held_since roots roots owned (λ leaf rank was is. rw (homes, covers) (λ rules. rules)) (rw (came_ranks Uses Ends old.caches new.caches came) owned.held.ranks) (rw (homes, covers) holds);
   }
 
 -- reads of leaves at their authorities
@@ -71,17 +67,20 @@ module _ (Uses Ends : ℕ → Leaf → Type 0) (old new : Core) (roots : Roots) 
   pub owned_reads : IsOwned new roots
   owned_reads =
       let same = reads_state Uses Ends old new reads in
-      owned_came Uses Ends old new roots (reads_came Uses Ends old.objects old.caches new.caches reads.caches) sound (ap (λ (s : TreeState). s.homes) same) (ap (λ (s : TreeState). s.covers) same) holds owned
+      owned_came Uses Ends old new (reads_came Uses Ends old.objects old.caches new.caches reads.caches) sound roots (ap (λ (s : TreeState). s.homes) same) (ap (λ (s : TreeState). s.covers) same) holds owned
 
--- a read at the authority of a leaf
-pub owned_read : (Ends : ℕ → Leaf → Type 0) (old new : Core) (roots : Roots) (leaf : Leaf) (rank : Rank) → Rules (state_of old) roots leaf rank → ReadsCore (IsThat rank.0 leaf) Ends old new → IsSoundCore new → IsOwned old roots → IsOwned new roots
-owned_read Ends old new roots leaf rank rules reads sound owned = owned_reads (IsThat rank.0 leaf) Ends old new roots reads sound (λ r q that live. is_that (state_of old) roots leaf rank rules r q that) owned
+-- uses of a leaf at its authority, where directories and leaves stay
+pub record IsUsed (old new : Core) (roots : Roots) (leaf : Leaf) : Type 0 where
+  pub came : UsesAt (Rules (state_of old) roots leaf) leaf old.caches new.caches
+  pub count : length new.caches.used ≡ length old.caches.used
+  pub cap : new.caches.cap ≡ old.caches.cap
+  pub owned : IsOwned new roots
 
--- the caches stay
-pub owned_same : (old new : Core) (roots : Roots) → new.homes ≡ old.homes → new.covers ≡ old.covers → new.caches ≡ old.caches → IsSoundCore new → IsOwned old roots → IsOwned new roots
-owned_same old new roots homes covers caches sound owned = record {
-  sound = sound;
-  valid = rw (homes, covers) owned.valid;
-  held = held_after (state_of new) new.caches roots (still_have (state_of old) old.caches new.caches roots owned.held (ap (λ (k : CacheMap). length k.used) caches)) sound.none
-      (λ leaf a is. rw (homes, covers) (owned.held.cached leaf a (rw (← caches) is)));
+pub used_at : (old new : Core) (roots : Roots) (leaf : Leaf) (rank : Rank) → IsOwned old roots → Rules (state_of old) roots leaf rank → Came (IsThat rank.0 leaf) NoneEnds old.caches new.caches → IsSoundCore new → new.homes ≡ old.homes → new.covers ≡ old.covers → IsUsed old new roots leaf
+used_at old new roots leaf rank owned rules came sound homes covers = record {
+  came = came_weaker (IsThat rank.0 leaf) NoneEnds (UsedAt (Rules (state_of old) roots leaf) (λ (q : Leaf). q ≡ leaf)) NoneEnds
+      (λ r q that. (subst (λ (n : ℕ). Rules (state_of old) roots leaf (record { 0 = n })) (sym that.0) rules, that.1)) (λ r q none. none) old.caches new.caches came;
+  count = came_ranks (IsThat rank.0 leaf) NoneEnds old.caches new.caches came;
+  cap = came_cap (IsThat rank.0 leaf) NoneEnds old.caches new.caches came;
+  owned = owned_came (IsThat rank.0 leaf) NoneEnds old new came sound roots homes covers (λ r q that live. is_that (state_of old) roots leaf rank rules r q that) owned;
 }

@@ -1,25 +1,16 @@
 -- What splits and merges leave: each cached fragment is at its leaf's authority then.
-use Rattle.ranked_tree.proofs.Common.{AllHave, AreHeld, AreRoots, At, CacheMap, Came, CameAt, CanMerge, CanSplit, Contains, Core, FitsSplit, Fragment, GivesToChildren, HasLeaf, HaveOneAuthority, Ino, IsAmongOr, IsFamilyAt, IsFamilyOf, IsFragment, IsLive, IsMergedHere, IsOwned, IsSound, IsSoundCore, KeepsAuthorities, Leaf, MayHold, MayNotRegroup, MergesLeaves, Rank, Refusal, RefusesLeaves, RefusesMerge, RefusesSplit, Roots, Rules, Some, SplitsLeaf, TakesOver, UsedAt, and_from, arith, came_held, came_weaker, child_is_new, child_of, ending_at, eq-eqb, from_mapped, has_inside, in_directory, inl, inr, is_inside, is_known, leaves_inside, leaves_of, lies_inside, merged_is_new, range_from_inside, refl, some_authority, some_inside, state_of, subst, sym, tree_of_row, ◌⊎◌}
+use Rattle.ranked_tree.proofs.Common.{AllHave, AreHeld, AreRoots, CacheMap, Came, CameAt, CanMerge, CanSplit, Contains, Core, FitsSplit, Fragment, GivesToChildren, HasLeaf, HaveOneAuthority, Ino, IsAmongOr, IsFamilyAt, IsFamilyOf, IsFragment, IsLive, IsMergedHere, IsOwned, IsSound, IsSoundCore, KeepsAuthorities, Leaf, MayHold, MayNotRegroup, MergesLeaves, Rank, Refusal, RefusesMerge, RefusesSplit, Roots, Rules, SplitsLeaf, TakesOver, UsedAt, and_from, ap, arith, came_weaker, child_is_new, child_of, ending_at, eq-eqb, from_mapped, has_inside, in_directory, inl, inr, is_inside, is_known, leaves, leaves_inside, leaves_of, lies_inside, merged_is_new, not_found_weaker, range_from_inside, refl, rules, some_authority, some_inside, state_of, subst, sym, tree_of_row, ⊎_elim}
 use Rattle.std.specs.Prelude.{◌≡◌, ◌<◌, ◌==◌, ◌^◌, ℕ, true, map as each, length, List, Result, Ok, Err}
-use Rattle.std.specs.FinMap as map
 use Rattle.mdcache.specs.State.{State as TreeState}
-use Rattle.ranked_tree.proofs.HeldLaws.{HaveCaches, held_after, may_hold, still_have}
+use Rattle.ranked_tree.proofs.HeldLaws.{HaveCaches, held_since, may_hold, owned_came}
 
 -- ---- why it was refused, in the words of whose places lack
 
--- what the leaves refuse is refused before anything is done
-pub not_begun : (Can : Type 0) (Refuses : Refusal → Type 0) (s : TreeState) (dir : Ino) (count : ℕ) (NoPlace : Type 0) (before after : ℕ) (reason : Refusal) → RefusesLeaves Refuses s.homes dir reason → MayNotRegroup Can Refuses s dir count NoPlace before after reason
-not_begun Can Refuses s dir count NoPlace before after reason (inl none) = inl none
-not_begun Can Refuses s dir count NoPlace before after reason (inr their) = inr (inl their)
-
 pub regroup_on : (Can : Type 0) (Refuses : Refusal → Type 0) (s : TreeState) (dir : Ino) (count : ℕ) (NoPlace Fewer : Type 0) (before after : ℕ) (reason : Refusal) → (NoPlace → Fewer)
     → MayNotRegroup Can Refuses s dir count NoPlace before after reason → MayNotRegroup Can Refuses s dir count Fewer before after reason
-regroup_on Can Refuses s dir count NoPlace Fewer before after reason less (inl unknown) = inl unknown
-regroup_on Can Refuses s dir count NoPlace Fewer before after reason less (inr (inl refused)) = inr (inl refused)
-regroup_on Can Refuses s dir count NoPlace Fewer before after reason less (inr (inr (known, can, inl number))) = inr (inr (known, can, inl number))
-regroup_on Can Refuses s dir count NoPlace Fewer before after reason less (inr (inr (known, can, inr (has, inl memory)))) = inr (inr (known, can, inr (has, inl memory)))
-regroup_on Can Refuses s dir count NoPlace Fewer before after reason less (inr (inr (known, can, inr (has, inr (inl fault))))) = inr (inr (known, can, inr (has, inr (inl fault))))
-regroup_on Can Refuses s dir count NoPlace Fewer before after reason less (inr (inr (known, can, inr (has, inr (inr (is, lacks)))))) = inr (inr (known, can, inr (has, inr (inr (is, less lacks)))))
+regroup_on Can Refuses s dir count NoPlace Fewer before after reason less =
+    ⊎_elim (λ unknown. inl unknown) (⊎_elim (λ refused. inr (inl refused))
+    (λ may. inr (inr (may.0, may.1, ⊎_elim (λ number. inl number) (λ has. inr (has.0, not_found_weaker NoPlace Fewer before after reason less has.1)) may.2))))
 
 pub split_on : (NoPlace Fewer : Type 0) (old new : Core) (dir : Ino) (frag : Fragment) (nb : ℕ) (result : Result (Unit {0}) Refusal) → (NoPlace → Fewer) → SplitsLeaf NoPlace old new dir frag nb result → SplitsLeaf Fewer old new dir frag nb result
 split_on NoPlace Fewer old new dir frag nb (Ok done) less split = split
@@ -90,68 +81,46 @@ merged_came core roots rank dir frag all new came =
 -- ---- what is cached afterwards
 
 module _ (old new : Core) (before after : Roots) (owned : IsOwned old before) (count : length new.caches.used ≡ length old.caches.used) (now_sound : IsSoundCore new) (dir : Ino) (frag : Fragment) where
-  abbrev at_rank : At → Rank
-  at_rank a = record { 0 = a.rank }
+  -- where nothing was regrouped, and no leaf that would have come is live
+  undone_owned : (Holds : Rank → Type 0) (Named : Leaf → Type 0) → CameAt Holds Named old.caches new.caches → state_of new ≡ state_of old → ((rank : Rank) (q : Leaf) → Holds rank → Named q → IsLive old.homes old.covers q → Rules (state_of old) before q rank) → IsOwned new before
+  undone_owned Holds Named came same at =
+      owned_came (UsedAt Holds Named) (λ r q. Named q) old new came now_sound before (ap (λ (s : TreeState). s.homes) same) (ap (λ (s : TreeState). s.covers) same) (λ r q used. at (record { 0 = r }) q used.0 used.1) owned
 
   -- a leaf was split
   module _ (nb : ℕ) (live : IsLive old.homes old.covers (dir, frag)) (came : CameAt (Rules (state_of old) before (dir, frag)) (IsFamilyOf dir frag nb) old.caches new.caches) where
     pub split_held : KeepsAuthorities (state_of old) (state_of new) before after → HaveCaches after new.caches → GivesToChildren (state_of old) (state_of new) before after dir frag nb → AreHeld (state_of new) new.caches after
-    split_held keeps have gives = held_after (state_of new) new.caches after have now_sound.none (λ leaf a is. go leaf a (now_sound.cached leaf a is).live (came_held (UsedAt (Rules (state_of old) before (dir, frag)) (IsFamilyOf dir frag nb)) (λ r q. IsFamilyOf dir frag nb q) old.caches new.caches came leaf a is))
+    split_held keeps have gives = held_since (UsedAt (Rules (state_of old) before (dir, frag)) (IsFamilyOf dir frag nb)) (λ r q. IsFamilyOf dir frag nb q) old new came now_sound before after owned keeps have go
       where
-        of_family : (rank : Rank) (leaf : Leaf) → IsLive new.homes new.covers leaf → Rules (state_of old) before (dir, frag) rank → IsFamilyOf dir frag nb leaf → Rules (state_of new) after leaf rank
-        of_family rank leaf lives rules (inl same) = keeps leaf rank (subst (IsLive old.homes old.covers) (sym same) live) lives (subst (λ (l : Leaf). Rules (state_of old) before l rank) (sym same) rules)
-        of_family rank leaf lives rules (inr (i, below, same)) = subst (λ (l : Leaf). Rules (state_of new) after l rank) (sym same) (gives (child_of frag i nb) rank (i, below, refl) rules)
-
-        go : (leaf : Leaf) (a : At) → IsLive new.homes new.covers leaf → (map.get old.caches.held leaf ≡ Some a) ⊎ (Rules (state_of old) before (dir, frag) (at_rank a) × IsFamilyOf dir frag nb leaf) → Rules (state_of new) after leaf (at_rank a)
-        go leaf a lives (inl was) = keeps leaf (at_rank a) (owned.sound.cached leaf a was).live lives (owned.held.cached leaf a was)
-        go leaf a lives (inr (rules, family)) = of_family (at_rank a) leaf lives rules family
+        go : (r : ℕ) (q : Leaf) → UsedAt (Rules (state_of old) before (dir, frag)) (IsFamilyOf dir frag nb) r q → IsLive new.homes new.covers q → Rules (state_of new) after q (record { 0 = r })
+        go r q (rules, inl same) lives = keeps q (record { 0 = r }) (subst (IsLive old.homes old.covers) (sym same) live) lives (subst (λ (l : Leaf). Rules (state_of old) before l (record { 0 = r })) (sym same) rules)
+        go r q (rules, inr (i, below, same)) lives = subst (λ (l : Leaf). Rules (state_of new) after l (record { 0 = r })) (sym same) (gives (child_of frag i nb) (record { 0 = r }) (i, below, refl) rules)
 
     -- or it wasn't
-    pub unsplit_held : state_of new ≡ state_of old → after ≡ before → FitsSplit frag nb → AreHeld (state_of new) new.caches after
-    unsplit_held same still fits =
-        subst (λ (s : TreeState). AreHeld s new.caches after) (sym same) (subst (λ (r : Roots). AreHeld (state_of old) new.caches r) (sym still)
-        (held_after (state_of old) new.caches before (still_have (state_of old) old.caches new.caches before owned.held count) now_sound.none
-        (λ leaf a is. go leaf a (subst (λ (s : TreeState). IsLive s.homes s.covers leaf) same (now_sound.cached leaf a is).live) (came_held (UsedAt (Rules (state_of old) before (dir, frag)) (IsFamilyOf dir frag nb)) (λ r q. IsFamilyOf dir frag nb q) old.caches new.caches came leaf a is))))
+    pub unsplit_owned : state_of new ≡ state_of old → FitsSplit frag nb → IsOwned new before
+    unsplit_owned same fits = undone_owned (Rules (state_of old) before (dir, frag)) (IsFamilyOf dir frag nb) came same go
       where
-        of_family : (rank : Rank) (leaf : Leaf) → IsLive old.homes old.covers leaf → Rules (state_of old) before (dir, frag) rank → IsFamilyOf dir frag nb leaf → Rules (state_of old) before leaf rank
-        of_family rank leaf lives rules (inl here) = subst (λ (l : Leaf). Rules (state_of old) before l rank) (sym here) rules
-        of_family rank leaf lives rules (inr (i, below, child)) =
-            let stands : HasLeaf (leaves_of old.covers dir.0) (child_of frag i nb) = (subst (IsLive old.homes old.covers) child lives).stands in
-            absurd (child_is_new (leaves_of old.covers dir.0) frag (child_of frag i nb) nb (tree_of_row old.homes old.covers owned.sound.sound.table dir.0) live.stands fits (i, below, refl) stands)
-
-        go : (leaf : Leaf) (a : At) → IsLive old.homes old.covers leaf → (map.get old.caches.held leaf ≡ Some a) ⊎ (Rules (state_of old) before (dir, frag) (at_rank a) × IsFamilyOf dir frag nb leaf) → Rules (state_of old) before leaf (at_rank a)
-        go leaf a lives (inl was) = owned.held.cached leaf a was
-        go leaf a lives (inr (rules, family)) = of_family (at_rank a) leaf lives rules family
+        go : (rank : Rank) (q : Leaf) → Rules (state_of old) before (dir, frag) rank → IsFamilyOf dir frag nb q → IsLive old.homes old.covers q → Rules (state_of old) before q rank
+        go rank q rules (inl here) lives = subst (λ (l : Leaf). Rules (state_of old) before l rank) (sym here) rules
+        go rank q rules (inr (i, below, child)) lives =
+            absurd (child_is_new (leaves_of old.covers dir.0) frag (child_of frag i nb) nb (tree_of_row old.homes old.covers owned.sound.sound.table dir.0) live.stands fits (i, below, refl) (subst (IsLive old.homes old.covers) child lives).stands)
 
   -- leaves were merged
   module _ (known : is_known old.homes dir.0 ≡ true) (can : CanMerge (leaves_of old.covers dir.0) frag) (came : CameAt (AllHave old.homes old.covers before dir frag) (IsMergedHere old.covers dir frag) old.caches new.caches) where
     pub merge_held : KeepsAuthorities (state_of old) (state_of new) before after → HaveCaches after new.caches → TakesOver (state_of old) (state_of new) before after dir frag → AreHeld (state_of new) new.caches after
-    merge_held keeps have takes = held_after (state_of new) new.caches after have now_sound.none (λ leaf a is. go leaf a (now_sound.cached leaf a is).live (came_held (UsedAt (AllHave old.homes old.covers before dir frag) (IsMergedHere old.covers dir frag)) (λ r q. IsMergedHere old.covers dir frag q) old.caches new.caches came leaf a is))
+    merge_held keeps have takes = held_since (UsedAt (AllHave old.homes old.covers before dir frag) (IsMergedHere old.covers dir frag)) (λ r q. IsMergedHere old.covers dir frag q) old new came now_sound before after owned keeps have go
       where
-        of_merged : (rank : Rank) (leaf : Leaf) → IsLive new.homes new.covers leaf → AllHave old.homes old.covers before dir frag rank → IsMergedHere old.covers dir frag leaf → Rules (state_of new) after leaf rank
-        of_merged rank leaf lives all (inl contains) = let its = inside_live (state_of old) dir frag known leaf contains in keeps leaf rank its.0 lives (all leaf its.0 its.1)
-        of_merged rank leaf lives all (inr same) = let w = one_inside (state_of old) dir frag known can in subst (λ (l : Leaf). Rules (state_of new) after l rank) (sym same) (takes (dir, w.0) rank w.2 w.1 (all (dir, w.0) w.1 w.2))
-
-        go : (leaf : Leaf) (a : At) → IsLive new.homes new.covers leaf → (map.get old.caches.held leaf ≡ Some a) ⊎ (AllHave old.homes old.covers before dir frag (at_rank a) × IsMergedHere old.covers dir frag leaf) → Rules (state_of new) after leaf (at_rank a)
-        go leaf a lives (inl was) = keeps leaf (at_rank a) (owned.sound.cached leaf a was).live lives (owned.held.cached leaf a was)
-        go leaf a lives (inr (all, merged)) = of_merged (at_rank a) leaf lives all merged
+        go : (r : ℕ) (q : Leaf) → UsedAt (AllHave old.homes old.covers before dir frag) (IsMergedHere old.covers dir frag) r q → IsLive new.homes new.covers q → Rules (state_of new) after q (record { 0 = r })
+        go r q (all, inl contains) lives = let its = inside_live (state_of old) dir frag known q contains in keeps q (record { 0 = r }) its.0 lives (all q its.0 its.1)
+        go r q (all, inr same) lives =
+            let w = one_inside (state_of old) dir frag known can in subst (λ (l : Leaf). Rules (state_of new) after l (record { 0 = r })) (sym same) (takes (dir, w.0) (record { 0 = r }) w.2 w.1 (all (dir, w.0) w.1 w.2))
 
     -- or they weren't
-    pub unmerged_held : state_of new ≡ state_of old → after ≡ before → AreHeld (state_of new) new.caches after
-    unmerged_held same still =
-        subst (λ (s : TreeState). AreHeld s new.caches after) (sym same) (subst (λ (r : Roots). AreHeld (state_of old) new.caches r) (sym still)
-        (held_after (state_of old) new.caches before (still_have (state_of old) old.caches new.caches before owned.held count) now_sound.none
-        (λ leaf a is. go leaf a (subst (λ (s : TreeState). IsLive s.homes s.covers leaf) same (now_sound.cached leaf a is).live) (came_held (UsedAt (AllHave old.homes old.covers before dir frag) (IsMergedHere old.covers dir frag)) (λ r q. IsMergedHere old.covers dir frag q) old.caches new.caches came leaf a is))))
+    pub unmerged_owned : state_of new ≡ state_of old → IsOwned new before
+    unmerged_owned same = undone_owned (AllHave old.homes old.covers before dir frag) (IsMergedHere old.covers dir frag) came same go
       where
-        of_merged : (rank : Rank) (leaf : Leaf) → IsLive old.homes old.covers leaf → AllHave old.homes old.covers before dir frag rank → IsMergedHere old.covers dir frag leaf → Rules (state_of old) before leaf rank
-        of_merged rank leaf lives all (inl contains) = let its = inside_live (state_of old) dir frag known leaf contains in all leaf its.0 its.1
-        of_merged rank leaf lives all (inr here) =
-            let stands : HasLeaf (leaves_of old.covers dir.0) frag = (subst (IsLive old.homes old.covers) here lives).stands in
-            absurd (merged_is_new (leaves_of old.covers dir.0) frag (tree_of_row old.homes old.covers owned.sound.sound.table dir.0) can stands)
-
-        go : (leaf : Leaf) (a : At) → IsLive old.homes old.covers leaf → (map.get old.caches.held leaf ≡ Some a) ⊎ (AllHave old.homes old.covers before dir frag (at_rank a) × IsMergedHere old.covers dir frag leaf) → Rules (state_of old) before leaf (at_rank a)
-        go leaf a lives (inl was) = owned.held.cached leaf a was
-        go leaf a lives (inr (all, merged)) = of_merged (at_rank a) leaf lives all merged
+        go : (rank : Rank) (q : Leaf) → AllHave old.homes old.covers before dir frag rank → IsMergedHere old.covers dir frag q → IsLive old.homes old.covers q → Rules (state_of old) before q rank
+        go rank q all (inl contains) lives = let its = inside_live (state_of old) dir frag known q contains in all q its.0 its.1
+        go rank q all (inr here) lives = absurd (merged_is_new (leaves_of old.covers dir.0) frag (tree_of_row old.homes old.covers owned.sound.sound.table dir.0) can (subst (IsLive old.homes old.covers) here lives).stands)
 
 -- the one rank may hold each of the leaves that are merged
 pub may_hold_all : (core : Core) (roots : Roots) (dir : Ino) (frag : Fragment) (rank : Rank) → is_known core.homes dir.0 ≡ true → IsOwned core roots → AllHave core.homes core.covers roots dir frag rank

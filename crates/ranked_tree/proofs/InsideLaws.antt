@@ -1,5 +1,5 @@
 -- A walk over the leaves of a directory that lie properly inside a fragment, from hash to hash.
-use Rattle.ranked_tree.proofs.Common.{Contains-from_range, Covers, Fragment, HasLeaf, Homes, Ino, IsFragment, IsInsideAt, IsLive, IsPick, IsTree, List, None, Some, and_from, and_parts, ap, arith, cases_lt, contains_start, ends_before, ends_low, ends_within, eq-eqb, eqb-true, false, inl, inr, is_inside, leaves_of, lies_inside, lies_inside-true, range_from_Contains, range_from_inside, refl, span, subst, sym, true, ℕ, ◌%◌, ◌+◌, ◌<◌, ◌==◌, ◌^◌, ◌∙◌, ◌≡◌, ◌≤◌, ◌⊎◌}
+use Rattle.ranked_tree.proofs.Common.{Contains-from_range, Covers, Fragment, HasLeaf, Homes, Ino, IsFragment, IsInsideAt, IsLive, IsPick, IsTree, List, None, Some, and_from, and_parts, ap, arith, cases_lt, contains_start, ends_before, ends_low, ends_within, eq-eqb, eqb-true, false, is_inside, leaves, leaves_of, lies_inside, lies_inside-true, range_from_Contains, range_from_inside, refl, span, subst, sym, true, ℕ, ⊎_elim, ◌%◌, ◌+◌, ◌<◌, ◌==◌, ◌^◌, ◌∙◌, ◌≡◌, ◌≤◌}
 use Rattle.mds_types.specs.Frag.{Contains}
 use Rattle.mds_types.specs.Leaf.{Leaf}
 use Rattle.subtree_map.proofs.Covers.{is_fragment, one_leaf}
@@ -32,7 +32,7 @@ module _ (leaves : List Fragment) (tree : IsTree leaves) (f : Fragment) (valid :
 
     -- or it contains the fragment, and no leaf lies inside
     contains_f : lies_inside f leaf ≡ false → leaf.bits ≤ f.bits
-    contains_f outside = go (cases_lt f.bits leaf.bits)
+    contains_f outside = ⊎_elim (λ less. absurd (more less)) (λ few. few) (cases_lt f.bits leaf.bits)
       where
         more : f.bits < leaf.bits → ⊥
         more less =
@@ -40,10 +40,6 @@ module _ (leaves : List Fragment) (tree : IsTree leaves) (f : Fragment) (valid :
             let inside = lies_inside-true f leaf valid less (omega (arith, start)) (omega (arith, range.0, within)) in
             let clash : true ≡ false = sym inside ∙ outside in
             cc
-
-        go : (f.bits < leaf.bits) ⊎ (leaf.bits ≤ f.bits) → leaf.bits ≤ f.bits
-        go (inl less) = absurd (more less)
-        go (inr more) = more
 
     pub none_inside : lies_inside f leaf ≡ false → IsInsideAt leaves f hash None
     none_inside outside g has inside =
@@ -71,19 +67,14 @@ module _ (leaves : List Fragment) (tree : IsTree leaves) (f : Fragment) (valid :
   walk_starts g has inside before = let range = range_from_inside f g valid inside in absurd (omega (arith, before, range.1))
 
   pub walk_goes : (hash : ℕ) (leaf : Fragment) (end : ℕ) → Done leaves f P hash → IsInsideAt leaves f hash (Some leaf) → P leaf → end ≡ leaf.value + span leaf.bits → Done leaves f P end
-  walk_goes hash leaf end done at holds ends g has inside before = go (cases_lt g.value hash)
-    where
-      own : hash ≤ g.value → P g
-      own behind =
-          let its = is_fragment leaves leaf tree at.0 in
-          let of_g = is_fragment leaves g tree has in
-          let same : g.value % 2 ^ 24 ≡ g.value = omega (arith, of_g.in_range) in
-          let contains : Contains leaf g.value = Contains-from_range leaf g.value its (omega (arith, same, at.2, behind)) (omega (arith, same, ends, before)) in
-          subst P (one_leaf leaves leaf g g.value tree at.0 has contains (contains_start g of_g)) holds
-
-      go : (g.value < hash) ⊎ (hash ≤ g.value) → P g
-      go (inl earlier) = done g has inside earlier
-      go (inr behind) = own behind
+  walk_goes hash leaf end done at holds ends g has inside before =
+      ⊎_elim (done g has inside)
+      (λ behind.
+      let its = is_fragment leaves leaf tree at.0 in
+      let of_g = is_fragment leaves g tree has in
+      let same : g.value % 2 ^ 24 ≡ g.value = omega (arith, of_g.in_range) in
+      let contains : Contains leaf g.value = Contains-from_range leaf g.value its (omega (arith, same, at.2, behind)) (omega (arith, same, ends, before)) in
+      subst P (one_leaf leaves leaf g g.value tree at.0 has contains (contains_start g of_g)) holds) (cases_lt g.value hash)
 
   -- where none is left it holds of all inside
   pub walk_ends : (hash : ℕ) → Done leaves f P hash → IsInsideAt leaves f hash None → (g : Fragment) → HasLeaf leaves g → lies_inside f g ≡ true → P g

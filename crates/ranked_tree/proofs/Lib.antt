@@ -7,8 +7,6 @@ pub mod DividedLaws
 pub mod EndedLaws
 pub mod EvictLaws
 pub mod ExportLaws
-pub mod FinishLaws
-pub mod FlushedLaws
 pub mod FragsLaws
 pub mod HeldChanges
 pub mod HeldLaws

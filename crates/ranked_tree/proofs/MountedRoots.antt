@@ -1,9 +1,9 @@
 -- The roots of a tree that was mounted are its own, and each rank caches what it holds: rank 0 the one leaf of a new tree, and no rank anything else.
-use Rattle.ranked_tree.proofs.Common.{AreFilled, AreHeld, AreRoots, AreTopRoots, At, CacheMap, Core, Covers, HasLeaf, IsMounted, IsNew, IsOwned, IsSoundCore, Mounts, None, Objects, Option, Rank, Roots, Rules, Some, State, Tree, [], ap, arith, get-empty, get_beside, inl, inr, is_known, is_some, leaf-exact, leaf-total, leaf_cmp, leaves_of, length, length-replicate, live_root, new_roots, no_covers, no_homes, one_value, refl, root_fragment, root_leaf, root_live, same_map, same_or_apart, state_of, subst, sym, ℕ, ◌<◌, ◌∙◌, ◌≡◌}
+use Rattle.ranked_tree.proofs.Common.{AreFilled, AreHeld, AreRoots, AreTopRoots, At, CacheMap, Core, Covers, HasLeaf, IsMounted, IsOwned, IsSoundCore, Mounts, None, Objects, Rank, Roots, Rules, Some, State, Tree, [], ap, arith, get-empty, get_beside, inl, inr, is_known, is_some, leaf-exact, leaf-total, leaf_cmp, leaves_of, length, length-replicate, live_root, new_roots, no_covers, no_homes, one_value, root_fragment, root_leaf, root_live, same_map, same_or_apart, state_of, subst, sym, ℕ, ⊎_elim, ◌<◌, ◌∙◌, ◌≡◌}
 use Rattle.std.specs.FinMap as map
 use Rattle.mds_types.specs.Leaf.{Leaf}
 use Rattle.subtree_map.specs.Changes.{leaf_of}
-use Rattle.ranked_tree.proofs.HeldLaws.{placed_at}
+use Rattle.ranked_tree.proofs.HeldLaws.{none_unless, placed_at}
 use Rattle.ranked_tree.proofs.NewLaws.{new_are_held, root_is}
 
 -- the leaves of the root directory where there was no root
@@ -35,16 +35,15 @@ first_ranked covers roots top leaf rank has =
 pub top_of_none : (roots : Roots) → AreTopRoots no_covers roots → roots ≡ new_roots
 top_of_none roots top = same_map leaf-total leaf-exact roots new_roots at
   where
-    other : (leaf : Leaf) → (leaf ≡ root_leaf → ⊥) → (o : Option Rank) → map.get roots leaf ≡ o → map.get roots leaf ≡ None
-    other leaf apart None is = is
-    other leaf apart (Some rank) is =
+    other : (leaf : Leaf) → (leaf ≡ root_leaf → ⊥) → map.get roots leaf ≡ None
+    other leaf apart = none_unless (map.get roots leaf) (λ rank is.
         let at = top.alone leaf (ap is_some is) in
-        absurd (apart (live_root leaf (record { known = ap (is_known no_homes) at.0; stands = subst (λ d. HasLeaf (leaves_of no_covers d) leaf.1) (sym at.0) at.1 })))
+        apart (live_root leaf (record { known = ap (is_known no_homes) at.0; stands = subst (λ d. HasLeaf (leaves_of no_covers d) leaf.1) (sym at.0) at.1 })))
 
     at : (leaf : Leaf) → map.get roots leaf ≡ map.get new_roots leaf
     at leaf = elim (same_or_apart leaf root_leaf) [
       | inl same ↦ ap (map.get roots) same ∙ top.ranked root_fragment root_live.stands ∙ sym root_is ∙ ap (map.get new_roots) (sym same)
-      | inr apart ↦ other leaf apart (map.get roots leaf) refl ∙ sym (get_beside map.empty root_leaf (record { 0 = 0 }) leaf apart ∙ get-empty leaf_cmp leaf)
+      | inr apart ↦ other leaf apart ∙ sym (get_beside map.empty root_leaf (record { 0 = 0 }) leaf apart ∙ get-empty leaf_cmp leaf)
     ]
 
 module _ (limit : ℕ) (objects : Objects) (ranks places : ℕ) (some : 0 < ranks) (tree : Tree) (c : Core) (roots : Roots) (sound : IsSoundCore c) (top : AreTopRoots c.covers roots) where
@@ -61,13 +60,10 @@ module _ (limit : ℕ) (objects : Objects) (ranks places : ℕ) (some : 0 < rank
       none : (leaf : Leaf) (a : At) → map.get c.caches.held leaf ≡ Some a → Rules (state_of c) roots leaf (record { 0 = a.rank })
       none leaf a is = let clash : None ≡ Some a = sym (ap (λ (cs : CacheMap). map.get cs.held leaf) m.caches ∙ get-empty leaf_cmp leaf) ∙ is in absurd cc
 
-  made_held : IsNew limit ranks places tree c → AreHeld (state_of c) c.caches roots
-  made_held new = new_are_held c roots limit ranks places some new.state new.caches (top_of_none roots (subst (λ (cs : Covers). AreTopRoots cs roots) (ap (λ (s : State). s.covers) new.state) top))
-
   -- a mounted tree with its roots
   pub mounted_owned : Mounts limit objects ranks places tree c → IsOwned c roots
-  mounted_owned m = record { sound = sound; valid = top_are_roots (state_of c) roots top; held = held m }
-    where
-      held : Mounts limit objects ranks places tree c → AreHeld (state_of c) c.caches roots
-      held (inl new) = made_held new.1
-      held (inr walked) = walked_held walked.1
+  mounted_owned m = record {
+    sound = sound;
+    valid = top_are_roots (state_of c) roots top;
+    held = ⊎_elim (λ new. new_are_held c roots limit ranks places some new.1.state new.1.caches (top_of_none roots (subst (λ (cs : Covers). AreTopRoots cs roots) (ap (λ (s : State). s.covers) new.1.state) top))) (λ walked. walked_held walked.1) m;
+  }

@@ -1,5 +1,5 @@
 -- The one root of a new tree is its one leaf, and rank 0 holds it.
-use Rattle.ranked_tree.proofs.Common.{AreHeld, AreRoots, At, Bool, CacheMap, Core, IsLive, IsSome, Leaf, None, Rank, Roots, Rules, Some, State, [], ap, at, cached_root, cond, false, get-empty, get_beside, get_put, get_with_frag, inl, inr, is_some, itself, leaf_is, length, length-replicate, live_root, new_caches, new_none, new_roots, new_state, no_caches, no_covers, no_homes, one_leaf, one_value, ranks_with_frag, refl, root_leaf, root_live, same_Some, same_or_apart, state_of, subst, sym, true, ℕ, ◌<◌, ◌∙◌, ◌≡◌}
+use Rattle.ranked_tree.proofs.Common.{AreHeld, AreRoots, At, CacheMap, Core, IsLive, IsSome, Leaf, Rank, Roots, Rules, Some, State, [], ap, at, cached_root, cond_both, get-empty, get_beside, get_put, get_with_frag, inl, inr, is_some, itself, leaf_is, length, length-replicate, live_root, new_caches, new_none, new_roots, new_state, no_caches, no_covers, no_homes, none-some, one_leaf, one_value, ranks_with_frag, refl, root_leaf, root_live, same_Some, same_or_apart, state_of, subst, sym, ℕ, ◌<◌, ◌∙◌, ◌≡◌}
 use Rattle.std.specs.FinMap as map
 use Rattle.ranked_tree.proofs.HeldLaws.{placed_at}
 
@@ -23,16 +23,12 @@ new_are_roots limit = record {
 abbrev first_rank : Rank
 first_rank = record { 0 = 0 }
 
-root_rules : (limit : ℕ) → Rules (new_state limit) new_roots root_leaf first_rank
-root_rules limit = record { root = root_leaf; nearest = itself root_leaf first_rank root_is; ranked = root_is }
-
 -- nothing but the root's leaf is cached
 only_cached : (ranks places : ℕ) (leaf : Leaf) (a : At) → map.get (new_caches ranks places).held leaf ≡ Some a → (leaf ≡ root_leaf) × (a.rank ≡ 0)
-only_cached ranks places leaf a is = go (leaf_is leaf root_leaf) refl (sym (get_with_frag (no_caches ranks places) 0 root_leaf cached_root leaf) ∙ is)
-  where
-    go : (b : Bool) → leaf_is leaf root_leaf ≡ b → cond b (Some (at 0 cached_root)) (map.get (no_caches ranks places).held leaf) ≡ Some a → (leaf ≡ root_leaf) × (a.rank ≡ 0)
-    go true one h = (one_leaf leaf root_leaf one, sym (ap (λ (k : At). k.rank) (same_Some (at 0 cached_root) a h)))
-    go false apart h = let clash : None ≡ Some a = sym (get-empty _ leaf) ∙ h in absurd cc
+only_cached ranks places leaf a is =
+    cond_both (leaf_is leaf root_leaf) (Some (at 0 cached_root)) (map.get (no_caches ranks places).held leaf) (λ o. o ≡ Some a → (leaf ≡ root_leaf) × (a.rank ≡ 0))
+    (λ one stands. (one_leaf leaf root_leaf one, sym (ap (λ (k : At). k.rank) (same_Some (at 0 cached_root) a stands)))) (λ apart stands. absurd (none-some a (sym (get-empty _ leaf) ∙ stands)))
+    (sym (get_with_frag (no_caches ranks places) 0 root_leaf cached_root leaf) ∙ is)
 
 pub new_are_held : (core : Core) (roots : Roots) (limit ranks places : ℕ) → 0 < ranks → state_of core ≡ new_state limit → core.caches ≡ new_caches ranks places → roots ≡ new_roots → AreHeld (state_of core) core.caches roots
 new_are_held core roots limit ranks places some state caches is =
@@ -41,15 +37,12 @@ new_are_held core roots limit ranks places some state caches is =
     many : length (new_caches ranks places).used ≡ ranks
     many = ranks_with_frag (no_caches ranks places) 0 root_leaf cached_root ∙ length-replicate ranks []
 
-    only : (leaf : Leaf) (rank : Rank) → map.get new_roots leaf ≡ Some rank → rank ≡ first_rank
-    only leaf rank has = one_value (map.get new_roots root_leaf) rank first_rank (ap (map.get new_roots) (sym (one_root leaf (ap is_some has))) ∙ has) root_is
-
     its : (leaf : Leaf) (a : At) → map.get (new_caches ranks places).held leaf ≡ Some a → Rules (new_state limit) new_roots leaf (record { 0 = a.rank })
-    its leaf a has = let w = only_cached ranks places leaf a has in subst (λ (n : ℕ). Rules (new_state limit) new_roots leaf (record { 0 = n })) (sym w.1) (subst (λ (l : Leaf). Rules (new_state limit) new_roots l first_rank) (sym w.0) (root_rules limit))
+    its leaf a has = let w = only_cached ranks places leaf a has in subst (λ (n : ℕ). Rules (new_state limit) new_roots leaf (record { 0 = n })) (sym w.1) (subst (λ (l : Leaf). Rules (new_state limit) new_roots l first_rank) (sym w.0) (record { root = root_leaf; nearest = itself root_leaf first_rank root_is; ranked = root_is }))
 
     here : AreHeld (new_state limit) (new_caches ranks places) new_roots
     here = record {
       cached = its;
       placed = placed_at (new_state limit) (new_caches ranks places) new_roots (new_none ranks places) its;
-      ranks = λ leaf rank has. subst (λ (r : Rank). r.0 < length (new_caches ranks places).used) (sym (only leaf rank has)) (subst (λ (n : ℕ). 0 < n) (sym many) some);
+      ranks = λ leaf rank has. subst (λ (r : Rank). r.0 < length (new_caches ranks places).used) (sym (one_value (map.get new_roots root_leaf) rank first_rank (ap (map.get new_roots) (sym (one_root leaf (ap is_some has))) ∙ has) root_is)) (subst (λ (n : ℕ). 0 < n) (sym many) some);
     }

@@ -1,18 +1,8 @@
 -- What a directory's move needs of the roots: it keeps its leaves, and the rank that they inherit is known at both its dentries.
-use Rattle.ranked_tree.proofs.Common.{Bool, Change, Covers, Home, Homes, IfSome, Ino, Inode, IsInheritedAt, IsLostRank, IsRight, IsSettled, IsSound, IsSpot, MatchOption, MayChange, MayMove, None, Option, Rank, Roots, Rules, SettleMoving, Shape, Some, Spot, State, Tree, [], add, changed, cond, dentry_at, dir_moved, dir_moving, directory_at, entry_stands, false, home_at, is_dir_kind, is_directory, leaf_of, leaves_of, move, moves, refl, remove, same_Some, set, shape_of, shown_tree, subst, sym, taken, true, ◌≡◌, ◌≢◌}
+use Rattle.ranked_tree.proofs.Common.{Bool, Change, Covers, Home, Homes, IfSome, Ino, Inode, IsInheritedAt, IsLostRank, IsRight, IsSettled, IsSound, IsSpot, MatchBool, MatchOption, MayChange, MayMove, None, Option, Rank, Roots, Rules, SettleMoving, Shape, Some, Spot, State, Tree, add, changed, cond, cond_both, dentry_at, dir_moving, directory_at, entry_stands, false, home_at, is_dir_kind, is_directory, leaf_of, leaves_of, move, moves, refl, remove, rules, same_Some, set, shape_of, shown_tree, subst, sym, taken, true, ◌≡◌, ◌≢◌}
 use Rattle.std.specs.FinMap as map
 use Rattle.mds_types.proofs.EntryLaws.{get_put}
-use Rattle.ranked_tree.proofs.SubtreeLaws.{moves_there, settled_at, settled_none}
-
--- nothing moves without a name that goes, or without one that gets an inode
-pub none_taken : (P : Ino → Type 0) (takes : Option Spot) (puts : Option (Spot × Inode)) → takes ≡ None → IfSome (dir_moved takes puts) P
-none_taken P None puts is = tt
-none_taken P (Some spot) puts is = let clash : Some spot ≡ None = is in absurd cc
-
-pub none_put : (takes : Option Spot) (puts : Option (Spot × Inode)) → puts ≡ None → dir_moved takes puts ≡ None
-none_put None puts is = refl
-none_put (Some spot) None is = refl
-none_put (Some spot) (Some put) is = let clash : Some put ≡ None = is in absurd cc
+use Rattle.ranked_tree.proofs.MoveLaws.{relocates}
 
 -- the rank that is lost, where the directory's dentry is at a leaf of one rank and the new one at a leaf of another
 abbrev pub IsLost : (was other : Rank) → Option Rank → Type 0
@@ -32,7 +22,8 @@ module _ (s : State) (sound : IsSound s) (roots : Roots) where
       go _ (set spot inode) able t p n = tt
       go _ (remove spot went) able t p n = tt
       go _ (move source target inode went) able t p n =
-          subst (λ (q : Spot × Inode). IfSome (directory_at (Some inode)) (λ (dir : Ino). IsLostRank roots s.homes s.covers dir.0 (home_at (dentry_at q.0)) lost)) (same_Some (target, inode) put n) (by (is_dir_kind inode.kind) refl)
+          subst (λ (q : Spot × Inode). IfSome (directory_at (Some inode)) (λ (dir : Ino). IsLostRank roots s.homes s.covers dir.0 (home_at (dentry_at q.0)) lost)) (same_Some (target, inode) put n)
+          (cond_both (is_dir_kind inode.kind) (Some inode.ino) None (λ o. IfSome o (λ (dir : Ino). IsLostRank roots s.homes s.covers dir.0 (home_at (dentry_at target)) lost)) (at lost is) (λ file. tt))
         where
           stood : is_dir_kind inode.kind ≡ true → map.get s.homes inode.ino.0 ≡ Some (home_at (dentry_at source))
           stood kinded = sound.tabled.holds.listed (dentry_at source) inode able.takes.stands kinded
@@ -47,10 +38,6 @@ module _ (s : State) (sound : IsSound s) (roots : Roots) where
           at None same kinded = (home_at (dentry_at source), was, stood kinded, before, subst (IsInheritedAt roots s.homes s.covers (home_at (dentry_at target))) (sym same) after)
           at (Some rank) (that, apart) kinded = subst (λ (r : Rank). IsLostRank roots s.homes s.covers inode.ino.0 (home_at (dentry_at target)) (Some r)) (sym that) (home_at (dentry_at source), other, stood kinded, before, after, apart)
 
-          by : (b : Bool) → is_dir_kind inode.kind ≡ b → IfSome (cond b (Some inode.ino) None) (λ (dir : Ino). IsLostRank roots s.homes s.covers dir.0 (home_at (dentry_at target)) lost)
-          by true kinded = at lost is kinded
-          by false kinded = tt
-
 -- a directory that moved has the leaves that it had
 pub leaves_stay : (old new : State) (change : Change) → MayChange (shown_tree old) old.covers change → IsRight change old new → IfSome (dir_moving change) (λ (dir : Ino). leaves_of old.covers dir.0 ≡ leaves_of new.covers dir.0)
 leaves_stay old new change may right = go change (shape_of (shown_tree old) old.covers change may) right
@@ -59,16 +46,12 @@ leaves_stay old new change may right = go change (shape_of (shown_tree old) old.
     go _ (add spot inode) is = tt
     go _ (set spot inode) is = tt
     go _ (remove spot went) is = tt
-    go _ (move source target inode went) is = by (is_dir_kind inode.kind) refl
-      where
-        left : Tree
-        left = taken (shown_tree old) (Some source)
-
-        by : (b : Bool) → is_dir_kind inode.kind ≡ b → IfSome (cond b (Some inode.ino) None) (λ (dir : Ino). leaves_of old.covers dir.0 ≡ leaves_of new.covers dir.0)
-        by true kinded =
-            sym (is.leaves inode.ino.0 (subst (λ (t : Tree). is_directory t inode.ino.0 ≡ true) (sym is.tree)
-            (entry_stands (changed (shown_tree old) (moves source target inode went)) (dentry_at target) inode (get_put left (dentry_at target) inode) kinded)))
-        by false kinded = tt
+    go _ (move source target inode went) is =
+        cond_both (is_dir_kind inode.kind) (Some inode.ino) None (λ o. IfSome o (λ (dir : Ino). leaves_of old.covers dir.0 ≡ leaves_of new.covers dir.0))
+        (λ kinded.
+        sym (is.leaves inode.ino.0 (subst (λ (t : Tree). is_directory t inode.ino.0 ≡ true) (sym is.tree)
+        (entry_stands (changed (shown_tree old) (moves source target inode went)) (dentry_at target) inode (get_put (taken (shown_tree old) (Some source)) (dentry_at target) inode) kinded))))
+        (λ file. tt)
 
 -- so there is room for as many as before
 pub room_still : (d : Option Ino) (covers now : Covers) (P : Ino → Covers → Type 0) → ((dir : Ino) → leaves_of covers dir.0 ≡ leaves_of now dir.0 → P dir covers → P dir now)
@@ -84,13 +67,17 @@ Settles d now before after lost = (homes : Homes) (covers : Covers) (home : Home
 module _ (old new : State) (sound : IsSound old) (change : Change) (may : MayChange (shown_tree old) old.covers change) (right : IsRight change old new) (before after : Roots) (lost : Option Rank)
     (known : (put : Spot × Inode) → change.puts ≡ Some put → IfSome (dir_moving change) (λ (dir : Ino). IsLostRank before old.homes old.covers dir.0 (home_at (dentry_at put.0)) lost)) where
   pub settles : Settles (dir_moving change) new.covers before after lost → SettleMoving change old before after
-  settles told = go change.puts refl
+  settles told = go change (shape_of (shown_tree old) old.covers change may) may right known told
     where
-      by : (d : Option Ino) (home : Home) → IfSome d (λ (dir : Ino). leaves_of old.covers dir.0 ≡ leaves_of new.covers dir.0) → IfSome d (λ (dir : Ino). MayMove old.homes dir.0 home) → IfSome d (λ (dir : Ino). IsLostRank before old.homes old.covers dir.0 home lost) → Settles d new.covers before after lost
-          → MatchOption d (after ≡ before) (λ (dir : Ino). IsSettled before after old.homes old.covers dir.0 home)
-      by None home same moved is its = its old.homes old.covers home
-      by (Some dir) home same moved is its = its old.homes old.covers home same moved is
+      by : (source target : Spot) (inode : Inode) (went : Option Ino) → MayChange (shown_tree old) old.covers (moves source target inode went) → (b : Bool) → is_dir_kind inode.kind ≡ b
+          → IfSome (cond b (Some inode.ino) None) (λ (dir : Ino). leaves_of old.covers dir.0 ≡ leaves_of new.covers dir.0) → IfSome (cond b (Some inode.ino) None) (λ (dir : Ino). IsLostRank before old.homes old.covers dir.0 (home_at (dentry_at target)) lost)
+          → Settles (cond b (Some inode.ino) None) new.covers before after lost → MatchBool b (IsSettled before after old.homes old.covers inode.ino.0 (home_at (dentry_at target))) (after ≡ before)
+      by source target inode went able true kinded same is its = its old.homes old.covers (home_at (dentry_at target)) same (relocates old sound source target inode went able kinded) is
+      by source target inode went able false kinded same is its = its old.homes old.covers (home_at (dentry_at target))
 
-      go : (puts : Option (Spot × Inode)) → change.puts ≡ puts → SettleMoving change old before after
-      go None is = settled_none old change is before after (subst (λ (d : Option Ino). Settles d new.covers before after lost) (none_put change.takes change.puts is) told old.homes old.covers (record { parent = record { 0 = 0 }; name = [] }))
-      go (Some put) is = settled_at old change put is before after (by (dir_moving change) (home_at (dentry_at put.0)) (leaves_stay old new change may right) (moves_there old change sound may put is) (known put is) told)
+      go : (made : Change) → Shape made → MayChange (shown_tree old) old.covers made → IsRight made old new → ((put : Spot × Inode) → made.puts ≡ Some put → IfSome (dir_moving made) (λ (dir : Ino). IsLostRank before old.homes old.covers dir.0 (home_at (dentry_at put.0)) lost))
+          → Settles (dir_moving made) new.covers before after lost → SettleMoving made old before after
+      go _ (add spot inode) able done is its = its old.homes old.covers (home_at (dentry_at spot))
+      go _ (set spot inode) able done is its = its old.homes old.covers (home_at (dentry_at spot))
+      go _ (remove spot went) able done is its = its old.homes old.covers (home_at (dentry_at spot))
+      go _ (move source target inode went) able done is its = by source target inode went able (is_dir_kind inode.kind) refl (leaves_stay old new (moves source target inode went) able done) (is (target, inode) refl) its

@@ -1,5 +1,5 @@
 -- What becomes of the roots and of every leaf's authority where directories come, move and go: from the table of directories alone.
-use Rattle.ranked_tree.proofs.Common.{AreGone, BecomesMerged, BecomesSplit, Bool, CanMerge, Covers, FitsSplit, Fragment, HasAuthority, HasLeaf, HaveOneAuthority, Home, Homes, Ino, IsChild, IsInheritedAt, IsLive, IsMerge, IsRootMerge, IsRootSplit, IsSettled, IsSome, IsSplit, IsSubtrees, IsTable, IsTree, KeepAuthority, Leaf, List, MayCome, MayGo, MayMove, NoNewRank, None, Option, Rank, Roots, Some, adopted_authority, adopted_valid, and_right, ap, arith, child_is_new, drops_soundly, false, inl, inr, is_inside, is_known, is_some, leaves_now, leaves_of, lies_inside, merges_soundly, moves_soundly, nat_lt, nat_tests, not_none, one_value, refl, some_authority, some_holder, span, splits_soundly, subst, sym, tree_of_row, true, value_of, ℕ, ◌&&◌, ◌+◌, ◌/◌, ◌==◌, ◌||◌, ◌∙◌, ◌≡◌, ◌≢◌, ◌⊎◌}
+use Rattle.ranked_tree.proofs.Common.{AreGone, BecomesMerged, BecomesSplit, CanMerge, Covers, FitsSplit, Fragment, HasAuthority, HasLeaf, HaveOneAuthority, Home, Homes, Ino, IsChild, IsInheritedAt, IsLive, IsMerge, IsRootMerge, IsRootSplit, IsSettled, IsSome, IsSplit, IsSubtrees, IsTable, IsTree, KeepAuthority, Leaf, List, MayCome, MayGo, MayMove, NoNewRank, None, Option, Rank, Roots, Some, adopted_authority, adopted_valid, and_right, ap, arith, child_is_new, drops_soundly, cases_Bool, false, inl, inr, is_inside, is_known, is_some, leaves_now, leaves_of, lies_inside, merges_soundly, moves_soundly, nat_lt, nat_tests, not_none, one_value, refl, some_authority, some_holder, span, splits_soundly, subst, sym, tree_of_row, true, value_of, ℕ, ⊎_elim, ◌&&◌, ◌+◌, ◌/◌, ◌==◌, ◌||◌, ◌∙◌, ◌≡◌, ◌≢◌}
 use Rattle.std.specs.FinMap as map
 use Rattle.sorted_map.proofs.NatKeys as nat
 use Rattle.mds_types.proofs.LeafLaws.{same_or_apart as same_leaf_or_apart}
@@ -20,9 +20,6 @@ sound_on a b c homes between now covers middle later first second stands = recor
   ranks = λ leaf rank has. let found = second.ranks leaf rank has in first.ranks found.0 rank found.1;
 }
 
-not_less : (n : ℕ) → nat_lt n n ≡ false
-not_less n = grind (arith, nat_tests)
-
 -- a leaf of a directory that went stands no more
 pub is_elsewhere : (homes : Homes) (covers : Covers) (d : ℕ) (leaf : Leaf) → (d ≡ 1 → ⊥) → IsLive (map.remove homes d) covers leaf → leaf.0.0 ≢ d
 is_elsewhere homes covers d leaf other live same =
@@ -30,13 +27,6 @@ is_elsewhere homes covers d leaf other live same =
     let none : (d == 1) || is_some (map.get (map.remove homes d) d) ≡ false = λ i. nat.is_apart d 1 other i || is_some (nat.get_removed homes d i) in
     let clash : true ≡ false = sym known ∙ none in
     cc
-
-same_rank : (a b : Rank) → (a ≡ b) ⊎ (a ≡ b → ⊥)
-same_rank a b = go (nat.same_or_apart a.0 b.0)
-  where
-    go : (a.0 ≡ b.0) ⊎ (a.0 ≡ b.0 → ⊥) → (a ≡ b) ⊎ (a ≡ b → ⊥)
-    go (inl same) = inl (λ i. record { 0 = same i })
-    go (inr apart) = inr (λ same. apart (ap (λ (r : Rank). r.0) same))
 
 module _ (before after : Roots) (homes : Homes) (covers : Covers) (table : IsTable homes covers) (valid : IsSubtrees before homes covers) where
   -- the roots stay, and so do the directories
@@ -51,13 +41,6 @@ module _ (before after : Roots) (homes : Homes) (covers : Covers) (table : IsTab
     ranks = λ leaf rank has. (leaf, has);
   })
 
-  lost_ranks : (d : ℕ) → AreGone before after d → NoNewRank before after
-  lost_ranks d gone leaf rank has = go (nat.same_or_apart leaf.0.0 d)
-    where
-      go : (leaf.0.0 ≡ d) ⊎ (leaf.0.0 ≡ d → ⊥) → (other : Leaf) × (map.get before other ≡ Some rank)
-      go (inl same) = absurd (not_none _ rank (gone.gone leaf same) has)
-      go (inr apart) = (leaf, sym (gone.others leaf apart) ∙ has)
-
   -- a directory goes, and its roots with it
   pub lost : (d : ℕ) → AreGone before after d → MayGo homes d → IsSoundChange before after homes (map.remove homes d) covers (map.remove covers d)
   lost d gone may =
@@ -65,7 +48,7 @@ module _ (before after : Roots) (homes : Homes) (covers : Covers) (table : IsTab
       record {
         keeps = λ leaf rank was is has. sound.0 leaf leaf rank was (is_elsewhere homes (map.remove covers d) d leaf may.other is, refl) has;
         valid = sound.1;
-        ranks = lost_ranks d gone;
+        ranks = λ leaf rank has. ⊎_elim (λ same. absurd (not_none _ rank (gone.gone leaf same) has)) (λ apart. (leaf, sym (gone.others leaf apart) ∙ has)) (nat.same_or_apart leaf.0.0 d);
       }
 
   -- a root that was made before a move has the rank of the leaf's authority, which is that of a root
@@ -75,32 +58,23 @@ module _ (before after : Roots) (homes : Homes) (covers : Covers) (table : IsTab
       Found : Type 0
       Found = (other : Leaf) × (map.get before other ≡ Some rank)
 
-      made : (a b : Rank) → map.get before leaf ≡ None → leaf.0.0 ≡ d → IsLive homes covers leaf → HasAuthority before homes covers leaf a → IsInheritedAt before homes covers home b → (a ≡ b) ⊎ (a ≡ b → ⊥) → Found
-      made a b none own live its inherits (inl same) =
-          absurd (not_none _ rank (settled.same leaf a live own none its (subst (λ (r : Rank). IsInheritedAt before homes covers home r) (sym same) inherits)) has)
-      made a b none own live its inherits (inr apart) =
-          let ranks : a ≡ rank = one_value _ a rank (settled.lost leaf a b live own none its inherits apart) has in
-          (its.root, subst (λ (r : Rank). map.get before its.root ≡ Some r) ranks its.ranked)
-
       of_leaf : map.get before leaf ≡ None → leaf.0.0 ≡ d → IsLive homes covers leaf → Found
       of_leaf none own live =
           let its = some_authority before homes covers table valid leaf live in
           let holder = some_holder homes covers table home in
           let stands : IsLive homes covers holder.0 = record { known = subst (λ (i : Ino). is_known homes i.0 ≡ true) (sym holder.1.parent) parent; stands = subst (λ (i : Ino). HasLeaf (leaves_of covers i.0) holder.0.1) (sym holder.1.parent) holder.1.pick.stands } in
           let there = some_authority before homes covers table valid holder.0 stands in
-          made its.0 there.0 none own live its.1 (record { holder = holder.0; holds = holder.1; has = there.1 }) (same_rank its.0 there.0)
-
-      by_made : map.get before leaf ≡ None → leaf.0.0 ≡ d → (IsSome (map.get before leaf)) ⊎ IsLive homes covers leaf → Found
-      by_made none own (inl some) = let there = value_of _ some in absurd (not_none _ there.0 none there.1)
-      by_made none own (inr live) = of_leaf none own live
-
-      here : map.get before leaf ≡ None → (leaf.0.0 ≡ d) ⊎ (leaf.0.0 ≡ d → ⊥) → Found
-      here none (inl own) = by_made none own (settled.made leaf (ap is_some has))
-      here none (inr apart) = absurd (not_none _ rank (settled.elsewhere leaf apart ∙ none) has)
+          let inherits : IsInheritedAt before homes covers home there.0 = record { holder = holder.0; holds = holder.1; has = there.1 } in
+          ⊎_elim (λ same. absurd (not_none _ rank (settled.same leaf its.0 live own none its.1 (subst (IsInheritedAt before homes covers home) (λ i. record { 0 = sym same i }) inherits)) has))
+          (λ apart.
+          let rank_is = one_value _ its.0 rank (settled.lost leaf its.0 there.0 live own none its.1 inherits (λ same. apart (ap (λ (r : Rank). r.0) same))) has in
+          (its.1.root, subst (λ (r : Rank). map.get before its.1.root ≡ Some r) rank_is its.1.ranked)) (nat.same_or_apart its.0.0 there.0.0)
 
       go : (o : Option Rank) → map.get before leaf ≡ o → Found
       go (Some r) was = (leaf, sym (settled.kept leaf (ap is_some was)) ∙ has)
-      go None none = here none (nat.same_or_apart leaf.0.0 d)
+      go None none =
+          ⊎_elim (λ own. ⊎_elim (λ some. let there = value_of _ some in absurd (not_none _ there.0 none there.1)) (of_leaf none own) (settled.made leaf (ap is_some has)))
+          (λ apart. absurd (not_none _ rank (settled.elsewhere leaf apart ∙ none) has)) (nat.same_or_apart leaf.0.0 d)
 
   -- a directory moves, and its roots were settled first
   pub rehomed : (d : ℕ) (home : Home) → IsSettled before after homes covers d home → MayMove homes d home → IsSoundChange before after homes (map.insert homes d home) covers covers
@@ -121,16 +95,10 @@ module _ (before after : Roots) (homes : Homes) (covers : Covers) (table : IsTab
     both : KeepAuthority before after homes homes covers later (BecomesSplit d f nb) × IsSubtrees after homes later
     both = splits_soundly before after d f nb split homes covers later to table valid divided has fits whole becomes
 
-    no_leaf_still : HasLeaf to f → ⊥
-    no_leaf_still still = go ((divided.leaves f).0 still)
-      where
-        go : (HasLeaf (leaves_of covers d) f × (f ≢ f)) ⊎ IsChild f nb f → ⊥
-        go (inl its) = its.1 refl
-        go (inr (i, below, is)) = let more : f.bits ≡ f.bits + nb = ap (λ (g : Fragment). g.bits) is in omega (arith, more, fits.some)
-
     is_other : (leaf : Leaf) → IsLive homes later leaf → leaf ≢ at_f
     is_other leaf live same =
-        no_leaf_still (subst (λ (fs : List Fragment). HasLeaf fs f) (leaves_now covers later d to becomes) (subst (λ (l : Leaf). HasLeaf (leaves_of later l.0.0) l.1) same live.stands))
+        ⊎_elim (λ its. its.1 refl) (λ child. let more : f.bits ≡ f.bits + nb = ap (λ (g : Fragment). g.bits) child.2 in omega (arith, more, fits.some))
+        ((divided.leaves f).0 (subst (λ (fs : List Fragment). HasLeaf fs f) (leaves_now covers later d to becomes) (subst (λ (l : Leaf). HasLeaf (leaves_of later l.0.0) l.1) same live.stands)))
 
     -- what was a root was a leaf, so it is no child
     no_child : (leaf : Leaf) → IsSome (map.get before leaf) → (g : Fragment) → IsChild f nb g → leaf ≢ leaf_of d g
@@ -138,11 +106,9 @@ module _ (before after : Roots) (homes : Homes) (covers : Covers) (table : IsTab
         child_is_new (leaves_of covers d) f g nb (tree_of_row homes covers table d) has fits child (subst (λ (l : Leaf). HasLeaf (leaves_of covers l.0.0) l.1) same (valid.live leaf some).stands)
 
     split_ranks : NoNewRank before after
-    split_ranks leaf rank is = go (split.made leaf (ap is_some is))
-      where
-        go : IsSome (map.get before leaf) ⊎ (IsSome (map.get before at_f) × ((g : Fragment) × IsChild f nb g × (leaf ≡ leaf_of d g))) → (other : Leaf) × (map.get before other ≡ Some rank)
-        go (inl some) = (leaf, sym (split.others leaf (λ same. not_none _ rank (ap (map.get after) same ∙ split.gone) is) (no_child leaf some)) ∙ is)
-        go (inr (some, (g, child, same))) = (at_f, sym (split.children g child some) ∙ ap (map.get after) (sym same) ∙ is)
+    split_ranks leaf rank is =
+        ⊎_elim (λ some. (leaf, sym (split.others leaf (λ same. not_none _ rank (ap (map.get after) same ∙ split.gone) is) (no_child leaf some)) ∙ is))
+        (λ made. (at_f, sym (split.children made.1.0 made.1.1 made.0) ∙ ap (map.get after) (sym made.1.2) ∙ is)) (split.made leaf (ap is_some is))
 
     pub divided_soundly : IsSoundChange before after homes homes covers later
     divided_soundly = record {
@@ -162,26 +128,21 @@ module _ (before after : Roots) (homes : Homes) (covers : Covers) (table : IsTab
     joined = merges_soundly before after d f merge homes covers later to table valid one can merged whole becomes
 
     none_inside : (g : Fragment) → HasLeaf to g → lies_inside f g ≡ false
-    none_inside g has = go ((merged.leaves g).0 has)
-      where
-        go : (HasLeaf (leaves_of covers d) g × (lies_inside f g ≡ false)) ⊎ (g ≡ f) → lies_inside f g ≡ false
-        go (inl its) = its.1
-        go (inr same) = ap (lies_inside f) same ∙ (λ i. not_less f.bits i && (f.value / span f.bits == f.value / span f.bits))
+    none_inside g has =
+        let equal : nat_lt f.bits f.bits ≡ false = grind (arith, nat_tests) in
+        ⊎_elim (λ its. its.1) (λ same. ap (lies_inside f) same ∙ (λ i. equal i && (f.value / span f.bits == f.value / span f.bits))) ((merged.leaves g).0 has)
 
     is_outside : (leaf : Leaf) → IsLive homes later leaf → is_inside d f leaf ≡ false
-    is_outside leaf live = go (nat.same_or_apart leaf.0.0 d)
-      where
-        go : (leaf.0.0 ≡ d) ⊎ (leaf.0.0 ≡ d → ⊥) → is_inside d f leaf ≡ false
-        go (inl same) = and_right (leaf.0.0 == d) _ (none_inside leaf.1 (subst (λ (fs : List Fragment). HasLeaf fs leaf.1) (leaves_now covers later d to becomes) (subst (λ (e : ℕ). HasLeaf (leaves_of later e) leaf.1) same live.stands)))
-        go (inr apart) = λ i. nat.is_apart leaf.0.0 d apart i && lies_inside f leaf.1
+    is_outside leaf live =
+        ⊎_elim (λ same. and_right (leaf.0.0 == d) _ (none_inside leaf.1 (subst (λ (fs : List Fragment). HasLeaf fs leaf.1) (leaves_now covers later d to becomes) (subst (λ (e : ℕ). HasLeaf (leaves_of later e) leaf.1) same live.stands))))
+        (λ apart. λ i. nat.is_apart leaf.0.0 d apart i && lies_inside f leaf.1) (nat.same_or_apart leaf.0.0 d)
 
     merge_ranks : NoNewRank before after
-    merge_ranks leaf rank is = go (same_leaf_or_apart leaf (leaf_of d f)) (is_inside d f leaf) refl
-      where
-        go : (leaf ≡ leaf_of d f) ⊎ (leaf ≡ leaf_of d f → ⊥) → (b : Bool) → is_inside d f leaf ≡ b → (other : Leaf) × (map.get before other ≡ Some rank)
-        go (inl same) b inside = let found = merge.rank rank (ap (map.get after) (sym same) ∙ is) in (found.0, found.2)
-        go (inr apart) true inside = absurd (not_none _ rank (merge.gone leaf inside) is)
-        go (inr apart) false inside = (leaf, sym (merge.others leaf inside apart) ∙ is)
+    merge_ranks leaf rank is =
+        ⊎_elim (λ same. let found = merge.rank rank (ap (map.get after) (sym same) ∙ is) in (found.0, found.2))
+        (λ apart.
+        ⊎_elim (λ inside. absurd (not_none _ rank (merge.gone leaf inside) is)) (λ outside. (leaf, sym (merge.others leaf outside apart) ∙ is)) (cases_Bool (is_inside d f leaf)))
+        (same_leaf_or_apart leaf (leaf_of d f))
 
     pub merged_soundly : IsSoundChange before after homes homes covers later
     merged_soundly = record {

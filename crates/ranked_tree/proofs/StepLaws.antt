@@ -1,120 +1,109 @@
 -- What the steps of an export leave of a tree that is divided among ranks.
-use Rattle.ranked_tree.proofs.Common.{ArePlaced, AreRoots, CacheMap, Cancels, Core, Covers, EndsRegion, Err, ExportState, FreezesSoundly, Frozen, Homes, IsDivided, IsFreeze, IsFrozen, IsFrozenIn, IsFrozenLeaf, IsLive, IsOwned, IsSome, IsSoundCore, Job, KeepsAuthorities, Leaf, NearestRoot, None, Ok, Prepared, Preps, Rank, Ranked, Refusal, Regions, Result, Roots, Rules, Sent, Some, StandSoundly, Standing, StandingExport, Started, Starts, Steps, Subtrees, ap, cancel_holding, cancels_soundly, come_to, freezes_soundly, get_beside, get_left, get_put, get_removed, held_in, holder_is, holding, inl, inr, length, not_none, one_value, prep_holding, prep_soundly, refl, same_or_apart, send_holding, send_soundly, start_holding, start_soundly, state_of, subst, sym, valid_so, ℕ, ◌<◌, ◌∙◌, ◌≡◌, ◌≢◌, ◌⊎◌}
+use Rattle.ranked_tree.proofs.Common.{ArePlaced, AreRoots, CacheMap, Cancels, ComesTo, Core, Covers, EndsRegion, Err, ExportState, Finishes, FreezesSoundly, Frozen, Homes, IsDivided, IsFreeze, IsFrozen, IsFrozenLeaf, IsLive, IsOwned, IsSome, IsSoundCore, KeepsAuthorities, KeepsOutside, Leaf, NearestRoot, Ok, Option, Prepared, Preps, Rank, Ranked, Refusal, Regions, Result, Roots, Rules, Sent, Some, StandSoundly, Standing, StandingExport, Started, Starts, Steps, Subtrees, ap, cancel_holding, cancels_soundly, come_to, finish_holding, finishes_soundly, freezes_soundly, get_beside, get_put, held_in, holder_is, holding, is_freezing, is_some, leaf_cmp, length, not_none, prep_holding, prep_soundly, refl, rules, same_Some, same_or_apart, send_holding, send_soundly, start_holding, start_soundly, state_of, subst, sym, valid_so, ℕ, ⊎_elim, ◌<◌, ◌∙◌, ◌≡◌, ◌≢◌}
 use Rattle.std.specs.FinMap as map
 use Rattle.mdcache.specs.State.{State as TreeState}
 use Rattle.ranked_tree.proofs.HeldLaws.{held_after}
-use Rattle.ranked_tree.proofs.StandLaws.{held_bound}
+use Rattle.ranked_tree.proofs.StandLaws.{found_left, held_bound}
+
+-- what is found where one is put
+put_cases : {X : Type 0} (m : map.FinMap leaf_cmp X) (k : Leaf) (x : X) (q : Leaf) (P : Option X → Type 0) → (q ≡ k → P (Some x)) → (q ≢ k → P (map.get m q)) → P (map.get (map.insert m k x) q)
+put_cases {X} m k x q P here beside =
+    ⊎_elim (λ same. subst P (sym (ap (map.get (map.insert m k x)) same ∙ get_put m k x)) (here same)) (λ apart. subst P (sym (get_beside m k x q apart)) (beside apart)) (same_or_apart q k)
 
 -- the ranks of each export have caches
+abbrev HasCaches : ℕ → StandingExport → Type 0
+HasCaches count export = (export.exporter.0 < count) × (export.importer.0 < count)
+
 abbrev pub AreThere : ℕ → Standing → Type 0
-AreThere count exports = (root : Leaf) (export : StandingExport) → map.get exports root ≡ Some export → (export.exporter.0 < count) × (export.importer.0 < count)
+AreThere count exports = (root : Leaf) (export : StandingExport) → map.get exports root ≡ Some export → HasCaches count export
 
--- so it is still where one is put there
-put_there : (count : ℕ) (old new : Standing) (at : Leaf) (put : StandingExport) → new ≡ map.insert old at put → (put.exporter.0 < count) × (put.importer.0 < count) → AreThere count old → AreThere count new
-put_there count old new at put is its there root export stands = go (same_or_apart root at)
-  where
-    found : map.get (map.insert old at put) root ≡ Some export
-    found = ap (λ (m : Standing). map.get m root) (sym is) ∙ stands
+put_there : (count : ℕ) (old new : Standing) (at : Leaf) (put : StandingExport) → new ≡ map.insert old at put → HasCaches count put → AreThere count old → AreThere count new
+put_there count old new at put is its there root export stands =
+    put_cases old at put root (λ o. o ≡ Some export → HasCaches count export) (λ same found. subst (HasCaches count) (same_Some put export found) its) (λ apart. there root export) (ap (λ (m : Standing). map.get m root) (sym is) ∙ stands)
 
-    go : (root ≡ at) ⊎ (root ≢ at) → (export.exporter.0 < count) × (export.importer.0 < count)
-    go (inl same) =
-        let that : put ≡ export = one_value _ put export (get_put old at put) (ap (map.get (map.insert old at put)) (sym same) ∙ found) in
-        subst (λ (e : StandingExport). (e.exporter.0 < count) × (e.importer.0 < count)) that its
-    go (inr apart) = there root export (sym (get_beside old at put root apart) ∙ found)
+taken_there : (count : ℕ) (old new : Standing) (at : Leaf) → new ≡ map.remove old at → AreThere count old → AreThere count new
+taken_there count old new at is there root export stands = there root export (found_left old at root export (ap (λ (m : Standing). map.get m root) (sym is) ∙ stands))
 
--- and where one is taken out
-pub taken_there : (count : ℕ) (old new : Standing) (at : Leaf) → new ≡ map.remove old at → AreThere count old → AreThere count new
-taken_there count old new at is there root export stands = go (same_or_apart root at)
-  where
-    found : map.get (map.remove old at) root ≡ Some export
-    found = ap (λ (m : Standing). map.get m root) (sym is) ∙ stands
+pub step_there : (count : ℕ) (old new : Standing) (root : Leaf) (from to : ExportState) → ComesTo old new root from to → AreThere count old → AreThere count new
+step_there count old new root from to is there = put_there count old new root (come_to to is.export) is.changed (there root is.export is.stood) there
 
-    go : (root ≡ at) ⊎ (root ≢ at) → (export.exporter.0 < count) × (export.importer.0 < count)
-    go (inl same) = let clash : None ≡ Some export = sym (get_removed old at) ∙ ap (map.get (map.remove old at)) (sym same) ∙ found in absurd cc
-    go (inr apart) = there root export (sym (get_left old at root apart) ∙ found)
+-- ---- steps that leave the roots, the ranks that hold regions and what is frozen
 
--- of the exports alone some changed: the same ranks hold the regions, and no leaf froze
-module _ (core : Core) (was now : Regions) (divided : IsDivided core was) (roots : now.roots.roots ≡ was.roots.roots) (holds : held_in now ≡ held_in was) where
-  pub step_divided : ArePlaced now.exports now.roots → AreThere (length core.caches.used) now.exports → ((leaf : Leaf) → IsFrozenIn (state_of core) now leaf → IsFrozenIn (state_of core) was leaf) → IsDivided core now
-  step_divided placed there froze = record {
-    owned = subst (IsOwned core) (sym holds) divided.owned;
-    stand = record {
-      valid = rw roots divided.stand.valid;
-      placed = placed;
-      ranked = λ leaf rank is. divided.stand.ranked leaf rank (ap (λ (r : Roots). map.get r leaf) (sym roots) ∙ is);
-      there = there;
-      unbegun = λ leaf job is frozen. divided.stand.unbegun leaf job is (froze leaf frozen);
-    };
+pub record IsStill (count : ℕ) (old new : Standing) (was now : Subtrees) : Type 0 where
+  pub roots : now.roots ≡ was.roots
+  pub holds : holding new now.roots ≡ holding old was.roots
+  pub there : AreThere count old → AreThere count new
+  pub froze : (homes : Homes) (covers : Covers) (leaf : Leaf) → IsFrozen new now.roots homes covers leaf → IsFrozen old was.roots homes covers leaf
+
+unmoved : (count : ℕ) (old new : Standing) (was now : Subtrees) → new ≡ old → now.roots ≡ was.roots → IsStill count old new was now
+unmoved count old new was now exports roots = record {
+  roots = roots;
+  holds = rw (exports, roots) refl;
+  there = λ there. rw exports there;
+  froze = λ homes covers leaf. rw (exports, roots) (λ frozen. frozen);
+}
+
+pub step_divided : (core : Core) (was now : Regions) → IsDivided core was → IsStill (length core.caches.used) was.exports now.exports was.roots now.roots → ArePlaced now.exports now.roots → IsDivided core now
+step_divided core was now divided still placed = record {
+  owned = subst (IsOwned core) (sym still.holds) divided.owned;
+  stand = record {
+    valid = rw still.roots divided.stand.valid;
+    placed = placed;
+    ranked = rw still.roots divided.stand.ranked;
+    there = still.there divided.stand.there;
+    unbegun = λ leaf job is frozen. divided.stand.unbegun leaf job is (still.froze core.homes core.covers leaf frozen);
+  };
+}
+
+module _ (count : ℕ) (old new : Standing) (was now : Subtrees) (root : Leaf) where
+  pub start_still : (exporter importer : Rank) → exporter.0 < count → importer.0 < count → (result : Result (Unit {0}) Refusal) → Starts old new root exporter importer result → IsStill count old new was was
+  start_still exporter importer first second (Ok done) is = record {
+    roots = refl;
+    holds = start_holding old new root exporter importer is was.roots;
+    there = put_there count old new root (record { exporter = exporter; importer = importer; state = Started }) is.1 (first, second);
+    froze = λ homes covers leaf. ((start_soundly old new root exporter importer is was.roots homes covers).frozen leaf).0;
   }
+  start_still exporter importer first second (Err reason) is = unmoved count old new was was is.1 refl
 
--- ---- Start
+  pub prep_still : (result : Result (Unit {0}) Refusal) → Preps old new was now root result → IsStill count old new was now
+  prep_still (Ok done) is = record {
+    roots = is.roots;
+    holds = ap (holding new) is.roots ∙ prep_holding old new root is.step was.roots;
+    there = step_there count old new root Frozen Prepared is.step;
+    froze = λ homes covers leaf. rw is.roots ((prep_soundly old new root is.step was.roots homes covers).frozen leaf).0;
+  }
+  prep_still (Err reason) is = unmoved count old new was now is.1 is.2.roots
 
-module _ (old new : Standing) (root : Leaf) (exporter importer : Rank) where
-  pub start_holds : (result : Result (Unit {0}) Refusal) → Starts old new root exporter importer result → (roots : Roots) → holding new roots ≡ holding old roots
-  start_holds (Ok done) is roots = start_holding old new root exporter importer is roots
-  start_holds (Err reason) is roots = ap (λ (s : Standing). holding s roots) is.1
+  pub send_still : (result : Result (Unit {0}) Refusal) → Steps old new root Prepared Sent result → IsStill count old new was was
+  send_still (Ok done) is = record {
+    roots = refl;
+    holds = send_holding old new root is was.roots;
+    there = step_there count old new root Prepared Sent is;
+    froze = λ homes covers leaf. ((send_soundly old new root is was.roots homes covers).frozen leaf).0;
+  }
+  send_still (Err reason) is = unmoved count old new was was is.2 refl
 
-  start_there : (count : ℕ) → exporter.0 < count → importer.0 < count → (result : Result (Unit {0}) Refusal) → Starts old new root exporter importer result → AreThere count old → AreThere count new
-  start_there count first second (Ok done) is there = put_there count old new root (record { exporter = exporter; importer = importer; state = Started }) is.1 (first, second) there
-  start_there count first second (Err reason) is there = subst (AreThere count) (sym is.1) there
+  pub cancel_still : (result : Result (Unit {0}) Refusal) → Cancels old new was now root result → IsStill count old new was now
+  cancel_still (Ok done) is = record {
+    roots = is.roots;
+    holds = cancel_holding old new was now root is;
+    there = taken_there count old new root is.ended;
+    froze = λ homes covers leaf frozen. (((cancels_soundly old new was now root is homes covers).frozen leaf).0 (subst (λ (r : Roots). IsFrozen new r homes covers leaf) is.roots frozen)).1;
+  }
+  cancel_still (Err reason) is = unmoved count old new was now is.2 (ap (λ (s : Subtrees). s.roots) is.3)
 
-  start_froze : (roots : Roots) (homes : Homes) (covers : Covers) (result : Result (Unit {0}) Refusal) → Starts old new root exporter importer result → (leaf : Leaf) → IsFrozen new roots homes covers leaf → IsFrozen old roots homes covers leaf
-  start_froze roots homes covers (Ok done) is leaf frozen = ((start_soundly old new root exporter importer is roots homes covers).frozen leaf).0 frozen
-  start_froze roots homes covers (Err reason) is leaf frozen = subst (λ (s : Standing). IsFrozen s roots homes covers leaf) is.1 frozen
+-- ---- a root of a live leaf is put: those that were roots are, and their ranks have caches
 
-pub start_divided : (core : Core) (was : Regions) (new : Standing) (root : Leaf) (exporter importer : Rank) (result : Result (Unit {0}) Refusal) → Starts was.exports new root exporter importer result → IsDivided core was → ArePlaced new was.roots
-    → exporter.0 < length core.caches.used → importer.0 < length core.caches.used → IsDivided core (record { roots = was.roots; exports = new })
-start_divided core was new root exporter importer result is divided placed first second =
-    step_divided core was (record { roots = was.roots; exports = new }) divided refl (start_holds was.exports new root exporter importer result is was.roots.roots) placed
-    (start_there was.exports new root exporter importer (length core.caches.used) first second result is divided.stand.there)
-    (start_froze was.exports new root exporter importer was.roots.roots core.homes core.covers result is)
+put_roots : (tree : TreeState) (before after : Roots) (root : Leaf) (rank : Rank) → after ≡ map.insert before root rank → IsLive tree.homes tree.covers root → AreRoots tree before → AreRoots tree after
+put_roots tree before after root rank is live valid = rw is (record {
+  top = λ f here. put_cases before root rank _ IsSome (λ same. refl) (λ apart. valid.top f here);
+  live = λ q. put_cases before root rank q (λ o. IsSome o → IsLive tree.homes tree.covers q) (λ same some. subst (IsLive tree.homes tree.covers) (sym same) live) (λ apart. valid.live q);
+})
 
--- ---- Prep
-
-module _ (old new : Standing) (was now : Subtrees) (root : Leaf) where
-  pub prep_roots : (result : Result (Unit {0}) Refusal) → Preps old new was now root result → now.roots ≡ was.roots
-  prep_roots (Ok done) is = is.roots
-  prep_roots (Err reason) is = is.2.roots
-
-  pub prep_holds : (result : Result (Unit {0}) Refusal) → Preps old new was now root result → holding new now.roots ≡ holding old was.roots
-  prep_holds (Ok done) is = ap (holding new) is.roots ∙ prep_holding old new root is.step was.roots
-  prep_holds (Err reason) is = ap (λ (s : Standing). holding s now.roots) is.1 ∙ ap (holding old) is.2.roots
-
-  prep_there : (count : ℕ) (result : Result (Unit {0}) Refusal) → Preps old new was now root result → AreThere count old → AreThere count new
-  prep_there count (Ok done) is there = put_there count old new root (come_to Prepared is.step.export) is.step.changed (there root is.step.export is.step.stood) there
-  prep_there count (Err reason) is there = subst (AreThere count) (sym is.1) there
-
-  prep_froze : (homes : Homes) (covers : Covers) (result : Result (Unit {0}) Refusal) → Preps old new was now root result → (leaf : Leaf) → IsFrozen new now.roots homes covers leaf → IsFrozen old was.roots homes covers leaf
-  prep_froze homes covers (Ok done) is leaf frozen = ((prep_soundly old new root is.step was.roots homes covers).frozen leaf).0 (subst (λ (r : Roots). IsFrozen new r homes covers leaf) is.roots frozen)
-  prep_froze homes covers (Err reason) is leaf frozen =
-      subst (λ (s : Standing). IsFrozen s was.roots homes covers leaf) is.1 (subst (λ (r : Roots). IsFrozen new r homes covers leaf) is.2.roots frozen)
-
-pub prep_divided : (core : Core) (was now : Regions) (root : Leaf) (result : Result (Unit {0}) Refusal) → Preps was.exports now.exports was.roots now.roots root result → IsDivided core was → ArePlaced now.exports now.roots → IsDivided core now
-prep_divided core was now root result is divided placed =
-    step_divided core was now divided (prep_roots was.exports now.exports was.roots now.roots root result is) (prep_holds was.exports now.exports was.roots now.roots root result is) placed
-    (prep_there was.exports now.exports was.roots now.roots root (length core.caches.used) result is divided.stand.there)
-    (prep_froze was.exports now.exports was.roots now.roots root core.homes core.covers result is)
-
--- ---- Send
-
-module _ (old new : Standing) (root : Leaf) where
-  pub step_there : (from to : ExportState) (count : ℕ) (result : Result (Unit {0}) Refusal) → Steps old new root from to result → AreThere count old → AreThere count new
-  step_there from to count (Ok done) is there = put_there count old new root (come_to to is.export) is.changed (there root is.export is.stood) there
-  step_there from to count (Err reason) is there = subst (AreThere count) (sym is.2) there
-
-  pub send_holds : (result : Result (Unit {0}) Refusal) → Steps old new root Prepared Sent result → (roots : Roots) → holding new roots ≡ holding old roots
-  send_holds (Ok done) is roots = send_holding old new root is roots
-  send_holds (Err reason) is roots = ap (λ (s : Standing). holding s roots) is.2
-
-  send_froze : (roots : Roots) (homes : Homes) (covers : Covers) (result : Result (Unit {0}) Refusal) → Steps old new root Prepared Sent result → (leaf : Leaf) → IsFrozen new roots homes covers leaf → IsFrozen old roots homes covers leaf
-  send_froze roots homes covers (Ok done) is leaf frozen = ((send_soundly old new root is roots homes covers).frozen leaf).0 frozen
-  send_froze roots homes covers (Err reason) is leaf frozen = subst (λ (s : Standing). IsFrozen s roots homes covers leaf) is.2 frozen
-
-pub send_divided : (core : Core) (was : Regions) (new : Standing) (root : Leaf) (result : Result (Unit {0}) Refusal) → Steps was.exports new root Prepared Sent result → IsDivided core was → ArePlaced new was.roots → IsDivided core (record { roots = was.roots; exports = new })
-send_divided core was new root result is divided placed =
-    step_divided core was (record { roots = was.roots; exports = new }) divided refl (send_holds was.exports new root result is was.roots.roots) placed
-    (step_there was.exports new root Prepared Sent (length core.caches.used) result is divided.stand.there)
-    (send_froze was.exports new root was.roots.roots core.homes core.covers result is)
+put_ranked : (count : ℕ) (before after : Roots) (root : Leaf) (rank : Rank) → after ≡ map.insert before root rank → rank.0 < count
+    → ((leaf : Leaf) (r : Rank) → map.get before leaf ≡ Some r → r.0 < count) → (leaf : Leaf) (r : Rank) → map.get after leaf ≡ Some r → r.0 < count
+put_ranked count before after root rank is less ranked leaf r at =
+    put_cases before root rank leaf (λ o. o ≡ Some r → r.0 < count) (λ same found. subst (λ (x : Rank). x.0 < count) (same_Some rank r found) less) (λ apart. ranked leaf r) (ap (λ (m : Roots). map.get m leaf) (sym is) ∙ at)
 
 -- ---- Freeze
 
@@ -135,62 +124,31 @@ module _ (old new : Core) (was now : Regions) (root : Leaf) (divided : IsDivided
   soundly : FreezesSoundly was.exports now.exports was.roots.roots now.roots.roots old.homes old.covers root
   soundly = freezes_soundly was.exports now.exports was.roots now.roots root is old.homes old.covers may.thawed (may.mine is.step.export is.step.stood)
 
-  root_here : map.get now.roots.roots root ≡ Some is.step.export.exporter
-  root_here = ap (λ (r : Roots). map.get r root) is.roots ∙ get_put was.roots.roots root is.step.export.exporter
-
-  root_beside : (leaf : Leaf) → leaf ≢ root → map.get now.roots.roots leaf ≡ map.get was.roots.roots leaf
-  root_beside leaf apart = ap (λ (r : Roots). map.get r leaf) is.roots ∙ get_beside was.roots.roots root is.step.export.exporter leaf apart
-
   pub freeze_authorities : KeepsAuthorities (state_of old) (state_of new) was.roots.roots now.roots.roots
   freeze_authorities leaf rank stood stands rules = rw (homes_stay, covers_stay) (soundly.authorities leaf rank rules)
 
   -- live or not
-  held_still : (leaf : Leaf) (rank : Rank) → Rules (state_of old) (held_in was) leaf rank → Rules (state_of new) (held_in now) leaf rank
-  held_still leaf rank rules =
+  pub freeze_holders : (leaf : Leaf) (rank : Rank) → Rules (state_of old) (held_in was) leaf rank → Rules (state_of new) (held_in now) leaf rank
+  freeze_holders leaf rank rules =
       rw (homes_stay, covers_stay) ((holder_is now.exports now.roots.roots old.homes old.covers leaf rank).0 (soundly.holders leaf rank ((holder_is was.exports was.roots.roots old.homes old.covers leaf rank).1 rules)))
-
-  pub freeze_holders : KeepsAuthorities (state_of old) (state_of new) (held_in was) (held_in now)
-  freeze_holders leaf rank stood stands rules = held_still leaf rank rules
-
-  roots_still : AreRoots (state_of old) now.roots.roots
-  roots_still = record {
-    top = λ f here. top (record { 0 = 1 }, f) (divided.stand.valid.top f here) (same_or_apart (record { 0 = 1 }, f) root);
-    live = λ q some. alive q some (same_or_apart q root);
-  }
-    where
-      top : (q : Leaf) → IsSome (map.get was.roots.roots q) → (q ≡ root) ⊎ (q ≢ root) → IsSome (map.get now.roots.roots q)
-      top q some (inl same) = subst (λ (l : Leaf). IsSome (map.get now.roots.roots l)) (sym same) (subst IsSome (sym root_here) refl)
-      top q some (inr apart) = subst IsSome (sym (root_beside q apart)) some
-
-      alive : (q : Leaf) → IsSome (map.get now.roots.roots q) → (q ≡ root) ⊎ (q ≢ root) → IsLive old.homes old.covers q
-      alive q some (inl same) = subst (IsLive old.homes old.covers) (sym same) may.live
-      alive q some (inr apart) = divided.stand.valid.live q (subst IsSome (root_beside q apart) some)
 
   module _ (caches : new.caches ≡ old.caches) (sound : IsSoundCore new) (placed : ArePlaced now.exports now.roots) where
     count_stays : length new.caches.used ≡ length old.caches.used
     count_stays = ap (λ (k : CacheMap). length k.used) caches
 
-    exports_there : AreThere (length old.caches.used) now.exports
-    exports_there = put_there (length old.caches.used) was.exports now.exports root (come_to Frozen is.step.export) is.step.changed (divided.stand.there root is.step.export is.step.stood) divided.stand.there
-
     freeze_stands : StandSoundly (state_of new) (length new.caches.used) now.roots now.exports
-    freeze_stands = record {
-      valid = rw (homes_stay, covers_stay) roots_still;
-      placed = placed;
-      ranked = λ leaf rank at. subst (λ (n : ℕ). rank.0 < n) (sym count_stays) (ranked leaf rank at (same_or_apart leaf root));
-      there = subst (λ (n : ℕ). AreThere n now.exports) (sym count_stays) exports_there;
-      unbegun = λ leaf job stands frozen. unbegun leaf job stands ((soundly.frozen leaf).0 (subst (λ (h : Homes). IsFrozen now.exports now.roots.roots h old.covers leaf) homes_stay (subst (λ (cs : Covers). IsFrozen now.exports now.roots.roots new.homes cs leaf) covers_stay frozen)));
-    }
-      where
-        ranked : (leaf : Leaf) (rank : Rank) → map.get now.roots.roots leaf ≡ Some rank → (leaf ≡ root) ⊎ (leaf ≢ root) → rank.0 < length old.caches.used
-        ranked leaf rank at (inl same) =
-            subst (λ (r : Rank). r.0 < length old.caches.used) (one_value _ is.step.export.exporter rank root_here (ap (map.get now.roots.roots) (sym same) ∙ at)) (divided.stand.there root is.step.export is.step.stood).0
-        ranked leaf rank at (inr apart) = divided.stand.ranked leaf rank (sym (root_beside leaf apart) ∙ at)
-
-        -- a job that stands stood, and its leaf isn't in the region
-        unbegun : (leaf : Leaf) (job : Job) → map.get new.jobs leaf ≡ Some job → NearestRoot now.roots.roots old.homes old.covers leaf root ⊎ IsFrozenIn (state_of old) was leaf → ⊥
-        unbegun leaf job stands (inl inside) = not_none _ job (ends.ended leaf inside) stands
-        unbegun leaf job stands (inr frozen) = divided.stand.unbegun leaf job (sym (ends.others leaf (λ inside. not_none _ job (ends.ended leaf inside) stands)) ∙ stands) frozen
+    freeze_stands =
+        let its = divided.stand.there root is.step.export is.step.stood in
+        record {
+          valid = rw (homes_stay, covers_stay) (put_roots (state_of old) was.roots.roots now.roots.roots root is.step.export.exporter is.roots may.live divided.stand.valid);
+          placed = placed;
+          ranked = rw count_stays (put_ranked (length old.caches.used) was.roots.roots now.roots.roots root is.step.export.exporter is.roots its.0 divided.stand.ranked);
+          there = rw count_stays (put_there (length old.caches.used) was.exports now.exports root (come_to Frozen is.step.export) is.step.changed its divided.stand.there);
+          -- a job that stands stood, and its leaf isn't in the region
+          unbegun = λ leaf job stands frozen.
+              let outside : NearestRoot now.roots.roots old.homes old.covers leaf root → ⊥ = λ inside. not_none _ job (ends.ended leaf inside) stands in
+              ⊎_elim outside (divided.stand.unbegun leaf job (sym (ends.others leaf outside) ∙ stands)) ((soundly.frozen leaf).0 (rw (← homes_stay, ← covers_stay) frozen));
+        }
 
     pub freeze_divided : IsDivided new now
     freeze_divided = record {
@@ -198,33 +156,33 @@ module _ (old new : Core) (was now : Regions) (root : Leaf) (divided : IsDivided
         sound = sound;
         valid = (valid_so now.exports now.roots.roots new.homes new.covers).0 freeze_stands.valid;
         held = held_after (state_of new) new.caches (held_in now) (held_bound (state_of new) (length new.caches.used) now.roots now.exports freeze_stands) sound.none
-            (λ leaf a at. held_still leaf (record { 0 = a.rank }) (divided.owned.held.cached leaf a (ap (λ (k : CacheMap). map.get k.held leaf) (sym caches) ∙ at)));
+            (λ leaf a at. freeze_holders leaf (record { 0 = a.rank }) (divided.owned.held.cached leaf a (ap (λ (k : CacheMap). map.get k.held leaf) (sym caches) ∙ at)));
       };
       stand = freeze_stands;
     }
 
--- ---- Cancel
+-- ---- Finish
 
-module _ (old new : Standing) (was now : Subtrees) (root : Leaf) where
-  pub cancel_roots : (result : Result (Unit {0}) Refusal) → Cancels old new was now root result → now.roots ≡ was.roots
-  cancel_roots (Ok done) is = is.roots
-  cancel_roots (Err reason) is = ap (λ (s : Subtrees). s.roots) is.3
+pub finish_holds : (old new : Standing) (was now : Subtrees) (root : Leaf) (result : Result (Unit {0}) Refusal) → Finishes old new was now root result → ArePlaced old was → holding new now.roots ≡ holding old was.roots
+finish_holds old new was now root (Ok done) is placed = finish_holding old new was now root is placed
+finish_holds old new was now root (Err reason) is placed = rw (is.2, is.3) refl
 
-  pub cancel_holds : (result : Result (Unit {0}) Refusal) → Cancels old new was now root result → holding new now.roots ≡ holding old was.roots
-  cancel_holds (Ok done) is = cancel_holding old new was now root is
-  cancel_holds (Err reason) is = ap (λ (s : Standing). holding s now.roots) is.2 ∙ ap (λ (s : Subtrees). holding old s.roots) is.3
+module _ (core : Core) (was now : Regions) (root : Leaf) (divided : IsDivided core was) (placed : ArePlaced now.exports now.roots) where
+  pub finish_divided : (result : Result (Unit {0}) Refusal) → Finishes was.exports now.exports was.roots now.roots root result → IsDivided core now
+  finish_divided (Err reason) is = subst (IsDivided core) (λ i. record { roots = sym is.3 i; exports = sym is.2 i }) divided
+  finish_divided (Ok done) is =
+      let root_was : map.get was.roots.roots root ≡ Some is.export.exporter = divided.stand.placed.ranked root is.export is.stood (ap is_freezing is.imported) in
+      record {
+        owned = subst (IsOwned core) (sym (finish_holding was.exports now.exports was.roots now.roots root is divided.stand.placed)) divided.owned;
+        stand = record {
+          valid = put_roots (state_of core) was.roots.roots now.roots.roots root is.export.importer is.roots (divided.stand.valid.live root (ap is_some root_was)) divided.stand.valid;
+          placed = placed;
+          ranked = put_ranked (length core.caches.used) was.roots.roots now.roots.roots root is.export.importer is.roots (divided.stand.there root is.export is.stood).1 divided.stand.ranked;
+          there = taken_there (length core.caches.used) was.exports now.exports root is.ended divided.stand.there;
+          unbegun = λ leaf job stands frozen. divided.stand.unbegun leaf job stands (((finishes_soundly was.exports now.exports was.roots now.roots root is divided.stand.placed core.homes core.covers).frozen leaf).0 frozen).1;
+        };
+      }
 
-  cancel_there : (count : ℕ) (result : Result (Unit {0}) Refusal) → Cancels old new was now root result → AreThere count old → AreThere count new
-  cancel_there count (Ok done) is there = taken_there count old new root is.ended there
-  cancel_there count (Err reason) is there = subst (AreThere count) (sym is.2) there
-
-  cancel_froze : (homes : Homes) (covers : Covers) (result : Result (Unit {0}) Refusal) → Cancels old new was now root result → (leaf : Leaf) → IsFrozen new now.roots homes covers leaf → IsFrozen old was.roots homes covers leaf
-  cancel_froze homes covers (Ok done) is leaf frozen =
-      (((cancels_soundly old new was now root is homes covers).frozen leaf).0 (subst (λ (r : Roots). IsFrozen new r homes covers leaf) is.roots frozen)).1
-  cancel_froze homes covers (Err reason) is leaf frozen = subst (λ (s : Standing). IsFrozen s was.roots homes covers leaf) is.2 (subst (λ (s : Subtrees). IsFrozen new s.roots homes covers leaf) is.3 frozen)
-
-pub cancel_divided : (core : Core) (was now : Regions) (root : Leaf) (result : Result (Unit {0}) Refusal) → Cancels was.exports now.exports was.roots now.roots root result → IsDivided core was → ArePlaced now.exports now.roots → IsDivided core now
-cancel_divided core was now root result is divided placed =
-    step_divided core was now divided (cancel_roots was.exports now.exports was.roots now.roots root result is) (cancel_holds was.exports now.exports was.roots now.roots root result is) placed
-    (cancel_there was.exports now.exports was.roots now.roots root (length core.caches.used) result is divided.stand.there)
-    (cancel_froze was.exports now.exports was.roots now.roots root core.homes core.covers result is)
+  pub finish_others : (result : Result (Unit {0}) Refusal) → Finishes was.exports now.exports was.roots now.roots root result → KeepsOutside (Some root) (state_of core) (state_of core) was.roots.roots now.roots.roots
+  finish_others (Ok done) is leaf rank stood stands outside rules = (finishes_soundly was.exports now.exports was.roots now.roots root is divided.stand.placed core.homes core.covers).others leaf rank outside rules
+  finish_others (Err reason) is leaf rank stood stands outside rules = subst (λ (s : Subtrees). Rules (state_of core) s.roots leaf rank) (sym is.3) rules

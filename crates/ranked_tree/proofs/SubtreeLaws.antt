@@ -1,14 +1,9 @@
 -- What a change of the tree makes of the roots, and of every leaf's authority.
-use Rattle.ranked_tree.proofs.Common.{AreRoots, Bool, Change, Covers, Dentry, FollowChange, Fragment, GivesToChildren, HasAuthority, HaveOneAuthority, Homes, IfSome, Ino, Inode, IsMergedInto, IsRootMerge, IsRootSplit, IsSettled, IsSound, IsSplitInto, IsSubtrees, IsTable, LoseDirectory, Makes, MatchBool, MatchOption, MayChange, MayGo, MayMove, None, Option, Roots, SettleBy, SettleMove, SettleMoving, Shape, Some, Spot, State, TakesOver, add, ap, cond, dentry_at, dir_moved, dir_moving, directory_at, false, home_at, is_dir_kind, may_come, may_drop, move, moved_home, moved_known, refl, remove, removes, rows_but, same_Some, set, shape_of, shown_tree, subst, sym, true, with_dir, with_file, with_home, ℕ, ◌∙◌, ◌≡◌}
+use Rattle.ranked_tree.proofs.Common.{AreRoots, Bool, Change, Covers, Dentry, FollowChange, Fragment, GivesToChildren, HasAuthority, HaveOneAuthority, Homes, IfSome, Ino, Inode, IsMergedInto, IsRootMerge, IsRootSplit, IsSettled, IsSound, IsSplitInto, IsSubtrees, IsTable, LoseDirectory, Makes, MatchBool, MayChange, MayGo, MayMove, None, Option, Roots, SettleMove, Shape, Some, Spot, State, TakesOver, add, ap, dentry_at, dir_or_not, false, home_at, is_dir_kind, may_come, may_drop, move, moved_home, moved_known, refl, remove, removes, rows_but, set, shown_tree, subst, sym, true, with_dir, with_file, with_home, ℕ, ⊎_elim, ◌∙◌, ◌≡◌}
 use Rattle.std.specs.FinMap as map
-use Rattle.ranked_tree.proofs.MoveLaws.{relocates, replaces}
-use Rattle.ranked_tree.proofs.ChangedTables.{TablesAre, added_tables, grown_tables, moved_tables, removed_tables, set_tables}
+use Rattle.ranked_tree.proofs.MoveLaws.{if_dir, relocates, replaces}
+use Rattle.ranked_tree.proofs.ChangedTables.{added_tables, grown_tables, moved_tables, removed_tables, set_tables}
 use Rattle.ranked_tree.proofs.RootLaws.{IsSoundChange, child_authority, divided_soundly, grown, lost, merged_authority, merged_soundly, rehomed, sound_on, unchanged}
-
--- the same of equal tables
-at_table : (before after : Roots) (homes now there : Homes) (covers later under : Covers) → now ≡ there → later ≡ under → IsSoundChange before after homes there covers under → IsSoundChange before after homes now covers later
-at_table before after homes now there covers later under same alike sound =
-    subst (λ (h : Homes). IsSoundChange before after homes h covers later) (sym same) (subst (λ (c : Covers). IsSoundChange before after homes there covers c) (sym alike) sound)
 
 -- a directory went, or none did
 lose : (before after : Roots) (homes : Homes) (covers : Covers) (went : Option Ino) → IsTable homes covers → IsSubtrees before homes covers → LoseDirectory before after went → IfSome went (λ (dir : Ino). MayGo homes dir.0)
@@ -18,15 +13,8 @@ lose before after homes covers (Some dir) table valid gone may = lost before aft
 
 -- a directory that a removal takes away may go
 pub removable : (old : State) (spot : Spot) (went : Option Ino) → IsSound old → MayChange (shown_tree old) old.covers (removes spot went) → IfSome went (λ (dir : Ino). MayGo old.homes dir.0)
-removable old spot went sound may = subst (λ (d : Option Ino). IfSome d (λ (dir : Ino). MayGo old.homes dir.0)) (sym may.carries.gone) (go (map.get (shown_tree old) (dentry_at spot)) refl)
-  where
-    at : (i : Inode) (b : Bool) → is_dir_kind i.kind ≡ b → map.get (shown_tree old) (dentry_at spot) ≡ Some i → IfSome (cond b (Some i.ino) None) (λ (dir : Ino). MayGo old.homes dir.0)
-    at i true kinded is = may_drop (shown_tree old) old.homes (dentry_at spot) (Some i) is sound.tabled may.takes i refl kinded
-    at i false kinded is = tt
-
-    go : (found : Option Inode) → map.get (shown_tree old) (dentry_at spot) ≡ found → IfSome (directory_at found) (λ (dir : Ino). MayGo old.homes dir.0)
-    go None is = tt
-    go (Some i) is = at i (is_dir_kind i.kind) refl is
+removable old spot went sound may = subst (λ (d : Option Ino). IfSome d (λ (dir : Ino). MayGo old.homes dir.0)) (sym may.carries.gone)
+    (if_dir _ (map.get (shown_tree old) (dentry_at spot)) (λ i is kinded. may_drop (shown_tree old) old.homes (dentry_at spot) (Some i) is sound.tabled may.takes i refl kinded))
 
 -- what moves has its home there
 module _ (old : State) (before settled : Roots) (to : Dentry) (inode : Inode) (sound : IsSound old) (valid : AreRoots old before) (may : is_dir_kind inode.kind ≡ true → MayMove old.homes inode.ino.0 (home_at to)) where
@@ -34,106 +22,30 @@ module _ (old : State) (before settled : Roots) (to : Dentry) (inode : Inode) (s
   moves settles = go (is_dir_kind inode.kind) refl settles
     where
       go : (b : Bool) → is_dir_kind inode.kind ≡ b → MatchBool b (IsSettled before settled old.homes old.covers inode.ino.0 (home_at to)) (settled ≡ before) → IsSoundChange before settled old.homes (with_home old.homes to inode) old.covers old.covers
-      go true kinded its =
-          at_table before settled old.homes (with_home old.homes to inode) (map.insert old.homes inode.ino.0 (home_at to)) old.covers old.covers old.covers (with_dir old.homes to inode kinded) refl
-          (rehomed before settled old.homes old.covers sound.table valid inode.ino.0 (home_at to) its (may kinded))
-      go false kinded same =
-          at_table before settled old.homes (with_home old.homes to inode) old.homes old.covers old.covers old.covers (with_file old.homes to inode kinded) refl
-          (unchanged before settled old.homes old.covers sound.table valid same)
+      go true kinded its = rw (with_dir old.homes to inode kinded) (rehomed before settled old.homes old.covers sound.table valid inode.ino.0 (home_at to) its (may kinded))
+      go false kinded same = rw (with_file old.homes to inode kinded) (unchanged before settled old.homes old.covers sound.table valid same)
 
 -- every change keeps the authority of every leaf that stays
-soundly : (change : Change) → Shape change → (old new : State) (before after : Roots) → IsSound old → MayChange (shown_tree old) old.covers change → Makes change old new → FollowChange change old before after → AreRoots old before
+pub changes_soundly : (change : Change) → Shape change → (old new : State) (before after : Roots) → IsSound old → MayChange (shown_tree old) old.covers change → Makes change old new → FollowChange change old before after → AreRoots old before
     → IsSoundChange before after old.homes new.homes old.covers new.covers
-soundly _ (set spot inode) old new before after sound may makes follow valid =
-    let tables = set_tables old new spot inode makes in
-    at_table before after old.homes new.homes old.homes old.covers new.covers old.covers tables.0 tables.1 (unchanged before after old.homes old.covers sound.table valid (follow.2 ∙ follow.1))
-soundly _ (add spot inode) old new before after sound may makes follow valid = go (is_dir_kind inode.kind) refl
-  where
-    go : (b : Bool) → is_dir_kind inode.kind ≡ b → IsSoundChange before after old.homes new.homes old.covers new.covers
-    go true kinded =
-        let tables = grown_tables old new spot inode kinded makes in
-        at_table before after old.homes new.homes (map.insert old.homes inode.ino.0 (home_at (dentry_at spot))) old.covers new.covers old.covers tables.0 tables.1
-        (grown before after old.homes old.covers sound.table valid inode.ino.0 (home_at (dentry_at spot)) (may_come (shown_tree old) old.homes (dentry_at spot) inode sound.tabled may.takes) (follow.2 ∙ follow.1))
-    go false kinded =
-        let tables = added_tables old new spot inode kinded makes in
-        at_table before after old.homes new.homes old.homes old.covers new.covers old.covers tables.0 tables.1 (unchanged before after old.homes old.covers sound.table valid (follow.2 ∙ follow.1))
-soundly _ (remove spot went) old new before after sound may makes follow valid =
+changes_soundly _ (set spot inode) old new before after sound may makes follow valid = let tables = set_tables old new spot inode makes in rw (tables.0, tables.1) (unchanged before after old.homes old.covers sound.table valid (follow.2 ∙ follow.1))
+changes_soundly _ (add spot inode) old new before after sound may makes follow valid =
+    ⊎_elim (λ kinded.
+    let tables = grown_tables old new spot inode kinded makes in
+    rw (tables.0, tables.1) (grown before after old.homes old.covers sound.table valid inode.ino.0 (home_at (dentry_at spot)) (may_come (shown_tree old) old.homes (dentry_at spot) inode sound.tabled may.takes) (follow.2 ∙ follow.1)))
+    (λ kinded. let tables = added_tables old new spot inode kinded makes in rw (tables.0, tables.1) (unchanged before after old.homes old.covers sound.table valid (follow.2 ∙ follow.1))) (dir_or_not inode)
+changes_soundly _ (remove spot went) old new before after sound may makes follow valid =
     let tables = removed_tables old new spot went makes in
-    at_table before after old.homes new.homes (rows_but old.homes went) old.covers new.covers (rows_but old.covers went) tables.0 tables.1
-    (lose before after old.homes old.covers went sound.table valid (subst (λ (r : Roots). LoseDirectory r after went) follow.1 follow.2) (removable old spot went sound may))
-soundly _ (move source target inode went) old new before after sound may makes follow valid =
-    at_table before after old.homes new.homes (rows_but moved_homes went) old.covers new.covers (rows_but old.covers went) tables.0 tables.1 (
-    sound_on before settled after old.homes moved_homes (rows_but moved_homes went) old.covers old.covers (rows_but old.covers went) first
-    (lose settled after moved_homes old.covers went table first.valid follow.2 (replaces old sound source target inode went may))
-    (λ leaf was is. record { known = moved_known old.homes old.covers sound.table (dentry_at target) inode settles_may leaf.0.0 ∙ was.known; stands = was.stands })
-    )
-  where
-    settled : Roots
-    settled = follow.0
-
-    moved_homes : Homes
-    moved_homes = with_home old.homes (dentry_at target) inode
-
-    settles_may : is_dir_kind inode.kind ≡ true → MayMove old.homes inode.ino.0 (home_at (dentry_at target))
-    settles_may = relocates old sound source target inode went may
-
-    settles : SettleMove old before settled (dentry_at target) inode
-    settles = follow.1
-
-    first : IsSoundChange before settled old.homes moved_homes old.covers old.covers
-    first = moves old before settled (dentry_at target) inode sound valid settles_may settles
-
-    table : IsTable moved_homes old.covers
-    table = moved_home old.homes old.covers sound.table (dentry_at target) inode settles_may
-
-    tables : TablesAre new (rows_but moved_homes went) (rows_but old.covers went)
-    tables = moved_tables old new source target inode went makes
-
-pub changes_soundly : (change : Change) (old new : State) (before after : Roots) → IsSound old → MayChange (shown_tree old) old.covers change → Makes change old new → FollowChange change old before after → AreRoots old before
-    → IsSoundChange before after old.homes new.homes old.covers new.covers
-changes_soundly change old new before after sound may makes follow valid = soundly change (shape_of (shown_tree old) old.covers change may) old new before after sound may makes follow valid
-
--- ---- what is about to move
-
-module _ (tree : State) where
-  -- a directory that moves may have its home there
-  pub moves_there : (change : Change) → IsSound tree → MayChange (shown_tree tree) tree.covers change → (put : Spot × Inode) → change.puts ≡ Some put → IfSome (dir_moving change) (λ (dir : Ino). MayMove tree.homes dir.0 (home_at (dentry_at put.0)))
-  moves_there change sound may = go change (shape_of (shown_tree tree) tree.covers change may) may
-    where
-      go : (made : Change) → Shape made → MayChange (shown_tree tree) tree.covers made → (put : Spot × Inode) → made.puts ≡ Some put → IfSome (dir_moving made) (λ (dir : Ino). MayMove tree.homes dir.0 (home_at (dentry_at put.0)))
-      go _ (add spot inode) able put is = tt
-      go _ (set spot inode) able put is = tt
-      go _ (remove spot went) able put is = tt
-      go _ (move source target inode went) able put is =
-          subst (λ (p : Spot × Inode). IfSome (directory_at (Some inode)) (λ (dir : Ino). MayMove tree.homes dir.0 (home_at (dentry_at p.0)))) (same_Some (target, inode) put is) (by (is_dir_kind inode.kind) refl)
-        where
-          by : (b : Bool) → is_dir_kind inode.kind ≡ b → IfSome (cond b (Some inode.ino) None) (λ (dir : Ino). MayMove tree.homes dir.0 (home_at (dentry_at target)))
-          by true kinded = relocates tree sound source target inode went able kinded
-          by false kinded = tt
-
-  -- it is settled, where it is a directory
-  pub settled_at : (change : Change) (put : Spot × Inode) → change.puts ≡ Some put → (before after : Roots) → MatchOption (dir_moving change) (after ≡ before) (λ (dir : Ino). IsSettled before after tree.homes tree.covers dir.0 (home_at (dentry_at put.0))) → SettleMoving change tree before after
-  settled_at change put is before after = go change.takes change.puts is
-    where
-      Told : Spot → Option Ino → Type 0
-      Told to d = MatchOption d (after ≡ before) (λ (dir : Ino). IsSettled before after tree.homes tree.covers dir.0 (home_at (dentry_at to)))
-
-      go : (takes : Option Spot) (puts : Option (Spot × Inode)) → puts ≡ Some put → Told put.0 (dir_moved takes puts) → SettleBy takes puts tree before after
-      go None puts same told = told
-      go (Some spot) None same told = told
-      go (Some spot) (Some to) same told = by (is_dir_kind to.1.kind) (subst (λ (p : Spot × Inode). Told p.0 (directory_at (Some to.1))) (sym (same_Some to put same)) told)
-        where
-          by : (b : Bool) → Told to.0 (cond b (Some to.1.ino) None) → MatchBool b (IsSettled before after tree.homes tree.covers to.1.ino.0 (home_at (dentry_at to.0))) (after ≡ before)
-          by true its = its
-          by false its = its
-
-  pub settled_none : (change : Change) → change.puts ≡ None → (before after : Roots) → after ≡ before → SettleMoving change tree before after
-  settled_none change is before after = go change.takes change.puts is
-    where
-      go : (takes : Option Spot) (puts : Option (Spot × Inode)) → puts ≡ None → after ≡ before → SettleBy takes puts tree before after
-      go None puts same roots = roots
-      go (Some spot) None same roots = roots
-      go (Some spot) (Some to) same roots = let clash : Some to ≡ None = same in cc
+    rw (tables.0, tables.1) (lose before after old.homes old.covers went sound.table valid (subst (λ (r : Roots). LoseDirectory r after went) follow.1 follow.2) (removable old spot went sound may))
+changes_soundly _ (move source target inode went) old new before after sound may makes follow valid =
+    let settled = follow.0 in
+    let moved_homes = with_home old.homes (dentry_at target) inode in
+    let able = relocates old sound source target inode went may in
+    let first = moves old before settled (dentry_at target) inode sound valid able follow.1 in
+    let tables = moved_tables old new source target inode went makes in
+    rw (tables.0, tables.1) (sound_on before settled after old.homes moved_homes (rows_but moved_homes went) old.covers old.covers (rows_but old.covers went) first
+    (lose settled after moved_homes old.covers went (moved_home old.homes old.covers sound.table (dentry_at target) inode able) first.valid follow.2 (replaces old sound source target inode went may))
+    (λ leaf was is. record { known = moved_known old.homes old.covers sound.table (dentry_at target) inode able leaf.0.0 ∙ was.known; stands = was.stands }))
 
 -- ---- splits and merges
 
@@ -141,8 +53,7 @@ module _ (old new : State) (before after : Roots) (sound : IsSound old) (valid :
   -- a leaf was split, with its root, if it is one
   module _ (nb : ℕ) (split : IsSplitInto old new dir frag nb) (roots : IsRootSplit before after dir.0 frag nb) where
     pub split_soundly : IsSoundChange before after old.homes new.homes old.covers new.covers
-    split_soundly =
-        at_table before after old.homes new.homes old.homes old.covers new.covers new.covers (ap (λ (s : State). s.homes) split.regrouped.left) refl
+    split_soundly = rw (ap (λ (s : State). s.homes) split.regrouped.left)
         (divided_soundly before after old.homes old.covers sound.table valid dir.0 frag nb split.cover new.covers roots split.divided split.can.stands split.can.fits split.regrouped.whole (ap (λ (s : State). s.covers) split.regrouped.left))
 
     pub children_have : GivesToChildren old new before after dir frag nb
@@ -154,8 +65,7 @@ module _ (old new : State) (before after : Roots) (sound : IsSound old) (valid :
   -- leaves were merged that had one authority
   module _ (merge : IsMergedInto old new dir frag) (roots : IsRootMerge before after dir.0 frag) (one : HaveOneAuthority before old.homes old.covers dir.0 frag) where
     pub merge_soundly : IsSoundChange before after old.homes new.homes old.covers new.covers
-    merge_soundly =
-        at_table before after old.homes new.homes old.homes old.covers new.covers new.covers (ap (λ (s : State). s.homes) merge.regrouped.left) refl
+    merge_soundly = rw (ap (λ (s : State). s.homes) merge.regrouped.left)
         (merged_soundly before after old.homes old.covers sound.table valid dir.0 frag merge.cover new.covers roots one merge.can merge.merged merge.regrouped.whole (ap (λ (s : State). s.covers) merge.regrouped.left))
 
     pub takes_over : TakesOver old new before after dir frag

@@ -1,13 +1,10 @@
-use Rattle.ranked_tree.proofs.Common.{Covers, HasAuthority, Homes, IsSubtrees, Roots, Rules, empty_of_len, leaf_of, rules, state_of, subst, sym, ◌≡◌}
+use Rattle.ranked_tree.proofs.Common.{Roots, Rules, empty_of_len, leaf_of, rules, state_of, subst, ◌≡◌}
 use Rattle.std.specs.FinMap as map
 use Rattle.ranked_tree.proofs.StandLaws.{none_stand}
-use Rattle.ranked_tree.proofs.SubtreeLaws.{over}
 use Rattle.ranked_tree.proofs.authorities.authority_at.Goals as goal
 
 pub returns : goal.returns
-returns g c =
-    over (λ (h : Homes) (cs : Covers). HasAuthority c.args.regions.now.roots.roots h cs (leaf_of c.args.at.now) c.authority.result)
-    c.args.tree.now.homes c.dirs.result.now.homes c.args.tree.now.covers c.dirs.result.now.trees (sym c.dirs.ensures.homes) (sym c.dirs.ensures.trees) c.authority.ensures
+returns g c = rw (← c.dirs.ensures.homes, ← c.dirs.ensures.trees) c.authority.ensures
 
 pub returns-then-len-eq0 : goal.returns-then-len-eq0
 returns-then-len-eq0 g c =
@@ -15,6 +12,4 @@ returns-then-len-eq0 g c =
     subst (λ (r : Roots). Rules (state_of c.args.tree.now) r (leaf_of c.args.at.now) c.args.at.now.rank) (none_stand c.args.regions.now.exports c.args.regions.now.roots.roots (empty_of_len c.args.regions.now.exports none)) c.requires.held
 
 pub authority-requires-clause-valid : goal.authority-requires-clause-valid
-authority-requires-clause-valid g c =
-    over (λ (h : Homes) (cs : Covers). IsSubtrees c.args.regions.now.roots.roots h cs)
-    c.dirs.result.now.homes c.args.tree.now.homes c.dirs.result.now.trees c.args.tree.now.covers c.dirs.ensures.homes c.dirs.ensures.trees c.requires.valid
+authority-requires-clause-valid g c = rw (c.dirs.ensures.homes, c.dirs.ensures.trees) c.requires.valid

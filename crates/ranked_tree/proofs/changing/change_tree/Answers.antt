@@ -1,23 +1,20 @@
-use Rattle.ranked_tree.proofs.Common.{Covers, EndsWith, Err, Fragment, IfSome, Ino, IsNamedIn, IsOwned, IsSome, LacksToMake, List, LoseDirectory, NoneEnds, Option, Roots, Some, ap, came_cap, came_ranks, faults_in, held_in, holding, inl, inr, keeps_itself, keeps_refused, leaves_of, length, reads_keeps, reads_state, refl, state_of, subst, sym, ◌∙◌, ◌≡◌, ◌≤◌}
+use Rattle.ranked_tree.proofs.Common.{Covers, EndsWith, Err, FollowChange, Fragment, IfSome, Ino, IsNamedIn, IsSome, LacksToMake, List, LoseDirectory, NoneEnds, Option, Roots, Some, ap, came_cap, came_ranks, faults_in, held_in, inl, inr, keeps_itself, keeps_refused, leaves_of, length, reads_keeps, reads_state, refl, state_of, subst, sym, ◌∙◌, ◌≡◌, ◌≤◌}
 use Rattle.dentry_cache.specs.Reads.Reads.{stays}
 use Rattle.ranked_tree.proofs.AskLaws.{told_change}
 use Rattle.ranked_tree.proofs.CameForLaws.{changed_held, whole_came}
-use Rattle.ranked_tree.proofs.DividedLaws.{change_keeps_roots, change_owned, change_stands}
+use Rattle.ranked_tree.proofs.DividedLaws.{change_divided}
 use Rattle.ranked_tree.proofs.HeldLaws.{owned_reads}
 use Rattle.ranked_tree.proofs.HolderLaws.{hold_each, named_held}
 use Rattle.ranked_tree.proofs.ReadsForLaws.{reads_change}
 use Rattle.ranked_tree.proofs.RenameLaws.{Settles, leaves_stay, room_still, settles}
-use Rattle.ranked_tree.proofs.StandLaws.{stand_undone}
+use Rattle.ranked_tree.proofs.StandLaws.{undone}
 use Rattle.ranked_tree.proofs.changing.change_tree.Goals as goal
 
 pub returns-in-Err-clause-changed : goal.returns-in-Err-clause-changed
 returns-in-Err-clause-changed g c = (keeps_refused c.args.tree.now c.args.tree.now c.in-Err.refusal (ap faults_in c.in-Err.ensures.refused) (keeps_itself c.args.tree.now), stays, inl c.in-Err.ensures.refused)
 
 pub returns-in-Err-clause-divided : goal.returns-in-Err-clause-divided
-returns-in-Err-clause-divided g c = record {
-  owned = subst (IsOwned c.args.tree.now) (sym (ap (λ (r : Roots). holding c.args.regions.now.exports r) c.reserve_lost.ensures.same)) c.requires.divided.owned;
-  stand = stand_undone c.args.tree.now c.args.tree.now c.args.regions.now.roots c.reserve_lost.new.roots c.args.regions.now.exports c.requires.divided.stand refl refl c.reserve_lost.ensures.same c.reserve_lost.ensures.promises;
-}
+returns-in-Err-clause-divided g c = undone c.args.tree.now c.args.tree.now c.args.regions.now c.reserve_lost.new.roots c.requires.divided c.requires.divided.owned refl refl c.reserve_lost.ensures.same c.reserve_lost.ensures.promises
 
 pub change-requires-clause-holds : goal.change-requires-clause-holds
 change-requires-clause-holds g c = hold_each (state_of c.args.tree.now) c.requires.divided.owned.sound.sound (held_in c.args.regions.now) c.args.tree.now.caches c.requires.divided.owned.held c.args.change c.requires.held
@@ -37,12 +34,11 @@ pub returns-in-Err-change-clause-cap : goal.returns-in-Err-change-clause-cap
 returns-in-Err-change-clause-cap g c = (returns-in-Err-change-clause-changed g c).0.cap
 
 pub returns-in-Err-change-clause-divided : goal.returns-in-Err-change-clause-divided
-returns-in-Err-change-clause-divided g c = record {
-  owned = subst (IsOwned c.change.new.self) (sym (ap (λ (r : Roots). holding c.args.regions.now.exports r) c.reserve_lost.ensures.same))
-      (owned_reads (IsNamedIn c.args.change) NoneEnds c.args.tree.now c.change.new.self (held_in c.args.regions.now) c.in-Err-change.ensures.changed.0 c.in-Err-change.ensures.sound
-      (named_held (state_of c.args.tree.now) c.requires.divided.owned.sound.sound (held_in c.args.regions.now) c.args.change c.requires.may c.requires.held) c.requires.divided.owned);
-  stand = stand_undone c.args.tree.now c.change.new.self c.args.regions.now.roots c.reserve_lost.new.roots c.args.regions.now.exports c.requires.divided.stand (reads_state (IsNamedIn c.args.change) NoneEnds c.args.tree.now c.change.new.self c.in-Err-change.ensures.changed.0) (returns-in-Err-change-clause-count g c) c.reserve_lost.ensures.same c.reserve_lost.ensures.promises;
-}
+returns-in-Err-change-clause-divided g c =
+    undone c.args.tree.now c.change.new.self c.args.regions.now c.reserve_lost.new.roots c.requires.divided
+    (owned_reads (IsNamedIn c.args.change) NoneEnds c.args.tree.now c.change.new.self (held_in c.args.regions.now) c.in-Err-change.ensures.changed.0 c.in-Err-change.ensures.sound
+    (named_held (state_of c.args.tree.now) c.requires.divided.owned.sound.sound (held_in c.args.regions.now) c.args.change c.requires.may c.requires.held) c.requires.divided.owned)
+    (reads_state (IsNamedIn c.args.change) NoneEnds c.args.tree.now c.change.new.self c.in-Err-change.ensures.changed.0) (returns-in-Err-change-clause-count g c) c.reserve_lost.ensures.same c.reserve_lost.ensures.promises
 
 -- where it is made, a directory that moved has the leaves that it had
 pub settle-requires : goal.settle-requires
@@ -55,37 +51,28 @@ settle-requires g c =
           (λ dir same fits some. subst (λ (fs : List Fragment). length fs ≤ c.reserve_lost.new.roots.room) same (fits some)) stay has);
     }
 
-pub returns-clause-changed : goal.returns-clause-changed
-returns-clause-changed g c = changed_held c.args.tree.now c.change.new.self (held_in c.args.regions.now) c.args.change c.requires.divided.owned.sound.sound c.in_default-change.ensures.sound.sound c.requires.may c.requires.held c.in_default-change.ensures.changed
-
-pub returns-clause-followed : goal.returns-clause-followed
-returns-clause-followed g c =
+pub returns : goal.returns
+returns g c =
+    let its = c.in_default-change.ensures in
+    let sound = c.requires.divided.owned.sound.sound in
+    let came = whole_came c.args.change c.args.tree.now c.change.new.self its.changed in
+    let count = came_ranks (IsNamedIn c.args.change) (EndsWith c.args.change) c.args.tree.now.caches c.change.new.self.caches came in
     let told = subst (λ (d : Option Ino). Settles d c.change.new.self.covers c.args.regions.now.roots.roots c.settle.new.roots.roots c.lost_rank-lost.result) c.moving-moves.ensures
     (subst (λ (cs : Covers). Settles c.moving-moves.result cs c.args.regions.now.roots.roots c.settle.new.roots.roots c.lost_rank-lost.result) c.dirs-2.ensures.trees
-    (subst (λ (r : Roots). Settles c.moving-moves.result c.dirs-2.result.now.trees r c.settle.new.roots.roots c.lost_rank-lost.result) c.reserve_lost.ensures.same c.settle.ensures.settled)) in (
-      (
-        c.settle.new.roots.roots,
-        settles (state_of c.args.tree.now) (state_of c.change.new.self) c.requires.divided.owned.sound.sound c.args.change c.requires.may c.in_default-change.ensures.changed.right c.args.regions.now.roots.roots c.settle.new.roots.roots c.lost_rank-lost.result c.lost_rank-lost.ensures told,
-        c.lose.ensures.roots,
-      ),
-      subst (λ (p : Roots). LoseDirectory p c.lose.new.roots.promises c.args.change.gone) (c.settle.ensures.promises ∙ c.reserve_lost.ensures.promises) c.lose.ensures.promises,
-    )
-
-pub returns-clause-count : goal.returns-clause-count
-returns-clause-count g c = came_ranks (IsNamedIn c.args.change) (EndsWith c.args.change) c.args.tree.now.caches c.change.new.self.caches (whole_came c.args.change c.args.tree.now c.change.new.self c.in_default-change.ensures.changed)
-
-pub returns-clause-cap : goal.returns-clause-cap
-returns-clause-cap g c = came_cap (IsNamedIn c.args.change) (EndsWith c.args.change) c.args.tree.now.caches c.change.new.self.caches (whole_came c.args.change c.args.tree.now c.change.new.self c.in_default-change.ensures.changed)
-
-pub returns-clause-kept : goal.returns-clause-kept
-returns-clause-kept g c =
-    change_keeps_roots c.args.tree.now c.change.new.self c.args.regions.now.roots c.lose.new.roots c.args.regions.now.exports c.requires.divided.owned c.requires.divided.stand c.in_default-change.ensures.sound (returns-clause-count g c) c.args.change c.requires.held c.requires.may c.in_default-change.ensures.changed.made
-    (returns-clause-followed g c).0 (returns-clause-followed g c).1 c.requires.thawed (whole_came c.args.change c.args.tree.now c.change.new.self c.in_default-change.ensures.changed)
-
-pub returns-clause-divided : goal.returns-clause-divided
-returns-clause-divided g c = record {
-  owned = change_owned c.args.tree.now c.change.new.self c.args.regions.now.roots c.lose.new.roots c.args.regions.now.exports c.requires.divided.owned c.requires.divided.stand c.in_default-change.ensures.sound (returns-clause-count g c) c.args.change c.requires.held c.requires.may c.in_default-change.ensures.changed.made
-      (returns-clause-followed g c).0 (returns-clause-followed g c).1 c.requires.thawed (whole_came c.args.change c.args.tree.now c.change.new.self c.in_default-change.ensures.changed);
-  stand = change_stands c.args.tree.now c.change.new.self c.args.regions.now.roots c.lose.new.roots c.args.regions.now.exports c.requires.divided.owned c.requires.divided.stand c.in_default-change.ensures.sound (returns-clause-count g c) c.args.change c.requires.held c.requires.may c.in_default-change.ensures.changed.made
-      (returns-clause-followed g c).0 (returns-clause-followed g c).1 c.requires.thawed (whole_came c.args.change c.args.tree.now c.change.new.self c.in_default-change.ensures.changed);
-}
+    (subst (λ (r : Roots). Settles c.moving-moves.result c.dirs-2.result.now.trees r c.settle.new.roots.roots c.lost_rank-lost.result) c.reserve_lost.ensures.same c.settle.ensures.settled)) in
+    let roots : FollowChange c.args.change (state_of c.args.tree.now) c.args.regions.now.roots.roots c.lose.new.roots.roots = (
+      c.settle.new.roots.roots,
+      settles (state_of c.args.tree.now) (state_of c.change.new.self) sound c.args.change c.requires.may its.changed.right c.args.regions.now.roots.roots c.settle.new.roots.roots c.lost_rank-lost.result c.lost_rank-lost.ensures told,
+      c.lose.ensures.roots,
+    ) in
+    let promises = subst (λ (p : Roots). LoseDirectory p c.lose.new.roots.promises c.args.change.gone) (c.settle.ensures.promises ∙ c.reserve_lost.ensures.promises) c.lose.ensures.promises in
+    let kept = change_divided c.args.tree.now c.change.new.self c.args.regions.now c.lose.new.roots c.requires.divided its.sound count c.args.change c.requires.held c.requires.may its.changed.made roots promises c.requires.thawed came in
+    record {
+      changed = changed_held c.args.tree.now c.change.new.self (held_in c.args.regions.now) c.args.change sound its.sound.sound c.requires.may c.requires.held its.changed;
+      followed = (roots, promises);
+      kept = kept.0;
+      count = count;
+      cap = came_cap (IsNamedIn c.args.change) (EndsWith c.args.change) c.args.tree.now.caches c.change.new.self.caches came;
+      counted = its.counted;
+      divided = kept.1;
+    }

@@ -1,6 +1,6 @@
-use Rattle.ranked_tree.proofs.Common.{IsLive, IsThat, Job, NoneEnds, Rules, came_cap, came_ranks, held_in, inl, refl, rules, state_of, stays, subst}
+use Rattle.ranked_tree.proofs.Common.{IsLive, Job, Rules, held_in, inl, refl, rules, state_of, stays, subst}
 use Rattle.mdcache.specs.Commits.{leaf_of}
-use Rattle.ranked_tree.proofs.HeldLaws.{is_that, may_hold, owned_came, that_came}
+use Rattle.ranked_tree.proofs.HeldLaws.{may_hold, used_at}
 use Rattle.ranked_tree.proofs.StandLaws.{divided_still, jobs_ended}
 use Rattle.ranked_tree.proofs.Stays.{ended, none_stands}
 use Rattle.ranked_tree.proofs.commits.end.Goals as goal
@@ -16,26 +16,22 @@ end-requires-clause-holds g c =
     = subst (λ (job : Job). Rules (state_of c.args.tree.now) (held_in c.args.regions.now) (leaf_of job) c.in-Some.rank) c.job-job.ensures.job c.in-Some.ensures.1 in
     may_hold (state_of c.args.tree.now) c.args.tree.now.caches (held_in c.args.regions.now) c.requires.divided.owned.held (leaf_of c.args.encoded.now.job) c.in-Some.rank rules_here
 
-pub returns-clause-count : goal.returns-clause-count
-returns-clause-count g c = came_ranks (IsThat c.in-Some.rank.0 (leaf_of c.args.encoded.now.job)) NoneEnds c.args.tree.now.caches c.end.new.self.caches c.end.ensures.came
-
-pub returns-clause-cap : goal.returns-clause-cap
-returns-clause-cap g c = came_cap (IsThat c.in-Some.rank.0 (leaf_of c.args.encoded.now.job)) NoneEnds c.args.tree.now.caches c.end.new.self.caches c.end.ensures.came
-
-pub returns-clause-divided : goal.returns-clause-divided
-returns-clause-divided g c =
-    let stay = ended (state_of c.args.tree.now) (state_of c.end.new.self) c.args.tree.now.faults c.end.new.self.faults c.args.encoded.now.job c.end.result c.end.ensures.ended in
-    let rules_here : Rules (state_of c.args.tree.now) (held_in c.args.regions.now) (leaf_of c.args.encoded.now.job) c.in-Some.rank
-    = subst (λ (job : Job). Rules (state_of c.args.tree.now) (held_in c.args.regions.now) (leaf_of job) c.in-Some.rank) c.job-job.ensures.job c.in-Some.ensures.1 in
-    divided_still c.args.tree.now c.end.new.self c.args.regions.now c.requires.divided
-    (owned_came (IsThat c.in-Some.rank.0 (leaf_of c.args.encoded.now.job)) NoneEnds c.args.tree.now c.end.new.self (held_in c.args.regions.now) c.end.ensures.came c.end.ensures.sound stay.0 stay.1 (λ r q that live. is_that (state_of c.args.tree.now) (held_in c.args.regions.now) (leaf_of c.args.encoded.now.job) c.in-Some.rank rules_here r q that) c.requires.divided.owned)
-    (returns-clause-count g c) (jobs_ended (state_of c.args.tree.now) (state_of c.end.new.self) c.args.tree.now.faults c.end.new.self.faults c.args.encoded.now.job c.end.result c.end.ensures.ended) stay.0 stay.1
-
 pub returns-in_default-clause-came : goal.returns-in_default-clause-came
 returns-in_default-clause-came g c = stays
 
-pub returns-clause-came : goal.returns-clause-came
-returns-clause-came g c =
-    let rules_here : Rules (state_of c.args.tree.now) (held_in c.args.regions.now) (leaf_of c.args.encoded.now.job) c.in-Some.rank
-    = subst (λ (job : Job). Rules (state_of c.args.tree.now) (held_in c.args.regions.now) (leaf_of job) c.in-Some.rank) c.job-job.ensures.job c.in-Some.ensures.1 in
-    that_came (state_of c.args.tree.now) (held_in c.args.regions.now) (leaf_of c.args.encoded.now.job) c.in-Some.rank rules_here c.args.tree.now.caches c.end.new.self.caches c.end.ensures.came
+pub returns : goal.returns
+returns g c =
+    let its = c.end.ensures in
+    let job = c.args.encoded.now.job in
+    let stay = ended (state_of c.args.tree.now) (state_of c.end.new.self) c.args.tree.now.faults c.end.new.self.faults job c.end.result its.ended in
+    let rules_here = subst (λ (job : Job). Rules (state_of c.args.tree.now) (held_in c.args.regions.now) (leaf_of job) c.in-Some.rank) c.job-job.ensures.job c.in-Some.ensures.1 in
+    let used = used_at c.args.tree.now c.end.new.self (held_in c.args.regions.now) (leaf_of job) c.in-Some.rank c.requires.divided.owned rules_here its.came its.sound stay.0 stay.1 in
+    record {
+      ended = its.ended;
+      came = used.came;
+      count = used.count;
+      cap = used.cap;
+      counted = its.counted;
+      divided = divided_still c.args.tree.now c.end.new.self c.args.regions.now c.requires.divided used.owned used.count
+          (jobs_ended (state_of c.args.tree.now) (state_of c.end.new.self) c.args.tree.now.faults c.end.new.self.faults job c.end.result its.ended) stay.0 stay.1;
+    }

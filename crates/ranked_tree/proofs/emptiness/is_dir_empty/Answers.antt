@@ -1,6 +1,6 @@
-use Rattle.ranked_tree.proofs.Common.{Fragment, List, ap, has_none, leaves_of, list_all, names_of, refl, state_of, ◌∙◌}
+use Rattle.ranked_tree.proofs.Common.{Fragment, IfOk-weaker, List, ap, has_none, leaves_of, list_all, names_of, refl, state_of, ◌∙◌}
 use Rattle.ranked_tree.proofs.WalkLaws.{told_empty}
-use Rattle.ranked_tree.proofs.AskLaws.{dir_known, leaf_live, map_if_ok}
+use Rattle.ranked_tree.proofs.AskLaws.{dir_known, leaf_live}
 use Rattle.dentry_cache.specs.Reads.Reads.{stays}
 use Rattle.ranked_tree.proofs.emptiness.is_dir_empty.Goals as goal
 
@@ -10,7 +10,7 @@ are_empty-requires-clause-live g c = leaf_live (state_of c.args.tree.now) c.requ
 pub returns-in-Ok-clause-found : goal.returns-in-Ok-clause-found
 returns-in-Ok-clause-found g c =
     let s = (state_of c.args.tree.now) in
-    map_if_ok c.are_empty.result
+    IfOk-weaker c.are_empty.result _ _
     (λ empty is.
     is
     ∙ ap (λ (fs : List Fragment). list_all (λ (f : Fragment). has_none (names_of s.unsaved s.objects (c.args.dir, f))) fs) (c.in-Ok.ensures.leaves ∙ ap (λ t. leaves_of t c.args.dir.0) c.dirs.ensures.trees)

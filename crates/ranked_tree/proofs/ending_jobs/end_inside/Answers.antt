@@ -1,14 +1,12 @@
-use Rattle.ranked_tree.proofs.Common.{Covers, Homes, NearestRoot, Some, inl, inr, refl, rules, sym, ◌≡◌}
-use Rattle.ranked_tree.proofs.SubtreeLaws.{over}
-use Rattle.ranked_tree.proofs.EndedLaws.{found_inside, found_outside}
+use Rattle.ranked_tree.proofs.Common.{Some, inl, inr, refl, rules, subst, ◌≡◌}
+use Rattle.ranked_tree.proofs.EndedLaws.{FindsRoot, found_outside}
 use Rattle.ranked_tree.proofs.ending_jobs.end_inside.Goals as goal
 
 pub returns-then-eq-clause-ended : goal.returns-then-eq-clause-ended
 returns-then-eq-clause-ended g c =
     let same : c.find_root.result ≡ Some c.args.root.now = search rules in
     inl (
-      over (λ (h : Homes) (cs : Covers). NearestRoot c.args.roots.now.roots h cs (c.args.dir, c.args.frag) c.args.root.now) c.args.tree.now.homes c.dirs.result.now.homes c.args.tree.now.covers c.dirs.result.now.trees (sym c.dirs.ensures.homes) (sym c.dirs.ensures.trees)
-          (found_inside c.args.roots.now.roots c.args.root.now c.dirs.result.now.homes c.dirs.result.now.trees (c.args.dir, c.args.frag) c.find_root.result c.find_root.ensures same),
+      rw (← c.dirs.ensures.homes, ← c.dirs.ensures.trees) (subst (FindsRoot c.args.roots.now.roots c.args.root.now c.dirs.result.now.homes c.dirs.result.now.trees (c.args.dir, c.args.frag)) same c.find_root.ensures),
       c.end_job.ensures.state,
     )
 
@@ -17,6 +15,6 @@ returns-else-eq-clause-ended g c =
     let apart : c.find_root.result ≡ Some c.args.root.now → ⊥ = search rules in
     inr (
       λ inside. found_outside c.args.roots.now.roots c.args.root.now c.dirs.result.now.homes c.dirs.result.now.trees (c.args.dir, c.args.frag) c.find_root.result c.find_root.ensures apart
-          (over (λ (h : Homes) (cs : Covers). NearestRoot c.args.roots.now.roots h cs (c.args.dir, c.args.frag) c.args.root.now) c.dirs.result.now.homes c.args.tree.now.homes c.dirs.result.now.trees c.args.tree.now.covers c.dirs.ensures.homes c.dirs.ensures.trees inside),
+          (rw (c.dirs.ensures.homes, c.dirs.ensures.trees) inside),
       refl,
     )

@@ -1,17 +1,12 @@
-use Rattle.ranked_tree.proofs.Common.{Covers, HasAuthority, Homes, IsSubtrees, held_in, state_of, sym}
+use Rattle.ranked_tree.proofs.Common.{held_in, state_of}
 use Rattle.ranked_tree.proofs.HeldLaws.{may_hold}
-use Rattle.ranked_tree.proofs.SubtreeLaws.{over}
 use Rattle.ranked_tree.proofs.holding.holder_of.Goals as goal
 
 pub holder-requires-clause-valid : goal.holder-requires-clause-valid
-holder-requires-clause-valid g c =
-    over (λ (h : Homes) (cs : Covers). IsSubtrees (held_in c.args.regions.now) h cs)
-    c.dirs.result.now.homes c.args.tree.now.homes c.dirs.result.now.trees c.args.tree.now.covers c.dirs.ensures.homes c.dirs.ensures.trees c.requires.owned.valid
+holder-requires-clause-valid g c = rw (c.dirs.ensures.homes, c.dirs.ensures.trees) c.requires.owned.valid
 
 pub returns-clause-rules : goal.returns-clause-rules
-returns-clause-rules g c =
-    over (λ (h : Homes) (cs : Covers). HasAuthority (held_in c.args.regions.now) h cs (c.args.dir, c.args.frag) c.holder.result)
-    c.args.tree.now.homes c.dirs.result.now.homes c.args.tree.now.covers c.dirs.result.now.trees (sym c.dirs.ensures.homes) (sym c.dirs.ensures.trees) c.holder.ensures
+returns-clause-rules g c = rw (← c.dirs.ensures.homes, ← c.dirs.ensures.trees) c.holder.ensures
 
 pub returns-clause-holds : goal.returns-clause-holds
 returns-clause-holds g c = may_hold (state_of c.args.tree.now) c.args.tree.now.caches (held_in c.args.regions.now) c.requires.owned.held (c.args.dir, c.args.frag) c.holder.result (returns-clause-rules g c)

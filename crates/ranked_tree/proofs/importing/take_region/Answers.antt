@@ -1,41 +1,39 @@
-use Rattle.ranked_tree.proofs.Common.{AreCachedOf, IsInRegionOf, IsSpelledBy, RegionLeaves, length, state_of, subst, sym}
-use Rattle.ranked_tree.proofs.ImportLaws.{clean_there, dirty_there, distinct, jobless, may_not, still_divided, took}
+use Rattle.ranked_tree.proofs.Common.{AreCachedOf, IfErr-weaker, IsInRegionOf, IsSpelledBy, RegionLeaves, inl, inr, length, state_of, subst, sym, ⊎_elim, ◌≡◌}
+use Rattle.ranked_tree.proofs.ImportLaws.{may_not, ready, still_divided, took}
 use Rattle.ranked_tree.proofs.importing.take_region.Goals as goal
 
-pub hand_over-requires-clause-cached : goal.hand_over-requires-clause-cached
-hand_over-requires-clause-cached g c =
+pub hand_over-requires : goal.hand_over-requires
+hand_over-requires g c =
     let cached = subst (λ (l : RegionLeaves). AreCachedOf (IsInRegionOf (state_of c.args.tree.now) c.args.regions.now.roots.roots c.args.root.now) c.args.tree.now.caches c.args.export.exporter.0 l) (λ i. record { unclean = sym c.unclean.ensures i; clean = sym c.clean.ensures i }) c.in-Ok.ensures.cached in
-    dirty_there c.args.tree.now c.args.regions.now c.requires.divided c.args.root.now c.args.export c.requires.stands c.requires.sent (record { unclean = c.unclean.result.now; clean = c.clean.result.now }) cached
+    let its = ready c.args.tree.now c.args.regions.now c.requires.divided c.args.root.now c.args.export c.requires.stands c.requires.sent (record { unclean = c.unclean.result.now; clean = c.clean.result.now }) cached in
+    let ranks = c.requires.divided.stand.there c.args.root.now c.args.export c.requires.stands in
+    record {
+      apart = c.requires.ranks.apart;
+      there = ranks.0;
+      other = ranks.1;
+      sound = c.requires.divided.owned.sound;
+      cached = its.unclean;
+      saved = its.clean;
+      once = its.distinct c.in-Ok.ensures.valid;
+      jobless = its.jobless;
+    }
 
-pub hand_over-requires-clause-saved : goal.hand_over-requires-clause-saved
-hand_over-requires-clause-saved g c =
-    let cached = subst (λ (l : RegionLeaves). AreCachedOf (IsInRegionOf (state_of c.args.tree.now) c.args.regions.now.roots.roots c.args.root.now) c.args.tree.now.caches c.args.export.exporter.0 l) (λ i. record { unclean = sym c.unclean.ensures i; clean = sym c.clean.ensures i }) c.in-Ok.ensures.cached in
-    clean_there c.args.tree.now c.args.regions.now c.requires.divided c.args.root.now c.args.export c.requires.stands c.requires.sent (record { unclean = c.unclean.result.now; clean = c.clean.result.now }) cached
-
-pub hand_over-requires-clause-once : goal.hand_over-requires-clause-once
-hand_over-requires-clause-once g c =
-    let cached = subst (λ (l : RegionLeaves). AreCachedOf (IsInRegionOf (state_of c.args.tree.now) c.args.regions.now.roots.roots c.args.root.now) c.args.tree.now.caches c.args.export.exporter.0 l) (λ i. record { unclean = sym c.unclean.ensures i; clean = sym c.clean.ensures i }) c.in-Ok.ensures.cached in
-    distinct c.args.tree.now c.args.regions.now c.requires.divided c.args.root.now c.args.export c.requires.stands c.requires.sent (record { unclean = c.unclean.result.now; clean = c.clean.result.now }) cached c.in-Ok.ensures.valid
-
-pub hand_over-requires-clause-jobless : goal.hand_over-requires-clause-jobless
-hand_over-requires-clause-jobless g c =
-    let cached = subst (λ (l : RegionLeaves). AreCachedOf (IsInRegionOf (state_of c.args.tree.now) c.args.regions.now.roots.roots c.args.root.now) c.args.tree.now.caches c.args.export.exporter.0 l) (λ i. record { unclean = sym c.unclean.ensures i; clean = sym c.clean.ensures i }) c.in-Ok.ensures.cached in
-    jobless c.args.tree.now c.args.regions.now c.requires.divided c.args.root.now c.args.export c.requires.stands c.requires.sent (record { unclean = c.unclean.result.now; clean = c.clean.result.now }) cached
-
-pub returns-in-Ok-clause-taken : goal.returns-in-Ok-clause-taken
-returns-in-Ok-clause-taken g c =
-    let cached = subst (λ (l : RegionLeaves). AreCachedOf (IsInRegionOf (state_of c.args.tree.now) c.args.regions.now.roots.roots c.args.root.now) c.args.tree.now.caches c.args.export.exporter.0 l) (λ i. record { unclean = sym c.unclean.ensures i; clean = sym c.clean.ensures i }) c.in-Ok.ensures.cached in
-    let spelled = subst (λ (l : RegionLeaves). IsSpelledBy (state_of c.args.tree.now) c.args.regions.now.roots.roots c.args.root.now c.args.export c.args.bytes.now (length l.unclean)) (λ i. record { unclean = sym c.unclean.ensures i; clean = sym c.clean.ensures i }) c.in-Ok.ensures.spelled in
-    took c.args.tree.now c.hand_over.new.self c.args.regions.now c.requires.divided c.args.root.now c.args.export c.requires.stands c.requires.sent c.requires.ranks.apart c.args.bytes.now (record { unclean = c.unclean.result.now; clean = c.clean.result.now }) cached c.in-Ok.ensures.valid spelled c.hand_over.result c.hand_over.ensures.handed c.hand_over.ensures.given
-
-pub returns-in-Ok-clause-refused : goal.returns-in-Ok-clause-refused
-returns-in-Ok-clause-refused g c =
-    let cached = subst (λ (l : RegionLeaves). AreCachedOf (IsInRegionOf (state_of c.args.tree.now) c.args.regions.now.roots.roots c.args.root.now) c.args.tree.now.caches c.args.export.exporter.0 l) (λ i. record { unclean = sym c.unclean.ensures i; clean = sym c.clean.ensures i }) c.in-Ok.ensures.cached in
-    let spelled = subst (λ (l : RegionLeaves). IsSpelledBy (state_of c.args.tree.now) c.args.regions.now.roots.roots c.args.root.now c.args.export c.args.bytes.now (length l.unclean)) (λ i. record { unclean = sym c.unclean.ensures i; clean = sym c.clean.ensures i }) c.in-Ok.ensures.spelled in
-    may_not c.args.tree.now c.hand_over.new.self c.args.regions.now c.requires.divided c.args.root.now c.args.export c.requires.stands c.requires.sent c.requires.ranks.apart c.args.bytes.now (record { unclean = c.unclean.result.now; clean = c.clean.result.now }) cached c.in-Ok.ensures.valid spelled c.hand_over.result c.hand_over.ensures.refused
-
-pub returns-in-Ok-clause-still : goal.returns-in-Ok-clause-still
-returns-in-Ok-clause-still g c =
-    let cached = subst (λ (l : RegionLeaves). AreCachedOf (IsInRegionOf (state_of c.args.tree.now) c.args.regions.now.roots.roots c.args.root.now) c.args.tree.now.caches c.args.export.exporter.0 l) (λ i. record { unclean = sym c.unclean.ensures i; clean = sym c.clean.ensures i }) c.in-Ok.ensures.cached in
-    let spelled = subst (λ (l : RegionLeaves). IsSpelledBy (state_of c.args.tree.now) c.args.regions.now.roots.roots c.args.root.now c.args.export c.args.bytes.now (length l.unclean)) (λ i. record { unclean = sym c.unclean.ensures i; clean = sym c.clean.ensures i }) c.in-Ok.ensures.spelled in
-    still_divided c.args.tree.now c.hand_over.new.self c.args.regions.now c.requires.divided c.args.root.now c.args.export c.requires.stands c.requires.sent c.requires.ranks.apart c.args.bytes.now (record { unclean = c.unclean.result.now; clean = c.clean.result.now }) cached c.in-Ok.ensures.valid spelled c.hand_over.result c.hand_over.ensures.refused c.hand_over.ensures.left c.hand_over.ensures.count c.hand_over.ensures.sound
+pub returns-in-Ok : goal.returns-in-Ok
+returns-in-Ok g c =
+    let leaves : RegionLeaves = record { unclean = c.unclean.result.now; clean = c.clean.result.now } in
+    let same : c.in-Ok.region ≡ leaves = λ i. record { unclean = sym c.unclean.ensures i; clean = sym c.clean.ensures i } in
+    let cached = subst (λ (l : RegionLeaves). AreCachedOf (IsInRegionOf (state_of c.args.tree.now) c.args.regions.now.roots.roots c.args.root.now) c.args.tree.now.caches c.args.export.exporter.0 l) same c.in-Ok.ensures.cached in
+    let spelled = subst (λ (l : RegionLeaves). IsSpelledBy (state_of c.args.tree.now) c.args.regions.now.roots.roots c.args.root.now c.args.export c.args.bytes.now (length l.unclean)) same c.in-Ok.ensures.spelled in
+    let its = c.hand_over.ensures in
+    record {
+      taken = took c.args.tree.now c.hand_over.new.self c.args.regions.now c.requires.divided c.args.root.now c.args.export c.requires.stands c.requires.sent c.requires.ranks.apart c.args.bytes.now leaves cached c.in-Ok.ensures.valid spelled c.hand_over.result its.handed its.given;
+      refused = may_not c.args.tree.now c.hand_over.new.self c.args.regions.now c.requires.divided c.args.root.now c.args.export c.requires.stands c.requires.sent c.requires.ranks.apart c.args.bytes.now leaves cached c.in-Ok.ensures.valid spelled c.hand_over.result its.refused;
+      left = its.left;
+      caches = IfErr-weaker c.hand_over.result _ _ (λ reason. ⊎_elim (λ full. inl full.2) (λ memory. inr (memory.0, c.unclean.result.now, memory.2))) its.refused;
+      still = still_divided c.args.tree.now c.hand_over.new.self c.args.regions.now c.requires.divided c.args.root.now c.args.export c.requires.stands c.requires.sent c.requires.ranks.apart c.args.bytes.now leaves cached c.in-Ok.ensures.valid spelled c.hand_over.result its.refused its.left its.count its.sound;
+      shown = its.shown;
+      beside = its.beside;
+      count = its.count;
+      cap = its.cap;
+      sound = its.sound;
+    }

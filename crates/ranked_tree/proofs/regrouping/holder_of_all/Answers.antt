@@ -1,4 +1,4 @@
-use Rattle.ranked_tree.proofs.Common.{Covers, Fragment, HasLeaf, IsInsideAt, None, Option, held_in, leaves_of, state_of, subst, ℕ}
+use Rattle.ranked_tree.proofs.Common.{Covers, Fragment, HasLeaf, IsInsideAt, IsLive, None, Option, held_in, leaves_of, state_of, subst, ℕ}
 use Rattle.ranked_tree.proofs.HeldRegroups.{all_as_one, may_hold_all, none_before}
 use Rattle.ranked_tree.proofs.InsideLaws.{is_within}
 use Rattle.ranked_tree.proofs.regrouping.holder_of_all.Goals as goal
@@ -10,19 +10,15 @@ unreachable-requires g c =
     none_before (leaves_of c.args.tree.now.covers c.args.dir.0) c.args.frag c.value.ensures.valid c.requires.can
     (subst (λ (cs : Covers). IsInsideAt (leaves_of cs c.args.dir.0) c.args.frag c.args.frag.value None) c.dirs.ensures.trees here)
 
-pub returns-clause-all : goal.returns-clause-all
-returns-clause-all g c =
+pub returns : goal.returns
+returns g c =
     let told = subst (λ (o : Option Fragment). IsInsideAt (leaves_of c.dirs.result.now.trees c.args.dir.0) c.args.frag c.value.result o) c.in-Some.is c.leaf_inside.ensures in
-    all_as_one (state_of c.args.tree.now) (held_in c.args.regions.now) c.args.dir c.args.frag c.holder_of.result (c.args.dir, c.in-Some.leaf) c.requires.owned.sound.sound c.requires.owned.valid c.requires.one (is_within c.args.dir c.args.frag c.in-Some.leaf told.1)
-    (record { known = c.requires.known; stands = subst (λ (cs : Covers). HasLeaf (leaves_of cs c.args.dir.0) c.in-Some.leaf) c.dirs.ensures.trees told.0 }) c.holder_of.ensures.rules
-
-pub returns-clause-inside : goal.returns-clause-inside
-returns-clause-inside g c =
-    let told = subst (λ (o : Option Fragment). IsInsideAt (leaves_of c.dirs.result.now.trees c.args.dir.0) c.args.frag c.value.result o) c.in-Some.is c.leaf_inside.ensures in (
-      (c.args.dir, c.in-Some.leaf),
-      record { known = c.requires.known; stands = subst (λ (cs : Covers). HasLeaf (leaves_of cs c.args.dir.0) c.in-Some.leaf) c.dirs.ensures.trees told.0 },
-      is_within c.args.dir c.args.frag c.in-Some.leaf told.1,
-    )
-
-pub returns-clause-holds : goal.returns-clause-holds
-returns-clause-holds g c = may_hold_all c.args.tree.now (held_in c.args.regions.now) c.args.dir c.args.frag c.holder_of.result c.requires.known c.requires.owned (returns-clause-all g c)
+    let live : IsLive c.args.tree.now.homes c.args.tree.now.covers (c.args.dir, c.in-Some.leaf) = record { known = c.requires.known; stands = subst (λ (cs : Covers). HasLeaf (leaves_of cs c.args.dir.0) c.in-Some.leaf) c.dirs.ensures.trees told.0 } in
+    let inside = is_within c.args.dir c.args.frag c.in-Some.leaf told.1 in
+    let all = all_as_one (state_of c.args.tree.now) (held_in c.args.regions.now) c.args.dir c.args.frag c.holder_of.result (c.args.dir, c.in-Some.leaf) c.requires.owned.sound.sound c.requires.owned.valid c.requires.one inside live c.holder_of.ensures.rules in
+    record {
+      all = all;
+      inside = ((c.args.dir, c.in-Some.leaf), live, inside);
+      there = c.holder_of.ensures.holds.there;
+      holds = may_hold_all c.args.tree.now (held_in c.args.regions.now) c.args.dir c.args.frag c.holder_of.result c.requires.known c.requires.owned all;
+    }

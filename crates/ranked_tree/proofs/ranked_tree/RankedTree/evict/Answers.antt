@@ -5,13 +5,15 @@ use Rattle.ranked_tree.proofs.ranked_tree.RankedTree.evict.Goals as goal
 
 pub invariant_of-self : goal.invariant_of-self
 invariant_of-self g c =
+    let its = c.evict.ensures in
     divided_still c.self.inside.tree c.evict.new.self c.self.inside.regions c.self.invariant
-    (evict_owned c.self.inside.tree c.evict.new.self c.args.rank.0 c.evict.result c.evict.ensures.evicted c.evict.ensures.left c.evict.ensures.state (held_in c.self.inside.regions) c.evict.ensures.sound c.self.invariant.owned)
-    (evict_keeps c.self.inside.tree c.evict.new.self c.args.rank.0 c.evict.result c.evict.ensures.evicted c.evict.ensures.left c.evict.ensures.state c.evict.ensures.refused (ap (λ (k : Core). k.faults) c.evict.ensures.beside)).count (same_jobs (state_of c.self.inside.tree) (state_of c.evict.new.self) (ap (λ (s : State). s.jobs) c.evict.ensures.state)) (ap (λ (s : State). s.homes) c.evict.ensures.state) (ap (λ (s : State). s.covers) c.evict.ensures.state)
+    (evict_owned c.self.inside.tree c.evict.new.self c.args.rank.0 its.state c.evict.result its.evicted its.left (held_in c.self.inside.regions) its.sound c.self.invariant.owned)
+    (evict_keeps c.self.inside.tree c.evict.new.self c.args.rank.0 its.state c.evict.result its.evicted its.left its.refused (ap (λ (k : Core). k.faults) its.beside)).count
+    (same_jobs (state_of c.self.inside.tree) (state_of c.evict.new.self) (ap (λ (s : State). s.jobs) its.state)) (ap (λ (s : State). s.homes) its.state) (ap (λ (s : State). s.covers) its.state)
 
 pub returns-clause-evicted : goal.returns-clause-evicted
 returns-clause-evicted g c = rw (← c.self.view_is) c.evict.ensures.evicted
 
 pub returns-clause-kept : goal.returns-clause-kept
 returns-clause-kept g c =
-    rw (← c.self.view_is) (evict_keeps c.self.inside.tree c.evict.new.self c.args.rank.0 c.evict.result c.evict.ensures.evicted c.evict.ensures.left c.evict.ensures.state c.evict.ensures.refused (ap (λ (k : Core). k.faults) c.evict.ensures.beside))
+    let its = c.evict.ensures in rw (← c.self.view_is) (evict_keeps c.self.inside.tree c.evict.new.self c.args.rank.0 its.state c.evict.result its.evicted its.left its.refused (ap (λ (k : Core). k.faults) its.beside))
