@@ -1,6 +1,7 @@
 pub mod AboveLaws
 pub mod AlterationLaws
 pub mod AttributeLaws
+pub mod ByteOrderLaws
 pub mod Common
 pub mod CountLaws
 pub mod DirectoryLaws

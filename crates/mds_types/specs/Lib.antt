@@ -1,3 +1,4 @@
+pub mod ByteOrder
 pub mod Frag
 pub mod History
 pub mod InodeLaws

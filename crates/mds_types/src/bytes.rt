@@ -7,6 +7,7 @@ ghost use Rattle.std.specs.Cmp.Rules.{comparing};
 ghost use Rattle.std.specs.Ordering.{nat_cmp, as_partial_cmp};
 ghost use Rattle.std.specs.Prelude.{◌≡◌, ◌==◌, [], IfOk};
 
+use crate::byte_order::compare;
 use sorted_map::ExactOrd;
 use std::alloc::{AllocError, Global};
 use std::cmp::Ordering;
@@ -109,7 +110,7 @@ impl Ord for Bytes {
     ghost matches_eq = { Prim.search (comparing, rules) };
 
     fn cmp(&self, other: &Bytes) -> Ordering {
-        self.bytes.as_slice().cmp(other.bytes.as_slice())
+        compare(&self.bytes, &other.bytes)
     }
 }
 

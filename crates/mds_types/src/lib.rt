@@ -4,6 +4,7 @@
 //! promises, from fragment arithmetic to the legal history, stand in `specs/`.
 #![tactic(auto)]
 
+mod byte_order;
 mod bytes;
 mod dentries;
 mod dirfrags;

@@ -95,7 +95,7 @@ impl Ord for Text {
     ghost matches_eq = { Prim.search (comparing, rules) };
 
     fn cmp(&self, other: &Text) -> Ordering {
-        self.text.as_bytes().cmp(other.text.as_bytes())
+        self.as_str().cmp(other.as_str())
     }
 }
 
@@ -114,6 +114,6 @@ impl<'a> Probe<Text> for TextRef<'a> {
     ghost key = { λ p. p.text.now };
 
     fn order(&self, other: &Text) -> Ordering {
-        self.text.as_bytes().cmp(other.as_str().as_bytes())
+        self.text.cmp(other.as_str())
     }
 }
