@@ -53,7 +53,7 @@ fn read_tree<S: Store>(alloc: Global, store: &mut S, dir: Ino) -> Result<Option<
     ensures counted { S.faults store.new ≡ S.faults store.old + faults_told (result_err result) }
 {
     let name = ObjName::Tree(dir);
-    let text = format!(in alloc; "{name}")?;
+    let text = name.to_text(alloc)?;
     let Some(header) = store.header(alloc, text.as_str())? else {
         return Ok(None);
     };

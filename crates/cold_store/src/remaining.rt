@@ -163,7 +163,7 @@ fn take_off_name(
 ) -> Result<(), AllocError>
     ensures { OnOk result (contents key_cmp left.new ≡ map.remove (contents key_cmp left.old) (object_text name)) }
 {
-    let text = format!(in alloc; "{name}")?;
+    let text = name.to_text(alloc)?;
     let _ = left.remove(&TextRef {
         text: text.as_str(),
     });

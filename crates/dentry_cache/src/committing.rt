@@ -137,6 +137,6 @@ fn write<S: Store>(alloc: Global, store: &mut S, encoded: &Encoded) -> Result<()
 {
     let job = encoded.job();
     let name = ObjName::Frag(job.ino, job.frag);
-    let text = format!(in alloc; "{name}")?;
+    let text = name.to_text(alloc)?;
     store.apply(alloc, text.as_str(), encoded.op())
 }

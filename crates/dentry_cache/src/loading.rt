@@ -45,7 +45,7 @@ pub fn load<S: Store>(
     ensures counted { S.faults store.new ≡ S.faults store.old + faults_told (result_err result) }
 {
     let name = ObjName::Frag(dir, frag);
-    let text = format!(in alloc; "{name}")?;
+    let text = name.to_text(alloc)?;
     match load_object(alloc, store, text.as_str(), frag)? {
         Some(loaded) => Ok(loaded),
         None => Err(Refusal::Damaged(name)),

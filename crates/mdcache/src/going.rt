@@ -44,8 +44,7 @@ pub fn going_of(alloc: Global, dirs: &Dirs, dir: Ino) -> Result<Going, AllocErro
 fn tree_name(alloc: Global, dir: Ino) -> Result<String, AllocError>
     ensures { IfOk result (λ name. string_bytes name ≡ tree_text dir) }
 {
-    let name = ObjName::Tree(dir);
-    format!(in alloc; "{name}")
+    ObjName::Tree(dir).to_text(alloc)
 }
 
 // The leaves of a directory, each with the name of its object.
@@ -76,7 +75,6 @@ pub(crate) fn part_of(alloc: Global, dir: Ino, frag: Frag) -> Result<GoingLeaf, 
     ensures leaf { IfOk result (λ part. part.frag ≡ frag) }
     ensures text { IfOk result (λ part. string_bytes part.object ≡ text_of (dir, frag)) }
 {
-    let name = ObjName::Frag(dir, frag);
-    let object = format!(in alloc; "{name}")?;
+    let object = ObjName::Frag(dir, frag).to_text(alloc)?;
     Ok(GoingLeaf { frag, object })
 }

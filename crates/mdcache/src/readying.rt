@@ -227,8 +227,7 @@ fn new_directory(alloc: Global, name: &Name, dir: Ino) -> Result<NewDirectory, R
     ensures err { IfErr result (λ reason. reason ≡ NoMemory) }
 {
     let name = name.try_clone()?;
-    let leaf = ObjName::Frag(dir, Frag::ROOT);
-    let object = format!(in alloc; "{leaf}")?;
+    let object = ObjName::Frag(dir, Frag::ROOT).to_text(alloc)?;
     Ok(NewDirectory { name, object })
 }
 

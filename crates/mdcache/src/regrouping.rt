@@ -59,6 +59,5 @@ pub(crate) fn child_count(nb: u8) -> u32
 pub(crate) fn object_name(alloc: Global, dir: Ino, frag: Frag) -> Result<String, AllocError>
     ensures { IfOk result (λ name. string_bytes name ≡ text_of (dir, frag)) }
 {
-    let name = ObjName::Frag(dir, frag);
-    format!(in alloc; "{name}")
+    ObjName::Frag(dir, frag).to_text(alloc)
 }

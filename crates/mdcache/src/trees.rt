@@ -28,7 +28,7 @@ impl<S: Store + Drop> MdCache<S> {
             return Err(Refusal::NoSuchFrag);
         }
         let name = ObjName::Tree(dir);
-        let text = format!(in alloc; "{name}")?;
+        let text = name.to_text(alloc)?;
         if let Err(refusal) = save_tree(alloc, &self.dirs, &mut self.store, dir, text.as_str()) {
             return Err(refusal);
         }

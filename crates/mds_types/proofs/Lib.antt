@@ -4,6 +4,7 @@ pub mod AttributeLaws
 pub mod ByteOrderLaws
 pub mod Common
 pub mod CountLaws
+pub mod DigitLaws
 pub mod DirectoryLaws
 pub mod EntryLaws
 pub mod EntrySearch
@@ -13,6 +14,7 @@ pub mod LeafLaws
 pub mod ListingLaws
 pub mod MovedLaws
 pub mod NumberLaws
+pub mod ObjectTextBytes
 pub mod ObjectTextLaws
 pub mod OrderLaws
 pub mod RemovedLaws

@@ -7,6 +7,7 @@
 mod byte_order;
 mod bytes;
 mod dentries;
+mod digits;
 mod dirfrags;
 mod entries;
 mod errno;
@@ -29,6 +30,7 @@ mod texts;
 
 pub use bytes::Bytes;
 pub use dentries::Dentry;
+pub use digits::{glyph, write_digits_in};
 pub use dirfrags::Dirfrag;
 pub use entries::Entry;
 pub use errno::{EEXIST, EINVAL, EISDIR, ENAMETOOLONG, ENOENT, ENOSPC, ENOTDIR, ENOTEMPTY, ESTALE};

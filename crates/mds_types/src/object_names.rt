@@ -1,10 +1,19 @@
 //! The names of objects in the store.
-ghost use Rattle.std.specs.Prelude.{Some};
+ghost use Rattle.std.specs.Prelude.{◌≡◌, IfOk, IsUtf8, Some, string_bytes};
 ghost use Rattle.mds_types.specs.ObjectText.{TextsDiffer, object_text};
+ghost use Rattle.mds_types.specs.declared.object_names.ObjName.TheVariants as name;
 
+use crate::digits::write_digits_in;
 use crate::frags::Frag;
 use crate::ids::Ino;
+use std::alloc::{AllocError, Global};
 use std::fmt;
+
+// Where the number of an inode ends at the latest, which has sixteen digits at most,
+const DOT: usize = 16;
+
+// and the text, with the dot and eight digits or letters.
+const END: usize = 25;
 
 /// The object of a directory's fragment, or that of its fragment tree.
 #[derive(Clone, Copy, Debug, PartialEq, Eq)]
@@ -33,8 +42,49 @@ impl fmt::Display for ObjName {
 }
 
 impl ObjName {
+    /// The name as text, put together by hand. Takes memory for it.
+    pub fn to_text(self, alloc: Global) -> Result<String, AllocError>
+        ensures { IfOk result (λ text. string_bytes text ≡ object_text self) }
+    {
+        match self {
+            ObjName::Frag(ino, frag) => frag_text(alloc, ino.0, frag),
+            ObjName::Tree(ino) => tree_text(alloc, ino.0),
+        }
+    }
+
     /// No two objects have one text: a law, the contract of a function that does nothing.
     pub fn texts_differ()
         ensures { TextsDiffer }
     {}
+}
+
+// The text of a fragment's object.
+fn frag_text(alloc: Global, ino: u64, frag: Frag) -> Result<String, AllocError>
+    ensures { IfOk result (λ text. string_bytes text ≡ object_text (name.Frag (record { 0 = ino }) frag)) }
+{
+    let mut bytes = [b'0'; END];
+    let _ = write_digits_in(16, u64::from(frag.word()), &mut bytes, END);
+    bytes[DOT] = b'.';
+    let start = write_digits_in(16, ino, &mut bytes, DOT);
+    text_of(alloc, &bytes[start..])
+}
+
+// The text of the object of a fragment tree.
+fn tree_text(alloc: Global, ino: u64) -> Result<String, AllocError>
+    ensures { IfOk result (λ text. string_bytes text ≡ object_text (name.Tree (record { 0 = ino }))) }
+{
+    let mut bytes = *b"0000000000000000.fragtree";
+    let start = write_digits_in(16, ino, &mut bytes, DOT);
+    text_of(alloc, &bytes[start..])
+}
+
+// A copy of a text.
+fn text_of(alloc: Global, bytes: &[u8]) -> Result<String, AllocError>
+    requires { IsUtf8 bytes.now }
+    ensures { IfOk result (λ text. string_bytes text ≡ bytes.now) }
+{
+    match str::from_utf8(bytes) {
+        Ok(text) => String::from_str(alloc, text),
+        Err(_) => unreachable!(),
+    }
 }

@@ -1,5 +1,4 @@
 pub mod Common
-pub mod DigitLemmas
 pub mod PrintedFragments
 pub mod PrintedNames
 pub mod PrintedNumbers

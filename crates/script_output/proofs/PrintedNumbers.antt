@@ -1,5 +1,6 @@
 -- Numbers are read back from their digits.
 use Rattle.script_output.proofs.Common.{Bool, List, Some, [], ap, append-nil, append_assoc, are_digits, arith, cond, digit_glyph, digit_of, digits_onto, div-add-mod, div-eq_of_lt, div-lt_iff_lt-mul, eqb, eqb-false, eqb-true, false, fold, is_shortest, le-leb, length, length-append, lt-ltb, ltb, mod-eq_of_lt, mod-lt, mul-zero, nat_tests, ne_eqb, not, number_of, octal_mode_of, one-mul, pow-le-pow_left, pow-suc, pow-zero, refl, subst, suc, sym, true, value_of, zero, zero-div, ℕ, ◌%◌, ◌&&◌, ◌*◌, ◌++◌, ◌+◌, ◌/◌, ◌<◌, ◌^◌, ◌∙◌, ◌∷◌, ◌≡◌, ◌≢◌, ◌≤◌}
+use Rattle.mds_types.proofs.DigitLaws.{below_most, pow_once, shorter}
 use Rattle.std.specs.Fmt.{digits}
 
 -- text is how n is written in the base: digits of that value, the first of them 0 only for the number 0
@@ -12,14 +13,6 @@ record Spells (base n : ℕ) (text : List ℕ) : Type 0 where
   some : 0 < n → first ≢ 48
   none : n ≡ 0 → others ≡ []
   short : (j : ℕ) → n < base ^ suc j → length text ≤ suc j
-
--- a first power
-pub pow_once : (base : ℕ) → base ^ 1 ≡ base
-pow_once base = pow-suc base 0 ∙ ap (λ m. m * base) (pow-zero base) ∙ one-mul base
-
--- what is below one power more is below that power after a division
-pub shorter : (base n j : ℕ) → 2 ≤ base → n < base ^ suc (suc j) → n / base < base ^ suc j
-shorter base n j low fits = (div-lt_iff_lt-mul (omega arith)).1 (subst (λ m. n < m) (pow-suc base (suc j)) fits)
 
 -- a digit's byte is that digit, and is 0 only for 0
 glyph_value : (d : ℕ) → d < 16 → digit_of (digit_glyph false d) ≡ d
@@ -125,12 +118,6 @@ spelled_shortest base n text h = ap is_shortest h.parts ∙ at h.others h.none
         let not_zero : n ≢ 0 = λ zero. let e : next ∷ others ≡ [] = none zero in cc in
         ap not (ne_eqb h.first 48 (h.some (omega arith)))
 
--- a number of 64 bits is below the most that can be written
-pub below_most : (base n : ℕ) → 2 ≤ base → n < 2 ^ 64 → n < base ^ 64
-below_most base n low fits =
-    let most : 2 ^ 64 ≤ base ^ 64 = pow-le-pow_left low 64 in
-    omega arith
-
 -- a number without leading zeros
 pub number_of-digits : (base n : ℕ) → 2 ≤ base → base ≤ 16 → n < 2 ^ 64 → number_of base (digits base false n) ≡ Some n
 number_of-digits base n low high fits =
@@ -145,7 +132,3 @@ octal_mode_of-digits n fits =
     let few : length text ≤ 4 = h.short 3 (omega arith) in
     let some : 0 < length text = omega (arith, ap length h.parts) in
     rw (lt-ltb 0 (length text) some, le-leb (length text) 4 few, h.digits) (rw h.value refl)
-
--- a number below a power of the base has no more digits than that
-pub few_digits : (base n most : ℕ) → 2 ≤ base → base ≤ 16 → n < 2 ^ 64 → n < base ^ suc most → length (digits base false n) ≤ suc most
-few_digits base n most low high fits less = let h = digits_of base n low high (below_most base n low fits) in h.short most less

@@ -1,6 +1,6 @@
 -- Numbers before a short text.
 use Rattle.script_output.proofs.Common.{List, ap, arith, decimal, digits, drop, false, length, length-append, length-decimal-le, length-drop, ℕ, ◌++◌, ◌+◌, ◌<◌, ◌^◌, ◌≡◌, ◌≤◌}
-use Rattle.script_output.proofs.PrintedNumbers.{few_digits}
+use Rattle.mds_types.proofs.DigitLaws.{few_digits}
 
 -- there is room for so many bytes before a text
 pub roomy : (few start : ℕ) (bytes : List ℕ) (view : List ℕ) → length bytes ≡ 256 → start ≤ 256 → drop start bytes ≡ view → few + length view ≤ 256 → few ≤ start
@@ -14,7 +14,7 @@ pub short_decimal : (n : ℕ) → n < 2 ^ 64 → length (decimal n) ≤ 20
 short_decimal n fits = length-decimal-le 20 n (omega arith) (omega arith) fits
 
 pub short_hexadecimal : (n : ℕ) → n < 2 ^ 64 → length (digits 16 false n) ≤ 16
-short_hexadecimal n fits = few_digits 16 n 15 (omega arith) (omega arith) fits (omega arith)
+short_hexadecimal n fits = few_digits 16 n 15 (omega arith) (omega arith)
 
 pub short_octal : (n : ℕ) → n ≤ 4095 → length (digits 8 false n) ≤ 4
-short_octal n fits = few_digits 8 n 3 (omega arith) (omega arith) (omega arith) (omega arith)
+short_octal n fits = few_digits 8 n 3 (omega arith) (omega arith)

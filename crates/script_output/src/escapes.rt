@@ -3,7 +3,7 @@ ghost use Rattle.std.specs.Prelude.{◌≡◌, Some, IsTrue};
 ghost use Rattle.script_output.specs.Escapes.{escaped, escaped_byte, prints_plain};
 ghost use Rattle.script_output.specs.Writing.{Pushes};
 
-use crate::digits::glyph;
+use mds_types::glyph;
 use std::alloc::AllocError;
 use std::fmt;
 

@@ -3,7 +3,6 @@
 //! prints of a name, a number or a fragment is read back.
 #![tactic(auto)]
 
-mod digits;
 mod escapes;
 mod fixed_texts;
 mod frag_lists;

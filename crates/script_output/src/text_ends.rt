@@ -3,9 +3,8 @@ ghost use Rattle.std.specs.Prelude.{◌≡◌, ◌+◌, ◌≤◌, ◌++◌, [],
 ghost use Rattle.std.specs.Fmt.{decimal};
 ghost use Rattle.script_output.specs.Texts.{hexadecimal, octal};
 
-use crate::digits::write_digits_in;
 use itoa::write_digits;
-use mds_types::Mode;
+use mds_types::{Mode, write_digits_in};
 use std::marker::Model;
 
 // The most bytes of such a text: those of an entry's line and its LF, with the longest numbers, are fewer.

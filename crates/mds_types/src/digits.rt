@@ -1,8 +1,8 @@
 //! Digits of a number, in bases that `itoa` doesn't write.
-ghost use Rattle.std.specs.Prelude.{◌≡◌, ◌+◌, ◌<◌, ◌≤◌, ◌++◌, false, length, drop};
+ghost use Rattle.std.specs.Prelude.{◌≡◌, ◌+◌, ◌<◌, ◌≤◌, ◌++◌, false, length, take, drop};
 ghost use Rattle.std.specs.Fmt.{digit_glyph, digits};
 
-/// Writes the digits so that they end at `end`, and returns where they start.
+/// Writes the digits so that they end at `end`, and returns where they start. What stands before and behind them stays.
 #[inline(always)]
 pub fn write_digits_in(base: u64, n: u64, bytes: &mut [u8], end: usize) -> usize
     requires low { 2 ≤ base }
@@ -10,6 +10,7 @@ pub fn write_digits_in(base: u64, n: u64, bytes: &mut [u8], end: usize) -> usize
     requires room { length (digits base false n) ≤ end }
     requires within { end ≤ length bytes.old }
     ensures start { result + length (digits base false n) ≡ end }
+    ensures before { take result bytes.new ≡ take result bytes.old }
     ensures written { drop result bytes.new ≡ digits base false n ++ drop end bytes.old }
 {
     let mut left = n;

@@ -1,7 +1,27 @@
 -- Digits that are written from the last to the first.
-use Rattle.script_output.proofs.Common.{Bool, List, [], ap, append_assoc, arith, cond, digit_glyph, digits_onto, div-add-mod, div-eq_of_lt, drop, drop-set, eq-eqb, eqb, false, length, length-append, length-drop, length-set, mod-eq_of_lt, mod-lt, mul-zero, ne_eqb, refl, set, subst, suc, sym, true, zero, ℕ, ◌%◌, ◌*◌, ◌++◌, ◌+◌, ◌-◌, ◌/◌, ◌<◌, ◌^◌, ◌∙◌, ◌∷◌, ◌≡◌, ◌≤◌}
-use Rattle.std.specs.Fmt.{digits}
-use Rattle.script_output.proofs.PrintedNumbers.{below_most, pow_once, shorter}
+use Rattle.std.proofs.Common.{Bool, List, [], ap, append_assoc, arith, cond, drop, eq-eqb, eqb, false, length, length-append, length-drop, length-set, mod-lt, ne_eqb, refl, set, subst, suc, sym, take, true, zero, ℕ, ◌%◌, ◌*◌, ◌++◌, ◌+◌, ◌-◌, ◌/◌, ◌<◌, ◌^◌, ◌∙◌, ◌∷◌, ◌≡◌, ◌≤◌}
+use Rattle.std.proofs.Math.Nat.{div-add-mod, div-eq_of_lt, div-lt_iff_lt-mul, mod-eq_of_lt, mul-zero, one-mul, pow-le-pow_left, pow-suc, pow-zero}
+use Rattle.std.proofs.lemmas.Bool.{eqb-false}
+use Rattle.std.proofs.lemmas.List.{drop-set, take-set-le, take-take}
+use Rattle.std.specs.Fmt.{digit_glyph, digits, digits_onto}
+
+-- ---- powers
+
+-- a first power
+pub pow_once : (base : ℕ) → base ^ 1 ≡ base
+pow_once base = pow-suc base 0 ∙ ap (λ m. m * base) (pow-zero base) ∙ one-mul base
+
+-- what is below one power more is below that power after a division
+pub shorter : (base n j : ℕ) → 2 ≤ base → n < base ^ suc (suc j) → n / base < base ^ suc j
+shorter base n j low fits = (div-lt_iff_lt-mul (omega arith)).1 (subst (λ m. n < m) (pow-suc base (suc j)) fits)
+
+-- a number of 64 bits is below the most that can be written
+pub below_most : (base n : ℕ) → 2 ≤ base → n < 2 ^ 64 → n < base ^ 64
+below_most base n low fits =
+    let most : 2 ^ 64 ≤ base ^ 64 = pow-le-pow_left low 64 in
+    omega arith
+
+-- ---- digits
 
 -- digits by one step: what ends them is that none is left
 by_step : (base n : ℕ) (text : List ℕ) (k : ℕ) (t : Bool) → eqb (n / base) 0 ≡ t
@@ -36,6 +56,26 @@ onto_longer (suc k) base n acc =
         → length acc < length (cond b (digit_glyph false (n % base) ∷ acc) (digits_onto (suc k) base false (n / base) (digit_glyph false (n % base) ∷ acc)))
     at true more = omega arith
     at false more = more
+
+-- so many digits are put before others at most
+few_onto : (base : ℕ) → 2 ≤ base → (k j n : ℕ) (acc : List ℕ) → n < base ^ suc j → length (digits_onto k base false n acc) ≤ suc j + length acc
+few_onto base low zero j n acc fits = omega arith
+few_onto base low (suc k) j n acc fits = at (eqb (n / base) 0) refl (few j fits (λ i less. few_onto base low k i (n / base) (digit_glyph false (n % base) ∷ acc) less))
+  where
+    few : (j : ℕ) → n < base ^ suc j → ((i : ℕ) → n / base < base ^ suc i → length (digits_onto k base false (n / base) (digit_glyph false (n % base) ∷ acc)) ≤ suc i + suc (length acc))
+        → eqb (n / base) 0 ≡ false → length (digits_onto k base false (n / base) (digit_glyph false (n % base) ∷ acc)) ≤ suc j + length acc
+    few zero fits less more = absurd (eqb-false (n / base) 0 more (div-eq_of_lt (subst (λ m. n < m) (pow_once base) fits)))
+    few (suc j) fits less more = omega (arith, less j (shorter base n j low fits))
+
+    at : (b : Bool) → eqb (n / base) 0 ≡ b → (eqb (n / base) 0 ≡ false → length (digits_onto k base false (n / base) (digit_glyph false (n % base) ∷ acc)) ≤ suc j + length acc)
+        → length (cond b (digit_glyph false (n % base) ∷ acc) (digits_onto k base false (n / base) (digit_glyph false (n % base) ∷ acc))) ≤ suc j + length acc
+    at true e more = omega arith
+    at false e more = more e
+
+-- a number below a power of the base has no more digits than that
+pub few_digits : (base n most : ℕ) → 2 ≤ base → n < base ^ suc most → length (digits base false n) ≤ suc most
+unfolding digits
+few_digits base n most low fits = omega (arith, few_onto base low 64 most n [] fits)
 
 -- all is what stands so far, with the digits of what is left before it
 pub record IsWriting (base : ℕ) (all : List ℕ) (left : ℕ) (text : List ℕ) : Type 0 where
@@ -79,6 +119,12 @@ finish base left all text few w =
 -- one byte is put before those that stand from a place on
 pub put_before : (bytes : List ℕ) (at byte : ℕ) → 1 ≤ at → at ≤ length bytes → drop (at - 1) (set bytes (at - 1) byte) ≡ byte ∷ drop at bytes
 put_before bytes at byte some within = drop-set bytes (at - 1) byte (omega arith) ∙ ap (λ i. byte ∷ drop i bytes) (let e : at - 1 + 1 ≡ at = omega arith in e)
+
+-- a byte that is put before those from a place on changes none before it
+pub kept : (bytes old : List ℕ) (at byte : ℕ) → take at bytes ≡ take at old → take (at - 1) (set bytes (at - 1) byte) ≡ take (at - 1) old
+kept bytes old at byte same =
+    let le : at - 1 ≤ at = omega arith in
+    take-set-le (at - 1) bytes (at - 1) byte (omega arith) ∙ sym (take-take (at - 1) at bytes le) ∙ ap (take (at - 1)) same ∙ take-take (at - 1) at old le
 
 module _ (base left at end : ℕ) (text old now : List ℕ) (fits : length text ≤ end) (within : end ≤ length old) (before : at ≤ end) (len : length now ≡ length old) (w : IsWriting base (text ++ drop end old) left (drop at now)) where
   -- the place isn't the first

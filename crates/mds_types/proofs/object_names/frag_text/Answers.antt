@@ -1,0 +1,26 @@
+use Rattle.std.proofs.Common.{ap, arith, false, subst, sym, IfOk, IsUtf8, string_bytes, ◌++◌, ◌∙◌, ◌∷◌, ◌≡◌}
+use Rattle.std.specs.Fmt.{digits}
+use Rattle.mds_types.specs.ObjectText.{word_text}
+use Rattle.mds_types.proofs.ObjectTextBytes.{frag_spelt, frag_utf8, hex_few, word_few}
+use Rattle.mds_types.proofs.object_names.frag_text.Goals as goal
+
+pub write_digits_in-requires-clause-room : goal.write_digits_in-requires-clause-room
+write_digits_in-requires-clause-room c = let few = word_few c.from.result (omega (arith, c.from.ensures, c.word.type_inv)) in omega (arith, few)
+
+pub write_digits_in-start-requires-clause-room : goal.write_digits_in-start-requires-clause-room
+write_digits_in-start-requires-clause-room c = hex_few c.args.ino (omega (arith, c.ranges.ino))
+
+pub text_of-requires : goal.text_of-requires
+text_of-requires c =
+    let word = c.write_digits_in.ensures in
+    let spelt = frag_spelt c.args.ino c.from.result (omega (arith, c.from.ensures, c.word.type_inv)) c.write_digits_in.new.bytes c.write_digits_in-start.new.bytes c.write_digits_in-start.result c.write_digits_in.result
+    (omega (arith, c.write_digits_in.auto.bytes)) (omega (arith, c.write_digits_in-start.auto.bytes)) word.start word.before word.written c.write_digits_in-start.ensures.written in
+    subst IsUtf8 (sym spelt) (frag_utf8 c.args.ino c.from.result (omega (arith, c.ranges.ino)) (omega (arith, c.from.ensures, c.word.type_inv)))
+
+pub returns : goal.returns
+returns c =
+    let word = c.write_digits_in.ensures in
+    let is = c.from.ensures ∙ c.word.ensures in
+    let spelt = frag_spelt c.args.ino c.from.result (omega (arith, c.from.ensures, c.word.type_inv)) c.write_digits_in.new.bytes c.write_digits_in-start.new.bytes c.write_digits_in-start.result c.write_digits_in.result
+    (omega (arith, c.write_digits_in.auto.bytes)) (omega (arith, c.write_digits_in-start.auto.bytes)) word.start word.before word.written c.write_digits_in-start.ensures.written in
+    subst (λ l. IfOk c.text_of.result (λ text. string_bytes text ≡ l)) (spelt ∙ ap (λ w. digits 16 false c.args.ino ++ 46 ∷ word_text w) is) c.text_of.ensures
