@@ -240,6 +240,8 @@ impl Dirs {
         ensures can { OnOk result (CanSplit (leaves_of self.now.trees dir.0) frag bits) }
         ensures frag { IfOk result (λ at. at.frag ≡ frag) }
         ensures home { IfOk result (λ at. option_copied at.home ≡ map.get self.now.homes dir.0) }
+        ensures entries { IfOk result (λ at. at.entries ≡ count_of self.now.counts dir.0) }
+        ensures leaves { IfOk result (λ at. or_whole (option_copied at.leaves) ≡ leaves_of self.now.trees dir.0) }
         ensures err { IfErr result (RefusesLeaves (RefusesSplit (leaves_of self.now.trees dir.0) frag bits) self.now.homes dir) }
     {
         let Some(at) = self.leaf_at(dir, frag.value()) else {
