@@ -1,5 +1,5 @@
 //! `CachedFrag`, what a contract sees of it, and the calls that read it or make room.
-ghost use Rattle.std.specs.Prelude.{◌≡◌, ◌≤◌, ◌<◌, ◌+◌, ◌^◌, IsOk, IfSome, OnOk, OnErr, option_copied};
+ghost use Rattle.std.specs.Prelude.{◌≡◌, ◌≤◌, ◌<◌, ◌+◌, ◌^◌, ℕ, List, IsOk, IfSome, OnOk, OnErr, option_copied};
 ghost use Rattle.std.specs.FinMap as map;
 ghost use Rattle.objstore.specs.Omap.{key_cmp};
 ghost use Rattle.sorted_map.specs.SortedMap.{contents};
@@ -100,6 +100,13 @@ impl CachedFrag {
         ensures recorded { IfSome (option_copied result) HasRecord }
     {
         shown_in(&self.clean, &self.dirty, name)
+    }
+
+    /// A record allows what each of its names stands for: a law of the type, so nothing is done.
+    pub fn has_records(&self)
+        ensures { (name : List ℕ) → IfSome (map.get (shown self.now) name) HasRecord }
+    {
+        let _ = &self.clean;
     }
 
     /// How many entries it shows.

@@ -16,8 +16,7 @@ impl Cache {
         requires room { HasRoom (cached self.old.entries (dir, frag)) }
         ensures { IsChanged (cached self.old.entries (dir, frag)) (λ (f now : Cached). now ≡ marked f name (record { version = version; inode = Some inode })) (dir, frag) self.old self.new }
     {
-        let _ = self.touch(dir, frag);
-        let Some(place) = self.places.peek_mut(&(dir, frag)) else {
+        let Some(place) = self.places.get_mut(&(dir, frag)) else {
             return;
         };
         let was = place.size();
@@ -31,8 +30,7 @@ impl Cache {
         requires { HasRoom (cached self.old.entries (dir, frag)) }
         ensures { IsChanged (cached self.old.entries (dir, frag)) (λ (f now : Cached). now ≡ marked f name (record { version = version; inode = None })) (dir, frag) self.old self.new }
     {
-        let _ = self.touch(dir, frag);
-        let Some(place) = self.places.peek_mut(&(dir, frag)) else {
+        let Some(place) = self.places.get_mut(&(dir, frag)) else {
             return;
         };
         let was = place.size();

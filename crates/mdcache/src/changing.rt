@@ -10,7 +10,7 @@ ghost use Rattle.mdcache.specs.Core.{IsSoundCore, shown_in};
 ghost use Rattle.mdcache.specs.Ranks.{MayHoldEach};
 
 use crate::mdcache::MdCache;
-use crate::readying::is_recorded;
+use crate::readying::has_records;
 use mds_types::{Ino, Inode, Kind, Refusal};
 use namespace_ops::{Change, Spot};
 use objstore::Store;
@@ -182,7 +182,7 @@ impl<S: Store + Drop> MdCache<S> {
     {
         match self.ready_move(alloc, &from, &to, gone) {
             Ok(moving) => {
-                is_recorded(&self.caches, &from.at, &from.name);
+                has_records(&self.caches, &from.at);
                 self.pass(from, to, inode, moving);
                 Ok(())
             }

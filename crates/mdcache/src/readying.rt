@@ -1,5 +1,5 @@
 //! What each kind of change needs is made ready: numbers, leaves, places and room.
-ghost use Rattle.std.specs.Prelude.{◌≡◌, ◌⊎◌, ◌+◌, ◌-◌, ◌<◌, ◌≤◌, ◌^◌, true, false, Some, None, string_bytes, length, OnErr, OnOk, IfOk, IfErr, IfSome};
+ghost use Rattle.std.specs.Prelude.{◌≡◌, ◌⊎◌, ◌+◌, ◌-◌, ◌<◌, ◌≤◌, ◌^◌, ℕ, List, true, false, Some, None, string_bytes, length, OnErr, OnOk, IfOk, IfErr, IfSome};
 ghost use Rattle.std.specs.Result.{result_err};
 ghost use Rattle.std.specs.FinMap as map;
 ghost use Rattle.mds_types.specs.declared.refusals.Refusal.TheVariants.{NoInodes, NoMemory};
@@ -120,7 +120,7 @@ impl<S: Store + Drop> MdCache<S> {
         if let Err(refusal) = self.ready_name(alloc, &spot.at) {
             return Err(refusal);
         }
-        is_recorded(&self.caches, &spot.at, &spot.name);
+        has_records(&self.caches, &spot.at);
         Ok(())
     }
 
@@ -231,14 +231,14 @@ fn new_directory(alloc: Global, name: &Name, dir: Ino) -> Result<NewDirectory, R
     Ok(NewDirectory { name, object })
 }
 
-/// What a name of a cached fragment stands for, a record allows: a law of the type, so nothing is done with it.
-pub(crate) fn is_recorded(caches: &Caches, at: &Dirfrag, name: &Name)
+/// A record allows what each name of a cached fragment stands for: a law of the type, so nothing is done.
+pub(crate) fn has_records(caches: &Caches, at: &Dirfrag)
     requires there { at.now.rank.0 < length caches.now.used }
     requires cached { IsThere (here caches.now at.now.rank.0 (leaf_of at.now)) }
-    ensures { HasCached (here caches.now at.now.rank.0 (leaf_of at.now)) (λ (f : Cached). IfSome (map.get (shown f) name.now) IsRecordable) }
+    ensures { HasCached (here caches.now at.now.rank.0 (leaf_of at.now)) (λ (f : Cached). (name : List ℕ) → IfSome (map.get (shown f) name) IsRecordable) }
 {
     if let Some(fragment) = caches.get(*at) {
-        let _ = fragment.look(name);
+        fragment.has_records();
     }
 }
 

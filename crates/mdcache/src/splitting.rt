@@ -1,4 +1,5 @@
-//! A leaf of a directory is split: all is made ready for it first, and then it is done, which can't fail.
+//! A leaf of a directory is split: all is made ready for it first, and then it is done. The leaves of the directory are set as the last
+//! thing that may be refused; what was made ready is given up then.
 ghost use Rattle.std.specs.Prelude.{◌≡◌, ◌⊎◌, ◌+◌, ◌-◌, ◌≤◌, ◌<◌, ◌^◌, ◌∷◌, [], ℕ, Bool, true, None, length, map as each, string_bytes, OnOk, OnErr, IfOk, IfErr};
 ghost use Rattle.std.specs.Result.{result_err};
 ghost use Rattle.std.specs.FinMap as map;

@@ -26,6 +26,7 @@ pub(crate) fn compare(a: &[u8], b: &[u8]) -> Ordering
 
 // Two numbers that were read from the first bytes, of which both have so many. Two words, which may overlap, are at most sixteen
 // bytes.
+#[inline(always)]
 fn fronts(a: &[u8], b: &[u8], both: usize) -> (u64, u64)
     requires some { 4 ≤ both }
     requires first { both ≤ length a.now }
@@ -50,6 +51,7 @@ fn fronts(a: &[u8], b: &[u8], both: usize) -> (u64, u64)
 }
 
 // Four bytes from a place on, as a number.
+#[inline(always)]
 fn four(s: &[u8], i: usize) -> u64
     requires { i + 4 ≤ length s.now }
     ensures { result ≡ word_at s.now i 4 }
@@ -58,6 +60,7 @@ fn four(s: &[u8], i: usize) -> u64
 }
 
 // Eight of them.
+#[inline(always)]
 fn eight(s: &[u8], i: usize) -> u64
     requires { i + 8 ≤ length s.now }
     ensures { result ≡ word_at s.now i 8 }

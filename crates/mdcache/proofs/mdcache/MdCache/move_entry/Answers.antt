@@ -13,8 +13,8 @@ ready_move-requires-clause-from_live g c = entry_live c.args.self.now c.requires
 pub ready_move-requires-clause-to_live : goal.ready_move-requires-clause-to_live
 ready_move-requires-clause-to_live g c = dir_live c.args.self.now c.requires.sound (dentry_at c.args.to) c.args.to.at.frag c.requires.may.takes.parent c.requires.may.carries.put
 
-pub is_recorded-requires-clause-there : goal.is_recorded-requires-clause-there
-is_recorded-requires-clause-there g c = subst (λ (k : Core). c.args.from.at.rank.0 < length k.caches.used) (sym c.self.view_is) (there_after _ _ _ _ _ c.ready_move.ensures.reads c.requires.holds.taken.there)
+pub has_records-requires-clause-there : goal.has_records-requires-clause-there
+has_records-requires-clause-there g c = subst (λ (k : Core). c.args.from.at.rank.0 < length k.caches.used) (sym c.self.view_is) (there_after _ _ _ _ _ c.ready_move.ensures.reads c.requires.holds.taken.there)
 
 pub pass-requires : goal.pass-requires
 pass-requires g c =
@@ -27,8 +27,8 @@ pass-requires g c =
       first = there_after _ _ _ _ _ reads c.requires.holds.taken.there;
       second = there_after _ _ _ _ _ reads c.requires.holds.put.there;
       recordable = subst (λ (o : Option Inode). IfSome o IsRecordable) (sym (shows_entry now ready.sound (dentry_at c.args.from) c.args.from.at.frag c.args.inode may.takes.stands may.carries.taken) ∙ may.takes.stands)
-          (of_names now ready.sound (λ (names : Names). IfSome (map.get names c.args.from.name) IsRecordable) c.args.from.at.rank.0 (leaf_of c.args.from.at)
-          (subst (λ (k : Core). HasCached (here k.caches c.args.from.at.rank.0 (leaf_of c.args.from.at)) (λ (f : Cached). IfSome (map.get (shown_of f) c.args.from.name) IsRecordable)) c.self.view_is c.is_recorded.ensures));
+          (of_names now ready.sound (λ (names : Names). (name : List ℕ) → IfSome (map.get names name) IsRecordable) c.args.from.at.rank.0 (leaf_of c.args.from.at)
+          (subst (λ (k : Core). HasCached (here k.caches c.args.from.at.rank.0 (leaf_of c.args.from.at)) (λ (f : Cached). (name : List ℕ) → IfSome (map.get (shown_of f) name) IsRecordable)) c.self.view_is c.has_records.ensures) c.args.from.name);
       source = ready.source;
       target = ready.target;
       version = ready.number;
