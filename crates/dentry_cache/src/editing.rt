@@ -16,7 +16,8 @@ impl Cache {
         requires room { HasRoom (cached self.old.entries (dir, frag)) }
         ensures { IsChanged (cached self.old.entries (dir, frag)) (λ (f now : Cached). now ≡ marked f name (record { version = version; inode = Some inode })) (dir, frag) self.old self.new }
     {
-        let Some(place) = self.places.get_mut(&(dir, frag)) else {
+        let _ = self.touch(dir, frag);
+        let Some(place) = self.places.peek_mut(&(dir, frag)) else {
             return;
         };
         let was = place.size();
@@ -30,7 +31,8 @@ impl Cache {
         requires { HasRoom (cached self.old.entries (dir, frag)) }
         ensures { IsChanged (cached self.old.entries (dir, frag)) (λ (f now : Cached). now ≡ marked f name (record { version = version; inode = None })) (dir, frag) self.old self.new }
     {
-        let Some(place) = self.places.get_mut(&(dir, frag)) else {
+        let _ = self.touch(dir, frag);
+        let Some(place) = self.places.peek_mut(&(dir, frag)) else {
             return;
         };
         let was = place.size();

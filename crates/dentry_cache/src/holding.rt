@@ -54,13 +54,13 @@ impl Cache {
         ensures { self.new ≡ used_as (dir, frag) (held fragment) self.old }
     {
         let now = Some(fragment.len());
-        let Some(place) = self.places.get_mut(&(dir, frag)) else {
-            return;
-        };
-        *place = Place {
-            frag: fragment,
-            kept: false,
-        };
+        let _ = self.places.put(
+            (dir, frag),
+            Place {
+                frag: fragment,
+                kept: false,
+            },
+        );
         self.candidates
             .resize(&self.places, &(dir, frag), None, now);
     }
