@@ -150,7 +150,7 @@ impl CachedFrag {
         }
         fits(self.counts, changes)?;
         self.dirty.reserve(changes)?;
-        self.room = changes;
+        self.room = room_of(self.counts, changes, self.dirty.room());
         Ok(())
     }
 }
@@ -166,6 +166,20 @@ pub(crate) fn shown_in<'a>(
     match dirty.get(name) {
         Some(mark) => mark.inode.as_ref(),
         None => clean.get(name),
+    }
+}
+
+// How many changes fit, where so many do and there is room for others: all of these, so that the next ones ask for none.
+fn room_of(counts: EntryCounts, changes: usize, room: usize) -> usize
+    requires few { counts.files + counts.dirs + changes < 2 ^ 64 }
+    requires within { changes ≤ room }
+    ensures few { counts.files + counts.dirs + result < 2 ^ 64 }
+    ensures within { result ≤ room }
+    ensures most { changes ≤ result }
+{
+    match fits(counts, room) {
+        Ok(()) => room,
+        Err(_) => changes,
     }
 }
 
