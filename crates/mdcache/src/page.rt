@@ -103,6 +103,11 @@ fn place_of(rows: &[(Name, Inode)], name: &Name) -> Result<usize, usize>
     ensures within { IsSearchInRange result (length rows.now) }
     ensures place { IsPlace key_cmp name.now rows.now result }
 {
+    // the names of a leaf come in their order, so mostly this one is behind the last
+    let len = rows.len();
+    if len > 0 && name.cmp(&rows[len - 1].0).is_gt() {
+        return Err(len);
+    }
     rows.binary_search_by(|row| name.cmp(&row.0).reverse())
 }
 
