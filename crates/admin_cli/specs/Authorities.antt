@@ -27,4 +27,5 @@ ListsSubtrees state line = line ≡ Subtrees (roots_in state.roots)
 -- whose a leaf is was told, or why not
 abbrev pub TellsLine : State → Ino → Fragment → OutputLine → Type 0
 TellsLine state dir f line =
-    ((rank : Rank) × TellsAuthority state (dir, f) (Ok rank) × (line ≡ Authority rank)) ⊎ ((refusal : Refusal) × TellsAuthority state (dir, f) (Err refusal) × (line ≡ Refused refusal))
+    ((rank : Rank) × TellsAuthority state (dir, f) (Ok rank) × (line ≡ Authority rank))
+    ⊎ ((refusal : Refusal) × TellsAuthority state (dir, f) (Err refusal) × (line ≡ Refused refusal))

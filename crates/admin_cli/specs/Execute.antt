@@ -19,7 +19,8 @@ use Rattle.admin_cli.specs.ExportLines.{ExecutesExport, LacksForExport}
 use Rattle.admin_cli.specs.OwnLines.{LacksForTurn, TakesTurn}
 use Rattle.admin_cli.specs.StoreLines.{ExecutesStore, LacksForStore}
 
--- an operation alone: it arrives at rank 0 as client 0 with this transaction number, and is served there if it wasn't refused
+-- an operation alone: it arrives at rank 0 as client 0 with this transaction number, and is served there if it wasn't
+-- refused
 abbrev pub OperatesAfter : (middle new : Kept) → Result Answer Refusal → OutputLine → Type 0
 OperatesAfter middle new (Ok answer) line = StepsLine middle new (ServeEvent (record { 0 = 0 })) shown_line line
 OperatesAfter middle new (Err refusal) line = (new ≡ middle) × (line ≡ Refused refusal)
@@ -27,20 +28,28 @@ OperatesAfter middle new (Err refusal) line = (new ≡ middle) × (line ≡ Refu
 pub record OperatesLine (old new : Kept) (tid : ℕ) (op : Op) (line : OutputLine) : Type 0 where
   pub middle : Kept
   pub arrived : Result Answer Refusal
-  pub stepped : IsStep old middle arrived (Arrive (record { 0 = 0 }) (record { client = 0; tid = tid; oldest = tid; op = op }))
+  pub stepped : IsStep old middle arrived (Arrive (record {
+    0 =
+        0;
+  }) (record { client = 0; tid = tid; oldest = tid; op = op }))
   pub rest : OperatesAfter middle new arrived line
 
 -- the leaves of a directory were listed, or why not; the book is only read
 abbrev pub ListsLine : Kept → Ino → OutputLine → Type 0
 ListsLine book dir line =
-    ((leaves : List Fragment) × ListsLeaves book.core.state dir (Ok leaves) × (line ≡ Frags leaves)) ⊎ ((refusal : Refusal) × ListsLeaves book.core.state dir (Err refusal) × (line ≡ Refused refusal))
+    ((leaves : List Fragment) × ListsLeaves book.core.state dir (Ok leaves) × (line ≡ Frags leaves))
+    ⊎ ((refusal : Refusal) × ListsLeaves book.core.state dir (Err refusal) × (line ≡ Refused refusal))
 
 -- a command, with the count of lines that were an operation alone
 abbrev pub Executes : (old new : Admin) → Command → OutputLine → Type 0
-Executes old new (Operation op) line = (new.operations ≡ old.operations + 1) × (new.jobs ≡ old.jobs) × (new.sent ≡ old.sent) × OperatesLine old.book new.book new.operations op line
+Executes old new (Operation op) line =
+    (new.operations ≡ old.operations + 1) × (new.jobs ≡ old.jobs) × (new.sent ≡ old.sent)
+    × OperatesLine old.book new.book new.operations op line
 Executes old new (Serve rank) line = Does old new (ServeEvent rank) line
 Executes old new (Own rank) line = TakesTurn old new rank line
-Executes old new (Request rank request) line = (new.operations ≡ old.operations) × (new.jobs ≡ old.jobs) × (new.sent ≡ old.sent) × StepsLine old.book new.book (Arrive rank request) arrived_line line
+Executes old new (Request rank request) line =
+    (new.operations ≡ old.operations) × (new.jobs ≡ old.jobs) × (new.sent ≡ old.sent)
+    × StepsLine old.book new.book (Arrive rank request) arrived_line line
 Executes old new History line = (new ≡ old) × (line ≡ HistoryLine (length old.book.history))
 Executes old new (Split rank dir f nb) line = Does old new (SplitEvent rank dir f nb) line
 Executes old new (Merge rank dir f) line = Does old new (MergeEvent rank dir f) line
@@ -51,7 +60,8 @@ Executes old new (Authority dir f) line = (new ≡ old) × TellsLine old.book.co
 Executes old new (Export command) line = ExecutesExport old new command line
 Executes old new (Store command) line = ExecutesStore old new command line
 
--- memory that the script itself needs for a command was refused: for a list of the subtree map, for a job, or for the bytes of an export
+-- memory that the script itself needs for a command was refused: for a list of the subtree map, for a job, or for the
+-- bytes of an export
 abbrev pub LacksFor : (old new : Admin) → Command → Type 0
 LacksFor old new (Operation op) = ⊥
 LacksFor old new (Serve rank) = ⊥

@@ -39,7 +39,8 @@ pub record SendsLine (old new : Admin) (dir : Ino) (f : Fragment) (line : Output
   pub count : new.operations ≡ old.operations
   pub shown : line ≡ shown_line result
 
--- the bytes kept under a root, or none, were given to the importer of its export; once it has them they are kept no longer
+-- the bytes kept under a root, or none, were given to the importer of its export; once it has them they are kept no
+-- longer
 pub record ImportsLine (old new : Admin) (dir : Ino) (f : Fragment) (line : OutputLine) : Type 0 where
   pub result : Result Answer Refusal
   pub stepped : IsStep old.book new.book result (ImportEvent dir f (bytes_for old.sent (dir, f)))
@@ -56,7 +57,8 @@ MakesNoRoom old new = new ≡ old
 abbrev pub CopiesNoBytes : (old new : Admin) → Ino → Fragment → Type 0
 CopiesNoBytes old new dir f = (new ≡ old) × IsSome (map.get old.sent.bytes (dir, f))
 
--- memory that the script itself needs for a command on an export was refused: for bytes that it keeps or copies, of no step's
+-- memory that the script itself needs for a command on an export was refused: for bytes that it keeps or copies, of no
+-- step's
 abbrev pub LacksForExport : (old new : Admin) → ExportCommand → Type 0
 LacksForExport old new (Dir from dir f to) = ⊥
 LacksForExport old new (Freeze dir f) = ⊥

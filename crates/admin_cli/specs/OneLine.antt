@@ -11,13 +11,16 @@ use Rattle.admin_cli.specs.declared.faults.FaultKind.{FaultKind}
 use Rattle.admin_cli.specs.declared.faults.FaultKind.TheVariants.{NotCommand, TooLong, ReadFault, WriteFault, OutOfMemory}
 use Rattle.admin_cli.specs.Scripts.{text_of, DoesLine, LacksLine, NeverStarts, RunsInput, RunsLine, StopsAt}
 
--- a line before it is printed: the line to print, if it prints one, that it is no command, or want of memory for what is kept of it
+-- a line before it is printed: the line to print, if it prints one, that it is no command, or want of memory for what
+-- is kept of it
 abbrev pub AnswersLine : (old new : Admin) → Line → Result (Option OutputLine) FaultKind → Type 0
 AnswersLine old new found (Ok None) = DoesLine old new found []
 AnswersLine old new found (Ok (Some printed)) = DoesLine old new found (text_of printed)
-AnswersLine old new found (Err kind) = ((found ≡ line.NotCommand) × (kind ≡ NotCommand)) ⊎ (LacksLine old new found × (kind ≡ OutOfMemory))
+AnswersLine old new found (Err kind) =
+    ((found ≡ line.NotCommand) × (kind ≡ NotCommand)) ⊎ (LacksLine old new found × (kind ≡ OutOfMemory))
 
--- what is written of a line: all its text, for want of memory for one that takes some nothing, and at a write fault a beginning
+-- what is written of a line: all its text, for want of memory for one that takes some nothing, and at a write fault a
+-- beginning
 abbrev pub Prints : (before after : Option (List ℕ)) → OutputLine → Result (Unit {0}) FaultKind → Type 0
 Prints before after printed (Ok done) = Appends before after (text_of printed)
 Prints before after printed (Err OutOfMemory) = Keeps before after × TakesText printed
@@ -34,7 +37,8 @@ DoesBytes old new bytes (Err kind) = StopsAt old new bytes kind []
 
 -- a script that ended with a read fault: its reader has failed, or its lines were more than 64 bits count
 abbrev pub HasReaderFailed : Bool → Result (Unit {0}) ScriptFault → Type 0
-HasReaderFailed failed result = IfErr result (λ fault. fault.kind ≡ ReadFault → (failed ≡ true) ⊎ (fault.line ≡ 2 ^ 64 - 1))
+HasReaderFailed failed result =
+    IfErr result (λ fault. fault.kind ≡ ReadFault → (failed ≡ true) ⊎ (fault.line ≡ 2 ^ 64 - 1))
 
 -- lines were run after all memory for reading was taken; or none was
 abbrev pub RunsOrNot : Admin → (known before after : Option (List ℕ)) → Result (Unit {0}) ScriptFault → Type 0

@@ -44,7 +44,8 @@ told step dir f shown = Own (record { step = step; ino = dir; frag = f; result =
 
 -- a step was made, and told so
 abbrev pub MakesOne : (old new : Admin) → OwnStep → Ino → Fragment → Event → OutputLine → Type 0
-MakesOne old new step dir f event line = (shown : OutputLine) × Does old new event shown × (line ≡ told step dir f shown)
+MakesOne old new step dir f event line =
+    (shown : OutputLine) × Does old new event shown × (line ≡ told step dir f shown)
 
 -- the step that a rank proposed was made as its own command makes it, an Import with the bytes that are kept for it
 abbrev pub MakesStep : (old new : Admin) → Event → OutputLine → Type 0
@@ -62,8 +63,10 @@ MakesStep old new (Evict rank) line = ⊥
 MakesStep old new (Start from dir f to) line = MakesOne old new own.Start dir f (Start from dir f to) line
 MakesStep old new (Freeze dir f) line = MakesOne old new own.Freeze dir f (Freeze dir f) line
 MakesStep old new (Prep dir f) line = MakesOne old new own.Prep dir f (Prep dir f) line
-MakesStep old new (Send dir f) line = (shown : OutputLine) × SendsLine old new dir f shown × (line ≡ told own.Send dir f shown)
-MakesStep old new (Import dir f bytes) line = (shown : OutputLine) × ImportsLine old new dir f shown × (line ≡ told own.Import dir f shown)
+MakesStep old new (Send dir f) line =
+    (shown : OutputLine) × SendsLine old new dir f shown × (line ≡ told own.Send dir f shown)
+MakesStep old new (Import dir f bytes) line =
+    (shown : OutputLine) × ImportsLine old new dir f shown × (line ≡ told own.Import dir f shown)
 MakesStep old new (Finish dir f) line = MakesOne old new own.Finish dir f (Finish dir f) line
 MakesStep old new (Cancel dir f) line = MakesOne old new own.Cancel dir f (Cancel dir f) line
 
@@ -79,8 +82,8 @@ pub record TakesTurn (old new : Admin) (rank : Rank) (line : OutputLine) : Type 
   pub proposed : Proposes old.book.core rank found
   pub done : OwnLine old new found line
 
--- memory that the script itself needs for a step was refused: for room for the bytes of a Send, or for a copy of those kept for an Import. No step
--- was made
+-- memory that the script itself needs for a step was refused: for room for the bytes of a Send, or for a copy of those
+-- kept for an Import. No step was made
 abbrev pub LacksForStep : (old new : Admin) → Event → Type 0
 LacksForStep old new (Arrive rank request) = ⊥
 LacksForStep old new (Serve rank) = ⊥

@@ -42,5 +42,7 @@ pub record IsText (agrees : Bool) (text : List ℕ) : Type 0 where
 abbrev pub ServesOut : (before after : Option (List ℕ)) → Result (Unit {0}) ServeFault → Type 0
 ServesOut before after (Ok done) = (text : List ℕ) × IsText true text × Appends before after text
 ServesOut before after (Err (Fault number)) =
-    (((number ≡ 1) ⊎ (number ≡ 2)) × Keeps before after) ⊎ ((number ≡ 3) × ((text : List ℕ) × IsText false text × Appends before after text))
-ServesOut before after (Err Write) = (agrees : Bool) × (text : List ℕ) × IsText agrees text × AppendsBeginning before after text
+    (((number ≡ 1) ⊎ (number ≡ 2)) × Keeps before after)
+    ⊎ ((number ≡ 3) × ((text : List ℕ) × IsText false text × Appends before after text))
+ServesOut before after (Err Write) =
+    (agrees : Bool) × (text : List ℕ) × IsText agrees text × AppendsBeginning before after text

@@ -23,10 +23,12 @@ use Rattle.admin_cli.specs.Execute.{Executes, LacksFor}
 abbrev pub text_of : OutputLine → List ℕ
 text_of line = output_line line ++ codes "\n"
 
--- what one line does, and its text, by what the line is: nothing, a command, or one with a name outside the rules, of which no request is made
+-- what one line does, and its text, by what the line is: nothing, a command, or one with a name outside the rules, of
+-- which no request is made
 abbrev pub DoesLine : (old new : Admin) → Line → List ℕ → Type 0
 DoesLine old new line.Nothing text = (new ≡ old) × (text ≡ [])
-DoesLine old new (line.Command command) text = (printed : OutputLine) × Executes old new command printed × (text ≡ text_of printed)
+DoesLine old new (line.Command command) text =
+    (printed : OutputLine) × Executes old new command printed × (text ≡ text_of printed)
 DoesLine old new (line.BadWord errno) text = (new ≡ old) × (text ≡ text_of (Errno errno))
 DoesLine old new line.NotCommand text = ⊥
 
@@ -38,7 +40,9 @@ pub record RunsLine (old new : Admin) (bytes text : List ℕ) : Type 0 where
 -- lines were done one after the other, each on the book that the one before it left; the text is all of theirs
 abbrev pub RunsLines : (old new : Admin) → List (List ℕ) → List ℕ → Type 0
 RunsLines old new [] text = (new ≡ old) × (text ≡ [])
-RunsLines old new (bytes ∷ lines) text = (middle : Admin) × (first : List ℕ) × (rest : List ℕ) × RunsLine old middle bytes first × RunsLines middle new lines rest × (text ≡ first ++ rest)
+RunsLines old new (bytes ∷ lines) text =
+    (middle : Admin) × (first : List ℕ) × (rest : List ℕ) × RunsLine old middle bytes first
+    × RunsLines middle new lines rest × (text ≡ first ++ rest)
 
 -- a line was done, but of its text only a beginning was written, and not all of it
 pub record BreaksOff (old : Admin) (bytes front : List ℕ) : Type 0 where
@@ -67,13 +71,14 @@ pub record LacksText (old new : Admin) (bytes : List ℕ) : Type 0 where
   pub runs : RunsLine old new bytes (text_of printed)
   pub takes : TakesText printed
 
--- memory that the script itself needs for a line was refused: to read it, which leaves all, for what its command keeps or lists,
--- or for its text
+-- memory that the script itself needs for a line was refused: to read it, which leaves all, for what its command keeps
+-- or lists, or for its text
 abbrev pub LacksMemory : (old new : Admin) → List ℕ → Type 0
-LacksMemory old new bytes = (TakesMemory bytes × (new ≡ old)) ⊎ (LacksLine old new (line_of bytes) ⊎ LacksText old new bytes)
+LacksMemory old new bytes =
+    (TakesMemory bytes × (new ≡ old)) ⊎ (LacksLine old new (line_of bytes) ⊎ LacksText old new bytes)
 
--- why a line that was read ends a script, and the beginning of its text that was written: only a write fault leaves one. What it
--- is never told as is a fault of the reader, or as too long
+-- why a line that was read ends a script, and the beginning of its text that was written: only a write fault leaves
+-- one. What it is never told as is a fault of the reader, or as too long
 abbrev pub StopsAt : (old new : Admin) → List ℕ → FaultKind → List ℕ → Type 0
 StopsAt old new bytes NotCommand front = (length bytes ≤ 16384) × (line_of bytes ≡ line.NotCommand) × (front ≡ [])
 StopsAt old new bytes TooLong front = ⊥
@@ -87,15 +92,18 @@ StopsBefore old lines NotCommand front = OfFirst (λ bytes. (new : Admin) × Sto
 StopsBefore old lines TooLong front = OfFirst (λ bytes. 16384 < length bytes) lines × (front ≡ [])
 StopsBefore old lines ReadFault front = front ≡ []
 StopsBefore old lines WriteFault front = OfFirst (λ bytes. (new : Admin) × StopsAt old new bytes WriteFault front) lines
-StopsBefore old lines OutOfMemory front = OfFirst (λ bytes. (new : Admin) × StopsAt old new bytes OutOfMemory front) lines
+StopsBefore old lines OutOfMemory front =
+    OfFirst (λ bytes. (new : Admin) × StopsAt old new bytes OutOfMemory front) lines
 
 -- how a script ended after so many lines: Ok where none is left, else a fault at the next one, all lines counted from 1
 abbrev pub Ends : Admin → ℕ → List (List ℕ) → Result (Unit {0}) ScriptFault → List ℕ → Type 0
 Ends old done left (Ok all) front = (left ≡ []) × (front ≡ [])
 Ends old done left (Err fault) front = (fault.line ≡ done + 1) × StopsBefore old left fault.kind front
 
--- a script of these lines: those before its end were done, and what was written is their text, with a beginning of the next line's at a write fault
-pub record RunsScript (old : Admin) (lines : List (List ℕ)) (before after : Option (List ℕ)) (result : Result (Unit {0}) ScriptFault) : Type 0 where
+-- a script of these lines: those before its end were done, and what was written is their text, with a beginning of the
+-- next line's at a write fault
+pub record RunsScript (old : Admin) (lines : List (List ℕ)) (before after : Option (List ℕ))
+    (result : Result (Unit {0}) ScriptFault) : Type 0 where
   pub done : List (List ℕ)
   pub left : List (List ℕ)
   pub whole : lines ≡ done ++ left
@@ -107,14 +115,15 @@ pub record RunsScript (old : Admin) (lines : List (List ℕ)) (before after : Op
   pub written : Appends before after (text ++ front)
 
 -- a script read from a reader: its lines are those of the bytes that the reader has left, where these are known
-pub record RunsInput (old : Admin) (known before after : Option (List ℕ)) (result : Result (Unit {0}) ScriptFault) : Type 0 where
+pub record RunsInput (old : Admin) (known before after : Option (List ℕ))
+    (result : Result (Unit {0}) ScriptFault) : Type 0 where
   pub lines : List (List ℕ)
   pub read : IfSome known (λ bytes. lines ≡ lines_of bytes)
   pub script : RunsScript old lines before after result
 
--- a book as `format` makes it with so many ranks, a cache of so many places for each, and so many entries that a directory may have: a sound
--- book with an empty tree, an empty history, the state of a new cluster, and its caches, each of that size and with no place taken but that
--- of the root's leaf at rank 0. Its store told no fault
+-- a book as `format` makes it with so many ranks, a cache of so many places for each, and so many entries that a
+-- directory may have: a sound book with an empty tree, an empty history, the state of a new cluster, and its caches,
+-- each of that size and with no place taken but that of the root's leaf at rank 0. Its store told no fault
 pub record IsFormatted (ranks cache limit : ℕ) (book : Kept) : Type 0 where
   pub opening : book.opening ≡ map.empty
   pub history : book.history ≡ []
@@ -124,15 +133,24 @@ pub record IsFormatted (ranks cache limit : ℕ) (book : Kept) : Type 0 where
   pub faults : book.core.faults ≡ 0
 
 -- a whole script, from a new book, with no line read yet
-pub record RunsFormatted (ranks cache limit : ℕ) (known before after : Option (List ℕ)) (result : Result (Unit {0}) ScriptFault) : Type 0 where
+pub record RunsFormatted (ranks cache limit : ℕ) (known before after : Option (List ℕ))
+    (result : Result (Unit {0}) ScriptFault) : Type 0 where
   pub book : Kept
   pub formatted : IsFormatted ranks cache limit book
-  pub runs : RunsInput (record { book = book; operations = 0; jobs = map.empty; sent = none_sent }) known before after result
+  pub runs : RunsInput (record {
+    book =
+        book;
+    operations = 0;
+    jobs = map.empty;
+    sent = none_sent;
+  }) known before after result
 
 -- memory for a book, or to read lines, was refused before the first line: nothing was written
 pub record NeverStarts (before after : Option (List ℕ)) (result : Result (Unit {0}) ScriptFault) : Type 0 where
   pub told : result ≡ Err (record { line = 1; kind = OutOfMemory })
   pub same : Keeps before after
 
-abbrev pub RunsNew : (ranks cache limit : ℕ) → (known before after : Option (List ℕ)) → Result (Unit {0}) ScriptFault → Type 0
-RunsNew ranks cache limit known before after result = RunsFormatted ranks cache limit known before after result ⊎ NeverStarts before after result
+abbrev pub RunsNew : (ranks cache limit : ℕ) → (known before after : Option (List ℕ)) → Result (Unit {0}) ScriptFault
+    → Type 0
+RunsNew ranks cache limit known before after result =
+    RunsFormatted ranks cache limit known before after result ⊎ NeverStarts before after result

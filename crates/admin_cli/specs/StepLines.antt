@@ -11,8 +11,8 @@ use Rattle.script_output.specs.declared.lines.OutputLine.{OutputLine}
 use Rattle.script_output.specs.declared.lines.OutputLine.TheVariants.{Reply as ReplyLine, Forwarded as ForwardedLine, Deferred as DeferredLine, Queued, Nothing as NothingLine, Job as JobLine, Sent as SentLine, Refused}
 use Rattle.admin_cli.specs.declared.commands.Admin.{Admin}
 
--- one event led from a book to the next with this result, by all that the contract of a book's step says; its store, which
--- is in memory, tells no fault
+-- one event led from a book to the next with this result, by all that the contract of a book's step says; its store,
+-- which is in memory, tells no fault
 pub record IsStep (old new : Kept) (result : Result Answer Refusal) (event : Event) : Type 0 where
   pub stepped : StepsBook old new result event
   pub sound : IsSoundBook new
@@ -34,11 +34,14 @@ arrived_line (Ok answer) = Queued
 arrived_line (Err refusal) = Refused refusal
 
 -- one step of the book, and the line that shows what it came to
-pub record StepsLine (old new : Kept) (event : Event) (line_of : Result Answer Refusal → OutputLine) (line : OutputLine) : Type 0 where
+pub record StepsLine (old new : Kept) (event : Event) (line_of : Result Answer Refusal → OutputLine)
+    (line : OutputLine) : Type 0 where
   pub result : Result Answer Refusal
   pub stepped : IsStep old new result event
   pub shown : line ≡ line_of result
 
 -- a command that is one event: nothing else changes
 abbrev pub Does : (old new : Admin) → Event → OutputLine → Type 0
-Does old new event line = (new.operations ≡ old.operations) × (new.jobs ≡ old.jobs) × (new.sent ≡ old.sent) × StepsLine old.book new.book event shown_line line
+Does old new event line =
+    (new.operations ≡ old.operations) × (new.jobs ≡ old.jobs) × (new.sent ≡ old.sent)
+    × StepsLine old.book new.book event shown_line line

@@ -51,7 +51,8 @@ with_begun jobs (Ok (Sent bytes)) = jobs
 with_begun jobs (Err refusal) = jobs
 
 -- a commit of a leaf began, which gave a job of this number, or nothing, or was refused
-pub record BeginsCommit (old new : Admin) (rank : Rank) (dir : Ino) (f : Fragment) (number : Result (Option ℕ) Refusal) : Type 0 where
+pub record BeginsCommit (old new : Admin) (rank : Rank) (dir : Ino) (f : Fragment)
+    (number : Result (Option ℕ) Refusal) : Type 0 where
   pub result : Result Answer Refusal
   pub stepped : IsStep old.book new.book result (BeginEvent rank dir f)
   pub kept : new.jobs ≡ with_begun old.jobs result
@@ -66,7 +67,8 @@ begun_line (Ok None) = NothingLine
 begun_line (Err refusal) = Refused refusal
 
 abbrev pub BeginsLine : (old new : Admin) → Rank → Ino → Fragment → OutputLine → Type 0
-BeginsLine old new rank dir f line = (number : Result (Option ℕ) Refusal) × BeginsCommit old new rank dir f number × (line ≡ begun_line number)
+BeginsLine old new rank dir f line =
+    (number : Result (Option ℕ) Refusal) × BeginsCommit old new rank dir f number × (line ≡ begun_line number)
 
 -- a commit is over with this result: it was ended or given up, or is stale (refusal 11)
 abbrev pub is_over : Result Answer Refusal → Bool
@@ -82,11 +84,12 @@ pub record EndsJob (old new : Admin) (number : ℕ) (event : Event) (line : Outp
   pub count : new.operations ≡ old.operations
   pub shown : line ≡ shown_line result
 
--- a kept job was encoded, and its commit ended; none of this number is told as a stale one, and want of memory for what is encoded as a
--- refusal: both leave all
+-- a kept job was encoded, and its commit ended; none of this number is told as a stale one, and want of memory for what
+-- is encoded as a refusal: both leave all
 abbrev pub EndsKept : (old new : Admin) → ℕ → Option Begun → OutputLine → Type 0
 EndsKept old new number None line = (new ≡ old) × (line ≡ Refused StaleJob)
-EndsKept old new number (Some job) line = ((new ≡ old) × (line ≡ Refused NoMemory)) ⊎ EndsJob old new number (EndEvent (carried job)) line
+EndsKept old new number (Some job) line =
+    ((new ≡ old) × (line ≡ Refused NoMemory)) ⊎ EndsJob old new number (EndEvent (carried job)) line
 
 abbrev pub EndsLine : (old new : Admin) → ℕ → OutputLine → Type 0
 EndsLine old new number line = EndsKept old new number (map.get old.jobs number) line
@@ -129,9 +132,11 @@ LacksForCommit old new rank dir f = LosesJob old new rank dir f ⊎ BeginsAlone 
 
 -- ---- flushes
 
--- a flush led from a book to the next with this result, by all that its contract says; the store, which is in memory, tells no fault
+-- a flush led from a book to the next with this result, by all that its contract says; the store, which is in memory,
+-- tells no fault
 pub record IsFlush (old new : Kept) (result : Result (Unit {0}) Refusal) : Type 0 where
-  pub cold : OnOk result (IsColdTree new.core.state.tree.objects (after old.core.state.tree.limit old.opening old.history))
+  pub cold : OnOk result (IsColdTree new.core.state.tree.objects
+      (after old.core.state.tree.limit old.opening old.history))
   pub exact : OnOk result (AreExact new.core.state.tree)
   pub clean : OnOk result (new.core.state.tree.unsaved ≡ map.empty)
   pub purged : OnOk result (new.core.state.tree.purge ≡ map.empty)
@@ -163,7 +168,8 @@ pub record FlushesLine (old new : Admin) (line : OutputLine) : Type 0 where
 -- what the object of a name is, or want of memory, of an object whose line takes some
 abbrev pub LooksLine : Stored → List ℕ → OutputLine → Type 0
 LooksLine objects name line =
-    ((shown : Shown) × IsLineOf (map.get objects name) shown × (line ≡ ObjectLine shown)) ⊎ ((line ≡ Refused NoMemory) × MayTakeMemory (map.get objects name))
+    ((shown : Shown) × IsLineOf (map.get objects name) shown × (line ≡ ObjectLine shown))
+    ⊎ ((line ≡ Refused NoMemory) × MayTakeMemory (map.get objects name))
 
 -- the names of all objects, or want of memory
 abbrev pub ListsObjects : Stored → OutputLine → Type 0
@@ -171,7 +177,8 @@ ListsObjects objects line = (line ≡ ObjectsLine (map.keys objects)) ⊎ (line 
 
 -- ---- a command on the store
 
--- memory that the script itself needs for a command on the store was refused: for a job that it keeps or copies, of no step's
+-- memory that the script itself needs for a command on the store was refused: for a job that it keeps or copies, of no
+-- step's
 abbrev pub LacksForStore : (old new : Admin) → StoreCommand → Type 0
 LacksForStore old new (CommitBegin rank dir f) = LosesJob old new rank dir f
 LacksForStore old new (CommitEnd number) = CopiesNone old new number

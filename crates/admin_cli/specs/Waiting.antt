@@ -23,7 +23,8 @@ IsEmpty waiting = (waiting.bytes.items ≡ []) × (waiting.marks.items ≡ [])
 -- what a line of the script prints stands behind what waits
 pub record Puts (old new : Waiting) (line : ℕ) (printed : OutputLine) : Type 0 where
   pub bytes : new.bytes.items ≡ old.bytes.items ++ text_of printed
-  pub marks : new.marks.items ≡ old.marks.items ++ record { line = line; end = length (old.bytes.items ++ text_of printed) } ∷ []
+  pub marks : new.marks.items ≡ old.marks.items
+      ++ record { line = line; end = length (old.bytes.items ++ text_of printed) } ∷ []
 
 -- a part of what waits was written, and the fault tells the line whose text broke off
 pub record Breaks (waiting : Waiting) (before after : Option (List ℕ)) (fault : ScriptFault) : Type 0 where
@@ -39,11 +40,13 @@ Flushes old new before after (Err fault) = IsEmpty new × Breaks old before afte
 
 -- so, or it waits on
 abbrev pub MayFlush : (old new : Waiting) → (before after : Option (List ℕ)) → Result (Unit {0}) ScriptFault → Type 0
-MayFlush old new before after (Ok done) = ((new ≡ old) × (after ≡ before)) ⊎ (IsEmpty new × Appends before after old.bytes.items)
+MayFlush old new before after (Ok done) =
+    ((new ≡ old) × (after ≡ before)) ⊎ (IsEmpty new × Appends before after old.bytes.items)
 MayFlush old new before after (Err fault) = IsEmpty new × Breaks old before after fault
 
 -- what waited was written, and then a line that was printed, up to a fault of its own
-pub record PrintsOwn (waiting : Waiting) (line : ℕ) (printed : OutputLine) (before after : Option (List ℕ)) (fault : ScriptFault) : Type 0 where
+pub record PrintsOwn (waiting : Waiting) (line : ℕ) (printed : OutputLine) (before after : Option (List ℕ))
+    (fault : ScriptFault) : Type 0 where
   pub kind : FaultKind
   pub told : fault ≡ record { line = line; kind = kind }
   pub middle : Option (List ℕ)
@@ -51,32 +54,44 @@ pub record PrintsOwn (waiting : Waiting) (line : ℕ) (printed : OutputLine) (be
   pub prints : Prints middle after printed (Err kind)
 
 -- a line's text was put behind what waits; or all was written, where there was no memory to let it wait
-abbrev pub PrintsOutput : (old new : Waiting) → (line : ℕ) → OutputLine → (before after : Option (List ℕ)) → Result (Unit {0}) ScriptFault → Type 0
-PrintsOutput old new line printed before after (Ok done) = (Puts old new line printed × (after ≡ before)) ⊎ (IsEmpty new × Appends before after (old.bytes.items ++ text_of printed))
-PrintsOutput old new line printed before after (Err fault) = IsEmpty new × (Breaks old before after fault ⊎ PrintsOwn old line printed before after fault)
+abbrev pub PrintsOutput : (old new : Waiting) → (line : ℕ) → OutputLine → (before after : Option (List ℕ))
+    → Result (Unit {0}) ScriptFault → Type 0
+PrintsOutput old new line printed before after (Ok done) =
+    (Puts old new line printed × (after ≡ before))
+    ⊎ (IsEmpty new × Appends before after (old.bytes.items ++ text_of printed))
+PrintsOutput old new line printed before after (Err fault) =
+    IsEmpty new × (Breaks old before after fault ⊎ PrintsOwn old line printed before after fault)
 
 -- what a line of the script prints, if it prints anything
-abbrev pub PrintsAny : (old new : Waiting) → (line : ℕ) → Option OutputLine → (before after : Option (List ℕ)) → Result (Unit {0}) ScriptFault → Type 0
+abbrev pub PrintsAny : (old new : Waiting) → (line : ℕ) → Option OutputLine → (before after : Option (List ℕ))
+    → Result (Unit {0}) ScriptFault → Type 0
 PrintsAny old new line None before after result = (new ≡ old) × (after ≡ before) × (result ≡ Ok tt)
 PrintsAny old new line (Some printed) before after result = PrintsOutput old new line printed before after result
 
 -- the script ended at this line before it was printed
-pub record StopsUnprinted (old new : Waiting) (line : ℕ) (kind : FaultKind) (before after : Option (List ℕ)) (result : Result (Unit {0}) ScriptFault) : Type 0 where
+pub record StopsUnprinted (old new : Waiting) (line : ℕ) (kind : FaultKind) (before after : Option (List ℕ))
+    (result : Result (Unit {0}) ScriptFault) : Type 0 where
   pub waits : new ≡ old
   pub kept : after ≡ before
   pub told : result ≡ Err (record { line = line; kind = kind })
 
 -- a line that came to this, which is printed, if anything is; or the script ended at it before
-abbrev pub PrintsOf : (CameTo : Result (Option OutputLine) FaultKind → Type 0) → (old new : Waiting) → (line : ℕ) → (before after : Option (List ℕ)) → Result (Unit {0}) ScriptFault → Type 0
+abbrev pub PrintsOf : (CameTo : Result (Option OutputLine) FaultKind → Type 0) → (old new : Waiting) → (line : ℕ)
+    → (before after : Option (List ℕ)) → Result (Unit {0}) ScriptFault → Type 0
 PrintsOf CameTo old new line before after result =
-    ((printed : Option OutputLine) × CameTo (Ok printed) × PrintsAny old new line printed before after result) ⊎ ((kind : FaultKind) × CameTo (Err kind) × StopsUnprinted old new line kind before after result)
+    ((printed : Option OutputLine) × CameTo (Ok printed) × PrintsAny old new line printed before after result)
+    ⊎ ((kind : FaultKind) × CameTo (Err kind) × StopsUnprinted old new line kind before after result)
 
 -- the line of a command is printed; or there was no memory for what the script keeps of it
-abbrev pub PrintsCame : {E : Type 0} → Result OutputLine E → (old new : Waiting) → (line : ℕ) → (before after : Option (List ℕ)) → Result (Unit {0}) ScriptFault → Type 0
+abbrev pub PrintsCame : {E : Type 0} → Result OutputLine E → (old new : Waiting) → (line : ℕ)
+    → (before after : Option (List ℕ)) → Result (Unit {0}) ScriptFault → Type 0
 PrintsCame (Ok printed) old new line before after result = PrintsOutput old new line printed before after result
 PrintsCame (Err refused) old new line before after result = StopsUnprinted old new line OutOfMemory before after result
 
 -- a script ended so; what waits is to be written, or a beginning of it, and then it is the whole script that did
-pub record RunsWaiting (old : Admin) (waiting : Waiting) (known before middle : Option (List ℕ)) (result : Result (Unit {0}) ScriptFault) : Type 0 where
-  pub whole : (after : Option (List ℕ)) → Appends middle after waiting.bytes.items → RunsInput old known before after result
-  pub broken : (after : Option (List ℕ)) (fault : ScriptFault) → Breaks waiting middle after fault → RunsInput old known before after (Err fault)
+pub record RunsWaiting (old : Admin) (waiting : Waiting) (known before middle : Option (List ℕ))
+    (result : Result (Unit {0}) ScriptFault) : Type 0 where
+  pub whole : (after : Option (List ℕ)) → Appends middle after waiting.bytes.items
+      → RunsInput old known before after result
+  pub broken : (after : Option (List ℕ)) (fault : ScriptFault) → Breaks waiting middle after fault
+      → RunsInput old known before after (Err fault)

@@ -11,7 +11,8 @@ use std::alloc::{AllocError, Global};
 /// What the command line asks for.
 #[derive(Clone, Copy, Debug, PartialEq, Eq)]
 pub enum Options {
-    /// A script over a cluster of so many ranks, each of which may cache so many fragments, where a directory may have so many entries.
+    /// A script over a cluster of so many ranks, each of which may cache so many fragments, where a directory may have
+    /// so many entries.
     Script { ranks: u8, cache: u32, limit: Limit },
     /// Clients that create files, served by rank threads.
     Serve(Load),

@@ -14,7 +14,8 @@ use script_text::Command;
 use std::alloc::{AllocError, Global};
 use std::thread::Threads;
 
-/// A book, how many lines with an operation alone were read for it, the jobs that were begun, and the bytes that exports sent.
+/// A book, how many lines with an operation alone were read for it, the jobs that were begun, and the bytes that
+/// exports sent.
 #[derive(Drop)]
 pub struct Admin {
     pub(crate) book: Book<MemStore>,
@@ -41,10 +42,11 @@ impl Admin {
     }
 
     /// Does what a command asks for, and answers the line to print. So many lines were read that one more fits 64 bits.
-    /// An error is want of memory that the script itself needs: for a job that it keeps, once the step has given it; for room to keep
-    /// the bytes of an export, or for a copy of what it kept, before the step; or for a list of the subtree map. No step's answer is
-    /// lost by it but a job that it was to keep. It isn't put into its caller, so that an operation, as most lines are, has no room to clear
-    /// that only other commands need: `operate` does one by itself.
+    /// An error is want of memory that the script itself needs: for a job that it keeps, once the step has given it;
+    /// for room to keep the bytes of an export, or for a copy of what it kept, before the step; or for a list of the
+    /// subtree map. No step's answer is lost by it but a job that it was to keep. It isn't put into its caller, so that
+    /// an operation, as most lines are, has no room to clear that only other commands need: `operate` does one by
+    /// itself.
     #[inline(never)]
     pub fn execute(
         &mut self,
@@ -79,9 +81,9 @@ impl Admin {
         }
     }
 
-    /// An operation alone arrives at rank 0 as client 0, with the number of such lines so far as its transaction number and
-    /// its oldest, and is served there. This and the next four are functions of their own: else each line would clear the room for all that
-    /// any of them needs.
+    /// An operation alone arrives at rank 0 as client 0, with the number of such lines so far as its transaction number
+    /// and its oldest, and is served there. This and the next four are functions of their own: else each line would
+    /// clear the room for all that any of them needs.
     #[inline(never)]
     pub fn operate(&mut self, alloc: Global, op: Op) -> OutputLine
         requires { self.old.operations + 1 < 2 ^ 64 }

@@ -51,8 +51,8 @@ impl Admin {
         }
     }
 
-    // `export send INO FRAG`: what the export hands over is kept. An error says that there was no room to keep it, so that nothing was
-    // sent.
+    // `export send INO FRAG`: what the export hands over is kept. An error says that there was no room to keep it, so
+    // that nothing was sent.
     #[inline(never)]
     pub(crate) fn send(
         &mut self,
@@ -75,8 +75,8 @@ impl Admin {
         }
     }
 
-    // `export import INO FRAG`: the importer takes a copy of the kept bytes. Once it has them they are kept no longer. An error says
-    // that there was no memory to copy them.
+    // `export import INO FRAG`: the importer takes a copy of the kept bytes. Once it has them they are kept no longer.
+    // An error says that there was no memory to copy them.
     #[inline(never)]
     pub(crate) fn import(
         &mut self,

@@ -29,8 +29,8 @@ impl fmt::Display for FaultKind {
     }
 }
 
-/// A script's end before that of its input: the line that was being read or answered, all lines counted from 1, and what
-/// happened there.
+/// A script's end before that of its input: the line that was being read or answered, all lines counted from 1, and
+/// what happened there.
 #[derive(Clone, Copy, Debug, PartialEq, Eq, Error)]
 #[error("line {line}: {kind}")]
 pub struct ScriptFault {

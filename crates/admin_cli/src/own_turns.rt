@@ -10,8 +10,9 @@ use script_output::{OutputLine, OwnResult, OwnStep, OwnTurn};
 use std::alloc::{AllocError, Global};
 
 impl Admin {
-    /// A rank proposes a step of its own, and makes it, if there is one. What a Send hands over is kept, and its Import takes a copy of
-    /// it, as by the commands of exports. An error says that there was no memory for that, and no step was made.
+    /// A rank proposes a step of its own, and makes it, if there is one. What a Send hands over is kept, and its Import
+    /// takes a copy of it, as by the commands of exports. An error says that there was no memory for that, and no step
+    /// was made.
     #[inline(never)]
     pub(crate) fn own_turn(&mut self, alloc: Global, rank: Rank) -> Result<OutputLine, AllocError>
         ensures line { IfOk result (TakesTurn self.old self.new rank) }

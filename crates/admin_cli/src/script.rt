@@ -18,9 +18,10 @@ use std::alloc::{AllocError, Global};
 use std::io::{BufRead, BufReader, Read, Write};
 use std::thread::Threads;
 
-/// Runs a script over a cluster with an empty tree, where a directory may have `limit` entries: for each line of the reader that is a command, one line is written
-/// with what became of it. A fault ends the script: what the lines before it printed has been written, and after a write
-/// fault a beginning of its own line, nothing else. It returns wherever its reader ends.
+/// Runs a script over a cluster with an empty tree, where a directory may have `limit` entries: for each line of the
+/// reader that is a command, one line is written with what became of it. A fault ends the script: what the lines before
+/// it printed has been written, and after a write fault a beginning of its own line, nothing else. It returns wherever
+/// its reader ends.
 pub fn run_script<H: AllocGlobal + Threads + Sync, R: Read + Drop, W: Write>(
     rt: &H,
     reader: R,
@@ -118,8 +119,8 @@ impl<R: Read> ReadAhead for BufReader<R> {
     }
 }
 
-// Runs the lines of a reader, one after the other. What they print waits to be written together, but not while the reader
-// waits for more. More lines than 64 bits count are a read fault.
+// Runs the lines of a reader, one after the other. What they print waits to be written together, but not while the
+// reader waits for more. More lines than 64 bits count are a read fault.
 fn run_lines<R: ReadAhead, W: Write>(
     rt: &(impl AllocGlobal + Threads + Sync),
     reader: &mut R,
@@ -240,8 +241,8 @@ fn at(line: u64, kind: FaultKind) -> ScriptFault
     ScriptFault { line, kind }
 }
 
-// Puts what a line prints behind what waits. Where there is no memory for that, all is written, and then the line, whose text
-// may take none.
+// Puts what a line prints behind what waits. Where there is no memory for that, all is written, and then the line,
+// whose text may take none.
 fn print<W: Write>(
     alloc: Global,
     line: u64,

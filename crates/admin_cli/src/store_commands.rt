@@ -14,7 +14,8 @@ use std::alloc::{AllocError, Global};
 use std::thread::Threads;
 
 impl Admin {
-    // Does what a command on the store asks for. Each part is a function of its own: a line that asks for none of it pays for none.
+    // Does what a command on the store asks for. Each part is a function of its own: a line that asks for none of it
+    // pays for none.
     #[inline(never)]
     pub(crate) fn execute_store(
         &mut self,
@@ -140,7 +141,8 @@ impl Admin {
         }
     }
 
-    // `flush`: all that isn't in the store is written, and no job is kept any more. While an export stands it is refused, and all is left.
+    // `flush`: all that isn't in the store is written, and no job is kept any more. While an export stands it is
+    // refused, and all is left.
     #[inline(never)]
     fn flush(&mut self, rt: &(impl Threads + Sync), alloc: Global) -> OutputLine
         ensures { FlushesLine self.old self.new result }

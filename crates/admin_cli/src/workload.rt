@@ -1,5 +1,5 @@
-//! What `cephmeta serve` does: clients whose directories are made, rank threads that create files in them and commit as they
-//! go, and the listing of the tree that they leave, printed with the outcome of the audit.
+//! What `cephmeta serve` does: clients whose directories are made, rank threads that create files in them and commit as
+//! they go, and the listing of the tree that they leave, printed with the outcome of the audit.
 
 mod asking;
 mod handing;

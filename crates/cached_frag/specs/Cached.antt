@@ -11,8 +11,8 @@ use Rattle.cached_frag.specs.declared.marks.Mark.{Mark}
 use Rattle.cached_frag.specs.Marks.{Marks, patched}
 use Rattle.cached_frag.specs.Snap.{Snap, counts_of, is_fresh}
 
--- what its object is to the fragment, which of the fragments of this name it is, the names as they were fetched, those that
--- changed since, how many changes fit with no growth, and how many names fit among the fetched ones
+-- what its object is to the fragment, which of the fragments of this name it is, the names as they were fetched, those
+-- that changed since, how many changes fit with no growth, and how many names fit among the fetched ones
 pub record Cached : Type 0 where
   pub base : Base
   pub generation : ℕ

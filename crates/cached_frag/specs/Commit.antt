@@ -52,10 +52,16 @@ removed_on (Stored version) marks = gone_of marks
 abbrev pub header_after : Snap → FragHeader
 header_after snap = record { version = next_version snap.base; files = snap.counts.files; dirs = snap.counts.dirs }
 
--- the write of a snapshot: on an object that counts, the header, a set of the dirty present names and a removal of the dirty removed
--- ones; on any other a clear, the header and the sets
+-- the write of a snapshot: on an object that counts, the header, a set of the dirty present names and a removal of the
+-- dirty removed ones; on any other a clear, the header and the sets
 abbrev pub write_of : Snap → WriteOp
-write_of snap = record { clear = is_fresh snap.base; header = Some (header_bytes (header_after snap)); set = set_of snap.names; remove = removed_on snap.base snap.names }
+write_of snap = record {
+  clear = is_fresh snap.base;
+  header = Some (header_bytes (header_after snap));
+  set =
+      set_of snap.names;
+  remove = removed_on snap.base snap.names;
+}
 
 -- a job and the write of its snapshot
 pub record Carried : Type 0 where
@@ -65,11 +71,12 @@ pub record Carried : Type 0 where
 abbrev pub carried : Job → Carried
 carried job = record { job = job; op = write_of job.snapshot }
 
--- the object and the names that the snapshot was taken over: for a stored base the object spells the names at the base's version, and
--- the snapshot counts what it shows over them; where no object counts there are no names below
+-- the object and the names that the snapshot was taken over: for a stored base the object spells the names at the
+-- base's version, and the snapshot counts what it shows over them; where no object counts there are no names below
 abbrev pub IsOver : Base → Snap → Omap → Names → Type 0
 IsOver Fresh snap object names = names ≡ map.empty
-IsOver (Stored version) snap object names = SpellsFragment object version names × (snap.counts ≡ counts_of (patched names snap.names))
+IsOver (Stored version) snap object names =
+    SpellsFragment object version names × (snap.counts ≡ counts_of (patched names snap.names))
 
 -- a commit is right: the object that it leaves spells what the snapshot shows, one version higher
 abbrev pub CommitIsRight : Type 0

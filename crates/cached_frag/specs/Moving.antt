@@ -21,10 +21,26 @@ pub record Joins (f now : Cached) (names : Names) (version : ℕ) : Type 0 where
   pub dirty : (name : List ℕ) → map.get now.dirty name ≡ marked_as version (map.get names name) (map.get f.dirty name)
   pub shown : (name : List ℕ) → map.get (shown now) name ≡ shown_as (map.get names name) (map.get (shown f) name)
   pub room : now.room + map.len names ≡ f.room
-  pub same : now ≡ record { base = f.base; generation = f.generation; clean = f.clean; dirty = now.dirty; room = now.room; places = f.places }
+  pub same : now ≡ record {
+    base =
+        f.base;
+    generation = f.generation;
+    clean = f.clean;
+    dirty = now.dirty;
+    room = now.room;
+    places = f.places;
+  }
 
 -- a fragment has taken these names in, at this version, whatever room it has now
 pub record TakesIn (f now : Cached) (names : Names) (version : ℕ) : Type 0 where
   pub dirty : (name : List ℕ) → map.get now.dirty name ≡ marked_as version (map.get names name) (map.get f.dirty name)
   pub shown : (name : List ℕ) → map.get (shown now) name ≡ shown_as (map.get names name) (map.get (shown f) name)
-  pub same : now ≡ record { base = f.base; generation = f.generation; clean = f.clean; dirty = now.dirty; room = now.room; places = f.places }
+  pub same : now ≡ record {
+    base =
+        f.base;
+    generation = f.generation;
+    clean = f.clean;
+    dirty = now.dirty;
+    room = now.room;
+    places = f.places;
+  }

@@ -30,7 +30,9 @@ changed_rows (m ∷ ms) = with_change m.0 m.1.inode (changed_rows ms)
 -- a row before, at or behind the dirty names that are left
 abbrev pub merged_one : Row → (List Change → List Row) → List Change → List Row
 merged_one row rest [] = row ∷ rest []
-merged_one row rest (m ∷ ms) = by_order (key_cmp row.0 m.0) (row ∷ rest (m ∷ ms)) (with_change m.0 m.1.inode (rest ms)) (with_change m.0 m.1.inode (merged_one row rest ms))
+merged_one row rest (m ∷ ms) =
+    by_order (key_cmp row.0 m.0) (row ∷ rest (m ∷ ms)) (with_change m.0 m.1.inode (rest ms))
+    (with_change m.0 m.1.inode (merged_one row rest ms))
 
 -- the rows that are left in the order of their names: at each name what became of it, if it is dirty
 abbrev pub merged : List Row → List Change → List Row

@@ -24,8 +24,8 @@ impl CachedFrag {
         copy_shown(&self.clean, &self.dirty)
     }
 
-    /// Takes in a copy of each name that another fragment shows, dirty at this version; what the fragment showed of one of
-    /// them is replaced. Takes memory for the copies and their room, before it changes a name.
+    /// Takes in a copy of each name that another fragment shows, dirty at this version; what the fragment showed of one
+    /// of them is replaced. Takes memory for the copies and their room, before it changes a name.
     pub fn join_copy(&mut self, other: &CachedFrag, version: u64) -> Result<(), AllocError>
         ensures taken { OnOk result (TakesIn self.old self.new (shown other.now) version) }
         ensures err { OnErr result (self.new ≡ record self.old { room = self.new.room }) }

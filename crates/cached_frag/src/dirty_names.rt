@@ -21,8 +21,8 @@ use sorted_map::SortedMap;
 use std::alloc::{AllocError, Global};
 use std::marker::Model;
 
-/// Names that changed since their fragment's last commit, each with what became of it. A present name has an inode that a
-/// record allows.
+/// Names that changed since their fragment's last commit, each with what became of it. A present name has an inode that
+/// a record allows.
 #[derive(Debug, Drop)]
 pub struct DirtyNames {
     names: SortedMap<Name, Mark>,

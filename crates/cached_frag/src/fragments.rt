@@ -76,8 +76,8 @@ impl CachedFrag {
         self.generation
     }
 
-    /// The same fragment, as a rank has it that took it over from another: of generation 0, so no commit that the other began ends
-    /// it. Takes no memory.
+    /// The same fragment, as a rank has it that took it over from another: of generation 0, so no commit that the other
+    /// began ends it. Takes no memory.
     pub fn imported(self) -> CachedFrag
         ensures { result ≡ imported self }
     {
@@ -169,7 +169,8 @@ pub(crate) fn shown_in<'a>(
     }
 }
 
-// How many changes fit, where so many do and there is room for others: all of these, so that the next ones ask for none.
+// How many changes fit, where so many do and there is room for others: all of these, so that the next ones ask for
+// none.
 fn room_of(counts: EntryCounts, changes: usize, room: usize) -> usize
     requires few { counts.files + counts.dirs + changes < 2 ^ 64 }
     requires within { changes ≤ room }

@@ -1,6 +1,6 @@
-//! One cached fragment of a directory: its names as they were fetched, the dirty names over them, and how many entries it
-//! shows. And what a commit carries: the dirty names as a snapshot, the job that takes it out, and the one atomic write that
-//! brings it back, whose type keeps that it is the write of its snapshot.
+//! One cached fragment of a directory: its names as they were fetched, the dirty names over them, and how many entries
+//! it shows. And what a commit carries: the dirty names as a snapshot, the job that takes it out, and the one atomic
+//! write that brings it back, whose type keeps that it is the write of its snapshot.
 #![tactic(auto)]
 
 mod bases;

@@ -24,8 +24,8 @@ impl CachedFrag {
         all_shown(self.clean, self.dirty)
     }
 
-    /// Takes all of these names in, dirty at this version; what the fragment showed of one of them is replaced. Takes no
-    /// memory, where there is room for so many changes.
+    /// Takes all of these names in, dirty at this version; what the fragment showed of one of them is replaced. Takes
+    /// no memory, where there is room for so many changes.
     pub fn join(&mut self, mut names: SortedMap<Name, Inode>, version: u64)
         requires entries { AreEntries (contents key_cmp names) }
         requires room { map.len (contents key_cmp names) ≤ self.old.room }

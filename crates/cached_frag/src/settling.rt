@@ -16,7 +16,8 @@ use sorted_map::SortedMap;
 use std::alloc::AllocError;
 
 impl CachedFrag {
-    /// Makes room for a commit of this many names to become clean. Where it is there already nothing is done, and there is no error.
+    /// Makes room for a commit of this many names to become clean. Where it is there already nothing is done, and there
+    /// is no error.
     pub fn reserve_settled(&mut self, names: usize) -> Result<(), AllocError>
         ensures ok { OnOk result (names ≤ self.new.places) }
         ensures same { self.new ≡ record self.old { places = self.new.places } }

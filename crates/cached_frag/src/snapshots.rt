@@ -9,8 +9,8 @@ use crate::dirty_names::DirtyNames;
 use std::alloc::AllocError;
 use std::marker::Model;
 
-/// A fragment that isn't clean, as it stood when its commit began: what its object is to it, its dirty names, and how many
-/// entries it shows.
+/// A fragment that isn't clean, as it stood when its commit began: what its object is to it, its dirty names, and how
+/// many entries it shows.
 #[derive(Debug, Drop)]
 pub struct Snapshot {
     base: Base,

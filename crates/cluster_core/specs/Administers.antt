@@ -35,14 +35,19 @@ pub record IsUnseen (old new : State) (past now : List Entry) : Type 0 where
   pub tree : shown new ≡ shown old
   pub left : new ≡ record old { tree = new.tree; roots = new.roots }
 
--- a step that answers has done its work, unseen, and tells what it gave; a refused one has left all, and was refused as the work was
-abbrev pub Administers : {X : Type 0} → (old new : State) → (past now : List Entry) → (told : X → Answer) → (Did : Result X Refusal → Type 0) → Result Answer Refusal → Type 0
-Administers old new past now told Did (Ok answer) = (given : _) × (answer ≡ told given) × Did (Ok given) × IsUnseen old new past now
+-- a step that answers has done its work, unseen, and tells what it gave; a refused one has left all, and was refused as
+-- the work was
+abbrev pub Administers : {X : Type 0} → (old new : State) → (past now : List Entry) → (told : X → Answer)
+    → (Did : Result X Refusal → Type 0) → Result Answer Refusal → Type 0
+Administers old new past now told Did (Ok answer) =
+    (given : _) × (answer ≡ told given) × Did (Ok given) × IsUnseen old new past now
 Administers old new past now told Did (Err reason) = Did (Err reason) × IsLeft old new past now
 
 -- so it is with a step that leaves the subtree roots
-abbrev pub AdministersTree : {X : Type 0} → (old new : State) → (past now : List Entry) → (told : X → Answer) → (Did : Result X Refusal → Type 0) → Result Answer Refusal → Type 0
-AdministersTree old new past now told Did result = Administers old new past now told Did result × (new.roots ≡ old.roots)
+abbrev pub AdministersTree : {X : Type 0} → (old new : State) → (past now : List Entry) → (told : X → Answer)
+    → (Did : Result X Refusal → Type 0) → Result Answer Refusal → Type 0
+AdministersTree old new past now told Did result =
+    Administers old new past now told Did result × (new.roots ≡ old.roots)
 
 -- work that gives nothing is told so
 abbrev pub nothing : Unit {0} → Answer
@@ -62,9 +67,12 @@ UsesLeaf old new leaf = UsesAt (IsHolder old.state leaf) leaf old.caches new.cac
 abbrev pub UsesFamily : (old new : Core) → Leaf → ℕ → Type 0
 UsesFamily old new leaf nb = CameAt (IsAuthority old.state leaf) (IsFamilyOf leaf.0 leaf.1 nb) old.caches new.caches
 
--- so the leaves of a directory that lie properly inside a fragment, and the one that it would be, at the rank that is the authority of all
+-- so the leaves of a directory that lie properly inside a fragment, and the one that it would be, at the rank that is
+-- the authority of all
 abbrev pub UsesInside : (old new : Core) → Ino → Fragment → Type 0
-UsesInside old new dir f = CameAt (λ (rank : Rank). HoldsInside old.state rank dir f) (IsMergedHere old.state.tree.covers dir f) old.caches new.caches
+UsesInside old new dir f =
+    CameAt (λ (rank : Rank). HoldsInside old.state rank dir f)
+    (IsMergedHere old.state.tree.covers dir f) old.caches new.caches
 
 -- no leaf was asked for
 abbrev pub AsksNone : (old new : Core) → Type 0
@@ -72,9 +80,10 @@ AsksNone old new = new.caches ≡ old.caches
 
 -- ---- leaves
 
--- why leaves of a directory stay: there is no such directory, or its leaves refuse it; the rank isn't the authority of all that are concerned;
--- one of them is frozen; one is pinned; or for another reason
-abbrev pub RefusesRegroup : (known : Bool) → (Refuses : Refusal → Type 0) → (Can Mine Frozen Pinned : Type 0) → (Else : Refusal → Type 0) → Refusal → Type 0
+-- why leaves of a directory stay: there is no such directory, or its leaves refuse it; the rank isn't the authority of
+-- all that are concerned; one of them is frozen; one is pinned; or for another reason
+abbrev pub RefusesRegroup : (known : Bool) → (Refuses : Refusal → Type 0) → (Can Mine Frozen Pinned : Type 0)
+    → (Else : Refusal → Type 0) → Refusal → Type 0
 RefusesRegroup known Refuses Can Mine IsFrozen IsPinned Else reason =
     ((reason ≡ NoSuchFrag) × (known ≡ false))
     ⊎ ((known ≡ true) × (reason ≢ NoMemory) × Refuses reason)
@@ -89,17 +98,24 @@ IsPinned state leaf = list_any (is_on leaf.0 leaf.1) state.pins ≡ true
 
 -- a grant stands on a leaf of a directory that lies properly inside a fragment
 abbrev pub IsAnyPinned : Homes → Covers → List Pin → Ino → Fragment → Type 0
-IsAnyPinned homes covers pins dir frag = (leaf : Leaf) × IsLive homes covers leaf × (is_inside dir.0 frag leaf ≡ true) × (list_any (is_on leaf.0 leaf.1) pins ≡ true)
+IsAnyPinned homes covers pins dir frag =
+    (leaf : Leaf) × IsLive homes covers leaf × (is_inside dir.0 frag leaf ≡ true)
+    × (list_any (is_on leaf.0 leaf.1) pins ≡ true)
 
--- a leaf of the rank's, neither frozen nor pinned, was split by so many bits, and its children are roots if it was one; where it wasn't, the leaves refuse it, or
--- the rank isn't its authority, or it is frozen or pinned, or numbers lack, or the rank lacks as many places as there would be children and one, or the store
--- or memory refused
+-- a leaf of the rank's, neither frozen nor pinned, was split by so many bits, and its children are roots if it was one;
+-- where it wasn't, the leaves refuse it, or the rank isn't its authority, or it is frozen or pinned, or numbers lack,
+-- or the rank lacks as many places as there would be children and one, or the store or memory refused
 abbrev pub SplitsLeaf : (old new : Core) → Rank → Ino → Fragment → ℕ → Result (Unit {0}) Refusal → Type 0
 SplitsLeaf old new rank dir f nb (Ok done) =
-    IsAuthority old.state (dir, f) rank × (IsFrozenAt old.state (dir, f) → ⊥) × (IsPinned old.state (dir, f) → ⊥) × IsSplitInto old.state.tree new.state.tree dir f nb × IsRootSplit old.state.roots new.state.roots dir.0 f nb
+    IsAuthority old.state (dir, f) rank × (IsFrozenAt old.state (dir, f) → ⊥) × (IsPinned old.state (dir, f) → ⊥)
+    × IsSplitInto old.state.tree new.state.tree dir f nb × IsRootSplit old.state.roots new.state.roots dir.0 f nb
 SplitsLeaf old new rank dir f nb (Err reason) =
-    RefusesRegroup (is_known old.state.tree.homes dir.0) (RefusesSplit (leaves_of old.state.tree.covers dir.0) f nb) (CanSplit (leaves_of old.state.tree.covers dir.0) f nb) (IsAuthority old.state (dir, f) rank) (IsFrozenAt old.state (dir, f)) (IsPinned old.state (dir, f))
-    (λ why. MayNotRegroup (CanSplit (leaves_of old.state.tree.covers dir.0) f nb) (RefusesSplit (leaves_of old.state.tree.covers dir.0) f nb) old.state.tree dir (2 ^ nb) (LacksPlacesAt (2 ^ nb + 1) old rank) old.faults new.faults why)
+    RefusesRegroup (is_known old.state.tree.homes dir.0) (RefusesSplit (leaves_of old.state.tree.covers dir.0) f nb)
+    (CanSplit (leaves_of old.state.tree.covers dir.0) f nb) (IsAuthority old.state (dir, f) rank)
+    (IsFrozenAt old.state (dir, f)) (IsPinned old.state (dir, f))
+    (λ why. MayNotRegroup (CanSplit (leaves_of old.state.tree.covers dir.0) f nb)
+    (RefusesSplit (leaves_of old.state.tree.covers dir.0) f nb) old.state.tree dir (2 ^ nb)
+    (LacksPlacesAt (2 ^ nb + 1) old rank) old.faults new.faults why)
     reason
 
 -- a leaf of a directory that lies properly inside a fragment is frozen,
@@ -110,26 +126,39 @@ HasFrozenInside state dir f = IsAnyFrozen state.exports state.roots state.tree.h
 abbrev pub HasPinnedInside : State → Ino → Fragment → Type 0
 HasPinnedInside state dir f = IsAnyPinned state.tree.homes state.tree.covers state.pins dir f
 
--- the leaves inside a fragment, all the rank's and none frozen or pinned, were merged, and it is a root if one of them was; where they weren't, it was
--- refused so too, and for places where the rank has none
+-- the leaves inside a fragment, all the rank's and none frozen or pinned, were merged, and it is a root if one of them
+-- was; where they weren't, it was refused so too, and for places where the rank has none
 abbrev pub MergesLeaves : (old new : Core) → Rank → Ino → Fragment → Result (Unit {0}) Refusal → Type 0
 MergesLeaves old new rank dir f (Ok done) =
-    HoldsInside old.state rank dir f × (HasFrozenInside old.state dir f → ⊥) × (HasPinnedInside old.state dir f → ⊥) × IsMergedInto old.state.tree new.state.tree dir f × IsRootMerge old.state.roots new.state.roots dir.0 f
+    HoldsInside old.state rank dir f × (HasFrozenInside old.state dir f → ⊥) × (HasPinnedInside old.state dir f → ⊥)
+    × IsMergedInto old.state.tree new.state.tree dir f × IsRootMerge old.state.roots new.state.roots dir.0 f
 MergesLeaves old new rank dir f (Err reason) =
-    RefusesRegroup (is_known old.state.tree.homes dir.0) (RefusesMerge (leaves_of old.state.tree.covers dir.0) f) (CanMerge (leaves_of old.state.tree.covers dir.0) f) (HoldsInside old.state rank dir f) (HasFrozenInside old.state dir f) (HasPinnedInside old.state dir f)
-    (λ why. MayNotRegroup (CanMerge (leaves_of old.state.tree.covers dir.0) f) (RefusesMerge (leaves_of old.state.tree.covers dir.0) f) old.state.tree dir 1 (LacksPlacesAt 1 old rank) old.faults new.faults why)
+    RefusesRegroup (is_known old.state.tree.homes dir.0) (RefusesMerge (leaves_of old.state.tree.covers dir.0) f)
+    (CanMerge (leaves_of old.state.tree.covers dir.0) f) (HoldsInside old.state rank dir f)
+    (HasFrozenInside old.state dir f) (HasPinnedInside old.state dir f)
+    (λ why. MayNotRegroup (CanMerge (leaves_of old.state.tree.covers dir.0) f)
+    (RefusesMerge (leaves_of old.state.tree.covers dir.0) f) old.state.tree dir 1
+    (LacksPlacesAt 1 old rank) old.faults new.faults why)
     reason
 
-abbrev pub Splits : (old new : Core) → (past now : List Entry) → Rank → Ino → Fragment → ℕ → Result Answer Refusal → Type 0
-Splits old new past now rank dir f nb result = Administers old.state new.state past now nothing (SplitsLeaf old new rank dir f nb) result × UsesFamily old new (dir, f) nb
+abbrev pub Splits : (old new : Core) → (past now : List Entry) → Rank → Ino → Fragment → ℕ → Result Answer Refusal
+    → Type 0
+Splits old new past now rank dir f nb result =
+    Administers old.state new.state past now nothing (SplitsLeaf old new rank dir f nb) result
+    × UsesFamily old new (dir, f) nb
 
 abbrev pub Merges : (old new : Core) → (past now : List Entry) → Rank → Ino → Fragment → Result Answer Refusal → Type 0
-Merges old new past now rank dir f result = Administers old.state new.state past now nothing (MergesLeaves old new rank dir f) result × UsesInside old new dir f
+Merges old new past now rank dir f result =
+    Administers old.state new.state past now nothing (MergesLeaves old new rank dir f) result × UsesInside old new dir f
 
--- the leaves of a directory by value; refused NoSuchFrag exactly where there is no such directory, and else for want of memory
+-- the leaves of a directory by value; refused NoSuchFrag exactly where there is no such directory, and else for want of
+-- memory
 abbrev pub ListsLeaves : State → Ino → Result (List Fragment) Refusal → Type 0
-ListsLeaves state dir (Ok leaves) = (is_directory (shown state) dir.0 ≡ true) × (leaves ≡ leaves_of state.tree.covers dir.0)
-ListsLeaves state dir (Err reason) = ((reason ≡ NoSuchFrag) × (is_directory (shown state) dir.0 ≡ false)) ⊎ ((reason ≡ NoMemory) × (is_directory (shown state) dir.0 ≡ true))
+ListsLeaves state dir (Ok leaves) =
+    (is_directory (shown state) dir.0 ≡ true) × (leaves ≡ leaves_of state.tree.covers dir.0)
+ListsLeaves state dir (Err reason) =
+    ((reason ≡ NoSuchFrag) × (is_directory (shown state) dir.0 ≡ false))
+    ⊎ ((reason ≡ NoMemory) × (is_directory (shown state) dir.0 ≡ true))
 
 -- the authority of a leaf; refused NoSuchFrag exactly where there is no such directory or leaf
 abbrev pub TellsAuthority : State → Leaf → Result Rank Refusal → Type 0
@@ -143,36 +172,53 @@ abbrev pub told_job : Option Begun → Answer
 told_job None = Nothing
 told_job (Some job) = Job job
 
--- a commit of a leaf that isn't frozen begins at its authority; a rank that isn't is refused NotAuthority, and then a frozen leaf Frozen
+-- a commit of a leaf that isn't frozen begins at its authority; a rank that isn't is refused NotAuthority, and then a
+-- frozen leaf Frozen
 abbrev pub BeginsAt : (old new : State) → Rank → Leaf → Result (Option Begun) Refusal → Type 0
-BeginsAt old new rank leaf (Ok job) = IsAuthority old leaf rank × (IsFrozenAt old leaf → ⊥) × Begins old.tree new.tree leaf (Ok job)
+BeginsAt old new rank leaf (Ok job) =
+    IsAuthority old leaf rank × (IsFrozenAt old leaf → ⊥) × Begins old.tree new.tree leaf (Ok job)
 BeginsAt old new rank leaf (Err reason) =
-    ((reason ≡ NotAuthority) × IsLive old.tree.homes old.tree.covers leaf × (IsAuthority old leaf rank → ⊥) × (new.tree ≡ old.tree))
-    ⊎ ((reason ≡ Frozen) × IsLive old.tree.homes old.tree.covers leaf × IsAuthority old leaf rank × IsFrozenAt old leaf × (new.tree ≡ old.tree))
-    ⊎ ((IsLive old.tree.homes old.tree.covers leaf → IsAuthority old leaf rank × (IsFrozenAt old leaf → ⊥)) × Begins old.tree new.tree leaf (Err reason))
+    ((reason ≡ NotAuthority) × IsLive old.tree.homes old.tree.covers leaf × (IsAuthority old leaf rank → ⊥)
+    × (new.tree ≡ old.tree))
+    ⊎ ((reason ≡ Frozen) × IsLive old.tree.homes old.tree.covers leaf × IsAuthority old leaf rank × IsFrozenAt old leaf
+    × (new.tree ≡ old.tree))
+    ⊎ ((IsLive old.tree.homes old.tree.covers leaf → IsAuthority old leaf rank × (IsFrozenAt old leaf → ⊥))
+    × Begins old.tree new.tree leaf (Err reason))
 
 abbrev pub BeginsCommit : (old new : Core) → (past now : List Entry) → Rank → Leaf → Result Answer Refusal → Type 0
-BeginsCommit old new past now rank leaf result = AdministersTree old.state new.state past now told_job (BeginsAt old.state new.state rank leaf) result × UsesLeaf old new leaf
+BeginsCommit old new past now rank leaf result =
+    AdministersTree old.state new.state past now told_job (BeginsAt old.state new.state rank leaf) result
+    × UsesLeaf old new leaf
 
 abbrev pub EndsCommit : (old new : Core) → (past now : List Entry) → Begun → Result Answer Refusal → Type 0
-EndsCommit old new past now job result = AdministersTree old.state new.state past now nothing (Ends old.state.tree new.state.tree old.faults new.faults job) result × UsesLeaf old new (leaf_of job)
+EndsCommit old new past now job result =
+    AdministersTree old.state new.state past now nothing
+    (Ends old.state.tree new.state.tree old.faults new.faults job) result × UsesLeaf old new (leaf_of job)
 
 abbrev pub DropsCommit : (old new : Core) → (past now : List Entry) → ℕ → Result Answer Refusal → Type 0
-DropsCommit old new past now number result = AdministersTree old.state new.state past now nothing (Drops old.state.tree new.state.tree number) result × AsksNone old new
+DropsCommit old new past now number result =
+    AdministersTree old.state new.state past now nothing (Drops old.state.tree new.state.tree number) result
+    × AsksNone old new
 
 -- ---- objects and places
 
 abbrev pub CommitsTree : (old new : Core) → (past now : List Entry) → Ino → Result Answer Refusal → Type 0
-CommitsTree old new past now dir result = AdministersTree old.state new.state past now nothing (SavesTree old.state.tree new.state.tree old.faults new.faults dir) result × AsksNone old new
+CommitsTree old new past now dir result =
+    AdministersTree old.state new.state past now nothing
+    (SavesTree old.state.tree new.state.tree old.faults new.faults dir) result × AsksNone old new
 
 abbrev pub PurgesObject : (old new : Core) → (past now : List Entry) → Result Answer Refusal → Type 0
-PurgesObject old new past now result = AdministersTree old.state new.state past now nothing (Purges old.state.tree new.state.tree old.faults new.faults) result × AsksNone old new
+PurgesObject old new past now result =
+    AdministersTree old.state new.state past now nothing
+    (Purges old.state.tree new.state.tree old.faults new.faults) result × AsksNone old new
 
--- the least recently used of the clean fragments that a rank caches is no longer cached, and all else is as it was, the caches of the other
--- ranks too; refused exactly where none is clean
+-- the least recently used of the clean fragments that a rank caches is no longer cached, and all else is as it was, the
+-- caches of the other ranks too; refused exactly where none is clean
 abbrev pub EvictsOne : (old new : Core) → Rank → Result (Unit {0}) Refusal → Type 0
 EvictsOne old new rank (Ok done) = (evicted old.caches rank.0 None ≡ Some new.caches) × (new.state ≡ old.state)
-EvictsOne old new rank (Err reason) = (reason ≡ NothingToEvict) × (evicted old.caches rank.0 None ≡ None) × (new.caches ≡ old.caches)
+EvictsOne old new rank (Err reason) =
+    (reason ≡ NothingToEvict) × (evicted old.caches rank.0 None ≡ None) × (new.caches ≡ old.caches)
 
 abbrev pub EvictsFragment : (old new : Core) → (past now : List Entry) → Rank → Result Answer Refusal → Type 0
-EvictsFragment old new past now rank result = AdministersTree old.state new.state past now nothing (EvictsOne old new rank) result
+EvictsFragment old new past now rank result =
+    AdministersTree old.state new.state past now nothing (EvictsOne old new rank) result

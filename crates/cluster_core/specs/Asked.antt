@@ -23,12 +23,14 @@ pub record IsSessionOf (sessions : Held) (client : ℕ) (at : SessionAt) : Type 
   pub named : at.client ≡ client
   pub found : IsSessionAt sessions at
 
--- the request is new, the rank is its master, and its names lie there; a directory may have so many entries, the rank has these numbers left,
--- and the client's session is there
-pub record IsAsked (tree : TreeState) (roots : Roots) (exports : Standing) (numbers : List Supply) (sessions : Held) (past : List Entry) (asked : Asked) : Type 0 where
+-- the request is new, the rank is its master, and its names lie there; a directory may have so many entries, the rank
+-- has these numbers left, and the client's session is there
+pub record IsAsked (tree : TreeState) (roots : Roots) (exports : Standing) (numbers : List Supply) (sessions : Held)
+    (past : List Entry) (asked : Asked) : Type 0 where
   pub is_new : IsNew past asked.request.client asked.request.tid asked.request.oldest
   pub master : IsMasterIn tree roots asked.rank asked.request.op asked.rank
-  pub located : AreLocated (shown_tree tree) tree.covers (HoldsAt tree (holding exports roots)) asked.request.op asked.places
+  pub located : AreLocated (shown_tree tree) tree.covers
+      (HoldsAt tree (holding exports roots)) asked.request.op asked.places
   pub limit : asked.limit ≡ tree.limit
   pub left : asked.supply ≡ get_or numbers asked.rank.0 no_supply
   pub session : IsSessionOf sessions asked.request.client asked.session

@@ -17,12 +17,16 @@ use Rattle.cluster_core.specs.Steps.{Steps}
 
 -- no step of a sound book touches the object of a fragment for which a job stands before and after it
 abbrev pub JobsKeepObjects : Type 0
-JobsKeepObjects = (opening : Tree) (past now : List Entry) (old new : Core) (result : Result Answer Refusal) (event : Event) → IsSound opening past old → Steps old new past now result event
-    → (leaf : Leaf) (job : Job) → map.get old.state.tree.jobs leaf ≡ Some job → map.get new.state.tree.jobs leaf ≡ Some job
+JobsKeepObjects =
+    (opening : Tree) (past now : List Entry) (old new : Core) (result : Result Answer Refusal) (event : Event)
+    → IsSound opening past old → Steps old new past now result event
+    → (leaf : Leaf) (job : Job) → map.get old.state.tree.jobs leaf ≡ Some job
+    → map.get new.state.tree.jobs leaf ≡ Some job
     → object_of new.state.tree.objects leaf.0 leaf.1 ≡ object_of old.state.tree.objects leaf.0 leaf.1
 
--- the names that a job's snapshot has over that object, which the commit's end spells, are those that the fragment shows when the job is given
--- out
+-- the names that a job's snapshot has over that object, which the commit's end spells, are those that the fragment
+-- shows when the job is given out
 abbrev pub JobsTakeWhatIsShown : Type 0
 JobsTakeWhatIsShown = (state : State) (leaf : Leaf) (u : Unsaved) → map.get state.tree.unsaved leaf ≡ Some u
-    → names_then (job_for state.tree leaf u).snapshot (object_of state.tree.objects leaf.0 leaf.1) ≡ names_of state.tree.unsaved state.tree.objects leaf
+    → names_then (job_for state.tree leaf u).snapshot
+    (object_of state.tree.objects leaf.0 leaf.1) ≡ names_of state.tree.unsaved state.tree.objects leaf

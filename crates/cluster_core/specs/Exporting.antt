@@ -46,10 +46,12 @@ pub record IsUnseenStep (old new : State) (past now : List Entry) : Type 0 where
   pub tree : shown new ≡ shown old
   pub left : new ≡ record old { tree = new.tree; roots = new.roots; exports = new.exports }
 
--- a step that answers has done its work, unseen, and says no more; a refused one has left all, and was refused as the work was. No fragment is
--- asked for
-abbrev pub Exports : (old new : Core) → (past now : List Entry) → (Did : Result (Unit {0}) Refusal → Type 0) → Result Answer Refusal → Type 0
-Exports old new past now Did (Ok answer) = (answer ≡ Nothing) × Did (Ok tt) × IsUnseenStep old.state new.state past now × AsksNone old new
+-- a step that answers has done its work, unseen, and says no more; a refused one has left all, and was refused as the
+-- work was. No fragment is asked for
+abbrev pub Exports : (old new : Core) → (past now : List Entry) → (Did : Result (Unit {0}) Refusal → Type 0)
+    → Result Answer Refusal → Type 0
+Exports old new past now Did (Ok answer) =
+    (answer ≡ Nothing) × Did (Ok tt) × IsUnseenStep old.state new.state past now × AsksNone old new
 Exports old new past now Did (Err reason) = Did (Err reason) × IsLeft old.state new.state past now × AsksNone old new
 
 -- the tree and the subtree roots stay
@@ -59,7 +61,8 @@ pub record KeepsTree (old new : State) : Type 0 where
 
 -- ---- Start
 
--- an export of a leaf's region may start from its authority to another rank: none of this root stands, and the leaf isn't frozen
+-- an export of a leaf's region may start from its authority to another rank: none of this root stands, and the leaf
+-- isn't frozen
 pub record MayStart (old : State) (from : Rank) (leaf : Leaf) (to : Rank) : Type 0 where
   pub none : map.get old.exports leaf ≡ None
   pub live : IsLive old.tree.homes old.tree.covers leaf
@@ -70,29 +73,40 @@ pub record MayStart (old : State) (from : Rank) (leaf : Leaf) (to : Rank) : Type
 -- it is recorded as started
 abbrev pub Starts : (old new : State) → Rank → Leaf → Rank → Result (Unit {0}) Refusal → Type 0
 Starts old new from leaf to (Ok done) =
-    MayStart old from leaf to × (new.exports ≡ map.insert old.exports leaf (record { exporter = from; importer = to; state = state.Started })) × KeepsTree old new
+    MayStart old from leaf to × (new.exports ≡ map.insert old.exports leaf (record {
+      exporter = from;
+      importer =
+          to;
+      state = state.Started;
+    })) × KeepsTree old new
 Starts old new from leaf to (Err reason) =
     Check why.WrongExportState (IsSome (map.get old.exports leaf))
     (Check why.NoSuchFrag (IsLive old.tree.homes old.tree.covers leaf → ⊥)
-    (Check why.NotAuthority ((from ≡ to) ⊎ (IsAuthority old leaf from → ⊥)) (Check why.Frozen (IsFrozenAt old leaf) ForMemory))) reason
+    (Check why.NotAuthority ((from ≡ to)
+    ⊎ (IsAuthority old leaf from → ⊥)) (Check why.Frozen (IsFrozenAt old leaf) ForMemory))) reason
 
-abbrev pub StartsExport : (old new : Core) → (past now : List Entry) → Rank → Leaf → Rank → Result Answer Refusal → Type 0
-StartsExport old new past now from leaf to result = Exports old new past now (Starts old.state new.state from leaf to) result
+abbrev pub StartsExport : (old new : Core) → (past now : List Entry) → Rank → Leaf → Rank → Result Answer Refusal
+    → Type 0
+StartsExport old new past now from leaf to result =
+    Exports old new past now (Starts old.state new.state from leaf to) result
 
 -- ---- Freeze
 
 -- a grant stands on a leaf of the region that a leaf has as a subtree root
 abbrev pub HasPinnedUnder : Roots → Homes → Covers → List Pin → Leaf → Type 0
-HasPinnedUnder roots homes covers pins root = (pin : Pin) × Contains pins pin × IsUnder roots homes covers root (pin.dir, pin.frag)
+HasPinnedUnder roots homes covers pins root =
+    (pin : Pin) × Contains pins pin × IsUnder roots homes covers root (pin.dir, pin.frag)
 
 abbrev pub IsRegionPinned : State → Leaf → Type 0
 IsRegionPinned old leaf = HasPinnedUnder old.roots old.tree.homes old.tree.covers old.pins leaf
 
 -- a leaf is its exporter's still
 abbrev pub IsExporters : State → Leaf → Type 0
-IsExporters old leaf = (export : StandingExport) × (map.get old.exports leaf ≡ Some export) × IsAuthority old leaf export.exporter
+IsExporters old leaf =
+    (export : StandingExport) × (map.get old.exports leaf ≡ Some export) × IsAuthority old leaf export.exporter
 
--- the region of a started export may freeze: its root is a leaf still, and its exporter's, and no part of it is frozen or granted
+-- the region of a started export may freeze: its root is a leaf still, and its exporter's, and no part of it is frozen
+-- or granted
 pub record MayFreeze (old : State) (leaf : Leaf) : Type 0 where
   pub started : state_at old.exports leaf ≡ Some state.Started
   pub live : IsLive old.tree.homes old.tree.covers leaf
@@ -111,7 +125,8 @@ Freezes old new leaf (Ok done) = MayFreeze old leaf × IsFreeze old new leaf
 Freezes old new leaf (Err reason) =
     Check why.WrongExportState (state_at old.exports leaf ≢ Some state.Started)
     (Check why.NoSuchFrag (IsLive old.tree.homes old.tree.covers leaf → ⊥)
-    (Check why.NotAuthority (IsExporters old leaf → ⊥) (Check why.Frozen (IsFrozenAt old leaf) (Check why.Pinned (IsRegionPinned old leaf) ForMemory)))) reason
+    (Check why.NotAuthority (IsExporters old leaf
+    → ⊥) (Check why.Frozen (IsFrozenAt old leaf) (Check why.Pinned (IsRegionPinned old leaf) ForMemory)))) reason
 
 abbrev pub FreezesExport : (old new : Core) → (past now : List Entry) → Leaf → Result Answer Refusal → Type 0
 FreezesExport old new past now leaf result = Exports old new past now (Freezes old.state new.state leaf) result
@@ -121,29 +136,36 @@ FreezesExport old new past now leaf result = Exports old new past now (Freezes o
 -- a frozen export is prepared; refused where none of this root stands frozen, or for want of memory
 abbrev pub Preps : (old new : State) → Leaf → Result (Unit {0}) Refusal → Type 0
 Preps old new leaf (Ok done) = ComesTo old.exports new.exports leaf state.Frozen state.Prepared × KeepsTree old new
-Preps old new leaf (Err reason) = Check why.WrongExportState (state_at old.exports leaf ≢ Some state.Frozen) ForMemory reason
+Preps old new leaf (Err reason) =
+    Check why.WrongExportState (state_at old.exports leaf ≢ Some state.Frozen) ForMemory reason
 
 abbrev pub PrepsExport : (old new : Core) → (past now : List Entry) → Leaf → Result Answer Refusal → Type 0
 PrepsExport old new past now leaf result = Exports old new past now (Preps old.state new.state leaf) result
 
 -- ---- Send
 
--- a prepared export is sent, and these bytes spell what isn't clean of its region; refused where none of this root stands prepared, or a fragment
--- of the region has too many dirty names
+-- a prepared export is sent, and these bytes spell what isn't clean of its region; refused where none of this root
+-- stands prepared, or a fragment of the region has too many dirty names
 abbrev pub SendsAt : (old new : State) → Leaf → Result (List ℕ) Refusal → Type 0
-SendsAt old new leaf (Ok bytes) = (step : ComesTo old.exports new.exports leaf state.Prepared state.Sent) × SpellsRegion old.tree old.roots leaf step.export bytes × KeepsTree old new
+SendsAt old new leaf (Ok bytes) =
+    (step : ComesTo old.exports new.exports leaf state.Prepared state.Sent)
+    × SpellsRegion old.tree old.roots leaf step.export bytes × KeepsTree old new
 SendsAt old new leaf (Err reason) =
     Check why.WrongExportState (state_at old.exports leaf ≢ Some state.Prepared)
     (Check why.TooManyFrags (HasTooMany (IsInRegionOf old.tree old.roots leaf) old.tree.unsaved) ForMemory) reason
 
 -- its answer is those bytes
 abbrev pub SendsExport : (old new : Core) → (past now : List Entry) → Leaf → Result Answer Refusal → Type 0
-SendsExport old new past now leaf (Ok answer) = (bytes : List ℕ) × (answer ≡ Sent bytes) × SendsAt old.state new.state leaf (Ok bytes) × IsUnseenStep old.state new.state past now × AsksNone old new
-SendsExport old new past now leaf (Err reason) = SendsAt old.state new.state leaf (Err reason) × IsLeft old.state new.state past now × AsksNone old new
+SendsExport old new past now leaf (Ok answer) =
+    (bytes : List ℕ) × (answer ≡ Sent bytes) × SendsAt old.state new.state leaf (Ok bytes)
+    × IsUnseenStep old.state new.state past now × AsksNone old new
+SendsExport old new past now leaf (Err reason) =
+    SendsAt old.state new.state leaf (Err reason) × IsLeft old.state new.state past now × AsksNone old new
 
 -- ---- Import
 
--- a sent export is imported: the bytes are those of its region, and its importer has what isn't clean of it, of generation 0; the exporter caches none of it
+-- a sent export is imported: the bytes are those of its region, and its importer has what isn't clean of it, of
+-- generation 0; the exporter caches none of it
 pub record IsImport (old new : Core) (leaf : Leaf) (bytes : List ℕ) : Type 0 where
   pub step : ComesTo old.state.exports new.state.exports leaf state.Sent state.Imported
   pub region : SpellsRegion old.state.tree old.state.roots leaf step.export bytes
@@ -151,11 +173,15 @@ pub record IsImport (old new : Core) (leaf : Leaf) (bytes : List ℕ) : Type 0 w
   pub roots : new.state.roots ≡ old.state.roots
   pub caches : HandsRegion (IsInRegionOf old.state.tree old.state.roots leaf) step.export old.caches new.caches
 
--- refused where none of this root stands sent; where one does, for other bytes, for want of places of the importer, or of memory
-abbrev pub ImportsExport : (old new : Core) → (past now : List Entry) → Leaf → (bytes : List ℕ) → Result Answer Refusal → Type 0
-ImportsExport old new past now leaf bytes (Ok answer) = (answer ≡ Nothing) × IsImport old new leaf bytes × IsUnseenStep old.state new.state past now
+-- refused where none of this root stands sent; where one does, for other bytes, for want of places of the importer, or
+-- of memory
+abbrev pub ImportsExport : (old new : Core) → (past now : List Entry) → Leaf → (bytes : List ℕ) → Result Answer Refusal
+    → Type 0
+ImportsExport old new past now leaf bytes (Ok answer) =
+    (answer ≡ Nothing) × IsImport old new leaf bytes × IsUnseenStep old.state new.state past now
 ImportsExport old new past now leaf bytes (Err reason) =
-    RefusesImport (λ count rank. LacksPlacesAt count old rank) old.state.tree old.state.roots old.state.exports leaf bytes reason
+    RefusesImport (λ count rank. LacksPlacesAt count old rank) old.state.tree old.state.roots old.state.exports leaf
+    bytes reason
     × IsLeft old.state new.state past now × LeavesCaches old.state.exports leaf old.caches new.caches reason
 
 -- ---- Finish
@@ -172,7 +198,8 @@ pub record IsFinish (old new : State) (leaf : Leaf) : Type 0 where
 -- refused exactly where no imported export of this root stands
 abbrev pub Finishes : (old new : State) → Leaf → Result (Unit {0}) Refusal → Type 0
 Finishes old new leaf (Ok done) = IsFinish old new leaf
-Finishes old new leaf (Err reason) = Check why.WrongExportState (state_at old.exports leaf ≢ Some state.Imported) Never reason
+Finishes old new leaf (Err reason) =
+    Check why.WrongExportState (state_at old.exports leaf ≢ Some state.Imported) Never reason
 
 abbrev pub FinishesExport : (old new : Core) → (past now : List Entry) → Leaf → Result Answer Refusal → Type 0
 FinishesExport old new past now leaf result = Exports old new past now (Finishes old.state new.state leaf) result
@@ -181,7 +208,8 @@ FinishesExport old new past now leaf result = Exports old new past now (Finishes
 
 -- the export of a root isn't sent yet
 abbrev pub IsUnsent : State → Leaf → Type 0
-IsUnsent old leaf = (export : StandingExport) × (map.get old.exports leaf ≡ Some export) × (is_before_send export.state ≡ true)
+IsUnsent old leaf =
+    (export : StandingExport) × (map.get old.exports leaf ≡ Some export) × (is_before_send export.state ≡ true)
 
 -- an export that isn't sent yet ends; a subtree root stays one. Refused exactly where there is none
 abbrev pub CancelsAt : (old new : State) → Leaf → Result (Unit {0}) Refusal → Type 0

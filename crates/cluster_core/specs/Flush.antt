@@ -11,12 +11,13 @@ pub use Rattle.mdcache.specs.Mounted.{IsColdTree}
 use Rattle.mdcache.specs.State.{State as TreeState}
 use Rattle.cluster_core.specs.State.{Core, Kept, shown}
 
--- a tree where no commit is begun any more; beside that, what isn't clean, the store's objects and what is to be removed of them differ alone
+-- a tree where no commit is begun any more; beside that, what isn't clean, the store's objects and what is to be
+-- removed of them differ alone
 abbrev pub saved_as : TreeState → TreeState → TreeState
 saved_as old new = record old { unsaved = new.unsaved; objects = new.objects; purge = new.purge; jobs = map.empty }
 
--- the shown tree is as it was; where each directory stands and its leaves, the next numbers, whose each leaf is, what waits, what is granted
--- and what was kept too; no fragment is fetched, and none goes
+-- the shown tree is as it was; where each directory stands and its leaves, the next numbers, whose each leaf is, what
+-- waits, what is granted and what was kept too; no fragment is fetched, and none goes
 pub record KeepsCore (old new : Core) : Type 0 where
   pub left : new.state ≡ record old.state { tree = saved_as old.state.tree new.state.tree }
   pub tree : shown new.state ≡ shown old.state
@@ -28,8 +29,8 @@ pub record KeepsBook (old new : Kept) : Type 0 where
   pub history : new.history ≡ old.history
   pub core : KeepsCore old.core new.core
 
--- why not all is written: the next version of a fragment that isn't clean is used up, or fewer than 256 numbers are left for jobs; otherwise
--- want of memory, or a fault of the store
+-- why not all is written: the next version of a fragment that isn't clean is used up, or fewer than 256 numbers are
+-- left for jobs; otherwise want of memory, or a fault of the store
 abbrev pub MayNotFlush : (old new : Core) → Refusal → Type 0
 MayNotFlush old new reason = MayNotCommit 256 (record old.state.tree { jobs = map.empty }) old.faults new.faults reason
 

@@ -31,8 +31,10 @@ abbrev pub with_grants : List Pin → List Leaf → (client tid : ℕ) → List 
 with_grants pins [] client tid = pins
 with_grants pins (leaf ∷ leaves) client tid = with_grants (with_pin pins (grant_of leaf client tid)) leaves client tid
 
--- the rank granted the request all of its leaves that it would change, of which there are some, and none is frozen; nothing else changes
-pub record Grants (old new : State) (past now : List Entry) (rank : Rank) (client tid : ℕ) (op : Op) (answer : Answer) : Type 0 where
+-- the rank granted the request all of its leaves that it would change, of which there are some, and none is frozen;
+-- nothing else changes
+pub record Grants (old new : State) (past now : List Entry) (rank : Rank) (client tid : ℕ) (op : Op)
+    (answer : Answer) : Type 0 where
   pub answered : answer ≡ Nothing
   pub leaves : List Leaf
   pub exactly : (leaf : Leaf) → Contains leaves leaf ↔ IsGranted old rank op leaf
@@ -41,24 +43,34 @@ pub record Grants (old new : State) (past now : List Entry) (rank : Rank) (clien
   pub same : now ≡ past
   pub left : new ≡ record old { pins = with_grants old.pins leaves client tid }
 
--- refused NotAuthority exactly where there is no such leaf, and Frozen exactly where one of them is frozen, unless the tree refused to tell, and for
--- want of memory; never for want of a number, since a grant takes none; all is left
-abbrev pub RefusesGrant : (old new : State) → (past now : List Entry) → (MayRefuse : Op → Refusal → Type 0) → Rank → Op → Refusal → Type 0
+-- refused NotAuthority exactly where there is no such leaf, and Frozen exactly where one of them is frozen, unless the
+-- tree refused to tell, and for want of memory; never for want of a number, since a grant takes none; all is left
+abbrev pub RefusesGrant : (old new : State) → (past now : List Entry) → (MayRefuse : Op → Refusal → Type 0) → Rank → Op
+    → Refusal → Type 0
 RefusesGrant old new past now MayRefuse rank op reason =
     (((reason ≡ NotAuthority) × ((leaf : Leaf) → IsGranted old rank op leaf → ⊥))
-    ⊎ ((reason ≡ Frozen) × ((leaf : Leaf) × IsGranted old rank op leaf × IsFrozenAt old leaf)) ⊎ (reason ≡ NoMemory) ⊎ ((reason ≢ NoInodes) × MayRefuse op reason)) × IsLeft old new past now
+    ⊎ ((reason ≡ Frozen) × ((leaf : Leaf) × IsGranted old rank op leaf × IsFrozenAt old leaf)) ⊎ (reason ≡ NoMemory)
+    ⊎ ((reason ≢ NoInodes) × MayRefuse op reason)) × IsLeft old new past now
 
-abbrev pub GrantsRequest : (old new : State) → (past now : List Entry) → (MayRefuse : Op → Refusal → Type 0) → Rank → (client tid : ℕ) → Op → Result Answer Refusal → Type 0
-GrantsRequest old new past now MayRefuse rank client tid op (Ok answer) = Grants old new past now rank client tid op answer
-GrantsRequest old new past now MayRefuse rank client tid op (Err reason) = RefusesGrant old new past now MayRefuse rank op reason
+abbrev pub GrantsRequest : (old new : State) → (past now : List Entry) → (MayRefuse : Op → Refusal → Type 0) → Rank
+    → (client tid : ℕ) → Op → Result Answer Refusal → Type 0
+GrantsRequest old new past now MayRefuse rank client tid op (Ok answer) =
+    Grants old new past now rank client tid op answer
+GrantsRequest old new past now MayRefuse rank client tid op (Err reason) =
+    RefusesGrant old new past now MayRefuse rank op reason
 
--- of the first waiting copy of the request; InboxEmpty exactly where none waits. Whether it was applied before plays no part
-abbrev pub GrantsFirst : (old new : State) → (past now : List Entry) → (MayRefuse : Op → Refusal → Type 0) → Rank → (client tid : ℕ) → Result Answer Refusal → Option Request → Type 0
+-- of the first waiting copy of the request; InboxEmpty exactly where none waits. Whether it was applied before plays no
+-- part
+abbrev pub GrantsFirst : (old new : State) → (past now : List Entry) → (MayRefuse : Op → Refusal → Type 0) → Rank
+    → (client tid : ℕ) → Result Answer Refusal → Option Request → Type 0
 GrantsFirst old new past now MayRefuse rank client tid result None = (result ≡ Err InboxEmpty) × IsLeft old new past now
-GrantsFirst old new past now MayRefuse rank client tid result (Some request) = GrantsRequest old new past now MayRefuse rank client tid request.op result
+GrantsFirst old new past now MayRefuse rank client tid result (Some request) =
+    GrantsRequest old new past now MayRefuse rank client tid request.op result
 
-abbrev pub GrantsWaiting : (old new : State) → (past now : List Entry) → (MayRefuse : Op → Refusal → Type 0) → Rank → (client tid : ℕ) → Result Answer Refusal → Type 0
-GrantsWaiting old new past now MayRefuse rank client tid result = GrantsFirst old new past now MayRefuse rank client tid result (first_waiting client tid old.inboxes)
+abbrev pub GrantsWaiting : (old new : State) → (past now : List Entry) → (MayRefuse : Op → Refusal → Type 0) → Rank
+    → (client tid : ℕ) → Result Answer Refusal → Type 0
+GrantsWaiting old new past now MayRefuse rank client tid result =
+    GrantsFirst old new past now MayRefuse rank client tid result (first_waiting client tid old.inboxes)
 
 -- ---- words of this crate's own contracts
 
@@ -66,7 +78,9 @@ GrantsWaiting old new past now MayRefuse rank client tid result = GrantsFirst ol
 abbrev pub AreHeldAmong : TreeState → Roots → Rank → (leaves held : List Leaf) → Type 0
 AreHeldAmong tree roots rank [] held = held ≡ []
 AreHeldAmong tree roots rank (leaf ∷ leaves) held =
-    (Rules tree roots leaf rank × ((rest : List Leaf) × (held ≡ leaf ∷ rest) × AreHeldAmong tree roots rank leaves rest)) ⊎ ((Rules tree roots leaf rank → ⊥) × AreHeldAmong tree roots rank leaves held)
+    (Rules tree roots leaf rank × ((rest : List Leaf) × (held ≡ leaf ∷ rest)
+    × AreHeldAmong tree roots rank leaves rest))
+    ⊎ ((Rules tree roots leaf rank → ⊥) × AreHeldAmong tree roots rank leaves held)
 
 -- a rank is the authority of one of these leaves
 abbrev pub HoldsOne : TreeState → Roots → Rank → List Leaf → Type 0
@@ -74,15 +88,19 @@ HoldsOne tree roots rank leaves = (leaf : Leaf) × Contains leaves leaf × Rules
 
 -- one of these leaves is frozen,
 abbrev pub IsOneFrozen : TreeState → Roots → Standing → List Leaf → Type 0
-IsOneFrozen tree roots exports leaves = (leaf : Leaf) × Contains leaves leaf × IsFrozen exports roots tree.homes tree.covers leaf
+IsOneFrozen tree roots exports leaves =
+    (leaf : Leaf) × Contains leaves leaf × IsFrozen exports roots tree.homes tree.covers leaf
 
 -- or none is
 abbrev pub AreThawedEach : TreeState → Roots → Standing → List Leaf → Type 0
-AreThawedEach tree roots exports leaves = (leaf : Leaf) → Contains leaves leaf → IsFrozen exports roots tree.homes tree.covers leaf → ⊥
+AreThawedEach tree roots exports leaves =
+    (leaf : Leaf) → Contains leaves leaf → IsFrozen exports roots tree.homes tree.covers leaf → ⊥
 
--- why none of some leaves are found that it is the authority of and may grant: it is of none, or for want of memory, where it is of one; or one of
--- those is frozen
+-- why none of some leaves are found that it is the authority of and may grant: it is of none, or for want of memory,
+-- where it is of one; or one of those is frozen
 abbrev pub FindsNone : TreeState → Roots → Standing → Rank → List Leaf → Refusal → Type 0
 FindsNone tree roots exports rank leaves reason =
-    ((reason ≡ NotAuthority) × AreHeldAmong tree roots rank leaves []) ⊎ ((reason ≡ NoMemory) × HoldsOne tree roots rank leaves)
-    ⊎ ((reason ≡ Frozen) × ((held : List Leaf) × AreHeldAmong tree roots rank leaves held × IsOneFrozen tree roots exports held))
+    ((reason ≡ NotAuthority) × AreHeldAmong tree roots rank leaves [])
+    ⊎ ((reason ≡ NoMemory) × HoldsOne tree roots rank leaves)
+    ⊎ ((reason ≡ Frozen) × ((held : List Leaf) × AreHeldAmong tree roots rank leaves held
+    × IsOneFrozen tree roots exports held))

@@ -33,10 +33,12 @@ leaf_at covers dir (Some dentry) = fragment_of covers dentry
 abbrev pub main_leaf : Covers → Op → Leaf
 main_leaf covers op = leaf_at covers (destination_of op) (main_dentry op)
 
--- the master of an operation at a rank: the authority of its main leaf; where its directory, of a rename the destination's, isn't there, the
--- rank itself
+-- the master of an operation at a rank: the authority of its main leaf; where its directory, of a rename the
+-- destination's, isn't there, the rank itself
 abbrev pub IsMasterIn : TreeState → Roots → Rank → Op → Rank → Type 0
-IsMasterIn tree roots rank op master = MatchBool (is_directory (shown_tree tree) (destination_of op)) (Rules tree roots (main_leaf tree.covers op) master) (master ≡ rank)
+IsMasterIn tree roots rank op master =
+    MatchBool (is_directory (shown_tree tree) (destination_of op)) (Rules tree roots (main_leaf tree.covers op) master)
+    (master ≡ rank)
 
 abbrev pub IsMaster : State → Rank → Op → Rank → Type 0
 IsMaster state rank op master = IsMasterIn state.tree state.roots rank op master
@@ -45,7 +47,8 @@ IsMaster state rank op master = IsMasterIn state.tree state.roots rank op master
 abbrev pub IsAuthority : State → Leaf → Rank → Type 0
 IsAuthority state leaf rank = Rules state.tree state.roots leaf rank
 
--- the rank that holds a leaf in a cluster's state, and caches it: its authority, but from Import to Finish the importer of its region
+-- the rank that holds a leaf in a cluster's state, and caches it: its authority, but from Import to Finish the importer
+-- of its region
 abbrev pub IsHolder : State → Leaf → Rank → Type 0
 IsHolder state leaf rank = Rules state.tree (held_roots state) leaf rank
 
@@ -57,10 +60,12 @@ IsFrozenAt state leaf = IsFrozen state.exports state.roots state.tree.homes stat
 abbrev pub grant_of : Leaf → (client tid : ℕ) → Pin
 grant_of leaf client tid = record { dir = leaf.0; frag = leaf.1; client = client; tid = tid }
 
--- a rank may change a leaf for a request: the leaf isn't frozen, and the rank is its authority, or it is granted for that request
+-- a rank may change a leaf for a request: the leaf isn't frozen, and the rank is its authority, or it is granted for
+-- that request
 abbrev pub MayTouchIn : TreeState → Roots → Standing → List Pin → Rank → (client tid : ℕ) → Leaf → Type 0
 MayTouchIn tree roots exports pins rank client tid leaf =
-    (IsFrozen exports roots tree.homes tree.covers leaf → ⊥) × (Rules tree roots leaf rank ⊎ (list_any (is_pin (grant_of leaf client tid)) pins ≡ true))
+    (IsFrozen exports roots tree.homes tree.covers leaf → ⊥)
+    × (Rules tree roots leaf rank ⊎ (list_any (is_pin (grant_of leaf client tid)) pins ≡ true))
 
 -- the leaves that an operation would change now
 abbrev pub would_change_in : TreeState → Op → List Leaf
@@ -71,34 +76,43 @@ would_change state op = would_change_in state.tree op
 
 -- a rank may change each of these leaves for a request
 abbrev pub MayTouchEach : TreeState → Roots → Standing → List Pin → Rank → (client tid : ℕ) → List Leaf → Type 0
-MayTouchEach tree roots exports pins rank client tid leaves = (leaf : Leaf) → Contains leaves leaf → MayTouchIn tree roots exports pins rank client tid leaf
+MayTouchEach tree roots exports pins rank client tid leaves =
+    (leaf : Leaf) → Contains leaves leaf → MayTouchIn tree roots exports pins rank client tid leaf
 
 -- a rank may change all that a request would change
 abbrev pub MayTouchAllIn : TreeState → Roots → Standing → List Pin → Rank → (client tid : ℕ) → Op → Type 0
-MayTouchAllIn tree roots exports pins rank client tid op = MayTouchEach tree roots exports pins rank client tid (would_change_in tree op)
+MayTouchAllIn tree roots exports pins rank client tid op =
+    MayTouchEach tree roots exports pins rank client tid (would_change_in tree op)
 
 abbrev pub MayTouchAll : State → Rank → Request → Type 0
-MayTouchAll state rank request = MayTouchAllIn state.tree state.roots state.exports state.pins rank request.client request.tid request.op
+MayTouchAll state rank request =
+    MayTouchAllIn state.tree state.roots state.exports state.pins rank request.client request.tid request.op
 
 -- a rank may not change one of these leaves for a request
-pub record LacksOneOf (tree : TreeState) (roots : Roots) (exports : Standing) (pins : List Pin) (rank : Rank) (client tid : ℕ) (leaves : List Leaf) : Type 0 where
+pub record LacksOneOf (tree : TreeState) (roots : Roots) (exports : Standing) (pins : List Pin) (rank : Rank)
+    (client tid : ℕ) (leaves : List Leaf) : Type 0 where
   pub leaf : Leaf
   pub changes : Contains leaves leaf
   pub barred : MayTouchIn tree roots exports pins rank client tid leaf → ⊥
 
 -- an operation would change a leaf that is frozen, or one of another authority, which hasn't granted it
 abbrev pub MustWaitIn : TreeState → Roots → Standing → List Pin → Rank → (client tid : ℕ) → Op → Type 0
-MustWaitIn tree roots exports pins rank client tid op = LacksOneOf tree roots exports pins rank client tid (would_change_in tree op)
+MustWaitIn tree roots exports pins rank client tid op =
+    LacksOneOf tree roots exports pins rank client tid (would_change_in tree op)
 
 abbrev pub MustWait : State → Rank → Request → Type 0
-MustWait state rank request = MustWaitIn state.tree state.roots state.exports state.pins rank request.client request.tid request.op
+MustWait state rank request =
+    MustWaitIn state.tree state.roots state.exports state.pins rank request.client request.tid request.op
 
 -- ---- words of this crate's own contracts
 
 -- each master of an operation at a rank is one of so many ranks
 abbrev pub AreMastersThere : TreeState → Roots → Rank → ℕ → Type 0
-AreMastersThere tree roots rank count = (op : Op) (master : Rank) → IsMasterIn tree roots rank op master → master.0 < count
+AreMastersThere tree roots rank count =
+    (op : Op) (master : Rank) → IsMasterIn tree roots rank op master → master.0 < count
 
 -- the checks of an operation found this, offered some number, where leaves lie at the ranks that hold them
 abbrev pub IsCheckedIn : TreeState → Roots → Op → Checked → Type 0
-IsCheckedIn tree roots op checked = (n : ℕ) × Checks (shown_tree tree) tree.covers (HoldsAt tree roots) op n (step tree.limit (shown_tree tree) op n) checked
+IsCheckedIn tree roots op checked =
+    (n : ℕ)
+    × Checks (shown_tree tree) tree.covers (HoldsAt tree roots) op n (step tree.limit (shown_tree tree) op n) checked

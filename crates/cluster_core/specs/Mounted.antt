@@ -15,13 +15,16 @@ pub record IsNewCore (limit ranks places : ℕ) (core : Core) : Type 0 where
   pub state : core.state ≡ new_state ranks limit
   pub caches : core.caches ≡ new_caches ranks places
 
--- the cluster over a store that was walked, where a directory may have so many entries, whatever they have: the tree has what the walk found, and the objects that weren't reached are to be removed; the leaves
--- of the root directory are rank 0's; no export stands; each rank has the numbers after the greatest of its range; nothing waits, is granted or is kept; and
--- nothing is cached
-pub record IsMountedCore (limit : ℕ) (objects : Objects) (ranks places : ℕ) (opening : Tree) (core : Core) : Type 0 where
+-- the cluster over a store that was walked, where a directory may have so many entries, whatever they have: the tree
+-- has what the walk found, and the objects that weren't reached are to be removed; the leaves of the root directory are
+-- rank 0's; no export stands; each rank has the numbers after the greatest of its range; nothing waits, is granted or
+-- is kept; and nothing is cached
+pub record IsMountedCore (limit : ℕ) (objects : Objects) (ranks places : ℕ) (opening : Tree)
+    (core : Core) : Type 0 where
   pub walked : IsWalked objects opening core.state.tree.homes core.state.tree.covers core.state.tree.purge
   pub counted : IsCounted opening core.state.tree.counts core.state.tree.pins
-  pub tree : core.state.tree ≡ mounted limit objects core.state.tree.homes core.state.tree.covers core.state.tree.counts core.state.tree.pins core.state.tree.purge
+  pub tree : core.state.tree ≡ mounted limit objects core.state.tree.homes core.state.tree.covers core.state.tree.counts
+      core.state.tree.pins core.state.tree.purge
   pub roots : AreTopRoots core.state.tree.covers core.state.roots
   pub exports : core.state.exports ≡ map.empty
   pub numbers : AreNumbers opening ranks core.state.numbers
@@ -33,4 +36,5 @@ pub record IsMountedCore (limit : ℕ) (objects : Objects) (ranks places : ℕ) 
 -- a store with no object is mounted as a new one, any other as a walk finds it
 abbrev pub MountsCore : ℕ → Objects → (ranks places : ℕ) → Tree → Core → Type 0
 MountsCore limit objects ranks places opening core =
-    ((objects ≡ map.empty) × (opening ≡ map.empty) × IsNewCore limit ranks places core) ⊎ ((objects ≡ map.empty → ⊥) × IsMountedCore limit objects ranks places opening core)
+    ((objects ≡ map.empty) × (opening ≡ map.empty) × IsNewCore limit ranks places core)
+    ⊎ ((objects ≡ map.empty → ⊥) × IsMountedCore limit objects ranks places opening core)

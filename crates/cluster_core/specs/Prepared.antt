@@ -19,8 +19,8 @@ use Rattle.cluster_core.specs.Offer.{after_taking}
 use Rattle.cluster_core.specs.Serve.{CarryLeaves}
 use Rattle.cluster_core.specs.declared.applying.Prepared.{Prepared}
 
--- what stands beside the tree once a change is made, offered the next number of a supply: the number that it takes, its reply three times, and the
--- directory that goes
+-- what stands beside the tree once a change is made, offered the next number of a supply: the number that it takes, its
+-- reply three times, and the directory that goes
 pub record IsPrepared (change : Change) (numbers : Supply) (prepared : Prepared) : Type 0 where
   pub replied : prepared.reply ≡ reply_of change
   pub copied : prepared.answer ≡ reply_of change
@@ -32,17 +32,20 @@ pub record IsPrepared (change : Change) (numbers : Supply) (prepared : Prepared)
 
 -- why it isn't: want of memory, or a new inode comes, and no number is offered
 abbrev pub WhyUnprepared : Change → Option Ino → Refusal → Type 0
-WhyUnprepared change offered reason = (reason ≡ NoMemory) ⊎ ((reason ≡ NoInodes) × (offered ≡ None) × (change.comes ≡ true))
+WhyUnprepared change offered reason =
+    (reason ≡ NoMemory) ⊎ ((reason ≡ NoInodes) × (offered ≡ None) × (change.comes ≡ true))
 
 -- so the change was made, and the roots followed it
 pub record MakesRequest (old new : Ranked) (change : Change) (numbers : Supply) (prepared : Prepared) : Type 0 where
   pub beside : IsPrepared change numbers prepared
   pub changed : IsChangedHeld (held_roots old) change old.tree new.tree
   pub roots : FollowChange change (state_of old.tree) old.subtrees.roots new.subtrees.roots
-  pub leaves : CarryLeaves (shown_tree (state_of old.tree)) (shown_tree (state_of new.tree)) old.tree.covers new.tree.covers
+  pub leaves : CarryLeaves (shown_tree (state_of old.tree))
+      (shown_tree (state_of new.tree)) old.tree.covers new.tree.covers
 
 -- it wasn't: leaves for the operation were read at most, and a number lacks, or memory, or as the tree refuses it
-pub record RefusesChange (old new : Ranked) (op : Op) (outcome : Outcome) (offered : Option Ino) (reason : Refusal) : Type 0 where
+pub record RefusesChange (old new : Ranked) (op : Op) (outcome : Outcome) (offered : Option Ino)
+    (reason : Refusal) : Type 0 where
   pub kept : KeepsRanked old new op (Some reason)
   pub because : LacksNumber outcome offered reason ⊎ ((reason ≡ NoMemory) ⊎ MayRefuse old new op reason)
 
@@ -50,7 +53,9 @@ pub record RefusesChange (old new : Ranked) (op : Op) (outcome : Outcome) (offer
 abbrev pub outcome_with : TreeState → Supply → Op → Outcome
 outcome_with tree supply op = step tree.limit (shown_tree tree) op (number_or (offer supply))
 
--- why nothing was made ready: for want of memory; or as the tree refuses it; for want of a number only where the request may change all that it would
+-- why nothing was made ready: for want of memory; or as the tree refuses it; for want of a number only where the
+-- request may change all that it would
 abbrev pub IsUnready : (MayTouch : Type 0) → (MayRefuse : Refusal → Type 0) → Outcome → Option Ino → Refusal → Type 0
 IsUnready MayTouch MayRefuse outcome offered reason =
-    (reason ≡ NoMemory) ⊎ ((reason ≢ NoInodes) × MayRefuse reason) ⊎ (MayTouch × (LacksNumber outcome offered reason ⊎ MayRefuse reason))
+    (reason ≡ NoMemory) ⊎ ((reason ≢ NoInodes) × MayRefuse reason)
+    ⊎ (MayTouch × (LacksNumber outcome offered reason ⊎ MayRefuse reason))

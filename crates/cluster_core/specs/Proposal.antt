@@ -1,5 +1,6 @@
--- The proposal of a rank's own step (CephFS's balancer and its subtree pins, with this project's own order of steps): an export that it goes on
--- with, a leaf that it splits, leaves that it merges, or a subtree that it begins to hand to the rank that the subtree is pinned to.
+-- The proposal of a rank's own step (CephFS's balancer and its subtree pins, with this project's own order of steps):
+-- an export that it goes on with, a leaf that it splits, leaves that it merges, or a subtree that it begins to hand to
+-- the rank that the subtree is pinned to.
 use Rattle.std.specs.Prelude.{◌≡◌, ◌≢◌, ◌⊎◌, ℕ, ◌<◌, ◌≤◌, Bool, false, cond, List, [], ◌∷◌, length, Option, Some, None, IsSome, Result, Ok, Err}
 use Rattle.std.specs.List.{list_any}
 use Rattle.std.specs.declared.cmp.Ordering.TheVariants.{Less}
@@ -27,8 +28,9 @@ use Rattle.cluster_core.specs.declared.events.Event.TheVariants.{Arrive, Serve, 
 use Rattle.cluster_core.specs.Pins.{HasPin}
 use Rattle.cluster_core.specs.State.{Core}
 
--- what a rank goes by when it proposes: how many ranks there are, the directories and their leaves, whose they are, the exports, the pins, the
--- leaves on which a grant stands, and the fragments that it caches, each with its number of entries
+-- what a rank goes by when it proposes: how many ranks there are, the directories and their leaves, whose they are, the
+-- exports, the pins, the leaves on which a grant stands, and the fragments that it caches, each with its number of
+-- entries
 pub record Sight : Type 0 where
   pub rank : Rank
   pub ranks : ℕ
@@ -57,16 +59,19 @@ pub record IsIdle (s : Sight) (leaf : Leaf) : Type 0 where
 
 -- ---- first: an export of the rank's goes on
 
--- a started export can be frozen: its root is the rank's own and thawed, and no leaf of the region that it is to be has a grant
+-- a started export can be frozen: its root is the rank's own and thawed, and no leaf of the region that it is to be has
+-- a grant
 pub record MayFreeze (s : Sight) (root : Leaf) : Type 0 where
   pub own : IsMine s root
   pub thawed : IsThawed s root
-  pub free : (leaf : Leaf) → NearestRoot (map.insert s.roots root s.rank) s.homes s.covers leaf root → s.granted leaf ≡ false
+  pub free : (leaf : Leaf) → NearestRoot (map.insert s.roots root s.rank) s.homes s.covers leaf root
+      → s.granted leaf ≡ false
 
--- the next step of an export by its state; a started one whose root ended or is another's is cancelled, and one that can't be frozen now has no next
--- step
+-- the next step of an export by its state; a started one whose root ended or is another's is cancelled, and one that
+-- can't be frozen now has no next step
 abbrev pub IsNextStep : Sight → Leaf → ExportState → Event → Type 0
-IsNextStep s root at.Started event = ((event ≡ Freeze root.0 root.1) × MayFreeze s root) ⊎ ((event ≡ Cancel root.0 root.1) × (IsMine s root → ⊥))
+IsNextStep s root at.Started event =
+    ((event ≡ Freeze root.0 root.1) × MayFreeze s root) ⊎ ((event ≡ Cancel root.0 root.1) × (IsMine s root → ⊥))
 IsNextStep s root at.Frozen event = event ≡ Prep root.0 root.1
 IsNextStep s root at.Prepared event = event ≡ Send root.0 root.1
 IsNextStep s root at.Sent event = event ≡ Import root.0 root.1 []
@@ -134,7 +139,8 @@ WouldNot s kind = (leaf : Leaf) (event : Event) → Would s kind leaf event → 
 pub record IsLeast (s : Sight) (kind : Kind) (event : Event) : Type 0 where
   pub leaf : Leaf
   pub would : Would s kind leaf event
-  pub least : (other : Leaf) (another : Event) → Would s kind other another → (other ≡ leaf) ⊎ (leaf_cmp leaf other ≡ Less)
+  pub least : (other : Leaf) (another : Event) → Would s kind other another → (other ≡ leaf)
+      ⊎ (leaf_cmp leaf other ≡ Less)
 
 -- the first of these kinds of which it would make a step gives the least; without any there is none
 abbrev pub IsFirstOf : Sight → List Kind → Option Event → Type 0
@@ -207,7 +213,8 @@ ProposedSplitsPass = (s : Sight) (leaf : Leaf) (event : Event) → IsLarge s lea
 
 -- a proposed merge passes the listed checks of Merge
 abbrev pub ProposedMergesPass : Type 0
-ProposedMergesPass = (s : Sight) (whole : Leaf) (event : Event) → IsTree (leaves_of s.covers whole.0.0) → AreSmall s whole event
+ProposedMergesPass =
+    (s : Sight) (whole : Leaf) (event : Event) → IsTree (leaves_of s.covers whole.0.0) → AreSmall s whole event
     → CanMerge (leaves_of s.covers whole.0.0) whole.1 × ((i : ℕ) → i < 8 → IsIdle s (child whole i))
 
 -- where none is kept as a candidate, nothing of that kind is proposed
@@ -266,7 +273,9 @@ IsPlace s leaf = IsRootAt s leaf ⊎ IsOfPinned s leaf
 abbrev pub IsFirstAway : Sight → (Leaf → Type 0) → Option (Leaf × Rank) → Type 0
 IsFirstAway s Place None = (leaf : Leaf) (to : Rank) → Place leaf → IsAwayTo s leaf to → ⊥
 IsFirstAway s Place (Some found) =
-    Place found.0 × IsAwayTo s found.0 found.1 × ((leaf : Leaf) (to : Rank) → Place leaf → IsAwayTo s leaf to → (leaf ≡ found.0) ⊎ (leaf_cmp found.0 leaf ≡ Less))
+    Place found.0 × IsAwayTo s found.0 found.1
+    × ((leaf : Leaf) (to : Rank) → Place leaf → IsAwayTo s leaf to → (leaf ≡ found.0)
+    ⊎ (leaf_cmp found.0 leaf ≡ Less))
 
 -- the one at the lesser leaf
 abbrev pub lesser_away : Leaf × Rank → Leaf × Rank → Leaf × Rank

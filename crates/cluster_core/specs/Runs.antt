@@ -88,7 +88,8 @@ abbrev pub BeginsWith : List Entry → List Entry → Type 0
 BeginsWith history past = (rest : List Entry) × (history ≡ past ++ rest)
 
 -- a run: the opening stays, the history grows, and each reply that was handed out is the history's at the end
-pub record IsRun (start : Kept) (events : List Event) (results : List (Result Answer Refusal)) (end : Kept) : Type 0 where
+pub record IsRun (start : Kept) (events : List Event) (results : List (Result Answer Refusal))
+    (end : Kept) : Type 0 where
   pub ran : Runs start events results end
   pub same_opening : end.opening ≡ start.opening
   pub grows : BeginsWith end.history start.history

@@ -37,7 +37,8 @@ use Rattle.cluster_core.specs.Offer.{after_taking}
 
 -- the table's outcome for a request at a rank, offered the rank's next number
 abbrev pub outcome_of : State → Rank → Request → Outcome
-outcome_of state rank request = step state.tree.limit (shown state) request.op (number_or (offer (supply_of state rank)))
+outcome_of state rank request =
+    step state.tree.limit (shown state) request.op (number_or (offer (supply_of state rank)))
 
 -- the number that the table takes for a request, if it takes one
 abbrev pub number_of : State → Rank → Request → Option Ino
@@ -60,7 +61,9 @@ with_entry sessions place e = trimmed (noted sessions e.client e.tid e.oldest pl
 
 -- each directory that stands has the leaves that it had before, and one that came the leaf `*`
 abbrev pub CarryLeaves : (before tree : Tree) → (old new : Covers) → Type 0
-CarryLeaves before tree old new = (d : ℕ) → is_directory tree d ≡ true → leaves_of new d ≡ cond (is_directory before d) (leaves_of old d) (root_fragment ∷ [])
+CarryLeaves before tree old new =
+    (d : ℕ) → is_directory tree d ≡ true
+    → leaves_of new d ≡ cond (is_directory before d) (leaves_of old d) (root_fragment ∷ [])
 
 -- a refusal that leaves all as it was
 pub record IsLeft (old new : State) (past now : List Entry) : Type 0 where
@@ -82,11 +85,13 @@ went_with None = None
 went_with (Some change) = change.gone
 
 -- the request has left the rank's inbox, with its grants, and nothing else happened
-pub record IsTakenOut (old new : State) (past now : List Entry) (rank : Rank) (request : Request) (rest : List Request) : Type 0 where
+pub record IsTakenOut (old new : State) (past now : List Entry) (rank : Rank) (request : Request)
+    (rest : List Request) : Type 0 where
   pub same : now ≡ past
   pub left : new ≡ record old { inboxes = with_waiting old.inboxes rank rest; pins = without_request old.pins request }
 
--- a planned change was made: what isn't clean, the jobs, the names to be removed and the counters are as it leaves them. With none they stay
+-- a planned change was made: what isn't clean, the jobs, the names to be removed and the counters are as it leaves
+-- them. With none they stay
 abbrev pub MakesPlanned : Option Change → (old new : TreeState) → Type 0
 MakesPlanned None old new = new ≡ old
 MakesPlanned (Some change) old new = Makes change old new
@@ -96,8 +101,8 @@ abbrev pub FollowPlanned : Option Change → TreeState → (before after : Roots
 FollowPlanned None tree before after = after ≡ before
 FollowPlanned (Some change) tree before after = FollowChange change tree before after
 
--- one change of the operation, or none, was made: that which leads to the table's tree, in the leaves that the operation changes. The
--- grants of the request end, and those on what went
+-- one change of the operation, or none, was made: that which leads to the table's tree, in the leaves that the
+-- operation changes. The grants of the request end, and those on what went
 pub record IsMade (old new : State) (rank : Rank) (request : Request) : Type 0 where
   pub change : Option Change
   pub one_of : IsOneOf request.op change
@@ -107,9 +112,10 @@ pub record IsMade (old new : State) (rank : Rank) (request : Request) : Type 0 w
   pub roots : FollowPlanned change old.tree old.roots new.roots
   pub pins : new.pins ≡ without_gone (without_request old.pins request) (went_with change)
 
--- a new request was applied at its master, which may change all that it changes: one entry more, and the table's tree and reply. A leaf that
--- is none of those which the operation changes shows what it showed
-pub record IsApplied (old new : State) (past now : List Entry) (rank : Rank) (request : Request) (rest : List Request) (answer : Answer) : Type 0 where
+-- a new request was applied at its master, which may change all that it changes: one entry more, and the table's tree
+-- and reply. A leaf that is none of those which the operation changes shows what it showed
+pub record IsApplied (old new : State) (past now : List Entry) (rank : Rank) (request : Request) (rest : List Request)
+    (answer : Answer) : Type 0 where
   pub is_new : IsNew past request.client request.tid request.oldest
   pub master : IsMaster old rank request.op rank
   pub may : MayTouchAll old rank request
@@ -130,15 +136,18 @@ pub record IsApplied (old new : State) (past now : List Entry) (rank : Rank) (re
     sessions = with_entry old.sessions (length past) (entry_of old rank request);
   }
 
--- a request that was applied before is answered again: the reply of its place, and nothing changes but that the request and its grants go
-pub record IsRepeated (old new : State) (past now : List Entry) (rank : Rank) (request : Request) (rest : List Request) (answer : Answer) : Type 0 where
+-- a request that was applied before is answered again: the reply of its place, and nothing changes but that the request
+-- and its grants go
+pub record IsRepeated (old new : State) (past now : List Entry) (rank : Rank) (request : Request) (rest : List Request)
+    (answer : Answer) : Type 0 where
   pub place : ℕ
   pub kept : IsKeptAt past request.client request.tid request.oldest place
   pub answered : (e : Entry) → answer ≡ Reply request.client request.tid place false (slice_index_or past place e).reply
   pub out : IsTakenOut old new past now rank request rest
 
 -- a new request of which another rank is the master goes to the back of the master's inbox
-pub record IsForwarded (old new : State) (past now : List Entry) (rank : Rank) (request : Request) (rest : List Request) (answer : Answer) : Type 0 where
+pub record IsForwarded (old new : State) (past now : List Entry) (rank : Rank) (request : Request) (rest : List Request)
+    (answer : Answer) : Type 0 where
   pub is_new : IsNew past request.client request.tid request.oldest
   pub master : Rank
   pub is_master : IsMaster old rank request.op master
@@ -149,7 +158,8 @@ pub record IsForwarded (old new : State) (past now : List Entry) (rank : Rank) (
   pub left : new ≡ record old { inboxes = with_last (with_waiting old.inboxes rank rest) master request }
 
 -- a new request at its master that would change what is frozen, or lacks a grant, goes to the back of the same inbox
-pub record IsDeferred (old new : State) (past now : List Entry) (rank : Rank) (request : Request) (rest : List Request) (answer : Answer) : Type 0 where
+pub record IsDeferred (old new : State) (past now : List Entry) (rank : Rank) (request : Request) (rest : List Request)
+    (answer : Answer) : Type 0 where
   pub is_new : IsNew past request.client request.tid request.oldest
   pub master : IsMaster old rank request.op rank
   pub waits : MustWait old rank request
@@ -170,67 +180,98 @@ pub record IsAtMaster (old : State) (past : List Entry) (rank : Rank) (request :
   pub is_new : IsNew past request.client request.tid request.oldest
   pub master : IsMaster old rank request.op rank
 
--- serving a request takes memory where its reply is copied, since it was applied before, or where it's new and at its master, and nowhere else
+-- serving a request takes memory where its reply is copied, since it was applied before, or where it's new and at its
+-- master, and nowhere else
 abbrev pub TakesMemory : State → List Entry → Rank → Request → Type 0
-TakesMemory old past rank request = ((place : ℕ) × IsKeptAt past request.client request.tid request.oldest place) ⊎ IsAtMaster old past rank request
+TakesMemory old past rank request =
+    ((place : ℕ) × IsKeptAt past request.client request.tid request.oldest place) ⊎ IsAtMaster old past rank request
 
--- why a request lacks a number: it may change all that it would, and the table takes a number and the rank has none left, or a counter of the tree's is at
--- its end
+-- why a request lacks a number: it may change all that it would, and the table takes a number and the rank has none
+-- left, or a counter of the tree's is at its end
 abbrev pub LacksAny : State → (MayRefuse : Op → Refusal → Type 0) → Rank → Request → Type 0
 LacksAny old MayRefuse rank request =
-    MayTouchAll old rank request × (LacksNumber (outcome_of old rank request) (offer (supply_of old rank)) NoInodes ⊎ MayRefuse request.op NoInodes)
+    MayTouchAll old rank request × (LacksNumber (outcome_of old rank request) (offer (supply_of old rank)) NoInodes
+    ⊎ MayRefuse request.op NoInodes)
 
--- why a request is not served: it is trimmed, or lacks a number, and leaves the inbox with its grants; or it stays there: its master's inbox
--- is full, or for want of memory, or for one of the reasons that the tree had in this call for this operation, `MayRefuse`
-abbrev pub RefusesRequest : (old new : State) → (past now : List Entry) → (MayRefuse : Op → Refusal → Type 0) → Rank → Request → List Request → Refusal → Type 0
+-- why a request is not served: it is trimmed, or lacks a number, and leaves the inbox with its grants; or it stays
+-- there: its master's inbox is full, or for want of memory, or for one of the reasons that the tree had in this call
+-- for this operation, `MayRefuse`
+abbrev pub RefusesRequest : (old new : State) → (past now : List Entry) → (MayRefuse : Op → Refusal → Type 0) → Rank
+    → Request → List Request → Refusal → Type 0
 RefusesRequest old new past now MayRefuse rank request rest reason =
-    ((reason ≡ Trimmed) × IsTrimmed past request.client request.tid request.oldest × IsTakenOut old new past now rank request rest)
-    ⊎ ((reason ≡ NoInodes) × IsAtMaster old past rank request × LacksAny old MayRefuse rank request × IsTakenOut old new past now rank request rest)
+    ((reason ≡ Trimmed) × IsTrimmed past request.client request.tid request.oldest
+    × IsTakenOut old new past now rank request rest)
+    ⊎ ((reason ≡ NoInodes) × IsAtMaster old past rank request × LacksAny old MayRefuse rank request
+    × IsTakenOut old new past now rank request rest)
     ⊎ ((reason ≡ InboxFull) × FindsFull old past rank request × IsLeft old new past now)
     ⊎ ((reason ≡ NoMemory) × TakesMemory old past rank request × IsLeft old new past now)
     ⊎ ((reason ≢ NoInodes) × IsAtMaster old past rank request × MayRefuse request.op reason × IsLeft old new past now)
 
 -- what becomes of the request at the front
-abbrev pub ServesRequest : (old new : State) → (past now : List Entry) → (MayRefuse : Op → Refusal → Type 0) → Rank → Request → List Request → Result Answer Refusal → Type 0
+abbrev pub ServesRequest : (old new : State) → (past now : List Entry) → (MayRefuse : Op → Refusal → Type 0) → Rank
+    → Request → List Request → Result Answer Refusal → Type 0
 ServesRequest old new past now MayRefuse rank request rest (Ok answer) =
     IsApplied old new past now rank request rest answer ⊎ IsRepeated old new past now rank request rest answer
     ⊎ IsForwarded old new past now rank request rest answer ⊎ IsDeferred old new past now rank request rest answer
-ServesRequest old new past now MayRefuse rank request rest (Err reason) = RefusesRequest old new past now MayRefuse rank request rest reason
+ServesRequest old new past now MayRefuse rank request rest (Err reason) =
+    RefusesRequest old new past now MayRefuse rank request rest reason
 
 -- serving a rank: refused InboxEmpty exactly where nothing waits
-abbrev pub ServesInbox : (old new : State) → (past now : List Entry) → (MayRefuse : Op → Refusal → Type 0) → Rank → Result Answer Refusal → List Request → Type 0
+abbrev pub ServesInbox : (old new : State) → (past now : List Entry) → (MayRefuse : Op → Refusal → Type 0) → Rank
+    → Result Answer Refusal → List Request → Type 0
 ServesInbox old new past now MayRefuse rank result [] = (result ≡ Err InboxEmpty) × IsLeft old new past now
-ServesInbox old new past now MayRefuse rank result (request ∷ rest) = ServesRequest old new past now MayRefuse rank request rest result
+ServesInbox old new past now MayRefuse rank result (request ∷ rest) =
+    ServesRequest old new past now MayRefuse rank request rest result
 
 -- ---- words of this crate's own contracts
 
--- a request that was taken out is answered again with the reply that it got at this place; for want of memory it is put back
-abbrev pub Repeats : (old new : Inboxes) → (before after : List Pin) → Rank → Request → ℕ → Replied → Result Answer Refusal → Type 0
+-- a request that was taken out is answered again with the reply that it got at this place; for want of memory it is put
+-- back
+abbrev pub Repeats : (old new : Inboxes) → (before after : List Pin) → Rank → Request → ℕ → Replied
+    → Result Answer Refusal → Type 0
 Repeats old new before after rank request at said (Ok answer) =
     (answer ≡ Reply request.client request.tid at false said) × (new ≡ old) × (after ≡ without_request before request)
-Repeats old new before after rank request at said (Err reason) = (reason ≡ NoMemory) × (new ≡ with_first old rank request) × (after ≡ before)
+Repeats old new before after rank request at said (Err reason) =
+    (reason ≡ NoMemory) × (new ≡ with_first old rank request) × (after ≡ before)
 
--- a new request that changes nothing was answered with this reply: one entry more, which its client's session keeps, and its grants end
-pub record IsReplied (old new : Inboxes) (before after : List Pin) (known sessions : Table) (past now : List Entry) (request : Request) (said : Replied) (answer : Answer) : Type 0 where
+-- a new request that changes nothing was answered with this reply: one entry more, which its client's session keeps,
+-- and its grants end
+pub record IsReplied (old new : Inboxes) (before after : List Pin) (known sessions : Table) (past now : List Entry)
+    (request : Request) (said : Replied) (answer : Answer) : Type 0 where
   pub answered : answer ≡ Reply request.client request.tid (length past) true said
   pub inboxes : new ≡ old
   pub pins : after ≡ without_request before request
-  pub appended : now ≡ past ++ record { client = request.client; tid = request.tid; oldest = request.oldest; op = request.op; number = None; reply = said } ∷ []
-  pub noted : sessions ≡ trimmed (noted known request.client request.tid request.oldest (length past) said) request.client
+  pub appended : now ≡ past ++ record {
+    client = request.client;
+    tid = request.tid;
+    oldest = request.oldest;
+    op =
+        request.op;
+    number = None;
+    reply = said;
+  } ∷ []
+  pub noted : sessions ≡ trimmed (noted known request.client request.tid request.oldest
+      (length past) said) request.client
 
 -- for want of memory it was put back
-pub record IsPutBack (old new : Inboxes) (before after : List Pin) (known sessions : Table) (past now : List Entry) (rank : Rank) (request : Request) (reason : Refusal) : Type 0 where
+pub record IsPutBack (old new : Inboxes) (before after : List Pin) (known sessions : Table) (past now : List Entry)
+    (rank : Rank) (request : Request) (reason : Refusal) : Type 0 where
   pub named : reason ≡ NoMemory
   pub inboxes : new ≡ with_first old rank request
   pub pins : after ≡ before
   pub same : now ≡ past
   pub known_still : sessions ≡ known
 
-abbrev pub Replies : (old new : Inboxes) → (before after : List Pin) → (known sessions : Table) → (past now : List Entry) → Rank → Request → Replied → Result Answer Refusal → Type 0
-Replies old new before after known sessions past now rank request said (Ok answer) = IsReplied old new before after known sessions past now request said answer
-Replies old new before after known sessions past now rank request said (Err reason) = IsPutBack old new before after known sessions past now rank request reason
+abbrev pub Replies : (old new : Inboxes) → (before after : List Pin) → (known sessions : Table)
+    → (past now : List Entry) → Rank → Request → Replied → Result Answer Refusal → Type 0
+Replies old new before after known sessions past now rank request said (Ok answer) =
+    IsReplied old new before after known sessions past now request said answer
+Replies old new before after known sessions past now rank request said (Err reason) =
+    IsPutBack old new before after known sessions past now rank request reason
 
 -- a request that was taken out goes to the back of another inbox; where that is full it is put back
 abbrev pub ForwardsTo : (old new : Inboxes) → (rank master : Rank) → Request → Result Answer Refusal → Type 0
-ForwardsTo old new rank master request (Ok answer) = (answer ≡ Forwarded master) × (length (waiting_at old master) < 1024) × (new ≡ with_last old master request)
-ForwardsTo old new rank master request (Err reason) = (reason ≡ InboxFull) × (length (waiting_at old master) ≡ 1024) × (new ≡ with_first old rank request)
+ForwardsTo old new rank master request (Ok answer) =
+    (answer ≡ Forwarded master) × (length (waiting_at old master) < 1024) × (new ≡ with_last old master request)
+ForwardsTo old new rank master request (Err reason) =
+    (reason ≡ InboxFull) × (length (waiting_at old master) ≡ 1024) × (new ≡ with_first old rank request)

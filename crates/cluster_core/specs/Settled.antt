@@ -16,7 +16,8 @@ use Rattle.cluster_core.specs.Pins.{HasPin}
 use Rattle.cluster_core.specs.Sound.{IsSoundBook}
 use Rattle.cluster_core.specs.State.{Kept, State}
 
--- a leaf is a rank's, a subtree root or of a directory with a pin of its own, and its directory is pinned to another rank of the book
+-- a leaf is a rank's, a subtree root or of a directory with a pin of its own, and its directory is pinned to another
+-- rank of the book
 pub record IsAway (state : State) (rank : Rank) (leaf : Leaf) (to : Rank) : Type 0 where
   pub live : IsLive state.tree.homes state.tree.covers leaf
   pub mine : HasAuthority state.roots state.tree.homes state.tree.covers leaf rank
@@ -77,7 +78,10 @@ IsCalm (Cancel dir f) = Unit {0}
 abbrev pub HasUnsettled : (history : List Entry) → (past : ℕ) → Type 0
 HasUnsettled history past = (past < length history) × ((e : Entry) → IsCalmOp (slice_index_or history past e).op → ⊥)
 
--- what is known afterwards: nothing, where the step wasn't calm or applied what isn't, behind so many entries; otherwise all of it
+-- what is known afterwards: nothing, where the step wasn't calm or applied what isn't, behind so many entries;
+-- otherwise all of it
 abbrev pub KeepsSettled : (before after : List Rank) → (may : Bool) → (history : List Entry) → (past : ℕ) → Type 0
 KeepsSettled before after may history past =
-    ((after ≡ []) × ((may ≡ true) ⊎ HasUnsettled history past)) ⊎ ((after ≡ before) × (may ≡ false) × ((earlier : List Entry) (e : Entry) → length earlier ≡ past → history ≡ earlier ++ e ∷ [] → IsCalmOp e.op))
+    ((after ≡ []) × ((may ≡ true) ⊎ HasUnsettled history past))
+    ⊎ ((after ≡ before) × (may ≡ false)
+    × ((earlier : List Entry) (e : Entry) → length earlier ≡ past → history ≡ earlier ++ e ∷ [] → IsCalmOp e.op))

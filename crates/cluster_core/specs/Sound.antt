@@ -23,7 +23,8 @@ use Rattle.ranked_tree.specs.Subtrees.{AreRoots}
 
 -- of a rank's range, only numbers below its next are used
 abbrev pub IsFresh : Tree → List Entry → Supply → Type 0
-IsFresh opening history s = (n : ℕ) → first_number s.rank ≤ n → n < end_number s.rank → IsUsed opening history n → n < s.next
+IsFresh opening history s =
+    (n : ℕ) → first_number s.rank ≤ n → n < end_number s.rank → IsUsed opening history n → n < s.next
 
 -- the supply of a rank is one of its own range, of which only numbers below the next are used
 pub record IsSupplied (opening : Tree) (history : List Entry) (rank : ℕ) (s : Supply) : Type 0 where
@@ -33,7 +34,8 @@ pub record IsSupplied (opening : Tree) (history : List Entry) (rank : ℕ) (s : 
 
 -- each rank has its supply
 abbrev pub AreSupplied : Tree → List Entry → List Supply → Type 0
-AreSupplied opening history numbers = (rank : ℕ) → rank < length numbers → IsSupplied opening history rank (get_or numbers rank no_supply)
+AreSupplied opening history numbers =
+    (rank : ℕ) → rank < length numbers → IsSupplied opening history rank (get_or numbers rank no_supply)
 
 -- there are as many inboxes and caches as supplies, and at least one
 pub record AreRanks (core : Core) : Type 0 where
@@ -41,32 +43,39 @@ pub record AreRanks (core : Core) : Type 0 where
   pub inboxes : length core.state.inboxes ≡ length core.state.numbers
   pub caches : length core.caches.used ≡ length core.state.numbers
 
--- the tree is sound; and each cached fragment is a live leaf, is tied to its object, and has a generation that was given out
+-- the tree is sound; and each cached fragment is a live leaf, is tied to its object, and has a generation that was
+-- given out
 pub record IsKept (tree : TreeState) (caches : CacheMap) : Type 0 where
   pub sound : IsSoundTree tree
   pub begun : 0 < tree.next_generation
   pub cached : AreCachedIn tree caches
 
--- what isn't clean is what the ranks' fragments have beyond their objects; each place is that of a fragment which the rank has, so no leaf has
--- places at two ranks; a rank caches only what it holds, and has a place of no other live leaf; and a fragment that a rank has stands in its order
--- of use, where no leaf stands twice, and no more than the rank has places
+-- what isn't clean is what the ranks' fragments have beyond their objects; each place is that of a fragment which the
+-- rank has, so no leaf has places at two ranks; a rank caches only what it holds, and has a place of no other live
+-- leaf; and a fragment that a rank has stands in its order of use, where no leaf stands twice, and no more than the
+-- rank has places
 pub record AreCached (core : Core) : Type 0 where
   pub unsaved : core.state.tree.unsaved ≡ unclean core.caches
   pub places : KeepsNone core.caches
   pub held : AreHeld core.state.tree core.caches (held_roots core.state)
   pub orders : AreCaches core.caches
 
--- the exports that stand: while one is frozen to imported its root is a subtree root of the exporter; its ranks are there, as are those of all
--- roots; and no commit of a frozen leaf is begun
+-- the exports that stand: while one is frozen to imported its root is a subtree root of the exporter; its ranks are
+-- there, as are those of all roots; and no commit of a frozen leaf is begun
 pub record AreExported (core : Core) : Type 0 where
-  pub placed : (root : Leaf) (export : StandingExport) → map.get core.state.exports root ≡ Some export → is_freezing export.state ≡ true → map.get core.state.roots root ≡ Some export.exporter
-  pub ranked : (leaf : Leaf) (rank : Rank) → map.get core.state.roots leaf ≡ Some rank → rank.0 < length core.caches.used
-  pub there : (root : Leaf) (export : StandingExport) → map.get core.state.exports root ≡ Some export → (export.exporter.0 < length core.caches.used) × (export.importer.0 < length core.caches.used)
-  pub unbegun : (leaf : Leaf) (job : Job) → map.get core.state.tree.jobs leaf ≡ Some job → IsFrozenAt core.state leaf → ⊥
+  pub placed : (root : Leaf) (export : StandingExport) → map.get core.state.exports root ≡ Some export
+      → is_freezing export.state ≡ true → map.get core.state.roots root ≡ Some export.exporter
+  pub ranked : (leaf : Leaf) (rank : Rank) → map.get core.state.roots leaf ≡ Some rank
+      → rank.0 < length core.caches.used
+  pub there : (root : Leaf) (export : StandingExport) → map.get core.state.exports root ≡ Some export
+      → (export.exporter.0 < length core.caches.used) × (export.importer.0 < length core.caches.used)
+  pub unbegun : (leaf : Leaf) (job : Job) → map.get core.state.tree.jobs leaf ≡ Some job → IsFrozenAt core.state leaf
+      → ⊥
 
--- the history is legal from the opening tree, and the shown tree is the tree after it; the tree is sound, and each cached fragment is a
--- live leaf, tied to its object; each leaf of the root directory is a subtree root, and only leaves are; each rank caches what it holds; what
--- the exports need has its place; no number is given twice, and the sessions are those of the history
+-- the history is legal from the opening tree, and the shown tree is the tree after it; the tree is sound, and each
+-- cached fragment is a live leaf, tied to its object; each leaf of the root directory is a subtree root, and only
+-- leaves are; each rank caches what it holds; what the exports need has its place; no number is given twice, and the
+-- sessions are those of the history
 pub record IsSound (opening : Tree) (history : List Entry) (core : Core) : Type 0 where
   pub legal : IsLegal core.state.tree.limit opening history
   pub replayed : shown core.state ≡ after core.state.tree.limit opening history

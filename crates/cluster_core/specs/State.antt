@@ -19,9 +19,10 @@ use Rattle.mdcache.specs.State.{State as TreeState}
 use Rattle.sessions.specs.Table.{Table}
 use Rattle.subtree_map.specs.Authority.{Roots}
 
--- all that a refused step leaves as it was: the tree with its directories and their leaves, what of it isn't clean, the objects of the
--- store, the commits that were begun, the purge list and the next numbers; the subtree roots with their ranks; the exports that stand; for
--- each rank the inode numbers left and the requests that wait; the grants; and what is known of each client
+-- all that a refused step leaves as it was: the tree with its directories and their leaves, what of it isn't clean, the
+-- objects of the store, the commits that were begun, the purge list and the next numbers; the subtree roots with their
+-- ranks; the exports that stand; for each rank the inode numbers left and the requests that wait; the grants; and what
+-- is known of each client
 pub record State : Type 0 where
   pub tree : TreeState
   pub roots : Roots
@@ -31,8 +32,8 @@ pub record State : Type 0 where
   pub pins : List Pin
   pub sessions : Table
 
--- a cluster: its state; and the caches of its ranks, with the order in which each used its leaves, and how many faults its store had, which a
--- refused step may change
+-- a cluster: its state; and the caches of its ranks, with the order in which each used its leaves, and how many faults
+-- its store had, which a refused step may change
 pub record Core : Type 0 where
   pub state : State
   pub caches : CacheMap
@@ -52,7 +53,8 @@ held_roots state = holding state.exports state.roots
 abbrev pub shown : State → Tree
 shown state = shown_tree state.tree
 
--- fewer than so many places of a rank's cache are free or can become so: each other one is that of a fragment that isn't clean
+-- fewer than so many places of a rank's cache are free or can become so: each other one is that of a fragment that
+-- isn't clean
 abbrev pub LacksPlacesAt : ℕ → Core → Rank → Type 0
 LacksPlacesAt count core rank = core.caches.cap < map.len (unclean_of core.caches rank.0) + count
 
@@ -66,18 +68,35 @@ supply_of state rank = get_or state.numbers rank.0 no_supply
 
 -- the state of a cluster over this tree, and the cluster
 abbrev pub state_of : TreeState → Roots → Standing → List Supply → Inboxes → List Pin → Table → State
-state_of tree roots exports numbers inboxes pins sessions = record { tree = tree; roots = roots; exports = exports; numbers = numbers; inboxes = inboxes; pins = pins; sessions = sessions }
+state_of tree roots exports numbers inboxes pins sessions =
+    record {
+      tree = tree;
+      roots = roots;
+      exports = exports;
+      numbers = numbers;
+      inboxes = inboxes;
+      pins =
+          pins;
+      sessions = sessions;
+    }
 
 abbrev pub core_of : TreeCore → Roots → Standing → List Supply → Inboxes → List Pin → Table → Core
-core_of tree roots exports numbers inboxes pins sessions = record { state = state_of (tree_state tree) roots exports numbers inboxes pins sessions; caches = tree.caches; faults = tree.faults }
+core_of tree roots exports numbers inboxes pins sessions =
+    record {
+      state = state_of (tree_state tree) roots exports numbers inboxes pins sessions;
+      caches =
+          tree.caches;
+      faults = tree.faults;
+    }
 
 -- the whole range of numbers for each of so many ranks, from this one on
 abbrev pub whole_supplies : ℕ → ℕ → List Supply
 whole_supplies first zero = []
 whole_supplies first (suc more) = record { rank = first; next = first_number first } ∷ whole_supplies (suc first) more
 
--- the state of a new book of so many ranks, where a directory may have so many entries: no directory but the root, whose leaf is rank 0's, no name, no object, no export,
--- nothing that waits, is granted or is kept, and for each rank all its numbers
+-- the state of a new book of so many ranks, where a directory may have so many entries: no directory but the root,
+-- whose leaf is rank 0's, no name, no object, no export, nothing that waits, is granted or is kept, and for each rank
+-- all its numbers
 abbrev pub new_state : ℕ → ℕ → State
 new_state ranks limit = record {
   tree = new_tree limit;

@@ -27,55 +27,77 @@ use Rattle.ranked_tree.specs.Subtrees.{KeepsOutside}
 
 -- an arriving request goes to the back of the rank's inbox; refused InboxFull exactly where 1024 requests wait there
 abbrev pub ArrivesAt : (old new : State) → (past now : List Entry) → Rank → Request → Result Answer Refusal → Type 0
-ArrivesAt old new past now rank request (Ok answer) = (answer ≡ Nothing) × (length (waiting_at old.inboxes rank) < 1024) × (new ≡ record old { inboxes = with_last old.inboxes rank request }) × (now ≡ past)
-ArrivesAt old new past now rank request (Err reason) = (reason ≡ InboxFull) × (length (waiting_at old.inboxes rank) ≡ 1024) × IsLeft old new past now
+ArrivesAt old new past now rank request (Ok answer) =
+    (answer ≡ Nothing) × (length (waiting_at old.inboxes rank) < 1024)
+    × (new ≡ record old { inboxes = with_last old.inboxes rank request }) × (now ≡ past)
+ArrivesAt old new past now rank request (Err reason) =
+    (reason ≡ InboxFull) × (length (waiting_at old.inboxes rank) ≡ 1024) × IsLeft old new past now
 
--- fewer than two places are free, or can become so, at the rank that holds a leaf of a directory that the operation concerns
+-- fewer than two places are free, or can become so, at the rank that holds a leaf of a directory that the operation
+-- concerns
 abbrev pub LacksPlaces : Core → Op → Type 0
-LacksPlaces core op = (leaf : Leaf) × Concerns (shown core.state) op leaf.0.0 × ((rank : Rank) × IsHolder core.state leaf rank × LacksPlacesAt 2 core rank)
+LacksPlaces core op =
+    (leaf : Leaf) × Concerns (shown core.state) op leaf.0.0
+    × ((rank : Rank) × IsHolder core.state leaf rank × LacksPlacesAt 2 core rank)
 
--- why the tree refuses an operation in a step: want of memory, a store whose count of faults rose in it, places that lack, or a counter at its
--- end
+-- why the tree refuses an operation in a step: want of memory, a store whose count of faults rose in it, places that
+-- lack, or a counter at its end
 abbrev pub MayRefuse : (old new : Core) → Op → Refusal → Type 0
 MayRefuse old new op reason =
-    (reason ≡ NoMemory) ⊎ ((reason ≡ StoreFault) × (old.faults < new.faults)) ⊎ ((reason ≡ NothingToEvict) × LacksPlaces old op) ⊎ ((reason ≡ NoInodes) × LacksFor op old.state.tree)
+    (reason ≡ NoMemory) ⊎ ((reason ≡ StoreFault) × (old.faults < new.faults))
+    ⊎ ((reason ≡ NothingToEvict) × LacksPlaces old op) ⊎ ((reason ≡ NoInodes) × LacksFor op old.state.tree)
 
 -- the request at the front of the rank's inbox is served
 abbrev pub ServesRank : (old new : Core) → (past now : List Entry) → Rank → Result Answer Refusal → Type 0
-ServesRank old new past now rank result = ServesInbox old.state new.state past now (MayRefuse old new) rank result (waiting_at old.state.inboxes rank)
+ServesRank old new past now rank result =
+    ServesInbox old.state new.state past now (MayRefuse old new) rank result (waiting_at old.state.inboxes rank)
 
 -- what serving it makes of the caches
 abbrev pub UsesInbox : (old new : Core) → Rank → Result Answer Refusal → Type 0
-UsesInbox old new rank result = UsesFront old.state.tree new.state.tree (held_roots old.state) old.caches new.caches result (waiting_at old.state.inboxes rank)
+UsesInbox old new rank result =
+    UsesFront old.state.tree new.state.tree (held_roots old.state) old.caches new.caches result
+    (waiting_at old.state.inboxes rank)
 
 -- so it is with a grant for a request of this client and number
 abbrev pub UsesGranted : (old new : Core) → (client tid : ℕ) → Type 0
-UsesGranted old new client tid = UsesWaiting old.state.tree (held_roots old.state) old.caches new.caches (first_waiting client tid old.state.inboxes)
+UsesGranted old new client tid =
+    UsesWaiting old.state.tree (held_roots old.state) old.caches new.caches (first_waiting client tid old.state.inboxes)
 
 -- an event names a rank, and a rank that isn't there is refused NotAuthority before all else
 abbrev pub AtRank : (old new : Core) → (past now : List Entry) → Rank → Result Answer Refusal → Type 0 → Type 0
-AtRank old new past now rank result done = MatchBool (nat_lt rank.0 (length old.state.inboxes)) done ((result ≡ Err NotAuthority) × (new ≡ old) × (now ≡ past))
+AtRank old new past now rank result done =
+    MatchBool (nat_lt rank.0 (length old.state.inboxes)) done ((result ≡ Err NotAuthority) × (new ≡ old) × (now ≡ past))
 
 -- what an event does
 abbrev pub Does : (old new : Core) → (past now : List Entry) → Result Answer Refusal → Event → Type 0
-Does old new past now result (Arrive rank request) = AtRank old new past now rank result (ArrivesAt old.state new.state past now rank request result × AsksNone old new)
-Does old new past now result (Serve rank) = AtRank old new past now rank result (ServesRank old new past now rank result × UsesInbox old new rank result)
-Does old new past now result (Grant rank client tid) = AtRank old new past now rank result (GrantsWaiting old.state new.state past now (MayRefuse old new) rank client tid result × UsesGranted old new client tid)
-Does old new past now result (Split rank dir f nb) = AtRank old new past now rank result (Splits old new past now rank dir f nb result)
-Does old new past now result (Merge rank dir f) = AtRank old new past now rank result (Merges old new past now rank dir f result)
-Does old new past now result (CommitBegin rank dir f) = AtRank old new past now rank result (BeginsCommit old new past now rank (dir, f) result)
+Does old new past now result (Arrive rank request) =
+    AtRank old new past now rank result (ArrivesAt old.state new.state past now rank request result × AsksNone old new)
+Does old new past now result (Serve rank) =
+    AtRank old new past now rank result (ServesRank old new past now rank result × UsesInbox old new rank result)
+Does old new past now result (Grant rank client tid) =
+    AtRank old new past now rank result (GrantsWaiting old.state new.state past now
+    (MayRefuse old new) rank client tid result × UsesGranted old new client tid)
+Does old new past now result (Split rank dir f nb) =
+    AtRank old new past now rank result (Splits old new past now rank dir f nb result)
+Does old new past now result (Merge rank dir f) =
+    AtRank old new past now rank result (Merges old new past now rank dir f result)
+Does old new past now result (CommitBegin rank dir f) =
+    AtRank old new past now rank result (BeginsCommit old new past now rank (dir, f) result)
 Does old new past now result (CommitEnd encoded) = EndsCommit old new past now encoded.job result
 Does old new past now result (CommitDrop number) = DropsCommit old new past now number result
 Does old new past now result (CommitTree dir) = CommitsTree old new past now dir result
 Does old new past now result Purge = PurgesObject old new past now result
-Does old new past now result (Start from dir f to) = AtRank old new past now from result (AtRank old new past now to result (StartsExport old new past now from (dir, f) to result))
+Does old new past now result (Start from dir f to) =
+    AtRank old new past now from result (AtRank old new past now to result
+    (StartsExport old new past now from (dir, f) to result))
 Does old new past now result (Freeze dir f) = FreezesExport old new past now (dir, f) result
 Does old new past now result (Prep dir f) = PrepsExport old new past now (dir, f) result
 Does old new past now result (Send dir f) = SendsExport old new past now (dir, f) result
 Does old new past now result (Import dir f bytes) = ImportsExport old new past now (dir, f) bytes result
 Does old new past now result (Finish dir f) = FinishesExport old new past now (dir, f) result
 Does old new past now result (Cancel dir f) = CancelsExport old new past now (dir, f) result
-Does old new past now result (Evict rank) = AtRank old new past now rank result (EvictsFragment old new past now rank result)
+Does old new past now result (Evict rank) =
+    AtRank old new past now rank result (EvictsFragment old new past now rank result)
 
 -- the roots whose regions a step hands on, if it does: one gets another authority, or another rank that holds it
 pub record HandsOn : Type 0 where
@@ -106,13 +128,15 @@ handed (Import dir f bytes) = record { authority = None; holder = Some (dir, f) 
 handed (Finish dir f) = record { authority = Some (dir, f); holder = None }
 handed (Cancel dir f) = hands_none
 
--- one step: what its event does. Each leaf that stays keeps its authority and its holder, but in a region that is handed on; there are as many
--- ranks, with as many places each, and the store's count of faults rises by one where the event is refused by a fault, and not otherwise: so no fault
--- is hidden, tried again, or told as anything else
-pub record Steps (old new : Core) (past now : List Entry) (result : Result Answer Refusal) (event : Event) : Type 0 where
+-- one step: what its event does. Each leaf that stays keeps its authority and its holder, but in a region that is
+-- handed on; there are as many ranks, with as many places each, and the store's count of faults rises by one where the
+-- event is refused by a fault, and not otherwise: so no fault is hidden, tried again, or told as anything else
+pub record Steps (old new : Core) (past now : List Entry) (result : Result Answer Refusal)
+    (event : Event) : Type 0 where
   pub does : Does old new past now result event
   pub authorities : KeepsOutside (handed event).authority old.state.tree new.state.tree old.state.roots new.state.roots
-  pub holders : KeepsOutside (handed event).holder old.state.tree new.state.tree (held_roots old.state) (held_roots new.state)
+  pub holders : KeepsOutside (handed event).holder old.state.tree new.state.tree (held_roots old.state)
+      (held_roots new.state)
   pub ranks : length new.caches.used ≡ length old.caches.used
   pub capacity : new.caches.cap ≡ old.caches.cap
   pub counted : new.faults ≡ old.faults + faults_told (result_err result)

@@ -1,4 +1,5 @@
-//! Answering a request that changes nothing. It has a way of its own, since most requests are look-ups: no change is carried along, and no number.
+//! Answering a request that changes nothing. It has a way of its own, since most requests are look-ups: no change is
+//! carried along, and no number.
 ghost use Rattle.std.specs.Prelude.{◌≡◌, ◌<◌, Err, OnOk, vec_len, vec_capacity};
 ghost use Rattle.std.specs.Result.{result_err};
 ghost use Rattle.objstore.specs.Objects.{faults_told};
@@ -13,8 +14,8 @@ use mds_types::{Entry, Refusal, Reply, Request};
 use sessions::SessionAt;
 use std::alloc::{AllocError, Global};
 
-/// Answers a new request, which was taken out at its master, with the reply that was found, and notes it in the history and in its client's
-/// session. Refused `NoMemory`: the request is put back.
+/// Answers a new request, which was taken out at its master, with the reply that was found, and notes it in the history
+/// and in its client's session. Refused `NoMemory`: the request is put back.
 #[inline(always)]
 pub(crate) fn answer(
     alloc: Global,

@@ -1,4 +1,5 @@
-//! Applying a request: everything that may be refused comes first, its change the last of it, and then what stands beside the tree.
+//! Applying a request: everything that may be refused comes first, its change the last of it, and then what stands
+//! beside the tree.
 ghost use Rattle.std.specs.Prelude.{◌≡◌, ◌<◌, ◌+◌, ◌++◌, ◌∷◌, [], true, length, set, vec_len, vec_capacity, IfErr, IfOk, IsSome, MatchResult, OnOk};
 ghost use Rattle.std.specs.List.{Contains};
 ghost use Rattle.std.specs.Result.{result_err};
@@ -50,7 +51,8 @@ pub struct Prepared {
     went: Option<Ino>,
 }
 
-/// Makes the change of a request, with the subtree roots, once all is there that its entry in the history and its reply take.
+/// Makes the change of a request, with the subtree roots, once all is there that its entry in the history and its reply
+/// take.
 #[inline(never)]
 pub(crate) fn make_change<S: Store + Drop>(
     alloc: Global,
@@ -94,8 +96,8 @@ pub(crate) fn make_change<S: Store + Drop>(
     }
 }
 
-// Makes what stands beside the tree once this change of a request is made, and room for its entry in the history and for its reply in
-// the sessions.
+// Makes what stands beside the tree once this change of a request is made, and room for its entry in the history and
+// for its reply in the sessions.
 fn prepare(
     alloc: Global,
     given: &mut Given,

@@ -18,8 +18,9 @@ use objstore::Store;
 use ranked_tree::RankedTree;
 use subtree_map::end_of;
 
-/// Whether a request has to wait at a rank: its operation would change a leaf that is frozen, or one of another authority, which isn't
-/// granted for this request. `checked` is what the checks of the operation found. Takes no memory.
+/// Whether a request has to wait at a rank: its operation would change a leaf that is frozen, or one of another
+/// authority, which isn't granted for this request. `checked` is what the checks of the operation found. Takes no
+/// memory.
 pub fn must_wait<S: Store + Drop>(
     tree: &RankedTree<S>,
     pins: &Pins,
@@ -117,7 +118,8 @@ fn lacks_gone<S: Store + Drop>(
     }
 }
 
-// Whether a leaf of a directory may not be changed. Each is located once, from the hash on where the one before it ends.
+// Whether a leaf of a directory may not be changed. Each is located once, from the hash on where the one before it
+// ends.
 fn lacks_leaf<S: Store + Drop>(
     tree: &RankedTree<S>,
     pins: &Pins,
@@ -144,8 +146,8 @@ fn lacks_leaf<S: Store + Drop>(
     false
 }
 
-// Whether a rank may change a leaf for a request, which lies here: it isn't frozen, so the rank that holds it is its authority, and that is
-// the rank, or it is granted.
+// Whether a rank may change a leaf for a request, which lies here: it isn't frozen, so the rank that holds it is its
+// authority, and that is the rank, or it is granted.
 fn may_touch<S: Store + Drop>(
     tree: &RankedTree<S>,
     pins: &Pins,

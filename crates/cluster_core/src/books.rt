@@ -46,8 +46,8 @@ impl<S: Store + Drop> Model for Book<S> {
 }
 
 impl<S: Store + Drop> Book<S> {
-    /// Tells what every book keeps: its history is legal from the tree that it opened with, and what it shows is the tree
-    /// after that.
+    /// Tells what every book keeps: its history is legal from the tree that it opened with, and what it shows is the
+    /// tree after that.
     pub fn is_sound(&self)
         ensures { IsSoundBook self.now }
     {
@@ -69,8 +69,8 @@ impl<S: Store + Drop> Book<S> {
         &self.opening
     }
 
-    /// The cluster, to read. A caller also learns from it that each fragment which a rank caches is one that it holds, and that one
-    /// which isn't clean lies in the cache of the rank that holds it.
+    /// The cluster, to read. A caller also learns from it that each fragment which a rank caches is one that it holds,
+    /// and that one which isn't clean lies in the cache of the rank that holds it.
     pub fn cluster(&self) -> &Cluster<S>
         ensures cluster { result.now ≡ self.now.core }
         ensures lie { LieAtHolder self.now.core }
@@ -80,8 +80,8 @@ impl<S: Store + Drop> Book<S> {
 
     #[tactic(auto, using(crate::proofs::Recorded::records_of))]
     #[inline(always)]
-    /// One event, one atomic step: what it answers, or why it is refused. The opening tree stays. The history grows by one entry
-    /// where a request is applied, and each reply that is handed out stands in it.
+    /// One event, one atomic step: what it answers, or why it is refused. The opening tree stays. The history grows by
+    /// one entry where a request is applied, and each reply that is handed out stands in it.
     pub fn step(&mut self, alloc: Global, event: Event) -> Result<Answer, Refusal>
         ensures stepped { Steps self.old.core self.new.core self.old.history self.new.history result event }
         ensures opening { self.new.opening ≡ self.old.opening }
@@ -95,8 +95,8 @@ impl<S: Store + Drop> Book<S> {
         answer
     }
 
-    /// Each rank's hint on each subtree root of another names this rank, be it right or wrong: no answer depends on hints. Takes no
-    /// memory.
+    /// Each rank's hint on each subtree root of another names this rank, be it right or wrong: no answer depends on
+    /// hints. Takes no memory.
     pub fn set_hints(&mut self, rank: Rank)
         ensures { self.new ≡ self.old }
     {
@@ -104,12 +104,13 @@ impl<S: Store + Drop> Book<S> {
     }
 }
 
-/// A book of so many ranks over a store that has no object: an empty tree, an empty history, and nothing that waits. The root
-/// directory's leaf is rank 0's. `cache` is the number of fragments that a rank may cache; the root's `*` is cached at rank 0,
-/// and no object counts for it. `limit` is the number of entries that a directory may have. Takes memory.
+/// A book of so many ranks over a store that has no object: an empty tree, an empty history, and nothing that waits.
+/// The root directory's leaf is rank 0's. `cache` is the number of fragments that a rank may cache; the root's `*` is
+/// cached at rank 0, and no object counts for it. `limit` is the number of entries that a directory may have. Takes
+/// memory.
 ///
-/// Refused `NotClean` exactly where the store has objects, unless it refuses to tell, and `NoMemory`; the store is handed
-/// back then, with its objects as they were.
+/// Refused `NotClean` exactly where the store has objects, unless it refuses to tell, and `NoMemory`; the store is
+/// handed back then, with its objects as they were.
 pub fn format<S: Store + Drop>(
     alloc: Global,
     store: S,

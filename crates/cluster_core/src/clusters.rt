@@ -52,11 +52,11 @@ impl<S: Store + Drop> Model for Cluster<S> {
 }
 
 impl<S: Store + Drop> Cluster<S> {
-    /// A cluster of so many ranks that serves the empty tree over a store that has no object, with a cache of so many places
-    /// each, where a directory may have `limit` entries. The root directory's leaf is rank 0's.
+    /// A cluster of so many ranks that serves the empty tree over a store that has no object, with a cache of so many
+    /// places each, where a directory may have `limit` entries. The root directory's leaf is rank 0's.
     ///
-    /// Refused `NotClean` exactly where the store has objects, unless it refuses to tell, and `NoMemory`; the store is handed
-    /// back then, with its objects as they were.
+    /// Refused `NotClean` exactly where the store has objects, unless it refuses to tell, and `NoMemory`; the store is
+    /// handed back then, with its objects as they were.
     pub(crate) fn format(
         alloc: Global,
         store: S,
@@ -95,8 +95,8 @@ impl<S: Store + Drop> Cluster<S> {
         }
     }
 
-    /// One event, one atomic step. Cluster and history are as a book keeps them from some opening tree; from whichever they
-    /// were, they are so afterwards.
+    /// One event, one atomic step. Cluster and history are as a book keeps them from some opening tree; from whichever
+    /// they were, they are so afterwards.
     #[inline(always)]
     pub fn step(
         &mut self,
@@ -113,8 +113,8 @@ impl<S: Store + Drop> Cluster<S> {
         answer
     }
 
-    // Chooses what an event does. It is put into its callers, who know which event it is, so an event is moved nowhere; what is
-    // rare stands in functions of its own, each with its own frame.
+    // Chooses what an event does. It is put into its callers, who know which event it is, so an event is moved nowhere;
+    // what is rare stands in functions of its own, each with its own frame.
     #[inline(always)]
     fn choose(
         &mut self,
@@ -238,7 +238,8 @@ impl<S: Store + Drop> Cluster<S> {
         self.tree.store()
     }
 
-    /// The leaves of a directory by value. Refused `NoSuchFrag` where there is no such directory, and for want of memory.
+    /// The leaves of a directory by value. Refused `NoSuchFrag` where there is no such directory, and for want of
+    /// memory.
     pub fn leaves(&self, alloc: Global, ino: Ino) -> Result<Vec<Frag>, Refusal>
         ensures listed { IfOk result (λ leaves. ListsLeaves self.now.state ino (Ok leaves.items)) }
         ensures err { IfErr result (λ reason. ListsLeaves self.now.state ino (Err reason)) }
@@ -249,8 +250,8 @@ impl<S: Store + Drop> Cluster<S> {
         self.tree.leaves(alloc, ino)
     }
 
-    /// The authority of a leaf of a directory. Refused `NoSuchFrag` exactly where there is no such directory or leaf. Takes no
-    /// memory.
+    /// The authority of a leaf of a directory. Refused `NoSuchFrag` exactly where there is no such directory or leaf.
+    /// Takes no memory.
     pub fn authority(&self, ino: Ino, frag: Frag) -> Result<Rank, Refusal>
         ensures { TellsAuthority self.now.state (ino, frag) result }
     {
@@ -267,8 +268,8 @@ impl<S: Store + Drop> Cluster<S> {
         self.tree.roots()
     }
 
-    /// Each rank's hint on each subtree root of another names this rank, be it right or wrong: no answer depends on hints. Takes no
-    /// memory.
+    /// Each rank's hint on each subtree root of another names this rank, be it right or wrong: no answer depends on
+    /// hints. Takes no memory.
     pub fn set_hints(&mut self, rank: Rank)
         ensures { self.new ≡ self.old }
     {

@@ -105,14 +105,15 @@ pub enum Answer {
     Nothing,
     /// Another rank is the request's master, and it waits there now.
     Forwarded(Rank),
-    /// The request would change fragments that are frozen, or those of another rank that hasn't granted it, and waits behind all others.
+    /// The request would change fragments that are frozen, or those of another rank that hasn't granted it, and waits
+    /// behind all others.
     Deferred,
     /// The commit that was begun, to be encoded.
     Job(Job),
     /// The bytes of a region that was sent.
     Sent(Bytes),
-    /// The reply to a request, with its place in the history; `first` tells a request that was applied now from one that
-    /// had been applied before.
+    /// The reply to a request, with its place in the history; `first` tells a request that was applied now from one
+    /// that had been applied before.
     Reply {
         client: u64,
         tid: u64,

@@ -174,7 +174,8 @@ fn start_at<S: Store + Drop>(
     Ok(Answer::Nothing)
 }
 
-// The region of a started export freezes, unless its exporter isn't its authority any more, or a part of it is frozen or granted.
+// The region of a started export freezes, unless its exporter isn't its authority any more, or a part of it is frozen
+// or granted.
 fn freeze_at<S: Store + Drop>(
     tree: &mut RankedTree<S>,
     pins: &Pins,

@@ -41,16 +41,18 @@ impl<S: Store + Drop> Cluster<S> {
     }
 }
 
-/// Writes all that isn't in the store, so that whoever opens the store with nothing else at hand finds the tree after the
-/// history: commits that were begun are given up, each fragment that isn't clean is committed, the objects of directories' trees
-/// are brought up to date, and all that was to be removed is. The store has no object then but those of the leaves and of the trees
-/// of several leaves. Fragments are encoded on several threads, no more than 256 of them at once, and memory is taken for so many.
+/// Writes all that isn't in the store, so that whoever opens the store with nothing else at hand finds the tree after
+/// the history: commits that were begun are given up, each fragment that isn't clean is committed, the objects of
+/// directories' trees are brought up to date, and all that was to be removed is. The store has no object then but those
+/// of the leaves and of the trees of several leaves. Fragments are encoded on several threads, no more than 256 of them
+/// at once, and memory is taken for so many.
 ///
-/// Whatever it answers, the opening tree, the history and the shown tree are as they were, and so are directories and their leaves,
-/// next numbers, authorities, inboxes, grants and sessions; no commit is begun any more.
+/// Whatever it answers, the opening tree, the history and the shown tree are as they were, and so are directories and
+/// their leaves, next numbers, authorities, inboxes, grants and sessions; no commit is begun any more.
 ///
-/// Refused `NotClean` while an export stands, and then all is left, commits that were begun too. Refused `NoInodes` where a fragment's version is used up, or fewer than 256 numbers are left for jobs; otherwise as the store
-/// refuses, and `NoMemory`. Part of it may be written then, and another flush goes on with the rest.
+/// Refused `NotClean` while an export stands, and then all is left, commits that were begun too. Refused `NoInodes`
+/// where a fragment's version is used up, or fewer than 256 numbers are left for jobs; otherwise as the store refuses,
+/// and `NoMemory`. Part of it may be written then, and another flush goes on with the rest.
 pub fn flush<S: Store + Drop>(
     rt: &(impl Threads + Sync),
     alloc: Global,

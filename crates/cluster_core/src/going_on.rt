@@ -15,7 +15,8 @@ use objstore::Store;
 use ranked_tree::RankedTree;
 use std::alloc::Global;
 
-/// The next step of the first of a rank's exports that has one, in the order of their roots. An Import is proposed with no bytes.
+/// The next step of the first of a rank's exports that has one, in the order of their roots. An Import is proposed with
+/// no bytes.
 pub fn next_of_exports<S: Store + Drop>(
     alloc: Global,
     tree: &RankedTree<S>,
@@ -62,8 +63,8 @@ fn next_step<S: Store + Drop>(
     }
 }
 
-// The next step of a started export: its region freezes, unless a part of it is frozen or granted; where its root ended or is another
-// rank's it never can, and the export ends.
+// The next step of a started export: its region freezes, unless a part of it is frozen or granted; where its root ended
+// or is another rank's it never can, and the export ends.
 fn begin<S: Store + Drop>(
     tree: &RankedTree<S>,
     grants: &Pins,

@@ -21,9 +21,9 @@ use objstore::Store;
 use ranked_tree::RankedTree;
 use std::alloc::{AllocError, Global};
 
-/// A rank grants the first waiting copy of a request all its own fragments that the request would change now, where none of them is
-/// frozen. Takes memory for
-/// the list of these, and for the grants, which are made on a copy: a refusal leaves all.
+/// A rank grants the first waiting copy of a request all its own fragments that the request would change now, where
+/// none of them is frozen. Takes memory for the list of these, and for the grants, which are made on a copy: a refusal
+/// leaves all.
 pub(crate) fn grant_first<S: Store + Drop>(
     alloc: Global,
     tree: &mut RankedTree<S>,
@@ -55,8 +55,9 @@ pub(crate) fn grant_first<S: Store + Drop>(
     Ok(Answer::Nothing)
 }
 
-// Those of some leaves of which a rank is the authority, of which there are some, and none is frozen. Refused `NotAuthority` exactly
-// where there is none, `NoMemory` only where there is one, and `Frozen` where one of them is frozen.
+// Those of some leaves of which a rank is the authority, of which there are some, and none is frozen. Refused
+// `NotAuthority` exactly where there is none, `NoMemory` only where there is one, and `Frozen` where one of them is
+// frozen.
 fn some_held<S: Store + Drop>(
     alloc: Global,
     tree: &RankedTree<S>,

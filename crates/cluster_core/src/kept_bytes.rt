@@ -8,8 +8,9 @@ use sorted_map::SortedMap;
 use std::alloc::{AllocError, Global};
 use std::marker::Model;
 
-/// Bytes by the roots of their exports, with room for more. After a Send nothing ends an export but that its bytes are imported, so
-/// the room to keep them is made before it, and an Import is given a copy: what is kept goes once the importer has it.
+/// Bytes by the roots of their exports, with room for more. After a Send nothing ends an export but that its bytes are
+/// imported, so the room to keep them is made before it, and an Import is given a copy: what is kept goes once the
+/// importer has it.
 #[derive(Drop)]
 pub struct KeptBytes {
     bytes: SortedMap<(Ino, Frag), Bytes>,

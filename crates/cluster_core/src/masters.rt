@@ -13,8 +13,9 @@ use namespace_ops::{Located, Places, locate};
 use objstore::Store;
 use ranked_tree::RankedTree;
 
-/// Where the names of an operation lie that a rank serves, and its master: the authority of its dentry's leaf, of a rename the
-/// destination's, of a readdir the directory's first. Where the directory isn't there, the rank itself. Takes no memory.
+/// Where the names of an operation lie that a rank serves, and its master: the authority of its dentry's leaf, of a
+/// rename the destination's, of a readdir the directory's first. Where the directory isn't there, the rank itself.
+/// Takes no memory.
 pub fn locate_master<S: Store + Drop>(tree: &RankedTree<S>, rank: Rank, op: &Op) -> (Places, Rank)
     ensures located { AreLocated (shown_tree (tree_state tree.now.tree)) tree.now.tree.covers (HoldsAt (tree_state tree.now.tree) (held_roots tree.now)) op.now result.0 }
     ensures master { IsMasterIn (tree_state tree.now.tree) tree.now.subtrees.roots rank op.now result.1 }
@@ -23,7 +24,8 @@ pub fn locate_master<S: Store + Drop>(tree: &RankedTree<S>, rank: Rank, op: &Op)
     (places, master_of(tree, rank, places.main))
 }
 
-/// A rank's hint on the subtree root that led it to another as the master names the root's rank from then on. Takes no memory.
+/// A rank's hint on the subtree root that led it to another as the master names the root's rank from then on. Takes no
+/// memory.
 pub fn correct_hint<S: Store + Drop>(tree: &mut RankedTree<S>, rank: Rank, places: &Places)
     ensures { tree.new ≡ tree.old }
 {

@@ -26,8 +26,9 @@ use ranked_tree::RankedTree;
 use std::alloc::Global;
 
 impl<S: Store + Drop> Cluster<S> {
-    /// A cluster of so many ranks over a store as it is found, with a cache of so many places each, and the tree that it opens
-    /// with. `RankedTree::mount` makes and refuses the tree; each rank has the numbers that it tells, and nothing waits.
+    /// A cluster of so many ranks over a store as it is found, with a cache of so many places each, and the tree that
+    /// it opens with. `RankedTree::mount` makes and refuses the tree; each rank has the numbers that it tells, and
+    /// nothing waits.
     pub(crate) fn mount(
         alloc: Global,
         store: S,
@@ -86,17 +87,17 @@ impl<S: Store + Drop> Cluster<S> {
     }
 }
 
-/// A book of so many ranks over a store as it is found: it opens with the store's cold tree, with an empty history, and nothing
-/// that waits. `cache` is the number of fragments that a rank may cache, and `limit` that of the entries that a directory may have: one that
-/// has more stays as it is, and takes no further one. Nothing is written. Takes memory for all entries and for
-/// the names of all objects.
+/// A book of so many ranks over a store as it is found: it opens with the store's cold tree, with an empty history, and
+/// nothing that waits. `cache` is the number of fragments that a rank may cache, and `limit` that of the entries that a
+/// directory may have: one that has more stays as it is, and takes no further one. Nothing is written. Takes memory for
+/// all entries and for the names of all objects.
 ///
-/// A store that has no object gives the book of `format`. Otherwise nothing is cached and all is clean; the leaves of the root
-/// directory are rank 0's; each rank's next number follows the greatest of its range in the tree, so a number that was freed before
-/// may come again; and the objects that no directory reaches are to be removed.
+/// A store that has no object gives the book of `format`. Otherwise nothing is cached and all is clean; the leaves of
+/// the root directory are rank 0's; each rank's next number follows the greatest of its range in the tree, so a number
+/// that was freed before may come again; and the objects that no directory reaches are to be removed.
 ///
-/// Refused `Damaged`, with the name of a faulty object, where the store has objects; otherwise `StoreFault` as the store refuses a
-/// call, and `NoMemory`; the store is handed back then, with its objects as they were.
+/// Refused `Damaged`, with the name of a faulty object, where the store has objects; otherwise `StoreFault` as the
+/// store refuses a call, and `NoMemory`; the store is handed back then, with its objects as they were.
 pub fn mount<S: Store + Drop>(
     alloc: Global,
     store: S,

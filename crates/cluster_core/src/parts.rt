@@ -59,8 +59,8 @@ impl Given {
     }
 }
 
-/// A new request at its master, taken out of the master's inbox, with what was found of it: how many entries a directory may have, the
-/// numbers that the master has left, where its client's session is, and where its names lie.
+/// A new request at its master, taken out of the master's inbox, with what was found of it: how many entries a
+/// directory may have, the numbers that the master has left, where its client's session is, and where its names lie.
 #[derive(Drop)]
 pub(crate) struct Asked {
     pub(crate) rank: Rank,

@@ -10,7 +10,8 @@ use objstore::Store;
 use ranked_tree::{RankedTree, leaf_inside};
 use subtree_map::end_of;
 
-/// Whether a leaf is pinned of the region that a leaf has once it is a subtree root. The way up is climbed for each pin.
+/// Whether a leaf is pinned of the region that a leaf has once it is a subtree root. The way up is climbed for each
+/// pin.
 pub fn is_region_pinned<S: Store + Drop>(
     tree: &RankedTree<S>,
     pins: &Pins,

@@ -18,8 +18,8 @@ use subtree_map::end_of;
 /// A leaf that is to start for another rank.
 type Away = ((Ino, Frag), Rank);
 
-/// The start of an export of the first leaf of a rank's that is pinned to another: a subtree root, or a leaf of a directory with a pin
-/// of its own.
+/// The start of an export of the first leaf of a rank's that is pinned to another: a subtree root, or a leaf of a
+/// directory with a pin of its own.
 pub fn first_start<S: Store + Drop>(tree: &RankedTree<S>, ranks: usize, rank: Rank) -> Option<Event>
     ensures { (grants : List Pin) → IsFirstStep (sight_of tree.now grants ranks rank) OfPin result }
 {
@@ -89,7 +89,8 @@ fn first_of_dir<S: Store + Drop>(
     None
 }
 
-// The rank that a leaf is to start for: another one that is there, to which its directory is pinned, where an export may start.
+// The rank that a leaf is to start for: another one that is there, to which its directory is pinned, where an export
+// may start.
 fn away_to<S: Store + Drop>(
     tree: &RankedTree<S>,
     ranks: usize,

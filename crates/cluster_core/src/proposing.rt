@@ -17,8 +17,8 @@ use ranked_tree::RankedTree;
 use std::alloc::Global;
 
 impl<S: Store + Drop> Cluster<S> {
-    // The rank's own next step, if it has one. `is_settled` says that nothing of the rank's is known to be pinned to another, so that it
-    // isn't looked for.
+    // The rank's own next step, if it has one. `is_settled` says that nothing of the rank's is known to be pinned to
+    // another, so that it isn't looked for.
     //
     // Refused `NotAuthority` exactly where there is no such rank.
     fn propose(&self, alloc: Global, rank: Rank, is_settled: bool) -> Result<Option<Event>, Refusal>
@@ -43,9 +43,9 @@ impl<S: Store + Drop> Cluster<S> {
 }
 
 impl<S: Store + Drop> Book<S> {
-    /// The rank's own next step, if it has one: the first that applies of the next step of an export of which it is the exporter, the
-    /// split of a leaf with more than 10,000 entries, the merge of eight leaves with fewer than 50 together, and the start of an
-    /// export of what is pinned to another rank; each at the least leaf. Nothing changes.
+    /// The rank's own next step, if it has one: the first that applies of the next step of an export of which it is the
+    /// exporter, the split of a leaf with more than 10,000 entries, the merge of eight leaves with fewer than 50
+    /// together, and the start of an export of what is pinned to another rank; each at the least leaf. Nothing changes.
     ///
     /// Refused `NotAuthority` exactly where there is no such rank.
     pub fn propose(&mut self, alloc: Global, rank: Rank) -> Result<Option<Event>, Refusal>

@@ -11,7 +11,8 @@ use mds_types::{Frag, Ino, Rank};
 use objstore::Store;
 use ranked_tree::RankedTree;
 
-/// The most leaves of a directory in which a rank splits one by 3 bits: with the eight that come it has as many as it may have.
+/// The most leaves of a directory in which a rank splits one by 3 bits: with the eight that come it has as many as it
+/// may have.
 const MOST_LEAVES: usize = 4089;
 
 /// The split of the first leaf that a rank would split.

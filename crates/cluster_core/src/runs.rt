@@ -9,9 +9,9 @@ use mds_types::Refusal;
 use objstore::Store;
 use std::alloc::Global;
 
-/// Steps a book by each event of a list, one after the other, and answers a result for each. Each reply among them is the
-/// history's, which is legal from the opening tree. The list of results is reserved before the first event: an error says
-/// that this was refused, and that nothing was done.
+/// Steps a book by each event of a list, one after the other, and answers a result for each. Each reply among them is
+/// the history's, which is legal from the opening tree. The list of results is reserved before the first event: an
+/// error says that this was refused, and that nothing was done.
 pub fn run<S: Store + Drop>(
     alloc: Global,
     book: &mut Book<S>,

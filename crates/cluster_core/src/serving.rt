@@ -32,8 +32,9 @@ use ranked_tree::RankedTree;
 use sessions::Seen;
 use std::alloc::Global;
 
-/// Serves the request at the front of a rank's inbox, which is taken out once and put back where it is refused. One that
-/// was applied before is answered again; a new one goes to its master, or waits where it may not change what it would, or is applied.
+/// Serves the request at the front of a rank's inbox, which is taken out once and put back where it is refused. One
+/// that was applied before is answered again; a new one goes to its master, or waits where it may not change what it
+/// would, or is applied.
 #[inline(never)]
 pub(crate) fn serve_front<S: Store + Drop>(
     alloc: Global,

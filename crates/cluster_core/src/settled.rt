@@ -9,7 +9,8 @@ use crate::events::Event;
 use mds_types::{Entry, Op, Rank};
 use std::alloc::Global;
 
-/// The ranks of which it is known that none of their subtrees is pinned to another rank, so that no proposal looks again.
+/// The ranks of which it is known that none of their subtrees is pinned to another rank, so that no proposal looks
+/// again.
 #[derive(Drop)]
 pub(crate) struct Settled {
     pub(crate) ranks: Vec<Rank>,
@@ -77,8 +78,8 @@ pub(crate) fn may_unsettle(event: &Event) -> bool
     }
 }
 
-/// What is known stays, unless the step may have changed it, or an operation that was applied behind so many moves something or pins
-/// a directory.
+/// What is known stays, unless the step may have changed it, or an operation that was applied behind so many moves
+/// something or pins a directory.
 #[inline(always)]
 pub(crate) fn keep_settled(settled: &mut Settled, may: bool, history: &[Entry], past: usize)
     ensures { KeepsSettled settled.old.ranks.items settled.new.ranks.items may history.now past }

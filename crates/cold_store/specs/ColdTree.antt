@@ -45,7 +45,8 @@ pub record IsRecord (objects : Objects) (r : Record) : Type 0 where
 -- the reached directories, the least set: the root, 1, and each directory that a record of a reached one names
 pub data IsReached (objects : Objects) : ℕ → Type 0 where
   root : IsReached objects 1
-  named : (r : Record) → IsReached objects r.leaf.0.0 → IsRecord objects r → is_dir_kind r.inode.kind ≡ true → IsReached objects r.inode.ino.0
+  named : (r : Record) → IsReached objects r.leaf.0.0 → IsRecord objects r → is_dir_kind r.inode.kind ≡ true
+      → IsReached objects r.inode.ino.0
 
 -- two records stand at one place
 abbrev pub IsSamePlace : Record → Record → Type 0
@@ -54,11 +55,16 @@ IsSamePlace r q = (r.leaf ≡ q.leaf) × (r.name ≡ q.name)
 -- the faulty objects among those of reached directories
 pub data IsFaulty (objects : Objects) : ObjName → Type 0 where
   -- a tree object off the grammar, or with pairs
-  bad_tree : (dir : Ino) (object : Omap) → IsReached objects dir.0 → tree_of objects dir ≡ Some object → ((leaves : List Fragment) → SpellsTreeObject object leaves → ⊥) → IsFaulty objects (TreeOf dir)
-  -- a leaf's object that is absent, or doesn't spell a fragment whole: header, keys, records and counts, and each name in its leaf
-  bad_leaf : (leaf : Leaf) → IsReached objects leaf.0.0 → IsColdLeaf objects leaf → Loads leaf.1 (object_of objects leaf.0 leaf.1) None → IsFaulty objects (FragOf leaf.0 leaf.1)
+  bad_tree : (dir : Ino) (object : Omap) → IsReached objects dir.0 → tree_of objects dir ≡ Some object
+      → ((leaves : List Fragment) → SpellsTreeObject object leaves → ⊥) → IsFaulty objects (TreeOf dir)
+  -- a leaf's object that is absent, or doesn't spell a fragment whole: header, keys, records and counts, and each name
+  -- in its leaf
+  bad_leaf : (leaf : Leaf) → IsReached objects leaf.0.0 → IsColdLeaf objects leaf
+      → Loads leaf.1 (object_of objects leaf.0 leaf.1) None → IsFaulty objects (FragOf leaf.0 leaf.1)
   -- one with a record whose inode number stands in another record too
-  repeated : (r q : Record) → IsReached objects r.leaf.0.0 → IsRecord objects r → IsReached objects q.leaf.0.0 → IsRecord objects q → r.inode.ino ≡ q.inode.ino → (IsSamePlace r q → ⊥) → IsFaulty objects (FragOf r.leaf.0 r.leaf.1)
+  repeated : (r q : Record) → IsReached objects r.leaf.0.0 → IsRecord objects r → IsReached objects q.leaf.0.0
+      → IsRecord objects q → r.inode.ino ≡ q.inode.ino → (IsSamePlace r q → ⊥)
+      → IsFaulty objects (FragOf r.leaf.0 r.leaf.1)
 
 -- no object is faulty
 abbrev pub HasNoFault : Objects → Type 0
@@ -66,12 +72,17 @@ HasNoFault objects = (name : ObjName) → IsFaulty objects name → ⊥
 
 -- the tree has exactly the records of reached directories
 pub record HasRecords (objects : Objects) (tree : Tree) : Type 0 where
-  pub only : (d : ℕ) (name : List ℕ) (inode : Inode) → map.get tree (dentry_of d name) ≡ Some inode → (f : Fragment) × IsReached objects d × IsRecord objects (record { leaf = (record { 0 = d }, f); name = name; inode = inode })
-  pub all : (r : Record) → IsReached objects r.leaf.0.0 → IsRecord objects r → map.get tree (dentry_of r.leaf.0.0 r.name) ≡ Some r.inode
+  pub only : (d : ℕ) (name : List ℕ) (inode : Inode) → map.get tree (dentry_of d name) ≡ Some inode → (f : Fragment)
+      × IsReached objects d × IsRecord objects (record { leaf = (record { 0 = d }, f); name = name; inode = inode })
+  pub all : (r : Record) → IsReached objects r.leaf.0.0 → IsRecord objects r
+      → map.get tree (dentry_of r.leaf.0.0 r.name) ≡ Some r.inode
 
--- the cold tree of a store: empty where it has no objects; otherwise none of them is faulty, and the tree has all records
+-- the cold tree of a store: empty where it has no objects; otherwise none of them is faulty, and the tree has all
+-- records
 abbrev pub IsColdTree : Objects → Tree → Type 0
-IsColdTree objects tree = ((objects ≡ map.empty) × (tree ≡ map.empty)) ⊎ ((objects ≡ map.empty → ⊥) × HasNoFault objects × HasRecords objects tree)
+IsColdTree objects tree =
+    ((objects ≡ map.empty) × (tree ≡ map.empty))
+    ⊎ ((objects ≡ map.empty → ⊥) × HasNoFault objects × HasRecords objects tree)
 
 -- a store has at most one cold tree
 abbrev pub HasOneColdTree : Type 0

@@ -32,7 +32,8 @@ IsLastOf more names (Some last) = (more ≡ true) × (slice_get names (length na
 abbrev pub EndsNames : Objects → Option (List ℕ) → Keys → Keys → Option (List ℕ) → Type 0
 EndsNames objects after old new None = new ≡ with_keys old (names_after objects after)
 EndsNames objects after old new (Some last) =
-    (with_keys new (names_after objects (Some last)) ≡ with_keys old (names_after objects after)) × (length (names_after objects (Some last)) < length (names_after objects after))
+    (with_keys new (names_after objects (Some last)) ≡ with_keys old (names_after objects after))
+    × (length (names_after objects (Some last)) < length (names_after objects after))
 
 -- the names of the objects of a directory's leaves, with that of its tree, and those of directories
 abbrev pub leaf_texts : Ino → List Fragment → List (List ℕ)
@@ -49,4 +50,5 @@ texts_from covers (d ∷ ds) = texts_in covers d ++ texts_from covers ds
 pub record AreLeft (objects : Objects) (texts : List (List ℕ)) (left : Keys) : Type 0 where
   pub there : (name : List ℕ) → map.contains_key left name ≡ true → map.contains_key objects name ≡ true
   pub apart : (name : List ℕ) → map.contains_key left name ≡ true → IsIn name texts → ⊥
-  pub others : (name : List ℕ) → map.contains_key objects name ≡ true → IsIn name texts ⊎ (map.contains_key left name ≡ true)
+  pub others : (name : List ℕ) → map.contains_key objects name ≡ true → IsIn name texts
+      ⊎ (map.contains_key left name ≡ true)

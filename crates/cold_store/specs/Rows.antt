@@ -52,7 +52,13 @@ abbrev pub queued : List Ino → Inode → List Ino
 queued queue inode = cond (is_dir_kind inode.kind) (queue ++ inode.ino ∷ []) queue
 
 abbrev pub with_entry : Shape → Dentry → Inode → Shape
-with_entry s dentry inode = record { queue = queued s.queue inode; met = map.insert s.met inode.ino.0 tt; tree = map.insert s.tree dentry inode; homes = with_home s.homes dentry inode }
+with_entry s dentry inode = record {
+  queue = queued s.queue inode;
+  met = map.insert s.met inode.ino.0 tt;
+  tree =
+      map.insert s.tree dentry inode;
+  homes = with_home s.homes dentry inode;
+}
 
 abbrev pub with_row : Shape → Record → Shape
 with_row s r = with_entry s (dentry_of r.leaf.0.0 r.name) r.inode
@@ -129,16 +135,20 @@ pub record IsGoodLeaf (objects : Objects) (s : Shape) (leaf : Leaf) : Type 0 whe
   pub new : are_new s (rows_at objects leaf) ≡ true
 
 abbrev pub IsBadLeaf : Objects → Shape → Leaf → Type 0
-IsBadLeaf objects s leaf = Loads leaf.1 (object_of objects leaf.0 leaf.1) None ⊎ (are_new s (rows_at objects leaf) ≡ false)
+IsBadLeaf objects s leaf =
+    Loads leaf.1 (object_of objects leaf.0 leaf.1) None ⊎ (are_new s (rows_at objects leaf) ≡ false)
 
 abbrev pub AreGoodLeaves : Objects → Shape → Ino → List Fragment → Type 0
 AreGoodLeaves objects s d [] = Unit {0}
-AreGoodLeaves objects s d (f ∷ fs) = IsGoodLeaf objects s (d, f) × AreGoodLeaves objects (with_rows s (rows_at objects (d, f))) d fs
+AreGoodLeaves objects s d (f ∷ fs) =
+    IsGoodLeaf objects s (d, f) × AreGoodLeaves objects (with_rows s (rows_at objects (d, f))) d fs
 
 -- the name is that of a bad one among leaves
 abbrev pub IsBadAmong : Objects → Shape → Ino → List Fragment → ObjName → Type 0
 IsBadAmong objects s d [] name = ⊥
-IsBadAmong objects s d (f ∷ fs) name = ((name ≡ FragOf d f) × IsBadLeaf objects s (d, f)) ⊎ IsBadAmong objects (with_rows s (rows_at objects (d, f))) d fs name
+IsBadAmong objects s d (f ∷ fs) name =
+    ((name ≡ FragOf d f) × IsBadLeaf objects s (d, f))
+    ⊎ IsBadAmong objects (with_rows s (rows_at objects (d, f))) d fs name
 
 -- a directory's tree object says its leaves, and these; it has pairs or says none
 abbrev pub IsGoodTree : Option Omap → Option (List Fragment) → Type 0
@@ -154,7 +164,9 @@ pub record IsGoodDir (objects : Objects) (s : Shape) (d : Ino) : Type 0 where
   pub leaves : AreGoodLeaves objects s d (leaves_at objects d)
 
 abbrev pub IsBadIn : Objects → Shape → Ino → ObjName → Type 0
-IsBadIn objects s d name = ((name ≡ TreeOf d) × IsBadTree (tree_of objects d)) ⊎ (IsGoodTree (tree_of objects d) (cover_in objects d) × IsBadAmong objects s d (leaves_at objects d) name)
+IsBadIn objects s d name =
+    ((name ≡ TreeOf d) × IsBadTree (tree_of objects d))
+    ⊎ (IsGoodTree (tree_of objects d) (cover_in objects d) × IsBadAmong objects s d (leaves_at objects d) name)
 
 abbrev pub AreGoodDirs : Objects → Shape → List Ino → Type 0
 AreGoodDirs objects s [] = Unit {0}

@@ -21,29 +21,37 @@ use Rattle.cold_store.specs.ColdTree.{HasRecords, IsColdLeaf, IsFaulty, IsReache
 -- an object is that of a reached leaf, or the tree object of a reached directory
 abbrev pub IsReachedObject : Objects → List ℕ → Type 0
 IsReachedObject objects name =
-    ((leaf : Leaf) × IsReached objects leaf.0.0 × IsColdLeaf objects leaf × (name ≡ object_text (FragOf leaf.0 leaf.1))) ⊎ ((dir : Ino) × IsReached objects dir.0 × (name ≡ object_text (TreeOf dir)))
+    ((leaf : Leaf) × IsReached objects leaf.0.0 × IsColdLeaf objects leaf × (name ≡ object_text (FragOf leaf.0 leaf.1)))
+    ⊎ ((dir : Ino) × IsReached objects dir.0 × (name ≡ object_text (TreeOf dir)))
 
--- what a walk finds that meets no faulty object: the entries of all reached directories, where each directory stands, its leaves, and
--- the names of the objects that weren't reached
+-- what a walk finds that meets no faulty object: the entries of all reached directories, where each directory stands,
+-- its leaves, and the names of the objects that weren't reached
 pub record IsWalked (objects : Objects) (tree : Tree) (homes : Homes) (covers : Covers) (left : Keys) : Type 0 where
   -- each leaf's object spells it whole
-  pub whole : (leaf : Leaf) → IsReached objects leaf.0.0 → IsColdLeaf objects leaf → IsSaved leaf.1 (object_of objects leaf.0 leaf.1)
+  pub whole : (leaf : Leaf) → IsReached objects leaf.0.0 → IsColdLeaf objects leaf
+      → IsSaved leaf.1 (object_of objects leaf.0 leaf.1)
   -- no inode number stands in two records
-  pub once : (r q : Record) → IsReached objects r.leaf.0.0 → IsRecord objects r → IsReached objects q.leaf.0.0 → IsRecord objects q → r.inode.ino ≡ q.inode.ino → IsSamePlace r q
+  pub once : (r q : Record) → IsReached objects r.leaf.0.0 → IsRecord objects r → IsReached objects q.leaf.0.0
+      → IsRecord objects q → r.inode.ino ≡ q.inode.ino → IsSamePlace r q
   pub records : HasRecords objects tree
   pub homes_held : HoldsHomes tree homes
   -- only directories have rows of leaves; the leaves of each are those that its tree object says, and that has no pairs
   pub rows : (d : ℕ) (leaves : List Fragment) → map.get covers d ≡ Some leaves → is_known homes d ≡ true
   pub leaves : (dir : Ino) → is_known homes dir.0 ≡ true → SaysLeaves (tree_of objects dir) (leaves_of covers dir.0)
-  pub bare : (dir : Ino) (object : Omap) → is_known homes dir.0 ≡ true → tree_of objects dir ≡ Some object → object.pairs ≡ map.empty
+  pub bare : (dir : Ino) (object : Omap) → is_known homes dir.0 ≡ true → tree_of objects dir ≡ Some object
+      → object.pairs ≡ map.empty
   -- each object was reached or is left, none both, and what is left is there
-  pub reached_or_left : (name : List ℕ) → is_some (map.get objects name) ≡ true → IsReachedObject objects name ⊎ (is_some (map.get left name) ≡ true)
+  pub reached_or_left : (name : List ℕ) → is_some (map.get objects name) ≡ true → IsReachedObject objects name
+      ⊎ (is_some (map.get left name) ≡ true)
   pub not_reached : (name : List ℕ) → is_some (map.get left name) ≡ true → IsReachedObject objects name → ⊥
   pub there : (name : List ℕ) → is_some (map.get left name) ≡ true → is_some (map.get objects name) ≡ true
 
--- why reading may be refused: want of memory, a fault of the store, whose count of faults rose, or an object that is named and is off so
+-- why reading may be refused: want of memory, a fault of the store, whose count of faults rose, or an object that is
+-- named and is off so
 abbrev pub MayFail : (ObjName → Type 0) → ℕ → ℕ → Refusal → Type 0
-MayFail IsOff before after reason = (reason ≡ NoMemory) ⊎ ((reason ≡ StoreFault) × (before < after)) ⊎ ((name : ObjName) × (reason ≡ Damaged name) × IsOff name)
+MayFail IsOff before after reason =
+    (reason ≡ NoMemory) ⊎ ((reason ≡ StoreFault) × (before < after))
+    ⊎ ((name : ObjName) × (reason ≡ Damaged name) × IsOff name)
 
 -- why a walk may be refused: an object that is named is a faulty one
 abbrev pub MayNotWalk : Objects → ℕ → ℕ → Refusal → Type 0
@@ -51,4 +59,6 @@ MayNotWalk objects before after reason = MayFail (IsFaulty objects) before after
 
 -- what a walk finds is a well-formed tree with the table of its directories
 abbrev pub WalkedIsTabled : Type 0
-WalkedIsTabled = (objects : Objects) (tree : Tree) (homes : Homes) (covers : Covers) (left : Keys) → IsWalked objects tree homes covers left → IsTabled tree homes × IsTable homes covers
+WalkedIsTabled =
+    (objects : Objects) (tree : Tree) (homes : Homes) (covers : Covers) (left : Keys)
+    → IsWalked objects tree homes covers left → IsTabled tree homes × IsTable homes covers

@@ -16,8 +16,8 @@ use sorted_map::SortedMap;
 use std::alloc::{AllocError, Global};
 use std::marker::Model;
 
-/// Directories in the order in which they were found, the inode numbers met, all entries, and where each directory stands
-/// with its leaves. The entries of the directories are counted once all are found, so until then none counts.
+/// Directories in the order in which they were found, the inode numbers met, all entries, and where each directory
+/// stands with its leaves. The entries of the directories are counted once all are found, so until then none counts.
 #[derive(Drop)]
 pub struct Found {
     queue: Vec<Ino>,

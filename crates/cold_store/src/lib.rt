@@ -1,5 +1,5 @@
-//! What a store says on its own: a walk over its objects from directory 1 on finds all entries and directories, names an
-//! object that is faulty, and tells which objects it didn't reach. It writes nothing.
+//! What a store says on its own: a walk over its objects from directory 1 on finds all entries and directories, names
+//! an object that is faulty, and tells which objects it didn't reach. It writes nothing.
 #![tactic(auto)]
 
 // what was found so far

@@ -21,7 +21,8 @@ use objstore::{Page, Store};
 use sorted_map::SortedMap;
 use std::alloc::{AllocError, Global};
 
-/// Adds the entries of a directory that was found: its tree is read, if its object is there, and then each leaf (`load`).
+/// Adds the entries of a directory that was found: its tree is read, if its object is there, and then each leaf
+/// (`load`).
 ///
 /// Refused `Damaged`, with the name of the first object that is off, and otherwise as the store refuses a call, or
 /// `NoMemory`.

@@ -11,8 +11,8 @@ use inode_table::{Dirs, Numbers, count_entries};
 use mds_types::{Dentry, Inode, Rank, Text};
 use sorted_map::SortedMap;
 
-/// What a walk found: all entries, where each directory stands, its leaves, how many entries it has and its pin, and the names
-/// of the objects that weren't reached.
+/// What a walk found: all entries, where each directory stands, its leaves, how many entries it has and its pin, and
+/// the names of the objects that weren't reached.
 #[derive(Drop)]
 pub struct Walked {
     pub entries: SortedMap<Dentry, Inode>,
@@ -51,8 +51,8 @@ impl Walked {
         self
     }
 
-    /// The numbers that a rank hands out from now on: those after the greatest of its range that an entry has, or all of
-    /// the range. One step for each entry.
+    /// The numbers that a rank hands out from now on: those after the greatest of its range that an entry has, or all
+    /// of the range. One step for each entry.
     pub fn numbers(&self, rank: Rank) -> Numbers
         requires { rank.0 < 16 }
         ensures rank { result.rank ≡ rank.0 }

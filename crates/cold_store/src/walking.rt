@@ -20,11 +20,11 @@ use objstore::Store;
 use std::alloc::Global;
 
 /// What a store says on its own: directory 1 first, directories in the order in which they are found, of each its tree
-/// object, then its leaves by value, of each the names in order. At last the entries are counted. It writes nothing. Memory is linear in the names and the
-/// objects.
+/// object, then its leaves by value, of each the names in order. At last the entries are counted. It writes nothing.
+/// Memory is linear in the names and the objects.
 ///
-/// For each object that it reaches it asks for the header once, and for its pairs by pages of 64; for a tree object, which
-/// has none, by a page of one. The names of all objects it asks for by pages of 64.
+/// For each object that it reaches it asks for the header once, and for its pairs by pages of 64; for a tree object,
+/// which has none, by a page of one. The names of all objects it asks for by pages of 64.
 ///
 /// Refused `Damaged`, with the name of a faulty object, and otherwise as the store refuses a call (`StoreFault`), or
 /// `NoMemory`. A store that has no object is refused too: directory 1 has no leaf there.

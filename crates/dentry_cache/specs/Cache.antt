@@ -55,11 +55,13 @@ pub record IsOldest (stay : Option Leaf) (places : Places) (leaf : Leaf) : Type 
 
 -- the least recently used of those that may go is gone
 abbrev pub Evicts : Option Leaf → Held → Held → Type 0
-Evicts stay old new = (leaf : Leaf) × (o : IsOldest stay old.entries leaf) × (new ≡ lru_cache (o.later ++ o.before) old.cap)
+Evicts stay old new =
+    (leaf : Leaf) × (o : IsOldest stay old.entries leaf) × (new ≡ lru_cache (o.later ++ o.before) old.cap)
 
 -- a place is free, or becomes so: where all are taken the least recently used of those that may go is gone
 abbrev pub MakesRoom : Option Leaf → Held → Held → Type 0
-MakesRoom stay old new = ((length old.entries < old.cap) × (new ≡ old)) ⊎ ((old.cap ≤ length old.entries) × Evicts stay old new)
+MakesRoom stay old new =
+    ((length old.entries < old.cap) × (new ≡ old)) ⊎ ((old.cap ≤ length old.entries) × Evicts stay old new)
 
 -- all places are taken, and no fragment may go
 pub record IsFull (stay : Option Leaf) (old : Held) : Type 0 where
@@ -72,7 +74,18 @@ held f = record { frag = f; kept = false }
 
 -- a place that is kept for a fragment that will be made
 abbrev pub kept_place : Place
-kept_place = record { frag = record { base = Fresh; generation = 0; clean = finmap.empty; dirty = finmap.empty; room = 0; places = 0 }; kept = true }
+kept_place = record {
+  frag = record {
+    base = Fresh;
+    generation = 0;
+    clean = finmap.empty;
+    dirty = finmap.empty;
+    room =
+        0;
+    places = 0;
+  };
+  kept = true;
+}
 
 -- whether a place is kept
 abbrev pub is_kept : Option Place → Bool
@@ -89,7 +102,8 @@ without leaf old = lru_cache (remove_entry (leaf_is leaf) old.entries) old.cap
 
 -- a leaf that had no place has this in one
 abbrev pub TakesPlace : Option Leaf → Leaf → Place → Held → Held → Type 0
-TakesPlace stay leaf place old new = (mid : Held) × MakesRoom stay old mid × (new ≡ lru_cache ((leaf, place) ∷ mid.entries) old.cap)
+TakesPlace stay leaf place old new =
+    (mid : Held) × MakesRoom stay old mid × (new ≡ lru_cache ((leaf, place) ∷ mid.entries) old.cap)
 
 -- no place was taken, but one may have become free
 abbrev pub MayMakeRoom : Option Leaf → Held → Held → Type 0
@@ -126,7 +140,8 @@ IsNewest leaf place places = (rest : Places) × (places ≡ (leaf, place) ∷ re
 
 -- ---- what isn't clean
 
--- what a fragment that isn't clean has beyond its object: its base, which of the fragments of its name it is, and its dirty names
+-- what a fragment that isn't clean has beyond its object: its base, which of the fragments of its name it is, and its
+-- dirty names
 pub record Unsaved : Type 0 where
   pub base : Base
   pub generation : ℕ

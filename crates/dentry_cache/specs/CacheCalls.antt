@@ -42,17 +42,22 @@ KeepsAt r leaf stay old new = (mid : CacheMap) × (roomy old r stay ≡ Some mid
 abbrev pub MayNotKeepAt : ℕ → Option Leaf → CacheMap → Refusal → Type 0
 MayNotKeepAt r stay old reason = (reason ≡ NoMemory) ⊎ ((reason ≡ NothingToEvict) × (roomy old r stay ≡ None))
 
--- what a refusal leaves: where no place could become free, all as it was; any other comes after a place was free or became so
+-- what a refusal leaves: where no place could become free, all as it was; any other comes after a place was free or
+-- became so
 abbrev pub IsRefusedAt : ℕ → Option Leaf → (old new : CacheMap) → Refusal → Type 0
 IsRefusedAt r stay old new reason =
     ((reason ≡ NothingToEvict) × (new ≡ old)) ⊎ ((reason ≡ NothingToEvict → ⊥) × (roomy old r stay ≡ Some new))
 
--- a leaf that had a place is the most recently used; any other is there as its object spells it, in a place that was free or became so
+-- a leaf that had a place is the most recently used; any other is there as its object spells it, in a place that was
+-- free or became so
 abbrev pub FetchesAt : ℕ → Leaf → Option Leaf → Option Omap → Bool → (old new : CacheMap) → Type 0
 FetchesAt r leaf stay object true old new = new ≡ used_at old r leaf
-FetchesAt r leaf stay object false old new = (finmap.get old.held leaf ≡ None) × (f : Cached) × Loads leaf.1 object (Some f) × (mid : CacheMap) × (roomy old r stay ≡ Some mid) × (new ≡ with_frag mid r leaf f)
+FetchesAt r leaf stay object false old new =
+    (finmap.get old.held leaf ≡ None) × (f : Cached) × Loads leaf.1 object (Some f) × (mid : CacheMap)
+    × (roomy old r stay ≡ Some mid) × (new ≡ with_frag mid r leaf f)
 
--- why it isn't: as the store refused a call, or its object spells no fragment of it, or no place is free and no fragment may go
+-- why it isn't: as the store refused a call, or its object spells no fragment of it, or no place is free and no
+-- fragment may go
 abbrev pub MayNotFetchAt : ℕ → Leaf → Option Leaf → Option Omap → CacheMap → Refusal → Type 0
 MayNotFetchAt r leaf stay object old reason =
     (reason ≡ NoMemory)

@@ -1,5 +1,5 @@
--- What a contract sees of the caches of all ranks: one finite map of the fragments that are there, each with its rank, and each rank's
--- leaves by use (a cache for each metadata server: Weil et al., OSDI 2006).
+-- What a contract sees of the caches of all ranks: one finite map of the fragments that are there, each with its rank,
+-- and each rank's leaves by use (a cache for each metadata server: Weil et al., OSDI 2006).
 use Rattle.std.specs.Prelude.{◌≡◌, ℕ, suc, ◌<◌, ◌≤◌, ◌==◌, Bool, true, false, cond, not, ◌&&◌, List, [], ◌∷◌, ◌++◌, map, set, get_or, replicate, length, nat_lt, Option, Some, None, is_some}
 use Rattle.std.specs.Option.{option_map}
 use Rattle.std.specs.List.{IsDistinct, list_any}
@@ -21,8 +21,8 @@ pub record At : Type 0 where
 abbrev pub at : ℕ → Cached → At
 at r f = record { rank = r; frag = f }
 
--- the cached fragment of each leaf with its rank, each rank's leaves, the most recently used first, and how many places each rank has. A place
--- that is kept for a fragment which will be made stands in the order of its rank alone
+-- the cached fragment of each leaf with its rank, each rank's leaves, the most recently used first, and how many places
+-- each rank has. A place that is kept for a fragment which will be made stands in the order of its rank alone
 pub record CacheMap : Type 0 where
   pub held : finmap.FinMap leaf_cmp At
   pub used : List (List Leaf)
@@ -71,7 +71,8 @@ used_at c r leaf = record c { used = set c.used r (first leaf (order c r)) }
 
 -- a rank has this fragment, as the most recently used
 abbrev pub with_frag : CacheMap → ℕ → Leaf → Cached → CacheMap
-with_frag c r leaf f = record { held = finmap.insert c.held leaf (at r f); used = set c.used r (first leaf (order c r)); cap = c.cap }
+with_frag c r leaf f =
+    record { held = finmap.insert c.held leaf (at r f); used = set c.used r (first leaf (order c r)); cap = c.cap }
 
 abbrev pub removed : finmap.FinMap leaf_cmp At → Leaf → Option Cached → finmap.FinMap leaf_cmp At
 removed m leaf (Some f) = finmap.remove m leaf
@@ -79,7 +80,8 @@ removed m leaf None = m
 
 -- a leaf's place at a rank is given up, with the fragment that is in it
 abbrev pub given_up : CacheMap → ℕ → Leaf → CacheMap
-given_up c r leaf = record { held = removed c.held leaf (here c r leaf); used = set c.used r (less leaf (order c r)); cap = c.cap }
+given_up c r leaf =
+    record { held = removed c.held leaf (here c r leaf); used = set c.used r (less leaf (order c r)); cap = c.cap }
 
 -- ---- what calls make of them
 
@@ -188,7 +190,8 @@ pub record AreAtOneRank (cap : ℕ) (cs : List Held) : Type 0 where
   pub each : (r : ℕ) → r < length cs → (get_or cs r no_cache).cap ≡ cap
   pub valid : (r : ℕ) → r < length cs → IsCache (get_or cs r no_cache)
 
--- a fragment that a rank has stands in its order, where no leaf stands twice, and no more places are taken than there are
+-- a fragment that a rank has stands in its order, where no leaf stands twice, and no more places are taken than there
+-- are
 pub record AreCaches (c : CacheMap) : Type 0 where
   pub placed : (r : ℕ) (leaf : Leaf) → is_some (here c r leaf) ≡ true → has_place c r leaf ≡ true
   pub distinct : (r : ℕ) → IsDistinct leaf_is (order c r)

@@ -80,8 +80,8 @@ without_children r dir frag bits zero c = c
 without_children r dir frag bits (suc n) c =
     given_up (without_children r dir frag bits n c) r (dir, child_of frag n bits)
 
--- want of memory came with the place of one of the children, once it was free, and those that were kept before are given
--- up
+-- want of memory came with the place of one of the children, once it was free, and those that were kept before are
+-- given up
 abbrev pub WantsChild : ℕ → Ino → Fragment → ℕ → (old new : CacheMap) → Type 0
 WantsChild r dir frag bits old new =
     (n : ℕ) × (n < 2 ^ bits) × (mid : CacheMap) × KeepsChildren r dir frag bits n old mid

@@ -1,5 +1,5 @@
--- Which fragments a rank would split or merge by what it caches of them: CephFS's queues of fragments to split and to merge
--- (`mds_bal_split_size`, `mds_bal_merge_size`, with this project's own numbers).
+-- Which fragments a rank would split or merge by what it caches of them: CephFS's queues of fragments to split and to
+-- merge (`mds_bal_split_size`, `mds_bal_merge_size`, with this project's own numbers).
 use Rattle.std.specs.Prelude.{◌≡◌, ◌⊎◌, ℕ, zero, suc, ◌+◌, ◌<◌, ◌≤◌, Option, Some, None, IsSome, unwrap_or}
 use Rattle.std.specs.declared.cmp.Ordering.TheVariants.{Less}
 use Rattle.std.specs.FinMap as map

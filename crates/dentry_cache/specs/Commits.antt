@@ -28,10 +28,11 @@ Takes (Some snapshot) f = (is_clean f ≡ false) × (snapshot ≡ snapshot_of f)
 
 -- why nothing is taken of a fragment that isn't clean: no version is left, or else want of memory
 abbrev pub MayNotBegin : Refusal → Cached → Type 0
-MayNotBegin refusal f = (is_clean f ≡ false) × (((refusal ≡ NoInodes) × (IsBelowEnd f.base → ⊥)) ⊎ ((refusal ≡ NoMemory) × IsBelowEnd f.base))
+MayNotBegin refusal f = (is_clean f ≡ false) × (((refusal ≡ NoInodes) × (IsBelowEnd f.base → ⊥))
+    ⊎ ((refusal ≡ NoMemory) × IsBelowEnd f.base))
 
--- a fragment whose object has these names at their versions, and is at this commit version: exactly those names became clean whose
--- last change the object has, and it shows what it showed
+-- a fragment whose object has these names at their versions, and is at this commit version: exactly those names became
+-- clean whose last change the object has, and it shows what it showed
 pub record IsSettled (names : Marks) (version : ℕ) (f now : Cached) : Type 0 where
   pub based : now.base ≡ Stored version
   pub generation : now.generation ≡ f.generation

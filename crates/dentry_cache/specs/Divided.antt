@@ -20,8 +20,8 @@ use Rattle.dentry_cache.specs.Cache.{HasCached, Held, Leaf, cached, held, is_evi
 unfoldable pub names_in : Fragment → Names → Names
 names_in frag names = map.retain_keys names (λ name. holds frag (hash_of name))
 
--- a child of a fragment that was split: no object of its name counts, it shows the names that it contains, and each of them is dirty
--- at this version
+-- a child of a fragment that was split: no object of its name counts, it shows the names that it contains, and each of
+-- them is dirty at this version
 pub record IsChild (child : Fragment) (names : Names) (number version : ℕ) (now : Cached) : Type 0 where
   pub fresh : now.base ≡ Fresh
   pub numbered : now.generation ≡ number
@@ -32,7 +32,8 @@ pub record IsChild (child : Fragment) (names : Names) (number version : ℕ) (no
 
 -- a fragment with no names, and with room for so many changes
 abbrev pub bare : ℕ → ℕ → Cached
-bare generation room = record { base = Fresh; generation = generation; clean = map.empty; dirty = map.empty; room = room; places = 0 }
+bare generation room =
+    record { base = Fresh; generation = generation; clean = map.empty; dirty = map.empty; room = room; places = 0 }
 
 -- a child that is ready for the names that it will show: with none yet, and with room for each
 pub record IsReady (frag : Fragment) (nb : ℕ) (names : Names) (i : ℕ) (part : Part) : Type 0 where
@@ -47,7 +48,8 @@ pub record AreReady (frag : Fragment) (nb : ℕ) (names : Names) (parts : List P
 
 -- their generations are numbers that follow one another
 abbrev pub AreNumbered : ℕ → List Part → Type 0
-AreNumbered first parts = (i : ℕ) (d : Part) → i < length parts → (slice_index_or parts i d).fragment.generation ≡ first + i
+AreNumbered first parts =
+    (i : ℕ) (d : Part) → i < length parts → (slice_index_or parts i d).fragment.generation ≡ first + i
 
 -- how many places are free, or become so where a clean fragment goes
 abbrev pub spare : Held → ℕ
@@ -59,7 +61,9 @@ spare old = (old.cap - length old.entries) + length (filter (λ e. is_evictable 
 pub record AreChildren (frag : Fragment) (nb : ℕ) (names : Names) (version : ℕ) (ready made : List Part) : Type 0 where
   pub count : length made ≡ length ready
   pub child : (i : ℕ) (d : Part) → i < length made → (slice_index_or made i d).frag ≡ child_of frag i nb
-  pub each : (i : ℕ) (d : Part) → i < length made → IsChild (child_of frag i nb) names (slice_index_or ready i d).fragment.generation version (slice_index_or made i d).fragment
+  pub each : (i : ℕ) (d : Part) → i < length made
+      → IsChild (child_of frag i nb) names (slice_index_or ready i d).fragment.generation version
+      (slice_index_or made i d).fragment
 
 -- these fragments in their places, each the most recently used when it comes in
 abbrev pub filled : Ino → List Part → Held → Held
@@ -70,15 +74,19 @@ filled dir (part ∷ parts) old = filled dir parts (used_as (dir, part.frag) (he
 abbrev pub IsNoChild : Ino → Fragment → ℕ → Leaf → Type 0
 IsNoChild dir frag nb leaf = (i : ℕ) → i < 2 ^ nb → leaf_is (dir, child_of frag i nb) leaf ≡ false
 
--- a fragment was split: it is gone, its children are there with its names, the last one the most recently used, and the other places
--- are as they were
-pub record IsSplit (dir : Ino) (frag : Fragment) (nb : ℕ) (parts : List Part) (version : ℕ) (names : Names) (old new : Held) : Type 0 where
+-- a fragment was split: it is gone, its children are there with its names, the last one the most recently used, and the
+-- other places are as they were
+pub record IsSplit (dir : Ino) (frag : Fragment) (nb : ℕ) (parts : List Part) (version : ℕ) (names : Names)
+    (old new : Held) : Type 0 where
   pub made : List Part
   pub divided : AreChildren frag nb names version parts made
   pub order : new ≡ filled dir made (without (dir, frag) old)
-  pub children : (i : ℕ) (d : Part) → i < 2 ^ nb → HasCached (cached new.entries (dir, child_of frag i nb)) (IsChild (child_of frag i nb) names (slice_index_or parts i d).fragment.generation version)
+  pub children : (i : ℕ) (d : Part) → i < 2 ^ nb
+      → HasCached (cached new.entries (dir, child_of frag i nb))
+      (IsChild (child_of frag i nb) names (slice_index_or parts i d).fragment.generation version)
   pub gone : lookup (leaf_is (dir, frag)) new.entries ≡ None
-  pub others : (leaf : Leaf) → leaf_is (dir, frag) leaf ≡ false → IsNoChild dir frag nb leaf → lookup (leaf_is leaf) new.entries ≡ lookup (leaf_is leaf) old.entries
+  pub others : (leaf : Leaf) → leaf_is (dir, frag) leaf ≡ false → IsNoChild dir frag nb leaf
+      → lookup (leaf_is leaf) new.entries ≡ lookup (leaf_is leaf) old.entries
 
 -- ---- the law
 
@@ -91,9 +99,13 @@ pub record IsInOneChild (frag : Fragment) (nb : ℕ) (names : Names) (name : Lis
 
 -- each name of a fragment is in one child
 abbrev pub NamesAreDivided : Type 0
-NamesAreDivided = (frag : Fragment) (nb : ℕ) (names : Names) → IsFragment frag → frag.bits + nb ≤ 24 → AreWithin frag names
+NamesAreDivided =
+    (frag : Fragment) (nb : ℕ) (names : Names) → IsFragment frag → frag.bits + nb ≤ 24 → AreWithin frag names
     → (name : List ℕ) (inode : Inode) → map.get names name ≡ Some inode → IsInOneChild frag nb names name inode
 
 -- a child has names of the fragment alone, and those that its hash picks
 abbrev pub ChildrenHaveTheirOwn : Type 0
-ChildrenHaveTheirOwn = (child : Fragment) (names : Names) (name : List ℕ) (inode : Inode) → map.get (names_in child names) name ≡ Some inode → (map.get names name ≡ Some inode) × Contains child (hash_of name)
+ChildrenHaveTheirOwn =
+    (child : Fragment) (names : Names) (name : List ℕ) (inode : Inode)
+    → map.get (names_in child names) name ≡ Some inode → (map.get names name ≡ Some inode)
+    × Contains child (hash_of name)

@@ -9,8 +9,8 @@ use Rattle.dentry_cache.specs.Loading.{Loads}
 use Rattle.dentry_cache.specs.Cache.{Held, IsFull, Leaf, MakesRoom, MayMakeRoom, TakesPlace, held, used_as}
 use Rattle.dentry_cache.specs.declared.cache.Place.{Place}
 
--- why a fetch may be refused, that has to leave one fragment where it is: no place is free and no fragment may go; or as the object or
--- the store has it
+-- why a fetch may be refused, that has to leave one fragment where it is: no place is free and no fragment may go; or
+-- as the object or the store has it
 abbrev pub MayNotFetch : Option Leaf → Held → Leaf → Option Omap → ℕ → ℕ → Refusal → Type 0
 MayNotFetch stay old leaf object before after NoMemory = Unit {0}
 MayNotFetch stay old leaf object before after StoreFault = before < after
@@ -34,14 +34,16 @@ MayNotFetch stay old leaf object before after NotClean = ⊥
 -- what a fetch leaves: a fragment that was there is the most recently used; any other is there as its object spells it
 abbrev pub IsFetched : Option Leaf → Held → Leaf → Option Omap → Option Place → Held → Type 0
 IsFetched stay old leaf object (Some place) new = new ≡ used_as leaf place old
-IsFetched stay old leaf object None new = (f : Cached) × Loads leaf.1 object (Some f) × TakesPlace stay leaf (held f) old new
+IsFetched stay old leaf object None new =
+    (f : Cached) × Loads leaf.1 object (Some f) × TakesPlace stay leaf (held f) old new
 
 -- what a refused fetch leaves: the fragment isn't there
 abbrev pub IsNotFetched : Option Leaf → Held → Option Place → Held → Type 0
 IsNotFetched stay old (Some place) new = ⊥
 IsNotFetched stay old None new = MayMakeRoom stay old new
 
--- what a refusal leaves: where no place could become free, all as it was; any other comes after a place was free or became so
+-- what a refusal leaves: where no place could become free, all as it was; any other comes after a place was free or
+-- became so
 abbrev pub IsRefusedIn : Option Leaf → (old new : Held) → Refusal → Type 0
 IsRefusedIn stay old new reason =
     ((reason ≡ NothingToEvict) × (new ≡ old)) ⊎ ((reason ≡ NothingToEvict → ⊥) × MakesRoom stay old new)

@@ -26,7 +26,8 @@ HaveNoPlace c r leaves = AllByRecursion (λ (leaf : Leaf). has_place c r leaf �
 
 -- ---- what is made of the caches
 
--- a rank keeps a place for one leaf more: one that is free, or becomes so where the least recently used of its clean fragments goes
+-- a rank keeps a place for one leaf more: one that is free, or becomes so where the least recently used of its clean
+-- fragments goes
 abbrev pub and_kept : Option CacheMap → ℕ → Leaf → Option CacheMap
 and_kept (Some c) r leaf = option_map (λ (mid : CacheMap). used_at mid r leaf) (roomy c r None)
 and_kept None r leaf = None
@@ -54,23 +55,25 @@ abbrev pub without_all : CacheMap → ℕ → List Leaf → CacheMap
 without_all c r [] = c
 without_all c r (leaf ∷ leaves) = given_up (without_all c r leaves) r leaf
 
--- a rank handed leaves over to another: a place was kept for each that isn't clean, then each went there, and those that are clean are cached no
--- more
+-- a rank handed leaves over to another: a place was kept for each that isn't clean, then each went there, and those
+-- that are clean are cached no more
 abbrev pub HandsOver : ℕ → ℕ → List Leaf → List Leaf → (old new : CacheMap) → Type 0
 HandsOver from to leaves clean old new =
-    (mid : CacheMap) × (kept_all old to leaves ≡ Some mid) × (new ≡ without_all (moved_all mid from to leaves) from clean)
+    (mid : CacheMap) × (kept_all old to leaves ≡ Some mid)
+    × (new ≡ without_all (moved_all mid from to leaves) from clean)
 
 -- ---- what is left where they aren't
 
--- want of memory came with the place of one of these leaves, once it was free, and those that were kept before are given up
+-- want of memory came with the place of one of these leaves, once it was free, and those that were kept before are
+-- given up
 abbrev pub WantsPlace : ℕ → List Leaf → (old new : CacheMap) → Type 0
 WantsPlace r leaves old new =
     (i : ℕ) × (i < length leaves) × (mid : CacheMap) × (kept_all old r (drop (i + 1) leaves) ≡ Some mid)
     × (then : CacheMap) × (roomy mid r None ≡ Some then)
     × (new ≡ without_all then r (drop (i + 1) leaves))
 
--- why nothing was handed over: fewer places of the other rank are free or can become so than are asked for, and all is as it was; where as many
--- are it was want of memory
+-- why nothing was handed over: fewer places of the other rank are free or can become so than are asked for, and all is
+-- as it was; where as many are it was want of memory
 abbrev pub MayNotHandOver : ℕ → List Leaf → (old new : CacheMap) → Refusal → Type 0
 MayNotHandOver to leaves old new reason =
     ((reason ≡ NothingToEvict) × CanNotKeep (length leaves) old to None × (new ≡ old))
@@ -80,7 +83,8 @@ MayNotHandOver to leaves old new reason =
 
 -- what isn't clean of these leaves is of generation 0, and of any other as it was
 abbrev pub handed : List Leaf → Leaf → Option Unsaved → Option Unsaved
-handed leaves leaf u = cond (list_any (leaf_is leaf) leaves) (option_map (λ (v : Unsaved). record v { generation = 0 }) u) u
+handed leaves leaf u =
+    cond (list_any (leaf_is leaf) leaves) (option_map (λ (v : Unsaved). record v { generation = 0 }) u) u
 
 abbrev pub AreHanded : List Leaf → (old new : map.FinMap leaf_cmp Unsaved) → Type 0
 AreHanded leaves old new = (leaf : Leaf) → map.get new leaf ≡ handed leaves leaf (map.get old leaf)

@@ -32,14 +32,25 @@ IsSaved frag (Some object) = (version : ℕ) × (names : Names) × IsWhole frag 
 abbrev pub Loads : Fragment → Option Omap → Option Cached → Type 0
 Loads frag None (Some f) = ⊥
 Loads frag None None = Unit {0}
-Loads frag (Some object) (Some f) = (version : ℕ) × (names : Names) × IsWhole frag object version names × (f ≡ record { base = Stored version; generation = 0; clean = names; dirty = map.empty; room = 0; places = f.places })
+Loads frag (Some object) (Some f) =
+    (version : ℕ) × (names : Names) × IsWhole frag object version names
+    × (f ≡ record {
+      base = Stored version;
+      generation = 0;
+      clean = names;
+      dirty = map.empty;
+      room = 0;
+      places =
+          f.places;
+    })
 Loads frag (Some object) None = (version : ℕ) (names : Names) → IsWhole frag object version names → ⊥
 
 -- the object of a leaf
 abbrev pub object_of : Objects → Ino → Fragment → Option Omap
 object_of objects dir frag = map.get objects (object_text (FragOf dir frag))
 
--- why a fetch may be refused: as the store may refuse a call, or the object of the leaf, named so, spells no fragment of it
+-- why a fetch may be refused: as the store may refuse a call, or the object of the leaf, named so, spells no fragment
+-- of it
 abbrev pub MayNotLoad : Ino → Fragment → Option Omap → ℕ → ℕ → Refusal → Type 0
 MayNotLoad dir frag object before after NoMemory = Unit {0}
 MayNotLoad dir frag object before after StoreFault = before < after

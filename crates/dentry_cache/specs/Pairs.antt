@@ -32,7 +32,8 @@ is_good frag pair = is_good_as frag (name_of pair.0) (entry_of pair.1)
 
 -- what is read of a pair
 abbrev pub IsRead : Fragment → List ℕ × List ℕ → Option (List ℕ × Inode) → Type 0
-IsRead frag pair (Some entry) = (is_good frag pair ≡ true) × (name_of pair.0 ≡ Some entry.0) × (entry_of pair.1 ≡ Some entry.1)
+IsRead frag pair (Some entry) =
+    (is_good frag pair ≡ true) × (name_of pair.0 ≡ Some entry.0) × (entry_of pair.1 ≡ Some entry.1)
 IsRead frag pair None = is_good frag pair ≡ false
 
 abbrev pub are_good : Fragment → List (List ℕ × List ℕ) → Bool
@@ -50,29 +51,36 @@ pairs_left (Some object) after = pairs_after object.pairs after
 
 -- the names of the pairs of an object; none where it is absent, or a pair is off the grammar or belongs elsewhere
 abbrev pub AreNamesOf : Fragment → Option Omap → Option (Shown (List ℕ) Inode) → Type 0
-AreNamesOf frag object (Some names) = IsSome object × (are_good frag (pairs_left object None) ≡ true) × (contents key_cmp names ≡ added map.empty (pairs_left object None))
+AreNamesOf frag object (Some names) =
+    IsSome object × (are_good frag (pairs_left object None) ≡ true)
+    × (contents key_cmp names ≡ added map.empty (pairs_left object None))
 AreNamesOf frag object None = (object ≡ None) ⊎ (are_good frag (pairs_left object None) ≡ false)
 
 -- what a page leaves: nothing was read; all was read; or the pairs behind a key are left
 abbrev pub EndsPage : Fragment → Option Omap → Option (List ℕ) → Names → Names → PageEnd → Type 0
 EndsPage frag object after old new Off = (object ≡ None) ⊎ (are_good frag (pairs_left object after) ≡ false)
-EndsPage frag object after old new Last = IsSome object × (are_good frag (pairs_left object after) ≡ true) × (new ≡ added old (pairs_left object after))
+EndsPage frag object after old new Last =
+    IsSome object × (are_good frag (pairs_left object after) ≡ true) × (new ≡ added old (pairs_left object after))
 EndsPage frag object after old new (More key) =
-    IsSome object × (are_good frag (pairs_left object after) ≡ are_good frag (pairs_left object (Some key))) × (added new (pairs_left object (Some key)) ≡ added old (pairs_left object after))
+    IsSome object × (are_good frag (pairs_left object after) ≡ are_good frag (pairs_left object (Some key)))
+    × (added new (pairs_left object (Some key)) ≡ added old (pairs_left object after))
     × (length (pairs_left object (Some key)) < length (pairs_left object after))
 
 abbrev pub EndsPairs : Fragment → PairMap → Option (List ℕ) → Names → Names → PageEnd → Type 0
 EndsPairs frag pairs after old new Off = are_good frag (pairs_after pairs after) ≡ false
-EndsPairs frag pairs after old new Last = (are_good frag (pairs_after pairs after) ≡ true) × (new ≡ added old (pairs_after pairs after))
+EndsPairs frag pairs after old new Last =
+    (are_good frag (pairs_after pairs after) ≡ true) × (new ≡ added old (pairs_after pairs after))
 EndsPairs frag pairs after old new (More key) =
-    (are_good frag (pairs_after pairs after) ≡ are_good frag (pairs_after pairs (Some key))) × (added new (pairs_after pairs (Some key)) ≡ added old (pairs_after pairs after))
+    (are_good frag (pairs_after pairs after) ≡ are_good frag (pairs_after pairs (Some key)))
+    × (added new (pairs_after pairs (Some key)) ≡ added old (pairs_after pairs after))
     × (length (pairs_after pairs (Some key)) < length (pairs_after pairs after))
 
 -- the end of a page of good pairs
 abbrev pub IsEndOf : Bool → List (List ℕ × List ℕ) → PageEnd → Type 0
 IsEndOf more pairs Off = ⊥
 IsEndOf more pairs Last = (more ≡ false) ⊎ (pairs ≡ [])
-IsEndOf more pairs (More key) = (more ≡ true) × ((bytes : List ℕ) × (slice_get pairs (length pairs - 1) ≡ Some (key, bytes)))
+IsEndOf more pairs (More key) =
+    (more ≡ true) × ((bytes : List ℕ) × (slice_get pairs (length pairs - 1) ≡ Some (key, bytes)))
 
 -- the header of an object; none where it is absent, or its header is off the grammar
 abbrev pub IsHeaderOf : Option Omap → Option FragHeader → Type 0
@@ -82,5 +90,6 @@ IsHeaderOf (Some object) header = Decodes SpellsHeader object.header header
 
 -- the fragment, if it has the counts of the header
 abbrev pub IsCounted : Cached → FragHeader → Option Cached → Type 0
-IsCounted f header (Some loaded) = (loaded ≡ f) × (counts_of (shown f) ≡ record { files = header.files; dirs = header.dirs })
+IsCounted f header (Some loaded) =
+    (loaded ≡ f) × (counts_of (shown f) ≡ record { files = header.files; dirs = header.dirs })
 IsCounted f header None = counts_of (shown f) ≡ record { files = header.files; dirs = header.dirs } → ⊥

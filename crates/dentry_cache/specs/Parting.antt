@@ -30,7 +30,15 @@ is_place None i = false
 -- room for one change more, where it is this child
 pub record Grows (here : Bool) (old now : Part) : Type 0 where
   pub frag : now.frag ≡ old.frag
-  pub same : now.fragment ≡ record { base = old.fragment.base; generation = old.fragment.generation; clean = old.fragment.clean; dirty = old.fragment.dirty; room = now.fragment.room; places = old.fragment.places }
+  pub same : now.fragment ≡ record {
+    base = old.fragment.base;
+    generation = old.fragment.generation;
+    clean =
+        old.fragment.clean;
+    dirty = old.fragment.dirty;
+    room = now.fragment.room;
+    places = old.fragment.places;
+  }
   pub room : old.fragment.room + cond here 1 0 ≤ now.fragment.room
 
 -- a change of a name, where it is this child

@@ -1,4 +1,5 @@
--- What ties a cached fragment to its object, so that what it shows is a function of what isn't clean and of the objects alone.
+-- What ties a cached fragment to its object, so that what it shows is a function of what isn't clean and of the objects
+-- alone.
 use Rattle.std.specs.Prelude.{◌≡◌, ℕ, List, Option, Some, None}
 use Rattle.std.specs.Option.{unwrap_or}
 use Rattle.std.specs.FinMap as map
@@ -21,12 +22,14 @@ abbrev pub names_at : Option Omap → Names
 names_at None = map.empty
 names_at (Some object) = names_of object.pairs
 
--- an object that counts spells a fragment at the base's version, and each name that isn't dirty was fetched as the object has it
+-- an object that counts spells a fragment at the base's version, and each name that isn't dirty was fetched as the
+-- object has it
 abbrev pub IsTiedAt : Base → Cached → Option Omap → Type 0
 IsTiedAt Fresh f object = Unit {0}
 IsTiedAt (Stored version) f None = ⊥
 IsTiedAt (Stored version) f (Some object) =
-    SpellsFragment object version (names_of object.pairs) × ((name : List ℕ) → map.get f.dirty name ≡ None → map.get f.clean name ≡ map.get (names_of object.pairs) name)
+    SpellsFragment object version (names_of object.pairs)
+    × ((name : List ℕ) → map.get f.dirty name ≡ None → map.get f.clean name ≡ map.get (names_of object.pairs) name)
 
 abbrev pub IsTied : Cached → Option Omap → Type 0
 IsTied f object = IsTiedAt f.base f object
@@ -41,7 +44,9 @@ FetchedAreTied = (frag : Fragment) (object : Option Omap) (f : Cached) → Loads
 
 -- a change of a name keeps the tie
 abbrev pub ChangedAreTied : Type 0
-ChangedAreTied = (f : Cached) (object : Option Omap) (name : List ℕ) (mark : Mark) → IsTied f object → IsTied (marked f name mark) object
+ChangedAreTied =
+    (f : Cached) (object : Option Omap) (name : List ℕ) (mark : Mark) → IsTied f object
+    → IsTied (marked f name mark) object
 
 -- a name of the snapshot is dirty still, and what became of it is what the snapshot has, or it has another version
 abbrev pub KeepsAt : Option Mark → Option Mark → Type 0
@@ -52,7 +57,8 @@ KeepsAt (Some mark) (Some then) = mark.version ≡ then.version → mark ≡ the
 abbrev pub Keeps : Marks → Marks → Type 0
 Keeps dirty names = (name : List ℕ) → KeepsAt (map.get dirty name) (map.get names name)
 
--- a snapshot that a fragment's commit can end: it is one of this base, its names are kept, and it counts what it shows over the object
+-- a snapshot that a fragment's commit can end: it is one of this base, its names are kept, and it counts what it shows
+-- over the object
 pub record Commits (snapshot : Snap) (f : Cached) (object : Option Omap) : Type 0 where
   pub valid : IsSnap snapshot
   pub based : snapshot.base ≡ f.base
@@ -65,8 +71,11 @@ object_after snapshot object = applied (write_of snapshot) (unwrap_or object emp
 
 -- a commit leaves an object that spells what the snapshot shows, and the fragment tied to it
 pub record IsRight (snapshot : Snap) (now : Cached) (object : Option Omap) : Type 0 where
-  pub spelled : SpellsFragment (object_after snapshot object) (next_version snapshot.base) (shown_over snapshot.base (names_at object) snapshot.names)
+  pub spelled : SpellsFragment (object_after snapshot object) (next_version snapshot.base)
+      (shown_over snapshot.base (names_at object) snapshot.names)
   pub tied : IsTied now (Some (object_after snapshot object))
 
 abbrev pub CommittedAreTied : Type 0
-CommittedAreTied = (snapshot : Snap) (f now : Cached) (object : Option Omap) → IsTied f object → Commits snapshot f object → IsCommitted snapshot f now → IsRight snapshot now object
+CommittedAreTied =
+    (snapshot : Snap) (f now : Cached) (object : Option Omap) → IsTied f object → Commits snapshot f object
+    → IsCommitted snapshot f now → IsRight snapshot now object

@@ -14,12 +14,22 @@ is_unclean place = not place.kept && not (is_clean place.frag)
 -- the leaves of those fragments, each at this rank
 abbrev pub unclean_in : Rank → Places → List Dirfrag
 unclean_in rank [] = []
-unclean_in rank (e ∷ places) = cond (is_unclean e.1) (record { dir = e.0.0; frag = e.0.1; rank = rank } ∷ unclean_in rank places) (unclean_in rank places)
+unclean_in rank (e ∷ places) = cond (is_unclean e.1) (record {
+  dir = e.0.0;
+  frag = e.0.1;
+  rank =
+      rank;
+} ∷ unclean_in rank places) (unclean_in rank places)
 
 -- the same of leaves in some order, as it is seen in the caches of all ranks
 abbrev pub unclean_among : CacheMap → ℕ → List Leaf → List Dirfrag
 unclean_among c r [] = []
-unclean_among c r (q ∷ leaves) = cond (is_some (unsaved_in (here c r q))) (record { dir = q.0; frag = q.1; rank = record { 0 = r } } ∷ unclean_among c r leaves) (unclean_among c r leaves)
+unclean_among c r (q ∷ leaves) = cond (is_some (unsaved_in (here c r q))) (record {
+  dir = q.0;
+  frag = q.1;
+  rank =
+      record { 0 = r };
+} ∷ unclean_among c r leaves) (unclean_among c r leaves)
 
 -- those of the ranks from one on, whose orders these are
 abbrev pub unclean_from : CacheMap → ℕ → List (List Leaf) → List Dirfrag

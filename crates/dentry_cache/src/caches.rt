@@ -1,4 +1,5 @@
-//! `Caches`: a contract sees one map of the fragments that are there, each with its rank, and each rank's leaves by use.
+//! `Caches`: a contract sees one map of the fragments that are there, each with its rank, and each rank's leaves by
+//! use.
 ghost use Rattle.std.specs.Prelude.{◌≡◌, ◌<◌, ◌≤◌, ◌+◌, ◌^◌, true, false, Some, None, [], length, replicate, IsOk, OnOk, OnErr, IfOk, IfErr, option_copied};
 ghost use Rattle.std.specs.FinMap as map;
 ghost use Rattle.std.specs.Result.{result_err};
@@ -57,8 +58,8 @@ impl Caches {
         Ok(Caches { caches, places })
     }
 
-    /// How many ranks there are. Of the caches it tells that a fragment which a rank has stands in its order of use, where no
-    /// leaf stands twice, and that no more places are taken than there are.
+    /// How many ranks there are. Of the caches it tells that a fragment which a rank has stands in its order of use,
+    /// where no leaf stands twice, and that no more places are taken than there are.
     pub fn ranks(&self) -> usize
         ensures ranks { result ≡ length self.now.used }
         ensures valid { AreCaches self.now }
@@ -92,8 +93,8 @@ impl Caches {
         self.caches[at.rank.0 as usize].look(at.dir, at.frag, name)
     }
 
-    /// Gives a name of a fragment this inode, whether it was there or not. The name is dirty then, at this version. Takes
-    /// no memory.
+    /// Gives a name of a fragment this inode, whether it was there or not. The name is dirty then, at this version.
+    /// Takes no memory.
     pub fn put(&mut self, at: Dirfrag, name: Name, inode: Inode, version: u64)
         requires there { at.rank.0 < length self.old.used }
         requires recordable { IsRecordable inode }
@@ -103,7 +104,8 @@ impl Caches {
         self.caches[at.rank.0 as usize].put(at.dir, at.frag, name, inode, version);
     }
 
-    /// Removes a name of a fragment, whether it was there or not. The name is dirty then, at this version. Takes no memory.
+    /// Removes a name of a fragment, whether it was there or not. The name is dirty then, at this version. Takes no
+    /// memory.
     pub fn erase(&mut self, at: Dirfrag, name: Name, version: u64)
         requires there { at.rank.0 < length self.old.used }
         requires room { HasRoom (here self.old at.rank.0 (leaf_of at)) }
@@ -123,12 +125,12 @@ impl Caches {
         self.caches[at.rank.0 as usize].reserve(at.dir, at.frag, changes)
     }
 
-    /// Makes sure that a fragment is there, and makes it the most recently used of its rank. One that isn't there is read
-    /// from the store (`load`). Where no place of the rank is free the least recently used of its clean fragments goes, but
-    /// for the one that is to stay. Takes memory for a fragment that is read.
+    /// Makes sure that a fragment is there, and makes it the most recently used of its rank. One that isn't there is
+    /// read from the store (`load`). Where no place of the rank is free the least recently used of its clean fragments
+    /// goes, but for the one that is to stay. Takes memory for a fragment that is read.
     ///
-    /// Refused `NothingToEvict` where no fragment can go, `Damaged` where the object is absent or isn't one that spells a
-    /// fragment of this leaf, `StoreFault` and `NoMemory`. The fragment isn't there then; a clean one may have gone.
+    /// Refused `NothingToEvict` where no fragment can go, `Damaged` where the object is absent or isn't one that spells
+    /// a fragment of this leaf, `StoreFault` and `NoMemory`. The fragment isn't there then; a clean one may have gone.
     pub fn fetch<S: Store>(
         &mut self,
         alloc: Global,
@@ -155,8 +157,8 @@ impl Caches {
     /// Keeps a place of a rank for a fragment that will be made. Where no place is free the least recently used of the
     /// rank's clean fragments goes, but for the one that is to stay. Takes memory for the place.
     ///
-    /// Refused `NothingToEvict` where no fragment can go, and `NoMemory`. The leaf has no place then; a clean fragment may
-    /// have gone.
+    /// Refused `NothingToEvict` where no fragment can go, and `NoMemory`. The leaf has no place then; a clean fragment
+    /// may have gone.
     pub fn keep(
         &mut self,
         alloc: Global,
@@ -193,8 +195,8 @@ impl Caches {
         self.caches[at.rank.0 as usize].take(at.dir, at.frag)
     }
 
-    /// Gives up a leaf's place at its rank, with the fragment that is in it. A leaf that has none changes nothing. Takes no
-    /// memory.
+    /// Gives up a leaf's place at its rank, with the fragment that is in it. A leaf that has none changes nothing.
+    /// Takes no memory.
     pub fn forget(&mut self, at: Dirfrag)
         requires { at.rank.0 < length self.old.used }
         ensures { self.new ≡ given_up self.old at.rank.0 (leaf_of at) }
@@ -215,8 +217,8 @@ impl Caches {
         self.caches[at.rank.0 as usize].begin_commit(at.dir, at.frag)
     }
 
-    /// Writes a snapshot of a rank's fragment to its object, in one operation. What was dirty at the snapshot's versions is
-    /// clean then; what changed since stays dirty. Takes memory before it writes.
+    /// Writes a snapshot of a rank's fragment to its object, in one operation. What was dirty at the snapshot's
+    /// versions is clean then; what changed since stays dirty. Takes memory before it writes.
     ///
     /// Refused as the store refuses the write, and `NoMemory`. Object and names stay as they were then.
     pub fn end_commit<S: Store>(
@@ -239,8 +241,8 @@ impl Caches {
         self.caches[rank.0 as usize].end_commit(alloc, store, encoded)
     }
 
-    /// Puts a copy of each name that a fragment shows into another one, dirty there at this version. The order of use stays.
-    /// Takes memory for the copies and their room, before it changes a name.
+    /// Puts a copy of each name that a fragment shows into another one, dirty there at this version. The order of use
+    /// stays. Takes memory for the copies and their room, before it changes a name.
     pub fn copy_names(
         &self,
         at: Dirfrag,

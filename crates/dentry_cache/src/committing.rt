@@ -31,8 +31,8 @@ impl Cache {
         }
     }
 
-    /// Writes a snapshot of a fragment to its object, in one operation. What was dirty at the snapshot's versions is clean
-    /// then; what changed since stays dirty. Takes memory before it writes.
+    /// Writes a snapshot of a fragment to its object, in one operation. What was dirty at the snapshot's versions is
+    /// clean then; what changed since stays dirty. Takes memory before it writes.
     ///
     /// Refused as the store refuses the write, and `NoMemory`. Object and names stay as they were then.
     pub fn end_commit<S: Store>(

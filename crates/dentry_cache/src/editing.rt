@@ -9,8 +9,8 @@ use mds_types::{Frag, Ino, Inode, Name};
 use std::alloc::AllocError;
 
 impl Cache {
-    /// Gives a name of a fragment this inode, whether it was there or not. The name is dirty then, at this version. Takes
-    /// no memory.
+    /// Gives a name of a fragment this inode, whether it was there or not. The name is dirty then, at this version.
+    /// Takes no memory.
     pub fn put(&mut self, dir: Ino, frag: Frag, name: Name, inode: Inode, version: u64)
         requires recordable { IsRecordable inode }
         requires room { HasRoom (cached self.old.entries (dir, frag)) }
@@ -26,7 +26,8 @@ impl Cache {
         self.candidates.resize(&self.places, &(dir, frag), was, now);
     }
 
-    /// Removes a name of a fragment, whether it was there or not. The name is dirty then, at this version. Takes no memory.
+    /// Removes a name of a fragment, whether it was there or not. The name is dirty then, at this version. Takes no
+    /// memory.
     pub fn erase(&mut self, dir: Ino, frag: Frag, name: Name, version: u64)
         requires { HasRoom (cached self.old.entries (dir, frag)) }
         ensures { IsChanged (cached self.old.entries (dir, frag)) (λ (f now : Cached). now ≡ marked f name (record { version = version; inode = None })) (dir, frag) self.old self.new }

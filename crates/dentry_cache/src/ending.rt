@@ -9,8 +9,8 @@ use crate::caches::Caches;
 use mds_types::{Frag, Ino};
 
 impl Caches {
-    /// Gives up the place of a leaf, with its fragment, at the rank that has it. A leaf that none has changes nothing. Each rank
-    /// is looked at. Takes no memory.
+    /// Gives up the place of a leaf, with its fragment, at the rank that has it. A leaf that none has changes nothing.
+    /// Each rank is looked at. Takes no memory.
     pub fn end(&mut self, dir: Ino, frag: Frag)
         ensures ended { self.new ≡ ended self.old (dir, frag) }
         ensures valid { AreCaches self.old }

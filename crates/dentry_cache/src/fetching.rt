@@ -18,11 +18,11 @@ use std::alloc::{AllocError, Global};
 
 impl Cache {
     /// Makes sure that a fragment is there, and makes it the most recently used. One that isn't there is read from the
-    /// store (`load`). Where no place is free the least recently used of the clean fragments goes, but for the one that is to
-    /// stay. Takes memory for a fragment that is read.
+    /// store (`load`). Where no place is free the least recently used of the clean fragments goes, but for the one that
+    /// is to stay. Takes memory for a fragment that is read.
     ///
-    /// Refused `NothingToEvict` where no fragment can go, `Damaged` where the object is absent or isn't one that spells a
-    /// fragment of this leaf, `StoreFault` and `NoMemory`. The fragment isn't there then; a clean one may have gone.
+    /// Refused `NothingToEvict` where no fragment can go, `Damaged` where the object is absent or isn't one that spells
+    /// a fragment of this leaf, `StoreFault` and `NoMemory`. The fragment isn't there then; a clean one may have gone.
     pub fn fetch<S: Store>(
         &mut self,
         alloc: Global,

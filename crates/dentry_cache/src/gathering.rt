@@ -10,8 +10,8 @@ use mds_types::{Frag, Ino};
 use std::alloc::AllocError;
 
 impl Cache {
-    /// Puts a copy of each name that a fragment shows into another one, dirty there at this version. The order of use stays.
-    /// Takes memory for the copies and their room, before it changes a name.
+    /// Puts a copy of each name that a fragment shows into another one, dirty there at this version. The order of use
+    /// stays. Takes memory for the copies and their room, before it changes a name.
     pub fn copy_names(
         &self,
         dir: Ino,

@@ -12,13 +12,14 @@ use mds_types::{Dirfrag, Frag, Ino, Rank, Refusal};
 use std::alloc::Global;
 
 impl Caches {
-    /// What a rank caches of these leaves goes to another rank: each fragment that isn't clean is there as it was, but of
-    /// generation 0, and the first of the list is the most recently used; what is clean is cached no more. First a place of the
-    /// other rank is kept for each that isn't clean, where the least recently used of that rank's clean fragments go. Takes
-    /// memory for the places.
+    /// What a rank caches of these leaves goes to another rank: each fragment that isn't clean is there as it was, but
+    /// of generation 0, and the first of the list is the most recently used; what is clean is cached no more. First a
+    /// place of the other rank is kept for each that isn't clean, where the least recently used of that rank's clean
+    /// fragments go. Takes memory for the places.
     ///
-    /// Refused `NothingToEvict` where fewer places of the other rank are free or can become so, and all is as it was then; where as
-    /// many are, refused `NoMemory` alone. No place is kept then, and nothing went; clean fragments of the other rank may have gone.
+    /// Refused `NothingToEvict` where fewer places of the other rank are free or can become so, and all is as it was
+    /// then; where as many are, refused `NoMemory` alone. No place is kept then, and nothing went; clean fragments of
+    /// the other rank may have gone.
     pub fn hand_over(
         &mut self,
         alloc: Global,

@@ -15,8 +15,8 @@ impl Cache {
     /// Keeps a place for a fragment that will be made. Where no place is free the least recently used of the clean
     /// fragments goes, but for the one that is to stay. Takes memory for the place.
     ///
-    /// Refused `NothingToEvict` where no fragment can go, and `NoMemory`. The leaf has no place then; a clean fragment may
-    /// have gone.
+    /// Refused `NothingToEvict` where no fragment can go, and `NoMemory`. The leaf has no place then; a clean fragment
+    /// may have gone.
     pub fn keep(
         &mut self,
         alloc: Global,
@@ -46,9 +46,9 @@ impl Cache {
     /// Puts a fragment into the place that is kept for it, as the most recently used one. Takes no memory.
     ///
     /// So a fragment is made: with no names (`CachedFrag::fresh`) for a new directory, and with those of others for a
-    /// split or a merge. And so one is installed that an import got with a fresh base; one with a stored base is fetched,
-    /// and its dirty names are put and erased. What an export sends of a fragment, its base and its dirty names, is told
-    /// by `get`: `CachedFrag::base` and `CachedFrag::dirty`.
+    /// split or a merge. And so one is installed that an import got with a fresh base; one with a stored base is
+    /// fetched, and its dirty names are put and erased. What an export sends of a fragment, its base and its dirty
+    /// names, is told by `get`: `CachedFrag::base` and `CachedFrag::dirty`.
     pub fn fill(&mut self, dir: Ino, frag: Frag, fragment: CachedFrag)
         requires { is_kept (lookup (leaf_is (dir, frag)) self.old.entries) ≡ true }
         ensures { self.new ≡ used_as (dir, frag) (held fragment) self.old }

@@ -19,16 +19,16 @@ pub fn commits_tie()
     ensures { CommittedAreTied }
 {}
 
-/// The commit of a snapshot can end from when it was taken, whatever changes at versions above all of its own; its fragment
-/// isn't clean until then.
+/// The commit of a snapshot can end from when it was taken, whatever changes at versions above all of its own; its
+/// fragment isn't clean until then.
 pub fn snapshots_stand()
     ensures taken { TakenCanEnd }
     ensures changed { ChangedCanEnd }
     ensures unclean { StandingIsUnclean }
 {}
 
-/// The children of a fragment divide its names: each name is in one child, and no other, whose hashes contain its own; and
-/// no child has a name that the fragment hasn't.
+/// The children of a fragment divide its names: each name is in one child, and no other, whose hashes contain its own;
+/// and no child has a name that the fragment hasn't.
 pub fn children_divide()
     ensures divided { NamesAreDivided }
     ensures own { ChildrenHaveTheirOwn }

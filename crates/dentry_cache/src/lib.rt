@@ -1,5 +1,6 @@
-//! The caches of the ranks: of each the whole fragments of directories that it holds, the least recently used of which goes
-//! where a place is needed. What isn't clean stays. A fragment that isn't there is read from its object in the store.
+//! The caches of the ranks: of each the whole fragments of directories that it holds, the least recently used of which
+//! goes where a place is needed. What isn't clean stays. A fragment that isn't there is read from its object in the
+//! store.
 #![tactic(auto)]
 
 // what a dirfrag's object says, read as a cached fragment: its header, then its omap in pages, pair by pair

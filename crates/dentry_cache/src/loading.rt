@@ -29,10 +29,12 @@ pub enum PageEnd {
     More(Bytes),
 }
 
-/// The fragment of a leaf, read from its object: the header, and then its pairs by pages of 64. Takes memory for the names.
+/// The fragment of a leaf, read from its object: the header, and then its pairs by pages of 64. Takes memory for the
+/// names.
 ///
-/// Refused `Damaged`, with the object's name, where the object is absent or isn't one that spells a fragment with no name
-/// of another leaf, and otherwise as the store refuses a call (`StoreFault`), or `NoMemory`. The objects stay as they are.
+/// Refused `Damaged`, with the object's name, where the object is absent or isn't one that spells a fragment with no
+/// name of another leaf, and otherwise as the store refuses a call (`StoreFault`), or `NoMemory`. The objects stay as
+/// they are.
 pub fn load<S: Store>(
     alloc: Global,
     store: &mut S,

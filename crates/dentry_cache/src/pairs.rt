@@ -16,8 +16,8 @@ use objstore::name_of;
 use sorted_map::SortedMap;
 use std::alloc::{AllocError, Global};
 
-/// Adds the names of these pairs, if each of them is the record of a name of the fragment under its key, and tells whether
-/// they are.
+/// Adds the names of these pairs, if each of them is the record of a name of the fragment under its key, and tells
+/// whether they are.
 pub(crate) fn add_pairs(
     alloc: Global,
     names: &mut SortedMap<Name, Inode>,

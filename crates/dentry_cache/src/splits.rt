@@ -28,8 +28,8 @@ impl Caches {
     /// but for the fragment itself, which stays. Takes memory for the children and their places.
     ///
     /// Refused `NothingToEvict` where fewer places of the rank are free or can become so than there will be children,
-    /// beside that of the fragment; all is as it was then. Where as many are, refused `NoMemory` alone. No place is kept
-    /// then; clean fragments may have gone, but for the fragment itself.
+    /// beside that of the fragment; all is as it was then. Where as many are, refused `NoMemory` alone. No place is
+    /// kept then; clean fragments may have gone, but for the fragment itself.
     pub fn ready_split(
         &mut self,
         alloc: Global,
@@ -100,8 +100,8 @@ impl Caches {
         self.fill_all(&at, items);
     }
 
-    // Whether there will be a place for each child: one that is free, or becomes so where a clean fragment goes, but for
-    // the one that splits.
+    // Whether there will be a place for each child: one that is free, or becomes so where a clean fragment goes, but
+    // for the one that splits.
     fn can_keep(&self, at: &Dirfrag, bits: u8) -> bool
         requires there { at.now.rank.0 < length self.now.used }
         requires few { bits ≤ 8 }

@@ -18,8 +18,8 @@ impl Place {
 }
 
 impl Cache {
-    /// Puts the leaves of fragments that aren't clean behind others, each at this rank, the most recently used first, until there
-    /// are so many. Takes memory for them.
+    /// Puts the leaves of fragments that aren't clean behind others, each at this rank, the most recently used first,
+    /// until there are so many. Takes memory for them.
     pub(crate) fn add_unclean(
         &self,
         rank: Rank,
@@ -44,8 +44,8 @@ impl Cache {
 }
 
 impl Caches {
-    /// The leaves of fragments that aren't clean, each with the rank that has it: rank after rank, and of each the most recently used
-    /// first. No more than so many. Takes memory for them; each place is looked at.
+    /// The leaves of fragments that aren't clean, each with the rank that has it: rank after rank, and of each the most
+    /// recently used first. No more than so many. Takes memory for them; each place is looked at.
     pub fn unclean_leaves(&self, alloc: Global, most: usize) -> Result<Vec<Dirfrag>, AllocError>
         requires { length self.now.used ≤ 256 }
         ensures leaves { IfOk result (λ leaves. leaves.items ≡ take most (unclean_places self.now)) }

@@ -37,8 +37,8 @@ pub record IsRankNumber (number : ℕ) : Type 0 where
   pub least : 2 ^ 40 ≤ number
   pub most : number < 17 * 2 ^ 40
 
--- the inodes that a record allows: a number of a rank, a mode of 12 bits, size 0 for a directory and the target's length for a link, a
--- link's target, and a pin of a directory alone
+-- the inodes that a record allows: a number of a rank, a mode of 12 bits, size 0 for a directory and the target's
+-- length for a link, a link's target, and a pin of a directory alone
 pub record IsRecordable (inode : Inode) : Type 0 where
   pub number : IsRankNumber inode.ino.0
   pub mode : inode.mode ≤ 4095
@@ -89,7 +89,8 @@ abbrev pub widths_v2 : List ℕ
 widths_v2 = widths_front ++ 4 ∷ 4 ∷ 1 ∷ 2 ∷ []
 
 abbrev pub numbers_v2 : Inode → List ℕ
-numbers_v2 inode = numbers_front inode ++ inode.uid ∷ inode.gid ∷ pin_byte inode.pin ∷ length (target_of inode.kind) ∷ []
+numbers_v2 inode =
+    numbers_front inode ++ inode.uid ∷ inode.gid ∷ pin_byte inode.pin ∷ length (target_of inode.kind) ∷ []
 
 -- the letter I, the version, the fields and the target
 abbrev pub record_with : ℕ → List ℕ → List ℕ → Inode → List ℕ
@@ -138,11 +139,13 @@ entry_bytes inode = record_v2 inode
 abbrev pub HasRecord : Inode → Type 0
 HasRecord inode = WritesEntry (entry_bytes inode) inode
 
--- a value with no owner, no group and no pin has one spelling in each version, any other value one in version 2 and none in version 1
+-- a value with no owner, no group and no pin has one spelling in each version, any other value one in version 2 and
+-- none in version 1
 pub record HasItsSpellings : Type 0 where
   pub first : (x y : List ℕ) (inode : Inode) → IsRecordV1 x inode → IsRecordV1 y inode → x ≡ y
   pub second : (x y : List ℕ) (inode : Inode) → IsRecordV2 x inode → IsRecordV2 y inode → x ≡ y
-  pub plain : (inode : Inode) → IsRecordable inode → HasWidths inode → IsPlain inode → IsRecordV1 (record_v1 inode) inode × IsRecordV2 (record_v2 inode) inode
+  pub plain : (inode : Inode) → IsRecordable inode → HasWidths inode → IsPlain inode
+      → IsRecordV1 (record_v1 inode) inode × IsRecordV2 (record_v2 inode) inode
   pub other : (x : List ℕ) (inode : Inode) → (IsPlain inode → ⊥) → IsRecordV1 x inode → ⊥
   pub written : (inode : Inode) → IsRecordable inode → HasWidths inode → IsRecordV2 (record_v2 inode) inode
   pub apart : (bytes : List ℕ) (a b : Inode) → IsRecordV1 bytes a → IsRecordV2 bytes b → ⊥

@@ -50,7 +50,8 @@ pub record SpellsNames (pairs : PairMap) (names : Names) : Type 0 where
 abbrev pub header_for : ℕ → Names → FragHeader
 header_for version names = record { version = version; files = files_in names; dirs = dirs_in names }
 
--- the object of a fragment with these names, at a commit version: its header has the entry counts, and its pairs are the names' records
+-- the object of a fragment with these names, at a commit version: its header has the entry counts, and its pairs are
+-- the names' records
 pub record SpellsFragment (object : Omap) (version : ℕ) (names : Names) : Type 0 where
   pub header : SpellsHeader object.header (header_for version names)
   pub pairs : SpellsNames object.pairs names
@@ -62,7 +63,8 @@ pub record SpellsTreeObject (object : Omap) (leaves : List Fragment) : Type 0 wh
 
 -- an object spells at most one fragment
 abbrev pub HasOneFragment : Type 0
-HasOneFragment = (object : Omap) (v w : ℕ) (a b : Names) → SpellsFragment object v a → SpellsFragment object w b → (v ≡ w) × (a ≡ b)
+HasOneFragment =
+    (object : Omap) (v w : ℕ) (a b : Names) → SpellsFragment object v a → SpellsFragment object w b → (v ≡ w) × (a ≡ b)
 
 -- an object spells at most one fragment tree
 abbrev pub HasOneTree : Type 0
@@ -98,4 +100,5 @@ ShowsAtEach = (pairs : PairMap) (name : List ℕ) → map.get (names_of pairs) n
 
 -- the names that an object spells are those that it shows
 abbrev pub SpellsWhatItShows : Type 0
-SpellsWhatItShows = (object : Omap) (version : ℕ) (names : Names) → SpellsFragment object version names → names ≡ names_of object.pairs
+SpellsWhatItShows =
+    (object : Omap) (version : ℕ) (names : Names) → SpellsFragment object version names → names ≡ names_of object.pairs

@@ -14,7 +14,8 @@ IsFragmentOf word None = (f : Fragment) → IsFragment f → word_of f ≡ word 
 -- the fragments whose words the bytes are; none if there are none
 abbrev pub AreLeavesOf : List ℕ → Option (Vec Fragment) → Type 0
 AreLeavesOf words (Some leaves) = AllByRecursion IsFragment leaves.items × (words ≡ flat_map leaf_bytes leaves.items)
-AreLeavesOf words None = (leaves : List Fragment) → AllByRecursion IsFragment leaves → words ≡ flat_map leaf_bytes leaves → ⊥
+AreLeavesOf words None =
+    (leaves : List Fragment) → AllByRecursion IsFragment leaves → words ≡ flat_map leaf_bytes leaves → ⊥
 
 -- the bytes begin with the word of a fragment that begins at low, and go on so
 pub record BeginsWith (bytes : List ℕ) (low : ℕ) (leaf : Fragment) (after : List ℕ) : Type 0 where

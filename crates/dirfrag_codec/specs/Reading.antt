@@ -1,4 +1,5 @@
--- Reading fields from the front of bytes. Contracts of this crate and of crates that read formats of their own use these words.
+-- Reading fields from the front of bytes. Contracts of this crate and of crates that read formats of their own use
+-- these words.
 use Rattle.std.specs.Prelude.{◌≡◌, get_or, ℕ, ◌*◌, ◌^◌, Bool, true, false, ◌&&◌, ◌==◌, nat_lt, nat_le, if◌then◌else◌, List, [], ◌∷◌, length, drop, Option, Some, None}
 use Rattle.byteorder.specs.Endian.{little_number}
 use Rattle.mds_types.specs.Tree.{HasPinOf}
@@ -42,7 +43,8 @@ version_at letter (a ∷ b ∷ rest) = if a == letter then Some (b, rest) else N
 -- the numbers at the front, each of so many bytes, and the bytes after them
 abbrev pub numbers_at : List ℕ → List ℕ → Option (List ℕ × List ℕ)
 numbers_at [] bytes = Some ([], bytes)
-numbers_at (width ∷ widths) bytes = number_at width bytes >>= λ n. numbers_at widths n.1 >>= λ more. Some (n.0 ∷ more.0, more.1)
+numbers_at (width ∷ widths) bytes =
+    number_at width bytes >>= λ n. numbers_at widths n.1 >>= λ more. Some (n.0 ∷ more.0, more.1)
 
 -- the fields of a record, whatever they mean; those that version 1 hasn't got are 0, 0 and 255
 pub record RecordFields : Type 0 where
@@ -96,7 +98,8 @@ abbrev pub fields_at_v2 : List ℕ → Option RecordFields
 fields_at_v2 bytes = numbers_at widths_v2 bytes >>= where_whole 8 fields_v2
 
 abbrev pub fields_of_version : ℕ × List ℕ → Option RecordFields
-fields_of_version tagged = if tagged.0 == 1 then fields_at_v1 tagged.1 else (if tagged.0 == 2 then fields_at_v2 tagged.1 else None)
+fields_of_version tagged =
+    if tagged.0 == 1 then fields_at_v1 tagged.1 else (if tagged.0 == 2 then fields_at_v2 tagged.1 else None)
 
 unfoldable pub fields_at : List ℕ → Option RecordFields
 fields_at bytes = version_at 73 bytes >>= fields_of_version
@@ -123,11 +126,22 @@ pin_of_byte byte = if byte == 255 then None else Some (record { 0 = byte })
 -- the inode of these fields, be it allowed or not
 abbrev pub inode_with : RecordFields → Kind → Inode
 inode_with f kind =
-    record { ino = record { 0 = f.ino }; kind = kind; mode = f.mode; size = f.size; mtime = f.mtime; uid = f.uid; gid = f.gid; pin = pin_of_byte f.pin }
+    record {
+      ino = record { 0 = f.ino };
+      kind = kind;
+      mode = f.mode;
+      size = f.size;
+      mtime = f.mtime;
+      uid = f.uid;
+      gid =
+          f.gid;
+      pin = pin_of_byte f.pin;
+    }
 
 -- whether its numbers have their bits
 abbrev pub has_widths : Inode → Bool
-has_widths inode = nat_lt inode.size (2 ^ 64) && (nat_lt inode.mtime (2 ^ 64) && (nat_lt inode.uid (2 ^ 32) && nat_lt inode.gid (2 ^ 32)))
+has_widths inode = nat_lt inode.size (2 ^ 64) && (nat_lt inode.mtime (2 ^ 64)
+    && (nat_lt inode.uid (2 ^ 32) && nat_lt inode.gid (2 ^ 32)))
 
 -- whether version 1 can say it
 abbrev pub has_no_pin : Option Rank → Bool
@@ -148,7 +162,9 @@ IsFieldsOfLink fields = (inode : Inode) × IsRecordable inode × (fields_of_inod
 
 -- whether a record allows the number and the size of these fields
 abbrev pub fits_kind : RecordFields → Bool
-fits_kind f = (nat_le (2 ^ 40) f.ino && nat_lt f.ino (17 * 2 ^ 40)) && (if f.kind == 2 then f.size == 0 else if f.kind == 3 then f.size == length f.target else true)
+fits_kind f =
+    (nat_le (2 ^ 40) f.ino && nat_lt f.ino (17 * 2 ^ 40))
+    && (if f.kind == 2 then f.size == 0 else if f.kind == 3 then f.size == length f.target else true)
 
 -- the kind of this byte with this target; none if there is none
 abbrev pub IsKindOf : ℕ → List ℕ → Option Kind → Type 0
@@ -166,7 +182,12 @@ header_at bytes = do
   version ← number_at 8 tagged
   files ← number_at 8 version.1
   dirs ← number_at 8 files.1
-  if nat_lt 0 version.0 && (length dirs.1 == 0) then Some (record { version = version.0; files = files.0; dirs = dirs.0 }) else None
+  if nat_lt 0 version.0 && (length dirs.1 == 0) then Some (record {
+    version = version.0;
+    files = files.0;
+    dirs =
+        dirs.0;
+  }) else None
 
 -- the bytes of a tree's leaves, as many as were stated, 2 at least
 unfoldable pub words_at : List ℕ → Option (List ℕ)

@@ -21,7 +21,8 @@ pub record StatesLeaves (bytes : List ℕ) : Type 0 where
   pub whole : length words ≡ 4 * count
   pub spelled : bytes ≡ codes "T" ++ 1 ∷ (little_bytes 2 count ++ words)
 
--- the grammar of trees: 2 to 4096 leaves by ascending value, which cover every 24-bit hash once (a tree of one leaf has no object)
+-- the grammar of trees: 2 to 4096 leaves by ascending value, which cover every 24-bit hash once (a tree of one leaf has
+-- no object)
 pub record SpellsTree (bytes : List ℕ) (leaves : List Fragment) : Type 0 where
   pub tree : IsTree leaves
   pub several : 2 ≤ length leaves

@@ -1,5 +1,5 @@
--- What bytes say, as functions: the value that they spell, none where they spell none. Each reads the fields, and then asks whether
--- the value of these fields is spelled by these bytes.
+-- What bytes say, as functions: the value that they spell, none where they spell none. Each reads the fields, and then
+-- asks whether the value of these fields is spelled by these bytes.
 use Rattle.std.specs.Prelude.{ℕ, zero, suc, ◌-◌, ◌+◌, ◌*◌, ◌/◌, ◌%◌, ◌^◌, Bool, true, false, not, ◌&&◌, ◌||◌, ◌==◌, nat_lt, nat_le, if◌then◌else◌, List, [], ◌∷◌, length, take, drop, Option, Some, None}
 use Rattle.std.specs.Str.{bytes_eq}
 use Rattle.std.specs.List.{list_all}
@@ -21,7 +21,8 @@ use Rattle.dirfrag_codec.specs.Reading.{◌>>=◌, fields_at, has_widths, header
 
 -- the kind of a byte, with this target if it is a link
 abbrev pub kind_of : ℕ → List ℕ → Option Kind
-kind_of byte target = if byte == 1 then Some File else if byte == 2 then Some Dir else if byte == 3 then Some (Symlink target) else None
+kind_of byte target =
+    if byte == 1 then Some File else if byte == 2 then Some Dir else if byte == 3 then Some (Symlink target) else None
 
 -- whether the kind prescribes this size
 abbrev pub has_size : Kind → ℕ → Bool
@@ -46,7 +47,8 @@ has_pin (Symlink target) (Some rank) = false
 abbrev pub allows : Inode → Bool
 allows inode =
     (nat_le (2 ^ 40) inode.ino.0 && nat_lt inode.ino.0 (17 * 2 ^ 40))
-    && (nat_le inode.mode 4095 && (has_size inode.kind inode.size && (has_target inode.kind && has_pin inode.kind inode.pin)))
+    && (nat_le inode.mode 4095 && (has_size inode.kind inode.size
+    && (has_target inode.kind && has_pin inode.kind inode.pin)))
 
 -- whether the bytes are the record of the inode in a version
 abbrev pub is_record_v1 : List ℕ → Inode → Bool
@@ -82,7 +84,8 @@ written_of bytes = do
 
 -- whether the bytes spell the header
 abbrev pub is_header : List ℕ → FragHeader → Bool
-is_header bytes header = nat_le 1 header.version && (nat_lt header.version (2 ^ 64) && (nat_lt header.files (2 ^ 64) && (nat_lt header.dirs (2 ^ 64) && bytes_eq bytes (header_bytes header))))
+is_header bytes header = nat_le 1 header.version && (nat_lt header.version (2 ^ 64)
+    && (nat_lt header.files (2 ^ 64) && (nat_lt header.dirs (2 ^ 64) && bytes_eq bytes (header_bytes header))))
 
 -- the header that the bytes are
 unfoldable pub header_of : List ℕ → Option FragHeader
@@ -112,7 +115,9 @@ do_tile low high (f ∷ fs) = is_fragment f && ((f.value == low) && do_tile (low
 
 -- whether the bytes spell the tree of these leaves
 abbrev pub is_tree : List ℕ → List Fragment → Bool
-is_tree bytes leaves = (do_tile 0 (2 ^ 24) leaves && nat_le (length leaves) 4096) && (nat_le 2 (length leaves) && bytes_eq bytes (tree_bytes leaves))
+is_tree bytes leaves =
+    (do_tile 0 (2 ^ 24) leaves && nat_le (length leaves) 4096)
+    && (nat_le 2 (length leaves) && bytes_eq bytes (tree_bytes leaves))
 
 -- the leaves whose words the bytes begin with, be they a tree or not
 unfoldable pub all_leaves_at : List ℕ → Option (List Fragment)
@@ -130,7 +135,8 @@ tree_of bytes = do
 
 -- whether this is the name of an entry
 abbrev pub is_name : List ℕ → Bool
-is_name bytes = nat_lt 0 (length bytes) && (nat_le (length bytes) 255 && (list_all fits_name bytes && not (is_dots bytes)))
+is_name bytes =
+    nat_lt 0 (length bytes) && (nat_le (length bytes) 255 && (list_all fits_name bytes && not (is_dots bytes)))
 
 -- what stands before the last five bytes
 abbrev pub front_of : List ℕ → List ℕ

@@ -6,9 +6,9 @@ ghost use Rattle.dirfrag_codec.specs.Grammar.{HasOneMeaning, HasOneSpelling, IsR
 ghost use Rattle.dirfrag_codec.specs.TreeObject.{SpellsTree};
 ghost use Rattle.dirfrag_codec.specs.Values.{entry_of, header_of, name_of, tree_of, written_of};
 
-/// Bytes are the record of one inode alone, an inode's record is written in one way and read as that inode, and no record
-/// begins another. `entry_of` is the inode whose record bytes are, and `written_of` that whose written record they are. What
-/// version 1 can say has one spelling in each version, any other inode one in version 2.
+/// Bytes are the record of one inode alone, an inode's record is written in one way and read as that inode, and no
+/// record begins another. `entry_of` is the inode whose record bytes are, and `written_of` that whose written record
+/// they are. What version 1 can say has one spelling in each version, any other inode one in version 2.
 pub fn entries_are_spelled_once()
     ensures meaning { HasOneMeaning SpellsEntry }
     ensures spelling { HasOneSpelling WritesEntry }
@@ -43,8 +43,8 @@ pub fn keys_are_spelled_once()
     ensures value { Reads SpellsKey name_of }
 {}
 
-/// An object spells at most one fragment, at one commit version, and at most one fragment tree. The names that it spells
-/// are those that its pairs show (`names_of`): at each name the inode of the record under the name's key.
+/// An object spells at most one fragment, at one commit version, and at most one fragment tree. The names that it
+/// spells are those that its pairs show (`names_of`): at each name the inode of the record under the name's key.
 pub fn fragments_are_spelled_once()
     ensures fragment { HasOneFragment }
     ensures tree { HasOneTree }

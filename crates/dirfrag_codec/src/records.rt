@@ -51,8 +51,8 @@ pub fn encode_entry(alloc: Global, inode: &Inode) -> Result<Vec<u8>, AllocError>
     Ok(bytes)
 }
 
-/// The inode whose record these bytes are; none, where they are no record. Takes memory for a link's target alone, so there
-/// is an error for links' records alone.
+/// The inode whose record these bytes are; none, where they are no record. Takes memory for a link's target alone, so
+/// there is an error for links' records alone.
 pub fn decode_entry(alloc: Global, bytes: &[u8]) -> Result<Option<Inode>, AllocError>
     ensures spelled { IfOk result (Decodes SpellsEntry bytes.now) }
     ensures value { IfOk result (λ answer. answer ≡ entry_of bytes.now) }
@@ -64,8 +64,8 @@ pub fn decode_entry(alloc: Global, bytes: &[u8]) -> Result<Option<Inode>, AllocE
     }
 }
 
-/// The inode whose record these bytes are in the version that is written; none, where they are another version's or no record.
-/// Takes memory for a link's target alone.
+/// The inode whose record these bytes are in the version that is written; none, where they are another version's or no
+/// record. Takes memory for a link's target alone.
 pub fn decode_written(alloc: Global, bytes: &[u8]) -> Result<Option<Inode>, AllocError>
     ensures spelled { IfOk result (Decodes WritesEntry bytes.now) }
     ensures value { IfOk result (λ answer. answer ≡ written_of bytes.now) }

@@ -8,8 +8,10 @@ use Rattle.export_bytes.specs.Export.{SentName, rise}
 use Rattle.export_bytes.specs.Reading.{items_at}
 
 -- what follows so many items that rise after `last`
-abbrev pub after_rising : {A : Type 0} → (A → A → Bool) → (List ℕ → Option (A × List ℕ)) → Option A → ℕ → List ℕ → Option (List ℕ)
-after_rising is_before item_at last n bytes = items_at item_at n bytes >>= λ items. if rise is_before last items.0 then Some items.1 else None
+abbrev pub after_rising : {A : Type 0} → (A → A → Bool) → (List ℕ → Option (A × List ℕ)) → Option A → ℕ → List ℕ
+    → Option (List ℕ)
+after_rising is_before item_at last n bytes =
+    items_at item_at n bytes >>= λ items. if rise is_before last items.0 then Some items.1 else None
 
 -- whether an item comes after the last one, if there was one
 abbrev pub follows : {A : Type 0} → (A → A → Bool) → Option A → A → Bool

@@ -41,7 +41,8 @@ has_record (Some inode) = is_written (entry_bytes inode) inode
 abbrev pub is_sent_name : SentName → Bool
 is_sent_name sent = is_name sent.0 && has_record sent.1
 
--- whether a fragment that isn't clean has this base and so many dirty names: one whose object counts has a commit version of 1 at least, and some names
+-- whether a fragment that isn't clean has this base and so many dirty names: one whose object counts has a commit
+-- version of 1 at least, and some names
 abbrev pub is_base_of : Base → ℕ → Bool
 is_base_of Fresh count = true
 is_base_of (Stored version) count = nat_lt 0 version && (nat_lt version (2 ^ 64) && nat_lt 0 count)
@@ -49,13 +50,18 @@ is_base_of (Stored version) count = nat_lt 0 version && (nat_lt version (2 ^ 64)
 abbrev pub is_sent_frag : SentFrag → Bool
 is_sent_frag sent =
     (nat_lt sent.ino.0 (2 ^ 64) && is_fragment sent.frag) && (is_base_of sent.base (length sent.names)
-    && (nat_lt (length sent.names) (2 ^ 32) && (rise is_name_before None sent.names && list_all is_sent_name sent.names)))
+    && (nat_lt (length sent.names) (2 ^ 32)
+    && (rise is_name_before None sent.names && list_all is_sent_name sent.names)))
 
--- whether an export may hand this over: exporter and importer are two ranks of 16, the fragments rise, and each may be sent
+-- whether an export may hand this over: exporter and importer are two ranks of 16, the fragments rise, and each may be
+-- sent
 abbrev pub is_sendable : Export → Bool
 is_sendable export =
-    (nat_lt export.ino.0 (2 ^ 64) && is_fragment export.frag) && ((nat_lt export.exporter.0 16 && (nat_lt export.importer.0 16 && not (export.exporter.0 == export.importer.0)))
-    && (nat_lt (length export.frags) (2 ^ 32) && (rise is_frag_before None export.frags && list_all is_sent_frag export.frags)))
+    (nat_lt export.ino.0 (2 ^ 64) && is_fragment export.frag)
+    && ((nat_lt export.exporter.0 16
+    && (nat_lt export.importer.0 16 && not (export.exporter.0 == export.importer.0)))
+    && (nat_lt (length export.frags) (2 ^ 32)
+    && (rise is_frag_before None export.frags && list_all is_sent_frag export.frags)))
 
 -- ---- the bytes
 
@@ -75,11 +81,16 @@ base_bytes (Stored version) = 1 ∷ little_bytes 8 version
 
 -- the inode, the word, the base, the number of dirty names, and each of them
 abbrev pub frag_bytes : SentFrag → List ℕ
-frag_bytes sent = little_bytes 8 sent.ino.0 ++ (little_bytes 4 (word_of sent.frag) ++ (base_bytes sent.base ++ (little_bytes 4 (length sent.names) ++ flat_map name_bytes sent.names)))
+frag_bytes sent = little_bytes 8 sent.ino.0 ++ (little_bytes 4 (word_of sent.frag)
+    ++ (base_bytes sent.base ++ (little_bytes 4 (length sent.names) ++ flat_map name_bytes sent.names)))
 
--- the letter X, the version of the format, the root's inode and word, exporter and importer, the number of fragments, and each of them
+-- the letter X, the version of the format, the root's inode and word, exporter and importer, the number of fragments,
+-- and each of them
 abbrev pub export_bytes : Export → List ℕ
-export_bytes export = codes "X" ++ 2 ∷ (little_bytes 8 export.ino.0 ++ (little_bytes 4 (word_of export.frag) ++ (export.exporter.0 ∷ export.importer.0 ∷ (little_bytes 4 (length export.frags) ++ flat_map frag_bytes export.frags))))
+export_bytes export = codes "X" ++ 2 ∷ (little_bytes 8 export.ino.0
+    ++ (little_bytes 4 (word_of export.frag)
+    ++ (export.exporter.0 ∷ export.importer.0 ∷ (little_bytes 4 (length export.frags)
+    ++ flat_map frag_bytes export.frags))))
 
 -- the grammar of exports
 pub record SpellsExport (bytes : List ℕ) (export : Export) : Type 0 where

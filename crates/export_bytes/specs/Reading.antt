@@ -1,4 +1,5 @@
--- Reading an export from the front of bytes: each reader gives what stands there, if it may stand there, and the bytes after it.
+-- Reading an export from the front of bytes: each reader gives what stands there, if it may stand there, and the bytes
+-- after it.
 use Rattle.std.specs.Prelude.{◌≡◌, ℕ, zero, suc, Bool, not, ◌&&◌, ◌==◌, nat_lt, if◌then◌else◌, List, [], ◌∷◌, length, take, drop, Option, Some, None}
 use Rattle.std.specs.Str.{bytes_eq}
 use Rattle.mds_types.specs.Frag.{Fragment}
@@ -28,7 +29,9 @@ frag_of word = if is_fragment (fragment_of word) then Some (fragment_of word) el
 
 -- the base of a byte and a commit version
 abbrev pub base_of : ℕ → ℕ → Option Base
-base_of byte version = if (byte == 0) && (version == 0) then Some Fresh else if (byte == 1) && nat_lt 0 version then Some (Stored version) else None
+base_of byte version =
+    if (byte == 0) && (version == 0) then Some Fresh else if (byte == 1)
+    && nat_lt 0 version then Some (Stored version) else None
 
 -- what stands before the names of a fragment
 pub record Head : Type 0 where
@@ -46,7 +49,16 @@ head_at bytes = do
   version ← number_at 8 byte.1
   base ← base_of byte.0 version.0
   count ← number_at 4 version.1
-  if is_base_of base count.0 then Some (record { ino = ino.0; frag = frag; base = base; count = count.0 }, count.1) else None
+  if is_base_of base count.0 then Some (
+    record {
+      ino =
+          ino.0;
+      frag = frag;
+      base = base;
+      count = count.0;
+    },
+    count.1,
+  ) else None
 
 -- a name behind its length
 unfoldable pub name_at : List ℕ → Option (List ℕ × List ℕ)
@@ -78,14 +90,24 @@ sent_name_at bytes = do
 -- so many items, one after another
 abbrev pub items_at : {A : Type 0} → (List ℕ → Option (A × List ℕ)) → ℕ → List ℕ → Option (List A × List ℕ)
 items_at item_at zero bytes = Some ([], bytes)
-items_at item_at (suc n) bytes = item_at bytes >>= λ first. items_at item_at n first.1 >>= λ more. Some (first.0 ∷ more.0, more.1)
+items_at item_at (suc n) bytes =
+    item_at bytes >>= λ first. items_at item_at n first.1 >>= λ more. Some (first.0 ∷ more.0, more.1)
 
 -- a fragment with its names, which rise
 unfoldable pub sent_frag_at : List ℕ → Option (SentFrag × List ℕ)
 sent_frag_at bytes = do
   head ← head_at bytes
   names ← items_at sent_name_at head.0.count head.1
-  if rise is_name_before None names.0 then Some (record { ino = record { 0 = head.0.ino }; frag = head.0.frag; base = head.0.base; names = names.0 }, names.1) else None
+  if rise is_name_before None names.0 then Some (
+    record {
+      ino =
+          record { 0 = head.0.ino };
+      frag = head.0.frag;
+      base = head.0.base;
+      names = names.0;
+    },
+    names.1,
+  ) else None
 
 -- what stands before the fragments of an export
 pub record Front : Type 0 where
@@ -104,14 +126,32 @@ front_at bytes = do
   exporter ← byte_at word.1
   importer ← byte_at exporter.1
   count ← number_at 4 importer.1
-  if nat_lt exporter.0 16 && (nat_lt importer.0 16 && not (exporter.0 == importer.0)) then Some (record { ino = ino.0; frag = frag; exporter = exporter.0; importer = importer.0; count = count.0 }, count.1) else None
+  if nat_lt exporter.0 16 && (nat_lt importer.0 16 && not (exporter.0 == importer.0)) then Some (
+    record {
+      ino =
+          ino.0;
+      frag = frag;
+      exporter = exporter.0;
+      importer = importer.0;
+      count = count.0;
+    },
+    count.1,
+  ) else None
 
 -- the export that the bytes are, by its parts: the fragments rise, and nothing follows
 unfoldable pub parts_at : List ℕ → Option Export
 parts_at bytes = do
   front ← front_at bytes
   frags ← items_at sent_frag_at front.0.count front.1
-  if rise is_frag_before None frags.0 && (length frags.1 == 0) then Some (record { ino = record { 0 = front.0.ino }; frag = front.0.frag; exporter = record { 0 = front.0.exporter }; importer = record { 0 = front.0.importer }; frags = frags.0 }) else None
+  if rise is_frag_before None frags.0 && (length frags.1 == 0) then Some (record {
+    ino =
+        record { 0 = front.0.ino };
+    frag = front.0.frag;
+    exporter = record { 0 = front.0.exporter };
+    importer =
+        record { 0 = front.0.importer };
+    frags = frags.0;
+  }) else None
 
 -- whether the bytes spell the export
 abbrev pub is_export : List ℕ → Export → Bool

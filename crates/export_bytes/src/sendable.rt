@@ -11,9 +11,9 @@ use cached_frag::Base;
 use dirfrag_codec::{has_widths, is_recordable};
 use mds_types::{Frag, Ino, Inode, Name, Rank};
 
-/// Whether an export may be encoded: exporter and importer are two ranks of 16, and the fragments rise by inode and value, each
-/// with dirty names that rise and whose inodes a record allows. A fragment whose object counts has a commit version of 1 at
-/// least, and some dirty names. Takes no memory.
+/// Whether an export may be encoded: exporter and importer are two ranks of 16, and the fragments rise by inode and
+/// value, each with dirty names that rise and whose inodes a record allows. A fragment whose object counts has a commit
+/// version of 1 at least, and some dirty names. Takes no memory.
 pub fn is_sendable(export: &Export) -> bool
     ensures { result ≡ is_sendable export.now }
 {

@@ -1,4 +1,5 @@
--- What a rank caches of the region of a subtree root (Weil et al., OSDI 2006), and what an export of it hands over (this project's own profile).
+-- What a rank caches of the region of a subtree root (Weil et al., OSDI 2006), and what an export of it hands over
+-- (this project's own profile).
 use Rattle.std.specs.Prelude.{◌≡◌, ◌⊎◌, ℕ, ◌≤◌, ◌^◌, Bool, true, cond, List, [], ◌∷◌, ◌++◌, map as list_map, Option, Some}
 use Rattle.std.specs.Option.{option_map}
 use Rattle.std.specs.FinMap as map
@@ -70,8 +71,10 @@ pub record AreSent (In : Leaf → Type 0) (unclean : UncleanLeaves) (sent : map.
 abbrev pub values : {X : Type 0} → map.FinMap leaf_cmp X → List X
 values m = list_map (λ e. e.1) (map.entries m)
 
--- an export of the region of a root, by the rank that the root is at to another: what isn't clean of the region, by inode and then by value
-pub record IsExportOf (In : Leaf → Type 0) (unclean : UncleanLeaves) (root : Dirfrag) (to : Rank) (export : Export) : Type 0 where
+-- an export of the region of a root, by the rank that the root is at to another: what isn't clean of the region, by
+-- inode and then by value
+pub record IsExportOf (In : Leaf → Type 0) (unclean : UncleanLeaves) (root : Dirfrag) (to : Rank)
+    (export : Export) : Type 0 where
   pub ino : export.ino ≡ root.dir
   pub frag : export.frag ≡ root.frag
   pub exporter : export.exporter ≡ root.rank
@@ -91,5 +94,7 @@ pub record HasTooMany (In : Leaf → Type 0) (unclean : UncleanLeaves) : Type 0 
 -- one export alone is that of a region
 abbrev pub HasOneExport : Type 0
 HasOneExport =
-    (roots : Roots) (homes : Homes) (covers : Covers) (unclean : UncleanLeaves) (root : Dirfrag) (to : Rank) (a b : Export)
-    → IsExportOf (IsIn roots homes covers (leaf_of root)) unclean root to a → IsExportOf (IsIn roots homes covers (leaf_of root)) unclean root to b → a ≡ b
+    (roots : Roots) (homes : Homes) (covers : Covers) (unclean : UncleanLeaves) (root : Dirfrag) (to : Rank)
+    (a b : Export)
+    → IsExportOf (IsIn roots homes covers (leaf_of root)) unclean root to a
+    → IsExportOf (IsIn roots homes covers (leaf_of root)) unclean root to b → a ≡ b

@@ -74,7 +74,8 @@ abbrev pub AreSendable : map.FinMap leaf_cmp SentFrag → Type 0
 AreSendable m = (leaf : Leaf) (frag : SentFrag) → map.get m leaf ≡ Some frag → is_sent_frag frag ≡ true
 
 -- an export of a root's region by its rank to another, of these leaves
-pub record IsExportFrom (c : CacheMap) (leaves : List Leaf) (root : Dirfrag) (to : Rank) (export : Export) : Type 0 where
+pub record IsExportFrom (c : CacheMap) (leaves : List Leaf) (root : Dirfrag) (to : Rank)
+    (export : Export) : Type 0 where
   pub ino : export.ino ≡ root.dir
   pub frag : export.frag ≡ root.frag
   pub exporter : export.exporter ≡ root.rank

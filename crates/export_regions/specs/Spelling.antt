@@ -9,8 +9,8 @@ use Rattle.export_bytes.specs.Export.{SpellsExport}
 use Rattle.export_regions.specs.declared.spelling.Spelled.{Spelled}
 use Rattle.export_regions.specs.Regions.{AreCachedOf, IsExportOf}
 
--- the leaves of a region as its root's rank caches it, and the bytes that spell what an export of it to another rank hands over: a fragment for
--- each leaf that isn't clean
+-- the leaves of a region as its root's rank caches it, and the bytes that spell what an export of it to another rank
+-- hands over: a fragment for each leaf that isn't clean
 pub record IsSpelled (In : Leaf → Type 0) (c : CacheMap) (root : Dirfrag) (to : Rank) (spelled : Spelled) : Type 0 where
   pub export : Export
   pub spells : SpellsExport spelled.bytes.items export

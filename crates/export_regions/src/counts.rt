@@ -14,8 +14,8 @@ use inode_table::Dirs;
 use mds_types::Dirfrag;
 use subtree_map::Subtrees;
 
-/// Whether a fragment of the region of a root has more dirty names than can be sent. Takes no memory; each place of the root's
-/// rank is looked at, and a way up is gone only where a fragment has so many.
+/// Whether a fragment of the region of a root has more dirty names than can be sent. Takes no memory; each place of the
+/// root's rank is looked at, and a way up is gone only where a fragment has so many.
 pub fn has_too_many(caches: &Caches, subtrees: &Subtrees, dirs: &Dirs, root: Dirfrag) -> bool
     requires there { root.rank.0 < length caches.now.used }
     requires held { AreAtTheirRank (IsIn subtrees.now.roots dirs.now.homes dirs.now.trees (leaf_of root)) caches.now root.rank.0 }

@@ -19,8 +19,8 @@ use mds_types::{Dirfrag, Frag, Ino, Inode, Name, Rank};
 use sorted_map::SortedMap;
 use std::alloc::{AllocError, Global};
 
-/// The fragments of these leaves at a rank, as they are sent: by inode and then by value. Takes memory for them, with a copy of
-/// each dirty name.
+/// The fragments of these leaves at a rank, as they are sent: by inode and then by value. Takes memory for them, with a
+/// copy of each dirty name.
 pub(crate) fn sent_frags(
     alloc: Global,
     caches: &Caches,

@@ -6,8 +6,8 @@ use mds_types::{Frag, Ino};
 use std::alloc::{AllocError, Global};
 use std::marker::Model;
 
-/// The leaves of a region that a rank caches: those whose fragments aren't clean, and those whose fragments are, of each the most
-/// recently used first. Seen by its contents, never by its capacity.
+/// The leaves of a region that a rank caches: those whose fragments aren't clean, and those whose fragments are, of
+/// each the most recently used first. Seen by its contents, never by its capacity.
 #[derive(Debug, Drop)]
 pub struct RegionLeaves {
     unclean: Vec<(Ino, Frag)>,

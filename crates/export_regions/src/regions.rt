@@ -12,8 +12,8 @@ use mds_types::{Dirfrag, Frag, Ino};
 use std::alloc::{AllocError, Global};
 use subtree_map::Subtrees;
 
-/// The leaves of the region of a root that a rank caches. Takes memory for the list; each place of the rank is looked at, and
-/// where a fragment is in it the way up from its leaf is gone once.
+/// The leaves of the region of a root that a rank caches. Takes memory for the list; each place of the rank is looked
+/// at, and where a fragment is in it the way up from its leaf is gone once.
 pub fn leaves_of(
     alloc: Global,
     caches: &Caches,
@@ -39,8 +39,8 @@ pub fn leaves_of(
     Ok(leaves)
 }
 
-/// Whether a leaf is in the region of a root. Takes no memory, and a look-up and a hash for each directory on the way up to the
-/// leaf's nearest root.
+/// Whether a leaf is in the region of a root. Takes no memory, and a look-up and a hash for each directory on the way
+/// up to the leaf's nearest root.
 pub(crate) fn is_in_region(
     subtrees: &Subtrees,
     dirs: &Dirs,

@@ -17,8 +17,9 @@ use mds_types::{Dirfrag, Rank, Refusal};
 use std::alloc::{AllocError, Global};
 use subtree_map::Subtrees;
 
-/// What an export of the region of a root hands over from the root's rank to another: each fragment of the region that isn't
-/// clean, with its dirty names. It can be sent. Takes memory for the leaves of the region, and for a copy of the dirty names.
+/// What an export of the region of a root hands over from the root's rank to another: each fragment of the region that
+/// isn't clean, with its dirty names. It can be sent. Takes memory for the leaves of the region, and for a copy of the
+/// dirty names.
 ///
 /// Refused `TooManyFrags` where one of the fragments has more than 2^32 - 1 dirty names, and `NoMemory` where none has.
 pub fn export_of(
@@ -47,8 +48,8 @@ pub fn export_of(
 }
 
 impl RegionLeaves {
-    /// What an export of these leaves of the region of a root hands over from the root's rank to another. It can be sent. Takes
-    /// memory for a copy of the dirty names.
+    /// What an export of these leaves of the region of a root hands over from the root's rank to another. It can be
+    /// sent. Takes memory for a copy of the dirty names.
     pub fn export(
         &self,
         alloc: Global,

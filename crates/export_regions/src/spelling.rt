@@ -23,9 +23,10 @@ pub struct Spelled {
     pub bytes: Vec<u8>,
 }
 
-/// The leaves of the region of a root that its rank caches, and the bytes that an export of it to another rank sends: they spell
-/// each fragment of the region that isn't clean, and no other. Nothing exactly where a fragment of it has more than 2^32 - 1 dirty
-/// names, so that it can't be sent. Takes memory for the leaves, for a copy of the dirty names, and for the bytes.
+/// The leaves of the region of a root that its rank caches, and the bytes that an export of it to another rank sends:
+/// they spell each fragment of the region that isn't clean, and no other. Nothing exactly where a fragment of it has
+/// more than 2^32 - 1 dirty names, so that it can't be sent. Takes memory for the leaves, for a copy of the dirty
+/// names, and for the bytes.
 pub fn spell_region(
     alloc: Global,
     caches: &Caches,

@@ -16,16 +16,20 @@ IsBehind None root = Unit {0}
 IsBehind (Some one) root = leaf_cmp one root ≡ Less
 
 -- the first export of a rank behind a root, in the order of roots
-pub record IsFirstOf (standing : Standing) (rank : Rank) (after : Option Leaf) (root : Leaf) (export : StandingExport) : Type 0 where
+pub record IsFirstOf (standing : Standing) (rank : Rank) (after : Option Leaf) (root : Leaf)
+    (export : StandingExport) : Type 0 where
   pub stands : map.get standing root ≡ Some export
   pub exporter : export.exporter ≡ rank
   pub behind : IsBehind after root
-  pub least : (other : Leaf) (another : StandingExport) → map.get standing other ≡ Some another → another.exporter ≡ rank → IsBehind after other → (other ≡ root) ⊎ (leaf_cmp root other ≡ Less)
+  pub least : (other : Leaf) (another : StandingExport) → map.get standing other ≡ Some another
+      → another.exporter ≡ rank → IsBehind after other → (other ≡ root) ⊎ (leaf_cmp root other ≡ Less)
 
 -- that export, or there is none
 abbrev pub IsNextOf : Standing → Rank → Option Leaf → Option (Leaf × StandingExport) → Type 0
 IsNextOf standing rank after (Some found) = IsFirstOf standing rank after found.0 found.1
-IsNextOf standing rank after None = (root : Leaf) (export : StandingExport) → map.get standing root ≡ Some export → export.exporter ≡ rank → IsBehind after root → ⊥
+IsNextOf standing rank after None =
+    (root : Leaf) (export : StandingExport) → map.get standing root ≡ Some export → export.exporter ≡ rank
+    → IsBehind after root → ⊥
 
 -- ---- how they are kept. Only this crate's own contracts use these words
 
@@ -59,10 +63,13 @@ first_of (pair ∷ pairs) = Some pair.0
 abbrev pub IsFirstKey : RootsBy → (ℕ × Leaf → Bool) → Option (ℕ × Leaf) → Type 0
 IsFirstKey by passes None = (key : ℕ × Leaf) → passes key ≡ true → map.get by key ≡ None
 IsFirstKey by passes (Some first) =
-    (passes first ≡ true) × IsSome (map.get by first) × ((key : ℕ × Leaf) → passes key ≡ true → IsSome (map.get by key) → (key ≡ first) ⊎ (by_cmp first key ≡ Less))
+    (passes first ≡ true) × IsSome (map.get by first)
+    × ((key : ℕ × Leaf) → passes key ≡ true → IsSome (map.get by key) → (key ≡ first) ⊎ (by_cmp first key ≡ Less))
 
 -- the first root of a rank behind another
 abbrev pub IsNextRoot : RootsBy → ℕ → Option Leaf → Option Leaf → Type 0
 IsNextRoot by rank after (Some root) =
-    IsSome (map.get by (rank, root)) × IsBehind after root × ((other : Leaf) → IsSome (map.get by (rank, other)) → IsBehind after other → (other ≡ root) ⊎ (leaf_cmp root other ≡ Less))
+    IsSome (map.get by (rank, root)) × IsBehind after root
+    × ((other : Leaf) → IsSome (map.get by (rank, other)) → IsBehind after other → (other ≡ root)
+    ⊎ (leaf_cmp root other ≡ Less))
 IsNextRoot by rank after None = (root : Leaf) → IsSome (map.get by (rank, root)) → IsBehind after root → ⊥

@@ -26,13 +26,15 @@ is_imported Prepared = false
 is_imported Sent = false
 is_imported Imported = true
 
--- the rank that holds the region of a root, by the root's export, if one stands, and the root's rank: the importer where it is imported, otherwise the authority
+-- the rank that holds the region of a root, by the root's export, if one stands, and the root's rank: the importer
+-- where it is imported, otherwise the authority
 abbrev pub region_holder : Option StandingExport → Option Rank → Option Rank
 region_holder None rank = rank
 region_holder (Some export) rank = cond (is_imported export.state) (Some export.importer) rank
 
 -- the holder of a leaf: the rank that holds the region of its nearest root
-pub record HasHolder (standing : Standing) (roots : Roots) (homes : Homes) (covers : Covers) (leaf : Leaf) (rank : Rank) : Type 0 where
+pub record HasHolder (standing : Standing) (roots : Roots) (homes : Homes) (covers : Covers) (leaf : Leaf)
+    (rank : Rank) : Type 0 where
   pub root : Leaf
   pub nearest : NearestRoot roots homes covers leaf root
   pub holds : region_holder (map.get standing root) (map.get roots root) ≡ Some rank

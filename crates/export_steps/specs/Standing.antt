@@ -62,19 +62,29 @@ pub record ComesTo (old new : Standing) (root : Leaf) (from to : ExportState) : 
   pub was : export.state ≡ from
   pub changed : new ≡ map.insert old root (come_to to export)
 
--- a step takes the export of a root from one state to the next; where none stands in that state it is refused, and nothing changes
+-- a step takes the export of a root from one state to the next; where none stands in that state it is refused, and
+-- nothing changes
 abbrev pub Steps : Standing → Standing → Leaf → ExportState → ExportState → Result (Unit {0}) Refusal → Type 0
 Steps old new root from to (Ok done) = ComesTo old new root from to
 Steps old new root from to (Err reason) = (reason ≡ WrongExportState) × (state_at old root ≢ Some from) × (new ≡ old)
 
 -- Start: no export of the root stood, and one does now, from exporter to importer
 abbrev pub IsStart : Standing → Standing → Leaf → Rank → Rank → Type 0
-IsStart old new root exporter importer = (map.get old root ≡ None) × (new ≡ map.insert old root (record { exporter = exporter; importer = importer; state = Started }))
+IsStart old new root exporter importer =
+    (map.get old root ≡ None) × (new ≡ map.insert old root (record {
+      exporter = exporter;
+      importer = importer;
+      state =
+          Started;
+    }))
 
--- Start records exporter and importer; it is refused where an export of the root stands, or else for want of memory, and nothing changes
+-- Start records exporter and importer; it is refused where an export of the root stands, or else for want of memory,
+-- and nothing changes
 abbrev pub Starts : Standing → Standing → Leaf → Rank → Rank → Result (Unit {0}) Refusal → Type 0
 Starts old new root exporter importer (Ok done) = IsStart old new root exporter importer
-Starts old new root exporter importer (Err reason) = (((reason ≡ WrongExportState) × IsSome (map.get old root)) ⊎ ((reason ≡ NoMemory) × (map.get old root ≡ None))) × (new ≡ old)
+Starts old new root exporter importer (Err reason) =
+    (((reason ≡ WrongExportState) × IsSome (map.get old root)) ⊎ ((reason ≡ NoMemory) × (map.get old root ≡ None)))
+    × (new ≡ old)
 
 -- the roots and the promises of a map of subtrees stay; its room may grow
 pub record AreKept (old new : Subtrees) : Type 0 where
@@ -89,7 +99,9 @@ pub record IsFreeze (old new : Standing) (was now : Subtrees) (root : Leaf) : Ty
 
 abbrev pub Freezes : Standing → Standing → Subtrees → Subtrees → Leaf → Result (Unit {0}) Refusal → Type 0
 Freezes old new was now root (Ok done) = IsFreeze old new was now root
-Freezes old new was now root (Err reason) = (((reason ≡ WrongExportState) × (state_at old root ≢ Some Started)) ⊎ ((reason ≡ NoMemory) × (state_at old root ≡ Some Started))) × (new ≡ old) × AreKept was now
+Freezes old new was now root (Err reason) =
+    (((reason ≡ WrongExportState) × (state_at old root ≢ Some Started))
+    ⊎ ((reason ≡ NoMemory) × (state_at old root ≡ Some Started))) × (new ≡ old) × AreKept was now
 
 -- Prep: the export goes from frozen to prepared, and its root is promised to the importer
 pub record IsPrep (old new : Standing) (was now : Subtrees) (root : Leaf) : Type 0 where
@@ -99,7 +111,9 @@ pub record IsPrep (old new : Standing) (was now : Subtrees) (root : Leaf) : Type
 
 abbrev pub Preps : Standing → Standing → Subtrees → Subtrees → Leaf → Result (Unit {0}) Refusal → Type 0
 Preps old new was now root (Ok done) = IsPrep old new was now root
-Preps old new was now root (Err reason) = (((reason ≡ WrongExportState) × (state_at old root ≢ Some Frozen)) ⊎ ((reason ≡ NoMemory) × (state_at old root ≡ Some Frozen))) × (new ≡ old) × AreKept was now
+Preps old new was now root (Err reason) =
+    (((reason ≡ WrongExportState) × (state_at old root ≢ Some Frozen))
+    ⊎ ((reason ≡ NoMemory) × (state_at old root ≡ Some Frozen))) × (new ≡ old) × AreKept was now
 
 -- Finish: an imported export ends, and its root is a subtree root of the importer, promised to no one
 pub record IsFinish (old new : Standing) (was now : Subtrees) (root : Leaf) : Type 0 where
@@ -112,7 +126,8 @@ pub record IsFinish (old new : Standing) (was now : Subtrees) (root : Leaf) : Ty
 
 abbrev pub Finishes : Standing → Standing → Subtrees → Subtrees → Leaf → Result (Unit {0}) Refusal → Type 0
 Finishes old new was now root (Ok done) = IsFinish old new was now root
-Finishes old new was now root (Err reason) = (reason ≡ WrongExportState) × (state_at old root ≢ Some Imported) × (new ≡ old) × (now ≡ was)
+Finishes old new was now root (Err reason) =
+    (reason ≡ WrongExportState) × (state_at old root ≢ Some Imported) × (new ≡ old) × (now ≡ was)
 
 -- Cancel: an export that isn't sent yet ends, and its root is promised to no one; a subtree root stays one
 pub record IsCancel (old new : Standing) (was now : Subtrees) (root : Leaf) : Type 0 where
@@ -125,10 +140,14 @@ pub record IsCancel (old new : Standing) (was now : Subtrees) (root : Leaf) : Ty
 
 abbrev pub Cancels : Standing → Standing → Subtrees → Subtrees → Leaf → Result (Unit {0}) Refusal → Type 0
 Cancels old new was now root (Ok done) = IsCancel old new was now root
-Cancels old new was now root (Err reason) = (reason ≡ WrongExportState) × ((export : StandingExport) → map.get old root ≡ Some export → is_before_send export.state ≡ false) × (new ≡ old) × (now ≡ was)
+Cancels old new was now root (Err reason) =
+    (reason ≡ WrongExportState) × ((export : StandingExport) → map.get old root ≡ Some export
+    → is_before_send export.state ≡ false) × (new ≡ old) × (now ≡ was)
 
--- what Finish changes has its place: the root of each export that is frozen to imported is a subtree root of the exporter, and promised to the
--- importer once that is prepared
+-- what Finish changes has its place: the root of each export that is frozen to imported is a subtree root of the
+-- exporter, and promised to the importer once that is prepared
 pub record ArePlaced (standing : Standing) (subtrees : Subtrees) : Type 0 where
-  pub ranked : (root : Leaf) (export : StandingExport) → map.get standing root ≡ Some export → is_freezing export.state ≡ true → map.get subtrees.roots root ≡ Some export.exporter
-  pub promised : (root : Leaf) (export : StandingExport) → map.get standing root ≡ Some export → is_prepared export.state ≡ true → map.get subtrees.promises root ≡ Some export.importer
+  pub ranked : (root : Leaf) (export : StandingExport) → map.get standing root ≡ Some export
+      → is_freezing export.state ≡ true → map.get subtrees.roots root ≡ Some export.exporter
+  pub promised : (root : Leaf) (export : StandingExport) → map.get standing root ≡ Some export
+      → is_prepared export.state ≡ true → map.get subtrees.promises root ≡ Some export.importer

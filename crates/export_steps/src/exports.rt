@@ -38,7 +38,8 @@ pub struct StandingExport {
     pub state: ExportState,
 }
 
-/// The exports that stand, each under the root of its region: at most one for a root. Each goes from one of 16 ranks to another.
+/// The exports that stand, each under the root of its region: at most one for a root. Each goes from one of 16 ranks to
+/// another.
 #[derive(Debug, Drop)]
 pub struct Exports {
     pub(crate) rows: SortedMap<(Ino, Frag), StandingExport>,
@@ -90,8 +91,8 @@ impl Exports {
         self.rows.get(&(dir, frag)).copied()
     }
 
-    /// The i-th standing export, counted from 0, with its root: they are ordered by the root's inode, value and bits. Takes no
-    /// memory, and passes over those before it.
+    /// The i-th standing export, counted from 0, with its root: they are ordered by the root's inode, value and bits.
+    /// Takes no memory, and passes over those before it.
     pub fn standing(&self, index: usize) -> Option<((Ino, Frag), StandingExport)>
         ensures { result ≡ slice_get (map.entries self.now) index }
     {

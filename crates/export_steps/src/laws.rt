@@ -18,8 +18,8 @@ pub fn each_leaf_has_one_holder()
     ensures one { (standing : Standing) (roots : Roots) (homes : Homes) (covers : Covers) (leaf : Leaf) (a b : Rank) → HasHolder standing roots homes covers leaf a → HasHolder standing roots homes covers leaf b → a ≡ b }
 {}
 
-/// A region is frozen exactly as its root is: all of its leaves, or none. So is, before a Freeze, the region that its root
-/// will have.
+/// A region is frozen exactly as its root is: all of its leaves, or none. So is, before a Freeze, the region that its
+/// root will have.
 pub fn a_region_is_frozen_as_its_root_is()
     ensures stands { (standing : Standing) (roots : Roots) (homes : Homes) (covers : Covers) (root leaf : Leaf) → IsInRegion roots homes covers root leaf → IsFrozen standing roots homes covers leaf ↔ IsFrozen standing roots homes covers root }
     ensures comes { (old new : Standing) (was now : SubtreesSeen) (root : Leaf) → IsFreeze old new was now root → (homes : Homes) (covers : Covers) (leaf : Leaf) → IsInRegion now.roots homes covers root leaf → IsFrozen old was.roots homes covers leaf ↔ IsFrozen old was.roots homes covers root }
@@ -50,7 +50,8 @@ pub fn removals_elsewhere_keep_frozen_regions()
     ensures { (standing : Standing) (was now : SubtreesSeen) (homes later_homes : Homes) (covers later_covers : Covers) → StandsOver standing was homes covers → IsRemovalElsewhere standing was now homes later_homes covers later_covers → AreFrozenRegionsKept standing was now homes later_homes covers later_covers }
 {}
 
-/// Freeze of a leaf that isn't frozen leaves each region that was frozen before as it is: two exports stand side by side.
+/// Freeze of a leaf that isn't frozen leaves each region that was frozen before as it is: two exports stand side by
+/// side.
 pub fn freezes_elsewhere_keep_frozen_regions()
     ensures { (old new : Standing) (was now : SubtreesSeen) (root : Leaf) → IsFreeze old new was now root → ArePlaced old was → (homes : Homes) (covers : Covers) → (IsFrozen old was.roots homes covers root → ⊥) → AreFrozenRegionsKept old was now homes homes covers covers }
 {}
@@ -60,15 +61,15 @@ pub fn finishes_elsewhere_keep_frozen_regions()
     ensures { (old new : Standing) (was now : SubtreesSeen) (root : Leaf) → IsFinish old new was now root → ArePlaced old was → (homes : Homes) (covers : Covers) → AreFrozenRegionsKept new was now homes homes covers covers }
 {}
 
-/// Start leaves every leaf its holder and its authority, since the roots stay, and no other leaf is frozen. What Finish changes
-/// keeps its place.
+/// Start leaves every leaf its holder and its authority, since the roots stay, and no other leaf is frozen. What Finish
+/// changes keeps its place.
 pub fn start_keeps_holders()
     ensures kept { (old new : Standing) (root : Leaf) (exporter importer : Rank) → IsStart old new root exporter importer → (roots : Roots) (homes : Homes) (covers : Covers) → StepsSoundly old new roots homes covers }
     ensures placed { (old new : Standing) (root : Leaf) (exporter importer : Rank) → IsStart old new root exporter importer → (subtrees : SubtreesSeen) → ArePlaced old subtrees → ArePlaced new subtrees }
 {}
 
-/// Freeze of a leaf whose authority is the exporter, and which isn't frozen: its region freezes, and every leaf keeps its holder
-/// and its authority.
+/// Freeze of a leaf whose authority is the exporter, and which isn't frozen: its region freezes, and every leaf keeps
+/// its holder and its authority.
 pub fn freeze_keeps_holders()
     ensures { (old new : Standing) (was now : SubtreesSeen) (root : Leaf) (is : IsFreeze old new was now root) (homes : Homes) (covers : Covers) → (IsFrozen old was.roots homes covers root → ⊥) → HasAuthority was.roots homes covers root is.step.export.exporter → FreezesSoundly old new was.roots now.roots homes covers root }
 {}
@@ -100,13 +101,15 @@ pub fn cancel_keeps_holders()
     ensures { (old new : Standing) (was now : SubtreesSeen) (root : Leaf) → IsCancel old new was now root → (homes : Homes) (covers : Covers) → CancelsSoundly old new was.roots homes covers root }
 {}
 
-/// The holder of a leaf is its authority among the roots with the ranks that hold their regions. These are subtrees as the roots are.
+/// The holder of a leaf is its authority among the roots with the ranks that hold their regions. These are subtrees as
+/// the roots are.
 pub fn holders_are_authorities()
     ensures same { (standing : Standing) (roots : Roots) (homes : Homes) (covers : Covers) (leaf : Leaf) (rank : Rank) → HasHolder standing roots homes covers leaf rank ↔ HasAuthority (holding standing roots) homes covers leaf rank }
     ensures valid { (standing : Standing) (roots : Roots) (homes : Homes) (covers : Covers) → IsSubtrees roots homes covers ↔ IsSubtrees (holding standing roots) homes covers }
 {}
 
-/// Where each frozen region has the leaves that it had, and each leaf that stays its authority, each such leaf has its holder, and is frozen as it was.
+/// Where each frozen region has the leaves that it had, and each leaf that stays its authority, each such leaf has its
+/// holder, and is frozen as it was.
 pub fn regions_and_authorities_keep_holders()
     ensures holders { (standing : Standing) (was now : SubtreesSeen) (homes later_homes : Homes) (covers later_covers : Covers) → AreFrozenRegionsKept standing was now homes later_homes covers later_covers
         → ((leaf : Leaf) (rank : Rank) → IsLive homes covers leaf → IsLive later_homes later_covers leaf → HasAuthority was.roots homes covers leaf rank → HasAuthority now.roots later_homes later_covers leaf rank)
@@ -115,8 +118,8 @@ pub fn regions_and_authorities_keep_holders()
         → (leaf : Leaf) → IsLive homes covers leaf → IsLive later_homes later_covers leaf → IsFrozen standing was.roots homes covers leaf ↔ IsFrozen standing now.roots later_homes later_covers leaf }
 {}
 
-/// What a step before Finish makes of the roots with the ranks that hold their regions: Freeze puts its root there with the exporter,
-/// Import gives it to the importer, and the others change nothing.
+/// What a step before Finish makes of the roots with the ranks that hold their regions: Freeze puts its root there with
+/// the exporter, Import gives it to the importer, and the others change nothing.
 pub fn steps_and_holding()
     ensures start { (old new : Standing) (root : Leaf) (exporter importer : Rank) → IsStart old new root exporter importer → (roots : Roots) → holding new roots ≡ holding old roots }
     ensures freeze { (old new : Standing) (was now : SubtreesSeen) (root : Leaf) (is : IsFreeze old new was now root) → holding new now.roots ≡ map.insert (holding old was.roots) root is.step.export.exporter }

@@ -12,8 +12,8 @@ use mds_types::{Frag, Ino, Rank};
 use subtree_map::Subtrees;
 
 impl Exports {
-    /// Whether a leaf is frozen: the export of its nearest root is frozen, prepared, sent or imported. Takes no memory, and
-    /// asks for that root alone; where no export stands, for nothing.
+    /// Whether a leaf is frozen: the export of its nearest root is frozen, prepared, sent or imported. Takes no memory,
+    /// and asks for that root alone; where no export stands, for nothing.
     pub fn is_frozen(&self, subtrees: &Subtrees, dirs: &Dirs, dir: Ino, frag: Frag) -> bool
         ensures { IsTrue result ↔ IsFrozen self.now subtrees.now.roots dirs.now.homes dirs.now.trees (dir, frag) }
     {
@@ -29,8 +29,8 @@ impl Exports {
         }
     }
 
-    /// The holder of a leaf: the importer where the export of its nearest root is imported, otherwise the leaf's authority.
-    /// Takes no memory, and asks for that root alone.
+    /// The holder of a leaf: the importer where the export of its nearest root is imported, otherwise the leaf's
+    /// authority. Takes no memory, and asks for that root alone.
     pub fn holder(&self, subtrees: &Subtrees, dirs: &Dirs, dir: Ino, frag: Frag) -> Rank
         requires leaf { IsLive dirs.now.homes dirs.now.trees (dir, frag) }
         requires valid { IsSubtrees subtrees.now.roots dirs.now.homes dirs.now.trees }

@@ -72,9 +72,8 @@ impl Exports {
 
     /// Freeze: makes the root of a started export a subtree root of the exporter. From now on its region is frozen.
     ///
-    /// # Errors
-    /// `WrongExportState` where no started export of this root stands, `NoMemory`; then all is left as it was, though the
-    /// subtrees may have more room.
+    /// # Errors `WrongExportState` where no started export of this root stands, `NoMemory`; then all is left as it was,
+    /// though the subtrees may have more room.
     pub fn freeze(&mut self, subtrees: &mut Subtrees, dir: Ino, frag: Frag) -> Result<(), Refusal>
         ensures outcome { Freezes self.old self.new subtrees.old subtrees.new (dir, frag) result }
         ensures placed { ArePlaced self.old subtrees.old → ArePlaced self.new subtrees.new }
@@ -87,8 +86,8 @@ impl Exports {
         Ok(())
     }
 
-    /// Prep: the importer of a frozen region gets to know its bounds, and the root is promised to it, so that `finish` takes no
-    /// memory.
+    /// Prep: the importer of a frozen region gets to know its bounds, and the root is promised to it, so that `finish`
+    /// takes no memory.
     ///
     /// # Errors
     /// `WrongExportState` where no frozen export of this root stands, `NoMemory`; then all is left as it was.
@@ -135,8 +134,8 @@ impl Exports {
         advance(&mut self.rows, dir, frag, from, to)
     }
 
-    /// Finish: the importer of an imported region is its authority, and the export is over. Takes no memory: what it changes
-    /// was placed by `freeze` and `prep`.
+    /// Finish: the importer of an imported region is its authority, and the export is over. Takes no memory: what it
+    /// changes was placed by `freeze` and `prep`.
     ///
     /// # Errors
     /// `WrongExportState` where no imported export of this root stands; then all is left as it was.
@@ -153,8 +152,8 @@ impl Exports {
         Ok(())
     }
 
-    /// Cancel: an export that isn't sent yet is over, and its region thaws. A subtree root that `freeze` made stays one. Takes
-    /// no memory.
+    /// Cancel: an export that isn't sent yet is over, and its region thaws. A subtree root that `freeze` made stays
+    /// one. Takes no memory.
     ///
     /// # Errors
     /// `WrongExportState` where no started, frozen or prepared export of this root stands; then all is left as it was.

@@ -34,7 +34,8 @@ AllSome splits = (f : Fragment) (nb : ℕ) → map.get splits f ≡ Some nb → 
 -- splits spell the leaves: each splits by some bits, and the descent of each hash ends at its leaf
 pub record Spells (splits : Splits) (leaves : List Fragment) : Type 0 where
   pub some : AllSome splits
-  pub ends : (leaf : Fragment) → HasLeaf leaves leaf → (hash : ℕ) → leaf.value ≤ hash → hash < leaf.value + span leaf.bits → Ends (splits_round splits hash) leaf.bits
+  pub ends : (leaf : Fragment) → HasLeaf leaves leaf → (hash : ℕ) → leaf.value ≤ hash
+      → hash < leaf.value + span leaf.bits → Ends (splits_round splits hash) leaf.bits
 
 -- where a descent of at most so many steps ends, from n bits on
 abbrev pub depth : ℕ → (ℕ → Option ℕ) → ℕ → ℕ
@@ -44,7 +45,8 @@ depth (suc steps) round n = unwrap_or (option_map (λ nb. depth steps round (n +
 -- so many fragments from a hash on, each of the bits that are told of its first hash
 abbrev pub fragments_from : (ℕ → ℕ) → ℕ → ℕ → List Fragment
 fragments_from bits_of zero low = []
-fragments_from bits_of (suc count) low = frag_at (bits_of low) low ∷ fragments_from bits_of count (low + span (bits_of low))
+fragments_from bits_of (suc count) low =
+    frag_at (bits_of low) low ∷ fragments_from bits_of count (low + span (bits_of low))
 
 -- the leaves that splits spell, so many of them
 unfoldable pub leaves_of : Splits → ℕ → List Fragment
@@ -64,7 +66,8 @@ pub record EndsBeyond (splits : Splits) (hash least : ℕ) : Type 0 where
 
 -- each descent ends where it did
 abbrev pub KeepsEnds : Splits → Splits → Type 0
-KeepsEnds old new = (hash bits : ℕ) → hash < 2 ^ 24 → bits ≤ 24 → Ends (splits_round old hash) bits → Ends (splits_round new hash) bits
+KeepsEnds old new =
+    (hash bits : ℕ) → hash < 2 ^ 24 → bits ≤ 24 → Ends (splits_round old hash) bits → Ends (splits_round new hash) bits
 
 -- f is no longer split, nor is anything below it; what lies elsewhere is as before
 pub record IsForgotten (old new : Splits) (f : Fragment) : Type 0 where
@@ -75,7 +78,8 @@ pub record IsForgotten (old new : Splits) (f : Fragment) : Type 0 where
 -- the descents of the hashes of f end at it, all others where they did
 pub record IsClosed (old new : Splits) (f : Fragment) : Type 0 where
   pub inside : (hash : ℕ) → f.value ≤ hash → hash < f.value + span f.bits → Ends (splits_round new hash) f.bits
-  pub outside : (hash bits : ℕ) → hash < 2 ^ 24 → bits ≤ 24 → ((f.value ≤ hash) × (hash < f.value + span f.bits) → ⊥) → Ends (splits_round old hash) bits → Ends (splits_round new hash) bits
+  pub outside : (hash bits : ℕ) → hash < 2 ^ 24 → bits ≤ 24 → ((f.value ≤ hash) × (hash < f.value + span f.bits) → ⊥)
+      → Ends (splits_round old hash) bits → Ends (splits_round new hash) bits
 
 -- g, split by nb bits, is split by 1, and its two halves by the bits that are left
 abbrev pub halved : Splits → Fragment → ℕ → Splits
@@ -89,4 +93,5 @@ IsLedTo splits leaf bits = (b : ℕ) → b < bits → map.get splits (frag_at b 
 pub record IsSplitRound (old new : Splits) (leaf : Fragment) (bits : ℕ) : Type 0 where
   pub led : IsLedTo new leaf bits
   pub kept : (g : Fragment) → map.get old g ≡ Some 1 → map.get new g ≡ Some 1
-  pub fewer : (g : Fragment) (nb : ℕ) → map.get new g ≡ Some nb → (map.get old g ≡ Some nb) ⊎ ((nb ≡ 1) × (g.bits < bits) × (g ≡ frag_at g.bits leaf.value))
+  pub fewer : (g : Fragment) (nb : ℕ) → map.get new g ≡ Some nb → (map.get old g ≡ Some nb)
+      ⊎ ((nb ≡ 1) × (g.bits < bits) × (g ≡ frag_at g.bits leaf.value))

@@ -1,16 +1,19 @@
--- The leaves of one directory, CephFS's `fragtree_t`: what they are, which leaf a hash picks, and what a split and a merge make of them.
+-- The leaves of one directory, CephFS's `fragtree_t`: what they are, which leaf a hash picks, and what a split and a
+-- merge make of them.
 use Rattle.std.specs.Prelude.{◌≡◌, ◌≢◌, ◌↔◌, ◌⊎◌, ℕ, ◌+◌, ◌-◌, ◌/◌, ◌^◌, ◌<◌, ◌≤◌, Bool, false, ◌&&◌, nat_lt, ◌==◌, List, [], ◌∷◌, length, filter, slice_index_or}
 use Rattle.std.specs.List as list
 use Rattle.mds_types.specs.Frag.{Fragment, IsFragment, Contains, IsCover, child_of, root_fragment, span}
 use Rattle.mds_types.specs.declared.refusals.Refusal.{Refusal}
 use Rattle.mds_types.specs.declared.refusals.Refusal.TheVariants.{NoMemory, NoSuchFrag, BadSplit, TooManyFrags}
 
--- fragments that tile the hashes from low up to high: the first begins at low, and each other one where the one before it ends
+-- fragments that tile the hashes from low up to high: the first begins at low, and each other one where the one before
+-- it ends
 abbrev pub Tiles : ℕ → ℕ → List Fragment → Type 0
 Tiles low high [] = low ≡ high
 Tiles low high (f ∷ fs) = IsFragment f × (f.value ≡ low) × Tiles (low + span f.bits) high fs
 
--- the leaves of a directory, by ascending value: they tile the 24-bit hashes (CephFS's `fragtree_t`), and are at most 4096 (this project's own profile)
+-- the leaves of a directory, by ascending value: they tile the 24-bit hashes (CephFS's `fragtree_t`), and are at most
+-- 4096 (this project's own profile)
 pub record IsTree (leaves : List Fragment) : Type 0 where
   pub tiles : Tiles 0 (2 ^ 24) leaves
   pub few : length leaves ≤ 4096
@@ -19,10 +22,12 @@ pub record IsTree (leaves : List Fragment) : Type 0 where
 abbrev pub HasLeaf : List Fragment → Fragment → Type 0
 HasLeaf leaves f = list.Contains leaves f
 
--- the leaves of a directory in the words of covers: fragments by strictly ascending value, which cover each 24-bit hash once, at most 4096
+-- the leaves of a directory in the words of covers: fragments by strictly ascending value, which cover each 24-bit hash
+-- once, at most 4096
 pub record IsAscendingCover (leaves : List Fragment) : Type 0 where
   pub fragments : (leaf : Fragment) → HasLeaf leaves leaf → IsFragment leaf
-  pub ascending : (i j : ℕ) → i < j → j < length leaves → (slice_index_or leaves i root_fragment).value < (slice_index_or leaves j root_fragment).value
+  pub ascending : (i j : ℕ) → i < j → j < length leaves
+      → (slice_index_or leaves i root_fragment).value < (slice_index_or leaves j root_fragment).value
   pub cover : IsCover leaves
   pub few : length leaves ≤ 4096
 

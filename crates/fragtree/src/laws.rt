@@ -1,4 +1,5 @@
-//! Laws of trees, picks, splits and merges, for the crates that hold a tree. A law is its contract: its body does nothing.
+//! Laws of trees, picks, splits and merges, for the crates that hold a tree. A law is its contract: its body does
+//! nothing.
 ghost use Rattle.std.specs.Prelude.{◌≡◌, ◌≢◌, ◌↔◌, ℕ, true, List};
 ghost use Rattle.mds_types.specs.Frag.{Fragment, IsFragment, ContainsFragment, IsCover};
 ghost use Rattle.fragtree.specs.FragTree.{HasLeaf, IsAscendingCover, IsPick, IsTree, RefusesMerge, RefusesSplit, lies_inside};

@@ -1,5 +1,5 @@
-//! The leaves of one directory: fragments that cover every 24-bit hash exactly once, kept as splits from `*` on. A leaf is
-//! split into its children, and the leaves inside a fragment are merged into it.
+//! The leaves of one directory: fragments that cover every 24-bit hash exactly once, kept as splits from `*` on. A leaf
+//! is split into its children, and the leaves inside a fragment are merged into it.
 #![tactic(auto)]
 
 mod closing;

@@ -9,8 +9,8 @@ use crate::tree::FragTree;
 use mds_types::{Frag, Refusal};
 
 impl FragTree {
-    /// Whether leaves can be merged at the fragment, but for want of memory: `NoSuchFrag` where no leaf lies properly inside it,
-    /// `TooManyFrags` where more than 256 do. Takes no memory, and the time of a pick for each leaf inside.
+    /// Whether leaves can be merged at the fragment, but for want of memory: `NoSuchFrag` where no leaf lies properly
+    /// inside it, `TooManyFrags` where more than 256 do. Takes no memory, and the time of a pick for each leaf inside.
     pub fn check_merge(&self, f: Frag) -> Result<(), Refusal>
         ensures can { OnOk result (CanMerge self.now f) }
         ensures refused { IfErr result (RefusesMerge self.now f) }
@@ -26,8 +26,8 @@ impl FragTree {
         Ok(())
     }
 
-    /// Replaces the leaves properly inside the fragment, at most 256, by the fragment. Where no descent passes it the splits
-    /// round it are written anew; the room for them is taken first, so a refused merge leaves all as it was.
+    /// Replaces the leaves properly inside the fragment, at most 256, by the fragment. Where no descent passes it the
+    /// splits round it are written anew; the room for them is taken first, so a refused merge leaves all as it was.
     pub fn merge(&mut self, f: Frag) -> Result<(), Refusal>
         ensures can { OnOk result (CanMerge self.old f) }
         ensures merged { OnOk result (IsMerge self.old self.new f) }

@@ -7,8 +7,9 @@ use crate::tree::FragTree;
 use mds_types::{Frag, Refusal};
 
 impl FragTree {
-    /// Whether the leaf can be split by so many bits, but for want of memory: `NoSuchFrag` where it is no leaf, else `BadSplit`
-    /// where the bits don't fit, else `TooManyFrags` where there would be more than 4096 leaves. Takes no memory.
+    /// Whether the leaf can be split by so many bits, but for want of memory: `NoSuchFrag` where it is no leaf, else
+    /// `BadSplit` where the bits don't fit, else `TooManyFrags` where there would be more than 4096 leaves. Takes no
+    /// memory.
     pub fn check_split(&self, f: Frag, nb: u8) -> Result<(), Refusal>
         ensures can { OnOk result (CanSplit self.now f nb) }
         ensures refused { IfErr result (RefusesSplit self.now f nb) }

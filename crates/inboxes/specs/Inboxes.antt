@@ -28,11 +28,14 @@ with_first inboxes rank request = with_waiting inboxes rank (request ∷ waiting
 
 -- an inbox takes no more: there is no such rank, or 1024 requests wait there
 abbrev pub TakesNoMore : Inboxes → Rank → Refusal → Type 0
-TakesNoMore inboxes rank reason = ((reason ≡ NotAuthority) × (length inboxes ≤ rank.0)) ⊎ ((reason ≡ InboxFull) × (rank.0 < length inboxes) × (length (waiting_at inboxes rank) ≡ 1024))
+TakesNoMore inboxes rank reason =
+    ((reason ≡ NotAuthority) × (length inboxes ≤ rank.0))
+    ⊎ ((reason ≡ InboxFull) × (rank.0 < length inboxes) × (length (waiting_at inboxes rank) ≡ 1024))
 
 -- a request comes to the back of a rank's inbox
 abbrev pub Arrives : (old new : Inboxes) → Rank → Request → Result (Unit {0}) Refusal → Type 0
-Arrives old new rank request (Ok done) = (rank.0 < length old) × (length (waiting_at old rank) < 1024) × (new ≡ with_last old rank request)
+Arrives old new rank request (Ok done) =
+    (rank.0 < length old) × (length (waiting_at old rank) < 1024) × (new ≡ with_last old rank request)
 Arrives old new rank request (Err reason) = TakesNoMore old rank reason × (new ≡ old)
 
 -- the front of a rank's inbox is taken
@@ -47,8 +50,11 @@ pub record IsOut (old new : Inboxes) (rank : Rank) (request : Request) : Type 0 
   pub back : with_first new rank request ≡ old
 
 -- the front of one rank's inbox goes to the back of another's, or of its own
-abbrev pub ForwardsOne : (old new : Inboxes) → (from to : Rank) → Request → List Request → Result (Unit {0}) Refusal → Type 0
-ForwardsOne old new from to request rest (Ok done) = (to.0 < length old) × (length (waiting_at old to) < 1024) × (new ≡ with_last (with_waiting old from rest) to request)
+abbrev pub ForwardsOne : (old new : Inboxes) → (from to : Rank) → Request → List Request → Result (Unit {0}) Refusal
+    → Type 0
+ForwardsOne old new from to request rest (Ok done) =
+    (to.0 < length old) × (length (waiting_at old to) < 1024)
+    × (new ≡ with_last (with_waiting old from rest) to request)
 ForwardsOne old new from to request rest (Err reason) = TakesNoMore old to reason × (new ≡ old)
 
 -- forwarding is refused InboxEmpty exactly where nothing waits at the rank

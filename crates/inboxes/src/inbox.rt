@@ -8,8 +8,8 @@ use std::alloc::{AllocError, Global};
 use std::collections::VecDeque;
 use std::marker::Model;
 
-/// A rank's inbox: at most `Inbox::LIMIT` requests, served from the front. It has its places from the start, so no later
-/// call takes memory, and none moves the requests that wait behind the one it concerns.
+/// A rank's inbox: at most `Inbox::LIMIT` requests, served from the front. It has its places from the start, so no
+/// later call takes memory, and none moves the requests that wait behind the one it concerns.
 #[derive(Debug, Drop)]
 pub struct Inbox {
     waiting: VecDeque<Request>,

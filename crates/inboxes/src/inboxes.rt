@@ -88,8 +88,8 @@ impl Inboxes {
         self.inboxes[usize::from(rank.0)].put(request);
     }
 
-    /// Refused where a rank's inbox takes no more: `NotAuthority` where there is no such rank, `InboxFull` where as many
-    /// as may are waiting.
+    /// Refused where a rank's inbox takes no more: `NotAuthority` where there is no such rank, `InboxFull` where as
+    /// many as may are waiting.
     pub fn check_room(&self, rank: Rank) -> Result<(), Refusal>
         ensures ok { OnOk result ((rank.0 < length self.now) × (length (waiting_at self.now rank) < 1024)) }
         ensures err { IfErr result (TakesNoMore self.now rank) }

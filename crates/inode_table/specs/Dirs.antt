@@ -1,5 +1,5 @@
--- The directory table: where each directory stands, the leaves of each, CephFS's `fragtree_t`, how many entries it has, and its pin, CephFS's
--- `export_pin`.
+-- The directory table: where each directory stands, the leaves of each, CephFS's `fragtree_t`, how many entries it has,
+-- and its pin, CephFS's `export_pin`.
 use Rattle.std.specs.Prelude.{◌≡◌, ◌≢◌, ◌⊎◌, ℕ, zero, suc, ◌+◌, ◌-◌, Bool, true, false, ◌||◌, ◌==◌, is_some, Option, Some, None, List, [], ◌∷◌}
 use Rattle.std.specs.Ordering.{nat_cmp}
 use Rattle.std.specs.FinMap as map
@@ -28,8 +28,8 @@ Counts = map.FinMap nat_cmp ℕ
 abbrev pub DirPins : Type 0
 DirPins = map.FinMap nat_cmp Rank
 
--- what contracts see of a table: the homes and the leaves, how many entries each directory has, the pins, and how many more directories still
--- fit with no growth
+-- what contracts see of a table: the homes and the leaves, how many entries each directory has, the pins, and how many
+-- more directories still fit with no growth
 pub record Table : Type 0 where
   pub homes : Homes
   pub trees : Covers
@@ -75,8 +75,10 @@ pub record IsLive (homes : Homes) (covers : Covers) (leaf : Leaf) : Type 0 where
   pub known : is_known homes leaf.0.0 ≡ true
   pub stands : HasLeaf (leaves_of covers leaf.0.0) leaf.1
 
--- a hash falls in a directory that stands: this leaf is the one that it picks, and here the directory itself stands, nowhere if it is the root
-pub record IsLeafAt (homes : Homes) (covers : Covers) (d hash : ℕ) (leaf : Fragment) (above : Option Home) : Type 0 where
+-- a hash falls in a directory that stands: this leaf is the one that it picks, and here the directory itself stands,
+-- nowhere if it is the root
+pub record IsLeafAt (homes : Homes) (covers : Covers) (d hash : ℕ) (leaf : Fragment)
+    (above : Option Home) : Type 0 where
   pub known : is_known homes d ≡ true
   pub pick : IsPick (leaves_of covers d) hash leaf
   pub home : above ≡ map.get homes d
@@ -126,6 +128,9 @@ pub record MayGo (homes : Homes) (d : ℕ) : Type 0 where
   pub other : d ≡ 1 → ⊥
   pub childless : IsChildless homes d
 
--- why leaves of a directory aren't as they are asked for: there is no such directory, or it is there and they are refused so
+-- why leaves of a directory aren't as they are asked for: there is no such directory, or it is there and they are
+-- refused so
 abbrev pub RefusesLeaves : (Refuses : Refusal → Type 0) → Homes → Ino → Refusal → Type 0
-RefusesLeaves Refuses homes dir reason = ((reason ≡ NoSuchFrag) × (is_known homes dir.0 ≡ false)) ⊎ ((is_known homes dir.0 ≡ true) × (reason ≢ NoMemory) × Refuses reason)
+RefusesLeaves Refuses homes dir reason =
+    ((reason ≡ NoSuchFrag) × (is_known homes dir.0 ≡ false))
+    ⊎ ((is_known homes dir.0 ≡ true) × (reason ≢ NoMemory) × Refuses reason)

@@ -25,7 +25,8 @@ pub record IsSupply (s : Supply) : Type 0 where
 
 -- a draw gives the next number, unless the range is used up
 abbrev pub Draws : Supply → Supply → Result Ino Refusal → Type 0
-Draws old new (Ok number) = (old.next < end_number old.rank) × (number.0 ≡ old.next) × (new ≡ record old { next = old.next + 1 })
+Draws old new (Ok number) =
+    (old.next < end_number old.rank) × (number.0 ≡ old.next) × (new ≡ record old { next = old.next + 1 })
 Draws old new (Err reason) = (old.next ≡ end_number old.rank) × (reason ≡ NoInodes) × (new ≡ old)
 
 -- the number that a draw would give, if one is left

@@ -5,7 +5,8 @@ use Rattle.std.specs.FinMap as map
 use Rattle.mds_types.specs.declared.ids.Ino.{Ino}
 use Rattle.inode_table.specs.Dirs.{Covers, Homes}
 
--- the numbers of the directories that come after one, all where none is named: the root first, then the others by number
+-- the numbers of the directories that come after one, all where none is named: the root first, then the others by
+-- number
 abbrev pub dirs_after : Homes → Option Ino → List ℕ
 dirs_after homes None = 1 ∷ map.keys homes
 dirs_after homes (Some d) = cond (d.0 == 1) (map.keys homes) (filter (λ k. is_lt (nat_cmp d.0 k)) (map.keys homes))

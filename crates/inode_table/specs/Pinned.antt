@@ -16,11 +16,14 @@ IsAfter (Some last) d = last.0 < d
 -- the first directory with a pin after another, or there is none
 abbrev pub IsNextPinned : DirPins → Option Ino → Option Ino → Type 0
 IsNextPinned pins after None = (d : ℕ) → IsSome (map.get pins d) → IsAfter after d → ⊥
-IsNextPinned pins after (Some dir) = IsSome (map.get pins dir.0) × IsAfter after dir.0 × ((d : ℕ) → IsSome (map.get pins d) → IsAfter after d → dir.0 ≤ d)
+IsNextPinned pins after (Some dir) =
+    IsSome (map.get pins dir.0) × IsAfter after dir.0
+    × ((d : ℕ) → IsSome (map.get pins d) → IsAfter after d → dir.0 ≤ d)
 
 -- ---- words of this crate's own contracts
 
 -- the first row with a pin
 abbrev pub IsFirstPinned : List (ℕ × Directory) → Option Ino → Type 0
 IsFirstPinned rows None = (d : ℕ) → pin_in (find nat_cmp d rows) ≡ None
-IsFirstPinned rows (Some dir) = IsSome (pin_in (find nat_cmp dir.0 rows)) × ((d : ℕ) → IsSome (pin_in (find nat_cmp d rows)) → dir.0 ≤ d)
+IsFirstPinned rows (Some dir) =
+    IsSome (pin_in (find nat_cmp dir.0 rows)) × ((d : ℕ) → IsSome (pin_in (find nat_cmp d rows)) → dir.0 ≤ d)

@@ -26,7 +26,8 @@ homes_of rows = map.from_sorted (map (λ e. (e.0, e.1.home)) (map.entries rows))
 
 -- the leaves that were set of directories below the root
 unfoldable pub covers_below : Rows → Covers
-covers_below rows = map.from_sorted (map (λ e. (e.0, or_whole e.1.leaves)) (map.entries (map.retain_keys rows (has_leaves rows))))
+covers_below rows =
+    map.from_sorted (map (λ e. (e.0, or_whole e.1.leaves)) (map.entries (map.retain_keys rows (has_leaves rows))))
 
 -- and with those of the root, if they were set
 abbrev pub covers_of : Option (List Fragment) → Rows → Covers

@@ -6,8 +6,8 @@ use Rattle.mds_types.specs.declared.inodes.Inode.{Inode}
 use Rattle.mds_types.specs.Tree.{Tree, is_directory, is_dir_kind, entries_in, has_entries, HasPinOf, HasSize, IsUnused}
 use Rattle.inode_table.specs.Dirs.{Covers, leaves_of}
 
--- a new inode may come: to a free dentry of a directory with fewer entries than the largest limit, with a number that is unused, the size that
--- its kind allows, and no pin
+-- a new inode may come: to a free dentry of a directory with fewer entries than the largest limit, with a number that
+-- is unused, the size that its kind allows, and no pin
 pub record MayAdd (tree : Tree) (dentry : Dentry) (inode : Inode) : Type 0 where
   pub free : map.get tree dentry ≡ None
   pub parent : is_directory tree dentry.dir.0 ≡ true
@@ -16,7 +16,8 @@ pub record MayAdd (tree : Tree) (dentry : Dentry) (inode : Inode) : Type 0 where
   pub sized : HasSize inode.kind inode.size
   pub unpinned : inode.pin ≡ None
 
--- an inode may be altered: it has the number and the kind of the one that stands there, and a size and a pin that its kind allows, where that had them
+-- an inode may be altered: it has the number and the kind of the one that stands there, and a size and a pin that its
+-- kind allows, where that had them
 pub record MaySet (tree : Tree) (dentry : Dentry) (inode : Inode) : Type 0 where
   pub before : Inode
   pub stands : map.get tree dentry ≡ Some before

@@ -1,4 +1,5 @@
--- The directory table beside a tree: the table of the tree's directories, and what becomes of it where an inode comes, goes or moves.
+-- The directory table beside a tree: the table of the tree's directories, and what becomes of it where an inode comes,
+-- goes or moves.
 use Rattle.std.specs.Prelude.{◌≡◌, ◌==◌, ℕ, Bool, true, false, cond, Option, Some, None}
 use Rattle.std.specs.Ordering.{nat_cmp}
 use Rattle.std.specs.FinMap as map
@@ -16,9 +17,12 @@ home_at dentry = record { parent = dentry.dir; name = dentry.name }
 -- the table has exactly the tree's directories, each where it stands
 pub record HoldsHomes (tree : Tree) (homes : Homes) : Type 0 where
   -- each directory of the tree is in the table
-  pub listed : (dentry : Dentry) (inode : Inode) → map.get tree dentry ≡ Some inode → is_dir_kind inode.kind ≡ true → map.get homes inode.ino.0 ≡ Some (home_at dentry)
+  pub listed : (dentry : Dentry) (inode : Inode) → map.get tree dentry ≡ Some inode → is_dir_kind inode.kind ≡ true
+      → map.get homes inode.ino.0 ≡ Some (home_at dentry)
   -- each in the table is one of the tree
-  pub stands : (d : ℕ) (home : Home) → map.get homes d ≡ Some home → (inode : Inode) × (map.get tree (dentry_of home.parent.0 home.name) ≡ Some inode) × (inode.ino.0 ≡ d) × (is_dir_kind inode.kind ≡ true)
+  pub stands : (d : ℕ) (home : Home) → map.get homes d ≡ Some home → (inode : Inode)
+      × (map.get tree (dentry_of home.parent.0 home.name) ≡ Some inode) × (inode.ino.0 ≡ d)
+      × (is_dir_kind inode.kind ≡ true)
 
 -- the tree is well formed, and the table is that of the tree
 pub record IsTabled (tree : Tree) (homes : Homes) : Type 0 where
@@ -31,8 +35,10 @@ HoldsCounts tree counts = (d : ℕ) → count_of counts d ≡ entries_in tree d
 
 -- the pins are exactly those of the tree's directories
 pub record HoldsPins (tree : Tree) (pins : DirPins) : Type 0 where
-  pub listed : (dentry : Dentry) (inode : Inode) → map.get tree dentry ≡ Some inode → is_dir_kind inode.kind ≡ true → map.get pins inode.ino.0 ≡ inode.pin
-  pub stands : (d : ℕ) (rank : Rank) → map.get pins d ≡ Some rank → (dentry : Dentry) × (inode : Inode) × (map.get tree dentry ≡ Some inode) × (inode.ino.0 ≡ d) × (is_dir_kind inode.kind ≡ true)
+  pub listed : (dentry : Dentry) (inode : Inode) → map.get tree dentry ≡ Some inode → is_dir_kind inode.kind ≡ true
+      → map.get pins inode.ino.0 ≡ inode.pin
+  pub stands : (d : ℕ) (rank : Rank) → map.get pins d ≡ Some rank → (dentry : Dentry) × (inode : Inode)
+      × (map.get tree dentry ≡ Some inode) × (inode.ino.0 ≡ d) × (is_dir_kind inode.kind ≡ true)
 
 -- the table has how many entries each directory of the tree has, and the pins of those that have one
 pub record IsCounted (tree : Tree) (counts : Counts) (pins : DirPins) : Type 0 where

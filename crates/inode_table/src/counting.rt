@@ -10,8 +10,8 @@ use crate::dirs::Dirs;
 use mds_types::{Dentry, Inode};
 use sorted_map::SortedMap;
 
-/// Counts the entries of each directory of a tree, and notes the pins, in a table that has its directories and so far neither.
-/// Takes no memory, and for each entry one search, or two where it is a directory.
+/// Counts the entries of each directory of a tree, and notes the pins, in a table that has its directories and so far
+/// neither. Takes no memory, and for each entry one search, or two where it is a directory.
 pub fn count_entries(dirs: &mut Dirs, entries: &SortedMap<Dentry, Inode>)
     requires tabled { IsTabled (contents dentry_cmp entries.now) dirs.old.homes }
     requires none { IsCounted map.empty dirs.old.counts dirs.old.pins }

@@ -22,8 +22,8 @@ pub struct Home {
     pub name: Name,
 }
 
-/// Where a hash falls in a directory: the leaf that it picks. `home` is where the directory itself stands, and none of the root;
-/// `entries` is how many entries it has, and `leaves` are all its leaves, if they were ever set.
+/// Where a hash falls in a directory: the leaf that it picks. `home` is where the directory itself stands, and none of
+/// the root; `entries` is how many entries it has, and `leaves` are all its leaves, if they were ever set.
 #[derive(Clone, Copy, Debug)]
 pub struct LeafAt<'a> {
     pub frag: Frag,
@@ -32,8 +32,8 @@ pub struct LeafAt<'a> {
     pub leaves: Option<&'a FragTree>,
 }
 
-/// What the table keeps of a directory below the root: where it stands, its leaves if they were ever set, how many entries it
-/// has, and its pin.
+/// What the table keeps of a directory below the root: where it stands, its leaves if they were ever set, how many
+/// entries it has, and its pin.
 #[derive(Debug, Drop)]
 pub(crate) struct Directory {
     home: Home,
@@ -42,10 +42,11 @@ pub(crate) struct Directory {
     pub(crate) pin: Option<Rank>,
 }
 
-/// For each directory its parent and its name there, its leaves, how many entries it has, and the rank that it is pinned to,
-/// if it is. The root directory is always there, and has neither parent nor name nor pin.
+/// For each directory its parent and its name there, its leaves, how many entries it has, and the rank that it is
+/// pinned to, if it is. The root directory is always there, and has neither parent nor name nor pin.
 ///
-/// The counts and the pins are what its owner makes them: an entry that comes or goes, and a pin that is set, is told here.
+/// The counts and the pins are what its owner makes them: an entry that comes or goes, and a pin that is set, is told
+/// here.
 ///
 /// Of every table it holds that each directory reaches the root by finitely many parents, and that only directories
 /// have leaves of their own, which cover every hash exactly once. A directory whose leaves were never set has the one
@@ -145,8 +146,8 @@ impl Dirs {
         picked(self.leaves(dir), hash)
     }
 
-    /// The leaf of a directory that a hash picks, and what else its row tells; none exactly where there is no such directory. Takes
-    /// no memory, and one search.
+    /// The leaf of a directory that a hash picks, and what else its row tells; none exactly where there is no such
+    /// directory. Takes no memory, and one search.
     pub fn leaf_at(&self, dir: Ino, hash: u32) -> Option<LeafAt<'_>>
         ensures at { MatchOption result (is_known self.now.homes dir.0 ≡ false) (λ at. IsLeafAt self.now.homes self.now.trees dir.0 hash at.frag (option_copied at.home)) }
         ensures entries { IfSome result (λ at. at.entries ≡ count_of self.now.counts dir.0) }
@@ -184,15 +185,16 @@ impl Dirs {
         }
     }
 
-    /// The rank that a directory is pinned to; none where it isn't, and of what is no directory. Takes no memory, and one search.
+    /// The rank that a directory is pinned to; none where it isn't, and of what is no directory. Takes no memory, and
+    /// one search.
     pub fn pin(&self, dir: Ino) -> Option<Rank>
         ensures { result ≡ map.get self.now.pins dir.0 }
     {
         self.below.get(&dir.0)?.pin
     }
 
-    /// The first directory after one, or of all, in order: the root, then the others by number. None after the last. Takes no
-    /// memory, and one search.
+    /// The first directory after one, or of all, in order: the root, then the others by number. None after the last.
+    /// Takes no memory, and one search.
     pub fn next_dir(&self, after: Option<Ino>) -> Option<Ino>
         ensures { option_map (λ (d : Ino). d.0) result ≡ slice_get (dirs_after self.now.homes after) 0 }
     {
@@ -231,8 +233,8 @@ impl Dirs {
         }
     }
 
-    /// A leaf of a directory that can be split by so many bits, and what else the directory's row tells. Takes no memory, and one
-    /// search.
+    /// A leaf of a directory that can be split by so many bits, and what else the directory's row tells. Takes no
+    /// memory, and one search.
     ///
     /// Refused `NoSuchFrag` where there is no such directory, and where it is there as the split of its leaf is.
     pub fn check_split(&self, dir: Ino, frag: Frag, bits: u8) -> Result<LeafAt<'_>, Refusal>
@@ -303,8 +305,8 @@ impl Dirs {
         row.leaves = Some(tree);
     }
 
-    /// Splits a leaf of a directory that can be split by so many bits. Takes memory, and one search. Refused for want of memory alone,
-    /// and then all is left as it was.
+    /// Splits a leaf of a directory that can be split by so many bits. Takes memory, and one search. Refused for want
+    /// of memory alone, and then all is left as it was.
     pub fn split(&mut self, alloc: Global, dir: Ino, frag: Frag, bits: u8) -> Result<(), Refusal>
         requires known { is_known self.old.homes dir.0 ≡ true }
         requires can { CanSplit (leaves_of self.old.trees dir.0) frag bits }
@@ -386,7 +388,8 @@ impl Dirs {
         let _ = self.below.insert(dir.0, row);
     }
 
-    /// A directory goes to another parent, or takes another name, and keeps its leaves, its entries and its pin. Takes no memory.
+    /// A directory goes to another parent, or takes another name, and keeps its leaves, its entries and its pin. Takes
+    /// no memory.
     pub fn relocate(&mut self, dir: Ino, home: Home)
         requires { MayMove self.old.homes dir.0 home }
         ensures homes { self.new.homes ≡ map.insert self.old.homes dir.0 home }
@@ -402,7 +405,8 @@ impl Dirs {
         row.home = home;
     }
 
-    /// A directory goes that is no one's parent and not the root, and its leaves, its count and its pin with it. Takes no memory.
+    /// A directory goes that is no one's parent and not the root, and its leaves, its count and its pin with it. Takes
+    /// no memory.
     pub fn drop(&mut self, dir: Ino)
         requires { MayGo self.old.homes dir.0 }
         ensures homes { self.new.homes ≡ map.remove self.old.homes dir.0 }
@@ -453,8 +457,8 @@ fn picked(leaves: Option<&FragTree>, hash: u32) -> Frag
     }
 }
 
-// Whether a fragment of leaves that were set, and of the one leaf `*` where none were, can be split by so many bits. Refused as the
-// split is where it can't be. Takes no memory.
+// Whether a fragment of leaves that were set, and of the one leaf `*` where none were, can be split by so many bits.
+// Refused as the split is where it can't be. Takes no memory.
 fn check_split_of(leaves: Option<&FragTree>, frag: Frag, bits: u8) -> Result<(), Refusal>
     ensures ok { OnOk result (CanSplit (or_whole (option_copied leaves.entry)) frag bits) }
     ensures err { IfErr result (RefusesSplit (or_whole (option_copied leaves.entry)) frag bits) }

@@ -9,8 +9,8 @@ use mds_types::Ino;
 use sorted_map::Iter;
 
 impl Dirs {
-    /// The first directory with a pin after one, or of all, by number. Takes no memory, and looks at each directory on the
-    /// way.
+    /// The first directory with a pin after one, or of all, by number. Takes no memory, and looks at each directory on
+    /// the way.
     pub fn next_pinned(&self, after: Option<Ino>) -> Option<Ino>
         ensures { IsNextPinned self.now.pins after result }
     {

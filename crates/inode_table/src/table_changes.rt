@@ -1,6 +1,7 @@
 //! Changes of a directory table beside a tree: what becomes of it where an inode comes, goes or moves.
 //!
-//! None takes memory. A table that is asked for them stays that of its tree, by the lemmas of `TableLaws` and `MoveLaws`.
+//! None takes memory. A table that is asked for them stays that of its tree, by the lemmas of `TableLaws` and
+//! `MoveLaws`.
 ghost use Rattle.std.specs.Prelude.{◌≡◌, ◌==◌, ◌-◌, ◌<◌, ◌^◌, true, false, Some};
 ghost use Rattle.std.specs.Option.{option_copied};
 ghost use Rattle.mds_types.specs.declared.inodes.Inode.{Inode as Node};
@@ -39,8 +40,8 @@ pub fn adopt_dir(dirs: &mut Dirs, spare: &mut Option<Name>, dentry: &Dentry, ino
     );
 }
 
-/// Notes in the table the dentry that an inode went to, if it is a directory: it has its home there, and keeps its leaves.
-/// Of a file the table takes no note.
+/// Notes in the table the dentry that an inode went to, if it is a directory: it has its home there, and keeps its
+/// leaves. Of a file the table takes no note.
 ///
 /// `spare` has the name of the dentry.
 pub fn relocate_dir(dirs: &mut Dirs, spare: &mut Option<Name>, dentry: &Dentry, inode: &Inode)

@@ -70,34 +70,41 @@ LacksNumberFor s leaf = (u : Unsaved) × (map.get s.unsaved leaf ≡ Some u) × 
 abbrev pub MayNotBeginOne : State → Leaf → Refusal → Type 0
 MayNotBeginOne s leaf reason = (reason ≡ NoMemory) ⊎ ((reason ≡ NoInodes) × LacksNumberFor s leaf)
 
--- why no commits begin of so many leaves: a version is used up of one that isn't clean, or fewer numbers than so many are left for jobs;
--- want of memory
+-- why no commits begin of so many leaves: a version is used up of one that isn't clean, or fewer numbers than so many
+-- are left for jobs; want of memory
 abbrev pub LacksForCommits : ℕ → State → Type 0
-LacksForCommits count s = LacksNumbers count s.next_job ⊎ ((leaf : Leaf) × (u : Unsaved) × (map.get s.unsaved leaf ≡ Some u) × (IsBelowEnd u.base → ⊥))
+LacksForCommits count s = LacksNumbers count s.next_job ⊎ ((leaf : Leaf) × (u : Unsaved)
+    × (map.get s.unsaved leaf ≡ Some u) × (IsBelowEnd u.base → ⊥))
 
 abbrev pub MayNotBeginAll : ℕ → State → Refusal → Type 0
 MayNotBeginAll count s reason = (reason ≡ NoMemory) ⊎ ((reason ≡ NoInodes) × LacksForCommits count s)
 
 -- why so many leaves aren't all committed: numbers lack, want of memory, or a fault
 abbrev pub MayNotCommit : ℕ → State → (before after : ℕ) → Refusal → Type 0
-MayNotCommit count s before after reason = MayRefuse before after reason ⊎ ((reason ≡ NoInodes) × LacksForCommits count s)
+MayNotCommit count s before after reason =
+    MayRefuse before after reason ⊎ ((reason ≡ NoInodes) × LacksForCommits count s)
 
 -- ---- what commits of whole fragments leave
 
 -- a leaf is as it was, in what isn't clean and in the store
 abbrev pub IsAsItWas : (old new : State) → Leaf → Type 0
-IsAsItWas old new leaf = (map.get new.unsaved leaf ≡ map.get old.unsaved leaf) × (object_of new.objects leaf.0 leaf.1 ≡ object_of old.objects leaf.0 leaf.1)
+IsAsItWas old new leaf =
+    (map.get new.unsaved leaf ≡ map.get old.unsaved leaf)
+    × (object_of new.objects leaf.0 leaf.1 ≡ object_of old.objects leaf.0 leaf.1)
 
 -- a leaf that wasn't clean is: its object spells what it showed, one version higher
 pub record IsWritten (old new : State) (leaf : Leaf) : Type 0 where
   pub unsaved : Unsaved
   pub was : map.get old.unsaved leaf ≡ Some unsaved
   pub clean : map.get new.unsaved leaf ≡ None
-  pub spelled : HasSpelled (object_of new.objects leaf.0 leaf.1) (next_version unsaved.base) (names_of old.unsaved old.objects leaf)
+  pub spelled : HasSpelled (object_of new.objects leaf.0 leaf.1) (next_version unsaved.base)
+      (names_of old.unsaved old.objects leaf)
 
--- some leaves were committed whole, and each other is as it was; no objects but those of leaves changed, and beside the jobs nothing else
+-- some leaves were committed whole, and each other is as it was; no objects but those of leaves changed, and beside the
+-- jobs nothing else
 pub record CommitsWhole (old new : State) : Type 0 where
   pub left : new ≡ record old { unsaved = new.unsaved; objects = new.objects; jobs = new.jobs; next_job = new.next_job }
   pub tree : shown_tree new ≡ shown_tree old
   pub each : (leaf : Leaf) → IsLive old.homes old.covers leaf → IsAsItWas old new leaf ⊎ IsWritten old new leaf
-  pub others : (name : List ℕ) → ((leaf : Leaf) → IsLive old.homes old.covers leaf → name ≡ text_of leaf → ⊥) → map.get new.objects name ≡ map.get old.objects name
+  pub others : (name : List ℕ) → ((leaf : Leaf) → IsLive old.homes old.covers leaf → name ≡ text_of leaf → ⊥)
+      → map.get new.objects name ≡ map.get old.objects name

@@ -37,11 +37,17 @@ IsAsItStands None object next now = Counts now.base object × (now.dirty ≡ map
 
 -- a fragment in which a name is dirty at a version
 abbrev pub dirtied : Unsaved → List ℕ → ℕ → Option Inode → Unsaved
-dirtied u name version inode = record u { dirty = map.insert u.dirty name (record { version = version; inode = inode }) }
+dirtied u name version inode =
+    record u { dirty = map.insert u.dirty name (record { version = version; inode = inode }) }
 
 -- the name takes the next version
 abbrev pub with_name : State → Leaf → Unsaved → List ℕ → Option Inode → State
-with_name s leaf u name inode = record s { unsaved = map.insert s.unsaved leaf (dirtied u name s.next_version inode); next_version = s.next_version + 1 }
+with_name s leaf u name inode =
+    record s {
+      unsaved = map.insert s.unsaved leaf (dirtied u name s.next_version inode);
+      next_version =
+          s.next_version + 1;
+    }
 
 -- a name of a leaf got an inode, or was removed
 pub record IsNamed (old new : State) (leaf : Leaf) (name : List ℕ) (inode : Option Inode) : Type 0 where
@@ -59,7 +65,8 @@ first_leaf dir = (dir, root_fragment)
 abbrev pub just_made : ℕ → Unsaved
 just_made generation = record { base = Fresh; generation = generation; dirty = map.empty }
 
--- a new directory has its home, and the leaf `*`, which takes the next generation; an object of that name isn't to be removed
+-- a new directory has its home, and the leaf `*`, which takes the next generation; an object of that name isn't to be
+-- removed
 abbrev pub with_directory : State → Dentry → Ino → State
 with_directory s dentry dir = record s {
   homes = map.insert s.homes dir.0 (home_at dentry);
@@ -86,8 +93,8 @@ with_objects names (name ∷ more) = with_objects (map.insert names name tt) mor
 abbrev pub objects_of : State → Ino → List (List ℕ)
 objects_of s dir = tree_text dir ∷ each text_of (leaves s.covers dir.0)
 
--- a directory that goes has no home and no leaves; nothing of them is unsaved, no job stands for them, and all its objects are to be
--- removed
+-- a directory that goes has no home and no leaves; nothing of them is unsaved, no job stands for them, and all its
+-- objects are to be removed
 abbrev pub without_directory : State → Ino → State
 without_directory s dir = record s {
   homes = map.remove s.homes dir.0;
@@ -108,7 +115,8 @@ with_home_at s to inode = record s { homes = with_home s.homes to inode }
 
 -- ---- counts and pins
 
--- the counts where an entry comes, goes, or moves to where something stood or nothing; a directory that comes has no entry
+-- the counts where an entry comes, goes, or moves to where something stood or nothing; a directory that comes has no
+-- entry
 abbrev pub counts_by : Entries → (stood : Bool) → Option Spot → Option (Spot × Inode) → Bool → Entries
 counts_by counts stood None None comes = counts
 counts_by counts stood None (Some put) true = with_count (one_more counts put.0.at.dir.0) put.1
@@ -128,10 +136,13 @@ abbrev pub stood_at : Tree → Option (Spot × Inode) → Bool
 stood_at tree None = false
 stood_at tree (Some put) = is_some (map.get tree (dentry_at put.0))
 
--- what a change leaves, with the counts and the pins that it makes of those before; those of a directory that goes go with it
+-- what a change leaves, with the counts and the pins that it makes of those before; those of a directory that goes go
+-- with it
 abbrev pub noted : State → Change → State → State
 noted old change s = record s {
-  counts = rows_but (counts_by old.counts (stood_at (shown_tree old) change.puts) change.takes change.puts change.comes) change.gone;
+  counts =
+      rows_but (counts_by old.counts
+      (stood_at (shown_tree old) change.puts) change.takes change.puts change.comes) change.gone;
   pins = rows_but (pins_by old.pins change.takes change.puts change.comes) change.gone;
 }
 
@@ -147,17 +158,20 @@ abbrev pub PutsThen : State → Option (Spot × Inode) → (State → Type 0) �
 PutsThen s None Rest = Rest s
 PutsThen s (Some put) Rest = (named : State) × IsNamed s named (leaf_of put.0.at) put.0.name (Some put.1) × Rest named
 
--- a directory that comes has its home and a leaf, and one that moved its home there; one with other attributes stays where it is
+-- a directory that comes has its home and a leaf, and one that moved its home there; one with other attributes stays
+-- where it is
 abbrev pub housed : State → Option Spot → Option (Spot × Inode) → Bool → State
 housed s takes None comes = s
 housed s None (Some put) true = with_new s (dentry_at put.0) put.1
 housed s None (Some put) false = s
 housed s (Some spot) (Some put) comes = with_home_at s (dentry_at put.0) put.1
 
--- first the name that loses its inode is dirty, then the one that gets it; the directory that is put is housed, and the one that is taken or
--- replaced goes
+-- first the name that loses its inode is dirty, then the one that gets it; the directory that is put is housed, and the
+-- one that is taken or replaced goes
 abbrev pub Alters : Change → State → State → Type 0
-Alters change old new = TakesThen old change.takes (λ left. PutsThen left change.puts (λ named. new ≡ without (housed named change.takes change.puts change.comes) change.gone))
+Alters change old new =
+    TakesThen old change.takes (λ left. PutsThen left change.puts
+    (λ named. new ≡ without (housed named change.takes change.puts change.comes) change.gone))
 
 -- so it is, and with that the counts and the pins
 abbrev pub Makes : Change → State → State → Type 0

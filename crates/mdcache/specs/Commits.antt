@@ -28,7 +28,14 @@ snapshot_at u object = record { base = u.base; names = u.dirty; counts = counts_
 
 -- the job of the next number for a fragment as it stands
 abbrev pub job_for : State → Leaf → Unsaved → Job
-job_for s leaf u = record { number = s.next_job; ino = leaf.0; frag = leaf.1; generation = u.generation; snapshot = snapshot_at u (object_of s.objects leaf.0 leaf.1) }
+job_for s leaf u = record {
+  number = s.next_job;
+  ino = leaf.0;
+  frag = leaf.1;
+  generation = u.generation;
+  snapshot =
+      snapshot_at u (object_of s.objects leaf.0 leaf.1);
+}
 
 -- the leaf of a job
 abbrev pub leaf_of : Job → Leaf
@@ -49,10 +56,11 @@ LacksNumber s u = IsAtEnd s.next_job u.base
 abbrev pub BeginsWith : (old new : State) → Leaf → Option Unsaved → Option Job → Type 0
 BeginsWith old new leaf None job = (job ≡ None) × (new ≡ old)
 BeginsWith old new leaf (Some u) None = ⊥
-BeginsWith old new leaf (Some u) (Some job) = (job ≡ job_for old leaf u) × (LacksNumber old u → ⊥) × (new ≡ with_job old job)
+BeginsWith old new leaf (Some u) (Some job) =
+    (job ≡ job_for old leaf u) × (LacksNumber old u → ⊥) × (new ≡ with_job old job)
 
--- why no commit of a leaf begins: there is no such leaf; a job stands for it; a number is lacking for a fragment that isn't clean; want
--- of memory, where none of these
+-- why no commit of a leaf begins: there is no such leaf; a job stands for it; a number is lacking for a fragment that
+-- isn't clean; want of memory, where none of these
 abbrev pub MayNotBegin : State → Leaf → Refusal → Type 0
 MayNotBegin s leaf reason =
     ((reason ≡ NoSuchFrag) × (IsLive s.homes s.covers leaf → ⊥))
@@ -61,14 +69,17 @@ MayNotBegin s leaf reason =
     × (((reason ≡ NoInodes) × LacksNumber s u) ⊎ ((reason ≡ NoMemory) × (LacksNumber s u → ⊥))))
 
 abbrev pub Begins : (old new : State) → Leaf → Result (Option Job) Refusal → Type 0
-Begins old new leaf (Ok job) = IsLive old.homes old.covers leaf × (map.get old.jobs leaf ≡ None) × BeginsWith old new leaf (map.get old.unsaved leaf) job
+Begins old new leaf (Ok job) =
+    IsLive old.homes old.covers leaf × (map.get old.jobs leaf ≡ None)
+    × BeginsWith old new leaf (map.get old.unsaved leaf) job
 Begins old new leaf (Err reason) = MayNotBegin old leaf reason × (new ≡ old)
 
 -- ---- a commit ends
 
 -- a fragment over its object at this version with these dirty names; none of it is unsaved where no name is dirty
 abbrev pub stored_with : ℕ → ℕ → Marks → Option Unsaved
-stored_with version generation dirty = cond (map.len dirty == 0) None (Some (record { base = Stored version; generation = generation; dirty = dirty }))
+stored_with version generation dirty =
+    cond (map.len dirty == 0) None (Some (record { base = Stored version; generation = generation; dirty = dirty }))
 
 -- what is unsaved of a fragment once its snapshot is committed: the names that changed since
 abbrev pub left_of : Unsaved → Snap → Option Unsaved
@@ -91,21 +102,24 @@ abbrev pub HasSpelled : Option Omap → ℕ → Names → Type 0
 HasSpelled None version names = ⊥
 HasSpelled (Some object) version names = SpellsFragment object version names
 
--- a commit ended: its job stood, and its object spells what the fragment showed when the job began, one version higher; the shown tree
--- stays
+-- a commit ended: its job stood, and its object spells what the fragment showed when the job began, one version higher;
+-- the shown tree stays
 pub record IsEnded (old new : State) (job : Job) : Type 0 where
   pub stood : map.get old.jobs (leaf_of job) ≡ Some job
   pub unsaved : Unsaved
   pub beside : map.get old.unsaved (leaf_of job) ≡ Some unsaved
   pub left : new ≡ committed old job unsaved
-  pub spelled : HasSpelled (object_of new.objects job.ino job.frag) (next_version job.snapshot.base) (names_then job.snapshot (object_of old.objects job.ino job.frag))
+  pub spelled : HasSpelled (object_of new.objects job.ino job.frag) (next_version job.snapshot.base)
+      (names_then job.snapshot (object_of old.objects job.ino job.frag))
   pub tree : shown_tree new ≡ shown_tree old
 
--- it is refused StaleJob exactly where no job of this number, fragment, generation and snapshot stands, and otherwise as the store refuses
+-- it is refused StaleJob exactly where no job of this number, fragment, generation and snapshot stands, and otherwise
+-- as the store refuses
 abbrev pub Ends : (old new : State) → (before after : ℕ) → Job → Result (Unit {0}) Refusal → Type 0
 Ends old new before after job (Ok done) = IsEnded old new job
 Ends old new before after job (Err reason) =
-    (((reason ≡ StaleJob) × (map.get old.jobs (leaf_of job) ≡ Some job → ⊥)) ⊎ ((map.get old.jobs (leaf_of job) ≡ Some job) × MayRefuse before after reason)) × (new ≡ old)
+    (((reason ≡ StaleJob) × (map.get old.jobs (leaf_of job) ≡ Some job → ⊥))
+    ⊎ ((map.get old.jobs (leaf_of job) ≡ Some job) × MayRefuse before after reason)) × (new ≡ old)
 
 -- ---- a commit is dropped
 

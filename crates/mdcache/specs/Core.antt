@@ -36,9 +36,9 @@ pub record Rooms : Type 0 where
   pub jobs : ℕ
   pub purge : ℕ
 
--- how many entries a directory may have; the directory table; the caches of all ranks, with the order in which each used its leaves; the store's
--- objects and its count of faults; the jobs that stand, and the names of objects to be removed; the numbers that the next job, fragment and dirty
--- name get; and what fits with no growth
+-- how many entries a directory may have; the directory table; the caches of all ranks, with the order in which each
+-- used its leaves; the store's objects and its count of faults; the jobs that stand, and the names of objects to be
+-- removed; the numbers that the next job, fragment and dirty name get; and what fits with no growth
 pub record Core : Type 0 where
   pub limit : ℕ
   pub homes : Homes
@@ -76,12 +76,13 @@ state_of c = record {
 abbrev pub shown_in : Core → Tree
 shown_in c = shown_tree (state_of c)
 
--- so it is with a rank, whatever was fetched and in whatever order fragments were used: each other place of its cache is that of a fragment
--- that isn't clean
+-- so it is with a rank, whatever was fetched and in whatever order fragments were used: each other place of its cache
+-- is that of a fragment that isn't clean
 abbrev pub LacksPlacesAt : ℕ → Core → Rank → Type 0
 LacksPlacesAt count core rank = LacksPlacesIn count core.caches rank.0
 
--- a cached fragment is a live leaf, is tied to its object, and has a generation that was given out, or 0, that of one that was fetched
+-- a cached fragment is a live leaf, is tied to its object, and has a generation that was given out, or 0, that of one
+-- that was fetched
 pub record IsCachedIn (s : State) (leaf : Leaf) (f : Cached) : Type 0 where
   pub live : IsLive s.homes s.covers leaf
   pub tied : IsTied f (object_of s.objects leaf.0 leaf.1)
@@ -104,13 +105,15 @@ pub record IsNoLess (old new : Rooms) : Type 0 where
   pub jobs : old.jobs ≤ new.jobs
   pub purge : old.purge ≤ new.purge
 
--- what reads and preparations leave: of the caches what was read for leaves that are named, the count of faults, and room
+-- what reads and preparations leave: of the caches what was read for leaves that are named, the count of faults, and
+-- room
 pub record ReadsCore (Uses Ends : ℕ → Leaf → Type 0) (old new : Core) : Type 0 where
   pub caches : Reads Uses Ends old.objects old.caches new.caches
   pub room : IsNoLess old.room new.room
   pub beside : new ≡ record old { caches = new.caches; faults = new.faults; room = new.room }
 
--- a leaf can be fetched at the rank that holds it: there is the rank, no other has the leaf, and if it is clean its object spells it
+-- a leaf can be fetched at the rank that holds it: there is the rank, no other has the leaf, and if it is clean its
+-- object spells it
 pub record MayFetch (p : Core) (a : Dirfrag) : Type 0 where
   pub there : a.rank.0 < length p.caches.used
   pub free : IsFreeFor p.caches a.rank.0 (leaf_of a)
@@ -120,7 +123,8 @@ pub record MayFetch (p : Core) (a : Dirfrag) : Type 0 where
 
 -- a fragment just made: no object counts, and it has no names
 abbrev pub made_frag : ℕ → Cached
-made_frag generation = record { base = Fresh; generation = generation; clean = map.empty; dirty = map.empty; room = 0; places = 0 }
+made_frag generation =
+    record { base = Fresh; generation = generation; clean = map.empty; dirty = map.empty; room = 0; places = 0 }
 
 -- a name of a leaf is dirty at the next version, and has this inode, or none
 abbrev pub named : Core → Dirfrag → List ℕ → Option Inode → Core
@@ -159,10 +163,16 @@ with_dir p a home object room = record p {
   room = room;
 }
 
--- an inode moved from one name to another, where something was shown or nothing, and has its home there, if it is a directory
+-- an inode moved from one name to another, where something was shown or nothing, and has its home there, if it is a
+-- directory
 abbrev pub moved : Core → Dirfrag → List ℕ → Dirfrag → List ℕ → List ℕ → Inode → Core
 moved c from source to target name inode =
-    named (record (named c from source None) { homes = with_home c.homes (record { dir = to.dir; name = name }) inode; counts = counts_moved c.counts from.dir.0 to.dir.0 (shows c to target) }) to target (Some inode)
+    named (record (named c from source None) {
+      homes =
+          with_home c.homes (record { dir = to.dir; name = name }) inode;
+      counts =
+          counts_moved c.counts from.dir.0 to.dir.0 (shows c to target);
+    }) to target (Some inode)
 
 -- these leaves of a directory ended: their places and jobs are gone, and their objects are to be removed
 abbrev pub without_frags : Core → List Leaf → List (List ℕ) → Rooms → Core
@@ -176,7 +186,13 @@ without_frags p leaves texts room = record p {
 -- so did the directory itself
 abbrev pub without_dir : Core → Option Ino → List Leaf → List (List ℕ) → Rooms → Core
 without_dir p dir leaves texts room =
-    record (without_frags p leaves texts room) { homes = rows_but p.homes dir; covers = rows_but p.covers dir; counts = rows_but p.counts dir; pins = rows_but p.pins dir }
+    record (without_frags p leaves texts room) {
+      homes = rows_but p.homes dir;
+      covers = rows_but p.covers dir;
+      counts =
+          rows_but p.counts dir;
+      pins = rows_but p.pins dir;
+    }
 
 -- a leaf was used
 abbrev pub used_core : Core → Dirfrag → Rooms → Core
@@ -184,8 +200,10 @@ used_core c a room = record c { caches = used_at c.caches a.rank.0 (leaf_of a); 
 
 -- the job of this number that is of a fragment as it stands
 abbrev pub IsJobOf : ℕ → Leaf → Job → Cached → Type 0
-IsJobOf number leaf job f = job ≡ record { number = number; ino = leaf.0; frag = leaf.1; generation = f.generation; snapshot = snapshot_of f }
+IsJobOf number leaf job f =
+    job ≡ record { number = number; ino = leaf.0; frag = leaf.1; generation = f.generation; snapshot = snapshot_of f }
 
 -- a job stands for a leaf, which was used, and its number is taken
 abbrev pub with_job_in : Core → Dirfrag → Job → Rooms → Core
-with_job_in c a job room = record (used_core c a room) { jobs = map.insert c.jobs (leaf_of a) job; next_job = c.next_job + 1 }
+with_job_in c a job room =
+    record (used_core c a room) { jobs = map.insert c.jobs (leaf_of a) job; next_job = c.next_job + 1 }

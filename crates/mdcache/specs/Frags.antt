@@ -1,4 +1,5 @@
--- The tree over caches and a store as operations see it: what reads keep, why a call is refused, and what a change takes.
+-- The tree over caches and a store as operations see it: what reads keep, why a call is refused, and what a change
+-- takes.
 use Rattle.std.specs.Prelude.{◌≡◌, ◌⊎◌, ℕ, ◌+◌, ◌-◌, ◌<◌, ◌≤◌, ◌^◌, Bool, true, false, List, Option, Some, None, length, string_bytes}
 use Rattle.mds_types.specs.declared.dentries.Dentry.{Dentry}
 use Rattle.mds_types.specs.declared.ids.Ino.{Ino}
@@ -28,8 +29,8 @@ use Rattle.mdcache.specs.State.{State, text_of}
 
 -- ---- reads and refusals
 
--- reads and refusals keep the state, what isn't clean of each rank, and the number of ranks and places; the store's count
--- of faults rises by one where a fault is told, and not otherwise
+-- reads and refusals keep the state, what isn't clean of each rank, and the number of ranks and places; the store's
+-- count of faults rises by one where a fault is told, and not otherwise
 pub record KeepsState (old new : Core) (told : Option Refusal) : Type 0 where
   pub state : state_of new ≡ state_of old
   pub unclean : (r : ℕ) → unclean_of new.caches r ≡ unclean_of old.caches r
@@ -37,11 +38,13 @@ pub record KeepsState (old new : Core) (told : Option Refusal) : Type 0 where
   pub cap : new.caches.cap ≡ old.caches.cap
   pub counted : new.faults ≡ old.faults + faults_told told
 
--- the numbers that lack: a version for the name that is changed, two for a move, and a generation for the leaf of a new directory
+-- the numbers that lack: a version for the name that is changed, two for a move, and a generation for the leaf of a new
+-- directory
 abbrev pub LacksForIn : Shape → State → Type 0
 LacksForIn (Looks dentry answer) s = ⊥
 LacksForIn (Lists dir after max) s = ⊥
-LacksForIn (Makes dentry kind mode birth) s = LacksNumbers 1 s.next_version ⊎ ((is_dir_kind kind ≡ true) × LacksNumbers 1 s.next_generation)
+LacksForIn (Makes dentry kind mode birth) s =
+    LacksNumbers 1 s.next_version ⊎ ((is_dir_kind kind ≡ true) × LacksNumbers 1 s.next_generation)
 LacksForIn (Sets dentry alteration) s = LacksNumbers 1 s.next_version
 LacksForIn (Unlinks dentry) s = LacksNumbers 1 s.next_version
 LacksForIn (Removes dentry) s = LacksNumbers 1 s.next_version
@@ -53,7 +56,8 @@ LacksFor op s = LacksForIn (shape op) s
 -- the numbers that lack for a change: a version for each name, and a generation for the leaf of a directory that comes
 abbrev pub LacksBy : Option Spot → Option (Spot × Inode) → Bool → State → Type 0
 LacksBy None None comes s = ⊥
-LacksBy None (Some put) true s = LacksNumbers 1 s.next_version ⊎ ((is_dir_kind put.1.kind ≡ true) × LacksNumbers 1 s.next_generation)
+LacksBy None (Some put) true s =
+    LacksNumbers 1 s.next_version ⊎ ((is_dir_kind put.1.kind ≡ true) × LacksNumbers 1 s.next_generation)
 LacksBy None (Some put) false s = LacksNumbers 1 s.next_version
 LacksBy (Some spot) None comes s = LacksNumbers 1 s.next_version
 LacksBy (Some spot) (Some put) comes s = LacksNumbers 2 s.next_version
@@ -61,11 +65,12 @@ LacksBy (Some spot) (Some put) comes s = LacksNumbers 2 s.next_version
 abbrev pub LacksToMake : Change → State → Type 0
 LacksToMake change s = LacksBy change.takes change.puts change.comes s
 
--- a call for an operation is refused for want of memory, by a store whose count of faults rose, for places that lack, or where a counter is at
--- its end
+-- a call for an operation is refused for want of memory, by a store whose count of faults rose, for places that lack,
+-- or where a counter is at its end
 abbrev pub MayRefuse : (NoPlace : Type 0) → (old new : Core) → Op → Refusal → Type 0
 MayRefuse NoPlace old new op reason =
-    (reason ≡ NoMemory) ⊎ ((reason ≡ StoreFault) × (old.faults < new.faults)) ⊎ ((reason ≡ NothingToEvict) × NoPlace) ⊎ ((reason ≡ NoInodes) × LacksFor op (state_of old))
+    (reason ≡ NoMemory) ⊎ ((reason ≡ StoreFault) × (old.faults < new.faults)) ⊎ ((reason ≡ NothingToEvict) × NoPlace)
+    ⊎ ((reason ≡ NoInodes) × LacksFor op (state_of old))
 
 -- fewer than two places are free, or can become so, at one of the ranks that hold the leaves which a change names
 abbrev pub LacksPlacesBy : Core → Option Spot → Option (Spot × Inode) → Type 0
@@ -84,9 +89,10 @@ pub record IsNameReady (core : Core) (rank : Rank) (leaf : Leaf) : Type 0 where
   pub room : HasRoom (here core.caches rank.0 leaf)
   pub number : core.next_version < 2 ^ 64 - 1
 
--- a place is kept at a rank for the leaf of a directory that comes, a generation is left for it, and there is room for the directory, its
--- name, and the name of its leaf's object
-pub record IsDirectoryReady (core : Core) (rank : Rank) (dentry : Dentry) (dir : Ino) (made : NewDirectory) : Type 0 where
+-- a place is kept at a rank for the leaf of a directory that comes, a generation is left for it, and there is room for
+-- the directory, its name, and the name of its leaf's object
+pub record IsDirectoryReady (core : Core) (rank : Rank) (dentry : Dentry) (dir : Ino)
+    (made : NewDirectory) : Type 0 where
   pub place : IsKeptFor core.caches rank.0 (first_leaf dir)
   pub home : 0 < core.room.dirs
   pub generation : core.next_generation < 2 ^ 64 - 1

@@ -19,7 +19,8 @@ pub record IsGivenOver (leaves : List Leaf) (old new : State) : Type 0 where
   pub unsaved : AreHanded leaves old.unsaved new.unsaved
   pub beside : new ≡ record old { unsaved = new.unsaved }
 
--- leaves for which no job stands were handed over: the state is sound then, its shown tree is the same, and each leaf shows what it showed
+-- leaves for which no job stands were handed over: the state is sound then, its shown tree is the same, and each leaf
+-- shows what it showed
 abbrev pub GivenOverIsRight : Type 0
 GivenOverIsRight =
     (old new : State) (leaves : List Leaf) → IsSound old → HaveNoJobs old.jobs leaves → IsGivenOver leaves old new

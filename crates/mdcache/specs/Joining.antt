@@ -12,7 +12,8 @@ use Rattle.dentry_cache.specs.Came.{IsThat}
 -- what a name is once those of some leaves came in, all at this version: that of the last of them which has it
 abbrev pub name_joined : (Leaf → Names) → ℕ → List Leaf → List ℕ → Option Mark → Option Mark
 name_joined names version [] name was = was
-name_joined names version (leaf ∷ leaves) name was = name_joined names version leaves name (marked_as version (map.get (names leaf) name) was)
+name_joined names version (leaf ∷ leaves) name was =
+    name_joined names version leaves name (marked_as version (map.get (names leaf) name) was)
 
 -- a fragment has taken the names of some leaves in
 pub record HasJoined (names : Leaf → Names) (version : ℕ) (leaves : List Leaf) (old new : Cached) : Type 0 where

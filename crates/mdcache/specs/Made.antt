@@ -18,8 +18,8 @@ pub record StaysAsItIs (old new : State) (leaf : Leaf) : Type 0 where
 abbrev pub IsUntouched : (old new : State) → Leaf → Type 0
 IsUntouched old new leaf = IsLive old.homes old.covers leaf → StaysAsItIs old new leaf
 
--- the state is sound, the shown tree is the changed one, each directory that stands has the leaves that it had, and a leaf that is none of
--- those that change stays as it is
+-- the state is sound, the shown tree is the changed one, each directory that stands has the leaves that it had, and a
+-- leaf that is none of those that change stays as it is
 pub record IsRight (change : Change) (old new : State) : Type 0 where
   pub sound : IsSound new
   pub tree : shown_tree new ≡ changed (shown_tree old) change
@@ -32,4 +32,6 @@ HasNumber change = IsNumbered (λ n. n < 2 ^ 64) change
 
 -- every change that may be made is right
 abbrev pub ChangesAreRight : Type 0
-ChangesAreRight = (change : Change) (old new : State) → IsSound old → HasNumber change → MayChange (shown_tree old) old.covers change → Makes change old new → IsRight change old new
+ChangesAreRight =
+    (change : Change) (old new : State) → IsSound old → HasNumber change → MayChange (shown_tree old) old.covers change
+    → Makes change old new → IsRight change old new

@@ -16,8 +16,8 @@ use Rattle.mdcache.specs.Core.{Core, state_of}
 use Rattle.mdcache.specs.New.{new_caches, new_state}
 use Rattle.mdcache.specs.State.{State}
 
--- the directories that a store has, with the leaves of each, its count and its pin, some of its objects to be removed, nothing that isn't clean,
--- and nothing begun
+-- the directories that a store has, with the leaves of each, its count and its pin, some of its objects to be removed,
+-- nothing that isn't clean, and nothing begun
 abbrev pub mounted : ℕ → Objects → Homes → Covers → Counts → DirPins → Keys → State
 mounted limit objects homes covers counts pins purge = record {
   limit = limit;
@@ -34,8 +34,8 @@ mounted limit objects homes covers counts pins purge = record {
   next_version = 1;
 }
 
--- the tree over a store that was walked, where a directory may have so many entries, whatever they have: it has what the walk found, the objects
--- that weren't reached are to be removed, and nothing is cached
+-- the tree over a store that was walked, where a directory may have so many entries, whatever they have: it has what
+-- the walk found, the objects that weren't reached are to be removed, and nothing is cached
 pub record IsMounted (limit : ℕ) (objects : Objects) (ranks places : ℕ) (tree : Tree) (c : Core) : Type 0 where
   pub walked : IsWalked objects tree c.homes c.covers c.purge
   pub counted : IsCounted tree c.counts c.pins
@@ -50,14 +50,18 @@ pub record IsNew (limit ranks places : ℕ) (tree : Tree) (c : Core) : Type 0 wh
 
 -- a store with no object is mounted as a new one; any other as a walk finds it
 abbrev pub Mounts : ℕ → Objects → (ranks places : ℕ) → Tree → Core → Type 0
-Mounts limit objects ranks places tree c = ((objects ≡ map.empty) × IsNew limit ranks places tree c) ⊎ ((objects ≡ map.empty → ⊥) × IsMounted limit objects ranks places tree c)
+Mounts limit objects ranks places tree c =
+    ((objects ≡ map.empty) × IsNew limit ranks places tree c)
+    ⊎ ((objects ≡ map.empty → ⊥) × IsMounted limit objects ranks places tree c)
 
 -- for each of so many ranks the number that it hands out next beside a tree
 pub record AreNumbers (tree : Tree) (ranks : ℕ) (numbers : List Supply) : Type 0 where
   pub count : length numbers ≡ ranks
   pub nexts : (rank : ℕ) (s : Supply) → slice_get numbers rank ≡ Some s → (s.rank ≡ rank) × IsNext tree s
 
--- it is refused `Damaged` only with the name of a faulty object, and only where the store has objects, so never for the leaf of the root that
--- a new store lacks; otherwise for want of memory, or a fault of the store, whose count of faults rose
+-- it is refused `Damaged` only with the name of a faulty object, and only where the store has objects, so never for the
+-- leaf of the root that a new store lacks; otherwise for want of memory, or a fault of the store, whose count of faults
+-- rose
 abbrev pub MayNotMount : Objects → (before after : ℕ) → Refusal → Type 0
-MayNotMount objects before after reason = MayFail (λ name. (objects ≡ map.empty → ⊥) × IsFaulty objects name) before after reason
+MayNotMount objects before after reason =
+    MayFail (λ name. (objects ≡ map.empty → ⊥) × IsFaulty objects name) before after reason

@@ -45,4 +45,5 @@ new_state limit = record {
 
 -- a store is refused NotClean exactly where it has objects, unless it refuses to tell, or want of memory comes
 abbrev pub MayNotFormat : Objects → (before after : ℕ) → Refusal → Type 0
-MayNotFormat objects before after reason = ((reason ≡ NotClean) × (objects ≡ map.empty → ⊥)) ⊎ MayRefuse before after reason
+MayNotFormat objects before after reason =
+    ((reason ≡ NotClean) × (objects ≡ map.empty → ⊥)) ⊎ MayRefuse before after reason

@@ -34,4 +34,5 @@ pub record IsBeyond (name : List ℕ) (page : Gathered) : Type 0 where
 -- names greater than `after` of some leaves put to others in order
 abbrev pub gathered : (Fragment → Names) → Option (List ℕ) → List Row → List Fragment → List Row
 gathered names after rows [] = rows
-gathered names after rows (f ∷ leaves) = gathered names after (puts key_cmp rows (rows_after after (map.entries (names f)))) leaves
+gathered names after rows (f ∷ leaves) =
+    gathered names after (puts key_cmp rows (rows_after after (map.entries (names f)))) leaves

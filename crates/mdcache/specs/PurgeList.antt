@@ -4,7 +4,8 @@ use Rattle.std.specs.Option.{option_map}
 use Rattle.objstore.specs.Omap.{Keys}
 use Rattle.sorted_map.specs.SortedMap.{first_pair}
 
--- the names of objects that are to be removed, as texts in the order of their bytes, and how many more fit with no growth
+-- the names of objects that are to be removed, as texts in the order of their bytes, and how many more fit with no
+-- growth
 pub record Listed : Type 0 where
   pub names : Keys
   pub room : ℕ

@@ -18,7 +18,9 @@ pub record MayHold (caches : CacheMap) (rank : Rank) (leaf : Leaf) : Type 0 wher
 
 -- if a place is kept for a fragment that will be made, it is that of this leaf at this rank
 abbrev pub KeepsOnlyAt : Option (Rank × Leaf) → CacheMap → Type 0
-KeepsOnlyAt kept c = (r : ℕ) (leaf : Leaf) → has_place c r leaf ≡ true → IsThere (here c r leaf) ⊎ ((map.get c.held leaf ≡ None) × (kept ≡ Some (record { 0 = r }, leaf)))
+KeepsOnlyAt kept c =
+    (r : ℕ) (leaf : Leaf) → has_place c r leaf ≡ true → IsThere (here c r leaf)
+    ⊎ ((map.get c.held leaf ≡ None) × (kept ≡ Some (record { 0 = r }, leaf)))
 
 -- ---- the ranks of a change
 
@@ -37,10 +39,12 @@ pub record MayHoldEach (caches : CacheMap) (change : Change) : Type 0 where
 -- the leaves of these names, each at its rank, and that of a new directory beside its name's
 abbrev pub IsNamedBy : Option Spot → Option (Spot × Inode) → Bool → ℕ → Leaf → Type 0
 IsNamedBy None None comes r q = ⊥
-IsNamedBy None (Some put) true r q = IsThat put.0.at.rank.0 (leaf_of put.0.at) r q ⊎ IsThat put.0.at.rank.0 (first_leaf put.1.ino) r q
+IsNamedBy None (Some put) true r q =
+    IsThat put.0.at.rank.0 (leaf_of put.0.at) r q ⊎ IsThat put.0.at.rank.0 (first_leaf put.1.ino) r q
 IsNamedBy None (Some put) false r q = IsThat put.0.at.rank.0 (leaf_of put.0.at) r q
 IsNamedBy (Some spot) None comes r q = IsThat spot.at.rank.0 (leaf_of spot.at) r q
-IsNamedBy (Some spot) (Some put) comes r q = IsThat spot.at.rank.0 (leaf_of spot.at) r q ⊎ IsThat put.0.at.rank.0 (leaf_of put.0.at) r q
+IsNamedBy (Some spot) (Some put) comes r q =
+    IsThat spot.at.rank.0 (leaf_of spot.at) r q ⊎ IsThat put.0.at.rank.0 (leaf_of put.0.at) r q
 
 -- the leaves that a change names
 abbrev pub IsNamedIn : Change → ℕ → Leaf → Type 0

@@ -9,9 +9,11 @@ use Rattle.fragtree.specs.FragTree.{HasLeaf}
 use Rattle.dirfrag_codec.specs.FragmentObject.{Names}
 use Rattle.dentry_cache.specs.Cache.{Leaf}
 
--- want of memory, a store whose count of faults rose, or places that lack: no leaf of a sound state has an object that is damaged
+-- want of memory, a store whose count of faults rose, or places that lack: no leaf of a sound state has an object that
+-- is damaged
 abbrev pub MayNotFind : (NoPlace : Type 0) → (before after : ℕ) → Refusal → Type 0
-MayNotFind NoPlace before after reason = (reason ≡ NoMemory) ⊎ ((reason ≡ StoreFault) × (before < after)) ⊎ ((reason ≡ NothingToEvict) × NoPlace)
+MayNotFind NoPlace before after reason =
+    (reason ≡ NoMemory) ⊎ ((reason ≡ StoreFault) × (before < after)) ⊎ ((reason ≡ NothingToEvict) × NoPlace)
 
 -- a leaf of a directory that has these
 abbrev pub IsLeafOf : Ino → List Fragment → Leaf → Type 0

@@ -8,6 +8,8 @@ use Rattle.mdcache.specs.Reads.{MayNotFind}
 abbrev pub LacksNumbers : ℕ → ℕ → Type 0
 LacksNumbers count next = 2 ^ 64 - 1 < next + count
 
--- why nothing is made ready: numbers lack, and exactly then it is refused so; otherwise want of memory, a fault, or places that lack
+-- why nothing is made ready: numbers lack, and exactly then it is refused so; otherwise want of memory, a fault, or
+-- places that lack
 abbrev pub MayNotBeReady : (Lacks NoPlace : Type 0) → (before after : ℕ) → Refusal → Type 0
-MayNotBeReady Lacks NoPlace before after reason = ((reason ≡ NoInodes) × Lacks) ⊎ ((Lacks → ⊥) × MayNotFind NoPlace before after reason)
+MayNotBeReady Lacks NoPlace before after reason =
+    ((reason ≡ NoInodes) × Lacks) ⊎ ((Lacks → ⊥) × MayNotFind NoPlace before after reason)

@@ -40,9 +40,10 @@ pub record IsSplitReady (p : Core) (a : Dirfrag) (nb : ℕ) (split : Split) : Ty
   pub numbered : AreNumbered p.next_generation split.parts
   pub kept : AreKept p.caches a.rank.0 a.dir a.frag nb
 
--- a leaf was split: its directory has this cover, its job is gone, its object is to be removed and those of its children aren't; the
--- children took generations, and their names a version, if there are any
-abbrev pub split_in : Core → Dirfrag → ℕ → SplitPlan → (cover : List Fragment) → (empty : Bool) → CacheMap → Rooms → Core
+-- a leaf was split: its directory has this cover, its job is gone, its object is to be removed and those of its
+-- children aren't; the children took generations, and their names a version, if there are any
+abbrev pub split_in : Core → Dirfrag → ℕ → SplitPlan → (cover : List Fragment) → (empty : Bool) → CacheMap → Rooms
+    → Core
 split_in p a nb plan cover empty caches room = record p {
   covers = map.insert p.covers a.dir.0 cover;
   caches = caches;
@@ -59,8 +60,8 @@ split_in p a nb plan cover empty caches room = record p {
 abbrev pub ending_at : Core → Dirfrag → List Leaf
 ending_at p a = each (in_directory a.dir.0) (leaves_inside a.frag (leaves_of p.covers a.dir.0))
 
--- the leaves that end, with the names of their objects and room for these on the purge list; the directory's leaves after the merge;
--- and the name of the object of the fragment that comes
+-- the leaves that end, with the names of their objects and room for these on the purge list; the directory's leaves
+-- after the merge; and the name of the object of the fragment that comes
 pub record IsMergePlanned (p : Core) (a : Dirfrag) (plan : MergePlan) : Type 0 where
   pub leaves : leaves_in a.dir plan.leaves.items ≡ ending_at p a
   pub texts : texts_in plan.leaves.items ≡ each text_of (ending_at p a)
@@ -69,11 +70,13 @@ pub record IsMergePlanned (p : Core) (a : Dirfrag) (plan : MergePlan) : Type 0 w
   pub whole : IsTree plan.cover
   pub object : string_bytes plan.object ≡ text_of (leaf_of a)
 
--- a fragment of the next generation, for which no object counts, has the names of these leaves, dirty at the next version
+-- a fragment of the next generation, for which no object counts, has the names of these leaves, dirty at the next
+-- version
 pub record IsJoined (p : Core) (leaves : List Leaf) (joined : Cached) : Type 0 where
   pub fresh : joined.base ≡ Fresh
   pub numbered : joined.generation ≡ p.next_generation
-  pub dirty : (name : List ℕ) → map.get joined.dirty name ≡ name_joined (names_of (unclean p.caches) p.objects) p.next_version leaves name None
+  pub dirty : (name : List ℕ)
+      → map.get joined.dirty name ≡ name_joined (names_of (unclean p.caches) p.objects) p.next_version leaves name None
 
 -- beside what was planned this fragment, and a place for it
 pub record IsMergeReady (p : Core) (a : Dirfrag) (merge : Merge) : Type 0 where
@@ -81,11 +84,16 @@ pub record IsMergeReady (p : Core) (a : Dirfrag) (merge : Merge) : Type 0 where
   pub joined : IsJoined p (ending_at p a) merge.joined
   pub kept : IsKeptFor p.caches a.rank.0 (leaf_of a)
 
--- leaves were merged: the fragment came, and they ended; its object isn't to be removed; it took a generation, and its names a version, if it
--- has any
+-- leaves were merged: the fragment came, and they ended; its object isn't to be removed; it took a generation, and its
+-- names a version, if it has any
 abbrev pub merged_in : Core → Dirfrag → MergePlan → Cached → Rooms → Core
 merged_in p a plan joined room =
-    let left : Core = without_frags (record p { caches = with_frag p.caches a.rank.0 (leaf_of a) joined }) (leaves_in a.dir plan.leaves.items) (texts_in plan.leaves.items) room in
+    let left : Core =
+    without_frags (record p {
+      caches =
+          with_frag p.caches a.rank.0 (leaf_of a) joined;
+    }) (leaves_in a.dir plan.leaves.items)
+    (texts_in plan.leaves.items) room in
     record left {
       covers = map.insert p.covers a.dir.0 plan.cover;
       purge = map.remove left.purge (string_bytes plan.object);

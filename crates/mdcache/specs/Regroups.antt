@@ -11,9 +11,10 @@ use Rattle.mdcache.specs.State.{State}
 abbrev pub LacksCounts : ℕ → State → Type 0
 LacksCounts count s = LacksNumbers count s.next_generation ⊎ LacksNumbers 1 s.next_version
 
--- why the leaves of a directory stay as they are: there is no such directory; the leaves refuse it; numbers lack, and exactly then it is
--- refused so; otherwise want of memory, a fault, or places that lack
-abbrev pub MayNotRegroup : (Can : Type 0) → (Refuses : Refusal → Type 0) → State → Ino → ℕ → (NoPlace : Type 0) → (before after : ℕ) → Refusal → Type 0
+-- why the leaves of a directory stay as they are: there is no such directory; the leaves refuse it; numbers lack, and
+-- exactly then it is refused so; otherwise want of memory, a fault, or places that lack
+abbrev pub MayNotRegroup : (Can : Type 0) → (Refuses : Refusal → Type 0) → State → Ino → ℕ → (NoPlace : Type 0)
+    → (before after : ℕ) → Refusal → Type 0
 MayNotRegroup Can Refuses s dir count NoPlace before after reason =
     ((reason ≡ NoSuchFrag) × (is_known s.homes dir.0 ≡ false))
     ⊎ ((is_known s.homes dir.0 ≡ true) × (reason ≢ NoMemory) × Refuses reason)

@@ -15,7 +15,8 @@ use Rattle.dentry_cache.specs.Ties.{names_at}
 use Rattle.inode_table.specs.Dirs.{Covers, Homes, leaves_of}
 use Rattle.mdcache.specs.State.{State, UnsavedLeaves}
 
--- what a fragment shows: where it isn't clean, its dirty names over those of its base; otherwise the names that its object spells
+-- what a fragment shows: where it isn't clean, its dirty names over those of its base; otherwise the names that its
+-- object spells
 abbrev pub shown_at : Option Unsaved → Option Omap → Names
 shown_at (Some u) object = shown_over u.base (names_at object) u.dirty
 shown_at None object = names_at object
@@ -31,7 +32,8 @@ entries_of d rows = map (λ row. (dentry_of d row.0, row.1)) rows
 -- the entries of some leaves of a directory, and those of some directories
 abbrev pub entries_under : (Leaf → Names) → ℕ → List Fragment → List (Dentry × Inode)
 entries_under names d [] = []
-entries_under names d (f ∷ leaves) = entries_of d (finmap.entries (names (record { 0 = d }, f))) ++ entries_under names d leaves
+entries_under names d (f ∷ leaves) =
+    entries_of d (finmap.entries (names (record { 0 = d }, f))) ++ entries_under names d leaves
 
 abbrev pub entries_in : (Leaf → Names) → Covers → List ℕ → List (Dentry × Inode)
 entries_in names covers [] = []

@@ -29,8 +29,8 @@ pub record IsUnsaved (s : State) (leaf : Leaf) (u : Unsaved) : Type 0 where
   pub made : u.generation < s.next_generation
   pub young : AreYoung u.dirty s.next_version
 
--- a job's snapshot is of this fragment: base and generation are its own, each name of the snapshot is dirty still, and where its version
--- is that of the snapshot so is its inode
+-- a job's snapshot is of this fragment: base and generation are its own, each name of the snapshot is dirty still, and
+-- where its version is that of the snapshot so is its inode
 pub record IsOf (job : Job) (u : Unsaved) (object : Option Omap) : Type 0 where
   pub valid : IsSnap job.snapshot
   pub base : job.snapshot.base ≡ u.base
@@ -59,20 +59,25 @@ pub record IsSound (s : State) : Type 0 where
   pub table : IsTable s.homes s.covers
   -- the number of a directory has 64 bits
   pub numbered : (d : ℕ) → is_known s.homes d ≡ true → d < 2 ^ 64
-  -- the shown tree is well formed, and the table has exactly the root and the tree's directories, each with its parent and name
+  -- the shown tree is well formed, and the table has exactly the root and the tree's directories, each with its parent
+  -- and name
   pub tabled : IsTabled (shown_tree s) s.homes
   -- and for each of them how many entries it has, and its pin
   pub counted : IsCounted (shown_tree s) s.counts s.pins
   -- a leaf shows only names whose pick it is
-  pub placed : (leaf : Leaf) (name : List ℕ) (inode : Inode) → IsLive s.homes s.covers leaf → map.get (names_of s.unsaved s.objects leaf) name ≡ Some inode → IsPick (leaves_of s.covers leaf.0.0) (hash_of name) leaf.1
+  pub placed : (leaf : Leaf) (name : List ℕ) (inode : Inode) → IsLive s.homes s.covers leaf
+      → map.get (names_of s.unsaved s.objects leaf) name ≡ Some inode
+      → IsPick (leaves_of s.covers leaf.0.0) (hash_of name) leaf.1
   -- what isn't clean is live
   pub unsaved : (leaf : Leaf) (u : Unsaved) → map.get s.unsaved leaf ≡ Some u → IsUnsaved s leaf u
   -- each live leaf that is clean has an object that spells it whole
-  pub saved : (leaf : Leaf) → IsLive s.homes s.covers leaf → map.get s.unsaved leaf ≡ None → IsSaved leaf.1 (object_of s.objects leaf.0 leaf.1)
+  pub saved : (leaf : Leaf) → IsLive s.homes s.covers leaf → map.get s.unsaved leaf ≡ None
+      → IsSaved leaf.1 (object_of s.objects leaf.0 leaf.1)
   -- no object lies there that nothing owns
   pub owned : (name : List ℕ) → is_some (map.get s.objects name) ≡ true → IsOwned s name
   -- no object of a live leaf is to be removed
   pub listed : (leaf : Leaf) → IsLive s.homes s.covers leaf → map.get s.purge (text_of leaf) ≡ None
   -- each job is of a fragment that isn't clean, and no two have one number
   pub standing : (leaf : Leaf) (job : Job) → map.get s.jobs leaf ≡ Some job → IsStanding s leaf job
-  pub once : (a b : Leaf) (i j : Job) → map.get s.jobs a ≡ Some i → map.get s.jobs b ≡ Some j → i.number ≡ j.number → a ≡ b
+  pub once : (a b : Leaf) (i j : Job) → map.get s.jobs a ≡ Some i → map.get s.jobs b ≡ Some j → i.number ≡ j.number
+      → a ≡ b

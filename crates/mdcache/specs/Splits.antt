@@ -37,19 +37,23 @@ abbrev pub HasUnsaved : Option Unsaved → (Unsaved → Type 0) → Type 0
 HasUnsaved None P = ⊥
 HasUnsaved (Some u) P = P u
 
--- a fragment that came: no object counts for it, it has one of the next generations, and exactly the names of the directory that it
--- contains are dirty, all at the next version, each with the inode that it stands for
+-- a fragment that came: no object counts for it, it has one of the next generations, and exactly the names of the
+-- directory that it contains are dirty, all at the next version, each with the inode that it stands for
 pub record IsNewLeaf (old : State) (dir : Ino) (f : Fragment) (count : ℕ) (u : Unsaved) : Type 0 where
   pub fresh : u.base ≡ Fresh
   pub first : old.next_generation ≤ u.generation
   pub last : u.generation < old.next_generation + count
-  pub dirty : (name : List ℕ) → map.get u.dirty name ≡ marked_as old.next_version (cond (holds f (hash_of name)) (map.get (shown_tree old) (dentry_of dir.0 name)) None) None
+  pub dirty : (name : List ℕ)
+      → map.get u.dirty name ≡ marked_as old.next_version
+      (cond (holds f (hash_of name)) (map.get (shown_tree old) (dentry_of dir.0 name)) None) None
 
--- the objects of leaves that ended are to be removed, those of leaves that came aren't, and of other names nothing changes
+-- the objects of leaves that ended are to be removed, those of leaves that came aren't, and of other names nothing
+-- changes
 pub record IsListedAnew (old new : Keys) (dir : Ino) (gone : List Fragment) (Came : Fragment → Type 0) : Type 0 where
   pub ended : (f : Fragment) → HasLeaf gone f → map.get new (text_of (dir, f)) ≡ Some tt
   pub came : (f : Fragment) → Came f → map.get new (text_of (dir, f)) ≡ None
-  pub others : (name : List ℕ) → ((f : Fragment) → HasLeaf gone f ⊎ Came f → name ≡ text_of (dir, f) → ⊥) → map.get new name ≡ map.get old name
+  pub others : (name : List ℕ) → ((f : Fragment) → HasLeaf gone f ⊎ Came f → name ≡ text_of (dir, f) → ⊥)
+      → map.get new name ≡ map.get old name
 
 -- a list without some names
 abbrev pub without_objects : Keys → List (List ℕ) → Keys
@@ -65,8 +69,8 @@ pub record NameChildren (dir : Ino) (frag : Fragment) (nb : ℕ) (texts : List (
 abbrev pub are_empty : State → Ino → List Fragment → Bool
 are_empty s dir leaves = list_all (λ f. has_none (names_of s.unsaved s.objects (dir, f))) leaves
 
--- the state with other leaves of a directory, so many of them new: no job stands for a leaf that ended. If names go to new leaves they take
--- the next version
+-- the state with other leaves of a directory, so many of them new: no job stands for a leaf that ended. If names go to
+-- new leaves they take the next version
 abbrev pub regrouped : State → Ino → (gone cover : List Fragment) → ℕ → UnsavedLeaves → Keys → State
 regrouped s dir gone cover count unsaved purge = record s {
   covers = map.insert s.covers dir.0 cover;
@@ -77,17 +81,19 @@ regrouped s dir gone cover count unsaved purge = record s {
   next_version = s.next_version + cond (are_empty s dir gone) 0 1;
 }
 
--- a directory got another cover: some leaves ended, so many came, of which no object counts and all names are dirty, and all others are as
--- they were
+-- a directory got another cover: some leaves ended, so many came, of which no object counts and all names are dirty,
+-- and all others are as they were
 pub record IsRegrouped (old new : State) (dir : Ino) (gone cover : List Fragment) (count : ℕ) : Type 0 where
   pub known : is_known old.homes dir.0 ≡ true
   pub whole : IsTree cover
   pub unsaved : UnsavedLeaves
   pub purge : Keys
   pub left : new ≡ regrouped old dir gone cover count unsaved purge
-  pub came : (f : Fragment) → Comes (leaves_of old.covers dir.0) cover f → HasUnsaved (map.get unsaved (dir, f)) (IsNewLeaf old dir f count)
+  pub came : (f : Fragment) → Comes (leaves_of old.covers dir.0) cover f
+      → HasUnsaved (map.get unsaved (dir, f)) (IsNewLeaf old dir f count)
   pub ended : (f : Fragment) → HasLeaf gone f → map.get unsaved (dir, f) ≡ None
-  pub others : (leaf : Leaf) → (leaf.0.0 ≡ dir.0 → IsConcerned (leaves_of old.covers dir.0) cover gone leaf.1 → ⊥) → map.get unsaved leaf ≡ map.get old.unsaved leaf
+  pub others : (leaf : Leaf) → (leaf.0.0 ≡ dir.0 → IsConcerned (leaves_of old.covers dir.0) cover gone leaf.1 → ⊥)
+      → map.get unsaved leaf ≡ map.get old.unsaved leaf
   pub listed : IsListedAnew old.purge purge dir gone (Comes (leaves_of old.covers dir.0) cover)
 
 -- ---- a split
@@ -98,7 +104,8 @@ pub record IsSplitInto (old new : State) (dir : Ino) (frag : Fragment) (nb : ℕ
   pub cover : List Fragment
   pub divided : IsSplit (leaves_of old.covers dir.0) cover frag nb
   pub regrouped : IsRegrouped old new dir (frag ∷ []) cover (2 ^ nb)
-  pub numbered : (i : ℕ) → i < 2 ^ nb → HasUnsaved (map.get new.unsaved (dir, child_of frag i nb)) (λ u. u.generation ≡ old.next_generation + i)
+  pub numbered : (i : ℕ) → i < 2 ^ nb
+      → HasUnsaved (map.get new.unsaved (dir, child_of frag i nb)) (λ u. u.generation ≡ old.next_generation + i)
 
 -- ---- a merge
 
@@ -111,7 +118,8 @@ pub record IsMergedInto (old new : State) (dir : Ino) (frag : Fragment) : Type 0
 
 -- ---- the laws
 
--- the state is sound, the tree that is shown is the same, and each leaf that didn't end stands, and shows what it showed
+-- the state is sound, the tree that is shown is the same, and each leaf that didn't end stands, and shows what it
+-- showed
 pub record KeepsTree (old new : State) (dir : Ino) (gone : List Fragment) : Type 0 where
   pub sound : IsSound new
   pub tree : shown_tree new ≡ shown_tree old
@@ -119,7 +127,11 @@ pub record KeepsTree (old new : State) (dir : Ino) (gone : List Fragment) : Type
 
 -- every split, and every merge, is right
 abbrev pub SplitsAreRight : Type 0
-SplitsAreRight = (old new : State) (dir : Ino) (frag : Fragment) (nb : ℕ) → IsSound old → IsSplitInto old new dir frag nb → KeepsTree old new dir (frag ∷ [])
+SplitsAreRight =
+    (old new : State) (dir : Ino) (frag : Fragment) (nb : ℕ) → IsSound old → IsSplitInto old new dir frag nb
+    → KeepsTree old new dir (frag ∷ [])
 
 abbrev pub MergesAreRight : Type 0
-MergesAreRight = (old new : State) (dir : Ino) (frag : Fragment) → IsSound old → IsMergedInto old new dir frag → KeepsTree old new dir (leaves_inside frag (leaves_of old.covers dir.0))
+MergesAreRight =
+    (old new : State) (dir : Ino) (frag : Fragment) → IsSound old → IsMergedInto old new dir frag
+    → KeepsTree old new dir (leaves_inside frag (leaves_of old.covers dir.0))

@@ -13,14 +13,16 @@ use Rattle.mdcache.specs.Core.{Core, state_of}
 abbrev pub IsUndone : (old new : Core) → Type 0
 IsUndone old new = state_of new ≡ state_of old
 
--- a leaf was split by so many bits; where it wasn't, either its directory's leaves refuse that, or places lack at the rank that holds it
--- (`NoPlace`), or numbers, or the store or memory refused
+-- a leaf was split by so many bits; where it wasn't, either its directory's leaves refuse that, or places lack at the
+-- rank that holds it (`NoPlace`), or numbers, or the store or memory refused
 abbrev pub MayNotSplit : (NoPlace : Type 0) → (old new : Core) → Ino → Fragment → ℕ → Refusal → Type 0
 MayNotSplit NoPlace old new dir frag nb reason =
-    MayNotRegroup (CanSplit (leaves_of old.covers dir.0) frag nb) (RefusesSplit (leaves_of old.covers dir.0) frag nb) (state_of old) dir (2 ^ nb) NoPlace old.faults new.faults reason
+    MayNotRegroup (CanSplit (leaves_of old.covers dir.0) frag nb) (RefusesSplit (leaves_of old.covers dir.0) frag nb)
+    (state_of old) dir (2 ^ nb) NoPlace old.faults new.faults reason
 
 abbrev pub SplitsLeaf : (NoPlace : Type 0) → (old new : Core) → Ino → Fragment → ℕ → Result (Unit {0}) Refusal → Type 0
-SplitsLeaf NoPlace old new dir frag nb (Ok done) = IsSplitInto (state_of old) (state_of new) dir frag nb × KeepsTree (state_of old) (state_of new) dir (frag ∷ [])
+SplitsLeaf NoPlace old new dir frag nb (Ok done) =
+    IsSplitInto (state_of old) (state_of new) dir frag nb × KeepsTree (state_of old) (state_of new) dir (frag ∷ [])
 SplitsLeaf NoPlace old new dir frag nb (Err reason) = MayNotSplit NoPlace old new dir frag nb reason × IsUndone old new
 
 -- the leaves that a merge at a fragment ends
@@ -30,8 +32,11 @@ merged_leaves c dir frag = leaves_inside frag (leaves_of c.covers dir.0)
 -- leaves were merged; where they weren't it was refused so too
 abbrev pub MayNotMerge : (NoPlace : Type 0) → (old new : Core) → Ino → Fragment → Refusal → Type 0
 MayNotMerge NoPlace old new dir frag reason =
-    MayNotRegroup (CanMerge (leaves_of old.covers dir.0) frag) (RefusesMerge (leaves_of old.covers dir.0) frag) (state_of old) dir 1 NoPlace old.faults new.faults reason
+    MayNotRegroup (CanMerge (leaves_of old.covers dir.0) frag) (RefusesMerge (leaves_of old.covers dir.0) frag)
+    (state_of old) dir 1 NoPlace old.faults new.faults reason
 
 abbrev pub MergesLeaves : (NoPlace : Type 0) → (old new : Core) → Ino → Fragment → Result (Unit {0}) Refusal → Type 0
-MergesLeaves NoPlace old new dir frag (Ok done) = IsMergedInto (state_of old) (state_of new) dir frag × KeepsTree (state_of old) (state_of new) dir (merged_leaves old dir frag)
+MergesLeaves NoPlace old new dir frag (Ok done) =
+    IsMergedInto (state_of old) (state_of new) dir frag
+    × KeepsTree (state_of old) (state_of new) dir (merged_leaves old dir frag)
 MergesLeaves NoPlace old new dir frag (Err reason) = MayNotMerge NoPlace old new dir frag reason × IsUndone old new

@@ -32,4 +32,7 @@ is_behind (Some other) leaf = is_lt (leaf_cmp other leaf)
 -- the least leaf behind another for which a job stands; none, where none stands for a leaf behind it
 abbrev pub IsNext : Jobs → Option Leaf → Option Leaf → Type 0
 IsNext jobs after None = (leaf : Leaf) → is_behind after leaf ≡ true → map.get jobs leaf ≡ None
-IsNext jobs after (Some next) = (is_behind after next ≡ true) × IsSome (map.get jobs next) × ((leaf : Leaf) → is_behind after leaf ≡ true → IsSome (map.get jobs leaf) → (leaf ≡ next) ⊎ (leaf_cmp next leaf ≡ Less))
+IsNext jobs after (Some next) =
+    (is_behind after next ≡ true) × IsSome (map.get jobs next)
+    × ((leaf : Leaf) → is_behind after leaf ≡ true → IsSome (map.get jobs leaf) → (leaf ≡ next)
+    ⊎ (leaf_cmp next leaf ≡ Less))

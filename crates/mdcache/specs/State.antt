@@ -16,9 +16,9 @@ use Rattle.mdcache.specs.StandingJobs.{Jobs}
 abbrev pub UnsavedLeaves : Type 0
 UnsavedLeaves = map.FinMap leaf_cmp Unsaved
 
--- all that a refused step leaves as it was: how many entries a directory may have; where each directory stands, its leaves, how many entries it
--- has and its pin; what isn't clean, the objects of the store, the commits that were begun, the names of objects to be removed, and the numbers
--- that the next job, fragment and dirty name get
+-- all that a refused step leaves as it was: how many entries a directory may have; where each directory stands, its
+-- leaves, how many entries it has and its pin; what isn't clean, the objects of the store, the commits that were begun,
+-- the names of objects to be removed, and the numbers that the next job, fragment and dirty name get
 pub record State : Type 0 where
   pub limit : ℕ
   pub homes : Homes

@@ -98,8 +98,8 @@ impl<S: Store + Drop> MdCache<S> {
         self.remove_dir(going);
     }
 
-    /// The name that is left is removed, then the inode comes to the other, and what stood there goes; entries are counted by whether
-    /// something did.
+    /// The name that is left is removed, then the inode comes to the other, and what stood there goes; entries are
+    /// counted by whether something did.
     pub(crate) fn pass(&mut self, from: Spot, to: Spot, inode: Inode, moving: MovingEntry)
         requires first { from.at.rank.0 < length self.old.caches.used }
         requires second { to.at.rank.0 < length self.old.caches.used }

@@ -23,8 +23,8 @@ use rayon::prelude::*;
 use std::alloc::Global;
 use std::thread::Threads;
 
-/// The most fragments that a flush commits at once: enough for all processors to encode side by side, and few enough that their snapshots
-/// and writes are small beside a large store.
+/// The most fragments that a flush commits at once: enough for all processors to encode side by side, and few enough
+/// that their snapshots and writes are small beside a large store.
 const BATCH: usize = 256;
 
 /// A job that was begun, and the rank that has its fragment.
@@ -55,11 +55,12 @@ impl Begun {
 }
 
 impl<S: Store + Drop> MdCache<S> {
-    /// Commits each fragment that isn't clean, while no job stands. No more than 256 of them are begun at once, and no job stands
-    /// afterwards; the next one gets the number that it would have got before. Takes memory for the snapshots and writes of so many.
+    /// Commits each fragment that isn't clean, while no job stands. No more than 256 of them are begun at once, and no
+    /// job stands afterwards; the next one gets the number that it would have got before. Takes memory for the
+    /// snapshots and writes of so many.
     ///
-    /// Refused `NoInodes` where a fragment's version is used up, or fewer than 256 numbers are left for jobs; otherwise as the store
-    /// refuses, and `NoMemory`. What was committed until then is so, and all else is as it was.
+    /// Refused `NoInodes` where a fragment's version is used up, or fewer than 256 numbers are left for jobs; otherwise
+    /// as the store refuses, and `NoMemory`. What was committed until then is so, and all else is as it was.
     pub fn commit_all(&mut self, rt: &(impl Threads + Sync), alloc: Global) -> Result<(), Refusal>
         requires sound { IsSoundCore self.old }
         requires none { self.old.jobs ≡ map.empty }
@@ -76,7 +77,8 @@ impl<S: Store + Drop> MdCache<S> {
         commit_batches(self, rt, alloc)
     }
 
-    // Commits some leaves that aren't clean, no more than 256, and tells whether there were any. Takes memory for them at once.
+    // Commits some leaves that aren't clean, no more than 256, and tells whether there were any. Takes memory for them
+    // at once.
     fn commit_some(&mut self, rt: &(impl Threads + Sync), alloc: Global) -> Result<bool, Refusal>
         requires sound { IsSoundCore self.old }
         requires none { self.old.jobs ≡ map.empty }
@@ -121,8 +123,8 @@ impl<S: Store + Drop> MdCache<S> {
         }
     }
 
-    // Commits each of these leaves, none of which is clean. Takes memory for all of them at once. Whatever it answers no job stands
-    // then, and the next one gets the number that it would have got before.
+    // Commits each of these leaves, none of which is clean. Takes memory for all of them at once. Whatever it answers
+    // no job stands then, and the next one gets the number that it would have got before.
     pub(crate) fn commit_batch(
         &mut self,
         rt: &(impl Threads + Sync),
@@ -167,8 +169,8 @@ impl<S: Store + Drop> MdCache<S> {
         self.next.job = number;
     }
 
-    // Commits each of these leaves, none of which is clean: all begin, all are encoded, and all end. Takes memory for all of them at
-    // once. After a refusal some may be committed, and jobs stand.
+    // Commits each of these leaves, none of which is clean: all begin, all are encoded, and all end. Takes memory for
+    // all of them at once. After a refusal some may be committed, and jobs stand.
     pub(crate) fn commit_each(
         &mut self,
         rt: &(impl Threads + Sync),
@@ -199,7 +201,8 @@ impl<S: Store + Drop> MdCache<S> {
         ended
     }
 
-    // Begins a commit of each of these leaves, none of which is clean. Takes memory for the jobs, and for each snapshot twice.
+    // Begins a commit of each of these leaves, none of which is clean. Takes memory for the jobs, and for each snapshot
+    // twice.
     pub(crate) fn begin_each(
         &mut self,
         alloc: Global,
@@ -231,7 +234,8 @@ impl<S: Store + Drop> MdCache<S> {
         Ok(begun)
     }
 
-    // Ends each of these commits, of fragments that haven't changed since: they are clean then. Takes memory before each write.
+    // Ends each of these commits, of fragments that haven't changed since: they are clean then. Takes memory before
+    // each write.
     pub(crate) fn end_each(&mut self, alloc: Global, ready: &[Ready]) -> Result<(), Refusal>
         requires sound { IsSoundCore self.old }
         requires begun { AllByRecursion (IsReadyAt self.old) ready.now }
@@ -270,7 +274,8 @@ impl<S: Store + Drop> MdCache<S> {
         }
     }
 
-    // Ends a commit of a leaf whose fragment hasn't changed since it began: it is clean then. Takes memory before it writes.
+    // Ends a commit of a leaf whose fragment hasn't changed since it began: it is clean then. Takes memory before it
+    // writes.
     pub(crate) fn end_one(
         &mut self,
         alloc: Global,
@@ -291,8 +296,8 @@ impl<S: Store + Drop> MdCache<S> {
     }
 }
 
-// The writes of jobs, in their order, made side by side by as many threads as there are processors. A job is heavy, so a
-// thread may take a single one. Takes memory for them, and is refused for want of it alone.
+// The writes of jobs, in their order, made side by side by as many threads as there are processors. A job is heavy, so
+// a thread may take a single one. Takes memory for them, and is refused for want of it alone.
 fn encode_each(
     rt: &(impl Threads + Sync),
     alloc: Global,

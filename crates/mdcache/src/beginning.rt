@@ -23,11 +23,11 @@ use objstore::Store;
 use std::alloc::AllocError;
 
 impl<S: Store + Drop> MdCache<S> {
-    /// Begins a commit of a leaf that is there, at the rank that holds it: gives the job of its snapshot, which stands from now on;
-    /// none, exactly where the leaf is clean. Takes memory for the snapshot, twice.
+    /// Begins a commit of a leaf that is there, at the rank that holds it: gives the job of its snapshot, which stands
+    /// from now on; none, exactly where the leaf is clean. Takes memory for the snapshot, twice.
     ///
-    /// Refused `JobOutstanding` where a job stands for it, `NoInodes` where no number is left for the job or for the version that
-    /// the commit writes, and `NoMemory`.
+    /// Refused `JobOutstanding` where a job stands for it, `NoInodes` where no number is left for the job or for the
+    /// version that the commit writes, and `NoMemory`.
     pub fn begin(&mut self, at: &Dirfrag) -> Result<Option<Job>, Refusal>
         requires sound { IsSoundCore self.old }
         requires live { IsLive self.old.homes self.old.covers (leaf_of at.now) }
@@ -52,8 +52,8 @@ impl<S: Store + Drop> MdCache<S> {
         }
     }
 
-    // A job of the next number stands from now on for a fragment that isn't clean, and is given back. Takes memory for the
-    // snapshot, twice; refused for want of it alone, and no more jobs stand then than before.
+    // A job of the next number stands from now on for a fragment that isn't clean, and is given back. Takes memory for
+    // the snapshot, twice; refused for want of it alone, and no more jobs stand then than before.
     fn begin_at(&mut self, at: &Dirfrag, generation: u64) -> Result<Job, Refusal>
         requires there { at.now.rank.0 < length self.old.caches.used }
         requires begins { HasCached (here self.old.caches at.now.rank.0 (leaf_of at.now)) (λ (f : Cached). (is_clean f ≡ false) × IsBelowEnd f.base × (generation ≡ f.generation)) }

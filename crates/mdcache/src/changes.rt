@@ -62,7 +62,8 @@ impl<S: Store + Drop> MdCache<S> {
         self.dirs.entry_goes(dir);
     }
 
-    /// An entry moves from one directory to another, where something stood at its new name, or nothing. Takes no memory.
+    /// An entry moves from one directory to another, where something stood at its new name, or nothing. Takes no
+    /// memory.
     pub(crate) fn entry_moves(&mut self, from: Ino, to: Ino, stood: bool)
         requires from { is_known self.old.homes from.0 ≡ true }
         requires to { is_known self.old.homes to.0 ≡ true }
@@ -82,8 +83,8 @@ impl<S: Store + Drop> MdCache<S> {
         }
     }
 
-    /// A directory comes, with its one leaf, for which a place is kept; `object` is the name of the leaf's object, which isn't to
-    /// be removed then. Takes no memory.
+    /// A directory comes, with its one leaf, for which a place is kept; `object` is the name of the leaf's object,
+    /// which isn't to be removed then. Takes no memory.
     pub(crate) fn add_dir(&mut self, alloc: Global, at: Dirfrag, home: Home, object: &str)
         requires room { 0 < self.old.room.dirs }
         requires may { MayCome self.old.homes at.dir.0 home }
@@ -110,9 +111,9 @@ impl<S: Store + Drop> MdCache<S> {
         }
     }
 
-    /// A directory goes that is no one's parent and not the root, or none: its home, its leaves with all that is cached of them at
-    /// any rank and the jobs that stand for them. The names of its objects, for which there is room, are on the purge list then.
-    /// Takes no memory.
+    /// A directory goes that is no one's parent and not the root, or none: its home, its leaves with all that is cached
+    /// of them at any rank and the jobs that stand for them. The names of its objects, for which there is room, are on
+    /// the purge list then. Takes no memory.
     pub(crate) fn remove_dir(&mut self, going: Option<Going>)
         requires may { IfSome (dir_going going) (λ dir. MayGo self.old.homes dir.0) }
         requires room { count_going going ≤ self.old.room.purge }
@@ -126,8 +127,8 @@ impl<S: Store + Drop> MdCache<S> {
         }
     }
 
-    /// These leaves of a directory end: their places at any rank, their jobs, and the names of their objects are on the purge
-    /// list, which has room for them. Takes no memory.
+    /// These leaves of a directory end: their places at any rank, their jobs, and the names of their objects are on the
+    /// purge list, which has room for them. Takes no memory.
     pub(crate) fn end_leaves(&mut self, dir: Ino, leaves: Vec<GoingLeaf>)
         requires { length leaves.items ≤ self.old.room.purge }
         ensures ended { self.new ≡ without_frags self.old (leaves_in dir leaves.items) (texts_in leaves.items) self.new.room }

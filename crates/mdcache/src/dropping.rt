@@ -37,8 +37,8 @@ impl<S: Store + Drop> MdCache<S> {
         self.jobs.next(after)
     }
 
-    /// Gives up the job of a leaf, as `drop_job` does that of a number. A leaf for which none stands changes nothing. Takes no
-    /// memory.
+    /// Gives up the job of a leaf, as `drop_job` does that of a number. A leaf for which none stands changes nothing.
+    /// Takes no memory.
     pub fn end_job(&mut self, dir: Ino, frag: Frag)
         requires { IsSoundCore self.old }
         ensures state { state_of self.new ≡ record (state_of self.old) { jobs = map.remove self.old.jobs (dir, frag) } }

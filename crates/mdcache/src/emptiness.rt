@@ -22,10 +22,11 @@ use objstore::Store;
 use std::alloc::Global;
 
 impl<S: Store + Drop> MdCache<S> {
-    /// Whether a leaf shows no name: a directory is empty where each of its leaves shows none. The leaf is fetched into the cache
-    /// of the rank that holds it, where it isn't cached. Takes memory for a leaf that is read.
+    /// Whether a leaf shows no name: a directory is empty where each of its leaves shows none. The leaf is fetched into
+    /// the cache of the rank that holds it, where it isn't cached. Takes memory for a leaf that is read.
     ///
-    /// Refused `NothingToEvict` where no place of the cache is free and no fragment can go, `StoreFault`, and `NoMemory`.
+    /// Refused `NothingToEvict` where no place of the cache is free and no fragment can go, `StoreFault`, and
+    /// `NoMemory`.
     pub fn is_leaf_empty(
         &mut self,
         alloc: Global,

@@ -16,11 +16,11 @@ use objstore::Store;
 use std::alloc::Global;
 
 impl<S: Store + Drop> MdCache<S> {
-    /// Ends a commit of a leaf that the rank holds: writes the object of its snapshot in one atomic operation. Exactly the
-    /// names whose last change the snapshot has are clean then, and the job is gone. Takes memory before it writes.
+    /// Ends a commit of a leaf that the rank holds: writes the object of its snapshot in one atomic operation. Exactly
+    /// the names whose last change the snapshot has are clean then, and the job is gone. Takes memory before it writes.
     ///
-    /// Refused `StaleJob` exactly where no job of this number, fragment, generation and snapshot stands; otherwise as the
-    /// store refuses the write, and `NoMemory`: all stays dirty then, and the job stands.
+    /// Refused `StaleJob` exactly where no job of this number, fragment, generation and snapshot stands; otherwise as
+    /// the store refuses the write, and `NoMemory`: all stays dirty then, and the job stands.
     pub fn end(&mut self, alloc: Global, rank: Rank, encoded: &Encoded) -> Result<(), Refusal>
         requires sound { IsSoundCore self.old }
         requires holds { MayHold self.old.caches rank (leaf_of encoded.now.job) }

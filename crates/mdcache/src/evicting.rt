@@ -9,8 +9,8 @@ use mds_types::{Rank, Refusal};
 use objstore::Store;
 
 impl<S: Store + Drop> MdCache<S> {
-    /// Drops the least recently used of the clean fragments of a rank. The caches of the other ranks stay as they are. Takes no
-    /// memory.
+    /// Drops the least recently used of the clean fragments of a rank. The caches of the other ranks stay as they are.
+    /// Takes no memory.
     ///
     /// Refused `NothingToEvict` exactly where no fragment of the rank is clean.
     pub fn evict(&mut self, rank: Rank) -> Result<(), Refusal>

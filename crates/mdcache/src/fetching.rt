@@ -19,10 +19,11 @@ use objstore::Store;
 use std::alloc::Global;
 
 impl<S: Store + Drop> MdCache<S> {
-    /// Makes sure that a leaf is cached at its rank, and makes it the most recently used there. A clean one that isn't there is
-    /// read from the store. Takes memory for a leaf that is read.
+    /// Makes sure that a leaf is cached at its rank, and makes it the most recently used there. A clean one that isn't
+    /// there is read from the store. Takes memory for a leaf that is read.
     ///
-    /// Refused `NothingToEvict` where no place of the rank is free and no fragment can go, `StoreFault`, and `NoMemory`.
+    /// Refused `NothingToEvict` where no place of the rank is free and no fragment can go, `StoreFault`, and
+    /// `NoMemory`.
     pub(crate) fn fetch(&mut self, alloc: Global, at: &Dirfrag) -> Result<(), Refusal>
         requires may { MayFetch self.old at.now }
         requires none { KeepsNone self.old.caches }
@@ -58,8 +59,8 @@ impl<S: Store + Drop> MdCache<S> {
         self.caches.fetch(alloc, &mut self.store, *at, stay)
     }
 
-    /// The inode that a name of a leaf stands for, if it is there; the leaf is fetched. Takes memory for a leaf that is read, and
-    /// for a link's target.
+    /// The inode that a name of a leaf stands for, if it is there; the leaf is fetched. Takes memory for a leaf that is
+    /// read, and for a link's target.
     ///
     /// Refused as `fetch` is.
     pub(crate) fn find(

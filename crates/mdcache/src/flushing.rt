@@ -46,13 +46,14 @@ impl<S: Store + Drop> MdCache<S> {
         purge_each(self)
     }
 
-    /// Makes the object of each directory's tree say what leaves the directory has, of those directories whose leaves were
-    /// ever set: it is written, if there are several and the object isn't so already, and removed, if there is one. Their
-    /// names leave the purge list. Other directories have no tree object but one that is to be removed, and take no call of
-    /// the store: where no directory's leaves were ever set nothing is done, and nothing refused. Takes memory for one object
-    /// after the other.
+    /// Makes the object of each directory's tree say what leaves the directory has, of those directories whose leaves
+    /// were ever set: it is written, if there are several and the object isn't so already, and removed, if there is
+    /// one. Their names leave the purge list. Other directories have no tree object but one that is to be removed, and
+    /// take no call of the store: where no directory's leaves were ever set nothing is done, and nothing refused. Takes
+    /// memory for one object after the other.
     ///
-    /// Refused as the store refuses, and `NoMemory`. Some directories' objects are up to date then, the others as they were.
+    /// Refused as the store refuses, and `NoMemory`. Some directories' objects are up to date then, the others as they
+    /// were.
     pub fn save_trees(&mut self, alloc: Global) -> Result<(), Refusal>
         requires { IsSoundCore self.old }
         ensures all { OnOk result (HasTrees (state_of self.new)) }
@@ -67,13 +68,14 @@ impl<S: Store + Drop> MdCache<S> {
         save_each(self, alloc)
     }
 
-    /// Writes all that isn't in the store: gives up the commits that were begun, commits each fragment that isn't clean, brings the
-    /// objects of directories' trees up to date and removes what is to be removed. The store's cold tree is the shown tree then, and
-    /// its objects are exactly those of live leaves and of trees of several leaves. Whatever it answers, the shown tree is as it
-    /// was, no commit is begun any more, and no next number is another. Takes memory for the snapshots and writes of 256 fragments.
+    /// Writes all that isn't in the store: gives up the commits that were begun, commits each fragment that isn't
+    /// clean, brings the objects of directories' trees up to date and removes what is to be removed. The store's cold
+    /// tree is the shown tree then, and its objects are exactly those of live leaves and of trees of several leaves.
+    /// Whatever it answers, the shown tree is as it was, no commit is begun any more, and no next number is another.
+    /// Takes memory for the snapshots and writes of 256 fragments.
     ///
-    /// Refused `NoInodes` where a fragment's version is used up, or fewer than 256 numbers are left for jobs; otherwise as the store
-    /// refuses, and `NoMemory`. Part of it may be done then, and another flush goes on with the rest.
+    /// Refused `NoInodes` where a fragment's version is used up, or fewer than 256 numbers are left for jobs; otherwise
+    /// as the store refuses, and `NoMemory`. Part of it may be done then, and another flush goes on with the rest.
     pub fn flush(&mut self, rt: &(impl Threads + Sync), alloc: Global) -> Result<(), Refusal>
         requires sound { IsSoundCore self.old }
         requires few { length self.old.caches.used ≤ 256 }
@@ -95,9 +97,9 @@ impl<S: Store + Drop> MdCache<S> {
         }
     }
 
-    /// Brings the store's objects up to date where nothing is unsaved: those of directories' trees, and all that are to be
-    /// removed. The store's cold tree is the shown tree then, and it has no objects but those of leaves and of trees of several
-    /// leaves. Takes memory for one object after the other.
+    /// Brings the store's objects up to date where nothing is unsaved: those of directories' trees, and all that are to
+    /// be removed. The store's cold tree is the shown tree then, and it has no objects but those of leaves and of trees
+    /// of several leaves. Takes memory for one object after the other.
     ///
     /// Refused as the store refuses, and `NoMemory`. Part of it may be done then.
     pub fn flush_objects(&mut self, alloc: Global) -> Result<(), Refusal>

@@ -20,11 +20,11 @@ use objstore::{NamePage, Store};
 use std::alloc::Global;
 
 impl<S: Store + Drop> MdCache<S> {
-    /// The empty tree over a store, as `new` makes it, where the store has no object; it is asked for its first name. Takes
-    /// little memory.
+    /// The empty tree over a store, as `new` makes it, where the store has no object; it is asked for its first name.
+    /// Takes little memory.
     ///
-    /// Refused `NotClean` exactly where the store has objects, unless it refuses to tell, and `NoMemory`; the store is handed
-    /// back then, with its objects as they were.
+    /// Refused `NotClean` exactly where the store has objects, unless it refuses to tell, and `NoMemory`; the store is
+    /// handed back then, with its objects as they were.
     pub fn format(
         alloc: Global,
         mut store: S,
@@ -54,10 +54,9 @@ impl<S: Store + Drop> MdCache<S> {
         }
     }
 
-    /// The empty tree over a store that has no object, with a cache of so many places for each of so many ranks, and a limit of the
-    /// entries of each directory. The root's
-    /// leaf `*` is the first fragment made; it is cached at rank 0, and no object counts for it. Takes little memory; where
-    /// that is refused the store is handed back as it was.
+    /// The empty tree over a store that has no object, with a cache of so many places for each of so many ranks, and a
+    /// limit of the entries of each directory. The root's leaf `*` is the first fragment made; it is cached at rank 0,
+    /// and no object counts for it. Takes little memory; where that is refused the store is handed back as it was.
     pub fn new(
         alloc: Global,
         store: S,

@@ -25,8 +25,8 @@ pub struct Going {
     pub leaves: Vec<GoingLeaf>,
 }
 
-/// What has to be named before a directory goes: its tree's object, and each leaf with the object of the leaf. Takes memory for
-/// the names, and for a copy of what leaves there are; fails for want of it alone, and changes nothing.
+/// What has to be named before a directory goes: its tree's object, and each leaf with the object of the leaf. Takes
+/// memory for the names, and for a copy of what leaves there are; fails for want of it alone, and changes nothing.
 pub fn going_of(alloc: Global, dirs: &Dirs, dir: Ino) -> Result<Going, AllocError>
     ensures { IfOk result (λ going. (going.dir ≡ dir) × IsGoing dirs.now.trees going) }
 {

@@ -11,13 +11,14 @@ use mds_types::{Frag, Ino, Rank, Refusal};
 use objstore::Store;
 
 impl<S: Store + Drop> MdCache<S> {
-    /// What a rank caches of these leaves goes to another rank: each fragment that isn't clean is there as it was, but of
-    /// generation 0, and the first of the list is the most recently used; what is clean is cached no more. The tree that is shown
-    /// stays. No commit of a leaf that isn't clean stands. The store isn't called. Takes memory for the places.
+    /// What a rank caches of these leaves goes to another rank: each fragment that isn't clean is there as it was, but
+    /// of generation 0, and the first of the list is the most recently used; what is clean is cached no more. The tree
+    /// that is shown stays. No commit of a leaf that isn't clean stands. The store isn't called. Takes memory for the
+    /// places.
     ///
-    /// Refused `NothingToEvict` where fewer places of the other rank are free or can become so than there are fragments that
-    /// aren't clean, and `NoMemory` where as many are. Nothing went then; clean fragments of the other rank may have gone for want
-    /// of memory.
+    /// Refused `NothingToEvict` where fewer places of the other rank are free or can become so than there are fragments
+    /// that aren't clean, and `NoMemory` where as many are. Nothing went then; clean fragments of the other rank may
+    /// have gone for want of memory.
     pub fn hand_over(
         &mut self,
         from: Rank,

@@ -28,12 +28,12 @@ use objstore::Store;
 use std::alloc::Global;
 
 impl<S: Store + Drop> MdCache<S> {
-    /// The fragment of the next generation that has the names of all these leaves of a directory, dirty at the next version, and a
-    /// place that is kept for it. The leaves are fetched one after the other, at the rank of that fragment. Takes memory for copies
-    /// of their names, and for a leaf that is read.
+    /// The fragment of the next generation that has the names of all these leaves of a directory, dirty at the next
+    /// version, and a place that is kept for it. The leaves are fetched one after the other, at the rank of that
+    /// fragment. Takes memory for copies of their names, and for a leaf that is read.
     ///
-    /// Refused `NothingToEvict` where no place of the rank is free and none can become so, `StoreFault`, and `NoMemory`. No place is
-    /// kept then.
+    /// Refused `NothingToEvict` where no place of the rank is free and none can become so, `StoreFault`, and
+    /// `NoMemory`. No place is kept then.
     pub(crate) fn join_names(
         &mut self,
         alloc: Global,

@@ -1,9 +1,10 @@
-//! The tree over caches and a store, CephFS's `MDCache`: which directories there are and which leaves they have, what the
-//! ranks' caches of fragments hold beyond the objects of the store, which commits were begun, and which objects are to be removed.
-//! What a leaf shows is what isn't clean of it over its object, so no fetch and no eviction changes the tree that is shown.
+//! The tree over caches and a store, CephFS's `MDCache`: which directories there are and which leaves they have, what
+//! the ranks' caches of fragments hold beyond the objects of the store, which commits were begun, and which objects are
+//! to be removed. What a leaf shows is what isn't clean of it over its object, so no fetch and no eviction changes the
+//! tree that is shown.
 //!
-//! What contracts see of it (`Core`), the tree that is shown, what makes it sound and what each change makes of it is defined here,
-//! with its laws.
+//! What contracts see of it (`Core`), the tree that is shown, what makes it sound and what each change makes of it is
+//! defined here, with its laws.
 #![tactic(auto)]
 
 // the type, a new tree, and one over a store as it is found
@@ -11,7 +12,8 @@ mod formatting;
 mod mdcache;
 mod mounting;
 
-// what stands beside directories and caches: the jobs, the objects that are to be removed, the numbers that are given out
+// what stands beside directories and caches: the jobs, the objects that are to be removed, the numbers that are given
+// out
 mod counters;
 mod purge_list;
 mod standing_jobs;

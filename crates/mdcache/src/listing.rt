@@ -30,11 +30,12 @@ use objstore::Store;
 use std::alloc::Global;
 
 impl<S: Store + Drop> MdCache<S> {
-    /// Takes the names of a leaf greater than `after`, or all where none is given, into a page of its directory, up to the first
-    /// that can't be in it. The leaf is fetched into the cache of the rank that holds it, where it isn't cached. Takes memory for
-    /// the page, and for a leaf that is read.
+    /// Takes the names of a leaf greater than `after`, or all where none is given, into a page of its directory, up to
+    /// the first that can't be in it. The leaf is fetched into the cache of the rank that holds it, where it isn't
+    /// cached. Takes memory for the page, and for a leaf that is read.
     ///
-    /// Refused `NothingToEvict` where no place of the cache is free and no fragment can go, `StoreFault`, and `NoMemory`.
+    /// Refused `NothingToEvict` where no place of the cache is free and no fragment can go, `StoreFault`, and
+    /// `NoMemory`.
     pub fn gather(
         &mut self,
         alloc: Global,

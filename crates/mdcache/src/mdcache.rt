@@ -12,8 +12,8 @@ use objstore::Store;
 use std::alloc::Global;
 use std::marker::Model;
 
-/// A directory table, a cache of fragments over a store for each rank, the commits that were begun, and the purge list; and how
-/// many entries a directory may have.
+/// A directory table, a cache of fragments over a store for each rank, the commits that were begun, and the purge list;
+/// and how many entries a directory may have.
 ///
 /// Nothing is promised of these together: what a sound tree is (`IsSoundCore`) each call asks, and leaves.
 #[derive(Drop)]

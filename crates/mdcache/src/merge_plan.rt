@@ -18,8 +18,8 @@ use mds_types::{Dirfrag, Frag, Ino, Refusal};
 use objstore::Store;
 use std::alloc::{AllocError, Global};
 
-/// The leaves that end with a merge, with the names of their objects; the leaves of the directory after it; and the name of the
-/// object of the fragment that comes.
+/// The leaves that end with a merge, with the names of their objects; the leaves of the directory after it; and the
+/// name of the object of the fragment that comes.
 #[derive(Drop)]
 pub struct MergePlan {
     pub leaves: Vec<GoingLeaf>,

@@ -36,8 +36,8 @@ pub struct Merge {
 }
 
 impl<S: Store + Drop> MdCache<S> {
-    /// Whether there is such a directory, and leaves of it lie properly inside the fragment, not too many to merge them: as `merge`
-    /// asks for. Takes no memory.
+    /// Whether there is such a directory, and leaves of it lie properly inside the fragment, not too many to merge
+    /// them: as `merge` asks for. Takes no memory.
     ///
     /// Refused `NoSuchFrag` where no leaf lies properly inside the fragment, and `TooManyFrags` where too many do.
     pub fn check_merge(&self, dir: Ino, frag: Frag) -> Result<(), Refusal>
@@ -48,14 +48,14 @@ impl<S: Store + Drop> MdCache<S> {
         can_merge(&self.dirs, dir, frag)
     }
 
-    /// Merges the leaves of a directory properly inside a fragment, which can be merged, at the one rank that holds them: the
-    /// fragment stands in their place, with all their names. It is of the next generation, no object counts for it, and its names
-    /// are dirty, all at the next version. The jobs of the leaves end, and their objects are to be removed. The leaves are fetched
-    /// one after the other. Takes memory for copies of their names, and for a leaf that is read. All this is in the cache of that
-    /// rank.
+    /// Merges the leaves of a directory properly inside a fragment, which can be merged, at the one rank that holds
+    /// them: the fragment stands in their place, with all their names. It is of the next generation, no object counts
+    /// for it, and its names are dirty, all at the next version. The jobs of the leaves end, and their objects are to
+    /// be removed. The leaves are fetched one after the other. Takes memory for copies of their names, and for a leaf
+    /// that is read. All this is in the cache of that rank.
     ///
-    /// Refused `NoInodes` exactly where no numbers are left, and then `NothingToEvict` where no place of the cache is free and
-    /// none can become so, `StoreFault`, and `NoMemory`.
+    /// Refused `NoInodes` exactly where no numbers are left, and then `NothingToEvict` where no place of the cache is
+    /// free and none can become so, `StoreFault`, and `NoMemory`.
     pub fn merge(&mut self, alloc: Global, at: &Dirfrag) -> Result<(), Refusal>
         requires sound { IsSoundCore self.old }
         requires there { at.now.rank.0 < length self.old.caches.used }
@@ -101,7 +101,8 @@ impl<S: Store + Drop> MdCache<S> {
 
     // Makes all ready for a merge of leaves that can be merged. Takes memory for all this, and for a leaf that is read.
     //
-    // Refused `NothingToEvict` where no place is free and none can become so, `StoreFault`, and `NoMemory`. No place is kept then.
+    // Refused `NothingToEvict` where no place is free and none can become so, `StoreFault`, and `NoMemory`. No place is
+    // kept then.
     fn prepare_merge(&mut self, alloc: Global, at: &Dirfrag) -> Result<Merge, Refusal>
         requires sound { IsSoundCore self.old }
         requires there { at.now.rank.0 < length self.old.caches.used }
@@ -129,8 +130,8 @@ impl<S: Store + Drop> MdCache<S> {
         }
     }
 
-    // Merges leaves for which all is ready, and takes the numbers of the fragment that comes and of its names. Takes no memory,
-    // and can't fail.
+    // Merges leaves for which all is ready, and takes the numbers of the fragment that comes and of its names. Takes no
+    // memory, and can't fail.
     fn commit_merge(&mut self, at: &Dirfrag, merge: Merge)
         requires there { at.now.rank.0 < length self.old.caches.used }
         requires ready { IsMergeReady self.old at.now merge }

@@ -34,12 +34,12 @@ pub struct Opening {
 }
 
 impl<S: Store + Drop> MdCache<S> {
-    /// The tree over a store as it is found: where the store has no object that of `format`; otherwise what `walk` finds, with
-    /// no fragment cached, and the objects that it doesn't reach on the purge list. Nothing is written, and a directory may have
-    /// more entries than the limit. Memory is linear in the names and the objects.
+    /// The tree over a store as it is found: where the store has no object that of `format`; otherwise what `walk`
+    /// finds, with no fragment cached, and the objects that it doesn't reach on the purge list. Nothing is written, and
+    /// a directory may have more entries than the limit. Memory is linear in the names and the objects.
     ///
-    /// Refused `Damaged`, with the name of a faulty object, where the store has objects; otherwise as the store refuses a call
-    /// (`StoreFault`), and `NoMemory`; the store is handed back then, with its objects as they were.
+    /// Refused `Damaged`, with the name of a faulty object, where the store has objects; otherwise as the store refuses
+    /// a call (`StoreFault`), and `NoMemory`; the store is handed back then, with its objects as they were.
     pub fn mount(
         alloc: Global,
         mut store: S,

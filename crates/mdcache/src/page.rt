@@ -119,8 +119,8 @@ fn set_inode(rows: &mut Vec<(Name, Inode)>, at: usize, inode: Inode)
     rows[at].1 = inode;
 }
 
-// Puts a row in at a place; where there are `most` already, the last one goes. Tells whether one went. Takes memory where
-// there are fewer.
+// Puts a row in at a place; where there are `most` already, the last one goes. Tells whether one went. Takes memory
+// where there are fewer.
 fn put_row(
     rows: &mut Vec<(Name, Inode)>,
     most: usize,

@@ -10,8 +10,8 @@ use mds_types::Refusal;
 use objstore::Store;
 
 impl<S: Store + Drop> MdCache<S> {
-    /// Removes the first object of the purge list from the store, and its name from the list. Where the list is empty there
-    /// is nothing to do. Takes no memory of its own.
+    /// Removes the first object of the purge list from the store, and its name from the list. Where the list is empty
+    /// there is nothing to do. Takes no memory of its own.
     ///
     /// Refused as the store refuses; the name stays on the list then.
     pub fn purge(&mut self) -> Result<(), Refusal>

@@ -21,8 +21,8 @@ use objstore::Store;
 use std::alloc::Global;
 
 impl<S: Store + Drop> MdCache<S> {
-    /// Makes sure that a leaf is cached at its rank and has room for so many changes, and makes it the most recently used there.
-    /// Takes memory for a leaf that is read, and for the room.
+    /// Makes sure that a leaf is cached at its rank and has room for so many changes, and makes it the most recently
+    /// used there. Takes memory for a leaf that is read, and for the room.
     ///
     /// Refused as `fetch` is.
     pub(crate) fn ready_names(
@@ -46,10 +46,11 @@ impl<S: Store + Drop> MdCache<S> {
         Ok(())
     }
 
-    /// Makes two leaves ready, which may be one: the first has room for two changes then, and the second for one; the first stays
-    /// where it is while the second comes. Takes memory for leaves that are read, and for the room.
+    /// Makes two leaves ready, which may be one: the first has room for two changes then, and the second for one; the
+    /// first stays where it is while the second comes. Takes memory for leaves that are read, and for the room.
     ///
-    /// Refused `NothingToEvict` where a rank has no place free and no fragment but the first can go, `StoreFault`, and `NoMemory`.
+    /// Refused `NothingToEvict` where a rank has no place free and no fragment but the first can go, `StoreFault`, and
+    /// `NoMemory`.
     pub(crate) fn ready_pair(
         &mut self,
         alloc: Global,
@@ -92,11 +93,11 @@ impl<S: Store + Drop> MdCache<S> {
         Ok(())
     }
 
-    /// Makes a leaf ready for one change, and keeps a place of the same rank for a leaf that will come, which isn't cached. The
-    /// first stays where it is. Takes memory for both.
+    /// Makes a leaf ready for one change, and keeps a place of the same rank for a leaf that will come, which isn't
+    /// cached. The first stays where it is. Takes memory for both.
     ///
-    /// Refused `NothingToEvict` where no place is free and no other fragment can go, `StoreFault`, and `NoMemory`. No place is
-    /// kept then.
+    /// Refused `NothingToEvict` where no place is free and no other fragment can go, `StoreFault`, and `NoMemory`. No
+    /// place is kept then.
     pub(crate) fn ready_first(
         &mut self,
         alloc: Global,

@@ -37,10 +37,11 @@ impl<S: Store + Drop> MdCache<S> {
         self.dirs.is_above(dir, below)
     }
 
-    /// The inode that a name stands for in a leaf to which its hash belongs, copied. The leaf is fetched into the cache of the
-    /// rank that holds it, where it isn't cached. Takes memory for a leaf that is read, and for a link's target.
+    /// The inode that a name stands for in a leaf to which its hash belongs, copied. The leaf is fetched into the cache
+    /// of the rank that holds it, where it isn't cached. Takes memory for a leaf that is read, and for a link's target.
     ///
-    /// Refused `NothingToEvict` where no place of the cache is free and no fragment can go, `StoreFault`, and `NoMemory`.
+    /// Refused `NothingToEvict` where no place of the cache is free and no fragment can go, `StoreFault`, and
+    /// `NoMemory`.
     pub fn look(
         &mut self,
         alloc: Global,

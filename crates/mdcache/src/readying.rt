@@ -33,11 +33,11 @@ use objstore::Store;
 use std::alloc::{AllocError, Global};
 
 impl<S: Store + Drop> MdCache<S> {
-    /// Makes ready that a name of a leaf gets an inode or loses it: the leaf is fetched, where it isn't cached, and has room for a
-    /// change then. Takes memory for a leaf that is read, and for the room.
+    /// Makes ready that a name of a leaf gets an inode or loses it: the leaf is fetched, where it isn't cached, and has
+    /// room for a change then. Takes memory for a leaf that is read, and for the room.
     ///
-    /// Refused `NoInodes` exactly where no version is left for the name; otherwise `NothingToEvict` where no place of the
-    /// cache is free and no fragment can go, `StoreFault`, and `NoMemory`.
+    /// Refused `NoInodes` exactly where no version is left for the name; otherwise `NothingToEvict` where no place of
+    /// the cache is free and no fragment can go, `StoreFault`, and `NoMemory`.
     pub(crate) fn ready_name(&mut self, alloc: Global, at: &Dirfrag) -> Result<(), Refusal>
         requires sound { IsSoundCore self.old }
         requires live { IsLive self.old.homes self.old.covers (leaf_of at.now) }
@@ -54,9 +54,9 @@ impl<S: Store + Drop> MdCache<S> {
         self.ready_names(alloc, at, 1)
     }
 
-    /// Makes ready that a new directory of this number comes to a dentry: beside what its name needs a place is kept for the
-    /// directory's leaf `*`, at the rank that holds the dentry's leaf, and there is room for the directory. Takes memory for all
-    /// this.
+    /// Makes ready that a new directory of this number comes to a dentry: beside what its name needs a place is kept
+    /// for the directory's leaf `*`, at the rank that holds the dentry's leaf, and there is room for the directory.
+    /// Takes memory for all this.
     ///
     /// Refused `NoInodes` exactly where no version is left for the name, or no generation for the leaf; otherwise
     /// `NothingToEvict` where no place of the cache is free and no fragment but the dentry's can go, `StoreFault`, and
@@ -104,8 +104,8 @@ impl<S: Store + Drop> MdCache<S> {
         }
     }
 
-    /// Makes ready that the entry of a name gets other attributes, and tells that a record allows the inode that stands there, so
-    /// that it allows its number and kind with other attributes too. Otherwise as `ready_name`.
+    /// Makes ready that the entry of a name gets other attributes, and tells that a record allows the inode that stands
+    /// there, so that it allows its number and kind with other attributes too. Otherwise as `ready_name`.
     pub(crate) fn ready_set(&mut self, alloc: Global, spot: &Spot) -> Result<(), Refusal>
         requires sound { IsSoundCore self.old }
         requires live { IsLive self.old.homes self.old.covers (leaf_of spot.now.at) }
@@ -124,8 +124,8 @@ impl<S: Store + Drop> MdCache<S> {
         Ok(())
     }
 
-    /// Makes ready that the entry of a name goes. `gone` is its number, if it is a directory: the names of that one's objects are
-    /// kept, and the purge list has room for them. Otherwise as `ready_name`.
+    /// Makes ready that the entry of a name goes. `gone` is its number, if it is a directory: the names of that one's
+    /// objects are kept, and the purge list has room for them. Otherwise as `ready_name`.
     pub(crate) fn ready_removal(
         &mut self,
         alloc: Global,
@@ -155,13 +155,13 @@ impl<S: Store + Drop> MdCache<S> {
         }
     }
 
-    /// Makes ready that the inode of one name moves to another, in a leaf that may be the same: the first has room for two changes
-    /// then, and the second for one; a copy of the new name is kept. `gone` is the number of what is replaced, if that is a
-    /// directory: the names of its objects are kept, and the purge list has room for them. Takes memory for leaves that are read,
-    /// for the room, for the copy and for the names.
+    /// Makes ready that the inode of one name moves to another, in a leaf that may be the same: the first has room for
+    /// two changes then, and the second for one; a copy of the new name is kept. `gone` is the number of what is
+    /// replaced, if that is a directory: the names of its objects are kept, and the purge list has room for them. Takes
+    /// memory for leaves that are read, for the room, for the copy and for the names.
     ///
-    /// Refused `NoInodes` exactly where no two versions are left; otherwise `NothingToEvict` where no place of the cache is
-    /// free and no fragment but the first can go, `StoreFault`, and `NoMemory`.
+    /// Refused `NoInodes` exactly where no two versions are left; otherwise `NothingToEvict` where no place of the
+    /// cache is free and no fragment but the first can go, `StoreFault`, and `NoMemory`.
     pub(crate) fn ready_move(
         &mut self,
         alloc: Global,
@@ -265,8 +265,8 @@ fn moving_entry(
     }
 }
 
-// Where a directory goes: the names of its objects, for which there is room on the purge list then. Takes memory for both.
-// Refused for want of memory alone.
+// Where a directory goes: the names of its objects, for which there is room on the purge list then. Takes memory for
+// both. Refused for want of memory alone.
 fn ready_going(
     alloc: Global,
     dirs: &Dirs,

@@ -13,8 +13,8 @@ use objstore::Store;
 use std::alloc::{AllocError, Global};
 
 impl<S: Store + Drop> MdCache<S> {
-    /// Whether numbers are left for so many fragments that come, and for their names: what `split` and `merge` ask before they
-    /// take memory. Refused `NoInodes` exactly where they aren't. Takes no memory.
+    /// Whether numbers are left for so many fragments that come, and for their names: what `split` and `merge` ask
+    /// before they take memory. Refused `NoInodes` exactly where they aren't. Takes no memory.
     pub fn check_numbers(&self, count: u64) -> Result<(), Refusal>
         ensures ok { OnOk result (LacksCounts count (state_of self.now) → ⊥) }
         ensures left { OnOk result ((self.now.next_generation + count < 2 ^ 64) × (self.now.next_version < 2 ^ 64 - 1)) }

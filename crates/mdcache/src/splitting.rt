@@ -1,5 +1,5 @@
-//! A leaf of a directory is split: all is made ready for it first, and then it is done. The leaves of the directory are set as the last
-//! thing that may be refused; what was made ready is given up then.
+//! A leaf of a directory is split: all is made ready for it first, and then it is done. The leaves of the directory are
+//! set as the last thing that may be refused; what was made ready is given up then.
 ghost use Rattle.std.specs.Prelude.{◌≡◌, ◌⊎◌, ◌+◌, ◌-◌, ◌≤◌, ◌<◌, ◌^◌, ◌∷◌, [], ℕ, Bool, true, None, length, map as each, string_bytes, OnOk, OnErr, IfOk, IfErr};
 ghost use Rattle.std.specs.Result.{result_err};
 ghost use Rattle.std.specs.FinMap as map;
@@ -43,13 +43,14 @@ pub struct Split {
 }
 
 impl<S: Store + Drop> MdCache<S> {
-    /// Splits a leaf that can be split by so many bits, at the rank that holds it: its children stand in its place, each with those of
-    /// its names that it contains. They are fragments of the next generations, for which no object counts, and their names are
-    /// dirty, all at the next version. The leaf's job ends, and its object is to be removed. Takes memory for the children and
-    /// their names, and for the leaf, if it is read. All this is in the cache of that rank.
+    /// Splits a leaf that can be split by so many bits, at the rank that holds it: its children stand in its place,
+    /// each with those of its names that it contains. They are fragments of the next generations, for which no object
+    /// counts, and their names are dirty, all at the next version. The leaf's job ends, and its object is to be
+    /// removed. Takes memory for the children and their names, and for the leaf, if it is read. All this is in the
+    /// cache of that rank.
     ///
-    /// Refused `NoInodes` exactly where no numbers are left, and then `NothingToEvict` where no more places of the cache are free
-    /// or can become so than there would be children, `StoreFault`, and `NoMemory`.
+    /// Refused `NoInodes` exactly where no numbers are left, and then `NothingToEvict` where no more places of the
+    /// cache are free or can become so than there would be children, `StoreFault`, and `NoMemory`.
     pub fn split(&mut self, alloc: Global, at: &Dirfrag, nb: u8) -> Result<(), Refusal>
         requires sound { IsSoundCore self.old }
         requires holds { MayHold self.old.caches at.now.rank (leaf_of at.now) }
@@ -92,10 +93,11 @@ impl<S: Store + Drop> MdCache<S> {
         Ok(())
     }
 
-    // Makes all ready for a split of a leaf that can be split. Takes memory for all this, and for the leaf, if it is read.
+    // Makes all ready for a split of a leaf that can be split. Takes memory for all this, and for the leaf, if it is
+    // read.
     //
-    // Refused `NothingToEvict` where no more places are free or can become so than there will be children, `StoreFault`, and
-    // `NoMemory`. No place is kept then.
+    // Refused `NothingToEvict` where no more places are free or can become so than there will be children,
+    // `StoreFault`, and `NoMemory`. No place is kept then.
     fn prepare_split(&mut self, alloc: Global, at: &Dirfrag, nb: u8) -> Result<Split, Refusal>
         requires sound { IsSoundCore self.old }
         requires holds { MayHold self.old.caches at.now.rank (leaf_of at.now) }
@@ -124,7 +126,8 @@ impl<S: Store + Drop> MdCache<S> {
         }
     }
 
-    // Fetches a leaf, and keeps a place for each of its children, which have room for its names and the next generations.
+    // Fetches a leaf, and keeps a place for each of its children, which have room for its names and the next
+    // generations.
     fn ready_children(&mut self, alloc: Global, at: &Dirfrag, nb: u8) -> Result<Parts, Refusal>
         requires may { MayFetch self.old at.now }
         requires none { KeepsNone self.old.caches }
@@ -151,9 +154,9 @@ impl<S: Store + Drop> MdCache<S> {
             .ready_split(alloc, *at, nb, self.next.generation)
     }
 
-    // Splits a leaf for which all is ready, in the directory table first: its names go to its children, its job ends, the name of its
-    // object comes on the purge list, and those of the children's objects leave it. Takes memory for the table's leaves, and one
-    // search. Refused for want of it alone; the children's places are given up then.
+    // Splits a leaf for which all is ready, in the directory table first: its names go to its children, its job ends,
+    // the name of its object comes on the purge list, and those of the children's objects leave it. Takes memory for
+    // the table's leaves, and one search. Refused for want of it alone; the children's places are given up then.
     fn commit_split(
         &mut self,
         alloc: Global,

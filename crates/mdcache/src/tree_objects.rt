@@ -13,8 +13,8 @@ use mds_types::{Bytes, Ino, Refusal};
 use objstore::{Store, WriteOp};
 use std::alloc::{AllocError, Global};
 
-/// Makes the object of this name say what leaves a directory has: it is written, if there is more than one and it isn't so
-/// already, and removed, if there is one. Takes memory before it writes.
+/// Makes the object of this name say what leaves a directory has: it is written, if there is more than one and it isn't
+/// so already, and removed, if there is one. Takes memory before it writes.
 ///
 /// Refused as the store refuses a call, and `NoMemory`. The objects stay as they were then.
 pub fn save_tree<S: Store>(

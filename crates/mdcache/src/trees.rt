@@ -12,9 +12,9 @@ use objstore::Store;
 use std::alloc::Global;
 
 impl<S: Store + Drop> MdCache<S> {
-    /// Makes the object of a directory's tree say what leaves the directory has: it is written, if there is more than one
-    /// and the object isn't so already, and removed, if there is one. Its name leaves the purge list. Takes memory before it
-    /// writes.
+    /// Makes the object of a directory's tree say what leaves the directory has: it is written, if there is more than
+    /// one and the object isn't so already, and removed, if there is one. Its name leaves the purge list. Takes memory
+    /// before it writes.
     ///
     /// Refused `NoSuchFrag` exactly where there is no such directory; otherwise as the store refuses, and `NoMemory`.
     pub fn commit_tree(&mut self, alloc: Global, dir: Ino) -> Result<(), Refusal>

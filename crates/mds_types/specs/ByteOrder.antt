@@ -16,7 +16,8 @@ word_at bytes at many = spelt 0 (take many (drop at bytes))
 abbrev pub Alike : (xs ys : List ℕ) → ℕ → Type 0
 Alike xs ys n = (k : ℕ) → k < n → slice_index xs k ≡ slice_index ys k
 
--- two numbers that were read from bytes: where they differ they lie as those do, and else the first so many bytes are alike
+-- two numbers that were read from bytes: where they differ they lie as those do, and else the first so many bytes are
+-- alike
 pub record Settles (xs ys : List ℕ) (n x y : ℕ) : Type 0 where
   pub apart : x ≢ y → slice_cmp nat_cmp xs ys ≡ nat_cmp x y
   pub alike : x ≡ y → Alike xs ys n

@@ -52,7 +52,8 @@ pub record IsInExactlyOne (leaves : List Fragment) (hash : ℕ) : Type 0 where
   pub place : ℕ
   pub stands : place < length leaves
   pub contains : Contains (slice_index_or leaves place root_fragment) hash
-  pub alone : (other : ℕ) → other < length leaves → Contains (slice_index_or leaves other root_fragment) hash → other ≡ place
+  pub alone : (other : ℕ) → other < length leaves → Contains (slice_index_or leaves other root_fragment) hash
+      → other ≡ place
 
 abbrev pub IsCover : List Fragment → Type 0
 IsCover leaves = (hash : ℕ) → hash < 2 ^ 24 → IsInExactlyOne leaves hash

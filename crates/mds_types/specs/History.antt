@@ -48,9 +48,11 @@ pub record IsNext (limit : ℕ) (opening : Tree) (past : List Entry) (e : Entry)
 
 -- a legal history: each entry may come next after those before it
 abbrev pub IsLegal : ℕ → Tree → List Entry → Type 0
-IsLegal limit opening history = (k : ℕ) (e : Entry) → k < length history → IsNext limit opening (take k history) (slice_index_or history k e)
+IsLegal limit opening history =
+    (k : ℕ) (e : Entry) → k < length history → IsNext limit opening (take k history) (slice_index_or history k e)
 
--- what a request with this client, tid and oldest is to a history: trimmed, if its tid is below the client's mark or its own oldest;
+-- what a request with this client, tid and oldest is to a history: trimmed, if its tid is below the client's mark or
+-- its own oldest;
 abbrev pub IsTrimmed : List Entry → ℕ → ℕ → ℕ → Type 0
 IsTrimmed history client tid oldest = (tid < mark history client) ⊎ (tid < oldest)
 

@@ -15,8 +15,11 @@ inode_decides a b =
     let kinds : Decides (kind.ghosts.eq a.kind b.kind) (a.kind ≡ b.kind) = Prim.search rules in
     let ranks : (x y : Rank) → Decides (rank.ghosts.eq x y) (x ≡ y) = λ x y. Prim.search rules in
     let pins = option_decides rank.ghosts.eq ranks a.pin b.pin in
-    let all = Decides-and _ _ (Decides-eqb a.ino.0 b.ino.0) (Decides-and _ _ kinds (Decides-and _ _ (Decides-eqb a.mode b.mode) (Decides-and _ _ (Decides-eqb a.size b.size)
-    (Decides-and _ _ (Decides-eqb a.mtime b.mtime) (Decides-and _ _ (Decides-eqb a.uid b.uid) (Decides-and _ _ (Decides-eqb a.gid b.gid) pins)))))) in (
+    let all =
+    Decides-and _ _ (Decides-eqb a.ino.0 b.ino.0)
+    (Decides-and _ _ kinds (Decides-and _ _ (Decides-eqb a.mode b.mode) (Decides-and _ _ (Decides-eqb a.size b.size)
+    (Decides-and _ _ (Decides-eqb a.mtime b.mtime)
+    (Decides-and _ _ (Decides-eqb a.uid b.uid) (Decides-and _ _ (Decides-eqb a.gid b.gid) pins)))))) in (
       λ t. let w = all.0 t in λ i. record {
         ino = record { 0 = w.0 i };
         kind = w.1.0 i;

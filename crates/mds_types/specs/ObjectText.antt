@@ -1,4 +1,5 @@
--- The texts that name objects, CephFS's form for the object of a fragment; that of a fragment tree is this project's own profile.
+-- The texts that name objects, CephFS's form for the object of a fragment; that of a fragment tree is this project's
+-- own profile.
 use Rattle.std.specs.Prelude.{◌≡◌, ℕ, ◌-◌, ◌^◌, ◌<◌, false, List, ◌++◌, codes, length, replicate}
 use Rattle.std.specs.Fmt.{digits}
 use Rattle.mds_types.specs.declared.object_names.ObjName.{ObjName}
@@ -9,7 +10,8 @@ use Rattle.mds_types.specs.Frag.{IsFragment, word_of}
 abbrev pub word_text : ℕ → List ℕ
 word_text word = replicate (8 - length (digits 16 false word)) 48 ++ digits 16 false word
 
--- the inode in lower hexadecimal without leading zeros, a dot, and the fragment's word, or `fragtree` for the fragment tree
+-- the inode in lower hexadecimal without leading zeros, a dot, and the fragment's word, or `fragtree` for the fragment
+-- tree
 abbrev pub object_text : ObjName → List ℕ
 object_text (Frag ino frag) = digits 16 false ino.0 ++ (codes "." ++ word_text (word_of frag))
 object_text (Tree ino) = digits 16 false ino.0 ++ codes ".fragtree"

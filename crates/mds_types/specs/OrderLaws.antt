@@ -16,10 +16,12 @@ name-exact = exact_bytes
 
 pub dentry-exact : IsAntisymmetric dentry_cmp
 dentry-exact a b tied =
-    let same : (a.dir.0, a.name) ≡ (b.dir.0, b.name) = exact_pairs nat_cmp (slice_cmp nat_cmp) exact_unsigned exact_bytes (a.dir.0, a.name) (b.dir.0, b.name) tied in
+    let same : (a.dir.0, a.name) ≡ (b.dir.0, b.name) =
+    exact_pairs nat_cmp (slice_cmp nat_cmp) exact_unsigned exact_bytes (a.dir.0, a.name) (b.dir.0, b.name) tied in
     λ i. record { dir = record { 0 = (same i).0 }; name = (same i).1 }
 
 pub frag-exact : IsAntisymmetric frag_cmp
 frag-exact a b tied =
-    let same : (a.value, a.bits) ≡ (b.value, b.bits) = exact_pairs nat_cmp nat_cmp exact_unsigned exact_unsigned (a.value, a.bits) (b.value, b.bits) tied in
+    let same : (a.value, a.bits) ≡ (b.value, b.bits) =
+    exact_pairs nat_cmp nat_cmp exact_unsigned exact_unsigned (a.value, a.bits) (b.value, b.bits) tied in
     λ i. record { bits = (same i).1; value = (same i).0 }

@@ -35,7 +35,9 @@ StandsIn tree x = (dentry : Dentry) × (inode : Inode) × (map.get tree dentry �
 
 -- each inode that is left stood before, or has the number that was taken
 abbrev pub IsOld : Tree → ℕ → Outcome → Type 0
-IsOld tree n outcome = (dentry : Dentry) (inode : Inode) → map.get outcome.tree dentry ≡ Some inode → StandsIn tree inode.ino.0 ⊎ ((outcome.takes ≡ true) × (inode.ino.0 ≡ n))
+IsOld tree n outcome =
+    (dentry : Dentry) (inode : Inode) → map.get outcome.tree dentry ≡ Some inode → StandsIn tree inode.ino.0
+    ⊎ ((outcome.takes ≡ true) × (inode.ino.0 ≡ n))
 
 -- names in order with the inodes that they have in a directory: just those greater than `after`, and none is left out
 pub record IsListing (tree : Tree) (d : ℕ) (after : Option (List ℕ)) (names : List (List ℕ × Inode)) : Type 0 where

@@ -1,5 +1,6 @@
--- The shape of each operation: which names it reads, makes, sets, takes away or moves, whatever it is called.
--- What operations do when they succeed is POSIX.1's; that a directory is pinned to a rank is the CephFS documentation's (`ceph.dir.pin`).
+-- The shape of each operation: which names it reads, makes, sets, takes away or moves, whatever it is called. What
+-- operations do when they succeed is POSIX.1's; that a directory is pinned to a rank is the CephFS documentation's
+-- (`ceph.dir.pin`).
 use Rattle.std.specs.Prelude.{ℕ, Bool, true, false, List, Option, Some, None}
 use Rattle.mds_types.specs.declared.dentries.Dentry.{Dentry}
 use Rattle.mds_types.specs.declared.inodes.Alteration.{Alteration}

@@ -1,7 +1,6 @@
--- The operation table: what each operation answers on the plain tree, and what it leaves. Each operation's checks come in
--- the order in which they stand here; an errno changes nothing.
--- What operations do when they succeed is POSIX.1's; the order of the checks, the errno numbers and the limit of a directory's entries are this
--- project's own profile.
+-- The operation table: what each operation answers on the plain tree, and what it leaves. Each operation's checks come
+-- in the order in which they stand here; an errno changes nothing. What operations do when they succeed is POSIX.1's;
+-- the order of the checks, the errno numbers and the limit of a directory's entries are this project's own profile.
 use Rattle.std.specs.Prelude.{ℕ, Bool, true, false, cond, ◌&&◌, ◌||◌, ◌==◌, nat_lt, nat_le, List, map, filter, take, length, Option, Some, None, unwrap_or, ◌≡◌, ◌<◌, ◌^◌}
 use Rattle.std.specs.Ordering.{is_lt, eq_by_cmp}
 use Rattle.std.specs.Cmp.Lexicographic.{slice_cmp}
@@ -23,7 +22,8 @@ use Rattle.mds_types.specs.declared.replies.Reply.TheVariants.{Entry, Entries, D
 use Rattle.mds_types.specs.Shape.{Shape, Looks, Lists, Makes, Sets, Unlinks, Removes, Moves, destination_in, directory_in, shape}
 use Rattle.mds_types.specs.Tree.{Tree, dentry_cmp, is_directory, is_dir_kind, is_above, entries_in, has_entries}
 
--- what one step of the table gives: the reply, the tree that it leaves, and whether it took the number that it was offered
+-- what one step of the table gives: the reply, the tree that it leaves, and whether it took the number that it was
+-- offered
 pub record Outcome : Type 0 where
   pub reply : Reply
   pub tree : Tree
@@ -65,7 +65,12 @@ full_errno limit tree d = cond (nat_le limit (entries_in tree d)) (Some 28) None
 abbrev pub made : ℕ → Tree → Dentry → Inode → Option Inode → Outcome
 made limit tree dentry inode (Some other) = answers tree (Errno 17)
 made limit tree dentry inode None =
-    unless tree (full_errno limit tree dentry.dir.0) (record { reply = Entry inode; tree = map.insert tree dentry inode; takes = true })
+    unless tree (full_errno limit tree dentry.dir.0) (record {
+      reply =
+          Entry inode;
+      tree = map.insert tree dentry inode;
+      takes = true;
+    })
 
 -- a new file or directory has size 0, and a link the size of its target
 abbrev pub new_size : Kind → ℕ
@@ -76,7 +81,17 @@ new_size (Link target) = length target
 -- a new inode has no pin
 abbrev pub new_inode : ℕ → Kind → ℕ → Birth → Inode
 new_inode number kind mode birth =
-    record { ino = record { 0 = number }; kind = kind; mode = mode; size = new_size kind; mtime = birth.mtime; uid = birth.uid; gid = birth.gid; pin = None }
+    record {
+      ino = record { 0 = number };
+      kind = kind;
+      mode = mode;
+      size = new_size kind;
+      mtime = birth.mtime;
+      uid =
+          birth.uid;
+      gid = birth.gid;
+      pin = None;
+    }
 
 -- a size may be given to a file alone: to a directory EISDIR, to a link EINVAL
 abbrev pub size_errno : Kind → Option ℕ → Option ℕ
@@ -129,7 +144,8 @@ altered_at tree dentry alteration (Some inode) =
 -- unlink: absent ENOENT, a directory EISDIR (where POSIX.1 names EPERM)
 abbrev pub unlinked : Tree → Dentry → Option Inode → Outcome
 unlinked tree dentry None = answers tree (Errno 2)
-unlinked tree dentry (Some inode) = cond (is_dir_kind inode.kind) (answers tree (Errno 21)) (answers (map.remove tree dentry) Done)
+unlinked tree dentry (Some inode) =
+    cond (is_dir_kind inode.kind) (answers tree (Errno 21)) (answers (map.remove tree dentry) Done)
 
 -- what is no directory, or is not empty, can't be taken away as a directory
 abbrev pub removal_errno : Tree → Inode → Option ℕ
@@ -161,7 +177,8 @@ abbrev pub room_errno : ℕ → Tree → Dentry → Dentry → Option Inode → 
 room_errno limit tree from to None = cond (from.dir.0 == to.dir.0) None (full_errno limit tree to.dir.0)
 room_errno limit tree from to (Some target) = None
 
--- rename: absent ENOENT; to itself, nothing happens; a directory below itself EINVAL; then what stands at the target; then a full directory ENOSPC
+-- rename: absent ENOENT; to itself, nothing happens; a directory below itself EINVAL; then what stands at the target;
+-- then a full directory ENOSPC
 abbrev pub renamed : ℕ → Tree → Dentry → Dentry → Option Inode → Option Inode → Outcome
 renamed limit tree from to None target = answers tree (Errno 2)
 renamed limit tree from to (Some inode) target =
@@ -170,11 +187,13 @@ renamed limit tree from to (Some inode) target =
     (unless tree (replace_errno tree inode target)
     (unless tree (room_errno limit tree from to target) (answers (with_moved tree from to inode) Done))))
 
--- what is done in directories that stand, by its shape, where a directory may have so many entries, offered the number n
+-- what is done in directories that stand, by its shape, where a directory may have so many entries, offered the number
+-- n
 abbrev pub done_in : ℕ → Tree → Shape → ℕ → Outcome
 done_in limit tree (Looks dentry answer) n = looked tree answer (map.get tree dentry)
 done_in limit tree (Lists dir after max) n = page tree max (names_after tree dir after)
-done_in limit tree (Makes dentry kind mode birth) n = made limit tree dentry (new_inode n kind mode birth) (map.get tree dentry)
+done_in limit tree (Makes dentry kind mode birth) n =
+    made limit tree dentry (new_inode n kind mode birth) (map.get tree dentry)
 done_in limit tree (Sets dentry alteration) n = altered_at tree dentry alteration (map.get tree dentry)
 done_in limit tree (Unlinks dentry) n = unlinked tree dentry (map.get tree dentry)
 done_in limit tree (Removes dentry) n = dir_removed tree dentry (map.get tree dentry)
@@ -183,7 +202,8 @@ done_in limit tree (Moves from to) n = renamed limit tree from to (map.get tree 
 -- one step by its shape: first of all, a number that is no directory of the tree now is ESTALE
 abbrev pub step_in : ℕ → Tree → Shape → ℕ → Outcome
 step_in limit tree s n =
-    cond (is_directory tree (directory_in s) && is_directory tree (destination_in s)) (done_in limit tree s n) (answers tree (Errno 116))
+    cond (is_directory tree (directory_in s)
+    && is_directory tree (destination_in s)) (done_in limit tree s n) (answers tree (Errno 116))
 
 -- the table, where a directory may have so many entries: what an operation does is told by its shape
 abbrev pub step : ℕ → Tree → Op → ℕ → Outcome

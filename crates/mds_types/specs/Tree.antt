@@ -50,12 +50,14 @@ pub data IsAbove (tree : Tree) (d : ℕ) : ℕ → Type 0 where
   -- x is an entry of d
   child : (name : List ℕ) (inode : Inode) → at tree d name ≡ Some inode → IsAbove tree d inode.ino.0
   -- x is an entry of a directory that d is above of
-  further : (m : ℕ) (name : List ℕ) (inode : Inode) → IsAbove tree d m → at tree m name ≡ Some inode → IsAbove tree d inode.ino.0
+  further : (m : ℕ) (name : List ℕ) (inode : Inode) → IsAbove tree d m → at tree m name ≡ Some inode
+      → IsAbove tree d inode.ino.0
 
 -- whether d is above x by a chain of at most so many entries
 abbrev pub is_above_within : ℕ → Tree → ℕ → ℕ → Bool
 is_above_within zero tree d x = false
-is_above_within (suc n) tree d x = list_any (λ e. (e.1.ino.0 == x) && ((e.0.dir.0 == d) || is_above_within n tree d e.0.dir.0)) (map.entries tree)
+is_above_within (suc n) tree d x =
+    list_any (λ e. (e.1.ino.0 == x) && ((e.0.dir.0 == d) || is_above_within n tree d e.0.dir.0)) (map.entries tree)
 
 -- whether d is above x, as the table asks it: in a well-formed tree no chain has more entries than the tree
 unfoldable pub is_above : Tree → ℕ → ℕ → Bool
@@ -91,7 +93,8 @@ pub record IsWellFormed (tree : Tree) : Type 0 where
   -- the root has no entry
   pub rootless : (d : ℕ) (name : List ℕ) (inode : Inode) → at tree d name ≡ Some inode → inode.ino.0 ≡ 1 → ⊥
   -- no number stands twice
-  pub once : (d d' : ℕ) (name name' : List ℕ) (inode inode' : Inode) → at tree d name ≡ Some inode → at tree d' name' ≡ Some inode' → inode.ino ≡ inode'.ino → (d ≡ d') × (name ≡ name')
+  pub once : (d d' : ℕ) (name name' : List ℕ) (inode inode' : Inode) → at tree d name ≡ Some inode
+      → at tree d' name' ≡ Some inode' → inode.ino ≡ inode'.ino → (d ≡ d') × (name ≡ name')
   -- each entry's directory is one of the tree
   pub parents : (d : ℕ) (name : List ℕ) (inode : Inode) → at tree d name ≡ Some inode → is_directory tree d ≡ true
   -- each entry's directory reaches the root by finitely many parents

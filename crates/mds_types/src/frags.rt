@@ -8,7 +8,8 @@ use std::fmt;
 use std::marker::Model;
 
 /// A fragment of a directory: the part whose names hash to numbers that begin with certain bits (CephFS's `frag_t`).
-/// Hashes have 24 bits; a fragment of `b` bits fixes the top `b` of them. Fragments are ordered by value and then by bits.
+/// Hashes have 24 bits; a fragment of `b` bits fixes the top `b` of them. Fragments are ordered by value and then by
+/// bits.
 #[derive(Clone, Copy, Debug, PartialEq, Eq, PartialOrd, Ord, Hash)]
 pub struct Frag {
     value: u32,

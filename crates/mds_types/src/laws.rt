@@ -1,5 +1,5 @@
-//! Laws of this crate's constants and orders: they are those that the definitions name. A law is its contract: its body does
-//! nothing.
+//! Laws of this crate's constants and orders: they are those that the definitions name. A law is its contract: its body
+//! does nothing.
 ghost use Rattle.std.specs.Prelude.{◌≡◌};
 ghost use Rattle.mds_types.specs.Frag.{Fragment, frag_cmp, root_fragment};
 

@@ -1,7 +1,7 @@
 //! The words that every layer of the metadata cluster speaks: ranks, inode numbers, directory fragments, names, inodes,
-//! requests with their replies and refusals, and the entries of a history; and the strings of bytes that names, targets, keys,
-//! values and the names of objects are (`Bytes`, `Text`), ordered as memory compares. The definitions of the product's
-//! promises, from fragment arithmetic to the legal history, stand in `specs/`.
+//! requests with their replies and refusals, and the entries of a history; and the strings of bytes that names,
+//! targets, keys, values and the names of objects are (`Bytes`, `Text`), ordered as memory compares. The definitions of
+//! the product's promises, from fragment arithmetic to the legal history, stand in `specs/`.
 #![tactic(auto)]
 
 mod byte_order;

@@ -11,8 +11,8 @@ use crate::page_sizes::PageSize;
 use crate::targets::Target;
 use std::alloc::AllocError;
 
-/// An operation on the tree. Each works in a directory, that of its dentry but for a `Readdir`; a rename leads to another
-/// one.
+/// An operation on the tree. Each works in a directory, that of its dentry but for a `Readdir`; a rename leads to
+/// another one.
 #[derive(Debug, Drop, PartialEq, Eq)]
 pub enum Op {
     /// The inode at a dentry.
@@ -57,8 +57,8 @@ pub enum Op {
     Unlink(Dentry),
     /// Takes away an empty directory.
     Rmdir(Dentry),
-    /// Moves an entry to another dentry. What stands there is replaced: a directory only by a directory, and only if it is
-    /// empty; anything else only by what is no directory.
+    /// Moves an entry to another dentry. What stands there is replaced: a directory only by a directory, and only if it
+    /// is empty; anything else only by what is no directory.
     Rename {
         from: Dentry,
         to: Dentry,
@@ -107,8 +107,8 @@ impl Op {
         }
     }
 
-    /// The number of the directory that the operation leads to: of a rename that of the target, otherwise the one that it
-    /// works in.
+    /// The number of the directory that the operation leads to: of a rename that of the target, otherwise the one that
+    /// it works in.
     pub fn destination(&self) -> Ino
         ensures { result.0 ≡ destination_of self.now }
     {

@@ -28,10 +28,12 @@ abbrev pub leaves_at : Covers → Option Inode → List Leaf
 leaves_at covers None = []
 leaves_at covers (Some inode) = cond (is_dir_kind inode.kind) (leaves covers inode.ino.0) []
 
--- the fragments that a rename changes: none, if it leads to where it is; otherwise those of both dentries, and all of a directory that it replaces
+-- the fragments that a rename changes: none, if it leads to where it is; otherwise those of both dentries, and all of a
+-- directory that it replaces
 abbrev pub moved_fragments : Covers → Tree → Dentry → Dentry → List Leaf
 moved_fragments covers tree from to =
-    cond (eq_by_cmp dentry_cmp from to) [] (fragment_of covers from ∷ fragment_of covers to ∷ leaves_at covers (map.get tree to))
+    cond (eq_by_cmp dentry_cmp from to) []
+    (fragment_of covers from ∷ fragment_of covers to ∷ leaves_at covers (map.get tree to))
 
 -- the fragments that are changed where it succeeds: those of its dentries, and all of a directory that goes
 abbrev pub touched_in : Covers → Tree → Shape → List Leaf
@@ -50,7 +52,8 @@ touched covers tree op = touched_in covers tree (shape op)
 abbrev pub unless_errno : Reply → List Leaf → List Leaf
 unless_errno reply changes = cond (is_errno reply) [] changes
 
--- the fragments that an operation would change, where a directory may have so many entries; which number it is offered has no part in that
+-- the fragments that an operation would change, where a directory may have so many entries; which number it is offered
+-- has no part in that
 abbrev pub changed_fragments : ℕ → Covers → Tree → Op → List Leaf
 changed_fragments limit covers tree op = unless_errno (step limit tree op 0).reply (touched covers tree op)
 

@@ -121,8 +121,10 @@ ConcernsIn tree (Lists dir after max) d = d ≡ dir
 ConcernsIn tree (Makes dentry kind mode birth) d = d ≡ dentry.dir.0
 ConcernsIn tree (Sets dentry alteration) d = d ≡ dentry.dir.0
 ConcernsIn tree (Unlinks dentry) d = d ≡ dentry.dir.0
-ConcernsIn tree (Removes dentry) d = (d ≡ dentry.dir.0) ⊎ ((inode : Inode) × (map.get tree dentry ≡ Some inode) × (d ≡ inode.ino.0))
-ConcernsIn tree (Moves from to) d = (d ≡ from.dir.0) ⊎ (d ≡ to.dir.0) ⊎ ((inode : Inode) × (map.get tree to ≡ Some inode) × (d ≡ inode.ino.0))
+ConcernsIn tree (Removes dentry) d =
+    (d ≡ dentry.dir.0) ⊎ ((inode : Inode) × (map.get tree dentry ≡ Some inode) × (d ≡ inode.ino.0))
+ConcernsIn tree (Moves from to) d =
+    (d ≡ from.dir.0) ⊎ (d ≡ to.dir.0) ⊎ ((inode : Inode) × (map.get tree to ≡ Some inode) × (d ≡ inode.ino.0))
 
 abbrev pub Concerns : Tree → Op → ℕ → Type 0
 Concerns tree op d = ConcernsIn tree (shape op) d
@@ -251,7 +253,8 @@ other_put (Some spot) (Some put) = unless_same (leaf_of spot.at) (leaf_of put.0.
 
 -- the fragments of a change, each once
 abbrev pub named_once : Covers → Change → List Leaf
-named_once covers change = leaf_taken change.takes ++ (other_put change.takes change.puts ++ leaves_gone covers change.gone)
+named_once covers change =
+    leaf_taken change.takes ++ (other_put change.takes change.puts ++ leaves_gone covers change.gone)
 
 -- a new inode, where one comes, has such a number
 abbrev pub IsNumbered : (ℕ → Type 0) → Change → Type 0

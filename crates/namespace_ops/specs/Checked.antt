@@ -10,9 +10,10 @@ use Rattle.namespace_ops.specs.declared.plans.Checked.{Checked}
 use Rattle.namespace_ops.specs.declared.plans.Checked.TheVariants.{Answers, Changes}
 use Rattle.namespace_ops.specs.Changes.{Carries, IsChangeOf, IsNumbered, LieHeld, Takes, changed, is_idle, reply_of}
 
--- the operation makes this change, offered the number n, which a new inode has: it is one of the operation, leads to the table's outcome,
--- lies where its ranks hold its leaves, and may be made, where the number that it takes is unused
-pub record IsChecked (tree : Tree) (covers : Covers) (Holds : Dirfrag → Type 0) (op : Op) (n : ℕ) (outcome : Outcome) (change : Change) : Type 0 where
+-- the operation makes this change, offered the number n, which a new inode has: it is one of the operation, leads to
+-- the table's outcome, lies where its ranks hold its leaves, and may be made, where the number that it takes is unused
+pub record IsChecked (tree : Tree) (covers : Covers) (Holds : Dirfrag → Type 0) (op : Op) (n : ℕ) (outcome : Outcome)
+    (change : Change) : Type 0 where
   pub one_of : IsChangeOf op change
   pub replied : outcome.reply ≡ reply_of change
   pub leads : outcome.tree ≡ changed tree change

@@ -30,4 +30,5 @@ pub record ShowsTheSame (old new : Tree) (now : Covers) (leaf : Leaf) : Type 0 w
 
 -- of the leaves that stood, only these show something else
 abbrev pub OthersShowTheSame : (old new : Tree) (covers now : Covers) → List Leaf → Type 0
-OthersShowTheSame old new covers now leaves = ChangesOnly (λ leaf. IsStanding old covers leaf → ShowsTheSame old new now leaf) leaves
+OthersShowTheSame old new covers now leaves =
+    ChangesOnly (λ leaf. IsStanding old covers leaf → ShowsTheSame old new now leaf) leaves

@@ -21,7 +21,9 @@ MakingTakesNumber = (limit : ℕ) (tree : Tree) (op : Op) (n : ℕ) → TakesWhe
 
 -- a step keeps the tree well formed, if the number that it takes, where it takes one, is unused
 abbrev pub StepKeepsWellFormed : Type 0
-StepKeepsWellFormed = (limit : ℕ) (tree : Tree) (op : Op) (n : ℕ) → IsWellFormed tree → ((step limit tree op n).takes ≡ true → IsUnused tree n) → IsWellFormed (step limit tree op n).tree
+StepKeepsWellFormed =
+    (limit : ℕ) (tree : Tree) (op : Op) (n : ℕ) → IsWellFormed tree
+    → ((step limit tree op n).takes ≡ true → IsUnused tree n) → IsWellFormed (step limit tree op n).tree
 
 -- the names of a listing are those of the directory that come after the given one, in order, with none left out
 abbrev pub NamesAreListed : Type 0
@@ -29,7 +31,9 @@ NamesAreListed = (tree : Tree) (d : ℕ) (after : Option (List ℕ)) → IsListi
 
 -- a listing that is paged by its last name is the whole listing
 abbrev pub PagesMakeUpListing : Type 0
-PagesMakeUpListing = (tree : Tree) (d : ℕ) (after : Option (List ℕ)) (i : ℕ) (row : List ℕ × Inode) → slice_get (names_after tree d after) i ≡ Some row
+PagesMakeUpListing =
+    (tree : Tree) (d : ℕ) (after : Option (List ℕ)) (i : ℕ) (row : List ℕ × Inode)
+    → slice_get (names_after tree d after) i ≡ Some row
     → take (suc i) (names_after tree d after) ++ names_after tree d (Some row.0) ≡ names_after tree d after
 
 -- in a well-formed tree the table's test of what is above tells exactly whether a chain of entries leads there
@@ -40,11 +44,17 @@ AboveIsChain = (tree : Tree) (d x : ℕ) → IsWellFormed tree → (is_above tre
 abbrev pub NumbersStay : Type 0
 NumbersStay = (limit : ℕ) (tree : Tree) (op : Op) (n : ℕ) → IsOld tree n (step limit tree op n)
 
--- whether a step answers an errno, the number that it is offered has no part in; so neither has it in the changed fragments
+-- whether a step answers an errno, the number that it is offered has no part in; so neither has it in the changed
+-- fragments
 abbrev pub NumberLeavesErrno : Type 0
-NumberLeavesErrno = (limit : ℕ) (tree : Tree) (op : Op) (n m : ℕ) → is_errno (step limit tree op n).reply ≡ is_errno (step limit tree op m).reply
+NumberLeavesErrno =
+    (limit : ℕ) (tree : Tree) (op : Op) (n m : ℕ)
+    → is_errno (step limit tree op n).reply ≡ is_errno (step limit tree op m).reply
 
--- of the leaves that stood, only the fragments of a change show something else once it is made, where each directory that stands then has the leaves that it had
+-- of the leaves that stood, only the fragments of a change show something else once it is made, where each directory
+-- that stands then has the leaves that it had
 abbrev pub ChangesLeaveOthers : Type 0
-ChangesLeaveOthers = (tree : Tree) (covers now : Covers) (change : Change) → IsWellFormed tree → MayChange tree covers change → KeepLeaves (changed tree change) covers now
+ChangesLeaveOthers =
+    (tree : Tree) (covers now : Covers) (change : Change) → IsWellFormed tree → MayChange tree covers change
+    → KeepLeaves (changed tree change) covers now
     → OthersShowTheSame tree (changed tree change) covers now (fragments_of covers change)

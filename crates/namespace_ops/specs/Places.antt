@@ -23,7 +23,8 @@ abbrev pub LiesAt : Tree → Covers → (Dirfrag → Type 0) → Dentry → Dirf
 LiesAt tree covers Holds dentry at = IsAt tree covers Holds dentry.dir.0 (hash_of dentry.name) at
 
 -- a hash was located in a directory: it falls there, and the directory has so many entries
-pub record IsLocated (tree : Tree) (covers : Covers) (Holds : Dirfrag → Type 0) (d hash : ℕ) (located : Located) : Type 0 where
+pub record IsLocated (tree : Tree) (covers : Covers) (Holds : Dirfrag → Type 0) (d hash : ℕ)
+    (located : Located) : Type 0 where
   pub at : IsAt tree covers Holds d hash located.at
   pub entries : located.entries ≡ entries_in tree d
 
@@ -33,7 +34,8 @@ IsLocatedAt tree covers Holds dentry located = IsLocated tree covers Holds dentr
 
 -- where a hash falls in a directory; nowhere exactly where that isn't there
 abbrev pub Locates : Tree → Covers → (Dirfrag → Type 0) → (dir hash : ℕ) → Option Located → Type 0
-Locates tree covers Holds dir hash found = MatchOption found (is_directory tree dir ≡ false) (IsLocated tree covers Holds dir hash)
+Locates tree covers Holds dir hash found =
+    MatchOption found (is_directory tree dir ≡ false) (IsLocated tree covers Holds dir hash)
 
 -- the hash of a dentry's name; where there is none, the first one
 abbrev pub hash_at : Option Dentry → ℕ
@@ -50,6 +52,7 @@ LocatesAt tree covers Holds None found = Unit {0}
 LocatesAt tree covers Holds (Some dentry) found = Locates tree covers Holds dentry.dir.0 (hash_of dentry.name) found
 
 -- where the main hash of an operation falls, and where the source of a rename lies
-pub record AreLocated (tree : Tree) (covers : Covers) (Holds : Dirfrag → Type 0) (op : Op) (places : Places) : Type 0 where
+pub record AreLocated (tree : Tree) (covers : Covers) (Holds : Dirfrag → Type 0) (op : Op)
+    (places : Places) : Type 0 where
   pub main : Locates tree covers Holds (destination_of op) (main_hash op) places.main
   pub source : LocatesAt tree covers Holds (source_of op) places.source

@@ -3,7 +3,8 @@ use Rattle.std.specs.Prelude.{◌≡◌, ◌⊎◌}
 use Rattle.mds_types.specs.declared.refusals.Refusal.{Refusal}
 use Rattle.mds_types.specs.declared.refusals.Refusal.TheVariants.{NoMemory, StoreFault, NoInodes, NothingToEvict, Damaged}
 
--- want of memory, a fault of the store, a counter at its end, a cache where nothing can go, an object outside its format
+-- want of memory, a fault of the store, a counter at its end, a cache where nothing can go, an object outside its
+-- format
 abbrev pub IsOfFragments : Refusal → Type 0
 IsOfFragments NoMemory = Unit {0}
 IsOfFragments StoreFault = Unit {0}

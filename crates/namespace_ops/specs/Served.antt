@@ -20,6 +20,7 @@ pub record LacksNumber (outcome : Outcome) (number : Option Ino) (reason : Refus
   pub taken : outcome.takes ≡ true
 
 -- refused: the tree is as before, and the reason is the want of a number, or of memory, or one of the fragments' own
-pub record IsRefused (old new : Tree) (MayRefuse : Refusal → Type 0) (outcome : Outcome) (number : Option Ino) (reason : Refusal) : Type 0 where
+pub record IsRefused (old new : Tree) (MayRefuse : Refusal → Type 0) (outcome : Outcome) (number : Option Ino)
+    (reason : Refusal) : Type 0 where
   pub same : new ≡ old
   pub because : LacksNumber outcome number reason ⊎ ((reason ≡ NoMemory) ⊎ MayRefuse reason)

@@ -19,12 +19,12 @@ use crate::plans::{Change, Checked};
 use mds_types::{Dirfrag, Frag, Ino, Limit, Op, Refusal};
 use std::alloc::{AllocError, Global};
 
-/// The fragments that an operation whose names lie there would change now, where a directory may have `limit` entries, each once and with its directory: those of its dentries, and all
-/// leaves of a directory that it removes or replaces. There are none where the operation answers an errno, only reads, or
-/// renames onto itself.
+/// The fragments that an operation whose names lie there would change now, where a directory may have `limit` entries,
+/// each once and with its directory: those of its dentries, and all leaves of a directory that it removes or replaces.
+/// There are none where the operation answers an errno, only reads, or renames onto itself.
 ///
-/// It reads, and of its own takes memory for its list, for the change that the checks find, and for a copy of the leaves of
-/// what goes. It is refused for want of memory, or as a read is.
+/// It reads, and of its own takes memory for its list, for the change that the checks find, and for a copy of the
+/// leaves of what goes. It is refused for want of memory, or as a read is.
 pub fn changes<F: Frags>(
     alloc: Global,
     frags: &mut F,
@@ -43,8 +43,8 @@ pub fn changes<F: Frags>(
     changed_by(alloc, frags, &checked)
 }
 
-// The fragments that an operation would change of which this was found, each once and with its directory. Takes memory for the
-// list, and for a copy of the leaves of what goes, and is refused for want of it alone.
+// The fragments that an operation would change of which this was found, each once and with its directory. Takes memory
+// for the list, and for a copy of the leaves of what goes, and is refused for want of it alone.
 fn changed_by<F: Frags>(
     alloc: Global,
     frags: &F,

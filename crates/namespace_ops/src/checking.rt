@@ -19,9 +19,10 @@ use crate::renaming::rename;
 use mds_types::{Alteration, ESTALE, Ino, Limit, Op, Refusal, Reply};
 use std::alloc::Global;
 
-/// Checks an operation whose names lie there, where a directory may have `limit` entries: finds the reply, or the one change that it makes. A new
-/// inode takes the number given. It reads alone, and is refused as a read is, or for want of memory. What checks a change is a function of its own, so that
-/// a look-up has no room to clear that only changes need; the rest is put into the callers, and what was found isn't moved.
+/// Checks an operation whose names lie there, where a directory may have `limit` entries: finds the reply, or the one
+/// change that it makes. A new inode takes the number given. It reads alone, and is refused as a read is, or for want
+/// of memory. What checks a change is a function of its own, so that a look-up has no room to clear that only changes
+/// need; the rest is put into the callers, and what was found isn't moved.
 #[inline(always)]
 pub fn check<F: Frags>(
     alloc: Global,

@@ -28,8 +28,9 @@ use std::alloc::Global;
 /// The fragments that operations read and change. Together they show one plain tree, whatever they are kept in.
 ///
 /// A read may have to fetch what it reads, and can then be refused; it keeps all, and so does a refusal. Which leaves a
-/// directory has, where they lie, and how many entries it has, is told with no fetch. A read is told for which operation it is asked, and asks of a
-/// directory of that. It takes no number, and is never refused for want of one. A change is made in one call, whole or not at all.
+/// directory has, where they lie, and how many entries it has, is told with no fetch. A read is told for which
+/// operation it is asked, and asks of a directory of that. It takes no number, and is never refused for want of one. A
+/// change is made in one call, whole or not at all.
 pub trait Frags {
     /// The plain tree that the fragments show.
     ghost content: { Self → Tree };
@@ -46,8 +47,8 @@ pub trait Frags {
     /// A change may touch this leaf now.
     ghost MayTouch: { Self → Leaf → Type 0 };
 
-    /// What reads for an operation and refusals keep beside the tree and the leaves of each directory, by the refusal that they
-    /// answer, if any.
+    /// What reads for an operation and refusals keep beside the tree and the leaves of each directory, by the refusal
+    /// that they answer, if any.
     ghost Follows: { Self → Self → Operation → Option Reason → Type 0 };
 
     /// A leaf shows the names that it showed.
@@ -65,9 +66,9 @@ pub trait Frags {
         requires { is_directory (content self.now) below.0 ≡ true }
         ensures { result ≡ is_above (content self.now) dir.0 below.0 };
 
-    /// Where a hash falls in a directory: the leaf that it picks, with the rank that holds it, and how many entries the directory has;
-    /// nowhere exactly where there is no such directory. `rank` is asked first whether it holds the leaf. Takes no memory, and fetches
-    /// nothing.
+    /// Where a hash falls in a directory: the leaf that it picks, with the rank that holds it, and how many entries the
+    /// directory has; nowhere exactly where there is no such directory. `rank` is asked first whether it holds the
+    /// leaf. Takes no memory, and fetches nothing.
     fn locate(&self, rank: Rank, dir: Ino, hash: u32) -> Option<Located>
         ensures { Locates (content self.now) (covers self.now) (Holds self.now) dir.0 hash result };
 
@@ -110,9 +111,9 @@ pub trait Frags {
         ensures err { IfErr result (MayRefuse self.old self.new op.now) }
         ensures numbers { IfErr result (λ reason. reason ≢ NoInodes) };
 
-    /// Makes a change that may be made, which is one of the operation, of leaves that may be touched. Each directory that stands then
-    /// has the leaves that it had; of one that comes no leaves were set. A leaf that is none of those that change keeps its names.
-    /// All growth comes first, and a refusal keeps all as a read does.
+    /// Makes a change that may be made, which is one of the operation, of leaves that may be touched. Each directory
+    /// that stands then has the leaves that it had; of one that comes no leaves were set. A leaf that is none of those
+    /// that change keeps its names. All growth comes first, and a refusal keeps all as a read does.
     fn change(&mut self, op: &Op, change: Change) -> Result<(), Refusal>
         requires may { MayChange (content self.old) (covers self.old) change }
         requires of_op { IsChangeOf op.now change }

@@ -14,8 +14,8 @@ pub struct Located {
     pub entries: u64,
 }
 
-/// Where the names of an operation lie: its own, of a rename the destination, of a readdir the first leaf of its directory; and of
-/// a rename the source. Nowhere where the directory isn't there.
+/// Where the names of an operation lie: its own, of a rename the destination, of a readdir the first leaf of its
+/// directory; and of a rename the source. Nowhere where the directory isn't there.
 #[derive(Clone, Copy, Debug)]
 pub struct Places {
     pub main: Option<Located>,
@@ -40,7 +40,8 @@ fn locate_source<F: Frags>(frags: &F, rank: Rank, op: &Op) -> Option<Located>
     frags.locate(rank, from.dir, rjenkins(from.name.as_bytes()))
 }
 
-// A hash that falls in the main leaf of an operation: that of its dentry's name, and the first one of a readdir's directory.
+// A hash that falls in the main leaf of an operation: that of its dentry's name, and the first one of a readdir's
+// directory.
 fn main_hash(op: &Op) -> u32
     ensures { result ≡ main_hash op.now }
 {

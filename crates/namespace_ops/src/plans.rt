@@ -33,13 +33,15 @@ impl Spot {
     }
 }
 
-/// A change of the tree: a name loses its inode, or one gets an inode, or first the one and then the other. It has the spot of
-/// each of its names, and the number of the directory that goes with it, so that no step has to find them again.
+/// A change of the tree: a name loses its inode, or one gets an inode, or first the one and then the other. It has the
+/// spot of each of its names, and the number of the directory that goes with it, so that no step has to find them
+/// again.
 #[derive(Debug, Drop)]
 pub struct Change {
     /// The name that loses its inode.
     pub takes: Option<Spot>,
-    /// The name that gets an inode, and that: a new one, the same with other attributes, or the one that the other name loses.
+    /// The name that gets an inode, and that: a new one, the same with other attributes, or the one that the other name
+    /// loses.
     pub puts: Option<(Spot, Inode)>,
     /// Whether what is put is new.
     pub comes: bool,
@@ -58,8 +60,8 @@ impl Change {
         }
     }
 
-    /// The number that it takes of one that is offered: a new inode's. Refused `NoInodes` exactly where a new inode comes for which
-    /// none is offered.
+    /// The number that it takes of one that is offered: a new inode's. Refused `NoInodes` exactly where a new inode
+    /// comes for which none is offered.
     pub fn number(&self, offered: Option<Ino>) -> Result<Option<Ino>, Refusal>
         ensures taken { IfOk result (λ number. number ≡ cond self.now.comes offered None) }
         ensures given { OnOk result (offered ≡ None → self.now.comes ≡ false) }

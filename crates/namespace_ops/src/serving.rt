@@ -19,11 +19,13 @@ use crate::plans::{Change, Checked};
 use mds_types::{Ino, Limit, Op, Rank, Refusal, Reply};
 use std::alloc::Global;
 
-/// Serves an operation, where a directory may have `limit` entries: answers the reply of the operation table, and leaves the tree that the table leaves. Of the leaves
-/// only the operation's changed fragments, which have to be ones that may be touched, show anything else afterwards: `frame` says so in
-/// the fragments' own words, and `others` in those of the tree and the leaves of each directory. Each directory that stands keeps its leaves. A
-/// new inode takes the number given, which has to be unused and one that a new inode may have; where the table takes one and none is given, the operation is
-/// refused `NoInodes`. Any other refusal is one of the fragments', or want of memory. A refusal keeps all as a read does.
+/// Serves an operation, where a directory may have `limit` entries: answers the reply of the operation table, and
+/// leaves the tree that the table leaves. Of the leaves only the operation's changed fragments, which have to be ones
+/// that may be touched, show anything else afterwards: `frame` says so in the fragments' own words, and `others` in
+/// those of the tree and the leaves of each directory. Each directory that stands keeps its leaves. A new inode takes
+/// the number given, which has to be unused and one that a new inode may have; where the table takes one and none is
+/// given, the operation is refused `NoInodes`. Any other refusal is one of the fragments', or want of memory. A refusal
+/// keeps all as a read does.
 pub fn serve_op<F: Frags>(
     alloc: Global,
     frags: &mut F,

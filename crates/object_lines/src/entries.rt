@@ -32,8 +32,8 @@ pub(crate) fn counted(
     }))
 }
 
-// Whether the entry of a pair is a directory; none, where the pair is no entry's: its key is no name's, or its bytes are
-// no record.
+// Whether the entry of a pair is a directory; none, where the pair is no entry's: its key is no name's, or its bytes
+// are no record.
 fn is_dir(alloc: Global, key: &[u8], bytes: &[u8]) -> Result<Option<bool>, AllocError>
     ensures { IfOk result (λ answer. answer ≡ is_dir_in (key.now, bytes.now)) }
 {

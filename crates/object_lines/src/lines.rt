@@ -13,8 +13,8 @@ use script_output::{ObjectLine, OutputLine, WordList};
 use std::alloc::{AllocError, Global};
 
 /// The line of an object of the store; `absent`, where there is none. What it is depends on its bytes alone: its name
-/// plays no part. Takes memory for its pairs or leaves; the only refusal is `Refusal::NoMemory`, and it comes only of an
-/// object that begins as a fragment's or as a fragment tree's.
+/// plays no part. Takes memory for its pairs or leaves; the only refusal is `Refusal::NoMemory`, and it comes only of
+/// an object that begins as a fragment's or as a fragment tree's.
 pub fn object_line(alloc: Global, object: Option<&Object>) -> Result<ObjectLine, Refusal>
     ensures line { IfOk result (IsLineOf (option_copied object.entry)) }
     ensures refused { IfErr result (λ refusal. (refusal ≡ NoMemory) × MayTakeMemory (option_copied object.entry)) }

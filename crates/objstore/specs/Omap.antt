@@ -44,7 +44,10 @@ first_page max pairs = record { pairs = take max pairs; more = nat_lt max (lengt
 abbrev pub page_of : PairMap → Option (List ℕ) → ℕ → PairPage
 page_of pairs after max = first_page max (pairs_after pairs after)
 
--- the pairs from the next page on: those after a pair follow it, so a page and what comes after its last pair are the whole
+-- the pairs from the next page on: those after a pair follow it, so a page and what comes after its last pair are the
+-- whole
 abbrev pub PagesMakeUpWhole : Type 0
-PagesMakeUpWhole = (pairs : PairMap) (after : Option (List ℕ)) (i : ℕ) (pair : List ℕ × List ℕ) → slice_get (pairs_after pairs after) i ≡ Some pair
+PagesMakeUpWhole =
+    (pairs : PairMap) (after : Option (List ℕ)) (i : ℕ) (pair : List ℕ × List ℕ)
+    → slice_get (pairs_after pairs after) i ≡ Some pair
     → take (suc i) (pairs_after pairs after) ++ pairs_after pairs (Some pair.0) ≡ pairs_after pairs after

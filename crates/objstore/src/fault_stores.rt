@@ -10,8 +10,8 @@ use mds_types::{Bytes, Refusal};
 use std::alloc::Global;
 use std::marker::Model;
 
-/// A store over another one, of which one call fails: it isn't done, and answers a fault. Each other call is one call of the
-/// store below, whose answer is given on.
+/// A store over another one, of which one call fails: it isn't done, and answers a fault. Each other call is one call
+/// of the store below, whose answer is given on.
 #[derive(Debug, Drop)]
 pub struct FaultStore<S: Store + Drop> {
     store: S,

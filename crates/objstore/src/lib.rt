@@ -1,7 +1,8 @@
 //! The store of objects, a map from names to objects: what it promises (`Store`), one in memory, and one that fails a
-//! chosen call, to try what stands on it. A fault of a store changes nothing. An object is as RADOS has it: a header and an
-//! ordered map from keys to values (its omap), all of them bytes. It is read in pages and changed by whole operations; an
-//! operation is done in full or not at all. Also the keys that a directory's entries have in their fragment's object.
+//! chosen call, to try what stands on it. A fault of a store changes nothing. An object is as RADOS has it: a header
+//! and an ordered map from keys to values (its omap), all of them bytes. It is read in pages and changed by whole
+//! operations; an operation is done in full or not at all. Also the keys that a directory's entries have in their
+//! fragment's object.
 #![tactic(auto)]
 
 mod entry_keys;

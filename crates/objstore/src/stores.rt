@@ -13,9 +13,9 @@ use std::alloc::Global;
 
 /// A map from names, which are texts, to objects.
 ///
-/// Each call can be refused for want of memory (`Refusal::NoMemory`), or by a fault (`Refusal::StoreFault`). Either way all
-/// objects stay as they were. The count of faults rises by one in a call that answers a fault, and in no other call: so no
-/// fault is hidden, tried again, or told as anything else.
+/// Each call can be refused for want of memory (`Refusal::NoMemory`), or by a fault (`Refusal::StoreFault`). Either way
+/// all objects stay as they were. The count of faults rises by one in a call that answers a fault, and in no other
+/// call: so no fault is hidden, tried again, or told as anything else.
 pub trait Store {
     ghost objects: { Self → Objects };
 

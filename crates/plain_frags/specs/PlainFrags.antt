@@ -9,8 +9,8 @@ use Rattle.namespace_ops.specs.Kept.{IsStanding, ShowsTheSame}
 use Rattle.namespace_ops.specs.declared.plans.Change.{Change}
 use Rattle.namespace_ops.specs.declared.plans.Spot.{Spot}
 
--- the tree, the homes and the leaves of the directory table, how many entries and directories still fit with no growth, and the name that is ready for a
--- directory's home
+-- the tree, the homes and the leaves of the directory table, how many entries and directories still fit with no growth,
+-- and the name that is ready for a directory's home
 pub record Kept : Type 0 where
   pub tree : Tree
   pub homes : Homes
@@ -26,7 +26,8 @@ is_numbered n entry = entry.1.ino.0 == n
 -- the change can be made with no growth: there is room for a new entry, and for a new home with its name
 abbrev pub IsReadyBy : Kept → Option Spot → Option (Spot × Inode) → Bool → Type 0
 IsReadyBy f takes None comes = Unit {0}
-IsReadyBy f None (Some put) true = (0 < f.entries_left) × (is_dir_kind put.1.kind ≡ true → (0 < f.dirs_left) × (f.spare ≡ Some put.0.name))
+IsReadyBy f None (Some put) true =
+    (0 < f.entries_left) × (is_dir_kind put.1.kind ≡ true → (0 < f.dirs_left) × (f.spare ≡ Some put.0.name))
 IsReadyBy f None (Some put) false = Unit {0}
 IsReadyBy f (Some spot) (Some put) comes = (0 < f.entries_left) × (f.spare ≡ Some put.0.name)
 

@@ -11,8 +11,8 @@ use inode_table::{Dirs, adopt_dir, drop_dir, relocate_dir};
 use mds_types::{Dentry, Inode, Name};
 use sorted_map::SortedMap;
 
-/// Puts an inode at a dentry: a new one, or the one that stands there with other attributes. `spare` has the name of the dentry
-/// where a new one is a directory.
+/// Puts an inode at a dentry: a new one, or the one that stands there with other attributes. `spare` has the name of
+/// the dentry where a new one is a directory.
 pub fn put_entry(
     entries: &mut SortedMap<Dentry, Inode>,
     dirs: &mut Dirs,

@@ -6,7 +6,8 @@ use mds_types::{Dentry, Ino, Inode, Listing, Name, PageSize};
 use sorted_map::Iter;
 use std::alloc::{AllocError, Global};
 
-/// Of the rows of one directory at the front, the first `max` with their names and inodes copied, and whether more follow.
+/// Of the rows of one directory at the front, the first `max` with their names and inodes copied, and whether more
+/// follow.
 pub fn first_rows(
     alloc: Global,
     mut rows: Iter<'_, Dentry, Inode>,

@@ -25,7 +25,8 @@ pub record Stand (history : List Entry) (from : ℕ) (receipts : List Receipt) :
   pub newer : AllByRecursion (λ place. from ≤ place) (first_places receipts)
   pub apart : AreApart (first_places receipts)
 
--- receipts agree with a history from a place on: they stand in it, and those marked first are as many as the history has places from there on
+-- receipts agree with a history from a place on: they stand in it, and those marked first are as many as the history
+-- has places from there on
 pub record Agree (history : List Entry) (from : ℕ) (receipts : List Receipt) : Type 0 where
   pub stand : Stand history from receipts
   pub as_many : length (first_places receipts) ≡ length history - from

@@ -37,7 +37,8 @@ lists_of vectors = map vec_items vectors
 
 -- the receipt of a result, if it is a reply
 abbrev pub receipt_of : Result Answer Refusal → List Receipt
-receipt_of (Ok (Reply client tid place first reply)) = record { client = client; tid = tid; place = place; first = first; reply = reply } ∷ []
+receipt_of (Ok (Reply client tid place first reply)) =
+    record { client = client; tid = tid; place = place; first = first; reply = reply } ∷ []
 receipt_of (Ok Nothing) = []
 receipt_of (Ok (Job job)) = []
 receipt_of (Ok (Sent bytes)) = []

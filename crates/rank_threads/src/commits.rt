@@ -10,16 +10,16 @@ use objstore::Store;
 use std::alloc::Global;
 use std::sync::{Mutex, Wait};
 
-/// The number of a job that was handed to the workers, and how its commit ended: as the event that ends it was answered, or
-/// as its encoding failed.
+/// The number of a job that was handed to the workers, and how its commit ended: as the event that ends it was
+/// answered, or as its encoding failed.
 #[derive(Debug, Drop)]
 pub struct Commit {
     pub job: u64,
     pub ended: Result<(), Refusal>,
 }
 
-/// Ends the commits whose results come, until no more can come, and lists them in the order taken. Answers whether there was
-/// memory to list them all.
+/// Ends the commits whose results come, until no more can come, and lists them in the order taken. Answers whether
+/// there was memory to list them all.
 pub(crate) fn end_all<S: Store + Drop, L: Handed, R: Wait>(
     rt: &R,
     alloc: Global,

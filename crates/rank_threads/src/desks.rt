@@ -31,7 +31,8 @@ impl Handed for Brand {
     ghost opened = { map.empty };
 }
 
-/// The book, with the total of all shares: as long as the history is. The history begins with the one that was handed in.
+/// The book, with the total of all shares: as long as the history is. The history begins with the one that was handed
+/// in.
 #[derive(Drop)]
 pub(crate) struct Desk<S: Store + Drop, L: Handed> {
     pub(crate) book: Book<S>,

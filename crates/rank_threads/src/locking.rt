@@ -11,9 +11,10 @@ const SHORTEST: u32 = 16;
 
 const LONGEST: u32 = 32_768;
 
-/// Takes a lock. It is held for a turn, less than a microsecond, and sleeping and waking take longer than several turns. So a thread looks again and
-/// again first, at distances that grow: whoever has the lock meanwhile takes it again for turns of its own, whose data its processor has at hand.
-/// Once they have grown it lets other threads run, as there may be more of them than processors.
+/// Takes a lock. It is held for a turn, less than a microsecond, and sleeping and waking take longer than several
+/// turns. So a thread looks again and again first, at distances that grow: whoever has the lock meanwhile takes it
+/// again for turns of its own, whose data its processor has at hand. Once they have grown it lets other threads run, as
+/// there may be more of them than processors.
 pub(crate) fn lock<'a, T, R: Wait>(mutex: &'a Mutex<T>, rt: &R) -> MutexGuard<'a, T> {
     let mut pauses = SHORTEST;
     for _ in 0..LOOKS {

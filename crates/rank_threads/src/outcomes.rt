@@ -36,8 +36,8 @@ pub enum RunFault {
     NoMemory,
     /// A thread could not be made.
     Spawn,
-    /// The history does not hold a reply at its place, or two requests were told that they were applied at one place, or at an
-    /// older one.
+    /// The history does not hold a reply at its place, or two requests were told that they were applied at one place,
+    /// or at an older one.
     Strayed,
 }
 

@@ -24,8 +24,8 @@ impl OwnTurns {
 }
 
 impl<S: Store + Drop, L: Handed> Desk<S, L> {
-    /// A rank proposes a step of its own, and makes it, if there is one. An Import is given the bytes that the rank's thread keeps; one
-    /// whose bytes aren't kept there is passed over. The history stays.
+    /// A rank proposes a step of its own, and makes it, if there is one. An Import is given the bytes that the rank's
+    /// thread keeps; one whose bytes aren't kept there is passed over. The history stays.
     #[tactic(auto, using(cluster_core::proofs::OwnLaws::proposal_stays))]
     pub(crate) fn own(&mut self, alloc: Global, own: &mut OwnTurns) -> Result<(), Refusal> {
         let Some(event) = self.book.propose(alloc, own.rank)? else {
@@ -41,7 +41,8 @@ impl<S: Store + Drop, L: Handed> Desk<S, L> {
         }
     }
 
-    // An export is sent, and what it hands over is kept. Room for it comes first: once it is sent, nothing but its Import ends it.
+    // An export is sent, and what it hands over is kept. Room for it comes first: once it is sent, nothing but its
+    // Import ends it.
     fn send(
         &mut self,
         alloc: Global,
@@ -62,7 +63,8 @@ impl<S: Store + Drop, L: Handed> Desk<S, L> {
         }
     }
 
-    // An export is imported, if its bytes are kept. The importer is given a copy, since an Import that is refused has eaten its bytes.
+    // An export is imported, if its bytes are kept. The importer is given a copy, since an Import that is refused has
+    // eaten its bytes.
     fn import(
         &mut self,
         alloc: Global,

@@ -44,7 +44,8 @@ pub(crate) struct Work<L: Handed> {
     pub(crate) ghost counted: { share.amount ≡ firsts answers.items },
 }
 
-/// What a rank's thread has of its own while it works: the steps that its rank makes by itself, an end of the channel of jobs, and its share.
+/// What a rank's thread has of its own while it works: the steps that its rank makes by itself, an end of the channel
+/// of jobs, and its share.
 #[derive(Drop)]
 struct Mine<L: Handed> {
     own: OwnTurns,
@@ -177,7 +178,8 @@ fn take_turn<S: Store + Drop, L: Handed, G: Gate, R: Wait>(
     }
 }
 
-// Begins a commit of a leaf at a rank, and hands its job to the workers. Where it can't be handed on, the commit is given up.
+// Begins a commit of a leaf at a rank, and hands its job to the workers. Where it can't be handed on, the commit is
+// given up.
 fn begin_commit<S: Store + Drop, L: Handed, R: Wait>(
     rt: &R,
     alloc: Global,

@@ -7,8 +7,8 @@ use cluster_core::Answer;
 use mds_types::Reply;
 use std::alloc::{AllocError, Global};
 
-/// A reply that was handed out: whom it answers, the place in the history that it names, and whether the request was applied
-/// then.
+/// A reply that was handed out: whom it answers, the place in the history that it names, and whether the request was
+/// applied then.
 #[derive(Debug, Drop, PartialEq, Eq)]
 pub struct Receipt {
     pub client: u64,

@@ -21,17 +21,18 @@ use std::sync::ledger::Blank;
 use std::sync::{Mutex, Wait};
 use std::thread::Threads;
 
-/// Runs a book on many threads: one for each plan, that of rank 0 first, and so many workers beside them. A rank's thread works
-/// off its plan, and takes the lock of the book once for each turn. A commit that it begins is encoded by a worker with no
-/// lock held; the calling thread ends it, and gives it up where that is refused for another reason than a stale job. All
-/// memory that the threads need is taken before the first lock, but that of the steps, the messages and the receipts.
+/// Runs a book on many threads: one for each plan, that of rank 0 first, and so many workers beside them. A rank's
+/// thread works off its plan, and takes the lock of the book once for each turn. A commit that it begins is encoded by
+/// a worker with no lock held; the calling thread ends it, and gives it up where that is refused for another reason
+/// than a stale job. All memory that the threads need is taken before the first lock, but that of the steps, the
+/// messages and the receipts.
 ///
-/// Whatever the schedule was, the book that comes back is a sound one with the opening tree of the book handed in, and its
-/// history begins with that book's. Where the run succeeds, each turn of each plan has a result, and the receipts, which are
-/// the replies among them, agree with the history from there on.
+/// Whatever the schedule was, the book that comes back is a sound one with the opening tree of the book handed in, and
+/// its history begins with that book's. Where the run succeeds, each turn of each plan has a result, and the receipts,
+/// which are the replies among them, agree with the history from there on.
 ///
-/// The run waits for its threads. It fails with `NoMemory` where memory was refused, `Spawn` where a thread can't be made,
-/// and `Strayed` where a reply that was handed out isn't the history's.
+/// The run waits for its threads. It fails with `NoMemory` where memory was refused, `Spawn` where a thread can't be
+/// made, and `Strayed` where a reply that was handed out isn't the history's.
 pub fn run_cluster<S, G, R>(
     rt: &R,
     alloc: Global,
@@ -112,7 +113,8 @@ where
     }
 }
 
-// What a run gave, once its threads have ended. Each receipt is looked up; how many are marked first is known by the shares.
+// What a run gave, once its threads have ended. Each receipt is looked up; how many are marked first is known by the
+// shares.
 #[tactic(auto, using(crate::proofs::TurnLaws::agree_of))]
 fn settled<S: Store + Drop, L: Handed>(
     alloc: Global,

@@ -10,9 +10,9 @@ use mds_types::{Entry, Refusal};
 use objstore::Store;
 use std::alloc::{AllocError, Global};
 
-/// Whether receipts agree with a book's history from a place on: each names a place that holds its client, transaction number
-/// and reply, and those marked first name distinct places from there on, as many as the history has. Takes memory, a byte for
-/// each entry of the history; refused `NoMemory` alone.
+/// Whether receipts agree with a book's history from a place on: each names a place that holds its client, transaction
+/// number and reply, and those marked first name distinct places from there on, as many as the history has. Takes
+/// memory, a byte for each entry of the history; refused `NoMemory` alone.
 pub fn audit<S: Store + Drop>(
     alloc: Global,
     book: &Book<S>,

@@ -31,20 +31,26 @@ IsUnder roots homes covers root leaf = (rank : Rank) → NearestRoot (map.insert
 
 -- a leaf of a directory that lies properly inside a fragment is frozen
 abbrev pub IsAnyFrozen : Standing → Roots → Homes → Covers → Ino → Fragment → Type 0
-IsAnyFrozen exports roots homes covers dir frag = (leaf : Leaf) × IsLive homes covers leaf × (is_inside dir.0 frag leaf ≡ true) × IsFrozen exports roots homes covers leaf
+IsAnyFrozen exports roots homes covers dir frag =
+    (leaf : Leaf) × IsLive homes covers leaf × (is_inside dir.0 frag leaf ≡ true)
+    × IsFrozen exports roots homes covers leaf
 
 -- no leaf of a directory that lies properly inside a fragment is frozen
 abbrev pub AreThawed : Standing → Roots → Homes → Covers → Ino → Fragment → Type 0
-AreThawed exports roots homes covers dir frag = (leaf : Leaf) → is_inside dir.0 frag leaf ≡ true → IsLive homes covers leaf → IsFrozen exports roots homes covers leaf → ⊥
+AreThawed exports roots homes covers dir frag =
+    (leaf : Leaf) → is_inside dir.0 frag leaf ≡ true → IsLive homes covers leaf
+    → IsFrozen exports roots homes covers leaf → ⊥
 
--- over a tree whose ranks have so many caches: the roots are its own, and what Finish changes has its place; the ranks of roots and of exports
--- have caches; and no commit of a frozen leaf is begun
+-- over a tree whose ranks have so many caches: the roots are its own, and what Finish changes has its place; the ranks
+-- of roots and of exports have caches; and no commit of a frozen leaf is begun
 pub record StandSoundly (tree : TreeState) (count : ℕ) (subtrees : Subtrees) (exports : Standing) : Type 0 where
   pub valid : AreRoots tree subtrees.roots
   pub placed : ArePlaced exports subtrees
   pub ranked : (leaf : Leaf) (rank : Rank) → map.get subtrees.roots leaf ≡ Some rank → rank.0 < count
-  pub there : (root : Leaf) (export : StandingExport) → map.get exports root ≡ Some export → (export.exporter.0 < count) × (export.importer.0 < count)
-  pub unbegun : (leaf : Leaf) (job : Job) → map.get tree.jobs leaf ≡ Some job → IsFrozen exports subtrees.roots tree.homes tree.covers leaf → ⊥
+  pub there : (root : Leaf) (export : StandingExport) → map.get exports root ≡ Some export → (export.exporter.0 < count)
+      × (export.importer.0 < count)
+  pub unbegun : (leaf : Leaf) (job : Job) → map.get tree.jobs leaf ≡ Some job
+      → IsFrozen exports subtrees.roots tree.homes tree.covers leaf → ⊥
 
 -- a tree that is divided among ranks: each caches what it holds, and the exports stand soundly
 pub record IsDivided (core : Core) (regions : Regions) : Type 0 where
@@ -54,10 +60,12 @@ pub record IsDivided (core : Core) (regions : Regions) : Type 0 where
 -- the jobs of the region of a root have ended, and nothing else of the state changed
 pub record EndsRegion (old new : TreeState) (roots : Roots) (root : Leaf) : Type 0 where
   pub ended : (leaf : Leaf) → NearestRoot roots old.homes old.covers leaf root → map.get new.jobs leaf ≡ None
-  pub others : (leaf : Leaf) → (NearestRoot roots old.homes old.covers leaf root → ⊥) → map.get new.jobs leaf ≡ map.get old.jobs leaf
+  pub others : (leaf : Leaf) → (NearestRoot roots old.homes old.covers leaf root → ⊥)
+      → map.get new.jobs leaf ≡ map.get old.jobs leaf
   pub left : new ≡ record old { jobs = new.jobs }
 
 -- so it is with one leaf: its job has ended where it is in the region, and otherwise nothing changed
 abbrev pub EndsInside : Roots → Leaf → (old new : TreeState) → Leaf → Type 0
 EndsInside roots root old new leaf =
-    (NearestRoot roots old.homes old.covers leaf root × (new ≡ record old { jobs = map.remove old.jobs leaf })) ⊎ ((NearestRoot roots old.homes old.covers leaf root → ⊥) × (new ≡ old))
+    (NearestRoot roots old.homes old.covers leaf root × (new ≡ record old { jobs = map.remove old.jobs leaf }))
+    ⊎ ((NearestRoot roots old.homes old.covers leaf root → ⊥) × (new ≡ old))

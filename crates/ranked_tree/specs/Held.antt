@@ -1,5 +1,5 @@
--- What the ranks' caches have: a rank caches only fragments that it holds, and has places of no other live leaf (Weil et al., OSDI 2006).
--- Here the roots are those with the ranks that hold their regions.
+-- What the ranks' caches have: a rank caches only fragments that it holds, and has places of no other live leaf (Weil
+-- et al., OSDI 2006). Here the roots are those with the ranks that hold their regions.
 use Rattle.std.specs.Prelude.{◌≡◌, ◌⊎◌, ◌<◌, ◌^◌, ℕ, true, false, length, map as each, Option, Some, None}
 use Rattle.std.specs.List.{Contains}
 use Rattle.std.specs.FinMap as map
@@ -23,14 +23,17 @@ use Rattle.mdcache.specs.Core.{Core, IsSoundCore, LacksPlacesAt, state_of}
 use Rattle.mdcache.specs.State.{State as TreeState}
 use Rattle.ranked_tree.specs.Subtrees.{AreRoots, HoldsAt, Rules}
 
--- each cached fragment is at its leaf's authority, and so is each place of a live leaf; each root's rank is one of those that
--- have a cache
+-- each cached fragment is at its leaf's authority, and so is each place of a live leaf; each root's rank is one of
+-- those that have a cache
 pub record AreHeld (tree : TreeState) (caches : CacheMap) (roots : Roots) : Type 0 where
-  pub cached : (leaf : Leaf) (a : At) → map.get caches.held leaf ≡ Some a → Rules tree roots leaf (record { 0 = a.rank })
-  pub placed : (r : ℕ) (leaf : Leaf) → has_place caches r leaf ≡ true → IsLive tree.homes tree.covers leaf → Rules tree roots leaf (record { 0 = r })
+  pub cached : (leaf : Leaf) (a : At) → map.get caches.held leaf ≡ Some a
+      → Rules tree roots leaf (record { 0 = a.rank })
+  pub placed : (r : ℕ) (leaf : Leaf) → has_place caches r leaf ≡ true → IsLive tree.homes tree.covers leaf
+      → Rules tree roots leaf (record { 0 = r })
   pub ranks : (leaf : Leaf) (rank : Rank) → map.get roots leaf ≡ Some rank → rank.0 < length caches.used
 
--- the tree is sound, the roots are its own, and each rank caches fragments of leaves that it holds, and has places of no other live leaf
+-- the tree is sound, the roots are its own, and each rank caches fragments of leaves that it holds, and has places of
+-- no other live leaf
 pub record IsOwned (core : Core) (roots : Roots) : Type 0 where
   pub sound : IsSoundCore core
   pub valid : AreRoots (state_of core) roots
@@ -44,7 +47,9 @@ AreHeldAt tree roots change = LieHeld (HoldsAt tree roots) change
 
 -- a leaf of a directory that is asked for, at the rank that holds it; or the first of a directory that comes
 abbrev pub AsksFor : TreeState → Roots → (Asked : ℕ → Type 0) → ℕ → Leaf → Type 0
-AsksFor tree roots Asked rank leaf = (Asked leaf.0.0 × Rules tree roots leaf (record { 0 = rank })) ⊎ ((is_known tree.homes leaf.0.0 ≡ false) × (leaf.1 ≡ root_fragment))
+AsksFor tree roots Asked rank leaf =
+    (Asked leaf.0.0 × Rules tree roots leaf (record { 0 = rank }))
+    ⊎ ((is_known tree.homes leaf.0.0 ≡ false) × (leaf.1 ≡ root_fragment))
 
 -- these leaves were read at most
 abbrev pub ReadsFor : Roots → (Asked : ℕ → Type 0) → (old new : Core) → Type 0
@@ -78,7 +83,8 @@ IsGone tree rank leaf = is_directory tree leaf.0.0 ≡ false
 
 -- so many places lack at the rank that holds a leaf
 abbrev pub LacksPlacesFor : ℕ → Core → Roots → Leaf → Type 0
-LacksPlacesFor count core roots leaf = (rank : Rank) × Rules (state_of core) roots leaf rank × LacksPlacesAt count core rank
+LacksPlacesFor count core roots leaf =
+    (rank : Rank) × Rules (state_of core) roots leaf rank × LacksPlacesAt count core rank
 
 -- so it is with a leaf of a directory that is asked for
 abbrev pub LacksPlacesAsked : ℕ → Core → Roots → (Asked : ℕ → Type 0) → Type 0
@@ -90,7 +96,9 @@ LacksPlacesDir count core roots dir = LacksPlacesAsked count core roots (λ (d :
 
 -- so many places lack at a rank that holds a leaf of a directory properly inside a fragment
 abbrev pub LacksPlacesInside : ℕ → Core → Roots → Ino → Fragment → Type 0
-LacksPlacesInside count core roots dir frag = (leaf : Leaf) × IsLive core.homes core.covers leaf × (is_inside dir.0 frag leaf ≡ true) × LacksPlacesFor count core roots leaf
+LacksPlacesInside count core roots dir frag =
+    (leaf : Leaf) × IsLive core.homes core.covers leaf × (is_inside dir.0 frag leaf ≡ true)
+    × LacksPlacesFor count core roots leaf
 
 -- ---- leaves of a directory are regrouped
 
@@ -112,4 +120,5 @@ IsFamilyOf dir frag bits q = (q ≡ (dir, frag)) ⊎ ((i : ℕ) × (i < 2 ^ bits
 
 -- a leaf of a directory properly inside a fragment, or the leaf that they are merged to
 abbrev pub IsMergedHere : Covers → Ino → Fragment → Leaf → Type 0
-IsMergedHere covers dir frag leaf = Contains (each (in_directory dir.0) (leaves_inside frag (leaves_of covers dir.0))) leaf ⊎ (leaf ≡ (dir, frag))
+IsMergedHere covers dir frag leaf =
+    Contains (each (in_directory dir.0) (leaves_inside frag (leaves_of covers dir.0))) leaf ⊎ (leaf ≡ (dir, frag))

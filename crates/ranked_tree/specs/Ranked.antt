@@ -28,19 +28,23 @@ held_roots ranked = holding ranked.exports ranked.subtrees.roots
 abbrev pub IsFrozenLeaf : Ranked → Leaf → Type 0
 IsFrozenLeaf ranked leaf = IsFrozen ranked.exports ranked.subtrees.roots ranked.tree.homes ranked.tree.covers leaf
 
--- reads for an operation and refusals keep the state, the number of ranks and places, the roots and the exports; the store's count of faults rises
--- by one where a fault is told, and not otherwise; and of the caches leaves of directories that the operation concerns are used at
--- most, at the ranks that hold them, and the first leaf of a directory that comes
+-- reads for an operation and refusals keep the state, the number of ranks and places, the roots and the exports; the
+-- store's count of faults rises by one where a fault is told, and not otherwise; and of the caches leaves of
+-- directories that the operation concerns are used at most, at the ranks that hold them, and the first leaf of a
+-- directory that comes
 pub record KeepsRanked (old new : Ranked) (op : Op) (told : Option Refusal) : Type 0 where
   pub tree : KeepsState old.tree new.tree told
   pub roots : new.subtrees.roots ≡ old.subtrees.roots
   pub exports : new.exports ≡ old.exports
   pub reads : ReadsFor (held_roots old) (Concerns (shown_tree (state_of old.tree)) op) old.tree new.tree
 
--- a call for an operation is refused for want of memory, by a store whose count of faults rose, where fewer than two places are free, or can
--- become so, at a rank that holds a leaf of a directory which the operation concerns, or where a counter is at its end
+-- a call for an operation is refused for want of memory, by a store whose count of faults rose, where fewer than two
+-- places are free, or can become so, at a rank that holds a leaf of a directory which the operation concerns, or where
+-- a counter is at its end
 abbrev pub MayRefuse : (old new : Ranked) → Op → Refusal → Type 0
-MayRefuse old new op reason = MayRefuseIn (LacksPlacesAsked 2 old.tree (held_roots old) (Concerns (shown_tree (state_of old.tree)) op)) old.tree new.tree op reason
+MayRefuse old new op reason =
+    MayRefuseIn (LacksPlacesAsked 2 old.tree (held_roots old)
+    (Concerns (shown_tree (state_of old.tree)) op)) old.tree new.tree op reason
 
 -- the one subtree root of a new tree: the root directory's leaf is rank 0's
 abbrev pub new_roots : Roots

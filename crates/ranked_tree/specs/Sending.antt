@@ -19,14 +19,22 @@ use Rattle.ranked_tree.specs.Ranked.{Ranked}
 abbrev pub IsInRegionOf : TreeState → Roots → (root leaf : Leaf) → Type 0
 IsInRegionOf tree roots root leaf = IsIn roots tree.homes tree.covers root leaf
 
--- bytes spell what an export of a root's region hands over: each fragment of the region that isn't clean, and no other, from exporter to importer
-pub record SpellsRegion (tree : TreeState) (roots : Roots) (root : Leaf) (standing : StandingExport) (bytes : List ℕ) : Type 0 where
+-- bytes spell what an export of a root's region hands over: each fragment of the region that isn't clean, and no other,
+-- from exporter to importer
+pub record SpellsRegion (tree : TreeState) (roots : Roots) (root : Leaf) (standing : StandingExport)
+    (bytes : List ℕ) : Type 0 where
   pub export : Export
   pub spelled : SpellsExport bytes export
-  pub handed : IsExportOf (IsInRegionOf tree roots root) tree.unsaved (record { dir = root.0; frag = root.1; rank = standing.exporter }) standing.importer export
+  pub handed : IsExportOf (IsInRegionOf tree roots root) tree.unsaved (record {
+    dir =
+        root.0;
+    frag = root.1;
+    rank = standing.exporter;
+  }) standing.importer export
 
 -- so it is of a prepared export that stands
-pub record SpellsPrepared (tree : TreeState) (roots : Roots) (exports : Standing) (root : Leaf) (bytes : List ℕ) : Type 0 where
+pub record SpellsPrepared (tree : TreeState) (roots : Roots) (exports : Standing) (root : Leaf)
+    (bytes : List ℕ) : Type 0 where
   pub export : StandingExport
   pub stands : map.get exports root ≡ Some export
   pub prepared : export.state ≡ Prepared
@@ -37,7 +45,8 @@ pub record Sends (old new : Ranked) (root : Leaf) (bytes : List ℕ) : Type 0 wh
   pub step : ComesTo old.exports new.exports root Prepared Sent
   pub region : SpellsRegion (state_of old.tree) old.subtrees.roots root step.export bytes
 
--- why Send is refused: no prepared export of the root stands; or, where one does, a fragment of its region has too many dirty names, or, where none has, want of memory
+-- why Send is refused: no prepared export of the root stands; or, where one does, a fragment of its region has too many
+-- dirty names, or, where none has, want of memory
 abbrev pub RefusesSend : TreeState → Roots → Standing → Leaf → Refusal → Type 0
 RefusesSend tree roots exports root reason =
     ((reason ≡ WrongExportState) × (state_at exports root ≢ Some Prepared))

@@ -38,17 +38,17 @@ impl<S: Store + Drop> RankedTree<S> {
         is_authority(&self.tree, &self.regions.roots, rank, dir, frag)
     }
 
-    /// The rank that holds a leaf; none exactly where there is no such leaf. `rank` is asked first: it holds a leaf of which it has a
-    /// place. Takes no memory, one search of the directory table, and for a leaf that the rank doesn't cache one more for each
-    /// directory up to the nearest root.
+    /// The rank that holds a leaf; none exactly where there is no such leaf. `rank` is asked first: it holds a leaf of
+    /// which it has a place. Takes no memory, one search of the directory table, and for a leaf that the rank doesn't
+    /// cache one more for each directory up to the nearest root.
     pub fn holder(&self, rank: Rank, dir: Ino, frag: Frag) -> Option<Rank>
         ensures { MatchOption result (IsLive self.now.tree.homes self.now.tree.covers (dir, frag) → ⊥) (λ holder. IsLive self.now.tree.homes self.now.tree.covers (dir, frag) × Rules (state_of self.now.tree) (held_roots self.now) (dir, frag) holder) }
     {
         holder_at(&self.tree, &self.regions, rank, dir, frag)
     }
 
-    /// Whether a rank is the authority of a leaf, which another or the same holds: the one that holds it, unless an export stands.
-    /// Takes no memory.
+    /// Whether a rank is the authority of a leaf, which another or the same holds: the one that holds it, unless an
+    /// export stands. Takes no memory.
     pub fn has_authority(&self, at: &Dirfrag, rank: Rank) -> bool
         requires live { IsLive self.now.tree.homes self.now.tree.covers (leaf_of at.now) }
         requires held { HoldsAt (state_of self.now.tree) (held_roots self.now) at.now }
@@ -86,7 +86,8 @@ impl<S: Store + Drop> RankedTree<S> {
         authority_at(&self.tree, &self.regions, at)
     }
 
-    /// Whether each leaf of a directory that lies properly inside a fragment has this rank as its authority. Takes no memory.
+    /// Whether each leaf of a directory that lies properly inside a fragment has this rank as its authority. Takes no
+    /// memory.
     pub fn is_all_of(&self, dir: Ino, frag: Frag, rank: Rank) -> bool
         ensures { IsTrue result ↔ AllHave self.now.tree.homes self.now.tree.covers self.now.subtrees.roots dir frag rank }
     {
@@ -111,9 +112,9 @@ fn authority_of<S: Store + Drop>(
     }
 }
 
-/// Where a hash falls in a directory: the leaf that it picks, and the rank that holds it; nowhere exactly where there is no such
-/// directory. `rank` is asked first: it holds a leaf of which it has a place. Takes no memory, one search of the directory table,
-/// and for a leaf that the rank doesn't cache one more for each directory up to the nearest root.
+/// Where a hash falls in a directory: the leaf that it picks, and the rank that holds it; nowhere exactly where there
+/// is no such directory. `rank` is asked first: it holds a leaf of which it has a place. Takes no memory, one search of
+/// the directory table, and for a leaf that the rank doesn't cache one more for each directory up to the nearest root.
 pub(crate) fn locate<S: Store + Drop>(
     tree: &MdCache<S>,
     regions: &Regions,

@@ -35,9 +35,10 @@ use std::alloc::Global;
 use subtree_map::Subtrees;
 
 impl<S: Store + Drop> RankedTree<S> {
-    /// Makes a change that may be made, of leaves that aren't frozen, each at the rank that holds it, as `MdCache::change` does and
-    /// refuses. Where a directory moves, those of its leaves that would inherit another rank there become roots of the one that
-    /// they have; a directory that goes has none any more. A new inode has a number of a rank. Takes memory for such roots first.
+    /// Makes a change that may be made, of leaves that aren't frozen, each at the rank that holds it, as
+    /// `MdCache::change` does and refuses. Where a directory moves, those of its leaves that would inherit another rank
+    /// there become roots of the one that they have; a directory that goes has none any more. A new inode has a number
+    /// of a rank. Takes memory for such roots first.
     pub fn make_change(&mut self, change: Change) -> Result<(), Refusal>
         requires may { MayChange (shown_tree (state_of self.old.tree)) self.old.tree.covers change }
         requires held { AreHeldAt (state_of self.old.tree) (held_roots self.old) change }
@@ -89,8 +90,8 @@ fn change_tree<S: Store + Drop>(
     Ok(())
 }
 
-// The rank that the leaves of a directory inherit that a change moves, if they would inherit another at its new place: those of the
-// leaves that hold its dentries, of which it is known where they lie.
+// The rank that the leaves of a directory inherit that a change moves, if they would inherit another at its new place:
+// those of the leaves that hold its dentries, of which it is known where they lie.
 fn lost_rank<S: Store + Drop>(tree: &MdCache<S>, regions: &Regions, change: &Change) -> Option<Rank>
     requires divided { IsDivided tree.now regions.now }
     requires may { MayChange (shown_tree (state_of tree.now)) tree.now.covers change.now }
@@ -127,7 +128,8 @@ fn moving(change: &Change) -> Option<Ino>
     }
 }
 
-// Makes room for the leaves of a directory that moves, where they lose their rank and there is none: else nothing is done.
+// Makes room for the leaves of a directory that moves, where they lose their rank and there is none: else nothing is
+// done.
 fn reserve_lost(
     dirs: &Dirs,
     roots: &mut Subtrees,

@@ -22,10 +22,11 @@ use mds_types::{Frag, Ino, Refusal};
 use objstore::Store;
 use std::alloc::Global;
 
-/// Whether nothing is in a directory. Its leaves are fetched one after the other, up to the first that shows a name. Takes
-/// memory for a copy of what leaves there are, and for a leaf that is read.
+/// Whether nothing is in a directory. Its leaves are fetched one after the other, up to the first that shows a name.
+/// Takes memory for a copy of what leaves there are, and for a leaf that is read.
 ///
-/// Refused `NothingToEvict` where no place of a leaf's rank is free and no fragment can go, `StoreFault`, and `NoMemory`.
+/// Refused `NothingToEvict` where no place of a leaf's rank is free and no fragment can go, `StoreFault`, and
+/// `NoMemory`.
 pub(crate) fn is_dir_empty<S: Store + Drop>(
     alloc: Global,
     tree: &mut MdCache<S>,

@@ -37,9 +37,9 @@ impl<S: Store + Drop> RankedTree<S> {
         self.regions.exports.start(dir, frag, exporter, importer)
     }
 
-    /// Freeze: a leaf of a started export, whose authority is the exporter and which isn't frozen, is a subtree root of the
-    /// exporter, as `Exports::freeze` makes it and refuses. Its region changes no more from now on: the jobs of its leaves end.
-    /// No leaf gets another authority, nor another rank that holds it.
+    /// Freeze: a leaf of a started export, whose authority is the exporter and which isn't frozen, is a subtree root of
+    /// the exporter, as `Exports::freeze` makes it and refuses. Its region changes no more from now on: the jobs of its
+    /// leaves end. No leaf gets another authority, nor another rank that holds it.
     pub fn freeze(&mut self, dir: Ino, frag: Frag) -> Result<(), Refusal>
         requires live { IsLive self.old.tree.homes self.old.tree.covers (dir, frag) }
         requires thawed { IsFrozenLeaf self.old (dir, frag) → ⊥ }
@@ -60,8 +60,8 @@ impl<S: Store + Drop> RankedTree<S> {
         Ok(())
     }
 
-    /// Prep: the importer of a frozen region gets to know its bounds, and its root is promised to it, as `Exports::prep` does and
-    /// refuses. The tree and the roots stay, and so does which rank holds each region.
+    /// Prep: the importer of a frozen region gets to know its bounds, and its root is promised to it, as
+    /// `Exports::prep` does and refuses. The tree and the roots stay, and so does which rank holds each region.
     pub fn prep(&mut self, alloc: Global, dir: Ino, frag: Frag) -> Result<(), Refusal>
         ensures prepared { Preps self.old.exports self.new.exports self.old.subtrees self.new.subtrees (dir, frag) result }
         ensures tree { self.new.tree ≡ self.old.tree }
@@ -71,8 +71,8 @@ impl<S: Store + Drop> RankedTree<S> {
         self.regions.exports.prep(&mut self.regions.roots, alloc, self.tree.dirs(), dir, frag)
     }
 
-    /// Cancel: an export that isn't sent yet is over, and its region thaws, as `Exports::cancel` does and refuses. The tree and
-    /// the roots stay, and so does which rank holds each region. Takes no memory.
+    /// Cancel: an export that isn't sent yet is over, and its region thaws, as `Exports::cancel` does and refuses. The
+    /// tree and the roots stay, and so does which rank holds each region. Takes no memory.
     pub fn cancel(&mut self, dir: Ino, frag: Frag) -> Result<(), Refusal>
         ensures cancelled { Cancels self.old.exports self.new.exports self.old.subtrees self.new.subtrees (dir, frag) result }
         ensures tree { self.new.tree ≡ self.old.tree }

@@ -10,8 +10,9 @@ use mds_types::{Frag, Ino, Refusal};
 use objstore::Store;
 
 impl<S: Store + Drop> RankedTree<S> {
-    /// Finish: the importer of an imported region is its authority, and the export is over, so that the region thaws, as
-    /// `Exports::finish` does and refuses. The tree stays, and so does which rank holds each region. Takes no memory.
+    /// Finish: the importer of an imported region is its authority, and the export is over, so that the region thaws,
+    /// as `Exports::finish` does and refuses. The tree stays, and so does which rank holds each region. Takes no
+    /// memory.
     pub fn finish(&mut self, dir: Ino, frag: Frag) -> Result<(), Refusal>
         ensures finished { Finishes self.old.exports self.new.exports self.old.subtrees self.new.subtrees (dir, frag) result }
         ensures tree { self.new.tree ≡ self.old.tree }

@@ -19,7 +19,8 @@ use std::alloc::Global;
 use std::thread::Threads;
 
 impl<S: Store + Drop> RankedTree<S> {
-    /// Writes all that isn't in the store, as `MdCache::flush` does and refuses. The roots stay, and so does whose each leaf is.
+    /// Writes all that isn't in the store, as `MdCache::flush` does and refuses. The roots stay, and so does whose each
+    /// leaf is.
     pub fn flush(&mut self, rt: &(impl Threads + Sync), alloc: Global) -> Result<(), Refusal>
         requires few { length self.old.tree.caches.used ≤ 256 }
         ensures flushed { OnOk result (IsFlushed (state_of self.new.tree)) }

@@ -1,4 +1,5 @@
-//! Which rank holds a leaf: its authority, but from Import to Finish the importer of its region. No other rank caches it.
+//! Which rank holds a leaf: its authority, but from Import to Finish the importer of its region. No other rank caches
+//! it.
 ghost use Rattle.inode_table.specs.Dirs.{IsLive};
 ghost use Rattle.mdcache.specs.Core.{state_of};
 ghost use Rattle.mdcache.specs.Ranks.{MayHold};

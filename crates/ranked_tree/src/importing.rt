@@ -25,15 +25,14 @@ use std::alloc::Global;
 
 impl<S: Store + Drop> RankedTree<S> {
     /// Import: where the bytes are those of the region of a sent export, each fragment of it that isn't clean is in the
-    /// importer's cache, of generation 0, and the exporter caches none of it; the importer holds the region from now on. What
-    /// the tree shows stays, and so do the roots. The store isn't called. Takes memory for the region's leaves, for a copy of
-    /// its dirty names and for their bytes, and for the places.
+    /// importer's cache, of generation 0, and the exporter caches none of it; the importer holds the region from now
+    /// on. What the tree shows stays, and so do the roots. The store isn't called. Takes memory for the region's
+    /// leaves, for a copy of its dirty names and for their bytes, and for the places.
     ///
-    /// # Errors
-    /// `WrongExportState` where no sent export of this root stands. Where one does, `Damaged` with the root's object where the
-    /// bytes aren't those of the region, `NothingToEvict` where fewer places of the importer are free or can become so than
-    /// fragments were sent, and `NoMemory`, which may come first. Then the state and the exports are left as they were; clean
-    /// fragments of the importer may have gone for want of memory.
+    /// # Errors `WrongExportState` where no sent export of this root stands. Where one does, `Damaged` with the root's
+    /// object where the bytes aren't those of the region, `NothingToEvict` where fewer places of the importer are free
+    /// or can become so than fragments were sent, and `NoMemory`, which may come first. Then the state and the exports
+    /// are left as they were; clean fragments of the importer may have gone for want of memory.
     pub fn import(
         &mut self,
         alloc: Global,

@@ -46,8 +46,8 @@ pub(crate) fn some_frozen(dirs: &Dirs, regions: &Regions, dir: Ino, frag: Frag) 
     false
 }
 
-/// The leaf properly inside a fragment that contains a hash from its first one on, if one does; otherwise each of those inside
-/// begins before the hash. With `end_of` it walks over all leaves inside. Takes no memory.
+/// The leaf properly inside a fragment that contains a hash from its first one on, if one does; otherwise each of those
+/// inside begins before the hash. With `end_of` it walks over all leaves inside. Takes no memory.
 pub fn leaf_inside(dirs: &Dirs, dir: Ino, frag: Frag, hash: u32) -> Option<Frag>
     requires { frag.value ≤ hash }
     ensures { IsInsideAt (leaves_of dirs.now.trees dir.0) frag hash result }

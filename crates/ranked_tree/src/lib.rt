@@ -1,6 +1,6 @@
-//! The tree with its subtrees: whose each leaf is (CephFS's subtree map), kept together with the directories and leaves that it
-//! speaks of, and with the exports that stand (CephFS's Migrator). No change of the tree gives a leaf that stays another
-//! authority or another holder. Each leaf is cached by the rank that holds it alone.
+//! The tree with its subtrees: whose each leaf is (CephFS's subtree map), kept together with the directories and leaves
+//! that it speaks of, and with the exports that stand (CephFS's Migrator). No change of the tree gives a leaf that
+//! stays another authority or another holder. Each leaf is cached by the rank that holds it alone.
 #![tactic(auto)]
 
 mod authorities;

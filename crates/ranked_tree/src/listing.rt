@@ -26,11 +26,12 @@ use mds_types::{Dirfrag, Frag, Ino, Listing, Name, PageSize, Refusal};
 use objstore::Store;
 use std::alloc::Global;
 
-/// The first `max` names of a directory greater than `after`, or of all where none is given, in order, with their inodes, and
-/// whether more follow. Its leaves are fetched one after the other, and each is left at its first name that can't be in the
-/// page. Takes memory for the page, for a copy of what leaves there are, and for a leaf that is read.
+/// The first `max` names of a directory greater than `after`, or of all where none is given, in order, with their
+/// inodes, and whether more follow. Its leaves are fetched one after the other, and each is left at its first name that
+/// can't be in the page. Takes memory for the page, for a copy of what leaves there are, and for a leaf that is read.
 ///
-/// Refused `NothingToEvict` where no place of a leaf's rank is free and no fragment can go, `StoreFault`, and `NoMemory`.
+/// Refused `NothingToEvict` where no place of a leaf's rank is free and no fragment can go, `StoreFault`, and
+/// `NoMemory`.
 pub(crate) fn list_dir<S: Store + Drop>(
     alloc: Global,
     tree: &mut MdCache<S>,

@@ -18,8 +18,9 @@ use std::alloc::{AllocError, Global};
 use subtree_map::Subtrees;
 
 impl<S: Store + Drop> RankedTree<S> {
-    /// The tree over a store as it is found, as `MdCache::mount` makes and refuses it, with what that finds beside it. All leaves
-    /// of the root directory are rank 0's, and nothing else is a root. Memory for the roots is linear in those leaves.
+    /// The tree over a store as it is found, as `MdCache::mount` makes and refuses it, with what that finds beside it.
+    /// All leaves of the root directory are rank 0's, and nothing else is a root. Memory for the roots is linear in
+    /// those leaves.
     pub fn mount(
         alloc: Global,
         store: S,

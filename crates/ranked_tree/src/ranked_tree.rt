@@ -12,9 +12,9 @@ use subtree_map::Subtrees;
 
 /// A tree over caches and a store, its subtree roots with their ranks, and the exports that stand.
 ///
-/// Of each it holds that the leaves of the root directory are subtree roots, and that only leaves are: so each leaf has one
-/// authority; that a rank caches only leaves that it holds, and has places of no other live leaf; that what Finish changes of
-/// the exports has its place; and that the tree is sound.
+/// Of each it holds that the leaves of the root directory are subtree roots, and that only leaves are: so each leaf has
+/// one authority; that a rank caches only leaves that it holds, and has places of no other live leaf; that what Finish
+/// changes of the exports has its place; and that the tree is sound.
 #[derive(Drop)]
 pub struct RankedTree<S: Store + Drop> {
     pub(crate) tree: MdCache<S>,

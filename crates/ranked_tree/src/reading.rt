@@ -19,8 +19,8 @@ use mds_types::{Frag, Ino, Rank, Refusal};
 use objstore::Store;
 
 impl<S: Store + Drop> RankedTree<S> {
-    /// Tells what every tree keeps: it is sound, the roots are its own, a rank caches only leaves that it holds and has places of no
-    /// other live leaf, the exports stand soundly, and each rank caches at most as many as it has places.
+    /// Tells what every tree keeps: it is sound, the roots are its own, a rank caches only leaves that it holds and has
+    /// places of no other live leaf, the exports stand soundly, and each rank caches at most as many as it has places.
     pub fn is_sound(&self)
         ensures owned { IsOwned self.now.tree (held_roots self.now) }
         ensures stand { StandSoundly (state_of self.now.tree) (length self.now.tree.caches.used) self.now.subtrees self.now.exports }
@@ -61,8 +61,9 @@ impl<S: Store + Drop> RankedTree<S> {
         self.tree.has_leaf(dir, frag)
     }
 
-    /// The rank that holds a leaf which can be split by so many bits; `rank` is asked first. Refused as `Dirs::check_split` is. Takes
-    /// one search of the directory table, and for a leaf that the rank doesn't cache one more for each directory up to the nearest root.
+    /// The rank that holds a leaf which can be split by so many bits; `rank` is asked first. Refused as
+    /// `Dirs::check_split` is. Takes one search of the directory table, and for a leaf that the rank doesn't cache one
+    /// more for each directory up to the nearest root.
     pub fn check_split(&self, rank: Rank, dir: Ino, frag: Frag, bits: u8) -> Result<Rank, Refusal>
         ensures known { OnOk result (is_known self.now.tree.homes dir.0 ≡ true) }
         ensures can { OnOk result (CanSplit (leaves_of self.now.tree.covers dir.0) frag bits) }
@@ -73,8 +74,8 @@ impl<S: Store + Drop> RankedTree<S> {
         holder_to_split(&self.tree, &self.regions, rank, dir, frag, bits)
     }
 
-    /// Whether there is such a directory, and leaves of it can be merged at a fragment, as `MdCache::check_merge` tells and
-    /// refuses.
+    /// Whether there is such a directory, and leaves of it can be merged at a fragment, as `MdCache::check_merge` tells
+    /// and refuses.
     pub fn check_merge(&self, dir: Ino, frag: Frag) -> Result<(), Refusal>
         ensures known { OnOk result (is_known self.now.tree.homes dir.0 ≡ true) }
         ensures can { OnOk result (CanMerge (leaves_of self.now.tree.covers dir.0) frag) }

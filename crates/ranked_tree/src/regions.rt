@@ -41,8 +41,8 @@ impl Regions {
         self.exports.holder(&self.roots, dirs, dir, frag)
     }
 
-    // So of a leaf whose directory stands there, where a rank asks: without exports one search less, and the rank looks into its
-    // own list of roots first.
+    // So of a leaf whose directory stands there, where a rank asks: without exports one search less, and the rank looks
+    // into its own list of roots first.
     pub(crate) fn holder_by<'a>(
         &self,
         rank: Rank,

@@ -28,9 +28,10 @@ use std::alloc::Global;
 use subtree_map::Subtrees;
 
 impl<S: Store + Drop> RankedTree<S> {
-    /// Splits a leaf that can be split and isn't frozen by so many bits, at the rank that holds it, as `MdCache::split` does and refuses;
-    /// where it is a root its children are roots of its rank then, and where it inherits they do. Takes memory for those roots
-    /// first. Of the caches only places of the leaf and of its children are used, at that rank.
+    /// Splits a leaf that can be split and isn't frozen by so many bits, at the rank that holds it, as `MdCache::split`
+    /// does and refuses; where it is a root its children are roots of its rank then, and where it inherits they do.
+    /// Takes memory for those roots first. Of the caches only places of the leaf and of its children are used, at that
+    /// rank.
     pub fn split(&mut self, alloc: Global, at: &Dirfrag, bits: u8) -> Result<(), Refusal>
         requires known { is_known self.old.tree.homes at.now.dir.0 ≡ true }
         requires can { CanSplit (leaves_of self.old.tree.covers at.now.dir.0) at.now.frag bits }
@@ -50,9 +51,10 @@ impl<S: Store + Drop> RankedTree<S> {
         split_with_roots(alloc, &mut self.tree, &mut self.regions, at, bits)
     }
 
-    /// Merges the leaves of a directory properly inside a fragment, which can be merged, have one authority and aren't frozen, as
-    /// `MdCache::merge` does and refuses; where one of them is a root the merged leaf is a root of that rank then. Takes memory for that root first. Of the
-    /// caches only places of those leaves and of the merged one are used, at the rank that holds them.
+    /// Merges the leaves of a directory properly inside a fragment, which can be merged, have one authority and aren't
+    /// frozen, as `MdCache::merge` does and refuses; where one of them is a root the merged leaf is a root of that rank
+    /// then. Takes memory for that root first. Of the caches only places of those leaves and of the merged one are
+    /// used, at the rank that holds them.
     pub fn merge(&mut self, alloc: Global, dir: Ino, frag: Frag) -> Result<(), Refusal>
         requires known { is_known self.old.tree.homes dir.0 ≡ true }
         requires can { CanMerge (leaves_of self.old.tree.covers dir.0) frag }
@@ -73,8 +75,9 @@ impl<S: Store + Drop> RankedTree<S> {
     }
 }
 
-// Splits a leaf that can be split by so many bits, at the rank that holds it, as `MdCache::split` does and refuses; where it is a root
-// its children are roots of its rank then, and where it inherits they do. Takes memory for those roots first.
+// Splits a leaf that can be split by so many bits, at the rank that holds it, as `MdCache::split` does and refuses;
+// where it is a root its children are roots of its rank then, and where it inherits they do. Takes memory for those
+// roots first.
 fn split_with_roots<S: Store + Drop>(
     alloc: Global,
     tree: &mut MdCache<S>,
@@ -110,7 +113,8 @@ fn split_with_roots<S: Store + Drop>(
 }
 
 // Merges the leaves of a directory properly inside a fragment, which can be merged and have one authority, as
-// `MdCache::merge` does and refuses; where one of them is a root the merged leaf is a root of that rank then. Takes memory for that root first.
+// `MdCache::merge` does and refuses; where one of them is a root the merged leaf is a root of that rank then. Takes
+// memory for that root first.
 fn merge_with_roots<S: Store + Drop>(
     alloc: Global,
     tree: &mut MdCache<S>,

@@ -16,13 +16,12 @@ use objstore::Store;
 use std::alloc::Global;
 
 impl<S: Store + Drop> RankedTree<S> {
-    /// Send: the bytes of each fragment of a region that isn't clean are handed out, and its export goes from prepared to sent.
-    /// The tree and the roots stay, and so does which rank holds each region. Takes memory for the region's dirty names and
-    /// for the bytes; the step itself takes none.
+    /// Send: the bytes of each fragment of a region that isn't clean are handed out, and its export goes from prepared
+    /// to sent. The tree and the roots stay, and so does which rank holds each region. Takes memory for the region's
+    /// dirty names and for the bytes; the step itself takes none.
     ///
-    /// # Errors
-    /// In this order: `WrongExportState` where no prepared export of this root stands, `TooManyFrags` where a fragment of the
-    /// region has more than 2^32 - 1 dirty names, `NoMemory`; then all is left as it was.
+    /// # Errors In this order: `WrongExportState` where no prepared export of this root stands, `TooManyFrags` where a
+    /// fragment of the region has more than 2^32 - 1 dirty names, `NoMemory`; then all is left as it was.
     pub fn send(&mut self, alloc: Global, dir: Ino, frag: Frag) -> Result<Vec<u8>, Refusal>
         ensures sent { IfOk result (λ bytes. Sends self.old self.new (dir, frag) bytes.items) }
         ensures refused { IfErr result (RefusesSend (state_of self.old.tree) self.old.subtrees.roots self.old.exports (dir, frag)) }

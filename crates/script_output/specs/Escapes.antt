@@ -9,7 +9,8 @@ prints_plain byte = nat_le 33 byte && nat_le byte 126 && not (byte == 37)
 
 -- what a byte prints: itself, or `%` and two hexadecimal digits in lower case
 abbrev pub escaped_byte : ℕ → List ℕ
-escaped_byte byte = if prints_plain byte then byte ∷ [] else 37 ∷ digit_glyph false (byte / 16) ∷ digit_glyph false (byte % 16) ∷ []
+escaped_byte byte =
+    if prints_plain byte then byte ∷ [] else 37 ∷ digit_glyph false (byte / 16) ∷ digit_glyph false (byte % 16) ∷ []
 
 -- what a name, a target or a key prints
 abbrev pub escaped : List ℕ → List ℕ

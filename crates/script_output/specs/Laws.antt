@@ -18,4 +18,6 @@ FragmentsReadBack = (frag : Fragment) → IsFragment frag → frag_of (fragment_
 
 -- what is printed of an inode number, another number or a mode stands for it
 abbrev pub NumbersReadBack : Type 0
-NumbersReadBack = (n : ℕ) → (n < 2 ^ 64 → number_of 16 (hexadecimal n) ≡ Some n) × (n < 2 ^ 64 → number_of 10 (decimal n) ≡ Some n) × (n ≤ 4095 → octal_mode_of (octal n) ≡ Some n)
+NumbersReadBack =
+    (n : ℕ) → (n < 2 ^ 64 → number_of 16 (hexadecimal n) ≡ Some n) × (n < 2 ^ 64 → number_of 10 (decimal n) ≡ Some n)
+    × (n ≤ 4095 → octal_mode_of (octal n) ≡ Some n)

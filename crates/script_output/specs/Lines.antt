@@ -7,9 +7,10 @@ use Rattle.script_output.specs.ObjectLines.{object_line_text}
 use Rattle.script_output.specs.OwnTurns.{own_text}
 use Rattle.script_output.specs.Texts.{reply_line, frags_text, subtrees_text, objects_text, refused_line, errno_text}
 
--- a reply's line, that of a request that went to another rank, that waits on, or that came in, of a step that answers nothing, of a flush,
--- of a directory's leaves, of the subtree map, of a leaf's authority, of a commit that began, of what an export handed over, of an object,
--- of the objects' names, of a rank with no step of its own to make or with one, of a history's length, of a refusal, or of a name or a target outside its rules
+-- a reply's line, that of a request that went to another rank, that waits on, or that came in, of a step that answers
+-- nothing, of a flush, of a directory's leaves, of the subtree map, of a leaf's authority, of a commit that began, of
+-- what an export handed over, of an object, of the objects' names, of a rank with no step of its own to make or with
+-- one, of a history's length, of a refusal, or of a name or a target outside its rules
 unfoldable pub output_line : OutputLine → List ℕ
 output_line (Reply client tid place first reply) = reply_line client tid place first reply
 output_line (Forwarded rank) = codes "forwarded " ++ decimal rank.0

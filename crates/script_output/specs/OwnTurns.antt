@@ -29,4 +29,5 @@ result_text (Refused refusal) = refused_line refusal
 
 -- `own WHAT INO FRAG RESULT`
 abbrev pub own_text : OwnTurn → List ℕ
-own_text turn = codes "own " ++ (step_text turn.step ++ (codes " " ++ (hexadecimal turn.ino.0 ++ (codes " " ++ (fragment_text turn.frag ++ (codes " " ++ result_text turn.result))))))
+own_text turn = codes "own " ++ (step_text turn.step ++ (codes " "
+    ++ (hexadecimal turn.ino.0 ++ (codes " " ++ (fragment_text turn.frag ++ (codes " " ++ result_text turn.result))))))

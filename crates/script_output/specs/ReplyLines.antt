@@ -8,7 +8,8 @@ use Rattle.script_output.specs.Writing.{Pushes}
 
 -- what stands before a reply on its line, and then a text
 abbrev pub PushesHeaded : {E : Type 0} → List ℕ → List ℕ → Heading → List ℕ → Result (Unit {0}) E → Type 0
-PushesHeaded old new heading text result = Pushes old new (headed heading.client heading.tid heading.place heading.first text) result
+PushesHeaded old new heading text result =
+    Pushes old new (headed heading.client heading.tid heading.place heading.first text) result
 
 -- `entries K more` or `entries K end`
 abbrev pub entries_front : ℕ → Bool → List ℕ
@@ -16,4 +17,5 @@ entries_front count more = codes "entries " ++ (decimal count ++ (codes " " ++ m
 
 -- a reply's line, with its LF
 abbrev pub PushesReply : {E : Type 0} → List ℕ → List ℕ → Heading → Reply → Result (Unit {0}) E → Type 0
-PushesReply old new heading reply result = Pushes old new (reply_line heading.client heading.tid heading.place heading.first reply ++ codes "\n") result
+PushesReply old new heading reply result =
+    Pushes old new (reply_line heading.client heading.tid heading.place heading.first reply ++ codes "\n") result

@@ -31,7 +31,8 @@ kind_text (Symlink target) = codes "link"
 
 -- ` owner UID GID`, where one of them isn't 0
 abbrev pub owner_text : ℕ → ℕ → List ℕ
-owner_text uid gid = if (uid == 0) && (gid == 0) then [] else (codes " owner " ++ (decimal uid ++ (codes " " ++ decimal gid)))
+owner_text uid gid =
+    if (uid == 0) && (gid == 0) then [] else (codes " owner " ++ (decimal uid ++ (codes " " ++ decimal gid)))
 
 -- ` pin RANK`, where one is set
 abbrev pub pin_text : Option Rank → List ℕ
@@ -40,7 +41,10 @@ pin_text (Some rank) = codes " pin " ++ decimal rank.0
 
 -- `entry INO KIND MODE SIZE MTIME`, then owner and pin
 abbrev pub entry_text : Inode → List ℕ
-entry_text inode = codes "entry " ++ (hexadecimal inode.ino.0 ++ (codes " " ++ (kind_text inode.kind ++ (codes " " ++ (octal inode.mode ++ (codes " " ++ (decimal inode.size ++ (codes " " ++ (decimal inode.mtime ++ (owner_text inode.uid inode.gid ++ pin_text inode.pin))))))))))
+entry_text inode = codes "entry " ++ (hexadecimal inode.ino.0
+    ++ (codes " " ++ (kind_text inode.kind ++ (codes " " ++ (octal inode.mode
+    ++ (codes " " ++ (decimal inode.size ++ (codes " " ++ (decimal inode.mtime
+    ++ (owner_text inode.uid inode.gid ++ pin_text inode.pin))))))))))
 
 -- a space and `NAME:INO`
 abbrev pub listed_text : List ℕ × Inode → List ℕ
@@ -53,7 +57,8 @@ more_text false = codes "end"
 
 -- `entries K more` or `entries K end`, and then each entry
 abbrev pub entries_text : List (List ℕ × Inode) → Bool → List ℕ
-entries_text list more = codes "entries " ++ (decimal (length list) ++ (codes " " ++ (more_text more ++ flat_map listed_text list)))
+entries_text list more =
+    codes "entries " ++ (decimal (length list) ++ (codes " " ++ (more_text more ++ flat_map listed_text list)))
 
 -- `errno N`
 abbrev pub errno_text : ℕ → List ℕ
@@ -74,7 +79,9 @@ first_text false = codes "again"
 
 -- `reply CLIENT TID PLACE new` or `reply CLIENT TID PLACE again`, and then a text
 abbrev pub headed : ℕ → ℕ → ℕ → Bool → List ℕ → List ℕ
-headed client tid place first text = codes "reply " ++ (decimal client ++ (codes " " ++ (decimal tid ++ (codes " " ++ (decimal place ++ (codes " " ++ (first_text first ++ (codes " " ++ text))))))))
+headed client tid place first text = codes "reply " ++ (decimal client
+    ++ (codes " " ++ (decimal tid ++ (codes " " ++ (decimal place
+    ++ (codes " " ++ (first_text first ++ (codes " " ++ text))))))))
 
 -- `reply CLIENT TID PLACE new R` or `reply CLIENT TID PLACE again R`
 abbrev pub reply_line : ℕ → ℕ → ℕ → Bool → Reply → List ℕ
@@ -94,7 +101,8 @@ tree_text leaves = codes "tree " ++ (decimal (length leaves) ++ flat_map leaf_te
 
 -- a space and `INO:FRAG:RANK`: the root of a subtree, and its rank
 abbrev pub root_text : Root → List ℕ
-root_text root = codes " " ++ (hexadecimal root.ino.0 ++ (codes ":" ++ (fragment_text root.frag ++ (codes ":" ++ decimal root.rank.0))))
+root_text root = codes " " ++ (hexadecimal root.ino.0 ++ (codes ":"
+    ++ (fragment_text root.frag ++ (codes ":" ++ decimal root.rank.0))))
 
 -- `subtrees K INO:FRAG:RANK ..`: how many roots, and then each of them
 abbrev pub subtrees_text : List Root → List ℕ
@@ -106,7 +114,8 @@ word_text word = codes " " ++ escaped word
 
 -- `frag VERSION FILES DIRS KEY ..`: a fragment's commit version, its entry counts, and the key of each entry
 abbrev pub frag_text : ℕ → ℕ → ℕ → List (List ℕ) → List ℕ
-frag_text version files dirs keys = codes "frag " ++ (decimal version ++ (codes " " ++ (decimal files ++ (codes " " ++ (decimal dirs ++ flat_map word_text keys)))))
+frag_text version files dirs keys = codes "frag " ++ (decimal version
+    ++ (codes " " ++ (decimal files ++ (codes " " ++ (decimal dirs ++ flat_map word_text keys)))))
 
 -- `objects K NAME ..`: how many objects there are, and then the name of each
 abbrev pub objects_text : List (List ℕ) → List ℕ

@@ -28,7 +28,8 @@ PushesMade bytes_of old new (Ok text) result = Pushes old new (bytes_of text) re
 PushesMade bytes_of old new (Err none) (Ok done) = ⊥
 PushesMade bytes_of old new (Err none) (Err other) = (rest : List ℕ) × (new ≡ old ++ rest)
 
--- a line's text: all of it is appended to the known bytes; for want of memory nothing; at the writer's fault a beginning
+-- a line's text: all of it is appended to the known bytes; for want of memory nothing; at the writer's fault a
+-- beginning
 abbrev pub WritesLine : Option (List ℕ) → Option (List ℕ) → List ℕ → Result (Unit {0}) OutputFault → Type 0
 WritesLine old new text (Ok done) = Appends old new text
 WritesLine old new text (Err NoMemory) = Keeps old new

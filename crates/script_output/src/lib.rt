@@ -1,6 +1,6 @@
-//! What a script for a metadata cluster prints: the line for each result, the text of replies, names, leaves, subtree roots
-//! and objects, and the writing of such lines. The definitions of the text stand in `specs/`, with the laws that what it
-//! prints of a name, a number or a fragment is read back.
+//! What a script for a metadata cluster prints: the line for each result, the text of replies, names, leaves, subtree
+//! roots and objects, and the writing of such lines. The definitions of the text stand in `specs/`, with the laws that
+//! what it prints of a name, a number or a fragment is read back.
 #![tactic(auto)]
 
 mod escapes;

@@ -10,8 +10,8 @@ use std::marker::Model;
 // The most bytes of such a text: those of an entry's line and its LF, with the longest numbers, are fewer.
 const ROOM: usize = 256;
 
-/// The end of a text. It grows at its front, since the digits of a number come from the last to the first, so nothing is
-/// moved, and no memory is taken.
+/// The end of a text. It grows at its front, since the digits of a number come from the last to the first, so nothing
+/// is moved, and no memory is taken.
 #[derive(Drop)]
 pub struct TextEnd {
     bytes: [u8; ROOM],

@@ -12,7 +12,8 @@ use std::alloc::{AllocError, Global};
 use std::fmt;
 use std::marker::Model;
 
-/// Strings of bytes that print as words, in the order in which they were put. Seen by its contents, never by its capacity.
+/// Strings of bytes that print as words, in the order in which they were put. Seen by its contents, never by its
+/// capacity.
 #[derive(Debug, Drop)]
 pub struct WordList {
     words: Vec<Bytes>,

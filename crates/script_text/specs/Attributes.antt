@@ -10,7 +10,8 @@ use Rattle.script_words.specs.Arguments.{mode_of, decimal_of, id_of}
 -- the word behind a key, where the words begin with the key, and the words that are left
 abbrev pub keyed : List ℕ → List (List ℕ) → Result (Option (List ℕ) × List (List ℕ)) Fault
 keyed key [] = Ok (None, [])
-keyed key (word ∷ words) = if is_text word key then (first words >>= λ value. Ok (Some value.0, value.1)) else Ok (None, word ∷ words)
+keyed key (word ∷ words) =
+    if is_text word key then (first words >>= λ value. Ok (Some value.0, value.1)) else Ok (None, word ∷ words)
 
 -- what a word is read as, where there is one
 abbrev pub if_given : (List ℕ → Result ℕ Fault) → Option (List ℕ) → Result (Option ℕ) Fault

@@ -38,7 +38,8 @@ export_step_of verb args =
     (if is_text verb (codes "send") then (exported_of args >>= λ root. Ok (Send root.0 root.1)) else
     (if is_text verb (codes "import") then (exported_of args >>= λ root. Ok (Import root.0 root.1)) else
     (if is_text verb (codes "finish") then (exported_of args >>= λ root. Ok (Finish root.0 root.1)) else
-    (if is_text verb (codes "cancel") then (exported_of args >>= λ root. Ok (Cancel root.0 root.1)) else Err NotCommand))))))
+    (if is_text verb (codes "cancel") then
+    (exported_of args >>= λ root. Ok (Cancel root.0 root.1)) else Err NotCommand))))))
 
 -- `export dir ..`, `export freeze ..` and so on
 unfoldable pub export_of : List (List ℕ) → Result ExportCommand Fault

@@ -13,10 +13,13 @@ is_not_lf byte = not (byte == 10)
 abbrev pub IsOfOneLine : List ℕ → Type 0
 IsOfOneLine part = list_all is_not_lf part ≡ true
 
--- one look at the reader's next bytes: a part of the line moved from the known bytes to the end of the line, and an LF after it, if there was one, was taken off
+-- one look at the reader's next bytes: a part of the line moved from the known bytes to the end of the line, and an LF
+-- after it, if there was one, was taken off
 abbrev pub Moves : Option (List ℕ) → Option (List ℕ) → List ℕ → List ℕ → Shown → Type 0
-Moves known left line longer More = (part : List ℕ) × IsOfOneLine part × (0 < length part) × (longer ≡ line ++ part) × Consumes known left part
-Moves known left line longer LineEnd = (part : List ℕ) × IsOfOneLine part × (longer ≡ line ++ part) × Consumes known left (part ++ 10 ∷ [])
+Moves known left line longer More =
+    (part : List ℕ) × IsOfOneLine part × (0 < length part) × (longer ≡ line ++ part) × Consumes known left part
+Moves known left line longer LineEnd =
+    (part : List ℕ) × IsOfOneLine part × (longer ≡ line ++ part) × Consumes known left (part ++ 10 ∷ [])
 Moves known left line longer InputEnd = (longer ≡ line) × IsAtEnd known × Consumes known left []
 
 -- a part of the line is at the front of the bytes, and no line has room for it

@@ -11,7 +11,8 @@ use Rattle.script_words.specs.Reading.{◌>>=◌, first, two, three, four}
 use Rattle.script_words.specs.Arguments.{ino_of, mode_of, pin_of, page_size_of, text_of, two_texts_of, after_text_of, name_of, after_name_of, target_of}
 use Rattle.script_text.specs.Attributes.{attributes_of, birth_of}
 
--- In each form below that of all its words comes before the rules of names and targets; of two words outside those rules the first decides.
+-- In each form below that of all its words comes before the rules of names and targets; of two words outside those
+-- rules the first decides.
 
 -- `INO NAME`: a dentry
 unfoldable pub dentry_of : List (List ℕ) → Result Dentry Fault

@@ -79,7 +79,9 @@ line_of_words (verb ∷ args) = line_from (command_of verb args)
 
 -- what a line asks for: a comment nothing, whatever its bytes; any other line must be printable ASCII
 unfoldable pub line_of : List ℕ → Line
-line_of bytes = if is_comment bytes then line.Nothing else (if list_all is_printable bytes then line_of_words (words_of bytes) else line.NotCommand)
+line_of bytes =
+    if is_comment bytes then line.Nothing else
+    (if list_all is_printable bytes then line_of_words (words_of bytes) else line.NotCommand)
 
 -- a line of a command that holds text, or of one with a name or a target outside its rules
 abbrev pub HasLineText : Line → Type 0

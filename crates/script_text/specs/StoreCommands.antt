@@ -74,7 +74,8 @@ evict_of args = do
   rank ← rank_of word
   Ok (Evict rank)
 
--- NAME of an object: the word itself, in which `%` stands for itself too; it has no rule but to be text, as the names of all objects are
+-- NAME of an object: the word itself, in which `%` stands for itself too; it has no rule but to be text, as the names
+-- of all objects are
 unfoldable pub text_name_of : List ℕ → Result (List ℕ) Fault
 text_name_of word = wanted (if is_utf8 word then Some word else None)
 
@@ -96,7 +97,8 @@ abbrev pub is_store_verb : List ℕ → Bool
 is_store_verb verb =
     is_text verb (codes "begin") || is_text verb (codes "end") || is_text verb (codes "drop")
     || is_text verb (codes "commit") || is_text verb (codes "tree") || is_text verb (codes "purge")
-    || is_text verb (codes "flush") || is_text verb (codes "evict") || is_text verb (codes "object") || is_text verb (codes "objects")
+    || is_text verb (codes "flush") || is_text verb (codes "evict") || is_text verb (codes "object")
+    || is_text verb (codes "objects")
 
 -- a command on the store, by its first word and the words after it
 unfoldable pub store_command_of : List ℕ → List (List ℕ) → Result StoreCommand Fault

@@ -75,7 +75,8 @@ is_plain_name bytes = nat_lt 0 (length bytes) && list_all fits_name bytes && not
 
 -- a name, or the errno of bytes that are none: too long before all else
 unfoldable pub name_of : List ℕ → Result (List ℕ) Fault
-name_of bytes = if nat_lt 255 (length bytes) then Err (BadWord 36) else (if is_plain_name bytes then Ok bytes else Err (BadWord 22))
+name_of bytes =
+    if nat_lt 255 (length bytes) then Err (BadWord 36) else (if is_plain_name bytes then Ok bytes else Err (BadWord 22))
 
 -- the name after which a listing begins follows the same rules
 unfoldable pub after_name_of : Option (List ℕ) → Result (Option (List ℕ)) Fault

@@ -8,7 +8,9 @@ hex_digit_of byte = if nat_le 65 byte && nat_le byte 70 then byte - 55 else digi
 
 -- the byte that two hexadecimal digits stand for
 abbrev pub hex_byte_of : ℕ → ℕ → Option ℕ
-hex_byte_of high low = if nat_lt (hex_digit_of high) 16 && nat_lt (hex_digit_of low) 16 then Some (hex_digit_of high * 16 + hex_digit_of low) else None
+hex_byte_of high low =
+    if nat_lt (hex_digit_of high) 16
+    && nat_lt (hex_digit_of low) 16 then Some (hex_digit_of high * 16 + hex_digit_of low) else None
 
 -- a byte before the others, where there are any
 abbrev pub onto : Option ℕ → Option (List ℕ) → Option (List ℕ)
@@ -20,9 +22,11 @@ onto (Some byte) (Some bytes) = Some (byte ∷ bytes)
 abbrev pub plain_byte_of : ℕ → Option ℕ
 plain_byte_of byte = if byte == 37 then None else Some byte
 
--- the bytes that a word stands for: `%` and two hexadecimal digits for one byte, any other byte for itself; none where a `%` is not followed so
+-- the bytes that a word stands for: `%` and two hexadecimal digits for one byte, any other byte for itself; none where
+-- a `%` is not followed so
 unfoldable pub bytes_of : List ℕ → Option (List ℕ)
 bytes_of [] = Some []
 bytes_of (a ∷ []) = onto (plain_byte_of a) (Some [])
 bytes_of (a ∷ b ∷ []) = onto (plain_byte_of a) (bytes_of (b ∷ []))
-bytes_of (a ∷ b ∷ c ∷ word) = if a == 37 then onto (hex_byte_of b c) (bytes_of word) else onto (Some a) (bytes_of (b ∷ c ∷ word))
+bytes_of (a ∷ b ∷ c ∷ word) =
+    if a == 37 then onto (hex_byte_of b c) (bytes_of word) else onto (Some a) (bytes_of (b ∷ c ∷ word))

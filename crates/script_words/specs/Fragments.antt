@@ -14,10 +14,15 @@ ends_in_star word = slice_index_or word (length word - 1) 0 == 42
 abbrev pub before_last : List ℕ → List ℕ
 before_last word = take (length word - 1) word
 
--- the fragment whose bits are these digits, at most 24: the number that they write in base two, left-justified in 24 bits
+-- the fragment whose bits are these digits, at most 24: the number that they write in base two, left-justified in 24
+-- bits
 abbrev pub fragment_of_digits : List ℕ → Option Fragment
 fragment_of_digits digits =
-    if nat_le (length digits) 24 && are_digits 2 digits then Some (record { bits = length digits; value = value_of 2 digits * span (length digits) }) else None
+    if nat_le (length digits) 24 && are_digits 2 digits then Some (record {
+      bits = length digits;
+      value =
+          value_of 2 digits * span (length digits);
+    }) else None
 
 -- FRAG: its bits, as it prints, and a star
 unfoldable pub frag_of : List ℕ → Result Fragment Fault

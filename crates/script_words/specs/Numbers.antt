@@ -4,7 +4,8 @@ use Rattle.std.specs.List.{list_all}
 
 -- the value of a digit in lower case, 0 to 15; 16 for a byte that is none
 abbrev pub digit_of : ℕ → ℕ
-digit_of byte = if nat_le 48 byte && nat_le byte 57 then byte - 48 else (if nat_le 97 byte && nat_le byte 102 then byte - 87 else 16)
+digit_of byte = if nat_le 48 byte && nat_le byte 57 then byte - 48 else (if nat_le 97 byte
+    && nat_le byte 102 then byte - 87 else 16)
 
 -- every byte is a digit of the base
 abbrev pub are_digits : ℕ → List ℕ → Bool
@@ -22,8 +23,11 @@ is_shortest (digit ∷ next ∷ digits) = not (digit == 48)
 
 -- a number of 64 bits with no leading zeros
 abbrev pub number_of : ℕ → List ℕ → Option ℕ
-number_of base word = if is_shortest word && are_digits base word && nat_lt (value_of base word) (2 ^ 64) then Some (value_of base word) else None
+number_of base word =
+    if is_shortest word && are_digits base word
+    && nat_lt (value_of base word) (2 ^ 64) then Some (value_of base word) else None
 
 -- one to four octal digits, leading zeros allowed
 abbrev pub octal_mode_of : List ℕ → Option ℕ
-octal_mode_of word = if nat_lt 0 (length word) && nat_le (length word) 4 && are_digits 8 word then Some (value_of 8 word) else None
+octal_mode_of word =
+    if nat_lt 0 (length word) && nat_le (length word) 4 && are_digits 8 word then Some (value_of 8 word) else None

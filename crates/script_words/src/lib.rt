@@ -1,5 +1,5 @@
-//! The words of a script for a metadata cluster: how a line is cut into words, and what each kind of word stands for, as
-//! a number, a name or a fragment. What lines ask for is the business of the crates above. The definitions stand in
+//! The words of a script for a metadata cluster: how a line is cut into words, and what each kind of word stands for,
+//! as a number, a name or a fragment. What lines ask for is the business of the crates above. The definitions stand in
 //! `specs/`.
 #![tactic(auto)]
 

@@ -12,7 +12,8 @@ pub record Session : Type 0 where
   pub row : Row
   pub room : ℕ
 
--- the index of each client's session, the sessions, how many more clients fit, and the session that was set aside for the next
+-- the index of each client's session, the sessions, how many more clients fit, and the session that was set aside for
+-- the next
 pub record Held : Type 0 where
   pub indices : map.FinMap nat_cmp ℕ
   pub sessions : List Session

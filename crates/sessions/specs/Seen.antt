@@ -11,7 +11,8 @@ use Rattle.sessions.specs.Table.{Row, Table, row_in}
 -- trimmed below the row's mark and below the request's own oldest, otherwise kept if its number is, otherwise new
 abbrev pub SeesInRow : Row → ℕ → ℕ → Seen → Type 0
 SeesInRow row tid oldest Trimmed = (tid < row.mark) ⊎ (tid < oldest)
-SeesInRow row tid oldest (Kept place reply) = (row.mark ≤ tid) × (oldest ≤ tid) × (map.get row.kept tid ≡ Some (record { place = place; reply = reply.now }))
+SeesInRow row tid oldest (Kept place reply) =
+    (row.mark ≤ tid) × (oldest ≤ tid) × (map.get row.kept tid ≡ Some (record { place = place; reply = reply.now }))
 SeesInRow row tid oldest (New at) = (row.mark ≤ tid) × (oldest ≤ tid) × (map.get row.kept tid ≡ None)
 
 -- the same of a client in a table
@@ -21,5 +22,6 @@ SeesInTable table client tid oldest seen = SeesInRow (row_in table client) tid o
 -- what the request is to a history, and where it is kept the reply of the entry at its place
 abbrev pub IsSeen : List Entry → ℕ → ℕ → ℕ → Seen → Type 0
 IsSeen history client tid oldest Trimmed = IsTrimmed history client tid oldest
-IsSeen history client tid oldest (Kept place reply) = IsKeptAt history client tid oldest place × ((e : Entry) → reply.now ≡ (slice_index_or history place e).reply)
+IsSeen history client tid oldest (Kept place reply) =
+    IsKeptAt history client tid oldest place × ((e : Entry) → reply.now ≡ (slice_index_or history place e).reply)
 IsSeen history client tid oldest (New at) = IsNew history client tid oldest

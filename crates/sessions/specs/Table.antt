@@ -52,7 +52,8 @@ trimmed_row row = record { mark = row.mark; kept = map.retain_keys row.kept (is_
 
 -- the table with one more reply to a client
 abbrev pub noted : Table → ℕ → ℕ → ℕ → ℕ → Reply → Table
-noted table client tid oldest place reply = map.insert table client (noted_row (row_in table client) tid oldest place reply)
+noted table client tid oldest place reply =
+    map.insert table client (noted_row (row_in table client) tid oldest place reply)
 
 -- the table with the row that was found trimmed
 abbrev pub trimmed_found : Table → ℕ → Option Row → Table
@@ -68,7 +69,8 @@ pub record IsReplyAt (history : List Entry) (client tid : ℕ) (kept : KeptReply
   pub at : IsPairAt history client tid kept.place
   pub same : (e : Entry) → kept.reply ≡ (slice_index_or history kept.place e).reply
 
--- what is kept for a pair: the reply of its entry if it stands in the history and isn't below the mark, and else nothing
+-- what is kept for a pair: the reply of its entry if it stands in the history and isn't below the mark, and else
+-- nothing
 abbrev pub IsKeptFor : List Entry → ℕ → ℕ → Option KeptReply → Type 0
 IsKeptFor history client tid (Some kept) = (mark history client ≤ tid) × IsReplyAt history client tid kept
 IsKeptFor history client tid None = mark history client ≤ tid → list_any (is_pair client tid) history ≡ false

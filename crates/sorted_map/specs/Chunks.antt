@@ -9,7 +9,13 @@ pub record Chunked (A : Type 0) : Type 0 where
 
 module _ {A : Type 0} where
   abbrev pub chunked_code : Coded A → Coded (Chunked A)
-  chunked_code a = code_by (List (List A) × ℕ) (coded× (coded_list (coded_list a)) coded_ℕ) (λ s. (s.lists, s.spare)) (λ p. record { lists = p.0; spare = p.1 }) (λ _. refl)
+  chunked_code a =
+      code_by (List (List A)
+      × ℕ) (coded× (coded_list (coded_list a)) coded_ℕ) (λ s. (s.lists, s.spare)) (λ p. record {
+        lists = p.0;
+        spare =
+            p.1;
+      }) (λ _. refl)
 
   -- all the items in their order
   abbrev pub flat : List (List A) → List A
@@ -47,15 +53,16 @@ module _ {A : Type 0} where
     pub beyond : extra ≡ over cs
     pub few : AllFew cs
 
-  -- how many places of all halves are taken: beyond its own half each chunk takes from those that are still to come, and of the last
-  -- each item counts, since it may be left full where another chunk is opened behind it; where there is no chunk yet, one half for the first
+  -- how many places of all halves are taken: beyond its own half each chunk takes from those that are still to come,
+  -- and of the last each item counts, since it may be left full where another chunk is opened behind it; where there is
+  -- no chunk yet, one half for the first
   abbrev pub load : List (List A) → ℕ
   load [] = 32
   load (c ∷ []) = length c
   load (c ∷ d ∷ cs) = (length c - 32) + load (d ∷ cs)
 
--- how many insertions surely fit: one for each spare chunk, and where chunks are not much more than half full, one for each place
--- that is left in a half for each spare one and one more, since each chunk that is split leaves two halves
+-- how many insertions surely fit: one for each spare chunk, and where chunks are not much more than half full, one for
+-- each place that is left in a half for each spare one and one more, since each chunk that is split leaves two halves
 abbrev pub room_by : ℕ → ℕ → ℕ
 room_by spare load = spare + (((32 * spare + 32) - load) - spare)
 

@@ -6,8 +6,12 @@ use Rattle.std.specs.declared.cmp.Ordering.{Ordering}
 use Rattle.sorted_map.specs.contracts.flat.map.FlatMap.{the_row}
 use Rattle.sorted_map.specs.SortedMap.{Shown, contents, shown}
 
-module _ (K V : RattleType) (cmp : K.Denot → K.Denot → Ordering) (eq : K.Denot → K.Denot → Bool) (partial_cmp : K.Denot → K.Denot → Option Ordering) where
+module _ (K V : RattleType) (cmp : K.Denot → K.Denot → Ordering) (eq : K.Denot → K.Denot → Bool) (partial_cmp : K.Denot
+    → K.Denot → Option Ordering) where
   -- the map has the last value written through r at the key, and at `None` it stays as it is
   abbrev pub lends_value : MutBor (Shown K.Denot V.Denot) → K.Denot → Option (MutBor V.Denot) → Fml
   lends_value m k r =
-      LendsIf (the_row K V (record { cmp = cmp }) (record { eq = eq }) (record { partial_cmp = partial_cmp })) V m r (λ w. shown (map.insert (contents cmp m.now) k w) m.now.room) m.now
+      LendsIf (the_row K V (record { cmp = cmp }) (record { eq = eq }) (record {
+        partial_cmp =
+            partial_cmp;
+      })) V m r (λ w. shown (map.insert (contents cmp m.now) k w) m.now.room) m.now

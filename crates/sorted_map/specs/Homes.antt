@@ -12,7 +12,8 @@ module _ {K V : Type 0} (R : K → K → Ordering) (k : K) where
   IsAbove [] = ⊤
   IsAbove (e ∷ es) = (R k e.0 ≡ Greater) × IsAbove es
 
-  -- chunk i is where k stands or would go: the keys of the chunks before it are less, and those of the chunks behind it are greater
+  -- chunk i is where k stands or would go: the keys of the chunks before it are less, and those of the chunks behind it
+  -- are greater
   abbrev pub IsHome : List (List (K × V)) → ℕ → Type 0
   IsHome [] i = ⊥
   IsHome (c ∷ cs) zero = IsGap R k (flat cs) zero

@@ -6,7 +6,8 @@ use Rattle.sorted_map.specs.Chunks.{Chunked, with_value}
 
 -- the chunks with another value at a place of one of them
 abbrev pub with_value_in : {K V : Type 0} → Chunked (K × V) → ℕ → ℕ → V → Chunked (K × V)
-with_value_in c home at w = record { lists = slice_set c.lists home (with_value (slice_index_or c.lists home []) at w); spare = c.spare }
+with_value_in c home at w =
+    record { lists = slice_set c.lists home (with_value (slice_index_or c.lists home []) at w); spare = c.spare }
 
 module _ (K V : RattleType) where
   -- the chunks have the last value written through r at the place

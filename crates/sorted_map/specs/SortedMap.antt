@@ -13,7 +13,13 @@ pub record Shown (K V : Type 0) : Type 0 where
 
 module _ {K V : Type 0} where
   abbrev pub shown_code : Coded K → Coded V → Coded (Shown K V)
-  shown_code k v = code_by (List (K × V) × ℕ) (coded× (coded_list (coded× k v)) coded_ℕ) (λ s. (s.entries, s.room)) (λ p. record { entries = p.0; room = p.1 }) (λ _. refl)
+  shown_code k v =
+      code_by (List (K × V)
+      × ℕ) (coded× (coded_list (coded× k v)) coded_ℕ) (λ s. (s.entries, s.room)) (λ p. record {
+        entries = p.0;
+        room =
+            p.1;
+      }) (λ _. refl)
 
   -- the pairs as a finite map
   abbrev pub contents : (R : K → K → Ordering) → Shown K V → map.FinMap R V

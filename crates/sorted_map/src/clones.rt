@@ -10,8 +10,8 @@ use std::alloc::{AllocError, Global};
 impl<K: ExactOrd + Clone, V: Clone> SortedMap<K, V> {
     /// A map of clones of the pairs. An empty one takes no memory, and its clone never fails.
     ///
-    /// `Clone` does not say that a clone compares as its source, so this fails where a growth was refused and also where
-    /// the clones of the keys do not rise.
+    /// `Clone` does not say that a clone compares as its source, so this fails where a growth was refused and also
+    /// where the clones of the keys do not rise.
     pub fn try_clone(&self) -> Result<SortedMap<K, V>, AllocError>
         ensures ok { IfOk result (IsClone K.is_clone V.is_clone self.now) }
         ensures err { OnErr result (contents K.cmp self.now ≢ map.empty) }

@@ -9,8 +9,8 @@ use std::cmp::Ordering;
 /// An order in which only equal values tie, as that of numbers.
 ///
 /// Two keys that tie are then one key to a contract too, so it can speak of a map as a finite map. A `Vec` or a
-/// `String` has no such order, since a contract sees its capacity: a key has its bytes in a struct with an `impl Model`.
-/// For a key of two parts the proof is `exact_pairs` of `Rattle.std.proofs.lemmas.Map.Lookups`.
+/// `String` has no such order, since a contract sees its capacity: a key has its bytes in a struct with an `impl
+/// Model`. For a key of two parts the proof is `exact_pairs` of `Rattle.std.proofs.lemmas.Map.Lookups`.
 pub trait ExactOrd: Ord {
     ghost exact: { (x y : Self) → Self.cmp x y ≡ Equal → x ≡ y };
 }

@@ -1,7 +1,8 @@
-//! An ordered map that is kept as a vector in the order of its keys, and as vectors of bounded length where it is large.
+//! An ordered map that is kept as a vector in the order of its keys, and as vectors of bounded length where it is
+//! large.
 //!
-//! Memory is taken by `reserve`, by a clone and by `overlay` alone. What changes a map after that cannot fail, so a caller
-//! reserves all the room of a step first, and then makes changes that are sure to be made.
+//! Memory is taken by `reserve`, by a clone and by `overlay` alone. What changes a map after that cannot fail, so a
+//! caller reserves all the room of a step first, and then makes changes that are sure to be made.
 #![tactic(auto)]
 
 mod chunked;

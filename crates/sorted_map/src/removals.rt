@@ -30,7 +30,8 @@ impl<K: ExactOrd + Drop, V: Drop> SortedMap<K, V> {
         mem::replace(self, empty)
     }
 
-    /// Gives back the memory of the room of a large map, but for the places behind its last pairs. A small one keeps its room.
+    /// Gives back the memory of the room of a large map, but for the places behind its last pairs. A small one keeps
+    /// its room.
     pub fn give_back(&mut self)
         ensures same { contents K.cmp self.new ≡ contents K.cmp self.old }
     {

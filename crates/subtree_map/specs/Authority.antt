@@ -22,7 +22,8 @@ pub record HoldsDentry (covers : Covers) (home : Home) (leaf : Leaf) : Type 0 wh
 -- the nearest root of a leaf: itself where it is one, otherwise that of the leaf that holds the dentry of its directory
 pub data NearestRoot (roots : Roots) (homes : Homes) (covers : Covers) : Leaf → Leaf → Type 0 where
   itself : (root : Leaf) (rank : Rank) → map.get roots root ≡ Some rank → NearestRoot roots homes covers root root
-  inherited : (leaf holder root : Leaf) (home : Home) → map.get roots leaf ≡ None → map.get homes leaf.0.0 ≡ Some home → HoldsDentry covers home holder
+  inherited : (leaf holder root : Leaf) (home : Home) → map.get roots leaf ≡ None → map.get homes leaf.0.0 ≡ Some home
+      → HoldsDentry covers home holder
       → NearestRoot roots homes covers holder root → NearestRoot roots homes covers leaf root
 
 -- the authority of a leaf: the rank of its nearest root
@@ -32,7 +33,8 @@ pub record HasAuthority (roots : Roots) (homes : Homes) (covers : Covers) (leaf 
   pub ranked : map.get roots root ≡ Some rank
 
 -- a hash falls in a directory that stands: this leaf is the one that it picks, and this rank the leaf's authority
-pub record IsLocated (roots : Roots) (homes : Homes) (covers : Covers) (dir : Ino) (hash : ℕ) (frag : Fragment) (rank : Rank) : Type 0 where
+pub record IsLocated (roots : Roots) (homes : Homes) (covers : Covers) (dir : Ino) (hash : ℕ) (frag : Fragment)
+    (rank : Rank) : Type 0 where
   pub known : is_known homes dir.0 ≡ true
   pub pick : IsPick (leaves_of covers dir.0) hash frag
   pub has : HasAuthority roots homes covers (dir, frag) rank

@@ -8,7 +8,8 @@ use Rattle.mds_types.specs.declared.ids.Rank.{Rank}
 use Rattle.subtree_map.specs.Authority.{Roots, HoldsDentry, NearestRoot}
 
 -- a row of the roots is that of a leaf's nearest root
-pub record IsNearestRow (roots : Roots) (homes : Homes) (covers : Covers) (leaf : Leaf) (row : Leaf × Rank) : Type 0 where
+pub record IsNearestRow (roots : Roots) (homes : Homes) (covers : Covers) (leaf : Leaf)
+    (row : Leaf × Rank) : Type 0 where
   pub nearest : NearestRoot roots homes covers leaf row.0
   pub ranked : map.get roots row.0 ≡ Some row.1
 
@@ -19,7 +20,8 @@ FindsRow roots homes covers leaf (Some row) = IsNearestRow roots homes covers le
 
 -- a climb from the leaf that holds a dentry
 abbrev pub FindsAbove : Roots → Homes → Covers → Home → Option (Leaf × Rank) → Type 0
-FindsAbove roots homes covers home found = (holder : Leaf) × HoldsDentry covers home holder × FindsRow roots homes covers holder found
+FindsAbove roots homes covers home found =
+    (holder : Leaf) × HoldsDentry covers home holder × FindsRow roots homes covers holder found
 
 -- the dentry of a leaf's directory is held in the region of a root
 pub record IsNextBelow (roots : Roots) (homes : Homes) (covers : Covers) (root leaf : Leaf) : Type 0 where

@@ -1,5 +1,5 @@
--- For each rank a list of what it knows of leaves: what it claims, what it last heard of other ranks, and what is promised to it (CephFS's subtree
--- map of each metadata server). Only this crate's own contracts use these words.
+-- For each rank a list of what it knows of leaves: what it claims, what it last heard of other ranks, and what is
+-- promised to it (CephFS's subtree map of each metadata server). Only this crate's own contracts use these words.
 use Rattle.std.specs.Prelude.{◌≡◌, ◌≢◌, ℕ, ◌+◌, ◌-◌, ◌<◌, ◌≤◌, ◌==◌, nat_lt, Bool, true, false, cond, List, [], ◌∷◌, ◌++◌, Option, Some, None, length, get_or}
 use Rattle.std.specs.Option.{option_or}
 use Rattle.std.specs.Ordering.{is_lt}
@@ -71,7 +71,11 @@ entry_of (Some e) = e
 entry_of None = record { known = Nothing; promised = None }
 
 abbrev pub heard : Option Entry → Bool → News → Option Entry
-heard was own news = row_of (record { known = known_after (entry_of was).known own news; promised = promised_after (entry_of was).promised own news })
+heard was own news = row_of (record {
+  known = known_after (entry_of was).known own news;
+  promised =
+      promised_after (entry_of was).promised own news;
+})
 
 -- ---- one list
 
@@ -133,8 +137,10 @@ told says lists = tabulate (found says lists) (leaves_in lists)
 
 -- a rank's word on a leaf stands in its own list, and no two lists say different ones
 pub record AreOnce (says : Entry → Option Rank) (lists : List Rows) : Type 0 where
-  pub home : (i : ℕ) (leaf : Leaf) (rank : Rank) → says_at says lists i leaf ≡ Some rank → i ≡ home_of (length lists) rank.0
-  pub one : (i j : ℕ) (leaf : Leaf) (a b : Rank) → says_at says lists i leaf ≡ Some a → says_at says lists j leaf ≡ Some b → a ≡ b
+  pub home : (i : ℕ) (leaf : Leaf) (rank : Rank) → says_at says lists i leaf ≡ Some rank
+      → i ≡ home_of (length lists) rank.0
+  pub one : (i j : ℕ) (leaf : Leaf) (a b : Rank) → says_at says lists i leaf ≡ Some a
+      → says_at says lists j leaf ≡ Some b → a ≡ b
 
 -- each root is claimed in one list, that of its rank, and so is each promise; each list has room for so many more rows
 pub record AreLists (room : ℕ) (lists : List Rows) : Type 0 where
@@ -164,7 +170,10 @@ Hears leaf home news i was now = IsPut leaf (heard (entry_at was leaf) (i == hom
 
 -- where the news makes a row there is a place for it
 abbrev pub HaveRoom : Leaf → ℕ → News → List Rows → Type 0
-HaveRoom leaf home news lists = (i : ℕ) → i < length lists → makes (entry_at (rows_at lists i) leaf) (heard (entry_at (rows_at lists i) leaf) (i == home) news) ≡ true → 0 < (rows_at lists i).room
+HaveRoom leaf home news lists =
+    (i : ℕ) → i < length lists
+    → makes (entry_at (rows_at lists i) leaf) (heard (entry_at (rows_at lists i) leaf) (i == home) news) ≡ true
+    → 0 < (rows_at lists i).room
 
 -- a list has the rows that it had, and no less room
 pub record HasSame (was now : Rows) : Type 0 where

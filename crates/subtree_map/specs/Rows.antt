@@ -15,7 +15,8 @@ use Rattle.subtree_map.specs.Changes.{leaf_of, is_inside}
 abbrev pub IsFirstBy : (Leaf → Option Rank) → (Leaf → Bool) → Option Leaf → Type 0
 IsFirstBy look passes None = (leaf : Leaf) → passes leaf ≡ true → look leaf ≡ None
 IsFirstBy look passes (Some first) =
-    (passes first ≡ true) × IsSome (look first) × ((leaf : Leaf) → passes leaf ≡ true → IsSome (look leaf) → (leaf ≡ first) ⊎ (leaf_cmp first leaf ≡ Less))
+    (passes first ≡ true) × IsSome (look first)
+    × ((leaf : Leaf) → passes leaf ≡ true → IsSome (look leaf) → (leaf ≡ first) ⊎ (leaf_cmp first leaf ≡ Less))
 
 -- the first leaf of the rows that passes a test
 abbrev pub IsFirst : Roots → (Leaf → Bool) → Option Leaf → Type 0
@@ -25,7 +26,9 @@ IsFirst rows passes first = IsFirstBy (map.get rows) passes first
 abbrev pub IsFirstRow : {X : Type 0} → map.FinMap leaf_cmp X → (Leaf → Bool) → Option Leaf → Type 0
 IsFirstRow rows passes None = (leaf : Leaf) → passes leaf ≡ true → map.get rows leaf ≡ None
 IsFirstRow rows passes (Some first) =
-    (passes first ≡ true) × IsSome (map.get rows first) × ((leaf : Leaf) → passes leaf ≡ true → IsSome (map.get rows leaf) → (leaf ≡ first) ⊎ (leaf_cmp first leaf ≡ Less))
+    (passes first ≡ true) × IsSome (map.get rows first)
+    × ((leaf : Leaf) → passes leaf ≡ true → IsSome (map.get rows leaf) → (leaf ≡ first)
+    ⊎ (leaf_cmp first leaf ≡ Less))
 
 -- the rows from a leaf on, which is one of them; none where there is no leaf
 abbrev pub rows_from : Roots → Option Leaf → List (Leaf × Rank)
@@ -47,14 +50,17 @@ lesser_of leaf (Some other) = lesser_leaf leaf other
 -- the first so many children of f by nb bits have this rank, and each other leaf what it had
 pub record AreChildrenSet (old new : Roots) (d : ℕ) (f : Fragment) (nb count : ℕ) (rank : Rank) : Type 0 where
   pub children : (i : ℕ) → i < count → map.get new (leaf_of d (child_of f i nb)) ≡ Some rank
-  pub others : (leaf : Leaf) → ((i : ℕ) → i < count → leaf ≢ leaf_of d (child_of f i nb)) → map.get new leaf ≡ map.get old leaf
-  pub made : (leaf : Leaf) → IsSome (map.get new leaf) → IsSome (map.get old leaf) ⊎ ((i : ℕ) × (i < count) × (leaf ≡ leaf_of d (child_of f i nb)))
+  pub others : (leaf : Leaf) → ((i : ℕ) → i < count → leaf ≢ leaf_of d (child_of f i nb))
+      → map.get new leaf ≡ map.get old leaf
+  pub made : (leaf : Leaf) → IsSome (map.get new leaf) → IsSome (map.get old leaf)
+      ⊎ ((i : ℕ) × (i < count) × (leaf ≡ leaf_of d (child_of f i nb)))
 
 -- the roots of d inside f are taken out, with the rank of one of them; without any nothing changes
 abbrev pub AreTakenOut : Roots → Roots → ℕ → Fragment → Option Rank → Type 0
 AreTakenOut old new d f None = ((leaf : Leaf) → is_inside d f leaf ≡ true → map.get old leaf ≡ None)
 AreTakenOut old new d f (Some rank) =
-    ((leaf : Leaf) → is_inside d f leaf ≡ true → map.get new leaf ≡ None) × ((leaf : Leaf) → is_inside d f leaf ≡ false → map.get new leaf ≡ map.get old leaf)
+    ((leaf : Leaf) → is_inside d f leaf ≡ true → map.get new leaf ≡ None)
+    × ((leaf : Leaf) → is_inside d f leaf ≡ false → map.get new leaf ≡ map.get old leaf)
     × ((leaf : Leaf) × (is_inside d f leaf ≡ true) × (map.get old leaf ≡ Some rank))
 
 -- a leaf without a rank got this one, and nothing else changed

@@ -14,8 +14,8 @@ use mds_types::{Frag, Ino, Name, Rank};
 use namehash::rjenkins;
 
 impl Subtrees {
-    /// The authority of a leaf: the rank of its nearest root. Takes no memory, and a look-up and a hash for each directory on
-    /// the way to that root.
+    /// The authority of a leaf: the rank of its nearest root. Takes no memory, and a look-up and a hash for each
+    /// directory on the way to that root.
     pub fn authority(&self, dirs: &Dirs, dir: Ino, frag: Frag) -> Rank
         requires leaf { IsLive dirs.now.homes dirs.now.trees (dir, frag) }
         requires valid { IsSubtrees self.now.roots dirs.now.homes dirs.now.trees }
@@ -28,8 +28,8 @@ impl Subtrees {
         }
     }
 
-    /// The nearest root of a leaf: itself where it is one, otherwise that of the leaf that holds the dentry of its directory.
-    /// Takes no memory, and a look-up and a hash for each directory on the way to that root.
+    /// The nearest root of a leaf: itself where it is one, otherwise that of the leaf that holds the dentry of its
+    /// directory. Takes no memory, and a look-up and a hash for each directory on the way to that root.
     pub fn root_of(&self, dirs: &Dirs, dir: Ino, frag: Frag) -> (Ino, Frag)
         requires leaf { IsLive dirs.now.homes dirs.now.trees (dir, frag) }
         requires valid { IsSubtrees self.now.roots dirs.now.homes dirs.now.trees }
@@ -58,8 +58,8 @@ impl Subtrees {
         Some(root)
     }
 
-    /// The same as `find_root`, where a rank asks: it looks into its own list first, and takes a hint of it where the rank that
-    /// the hint names has that root. Takes no memory.
+    /// The same as `find_root`, where a rank asks: it looks into its own list first, and takes a hint of it where the
+    /// rank that the hint names has that root. Takes no memory.
     pub fn find_root_by(&self, rank: Rank, dirs: &Dirs, dir: Ino, frag: Frag) -> Option<(Ino, Frag)>
         ensures { MatchOption result ((root : Leaf) → NearestRoot self.now.roots dirs.now.homes dirs.now.trees (dir, frag) root → ⊥) (NearestRoot self.now.roots dirs.now.homes dirs.now.trees (dir, frag)) }
     {
@@ -87,8 +87,8 @@ impl Subtrees {
         }
     }
 
-    /// The leaf of a directory that a hash picks, and the leaf's authority; none exactly where there is no such directory.
-    /// Takes no memory, and a look-up and a hash for each directory on the way to the leaf's nearest root.
+    /// The leaf of a directory that a hash picks, and the leaf's authority; none exactly where there is no such
+    /// directory. Takes no memory, and a look-up and a hash for each directory on the way to the leaf's nearest root.
     pub fn locate(&self, dirs: &Dirs, dir: Ino, hash: u32) -> Option<(Frag, Rank)>
         requires valid { IsSubtrees self.now.roots dirs.now.homes dirs.now.trees }
         ensures { MatchOption result (is_known dirs.now.homes dir.0 ≡ false) (λ at. IsLocated self.now.roots dirs.now.homes dirs.now.trees dir hash at.0 at.1) }
@@ -99,8 +99,8 @@ impl Subtrees {
         Some((at.frag, self.authority_from(dirs, (dir, at.frag), at.home)))
     }
 
-    /// The authority of a leaf whose directory stands there. Takes no memory, and a look-up and a hash for each directory on the
-    /// way to the leaf's nearest root.
+    /// The authority of a leaf whose directory stands there. Takes no memory, and a look-up and a hash for each
+    /// directory on the way to the leaf's nearest root.
     pub fn authority_from<'a>(
         &self,
         dirs: &'a Dirs,
@@ -119,8 +119,8 @@ impl Subtrees {
         }
     }
 
-    /// Whether a leaf would be in the region of another, if that were a root: whether the way up from it comes to the other before it
-    /// comes to a root. Takes no memory, and a look-up and a hash for each directory on the way.
+    /// Whether a leaf would be in the region of another, if that were a root: whether the way up from it comes to the
+    /// other before it comes to a root. Takes no memory, and a look-up and a hash for each directory on the way.
     pub fn is_under(&self, dirs: &Dirs, root: &(Ino, Frag), leaf: &(Ino, Frag)) -> bool
         ensures { (rank : RankNumber) → IsTrue result ↔ NearestRoot (map.insert self.now.roots root.now rank) dirs.now.homes dirs.now.trees leaf.now root.now }
     {
@@ -157,8 +157,8 @@ impl Subtrees {
         dirs.get(leaf.0)
     }
 
-    /// The nearest root of the leaf that holds a dentry, and its rank: none where no root is on the way up. The dentry's
-    /// directory stands.
+    /// The nearest root of the leaf that holds a dentry, and its rank: none where no root is on the way up. The
+    /// dentry's directory stands.
     pub(crate) fn root_above(
         &self,
         dirs: &Dirs,
@@ -184,8 +184,8 @@ impl Subtrees {
         }
     }
 
-    // The nearest root of a leaf whose directory stands there, and its rank: one search of the table and one of the roots
-    // for each directory on the way. A rank that asks looks into its own list first.
+    // The nearest root of a leaf whose directory stands there, and its rank: one search of the table and one of the
+    // roots for each directory on the way. A rank that asks looks into its own list first.
     fn climb<'a>(
         &self,
         dirs: &'a Dirs,
@@ -213,7 +213,8 @@ impl Subtrees {
     }
 }
 
-// The leaf that holds the dentry of a directory that stands there: the one of its parent's leaves that the hash of its name picks.
+// The leaf that holds the dentry of a directory that stands there: the one of its parent's leaves that the hash of its
+// name picks.
 fn holder_of(dirs: &Dirs, home: &Home) -> (Ino, Frag)
     ensures { HoldsDentry dirs.now.trees home.now result }
 {

@@ -9,8 +9,8 @@ use inode_table::Dirs;
 use mds_types::{Ino, Rank};
 
 impl Subtrees {
-    /// Makes each leaf of a directory that is no root one of this rank. There has to be room for as many roots as it has leaves.
-    /// Takes no memory, and a search of the directory table for each leaf.
+    /// Makes each leaf of a directory that is no root one of this rank. There has to be room for as many roots as it
+    /// has leaves. Takes no memory, and a search of the directory table for each leaf.
     pub fn fill(&mut self, dirs: &Dirs, dir: Ino, rank: Rank)
         requires room { length (leaves_of dirs.now.trees dir.0) ≤ self.old.room }
         ensures filled { AreFilled self.old.roots self.new.roots dir.0 (leaves_of dirs.now.trees dir.0) rank }

@@ -17,8 +17,8 @@ impl Subtrees {
         self.lists.correct(rank, dir, frag);
     }
 
-    /// A rank hears the bounds of a root's region: it has a hint on each that is another's. Takes memory for the bounds and the
-    /// hints. Refused for want of memory alone, and only where there is a bound.
+    /// A rank hears the bounds of a root's region: it has a hint on each that is another's. Takes memory for the bounds
+    /// and the hints. Refused for want of memory alone, and only where there is a bound.
     pub fn tell_bounds(
         &mut self,
         alloc: Global,

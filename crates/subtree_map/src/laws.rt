@@ -1,4 +1,5 @@
-//! Laws of authorities and regions, for the crates that hold a map of subtrees. A law is its contract: its body does nothing.
+//! Laws of authorities and regions, for the crates that hold a map of subtrees. A law is its contract: its body does
+//! nothing.
 ghost use Rattle.std.specs.Prelude.{◌≡◌, ◌≢◌, ℕ, IsSome};
 ghost use Rattle.std.specs.FinMap as map;
 ghost use Rattle.mds_types.specs.declared.ids.Rank.{Rank};

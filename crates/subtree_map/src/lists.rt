@@ -1,4 +1,5 @@
-//! `Lists`: for each rank a list of what it knows of leaves. A contract sees the roots, which are what all of them claim.
+//! `Lists`: for each rank a list of what it knows of leaves. A contract sees the roots, which are what all of them
+//! claim.
 ghost use Rattle.std.specs.Prelude.{◌^◌, ◌≡◌, ◌+◌, ◌<◌, ◌≤◌, None, Some, IsOk, IsSome, IfErr, IfOk, IfSome, OnErr, OnOk, is_some, length};
 ghost use Rattle.std.specs.FinMap as map;
 ghost use Rattle.mds_types.specs.declared.refusals.Refusal.TheVariants.{NoMemory};
@@ -16,9 +17,9 @@ use sorted_map::SortedMap;
 use std::alloc::{AllocError, Global};
 use std::marker::Model;
 
-/// For each rank a list, rank 0 first: the roots that it claims, those of others with the rank last known, and those promised to
-/// it. Each root is claimed in one list, that of its rank, and a promise stands in one. Ranks that have no list of their own share
-/// the last one. Each list has room for so many more rows.
+/// For each rank a list, rank 0 first: the roots that it claims, those of others with the rank last known, and those
+/// promised to it. Each root is claimed in one list, that of its rank, and a promise stands in one. Ranks that have no
+/// list of their own share the last one. Each list has room for so many more rows.
 #[derive(Debug, Drop)]
 pub(crate) struct Lists {
     lists: Vec<Rows>,
@@ -94,8 +95,8 @@ impl Lists {
         first_claim(&self.lists, &Some((dir, frag)))
     }
 
-    /// Makes room for so many more roots. Where it is there already nothing is done. Refused for want of memory alone, and then
-    /// all is left as it was.
+    /// Makes room for so many more roots. Where it is there already nothing is done. Refused for want of memory alone,
+    /// and then all is left as it was.
     pub(crate) fn reserve(&mut self, additional: usize) -> Result<(), Refusal>
         ensures ok { OnOk result (additional ≤ self.new.room) }
         ensures roots { self.new.roots ≡ self.old.roots }
@@ -113,8 +114,8 @@ impl Lists {
         Ok(())
     }
 
-    /// Makes a leaf a root of a rank, or gives a root another rank: it is a claim of that rank, and another's claim is a hint from
-    /// then on. There has to be room. Takes no memory.
+    /// Makes a leaf a root of a rank, or gives a root another rank: it is a claim of that rank, and another's claim is
+    /// a hint from then on. There has to be room. Takes no memory.
     pub(crate) fn insert(&mut self, dir: Ino, frag: Frag, rank: Rank)
         requires { 0 < self.old.room }
         ensures roots { self.new.roots ≡ map.insert self.old.roots (dir, frag) rank }
@@ -139,8 +140,8 @@ impl Lists {
         Some(rank)
     }
 
-    /// Promises a leaf to a rank, in place of any earlier promise of it. Refused for want of memory alone, and then all is left as
-    /// it was.
+    /// Promises a leaf to a rank, in place of any earlier promise of it. Refused for want of memory alone, and then all
+    /// is left as it was.
     pub(crate) fn promise(&mut self, dir: Ino, frag: Frag, rank: Rank) -> Result<(), Refusal>
         ensures ok { OnOk result (self.new.promises ≡ map.insert self.old.promises (dir, frag) rank) }
         ensures roots { self.new.roots ≡ self.old.roots }
@@ -163,7 +164,8 @@ impl Lists {
         tell(&mut self.lists, (dir, frag), 0, News::Withdrawn);
     }
 
-    /// The promise of a leaf becomes a claim, and another's claim a hint. Takes no memory: the row of the promise is there.
+    /// The promise of a leaf becomes a claim, and another's claim a hint. Takes no memory: the row of the promise is
+    /// there.
     pub(crate) fn keep_promise(&mut self, dir: Ino, frag: Frag, rank: Rank)
         requires { map.get self.old.promises (dir, frag) ≡ Some rank }
         ensures roots { self.new.roots ≡ map.insert self.old.roots (dir, frag) rank }
@@ -193,7 +195,8 @@ impl Lists {
         correct(&mut self.lists, rank, &(dir, frag), of);
     }
 
-    /// A rank hears whose these leaves are: it has a hint on each that is a root of another. Refused for want of memory alone.
+    /// A rank hears whose these leaves are: it has a hint on each that is a root of another. Refused for want of memory
+    /// alone.
     pub(crate) fn learn(&mut self, rank: Rank, leaves: &[(Ino, Frag)]) -> Result<(), Refusal>
         ensures same { self.new ≡ self.old }
         ensures err { IfErr result (λ reason. reason ≡ NoMemory) }

@@ -11,9 +11,9 @@ use crate::subtrees::Subtrees;
 use mds_types::{Frag, Ino, Rank};
 
 impl Subtrees {
-    /// The leaves of a directory properly inside a fragment are merged: if one of them is a root, the merged leaf is a root of
-    /// its rank, for which there has to be room, and none of them is one any more. The caller sees to it that they have one
-    /// authority. Takes no memory.
+    /// The leaves of a directory properly inside a fragment are merged: if one of them is a root, the merged leaf is a
+    /// root of its rank, for which there has to be room, and none of them is one any more. The caller sees to it that
+    /// they have one authority. Takes no memory.
     pub fn merge_roots(&mut self, dir: Ino, frag: Frag)
         requires room { 0 < self.old.room }
         ensures roots { IsRootMerge self.old.roots self.new.roots dir.0 frag }

@@ -14,9 +14,9 @@ use inode_table::Dirs;
 use mds_types::{Frag, Ino, Rank};
 
 impl Subtrees {
-    /// A directory has moved to another place, and keeps its leaves. `lost` is the rank that they inherited, if they would inherit
-    /// another there (`IsLostRank`): those of them that are no roots become roots of it then, so that the move changed the authority
-    /// of no leaf. There has to be room for them. Takes no memory.
+    /// A directory has moved to another place, and keeps its leaves. `lost` is the rank that they inherited, if they
+    /// would inherit another there (`IsLostRank`): those of them that are no roots become roots of it then, so that the
+    /// move changed the authority of no leaf. There has to be room for them. Takes no memory.
     ///
     /// `dirs` is the table after the move, of which the directory's leaves are asked.
     pub fn after_rename(&mut self, dirs: &Dirs, dir: Ino, lost: Option<Rank>)

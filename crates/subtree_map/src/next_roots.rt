@@ -6,8 +6,8 @@ use crate::subtrees::Subtrees;
 use mds_types::{Frag, Ino};
 
 impl Subtrees {
-    /// The first root behind a leaf, or of all, by directory and then as fragments. Takes no memory, and a search in the list of
-    /// each rank.
+    /// The first root behind a leaf, or of all, by directory and then as fragments. Takes no memory, and a search in
+    /// the list of each rank.
     pub fn next_root(&self, after: &Option<(Ino, Frag)>) -> Option<(Ino, Frag)>
         ensures { IsFirst self.now.roots (is_after after.now) result }
     {

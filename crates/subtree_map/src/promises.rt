@@ -9,8 +9,8 @@ use crate::subtrees::Subtrees;
 use mds_types::{Frag, Ino, Rank, Refusal};
 
 impl Subtrees {
-    /// Promises a root to a rank, in place of any earlier promise of it, so that `hand` can't fail. Changes no authority.
-    /// Refused for want of memory alone, and then all is left as it was.
+    /// Promises a root to a rank, in place of any earlier promise of it, so that `hand` can't fail. Changes no
+    /// authority. Refused for want of memory alone, and then all is left as it was.
     pub fn promise(&mut self, dir: Ino, frag: Frag, rank: Rank) -> Result<(), Refusal>
         ensures ok { OnOk result (self.new.promises ≡ map.insert self.old.promises (dir, frag) rank) }
         ensures roots { self.new.roots ≡ self.old.roots }
@@ -28,8 +28,8 @@ impl Subtrees {
         self.lists.promised(dir, frag)
     }
 
-    /// Takes up the promise of a root: the root has the rank that it was promised to, and with it the leaves of its region. All
-    /// others keep theirs. Takes no memory.
+    /// Takes up the promise of a root: the root has the rank that it was promised to, and with it the leaves of its
+    /// region. All others keep theirs. Takes no memory.
     pub fn hand(&mut self, dir: Ino, frag: Frag)
         requires is_root { IsSome (map.get self.old.roots (dir, frag)) }
         requires promised { IsSome (map.get self.old.promises (dir, frag)) }

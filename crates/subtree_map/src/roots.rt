@@ -8,7 +8,8 @@ use mds_types::{Frag, Ino, Rank};
 use std::iter::FusedIterator;
 use std::marker::Model;
 
-/// An iterator over the roots with their ranks, by directory and then as fragments. Each step asks the list of each rank.
+/// An iterator over the roots with their ranks, by directory and then as fragments. Each step asks the list of each
+/// rank.
 #[derive(Drop)]
 pub struct Roots<'a> {
     lists: &'a Lists,

@@ -11,8 +11,8 @@ use crate::subtrees::Subtrees;
 use mds_types::{Frag, Ino, Rank};
 
 impl Subtrees {
-    /// A leaf is split by so many bits: where it is a root, its children are roots of its rank, for which there has to be
-    /// room, and it is none any more. Where it inherits, its children do. Takes no memory.
+    /// A leaf is split by so many bits: where it is a root, its children are roots of its rank, for which there has to
+    /// be room, and it is none any more. Where it inherits, its children do. Takes no memory.
     pub fn split_root(&mut self, dir: Ino, frag: Frag, bits: u8)
         requires fits { FitsSplit frag bits }
         requires room { 2 ^ bits ≤ self.old.room }

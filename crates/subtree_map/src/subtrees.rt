@@ -13,8 +13,8 @@ use std::alloc::{AllocError, Global};
 use std::marker::Model;
 
 /// The subtree roots: leaves that have a rank of their own. Every other leaf has the rank of the leaf that holds the
-/// dentry of its directory. Each rank has a list of its own: the roots that are its own, what it last heard of others, and
-/// what is promised to it.
+/// dentry of its directory. Each rank has a list of its own: the roots that are its own, what it last heard of others,
+/// and what is promised to it.
 #[derive(Debug, Drop)]
 pub struct Subtrees {
     pub(crate) lists: Lists,
@@ -50,8 +50,8 @@ impl Subtrees {
         self.lists.get(dir, frag)
     }
 
-    /// The same as `get`, where a rank asks: it looks into its own list first, and takes a hint of it where the rank that the
-    /// hint names has that root.
+    /// The same as `get`, where a rank asks: it looks into its own list first, and takes a hint of it where the rank
+    /// that the hint names has that root.
     pub fn get_by(&self, rank: Rank, dir: Ino, frag: Frag) -> Option<Rank>
         ensures { result ≡ map.get self.now.roots (dir, frag) }
     {

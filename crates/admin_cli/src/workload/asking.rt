@@ -6,8 +6,8 @@ use mds_types::{Rank, Refusal, Reply, Request};
 use objstore::MemStore;
 use std::alloc::Global;
 
-/// Sends a request to rank 0 and serves it there, or at the rank to which it is forwarded. Answers its reply, or nothing where
-/// it has none.
+/// Sends a request to rank 0 and serves it there, or at the rank to which it is forwarded. Answers its reply, or
+/// nothing where it has none.
 pub(crate) fn ask(alloc: Global, book: &mut Book<MemStore>, request: Request) -> Option<Reply>
     ensures { book.new.opening ≡ book.old.opening }
 {

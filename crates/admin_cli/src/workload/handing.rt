@@ -9,7 +9,8 @@ use std::alloc::Global;
 /// The rank that has every subtree of a new book.
 const FIRST: Rank = Rank(0);
 
-/// Exports a directory of one leaf from rank 0 to another rank, one step after the other. Nothing where a step is refused.
+/// Exports a directory of one leaf from rank 0 to another rank, one step after the other. Nothing where a step is
+/// refused.
 pub(crate) fn hand(alloc: Global, book: &mut Book<MemStore>, ino: Ino, to: Rank) -> Option<()>
     ensures { book.new.opening ≡ book.old.opening }
 {

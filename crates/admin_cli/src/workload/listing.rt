@@ -76,7 +76,8 @@ fn path(alloc: Global, dir: &Name, name: &Name) -> Option<Bytes> {
     Some(Bytes::from_vec(bytes))
 }
 
-// The names in a directory with their inodes. One page has them all: it holds 1024, and no directory of a run has more than 1000.
+// The names in a directory with their inodes. One page has them all: it holds 1024, and no directory of a run has more
+// than 1000.
 fn names_in(
     alloc: Global,
     book: &mut Book<MemStore>,

@@ -7,8 +7,8 @@ use mds_types::{Birth, Dentry, Frag, Mode, Name, Op, Rank, Request};
 use rank_threads::Turn;
 use std::alloc::Global;
 
-/// A plan for each rank: so many files are created in each directory of its, one in each before the next in any, and a commit of
-/// the directory follows each tenth, with a turn of the rank's own behind it.
+/// A plan for each rank: so many files are created in each directory of its, one in each before the next in any, and a
+/// commit of the directory follows each tenth, with a turn of the rank's own behind it.
 pub(crate) fn plans_of(
     alloc: Global,
     ranks: u8,

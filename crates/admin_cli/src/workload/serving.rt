@@ -21,17 +21,18 @@ use std::thread::Threads;
 /// Why a run failed.
 #[derive(Clone, Copy, Debug, PartialEq, Eq)]
 pub enum ServeFault {
-    /// A run fault: 1 where memory was refused or a step of one thread was, 2 where a thread couldn't be made, 3 where the
-    /// receipts don't agree with the history.
+    /// A run fault: 1 where memory was refused or a step of one thread was, 2 where a thread couldn't be made, 3 where
+    /// the receipts don't agree with the history.
     Fault(u8),
     /// The writer failed, or took no byte.
     Write,
 }
 
-/// Runs a load over a cluster with an empty tree: each client's directory is made on one thread, then the ranks' threads create
-/// files in the directories and commit after each tenth, while workers encode. Writes how long the history is then, whether
-/// the audit holds, and every path below the root, one a line and sorted by bytes. At the run faults 1 and 2 nothing is
-/// written, at 3 the text says that the audit failed, and at a write fault a beginning of the text is written.
+/// Runs a load over a cluster with an empty tree: each client's directory is made on one thread, then the ranks'
+/// threads create files in the directories and commit after each tenth, while workers encode. Writes how long the
+/// history is then, whether the audit holds, and every path below the root, one a line and sorted by bytes. At the run
+/// faults 1 and 2 nothing is written, at 3 the text says that the audit failed, and at a write fault a beginning of the
+/// text is written.
 pub fn run_serve<W: Write, R: Threads + Wait + Sync + AllocGlobal>(
     rt: &R,
     writer: &mut W,
@@ -100,7 +101,8 @@ fn run_load<R: Threads + Wait + Sync + AllocGlobal, G: Gate>(
     }
 }
 
-// What a run prints that gave no outcome: at a reply that the history doesn't hold the same as at success, but for one word.
+// What a run prints that gave no outcome: at a reply that the history doesn't hold the same as at success, but for one
+// word.
 fn failed(alloc: Global, book: Book<MemStore>, fault: RunFault) -> Result<Printed, u8>
     requires sound { IsSoundBook book }
     requires opening { book.opening ≡ map.empty }

@@ -27,8 +27,8 @@ pub(crate) struct Start {
     pub(crate) homes: Vec<Home>,
 }
 
-/// Makes a directory in the root for each of so many clients, in a new book of so many ranks, and hands them to the ranks in turn:
-/// the first to rank 0, the next to rank 1, ..
+/// Makes a directory in the root for each of so many clients, in a new book of so many ranks, and hands them to the
+/// ranks in turn: the first to rank 0, the next to rank 1, ..
 pub(crate) fn set_up(alloc: Global, ranks: u8, clients: u8) -> Option<Start>
     requires some { 1 ≤ ranks }
     requires ranked { ranks ≤ 16 }

@@ -37,8 +37,9 @@ pub enum Shown {
     InputEnd,
 }
 
-/// Reads the next line into the buffer, without its LF; the last line may have none. Takes no memory. A failure of the reader is noted
-/// in the buffer where it is answered, and not otherwise. After a fault the buffer holds a part of a line.
+/// Reads the next line into the buffer, without its LF; the last line may have none. Takes no memory. A failure of the
+/// reader is noted in the buffer where it is answered, and not otherwise. After a fault the buffer holds a part of a
+/// line.
 pub fn next_line<R: BufRead>(reader: &mut R, line: &mut LineBuffer) -> Result<NextLine, LineFault>
     ensures line { IfSome (R.remaining reader.old) (λ bytes. GivesLine bytes line.new.line (R.remaining reader.new) result) }
     ensures failed { IfErr result (λ fault. fault ≡ LineFault.Fault → line.new.failed ≡ true) }

@@ -11,8 +11,8 @@ use std::alloc::AllocError;
 impl<K: ExactOrd + Clone, V: Clone> Clone for ChunkMap<K, V> {
     ghost is_clone = { IsClone K.is_clone V.is_clone };
 
-    /// A map of clones of the pairs, in as many chunks. `Clone` does not say that a clone compares as its source, so this fails too
-    /// where the clones of the keys do not rise.
+    /// A map of clones of the pairs, in as many chunks. `Clone` does not say that a clone compares as its source, so
+    /// this fails too where the clones of the keys do not rise.
     fn clone(&self) -> Result<ChunkMap<K, V>, AllocError> {
         let chunks = self.chunks.clone()?;
         must_rise(Iter::of_chunks(&[], chunks.row()))?;

@@ -14,8 +14,8 @@ pub const MOST: usize = 64;
 /// Half of `MOST`: how many pairs are left in a full chunk where it is split.
 pub const HALF: usize = 32;
 
-/// How many pairs the last chunk of a row gets before another one is opened behind it. The places that are left take those which come between
-/// later: with none left each of them would part a chunk, and move all the chunks behind it.
+/// How many pairs the last chunk of a row gets before another one is opened behind it. The places that are left take
+/// those which come between later: with none left each of them would part a chunk, and move all the chunks behind it.
 pub(crate) const FILLED: usize = 56;
 
 /// Some pairs, at most 64, in the order in which they stand. Seen by the pairs alone.

@@ -110,7 +110,8 @@ pub fn put_value<K, V>(chunks: &mut Chunks<K, V>, home: usize, at: usize, value:
     chunks.replaced(home, at, value)
 }
 
-/// Takes the pair at a place of chunk `home` out. No chunk is left empty in the row. Takes no memory, and none of the room.
+/// Takes the pair at a place of chunk `home` out. No chunk is left empty in the row. Takes no memory, and none of the
+/// room.
 pub fn take_out<K: Drop, V: Drop>(chunks: &mut Chunks<K, V>, home: usize, at: usize) -> (K, V)
     requires some { AllSome chunks.old.lists }
     requires home { home < length chunks.old.lists }

@@ -9,8 +9,8 @@ use crate::chunks::chunk::Chunk;
 use std::iter::FusedIterator;
 use std::marker::Model;
 
-/// An iterator over pairs in the order in which they stand: those of a slice, and then those of chunks. Of a map it gives them
-/// from the least key to the greatest.
+/// An iterator over pairs in the order in which they stand: those of a slice, and then those of chunks. Of a map it
+/// gives them from the least key to the greatest.
 #[derive(Drop)]
 pub struct Iter<'a, K, V> {
     front: &'a [(K, V)],

@@ -13,8 +13,9 @@ use std::marker::Model;
 /// The most chunks of a row, beyond all memory.
 const LIMIT: usize = 1 << 40;
 
-/// Chunks in a row, and empty ones beside them, for which the row has places. `ready` of those count as room: what a refused
-/// growth had taken doesn't, until the next one asks for it. Seen by the pairs of each chunk, and by how many empty chunks count.
+/// Chunks in a row, and empty ones beside them, for which the row has places. `ready` of those count as room: what a
+/// refused growth had taken doesn't, until the next one asks for it. Seen by the pairs of each chunk, and by how many
+/// empty chunks count.
 #[derive(Debug, Drop)]
 pub struct Chunks<K, V> {
     row: Vec<Chunk<K, V>>,
@@ -95,7 +96,8 @@ impl<K, V> Chunks<K, V> {
 
     /// Keeps one more empty chunk as room.
     ///
-    /// An error says that memory ran out, or that there are 2^40 chunks already. It leaves the chunks and their room as they were.
+    /// An error says that memory ran out, or that there are 2^40 chunks already. It leaves the chunks and their room as
+    /// they were.
     pub fn grow(&mut self) -> Result<(), AllocError>
         ensures lists { self.new.lists ≡ self.old.lists }
         ensures ok { OnOk result (self.new.spare ≡ self.old.spare + 1) }
@@ -115,7 +117,8 @@ impl<K, V> Chunks<K, V> {
         Ok(())
     }
 
-    /// Counts no more empty chunks as room than so many, which are no more than count now. Their memory is kept for a later growth.
+    /// Counts no more empty chunks as room than so many, which are no more than count now. Their memory is kept for a
+    /// later growth.
     pub fn forget(&mut self, count: usize)
         requires { count ≤ self.old.spare }
         ensures lists { self.new.lists ≡ self.old.lists }

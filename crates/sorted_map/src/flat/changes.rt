@@ -11,8 +11,8 @@ use crate::places::{place, place_from, place_from_end};
 impl<K: ExactOrd + Drop, V: Drop> FlatMap<K, V> {
     /// Gives the key a value, and returns the one that it had. A new key needs room.
     ///
-    /// A key that is there keeps its place. A new one moves the pairs that are greater than it; one above all others is put
-    /// at the end after one comparison.
+    /// A key that is there keeps its place. A new one moves the pairs that are greater than it; one above all others is
+    /// put at the end after one comparison.
     pub fn insert(&mut self, key: K, value: V) -> Option<V>
         requires { map.get (contents K.cmp self.old) key ≡ None → 0 < self.old.room }
         ensures value { result ≡ map.get (contents K.cmp self.old) key }
