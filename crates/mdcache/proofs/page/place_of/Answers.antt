@@ -1,4 +1,7 @@
 use Rattle.mdcache.proofs.Common.{always_returns_same, key_cmp, nat_list_cmp_total, ordering_reverse, rules, searched}
+use Rattle.std.proofs.Common.{Equal, Greater, Less, Ordering, ap, arith, drop, drop_of_length-le, is_gt, length, refl, subst, suc, sym, true, zero, ℕ, ◌-◌, ◌∙◌, ◌≡◌}
+use Rattle.sorted_map.proofs.PlaceLaws.{gap_behind}
+use Rattle.sorted_map.specs.Places.{IsGap}
 use Rattle.mdcache.proofs.page.place_of.Goals as goal
 
 -- the closure turns what the name compares as
@@ -6,3 +9,19 @@ pub returns-clause-place : goal.returns-clause-place
 returns-clause-place c =
     let found = c.binary_search_by.ensures in
     searched nat_list_cmp_total _ _ _ c.requires found.bound (found.position (λ y. ordering_reverse (key_cmp c.args.name.now y.0)) (always_returns_same _ _ _ (λ a r f called. search rules)))
+
+greater : (r : Ordering) → is_gt r ≡ true → r ≡ Greater
+greater Less e = cc
+greater Equal e = cc
+greater Greater e = refl
+
+-- a name behind the last row goes to the end
+pub returns-then-is_gt-clause-place : goal.returns-then-is_gt-clause-place
+returns-then-is_gt-clause-place c =
+    let rows = c.args.rows.now in
+    let last : ℕ = length rows - 1 in
+    let next : length rows ≡ suc last = omega (arith, c.if-len-gt0.true) in
+    let here = sym c.cmp.ensures ∙ greater c.cmp.result (sym c.is_gt.ensures ∙ c.if-is_gt.true) in
+    let none = ap (λ n. drop n rows) (sym next) ∙ drop_of_length-le rows (omega arith) in
+    subst (IsGap key_cmp c.args.name.now rows) (sym next)
+    (gap_behind nat_list_cmp_total c.args.name.now rows last c.index-rows-len.result c.requires (omega (arith, next)) here (subst (λ l. IsGap key_cmp c.args.name.now l zero) (sym none) tt))
