@@ -31,6 +31,7 @@ install: $(if $(wildcard cephmeta),,all)
 test:
 	@rt ci
 	@tests/claims/run
+	@tests/claims/names
 	@tests/units/run
 	@cp crates/cephmeta/out/cephmeta cephmeta
 	@examples/check
