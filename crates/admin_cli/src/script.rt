@@ -68,7 +68,8 @@ fn run_book<R: Read + Drop, W: Write>(
     writer: &mut W,
     book: Book<MemStore>,
 ) -> Result<(), ScriptFault>
-    ensures { RunsOrNot (record { book = book; operations = 0; jobs = map.empty; sent = none_sent }) (R.remaining reader) (W.contents writer.old) (W.contents writer.new) result }
+    ensures { RunsOrNot (record { book = book; operations = 0; jobs = map.empty; sent = none_sent })
+        (R.remaining reader) (W.contents writer.old) (W.contents writer.new) result }
 {
     let mut admin = Admin::new(rt.alloc(), book);
     let ended = run_input(rt, reader, writer, &mut admin);
@@ -131,7 +132,8 @@ fn run_lines<R: ReadAhead, W: Write>(
 ) -> Result<(), ScriptFault>
     requires first { admin.old.operations ≡ 0 }
     requires empty { IsEmpty waiting.old }
-    ensures runs { RunsWaiting admin.old waiting.new (R.remaining reader.old) (W.contents writer.old) (W.contents writer.new) result }
+    ensures runs { RunsWaiting admin.old waiting.new (R.remaining reader.old)
+        (W.contents writer.old) (W.contents writer.new) result }
     ensures failed { HasReaderFailed buffer.new.failed result }
 {
     for line in 1..u64::MAX {
@@ -172,7 +174,8 @@ fn run_line<W: Write>(
     requires room { admin.old.operations + 1 < 2 ^ 64 }
     requires short { length bytes.now ≤ 16384 }
     ensures count { admin.new.operations ≤ admin.old.operations + 1 }
-    ensures runs { PrintsOf (DoesBytes admin.old admin.new bytes.now) waiting.old waiting.new line (W.contents writer.old) (W.contents writer.new) result }
+    ensures runs { PrintsOf (DoesBytes admin.old admin.new bytes.now) waiting.old waiting.new line
+        (W.contents writer.old) (W.contents writer.new) result }
 {
     let Ok(found) = read_line(rt.alloc(), bytes) else {
         return Err(at(line, FaultKind::OutOfMemory));
@@ -191,7 +194,8 @@ fn do_line<W: Write>(
 ) -> Result<(), ScriptFault>
     requires { admin.old.operations + 1 < 2 ^ 64 }
     ensures count { admin.new.operations ≤ admin.old.operations + 1 }
-    ensures prints { PrintsOf (AnswersLine admin.old admin.new found) waiting.old waiting.new line (W.contents writer.old) (W.contents writer.new) result }
+    ensures prints { PrintsOf (AnswersLine admin.old admin.new found) waiting.old waiting.new line
+        (W.contents writer.old) (W.contents writer.new) result }
 {
     match found {
         Line::Nothing => Ok(()),
@@ -250,7 +254,8 @@ fn print<W: Write>(
     waiting: &mut Waiting,
     writer: &mut W,
 ) -> Result<(), ScriptFault>
-    ensures { PrintsOutput waiting.old waiting.new line printed.now (W.contents writer.old) (W.contents writer.new) result }
+    ensures { PrintsOutput waiting.old waiting.new line printed.now
+        (W.contents writer.old) (W.contents writer.new) result }
 {
     if waiting.put(alloc, line, printed).is_ok() {
         return Ok(());

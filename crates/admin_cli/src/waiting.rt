@@ -44,7 +44,8 @@ impl Waiting {
     /// Puts what the script's line of this number prints behind what waits, unless there is no memory for it.
     pub fn put(&mut self, alloc: Global, line: u64, printed: &OutputLine) -> Result<(), AllocError>
         ensures ok { OnOk result (Puts self.old self.new line printed.now) }
-        ensures err { OnErr result ((self.new.bytes.items ≡ self.old.bytes.items) × (self.new.marks.items ≡ self.old.marks.items)) }
+        ensures err { OnErr result ((self.new.bytes.items ≡ self.old.bytes.items)
+            × (self.new.marks.items ≡ self.old.marks.items)) }
     {
         self.marks.reserve(1)?;
         printed.push_to(alloc, &mut self.bytes)?;

@@ -42,7 +42,8 @@ fn copy_shown(
     clean: &SortedMap<Name, Inode>,
     dirty: &SortedMap<Name, Mark>,
 ) -> Result<SortedMap<Name, Inode>, AllocError>
-    ensures { IfOk result (λ names. contents key_cmp names ≡ patched (contents key_cmp clean.now) (contents key_cmp dirty.now)) }
+    ensures { IfOk result
+        (λ names. contents key_cmp names ≡ patched (contents key_cmp clean.now) (contents key_cmp dirty.now)) }
 {
     let mut names = copy_clean(clean)?;
     names.reserve(dirty.len())?;

@@ -111,13 +111,17 @@ impl DirtyNames {
 }
 
 impl PartialEq for DirtyNames {
-    ghost eq = { λ a b. pointwise (pairs_eq (pointwise ◌==◌) ⟦<Mark as PartialEq>⟧.eq) (map.entries a) (map.entries b) };
+    ghost eq = { λ a b. pointwise (pairs_eq (pointwise ◌==◌) ⟦<Mark as PartialEq>⟧.eq) (map.entries a)
+        (map.entries b) };
 
-    ghost laws = { on_per (λ d. map.entries d) (partial_equiv_from_equiv (lists_equiv (decided (pairs_eq (pointwise ◌==◌) ⟦<Mark as PartialEq>⟧.eq) (pair_decides (pointwise ◌==◌) ⟦<Mark as PartialEq>⟧.eq bytes_eq-Decides mark_decides)))) };
+    ghost laws = { on_per (λ d. map.entries d)
+        (partial_equiv_from_equiv (lists_equiv (decided (pairs_eq (pointwise ◌==◌) ⟦<Mark as PartialEq>⟧.eq)
+        (pair_decides (pointwise ◌==◌) ⟦<Mark as PartialEq>⟧.eq bytes_eq-Decides mark_decides)))) };
 
     /// Whether both have the same names, and the same became of each.
     fn eq(&self, other: &DirtyNames) -> bool
-        ensures value { result ≡ pointwise (pairs_eq (pointwise ◌==◌) ⟦<Mark as PartialEq>⟧.eq) (map.entries self.now) (map.entries other.now) }
+        ensures value { result ≡ pointwise (pairs_eq (pointwise ◌==◌) ⟦<Mark as PartialEq>⟧.eq)
+            (map.entries self.now) (map.entries other.now) }
         ensures same { IsTrue result ↔ (self.now ≡ other.now) }
     {
         // The contract of `len` is what says here that the names of a map rise.
@@ -128,7 +132,9 @@ impl PartialEq for DirtyNames {
 }
 
 impl Eq for DirtyNames {
-    ghost laws = { on_equiv (λ d. map.entries d) (lists_equiv (decided (pairs_eq (pointwise ◌==◌) ⟦<Mark as PartialEq>⟧.eq) (pair_decides (pointwise ◌==◌) ⟦<Mark as PartialEq>⟧.eq bytes_eq-Decides mark_decides))) };
+    ghost laws = { on_equiv (λ d. map.entries d)
+        (lists_equiv (decided (pairs_eq (pointwise ◌==◌) ⟦<Mark as PartialEq>⟧.eq)
+        (pair_decides (pointwise ◌==◌) ⟦<Mark as PartialEq>⟧.eq bytes_eq-Decides mark_decides))) };
 }
 
 // A copy of the names.

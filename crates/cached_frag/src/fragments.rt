@@ -50,7 +50,8 @@ impl Model for CachedFrag {
 impl CachedFrag {
     /// A new fragment, with no names: no object of its name counts. Takes no memory.
     pub fn fresh(alloc: Global, generation: u64) -> CachedFrag
-        ensures { result ≡ record { base = Base.Fresh; generation = generation; clean = map.empty; dirty = map.empty; room = 0; places = 0 } }
+        ensures { result ≡ record
+            { base = Base.Fresh; generation = generation; clean = map.empty; dirty = map.empty; room = 0; places = 0 } }
     {
         CachedFrag {
             base: Base::Fresh,
@@ -161,7 +162,8 @@ pub(crate) fn shown_in<'a>(
     dirty: &'a SortedMap<Name, Mark>,
     name: &Name,
 ) -> Option<&'a Inode>
-    ensures { option_copied result ≡ inode_or (map.get (contents key_cmp dirty.entry.now) name.now) (map.get (contents key_cmp clean.entry.now) name.now) }
+    ensures { option_copied result ≡ inode_or (map.get (contents key_cmp dirty.entry.now) name.now)
+        (map.get (contents key_cmp clean.entry.now) name.now) }
 {
     match dirty.get(name) {
         Some(mark) => mark.inode.as_ref(),

@@ -72,7 +72,8 @@ impl<'a> Model for Rows<'a> {
 impl<'a> Rows<'a> {
     /// Takes the next name, with its inode.
     pub fn next_row(&mut self) -> Option<(&'a Name, &'a Inode)>
-        ensures { MatchOption result (rows_left self.old ≡ []) (λ row. rows_left self.old ≡ (row.0.now, row.1.now) ∷ rows_left self.new) }
+        ensures { MatchOption result (rows_left self.old ≡ [])
+            (λ row. rows_left self.old ≡ (row.0.now, row.1.now) ∷ rows_left self.new) }
     {
         while let Some((name, inode)) = self.take_least() {
             if let Some(inode) = inode {
@@ -84,8 +85,10 @@ impl<'a> Rows<'a> {
 
     // Takes the least name that is left; a dirty one may have been removed.
     fn take_least(&mut self) -> Option<(&'a Name, Option<&'a Inode>)>
-        ensures rows { MatchOption result (rows_left self.old ≡ []) (λ row. rows_left self.old ≡ with_change row.0.now (option_copied row.1) (rows_left self.new)) }
-        ensures fewer { IfSome result (λ row. length self.new.clean + length self.new.dirty < length self.old.clean + length self.old.dirty) }
+        ensures rows { MatchOption result (rows_left self.old ≡ [])
+            (λ row. rows_left self.old ≡ with_change row.0.now (option_copied row.1) (rows_left self.new)) }
+        ensures fewer { IfSome result
+            (λ row. length self.new.clean + length self.new.dirty < length self.old.clean + length self.old.dirty) }
     {
         match (self.clean.peek(), self.dirty.peek()) {
             (None, None) => None,
@@ -109,7 +112,8 @@ impl<'a> Rows<'a> {
     ) -> Option<(&'a Name, Option<&'a Inode>)>
         requires clean { (rows : List Row) × (self.old.clean ≡ row.now ∷ rows) }
         requires dirty { (changes : List Change) × (self.old.dirty ≡ change.now ∷ changes) }
-        ensures rows { IfSome result (λ row. rows_left self.old ≡ with_change row.0.now (option_copied row.1) (rows_left self.new)) }
+        ensures rows { IfSome result
+            (λ row. rows_left self.old ≡ with_change row.0.now (option_copied row.1) (rows_left self.new)) }
         ensures some { IsSome result }
         ensures fewer { length self.new.clean + length self.new.dirty < length self.old.clean + length self.old.dirty }
     {
@@ -142,8 +146,11 @@ impl CachedFrag {
         after: Option<&Name>,
         max: PageSize,
     ) -> Result<(Listing, bool), AllocError>
-        ensures listed { IfOk result (λ page. page.0 ≡ take max (rows_after (option_copied after.entry) (map.entries (shown self.now)))) }
-        ensures more { IfOk result (λ page. page.1 ≡ nat_lt max (length (rows_after (option_copied after.entry) (map.entries (shown self.now))))) }
+        ensures listed { IfOk result
+            (λ page. page.0 ≡ take max (rows_after (option_copied after.entry) (map.entries (shown self.now)))) }
+        ensures more { IfOk result
+            (λ page. page.1 ≡ nat_lt max (length (rows_after (option_copied after.entry)
+            (map.entries (shown self.now))))) }
     {
         first_rows(alloc, self.rows_after(after), max)
     }
@@ -155,7 +162,8 @@ fn rows_of<'a>(
     dirty: &'a SortedMap<Name, Mark>,
     after: Option<&Name>,
 ) -> Rows<'a>
-    ensures { rows_left result ≡ rows_after (option_copied after.entry) (map.entries (patched (contents key_cmp clean.entry.now) (contents key_cmp dirty.entry.now))) }
+    ensures { rows_left result ≡ rows_after (option_copied after.entry)
+        (map.entries (patched (contents key_cmp clean.entry.now) (contents key_cmp dirty.entry.now))) }
 {
     match after {
         Some(name) => Rows {

@@ -53,7 +53,8 @@ fn settle_all(
     requires entries { AreEntries (contents key_cmp clean.old) }
     requires marks { AreDirtyNames (contents key_cmp dirty.old) }
     ensures dirty { contents key_cmp dirty.new ≡ unsettled (contents key_cmp dirty.old) names.now }
-    ensures shown { patched (contents key_cmp clean.new) (contents key_cmp dirty.new) ≡ patched (contents key_cmp clean.old) (contents key_cmp dirty.old) }
+    ensures shown { patched (contents key_cmp clean.new) (contents key_cmp dirty.new) ≡ patched
+        (contents key_cmp clean.old) (contents key_cmp dirty.old) }
     ensures entries { AreEntries (contents key_cmp clean.new) }
     ensures marks { AreDirtyNames (contents key_cmp dirty.new) }
 {
@@ -90,7 +91,8 @@ fn settle_each(
     requires entries { AreEntries (contents key_cmp clean.old) }
     requires marks { AreDirtyNames (contents key_cmp dirty.old) }
     ensures dirty { contents key_cmp dirty.new ≡ unsettled (contents key_cmp dirty.old) names.now }
-    ensures shown { patched (contents key_cmp clean.new) (contents key_cmp dirty.new) ≡ patched (contents key_cmp clean.old) (contents key_cmp dirty.old) }
+    ensures shown { patched (contents key_cmp clean.new) (contents key_cmp dirty.new) ≡ patched
+        (contents key_cmp clean.old) (contents key_cmp dirty.old) }
     ensures entries { AreEntries (contents key_cmp clean.new) }
     ensures marks { AreDirtyNames (contents key_cmp dirty.new) }
 {
@@ -110,7 +112,8 @@ fn settle_one(
     requires entries { AreEntries (contents key_cmp clean.old) }
     requires marks { AreDirtyNames (contents key_cmp dirty.old) }
     ensures dirty { contents key_cmp dirty.new ≡ settled_one (contents key_cmp dirty.old) name.now version }
-    ensures shown { patched (contents key_cmp clean.new) (contents key_cmp dirty.new) ≡ patched (contents key_cmp clean.old) (contents key_cmp dirty.old) }
+    ensures shown { patched (contents key_cmp clean.new) (contents key_cmp dirty.new) ≡ patched
+        (contents key_cmp clean.old) (contents key_cmp dirty.old) }
     ensures entries { AreEntries (contents key_cmp clean.new) }
     ensures marks { AreDirtyNames (contents key_cmp dirty.new) }
     ensures room { clean.old.room ≤ clean.new.room + 1 }

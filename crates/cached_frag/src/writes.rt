@@ -37,7 +37,8 @@ pub fn write_of(alloc: Global, snapshot: &Snapshot) -> Result<WriteOp, AllocErro
 
 // What the write of a snapshot sets, and what it removes.
 fn changes_of(alloc: Global, snapshot: &Snapshot) -> Result<(Pairs, KeySet), AllocError>
-    ensures { IfOk result (λ changes. (changes.0 ≡ set_of snapshot.now.names) × (changes.1 ≡ removed_on snapshot.now.base snapshot.now.names)) }
+    ensures { IfOk result (λ changes. (changes.0 ≡ set_of snapshot.now.names)
+        × (changes.1 ≡ removed_on snapshot.now.base snapshot.now.names)) }
 {
     let set = set_of(alloc, snapshot.names())?;
     match removed_on(alloc, snapshot.base(), snapshot.names()) {

@@ -35,8 +35,10 @@ impl<S: Store + Drop> Cluster<S> {
         bits: u8,
     ) -> Result<Answer, Refusal>
         requires { AreRoots self.old.state.tree self.old.state.roots }
-        ensures split { (past : List Applied) → AtRank self.old self.new past past rank result (Splits self.old self.new past past rank ino frag bits result) }
-        ensures kept { KeepsRoots self.old.state.tree self.new.state.tree self.old.state.roots self.new.state.roots self.old.state.exports self.new.state.exports }
+        ensures split { (past : List Applied) → AtRank self.old self.new past past rank result
+            (Splits self.old self.new past past rank ino frag bits result) }
+        ensures kept { KeepsRoots self.old.state.tree self.new.state.tree self.old.state.roots self.new.state.roots
+            self.old.state.exports self.new.state.exports }
         ensures count { length self.new.caches.used ≡ length self.old.caches.used }
         ensures cap { self.new.caches.cap ≡ self.old.caches.cap }
         ensures counted { self.new.faults ≡ self.old.faults + faults_told (result_err result) }
@@ -62,8 +64,10 @@ impl<S: Store + Drop> Cluster<S> {
         frag: Frag,
     ) -> Result<Answer, Refusal>
         requires { AreRoots self.old.state.tree self.old.state.roots }
-        ensures merged { (past : List Applied) → AtRank self.old self.new past past rank result (Merges self.old self.new past past rank ino frag result) }
-        ensures kept { KeepsRoots self.old.state.tree self.new.state.tree self.old.state.roots self.new.state.roots self.old.state.exports self.new.state.exports }
+        ensures merged { (past : List Applied) → AtRank self.old self.new past past rank result
+            (Merges self.old self.new past past rank ino frag result) }
+        ensures kept { KeepsRoots self.old.state.tree self.new.state.tree self.old.state.roots self.new.state.roots
+            self.old.state.exports self.new.state.exports }
         ensures count { length self.new.caches.used ≡ length self.old.caches.used }
         ensures cap { self.new.caches.cap ≡ self.old.caches.cap }
         ensures counted { self.new.faults ≡ self.old.faults + faults_told (result_err result) }
@@ -82,7 +86,8 @@ impl<S: Store + Drop> Cluster<S> {
         ino: Ino,
         frag: Frag,
     ) -> Result<Answer, Refusal>
-        ensures begun { (past : List Applied) → AtRank self.old self.new past past rank result (BeginsCommit self.old self.new past past rank (ino, frag) result) }
+        ensures begun { (past : List Applied) → AtRank self.old self.new past past rank result
+            (BeginsCommit self.old self.new past past rank (ino, frag) result) }
         ensures count { length self.new.caches.used ≡ length self.old.caches.used }
         ensures cap { self.new.caches.cap ≡ self.old.caches.cap }
         ensures counted { self.new.faults ≡ self.old.faults + faults_told (result_err result) }
@@ -147,7 +152,8 @@ impl<S: Store + Drop> Cluster<S> {
     #[inline(never)]
     pub(crate) fn evict(&mut self, rank: Rank) -> Result<Answer, Refusal>
         requires { length self.old.caches.used ≡ length self.old.state.inboxes }
-        ensures evicted { (past : List Applied) → AtRank self.old self.new past past rank result (EvictsFragment self.old self.new past past rank result) }
+        ensures evicted { (past : List Applied) → AtRank self.old self.new past past rank result
+            (EvictsFragment self.old self.new past past rank result) }
         ensures count { length self.new.caches.used ≡ length self.old.caches.used }
         ensures cap { self.new.caches.cap ≡ self.old.caches.cap }
         ensures counted { self.new.faults ≡ self.old.faults + faults_told (result_err result) }
@@ -169,8 +175,12 @@ fn split_at<S: Store + Drop>(
     bits: u8,
 ) -> Result<Answer, Refusal>
     requires { AreRoots (tree_state tree.old.tree) tree.old.subtrees.roots }
-    ensures split { (numbers : List Supply) (inboxes : Waiting) (sessions : Table) (past : List Applied) → Splits (core_of tree.old.tree tree.old.subtrees.roots tree.old.exports numbers inboxes pins.now sessions) (core_of tree.new.tree tree.new.subtrees.roots tree.new.exports numbers inboxes pins.now sessions) past past asked.now.rank asked.now.dir asked.now.frag bits result }
-    ensures kept { KeepsRoots (tree_state tree.old.tree) (tree_state tree.new.tree) tree.old.subtrees.roots tree.new.subtrees.roots tree.old.exports tree.new.exports }
+    ensures split { (numbers : List Supply) (inboxes : Waiting) (sessions : Table) (past : List Applied)
+        → Splits (core_of tree.old.tree tree.old.subtrees.roots tree.old.exports numbers inboxes pins.now sessions)
+        (core_of tree.new.tree tree.new.subtrees.roots tree.new.exports numbers inboxes pins.now sessions) past past
+        asked.now.rank asked.now.dir asked.now.frag bits result }
+    ensures kept { KeepsRoots (tree_state tree.old.tree)
+        (tree_state tree.new.tree) tree.old.subtrees.roots tree.new.subtrees.roots tree.old.exports tree.new.exports }
     ensures count { length tree.new.tree.caches.used ≡ length tree.old.tree.caches.used }
     ensures cap { tree.new.tree.caches.cap ≡ tree.old.tree.caches.cap }
     ensures counted { tree.new.tree.faults ≡ tree.old.tree.faults + faults_told (result_err result) }
@@ -209,8 +219,12 @@ fn merge_at<S: Store + Drop>(
     frag: Frag,
 ) -> Result<Answer, Refusal>
     requires { AreRoots (tree_state tree.old.tree) tree.old.subtrees.roots }
-    ensures merged { (numbers : List Supply) (inboxes : Waiting) (sessions : Table) (past : List Applied) → Merges (core_of tree.old.tree tree.old.subtrees.roots tree.old.exports numbers inboxes pins.now sessions) (core_of tree.new.tree tree.new.subtrees.roots tree.new.exports numbers inboxes pins.now sessions) past past rank ino frag result }
-    ensures kept { KeepsRoots (tree_state tree.old.tree) (tree_state tree.new.tree) tree.old.subtrees.roots tree.new.subtrees.roots tree.old.exports tree.new.exports }
+    ensures merged { (numbers : List Supply) (inboxes : Waiting) (sessions : Table) (past : List Applied)
+        → Merges (core_of tree.old.tree tree.old.subtrees.roots tree.old.exports numbers inboxes pins.now sessions)
+        (core_of tree.new.tree tree.new.subtrees.roots tree.new.exports numbers inboxes pins.now sessions)
+        past past rank ino frag result }
+    ensures kept { KeepsRoots (tree_state tree.old.tree)
+        (tree_state tree.new.tree) tree.old.subtrees.roots tree.new.subtrees.roots tree.old.exports tree.new.exports }
     ensures count { length tree.new.tree.caches.used ≡ length tree.old.tree.caches.used }
     ensures cap { tree.new.tree.caches.cap ≡ tree.old.tree.caches.cap }
     ensures counted { tree.new.tree.faults ≡ tree.old.tree.faults + faults_told (result_err result) }
@@ -240,7 +254,10 @@ fn begin_at<S: Store + Drop>(
     ino: Ino,
     frag: Frag,
 ) -> Result<Answer, Refusal>
-    ensures begun { (numbers : List Supply) (inboxes : Waiting) (pins : List Granted) (sessions : Table) (past : List Applied) → BeginsCommit (core_of tree.old.tree tree.old.subtrees.roots tree.old.exports numbers inboxes pins sessions) (core_of tree.new.tree tree.new.subtrees.roots tree.new.exports numbers inboxes pins sessions) past past rank (ino, frag) result }
+    ensures begun { (numbers : List Supply) (inboxes : Waiting) (pins : List Granted) (sessions : Table)
+        (past : List Applied) → BeginsCommit (core_of tree.old.tree tree.old.subtrees.roots tree.old.exports numbers
+        inboxes pins sessions) (core_of tree.new.tree tree.new.subtrees.roots tree.new.exports numbers inboxes pins
+        sessions) past past rank (ino, frag) result }
     ensures count { length tree.new.tree.caches.used ≡ length tree.old.tree.caches.used }
     ensures cap { tree.new.tree.caches.cap ≡ tree.old.tree.caches.cap }
     ensures faults { tree.new.tree.faults ≡ tree.old.tree.faults }

@@ -27,7 +27,9 @@ pub(crate) fn answer(
 ) -> Result<Answer, Refusal>
     requires session { IsSessionOf given.old.sessions asked.request.client asked.session }
     requires back { HasRoomFor waiting.old.inboxes asked.rank }
-    ensures replies { Replies waiting.old.inboxes waiting.new.inboxes waiting.old.pins waiting.new.pins (table given.old.sessions) (table given.new.sessions) history.old.items history.new.items asked.rank asked.request reply result }
+    ensures replies { Replies waiting.old.inboxes waiting.new.inboxes waiting.old.pins waiting.new.pins
+        (table given.old.sessions) (table given.new.sessions) history.old.items history.new.items asked.rank
+        asked.request reply result }
     ensures numbers { given.new.numbers.items ≡ given.old.numbers.items }
     ensures counted { faults_told (result_err result) ≡ 0 }
 {

@@ -63,12 +63,22 @@ pub(crate) fn make_change<S: Store + Drop>(
     change: Change,
 ) -> Result<Prepared, Refusal>
     requires session { IsSessionOf given.old.sessions asked.now.request.client asked.now.session }
-    requires offered { IsOffered (shown_tree (tree_state tree.old.tree)) (λ n. IsRankNumber n) (offer asked.now.supply) }
-    requires checked { IsChecked (shown_tree (tree_state tree.old.tree)) tree.old.tree.covers (HoldsAt (tree_state tree.old.tree) (held_roots tree.old)) asked.now.request.op (number_or (offer asked.now.supply)) (step asked.now.limit (shown_tree (tree_state tree.old.tree)) asked.now.request.op (number_or (offer asked.now.supply))) change }
-    requires touch { (leaf : Leaf) → Contains (changed_fragments asked.now.limit tree.old.tree.covers (shown_tree (tree_state tree.old.tree)) asked.now.request.op) leaf → IsFrozenLeaf tree.old leaf → ⊥ }
+    requires offered { IsOffered (shown_tree (tree_state tree.old.tree))
+        (λ n. IsRankNumber n) (offer asked.now.supply) }
+    requires checked { IsChecked (shown_tree (tree_state tree.old.tree)) tree.old.tree.covers
+        (HoldsAt (tree_state tree.old.tree) (held_roots tree.old)) asked.now.request.op
+        (number_or (offer asked.now.supply))
+        (step asked.now.limit (shown_tree (tree_state tree.old.tree)) asked.now.request.op
+        (number_or (offer asked.now.supply))) change }
+    requires touch { (leaf : Leaf)
+        → Contains (changed_fragments asked.now.limit tree.old.tree.covers (shown_tree (tree_state tree.old.tree))
+        asked.now.request.op) leaf → IsFrozenLeaf tree.old leaf → ⊥ }
     ensures made { MatchResult result (MakesRequest tree.old tree.new change asked.now.supply)
-        (RefusesChange tree.old tree.new asked.now.request.op (step asked.now.limit (shown_tree (tree_state tree.old.tree)) asked.now.request.op (number_or (offer asked.now.supply))) (offer asked.now.supply)) }
-    ensures kept { KeepsRoots (tree_state tree.old.tree) (tree_state tree.new.tree) tree.old.subtrees.roots tree.new.subtrees.roots tree.old.exports tree.new.exports }
+        (RefusesChange tree.old tree.new asked.now.request.op
+        (step asked.now.limit (shown_tree (tree_state tree.old.tree)) asked.now.request.op
+        (number_or (offer asked.now.supply))) (offer asked.now.supply)) }
+    ensures kept { KeepsRoots (tree_state tree.old.tree)
+        (tree_state tree.new.tree) tree.old.subtrees.roots tree.new.subtrees.roots tree.old.exports tree.new.exports }
     ensures count { length tree.new.tree.caches.used ≡ length tree.old.tree.caches.used }
     ensures cap { tree.new.tree.caches.cap ≡ tree.old.tree.caches.cap }
     ensures counted { tree.new.tree.faults ≡ tree.old.tree.faults + faults_told (result_err result) }
@@ -159,7 +169,8 @@ pub(crate) fn commit(
     requires room { vec_len history.old < vec_capacity history.old }
     requires reserved { IsReady given.old.sessions asked.request.client }
     requires there { asked.rank.0 < length given.old.numbers.items }
-    ensures pins { pins.new ≡ without_gone (left_without (is_for asked.request.client asked.request.tid) pins.old) prepared.went }
+    ensures pins { pins.new ≡ without_gone
+        (left_without (is_for asked.request.client asked.request.tid) pins.old) prepared.went }
     ensures appended { history.new.items ≡ history.old.items ++ record {
       client = asked.request.client;
       tid = asked.request.tid;
@@ -169,8 +180,11 @@ pub(crate) fn commit(
       reply = prepared.reply;
     } ∷ [] }
     ensures drawn { given.new.numbers.items ≡ set given.old.numbers.items asked.rank.0 prepared.numbers }
-    ensures known { table given.new.sessions ≡ trimmed (noted (table given.old.sessions) asked.request.client asked.request.tid asked.request.oldest (length history.old.items) prepared.kept) asked.request.client }
-    ensures answer { result ≡ Answer.Reply asked.request.client asked.request.tid (length history.old.items) true prepared.answer }
+    ensures known { table given.new.sessions ≡ trimmed
+        (noted (table given.old.sessions) asked.request.client asked.request.tid asked.request.oldest
+        (length history.old.items) prepared.kept) asked.request.client }
+    ensures answer { result ≡ Answer.Reply asked.request.client asked.request.tid
+        (length history.old.items) true prepared.answer }
 {
     let place = history.len();
     let Asked {

@@ -29,7 +29,11 @@ pub fn must_wait<S: Store + Drop>(
     checked: &Checked,
 ) -> bool
     requires { IsCheckedIn (tree_state tree.now.tree) (held_roots tree.now) request.now.op checked.now }
-    ensures { MatchBool result (MustWaitIn (tree_state tree.now.tree) tree.now.subtrees.roots tree.now.exports pins.now rank request.now.client request.now.tid request.now.op) (MayTouchAllIn (tree_state tree.now.tree) tree.now.subtrees.roots tree.now.exports pins.now rank request.now.client request.now.tid request.now.op) }
+    ensures { MatchBool result
+        (MustWaitIn (tree_state tree.now.tree) tree.now.subtrees.roots tree.now.exports pins.now rank request.now.client
+        request.now.tid request.now.op)
+        (MayTouchAllIn (tree_state tree.now.tree) tree.now.subtrees.roots tree.now.exports pins.now rank
+        request.now.client request.now.tid request.now.op) }
 {
     match checked {
         Checked::Answers(_) => false,
@@ -48,8 +52,10 @@ fn lacks_one<S: Store + Drop>(
     requires held { LieHeld (HoldsAt (tree_state tree.now.tree) (held_roots tree.now)) change.now }
     requires gone { IfSome change.now.gone (λ dir. is_directory (shown_tree (tree_state tree.now.tree)) dir.0 ≡ true) }
     ensures { MatchBool result
-        (LacksOneOf (tree_state tree.now.tree) tree.now.subtrees.roots tree.now.exports pins.now rank request.now.client request.now.tid (fragments_of tree.now.tree.covers change.now))
-        (MayTouchEach (tree_state tree.now.tree) tree.now.subtrees.roots tree.now.exports pins.now rank request.now.client request.now.tid (fragments_of tree.now.tree.covers change.now)) }
+        (LacksOneOf (tree_state tree.now.tree) tree.now.subtrees.roots tree.now.exports pins.now rank request.now.client
+        request.now.tid (fragments_of tree.now.tree.covers change.now))
+        (MayTouchEach (tree_state tree.now.tree) tree.now.subtrees.roots tree.now.exports pins.now rank
+        request.now.client request.now.tid (fragments_of tree.now.tree.covers change.now)) }
 {
     if !may_take(tree, pins, rank, request, change) {
         return true;
@@ -70,8 +76,10 @@ fn may_take<S: Store + Drop>(
 ) -> bool
     requires { LieHeld (HoldsAt (tree_state tree.now.tree) (held_roots tree.now)) change.now }
     ensures { MatchBool result
-        (MayTouchEach (tree_state tree.now.tree) tree.now.subtrees.roots tree.now.exports pins.now rank request.now.client request.now.tid (leaf_taken change.now.takes))
-        (LacksOneOf (tree_state tree.now.tree) tree.now.subtrees.roots tree.now.exports pins.now rank request.now.client request.now.tid (leaf_taken change.now.takes)) }
+        (MayTouchEach (tree_state tree.now.tree) tree.now.subtrees.roots tree.now.exports pins.now rank
+        request.now.client request.now.tid (leaf_taken change.now.takes))
+        (LacksOneOf (tree_state tree.now.tree) tree.now.subtrees.roots tree.now.exports pins.now rank request.now.client
+        request.now.tid (leaf_taken change.now.takes)) }
 {
     match &change.takes {
         Some(spot) => may_touch(tree, pins, rank, request, &spot.at),
@@ -89,8 +97,10 @@ fn may_put<S: Store + Drop>(
 ) -> bool
     requires { LieHeld (HoldsAt (tree_state tree.now.tree) (held_roots tree.now)) change.now }
     ensures { MatchBool result
-        (MayTouchEach (tree_state tree.now.tree) tree.now.subtrees.roots tree.now.exports pins.now rank request.now.client request.now.tid (leaf_put change.now.puts))
-        (LacksOneOf (tree_state tree.now.tree) tree.now.subtrees.roots tree.now.exports pins.now rank request.now.client request.now.tid (leaf_put change.now.puts)) }
+        (MayTouchEach (tree_state tree.now.tree) tree.now.subtrees.roots tree.now.exports pins.now rank
+        request.now.client request.now.tid (leaf_put change.now.puts))
+        (LacksOneOf (tree_state tree.now.tree) tree.now.subtrees.roots tree.now.exports pins.now rank request.now.client
+        request.now.tid (leaf_put change.now.puts)) }
 {
     match &change.puts {
         Some(put) => may_touch(tree, pins, rank, request, &put.0.at),
@@ -109,8 +119,10 @@ fn lacks_gone<S: Store + Drop>(
 ) -> bool
     requires there { IfSome gone (λ dir. is_directory (shown_tree (tree_state tree.now.tree)) dir.0 ≡ true) }
     ensures { MatchBool result
-        (LacksOneOf (tree_state tree.now.tree) tree.now.subtrees.roots tree.now.exports pins.now rank request.now.client request.now.tid (leaves_gone tree.now.tree.covers gone))
-        (MayTouchEach (tree_state tree.now.tree) tree.now.subtrees.roots tree.now.exports pins.now rank request.now.client request.now.tid (leaves_gone tree.now.tree.covers gone)) }
+        (LacksOneOf (tree_state tree.now.tree) tree.now.subtrees.roots tree.now.exports pins.now rank request.now.client
+        request.now.tid (leaves_gone tree.now.tree.covers gone))
+        (MayTouchEach (tree_state tree.now.tree) tree.now.subtrees.roots tree.now.exports pins.now rank
+        request.now.client request.now.tid (leaves_gone tree.now.tree.covers gone)) }
 {
     match gone {
         Some(dir) => lacks_leaf(tree, pins, rank, request, dir),
@@ -129,8 +141,10 @@ fn lacks_leaf<S: Store + Drop>(
 ) -> bool
     requires there { is_directory (shown_tree (tree_state tree.now.tree)) dir.0 ≡ true }
     ensures { MatchBool result
-        (LacksOneOf (tree_state tree.now.tree) tree.now.subtrees.roots tree.now.exports pins.now rank request.now.client request.now.tid (leaves tree.now.tree.covers dir.0))
-        (MayTouchEach (tree_state tree.now.tree) tree.now.subtrees.roots tree.now.exports pins.now rank request.now.client request.now.tid (leaves tree.now.tree.covers dir.0)) }
+        (LacksOneOf (tree_state tree.now.tree) tree.now.subtrees.roots tree.now.exports pins.now rank request.now.client
+        request.now.tid (leaves tree.now.tree.covers dir.0))
+        (MayTouchEach (tree_state tree.now.tree) tree.now.subtrees.roots tree.now.exports pins.now rank
+        request.now.client request.now.tid (leaves tree.now.tree.covers dir.0)) }
 {
     tree.is_sound();
     let mut hash = 0;
@@ -156,7 +170,9 @@ fn may_touch<S: Store + Drop>(
     at: &Dirfrag,
 ) -> bool
     requires { HoldsAt (tree_state tree.now.tree) (held_roots tree.now) at.now }
-    ensures { IsTrue result ↔ MayTouchIn (tree_state tree.now.tree) tree.now.subtrees.roots tree.now.exports pins.now rank request.now.client request.now.tid (leaf_of at.now) }
+    ensures { IsTrue result ↔ MayTouchIn
+        (tree_state tree.now.tree) tree.now.subtrees.roots tree.now.exports pins.now rank request.now.client
+        request.now.tid (leaf_of at.now) }
 {
     if tree.is_frozen(at.dir, at.frag) {
         return false;

@@ -42,7 +42,8 @@ impl<S: Store + Drop> Model for Book<S> {
 
     ghost view = { λ b. record { opening = b.opening; history = b.history.items; core = b.cluster } };
 
-    ghost invariant = { λ b. IsSettledBook (record { opening = b.opening; history = b.history.items; core = b.cluster }) b.settled.ranks.items };
+    ghost invariant = { λ b. IsSettledBook
+        (record { opening = b.opening; history = b.history.items; core = b.cluster }) b.settled.ranks.items };
 }
 
 impl<S: Store + Drop> Book<S> {

@@ -48,7 +48,8 @@ impl<S: Store + Drop> Model for Cluster<S> {
 
     ghost coded = { Prim.hlevel (codes, map.code) };
 
-    ghost view = { λ c. core_of c.tree.tree c.tree.subtrees.roots c.tree.exports c.given.numbers.items c.waiting.inboxes c.waiting.pins (table c.given.sessions) };
+    ghost view = { λ c. core_of c.tree.tree c.tree.subtrees.roots c.tree.exports c.given.numbers.items c.waiting.inboxes
+        c.waiting.pins (table c.given.sessions) };
 }
 
 impl<S: Store + Drop> Cluster<S> {
@@ -73,7 +74,8 @@ impl<S: Store + Drop> Cluster<S> {
         ensures caches { IfOk result (λ c. c.caches ≡ new_caches ranks places) }
         ensures kept { IfOk result (λ c. IsKept c.state.tree c.caches) }
         ensures cached { IfOk result AreCached }
-        ensures refused { IfErr result (λ back. MayNotFormat (S.objects store) (S.faults store) (S.faults back.1) back.0) }
+        ensures refused { IfErr result
+            (λ back. MayNotFormat (S.objects store) (S.faults store) (S.faults back.1) back.0) }
         ensures left { IfErr result (λ back. S.objects back.1 ≡ S.objects store) }
         ensures faults { IfOk result (λ c. c.faults ≡ S.faults store) }
         ensures counted { IfErr result (λ back. S.faults back.1 ≡ S.faults store + faults_in back.0) }
@@ -106,7 +108,8 @@ impl<S: Store + Drop> Cluster<S> {
     ) -> Result<Answer, Refusal>
         requires { (opening : Tree) × IsSound opening history.old.items self.old }
         ensures stepped { Steps self.old self.new history.old.items history.new.items result event }
-        ensures sound { (opening : Tree) → IsSound opening history.old.items self.old → IsSound opening history.new.items self.new }
+        ensures sound { (opening : Tree) → IsSound opening history.old.items self.old
+            → IsSound opening history.new.items self.new }
     {
         let answer = self.choose(alloc, history, event);
         self.tree.is_sound();
@@ -168,7 +171,8 @@ impl<S: Store + Drop> Cluster<S> {
 
     // A request comes in, and waits at the back of the rank's inbox.
     fn arrive(&mut self, rank: Rank, request: Request) -> Result<Answer, Refusal>
-        ensures arrived { (past : List Applied) → AtRank self.old self.new past past rank result (ArrivesAt self.old.state self.new.state past past rank request result × AsksNone self.old self.new) }
+        ensures arrived { (past : List Applied) → AtRank self.old self.new past past rank result
+            (ArrivesAt self.old.state self.new.state past past rank request result × AsksNone self.old self.new) }
         ensures tree { self.new.state.tree ≡ self.old.state.tree }
         ensures roots { self.new.state.roots ≡ self.old.state.roots }
         ensures exports { self.new.state.exports ≡ self.old.state.exports }
@@ -194,8 +198,11 @@ impl<S: Store + Drop> Cluster<S> {
         rank: Rank,
     ) -> Result<Answer, Refusal>
         requires { (opening : Tree) × IsSound opening history.old.items self.old }
-        ensures served { AtRank self.old self.new history.old.items history.new.items rank result (ServesRank self.old self.new history.old.items history.new.items rank result × UsesInbox self.old self.new rank result) }
-        ensures kept { KeepsRoots self.old.state.tree self.new.state.tree self.old.state.roots self.new.state.roots self.old.state.exports self.new.state.exports }
+        ensures served { AtRank self.old self.new history.old.items history.new.items rank result
+            (ServesRank self.old self.new history.old.items history.new.items rank result
+            × UsesInbox self.old self.new rank result) }
+        ensures kept { KeepsRoots self.old.state.tree self.new.state.tree self.old.state.roots self.new.state.roots
+            self.old.state.exports self.new.state.exports }
         ensures count { length self.new.caches.used ≡ length self.old.caches.used }
         ensures cap { self.new.caches.cap ≡ self.old.caches.cap }
         ensures counted { self.new.faults ≡ self.old.faults + faults_told (result_err result) }
@@ -216,7 +223,9 @@ impl<S: Store + Drop> Cluster<S> {
     // The rank grants a waiting request what it would change of the rank's.
     #[inline(never)]
     fn grant(&mut self, alloc: Global, rank: Rank, client: u64, tid: u64) -> Result<Answer, Refusal>
-        ensures granted { (past : List Applied) → AtRank self.old self.new past past rank result (GrantsWaiting self.old.state self.new.state past past (MayRefuse self.old self.new) rank client tid result × UsesGranted self.old self.new client tid) }
+        ensures granted { (past : List Applied) → AtRank self.old self.new past past rank result
+            (GrantsWaiting self.old.state self.new.state past past (MayRefuse self.old self.new) rank client tid result
+            × UsesGranted self.old self.new client tid) }
         ensures tree { self.new.state.tree ≡ self.old.state.tree }
         ensures roots { self.new.state.roots ≡ self.old.state.roots }
         ensures exports { self.new.state.exports ≡ self.old.state.exports }

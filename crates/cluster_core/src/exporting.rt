@@ -39,7 +39,9 @@ impl<S: Store + Drop> Cluster<S> {
     ) -> Result<Answer, Refusal>
         requires ranks { length self.old.caches.used ≡ length self.old.state.inboxes }
         requires few { length self.old.caches.used ≤ 16 }
-        ensures started { (past : List Applied) → AtRank self.old self.new past past from result (AtRank self.old self.new past past to result (StartsExport self.old self.new past past from (ino, frag) to result)) }
+        ensures started { (past : List Applied) → AtRank self.old self.new past past from result
+            (AtRank self.old self.new past past to result
+            (StartsExport self.old self.new past past from (ino, frag) to result)) }
         ensures tree { self.new.state.tree ≡ self.old.state.tree }
         ensures roots { self.new.state.roots ≡ self.old.state.roots }
         ensures holders { holders_of self.new.state ≡ holders_of self.old.state }
@@ -58,9 +60,12 @@ impl<S: Store + Drop> Cluster<S> {
     // The region of a started export freezes.
     pub(crate) fn freeze(&mut self, ino: Ino, frag: Frag) -> Result<Answer, Refusal>
         ensures frozen { (past : List Applied) → FreezesExport self.old self.new past past (ino, frag) result }
-        ensures authorities { KeepsAuthorities self.old.state.tree self.new.state.tree self.old.state.roots self.new.state.roots }
-        ensures holders { KeepsHolders self.old.state.tree self.new.state.tree self.old.state.roots self.new.state.roots self.old.state.exports self.new.state.exports }
-        ensures valid { AreRoots self.old.state.tree self.old.state.roots → AreRoots self.new.state.tree self.new.state.roots }
+        ensures authorities { KeepsAuthorities self.old.state.tree self.new.state.tree
+            self.old.state.roots self.new.state.roots }
+        ensures holders { KeepsHolders self.old.state.tree self.new.state.tree self.old.state.roots self.new.state.roots
+            self.old.state.exports self.new.state.exports }
+        ensures valid { AreRoots self.old.state.tree self.old.state.roots
+            → AreRoots self.new.state.tree self.new.state.roots }
         ensures caches { self.new.caches ≡ self.old.caches }
         ensures counted { self.new.faults ≡ self.old.faults + faults_told (result_err result) }
     {
@@ -101,10 +106,14 @@ impl<S: Store + Drop> Cluster<S> {
         frag: Frag,
         bytes: &[u8],
     ) -> Result<Answer, Refusal>
-        ensures imported { (past : List Applied) → ImportsExport self.old self.new past past (ino, frag) bytes.now result }
-        ensures authorities { KeepsAuthorities self.old.state.tree self.new.state.tree self.old.state.roots self.new.state.roots }
-        ensures others { KeepsOutside (Some (ino, frag)) self.old.state.tree self.new.state.tree (holders_of self.old.state) (holders_of self.new.state) }
-        ensures valid { AreRoots self.old.state.tree self.old.state.roots → AreRoots self.new.state.tree self.new.state.roots }
+        ensures imported { (past : List Applied) → ImportsExport self.old self.new past past
+            (ino, frag) bytes.now result }
+        ensures authorities { KeepsAuthorities self.old.state.tree self.new.state.tree
+            self.old.state.roots self.new.state.roots }
+        ensures others { KeepsOutside (Some (ino, frag)) self.old.state.tree self.new.state.tree
+            (holders_of self.old.state) (holders_of self.new.state) }
+        ensures valid { AreRoots self.old.state.tree self.old.state.roots
+            → AreRoots self.new.state.tree self.new.state.roots }
         ensures count { length self.new.caches.used ≡ length self.old.caches.used }
         ensures cap { self.new.caches.cap ≡ self.old.caches.cap }
         ensures counted { self.new.faults ≡ self.old.faults + faults_told (result_err result) }
@@ -117,7 +126,8 @@ impl<S: Store + Drop> Cluster<S> {
     pub(crate) fn finish(&mut self, ino: Ino, frag: Frag) -> Result<Answer, Refusal>
         ensures finished { (past : List Applied) → FinishesExport self.old self.new past past (ino, frag) result }
         ensures tree { self.new.state.tree ≡ self.old.state.tree }
-        ensures others { KeepsOutside (Some (ino, frag)) self.old.state.tree self.new.state.tree self.old.state.roots self.new.state.roots }
+        ensures others { KeepsOutside
+            (Some (ino, frag)) self.old.state.tree self.new.state.tree self.old.state.roots self.new.state.roots }
         ensures holders { holders_of self.new.state ≡ holders_of self.old.state }
         ensures valid { AreRoots self.new.state.tree self.new.state.roots }
         ensures caches { self.new.caches ≡ self.old.caches }
@@ -152,7 +162,10 @@ fn start_at<S: Store + Drop>(
     requires exporter { from.0 < length tree.old.tree.caches.used }
     requires importer { to.0 < length tree.old.tree.caches.used }
     requires few { length tree.old.tree.caches.used ≤ 16 }
-    ensures started { (numbers : List Supply) (inboxes : Waiting) (pins : List Granted) (sessions : Table) (past : List Applied) → StartsExport (core_of tree.old.tree tree.old.subtrees.roots tree.old.exports numbers inboxes pins sessions) (core_of tree.new.tree tree.new.subtrees.roots tree.new.exports numbers inboxes pins sessions) past past from (ino, frag) to result }
+    ensures started { (numbers : List Supply) (inboxes : Waiting) (pins : List Granted) (sessions : Table)
+        (past : List Applied) → StartsExport (core_of tree.old.tree tree.old.subtrees.roots tree.old.exports numbers
+        inboxes pins sessions) (core_of tree.new.tree tree.new.subtrees.roots tree.new.exports numbers inboxes pins
+        sessions) past past from (ino, frag) to result }
     ensures tree { tree.new.tree ≡ tree.old.tree }
     ensures roots { tree.new.subtrees ≡ tree.old.subtrees }
     ensures holders { held_roots tree.new ≡ held_roots tree.old }
@@ -182,10 +195,16 @@ fn freeze_at<S: Store + Drop>(
     ino: Ino,
     frag: Frag,
 ) -> Result<Answer, Refusal>
-    ensures frozen { (numbers : List Supply) (inboxes : Waiting) (sessions : Table) (past : List Applied) → FreezesExport (core_of tree.old.tree tree.old.subtrees.roots tree.old.exports numbers inboxes pins.now sessions) (core_of tree.new.tree tree.new.subtrees.roots tree.new.exports numbers inboxes pins.now sessions) past past (ino, frag) result }
-    ensures authorities { KeepsAuthorities (tree_state tree.old.tree) (tree_state tree.new.tree) tree.old.subtrees.roots tree.new.subtrees.roots }
-    ensures holders { KeepsHolders (tree_state tree.old.tree) (tree_state tree.new.tree) tree.old.subtrees.roots tree.new.subtrees.roots tree.old.exports tree.new.exports }
-    ensures valid { AreRoots (tree_state tree.old.tree) tree.old.subtrees.roots → AreRoots (tree_state tree.new.tree) tree.new.subtrees.roots }
+    ensures frozen { (numbers : List Supply) (inboxes : Waiting) (sessions : Table) (past : List Applied)
+        → FreezesExport (core_of tree.old.tree tree.old.subtrees.roots tree.old.exports numbers inboxes pins.now
+        sessions) (core_of tree.new.tree tree.new.subtrees.roots tree.new.exports numbers inboxes pins.now sessions)
+        past past (ino, frag) result }
+    ensures authorities { KeepsAuthorities (tree_state tree.old.tree)
+        (tree_state tree.new.tree) tree.old.subtrees.roots tree.new.subtrees.roots }
+    ensures holders { KeepsHolders (tree_state tree.old.tree)
+        (tree_state tree.new.tree) tree.old.subtrees.roots tree.new.subtrees.roots tree.old.exports tree.new.exports }
+    ensures valid { AreRoots (tree_state tree.old.tree) tree.old.subtrees.roots
+        → AreRoots (tree_state tree.new.tree) tree.new.subtrees.roots }
     ensures caches { tree.new.tree.caches ≡ tree.old.tree.caches }
     ensures counted { tree.new.tree.faults ≡ tree.old.tree.faults + faults_told (result_err result) }
 {
@@ -210,9 +229,9 @@ fn freeze_at<S: Store + Drop>(
 
 // The exporter of a root whose export is started.
 fn started(exports: &Exports, ino: Ino, frag: Frag) -> Option<Rank>
-    ensures { MatchOption result
-        (state_at exports.now (ino, frag) ≢ Some state.Started)
-        (λ exporter. (export : StandingExport) × (map.get exports.now (ino, frag) ≡ Some export) × (export.state ≡ state.Started) × (exporter ≡ export.exporter)) }
+    ensures { MatchOption result (state_at exports.now (ino, frag) ≢ Some state.Started)
+        (λ exporter. (export : StandingExport) × (map.get exports.now (ino, frag) ≡ Some export)
+        × (export.state ≡ state.Started) × (exporter ≡ export.exporter)) }
 {
     let export = exports.get(ino, frag)?;
     match export.state {

@@ -58,7 +58,9 @@ pub fn flush<S: Store + Drop>(
     alloc: Global,
     book: &mut Book<S>,
 ) -> Result<(), Refusal>
-    ensures cold { OnOk result (IsColdTree book.new.core.state.tree.objects (after book.old.core.state.tree.limit book.old.opening book.old.history)) }
+    ensures cold { OnOk result
+        (IsColdTree book.new.core.state.tree.objects
+        (after book.old.core.state.tree.limit book.old.opening book.old.history)) }
     ensures exact { OnOk result (AreExact book.new.core.state.tree) }
     ensures clean { OnOk result (book.new.core.state.tree.unsaved ≡ map.empty) }
     ensures purged { OnOk result (book.new.core.state.tree.purge ≡ map.empty) }

@@ -87,7 +87,8 @@ fn begin<S: Store + Drop>(
 
 // Whether no part of the region that a leaf of the rank's has as a root is frozen or granted.
 fn may_freeze<S: Store + Drop>(tree: &RankedTree<S>, grants: &Pins, ino: Ino, frag: Frag) -> bool
-    ensures { (ranks : ℕ) (rank : RankNumber) → IsMine (sight_of tree.now grants.now ranks rank) (ino, frag) → IsTrue result ↔ MayFreeze (sight_of tree.now grants.now ranks rank) (ino, frag) }
+    ensures { (ranks : ℕ) (rank : RankNumber) → IsMine (sight_of tree.now grants.now ranks rank) (ino, frag)
+        → IsTrue result ↔ MayFreeze (sight_of tree.now grants.now ranks rank) (ino, frag) }
 {
     if tree.is_frozen(ino, frag) {
         return false;
@@ -97,7 +98,8 @@ fn may_freeze<S: Store + Drop>(tree: &RankedTree<S>, grants: &Pins, ino: Ino, fr
 
 /// Whether there is such a leaf, and a rank is its authority.
 pub fn is_mine<S: Store + Drop>(tree: &RankedTree<S>, rank: Rank, ino: Ino, frag: Frag) -> bool
-    ensures { (grants : List Pin) (ranks : ℕ) → IsTrue result ↔ IsMine (sight_of tree.now grants ranks rank) (ino, frag) }
+    ensures { (grants : List Pin) (ranks : ℕ) → IsTrue result ↔ IsMine
+        (sight_of tree.now grants ranks rank) (ino, frag) }
 {
     tree.has_leaf(ino, frag) && tree.is_authority(rank, ino, frag)
 }

@@ -32,8 +32,13 @@ pub(crate) fn grant_first<S: Store + Drop>(
     client: u64,
     tid: u64,
 ) -> Result<Answer, Refusal>
-    ensures granted { (numbers : List Supply) (sessions : Table) (past : List Applied) → GrantsWaiting (state_of (tree_state tree.old.tree) tree.old.subtrees.roots tree.old.exports numbers waiting.old.inboxes waiting.old.pins sessions) (state_of (tree_state tree.new.tree) tree.new.subtrees.roots tree.new.exports numbers waiting.new.inboxes waiting.new.pins sessions) past past (MayRefuse tree.old tree.new) rank client tid result }
-    ensures uses { UsesWaiting (tree_state tree.old.tree) (held_roots tree.old) tree.old.tree.caches tree.new.tree.caches (first_waiting client tid waiting.old.inboxes) }
+    ensures granted { (numbers : List Supply) (sessions : Table) (past : List Applied)
+        → GrantsWaiting (state_of (tree_state tree.old.tree) tree.old.subtrees.roots tree.old.exports numbers
+        waiting.old.inboxes waiting.old.pins sessions)
+        (state_of (tree_state tree.new.tree) tree.new.subtrees.roots tree.new.exports numbers waiting.new.inboxes
+        waiting.new.pins sessions) past past (MayRefuse tree.old tree.new) rank client tid result }
+    ensures uses { UsesWaiting (tree_state tree.old.tree)
+        (held_roots tree.old) tree.old.tree.caches tree.new.tree.caches (first_waiting client tid waiting.old.inboxes) }
     ensures same { tree_state tree.new.tree ≡ tree_state tree.old.tree }
     ensures roots { tree.new.subtrees.roots ≡ tree.old.subtrees.roots }
     ensures exports { tree.new.exports ≡ tree.old.exports }
@@ -64,10 +69,13 @@ fn some_held<S: Store + Drop>(
     rank: Rank,
     leaves: &Vec<(Ino, Frag)>,
 ) -> Result<Vec<(Ino, Frag)>, Refusal>
-    ensures held { IfOk result (λ held. AreHeldAmong (tree_state tree.now.tree) tree.now.subtrees.roots rank leaves.now.items held.items) }
+    ensures held { IfOk result
+        (λ held. AreHeldAmong (tree_state tree.now.tree) tree.now.subtrees.roots rank leaves.now.items held.items) }
     ensures some { IfOk result (λ held. 0 < length held.items) }
-    ensures thawed { IfOk result (λ held. AreThawedEach (tree_state tree.now.tree) tree.now.subtrees.roots tree.now.exports held.items) }
-    ensures refused { IfErr result (FindsNone (tree_state tree.now.tree) tree.now.subtrees.roots tree.now.exports rank leaves.now.items) }
+    ensures thawed { IfOk result
+        (λ held. AreThawedEach (tree_state tree.now.tree) tree.now.subtrees.roots tree.now.exports held.items) }
+    ensures refused { IfErr result
+        (FindsNone (tree_state tree.now.tree) tree.now.subtrees.roots tree.now.exports rank leaves.now.items) }
 {
     let held = held_among(alloc, tree, rank, leaves)?;
     if held.is_empty() {
@@ -100,7 +108,8 @@ fn held_among<S: Store + Drop>(
     rank: Rank,
     leaves: &Vec<(Ino, Frag)>,
 ) -> Result<Vec<(Ino, Frag)>, AllocError>
-    ensures held { IfOk result (λ held. AreHeldAmong (tree_state tree.now.tree) tree.now.subtrees.roots rank leaves.now.items held.items) }
+    ensures held { IfOk result
+        (λ held. AreHeldAmong (tree_state tree.now.tree) tree.now.subtrees.roots rank leaves.now.items held.items) }
     ensures one { OnErr result (HoldsOne (tree_state tree.now.tree) tree.now.subtrees.roots rank leaves.now.items) }
 {
     let mut held = Vec::new(alloc);

@@ -17,7 +17,8 @@ use ranked_tree::RankedTree;
 /// rename the destination's, of a readdir the directory's first. Where the directory isn't there, the rank itself.
 /// Takes no memory.
 pub fn locate_master<S: Store + Drop>(tree: &RankedTree<S>, rank: Rank, op: &Op) -> (Places, Rank)
-    ensures located { AreLocated (shown_tree (tree_state tree.now.tree)) tree.now.tree.covers (HoldsAt (tree_state tree.now.tree) (held_roots tree.now)) op.now result.0 }
+    ensures located { AreLocated (shown_tree (tree_state tree.now.tree)) tree.now.tree.covers
+        (HoldsAt (tree_state tree.now.tree) (held_roots tree.now)) op.now result.0 }
     ensures master { IsMasterIn (tree_state tree.now.tree) tree.now.subtrees.roots rank op.now result.1 }
 {
     let places = locate(tree, rank, op);
@@ -36,8 +37,11 @@ pub fn correct_hint<S: Store + Drop>(tree: &mut RankedTree<S>, rank: Rank, place
 
 // The authority of the leaf which was found, or the rank that serves.
 fn master_of<S: Store + Drop>(tree: &RankedTree<S>, rank: Rank, found: Option<Located>) -> Rank
-    requires { IfSome found (λ located. (dir hash : ℕ) × IsAt (shown_tree (tree_state tree.now.tree)) tree.now.tree.covers (HoldsAt (tree_state tree.now.tree) (held_roots tree.now)) dir hash located.at) }
-    ensures { MatchOption found (result ≡ rank) (λ located. Rules (tree_state tree.now.tree) tree.now.subtrees.roots (leaf_of located.at) result) }
+    requires { IfSome found
+        (λ located. (dir hash : ℕ) × IsAt (shown_tree (tree_state tree.now.tree)) tree.now.tree.covers
+        (HoldsAt (tree_state tree.now.tree) (held_roots tree.now)) dir hash located.at) }
+    ensures { MatchOption found (result ≡ rank)
+        (λ located. Rules (tree_state tree.now.tree) tree.now.subtrees.roots (leaf_of located.at) result) }
 {
     match found {
         Some(located) => tree.authority_at(&located.at),

@@ -47,7 +47,8 @@ impl<S: Store + Drop> Cluster<S> {
         ensures objects { IfOk result (λ m. m.0.state.tree.objects ≡ S.objects store) }
         ensures sound { IfOk result (λ m. IsSound m.1 [] m.0) }
         ensures faults { IfOk result (λ m. m.0.faults ≡ S.faults store) }
-        ensures refused { IfErr result (λ back. MayNotMount (S.objects store) (S.faults store) (S.faults back.1) back.0) }
+        ensures refused { IfErr result
+            (λ back. MayNotMount (S.objects store) (S.faults store) (S.faults back.1) back.0) }
         ensures left { IfErr result (λ back. S.objects back.1 ≡ S.objects store) }
         ensures counted { IfErr result (λ back. S.faults back.1 ≡ S.faults store + faults_in back.0) }
     {
@@ -70,7 +71,8 @@ impl<S: Store + Drop> Cluster<S> {
         opening: Opening,
         waiting: Waiting,
     ) -> (Cluster<S>, PlainTree)
-        ensures core { result.0 ≡ core_of tree.tree tree.subtrees.roots tree.exports opening.numbers.items waiting.inboxes waiting.pins map.empty }
+        ensures core { result.0 ≡ core_of tree.tree tree.subtrees.roots tree.exports opening.numbers.items
+            waiting.inboxes waiting.pins map.empty }
         ensures opening { result.1 ≡ contents dentry_cmp opening.entries }
         ensures owned { IsOwned tree.tree (held_roots tree) }
         ensures stand { StandSoundly (tree_state tree.tree) (length tree.tree.caches.used) tree.subtrees tree.exports }

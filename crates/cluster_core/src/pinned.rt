@@ -18,7 +18,8 @@ pub fn is_region_pinned<S: Store + Drop>(
     dir: Ino,
     frag: Frag,
 ) -> bool
-    ensures { IsTrue result ↔ HasPinnedUnder tree.now.subtrees.roots tree.now.tree.homes tree.now.tree.covers pins.now (dir, frag) }
+    ensures { IsTrue result ↔ HasPinnedUnder tree.now.subtrees.roots tree.now.tree.homes tree.now.tree.covers pins.now
+        (dir, frag) }
 {
     let root = (dir, frag);
     for pin in pins.as_slice() {

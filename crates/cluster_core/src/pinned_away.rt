@@ -41,7 +41,8 @@ pub fn first_start<S: Store + Drop>(tree: &RankedTree<S>, ranks: usize, rank: Ra
 
 // The first subtree root that is to start.
 fn first_root<S: Store + Drop>(tree: &RankedTree<S>, ranks: usize, rank: Rank) -> Option<Away>
-    ensures { (grants : List Pin) → IsFirstAway (sight_of tree.now grants ranks rank) (IsRootAt (sight_of tree.now grants ranks rank)) result }
+    ensures { (grants : List Pin) → IsFirstAway (sight_of tree.now grants ranks rank)
+        (IsRootAt (sight_of tree.now grants ranks rank)) result }
 {
     let mut after = None;
     while let Some(root) = tree.roots().next_root(&after) {
@@ -55,7 +56,8 @@ fn first_root<S: Store + Drop>(tree: &RankedTree<S>, ranks: usize, rank: Rank) -
 
 // The first leaf of a directory with a pin that is to start.
 fn first_pinned<S: Store + Drop>(tree: &RankedTree<S>, ranks: usize, rank: Rank) -> Option<Away>
-    ensures { (grants : List Pin) → IsFirstAway (sight_of tree.now grants ranks rank) (IsOfPinned (sight_of tree.now grants ranks rank)) result }
+    ensures { (grants : List Pin) → IsFirstAway (sight_of tree.now grants ranks rank)
+        (IsOfPinned (sight_of tree.now grants ranks rank)) result }
 {
     let mut after = None;
     while let Some(dir) = tree.dirs().next_pinned(after) {
@@ -75,7 +77,8 @@ fn first_of_dir<S: Store + Drop>(
     rank: Rank,
     dir: Ino,
 ) -> Option<Away>
-    ensures { (grants : List Pin) → IsFirstAway (sight_of tree.now grants ranks rank) (λ (leaf : Leaf). leaf.0.0 ≡ dir.0) result }
+    ensures { (grants : List Pin) → IsFirstAway (sight_of tree.now grants ranks rank)
+        (λ (leaf : Leaf). leaf.0.0 ≡ dir.0) result }
 {
     tree.is_sound();
     let mut hash = 0;
@@ -126,7 +129,8 @@ fn is_another(ranks: usize, rank: Rank, to: Rank) -> bool
 
 // Whether an export of a leaf may start: the leaf is the rank's own and thawed, and none stands.
 fn may_start<S: Store + Drop>(tree: &RankedTree<S>, rank: Rank, ino: Ino, frag: Frag) -> bool
-    ensures { (grants : List Pin) (ranks : ℕ) → IsTrue result ↔ MayStart (sight_of tree.now grants ranks rank) (ino, frag) }
+    ensures { (grants : List Pin) (ranks : ℕ) → IsTrue result ↔ MayStart
+        (sight_of tree.now grants ranks rank) (ino, frag) }
 {
     if !is_mine(tree, rank, ino, frag) {
         return false;
@@ -142,7 +146,8 @@ fn may_start<S: Store + Drop>(tree: &RankedTree<S>, rank: Rank, ino: Ino, frag: 
 
 // The effective pin of a directory.
 fn pin_of(dirs: &Dirs, dir: Ino) -> Option<Rank>
-    ensures { MatchOption result ((rank : RankNumber) → HasPin dirs.now.pins dirs.now.homes dir.0 rank → ⊥) (λ rank. HasPin dirs.now.pins dirs.now.homes dir.0 rank) }
+    ensures { MatchOption result ((rank : RankNumber) → HasPin dirs.now.pins dirs.now.homes dir.0 rank → ⊥)
+        (λ rank. HasPin dirs.now.pins dirs.now.homes dir.0 rank) }
 {
     dirs.is_table();
     let mut at = dir;
@@ -166,7 +171,8 @@ fn unpinned_home(dirs: &Dirs, dir: Ino) -> Option<&Home>
 
 // The one at the lesser leaf.
 fn lesser(one: Option<Away>, other: Option<Away>) -> Option<Away>
-    ensures { (s : Sight) → IsFirstAway s (IsRootAt s) one → IsFirstAway s (IsOfPinned s) other → IsFirstAway s (IsPlace s) result }
+    ensures { (s : Sight) → IsFirstAway s (IsRootAt s) one → IsFirstAway s
+        (IsOfPinned s) other → IsFirstAway s (IsPlace s) result }
 {
     match one {
         None => other,

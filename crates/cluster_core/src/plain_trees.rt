@@ -62,13 +62,18 @@ impl PlainTree {
 }
 
 impl PartialEq for PlainTree {
-    ghost eq = { λ a b. pointwise (pairs_eq ⟦<Dentry as PartialEq>⟧.eq ⟦<Inode as PartialEq>⟧.eq) (map.entries a) (map.entries b) };
+    ghost eq = { λ a b. pointwise (pairs_eq ⟦<Dentry as PartialEq>⟧.eq ⟦<Inode as PartialEq>⟧.eq) (map.entries a)
+        (map.entries b) };
 
-    ghost laws = { on_per (λ t. map.entries t) (partial_equiv_from_equiv (lists_equiv (decided (pairs_eq ⟦<Dentry as PartialEq>⟧.eq ⟦<Inode as PartialEq>⟧.eq) (pair_decides ⟦<Dentry as PartialEq>⟧.eq ⟦<Inode as PartialEq>⟧.eq (λ (a b : DentryValue.Dentry). Prim.search rules) inode_decides)))) };
+    ghost laws = { on_per (λ t. map.entries t)
+        (partial_equiv_from_equiv (lists_equiv (decided (pairs_eq ⟦<Dentry as PartialEq>⟧.eq ⟦<Inode as PartialEq>⟧.eq)
+        (pair_decides ⟦<Dentry as PartialEq>⟧.eq ⟦<Inode as PartialEq>⟧.eq
+        (λ (a b : DentryValue.Dentry). Prim.search rules) inode_decides)))) };
 
     /// Whether both are the same tree.
     fn eq(&self, other: &PlainTree) -> bool
-        ensures value { result ≡ pointwise (pairs_eq ⟦<Dentry as PartialEq>⟧.eq ⟦<Inode as PartialEq>⟧.eq) (map.entries self.now) (map.entries other.now) }
+        ensures value { result ≡ pointwise (pairs_eq ⟦<Dentry as PartialEq>⟧.eq ⟦<Inode as PartialEq>⟧.eq)
+            (map.entries self.now) (map.entries other.now) }
         ensures same { IsTrue result ↔ (self.now ≡ other.now) }
     {
         // The contract of `len` is what says here that the keys of a map rise.
@@ -79,5 +84,8 @@ impl PartialEq for PlainTree {
 }
 
 impl Eq for PlainTree {
-    ghost laws = { on_equiv (λ t. map.entries t) (lists_equiv (decided (pairs_eq ⟦<Dentry as PartialEq>⟧.eq ⟦<Inode as PartialEq>⟧.eq) (pair_decides ⟦<Dentry as PartialEq>⟧.eq ⟦<Inode as PartialEq>⟧.eq (λ (a b : DentryValue.Dentry). Prim.search rules) inode_decides))) };
+    ghost laws = { on_equiv (λ t. map.entries t)
+        (lists_equiv (decided (pairs_eq ⟦<Dentry as PartialEq>⟧.eq ⟦<Inode as PartialEq>⟧.eq)
+        (pair_decides ⟦<Dentry as PartialEq>⟧.eq ⟦<Inode as PartialEq>⟧.eq
+        (λ (a b : DentryValue.Dentry). Prim.search rules) inode_decides))) };
 }

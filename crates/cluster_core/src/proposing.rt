@@ -147,7 +147,8 @@ fn start_unless<S: Store + Drop>(
     rank: Rank,
     is_settled: bool,
 ) -> Option<Event>
-    ensures { (grants : List Pin) → (is_settled ≡ true → WouldNot (sight_of tree.now grants ranks rank) OfPin) → IsFirstStep (sight_of tree.now grants ranks rank) OfPin result }
+    ensures { (grants : List Pin) → (is_settled ≡ true → WouldNot (sight_of tree.now grants ranks rank) OfPin)
+        → IsFirstStep (sight_of tree.now grants ranks rank) OfPin result }
 {
     if is_settled {
         return None;

@@ -70,7 +70,8 @@ fn may_split<S: Store + Drop>(
     ino: Ino,
     frag: Frag,
 ) -> bool
-    ensures { (ranks : ℕ) → IsTrue result ↔ ((length (leaves_of tree.now.tree.covers ino.0) ≤ 4089) × IsIdle (sight_of tree.now grants.now ranks rank) (ino, frag)) }
+    ensures { (ranks : ℕ) → IsTrue result ↔ ((length (leaves_of tree.now.tree.covers ino.0) ≤ 4089)
+        × IsIdle (sight_of tree.now grants.now ranks rank) (ino, frag)) }
 {
     if tree.dirs().leaf_count(ino) > MOST_LEAVES {
         return false;
@@ -86,7 +87,8 @@ fn may_merge<S: Store + Drop>(
     ino: Ino,
     frag: Frag,
 ) -> bool
-    ensures { (ranks : ℕ) → IsTrue result ↔ ((i : ℕ) → i < 8 → IsIdle (sight_of tree.now grants.now ranks rank) (child (ino, frag) i)) }
+    ensures { (ranks : ℕ) → IsTrue result ↔ ((i : ℕ) → i < 8
+        → IsIdle (sight_of tree.now grants.now ranks rank) (child (ino, frag) i)) }
 {
     tree.is_sound();
     for i in 0..8 {

@@ -17,7 +17,8 @@ pub fn run<S: Store + Drop>(
     book: &mut Book<S>,
     events: Vec<Event>,
 ) -> Result<Vec<Result<Answer, Refusal>>, Refusal>
-    ensures ran { MatchResult result (λ results. IsRun book.old events.items results.items book.new) (λ reason. (reason ≡ Refusal.NoMemory) × (book.new ≡ book.old)) }
+    ensures ran { MatchResult result (λ results. IsRun book.old events.items results.items book.new)
+        (λ reason. (reason ≡ Refusal.NoMemory) × (book.new ≡ book.old)) }
     ensures sound { IsSoundBook book.new }
 {
     book.is_sound();

@@ -45,15 +45,22 @@ pub(crate) fn serve_front<S: Store + Drop>(
     rank: Rank,
 ) -> Result<Answer, Refusal>
     requires known { IsTableOf history.old.items (table given.old.sessions) }
-    requires offered { IsOffered (shown_tree (tree_state tree.old.tree)) (λ n. IsRankNumber n) (offer (get_or given.old.numbers.items rank.0 no_supply)) }
+    requires offered { IsOffered (shown_tree (tree_state tree.old.tree)) (λ n. IsRankNumber n)
+        (offer (get_or given.old.numbers.items rank.0 no_supply)) }
     requires there { rank.0 < length given.old.numbers.items }
-    requires masters { AreMastersThere (tree_state tree.old.tree) tree.old.subtrees.roots rank (length waiting.old.inboxes) }
+    requires masters { AreMastersThere (tree_state tree.old.tree) tree.old.subtrees.roots rank
+        (length waiting.old.inboxes) }
     requires valid { AreRoots (tree_state tree.old.tree) tree.old.subtrees.roots }
-    ensures served { ServesInbox (state_of (tree_state tree.old.tree) tree.old.subtrees.roots tree.old.exports given.old.numbers.items waiting.old.inboxes waiting.old.pins (table given.old.sessions))
-        (state_of (tree_state tree.new.tree) tree.new.subtrees.roots tree.new.exports given.new.numbers.items waiting.new.inboxes waiting.new.pins (table given.new.sessions))
-        history.old.items history.new.items (MayRefuse tree.old tree.new) rank result (waiting_at waiting.old.inboxes rank) }
-    ensures uses { UsesFront (tree_state tree.old.tree) (tree_state tree.new.tree) (held_roots tree.old) tree.old.tree.caches tree.new.tree.caches result (waiting_at waiting.old.inboxes rank) }
-    ensures kept { KeepsRoots (tree_state tree.old.tree) (tree_state tree.new.tree) tree.old.subtrees.roots tree.new.subtrees.roots tree.old.exports tree.new.exports }
+    ensures served { ServesInbox
+        (state_of (tree_state tree.old.tree) tree.old.subtrees.roots tree.old.exports given.old.numbers.items
+        waiting.old.inboxes waiting.old.pins (table given.old.sessions))
+        (state_of (tree_state tree.new.tree) tree.new.subtrees.roots tree.new.exports given.new.numbers.items
+        waiting.new.inboxes waiting.new.pins (table given.new.sessions)) history.old.items history.new.items
+        (MayRefuse tree.old tree.new) rank result (waiting_at waiting.old.inboxes rank) }
+    ensures uses { UsesFront (tree_state tree.old.tree) (tree_state tree.new.tree)
+        (held_roots tree.old) tree.old.tree.caches tree.new.tree.caches result (waiting_at waiting.old.inboxes rank) }
+    ensures kept { KeepsRoots (tree_state tree.old.tree)
+        (tree_state tree.new.tree) tree.old.subtrees.roots tree.new.subtrees.roots tree.old.exports tree.new.exports }
     ensures count { length tree.new.tree.caches.used ≡ length tree.old.tree.caches.used }
     ensures cap { tree.new.tree.caches.cap ≡ tree.old.tree.caches.cap }
     ensures counted { tree.new.tree.faults ≡ tree.old.tree.faults + faults_told (result_err result) }
@@ -98,16 +105,24 @@ fn serve_new<S: Store + Drop>(
     history: &mut Vec<Entry>,
     asked: Asked,
 ) -> Result<Answer, Refusal>
-    requires asked { IsAsked (tree_state tree.old.tree) tree.old.subtrees.roots tree.old.exports given.old.numbers.items given.old.sessions history.old.items asked }
+    requires asked { IsAsked
+        (tree_state tree.old.tree) tree.old.subtrees.roots tree.old.exports given.old.numbers.items
+        given.old.sessions history.old.items asked }
     requires offered { IsOffered (shown_tree (tree_state tree.old.tree)) (λ n. IsRankNumber n) (offer asked.supply) }
     requires there { asked.rank.0 < length given.old.numbers.items }
     requires back { HasRoomFor waiting.old.inboxes asked.rank }
     requires valid { AreRoots (tree_state tree.old.tree) tree.old.subtrees.roots }
-    ensures served { ServesInbox (state_of (tree_state tree.old.tree) tree.old.subtrees.roots tree.old.exports given.old.numbers.items (with_first waiting.old.inboxes asked.rank asked.request) waiting.old.pins (table given.old.sessions))
-        (state_of (tree_state tree.new.tree) tree.new.subtrees.roots tree.new.exports given.new.numbers.items waiting.new.inboxes waiting.new.pins (table given.new.sessions))
-        history.old.items history.new.items (MayRefuse tree.old tree.new) asked.rank result (asked.request ∷ waiting_at waiting.old.inboxes asked.rank) }
-    ensures uses { UsesFront (tree_state tree.old.tree) (tree_state tree.new.tree) (held_roots tree.old) tree.old.tree.caches tree.new.tree.caches result (asked.request ∷ waiting_at waiting.old.inboxes asked.rank) }
-    ensures kept { KeepsRoots (tree_state tree.old.tree) (tree_state tree.new.tree) tree.old.subtrees.roots tree.new.subtrees.roots tree.old.exports tree.new.exports }
+    ensures served { ServesInbox
+        (state_of (tree_state tree.old.tree) tree.old.subtrees.roots tree.old.exports given.old.numbers.items
+        (with_first waiting.old.inboxes asked.rank asked.request) waiting.old.pins (table given.old.sessions))
+        (state_of (tree_state tree.new.tree) tree.new.subtrees.roots tree.new.exports given.new.numbers.items
+        waiting.new.inboxes waiting.new.pins (table given.new.sessions)) history.old.items history.new.items
+        (MayRefuse tree.old tree.new) asked.rank result (asked.request ∷ waiting_at waiting.old.inboxes asked.rank) }
+    ensures uses { UsesFront (tree_state tree.old.tree) (tree_state tree.new.tree)
+        (held_roots tree.old) tree.old.tree.caches tree.new.tree.caches result
+        (asked.request ∷ waiting_at waiting.old.inboxes asked.rank) }
+    ensures kept { KeepsRoots (tree_state tree.old.tree)
+        (tree_state tree.new.tree) tree.old.subtrees.roots tree.new.subtrees.roots tree.old.exports tree.new.exports }
     ensures count { length tree.new.tree.caches.used ≡ length tree.old.tree.caches.used }
     ensures cap { tree.new.tree.caches.cap ≡ tree.old.tree.caches.cap }
     ensures counted { tree.new.tree.faults ≡ tree.old.tree.faults + faults_told (result_err result) }
@@ -165,7 +180,8 @@ fn answer_again(
     reply: &Reply,
 ) -> Result<Answer, Refusal>
     requires back { HasRoomFor waiting.old.inboxes rank }
-    ensures repeats { Repeats waiting.old.inboxes waiting.new.inboxes waiting.old.pins waiting.new.pins rank request place reply.now result }
+    ensures repeats { Repeats waiting.old.inboxes waiting.new.inboxes waiting.old.pins waiting.new.pins rank
+        request place reply.now result }
     ensures counted { faults_told (result_err result) ≡ 0 }
 {
     match reply.try_clone() {

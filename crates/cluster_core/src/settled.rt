@@ -35,8 +35,10 @@ impl Settled {
 
     /// It is known of a rank; where there is no memory for that, it is forgotten at once.
     pub(crate) fn note(&mut self, rank: Rank)
-        ensures most { (other : RankNumber) → Contains self.new.ranks.items other → Contains self.old.ranks.items other ⊎ (other ≡ rank) }
-        ensures least { (other : RankNumber) → Contains self.old.ranks.items other → Contains self.new.ranks.items other }
+        ensures most { (other : RankNumber) → Contains self.new.ranks.items other
+            → Contains self.old.ranks.items other ⊎ (other ≡ rank) }
+        ensures least { (other : RankNumber) → Contains self.old.ranks.items other
+            → Contains self.new.ranks.items other }
     {
         if !self.knows(rank) {
             let _ = self.ranks.push(rank);
@@ -92,7 +94,8 @@ pub(crate) fn keep_settled(settled: &mut Settled, may: bool, history: &[Entry], 
 // Whether an operation that was applied behind so many moves something, or pins a directory.
 #[inline(always)]
 fn has_unsettled(history: &[Entry], past: usize) -> bool
-    ensures calm { result ≡ false → (before : List Applied) (e : Applied) → length before ≡ past → history.now ≡ before ++ e ∷ [] → IsCalmOp e.op }
+    ensures calm { result ≡ false → (before : List Applied) (e : Applied) → length before ≡ past
+        → history.now ≡ before ++ e ∷ [] → IsCalmOp e.op }
     ensures other { result ≡ true → HasUnsettled history.now past }
 {
     match history.get(past) {

@@ -108,7 +108,8 @@ impl Found {
     pub fn add(&mut self, dir: Ino, name: Name, inode: Inode) -> Result<bool, Refusal>
         requires { IsReady self.old.shape dir.0 }
         ensures new { IfOk result (λ new. new ≡ not (is_met self.old.shape inode.ino.0)) }
-        ensures added { IfOk result (λ new. new ≡ true → self.new.shape ≡ with_entry self.old.shape (record { dir = dir; name = name }) inode) }
+        ensures added { IfOk result
+            (λ new. new ≡ true → self.new.shape ≡ with_entry self.old.shape (record { dir = dir; name = name }) inode) }
         ensures covers { self.new.covers ≡ self.old.covers }
         ensures refused { IfErr result (λ reason. reason ≡ NoMemory) }
     {
@@ -140,7 +141,8 @@ fn put_in_queue(queue: &mut Vec<Ino>, inode: &Inode) -> Result<(), AllocError>
 
 // Makes room for one more directory, and a copy of its name, if the inode is one.
 fn ready_home(dirs: &mut Dirs, name: &Name, inode: &Inode) -> Result<Option<Name>, Refusal>
-    ensures ready { IfOk result (λ spare. is_dir_kind inode.now.kind ≡ true → (0 < dirs.new.room) × (spare ≡ Some name.now)) }
+    ensures ready { IfOk result (λ spare. is_dir_kind inode.now.kind ≡ true
+        → (0 < dirs.new.room) × (spare ≡ Some name.now)) }
     ensures homes { dirs.new.homes ≡ dirs.old.homes }
     ensures trees { dirs.new.trees ≡ dirs.old.trees }
     ensures counts { dirs.new.counts ≡ dirs.old.counts }

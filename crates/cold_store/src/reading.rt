@@ -35,8 +35,10 @@ pub fn take_dir<S: Store>(
     requires { IsReady found.old.shape dir.0 }
     ensures good { OnOk result (IsGoodDir (S.objects store.old) found.old.shape dir) }
     ensures added { OnOk result (found.new.shape ≡ with_rows found.old.shape (rows_in (S.objects store.old) dir)) }
-    ensures covers { OnOk result (found.new.covers ≡ with_cover found.old.covers dir (cover_in (S.objects store.old) dir)) }
-    ensures refused { IfErr result (MayFail (IsBadIn (S.objects store.old) found.old.shape dir) (S.faults store.old) (S.faults store.new)) }
+    ensures covers { OnOk result
+        (found.new.covers ≡ with_cover found.old.covers dir (cover_in (S.objects store.old) dir)) }
+    ensures refused { IfErr result
+        (MayFail (IsBadIn (S.objects store.old) found.old.shape dir) (S.faults store.old) (S.faults store.new)) }
     ensures same { S.objects store.new ≡ S.objects store.old }
     ensures counted { S.faults store.new ≡ S.faults store.old + faults_told (result_err result) }
 {
@@ -49,7 +51,8 @@ pub fn take_dir<S: Store>(
 // The tree that a directory's tree object spells, if the object is there.
 fn read_tree<S: Store>(alloc: Global, store: &mut S, dir: Ino) -> Result<Option<FragTree>, Refusal>
     ensures good { IfOk result (IsGoodTree (tree_of (S.objects store.old) dir)) }
-    ensures refused { IfErr result (MayFail (λ name. (name ≡ TreeOf dir) × IsBadTree (tree_of (S.objects store.old) dir)) (S.faults store.old) (S.faults store.new)) }
+    ensures refused { IfErr result (MayFail (λ name. (name ≡ TreeOf dir)
+        × IsBadTree (tree_of (S.objects store.old) dir)) (S.faults store.old) (S.faults store.new)) }
     ensures same { S.objects store.new ≡ S.objects store.old }
     ensures counted { S.faults store.new ≡ S.faults store.old + faults_told (result_err result) }
 {
@@ -118,9 +121,12 @@ fn take_leaves<S: Store>(
 ) -> Result<(), Refusal>
     requires { IsReady found.old.shape dir.0 }
     ensures good { OnOk result (AreGoodLeaves (S.objects store.old) found.old.shape dir leaves.now) }
-    ensures added { OnOk result (found.new.shape ≡ with_rows found.old.shape (rows_under (S.objects store.old) dir leaves.now)) }
+    ensures added { OnOk result
+        (found.new.shape ≡ with_rows found.old.shape (rows_under (S.objects store.old) dir leaves.now)) }
     ensures covers { found.new.covers ≡ found.old.covers }
-    ensures refused { IfErr result (MayFail (IsBadAmong (S.objects store.old) found.old.shape dir leaves.now) (S.faults store.old) (S.faults store.new)) }
+    ensures refused { IfErr result
+        (MayFail (IsBadAmong (S.objects store.old) found.old.shape dir leaves.now)
+        (S.faults store.old) (S.faults store.new)) }
     ensures same { S.objects store.new ≡ S.objects store.old }
     ensures counted { S.faults store.new ≡ S.faults store.old + faults_told (result_err result) }
 {
@@ -142,10 +148,12 @@ fn take_leaf<S: Store>(
 ) -> Result<(), Refusal>
     requires { IsReady found.old.shape dir.0 }
     ensures good { OnOk result (IsGoodLeaf (S.objects store.old) found.old.shape (dir, frag)) }
-    ensures added { OnOk result (found.new.shape ≡ with_rows found.old.shape (rows_at (S.objects store.old) (dir, frag))) }
+    ensures added { OnOk result
+        (found.new.shape ≡ with_rows found.old.shape (rows_at (S.objects store.old) (dir, frag))) }
     ensures ready { OnOk result (IsReady found.new.shape dir.0) }
     ensures covers { found.new.covers ≡ found.old.covers }
-    ensures refused { IfErr result (MayFail (λ name. (name ≡ FragOf dir frag) × IsBadLeaf (S.objects store.old) found.old.shape (dir, frag)) (S.faults store.old) (S.faults store.new)) }
+    ensures refused { IfErr result (MayFail (λ name. (name ≡ FragOf dir frag)
+        × IsBadLeaf (S.objects store.old) found.old.shape (dir, frag)) (S.faults store.old) (S.faults store.new)) }
     ensures same { S.objects store.new ≡ S.objects store.old }
     ensures counted { S.faults store.new ≡ S.faults store.old + faults_told (result_err result) }
 {
@@ -163,11 +171,14 @@ fn add_names(
     mut names: SortedMap<Name, Inode>,
 ) -> Result<(), Refusal>
     requires { IsReady found.old.shape dir.0 }
-    ensures good { OnOk result (are_new found.old.shape (rows_of (dir, frag) (map.entries (contents key_cmp names))) ≡ true) }
-    ensures added { OnOk result (found.new.shape ≡ with_rows found.old.shape (rows_of (dir, frag) (map.entries (contents key_cmp names)))) }
+    ensures good { OnOk result
+        (are_new found.old.shape (rows_of (dir, frag) (map.entries (contents key_cmp names))) ≡ true) }
+    ensures added { OnOk result
+        (found.new.shape ≡ with_rows found.old.shape (rows_of (dir, frag) (map.entries (contents key_cmp names)))) }
     ensures ready { OnOk result (IsReady found.new.shape dir.0) }
     ensures covers { found.new.covers ≡ found.old.covers }
-    ensures refused { IfErr result (MayNotAdd dir frag (are_new found.old.shape (rows_of (dir, frag) (map.entries (contents key_cmp names))))) }
+    ensures refused { IfErr result
+        (MayNotAdd dir frag (are_new found.old.shape (rows_of (dir, frag) (map.entries (contents key_cmp names))))) }
 {
     while let Some((name, inode)) = names.pop_first() {
         if !found.add(dir, name, inode)? {

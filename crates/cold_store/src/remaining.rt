@@ -24,7 +24,9 @@ pub fn list_left<S: Store>(
     store: &mut S,
     found: &Found,
 ) -> Result<SortedMap<Text, ()>, Refusal>
-    ensures left { IfOk result (λ left. AreLeft (S.objects store.old) (texts_from found.now.covers found.now.shape.queue) (contents key_cmp left)) }
+    ensures left { IfOk result
+        (λ left. AreLeft (S.objects store.old) (texts_from found.now.covers found.now.shape.queue)
+        (contents key_cmp left)) }
     ensures refused { IfErr result (MayRefuse (S.faults store.old) (S.faults store.new)) }
     ensures same { S.objects store.new ≡ S.objects store.old }
     ensures counted { S.faults store.new ≡ S.faults store.old + faults_told (result_err result) }
@@ -58,7 +60,9 @@ fn next_names<S: Store>(
     names: &mut SortedMap<Text, ()>,
     after: Option<&Text>,
 ) -> Result<Option<Text>, Refusal>
-    ensures read { IfOk result (EndsNames (S.objects store.old) (option_copied after.entry) (contents key_cmp names.old) (contents key_cmp names.new)) }
+    ensures read { IfOk result
+        (EndsNames (S.objects store.old) (option_copied after.entry)
+        (contents key_cmp names.old) (contents key_cmp names.new)) }
     ensures refused { IfErr result (MayRefuse (S.faults store.old) (S.faults store.new)) }
     ensures same { S.objects store.new ≡ S.objects store.old }
     ensures counted { S.faults store.new ≡ S.faults store.old + faults_told (result_err result) }
@@ -94,7 +98,8 @@ fn last_of(alloc: Global, more: bool, names: &[String]) -> Result<Option<Text>, 
 
 // Adds all of these names.
 fn put_names(names: &mut SortedMap<Text, ()>, page: Vec<String>) -> Result<(), AllocError>
-    ensures { OnOk result (contents key_cmp names.new ≡ with_keys (contents key_cmp names.old) (each string_bytes page.items)) }
+    ensures { OnOk result
+        (contents key_cmp names.new ≡ with_keys (contents key_cmp names.old) (each string_bytes page.items)) }
 {
     for name in page {
         put_name(names, name)?;
@@ -104,7 +109,8 @@ fn put_names(names: &mut SortedMap<Text, ()>, page: Vec<String>) -> Result<(), A
 
 // Adds a name.
 fn put_name(names: &mut SortedMap<Text, ()>, name: String) -> Result<(), AllocError>
-    ensures { OnOk result (contents key_cmp names.new ≡ map.insert (contents key_cmp names.old) (string_bytes name) tt) }
+    ensures { OnOk result
+        (contents key_cmp names.new ≡ map.insert (contents key_cmp names.old) (string_bytes name) tt) }
 {
     names.reserve(1)?;
     let _ = names.insert(Text::from_string(name), ());
@@ -118,7 +124,8 @@ fn take_off(
     dirs: &Dirs,
     queue: &[Ino],
 ) -> Result<(), AllocError>
-    ensures { OnOk result (contents key_cmp left.new ≡ without_keys (contents key_cmp left.old) (texts_from dirs.now.trees queue.now)) }
+    ensures { OnOk result
+        (contents key_cmp left.new ≡ without_keys (contents key_cmp left.old) (texts_from dirs.now.trees queue.now)) }
 {
     for dir in queue {
         take_off_dir(alloc, left, dirs, *dir)?;
@@ -133,7 +140,8 @@ fn take_off_dir(
     dirs: &Dirs,
     dir: Ino,
 ) -> Result<(), AllocError>
-    ensures { OnOk result (contents key_cmp left.new ≡ without_keys (contents key_cmp left.old) (texts_in dirs.now.trees dir)) }
+    ensures { OnOk result
+        (contents key_cmp left.new ≡ without_keys (contents key_cmp left.old) (texts_in dirs.now.trees dir)) }
 {
     take_off_name(alloc, left, ObjName::Tree(dir))?;
     let leaves = dirs.tree(alloc, dir)?.leaves(alloc)?;
@@ -147,7 +155,8 @@ fn take_off_leaves(
     dir: Ino,
     leaves: &[Frag],
 ) -> Result<(), AllocError>
-    ensures { OnOk result (contents key_cmp left.new ≡ without_keys (contents key_cmp left.old) (leaf_texts dir leaves.now)) }
+    ensures { OnOk result
+        (contents key_cmp left.new ≡ without_keys (contents key_cmp left.old) (leaf_texts dir leaves.now)) }
 {
     for leaf in leaves {
         take_off_name(alloc, left, ObjName::Frag(dir, *leaf))?;

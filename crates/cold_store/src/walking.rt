@@ -29,7 +29,9 @@ use std::alloc::Global;
 /// Refused `Damaged`, with the name of a faulty object, and otherwise as the store refuses a call (`StoreFault`), or
 /// `NoMemory`. A store that has no object is refused too: directory 1 has no leaf there.
 pub fn walk<S: Store>(alloc: Global, store: &mut S) -> Result<Walked, Refusal>
-    ensures walked { IfOk result (λ w. IsWalked (S.objects store.old) (contents dentry_cmp w.entries) w.dirs.homes w.dirs.trees (contents key_cmp w.left)) }
+    ensures walked { IfOk result
+        (λ w. IsWalked (S.objects store.old) (contents dentry_cmp w.entries) w.dirs.homes w.dirs.trees
+        (contents key_cmp w.left)) }
     ensures counted { IfOk result (λ w. IsCounted (contents dentry_cmp w.entries) w.dirs.counts w.dirs.pins) }
     ensures cold { IfOk result (λ w. IsColdTree (S.objects store.old) (contents dentry_cmp w.entries)) }
     ensures refused { IfErr result (MayNotWalk (S.objects store.old) (S.faults store.old) (S.faults store.new)) }

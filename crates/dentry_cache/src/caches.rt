@@ -87,7 +87,9 @@ impl Caches {
     pub fn look(&mut self, at: Dirfrag, name: &Name) -> Result<Option<Inode>, AllocError>
         requires there { at.rank.0 < length self.old.used }
         requires cached { IsThere (here self.old at.rank.0 (leaf_of at)) }
-        ensures found { IfOk result (λ found. HasCached (here self.old at.rank.0 (leaf_of at)) (λ (f : Cached). found ≡ map.get (shown f) name.now)) }
+        ensures found { IfOk result
+            (λ found. HasCached (here self.old at.rank.0 (leaf_of at))
+            (λ (f : Cached). found ≡ map.get (shown f) name.now)) }
         ensures used { self.new ≡ used_at self.old at.rank.0 (leaf_of at) }
     {
         self.caches[at.rank.0 as usize].look(at.dir, at.frag, name)
@@ -99,7 +101,8 @@ impl Caches {
         requires there { at.rank.0 < length self.old.used }
         requires recordable { IsRecordable inode }
         requires room { HasRoom (here self.old at.rank.0 (leaf_of at)) }
-        ensures { self.new ≡ with_mark self.old at.rank.0 (leaf_of at) name (record { version = version; inode = Some inode }) }
+        ensures { self.new ≡ with_mark self.old at.rank.0 (leaf_of at) name
+            (record { version = version; inode = Some inode }) }
     {
         self.caches[at.rank.0 as usize].put(at.dir, at.frag, name, inode, version);
     }
@@ -109,7 +112,8 @@ impl Caches {
     pub fn erase(&mut self, at: Dirfrag, name: Name, version: u64)
         requires there { at.rank.0 < length self.old.used }
         requires room { HasRoom (here self.old at.rank.0 (leaf_of at)) }
-        ensures { self.new ≡ with_mark self.old at.rank.0 (leaf_of at) name (record { version = version; inode = None }) }
+        ensures { self.new ≡ with_mark self.old at.rank.0 (leaf_of at) name
+            (record { version = version; inode = None }) }
     {
         self.caches[at.rank.0 as usize].erase(at.dir, at.frag, name, version);
     }
@@ -118,9 +122,12 @@ impl Caches {
     pub fn reserve(&mut self, at: Dirfrag, changes: usize) -> Result<(), AllocError>
         requires there { at.rank.0 < length self.old.used }
         requires cached { IsThere (here self.old at.rank.0 (leaf_of at)) }
-        ensures same { Edits (λ (f now : Cached). (now ≡ record f { room = now.room }) × (f.room ≤ now.room)) at.rank.0 (leaf_of at) self.old self.new }
-        ensures room { OnOk result (Edits (λ (f now : Cached). changes ≤ now.room) at.rank.0 (leaf_of at) self.old self.new) }
-        ensures ready { HasCached (here self.old at.rank.0 (leaf_of at)) (λ (f : Cached). changes ≤ f.room) → IsOk result }
+        ensures same { Edits (λ (f now : Cached). (now ≡ record f { room = now.room })
+            × (f.room ≤ now.room)) at.rank.0 (leaf_of at) self.old self.new }
+        ensures room { OnOk result
+            (Edits (λ (f now : Cached). changes ≤ now.room) at.rank.0 (leaf_of at) self.old self.new) }
+        ensures ready { HasCached (here self.old at.rank.0 (leaf_of at))
+            (λ (f : Cached). changes ≤ f.room) → IsOk result }
     {
         self.caches[at.rank.0 as usize].reserve(at.dir, at.frag, changes)
     }
@@ -142,11 +149,14 @@ impl Caches {
         requires free { IsFreeFor self.old at.rank.0 (leaf_of at) }
         requires whole { IsWhole self.old at.rank.0 (leaf_of at) }
         ensures cached { OnOk result (IsThere (here self.new at.rank.0 (leaf_of at))) }
-        ensures fetched { OnOk result (FetchesAt at.rank.0 (leaf_of at) stay (object_of (S.objects store.old) at.dir at.frag) (has_place self.old at.rank.0 (leaf_of at)) self.old self.new) }
+        ensures fetched { OnOk result
+            (FetchesAt at.rank.0 (leaf_of at) stay (object_of (S.objects store.old) at.dir at.frag)
+            (has_place self.old at.rank.0 (leaf_of at)) self.old self.new) }
         ensures absent { OnErr result (IsAbsent self.old at.rank.0 (leaf_of at)) }
         ensures left { OnErr result (MakesRoomAt at.rank.0 stay self.old self.new) }
         ensures room { IfErr result (IsRefusedAt at.rank.0 stay self.old self.new) }
-        ensures refused { IfErr result (MayNotFetchAt at.rank.0 (leaf_of at) stay (object_of (S.objects store.old) at.dir at.frag) self.old) }
+        ensures refused { IfErr result
+            (MayNotFetchAt at.rank.0 (leaf_of at) stay (object_of (S.objects store.old) at.dir at.frag) self.old) }
         ensures same { S.objects store.new ≡ S.objects store.old }
         ensures counted { S.faults store.new ≡ S.faults store.old + faults_told (result_err result) }
         ensures valid { AreCaches self.old }
@@ -211,7 +221,8 @@ impl Caches {
         requires there { at.rank.0 < length self.old.used }
         requires cached { IsThere (here self.old at.rank.0 (leaf_of at)) }
         ensures taken { IfOk result (λ taken. HasCached (here self.old at.rank.0 (leaf_of at)) (Takes taken)) }
-        ensures refused { IfErr result (λ refusal. HasCached (here self.old at.rank.0 (leaf_of at)) (MayNotBegin refusal)) }
+        ensures refused { IfErr result
+            (λ refusal. HasCached (here self.old at.rank.0 (leaf_of at)) (MayNotBegin refusal)) }
         ensures used { self.new ≡ used_at self.old at.rank.0 (leaf_of at) }
     {
         self.caches[at.rank.0 as usize].begin_commit(at.dir, at.frag)
@@ -230,10 +241,15 @@ impl Caches {
     ) -> Result<(), Refusal>
         requires there { rank.0 < length self.old.used }
         requires cached { IsThere (here self.old rank.0 (job_leaf encoded.now)) }
-        ensures written { OnOk result (S.objects store.new ≡ written (S.objects store.old) (leaf_text encoded.now.job.ino encoded.now.job.frag) encoded.now.op) }
-        ensures settled { OnOk result (Edits (IsCommitted encoded.now.job.snapshot) rank.0 (job_leaf encoded.now) self.old self.new) }
+        ensures written { OnOk result
+            (S.objects store.new ≡ written (S.objects store.old)
+            (leaf_text encoded.now.job.ino encoded.now.job.frag) encoded.now.op) }
+        ensures settled { OnOk result
+            (Edits (IsCommitted encoded.now.job.snapshot) rank.0 (job_leaf encoded.now) self.old self.new) }
         ensures same { OnErr result (S.objects store.new ≡ S.objects store.old) }
-        ensures kept { OnErr result (Edits (λ (f now : Cached). now ≡ record f { places = now.places }) rank.0 (job_leaf encoded.now) self.old self.new) }
+        ensures kept { OnErr result
+            (Edits (λ (f now : Cached). now ≡ record f { places = now.places }) rank.0
+            (job_leaf encoded.now) self.old self.new) }
         ensures refused { IfErr result (MayRefuse (S.faults store.old) (S.faults store.new)) }
         ensures counted { S.faults store.new ≡ S.faults store.old + faults_told (result_err result) }
         ensures once { OnOk result (S.IsCall store.old None store.new) }
@@ -251,7 +267,8 @@ impl Caches {
     ) -> Result<(), AllocError>
         requires there { at.rank.0 < length self.now.used }
         requires cached { IsThere (here self.now at.rank.0 (leaf_of at)) }
-        ensures copied { OnOk result (HasCached (frag_of self.now at) (λ f. TakesIn into.old into.new (shown f) version)) }
+        ensures copied { OnOk result
+            (HasCached (frag_of self.now at) (λ f. TakesIn into.old into.new (shown f) version)) }
         ensures kept { OnErr result (into.new ≡ record into.old { room = into.new.room }) }
     {
         self.caches[at.rank.0 as usize].copy_names(at.dir, at.frag, into, version)

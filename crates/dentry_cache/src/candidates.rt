@@ -89,9 +89,11 @@ impl Candidates {
 fn keep_large(large: &mut LeafSet, leaf: &(Ino, Frag), was: Option<usize>, now: Option<usize>)
     requires rise { Rise large.old.leaves.items }
     requires was { is_in leaf.now large.old.leaves.items ≡ is_large leaf.now was }
-    requires room { is_large leaf.now now ≡ true → is_in leaf.now large.old.leaves.items ≡ false → length large.old.leaves.items < vec_capacity large.old.leaves }
+    requires room { is_large leaf.now now ≡ true → is_in leaf.now large.old.leaves.items ≡ false
+        → length large.old.leaves.items < vec_capacity large.old.leaves }
     ensures rise { Rise large.new.leaves.items }
-    ensures each { (q : Leaf) → is_in q large.new.leaves.items ≡ cond (leaf_is leaf.now q) (is_large leaf.now now) (is_in q large.old.leaves.items) }
+    ensures each { (q : Leaf) → is_in q large.new.leaves.items ≡ cond (leaf_is leaf.now q)
+        (is_large leaf.now now) (is_in q large.old.leaves.items) }
     ensures capacity { vec_capacity large.new.leaves ≡ vec_capacity large.old.leaves }
 {
     let is = is_large(leaf, now);
@@ -103,10 +105,15 @@ fn keep_large(large: &mut LeafSet, leaf: &(Ino, Frag), was: Option<usize>, now: 
 // The fragment that has a leaf as one of its eight children is among the small ones if these are few now.
 fn keep_small(small: &mut LeafSet, places: &LruCache<(Ino, Frag), Place>, leaf: &(Ino, Frag))
     requires rise { Rise small.old.leaves.items }
-    requires room { (q : Leaf) → IsFragment q.1 → q.1.bits + 3 ≤ 24 → are_few (sizes_of places.now.entries) q ≡ true → is_in q small.old.leaves.items ≡ false → length small.old.leaves.items < vec_capacity small.old.leaves }
+    requires room { (q : Leaf) → IsFragment q.1 → q.1.bits + 3 ≤ 24 → are_few (sizes_of places.now.entries) q ≡ true
+        → is_in q small.old.leaves.items ≡ false → length small.old.leaves.items < vec_capacity small.old.leaves }
     ensures rise { Rise small.new.leaves.items }
-    ensures each { (q : Leaf) → IsFragment q.1 → (is_in q small.new.leaves.items ≡ are_few (sizes_of places.now.entries) q) ⊎ ((is_in q small.new.leaves.items ≡ is_in q small.old.leaves.items) × ((i : ℕ) → i < 8 → child q i ≢ leaf.now)) }
-    ensures fragments { (q : Leaf) → is_in q small.new.leaves.items ≡ true → (is_in q small.old.leaves.items ≡ true) ⊎ IsFragment q.1 }
+    ensures each { (q : Leaf) → IsFragment q.1
+        → (is_in q small.new.leaves.items ≡ are_few (sizes_of places.now.entries) q)
+        ⊎ ((is_in q small.new.leaves.items ≡ is_in q small.old.leaves.items)
+        × ((i : ℕ) → i < 8 → child q i ≢ leaf.now)) }
+    ensures fragments { (q : Leaf) → is_in q small.new.leaves.items ≡ true
+        → (is_in q small.old.leaves.items ≡ true) ⊎ IsFragment q.1 }
     ensures capacity { vec_capacity small.new.leaves ≡ vec_capacity small.old.leaves }
 {
     match whole_of(leaf.1) {
@@ -149,7 +156,8 @@ fn is_few(entries: Option<usize>) -> bool
 // The fragment of which this one may be one of eight children; one of fewer than 3 bits is of none.
 fn whole_of(frag: Frag) -> Option<Frag>
     ensures whole { IfSome result (λ whole. IsFragment whole × (whole.bits + 3 ≤ 24)) }
-    ensures only { (whole : Fragment) (i : ℕ) → IsFragment whole → i < 8 → child_of whole i 3 ≡ frag → result ≡ Some whole }
+    ensures only { (whole : Fragment) (i : ℕ) → IsFragment whole → i < 8
+        → child_of whole i 3 ≡ frag → result ≡ Some whole }
 {
     let bits = frag.bits();
     if bits < 3 {

@@ -21,8 +21,10 @@ impl Cache {
     pub fn begin_commit(&mut self, dir: Ino, frag: Frag) -> Result<Option<Snapshot>, Refusal>
         requires { IsThere (cached self.old.entries (dir, frag)) }
         ensures taken { IfOk result (λ taken. HasCached (cached self.old.entries (dir, frag)) (Takes taken)) }
-        ensures refused { IfErr result (λ refusal. HasCached (cached self.old.entries (dir, frag)) (MayNotBegin refusal)) }
-        ensures used { IsChanged (cached self.old.entries (dir, frag)) (λ (f now : Cached). now ≡ f) (dir, frag) self.old self.new }
+        ensures refused { IfErr result
+            (λ refusal. HasCached (cached self.old.entries (dir, frag)) (MayNotBegin refusal)) }
+        ensures used { IsChanged (cached self.old.entries (dir, frag))
+            (λ (f now : Cached). now ≡ f) (dir, frag) self.old self.new }
     {
         let _ = self.touch(dir, frag);
         match self.get(dir, frag) {
@@ -42,10 +44,17 @@ impl Cache {
         encoded: &Encoded,
     ) -> Result<(), Refusal>
         requires { IsThere (cached self.old.entries (encoded.now.job.ino, encoded.now.job.frag)) }
-        ensures written { OnOk result (S.objects store.new ≡ written (S.objects store.old) (leaf_text encoded.now.job.ino encoded.now.job.frag) encoded.now.op) }
-        ensures settled { OnOk result (IsChanged (cached self.old.entries (encoded.now.job.ino, encoded.now.job.frag)) (IsCommitted encoded.now.job.snapshot) (encoded.now.job.ino, encoded.now.job.frag) self.old self.new) }
+        ensures written { OnOk result
+            (S.objects store.new ≡ written (S.objects store.old)
+            (leaf_text encoded.now.job.ino encoded.now.job.frag) encoded.now.op) }
+        ensures settled { OnOk result
+            (IsChanged (cached self.old.entries (encoded.now.job.ino, encoded.now.job.frag))
+            (IsCommitted encoded.now.job.snapshot) (encoded.now.job.ino, encoded.now.job.frag) self.old self.new) }
         ensures same { OnErr result (S.objects store.new ≡ S.objects store.old) }
-        ensures kept { OnErr result (IsChanged (cached self.old.entries (encoded.now.job.ino, encoded.now.job.frag)) (λ (f now : Cached). now ≡ record f { places = now.places }) (encoded.now.job.ino, encoded.now.job.frag) self.old self.new) }
+        ensures kept { OnErr result
+            (IsChanged (cached self.old.entries (encoded.now.job.ino, encoded.now.job.frag))
+            (λ (f now : Cached). now ≡ record f { places = now.places })
+            (encoded.now.job.ino, encoded.now.job.frag) self.old self.new) }
         ensures refused { IfErr result (MayRefuse (S.faults store.old) (S.faults store.new)) }
         ensures grows { S.faults store.old ≤ S.faults store.new }
         ensures counted { S.faults store.new ≡ S.faults store.old + faults_told (result_err result) }
@@ -74,9 +83,12 @@ impl Cache {
         names: usize,
     ) -> Result<(), AllocError>
         requires { IsThere (cached self.old.entries (dir, frag)) }
-        ensures same { IsChanged (cached self.old.entries (dir, frag)) (λ (f now : Cached). now ≡ record f { places = now.places }) (dir, frag) self.old self.new }
-        ensures room { OnOk result (HasCached (cached self.new.entries (dir, frag)) (λ (f : Cached). names ≤ f.places)) }
-        ensures ready { HasCached (cached self.old.entries (dir, frag)) (λ (f : Cached). names ≤ f.places) → IsOk result }
+        ensures same { IsChanged (cached self.old.entries (dir, frag))
+            (λ (f now : Cached). now ≡ record f { places = now.places }) (dir, frag) self.old self.new }
+        ensures room { OnOk result
+            (HasCached (cached self.new.entries (dir, frag)) (λ (f : Cached). names ≤ f.places)) }
+        ensures ready { HasCached (cached self.old.entries (dir, frag))
+            (λ (f : Cached). names ≤ f.places) → IsOk result }
     {
         let _ = self.touch(dir, frag);
         let Some(place) = self.places.peek_mut(&(dir, frag)) else {
@@ -88,7 +100,8 @@ impl Cache {
     // Makes the names of a snapshot clean that haven't changed since.
     fn settle(&mut self, dir: Ino, frag: Frag, names: &DirtyNames, version: u64)
         requires { HasCached (cached self.old.entries (dir, frag)) (λ (f : Cached). map.len names.now ≤ f.places) }
-        ensures { IsChanged (cached self.old.entries (dir, frag)) (IsSettled names.now version) (dir, frag) self.old self.new }
+        ensures { IsChanged (cached self.old.entries (dir, frag))
+            (IsSettled names.now version) (dir, frag) self.old self.new }
     {
         let _ = self.touch(dir, frag);
         let Some(place) = self.places.peek_mut(&(dir, frag)) else {
@@ -128,7 +141,9 @@ fn is_below_end(base: Base) -> bool
 
 // Writes a job's object.
 fn write<S: Store>(alloc: Global, store: &mut S, encoded: &Encoded) -> Result<(), Refusal>
-    ensures written { OnOk result (S.objects store.new ≡ written (S.objects store.old) (leaf_text encoded.now.job.ino encoded.now.job.frag) encoded.now.op) }
+    ensures written { OnOk result
+        (S.objects store.new ≡ written (S.objects store.old)
+        (leaf_text encoded.now.job.ino encoded.now.job.frag) encoded.now.op) }
     ensures same { OnErr result (S.objects store.new ≡ S.objects store.old) }
     ensures refused { IfErr result (MayRefuse (S.faults store.old) (S.faults store.new)) }
     ensures grows { S.faults store.old ≤ S.faults store.new }

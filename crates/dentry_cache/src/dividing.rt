@@ -63,9 +63,12 @@ pub(crate) fn divide(
 // Gives a name to a child.
 fn put_in(parts: &mut Vec<Part>, at: Option<usize>, name: Name, inode: Inode, version: u64)
     requires recordable { IsRecordable inode }
-    requires room { (i : ℕ) (d : Child) → i < length parts.old.items → is_place at i ≡ true → 0 < (slice_index_or parts.old.items i d).fragment.room }
+    requires room { (i : ℕ) (d : Child) → i < length parts.old.items → is_place at i ≡ true
+        → 0 < (slice_index_or parts.old.items i d).fragment.room }
     ensures count { length parts.new.items ≡ length parts.old.items }
-    ensures each { EachThen (λ i. Puts name (record { version = version; inode = Some inode }) (is_place at i)) parts.old.items parts.new.items }
+    ensures each { EachThen
+        (λ i. Puts name (record { version = version; inode = Some inode })
+        (is_place at i)) parts.old.items parts.new.items }
 {
     let Some(at) = at else {
         return;

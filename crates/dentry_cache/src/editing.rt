@@ -14,7 +14,9 @@ impl Cache {
     pub fn put(&mut self, dir: Ino, frag: Frag, name: Name, inode: Inode, version: u64)
         requires recordable { IsRecordable inode }
         requires room { HasRoom (cached self.old.entries (dir, frag)) }
-        ensures { IsChanged (cached self.old.entries (dir, frag)) (λ (f now : Cached). now ≡ marked f name (record { version = version; inode = Some inode })) (dir, frag) self.old self.new }
+        ensures { IsChanged (cached self.old.entries (dir, frag))
+            (λ (f now : Cached). now ≡ marked f name (record { version = version; inode = Some inode }))
+            (dir, frag) self.old self.new }
     {
         let _ = self.touch(dir, frag);
         let Some(place) = self.places.peek_mut(&(dir, frag)) else {
@@ -30,7 +32,9 @@ impl Cache {
     /// memory.
     pub fn erase(&mut self, dir: Ino, frag: Frag, name: Name, version: u64)
         requires { HasRoom (cached self.old.entries (dir, frag)) }
-        ensures { IsChanged (cached self.old.entries (dir, frag)) (λ (f now : Cached). now ≡ marked f name (record { version = version; inode = None })) (dir, frag) self.old self.new }
+        ensures { IsChanged (cached self.old.entries (dir, frag))
+            (λ (f now : Cached). now ≡ marked f name (record { version = version; inode = None }))
+            (dir, frag) self.old self.new }
     {
         let _ = self.touch(dir, frag);
         let Some(place) = self.places.peek_mut(&(dir, frag)) else {
@@ -45,9 +49,14 @@ impl Cache {
     /// Makes room for so many changes of names of a fragment.
     pub fn reserve(&mut self, dir: Ino, frag: Frag, changes: usize) -> Result<(), AllocError>
         requires { IsThere (cached self.old.entries (dir, frag)) }
-        ensures same { IsChanged (cached self.old.entries (dir, frag)) (λ (f now : Cached). (now ≡ record f { room = now.room }) × (f.room ≤ now.room)) (dir, frag) self.old self.new }
-        ensures room { OnOk result (IsChanged (cached self.old.entries (dir, frag)) (λ (f now : Cached). changes ≤ now.room) (dir, frag) self.old self.new) }
-        ensures ready { HasCached (cached self.old.entries (dir, frag)) (λ (f : Cached). changes ≤ f.room) → IsOk result }
+        ensures same { IsChanged (cached self.old.entries (dir, frag))
+            (λ (f now : Cached). (now ≡ record f { room = now.room })
+            × (f.room ≤ now.room)) (dir, frag) self.old self.new }
+        ensures room { OnOk result
+            (IsChanged (cached self.old.entries (dir, frag)) (λ (f now : Cached). changes ≤ now.room)
+            (dir, frag) self.old self.new) }
+        ensures ready { HasCached (cached self.old.entries (dir, frag))
+            (λ (f : Cached). changes ≤ f.room) → IsOk result }
     {
         // mostly the room is there, and then no key of the newest leaf is hashed
         let ready = self.has_room(dir, frag, changes);

@@ -31,8 +31,10 @@ impl Cache {
     // Whether so many places are free, or can become so while a fragment is to stay. From the least recently used on,
     // no more places are looked at than that takes.
     pub(crate) fn can_keep(&self, count: usize, stay: Option<(Ino, Frag)>) -> bool
-        ensures can { result ≡ true → length self.now.entries + count ≤ self.now.cap + length (filter (may_go stay) self.now.entries) }
-        ensures lacks { result ≡ false → self.now.cap + length (filter (may_go stay) self.now.entries) < length self.now.entries + count }
+        ensures can { result ≡ true → length self.now.entries + count ≤ self.now.cap + length
+            (filter (may_go stay) self.now.entries) }
+        ensures lacks { result ≡ false → self.now.cap + length
+            (filter (may_go stay) self.now.entries) < length self.now.entries + count }
     {
         let mut found = self.capacity() - self.len();
         let mut rest = self.places.iter();

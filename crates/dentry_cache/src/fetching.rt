@@ -31,10 +31,15 @@ impl Cache {
         frag: Frag,
         stay: Option<(Ino, Frag)>,
     ) -> Result<(), Refusal>
-        ensures fetched { OnOk result (IsFetched stay self.old (dir, frag) (object_of (S.objects store.old) dir frag) (lookup (leaf_is (dir, frag)) self.old.entries) self.new) }
-        ensures left { OnErr result (IsNotFetched stay self.old (lookup (leaf_is (dir, frag)) self.old.entries) self.new) }
+        ensures fetched { OnOk result
+            (IsFetched stay self.old (dir, frag) (object_of (S.objects store.old) dir frag)
+            (lookup (leaf_is (dir, frag)) self.old.entries) self.new) }
+        ensures left { OnErr result
+            (IsNotFetched stay self.old (lookup (leaf_is (dir, frag)) self.old.entries) self.new) }
         ensures room { IfErr result (IsRefusedIn stay self.old self.new) }
-        ensures refused { IfErr result (MayNotFetch stay self.old (dir, frag) (object_of (S.objects store.old) dir frag) (S.faults store.old) (S.faults store.new)) }
+        ensures refused { IfErr result
+            (MayNotFetch stay self.old (dir, frag) (object_of (S.objects store.old) dir frag)
+            (S.faults store.old) (S.faults store.new)) }
         ensures same { S.objects store.new ≡ S.objects store.old }
         ensures counted { S.faults store.new ≡ S.faults store.old + faults_told (result_err result) }
     {
@@ -54,10 +59,13 @@ impl Cache {
         stay: Option<(Ino, Frag)>,
     ) -> Result<(), Refusal>
         requires absent { lookup (leaf_is (dir, frag)) self.old.entries ≡ None }
-        ensures fetched { OnOk result (IsFetched stay self.old (dir, frag) (object_of (S.objects store.old) dir frag) None self.new) }
+        ensures fetched { OnOk result
+            (IsFetched stay self.old (dir, frag) (object_of (S.objects store.old) dir frag) None self.new) }
         ensures left { OnErr result (IsNotFetched stay self.old None self.new) }
         ensures room { IfErr result (IsRefusedIn stay self.old self.new) }
-        ensures refused { IfErr result (MayNotFetch stay self.old (dir, frag) (object_of (S.objects store.old) dir frag) (S.faults store.old) (S.faults store.new)) }
+        ensures refused { IfErr result
+            (MayNotFetch stay self.old (dir, frag) (object_of (S.objects store.old) dir frag)
+            (S.faults store.old) (S.faults store.new)) }
         ensures same { S.objects store.new ≡ S.objects store.old }
         ensures counted { S.faults store.new ≡ S.faults store.old + faults_told (result_err result) }
     {

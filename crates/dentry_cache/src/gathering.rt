@@ -20,7 +20,9 @@ impl Cache {
         version: u64,
     ) -> Result<(), AllocError>
         requires { IsThere (cached self.now.entries (dir, frag)) }
-        ensures copied { OnOk result (HasCached (cached self.now.entries (dir, frag)) (λ (f : Cached). TakesIn joined.old joined.new (shown f) version)) }
+        ensures copied { OnOk result
+            (HasCached (cached self.now.entries (dir, frag))
+            (λ (f : Cached). TakesIn joined.old joined.new (shown f) version)) }
         ensures kept { OnErr result (joined.new ≡ record joined.old { room = joined.new.room }) }
     {
         match self.get(dir, frag) {

@@ -36,7 +36,8 @@ impl Caches {
         requires once { IsDistinct leaf_is unclean.now }
         ensures handed { OnOk result (HandsOver from.0 to.0 unclean.now clean.now self.old self.new) }
         ensures refused { IfErr result (MayNotHandOver to.0 unclean.now self.old self.new) }
-        ensures unsaved { AreCleanAt self.old from.0 clean.now → OnOk result (AreHanded unclean.now (unclean_leaves self.old) (unclean_leaves self.new)) }
+        ensures unsaved { AreCleanAt self.old from.0 clean.now
+            → OnOk result (AreHanded unclean.now (unclean_leaves self.old) (unclean_leaves self.new)) }
         ensures left { OnErr result (unclean_leaves self.new ≡ unclean_leaves self.old) }
         ensures valid { AreCaches self.old }
     {

@@ -27,7 +27,8 @@ impl Cache {
         requires { lookup (leaf_is (dir, frag)) self.old.entries ≡ None }
         ensures kept { OnOk result (TakesPlace stay (dir, frag) kept_place self.old self.new) }
         ensures left { OnErr result (MayMakeRoom stay self.old self.new) }
-        ensures refused { IfErr result (λ refusal. (refusal ≡ NoMemory) ⊎ ((refusal ≡ NothingToEvict) × IsFull stay self.old)) }
+        ensures refused { IfErr result (λ refusal. (refusal ≡ NoMemory)
+            ⊎ ((refusal ≡ NothingToEvict) × IsFull stay self.old)) }
         ensures room { IfErr result (IsRefusedIn stay self.old self.new) }
     {
         if let Err(refusal) = self.make_room(stay) {

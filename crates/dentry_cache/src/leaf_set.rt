@@ -49,9 +49,11 @@ impl LeafSet {
     /// Puts a leaf in, or takes it out. A leaf that comes needs room.
     pub(crate) fn set(&mut self, leaf: &(Ino, Frag), is: bool)
         requires rise { Rise self.old.leaves.items }
-        requires room { is ≡ true → is_in leaf.now self.old.leaves.items ≡ false → length self.old.leaves.items < vec_capacity self.old.leaves }
+        requires room { is ≡ true → is_in leaf.now self.old.leaves.items ≡ false
+            → length self.old.leaves.items < vec_capacity self.old.leaves }
         ensures rise { Rise self.new.leaves.items }
-        ensures each { (q : Leaf) → is_in q self.new.leaves.items ≡ cond (leaf_is leaf.now q) is (is_in q self.old.leaves.items) }
+        ensures each { (q : Leaf) → is_in q self.new.leaves.items ≡ cond
+            (leaf_is leaf.now q) is (is_in q self.old.leaves.items) }
         ensures capacity { vec_capacity self.new.leaves ≡ vec_capacity self.old.leaves }
     {
         if is {

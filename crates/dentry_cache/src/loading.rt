@@ -42,7 +42,8 @@ pub fn load<S: Store>(
     frag: Frag,
 ) -> Result<CachedFrag, Refusal>
     ensures loaded { IfOk result (λ loaded. Loads frag (object_of (S.objects store.old) dir frag) (Some loaded)) }
-    ensures refused { IfErr result (MayNotLoad dir frag (object_of (S.objects store.old) dir frag) (S.faults store.old) (S.faults store.new)) }
+    ensures refused { IfErr result
+        (MayNotLoad dir frag (object_of (S.objects store.old) dir frag) (S.faults store.old) (S.faults store.new)) }
     ensures same { S.objects store.new ≡ S.objects store.old }
     ensures counted { S.faults store.new ≡ S.faults store.old + faults_told (result_err result) }
 {
@@ -137,7 +138,9 @@ fn read_page<S: Store>(
     names: &mut SortedMap<Name, Inode>,
     after: Option<&Bytes>,
 ) -> Result<PageEnd, Refusal>
-    ensures read { IfOk result (EndsPage frag (map.get (S.objects store.old) text.now) (option_copied after.entry) (contents key_cmp names.old) (contents key_cmp names.new)) }
+    ensures read { IfOk result
+        (EndsPage frag (map.get (S.objects store.old) text.now) (option_copied after.entry)
+        (contents key_cmp names.old) (contents key_cmp names.new)) }
     ensures refused { IfErr result (MayRefuse (S.faults store.old) (S.faults store.new)) }
     ensures same { S.objects store.new ≡ S.objects store.old }
     ensures counted { S.faults store.new ≡ S.faults store.old + faults_told (result_err result) }
@@ -156,7 +159,8 @@ fn add_page(
     frag: Frag,
     page: Page,
 ) -> Result<PageEnd, AllocError>
-    ensures { (pairs : PairMap) (after : Option (List ℕ)) → page ≡ page_of pairs after 64 → IfOk result (EndsPairs frag pairs after (contents key_cmp names.old) (contents key_cmp names.new)) }
+    ensures { (pairs : PairMap) (after : Option (List ℕ)) → page ≡ page_of pairs after 64
+        → IfOk result (EndsPairs frag pairs after (contents key_cmp names.old) (contents key_cmp names.new)) }
 {
     let more = page.more();
     let pairs = page.into_pairs();

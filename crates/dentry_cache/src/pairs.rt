@@ -25,7 +25,8 @@ pub(crate) fn add_pairs(
     pairs: &[(Bytes, Bytes)],
 ) -> Result<bool, AllocError>
     ensures good { IfOk result (λ good. good ≡ are_good frag pairs.now) }
-    ensures added { IfOk result (λ good. good ≡ true → contents key_cmp names.new ≡ added (contents key_cmp names.old) pairs.now) }
+    ensures added { IfOk result
+        (λ good. good ≡ true → contents key_cmp names.new ≡ added (contents key_cmp names.old) pairs.now) }
 {
     for (key, bytes) in pairs {
         if !add_pair(alloc, names, frag, key, bytes)? {
@@ -44,7 +45,9 @@ fn add_pair(
     bytes: &Bytes,
 ) -> Result<bool, AllocError>
     ensures good { IfOk result (λ good. good ≡ is_good frag (key.now, bytes.now)) }
-    ensures added { IfOk result (λ good. good ≡ true → contents key_cmp names.new ≡ with_entry (contents key_cmp names.old) (name_of key.now) (entry_of bytes.now)) }
+    ensures added { IfOk result
+        (λ good. good ≡ true → contents key_cmp names.new ≡ with_entry (contents key_cmp names.old)
+        (name_of key.now) (entry_of bytes.now)) }
 {
     names.reserve(1)?;
     let Some((name, inode)) = read_pair(alloc, frag, key, bytes)? else {

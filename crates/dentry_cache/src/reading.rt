@@ -12,8 +12,11 @@ impl Cache {
     /// The inode that a name of a fragment stands for, if it is there. Takes memory for a link's target alone.
     pub fn look(&mut self, dir: Ino, frag: Frag, name: &Name) -> Result<Option<Inode>, AllocError>
         requires { IsThere (cached self.old.entries (dir, frag)) }
-        ensures found { IfOk result (λ found. HasCached (cached self.old.entries (dir, frag)) (λ (f : Cached). found ≡ map.get (shown f) name.now)) }
-        ensures used { IsChanged (cached self.old.entries (dir, frag)) (λ (f now : Cached). now ≡ f) (dir, frag) self.old self.new }
+        ensures found { IfOk result
+            (λ found. HasCached (cached self.old.entries (dir, frag))
+            (λ (f : Cached). found ≡ map.get (shown f) name.now)) }
+        ensures used { IsChanged (cached self.old.entries (dir, frag))
+            (λ (f now : Cached). now ≡ f) (dir, frag) self.old self.new }
     {
         let _ = self.touch(dir, frag);
         match self.get(dir, frag) {

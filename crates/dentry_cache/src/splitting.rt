@@ -24,8 +24,11 @@ impl Cache {
         requires bits { frag.bits + nb ≤ 24 }
         requires numbers { generation + 2 ^ nb ≤ 2 ^ 64 }
         requires there { IsThere (cached self.old.entries (dir, frag)) }
-        ensures same { IsChanged (cached self.old.entries (dir, frag)) (λ (f now : Cached). now ≡ record f { places = now.places }) (dir, frag) self.old self.new }
-        ensures ready { IfOk result (λ parts. HasCached (cached self.new.entries (dir, frag)) (λ (f : Cached). (map.len f.dirty ≤ f.places) × AreReady frag nb (shown f) parts)) }
+        ensures same { IsChanged (cached self.old.entries (dir, frag))
+            (λ (f now : Cached). now ≡ record f { places = now.places }) (dir, frag) self.old self.new }
+        ensures ready { IfOk result
+            (λ parts. HasCached (cached self.new.entries (dir, frag))
+            (λ (f : Cached). (map.len f.dirty ≤ f.places) × AreReady frag nb (shown f) parts)) }
         ensures numbered { IfOk result (λ parts. AreNumbered generation parts) }
     {
         self.ready_names(dir, frag)?;
@@ -38,8 +41,10 @@ impl Cache {
     // Makes a fragment ready to give its names away (`CachedFrag::into_names`). Takes memory for its dirty names.
     fn ready_names(&mut self, dir: Ino, frag: Frag) -> Result<(), AllocError>
         requires { IsThere (cached self.old.entries (dir, frag)) }
-        ensures same { IsChanged (cached self.old.entries (dir, frag)) (λ (f now : Cached). now ≡ record f { places = now.places }) (dir, frag) self.old self.new }
-        ensures ready { OnOk result (HasCached (cached self.new.entries (dir, frag)) (λ (f : Cached). map.len f.dirty ≤ f.places)) }
+        ensures same { IsChanged (cached self.old.entries (dir, frag))
+            (λ (f now : Cached). now ≡ record f { places = now.places }) (dir, frag) self.old self.new }
+        ensures ready { OnOk result
+            (HasCached (cached self.new.entries (dir, frag)) (λ (f : Cached). map.len f.dirty ≤ f.places)) }
     {
         let dirty = self.dirty_names(dir, frag);
         self.reserve_settled(dir, frag, dirty)

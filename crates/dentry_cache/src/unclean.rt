@@ -27,7 +27,8 @@ impl Cache {
         leaves: &mut Vec<Dirfrag>,
     ) -> Result<(), AllocError>
         requires { length leaves.old.items ≤ most }
-        ensures added { OnOk result (leaves.new.items ≡ take most (leaves.old.items ++ unclean_in rank self.now.entries)) }
+        ensures added { OnOk result
+            (leaves.new.items ≡ take most (leaves.old.items ++ unclean_in rank self.now.entries)) }
     {
         let mut rest = self.places.iter();
         while let Some((leaf, place)) = rest.next() {

@@ -34,7 +34,8 @@ impl<'a> PlacesByUse<'a> {
     /// Takes the next place: its leaf, and the fragment that is in it. None is in one that is kept for a fragment that
     /// will be made.
     pub fn next_place(&mut self) -> Option<(&'a (Ino, Frag), Option<&'a CachedFrag>)>
-        ensures { MatchOption result (self.old ≡ []) (λ place. self.old ≡ (place.0.now, option_copied place.1) ∷ self.new) }
+        ensures { MatchOption result (self.old ≡ [])
+            (λ place. self.old ≡ (place.0.now, option_copied place.1) ∷ self.new) }
     {
         let (leaf, place) = self.rest.next()?;
         Some((leaf, place.fragment()))

@@ -77,7 +77,12 @@ pub(crate) struct Opening {
 // What stands before the fragments, and the bytes of these.
 #[tactic(auto, unfolding(crate::specs::Reading::front_at))]
 pub(crate) fn front_at(bytes: &[u8]) -> Option<(Opening, &[u8])>
-    ensures { Gives (λ x. (record { ino = x.0.ino; frag = x.0.frag; exporter = x.0.exporter; importer = x.0.importer; count = x.0.count }, x.1.now)) result (front_at bytes.now) }
+    ensures { Gives
+        (λ x. (
+          record
+              { ino = x.0.ino; frag = x.0.frag; exporter = x.0.exporter; importer = x.0.importer; count = x.0.count },
+          x.1.now,
+        )) result (front_at bytes.now) }
 {
     let rest = after_tag(bytes, LETTER, VERSION)?;
     let (ino, rest) = u64_at(rest)?;
@@ -156,7 +161,9 @@ pub(crate) struct Start {
 // What stands before the names of a fragment, and the bytes of these.
 #[tactic(auto, unfolding(crate::specs::Reading::head_at))]
 pub(crate) fn head_at(bytes: &[u8]) -> Option<(Start, &[u8])>
-    ensures { Gives (λ x. (record { ino = x.0.ino; frag = x.0.frag; base = x.0.base; count = x.0.count }, x.1.now)) result (head_at bytes.now) }
+    ensures { Gives
+        (λ x. (record { ino = x.0.ino; frag = x.0.frag; base = x.0.base; count = x.0.count }, x.1.now)) result
+        (head_at bytes.now) }
 {
     let (ino, rest) = u64_at(bytes)?;
     let (word, rest) = u32_at(rest)?;

@@ -18,8 +18,10 @@ use subtree_map::Subtrees;
 /// root's rank is looked at, and a way up is gone only where a fragment has so many.
 pub fn has_too_many(caches: &Caches, subtrees: &Subtrees, dirs: &Dirs, root: Dirfrag) -> bool
     requires there { root.rank.0 < length caches.now.used }
-    requires held { AreAtTheirRank (IsIn subtrees.now.roots dirs.now.homes dirs.now.trees (leaf_of root)) caches.now root.rank.0 }
-    ensures { IsTrue result ↔ HasTooMany (IsIn subtrees.now.roots dirs.now.homes dirs.now.trees (leaf_of root)) (unclean caches.now) }
+    requires held { AreAtTheirRank
+        (IsIn subtrees.now.roots dirs.now.homes dirs.now.trees (leaf_of root)) caches.now root.rank.0 }
+    ensures { IsTrue result ↔ HasTooMany (IsIn subtrees.now.roots dirs.now.homes dirs.now.trees (leaf_of root))
+        (unclean caches.now) }
 {
     any_too_many(caches, subtrees, dirs, &root)
 }
@@ -27,7 +29,8 @@ pub fn has_too_many(caches: &Caches, subtrees: &Subtrees, dirs: &Dirs, root: Dir
 // Whether a place of the root's rank has such a fragment.
 fn any_too_many(caches: &Caches, subtrees: &Subtrees, dirs: &Dirs, root: &Dirfrag) -> bool
     requires { root.now.rank.0 < length caches.now.used }
-    ensures any { IsTrue result ↔ AnyTooMany (IsIn subtrees.now.roots dirs.now.homes dirs.now.trees (leaf_of root.now)) (places_at caches.now root.now.rank.0) }
+    ensures any { IsTrue result ↔ AnyTooMany (IsIn subtrees.now.roots dirs.now.homes dirs.now.trees (leaf_of root.now))
+        (places_at caches.now root.now.rank.0) }
     ensures valid { AreCaches caches.now }
 {
     let mut places = caches.places_of(root.rank);

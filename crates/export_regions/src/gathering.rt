@@ -78,7 +78,8 @@ fn sent_at(
 ) -> Result<SentFrag, AllocError>
     requires there { rank.0 < length caches.now.used }
     requires may { HasCached (here caches.now rank.0 leaf.now) MaySend }
-    ensures sent { IfOk result (λ sent. HasCached (here caches.now rank.0 leaf.now) (λ f. sent ≡ sent_from leaf.now f)) }
+    ensures sent { IfOk result
+        (λ sent. HasCached (here caches.now rank.0 leaf.now) (λ f. sent ≡ sent_from leaf.now f)) }
     ensures sendable { IfOk result (λ sent. is_sent_frag sent ≡ true) }
 {
     let at = Dirfrag {

@@ -22,7 +22,8 @@ pub fn leaves_of(
     root: Dirfrag,
 ) -> Result<RegionLeaves, AllocError>
     requires { root.rank.0 < length caches.now.used }
-    ensures leaves { IfOk result (AreCachedOf (IsIn subtrees.now.roots dirs.now.homes dirs.now.trees (leaf_of root)) caches.now root.rank.0) }
+    ensures leaves { IfOk result
+        (AreCachedOf (IsIn subtrees.now.roots dirs.now.homes dirs.now.trees (leaf_of root)) caches.now root.rank.0) }
     ensures few { length (order caches.now root.rank.0) ≤ 65536 }
     ensures valid { AreCaches caches.now }
 {

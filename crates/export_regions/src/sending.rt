@@ -32,13 +32,18 @@ pub fn export_of(
 ) -> Result<Export, Refusal>
     requires there { root.rank.0 < length caches.now.used }
     requires between { AreBetween root.rank importer }
-    requires held { AreAtTheirRank (IsIn subtrees.now.roots dirs.now.homes dirs.now.trees (leaf_of root)) caches.now root.rank.0 }
+    requires held { AreAtTheirRank
+        (IsIn subtrees.now.roots dirs.now.homes dirs.now.trees (leaf_of root)) caches.now root.rank.0 }
     requires live { AreLive dirs.now.homes dirs.now.trees (unclean caches.now) }
     requires versions { HaveVersions (unclean caches.now) }
-    ensures sent { IfOk result (IsExportOf (IsIn subtrees.now.roots dirs.now.homes dirs.now.trees (leaf_of root)) (unclean caches.now) root importer) }
+    ensures sent { IfOk result
+        (IsExportOf (IsIn subtrees.now.roots dirs.now.homes dirs.now.trees (leaf_of root))
+        (unclean caches.now) root importer) }
     ensures sendable { IfOk result (λ export. is_sendable export ≡ true) }
-    ensures counted { OnOk result (HasTooMany (IsIn subtrees.now.roots dirs.now.homes dirs.now.trees (leaf_of root)) (unclean caches.now) → ⊥) }
-    ensures refused { IfErr result (MayNotSend (IsIn subtrees.now.roots dirs.now.homes dirs.now.trees (leaf_of root)) (unclean caches.now)) }
+    ensures counted { OnOk result
+        (HasTooMany (IsIn subtrees.now.roots dirs.now.homes dirs.now.trees (leaf_of root)) (unclean caches.now) → ⊥) }
+    ensures refused { IfErr result
+        (MayNotSend (IsIn subtrees.now.roots dirs.now.homes dirs.now.trees (leaf_of root)) (unclean caches.now)) }
 {
     if has_too_many(caches, subtrees, dirs, root) {
         return Err(Refusal::TooManyFrags);

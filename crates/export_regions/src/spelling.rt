@@ -37,10 +37,15 @@ pub fn spell_region(
 ) -> Result<Option<Spelled>, AllocError>
     requires there { root.now.rank.0 < length caches.now.used }
     requires between { AreBetween root.now.rank importer }
-    requires held { AreAtTheirRank (IsIn subtrees.now.roots dirs.now.homes dirs.now.trees (leaf_of root.now)) caches.now root.now.rank.0 }
+    requires held { AreAtTheirRank
+        (IsIn subtrees.now.roots dirs.now.homes dirs.now.trees (leaf_of root.now)) caches.now root.now.rank.0 }
     requires live { AreLive dirs.now.homes dirs.now.trees (unclean caches.now) }
     requires versions { HaveVersions (unclean caches.now) }
-    ensures { IfOk result (λ found. MatchOption found (HasTooMany (IsIn subtrees.now.roots dirs.now.homes dirs.now.trees (leaf_of root.now)) (unclean caches.now)) (IsSpelled (IsIn subtrees.now.roots dirs.now.homes dirs.now.trees (leaf_of root.now)) caches.now root.now importer)) }
+    ensures { IfOk result
+        (λ found. MatchOption found (HasTooMany (IsIn subtrees.now.roots dirs.now.homes dirs.now.trees
+        (leaf_of root.now)) (unclean caches.now))
+        (IsSpelled (IsIn subtrees.now.roots dirs.now.homes dirs.now.trees (leaf_of root.now)) caches.now root.now
+        importer)) }
 {
     if has_too_many(caches, subtrees, dirs, *root) {
         return Ok(None);

@@ -54,7 +54,9 @@ impl Exports {
         dir: Ino,
         frag: Frag,
     ) -> Option<Rank>
-        ensures { MatchOption result ((rank : RankNumber) → HasHolder self.now subtrees.now.roots dirs.now.homes dirs.now.trees (dir, frag) rank → ⊥) (HasHolder self.now subtrees.now.roots dirs.now.homes dirs.now.trees (dir, frag)) }
+        ensures { MatchOption result
+            ((rank : RankNumber) → HasHolder self.now subtrees.now.roots dirs.now.homes dirs.now.trees (dir, frag) rank
+            → ⊥) (HasHolder self.now subtrees.now.roots dirs.now.homes dirs.now.trees (dir, frag)) }
     {
         if self.rows.is_empty() {
             return subtrees.find_authority(dirs, dir, frag);

@@ -181,10 +181,12 @@ fn put_new(
     export: &StandingExport,
 ) -> Result<(), Refusal>
     requires { map.get (contents leaf_cmp rows.old) root.now ≡ None }
-    ensures ok { OnOk result (contents leaf_cmp rows.new ≡ map.insert (contents leaf_cmp rows.old) root.now export.now) }
+    ensures ok { OnOk result
+        (contents leaf_cmp rows.new ≡ map.insert (contents leaf_cmp rows.old) root.now export.now) }
     ensures err { IfErr result (λ reason. reason ≡ NoMemory) }
     ensures left { OnErr result (contents leaf_cmp rows.new ≡ contents leaf_cmp rows.old) }
-    ensures kept { IsBetweenRanks export.now → AreExports (contents leaf_cmp rows.old) (contents by_cmp by.old) → AreExports (contents leaf_cmp rows.new) (contents by_cmp by.new) }
+    ensures kept { IsBetweenRanks export.now → AreExports (contents leaf_cmp rows.old) (contents by_cmp by.old)
+        → AreExports (contents leaf_cmp rows.new) (contents by_cmp by.new) }
 {
     rows.reserve(1)?;
     by.reserve(1)?;
@@ -241,7 +243,8 @@ fn find_in(
     frag: Frag,
     state: ExportState,
 ) -> Option<StandingExport>
-    ensures { MatchOption result (state_at (contents leaf_cmp rows.now) (dir, frag) ≢ Some state) (λ export. (map.get (contents leaf_cmp rows.now) (dir, frag) ≡ Some export) × (export.state ≡ state)) }
+    ensures { MatchOption result (state_at (contents leaf_cmp rows.now) (dir, frag) ≢ Some state)
+        (λ export. (map.get (contents leaf_cmp rows.now) (dir, frag) ≡ Some export) × (export.state ≡ state)) }
 {
     let Some(export) = rows.get(&(dir, frag)).copied() else {
         return None;
@@ -261,8 +264,10 @@ fn put_state(
     state: ExportState,
 )
     requires { map.get (contents leaf_cmp rows.old) (dir, frag) ≡ Some export }
-    ensures come { contents leaf_cmp rows.new ≡ map.insert (contents leaf_cmp rows.old) (dir, frag) (come_to state export) }
-    ensures kept { (by : RootsBy) → AreExports (contents leaf_cmp rows.old) by → AreExports (contents leaf_cmp rows.new) by }
+    ensures come { contents leaf_cmp rows.new ≡ map.insert (contents leaf_cmp rows.old) (dir, frag)
+        (come_to state export) }
+    ensures kept { (by : RootsBy) → AreExports (contents leaf_cmp rows.old) by
+        → AreExports (contents leaf_cmp rows.new) by }
 {
     let _ = rows.replace(&(dir, frag), StandingExport { state, ..export });
 }
@@ -277,7 +282,8 @@ fn end(
 )
     requires { map.get (contents leaf_cmp rows.old) (dir, frag) ≡ Some export }
     ensures removed { contents leaf_cmp rows.new ≡ map.remove (contents leaf_cmp rows.old) (dir, frag) }
-    ensures kept { AreExports (contents leaf_cmp rows.old) (contents by_cmp by.old) → AreExports (contents leaf_cmp rows.new) (contents by_cmp by.new) }
+    ensures kept { AreExports (contents leaf_cmp rows.old) (contents by_cmp by.old)
+        → AreExports (contents leaf_cmp rows.new) (contents by_cmp by.new) }
 {
     let _ = rows.remove(&(dir, frag));
     let _ = by.remove(&(export.exporter.0, (dir, frag)));
@@ -292,7 +298,8 @@ fn advance(
     to: ExportState,
 ) -> Result<(), Refusal>
     ensures outcome { Steps (contents leaf_cmp rows.old) (contents leaf_cmp rows.new) (dir, frag) from to result }
-    ensures kept { (by : RootsBy) → AreExports (contents leaf_cmp rows.old) by → AreExports (contents leaf_cmp rows.new) by }
+    ensures kept { (by : RootsBy) → AreExports (contents leaf_cmp rows.old) by
+        → AreExports (contents leaf_cmp rows.new) by }
 {
     let Some(export) = find_in(rows, dir, frag, from) else {
         return Err(Refusal::WrongExportState);

@@ -65,7 +65,9 @@ impl<S: Store + Drop> MdCache<S> {
         requires may { MayCome self.old.homes inode.ino.0 (record { parent = spot.at.dir; name = made.name }) }
         requires place { IsKeptFor self.old.caches spot.at.rank.0 (first_leaf inode.ino) }
         requires generation { self.old.next_generation < 2 ^ 64 - 1 }
-        ensures { self.new ≡ with_dir (with_entry (named self.old spot.at spot.name (Some inode)) spot.at.dir) (record { dir = inode.ino; frag = root_fragment; rank = spot.at.rank }) (record { parent = spot.at.dir; name = made.name }) (string_bytes made.object) self.new.room }
+        ensures { self.new ≡ with_dir (with_entry (named self.old spot.at spot.name (Some inode)) spot.at.dir)
+            (record { dir = inode.ino; frag = root_fragment; rank = spot.at.rank })
+            (record { parent = spot.at.dir; name = made.name }) (string_bytes made.object) self.new.room }
     {
         let NewDirectory { name, object } = made;
         let first = Dirfrag {
@@ -91,7 +93,8 @@ impl<S: Store + Drop> MdCache<S> {
         requires may { IfSome (dir_going going) (λ dir. MayGo self.old.homes dir.0) }
         requires purge { count_going going ≤ self.old.room.purge }
         ensures none { KeepsNone self.old.caches → KeepsNone self.new.caches }
-        ensures gone { self.new ≡ without_dir (without_entry (named self.old spot.at spot.name None) spot.at.dir) (dir_going going) (leaves_going going) (texts_going going) self.new.room }
+        ensures gone { self.new ≡ without_dir (without_entry (named self.old spot.at spot.name None) spot.at.dir)
+            (dir_going going) (leaves_going going) (texts_going going) self.new.room }
     {
         self.erase(spot.at, spot.name);
         self.entry_goes(spot.at.dir);
@@ -104,17 +107,22 @@ impl<S: Store + Drop> MdCache<S> {
         requires first { from.at.rank.0 < length self.old.caches.used }
         requires second { to.at.rank.0 < length self.old.caches.used }
         requires recordable { IsRecordable inode }
-        requires source { HasCached (here self.old.caches from.at.rank.0 (leaf_of from.at)) (λ (f : Cached). 1 < f.room) }
+        requires source { HasCached (here self.old.caches from.at.rank.0 (leaf_of from.at))
+            (λ (f : Cached). 1 < f.room) }
         requires target { HasRoom (here self.old.caches to.at.rank.0 (leaf_of to.at)) }
         requires version { self.old.next_version < 2 ^ 64 - 2 }
         requires from { is_known self.old.homes from.at.dir.0 ≡ true }
         requires to { is_known self.old.homes to.at.dir.0 ≡ true }
-        requires few { shows self.old to.at to.name ≡ false → (from.at.dir.0 == to.at.dir.0) ≡ false → count_of self.old.counts to.at.dir.0 < 2 ^ 64 - 1 }
-        requires home { is_dir_kind inode.kind ≡ true → MayMove self.old.homes inode.ino.0 (record { parent = to.at.dir; name = moving.name }) }
-        requires may { IfSome (dir_going moving.going) (λ dir. MayGo (with_home self.old.homes (record { dir = to.at.dir; name = moving.name }) inode) dir.0) }
+        requires few { shows self.old to.at to.name ≡ false → (from.at.dir.0 == to.at.dir.0) ≡ false
+            → count_of self.old.counts to.at.dir.0 < 2 ^ 64 - 1 }
+        requires home { is_dir_kind inode.kind ≡ true → MayMove self.old.homes inode.ino.0
+            (record { parent = to.at.dir; name = moving.name }) }
+        requires may { IfSome (dir_going moving.going)
+            (λ dir. MayGo (with_home self.old.homes (record { dir = to.at.dir; name = moving.name }) inode) dir.0) }
         requires purge { count_going moving.going ≤ self.old.room.purge }
         ensures none { KeepsNone self.old.caches → KeepsNone self.new.caches }
-        ensures moved { self.new ≡ without_dir (moved self.old from.at from.name to.at to.name moving.name inode) (dir_going moving.going) (leaves_going moving.going) (texts_going moving.going) self.new.room }
+        ensures moved { self.new ≡ without_dir (moved self.old from.at from.name to.at to.name moving.name inode)
+            (dir_going moving.going) (leaves_going moving.going) (texts_going moving.going) self.new.room }
     {
         let MovingEntry { name, going } = moving;
         let stood = shows(&self.caches, &to.at, &to.name);

@@ -83,7 +83,8 @@ impl<S: Store + Drop> MdCache<S> {
         requires sound { IsSoundCore self.old }
         requires none { self.old.jobs ≡ map.empty }
         requires few { length self.old.caches.used ≤ 256 }
-        ensures fewer { IfOk result (λ some. some ≡ true → map.len (unclean self.new.caches) < map.len (unclean self.old.caches)) }
+        ensures fewer { IfOk result
+            (λ some. some ≡ true → map.len (unclean self.new.caches) < map.len (unclean self.old.caches)) }
         ensures clean { IfOk result (λ some. some ≡ false → unclean self.new.caches ≡ map.empty) }
         ensures whole { CommitsWhole (state_of self.old) (state_of self.new) }
         ensures jobs { self.new.jobs ≡ map.empty }
@@ -138,9 +139,11 @@ impl<S: Store + Drop> MdCache<S> {
         ensures whole { CommitsWhole (state_of self.old) (state_of self.new) }
         ensures jobs { self.new.jobs ≡ map.empty }
         ensures number { self.new.next_job ≡ self.old.next_job }
-        ensures fewer { OnOk result (map.len (unclean self.new.caches) + length leaves.now ≡ map.len (unclean self.old.caches)) }
+        ensures fewer { OnOk result
+            (map.len (unclean self.new.caches) + length leaves.now ≡ map.len (unclean self.old.caches)) }
         ensures tree { KeepsTree self.old self.new }
-        ensures refused { IfErr result (MayNotCommit (length leaves.now) (state_of self.old) self.old.faults self.new.faults) }
+        ensures refused { IfErr result
+            (MayNotCommit (length leaves.now) (state_of self.old) self.old.faults self.new.faults) }
         ensures counted { self.new.faults ≡ self.old.faults + faults_told (result_err result) }
         ensures sound { IsSoundCore self.new }
     {
@@ -182,9 +185,11 @@ impl<S: Store + Drop> MdCache<S> {
         requires apart { AreApart (leaves_at leaves.now) }
         requires unclean { AllByRecursion (IsUncleanAt self.old.caches) leaves.now }
         ensures whole { CommitsWhole (state_of self.old) (state_of self.new) }
-        ensures fewer { OnOk result (map.len (unclean self.new.caches) + length leaves.now ≡ map.len (unclean self.old.caches)) }
+        ensures fewer { OnOk result
+            (map.len (unclean self.new.caches) + length leaves.now ≡ map.len (unclean self.old.caches)) }
         ensures tree { KeepsTree self.old self.new }
-        ensures refused { IfErr result (MayNotCommit (length leaves.now) (state_of self.old) self.old.faults self.new.faults) }
+        ensures refused { IfErr result
+            (MayNotCommit (length leaves.now) (state_of self.old) self.old.faults self.new.faults) }
         ensures counted { self.new.faults ≡ self.old.faults + faults_told (result_err result) }
         ensures sound { IsSoundCore self.new }
     {
@@ -214,7 +219,8 @@ impl<S: Store + Drop> MdCache<S> {
         requires unclean { AllByRecursion (IsUncleanAt self.old.caches) leaves.now }
         ensures begun { IfOk result (λ begun. AllByRecursion (IsBegunAt self.new) begun.items) }
         ensures leaves { IfOk result (λ begun. leaves_of_jobs begun.items ≡ leaves_at leaves.now) }
-        ensures left { state_of self.new ≡ record (state_of self.old) { jobs = self.new.jobs; next_job = self.new.next_job } }
+        ensures left { state_of self.new ≡ record
+            (state_of self.old) { jobs = self.new.jobs; next_job = self.new.next_job } }
         ensures tree { KeepsTree self.old self.new }
         ensures refused { IfErr result (MayNotBeginAll (length leaves.now) (state_of self.old)) }
         ensures faults { self.new.faults ≡ self.old.faults }
@@ -241,7 +247,8 @@ impl<S: Store + Drop> MdCache<S> {
         requires begun { AllByRecursion (IsReadyAt self.old) ready.now }
         requires apart { AreApart (leaves_of_writes ready.now) }
         ensures whole { CommitsWhole (state_of self.old) (state_of self.new) }
-        ensures fewer { OnOk result (map.len (unclean self.new.caches) + length ready.now ≡ map.len (unclean self.old.caches)) }
+        ensures fewer { OnOk result
+            (map.len (unclean self.new.caches) + length ready.now ≡ map.len (unclean self.old.caches)) }
         ensures tree { KeepsTree self.old self.new }
         ensures refused { IfErr result (MayRefuse self.old.faults self.new.faults) }
         ensures counted { self.new.faults ≡ self.old.faults + faults_told (result_err result) }
@@ -260,7 +267,8 @@ impl<S: Store + Drop> MdCache<S> {
         requires sound { IsSoundCore self.old }
         requires unclean { IsUncleanAt self.old.caches at.now }
         requires free { map.get self.old.jobs (leaf_of at.now) ≡ None }
-        ensures begun { IfOk result (λ job. Begins (state_of self.old) (state_of self.new) (leaf_of at.now) (Ok (Some job))) }
+        ensures begun { IfOk result
+            (λ job. Begins (state_of self.old) (state_of self.new) (leaf_of at.now) (Ok (Some job))) }
         ensures left { OnErr result (state_of self.new ≡ state_of self.old) }
         ensures tree { KeepsTree self.old self.new }
         ensures refused { IfErr result (MayNotBeginOne (state_of self.old) (leaf_of at.now)) }

@@ -56,9 +56,12 @@ impl<S: Store + Drop> MdCache<S> {
     // the snapshot, twice; refused for want of it alone, and no more jobs stand then than before.
     fn begin_at(&mut self, at: &Dirfrag, generation: u64) -> Result<Job, Refusal>
         requires there { at.now.rank.0 < length self.old.caches.used }
-        requires begins { HasCached (here self.old.caches at.now.rank.0 (leaf_of at.now)) (λ (f : Cached). (is_clean f ≡ false) × IsBelowEnd f.base × (generation ≡ f.generation)) }
+        requires begins { HasCached (here self.old.caches at.now.rank.0 (leaf_of at.now))
+            (λ (f : Cached). (is_clean f ≡ false) × IsBelowEnd f.base × (generation ≡ f.generation)) }
         requires number { self.old.next_job < 2 ^ 64 - 1 }
-        ensures taken { IfOk result (λ job. HasCached (here self.old.caches at.now.rank.0 (leaf_of at.now)) (IsJobOf self.old.next_job (leaf_of at.now) job)) }
+        ensures taken { IfOk result
+            (λ job. HasCached (here self.old.caches at.now.rank.0 (leaf_of at.now))
+            (IsJobOf self.old.next_job (leaf_of at.now) job)) }
         ensures stands { IfOk result (λ job. self.new ≡ with_job_in self.old at.now job self.new.room) }
         ensures valid { IfOk result (λ job. IsSnap job.snapshot) }
         ensures err { IfErr result (λ reason. reason ≡ NoMemory) }
@@ -80,7 +83,8 @@ impl<S: Store + Drop> MdCache<S> {
 
 // The job of a snapshot, which is one.
 fn job_of(number: u64, at: &Dirfrag, generation: u64, snapshot: Snapshot) -> Job
-    ensures job { result ≡ record { number = number; ino = at.now.dir; frag = at.now.frag; generation = generation; snapshot = snapshot } }
+    ensures job { result ≡ record
+        { number = number; ino = at.now.dir; frag = at.now.frag; generation = generation; snapshot = snapshot } }
     ensures valid { IsSnap result.snapshot }
 {
     // The contract of `base` is what says here that it is a snapshot.
@@ -97,7 +101,8 @@ fn job_of(number: u64, at: &Dirfrag, generation: u64, snapshot: Snapshot) -> Job
 // Base and generation of a fragment that isn't clean; none for one that is.
 fn unsaved(caches: &Caches, at: &Dirfrag) -> Option<(Base, u64)>
     requires { at.now.rank.0 < length caches.now.used }
-    ensures { result ≡ option_map (λ (u : Unsaved). (u.base, u.generation)) (unsaved_in (here caches.now at.now.rank.0 (leaf_of at.now))) }
+    ensures { result ≡ option_map (λ (u : Unsaved). (u.base, u.generation))
+        (unsaved_in (here caches.now at.now.rank.0 (leaf_of at.now))) }
 {
     match caches.get(*at) {
         Some(fragment) if !fragment.is_clean() => Some((fragment.base(), fragment.generation())),

@@ -104,7 +104,8 @@ impl<S: Store + Drop> MdCache<S> {
     /// An inode that came to a name of a directory has its home there, if it is a directory itself. Takes no memory.
     pub(crate) fn relocate(&mut self, inode: &Inode, home: Home)
         requires { is_dir_kind inode.now.kind ≡ true → MayMove self.old.homes inode.now.ino.0 home }
-        ensures { self.new ≡ record self.old { homes = with_home self.old.homes (record { dir = home.parent; name = home.name }) inode.now } }
+        ensures { self.new ≡ record self.old
+            { homes = with_home self.old.homes (record { dir = home.parent; name = home.name }) inode.now } }
     {
         if inode.kind.is_dir() {
             self.dirs.relocate(inode.ino, home);
@@ -117,7 +118,8 @@ impl<S: Store + Drop> MdCache<S> {
     pub(crate) fn remove_dir(&mut self, going: Option<Going>)
         requires may { IfSome (dir_going going) (λ dir. MayGo self.old.homes dir.0) }
         requires room { count_going going ≤ self.old.room.purge }
-        ensures gone { self.new ≡ without_dir self.old (dir_going going) (leaves_going going) (texts_going going) self.new.room }
+        ensures gone { self.new ≡ without_dir self.old (dir_going going)
+            (leaves_going going) (texts_going going) self.new.room }
         ensures none { KeepsNone self.old.caches → KeepsNone self.new.caches }
     {
         if let Some(going) = going {
@@ -131,7 +133,8 @@ impl<S: Store + Drop> MdCache<S> {
     /// purge list, which has room for them. Takes no memory.
     pub(crate) fn end_leaves(&mut self, dir: Ino, leaves: Vec<GoingLeaf>)
         requires { length leaves.items ≤ self.old.room.purge }
-        ensures ended { self.new ≡ without_frags self.old (leaves_in dir leaves.items) (texts_in leaves.items) self.new.room }
+        ensures ended { self.new ≡ without_frags self.old (leaves_in dir leaves.items)
+            (texts_in leaves.items) self.new.room }
         ensures none { KeepsNone self.old.caches → KeepsNone self.new.caches }
     {
         for part in leaves {
@@ -142,7 +145,8 @@ impl<S: Store + Drop> MdCache<S> {
     // So it is with one of them.
     fn end_leaf(&mut self, dir: Ino, part: GoingLeaf)
         requires { 0 < self.old.room.purge }
-        ensures ended { self.new ≡ without_frags self.old ((dir, part.frag) ∷ []) (string_bytes part.object ∷ []) self.new.room }
+        ensures ended { self.new ≡ without_frags self.old ((dir, part.frag) ∷ [])
+            (string_bytes part.object ∷ []) self.new.room }
         ensures room { self.old.room.purge ≤ self.new.room.purge + 1 }
         ensures none { KeepsNone self.old.caches → KeepsNone self.new.caches }
     {

@@ -37,7 +37,8 @@ impl<S: Store + Drop> MdCache<S> {
         requires sound { IsSoundCore self.old }
         requires live { IsLive self.old.homes self.old.covers (dir, frag) }
         requires holds { MayHold self.old.caches rank (dir, frag) }
-        ensures found { IfOk result (λ empty. empty ≡ has_none (names_of (unclean self.old.caches) self.old.objects (dir, frag))) }
+        ensures found { IfOk result
+            (λ empty. empty ≡ has_none (names_of (unclean self.old.caches) self.old.objects (dir, frag))) }
         ensures reads { ReadsCore (IsThat rank.0 (dir, frag)) NoneEnds self.old self.new }
         ensures sound { IsSoundCore self.new }
         ensures counted { self.new.faults ≡ self.old.faults + faults_told (result_err result) }
@@ -50,10 +51,13 @@ impl<S: Store + Drop> MdCache<S> {
     fn is_empty_at(&mut self, alloc: Global, at: &Dirfrag) -> Result<bool, Refusal>
         requires may { MayFetch self.old at.now }
         requires none { KeepsNone self.old.caches }
-        ensures found { IfOk result (λ empty. HasCached (here self.new.caches at.now.rank.0 (leaf_of at.now)) (λ (f : Cached). empty ≡ has_none (shown f))) }
+        ensures found { IfOk result
+            (λ empty. HasCached (here self.new.caches at.now.rank.0 (leaf_of at.now))
+            (λ (f : Cached). empty ≡ has_none (shown f))) }
         ensures reads { ReadsCore (IsThat at.now.rank.0 (leaf_of at.now)) NoneEnds self.old self.new }
         ensures none { KeepsNone self.new.caches }
-        ensures refused { IfErr result (MayNotFind (LacksPlacesIn 1 self.old.caches at.now.rank.0) self.old.faults self.new.faults) }
+        ensures refused { IfErr result
+            (MayNotFind (LacksPlacesIn 1 self.old.caches at.now.rank.0) self.old.faults self.new.faults) }
         ensures counted { self.new.faults ≡ self.old.faults + faults_told (result_err result) }
     {
         if let Err(refusal) = self.fetch(alloc, at) {

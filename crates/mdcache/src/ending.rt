@@ -24,7 +24,8 @@ impl<S: Store + Drop> MdCache<S> {
     pub fn end(&mut self, alloc: Global, rank: Rank, encoded: &Encoded) -> Result<(), Refusal>
         requires sound { IsSoundCore self.old }
         requires holds { MayHold self.old.caches rank (leaf_of encoded.now.job) }
-        ensures ended { Ends (state_of self.old) (state_of self.new) self.old.faults self.new.faults encoded.now.job result }
+        ensures ended { Ends (state_of self.old)
+            (state_of self.new) self.old.faults self.new.faults encoded.now.job result }
         ensures came { Came (IsThat rank.0 (leaf_of encoded.now.job)) NoneEnds self.old.caches self.new.caches }
         ensures counted { self.new.faults ≡ self.old.faults + faults_told (result_err result) }
         ensures sound { IsSoundCore self.new }

@@ -31,7 +31,8 @@ impl<S: Store + Drop> MdCache<S> {
         ensures newest { OnOk result (IsNewest self.new.caches at.now.rank.0 (leaf_of at.now)) }
         ensures reads { ReadsCore (IsThat at.now.rank.0 (leaf_of at.now)) NoneEnds self.old self.new }
         ensures none { KeepsNone self.new.caches }
-        ensures refused { IfErr result (MayNotFind (LacksPlacesIn 1 self.old.caches at.now.rank.0) self.old.faults self.new.faults) }
+        ensures refused { IfErr result
+            (MayNotFind (LacksPlacesIn 1 self.old.caches at.now.rank.0) self.old.faults self.new.faults) }
         ensures counted { self.new.faults ≡ self.old.faults + faults_told (result_err result) }
         ensures valid { AreCaches self.old.caches }
     {
@@ -49,10 +50,13 @@ impl<S: Store + Drop> MdCache<S> {
         requires none { KeepsNone self.old.caches }
         requires first { IsThere (here self.old.caches first.now.rank.0 (leaf_of first.now)) }
         ensures there { OnOk result (IsThere (here self.new.caches at.now.rank.0 (leaf_of at.now))) }
-        ensures stays { here self.new.caches first.now.rank.0 (leaf_of first.now) ≡ here self.old.caches first.now.rank.0 (leaf_of first.now) }
-        ensures reads { ReadsCore (λ r q. IsThat first.now.rank.0 (leaf_of first.now) r q ⊎ IsThat at.now.rank.0 (leaf_of at.now) r q) NoneEnds self.old self.new }
+        ensures stays { here self.new.caches first.now.rank.0
+            (leaf_of first.now) ≡ here self.old.caches first.now.rank.0 (leaf_of first.now) }
+        ensures reads { ReadsCore (λ r q. IsThat first.now.rank.0 (leaf_of first.now) r q
+            ⊎ IsThat at.now.rank.0 (leaf_of at.now) r q) NoneEnds self.old self.new }
         ensures none { KeepsNone self.new.caches }
-        ensures refused { IfErr result (MayNotFind (LacksPlacesIn 2 self.old.caches at.now.rank.0) self.old.faults self.new.faults) }
+        ensures refused { IfErr result
+            (MayNotFind (LacksPlacesIn 2 self.old.caches at.now.rank.0) self.old.faults self.new.faults) }
         ensures counted { self.new.faults ≡ self.old.faults + faults_told (result_err result) }
     {
         let stay = Some((first.dir, first.frag));
@@ -71,11 +75,14 @@ impl<S: Store + Drop> MdCache<S> {
     ) -> Result<Option<Inode>, Refusal>
         requires may { MayFetch self.old at.now }
         requires none { KeepsNone self.old.caches }
-        ensures found { IfOk result (λ found. HasCached (here self.new.caches at.now.rank.0 (leaf_of at.now)) (λ (f : Cached). found ≡ map.get (shown f) name.now)) }
+        ensures found { IfOk result
+            (λ found. HasCached (here self.new.caches at.now.rank.0 (leaf_of at.now))
+            (λ (f : Cached). found ≡ map.get (shown f) name.now)) }
         ensures newest { OnOk result (IsNewest self.new.caches at.now.rank.0 (leaf_of at.now)) }
         ensures reads { ReadsCore (IsThat at.now.rank.0 (leaf_of at.now)) NoneEnds self.old self.new }
         ensures none { KeepsNone self.new.caches }
-        ensures refused { IfErr result (MayNotFind (LacksPlacesIn 1 self.old.caches at.now.rank.0) self.old.faults self.new.faults) }
+        ensures refused { IfErr result
+            (MayNotFind (LacksPlacesIn 1 self.old.caches at.now.rank.0) self.old.faults self.new.faults) }
         ensures counted { self.new.faults ≡ self.old.faults + faults_told (result_err result) }
     {
         if let Err(refusal) = self.fetch(alloc, at) {

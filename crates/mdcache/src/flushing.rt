@@ -86,7 +86,8 @@ impl<S: Store + Drop> MdCache<S> {
         ensures jobs { self.new.jobs ≡ map.empty }
         ensures number { self.new.next_job ≡ self.old.next_job }
         ensures tree { KeepsTree self.old self.new }
-        ensures refused { IfErr result (MayNotCommit 256 (record (state_of self.old) { jobs = map.empty }) self.old.faults self.new.faults) }
+        ensures refused { IfErr result
+            (MayNotCommit 256 (record (state_of self.old) { jobs = map.empty }) self.old.faults self.new.faults) }
         ensures counted { self.new.faults ≡ self.old.faults + faults_told (result_err result) }
         ensures sound { IsSoundCore self.new }
     {

@@ -39,7 +39,8 @@ impl<S: Store + Drop> MdCache<S> {
         ensures state { IfOk result (λ m. state_of m ≡ new_state limit) }
         ensures caches { IfOk result (λ m. m.caches ≡ new_caches ranks places) }
         ensures sound { IfOk result IsSoundCore }
-        ensures refused { IfErr result (λ back. MayNotFormat (S.objects store) (S.faults store) (S.faults back.1) back.0) }
+        ensures refused { IfErr result
+            (λ back. MayNotFormat (S.objects store) (S.faults store) (S.faults back.1) back.0) }
         ensures left { IfErr result (λ back. S.objects back.1 ≡ S.objects store) }
         ensures faults { IfOk result (λ m. m.faults ≡ S.faults store) }
         ensures counted { IfErr result (λ back. S.faults back.1 ≡ S.faults store + faults_in back.0) }

@@ -49,8 +49,10 @@ fn tree_name(alloc: Global, dir: Ino) -> Result<String, AllocError>
 
 // The leaves of a directory, each with the name of its object.
 fn parts_of_dir(alloc: Global, dirs: &Dirs, dir: Ino) -> Result<Vec<GoingLeaf>, AllocError>
-    ensures leaves { IfOk result (λ parts. leaves_in dir parts.items ≡ each (in_directory dir.0) (leaves_of dirs.now.trees dir.0)) }
-    ensures texts { IfOk result (λ parts. texts_in parts.items ≡ each text_of (each (in_directory dir.0) (leaves_of dirs.now.trees dir.0))) }
+    ensures leaves { IfOk result
+        (λ parts. leaves_in dir parts.items ≡ each (in_directory dir.0) (leaves_of dirs.now.trees dir.0)) }
+    ensures texts { IfOk result
+        (λ parts. texts_in parts.items ≡ each text_of (each (in_directory dir.0) (leaves_of dirs.now.trees dir.0))) }
 {
     let tree = dirs.tree(alloc, dir)?;
     let parts = parts_of(alloc, dir, &tree);

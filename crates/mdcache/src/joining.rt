@@ -43,7 +43,8 @@ impl<S: Store + Drop> MdCache<S> {
         requires sound { IsSoundCore self.old }
         requires none { KeepsNone self.old.caches }
         requires there { at.now.rank.0 < length self.old.caches.used }
-        requires live { (q : Leaf) → Contains (leaves_in at.now.dir leaves.now) q → IsLive self.old.homes self.old.covers q × MayHold self.old.caches at.now.rank q }
+        requires live { (q : Leaf) → Contains (leaves_in at.now.dir leaves.now) q
+            → IsLive self.old.homes self.old.covers q × MayHold self.old.caches at.now.rank q }
         requires absent { map.get self.old.caches.held (leaf_of at.now) ≡ None }
         requires apart { Contains (leaves_in at.now.dir leaves.now) (leaf_of at.now) → ⊥ }
         ensures joined { IfOk result (IsJoined self.new (leaves_in at.now.dir leaves.now)) }
@@ -51,8 +52,10 @@ impl<S: Store + Drop> MdCache<S> {
         ensures only { OnOk result (KeepsOnlyAt (Some (at.now.rank, leaf_of at.now)) self.new.caches) }
         ensures none { OnErr result (KeepsNone self.new.caches) }
         ensures absent { map.get self.new.caches.held (leaf_of at.now) ≡ None }
-        ensures reads { ReadsCore (IsAmongOr at.now.rank.0 (leaves_in at.now.dir leaves.now) (leaf_of at.now)) NoneEnds self.old self.new }
-        ensures refused { IfErr result (MayNotFind (LacksPlacesIn 1 self.old.caches at.now.rank.0) self.old.faults self.new.faults) }
+        ensures reads { ReadsCore
+            (IsAmongOr at.now.rank.0 (leaves_in at.now.dir leaves.now) (leaf_of at.now)) NoneEnds self.old self.new }
+        ensures refused { IfErr result
+            (MayNotFind (LacksPlacesIn 1 self.old.caches at.now.rank.0) self.old.faults self.new.faults) }
         ensures counted { self.new.faults ≡ self.old.faults + faults_told (result_err result) }
     {
         let mut joined = CachedFrag::fresh(alloc, self.next.generation);
@@ -75,11 +78,15 @@ impl<S: Store + Drop> MdCache<S> {
     ) -> Result<(), Refusal>
         requires sound { IsSoundCore self.old }
         requires none { KeepsNone self.old.caches }
-        requires live { (q : Leaf) → Contains (leaves_in at.now.dir leaves.now) q → IsLive self.old.homes self.old.covers q × MayHold self.old.caches at.now.rank q }
-        ensures joined { OnOk result (HasJoined (names_of (unclean self.old.caches) self.old.objects) self.old.next_version (leaves_in at.now.dir leaves.now) joined.old joined.new) }
+        requires live { (q : Leaf) → Contains (leaves_in at.now.dir leaves.now) q
+            → IsLive self.old.homes self.old.covers q × MayHold self.old.caches at.now.rank q }
+        ensures joined { OnOk result
+            (HasJoined (names_of (unclean self.old.caches) self.old.objects) self.old.next_version
+            (leaves_in at.now.dir leaves.now) joined.old joined.new) }
         ensures reads { ReadsCore (IsAmong at.now.rank.0 (leaves_in at.now.dir leaves.now)) NoneEnds self.old self.new }
         ensures none { KeepsNone self.new.caches }
-        ensures refused { IfErr result (MayNotFind (LacksPlacesIn 1 self.old.caches at.now.rank.0) self.old.faults self.new.faults) }
+        ensures refused { IfErr result
+            (MayNotFind (LacksPlacesIn 1 self.old.caches at.now.rank.0) self.old.faults self.new.faults) }
         ensures counted { self.new.faults ≡ self.old.faults + faults_told (result_err result) }
     {
         for part in leaves {
@@ -106,11 +113,14 @@ impl<S: Store + Drop> MdCache<S> {
         requires none { KeepsNone self.old.caches }
         requires live { IsLive self.old.homes self.old.covers (leaf_of at.now) }
         requires holds { MayHold self.old.caches at.now.rank (leaf_of at.now) }
-        ensures joined { OnOk result (HasJoined (names_of (unclean self.old.caches) self.old.objects) self.old.next_version (leaf_of at.now ∷ []) joined.old joined.new) }
+        ensures joined { OnOk result
+            (HasJoined (names_of (unclean self.old.caches) self.old.objects) self.old.next_version
+            (leaf_of at.now ∷ []) joined.old joined.new) }
         ensures reads { ReadsCore (IsThat at.now.rank.0 (leaf_of at.now)) NoneEnds self.old self.new }
         ensures sound { IsSoundCore self.new }
         ensures none { KeepsNone self.new.caches }
-        ensures refused { IfErr result (MayNotFind (LacksPlacesIn 1 self.old.caches at.now.rank.0) self.old.faults self.new.faults) }
+        ensures refused { IfErr result
+            (MayNotFind (LacksPlacesIn 1 self.old.caches at.now.rank.0) self.old.faults self.new.faults) }
         ensures counted { self.new.faults ≡ self.old.faults + faults_told (result_err result) }
     {
         if let Err(refusal) = self.fetch(alloc, at) {

@@ -46,12 +46,15 @@ impl<S: Store + Drop> MdCache<S> {
         requires sound { IsSoundCore self.old }
         requires live { IsLive self.old.homes self.old.covers (leaf_of at.now) }
         requires holds { MayHold self.old.caches at.now.rank (leaf_of at.now) }
-        ensures page { (whole : List Row) → IsPageOf whole page.old → OnOk result (IsPageOf (puts key_cmp whole (rows_after (option_copied after.entry) (map.entries (names_of (unclean self.old.caches) self.old.objects (leaf_of at.now))))) page.new) }
+        ensures page { (whole : List Row) → IsPageOf whole page.old
+            → OnOk result (IsPageOf (puts key_cmp whole (rows_after (option_copied after.entry)
+            (map.entries (names_of (unclean self.old.caches) self.old.objects (leaf_of at.now))))) page.new) }
         ensures most { page.new.most ≡ page.old.most }
         ensures reads { ReadsCore (IsThat at.now.rank.0 (leaf_of at.now)) NoneEnds self.old self.new }
         ensures sound { IsSoundCore self.new }
         ensures counted { self.new.faults ≡ self.old.faults + faults_told (result_err result) }
-        ensures refused { IfErr result (MayNotFind (LacksPlacesAt 1 self.old at.now.rank) self.old.faults self.new.faults) }
+        ensures refused { IfErr result
+            (MayNotFind (LacksPlacesAt 1 self.old at.now.rank) self.old.faults self.new.faults) }
     {
         self.gather_at(alloc, at, after, page)
     }
@@ -66,11 +69,16 @@ impl<S: Store + Drop> MdCache<S> {
     ) -> Result<(), Refusal>
         requires may { MayFetch self.old at.now }
         requires none { KeepsNone self.old.caches }
-        ensures page { OnOk result (HasCached (here self.new.caches at.now.rank.0 (leaf_of at.now)) (λ (f : Cached). (whole : List Row) → IsPageOf whole page.old → IsPageOf (puts key_cmp whole (rows_after (option_copied after.entry) (map.entries (shown f)))) page.new)) }
+        ensures page { OnOk result
+            (HasCached (here self.new.caches at.now.rank.0 (leaf_of at.now))
+            (λ (f : Cached). (whole : List Row) → IsPageOf whole page.old
+            → IsPageOf (puts key_cmp whole (rows_after (option_copied after.entry) (map.entries (shown f))))
+            page.new)) }
         ensures most { page.new.most ≡ page.old.most }
         ensures reads { ReadsCore (IsThat at.now.rank.0 (leaf_of at.now)) NoneEnds self.old self.new }
         ensures none { KeepsNone self.new.caches }
-        ensures refused { IfErr result (MayNotFind (LacksPlacesIn 1 self.old.caches at.now.rank.0) self.old.faults self.new.faults) }
+        ensures refused { IfErr result
+            (MayNotFind (LacksPlacesIn 1 self.old.caches at.now.rank.0) self.old.faults self.new.faults) }
         ensures counted { self.new.faults ≡ self.old.faults + faults_told (result_err result) }
     {
         if let Err(refusal) = self.fetch(alloc, at) {
@@ -89,7 +97,10 @@ fn gather_cached(
 ) -> Result<(), Refusal>
     requires there { at.now.rank.0 < length caches.now.used }
     requires cached { IsThere (here caches.now at.now.rank.0 (leaf_of at.now)) }
-    ensures page { OnOk result (HasCached (here caches.now at.now.rank.0 (leaf_of at.now)) (λ (f : Cached). (whole : List Row) → IsPageOf whole page.old → IsPageOf (puts key_cmp whole (rows_after (option_copied after.entry) (map.entries (shown f)))) page.new)) }
+    ensures page { OnOk result
+        (HasCached (here caches.now at.now.rank.0 (leaf_of at.now))
+        (λ (f : Cached). (whole : List Row) → IsPageOf whole page.old
+        → IsPageOf (puts key_cmp whole (rows_after (option_copied after.entry) (map.entries (shown f)))) page.new)) }
     ensures most { page.new.most ≡ page.old.most }
     ensures refused { IfErr result (λ reason. reason ≡ NoMemory) }
 {

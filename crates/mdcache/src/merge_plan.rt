@@ -68,8 +68,12 @@ fn merge_cover(alloc: Global, dirs: &Dirs, at: &Dirfrag) -> Result<FragTree, Ref
 
 // The leaves of a directory that lie properly inside a fragment, each with the name of its object.
 fn ending_leaves_of(alloc: Global, dirs: &Dirs, at: &Dirfrag) -> Result<Vec<GoingLeaf>, AllocError>
-    ensures leaves { IfOk result (λ parts. leaves_in at.now.dir parts.items ≡ each (in_directory at.now.dir.0) (leaves_inside at.now.frag (leaves_of dirs.now.trees at.now.dir.0))) }
-    ensures texts { IfOk result (λ parts. texts_in parts.items ≡ each text_of (each (in_directory at.now.dir.0) (leaves_inside at.now.frag (leaves_of dirs.now.trees at.now.dir.0)))) }
+    ensures leaves { IfOk result
+        (λ parts. leaves_in at.now.dir parts.items ≡ each (in_directory at.now.dir.0)
+        (leaves_inside at.now.frag (leaves_of dirs.now.trees at.now.dir.0))) }
+    ensures texts { IfOk result
+        (λ parts. texts_in parts.items ≡ each text_of
+        (each (in_directory at.now.dir.0) (leaves_inside at.now.frag (leaves_of dirs.now.trees at.now.dir.0)))) }
 {
     let tree = dirs.tree(alloc, at.dir)?;
     let leaves = ending_leaves(alloc, at.dir, at.frag, &tree);
@@ -84,8 +88,10 @@ fn ending_leaves(
     frag: Frag,
     tree: &FragTree,
 ) -> Result<Vec<GoingLeaf>, AllocError>
-    ensures leaves { IfOk result (λ parts. leaves_in dir parts.items ≡ each (in_directory dir.0) (leaves_inside frag tree.now)) }
-    ensures texts { IfOk result (λ parts. texts_in parts.items ≡ each text_of (each (in_directory dir.0) (leaves_inside frag tree.now))) }
+    ensures leaves { IfOk result
+        (λ parts. leaves_in dir parts.items ≡ each (in_directory dir.0) (leaves_inside frag tree.now)) }
+    ensures texts { IfOk result
+        (λ parts. texts_in parts.items ≡ each text_of (each (in_directory dir.0) (leaves_inside frag tree.now))) }
 {
     let mut parts = Vec::new(alloc);
     for leaf in tree {
@@ -102,8 +108,10 @@ fn push_inside(
     frag: Frag,
     leaf: Frag,
 ) -> Result<(), AllocError>
-    ensures leaves { OnOk result (leaves_in dir parts.new.items ≡ leaves_in dir parts.old.items ++ each (in_directory dir.0) (leaves_inside frag (leaf ∷ []))) }
-    ensures texts { OnOk result (texts_in parts.new.items ≡ texts_in parts.old.items ++ each text_of (each (in_directory dir.0) (leaves_inside frag (leaf ∷ [])))) }
+    ensures leaves { OnOk result (leaves_in dir parts.new.items ≡ leaves_in dir parts.old.items
+        ++ each (in_directory dir.0) (leaves_inside frag (leaf ∷ []))) }
+    ensures texts { OnOk result (texts_in parts.new.items ≡ texts_in parts.old.items
+        ++ each text_of (each (in_directory dir.0) (leaves_inside frag (leaf ∷ [])))) }
 {
     if !is_inside(frag, leaf) {
         return Ok(());

@@ -43,7 +43,8 @@ impl<S: Store + Drop> MdCache<S> {
     pub fn check_merge(&self, dir: Ino, frag: Frag) -> Result<(), Refusal>
         ensures known { OnOk result (is_known self.now.homes dir.0 ≡ true) }
         ensures can { OnOk result (CanMerge (leaves_of self.now.covers dir.0) frag) }
-        ensures refused { IfErr result (RefusesLeaves (RefusesMerge (leaves_of self.now.covers dir.0) frag) self.now.homes dir) }
+        ensures refused { IfErr result
+            (RefusesLeaves (RefusesMerge (leaves_of self.now.covers dir.0) frag) self.now.homes dir) }
     {
         can_merge(&self.dirs, dir, frag)
     }
@@ -62,8 +63,10 @@ impl<S: Store + Drop> MdCache<S> {
         requires holds { (q : Leaf) → Contains (ending_at self.old at.now) q → MayHold self.old.caches at.now.rank q }
         requires known { is_known self.old.homes at.now.dir.0 ≡ true }
         requires can { CanMerge (leaves_of self.old.covers at.now.dir.0) at.now.frag }
-        ensures merged { MergesLeaves (LacksPlacesAt 1 self.old at.now.rank) self.old self.new at.now.dir at.now.frag result }
-        ensures came { Came (IsAmongOr at.now.rank.0 (ending_at self.old at.now) (leaf_of at.now)) (λ r q. Contains (ending_at self.old at.now) q) self.old.caches self.new.caches }
+        ensures merged { MergesLeaves
+            (LacksPlacesAt 1 self.old at.now.rank) self.old self.new at.now.dir at.now.frag result }
+        ensures came { Came (IsAmongOr at.now.rank.0 (ending_at self.old at.now) (leaf_of at.now))
+            (λ r q. Contains (ending_at self.old at.now) q) self.old.caches self.new.caches }
         ensures counted { self.new.faults ≡ self.old.faults + faults_told (result_err result) }
         ensures sound { IsSoundCore self.new }
     {
@@ -83,10 +86,14 @@ impl<S: Store + Drop> MdCache<S> {
         requires generation { self.old.next_generation + 1 < 2 ^ 64 }
         requires version { self.old.next_version < 2 ^ 64 - 1 }
         ensures merged { OnOk result (IsMergedInto (state_of self.old) (state_of self.new) at.now.dir at.now.frag) }
-        ensures tree { OnOk result (KeepsTree (state_of self.old) (state_of self.new) at.now.dir (merged_leaves self.old at.now.dir at.now.frag)) }
+        ensures tree { OnOk result
+            (KeepsTree (state_of self.old) (state_of self.new) at.now.dir
+            (merged_leaves self.old at.now.dir at.now.frag)) }
         ensures undone { OnErr result (IsUndone self.old self.new) }
-        ensures came { Came (IsAmongOr at.now.rank.0 (ending_at self.old at.now) (leaf_of at.now)) (λ r q. Contains (ending_at self.old at.now) q) self.old.caches self.new.caches }
-        ensures refused { IfErr result (MayNotFind (LacksPlacesAt 1 self.old at.now.rank) self.old.faults self.new.faults) }
+        ensures came { Came (IsAmongOr at.now.rank.0 (ending_at self.old at.now) (leaf_of at.now))
+            (λ r q. Contains (ending_at self.old at.now) q) self.old.caches self.new.caches }
+        ensures refused { IfErr result
+            (MayNotFind (LacksPlacesAt 1 self.old at.now.rank) self.old.faults self.new.faults) }
         ensures counted { self.new.faults ≡ self.old.faults + faults_told (result_err result) }
         ensures sound { IsSoundCore self.new }
     {
@@ -111,10 +118,12 @@ impl<S: Store + Drop> MdCache<S> {
         requires can { CanMerge (leaves_of self.old.covers at.now.dir.0) at.now.frag }
         ensures ready { IfOk result (IsMergeReady self.new at.now) }
         ensures only { OnOk result (KeepsOnlyAt (Some (at.now.rank, leaf_of at.now)) self.new.caches) }
-        ensures reads { ReadsCore (IsAmongOr at.now.rank.0 (ending_at self.old at.now) (leaf_of at.now)) NoneEnds self.old self.new }
+        ensures reads { ReadsCore
+            (IsAmongOr at.now.rank.0 (ending_at self.old at.now) (leaf_of at.now)) NoneEnds self.old self.new }
         ensures sound { OnErr result (IsSoundCore self.new) }
         ensures undone { OnErr result (IsUndone self.old self.new) }
-        ensures refused { IfErr result (MayNotFind (LacksPlacesAt 1 self.old at.now.rank) self.old.faults self.new.faults) }
+        ensures refused { IfErr result
+            (MayNotFind (LacksPlacesAt 1 self.old at.now.rank) self.old.faults self.new.faults) }
         ensures counted { self.new.faults ≡ self.old.faults + faults_told (result_err result) }
     {
         let plan = match self.plan_merge(alloc, at) {
@@ -161,7 +170,8 @@ impl<S: Store + Drop> MdCache<S> {
 fn can_merge(dirs: &Dirs, dir: Ino, frag: Frag) -> Result<(), Refusal>
     ensures known { OnOk result (is_known dirs.now.homes dir.0 ≡ true) }
     ensures can { OnOk result (CanMerge (leaves_of dirs.now.trees dir.0) frag) }
-    ensures refused { IfErr result (RefusesLeaves (RefusesMerge (leaves_of dirs.now.trees dir.0) frag) dirs.now.homes dir) }
+    ensures refused { IfErr result
+        (RefusesLeaves (RefusesMerge (leaves_of dirs.now.trees dir.0) frag) dirs.now.homes dir) }
 {
     if !dirs.contains(dir) {
         return Err(Refusal::NoSuchFrag);

@@ -51,13 +51,15 @@ impl<S: Store + Drop> MdCache<S> {
         requires ranked { ranks ≤ 16 }
         requires few { 512 ≤ places }
         requires many { places ≤ 65536 }
-        ensures mounted { IfOk result (λ m. Mounts limit (S.objects store) ranks places (contents dentry_cmp m.1.entries) m.0) }
+        ensures mounted { IfOk result
+            (λ m. Mounts limit (S.objects store) ranks places (contents dentry_cmp m.1.entries) m.0) }
         ensures cold { IfOk result (λ m. IsColdTree (S.objects store) (shown_in m.0)) }
         ensures opening { IfOk result (λ m. contents dentry_cmp m.1.entries ≡ shown_in m.0) }
         ensures numbers { IfOk result (λ m. AreNumbers (shown_in m.0) ranks m.1.numbers.items) }
         ensures sound { IfOk result (λ m. IsSoundCore m.0) }
         ensures faults { IfOk result (λ m. m.0.faults ≡ S.faults store) }
-        ensures refused { IfErr result (λ back. MayNotMount (S.objects store) (S.faults store) (S.faults back.1) back.0) }
+        ensures refused { IfErr result
+            (λ back. MayNotMount (S.objects store) (S.faults store) (S.faults back.1) back.0) }
         ensures left { IfErr result (λ back. S.objects back.1 ≡ S.objects store) }
         ensures counted { IfErr result (λ back. S.faults back.1 ≡ S.faults store + faults_in back.0) }
     {
@@ -136,9 +138,11 @@ impl<S: Store + Drop> MdCache<S> {
         requires ranked { ranks ≤ 16 }
         requires few { 512 ≤ places }
         requires many { places ≤ 65536 }
-        requires walked { IsWalked (S.objects store) (contents dentry_cmp walked.entries) walked.dirs.homes walked.dirs.trees (contents key_cmp walked.left) }
+        requires walked { IsWalked (S.objects store)
+            (contents dentry_cmp walked.entries) walked.dirs.homes walked.dirs.trees (contents key_cmp walked.left) }
         requires counted { IsCounted (contents dentry_cmp walked.entries) walked.dirs.counts walked.dirs.pins }
-        ensures made { IfOk result (λ m. IsMounted limit (S.objects store) ranks places (contents dentry_cmp m.1.entries) m.0) }
+        ensures made { IfOk result
+            (λ m. IsMounted limit (S.objects store) ranks places (contents dentry_cmp m.1.entries) m.0) }
         ensures numbers { IfOk result (λ m. AreNumbers (contents dentry_cmp m.1.entries) ranks m.1.numbers.items) }
         ensures faults { IfOk result (λ m. m.0.faults ≡ S.faults store) }
         ensures refused { IfErr result (λ back. back ≡ (NoMemory, store)) }
@@ -163,7 +167,9 @@ impl<S: Store + Drop> MdCache<S> {
         numbers: Vec<Numbers>,
         limit: Limit,
     ) -> (MdCache<S>, Opening)
-        ensures state { state_of result.0 ≡ record (mounted limit (S.objects store) walked.dirs.homes walked.dirs.trees walked.dirs.counts walked.dirs.pins (contents key_cmp walked.left)) { unsaved = unclean caches } }
+        ensures state { state_of result.0 ≡ record
+            (mounted limit (S.objects store) walked.dirs.homes walked.dirs.trees walked.dirs.counts walked.dirs.pins
+            (contents key_cmp walked.left)) { unsaved = unclean caches } }
         ensures caches { result.0.caches ≡ caches }
         ensures faults { result.0.faults ≡ S.faults store }
         ensures entries { result.1.entries ≡ walked.entries }
@@ -196,7 +202,8 @@ impl<S: Store + Drop> MdCache<S> {
 fn empty_opening(alloc: Global, ranks: u8) -> Result<Opening, AllocError>
     requires { ranks ≤ 16 }
     ensures entries { IfOk result (λ opening. contents dentry_cmp opening.entries ≡ map.empty) }
-    ensures numbers { IfOk result (λ opening. AreNumbers (contents dentry_cmp opening.entries) ranks opening.numbers.items) }
+    ensures numbers { IfOk result
+        (λ opening. AreNumbers (contents dentry_cmp opening.entries) ranks opening.numbers.items) }
 {
     let nothing = Walked {
         entries: SortedMap::new(alloc),

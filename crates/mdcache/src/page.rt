@@ -57,7 +57,8 @@ impl Page {
     /// Takes in names of a leaf, which come in order, up to the first that can't be in the page. Takes memory for those
     /// that are in the page then; where it lacks, some of them may be in, and the page is of no more use.
     pub fn take_rows(&mut self, mut rows: Rows<'_>) -> Result<(), AllocError>
-        ensures page { (whole : List Row) → IsPageOf whole self.old → T (is_sorted key_cmp (rows_left rows.entry)) → OnOk result (IsPageOf (puts key_cmp whole (rows_left rows.entry)) self.new) }
+        ensures page { (whole : List Row) → IsPageOf whole self.old → T (is_sorted key_cmp (rows_left rows.entry))
+            → OnOk result (IsPageOf (puts key_cmp whole (rows_left rows.entry)) self.new) }
         ensures most { self.new.most ≡ self.old.most }
     {
         while let Some((name, inode)) = rows.next_row() {

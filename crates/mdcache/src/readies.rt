@@ -33,10 +33,12 @@ impl<S: Store + Drop> MdCache<S> {
     ) -> Result<(), Refusal>
         requires may { MayFetch self.old at.now }
         requires none { KeepsNone self.old.caches }
-        ensures room { OnOk result (HasCached (here self.new.caches at.now.rank.0 (leaf_of at.now)) (λ (f : Cached). changes ≤ f.room)) }
+        ensures room { OnOk result
+            (HasCached (here self.new.caches at.now.rank.0 (leaf_of at.now)) (λ (f : Cached). changes ≤ f.room)) }
         ensures reads { ReadsCore (IsThat at.now.rank.0 (leaf_of at.now)) NoneEnds self.old self.new }
         ensures none { KeepsNone self.new.caches }
-        ensures refused { IfErr result (MayNotFind (LacksPlacesIn 1 self.old.caches at.now.rank.0) self.old.faults self.new.faults) }
+        ensures refused { IfErr result
+            (MayNotFind (LacksPlacesIn 1 self.old.caches at.now.rank.0) self.old.faults self.new.faults) }
         ensures counted { self.new.faults ≡ self.old.faults + faults_told (result_err result) }
     {
         if let Err(refusal) = self.fetch(alloc, at) {
@@ -61,11 +63,14 @@ impl<S: Store + Drop> MdCache<S> {
         requires to { MayFetch self.old to.now }
         requires one { ◌≡◌ {A = Leaf} (leaf_of from.now) (leaf_of to.now) → from.now.rank ≡ to.now.rank }
         requires none { KeepsNone self.old.caches }
-        ensures source { OnOk result (HasCached (here self.new.caches from.now.rank.0 (leaf_of from.now)) (λ (f : Cached). 1 < f.room)) }
+        ensures source { OnOk result
+            (HasCached (here self.new.caches from.now.rank.0 (leaf_of from.now)) (λ (f : Cached). 1 < f.room)) }
         ensures target { OnOk result (HasRoom (here self.new.caches to.now.rank.0 (leaf_of to.now))) }
-        ensures reads { ReadsCore (λ r q. IsThat from.now.rank.0 (leaf_of from.now) r q ⊎ IsThat to.now.rank.0 (leaf_of to.now) r q) NoneEnds self.old self.new }
+        ensures reads { ReadsCore (λ r q. IsThat from.now.rank.0 (leaf_of from.now) r q
+            ⊎ IsThat to.now.rank.0 (leaf_of to.now) r q) NoneEnds self.old self.new }
         ensures none { KeepsNone self.new.caches }
-        ensures refused { IfErr result (MayNotFind (LacksPlacesIn 2 self.old.caches from.now.rank.0 ⊎ LacksPlacesIn 2 self.old.caches to.now.rank.0) self.old.faults self.new.faults) }
+        ensures refused { IfErr result (MayNotFind (LacksPlacesIn 2 self.old.caches from.now.rank.0
+            ⊎ LacksPlacesIn 2 self.old.caches to.now.rank.0) self.old.faults self.new.faults) }
         ensures counted { self.new.faults ≡ self.old.faults + faults_told (result_err result) }
     {
         if let Err(refusal) = self.ready_names(alloc, from, 2) {
@@ -78,12 +83,16 @@ impl<S: Store + Drop> MdCache<S> {
     fn ready_beside(&mut self, alloc: Global, at: &Dirfrag, first: &Dirfrag) -> Result<(), Refusal>
         requires may { MayFetch self.old at.now }
         requires none { KeepsNone self.old.caches }
-        requires first { HasCached (here self.old.caches first.now.rank.0 (leaf_of first.now)) (λ (f : Cached). 1 < f.room) }
+        requires first { HasCached (here self.old.caches first.now.rank.0 (leaf_of first.now))
+            (λ (f : Cached). 1 < f.room) }
         ensures room { OnOk result (HasRoom (here self.new.caches at.now.rank.0 (leaf_of at.now))) }
-        ensures stays { OnOk result (HasCached (here self.new.caches first.now.rank.0 (leaf_of first.now)) (λ (f : Cached). 1 < f.room)) }
-        ensures reads { ReadsCore (λ r q. IsThat first.now.rank.0 (leaf_of first.now) r q ⊎ IsThat at.now.rank.0 (leaf_of at.now) r q) NoneEnds self.old self.new }
+        ensures stays { OnOk result
+            (HasCached (here self.new.caches first.now.rank.0 (leaf_of first.now)) (λ (f : Cached). 1 < f.room)) }
+        ensures reads { ReadsCore (λ r q. IsThat first.now.rank.0 (leaf_of first.now) r q
+            ⊎ IsThat at.now.rank.0 (leaf_of at.now) r q) NoneEnds self.old self.new }
         ensures none { KeepsNone self.new.caches }
-        ensures refused { IfErr result (MayNotFind (LacksPlacesIn 2 self.old.caches at.now.rank.0) self.old.faults self.new.faults) }
+        ensures refused { IfErr result
+            (MayNotFind (LacksPlacesIn 2 self.old.caches at.now.rank.0) self.old.faults self.new.faults) }
         ensures counted { self.new.faults ≡ self.old.faults + faults_told (result_err result) }
     {
         if let Err(refusal) = self.fetch_beside(alloc, at, first) {
@@ -111,11 +120,13 @@ impl<S: Store + Drop> MdCache<S> {
         requires apart { ◌≡◌ {A = Leaf} (leaf_of first.now) (leaf_of at.now) → ⊥ }
         ensures room { OnOk result (HasRoom (here self.new.caches at.now.rank.0 (leaf_of at.now))) }
         ensures place { OnOk result (IsKeptFor self.new.caches first.now.rank.0 (leaf_of first.now)) }
-        ensures reads { ReadsCore (λ r q. IsThat at.now.rank.0 (leaf_of at.now) r q ⊎ IsThat first.now.rank.0 (leaf_of first.now) r q) NoneEnds self.old self.new }
+        ensures reads { ReadsCore (λ r q. IsThat at.now.rank.0 (leaf_of at.now) r q
+            ⊎ IsThat first.now.rank.0 (leaf_of first.now) r q) NoneEnds self.old self.new }
         ensures only { OnOk result (KeepsOnlyAt (Some (first.now.rank, leaf_of first.now)) self.new.caches) }
         ensures absent { map.get self.new.caches.held (leaf_of first.now) ≡ None }
         ensures none { OnErr result (KeepsNone self.new.caches) }
-        ensures refused { IfErr result (MayNotFind (LacksPlacesIn 2 self.old.caches at.now.rank.0) self.old.faults self.new.faults) }
+        ensures refused { IfErr result
+            (MayNotFind (LacksPlacesIn 2 self.old.caches at.now.rank.0) self.old.faults self.new.faults) }
         ensures counted { self.new.faults ≡ self.old.faults + faults_told (result_err result) }
     {
         if let Err(refusal) = self.ready_names(alloc, at, 1) {

@@ -52,12 +52,14 @@ impl<S: Store + Drop> MdCache<S> {
         requires holds { MayHold self.old.caches at.now.rank (leaf_of at.now) }
         requires known { is_directory (shown_in self.old) at.now.dir.0 ≡ true }
         requires leaf { IsPick (leaves_of self.old.covers at.now.dir.0) (hash_of name.now) at.now.frag }
-        ensures found { IfOk result (λ found. found ≡ map.get (shown_in self.old) (record { dir = at.now.dir; name = name.now })) }
+        ensures found { IfOk result
+            (λ found. found ≡ map.get (shown_in self.old) (record { dir = at.now.dir; name = name.now })) }
         ensures newest { OnOk result (IsNewest self.new.caches at.now.rank.0 (leaf_of at.now)) }
         ensures reads { ReadsCore (IsThat at.now.rank.0 (leaf_of at.now)) NoneEnds self.old self.new }
         ensures sound { IsSoundCore self.new }
         ensures counted { self.new.faults ≡ self.old.faults + faults_told (result_err result) }
-        ensures refused { IfErr result (MayNotFind (LacksPlacesAt 1 self.old at.now.rank) self.old.faults self.new.faults) }
+        ensures refused { IfErr result
+            (MayNotFind (LacksPlacesAt 1 self.old at.now.rank) self.old.faults self.new.faults) }
     {
         self.find(alloc, at, name)
     }

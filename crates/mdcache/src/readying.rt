@@ -46,7 +46,9 @@ impl<S: Store + Drop> MdCache<S> {
         ensures reads { ReadsCore (IsThat at.now.rank.0 (leaf_of at.now)) NoneEnds self.old self.new }
         ensures sound { IsSoundCore self.new }
         ensures counted { self.new.faults ≡ self.old.faults + faults_told (result_err result) }
-        ensures refused { IfErr result (MayNotBeReady (LacksNumbers 1 self.old.next_version) (LacksPlacesAt 1 self.old at.now.rank) self.old.faults self.new.faults) }
+        ensures refused { IfErr result
+            (MayNotBeReady (LacksNumbers 1 self.old.next_version)
+            (LacksPlacesAt 1 self.old at.now.rank) self.old.faults self.new.faults) }
     {
         if let Err(refusal) = check_left(self.next.version) {
             return Err(refusal);
@@ -75,10 +77,13 @@ impl<S: Store + Drop> MdCache<S> {
         ensures place { IfOk result (IsDirectoryReady self.new spot.now.at.rank (dentry_at spot.now) dir) }
         ensures only { OnOk result (KeepsOnlyAt (Some (spot.now.at.rank, first_leaf dir)) self.new.caches) }
         ensures cached { OnOk result (AreCached (state_of self.new) self.new.caches) }
-        ensures reads { ReadsCore (λ r q. IsThat spot.now.at.rank.0 (leaf_of spot.now.at) r q ⊎ IsThat spot.now.at.rank.0 (first_leaf dir) r q) NoneEnds self.old self.new }
+        ensures reads { ReadsCore (λ r q. IsThat spot.now.at.rank.0 (leaf_of spot.now.at) r q
+            ⊎ IsThat spot.now.at.rank.0 (first_leaf dir) r q) NoneEnds self.old self.new }
         ensures sound { OnErr result (IsSoundCore self.new) }
         ensures counted { self.new.faults ≡ self.old.faults + faults_told (result_err result) }
-        ensures refused { IfErr result (MayNotBeReady (LacksNumbers 1 self.old.next_version ⊎ LacksNumbers 1 self.old.next_generation) (LacksPlacesAt 2 self.old spot.now.at.rank) self.old.faults self.new.faults) }
+        ensures refused { IfErr result (MayNotBeReady (LacksNumbers 1 self.old.next_version
+            ⊎ LacksNumbers 1 self.old.next_generation)
+            (LacksPlacesAt 2 self.old spot.now.at.rank) self.old.faults self.new.faults) }
     {
         if let Err(refusal) = check_left(self.next.version) {
             return Err(refusal);
@@ -111,11 +116,15 @@ impl<S: Store + Drop> MdCache<S> {
         requires live { IsLive self.old.homes self.old.covers (leaf_of spot.now.at) }
         requires holds { MayHold self.old.caches spot.now.at.rank (leaf_of spot.now.at) }
         ensures ready { OnOk result (IsNameReady self.new spot.now.at.rank (leaf_of spot.now.at)) }
-        ensures recorded { OnOk result (IfSome (map.get (names_of (unclean self.old.caches) self.old.objects (leaf_of spot.now.at)) spot.now.name) IsRecordable) }
+        ensures recorded { OnOk result
+            (IfSome (map.get (names_of (unclean self.old.caches) self.old.objects (leaf_of spot.now.at)) spot.now.name)
+            IsRecordable) }
         ensures reads { ReadsCore (IsThat spot.now.at.rank.0 (leaf_of spot.now.at)) NoneEnds self.old self.new }
         ensures sound { IsSoundCore self.new }
         ensures counted { self.new.faults ≡ self.old.faults + faults_told (result_err result) }
-        ensures refused { IfErr result (MayNotBeReady (LacksNumbers 1 self.old.next_version) (LacksPlacesAt 1 self.old spot.now.at.rank) self.old.faults self.new.faults) }
+        ensures refused { IfErr result
+            (MayNotBeReady (LacksNumbers 1 self.old.next_version)
+            (LacksPlacesAt 1 self.old spot.now.at.rank) self.old.faults self.new.faults) }
     {
         if let Err(refusal) = self.ready_name(alloc, &spot.at) {
             return Err(refusal);
@@ -140,7 +149,9 @@ impl<S: Store + Drop> MdCache<S> {
         ensures reads { ReadsCore (IsThat at.now.rank.0 (leaf_of at.now)) NoneEnds self.old self.new }
         ensures sound { IsSoundCore self.new }
         ensures counted { self.new.faults ≡ self.old.faults + faults_told (result_err result) }
-        ensures refused { IfErr result (MayNotBeReady (LacksNumbers 1 self.old.next_version) (LacksPlacesAt 1 self.old at.now.rank) self.old.faults self.new.faults) }
+        ensures refused { IfErr result
+            (MayNotBeReady (LacksNumbers 1 self.old.next_version)
+            (LacksPlacesAt 1 self.old at.now.rank) self.old.faults self.new.faults) }
     {
         if let Err(refusal) = check_left(self.next.version) {
             return Err(refusal);
@@ -175,14 +186,18 @@ impl<S: Store + Drop> MdCache<S> {
         requires to_live { IsLive self.old.homes self.old.covers (leaf_of to.now.at) }
         requires to_holds { MayHold self.old.caches to.now.at.rank (leaf_of to.now.at) }
         requires one { ◌≡◌ {A = Leaf} (leaf_of from.now.at) (leaf_of to.now.at) → from.now.at.rank ≡ to.now.at.rank }
-        ensures source { OnOk result (HasCached (here self.new.caches from.now.at.rank.0 (leaf_of from.now.at)) (λ (f : Cached). 1 < f.room)) }
+        ensures source { OnOk result
+            (HasCached (here self.new.caches from.now.at.rank.0 (leaf_of from.now.at)) (λ (f : Cached). 1 < f.room)) }
         ensures target { OnOk result (HasRoom (here self.new.caches to.now.at.rank.0 (leaf_of to.now.at))) }
         ensures number { OnOk result (self.new.next_version < 2 ^ 64 - 2) }
         ensures moving { IfOk result (IsForMove self.new.covers self.new.room.purge to.now.name gone) }
-        ensures reads { ReadsCore (λ r q. IsThat from.now.at.rank.0 (leaf_of from.now.at) r q ⊎ IsThat to.now.at.rank.0 (leaf_of to.now.at) r q) NoneEnds self.old self.new }
+        ensures reads { ReadsCore (λ r q. IsThat from.now.at.rank.0 (leaf_of from.now.at) r q
+            ⊎ IsThat to.now.at.rank.0 (leaf_of to.now.at) r q) NoneEnds self.old self.new }
         ensures sound { IsSoundCore self.new }
         ensures counted { self.new.faults ≡ self.old.faults + faults_told (result_err result) }
-        ensures refused { IfErr result (MayNotBeReady (LacksNumbers 2 self.old.next_version) (LacksPlacesAt 2 self.old from.now.at.rank ⊎ LacksPlacesAt 2 self.old to.now.at.rank) self.old.faults self.new.faults) }
+        ensures refused { IfErr result
+            (MayNotBeReady (LacksNumbers 2 self.old.next_version) (LacksPlacesAt 2 self.old from.now.at.rank
+            ⊎ LacksPlacesAt 2 self.old to.now.at.rank) self.old.faults self.new.faults) }
     {
         if let Err(refusal) = check_two_left(self.next.version) {
             return Err(refusal);
@@ -235,7 +250,8 @@ fn new_directory(alloc: Global, name: &Name, dir: Ino) -> Result<NewDirectory, R
 pub(crate) fn has_records(caches: &Caches, at: &Dirfrag)
     requires there { at.now.rank.0 < length caches.now.used }
     requires cached { IsThere (here caches.now at.now.rank.0 (leaf_of at.now)) }
-    ensures { HasCached (here caches.now at.now.rank.0 (leaf_of at.now)) (λ (f : Cached). (name : List ℕ) → IfSome (map.get (shown f) name) IsRecordable) }
+    ensures { HasCached (here caches.now at.now.rank.0 (leaf_of at.now))
+        (λ (f : Cached). (name : List ℕ) → IfSome (map.get (shown f) name) IsRecordable) }
 {
     if let Some(fragment) = caches.get(*at) {
         fragment.has_records();

@@ -17,7 +17,8 @@ impl<S: Store + Drop> MdCache<S> {
     /// before they take memory. Refused `NoInodes` exactly where they aren't. Takes no memory.
     pub fn check_numbers(&self, count: u64) -> Result<(), Refusal>
         ensures ok { OnOk result (LacksCounts count (state_of self.now) → ⊥) }
-        ensures left { OnOk result ((self.now.next_generation + count < 2 ^ 64) × (self.now.next_version < 2 ^ 64 - 1)) }
+        ensures left { OnOk result ((self.now.next_generation + count < 2 ^ 64)
+            × (self.now.next_version < 2 ^ 64 - 1)) }
         ensures err { IfErr result (λ reason. (reason ≡ NoInodes) × LacksCounts count (state_of self.now)) }
     {
         check_counts(self.next.generation, count, self.next.version)
@@ -27,7 +28,8 @@ impl<S: Store + Drop> MdCache<S> {
 // Whether numbers are left for so many fragments that come, and for their names.
 fn check_counts(generation: u64, count: u64, version: u64) -> Result<(), Refusal>
     ensures ok { OnOk result ((generation + count < 2 ^ 64) × (version < 2 ^ 64 - 1)) }
-    ensures err { IfErr result (λ reason. (reason ≡ NoInodes) × (LacksNumbers count generation ⊎ LacksNumbers 1 version)) }
+    ensures err { IfErr result (λ reason. (reason ≡ NoInodes)
+        × (LacksNumbers count generation ⊎ LacksNumbers 1 version)) }
 {
     if u64::MAX - generation < count || version == u64::MAX {
         return Err(Refusal::NoInodes);
@@ -39,7 +41,8 @@ fn check_counts(generation: u64, count: u64, version: u64) -> Result<(), Refusal
 pub(crate) fn take_counts(next: &mut Counters, count: u64, empty: bool)
     requires generation { next.old.generation + count < 2 ^ 64 }
     requires version { next.old.version < 2 ^ 64 - 1 }
-    ensures { next.new ≡ record next.old { generation = next.old.generation + count; version = next.old.version + cond empty 0 1 } }
+    ensures { next.new ≡ record next.old
+        { generation = next.old.generation + count; version = next.old.version + cond empty 0 1 } }
 {
     next.generation += count;
     if !empty {

@@ -56,8 +56,10 @@ impl<S: Store + Drop> MdCache<S> {
         requires holds { MayHold self.old.caches at.now.rank (leaf_of at.now) }
         requires known { is_known self.old.homes at.now.dir.0 ≡ true }
         requires can { CanSplit (leaves_of self.old.covers at.now.dir.0) at.now.frag nb }
-        ensures split { SplitsLeaf (LacksPlacesAt (2 ^ nb + 1) self.old at.now.rank) self.old self.new at.now.dir at.now.frag nb result }
-        ensures came { Came (IsFamilyAt at.now.rank.0 at.now.dir at.now.frag nb) (IsFamilyAt at.now.rank.0 at.now.dir at.now.frag nb) self.old.caches self.new.caches }
+        ensures split { SplitsLeaf
+            (LacksPlacesAt (2 ^ nb + 1) self.old at.now.rank) self.old self.new at.now.dir at.now.frag nb result }
+        ensures came { Came (IsFamilyAt at.now.rank.0 at.now.dir at.now.frag nb)
+            (IsFamilyAt at.now.rank.0 at.now.dir at.now.frag nb) self.old.caches self.new.caches }
         ensures counted { self.new.faults ≡ self.old.faults + faults_told (result_err result) }
         ensures sound { IsSoundCore self.new }
     {
@@ -78,8 +80,10 @@ impl<S: Store + Drop> MdCache<S> {
         ensures split { OnOk result (IsSplitInto (state_of self.old) (state_of self.new) at.now.dir at.now.frag nb) }
         ensures tree { OnOk result (KeepsTree (state_of self.old) (state_of self.new) at.now.dir (at.now.frag ∷ [])) }
         ensures undone { OnErr result (IsUndone self.old self.new) }
-        ensures came { Came (IsFamilyAt at.now.rank.0 at.now.dir at.now.frag nb) (IsFamilyAt at.now.rank.0 at.now.dir at.now.frag nb) self.old.caches self.new.caches }
-        ensures refused { IfErr result (MayNotFind (LacksPlacesAt (2 ^ nb + 1) self.old at.now.rank) self.old.faults self.new.faults) }
+        ensures came { Came (IsFamilyAt at.now.rank.0 at.now.dir at.now.frag nb)
+            (IsFamilyAt at.now.rank.0 at.now.dir at.now.frag nb) self.old.caches self.new.caches }
+        ensures refused { IfErr result
+            (MayNotFind (LacksPlacesAt (2 ^ nb + 1) self.old at.now.rank) self.old.faults self.new.faults) }
         ensures counted { self.new.faults ≡ self.old.faults + faults_told (result_err result) }
         ensures sound { IsSoundCore self.new }
     {
@@ -105,12 +109,15 @@ impl<S: Store + Drop> MdCache<S> {
         requires can { CanSplit (leaves_of self.old.covers at.now.dir.0) at.now.frag nb }
         requires generations { self.old.next_generation + 2 ^ nb < 2 ^ 64 }
         ensures ready { IfOk result (IsSplitReady self.new at.now nb) }
-        ensures only { OnOk result ((r : ℕ) (q : Leaf) → IsWhole self.new.caches r q ⊎ IsChildAt at.now.rank.0 at.now.dir at.now.frag nb r q) }
+        ensures only { OnOk result ((r : ℕ) (q : Leaf) → IsWhole self.new.caches r q
+            ⊎ IsChildAt at.now.rank.0 at.now.dir at.now.frag nb r q) }
         ensures distinct { OnOk result (IsDistinct leaf_is (order self.new.caches at.now.rank.0)) }
-        ensures reads { ReadsCore (IsFamilyAt at.now.rank.0 at.now.dir at.now.frag nb) (IsFamilyAt at.now.rank.0 at.now.dir at.now.frag nb) self.old self.new }
+        ensures reads { ReadsCore (IsFamilyAt at.now.rank.0 at.now.dir at.now.frag nb)
+            (IsFamilyAt at.now.rank.0 at.now.dir at.now.frag nb) self.old self.new }
         ensures sound { OnErr result (IsSoundCore self.new) }
         ensures undone { OnErr result (IsUndone self.old self.new) }
-        ensures refused { IfErr result (MayNotFind (LacksPlacesAt (2 ^ nb + 1) self.old at.now.rank) self.old.faults self.new.faults) }
+        ensures refused { IfErr result
+            (MayNotFind (LacksPlacesAt (2 ^ nb + 1) self.old at.now.rank) self.old.faults self.new.faults) }
         ensures counted { self.new.faults ≡ self.old.faults + faults_told (result_err result) }
     {
         let plan = match self.plan_split(alloc, at, nb) {
@@ -131,7 +138,8 @@ impl<S: Store + Drop> MdCache<S> {
     fn ready_children(&mut self, alloc: Global, at: &Dirfrag, nb: u8) -> Result<Parts, Refusal>
         requires may { MayFetch self.old at.now }
         requires none { KeepsNone self.old.caches }
-        requires absent { (i : ℕ) → i < 2 ^ nb → map.get self.old.caches.held (at.now.dir, child_of at.now.frag i nb) ≡ None }
+        requires absent { (i : ℕ) → i < 2 ^ nb → map.get self.old.caches.held
+            (at.now.dir, child_of at.now.frag i nb) ≡ None }
         requires some { 1 ≤ nb }
         requires few { nb ≤ 8 }
         requires deep { at.now.frag.bits + nb ≤ 24 }
@@ -139,12 +147,16 @@ impl<S: Store + Drop> MdCache<S> {
         ensures ready { IfOk result (IsReadyAt at.now.rank.0 at.now.dir at.now.frag nb self.new.caches) }
         ensures numbered { IfOk result (AreNumbered self.new.next_generation) }
         ensures kept { OnOk result (AreKept self.new.caches at.now.rank.0 at.now.dir at.now.frag nb) }
-        ensures only { OnOk result ((r : ℕ) (q : Leaf) → IsWhole self.new.caches r q ⊎ IsChildAt at.now.rank.0 at.now.dir at.now.frag nb r q) }
+        ensures only { OnOk result ((r : ℕ) (q : Leaf) → IsWhole self.new.caches r q
+            ⊎ IsChildAt at.now.rank.0 at.now.dir at.now.frag nb r q) }
         ensures none { OnErr result (KeepsNone self.new.caches) }
-        ensures reads { ReadsCore (IsFamilyAt at.now.rank.0 at.now.dir at.now.frag nb) (IsFamilyAt at.now.rank.0 at.now.dir at.now.frag nb) self.old self.new }
-        ensures absent { OnErr result ((i : ℕ) → i < 2 ^ nb → map.get self.new.caches.held (at.now.dir, child_of at.now.frag i nb) ≡ None) }
+        ensures reads { ReadsCore (IsFamilyAt at.now.rank.0 at.now.dir at.now.frag nb)
+            (IsFamilyAt at.now.rank.0 at.now.dir at.now.frag nb) self.old self.new }
+        ensures absent { OnErr result
+            ((i : ℕ) → i < 2 ^ nb → map.get self.new.caches.held (at.now.dir, child_of at.now.frag i nb) ≡ None) }
         ensures distinct { IsDistinct leaf_is (order self.new.caches at.now.rank.0) }
-        ensures refused { IfErr result (MayNotFind (LacksPlacesIn (2 ^ nb + 1) self.old.caches at.now.rank.0) self.old.faults self.new.faults) }
+        ensures refused { IfErr result
+            (MayNotFind (LacksPlacesIn (2 ^ nb + 1) self.old.caches at.now.rank.0) self.old.faults self.new.faults) }
         ensures counted { self.new.faults ≡ self.old.faults + faults_told (result_err result) }
     {
         if let Err(refusal) = self.fetch(alloc, at) {
@@ -170,11 +182,20 @@ impl<S: Store + Drop> MdCache<S> {
         requires can { CanSplit (leaves_of self.old.covers at.now.dir.0) at.now.frag nb }
         requires generations { self.old.next_generation + 2 ^ nb < 2 ^ 64 }
         requires version { self.old.next_version < 2 ^ 64 - 1 }
-        ensures places { OnOk result (SplitsInto at.now.rank.0 at.now.dir at.now.frag nb split.parts self.old.next_version self.old.caches self.new.caches) }
-        ensures divided { OnOk result (IsSplit (leaves_of self.old.covers at.now.dir.0) (leaves_of self.new.covers at.now.dir.0) at.now.frag nb) }
+        ensures places { OnOk result
+            (SplitsInto at.now.rank.0 at.now.dir at.now.frag nb split.parts self.old.next_version
+            self.old.caches self.new.caches) }
+        ensures divided { OnOk result
+            (IsSplit (leaves_of self.old.covers at.now.dir.0) (leaves_of self.new.covers at.now.dir.0) at.now.frag nb) }
         ensures whole { OnOk result (IsTree (leaves_of self.new.covers at.now.dir.0)) }
-        ensures split { OnOk result ((empty : Bool) × HasCached (here self.old.caches at.now.rank.0 (leaf_of at.now)) (λ (f : Cached). empty ≡ has_none (shown f)) × (self.new ≡ split_in self.old at.now nb split.plan (leaves_of self.new.covers at.now.dir.0) empty self.new.caches self.new.room)) }
-        ensures left { OnErr result (self.new ≡ record self.old { caches = without_children at.now.rank.0 at.now.dir at.now.frag nb (2 ^ nb) self.old.caches }) }
+        ensures split { OnOk result
+            ((empty : Bool) × HasCached (here self.old.caches at.now.rank.0 (leaf_of at.now))
+            (λ (f : Cached). empty ≡ has_none (shown f))
+            × (self.new ≡ split_in self.old at.now nb split.plan
+            (leaves_of self.new.covers at.now.dir.0) empty self.new.caches self.new.room)) }
+        ensures left { OnErr result
+            (self.new ≡ record self.old
+            { caches = without_children at.now.rank.0 at.now.dir at.now.frag nb (2 ^ nb) self.old.caches }) }
         ensures refused { IfErr result (λ reason. reason ≡ NoMemory) }
     {
         if let Err(refusal) = self.dirs.split(alloc, at.dir, at.frag, nb) {

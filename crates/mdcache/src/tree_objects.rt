@@ -24,7 +24,8 @@ pub fn save_tree<S: Store>(
     dir: Ino,
     name: &str,
 ) -> Result<(), Refusal>
-    ensures saved { OnOk result (S.objects store.new ≡ with_tree_at (S.objects store.old) name.now (leaves_of dirs.now.trees dir.0)) }
+    ensures saved { OnOk result
+        (S.objects store.new ≡ with_tree_at (S.objects store.old) name.now (leaves_of dirs.now.trees dir.0)) }
     ensures same { OnErr result (S.objects store.new ≡ S.objects store.old) }
     ensures refused { IfErr result (MayRefuse (S.faults store.old) (S.faults store.new)) }
     ensures counted { S.faults store.new ≡ S.faults store.old + faults_told (result_err result) }
@@ -47,7 +48,9 @@ pub fn save_tree<S: Store>(
 
 // The header of the object that says what leaves a directory has; none where it has one.
 fn header_of(alloc: Global, dirs: &Dirs, dir: Ino) -> Result<Option<Vec<u8>>, AllocError>
-    ensures { IfOk result (λ header. MatchOption header (length (leaves_of dirs.now.trees dir.0) < 2) (λ bytes. SpellsTree bytes.items (leaves_of dirs.now.trees dir.0))) }
+    ensures { IfOk result
+        (λ header. MatchOption header (length (leaves_of dirs.now.trees dir.0) < 2)
+        (λ bytes. SpellsTree bytes.items (leaves_of dirs.now.trees dir.0))) }
 {
     let tree = dirs.tree(alloc, dir)?;
     if tree.len() < 2 {
@@ -66,7 +69,9 @@ fn is_written<S: Store>(
     name: &str,
     header: &[u8],
 ) -> Result<bool, Refusal>
-    ensures so { IfOk result (λ so. so ≡ true → map.get (S.objects store.old) name.now ≡ Some (record { header = header.now; pairs = map.empty })) }
+    ensures so { IfOk result
+        (λ so. so ≡ true → map.get (S.objects store.old) name.now ≡ Some
+        (record { header = header.now; pairs = map.empty })) }
     ensures same { S.objects store.new ≡ S.objects store.old }
     ensures refused { IfErr result (MayRefuse (S.faults store.old) (S.faults store.new)) }
     ensures counted { S.faults store.new ≡ S.faults store.old + faults_told (result_err result) }
@@ -90,7 +95,9 @@ fn write_tree<S: Store>(
     name: &str,
     header: Vec<u8>,
 ) -> Result<(), Refusal>
-    ensures written { OnOk result (S.objects store.new ≡ map.insert (S.objects store.old) name.now (record { header = header.items; pairs = map.empty })) }
+    ensures written { OnOk result
+        (S.objects store.new ≡ map.insert (S.objects store.old) name.now
+        (record { header = header.items; pairs = map.empty })) }
     ensures same { OnErr result (S.objects store.new ≡ S.objects store.old) }
     ensures refused { IfErr result (MayRefuse (S.faults store.old) (S.faults store.new)) }
     ensures counted { S.faults store.new ≡ S.faults store.old + faults_told (result_err result) }

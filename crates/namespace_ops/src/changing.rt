@@ -33,8 +33,10 @@ pub fn changes<F: Frags>(
     places: Places,
 ) -> Result<Vec<(Ino, Frag)>, Refusal>
     requires { AreLocated (F.content frags.old) (F.covers frags.old) (F.Holds frags.old) op.now places }
-    ensures changed { IfOk result (λ list. NamesOnce (changed_fragments limit (F.covers frags.old) (F.content frags.old) op.now) list.items) }
-    ensures kept { KeepsAll (F.content frags.old) (F.content frags.new) (F.covers frags.old) (F.covers frags.new) (F.Follows frags.old frags.new op.now (result_err result)) }
+    ensures changed { IfOk result
+        (λ list. NamesOnce (changed_fragments limit (F.covers frags.old) (F.content frags.old) op.now) list.items) }
+    ensures kept { KeepsAll (F.content frags.old) (F.content frags.new) (F.covers frags.old) (F.covers frags.new)
+        (F.Follows frags.old frags.new op.now (result_err result)) }
     ensures err { IfErr result (Refuses (F.MayRefuse frags.old frags.new op.now)) }
     ensures numbers { IfErr result (λ reason. reason ≢ NoInodes) }
 {
@@ -50,7 +52,10 @@ fn changed_by<F: Frags>(
     frags: &F,
     checked: &Checked,
 ) -> Result<Vec<(Ino, Frag)>, Refusal>
-    ensures changed { IfOk result (λ list. (limit : ℕ) (op : Operation) (n : ℕ) → Checks (F.content frags.now) (F.covers frags.now) (F.Holds frags.now) op n (step limit (F.content frags.now) op n) checked.now → NamesOnce (changed_fragments limit (F.covers frags.now) (F.content frags.now) op) list.items) }
+    ensures changed { IfOk result (λ list. (limit : ℕ) (op : Operation) (n : ℕ)
+        → Checks (F.content frags.now) (F.covers frags.now) (F.Holds frags.now) op n
+        (step limit (F.content frags.now) op n) checked.now → NamesOnce
+        (changed_fragments limit (F.covers frags.now) (F.content frags.now) op) list.items) }
     ensures err { IfErr result (λ reason. reason ≡ NoMemory) }
 {
     match checked {

@@ -33,8 +33,11 @@ pub fn check<F: Frags>(
     number: Ino,
 ) -> Result<Checked, Refusal>
     requires { AreLocated (F.content frags.old) (F.covers frags.old) (F.Holds frags.old) op.now places }
-    ensures checked { IfOk result (Checks (F.content frags.old) (F.covers frags.old) (F.Holds frags.old) op.now number.0 (step limit (F.content frags.old) op.now number.0)) }
-    ensures kept { KeepsAll (F.content frags.old) (F.content frags.new) (F.covers frags.old) (F.covers frags.new) (F.Follows frags.old frags.new op.now (result_err result)) }
+    ensures checked { IfOk result
+        (Checks (F.content frags.old) (F.covers frags.old) (F.Holds frags.old) op.now number.0
+        (step limit (F.content frags.old) op.now number.0)) }
+    ensures kept { KeepsAll (F.content frags.old) (F.content frags.new) (F.covers frags.old) (F.covers frags.new)
+        (F.Follows frags.old frags.new op.now (result_err result)) }
     ensures err { IfErr result (Refuses (F.MayRefuse frags.old frags.new op.now)) }
     ensures numbers { IfErr result (λ reason. reason ≢ NoInodes) }
 {

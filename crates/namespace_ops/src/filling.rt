@@ -23,8 +23,10 @@ pub fn room_errno(
     entries: u64,
     replaced: Option<&Inode>,
 ) -> Option<u16>
-    ensures told { (tree : Tree) → entries ≡ entries_in tree to.now.dir.0 → result ≡ errno_of_room limit tree from.now to.now (option_copied replaced.entry) }
-    ensures space { (tree : Tree) → entries ≡ entries_in tree to.now.dir.0 → result ≡ None → HasSpace tree from.now to.now (option_copied replaced.entry) }
+    ensures told { (tree : Tree) → entries ≡ entries_in tree to.now.dir.0
+        → result ≡ errno_of_room limit tree from.now to.now (option_copied replaced.entry) }
+    ensures space { (tree : Tree) → entries ≡ entries_in tree to.now.dir.0 → result ≡ None
+        → HasSpace tree from.now to.now (option_copied replaced.entry) }
 {
     match replaced {
         Some(_) => None,

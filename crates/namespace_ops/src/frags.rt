@@ -83,7 +83,8 @@ pub trait Frags {
         requires reads { Reads (content self.old) op.now dentry.now.dir.0 }
         requires at { LiesAt (content self.old) (covers self.old) (Holds self.old) dentry.now at.now }
         ensures found { IfOk result (λ found. found ≡ map.get (content self.old) dentry.now) }
-        ensures kept { KeepsAll (content self.old) (content self.new) (covers self.old) (covers self.new) (Follows self.old self.new op.now (result_err result)) }
+        ensures kept { KeepsAll (content self.old) (content self.new) (covers self.old) (covers self.new)
+            (Follows self.old self.new op.now (result_err result)) }
         ensures err { IfErr result (MayRefuse self.old self.new op.now) }
         ensures numbers { IfErr result (λ reason. reason ≢ NoInodes) };
 
@@ -97,9 +98,12 @@ pub trait Frags {
         max: PageSize,
     ) -> Result<(Listing, bool), Refusal>
         requires reads { Reads (content self.old) op.now dir.0 }
-        ensures listed { IfOk result (λ page. page.0 ≡ take max (names_after (content self.old) dir.0 (option_copied after.entry))) }
-        ensures more { IfOk result (λ page. page.1 ≡ nat_lt max (length (names_after (content self.old) dir.0 (option_copied after.entry)))) }
-        ensures kept { KeepsAll (content self.old) (content self.new) (covers self.old) (covers self.new) (Follows self.old self.new op.now (result_err result)) }
+        ensures listed { IfOk result
+            (λ page. page.0 ≡ take max (names_after (content self.old) dir.0 (option_copied after.entry))) }
+        ensures more { IfOk result
+            (λ page. page.1 ≡ nat_lt max (length (names_after (content self.old) dir.0 (option_copied after.entry)))) }
+        ensures kept { KeepsAll (content self.old) (content self.new) (covers self.old) (covers self.new)
+            (Follows self.old self.new op.now (result_err result)) }
         ensures err { IfErr result (MayRefuse self.old self.new op.now) }
         ensures numbers { IfErr result (λ reason. reason ≢ NoInodes) };
 
@@ -107,7 +111,8 @@ pub trait Frags {
     fn is_empty(&mut self, op: &Op, dir: Ino) -> Result<bool, Refusal>
         requires reads { Reads (content self.old) op.now dir.0 }
         ensures found { IfOk result (λ empty. empty ≡ not (has_entries (content self.old) dir.0)) }
-        ensures kept { KeepsAll (content self.old) (content self.new) (covers self.old) (covers self.new) (Follows self.old self.new op.now (result_err result)) }
+        ensures kept { KeepsAll (content self.old) (content self.new) (covers self.old) (covers self.new)
+            (Follows self.old self.new op.now (result_err result)) }
         ensures err { IfErr result (MayRefuse self.old self.new op.now) }
         ensures numbers { IfErr result (λ reason. reason ≢ NoInodes) };
 
@@ -119,27 +124,35 @@ pub trait Frags {
         requires of_op { IsChangeOf op.now change }
         requires held { LieHeld (Holds self.old) change }
         requires numbered { IsNumbered IsNumber change }
-        requires touch { (leaf : Leaf) → Contains (fragments_of (covers self.old) change) leaf → MayTouch self.old leaf }
+        requires touch { (leaf : Leaf) → Contains (fragments_of (covers self.old) change) leaf
+            → MayTouch self.old leaf }
         ensures changed { OnOk result (content self.new ≡ changed (content self.old) change) }
         ensures leaves { OnOk result (KeepLeaves (content self.new) (covers self.old) (covers self.new)) }
-        ensures frame { OnOk result (ChangesOnly (Unchanged self.old self.new) (fragments_of (covers self.old) change)) }
-        ensures kept { OnErr result (KeepsAll (content self.old) (content self.new) (covers self.old) (covers self.new) (Follows self.old self.new op.now (result_err result))) }
+        ensures frame { OnOk result
+            (ChangesOnly (Unchanged self.old self.new) (fragments_of (covers self.old) change)) }
+        ensures kept { OnErr result
+            (KeepsAll (content self.old) (content self.new) (covers self.old) (covers self.new)
+            (Follows self.old self.new op.now (result_err result))) }
         ensures err { IfErr result (MayRefuse self.old self.new op.now) };
 
     /// Fragments refuse for these reasons alone.
-    ghost refused_for: { (a b : Self) (op : Operation) (reason : Reason) → MayRefuse a b op reason → IsOfFragments reason };
+    ghost refused_for: { (a b : Self) (op : Operation) (reason : Reason)
+        → MayRefuse a b op reason → IsOfFragments reason };
 
     /// A call that did nothing keeps all.
     ghost follows_self: { (a : Self) (op : Operation) → Follows a a op None };
 
     /// One call after another that wasn't refused keeps what both keep.
-    ghost follows_on: { (a b c : Self) (op : Operation) (told : Option Reason) → Follows a b op None → Follows b c op told → Follows a c op told };
+    ghost follows_on: { (a b c : Self) (op : Operation) (told : Option Reason) → Follows a b op None
+        → Follows b c op told → Follows a c op told };
 
     /// Reads and refusals leave each leaf to the rank that holds it.
-    ghost held_on: { (a b : Self) (op : Operation) (told : Option Reason) (at : At) → Follows a b op told → Holds a at ↔ Holds b at };
+    ghost held_on: { (a b : Self) (op : Operation) (told : Option Reason) (at : At)
+        → Follows a b op told → Holds a at ↔ Holds b at };
 
     /// What a change may touch it may touch after a read.
-    ghost touch_on: { (a b : Self) (op : Operation) (told : Option Reason) (leaf : Leaf) → Follows a b op told → MayTouch a leaf → MayTouch b leaf };
+    ghost touch_on: { (a b : Self) (op : Operation) (told : Option Reason) (leaf : Leaf)
+        → Follows a b op told → MayTouch a leaf → MayTouch b leaf };
 
     /// Want of memory, and of a number for a new inode, that an operation finds itself is no refusal of the fragments.
     ghost follows_memory: { (a b : Self) (op : Operation) → Follows a b op None → Follows a b op (Some NoMemory) };
@@ -147,7 +160,8 @@ pub trait Frags {
     ghost follows_number: { (a b : Self) (op : Operation) → Follows a b op None → Follows a b op (Some NoInodes) };
 
     /// What reads and refusals keep are the names of every leaf among others.
-    ghost unchanged_by: { (a b : Self) (op : Operation) (leaf : Leaf) (told : Option Reason) → Follows a b op told → Unchanged a b leaf };
+    ghost unchanged_by: { (a b : Self) (op : Operation) (leaf : Leaf) (told : Option Reason)
+        → Follows a b op told → Unchanged a b leaf };
 
     /// What no call touched is unchanged.
     ghost unchanged_self: { (a : Self) (leaf : Leaf) → Unchanged a a leaf };
@@ -156,5 +170,6 @@ pub trait Frags {
     ghost unchanged_on: { (a b c : Self) (leaf : Leaf) → Unchanged a b leaf → Unchanged b c leaf → Unchanged a c leaf };
 
     /// A reason of a call is one of all calls that it ends.
-    ghost refused_on: { (a b c : Self) (op : Operation) (reason : Reason) → Follows a b op None → MayRefuse b c op reason → MayRefuse a c op reason };
+    ghost refused_on: { (a b c : Self) (op : Operation) (reason : Reason) → Follows a b op None
+        → MayRefuse b c op reason → MayRefuse a c op reason };
 }

@@ -78,10 +78,13 @@ pub fn make<F: Frags>(
 ) -> Result<Checked, Refusal>
     requires reads { Reads (F.content frags.old) op.now dentry.now.dir.0 }
     requires at { IsLocatedAt (F.content frags.old) (F.covers frags.old) (F.Holds frags.old) dentry.now at.now }
-    requires makes { (spot : Place) (inode : Node) → dentry_at spot ≡ dentry.now → inode.kind ≡ new.kind → IsChangeOf op.now (adds spot inode) }
-    ensures checked { let inode = new_inode new.ino.0 new.kind new.mode new.birth in
-        IfOk result (Checks (F.content frags.old) (F.covers frags.old) (F.Holds frags.old) op.now new.ino.0 (made limit (F.content frags.old) dentry.now inode (map.get (F.content frags.old) dentry.now))) }
-    ensures kept { KeepsAll (F.content frags.old) (F.content frags.new) (F.covers frags.old) (F.covers frags.new) (F.Follows frags.old frags.new op.now (result_err result)) }
+    requires makes { (spot : Place) (inode : Node) → dentry_at spot ≡ dentry.now → inode.kind ≡ new.kind
+        → IsChangeOf op.now (adds spot inode) }
+    ensures checked { let inode = new_inode new.ino.0 new.kind new.mode new.birth in IfOk result
+        (Checks (F.content frags.old) (F.covers frags.old) (F.Holds frags.old) op.now new.ino.0
+        (made limit (F.content frags.old) dentry.now inode (map.get (F.content frags.old) dentry.now))) }
+    ensures kept { KeepsAll (F.content frags.old) (F.content frags.new) (F.covers frags.old) (F.covers frags.new)
+        (F.Follows frags.old frags.new op.now (result_err result)) }
     ensures err { IfErr result (Refuses (F.MayRefuse frags.old frags.new op.now)) }
     ensures numbers { IfErr result (λ reason. reason ≢ NoInodes) }
 {

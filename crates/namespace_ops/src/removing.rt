@@ -30,9 +30,11 @@ pub fn unlink<F: Frags>(
     requires reads { Reads (F.content frags.old) op.now dentry.now.dir.0 }
     requires at { LiesAt (F.content frags.old) (F.covers frags.old) (F.Holds frags.old) dentry.now at.now }
     requires removes { (spot : Place) → dentry_at spot ≡ dentry.now → IsChangeOf op.now (takes_away spot None) }
-    ensures checked { (n : ℕ) → IfOk result (Checks (F.content frags.old) (F.covers frags.old) (F.Holds frags.old) op.now n
+    ensures checked { (n : ℕ)
+        → IfOk result (Checks (F.content frags.old) (F.covers frags.old) (F.Holds frags.old) op.now n
         (unlinked (F.content frags.old) dentry.now (map.get (F.content frags.old) dentry.now))) }
-    ensures kept { KeepsAll (F.content frags.old) (F.content frags.new) (F.covers frags.old) (F.covers frags.new) (F.Follows frags.old frags.new op.now (result_err result)) }
+    ensures kept { KeepsAll (F.content frags.old) (F.content frags.new) (F.covers frags.old) (F.covers frags.new)
+        (F.Follows frags.old frags.new op.now (result_err result)) }
     ensures err { IfErr result (Refuses (F.MayRefuse frags.old frags.new op.now)) }
     ensures numbers { IfErr result (λ reason. reason ≢ NoInodes) }
 {
@@ -60,12 +62,16 @@ pub fn remove_dir<F: Frags>(
     at: &Dirfrag,
 ) -> Result<Checked, Refusal>
     requires reads { Reads (F.content frags.old) op.now dentry.now.dir.0 }
-    requires inside { (inode : Node) → map.get (F.content frags.old) dentry.now ≡ Some inode → inode.kind ≡ Dir → Reads (F.content frags.old) op.now inode.ino.0 }
+    requires inside { (inode : Node) → map.get (F.content frags.old) dentry.now ≡ Some inode → inode.kind ≡ Dir
+        → Reads (F.content frags.old) op.now inode.ino.0 }
     requires at { LiesAt (F.content frags.old) (F.covers frags.old) (F.Holds frags.old) dentry.now at.now }
-    requires removes { (spot : Place) (gone : Option Number) → dentry_at spot ≡ dentry.now → IsChangeOf op.now (takes_away spot gone) }
-    ensures checked { (n : ℕ) → IfOk result (Checks (F.content frags.old) (F.covers frags.old) (F.Holds frags.old) op.now n
+    requires removes { (spot : Place) (gone : Option Number) → dentry_at spot ≡ dentry.now
+        → IsChangeOf op.now (takes_away spot gone) }
+    ensures checked { (n : ℕ)
+        → IfOk result (Checks (F.content frags.old) (F.covers frags.old) (F.Holds frags.old) op.now n
         (dir_removed (F.content frags.old) dentry.now (map.get (F.content frags.old) dentry.now))) }
-    ensures kept { KeepsAll (F.content frags.old) (F.content frags.new) (F.covers frags.old) (F.covers frags.new) (F.Follows frags.old frags.new op.now (result_err result)) }
+    ensures kept { KeepsAll (F.content frags.old) (F.content frags.new) (F.covers frags.old) (F.covers frags.new)
+        (F.Follows frags.old frags.new op.now (result_err result)) }
     ensures err { IfErr result (Refuses (F.MayRefuse frags.old frags.new op.now)) }
     ensures numbers { IfErr result (λ reason. reason ≢ NoInodes) }
 {
@@ -88,7 +94,8 @@ pub fn remove_dir<F: Frags>(
 fn removal_errno<F: Frags>(frags: &mut F, op: &Op, inode: &Inode) -> Result<Option<u16>, Refusal>
     requires reads { inode.now.kind ≡ Dir → Reads (F.content frags.old) op.now inode.now.ino.0 }
     ensures found { IfOk result (λ errno. errno ≡ errno_of_removal (F.content frags.old) inode.now) }
-    ensures kept { KeepsAll (F.content frags.old) (F.content frags.new) (F.covers frags.old) (F.covers frags.new) (F.Follows frags.old frags.new op.now (result_err result)) }
+    ensures kept { KeepsAll (F.content frags.old) (F.content frags.new) (F.covers frags.old) (F.covers frags.new)
+        (F.Follows frags.old frags.new op.now (result_err result)) }
     ensures err { IfErr result (F.MayRefuse frags.old frags.new op.now) }
     ensures numbers { IfErr result (λ reason. reason ≢ NoInodes) }
 {

@@ -40,12 +40,16 @@ pub fn rename<F: Frags>(
     requires to { IsLocatedAt (F.content frags.old) (F.covers frags.old) (F.Holds frags.old) to.now at.now.1 }
     requires reads { Reads (F.content frags.old) op.now from.now.dir.0 }
     requires leads { Reads (F.content frags.old) op.now to.now.dir.0 }
-    requires inside { (inode : Node) → map.get (F.content frags.old) to.now ≡ Some inode → inode.kind ≡ Dir → Reads (F.content frags.old) op.now inode.ino.0 }
+    requires inside { (inode : Node) → map.get (F.content frags.old) to.now ≡ Some inode → inode.kind ≡ Dir
+        → Reads (F.content frags.old) op.now inode.ino.0 }
     requires idle { stays op.now ≡ eq_by_cmp dentry_cmp from.now to.now }
-    requires moves { (source target : Place) (inode : Node) (gone : Option Number) → dentry_at source ≡ from.now → dentry_at target ≡ to.now → IsChangeOf op.now (moves_to source target inode gone) }
-    ensures checked { (n : ℕ) → let tree = F.content frags.old in IfOk result (Checks tree (F.covers frags.old) (F.Holds frags.old) op.now n
+    requires moves { (source target : Place) (inode : Node) (gone : Option Number) → dentry_at source ≡ from.now
+        → dentry_at target ≡ to.now → IsChangeOf op.now (moves_to source target inode gone) }
+    ensures checked { (n : ℕ) → let tree = F.content frags.old in IfOk result
+        (Checks tree (F.covers frags.old) (F.Holds frags.old) op.now n
         (renamed limit tree from.now to.now (map.get tree from.now) (map.get tree to.now))) }
-    ensures kept { KeepsAll (F.content frags.old) (F.content frags.new) (F.covers frags.old) (F.covers frags.new) (F.Follows frags.old frags.new op.now (result_err result)) }
+    ensures kept { KeepsAll (F.content frags.old) (F.content frags.new) (F.covers frags.old) (F.covers frags.new)
+        (F.Follows frags.old frags.new op.now (result_err result)) }
     ensures err { IfErr result (Refuses (F.MayRefuse frags.old frags.new op.now)) }
     ensures numbers { IfErr result (λ reason. reason ≢ NoInodes) }
 {
@@ -107,9 +111,12 @@ fn replace_errno<F: Frags>(
     inode: &Inode,
     replaced: Option<&Inode>,
 ) -> Result<Option<u16>, Refusal>
-    requires inside { (gone : Node) → option_copied replaced ≡ Some gone → gone.kind ≡ Dir → Reads (F.content frags.old) op.now gone.ino.0 }
-    ensures found { IfOk result (λ errno. errno ≡ errno_of_replacing (F.content frags.old) inode.now (option_copied replaced.entry)) }
-    ensures kept { KeepsAll (F.content frags.old) (F.content frags.new) (F.covers frags.old) (F.covers frags.new) (F.Follows frags.old frags.new op.now (result_err result)) }
+    requires inside { (gone : Node) → option_copied replaced ≡ Some gone → gone.kind ≡ Dir
+        → Reads (F.content frags.old) op.now gone.ino.0 }
+    ensures found { IfOk result
+        (λ errno. errno ≡ errno_of_replacing (F.content frags.old) inode.now (option_copied replaced.entry)) }
+    ensures kept { KeepsAll (F.content frags.old) (F.content frags.new) (F.covers frags.old) (F.covers frags.new)
+        (F.Follows frags.old frags.new op.now (result_err result)) }
     ensures err { IfErr result (F.MayRefuse frags.old frags.new op.now) }
     ensures numbers { IfErr result (λ reason. reason ≢ NoInodes) }
 {

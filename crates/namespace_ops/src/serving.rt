@@ -34,15 +34,22 @@ pub fn serve_op<F: Frags>(
     number: Option<Ino>,
 ) -> Result<Reply, Refusal>
     requires offered { IsOffered (F.content frags.old) F.IsNumber number }
-    requires touch { (leaf : Leaf) → Contains (changed_fragments limit (F.covers frags.old) (F.content frags.old) op.now) leaf → F.MayTouch frags.old leaf }
-    ensures served { let outcome = step limit (F.content frags.old) op.now (number_or number) in
-        MatchResult result
+    requires touch { (leaf : Leaf)
+        → Contains (changed_fragments limit (F.covers frags.old) (F.content frags.old) op.now) leaf
+        → F.MayTouch frags.old leaf }
+    ensures served { let outcome = step limit (F.content frags.old) op.now (number_or number) in MatchResult result
         (IsServed (F.content frags.new) outcome number)
-        (IsRefused (F.content frags.old) (F.content frags.new) (F.MayRefuse frags.old frags.new op.now) outcome number) }
+        (IsRefused (F.content frags.old) (F.content frags.new)
+        (F.MayRefuse frags.old frags.new op.now) outcome number) }
     ensures leaves { KeepLeaves (F.content frags.new) (F.covers frags.old) (F.covers frags.new) }
-    ensures frame { ChangesOnly (F.Unchanged frags.old frags.new) (changed_fragments limit (F.covers frags.old) (F.content frags.old) op.now) }
-    ensures others { IsWellFormed (F.content frags.old) → OthersShowTheSame (F.content frags.old) (F.content frags.new) (F.covers frags.old) (F.covers frags.new) (changed_fragments limit (F.covers frags.old) (F.content frags.old) op.now) }
-    ensures kept { OnErr result (KeepsAll (F.content frags.old) (F.content frags.new) (F.covers frags.old) (F.covers frags.new) (F.Follows frags.old frags.new op.now (result_err result))) }
+    ensures frame { ChangesOnly (F.Unchanged frags.old frags.new)
+        (changed_fragments limit (F.covers frags.old) (F.content frags.old) op.now) }
+    ensures others { IsWellFormed (F.content frags.old) → OthersShowTheSame (F.content frags.old) (F.content frags.new)
+        (F.covers frags.old) (F.covers frags.new)
+        (changed_fragments limit (F.covers frags.old) (F.content frags.old) op.now) }
+    ensures kept { OnErr result
+        (KeepsAll (F.content frags.old) (F.content frags.new) (F.covers frags.old) (F.covers frags.new)
+        (F.Follows frags.old frags.new op.now (result_err result))) }
 {
     let places = locate(frags, Rank(0), op);
     match check(alloc, frags, limit, op, places, number.unwrap_or(Ino(0)))? {
@@ -60,16 +67,25 @@ fn make_change<F: Frags>(
     number: Option<Ino>,
 ) -> Result<Reply, Refusal>
     requires offered { IsOffered (F.content frags.old) F.IsNumber number }
-    requires checked { IsChecked (F.content frags.old) (F.covers frags.old) (F.Holds frags.old) op.now (number_or number) (step limit (F.content frags.old) op.now (number_or number)) change }
-    requires touch { (leaf : Leaf) → Contains (changed_fragments limit (F.covers frags.old) (F.content frags.old) op.now) leaf → F.MayTouch frags.old leaf }
-    ensures served { let outcome = step limit (F.content frags.old) op.now (number_or number) in
-        MatchResult result
+    requires checked { IsChecked (F.content frags.old) (F.covers frags.old) (F.Holds frags.old) op.now
+        (number_or number) (step limit (F.content frags.old) op.now (number_or number)) change }
+    requires touch { (leaf : Leaf)
+        → Contains (changed_fragments limit (F.covers frags.old) (F.content frags.old) op.now) leaf
+        → F.MayTouch frags.old leaf }
+    ensures served { let outcome = step limit (F.content frags.old) op.now (number_or number) in MatchResult result
         (IsServed (F.content frags.new) outcome number)
-        (IsRefused (F.content frags.old) (F.content frags.new) (F.MayRefuse frags.old frags.new op.now) outcome number) }
+        (IsRefused (F.content frags.old) (F.content frags.new)
+        (F.MayRefuse frags.old frags.new op.now) outcome number) }
     ensures leaves { OnOk result (KeepLeaves (F.content frags.new) (F.covers frags.old) (F.covers frags.new)) }
-    ensures frame { OnOk result (ChangesOnly (F.Unchanged frags.old frags.new) (changed_fragments limit (F.covers frags.old) (F.content frags.old) op.now)) }
-    ensures others { OnOk result (IsWellFormed (F.content frags.old) → OthersShowTheSame (F.content frags.old) (F.content frags.new) (F.covers frags.old) (F.covers frags.new) (changed_fragments limit (F.covers frags.old) (F.content frags.old) op.now)) }
-    ensures kept { OnErr result (KeepsAll (F.content frags.old) (F.content frags.new) (F.covers frags.old) (F.covers frags.new) (F.Follows frags.old frags.new op.now (result_err result))) }
+    ensures frame { OnOk result
+        (ChangesOnly (F.Unchanged frags.old frags.new)
+        (changed_fragments limit (F.covers frags.old) (F.content frags.old) op.now)) }
+    ensures others { OnOk result (IsWellFormed (F.content frags.old)
+        → OthersShowTheSame (F.content frags.old) (F.content frags.new) (F.covers frags.old) (F.covers frags.new)
+        (changed_fragments limit (F.covers frags.old) (F.content frags.old) op.now)) }
+    ensures kept { OnErr result
+        (KeepsAll (F.content frags.old) (F.content frags.new) (F.covers frags.old) (F.covers frags.new)
+        (F.Follows frags.old frags.new op.now (result_err result))) }
 {
     if let Err(refusal) = change.number(number) {
         drop(change);

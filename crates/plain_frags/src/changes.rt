@@ -22,8 +22,10 @@ pub fn put_entry(
     comes: bool,
 )
     requires tabled { IsTabled (contents dentry_cmp entries.old) dirs.old.homes }
-    requires ready { comes ≡ true → (0 < entries.old.room) × (is_dir_kind inode.kind ≡ true → (0 < dirs.old.room) × (spare.old ≡ Some dentry.name)) }
-    requires may { MatchBool comes (MayAdd (contents dentry_cmp entries.old) dentry inode) (MaySet (contents dentry_cmp entries.old) dentry inode) }
+    requires ready { comes ≡ true → (0 < entries.old.room) ×
+        (is_dir_kind inode.kind ≡ true → (0 < dirs.old.room) × (spare.old ≡ Some dentry.name)) }
+    requires may { MatchBool comes (MayAdd (contents dentry_cmp entries.old) dentry inode)
+        (MaySet (contents dentry_cmp entries.old) dentry inode) }
     ensures tree { contents dentry_cmp entries.new ≡ map.insert (contents dentry_cmp entries.old) dentry inode }
     ensures tabled { IsTabled (contents dentry_cmp entries.new) dirs.new.homes }
     ensures leaves { KeepLeaves (contents dentry_cmp entries.new) dirs.old.trees dirs.new.trees }

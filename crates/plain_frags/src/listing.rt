@@ -57,7 +57,8 @@ pub fn count_rows(mut rows: Iter<'_, Dentry, Inode>, dir: Ino) -> usize
 
 /// The next row, if it is one of the directory.
 pub fn next_in<'a>(rows: &mut Iter<'a, Dentry, Inode>, dir: Ino) -> Option<&'a (Dentry, Inode)>
-    ensures run { MatchOption result (run dir.0 rows.old ≡ []) (λ row. run dir.0 rows.old ≡ (row.now.0.name, row.now.1) ∷ run dir.0 rows.new) }
+    ensures run { MatchOption result (run dir.0 rows.old ≡ [])
+        (λ row. run dir.0 rows.old ≡ (row.now.0.name, row.now.1) ∷ run dir.0 rows.new) }
     ensures fewer { MatchOption result (length rows.new ≤ length rows.old) (λ row. length rows.new < length rows.old) }
 {
     rows.next().filter(|row| row.0.dir == dir)

@@ -26,7 +26,9 @@ use subtree_map::Subtrees;
 impl<S: Store + Drop> RankedTree<S> {
     /// The authority of a leaf; none exactly where there is no such leaf. Takes no memory.
     pub fn authority(&self, dir: Ino, frag: Frag) -> Option<Rank>
-        ensures { MatchOption result (IsLive self.now.tree.homes self.now.tree.covers (dir, frag) → ⊥) (λ rank. IsLive self.now.tree.homes self.now.tree.covers (dir, frag) × Rules (state_of self.now.tree) self.now.subtrees.roots (dir, frag) rank) }
+        ensures { MatchOption result (IsLive self.now.tree.homes self.now.tree.covers (dir, frag) → ⊥)
+            (λ rank. IsLive self.now.tree.homes self.now.tree.covers (dir, frag)
+            × Rules (state_of self.now.tree) self.now.subtrees.roots (dir, frag) rank) }
     {
         authority_of(&self.tree, &self.regions.roots, dir, frag)
     }
@@ -42,7 +44,9 @@ impl<S: Store + Drop> RankedTree<S> {
     /// which it has a place. Takes no memory, one search of the directory table, and for a leaf that the rank doesn't
     /// cache one more for each directory up to the nearest root.
     pub fn holder(&self, rank: Rank, dir: Ino, frag: Frag) -> Option<Rank>
-        ensures { MatchOption result (IsLive self.now.tree.homes self.now.tree.covers (dir, frag) → ⊥) (λ holder. IsLive self.now.tree.homes self.now.tree.covers (dir, frag) × Rules (state_of self.now.tree) (held_roots self.now) (dir, frag) holder) }
+        ensures { MatchOption result (IsLive self.now.tree.homes self.now.tree.covers (dir, frag) → ⊥)
+            (λ holder. IsLive self.now.tree.homes self.now.tree.covers (dir, frag)
+            × Rules (state_of self.now.tree) (held_roots self.now) (dir, frag) holder) }
     {
         holder_at(&self.tree, &self.regions, rank, dir, frag)
     }
@@ -66,21 +70,24 @@ impl<S: Store + Drop> RankedTree<S> {
 
     /// Whether a leaf of a directory that lies properly inside a fragment is frozen. Takes no memory.
     pub fn is_any_frozen(&self, dir: Ino, frag: Frag) -> bool
-        ensures { IsTrue result ↔ IsAnyFrozen self.now.exports self.now.subtrees.roots self.now.tree.homes self.now.tree.covers dir frag }
+        ensures { IsTrue result ↔ IsAnyFrozen self.now.exports self.now.subtrees.roots self.now.tree.homes
+            self.now.tree.covers dir frag }
     {
         is_any_frozen(&self.tree, &self.regions, dir, frag)
     }
 
     /// Whether a leaf lies in the region that another has once it is a subtree root. Takes no memory.
     pub fn is_under(&self, root: &(Ino, Frag), leaf: &(Ino, Frag)) -> bool
-        ensures { IsTrue result ↔ IsUnder self.now.subtrees.roots self.now.tree.homes self.now.tree.covers root.now leaf.now }
+        ensures { IsTrue result ↔ IsUnder self.now.subtrees.roots self.now.tree.homes
+            self.now.tree.covers root.now leaf.now }
     {
         is_under(&self.tree, &self.regions.roots, root, leaf)
     }
 
     /// The authority of a leaf that lies here: the rank that holds it, unless an export stands. Takes no memory.
     pub fn authority_at(&self, at: &Dirfrag) -> Rank
-        requires at { (dir hash : ℕ) × IsAt (shown_tree (state_of self.now.tree)) self.now.tree.covers (HoldsAt (state_of self.now.tree) (held_roots self.now)) dir hash at.now }
+        requires at { (dir hash : ℕ) × IsAt (shown_tree (state_of self.now.tree)) self.now.tree.covers
+            (HoldsAt (state_of self.now.tree) (held_roots self.now)) dir hash at.now }
         ensures { Rules (state_of self.now.tree) self.now.subtrees.roots (leaf_of at.now) result }
     {
         authority_at(&self.tree, &self.regions, at)
@@ -89,7 +96,8 @@ impl<S: Store + Drop> RankedTree<S> {
     /// Whether each leaf of a directory that lies properly inside a fragment has this rank as its authority. Takes no
     /// memory.
     pub fn is_all_of(&self, dir: Ino, frag: Frag, rank: Rank) -> bool
-        ensures { IsTrue result ↔ AllHave self.now.tree.homes self.now.tree.covers self.now.subtrees.roots dir frag rank }
+        ensures { IsTrue result ↔ AllHave self.now.tree.homes self.now.tree.covers
+            self.now.subtrees.roots dir frag rank }
     {
         is_all_of(&self.tree, &self.regions.roots, dir, frag, rank)
     }
@@ -103,7 +111,9 @@ fn authority_of<S: Store + Drop>(
     frag: Frag,
 ) -> Option<Rank>
     requires { AreRoots (state_of tree.now) roots.now.roots }
-    ensures { MatchOption result (IsLive tree.now.homes tree.now.covers (dir, frag) → ⊥) (λ rank. IsLive tree.now.homes tree.now.covers (dir, frag) × Rules (state_of tree.now) roots.now.roots (dir, frag) rank) }
+    ensures { MatchOption result (IsLive tree.now.homes tree.now.covers (dir, frag) → ⊥)
+        (λ rank. IsLive tree.now.homes tree.now.covers (dir, frag)
+        × Rules (state_of tree.now) roots.now.roots (dir, frag) rank) }
 {
     // a leaf contains the hash that its value is, and no other leaf does
     match roots.locate(tree.dirs(), dir, frag.value()) {
@@ -123,7 +133,8 @@ pub(crate) fn locate<S: Store + Drop>(
     hash: u32,
 ) -> Option<Located>
     requires { IsOwned tree.now (held_in regions.now) }
-    ensures { Locates (shown_tree (state_of tree.now)) tree.now.covers (HoldsAt (state_of tree.now) (held_in regions.now)) dir.0 hash result }
+    ensures { Locates (shown_tree (state_of tree.now)) tree.now.covers
+        (HoldsAt (state_of tree.now) (held_in regions.now)) dir.0 hash result }
 {
     let dirs = tree.dirs();
     let Some(leaf) = dirs.leaf_at(dir, hash) else {
@@ -167,7 +178,9 @@ pub(crate) fn holder_at<S: Store + Drop>(
     frag: Frag,
 ) -> Option<Rank>
     requires { IsOwned tree.now (held_in regions.now) }
-    ensures { MatchOption result (IsLive tree.now.homes tree.now.covers (dir, frag) → ⊥) (λ holder. IsLive tree.now.homes tree.now.covers (dir, frag) × Rules (state_of tree.now) (held_in regions.now) (dir, frag) holder) }
+    ensures { MatchOption result (IsLive tree.now.homes tree.now.covers (dir, frag) → ⊥)
+        (λ holder. IsLive tree.now.homes tree.now.covers (dir, frag)
+        × Rules (state_of tree.now) (held_in regions.now) (dir, frag) holder) }
 {
     // a leaf contains the hash that its value is, and no other leaf does
     let Some(located) = locate(tree, regions, rank, dir, frag.value()) else {
@@ -192,7 +205,8 @@ pub(crate) fn holder_to_split<S: Store + Drop>(
     ensures known { OnOk result (is_known tree.now.homes dir.0 ≡ true) }
     ensures can { OnOk result (CanSplit (leaves_of tree.now.covers dir.0) frag bits) }
     ensures holder { IfOk result (Rules (state_of tree.now) (held_in regions.now) (dir, frag)) }
-    ensures refused { IfErr result (RefusesLeaves (RefusesSplit (leaves_of tree.now.covers dir.0) frag bits) tree.now.homes dir) }
+    ensures refused { IfErr result
+        (RefusesLeaves (RefusesSplit (leaves_of tree.now.covers dir.0) frag bits) tree.now.homes dir) }
 {
     let dirs = tree.dirs();
     let leaf = match dirs.check_split(dir, frag, bits) {
@@ -244,7 +258,8 @@ fn is_any_frozen<S: Store + Drop>(
     dir: Ino,
     frag: Frag,
 ) -> bool
-    ensures { IsTrue result ↔ IsAnyFrozen regions.now.exports regions.now.roots.roots tree.now.homes tree.now.covers dir frag }
+    ensures { IsTrue result ↔ IsAnyFrozen regions.now.exports regions.now.roots.roots
+        tree.now.homes tree.now.covers dir frag }
 {
     some_frozen(tree.dirs(), regions, dir, frag)
 }

@@ -43,10 +43,12 @@ impl<S: Store + Drop> RankedTree<S> {
         requires may { MayChange (shown_tree (state_of self.old.tree)) self.old.tree.covers change }
         requires held { AreHeldAt (state_of self.old.tree) (held_roots self.old) change }
         requires numbered { IsNumbered IsRankNumber change }
-        requires thawed { (leaf : Leaf) → Contains (fragments_of self.old.tree.covers change) leaf → IsFrozenLeaf self.old leaf → ⊥ }
+        requires thawed { (leaf : Leaf) → Contains (fragments_of self.old.tree.covers change) leaf
+            → IsFrozenLeaf self.old leaf → ⊥ }
         ensures changed { ChangesHeld (held_roots self.old) change self.old.tree self.new.tree result }
         ensures followed { FollowsChange change (state_of self.old.tree) self.old.subtrees self.new.subtrees result }
-        ensures kept { KeepsRoots (state_of self.old.tree) (state_of self.new.tree) self.old.subtrees.roots self.new.subtrees.roots self.old.exports self.new.exports }
+        ensures kept { KeepsRoots (state_of self.old.tree)
+            (state_of self.new.tree) self.old.subtrees.roots self.new.subtrees.roots self.old.exports self.new.exports }
         ensures count { length self.new.tree.caches.used ≡ length self.old.tree.caches.used }
         ensures cap { self.new.tree.caches.cap ≡ self.old.tree.caches.cap }
         ensures counted { self.new.tree.faults ≡ self.old.tree.faults + faults_told (result_err result) }
@@ -66,10 +68,12 @@ fn change_tree<S: Store + Drop>(
     requires may { MayChange (shown_tree (state_of tree.old)) tree.old.covers change }
     requires held { AreHeldAt (state_of tree.old) (held_in regions.old) change }
     requires numbered { IsNumbered IsRankNumber change }
-    requires thawed { (leaf : Leaf) → Contains (fragments_of tree.old.covers change) leaf → IsFrozenIn (state_of tree.old) regions.old leaf → ⊥ }
+    requires thawed { (leaf : Leaf) → Contains (fragments_of tree.old.covers change) leaf
+        → IsFrozenIn (state_of tree.old) regions.old leaf → ⊥ }
     ensures changed { ChangesHeld (held_in regions.old) change tree.old tree.new result }
     ensures followed { FollowsChange change (state_of tree.old) regions.old.roots regions.new.roots result }
-    ensures kept { KeepsRoots (state_of tree.old) (state_of tree.new) regions.old.roots.roots regions.new.roots.roots regions.old.exports regions.new.exports }
+    ensures kept { KeepsRoots (state_of tree.old)
+        (state_of tree.new) regions.old.roots.roots regions.new.roots.roots regions.old.exports regions.new.exports }
     ensures count { length tree.new.caches.used ≡ length tree.old.caches.used }
     ensures cap { tree.new.caches.cap ≡ tree.old.caches.cap }
     ensures counted { tree.new.faults ≡ tree.old.faults + faults_told (result_err result) }
@@ -96,7 +100,10 @@ fn lost_rank<S: Store + Drop>(tree: &MdCache<S>, regions: &Regions, change: &Cha
     requires divided { IsDivided tree.now regions.now }
     requires may { MayChange (shown_tree (state_of tree.now)) tree.now.covers change.now }
     requires held { AreHeldAt (state_of tree.now) (held_in regions.now) change.now }
-    ensures { (put : Place × Node) → change.now.puts ≡ Some put → IfSome (dir_moving change.now) (λ dir. IsLostRank regions.now.roots.roots tree.now.homes tree.now.covers dir.0 (home_at (dentry_at put.0)) result) }
+    ensures { (put : Place × Node) → change.now.puts ≡ Some put
+        → IfSome (dir_moving change.now)
+        (λ dir. IsLostRank regions.now.roots.roots tree.now.homes tree.now.covers dir.0
+        (home_at (dentry_at put.0)) result) }
 {
     let Some(from) = &change.takes else {
         return None;
@@ -136,8 +143,10 @@ fn reserve_lost(
     moves: Option<Ino>,
     lost: Option<Rank>,
 ) -> Result<(), Refusal>
-    ensures room { OnOk result (IfSome moves (λ dir. IsSome lost → length (leaves_of dirs.now.trees dir.0) ≤ roots.new.room)) }
-    ensures ready { IfSome moves (λ dir. IsSome lost → length (leaves_of dirs.now.trees dir.0) ≤ roots.old.room) → IsOk result × (roots.new ≡ roots.old) }
+    ensures room { OnOk result (IfSome moves (λ dir. IsSome lost
+        → length (leaves_of dirs.now.trees dir.0) ≤ roots.new.room)) }
+    ensures ready { IfSome moves (λ dir. IsSome lost → length (leaves_of dirs.now.trees dir.0) ≤ roots.old.room)
+        → IsOk result × (roots.new ≡ roots.old) }
     ensures same { roots.new.roots ≡ roots.old.roots }
     ensures promises { roots.new.promises ≡ roots.old.promises }
     ensures refused { IfErr result (λ reason. reason ≡ NoMemory) }
@@ -151,7 +160,11 @@ fn reserve_lost(
 // The leaves of a directory that moved become roots of the rank that they lost, but for those that are roots.
 fn settle(dirs: &Dirs, roots: &mut Subtrees, moves: Option<Ino>, lost: Option<Rank>)
     requires room { IfSome moves (λ dir. IsSome lost → length (leaves_of dirs.now.trees dir.0) ≤ roots.old.room) }
-    ensures settled { (homes : Homes) (covers : Covers) (home : Home) → MatchOption moves (roots.new.roots ≡ roots.old.roots) (λ dir. leaves_of covers dir.0 ≡ leaves_of dirs.now.trees dir.0 → MayMove homes dir.0 home → IsLostRank roots.old.roots homes covers dir.0 home lost → IsSettled roots.old.roots roots.new.roots homes covers dir.0 home) }
+    ensures settled { (homes : Homes) (covers : Covers) (home : Home)
+        → MatchOption moves (roots.new.roots ≡ roots.old.roots)
+        (λ dir. leaves_of covers dir.0 ≡ leaves_of dirs.now.trees dir.0 → MayMove homes dir.0 home
+        → IsLostRank roots.old.roots homes covers dir.0 home lost
+        → IsSettled roots.old.roots roots.new.roots homes covers dir.0 home) }
     ensures promises { roots.new.promises ≡ roots.old.promises }
 {
     if let Some(dir) = moves {

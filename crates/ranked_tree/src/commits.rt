@@ -31,7 +31,8 @@ impl<S: Store + Drop> RankedTree<S> {
         requires held { HoldsAt (state_of self.old.tree) (held_roots self.old) at.now }
         requires thawed { IsFrozenLeaf self.old (leaf_of at.now) → ⊥ }
         ensures begun { Begins (state_of self.old.tree) (state_of self.new.tree) (leaf_of at.now) result }
-        ensures came { UsesAt (Rules (state_of self.old.tree) (held_roots self.old) (leaf_of at.now)) (leaf_of at.now) self.old.tree.caches self.new.tree.caches }
+        ensures came { UsesAt (Rules (state_of self.old.tree) (held_roots self.old) (leaf_of at.now))
+            (leaf_of at.now) self.old.tree.caches self.new.tree.caches }
         ensures roots { self.new.subtrees ≡ self.old.subtrees }
         ensures exports { self.new.exports ≡ self.old.exports }
         ensures count { length self.new.tree.caches.used ≡ length self.old.tree.caches.used }
@@ -43,8 +44,10 @@ impl<S: Store + Drop> RankedTree<S> {
 
     /// Ends a commit, as `MdCache::end` does and refuses.
     pub fn end(&mut self, alloc: Global, encoded: &Encoded) -> Result<(), Refusal>
-        ensures ended { Ends (state_of self.old.tree) (state_of self.new.tree) self.old.tree.faults self.new.tree.faults encoded.now.job result }
-        ensures came { UsesAt (Rules (state_of self.old.tree) (held_roots self.old) (job_leaf encoded.now.job)) (job_leaf encoded.now.job) self.old.tree.caches self.new.tree.caches }
+        ensures ended { Ends (state_of self.old.tree)
+            (state_of self.new.tree) self.old.tree.faults self.new.tree.faults encoded.now.job result }
+        ensures came { UsesAt (Rules (state_of self.old.tree) (held_roots self.old) (job_leaf encoded.now.job))
+            (job_leaf encoded.now.job) self.old.tree.caches self.new.tree.caches }
         ensures roots { self.new.subtrees ≡ self.old.subtrees }
         ensures exports { self.new.exports ≡ self.old.exports }
         ensures count { length self.new.tree.caches.used ≡ length self.old.tree.caches.used }
@@ -69,7 +72,8 @@ impl<S: Store + Drop> RankedTree<S> {
 
     /// Writes or removes the object of a directory's tree, as `MdCache::commit_tree` does and refuses.
     pub fn commit_tree(&mut self, alloc: Global, dir: Ino) -> Result<(), Refusal>
-        ensures saved { SavesTree (state_of self.old.tree) (state_of self.new.tree) self.old.tree.faults self.new.tree.faults dir result }
+        ensures saved { SavesTree (state_of self.old.tree)
+            (state_of self.new.tree) self.old.tree.faults self.new.tree.faults dir result }
         ensures places { self.new.tree.caches ≡ self.old.tree.caches }
         ensures roots { self.new.subtrees ≡ self.old.subtrees }
         ensures exports { self.new.exports ≡ self.old.exports }
@@ -82,7 +86,8 @@ impl<S: Store + Drop> RankedTree<S> {
 
     /// Removes the first object of the purge list, as `MdCache::purge` does and refuses.
     pub fn purge(&mut self) -> Result<(), Refusal>
-        ensures purged { Purges (state_of self.old.tree) (state_of self.new.tree) self.old.tree.faults self.new.tree.faults result }
+        ensures purged { Purges (state_of self.old.tree)
+            (state_of self.new.tree) self.old.tree.faults self.new.tree.faults result }
         ensures places { self.new.tree.caches ≡ self.old.tree.caches }
         ensures roots { self.new.subtrees ≡ self.old.subtrees }
         ensures exports { self.new.exports ≡ self.old.exports }
@@ -119,7 +124,8 @@ fn begin<S: Store + Drop>(
     requires held { HoldsAt (state_of tree.old) (held_in regions.now) at.now }
     requires thawed { IsFrozenIn (state_of tree.old) regions.now (leaf_of at.now) → ⊥ }
     ensures begun { Begins (state_of tree.old) (state_of tree.new) (leaf_of at.now) result }
-    ensures came { UsesAt (Rules (state_of tree.old) (held_in regions.now) (leaf_of at.now)) (leaf_of at.now) tree.old.caches tree.new.caches }
+    ensures came { UsesAt (Rules (state_of tree.old) (held_in regions.now) (leaf_of at.now))
+        (leaf_of at.now) tree.old.caches tree.new.caches }
     ensures count { length tree.new.caches.used ≡ length tree.old.caches.used }
     ensures cap { tree.new.caches.cap ≡ tree.old.caches.cap }
     ensures faults { tree.new.faults ≡ tree.old.faults }
@@ -136,8 +142,10 @@ fn end<S: Store + Drop>(
     encoded: &Encoded,
 ) -> Result<(), Refusal>
     requires divided { IsDivided tree.old regions.now }
-    ensures ended { Ends (state_of tree.old) (state_of tree.new) tree.old.faults tree.new.faults encoded.now.job result }
-    ensures came { UsesAt (Rules (state_of tree.old) (held_in regions.now) (job_leaf encoded.now.job)) (job_leaf encoded.now.job) tree.old.caches tree.new.caches }
+    ensures ended { Ends (state_of tree.old)
+        (state_of tree.new) tree.old.faults tree.new.faults encoded.now.job result }
+    ensures came { UsesAt (Rules (state_of tree.old) (held_in regions.now) (job_leaf encoded.now.job))
+        (job_leaf encoded.now.job) tree.old.caches tree.new.caches }
     ensures count { length tree.new.caches.used ≡ length tree.old.caches.used }
     ensures cap { tree.new.caches.cap ≡ tree.old.caches.cap }
     ensures counted { tree.new.faults ≡ tree.old.faults + faults_told (result_err result) }

@@ -39,7 +39,8 @@ pub(crate) fn is_dir_empty<S: Store + Drop>(
     ensures kept { KeepsState tree.old tree.new (result_err result) }
     ensures reads { ReadsDir (held_in regions.now) dir tree.old tree.new }
     ensures owned { IsOwned tree.new (held_in regions.now) }
-    ensures refused { IfErr result (MayNotFind (LacksPlacesDir 1 tree.old (held_in regions.now) dir) tree.old.faults tree.new.faults) }
+    ensures refused { IfErr result
+        (MayNotFind (LacksPlacesDir 1 tree.old (held_in regions.now) dir) tree.old.faults tree.new.faults) }
 {
     match tree.dirs().tree(alloc, dir) {
         Ok(leaves) => are_empty(alloc, tree, regions, dir, &leaves),
@@ -57,11 +58,14 @@ fn are_empty<S: Store + Drop>(
 ) -> Result<bool, Refusal>
     requires live { (f : Fragment) → HasLeaf leaves.now f → IsLive tree.old.homes tree.old.covers (dir, f) }
     requires owned { IsOwned tree.old (held_in regions.now) }
-    ensures found { IfOk result (λ empty. empty ≡ list_all (λ f. has_none (names_of (unclean tree.old.caches) tree.old.objects (dir, f))) leaves.now) }
+    ensures found { IfOk result
+        (λ empty. empty ≡ list_all (λ f. has_none (names_of (unclean tree.old.caches) tree.old.objects (dir, f)))
+        leaves.now) }
     ensures kept { KeepsState tree.old tree.new (result_err result) }
     ensures reads { ReadsDir (held_in regions.now) dir tree.old tree.new }
     ensures owned { IsOwned tree.new (held_in regions.now) }
-    ensures refused { IfErr result (MayNotFind (LacksPlacesDir 1 tree.old (held_in regions.now) dir) tree.old.faults tree.new.faults) }
+    ensures refused { IfErr result
+        (MayNotFind (LacksPlacesDir 1 tree.old (held_in regions.now) dir) tree.old.faults tree.new.faults) }
 {
     for leaf in leaves {
         match is_leaf_empty(alloc, tree, regions, dir, leaf) {
@@ -83,11 +87,13 @@ fn is_leaf_empty<S: Store + Drop>(
 ) -> Result<bool, Refusal>
     requires live { IsLive tree.old.homes tree.old.covers (dir, frag) }
     requires owned { IsOwned tree.old (held_in regions.now) }
-    ensures found { IfOk result (λ empty. empty ≡ has_none (names_of (unclean tree.old.caches) tree.old.objects (dir, frag))) }
+    ensures found { IfOk result
+        (λ empty. empty ≡ has_none (names_of (unclean tree.old.caches) tree.old.objects (dir, frag))) }
     ensures kept { KeepsState tree.old tree.new (result_err result) }
     ensures reads { ReadsDir (held_in regions.now) dir tree.old tree.new }
     ensures owned { IsOwned tree.new (held_in regions.now) }
-    ensures refused { IfErr result (MayNotFind (LacksPlacesFor 1 tree.old (held_in regions.now) (dir, frag)) tree.old.faults tree.new.faults) }
+    ensures refused { IfErr result
+        (MayNotFind (LacksPlacesFor 1 tree.old (held_in regions.now) (dir, frag)) tree.old.faults tree.new.faults) }
 {
     let rank = holder_of(tree, regions, dir, frag);
     tree.is_leaf_empty(alloc, rank, dir, frag)

@@ -43,14 +43,19 @@ impl<S: Store + Drop> RankedTree<S> {
     pub fn freeze(&mut self, dir: Ino, frag: Frag) -> Result<(), Refusal>
         requires live { IsLive self.old.tree.homes self.old.tree.covers (dir, frag) }
         requires thawed { IsFrozenLeaf self.old (dir, frag) → ⊥ }
-        requires mine { (export : StandingExport) → map.get self.old.exports (dir, frag) ≡ Some export → Rules (state_of self.old.tree) self.old.subtrees.roots (dir, frag) export.exporter }
-        ensures frozen { Freezes self.old.exports self.new.exports self.old.subtrees self.new.subtrees (dir, frag) result }
-        ensures ended { OnOk result (EndsRegion (state_of self.old.tree) (state_of self.new.tree) self.new.subtrees.roots (dir, frag)) }
+        requires mine { (export : StandingExport) → map.get self.old.exports (dir, frag) ≡ Some export
+            → Rules (state_of self.old.tree) self.old.subtrees.roots (dir, frag) export.exporter }
+        ensures frozen { Freezes self.old.exports self.new.exports self.old.subtrees self.new.subtrees
+            (dir, frag) result }
+        ensures ended { OnOk result
+            (EndsRegion (state_of self.old.tree) (state_of self.new.tree) self.new.subtrees.roots (dir, frag)) }
         ensures left { OnErr result (self.new.tree ≡ self.old.tree) }
         ensures caches { self.new.tree.caches ≡ self.old.tree.caches }
         ensures faults { self.new.tree.faults ≡ self.old.tree.faults }
-        ensures authorities { KeepsAuthorities (state_of self.old.tree) (state_of self.new.tree) self.old.subtrees.roots self.new.subtrees.roots }
-        ensures holders { KeepsAuthorities (state_of self.old.tree) (state_of self.new.tree) (held_roots self.old) (held_roots self.new) }
+        ensures authorities { KeepsAuthorities (state_of self.old.tree)
+            (state_of self.new.tree) self.old.subtrees.roots self.new.subtrees.roots }
+        ensures holders { KeepsAuthorities (state_of self.old.tree) (state_of self.new.tree)
+            (held_roots self.old) (held_roots self.new) }
         ensures valid { AreRoots (state_of self.new.tree) self.new.subtrees.roots }
     {
         self.regions
@@ -63,7 +68,8 @@ impl<S: Store + Drop> RankedTree<S> {
     /// Prep: the importer of a frozen region gets to know its bounds, and its root is promised to it, as
     /// `Exports::prep` does and refuses. The tree and the roots stay, and so does which rank holds each region.
     pub fn prep(&mut self, alloc: Global, dir: Ino, frag: Frag) -> Result<(), Refusal>
-        ensures prepared { Preps self.old.exports self.new.exports self.old.subtrees self.new.subtrees (dir, frag) result }
+        ensures prepared { Preps self.old.exports self.new.exports self.old.subtrees self.new.subtrees
+            (dir, frag) result }
         ensures tree { self.new.tree ≡ self.old.tree }
         ensures roots { self.new.subtrees.roots ≡ self.old.subtrees.roots }
         ensures holders { held_roots self.new ≡ held_roots self.old }
@@ -74,7 +80,8 @@ impl<S: Store + Drop> RankedTree<S> {
     /// Cancel: an export that isn't sent yet is over, and its region thaws, as `Exports::cancel` does and refuses. The
     /// tree and the roots stay, and so does which rank holds each region. Takes no memory.
     pub fn cancel(&mut self, dir: Ino, frag: Frag) -> Result<(), Refusal>
-        ensures cancelled { Cancels self.old.exports self.new.exports self.old.subtrees self.new.subtrees (dir, frag) result }
+        ensures cancelled { Cancels self.old.exports self.new.exports self.old.subtrees self.new.subtrees
+            (dir, frag) result }
         ensures tree { self.new.tree ≡ self.old.tree }
         ensures roots { self.new.subtrees.roots ≡ self.old.subtrees.roots }
         ensures holders { held_roots self.new ≡ held_roots self.old }

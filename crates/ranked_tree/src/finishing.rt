@@ -14,10 +14,12 @@ impl<S: Store + Drop> RankedTree<S> {
     /// as `Exports::finish` does and refuses. The tree stays, and so does which rank holds each region. Takes no
     /// memory.
     pub fn finish(&mut self, dir: Ino, frag: Frag) -> Result<(), Refusal>
-        ensures finished { Finishes self.old.exports self.new.exports self.old.subtrees self.new.subtrees (dir, frag) result }
+        ensures finished { Finishes self.old.exports self.new.exports self.old.subtrees self.new.subtrees
+            (dir, frag) result }
         ensures tree { self.new.tree ≡ self.old.tree }
         ensures holders { held_roots self.new ≡ held_roots self.old }
-        ensures others { KeepsOutside (Some (dir, frag)) (state_of self.old.tree) (state_of self.new.tree) self.old.subtrees.roots self.new.subtrees.roots }
+        ensures others { KeepsOutside (Some (dir, frag)) (state_of self.old.tree)
+            (state_of self.new.tree) self.old.subtrees.roots self.new.subtrees.roots }
         ensures valid { AreRoots (state_of self.new.tree) self.new.subtrees.roots }
     {
         self.regions

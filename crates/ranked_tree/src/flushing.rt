@@ -32,10 +32,13 @@ impl<S: Store + Drop> RankedTree<S> {
         ensures tree { KeepsTree self.old.tree self.new.tree }
         ensures roots { self.new.subtrees ≡ self.old.subtrees }
         ensures exports { self.new.exports ≡ self.old.exports }
-        ensures refused { IfErr result (MayNotCommit 256 (record (state_of self.old.tree) { jobs = map.empty }) self.old.tree.faults self.new.tree.faults) }
+        ensures refused { IfErr result
+            (MayNotCommit 256 (record (state_of self.old.tree) { jobs = map.empty }) self.old.tree.faults
+            self.new.tree.faults) }
         ensures counted { self.new.tree.faults ≡ self.old.tree.faults + faults_told (result_err result) }
         ensures owned { IsOwned self.new.tree (held_roots self.new) }
-        ensures stand { StandSoundly (state_of self.new.tree) (length self.new.tree.caches.used) self.new.subtrees self.new.exports }
+        ensures stand { StandSoundly (state_of self.new.tree)
+            (length self.new.tree.caches.used) self.new.subtrees self.new.exports }
         ensures orders { AreCaches self.new.tree.caches }
     {
         let done = self.tree.flush(rt, alloc);

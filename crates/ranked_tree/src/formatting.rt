@@ -32,7 +32,8 @@ impl<S: Store + Drop> RankedTree<S> {
         ensures roots { IfOk result (λ t. t.subtrees.roots ≡ new_roots) }
         ensures exports { IfOk result (λ t. t.exports ≡ map.empty) }
         ensures caches { IfOk result (λ t. t.tree.caches ≡ new_caches ranks places) }
-        ensures refused { IfErr result (λ back. MayNotFormat (S.objects store) (S.faults store) (S.faults back.1) back.0) }
+        ensures refused { IfErr result
+            (λ back. MayNotFormat (S.objects store) (S.faults store) (S.faults back.1) back.0) }
         ensures left { IfErr result (λ back. S.objects back.1 ≡ S.objects store) }
         ensures faults { IfOk result (λ t. t.tree.faults ≡ S.faults store) }
         ensures counted { IfErr result (λ back. S.faults back.1 ≡ S.faults store + faults_in back.0) }

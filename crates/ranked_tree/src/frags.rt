@@ -103,7 +103,9 @@ impl<S: Store + Drop> Frags for RankedTree<S> {
         (before.0, before.1, (before.2, before.3, before.4)))
         kept.tree because };
 
-    ghost refused_for = { λ a b op reason because. refused_so (LacksPlacesAsked 2 a.tree (held_roots a) (Concerns (shown_tree (state_of a.tree)) op)) a.tree b.tree op reason because };
+    ghost refused_for = { λ a b op reason because. refused_so
+        (LacksPlacesAsked 2 a.tree (held_roots a)
+        (Concerns (shown_tree (state_of a.tree)) op)) a.tree b.tree op reason because };
 
     fn is_dir(&self, dir: Ino) -> bool {
         self.tree.is_dir(dir)
@@ -153,14 +155,18 @@ fn look<S: Store + Drop>(
     dentry: &Dentry,
     at: &Dirfrag,
 ) -> Result<Option<Inode>, Refusal>
-    requires at { LiesAt (shown_tree (state_of tree.old)) tree.old.covers (HoldsAt (state_of tree.old) (held_in regions.now)) dentry.now at.now }
+    requires at { LiesAt (shown_tree (state_of tree.old)) tree.old.covers
+        (HoldsAt (state_of tree.old) (held_in regions.now)) dentry.now at.now }
     requires owned { IsOwned tree.old (held_in regions.now) }
     ensures found { IfOk result (λ found. found ≡ map.get (shown_tree (state_of tree.old)) dentry.now) }
     ensures kept { KeepsState tree.old tree.new (result_err result) }
-    ensures newest { OnOk result (IsNewestHeld (state_of tree.old) (held_in regions.now) tree.new.caches (leaf_of at.now)) }
+    ensures newest { OnOk result
+        (IsNewestHeld (state_of tree.old) (held_in regions.now) tree.new.caches (leaf_of at.now)) }
     ensures reads { ReadsDir (held_in regions.now) dentry.now.dir tree.old tree.new }
     ensures owned { IsOwned tree.new (held_in regions.now) }
-    ensures refused { IfErr result (MayNotFind (LacksPlacesFor 1 tree.old (held_in regions.now) (leaf_of at.now)) tree.old.faults tree.new.faults) }
+    ensures refused { IfErr result
+        (MayNotFind (LacksPlacesFor 1 tree.old (held_in regions.now) (leaf_of at.now)) tree.old.faults
+        tree.new.faults) }
 {
     tree.look(alloc, at, &dentry.name)
 }

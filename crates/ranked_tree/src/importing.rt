@@ -41,13 +41,17 @@ impl<S: Store + Drop> RankedTree<S> {
         bytes: &[u8],
     ) -> Result<(), Refusal>
         ensures imported { OnOk result (Imports self.old self.new (dir, frag) bytes.now) }
-        ensures refused { IfErr result (RefusesImport (λ count rank. LacksPlacesAt count self.old.tree rank) (state_of self.old.tree) self.old.subtrees.roots self.old.exports (dir, frag) bytes.now) }
+        ensures refused { IfErr result
+            (RefusesImport (λ count rank. LacksPlacesAt count self.old.tree rank)
+            (state_of self.old.tree) self.old.subtrees.roots self.old.exports (dir, frag) bytes.now) }
         ensures left { OnErr result (state_of self.new.tree ≡ state_of self.old.tree) }
         ensures stands { OnErr result (self.new.exports ≡ self.old.exports) }
-        ensures caches { IfErr result (LeavesCaches self.old.exports (dir, frag) self.old.tree.caches self.new.tree.caches) }
+        ensures caches { IfErr result
+            (LeavesCaches self.old.exports (dir, frag) self.old.tree.caches self.new.tree.caches) }
         ensures shown { shown_in self.new.tree ≡ shown_in self.old.tree }
         ensures roots { self.new.subtrees ≡ self.old.subtrees }
-        ensures others { KeepsOutside (Some (dir, frag)) (state_of self.old.tree) (state_of self.new.tree) (held_roots self.old) (held_roots self.new) }
+        ensures others { KeepsOutside (Some (dir, frag)) (state_of self.old.tree) (state_of self.new.tree)
+            (held_roots self.old) (held_roots self.new) }
         ensures count { length self.new.tree.caches.used ≡ length self.old.tree.caches.used }
         ensures cap { self.new.tree.caches.cap ≡ self.old.tree.caches.cap }
         ensures faults { self.new.tree.faults ≡ self.old.tree.faults }
@@ -87,7 +91,9 @@ fn take_region<S: Store + Drop>(
     requires sent { export.state ≡ state.Sent }
     requires ranks { IsBetweenRanks export }
     ensures taken { OnOk result (Takes tree.old tree.new regions.now root.now export bytes.now) }
-    ensures refused { IfErr result (MayNotImport (λ count rank. LacksPlacesAt count tree.old rank) (state_of tree.old) regions.now.roots.roots root.now export bytes.now) }
+    ensures refused { IfErr result
+        (MayNotImport (λ count rank. LacksPlacesAt count tree.old rank)
+        (state_of tree.old) regions.now.roots.roots root.now export bytes.now) }
     ensures left { OnErr result (state_of tree.new ≡ state_of tree.old) }
     ensures caches { IfErr result (KeepsRegion export.importer tree.old.caches tree.new.caches) }
     ensures still { OnErr result (IsDivided tree.new regions.now) }
@@ -121,8 +127,12 @@ fn sent_leaves<S: Store + Drop>(
     requires stands { map.get regions.now.exports root.now ≡ Some export }
     requires sent { export.state ≡ state.Sent }
     requires ranks { IsBetweenRanks export }
-    ensures cached { IfOk result (AreCachedOf (IsInRegionOf (state_of tree.now) regions.now.roots.roots root.now) tree.now.caches export.exporter.0) }
-    ensures spelled { IfOk result (λ leaves. IsSpelledBy (state_of tree.now) regions.now.roots.roots root.now export bytes.now (length leaves.unclean)) }
+    ensures cached { IfOk result
+        (AreCachedOf (IsInRegionOf (state_of tree.now) regions.now.roots.roots root.now) tree.now.caches
+        export.exporter.0) }
+    ensures spelled { IfOk result
+        (λ leaves. IsSpelledBy (state_of tree.now) regions.now.roots.roots root.now export bytes.now
+        (length leaves.unclean)) }
     ensures refused { IfErr result (IsWrong (state_of tree.now) regions.now.roots.roots root.now export bytes.now) }
     ensures valid { OnOk result (AreCaches tree.now.caches) }
 {

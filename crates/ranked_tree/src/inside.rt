@@ -31,7 +31,8 @@ pub(crate) fn all_have(dirs: &Dirs, roots: &Subtrees, dir: Ino, frag: Frag, rank
 
 /// Whether a leaf inside a fragment is frozen.
 pub(crate) fn some_frozen(dirs: &Dirs, regions: &Regions, dir: Ino, frag: Frag) -> bool
-    ensures { IsTrue result ↔ IsAnyFrozen regions.now.exports regions.now.roots.roots dirs.now.homes dirs.now.trees dir frag }
+    ensures { IsTrue result ↔ IsAnyFrozen regions.now.exports regions.now.roots.roots
+        dirs.now.homes dirs.now.trees dir frag }
 {
     if !dirs.contains(dir) {
         return false;

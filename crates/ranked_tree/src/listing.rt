@@ -42,12 +42,16 @@ pub(crate) fn list_dir<S: Store + Drop>(
 ) -> Result<(Listing, bool), Refusal>
     requires known { is_directory (shown_tree (state_of tree.old)) dir.0 ≡ true }
     requires owned { IsOwned tree.old (held_in regions.now) }
-    ensures listed { IfOk result (λ page. page.0 ≡ take max (names_after (shown_tree (state_of tree.old)) dir.0 (option_copied after.entry))) }
-    ensures more { IfOk result (λ page. page.1 ≡ nat_lt max (length (names_after (shown_tree (state_of tree.old)) dir.0 (option_copied after.entry)))) }
+    ensures listed { IfOk result
+        (λ page. page.0 ≡ take max (names_after (shown_tree (state_of tree.old)) dir.0 (option_copied after.entry))) }
+    ensures more { IfOk result
+        (λ page. page.1 ≡ nat_lt max (length (names_after (shown_tree (state_of tree.old)) dir.0
+        (option_copied after.entry)))) }
     ensures kept { KeepsState tree.old tree.new (result_err result) }
     ensures reads { ReadsDir (held_in regions.now) dir tree.old tree.new }
     ensures owned { IsOwned tree.new (held_in regions.now) }
-    ensures refused { IfErr result (MayNotFind (LacksPlacesDir 1 tree.old (held_in regions.now) dir) tree.old.faults tree.new.faults) }
+    ensures refused { IfErr result
+        (MayNotFind (LacksPlacesDir 1 tree.old (held_in regions.now) dir) tree.old.faults tree.new.faults) }
 {
     let mut page = Page::new(alloc, max);
     if let Err(refusal) = gather_leaves(alloc, tree, regions, dir, after, &mut page) {
@@ -67,12 +71,15 @@ fn gather_leaves<S: Store + Drop>(
 ) -> Result<(), Refusal>
     requires known { is_known tree.old.homes dir.0 ≡ true }
     requires owned { IsOwned tree.old (held_in regions.now) }
-    ensures page { (whole : List Row) → IsPageOf whole page.old → OnOk result (IsPageOf (gathered (λ (f : Fragment). names_of (unclean tree.old.caches) tree.old.objects (dir, f)) (option_copied after.entry) whole (leaves_of tree.old.covers dir.0)) page.new) }
+    ensures page { (whole : List Row) → IsPageOf whole page.old
+        → OnOk result (IsPageOf (gathered (λ (f : Fragment). names_of (unclean tree.old.caches) tree.old.objects
+        (dir, f)) (option_copied after.entry) whole (leaves_of tree.old.covers dir.0)) page.new) }
     ensures most { page.new.most ≡ page.old.most }
     ensures kept { KeepsState tree.old tree.new (result_err result) }
     ensures reads { ReadsDir (held_in regions.now) dir tree.old tree.new }
     ensures owned { IsOwned tree.new (held_in regions.now) }
-    ensures refused { IfErr result (MayNotFind (LacksPlacesDir 1 tree.old (held_in regions.now) dir) tree.old.faults tree.new.faults) }
+    ensures refused { IfErr result
+        (MayNotFind (LacksPlacesDir 1 tree.old (held_in regions.now) dir) tree.old.faults tree.new.faults) }
 {
     let leaves = tree.dirs().tree(alloc, dir)?;
     for frag in &leaves {
@@ -95,12 +102,15 @@ fn gather_leaf<S: Store + Drop>(
 ) -> Result<(), Refusal>
     requires live { IsLive tree.old.homes tree.old.covers leaf }
     requires owned { IsOwned tree.old (held_in regions.now) }
-    ensures page { (whole : List Row) → IsPageOf whole page.old → OnOk result (IsPageOf (puts key_cmp whole (rows_after (option_copied after.entry) (map.entries (names_of (unclean tree.old.caches) tree.old.objects leaf)))) page.new) }
+    ensures page { (whole : List Row) → IsPageOf whole page.old
+        → OnOk result (IsPageOf (puts key_cmp whole (rows_after (option_copied after.entry)
+        (map.entries (names_of (unclean tree.old.caches) tree.old.objects leaf)))) page.new) }
     ensures most { page.new.most ≡ page.old.most }
     ensures kept { KeepsState tree.old tree.new (result_err result) }
     ensures reads { ReadsDir (held_in regions.now) leaf.0 tree.old tree.new }
     ensures owned { IsOwned tree.new (held_in regions.now) }
-    ensures refused { IfErr result (MayNotFind (LacksPlacesFor 1 tree.old (held_in regions.now) leaf) tree.old.faults tree.new.faults) }
+    ensures refused { IfErr result
+        (MayNotFind (LacksPlacesFor 1 tree.old (held_in regions.now) leaf) tree.old.faults tree.new.faults) }
 {
     let (dir, frag) = leaf;
     let rank = holder_of(tree, regions, dir, frag);

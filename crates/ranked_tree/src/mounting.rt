@@ -32,14 +32,16 @@ impl<S: Store + Drop> RankedTree<S> {
         requires ranked { ranks ≤ 16 }
         requires few { 512 ≤ places }
         requires many { places ≤ 65536 }
-        ensures mounted { IfOk result (λ m. Mounts limit (S.objects store) ranks places (contents dentry_cmp m.1.entries) m.0.tree) }
+        ensures mounted { IfOk result
+            (λ m. Mounts limit (S.objects store) ranks places (contents dentry_cmp m.1.entries) m.0.tree) }
         ensures cold { IfOk result (λ m. IsColdTree (S.objects store) (shown_in m.0.tree)) }
         ensures opening { IfOk result (λ m. contents dentry_cmp m.1.entries ≡ shown_in m.0.tree) }
         ensures numbers { IfOk result (λ m. AreNumbers (shown_in m.0.tree) ranks m.1.numbers.items) }
         ensures roots { IfOk result (λ m. AreTopRoots m.0.tree.covers m.0.subtrees.roots) }
         ensures exports { IfOk result (λ m. m.0.exports ≡ map.empty) }
         ensures faults { IfOk result (λ m. m.0.tree.faults ≡ S.faults store) }
-        ensures refused { IfErr result (λ back. MayNotMount (S.objects store) (S.faults store) (S.faults back.1) back.0) }
+        ensures refused { IfErr result
+            (λ back. MayNotMount (S.objects store) (S.faults store) (S.faults back.1) back.0) }
         ensures left { IfErr result (λ back. S.objects back.1 ≡ S.objects store) }
         ensures counted { IfErr result (λ back. S.faults back.1 ≡ S.faults store + faults_in back.0) }
     {

@@ -23,7 +23,8 @@ impl<S: Store + Drop> RankedTree<S> {
     /// places of no other live leaf, the exports stand soundly, and each rank caches at most as many as it has places.
     pub fn is_sound(&self)
         ensures owned { IsOwned self.now.tree (held_roots self.now) }
-        ensures stand { StandSoundly (state_of self.now.tree) (length self.now.tree.caches.used) self.now.subtrees self.now.exports }
+        ensures stand { StandSoundly (state_of self.now.tree)
+            (length self.now.tree.caches.used) self.now.subtrees self.now.exports }
         ensures caches { AreCaches self.now.tree.caches }
     {
         // The contract of `ranks` is what says it of the caches.
@@ -68,7 +69,8 @@ impl<S: Store + Drop> RankedTree<S> {
         ensures known { OnOk result (is_known self.now.tree.homes dir.0 ≡ true) }
         ensures can { OnOk result (CanSplit (leaves_of self.now.tree.covers dir.0) frag bits) }
         ensures holder { IfOk result (Rules (state_of self.now.tree) (held_roots self.now) (dir, frag)) }
-        ensures refused { IfErr result (RefusesLeaves (RefusesSplit (leaves_of self.now.tree.covers dir.0) frag bits) self.now.tree.homes dir) }
+        ensures refused { IfErr result
+            (RefusesLeaves (RefusesSplit (leaves_of self.now.tree.covers dir.0) frag bits) self.now.tree.homes dir) }
         ensures sound { IsSound (state_of self.now.tree) }
     {
         holder_to_split(&self.tree, &self.regions, rank, dir, frag, bits)
@@ -79,7 +81,8 @@ impl<S: Store + Drop> RankedTree<S> {
     pub fn check_merge(&self, dir: Ino, frag: Frag) -> Result<(), Refusal>
         ensures known { OnOk result (is_known self.now.tree.homes dir.0 ≡ true) }
         ensures can { OnOk result (CanMerge (leaves_of self.now.tree.covers dir.0) frag) }
-        ensures refused { IfErr result (RefusesLeaves (RefusesMerge (leaves_of self.now.tree.covers dir.0) frag) self.now.tree.homes dir) }
+        ensures refused { IfErr result
+            (RefusesLeaves (RefusesMerge (leaves_of self.now.tree.covers dir.0) frag) self.now.tree.homes dir) }
         ensures sound { IsSound (state_of self.now.tree) }
     {
         self.tree.check_merge(dir, frag)

@@ -68,7 +68,8 @@ impl Regions {
         frag: Frag,
         state: ExportState,
     ) -> Option<StandingExport>
-        ensures export { MatchOption result (state_at self.now.exports (dir, frag) ≢ Some state) (λ export. (map.get self.now.exports (dir, frag) ≡ Some export) × (export.state ≡ state)) }
+        ensures export { MatchOption result (state_at self.now.exports (dir, frag) ≢ Some state)
+            (λ export. (map.get self.now.exports (dir, frag) ≡ Some export) × (export.state ≡ state)) }
         ensures ranks { IfSome result IsBetweenRanks }
     {
         let Some(export) = self.exports.get(dir, frag) else {

@@ -37,16 +37,23 @@ impl<S: Store + Drop> RankedTree<S> {
         requires can { CanSplit (leaves_of self.old.tree.covers at.now.dir.0) at.now.frag bits }
         requires held { HoldsAt (state_of self.old.tree) (held_roots self.old) at.now }
         requires thawed { IsFrozenLeaf self.old (leaf_of at.now) → ⊥ }
-        ensures split { SplitsLeaf (LacksPlacesFor (2 ^ bits + 1) self.old.tree self.old.subtrees.roots (leaf_of at.now)) self.old.tree self.new.tree at.now.dir at.now.frag bits result }
-        ensures came { CameAt (Rules (state_of self.old.tree) self.old.subtrees.roots (leaf_of at.now)) (IsFamilyOf at.now.dir at.now.frag bits) self.old.tree.caches self.new.tree.caches }
-        ensures roots { OnOk result (IsRootSplit self.old.subtrees.roots self.new.subtrees.roots at.now.dir.0 at.now.frag bits) }
+        ensures split { SplitsLeaf
+            (LacksPlacesFor (2 ^ bits + 1) self.old.tree self.old.subtrees.roots
+            (leaf_of at.now)) self.old.tree self.new.tree at.now.dir at.now.frag bits result }
+        ensures came { CameAt (Rules (state_of self.old.tree) self.old.subtrees.roots (leaf_of at.now))
+            (IsFamilyOf at.now.dir at.now.frag bits) self.old.tree.caches self.new.tree.caches }
+        ensures roots { OnOk result
+            (IsRootSplit self.old.subtrees.roots self.new.subtrees.roots at.now.dir.0 at.now.frag bits) }
         ensures left { OnErr result (self.new.subtrees.roots ≡ self.old.subtrees.roots) }
         ensures promises { self.new.subtrees.promises ≡ self.old.subtrees.promises }
         ensures count { length self.new.tree.caches.used ≡ length self.old.tree.caches.used }
         ensures cap { self.new.tree.caches.cap ≡ self.old.tree.caches.cap }
         ensures counted { self.new.tree.faults ≡ self.old.tree.faults + faults_told (result_err result) }
-        ensures children { OnOk result (GivesToChildren (state_of self.old.tree) (state_of self.new.tree) self.old.subtrees.roots self.new.subtrees.roots at.now.dir at.now.frag bits) }
-        ensures kept { KeepsRoots (state_of self.old.tree) (state_of self.new.tree) self.old.subtrees.roots self.new.subtrees.roots self.old.exports self.new.exports }
+        ensures children { OnOk result
+            (GivesToChildren (state_of self.old.tree)
+            (state_of self.new.tree) self.old.subtrees.roots self.new.subtrees.roots at.now.dir at.now.frag bits) }
+        ensures kept { KeepsRoots (state_of self.old.tree)
+            (state_of self.new.tree) self.old.subtrees.roots self.new.subtrees.roots self.old.exports self.new.exports }
     {
         split_with_roots(alloc, &mut self.tree, &mut self.regions, at, bits)
     }
@@ -59,17 +66,24 @@ impl<S: Store + Drop> RankedTree<S> {
         requires known { is_known self.old.tree.homes dir.0 ≡ true }
         requires can { CanMerge (leaves_of self.old.tree.covers dir.0) frag }
         requires one { HaveOneAuthority self.old.subtrees.roots self.old.tree.homes self.old.tree.covers dir.0 frag }
-        requires thawed { AreThawed self.old.exports self.old.subtrees.roots self.old.tree.homes self.old.tree.covers dir frag }
-        ensures merged { MergesLeaves (LacksPlacesInside 1 self.old.tree self.old.subtrees.roots dir frag) self.old.tree self.new.tree dir frag result }
-        ensures came { CameAt (AllHave self.old.tree.homes self.old.tree.covers self.old.subtrees.roots dir frag) (IsMergedHere self.old.tree.covers dir frag) self.old.tree.caches self.new.tree.caches }
+        requires thawed { AreThawed self.old.exports self.old.subtrees.roots self.old.tree.homes
+            self.old.tree.covers dir frag }
+        ensures merged { MergesLeaves
+            (LacksPlacesInside 1 self.old.tree self.old.subtrees.roots dir frag) self.old.tree
+            self.new.tree dir frag result }
+        ensures came { CameAt (AllHave self.old.tree.homes self.old.tree.covers self.old.subtrees.roots dir frag)
+            (IsMergedHere self.old.tree.covers dir frag) self.old.tree.caches self.new.tree.caches }
         ensures roots { OnOk result (IsRootMerge self.old.subtrees.roots self.new.subtrees.roots dir.0 frag) }
         ensures left { OnErr result (self.new.subtrees.roots ≡ self.old.subtrees.roots) }
         ensures promises { self.new.subtrees.promises ≡ self.old.subtrees.promises }
         ensures count { length self.new.tree.caches.used ≡ length self.old.tree.caches.used }
         ensures cap { self.new.tree.caches.cap ≡ self.old.tree.caches.cap }
         ensures counted { self.new.tree.faults ≡ self.old.tree.faults + faults_told (result_err result) }
-        ensures one { OnOk result (TakesOver (state_of self.old.tree) (state_of self.new.tree) self.old.subtrees.roots self.new.subtrees.roots dir frag) }
-        ensures kept { KeepsRoots (state_of self.old.tree) (state_of self.new.tree) self.old.subtrees.roots self.new.subtrees.roots self.old.exports self.new.exports }
+        ensures one { OnOk result
+            (TakesOver (state_of self.old.tree)
+            (state_of self.new.tree) self.old.subtrees.roots self.new.subtrees.roots dir frag) }
+        ensures kept { KeepsRoots (state_of self.old.tree)
+            (state_of self.new.tree) self.old.subtrees.roots self.new.subtrees.roots self.old.exports self.new.exports }
     {
         merge_with_roots(alloc, &mut self.tree, &mut self.regions, dir, frag)
     }
@@ -90,16 +104,23 @@ fn split_with_roots<S: Store + Drop>(
     requires can { CanSplit (leaves_of tree.old.covers at.now.dir.0) at.now.frag bits }
     requires held { HoldsAt (state_of tree.old) (held_in regions.old) at.now }
     requires thawed { IsFrozenIn (state_of tree.old) regions.old (leaf_of at.now) → ⊥ }
-    ensures split { SplitsLeaf (LacksPlacesFor (2 ^ bits + 1) tree.old regions.old.roots.roots (leaf_of at.now)) tree.old tree.new at.now.dir at.now.frag bits result }
-    ensures came { CameAt (Rules (state_of tree.old) regions.old.roots.roots (leaf_of at.now)) (IsFamilyOf at.now.dir at.now.frag bits) tree.old.caches tree.new.caches }
-    ensures roots { OnOk result (IsRootSplit regions.old.roots.roots regions.new.roots.roots at.now.dir.0 at.now.frag bits) }
+    ensures split { SplitsLeaf
+        (LacksPlacesFor (2 ^ bits + 1) tree.old regions.old.roots.roots
+        (leaf_of at.now)) tree.old tree.new at.now.dir at.now.frag bits result }
+    ensures came { CameAt (Rules (state_of tree.old) regions.old.roots.roots (leaf_of at.now))
+        (IsFamilyOf at.now.dir at.now.frag bits) tree.old.caches tree.new.caches }
+    ensures roots { OnOk result
+        (IsRootSplit regions.old.roots.roots regions.new.roots.roots at.now.dir.0 at.now.frag bits) }
     ensures left { OnErr result (regions.new.roots.roots ≡ regions.old.roots.roots) }
     ensures promises { regions.new.roots.promises ≡ regions.old.roots.promises }
     ensures count { length tree.new.caches.used ≡ length tree.old.caches.used }
     ensures cap { tree.new.caches.cap ≡ tree.old.caches.cap }
     ensures counted { tree.new.faults ≡ tree.old.faults + faults_told (result_err result) }
-    ensures children { OnOk result (GivesToChildren (state_of tree.old) (state_of tree.new) regions.old.roots.roots regions.new.roots.roots at.now.dir at.now.frag bits) }
-    ensures kept { KeepsRoots (state_of tree.old) (state_of tree.new) regions.old.roots.roots regions.new.roots.roots regions.old.exports regions.new.exports }
+    ensures children { OnOk result
+        (GivesToChildren (state_of tree.old)
+        (state_of tree.new) regions.old.roots.roots regions.new.roots.roots at.now.dir at.now.frag bits) }
+    ensures kept { KeepsRoots (state_of tree.old)
+        (state_of tree.new) regions.old.roots.roots regions.new.roots.roots regions.old.exports regions.new.exports }
     ensures divided { IsDivided tree.new regions.new }
 {
     if let Err(refusal) = reserve_split(tree, &mut regions.roots, at, bits) {
@@ -127,16 +148,20 @@ fn merge_with_roots<S: Store + Drop>(
     requires can { CanMerge (leaves_of tree.old.covers dir.0) frag }
     requires one { HaveOneAuthority regions.old.roots.roots tree.old.homes tree.old.covers dir.0 frag }
     requires thawed { AreThawed regions.old.exports regions.old.roots.roots tree.old.homes tree.old.covers dir frag }
-    ensures merged { MergesLeaves (LacksPlacesInside 1 tree.old regions.old.roots.roots dir frag) tree.old tree.new dir frag result }
-    ensures came { CameAt (AllHave tree.old.homes tree.old.covers regions.old.roots.roots dir frag) (IsMergedHere tree.old.covers dir frag) tree.old.caches tree.new.caches }
+    ensures merged { MergesLeaves
+        (LacksPlacesInside 1 tree.old regions.old.roots.roots dir frag) tree.old tree.new dir frag result }
+    ensures came { CameAt (AllHave tree.old.homes tree.old.covers regions.old.roots.roots dir frag)
+        (IsMergedHere tree.old.covers dir frag) tree.old.caches tree.new.caches }
     ensures roots { OnOk result (IsRootMerge regions.old.roots.roots regions.new.roots.roots dir.0 frag) }
     ensures left { OnErr result (regions.new.roots.roots ≡ regions.old.roots.roots) }
     ensures promises { regions.new.roots.promises ≡ regions.old.roots.promises }
     ensures count { length tree.new.caches.used ≡ length tree.old.caches.used }
     ensures cap { tree.new.caches.cap ≡ tree.old.caches.cap }
     ensures counted { tree.new.faults ≡ tree.old.faults + faults_told (result_err result) }
-    ensures one { OnOk result (TakesOver (state_of tree.old) (state_of tree.new) regions.old.roots.roots regions.new.roots.roots dir frag) }
-    ensures kept { KeepsRoots (state_of tree.old) (state_of tree.new) regions.old.roots.roots regions.new.roots.roots regions.old.exports regions.new.exports }
+    ensures one { OnOk result
+        (TakesOver (state_of tree.old) (state_of tree.new) regions.old.roots.roots regions.new.roots.roots dir frag) }
+    ensures kept { KeepsRoots (state_of tree.old)
+        (state_of tree.new) regions.old.roots.roots regions.new.roots.roots regions.old.exports regions.new.exports }
     ensures divided { IsDivided tree.new regions.new }
 {
     if let Err(refusal) = reserve_merge(tree, &mut regions.roots, dir, frag) {
@@ -162,11 +187,14 @@ fn split_held<S: Store + Drop>(
     requires owned { IsOwned tree.old (held_in regions.now) }
     requires held { HoldsAt (state_of tree.old) (held_in regions.now) at.now }
     requires thawed { IsFrozenIn (state_of tree.old) regions.now (leaf_of at.now) → ⊥ }
-    ensures split { SplitsLeaf (LacksPlacesFor (2 ^ bits + 1) tree.old regions.now.roots.roots (leaf_of at.now)) tree.old tree.new at.now.dir at.now.frag bits result }
+    ensures split { SplitsLeaf
+        (LacksPlacesFor (2 ^ bits + 1) tree.old regions.now.roots.roots
+        (leaf_of at.now)) tree.old tree.new at.now.dir at.now.frag bits result }
     ensures count { length tree.new.caches.used ≡ length tree.old.caches.used }
     ensures cap { tree.new.caches.cap ≡ tree.old.caches.cap }
     ensures counted { tree.new.faults ≡ tree.old.faults + faults_told (result_err result) }
-    ensures came { CameAt (Rules (state_of tree.old) regions.now.roots.roots (leaf_of at.now)) (IsFamilyOf at.now.dir at.now.frag bits) tree.old.caches tree.new.caches }
+    ensures came { CameAt (Rules (state_of tree.old) regions.now.roots.roots (leaf_of at.now))
+        (IsFamilyOf at.now.dir at.now.frag bits) tree.old.caches tree.new.caches }
     ensures sound { IsSoundCore tree.new }
 {
     tree.split(alloc, at, bits)
@@ -185,11 +213,13 @@ fn merge_held<S: Store + Drop>(
     requires one { HaveOneAuthority regions.now.roots.roots tree.old.homes tree.old.covers dir.0 frag }
     requires owned { IsOwned tree.old (held_in regions.now) }
     requires thawed { AreThawed regions.now.exports regions.now.roots.roots tree.old.homes tree.old.covers dir frag }
-    ensures merged { MergesLeaves (LacksPlacesInside 1 tree.old regions.now.roots.roots dir frag) tree.old tree.new dir frag result }
+    ensures merged { MergesLeaves
+        (LacksPlacesInside 1 tree.old regions.now.roots.roots dir frag) tree.old tree.new dir frag result }
     ensures count { length tree.new.caches.used ≡ length tree.old.caches.used }
     ensures cap { tree.new.caches.cap ≡ tree.old.caches.cap }
     ensures counted { tree.new.faults ≡ tree.old.faults + faults_told (result_err result) }
-    ensures came { CameAt (AllHave tree.old.homes tree.old.covers regions.now.roots.roots dir frag) (IsMergedHere tree.old.covers dir frag) tree.old.caches tree.new.caches }
+    ensures came { CameAt (AllHave tree.old.homes tree.old.covers regions.now.roots.roots dir frag)
+        (IsMergedHere tree.old.covers dir frag) tree.old.caches tree.new.caches }
     ensures sound { IsSoundCore tree.new }
 {
     let rank = holder_of_all(tree, regions, dir, frag);
@@ -210,7 +240,9 @@ fn holder_of_all<S: Store + Drop>(
     ensures all { AllHave tree.now.homes tree.now.covers (held_in regions.now) dir frag result }
     ensures inside { (leaf : Leaf) × IsLive tree.now.homes tree.now.covers leaf × (is_inside dir.0 frag leaf ≡ true) }
     ensures there { result.0 < length tree.now.caches.used }
-    ensures holds { (q : Leaf) → Contains (each (in_directory dir.0) (leaves_inside frag (leaves_of tree.now.covers dir.0))) q → MayHold tree.now.caches result q }
+    ensures holds { (q : Leaf)
+        → Contains (each (in_directory dir.0) (leaves_inside frag (leaves_of tree.now.covers dir.0))) q
+        → MayHold tree.now.caches result q }
 {
     match leaf_inside(tree.dirs(), dir, frag, frag.value()) {
         Some(leaf) => holder_of(tree, regions, dir, leaf),

@@ -24,7 +24,8 @@ impl<S: Store + Drop> RankedTree<S> {
     /// fragment of the region has more than 2^32 - 1 dirty names, `NoMemory`; then all is left as it was.
     pub fn send(&mut self, alloc: Global, dir: Ino, frag: Frag) -> Result<Vec<u8>, Refusal>
         ensures sent { IfOk result (λ bytes. Sends self.old self.new (dir, frag) bytes.items) }
-        ensures refused { IfErr result (RefusesSend (state_of self.old.tree) self.old.subtrees.roots self.old.exports (dir, frag)) }
+        ensures refused { IfErr result
+            (RefusesSend (state_of self.old.tree) self.old.subtrees.roots self.old.exports (dir, frag)) }
         ensures left { OnErr result (self.new.exports ≡ self.old.exports) }
         ensures tree { self.new.tree ≡ self.old.tree }
         ensures roots { self.new.subtrees ≡ self.old.subtrees }
@@ -47,8 +48,11 @@ fn region_bytes<S: Store + Drop>(
     frag: Frag,
 ) -> Result<Vec<u8>, Refusal>
     requires divided { IsDivided tree.now regions.now }
-    ensures sent { IfOk result (λ bytes. SpellsPrepared (state_of tree.now) regions.now.roots.roots regions.now.exports (dir, frag) bytes.items) }
-    ensures refused { IfErr result (RefusesSend (state_of tree.now) regions.now.roots.roots regions.now.exports (dir, frag)) }
+    ensures sent { IfOk result
+        (λ bytes. SpellsPrepared (state_of tree.now) regions.now.roots.roots regions.now.exports
+        (dir, frag) bytes.items) }
+    ensures refused { IfErr result
+        (RefusesSend (state_of tree.now) regions.now.roots.roots regions.now.exports (dir, frag)) }
 {
     let Some(export) = regions.export_in(dir, frag, ExportState::Prepared) else {
         return Err(Refusal::WrongExportState);

@@ -39,9 +39,12 @@ impl Model for Sessions {
 
     ghost coded = { Prim.hlevel (codes, map.code) };
 
-    ghost view = { λ s. record { indices = contents nat_cmp s.indices; sessions = s.sessions.items; room = s.indices.room; spare = s.spare } };
+    ghost view = { λ s. record
+        { indices = contents nat_cmp s.indices; sessions = s.sessions.items; room = s.indices.room; spare = s.spare } };
 
-    ghost invariant = { λ s. AreIndexed (contents nat_cmp s.indices) s.sessions.items × IfSome s.spare (λ spare. (spare.row ≡ no_row) × (0 < spare.room) × (vec_len s.sessions < vec_capacity s.sessions)) };
+    ghost invariant = { λ s. AreIndexed (contents nat_cmp s.indices) s.sessions.items
+        × IfSome s.spare (λ spare. (spare.row ≡ no_row) × (0 < spare.room)
+        × (vec_len s.sessions < vec_capacity s.sessions)) };
 }
 
 impl Sessions {
@@ -60,7 +63,8 @@ impl Sessions {
     /// memory, and two look-ups by binary search.
     pub fn seen(&self, client: u64, tid: u64, oldest: u64) -> Seen<'_>
         ensures standing { SeesInTable (table self.now) client tid oldest result }
-        ensures history { (history : List Entry) → IsTableOf history (table self.now) → IsSeen history client tid oldest result }
+        ensures history { (history : List Entry) → IsTableOf history (table self.now)
+            → IsSeen history client tid oldest result }
         ensures session { TellsSession self.now client result }
     {
         let at = self.find(client);

@@ -23,9 +23,12 @@ impl Subtrees {
         dir: Ino,
         frag: Frag,
     ) -> Result<Vec<(Ino, Frag)>, AllocError>
-        ensures bounds { IfOk result (λ bounds. (bound : Leaf) → list.Contains bounds.items bound ↔ IsBound self.now.roots dirs.now.homes dirs.now.trees (dir, frag) bound) }
+        ensures bounds { IfOk result (λ bounds. (bound : Leaf)
+            → list.Contains bounds.items bound ↔ IsBound self.now.roots dirs.now.homes dirs.now.trees
+            (dir, frag) bound) }
         ensures order { IfOk result (λ bounds. IsStrictlySortedBy leaf_cmp bounds.items) }
-        ensures memory { OnErr result ((bound : Leaf) × IsBound self.now.roots dirs.now.homes dirs.now.trees (dir, frag) bound) }
+        ensures memory { OnErr result
+            ((bound : Leaf) × IsBound self.now.roots dirs.now.homes dirs.now.trees (dir, frag) bound) }
     {
         let mut bounds = Vec::new(alloc);
         for row in self.iter() {

@@ -44,7 +44,9 @@ impl Subtrees {
 
     /// The authority of a leaf, of whatever map and fragment: none where no root is on the way up. Takes no memory.
     pub fn find_authority(&self, dirs: &Dirs, dir: Ino, frag: Frag) -> Option<Rank>
-        ensures { MatchOption result ((rank : RankNumber) → HasAuthority self.now.roots dirs.now.homes dirs.now.trees (dir, frag) rank → ⊥) (HasAuthority self.now.roots dirs.now.homes dirs.now.trees (dir, frag)) }
+        ensures { MatchOption result
+            ((rank : RankNumber) → HasAuthority self.now.roots dirs.now.homes dirs.now.trees (dir, frag) rank → ⊥)
+            (HasAuthority self.now.roots dirs.now.homes dirs.now.trees (dir, frag)) }
     {
         let (_, rank) = self.climb(dirs, (dir, frag), dirs.get(dir), &None)?;
         Some(rank)
@@ -52,7 +54,9 @@ impl Subtrees {
 
     /// The nearest root of a leaf, of whatever map and fragment: none where no root is on the way up. Takes no memory.
     pub fn find_root(&self, dirs: &Dirs, dir: Ino, frag: Frag) -> Option<(Ino, Frag)>
-        ensures { MatchOption result ((root : Leaf) → NearestRoot self.now.roots dirs.now.homes dirs.now.trees (dir, frag) root → ⊥) (NearestRoot self.now.roots dirs.now.homes dirs.now.trees (dir, frag)) }
+        ensures { MatchOption result
+            ((root : Leaf) → NearestRoot self.now.roots dirs.now.homes dirs.now.trees (dir, frag) root → ⊥)
+            (NearestRoot self.now.roots dirs.now.homes dirs.now.trees (dir, frag)) }
     {
         let (root, _) = self.climb(dirs, (dir, frag), dirs.get(dir), &None)?;
         Some(root)
@@ -61,7 +65,9 @@ impl Subtrees {
     /// The same as `find_root`, where a rank asks: it looks into its own list first, and takes a hint of it where the
     /// rank that the hint names has that root. Takes no memory.
     pub fn find_root_by(&self, rank: Rank, dirs: &Dirs, dir: Ino, frag: Frag) -> Option<(Ino, Frag)>
-        ensures { MatchOption result ((root : Leaf) → NearestRoot self.now.roots dirs.now.homes dirs.now.trees (dir, frag) root → ⊥) (NearestRoot self.now.roots dirs.now.homes dirs.now.trees (dir, frag)) }
+        ensures { MatchOption result
+            ((root : Leaf) → NearestRoot self.now.roots dirs.now.homes dirs.now.trees (dir, frag) root → ⊥)
+            (NearestRoot self.now.roots dirs.now.homes dirs.now.trees (dir, frag)) }
     {
         let (root, _) = self.climb(dirs, (dir, frag), dirs.get(dir), &Some(rank))?;
         Some(root)
@@ -91,7 +97,8 @@ impl Subtrees {
     /// directory. Takes no memory, and a look-up and a hash for each directory on the way to the leaf's nearest root.
     pub fn locate(&self, dirs: &Dirs, dir: Ino, hash: u32) -> Option<(Frag, Rank)>
         requires valid { IsSubtrees self.now.roots dirs.now.homes dirs.now.trees }
-        ensures { MatchOption result (is_known dirs.now.homes dir.0 ≡ false) (λ at. IsLocated self.now.roots dirs.now.homes dirs.now.trees dir hash at.0 at.1) }
+        ensures { MatchOption result (is_known dirs.now.homes dir.0 ≡ false)
+            (λ at. IsLocated self.now.roots dirs.now.homes dirs.now.trees dir hash at.0 at.1) }
     {
         let Some(at) = dirs.leaf_at(dir, hash) else {
             return None;
@@ -122,7 +129,8 @@ impl Subtrees {
     /// Whether a leaf would be in the region of another, if that were a root: whether the way up from it comes to the
     /// other before it comes to a root. Takes no memory, and a look-up and a hash for each directory on the way.
     pub fn is_under(&self, dirs: &Dirs, root: &(Ino, Frag), leaf: &(Ino, Frag)) -> bool
-        ensures { (rank : RankNumber) → IsTrue result ↔ NearestRoot (map.insert self.now.roots root.now rank) dirs.now.homes dirs.now.trees leaf.now root.now }
+        ensures { (rank : RankNumber) → IsTrue result ↔ NearestRoot
+            (map.insert self.now.roots root.now rank) dirs.now.homes dirs.now.trees leaf.now root.now }
     {
         dirs.is_table();
         let mut at = *leaf;
@@ -139,7 +147,10 @@ impl Subtrees {
         root: &(Ino, Frag),
         leaf: &(Ino, Frag),
     ) -> Option<&'a Home>
-        ensures { (rank : RankNumber) → MatchOption result (IsTop (map.insert self.now.roots root.now rank) dirs.entry.now.homes leaf.now) (λ home. (map.get (map.insert self.now.roots root.now rank) leaf.now ≡ None) × (map.get dirs.entry.now.homes leaf.now.0.0 ≡ Some home.now)) }
+        ensures { (rank : RankNumber)
+            → MatchOption result (IsTop (map.insert self.now.roots root.now rank) dirs.entry.now.homes leaf.now)
+            (λ home. (map.get (map.insert self.now.roots root.now rank) leaf.now ≡ None)
+            × (map.get dirs.entry.now.homes leaf.now.0.0 ≡ Some home.now)) }
     {
         if is_one(leaf, root) {
             return None;
@@ -149,7 +160,9 @@ impl Subtrees {
 
     // Where the directory of a leaf that is no root stands.
     fn above<'a>(&self, dirs: &'a Dirs, leaf: &(Ino, Frag)) -> Option<&'a Home>
-        ensures { MatchOption result (IsTop self.now.roots dirs.entry.now.homes leaf.now) (λ home. (map.get self.now.roots leaf.now ≡ None) × (map.get dirs.entry.now.homes leaf.now.0.0 ≡ Some home.now)) }
+        ensures { MatchOption result (IsTop self.now.roots dirs.entry.now.homes leaf.now)
+            (λ home. (map.get self.now.roots leaf.now ≡ None)
+            × (map.get dirs.entry.now.homes leaf.now.0.0 ≡ Some home.now)) }
     {
         if self.lists.contains(leaf.0, leaf.1) {
             return None;
@@ -166,7 +179,8 @@ impl Subtrees {
         name: &Name,
     ) -> Option<((Ino, Frag), Rank)>
         requires known { is_known dirs.now.homes parent.0 ≡ true }
-        ensures { FindsAbove self.now.roots dirs.now.homes dirs.now.trees (record { parent = parent; name = name.now }) result }
+        ensures { FindsAbove self.now.roots dirs.now.homes dirs.now.trees
+            (record { parent = parent; name = name.now }) result }
     {
         let Some(at) = dirs.leaf_at(parent, rjenkins(name.as_bytes())) else {
             unreachable!()

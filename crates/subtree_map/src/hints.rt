@@ -29,7 +29,8 @@ impl Subtrees {
     ) -> Result<(), Refusal>
         ensures same { self.new ≡ self.old }
         ensures err { IfErr result (λ reason. reason ≡ NoMemory) }
-        ensures memory { OnErr result ((bound : Leaf) × IsBound self.old.roots dirs.now.homes dirs.now.trees (dir, frag) bound) }
+        ensures memory { OnErr result
+            ((bound : Leaf) × IsBound self.old.roots dirs.now.homes dirs.now.trees (dir, frag) bound) }
     {
         let Ok(bounds) = self.bounds(alloc, dirs, dir, frag) else {
             return Err(Refusal::NoMemory);

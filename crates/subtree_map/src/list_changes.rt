@@ -45,7 +45,8 @@ fn drop_rows(rows: &mut Rows, dir: Ino)
 
 // The first row of a directory.
 fn first_row(rows: &Rows, dir: Ino) -> Option<(Ino, Frag)>
-    ensures { MatchOption result ((leaf : Leaf) → leaf.0.0 ≡ dir.0 → entry_at rows.now leaf ≡ None) (λ leaf. (leaf.0.0 ≡ dir.0) × IsSome (entry_at rows.now leaf)) }
+    ensures { MatchOption result ((leaf : Leaf) → leaf.0.0 ≡ dir.0 → entry_at rows.now leaf ≡ None)
+        (λ leaf. (leaf.0.0 ≡ dir.0) × IsSome (entry_at rows.now leaf)) }
 {
     let leaf = first_from(rows, dir, Frag::ROOT)?;
     if leaf.0 != dir {
@@ -121,7 +122,10 @@ fn hint(rows: &mut Rows, leaf: &(Ino, Frag), rank: Rank)
 
 // The row of a leaf, if it is a hint.
 fn hint_in(rows: &Rows, leaf: &(Ino, Frag)) -> Option<Entry>
-    ensures { MatchOption result ((rank : RankNumber) → corrected (entry_at rows.now leaf.now) rank ≡ entry_at rows.now leaf.now) (λ entry. (entry_at rows.now leaf.now ≡ Some entry) × ((rank : RankNumber) → corrected (Some entry) rank ≡ Some (record { known = Hint rank; promised = entry.promised }))) }
+    ensures { MatchOption result
+        ((rank : RankNumber) → corrected (entry_at rows.now leaf.now) rank ≡ entry_at rows.now leaf.now)
+        (λ entry. (entry_at rows.now leaf.now ≡ Some entry) × ((rank : RankNumber)
+        → corrected (Some entry) rank ≡ Some (record { known = Hint rank; promised = entry.promised }))) }
 {
     let entry = *rows.get(leaf)?;
     match entry.known {

@@ -50,7 +50,8 @@ fn first_in(rows: Iter<'_, (Ino, Frag), Entry>) -> Option<(Ino, Frag)>
 
 // The lesser of two leaves, each the first of some: it is the first of both.
 fn lesser(one: Option<(Ino, Frag)>, other: Option<(Ino, Frag)>) -> Option<(Ino, Frag)>
-    ensures { (f g : Leaf → Option RankNumber) (passes : Leaf → Bool) → IsFirstBy f passes one → IsFirstBy g passes other → IsFirstBy (λ leaf. option_or (f leaf) (g leaf)) passes result }
+    ensures { (f g : Leaf → Option RankNumber) (passes : Leaf → Bool) → IsFirstBy f passes one
+        → IsFirstBy g passes other → IsFirstBy (λ leaf. option_or (f leaf) (g leaf)) passes result }
 {
     match one {
         None => other,

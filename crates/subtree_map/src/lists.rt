@@ -36,7 +36,8 @@ impl Model for Lists {
 
     ghost coded = { Prim.hlevel (codes, map.code) };
 
-    ghost view = { λ l. record { roots = told claimed l.lists.items; promises = told promised l.lists.items; room = l.room } };
+    ghost view = { λ l. record
+        { roots = told claimed l.lists.items; promises = told promised l.lists.items; room = l.room } };
 
     ghost invariant = { λ l. AreLists l.room l.lists.items };
 }

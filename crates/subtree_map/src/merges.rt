@@ -52,7 +52,9 @@ fn take_inside(roots: &mut Lists, dir: Ino, frag: Frag) -> Option<Rank>
 
 // The first root inside a fragment.
 fn root_inside(roots: &Lists, dir: Ino, frag: Frag) -> Option<(Ino, Frag)>
-    ensures { MatchOption result ((leaf : Leaf) → is_inside dir.0 frag leaf ≡ true → map.get roots.now.roots leaf ≡ None) (λ root. (is_inside dir.0 frag root ≡ true) × IsSome (map.get roots.now.roots root)) }
+    ensures { MatchOption result ((leaf : Leaf) → is_inside dir.0 frag leaf ≡ true
+        → map.get roots.now.roots leaf ≡ None) (λ root. (is_inside dir.0 frag root ≡ true)
+        × IsSome (map.get roots.now.roots root)) }
 {
     let _ = frag.bits();
     let root = roots.first_after(dir, frag)?;

@@ -21,8 +21,14 @@ impl Subtrees {
     /// `dirs` is the table after the move, of which the directory's leaves are asked.
     pub fn after_rename(&mut self, dirs: &Dirs, dir: Ino, lost: Option<Rank>)
         requires room { IsSome lost → length (leaves_of dirs.now.trees dir.0) ≤ self.old.room }
-        ensures roots { (homes : Homes) (covers : Covers) (home : Home) → leaves_of covers dir.0 ≡ leaves_of dirs.now.trees dir.0 → MayMove homes dir.0 home → IsLostRank self.old.roots homes covers dir.0 home lost → IsSettled self.old.roots self.new.roots homes covers dir.0 home }
-        ensures authority { (homes : Homes) (covers : Covers) (home : Home) → leaves_of covers dir.0 ≡ leaves_of dirs.now.trees dir.0 → MayMove homes dir.0 home → IsLostRank self.old.roots homes covers dir.0 home lost → IsTable homes covers → IsSubtrees self.old.roots homes covers
+        ensures roots { (homes : Homes) (covers : Covers) (home : Home)
+            → leaves_of covers dir.0 ≡ leaves_of dirs.now.trees dir.0 → MayMove homes dir.0 home
+            → IsLostRank self.old.roots homes covers dir.0 home lost
+            → IsSettled self.old.roots self.new.roots homes covers dir.0 home }
+        ensures authority { (homes : Homes) (covers : Covers) (home : Home)
+            → leaves_of covers dir.0 ≡ leaves_of dirs.now.trees dir.0 → MayMove homes dir.0 home
+            → IsLostRank self.old.roots homes covers dir.0 home lost → IsTable homes covers
+            → IsSubtrees self.old.roots homes covers
             → MovesSoundly self.old.roots self.new.roots homes covers dir.0 home }
         ensures promises { self.new.promises ≡ self.old.promises }
         ensures room { self.old.room ≤ self.new.room + length (leaves_of dirs.now.trees dir.0) }

@@ -33,8 +33,10 @@ impl Subtrees {
     pub fn hand(&mut self, dir: Ino, frag: Frag)
         requires is_root { IsSome (map.get self.old.roots (dir, frag)) }
         requires promised { IsSome (map.get self.old.promises (dir, frag)) }
-        ensures roots { (rank : RankNumber) → map.get self.old.promises (dir, frag) ≡ Some rank → self.new.roots ≡ map.insert self.old.roots (dir, frag) rank }
-        ensures authority { (rank : RankNumber) → map.get self.old.promises (dir, frag) ≡ Some rank → IsHanded self.old.roots self.new.roots (dir, frag) rank }
+        ensures roots { (rank : RankNumber) → map.get self.old.promises (dir, frag) ≡ Some rank
+            → self.new.roots ≡ map.insert self.old.roots (dir, frag) rank }
+        ensures authority { (rank : RankNumber) → map.get self.old.promises (dir, frag) ≡ Some rank
+            → IsHanded self.old.roots self.new.roots (dir, frag) rank }
         ensures promises { self.new.promises ≡ map.remove self.old.promises (dir, frag) }
         ensures room { self.new.room ≡ self.old.room }
     {

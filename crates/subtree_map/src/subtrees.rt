@@ -91,7 +91,8 @@ impl Subtrees {
         requires { 0 < self.old.room }
         ensures roots { self.new.roots ≡ map.insert self.old.roots (dir, frag) rank }
         ensures authority { IsCutOff self.old.roots self.new.roots (dir, frag) }
-        ensures valid { (homes : Homes) (covers : Covers) → IsSubtrees self.old.roots homes covers → IsLive homes covers (dir, frag) → IsSubtrees self.new.roots homes covers }
+        ensures valid { (homes : Homes) (covers : Covers) → IsSubtrees self.old.roots homes covers
+            → IsLive homes covers (dir, frag) → IsSubtrees self.new.roots homes covers }
         ensures promises { self.new.promises ≡ self.old.promises }
         ensures room { self.old.room ≤ self.new.room + 1 }
     {
