@@ -1,5 +1,5 @@
 -- A script so far, and what its next line or its end makes of it.
-use Rattle.admin_cli.proofs.Common.{Admin, AnswersLine, Appends, Appends-nil, Appends-trans, Bool, Breaks, BreaksOff, Command, DoesBytes, Ends, Err, Executes, FaultKind, IfOk, IfSome, IsEmpty, IsFirstLine, IsFormatted, IsTooLong, Keeps, Kept, LacksFor, List, Mark, MayFlush, None, NotCommand, Ok, OnErr, Option, OutOfMemory, OutputLine, Prints, PrintsAny, PrintsCame, PrintsOf, PrintsOwn, ReadFault, Result, RunsInput, RunsLine, RunsLines, RunsNew, RunsOrNot, RunsWaiting, ScriptFault, Some, StopsAt, StopsBefore, TooLong, Waiting, WriteFault, [], ap, append-nil, append_assoc, arith, cond, drop, false, inl, inr, le-ltb, length, length-append, length-drop, length-replicate, line_at, lines_of, lt-ltb, ltb, ltb-false, ltb-true, none_sent, refl, replicate, subst, suc, sym, take, take-append-drop, take-append-le, text_of, true, ℕ, ◌++◌, ◌+◌, ◌-◌, ◌<◌, ◌∙◌, ◌∷◌, ◌≡◌, ◌≤◌}
+use Rattle.admin_cli.proofs.Common.{Admin, AnswersLine, Appends, Appends-nil, Appends-trans, Bool, Breaks, BreaksOff, Command, DoesBytes, Ends, Err, Executes, FaultKind, IfOk, IfSome, IsEmpty, IsFirstLine, IsFormatted, IsTooLong, Keeps, BookState, LacksFor, List, Mark, MayFlush, None, NotCommand, Ok, OnErr, Option, OutOfMemory, OutputLine, Prints, PrintsAny, PrintsCame, PrintsOf, PrintsOwn, ReadFault, Result, RunsInput, RunsLine, RunsLines, RunsNew, RunsOrNot, RunsWaiting, ScriptFault, Some, StopsAt, StopsBefore, TooLong, Waiting, WriteFault, [], ap, append-nil, append_assoc, arith, cond, drop, false, inl, inr, le-ltb, length, length-append, length-drop, length-replicate, line_at, lines_of, lt-ltb, ltb, ltb-false, ltb-true, none_sent, refl, replicate, subst, suc, sym, take, take-append-drop, take-append-le, text_of, true, ℕ, ◌++◌, ◌+◌, ◌-◌, ◌<◌, ◌∙◌, ◌∷◌, ◌≡◌, ◌≤◌}
 use Rattle.std.specs.FinMap as map
 use Rattle.script_text.specs.declared.lines.Line.TheVariants as line
 
@@ -412,7 +412,7 @@ command_printed old new command waiting waiting' number before after result (Ok 
 command_printed old new command waiting waiting' number before after result (Err refused) executes lacks prints = inr (OutOfMemory, inr (lacks, refl), prints)
 
 -- a script over a book that was made
-pub started : (ranks cache limit : ℕ) (known before after : Option (List ℕ)) (result : Result (Unit {0}) ScriptFault) (book : Kept) → IsFormatted ranks cache limit book
+pub started : (ranks cache limit : ℕ) (known before after : Option (List ℕ)) (result : Result (Unit {0}) ScriptFault) (book : BookState) → IsFormatted ranks cache limit book
     → RunsOrNot (record { book = book; operations = 0; jobs = map.empty; sent = none_sent }) known before after result → RunsNew ranks cache limit known before after result
 started ranks cache limit known before after result book formatted (inl runs) = inl (record { book = book; formatted = formatted; runs = runs })
 started ranks cache limit known before after result book formatted (inr never) = inr never

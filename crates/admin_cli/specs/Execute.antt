@@ -7,7 +7,7 @@ use Rattle.mds_types.specs.Frag.{Fragment}
 use Rattle.cluster_core.specs.declared.events.Answer.{Answer}
 use Rattle.cluster_core.specs.declared.events.Event.TheVariants.{Arrive, Serve as ServeEvent, Split as SplitEvent, Merge as MergeEvent, Grant as GrantEvent}
 use Rattle.cluster_core.specs.Administers.{ListsLeaves}
-use Rattle.cluster_core.specs.State.{Kept}
+use Rattle.cluster_core.specs.State.{BookState}
 use Rattle.script_text.specs.declared.commands.Command.{Command}
 use Rattle.script_text.specs.declared.commands.Command.TheVariants.{Operation, Own, Request, Serve, History, Split, Merge, Leaves, Grant, Subtrees, Authority, Export, Store}
 use Rattle.script_output.specs.declared.lines.OutputLine.{OutputLine}
@@ -21,12 +21,12 @@ use Rattle.admin_cli.specs.StoreLines.{ExecutesStore, LacksForStore}
 
 -- an operation alone: it arrives at rank 0 as client 0 with this transaction number, and is served there if it wasn't
 -- refused
-abbrev pub OperatesAfter : (middle new : Kept) → Result Answer Refusal → OutputLine → Type 0
+abbrev pub OperatesAfter : (middle new : BookState) → Result Answer Refusal → OutputLine → Type 0
 OperatesAfter middle new (Ok answer) line = StepsLine middle new (ServeEvent (record { 0 = 0 })) shown_line line
 OperatesAfter middle new (Err refusal) line = (new ≡ middle) × (line ≡ Refused refusal)
 
-pub record OperatesLine (old new : Kept) (tid : ℕ) (op : Op) (line : OutputLine) : Type 0 where
-  pub middle : Kept
+pub record OperatesLine (old new : BookState) (tid : ℕ) (op : Op) (line : OutputLine) : Type 0 where
+  pub middle : BookState
   pub arrived : Result Answer Refusal
   pub stepped : IsStep old middle arrived (Arrive (record {
     0 =
@@ -35,7 +35,7 @@ pub record OperatesLine (old new : Kept) (tid : ℕ) (op : Op) (line : OutputLin
   pub rest : OperatesAfter middle new arrived line
 
 -- the leaves of a directory were listed, or why not; the book is only read
-abbrev pub ListsLine : Kept → Ino → OutputLine → Type 0
+abbrev pub ListsLine : BookState → Ino → OutputLine → Type 0
 ListsLine book dir line =
     ((leaves : List Fragment) × ListsLeaves book.core.state dir (Ok leaves) × (line ≡ Frags leaves))
     ⊎ ((refusal : Refusal) × ListsLeaves book.core.state dir (Err refusal) × (line ≡ Refused refusal))

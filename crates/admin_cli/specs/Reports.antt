@@ -6,7 +6,7 @@ use Rattle.std.specs.Fmt.{decimal}
 use Rattle.std.specs.FinMap as map
 use Rattle.std.specs.Io.KnownBytes.{Appends, Keeps}
 use Rattle.cluster_core.specs.Sound.{IsSoundBook}
-use Rattle.cluster_core.specs.State.{Kept}
+use Rattle.cluster_core.specs.State.{BookState}
 use Rattle.script_output.specs.Writing.{AppendsBeginning}
 use Rattle.admin_cli.specs.declared.workload.serving.ServeFault.{ServeFault}
 use Rattle.admin_cli.specs.declared.workload.serving.ServeFault.TheVariants.{Fault, Write}
@@ -33,7 +33,7 @@ pub record Reports (served : ℕ) (agrees : Bool) (text : List ℕ) : Type 0 whe
 
 -- so it is of a sound book that opened with the empty tree
 pub record IsText (agrees : Bool) (text : List ℕ) : Type 0 where
-  pub book : Kept
+  pub book : BookState
   pub sound : IsSoundBook book
   pub opening : book.opening ≡ map.empty
   pub reports : Reports (length book.history) agrees text

@@ -3,7 +3,7 @@ use Rattle.std.specs.Prelude.{◌≡◌, ◌⊎◌, ℕ, ◌+◌, ◌<◌, ◌�
 use Rattle.std.specs.Io.KnownBytes.{Appends, Keeps}
 use Rattle.std.specs.FinMap as map
 use Rattle.cluster_core.specs.Sound.{IsSoundBook}
-use Rattle.cluster_core.specs.State.{Kept, new_caches, new_state}
+use Rattle.cluster_core.specs.State.{BookState, new_caches, new_state}
 use Rattle.script_text.specs.declared.lines.Line.{Line}
 use Rattle.script_text.specs.declared.lines.Line.TheVariants as line
 use Rattle.script_output.specs.declared.lines.OutputLine.{OutputLine}
@@ -124,7 +124,7 @@ pub record RunsInput (old : Admin) (known before after : Option (List ℕ))
 -- a book as `format` makes it with so many ranks, a cache of so many places for each, and so many entries that a
 -- directory may have: a sound book with an empty tree, an empty history, the state of a new cluster, and its caches,
 -- each of that size and with no place taken but that of the root's leaf at rank 0. Its store told no fault
-pub record IsFormatted (ranks cache limit : ℕ) (book : Kept) : Type 0 where
+pub record IsFormatted (ranks cache limit : ℕ) (book : BookState) : Type 0 where
   pub opening : book.opening ≡ map.empty
   pub history : book.history ≡ []
   pub state : book.core.state ≡ new_state ranks limit
@@ -135,7 +135,7 @@ pub record IsFormatted (ranks cache limit : ℕ) (book : Kept) : Type 0 where
 -- a whole script, from a new book, with no line read yet
 pub record RunsFormatted (ranks cache limit : ℕ) (known before after : Option (List ℕ))
     (result : Result (Unit {0}) ScriptFault) : Type 0 where
-  pub book : Kept
+  pub book : BookState
   pub formatted : IsFormatted ranks cache limit book
   pub runs : RunsInput (record {
     book =

@@ -4,7 +4,7 @@ use Rattle.mds_types.specs.declared.refusals.Refusal.{Refusal}
 use Rattle.cluster_core.specs.declared.events.Answer.{Answer}
 use Rattle.cluster_core.specs.declared.events.Answer.TheVariants.{Deferred, Forwarded, Job, Nothing, Reply, Sent}
 use Rattle.cluster_core.specs.declared.events.Event.{Event}
-use Rattle.cluster_core.specs.State.{Kept}
+use Rattle.cluster_core.specs.State.{BookState}
 use Rattle.cluster_core.specs.Runs.{StepsBook}
 use Rattle.cluster_core.specs.Sound.{IsSoundBook}
 use Rattle.script_output.specs.declared.lines.OutputLine.{OutputLine}
@@ -13,7 +13,7 @@ use Rattle.admin_cli.specs.declared.commands.Admin.{Admin}
 
 -- one event led from a book to the next with this result, by all that the contract of a book's step says; its store,
 -- which is in memory, tells no fault
-pub record IsStep (old new : Kept) (result : Result Answer Refusal) (event : Event) : Type 0 where
+pub record IsStep (old new : BookState) (result : Result Answer Refusal) (event : Event) : Type 0 where
   pub stepped : StepsBook old new result event
   pub sound : IsSoundBook new
   pub faults : new.core.faults ≡ 0
@@ -34,7 +34,7 @@ arrived_line (Ok answer) = Queued
 arrived_line (Err refusal) = Refused refusal
 
 -- one step of the book, and the line that shows what it came to
-pub record StepsLine (old new : Kept) (event : Event) (line_of : Result Answer Refusal → OutputLine)
+pub record StepsLine (old new : BookState) (event : Event) (line_of : Result Answer Refusal → OutputLine)
     (line : OutputLine) : Type 0 where
   pub result : Result Answer Refusal
   pub stepped : IsStep old new result event

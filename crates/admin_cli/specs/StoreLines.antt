@@ -13,7 +13,7 @@ use Rattle.cached_frag.specs.declared.jobs.Job.{Job as Begun}
 use Rattle.cached_frag.specs.Commit.{carried}
 use Rattle.cluster_core.specs.Flush.{AreExact, Flushes, IsColdTree}
 use Rattle.cluster_core.specs.Sound.{IsSoundBook}
-use Rattle.cluster_core.specs.State.{Kept}
+use Rattle.cluster_core.specs.State.{BookState}
 use Rattle.cluster_core.specs.declared.events.Answer.{Answer}
 use Rattle.cluster_core.specs.declared.events.Answer.TheVariants.{Deferred, Forwarded, Job, Nothing, Reply, Sent}
 use Rattle.cluster_core.specs.declared.events.Event.{Event}
@@ -134,7 +134,7 @@ LacksForCommit old new rank dir f = LosesJob old new rank dir f ⊎ BeginsAlone 
 
 -- a flush led from a book to the next with this result, by all that its contract says; the store, which is in memory,
 -- tells no fault
-pub record IsFlush (old new : Kept) (result : Result (Unit {0}) Refusal) : Type 0 where
+pub record IsFlush (old new : BookState) (result : Result (Unit {0}) Refusal) : Type 0 where
   pub cold : OnOk result (IsColdTree new.core.state.tree.objects
       (after old.core.state.tree.limit old.opening old.history))
   pub exact : OnOk result (AreExact new.core.state.tree)

@@ -1,5 +1,5 @@
 -- A book stays sound where a request is applied.
-use Rattle.cluster_core.proofs.Common.{Answer, AreCached, AreExported, AreRoots, AreSupplied, Bool, Core, Entry, Ino, IsApplied, IsFresh, IsKept, IsLawful, IsSound, IsSupplied, IsSupply, List, None, Option, Outcome, Rank, Request, Some, State, Supply, Tree, [], after, after-push, after_taking, ap, arith, cond, end_number, entry_of, eqb, eqb-false, eqb-true, false, first_number, get_or, get_or-set_other, get_or-set_same, is_some, legal-push, length, length-set, nat_lt, nat_tests, no_supply, number_of, number_or, offer, outcome_of, refl, set, shown, step, supply_of, sym, table-push, true, true≢false, unused, used-push, with_entry, with_waiting, ℕ, ⊎_elim, ◌++◌, ◌<◌, ◌∙◌, ◌∷◌, ◌≡◌, ◌≢◌, ◌≤◌}
+use Rattle.cluster_core.proofs.Common.{Answer, AreCached, AreExported, AreRoots, AreSupplied, Bool, Core, Entry, Ino, IsApplied, IsFresh, IsSoundWith, IsLawful, IsSound, IsSupplied, IsSupply, List, None, Option, Outcome, Rank, Request, Some, State, Supply, Tree, [], after, after-push, after_taking, ap, arith, cond, end_number, entry_of, eqb, eqb-false, eqb-true, false, first_number, get_or, get_or-set_other, get_or-set_same, is_some, legal-push, length, length-set, nat_lt, nat_tests, no_supply, number_of, number_or, offer, outcome_of, refl, set, shown, step, supply_of, sym, table-push, true, true≢false, unused, used-push, with_entry, with_waiting, ℕ, ⊎_elim, ◌++◌, ◌<◌, ◌∙◌, ◌∷◌, ◌≡◌, ◌≢◌, ◌≤◌}
 use Rattle.mds_types.specs.History.{IsNext}
 
 -- what an offer of a number comes to: the table took it, or it took none and the outcome is that of any number
@@ -112,7 +112,7 @@ module _ (opening : Tree) (past : List Entry) (numbers : List Supply) (rank : �
 
 -- a book stays sound where a request is applied
 pub sound-applied : (opening : Tree) (past now : List Entry) (old new : Core) (rank : Rank) (request : Request) (rest : List Request) (answer : Answer)
-    → rank.0 < length old.state.numbers → IsSound opening past old → IsKept new.state.tree new.caches → AreCached new → AreExported new → length new.caches.used ≡ length old.caches.used → AreRoots new.state.tree new.state.roots
+    → rank.0 < length old.state.numbers → IsSound opening past old → IsSoundWith new.state.tree new.caches → AreCached new → AreExported new → length new.caches.used ≡ length old.caches.used → AreRoots new.state.tree new.state.roots
     → new.state.tree.limit ≡ old.state.tree.limit → IsApplied old.state new.state past now rank request rest answer → IsSound opening now new
 sound-applied opening past now old new rank request rest answer there sound tree cached exported count valid limit done =
     let before = old.state in

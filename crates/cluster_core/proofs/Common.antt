@@ -16,8 +16,8 @@ pub use Rattle.cluster_core.specs.Proposal.{IsAwayTo, IsFirstAway, IsFirstOf, Is
 pub use Rattle.cluster_core.specs.Runs.{AddsAtServe, AddsTo, IsOfHistory, IsRun, Records, Runs, StandsAt, StepsBook}
 pub use Rattle.cluster_core.specs.Serve.{CarryLeaves, FollowPlanned, ForwardsTo, IsApplied, IsForwarded, IsLeft, IsRepeated, IsTakenOut, MakesPlanned, Replies, ServesInbox, ServesRequest, entry_of, number_of, outcome_of, went_with, with_entry, without_gone, without_request}
 pub use Rattle.cluster_core.specs.Settled.{AreSettled, IsAway, IsCalm, IsCalmIn, IsCalmOp, IsSettled, KeepsSettled}
-pub use Rattle.cluster_core.specs.Sound.{AreCached, AreExported, AreRanks, AreSupplied, IsFresh, IsKept, IsSound, IsSoundBook, IsSupplied}
-pub use Rattle.cluster_core.specs.State.{Core, Kept, State, core_of, new_state, no_supply, shown, state_of, supply_of, whole_supplies}
+pub use Rattle.cluster_core.specs.Sound.{AreCached, AreExported, AreRanks, AreSupplied, IsFresh, IsSoundWith, IsSound, IsSoundBook, IsSupplied}
+pub use Rattle.cluster_core.specs.State.{Core, BookState, State, core_of, new_state, no_supply, shown, state_of, supply_of, whole_supplies}
 pub use Rattle.cluster_core.specs.Steps.{ArrivesAt, Does, MayRefuse, Steps}
 pub use Rattle.cluster_core.specs.Uses.{Asks, ChangesOp, ReadsOp, UsesFront, UsesRequest}
 pub use Rattle.cluster_core.specs.declared.applying.Prepared.{Prepared}

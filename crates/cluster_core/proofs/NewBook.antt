@@ -1,5 +1,5 @@
 -- A book begins sound.
-use Rattle.cluster_core.proofs.Common.{AreCached, AreExported, AreSupplied, Core, IsKept, IsSound, IsSupplied, IsUsed, Leaf, None, Rank, Roots, Some, Standing, StandingExport, State, [], ap, arith, entries-empty, first_number, get-empty, get_or, inl, inr, leaf_cmp, length, length-replicate, length-set, map, new_are_roots, new_caches, new_state, new_tree, no_caches, no_supply, none_stand, numbers, order, refl, replicate, root_leaf, shown, subst, suc, sym, table-none, whole_supplies, zero, ℕ, ◌+◌, ◌<◌, ◌^◌, ◌∙◌, ◌≡◌, ◌≤◌}
+use Rattle.cluster_core.proofs.Common.{AreCached, AreExported, AreSupplied, Core, IsSoundWith, IsSound, IsSupplied, IsUsed, Leaf, None, Rank, Roots, Some, Standing, StandingExport, State, [], ap, arith, entries-empty, first_number, get-empty, get_or, inl, inr, leaf_cmp, length, length-replicate, length-set, map, new_are_roots, new_caches, new_state, new_tree, no_caches, no_supply, none_stand, numbers, order, refl, replicate, root_leaf, shown, subst, suc, sym, table-none, whole_supplies, zero, ℕ, ◌+◌, ◌<◌, ◌^◌, ◌∙◌, ◌≡◌, ◌≤◌}
 use Rattle.std.specs.FinMap as finmap
 use Rattle.dentry_cache.specs.CacheMap.{first}
 
@@ -46,7 +46,7 @@ stand_alone core none ranked = record {
     gone root export stands = let clash : None ≡ Some export = sym (get-empty leaf_cmp root) ∙ ap (λ (e : Standing). finmap.get e root) (sym none) ∙ stands in cc
 
 -- a new book is sound
-pub sound-empty : (core : Core) (ranks limit : ℕ) → 1 ≤ ranks → ranks ≤ 16 → core.state ≡ new_state ranks limit → IsKept core.state.tree core.caches → AreCached core → length core.caches.used ≡ ranks → IsSound finmap.empty [] core
+pub sound-empty : (core : Core) (ranks limit : ℕ) → 1 ≤ ranks → ranks ≤ 16 → core.state ≡ new_state ranks limit → IsSoundWith core.state.tree core.caches → AreCached core → length core.caches.used ≡ ranks → IsSound finmap.empty [] core
 sound-empty core ranks limit some most is tree cached count = record {
   legal = λ k e below. absurd (omega arith);
   replayed = ap shown is ∙ new_tree limit;

@@ -1,5 +1,5 @@
 -- Whole runs: the history grows, and each reply that was handed out stands in it.
-use Rattle.cluster_core.proofs.Common.{AddsTo, Administers, Answer, Arrive, ArrivesAt, BeginsAt, Bool, Cancel, CancelsAt, CommitBegin, CommitDrop, CommitEnd, CommitTree, Core, Deferred, Does, Drops, Ends, Entry, Err, Event, Evict, EvictsOne, Exports, Finish, Finishes, Forwarded, Freeze, Freezes, Grant, GrantsFirst, Import, ImportsExport, InboxEmpty, IsApplied, IsLeft, IsOfHistory, IsRepeated, IsRun, IsSoundBook, Kept, Leaf, List, MatchBool, MayRefuse, Merge, MergesLeaves, None, NotAuthority, Nothing, Ok, Op, Option, Prep, Preps, Purge, Purges, Rank, Refusal, Reply, Request, Result, Runs, SavesTree, Send, SendsExport, Sent, Serve, ServesInbox, ServesRequest, Some, Split, SplitsLeaf, StandsAt, Start, Starts, State, StepsBook, [], and_parts, ap, append-nil, append_assoc, arith, drop, drop_more, entry_of, eqb-true, false, first_waiting, get_or, get_or-append_seam, get_or_append_left, inl, inr, length, length-append, length-drop, nat_lt, nothing, refl, slice_index_or, subst, suc, sym, take, take_all, take_more, told_job, true, waiting_at, ℕ, ◌++◌, ◌+◌, ◌-◌, ◌<◌, ◌∙◌, ◌∷◌, ◌≡◌, ◌≤◌}
+use Rattle.cluster_core.proofs.Common.{AddsTo, Administers, Answer, Arrive, ArrivesAt, BeginsAt, Bool, Cancel, CancelsAt, CommitBegin, CommitDrop, CommitEnd, CommitTree, Core, Deferred, Does, Drops, Ends, Entry, Err, Event, Evict, EvictsOne, Exports, Finish, Finishes, Forwarded, Freeze, Freezes, Grant, GrantsFirst, Import, ImportsExport, InboxEmpty, IsApplied, IsLeft, IsOfHistory, IsRepeated, IsRun, IsSoundBook, BookState, Leaf, List, MatchBool, MayRefuse, Merge, MergesLeaves, None, NotAuthority, Nothing, Ok, Op, Option, Prep, Preps, Purge, Purges, Rank, Refusal, Reply, Request, Result, Runs, SavesTree, Send, SendsExport, Sent, Serve, ServesInbox, ServesRequest, Some, Split, SplitsLeaf, StandsAt, Start, Starts, State, StepsBook, [], and_parts, ap, append-nil, append_assoc, arith, drop, drop_more, entry_of, eqb-true, false, first_waiting, get_or, get_or-append_seam, get_or_append_left, inl, inr, length, length-append, length-drop, nat_lt, nothing, refl, slice_index_or, subst, suc, sym, take, take_all, take_more, told_job, true, waiting_at, ℕ, ◌++◌, ◌+◌, ◌-◌, ◌<◌, ◌∙◌, ◌∷◌, ◌≡◌, ◌≤◌}
 use Rattle.mds_types.specs.declared.replies.Reply.{Reply as Replied}
 use Rattle.cached_frag.specs.declared.jobs.Job.{Job as Begun}
 use Rattle.cluster_core.specs.declared.events.Answer.TheVariants.{Job}
@@ -174,16 +174,16 @@ still_told past now (Err reason) grown h = tt
 grown_twice : (a b c : List Entry) → BeginsWith b a → BeginsWith c b → BeginsWith c a
 grown_twice a b c (p, e) (q, f) = (p ++ q, f ∙ ap (λ xs. xs ++ q) e ∙ append_assoc a p q)
 
-run_of_no_events : (start end : Kept) → end ≡ start → IsRun start [] [] end
+run_of_no_events : (start end : BookState) → end ≡ start → IsRun start [] [] end
 run_of_no_events start end h = record {
   ran = h;
-  same_opening = ap (λ (k : Kept). k.opening) h;
-  grows = unchanged start.history end.history (ap (λ (k : Kept). k.history) h);
+  same_opening = ap (λ (k : BookState). k.opening) h;
+  grows = unchanged start.history end.history (ap (λ (k : BookState). k.history) h);
   told = tt;
 }
 
 -- a run keeps the opening, the history and each reply
-pub run_of : (start : Kept) (events : List Event) (results : List (Result Answer Refusal)) (end : Kept) → Runs start events results end → IsRun start events results end
+pub run_of : (start : BookState) (events : List Event) (results : List (Result Answer Refusal)) (end : BookState) → Runs start events results end → IsRun start events results end
 run_of start [] [] end h = run_of_no_events start end h
 run_of start [] (result ∷ results) end h = absurd h
 run_of start (event ∷ events) [] end h = absurd h
@@ -198,7 +198,7 @@ run_of start (event ∷ events) (result ∷ results) end (next, one, sound, more
     }
 
 -- one event more
-pub runs-push : (start middle end : Kept) (events : List Event) (results : List (Result Answer Refusal)) (result : Result Answer Refusal) (event : Event)
+pub runs-push : (start middle end : BookState) (events : List Event) (results : List (Result Answer Refusal)) (result : Result Answer Refusal) (event : Event)
     → Runs start events results middle → StepsBook middle end result event → IsSoundBook end → Runs start (events ++ event ∷ []) (results ++ result ∷ []) end
 runs-push start middle end [] [] result event h one sound = (end, subst (λ k. StepsBook k end result event) h one, sound, refl)
 runs-push start middle end [] (r ∷ results) result event h one sound = absurd h
@@ -217,7 +217,7 @@ split_next n xs x rest left =
     (take_more xs n x below ∙ ap (λ y. take n xs ++ y ∷ []) (sym head), tail)
 
 -- one event more of those that are left
-pub run_more : (start middle end : Kept) (events rest : List Event) (results new_results : List (Result Answer Refusal)) (result : Result Answer Refusal) (event : Event) (n m : ℕ)
+pub run_more : (start middle end : BookState) (events rest : List Event) (results new_results : List (Result Answer Refusal)) (result : Result Answer Refusal) (event : Event) (n m : ℕ)
     → Runs start (take n events) results middle → event ∷ rest ≡ drop n events → StepsBook middle end result event → IsSoundBook end → m ≡ n + 1 → new_results ≡ results ++ result ∷ []
     → Runs start (take m events) new_results end × (rest ≡ drop m events)
 run_more start middle end events rest results new_results result event n m h left one sound more grown =
@@ -225,5 +225,5 @@ run_more start middle end events rest results new_results result event n m h lef
     rw (more, grown) (rw s.0 (runs-push start middle end (take n events) results result event h one sound), s.1)
 
 -- no event is left
-pub run_all : (start end : Kept) (events : List Event) (results : List (Result Answer Refusal)) (n : ℕ) → Runs start (take n events) results end → length events ≤ n → Runs start events results end
+pub run_all : (start end : BookState) (events : List Event) (results : List (Result Answer Refusal)) (n : ℕ) → Runs start (take n events) results end → length events ≤ n → Runs start events results end
 run_all start end events results n h few = subst (λ es. Runs start es results end) (take_all n events few) h

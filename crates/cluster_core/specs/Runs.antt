@@ -9,21 +9,21 @@ use Rattle.cluster_core.specs.declared.events.Answer.TheVariants.{Deferred, Forw
 use Rattle.cluster_core.specs.declared.events.Event.{Event}
 use Rattle.cluster_core.specs.declared.events.Event.TheVariants.{Arrive, Grant, Serve, Split, Merge, CommitBegin, CommitEnd, CommitDrop, CommitTree, Purge, Evict, Start, Freeze, Prep, Send, Import, Finish, Cancel}
 use Rattle.cluster_core.specs.Sound.{IsSoundBook}
-use Rattle.cluster_core.specs.State.{Kept}
+use Rattle.cluster_core.specs.State.{BookState}
 use Rattle.cluster_core.specs.Steps.{Steps}
 
 -- one event leads from a book to the next, with this result
-pub record StepsBook (old new : Kept) (result : Result Answer Refusal) (event : Event) : Type 0 where
+pub record StepsBook (old new : BookState) (result : Result Answer Refusal) (event : Event) : Type 0 where
   pub stepped : Steps old.core new.core old.history new.history result event
   pub same_opening : new.opening ≡ old.opening
 
 -- events lead from one book to another, one after the other, with a result for each; each leads to a sound book
-abbrev pub Runs : Kept → List Event → List (Result Answer Refusal) → Kept → Type 0
+abbrev pub Runs : BookState → List Event → List (Result Answer Refusal) → BookState → Type 0
 Runs start [] [] end = end ≡ start
 Runs start [] (result ∷ results) end = ⊥
 Runs start (event ∷ events) [] end = ⊥
 Runs start (event ∷ events) (result ∷ results) end =
-    (next : Kept) × StepsBook start next result event × IsSoundBook next × Runs next events results end
+    (next : BookState) × StepsBook start next result event × IsSoundBook next × Runs next events results end
 
 -- the entry at a place is that of this client and transaction number, with this reply
 pub record StandsAt (history : List Entry) (client tid place : ℕ) (reply : Replied) : Type 0 where
@@ -88,8 +88,8 @@ abbrev pub BeginsWith : List Entry → List Entry → Type 0
 BeginsWith history past = (rest : List Entry) × (history ≡ past ++ rest)
 
 -- a run: the opening stays, the history grows, and each reply that was handed out is the history's at the end
-pub record IsRun (start : Kept) (events : List Event) (results : List (Result Answer Refusal))
-    (end : Kept) : Type 0 where
+pub record IsRun (start : BookState) (events : List Event) (results : List (Result Answer Refusal))
+    (end : BookState) : Type 0 where
   pub ran : Runs start events results end
   pub same_opening : end.opening ≡ start.opening
   pub grows : BeginsWith end.history start.history

@@ -14,7 +14,7 @@ use Rattle.cluster_core.specs.declared.events.Event.{Event}
 use Rattle.cluster_core.specs.declared.events.Event.TheVariants.{Arrive, Serve, Grant, Split, Merge, CommitBegin, CommitEnd, CommitDrop, CommitTree, Purge, Evict, Start, Freeze, Prep, Send, Import, Finish, Cancel}
 use Rattle.cluster_core.specs.Pins.{HasPin}
 use Rattle.cluster_core.specs.Sound.{IsSoundBook}
-use Rattle.cluster_core.specs.State.{Kept, State}
+use Rattle.cluster_core.specs.State.{BookState, State}
 
 -- a leaf is a rank's, a subtree root or of a directory with a pin of its own, and its directory is pinned to another
 -- rank of the book
@@ -35,7 +35,7 @@ abbrev pub AreSettled : State → List Rank → Type 0
 AreSettled state ranks = (rank : Rank) → Contains ranks rank → IsSettled state rank
 
 -- a book is sound, and nothing of these ranks is pinned away
-pub record IsSettledBook (book : Kept) (ranks : List Rank) : Type 0 where
+pub record IsSettledBook (book : BookState) (ranks : List Rank) : Type 0 where
   pub sound : IsSoundBook book
   pub settled : AreSettled book.core.state ranks
 

@@ -17,7 +17,7 @@ use Rattle.mdcache.specs.Sound.{IsSound as IsSoundTree}
 use Rattle.mdcache.specs.State.{State as TreeState}
 use Rattle.sessions.specs.Table.{IsTableOf}
 use Rattle.cluster_core.specs.Master.{IsFrozenAt}
-use Rattle.cluster_core.specs.State.{Core, Kept, held_roots, no_supply, shown}
+use Rattle.cluster_core.specs.State.{Core, BookState, held_roots, no_supply, shown}
 use Rattle.ranked_tree.specs.Held.{AreHeld}
 use Rattle.ranked_tree.specs.Subtrees.{AreRoots}
 
@@ -45,7 +45,7 @@ pub record AreRanks (core : Core) : Type 0 where
 
 -- the tree is sound; and each cached fragment is a live leaf, is tied to its object, and has a generation that was
 -- given out
-pub record IsKept (tree : TreeState) (caches : CacheMap) : Type 0 where
+pub record IsSoundWith (tree : TreeState) (caches : CacheMap) : Type 0 where
   pub sound : IsSoundTree tree
   pub begun : 0 < tree.next_generation
   pub cached : AreCachedIn tree caches
@@ -79,7 +79,7 @@ pub record AreExported (core : Core) : Type 0 where
 pub record IsSound (opening : Tree) (history : List Entry) (core : Core) : Type 0 where
   pub legal : IsLegal core.state.tree.limit opening history
   pub replayed : shown core.state ≡ after core.state.tree.limit opening history
-  pub tree : IsKept core.state.tree core.caches
+  pub tree : IsSoundWith core.state.tree core.caches
   pub subtrees : AreRoots core.state.tree core.state.roots
   pub cached : AreCached core
   pub exported : AreExported core
@@ -88,5 +88,5 @@ pub record IsSound (opening : Tree) (history : List Entry) (core : Core) : Type 
   pub kept : IsTableOf history core.state.sessions
 
 -- a book is sound if its parts are
-abbrev pub IsSoundBook : Kept → Type 0
+abbrev pub IsSoundBook : BookState → Type 0
 IsSoundBook book = IsSound book.opening book.history book.core

@@ -40,7 +40,7 @@ pub record Core : Type 0 where
   pub faults : ℕ
 
 -- a book: a cluster, the history of what it answered, and the tree that it opened with
-pub record Kept : Type 0 where
+pub record BookState : Type 0 where
   pub opening : Tree
   pub history : List Entry
   pub core : Core

@@ -33,10 +33,10 @@ pub struct Book<S: Store + Drop> {
 impl<S: Store + Drop> Model for Book<S> {
     ghost use Rattle.std.specs.Coded.{codes};
     ghost use Rattle.std.specs.FinMap as map;
-    ghost use Rattle.cluster_core.specs.State.{Kept};
+    ghost use Rattle.cluster_core.specs.State.{BookState};
     ghost use Rattle.cluster_core.specs.Settled.{IsSettledBook};
 
-    ghost Value = { Kept };
+    ghost Value = { BookState };
 
     ghost coded = { Prim.hlevel (codes, map.code) };
 

@@ -11,7 +11,7 @@ ghost use Rattle.cluster_core.specs.State.{new_state, whole_supplies};
 ghost use Rattle.cluster_core.specs.Steps.{ArrivesAt, AtRank, MayRefuse, ServesRank, Steps, UsesGranted, UsesInbox};
 ghost use Rattle.cluster_core.specs.Grants.{GrantsWaiting};
 ghost use Rattle.ranked_tree.specs.Subtrees.{AreRoots, KeepsRoots};
-ghost use Rattle.cluster_core.specs.Sound.{AreCached, IsKept, IsSound};
+ghost use Rattle.cluster_core.specs.Sound.{AreCached, IsSoundWith, IsSound};
 ghost use Rattle.cluster_core.specs.Administers.{AsksNone, ListsLeaves, TellsAuthority};
 
 use crate::events::{Answer, Event};
@@ -72,7 +72,7 @@ impl<S: Store + Drop> Cluster<S> {
         ensures empty { OnOk result (S.objects store ≡ map.empty) }
         ensures state { IfOk result (λ c. c.state ≡ new_state ranks limit) }
         ensures caches { IfOk result (λ c. c.caches ≡ new_caches ranks places) }
-        ensures kept { IfOk result (λ c. IsKept c.state.tree c.caches) }
+        ensures kept { IfOk result (λ c. IsSoundWith c.state.tree c.caches) }
         ensures cached { IfOk result AreCached }
         ensures refused { IfErr result
             (λ back. MayNotFormat (S.objects store) (S.faults store) (S.faults back.1) back.0) }

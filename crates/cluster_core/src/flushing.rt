@@ -5,7 +5,7 @@ ghost use Rattle.std.specs.Result.{result_err};
 ghost use Rattle.mds_types.specs.History.{after};
 ghost use Rattle.objstore.specs.Objects.{faults_told};
 ghost use Rattle.cluster_core.specs.Flush.{AreExact, Flushes, IsColdTree, KeepsCore, MayNotFlush};
-ghost use Rattle.cluster_core.specs.Sound.{AreCached, AreExported, IsKept, IsSoundBook};
+ghost use Rattle.cluster_core.specs.Sound.{AreCached, AreExported, IsSoundWith, IsSoundBook};
 ghost use Rattle.cluster_core.specs.State.{shown};
 
 use crate::books::Book;
@@ -33,7 +33,7 @@ impl<S: Store + Drop> Cluster<S> {
         ensures left { KeepsCore self.old self.new }
         ensures refused { IfErr result (MayNotFlush self.old self.new) }
         ensures counted { self.new.faults ≡ self.old.faults + faults_told (result_err result) }
-        ensures kept { IsKept self.new.state.tree self.new.caches }
+        ensures kept { IsSoundWith self.new.state.tree self.new.caches }
         ensures cached { AreCached self.new }
         ensures exported { AreExported self.new }
     {

@@ -1,7 +1,7 @@
 -- Names of other crates, and of this one's definitions, as the proofs of this crate take them.
 pub use Rattle.cluster_core.specs.Runs.{AddsTo, AppendsOne, Records}
 pub use Rattle.cluster_core.specs.Sound.{IsSoundBook}
-pub use Rattle.cluster_core.specs.State.{Kept}
+pub use Rattle.cluster_core.specs.State.{BookState}
 pub use Rattle.cluster_core.specs.declared.events.Answer.{Answer}
 pub use Rattle.cluster_core.specs.declared.events.Answer.TheVariants.{Deferred, Forwarded, Job, Nothing, Reply, Sent}
 pub use Rattle.cluster_core.specs.declared.events.Event.{Event}

@@ -1,5 +1,5 @@
 -- What one step makes of the history that was handed in, and of its length.
-use Rattle.rank_threads.proofs.Common.{AddsTo, Answer, AppendsOne, Bool, Continues, Deferred, Entry, Err, Event, Forwarded, IsSoundBook, Job, Kept, List, MatchBool, Nothing, Ok, Records, Refusal, Reply, Result, Sent, Tree, [], ap, append-nil, arith, cond, drop, false, first_in, length, length-append, length-take, refl, sym, take, take-append-drop, take-append-le, true, ℕ, ◌++◌, ◌+◌, ◌∙◌, ◌∷◌, ◌≡◌, ◌≤◌}
+use Rattle.rank_threads.proofs.Common.{AddsTo, Answer, AppendsOne, Bool, Continues, Deferred, Entry, Err, Event, Forwarded, IsSoundBook, Job, BookState, List, MatchBool, Nothing, Ok, Records, Refusal, Reply, Result, Sent, Tree, [], ap, append-nil, arith, cond, drop, false, first_in, length, length-append, length-take, refl, sym, take, take-append-drop, take-append-le, true, ℕ, ◌++◌, ◌+◌, ◌∙◌, ◌∷◌, ◌≡◌, ◌≤◌}
 
 -- the history went on by so many entries
 record GoesOn (past now : List Entry) (count : ℕ) : Type 0 where
@@ -39,7 +39,7 @@ still_begins begun event past now result h was =
     ap (take (length begun)) w.longer ∙ take-append-le (length begun) past w.rest (begun_fits begun past was) ∙ was
 
 -- a book that keeps what was handed in goes on from it
-pub continued : (opening : Tree) (begun : List Entry) (book : Kept) → IsSoundBook book → book.opening ≡ opening → take (length begun) book.history ≡ begun → Continues opening begun book
+pub continued : (opening : Tree) (begun : List Entry) (book : BookState) → IsSoundBook book → book.opening ≡ opening → take (length begun) book.history ≡ begun → Continues opening begun book
 continued opening begun book sound same was = record {
   sound = sound;
   same_opening = same;

@@ -1,4 +1,4 @@
-use Rattle.admin_cli.proofs.Common.{AllocError, Err, Event, IfOk, Kept, MakesStep, Ok, Option, OutputLine, Proposes, Result, Some, TakesTurn, subst}
+use Rattle.admin_cli.proofs.Common.{AllocError, Err, Event, IfOk, BookState, MakesStep, Ok, Option, OutputLine, Proposes, Result, Some, TakesTurn, subst}
 use Rattle.admin_cli.proofs.commands.Admin.own_turn.Goals as goal
 
 pub returns-in-Ok-Some-clause-line : goal.returns-in-Ok-Some-clause-line
@@ -12,5 +12,5 @@ returns-in-Ok-Some-clause-line c = go c.own_step.result c.own_step.ensures.line
     go (Ok line) made = record {
       found = Ok (Some c.in-Ok-Some.event);
       proposed = proposed;
-      done = subst (λ (b : Kept). MakesStep (record c.args.self.now { book = b }) c.own_step.new.self c.in-Ok-Some.event line) c.propose.ensures.same made;
+      done = subst (λ (b : BookState). MakesStep (record c.args.self.now { book = b }) c.own_step.new.self c.in-Ok-Some.event line) c.propose.ensures.same made;
     }

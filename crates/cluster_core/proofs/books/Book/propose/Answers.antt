@@ -1,4 +1,4 @@
-use Rattle.cluster_core.proofs.Common.{IsProposal, Kept, None, Proposes, sight, subst}
+use Rattle.cluster_core.proofs.Common.{IsProposal, BookState, None, Proposes, sight, subst}
 use Rattle.cluster_core.proofs.books.Book.propose.Goals as goal
 
 pub propose-proposed-requires-clause-settled : goal.propose-proposed-requires-clause-settled
@@ -12,5 +12,5 @@ propose-proposed-requires-clause-caches g c = c.self.invariant.sound.ranks.cache
 
 pub note_settled-requires : goal.note_settled-requires
 note_settled-requires g c =
-    subst (λ (k : Kept). IsProposal (sight k.core c.args.rank) None) c.self.view_is
+    subst (λ (k : BookState). IsProposal (sight k.core c.args.rank) None) c.self.view_is
     (subst (Proposes c.self.inside.cluster c.args.rank) (c.is_nothing.ensures.0 c.if-is_nothing.true) c.propose-proposed.ensures.proposed).1
