@@ -1,5 +1,5 @@
 -- A script so far, and what its next line or its end makes of it.
-use Rattle.admin_cli.proofs.Common.{Admin, AnswersLine, Appends, Appends-nil, Appends-trans, Bool, Breaks, BreaksOff, Command, DoesBytes, Ends, Err, Executes, FaultKind, IfOk, IfSome, IsEmpty, IsFirstLine, IsFormatted, IsTooLong, Keeps, BookState, LacksFor, List, Mark, MayFlush, None, NotCommand, Ok, OnErr, Option, OutOfMemory, OutputLine, Prints, PrintsAny, PrintsCame, PrintsOf, PrintsOwn, ReadFault, Result, RunsInput, RunsLine, RunsLines, RunsNew, RunsOrNot, RunsWaiting, ScriptFault, Some, StopsAt, StopsBefore, TooLong, Waiting, WriteFault, [], ap, append-nil, append_assoc, arith, cond, drop, false, inl, inr, le-ltb, length, length-append, length-drop, length-replicate, line_at, lines_of, lt-ltb, ltb, ltb-false, ltb-true, none_sent, refl, replicate, subst, suc, sym, take, take-append-drop, take-append-le, text_of, true, ℕ, ◌++◌, ◌+◌, ◌-◌, ◌<◌, ◌∙◌, ◌∷◌, ◌≡◌, ◌≤◌}
+use Rattle.admin_cli.proofs.Common.{Admin, AnswersLine, Appends, Appends-nil, Appends-trans, Bool, Breaks, BreaksOff, Command, DoesBytes, EndsScript, Err, Executes, FaultKind, IfOk, IfSome, IsEmpty, IsFirstLine, IsFormatted, IsTooLong, Keeps, BookState, LacksForCommand, List, Mark, MayFlush, None, NotCommand, Ok, OnErr, Option, OutOfMemory, OutputLine, Prints, PrintsAny, PrintsCame, PrintsOf, PrintsOwn, ReadFault, Result, RunsInput, RunsLine, RunsLines, RunsNew, RunsOrNot, RunsWaiting, ScriptFault, Some, StopsAt, StopsBefore, TooLong, Waiting, WriteFault, [], ap, append-nil, append_assoc, arith, cond, drop, false, inl, inr, le-ltb, length, length-append, length-drop, length-replicate, line_at, lines_of, lt-ltb, ltb, ltb-false, ltb-true, none_sent, refl, replicate, subst, suc, sym, take, take-append-drop, take-append-le, text_of, true, ℕ, ◌++◌, ◌+◌, ◌-◌, ◌<◌, ◌∙◌, ◌∷◌, ◌≡◌, ◌≤◌}
 use Rattle.std.specs.FinMap as map
 use Rattle.script_text.specs.declared.lines.Line.TheVariants as line
 
@@ -198,7 +198,7 @@ some_left (Some bytes) = (lines_of bytes, refl)
 
 -- the script ends before these lines, with nothing that waits
 end : (old now : Admin) (known left before mid after : Option (List ℕ)) (number : ℕ) (r : IsReached old now known left before mid [] [] number) (lines : List (List ℕ)) (result : Result (Unit {0}) ScriptFault) (front : List ℕ)
-    → IsLeft left lines → Ends now (length r.done) lines result front → Appends mid after front → RunsInput old known before after result
+    → IsLeft left lines → EndsScript now (length r.done) lines result front → Appends mid after front → RunsInput old known before after result
 end old now known left before mid after number r lines result front rest ends wrote = record {
   lines = r.done ++ lines;
   read = all_lines known left r.done lines r.taken rest;
@@ -246,7 +246,7 @@ break_off old now known left before mid after waiting number fault r b =
 
 -- the script ends before these lines
 leave : (old now : Admin) (known left before mid : Option (List ℕ)) (waiting : Waiting) (number : ℕ) (r : IsReached old now known left before mid waiting.bytes.items waiting.marks.items number) (lines : List (List ℕ)) (result : Result (Unit {0}) ScriptFault)
-    → IsLeft left lines → Ends now (length r.done) lines result [] → RunsWaiting old waiting known before mid result
+    → IsLeft left lines → EndsScript now (length r.done) lines result [] → RunsWaiting old waiting known before mid result
 unfolding flushed
 leave old now known left before mid waiting number r lines result rest ends = record {
   whole = λ after wrote. end old now known left before after after number (flushed old now known left before mid after waiting.bytes.items waiting.marks.items number r wrote) lines result [] rest ends (Appends-nil after);
@@ -406,7 +406,7 @@ module _ (old now new : Admin) (known left rest before mid after : Option (List 
 
 -- a command was done and its line is printed, or there was no memory for what the script keeps of it
 pub command_printed : (old new : Admin) (command : Command) (waiting waiting' : Waiting) (number : ℕ) (before after : Option (List ℕ)) (result : Result (Unit {0}) ScriptFault) {E : Type 0} (came : Result OutputLine E)
-    → IfOk came (Executes old new command) → OnErr came (LacksFor old new command) → PrintsCame came waiting waiting' number before after result
+    → IfOk came (Executes old new command) → OnErr came (LacksForCommand old new command) → PrintsCame came waiting waiting' number before after result
     → PrintsOf (AnswersLine old new (line.Command command)) waiting waiting' number before after result
 command_printed old new command waiting waiting' number before after result (Ok printed) executes lacks prints = inl (Some printed, (printed, executes, refl), prints)
 command_printed old new command waiting waiting' number before after result (Err refused) executes lacks prints = inr (OutOfMemory, inr (lacks, refl), prints)

@@ -13,7 +13,7 @@ use Rattle.script_text.specs.declared.commands.Command.TheVariants.{Operation, O
 use Rattle.script_output.specs.declared.lines.OutputLine.{OutputLine}
 use Rattle.script_output.specs.declared.lines.OutputLine.TheVariants.{Frags, History as HistoryLine, Refused}
 use Rattle.admin_cli.specs.declared.commands.Admin.{Admin}
-use Rattle.admin_cli.specs.StepLines.{Does, IsStep, StepsLine, arrived_line, shown_line}
+use Rattle.admin_cli.specs.StepLines.{DoesEvent, IsStep, StepsLine, arrived_line, shown_line}
 use Rattle.admin_cli.specs.Authorities.{ListsSubtrees, TellsLine}
 use Rattle.admin_cli.specs.ExportLines.{ExecutesExport, LacksForExport}
 use Rattle.admin_cli.specs.OwnLines.{LacksForTurn, TakesTurn}
@@ -45,16 +45,16 @@ abbrev pub Executes : (old new : Admin) → Command → OutputLine → Type 0
 Executes old new (Operation op) line =
     (new.operations ≡ old.operations + 1) × (new.jobs ≡ old.jobs) × (new.sent ≡ old.sent)
     × OperatesLine old.book new.book new.operations op line
-Executes old new (Serve rank) line = Does old new (ServeEvent rank) line
+Executes old new (Serve rank) line = DoesEvent old new (ServeEvent rank) line
 Executes old new (Own rank) line = TakesTurn old new rank line
 Executes old new (Request rank request) line =
     (new.operations ≡ old.operations) × (new.jobs ≡ old.jobs) × (new.sent ≡ old.sent)
     × StepsLine old.book new.book (Arrive rank request) arrived_line line
 Executes old new History line = (new ≡ old) × (line ≡ HistoryLine (length old.book.history))
-Executes old new (Split rank dir f nb) line = Does old new (SplitEvent rank dir f nb) line
-Executes old new (Merge rank dir f) line = Does old new (MergeEvent rank dir f) line
+Executes old new (Split rank dir f nb) line = DoesEvent old new (SplitEvent rank dir f nb) line
+Executes old new (Merge rank dir f) line = DoesEvent old new (MergeEvent rank dir f) line
 Executes old new (Leaves dir) line = (new ≡ old) × ListsLine old.book dir line
-Executes old new (Grant rank client tid) line = Does old new (GrantEvent rank client tid) line
+Executes old new (Grant rank client tid) line = DoesEvent old new (GrantEvent rank client tid) line
 Executes old new Subtrees line = (new ≡ old) × ListsSubtrees old.book.core.state line
 Executes old new (Authority dir f) line = (new ≡ old) × TellsLine old.book.core.state dir f line
 Executes old new (Export command) line = ExecutesExport old new command line
@@ -62,17 +62,17 @@ Executes old new (Store command) line = ExecutesStore old new command line
 
 -- memory that the script itself needs for a command was refused: for a list of the subtree map, for a job, or for the
 -- bytes of an export
-abbrev pub LacksFor : (old new : Admin) → Command → Type 0
-LacksFor old new (Operation op) = ⊥
-LacksFor old new (Serve rank) = ⊥
-LacksFor old new (Own rank) = LacksForTurn old new rank
-LacksFor old new (Request rank request) = ⊥
-LacksFor old new History = ⊥
-LacksFor old new (Split rank dir f nb) = ⊥
-LacksFor old new (Merge rank dir f) = ⊥
-LacksFor old new (Leaves dir) = ⊥
-LacksFor old new (Grant rank client tid) = ⊥
-LacksFor old new Subtrees = new ≡ old
-LacksFor old new (Authority dir f) = ⊥
-LacksFor old new (Export command) = LacksForExport old new command
-LacksFor old new (Store command) = LacksForStore old new command
+abbrev pub LacksForCommand : (old new : Admin) → Command → Type 0
+LacksForCommand old new (Operation op) = ⊥
+LacksForCommand old new (Serve rank) = ⊥
+LacksForCommand old new (Own rank) = LacksForTurn old new rank
+LacksForCommand old new (Request rank request) = ⊥
+LacksForCommand old new History = ⊥
+LacksForCommand old new (Split rank dir f nb) = ⊥
+LacksForCommand old new (Merge rank dir f) = ⊥
+LacksForCommand old new (Leaves dir) = ⊥
+LacksForCommand old new (Grant rank client tid) = ⊥
+LacksForCommand old new Subtrees = new ≡ old
+LacksForCommand old new (Authority dir f) = ⊥
+LacksForCommand old new (Export command) = LacksForExport old new command
+LacksForCommand old new (Store command) = LacksForStore old new command

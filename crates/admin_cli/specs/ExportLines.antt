@@ -13,7 +13,7 @@ use Rattle.script_text.specs.declared.exports.ExportCommand.{ExportCommand}
 use Rattle.script_text.specs.declared.exports.ExportCommand.TheVariants.{Dir, Freeze, Prep, Send, Import, Finish, Cancel}
 use Rattle.script_output.specs.declared.lines.OutputLine.{OutputLine}
 use Rattle.admin_cli.specs.declared.commands.Admin.{Admin}
-use Rattle.admin_cli.specs.StepLines.{Does, IsStep, shown_line}
+use Rattle.admin_cli.specs.StepLines.{DoesEvent, IsStep, shown_line}
 
 -- what was sent is kept under its root, in place of what was kept there
 abbrev pub with_sent : map.FinMap leaf_cmp (List ℕ) → Leaf → Result Answer Refusal → map.FinMap leaf_cmp (List ℕ)
@@ -69,10 +69,10 @@ LacksForExport old new (Finish dir f) = ⊥
 LacksForExport old new (Cancel dir f) = ⊥
 
 abbrev pub ExecutesExport : (old new : Admin) → ExportCommand → OutputLine → Type 0
-ExecutesExport old new (Dir from dir f to) line = Does old new (StartEvent from dir f to) line
-ExecutesExport old new (Freeze dir f) line = Does old new (FreezeEvent dir f) line
-ExecutesExport old new (Prep dir f) line = Does old new (PrepEvent dir f) line
+ExecutesExport old new (Dir from dir f to) line = DoesEvent old new (StartEvent from dir f to) line
+ExecutesExport old new (Freeze dir f) line = DoesEvent old new (FreezeEvent dir f) line
+ExecutesExport old new (Prep dir f) line = DoesEvent old new (PrepEvent dir f) line
 ExecutesExport old new (Send dir f) line = SendsLine old new dir f line
 ExecutesExport old new (Import dir f) line = ImportsLine old new dir f line
-ExecutesExport old new (Finish dir f) line = Does old new (FinishEvent dir f) line
-ExecutesExport old new (Cancel dir f) line = Does old new (CancelEvent dir f) line
+ExecutesExport old new (Finish dir f) line = DoesEvent old new (FinishEvent dir f) line
+ExecutesExport old new (Cancel dir f) line = DoesEvent old new (CancelEvent dir f) line

@@ -4,5 +4,5 @@ use Rattle.std.specs.Ordering.{nat_cmp}
 use Rattle.cached_frag.specs.declared.jobs.Job.{Job}
 
 -- each by its number
-abbrev pub Jobs : Type 0
-Jobs = map.FinMap nat_cmp Job
+abbrev pub JobsByNumber : Type 0
+JobsByNumber = map.FinMap nat_cmp Job

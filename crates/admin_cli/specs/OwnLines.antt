@@ -15,7 +15,7 @@ use Rattle.script_output.specs.declared.own_turns.OwnStep.{OwnStep}
 use Rattle.script_output.specs.declared.own_turns.OwnStep.TheVariants as own
 use Rattle.admin_cli.specs.declared.commands.Admin.{Admin}
 use Rattle.admin_cli.specs.ExportLines.{CopiesNoBytes, ImportsLine, MakesNoRoom, SendsLine}
-use Rattle.admin_cli.specs.StepLines.{Does}
+use Rattle.admin_cli.specs.StepLines.{DoesEvent}
 
 -- what came of a step, by the line that its own command prints; no command of a step of these prints another one
 abbrev pub came_of : OutputLine → OwnResult
@@ -45,7 +45,7 @@ told step dir f shown = Own (record { step = step; ino = dir; frag = f; result =
 -- a step was made, and told so
 abbrev pub MakesOne : (old new : Admin) → OwnStep → Ino → Fragment → Event → OutputLine → Type 0
 MakesOne old new step dir f event line =
-    (shown : OutputLine) × Does old new event shown × (line ≡ told step dir f shown)
+    (shown : OutputLine) × DoesEvent old new event shown × (line ≡ told step dir f shown)
 
 -- the step that a rank proposed was made as its own command makes it, an Import with the bytes that are kept for it
 abbrev pub MakesStep : (old new : Admin) → Event → OutputLine → Type 0

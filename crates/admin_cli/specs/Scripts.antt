@@ -17,7 +17,7 @@ use Rattle.admin_cli.specs.declared.commands.Admin.{Admin}
 use Rattle.admin_cli.specs.declared.faults.ScriptFault.{ScriptFault}
 use Rattle.admin_cli.specs.declared.faults.FaultKind.{FaultKind}
 use Rattle.admin_cli.specs.declared.faults.FaultKind.TheVariants.{NotCommand, TooLong, ReadFault, WriteFault, OutOfMemory}
-use Rattle.admin_cli.specs.Execute.{Executes, LacksFor}
+use Rattle.admin_cli.specs.Execute.{Executes, LacksForCommand}
 
 -- a printed line with its LF
 abbrev pub text_of : OutputLine → List ℕ
@@ -61,7 +61,7 @@ OfFirst Holds (bytes ∷ lines) = Holds bytes
 -- memory that the script itself needs for what a line asks for was refused
 abbrev pub LacksLine : (old new : Admin) → Line → Type 0
 LacksLine old new line.Nothing = ⊥
-LacksLine old new (line.Command command) = LacksFor old new command
+LacksLine old new (line.Command command) = LacksForCommand old new command
 LacksLine old new (line.BadWord errno) = ⊥
 LacksLine old new line.NotCommand = ⊥
 
@@ -96,9 +96,9 @@ StopsBefore old lines OutOfMemory front =
     OfFirst (λ bytes. (new : Admin) × StopsAt old new bytes OutOfMemory front) lines
 
 -- how a script ended after so many lines: Ok where none is left, else a fault at the next one, all lines counted from 1
-abbrev pub Ends : Admin → ℕ → List (List ℕ) → Result (Unit {0}) ScriptFault → List ℕ → Type 0
-Ends old done left (Ok all) front = (left ≡ []) × (front ≡ [])
-Ends old done left (Err fault) front = (fault.line ≡ done + 1) × StopsBefore old left fault.kind front
+abbrev pub EndsScript : Admin → ℕ → List (List ℕ) → Result (Unit {0}) ScriptFault → List ℕ → Type 0
+EndsScript old done left (Ok all) front = (left ≡ []) × (front ≡ [])
+EndsScript old done left (Err fault) front = (fault.line ≡ done + 1) × StopsBefore old left fault.kind front
 
 -- a script of these lines: those before its end were done, and what was written is their text, with a beginning of the
 -- next line's at a write fault
@@ -111,7 +111,7 @@ pub record RunsScript (old : Admin) (lines : List (List ℕ)) (before after : Op
   pub text : List ℕ
   pub runs : RunsLines old new done text
   pub front : List ℕ
-  pub ended : Ends new (length done) left result front
+  pub ended : EndsScript new (length done) left result front
   pub written : Appends before after (text ++ front)
 
 -- a script read from a reader: its lines are those of the bytes that the reader has left, where these are known

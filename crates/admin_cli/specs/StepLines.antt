@@ -41,7 +41,7 @@ pub record StepsLine (old new : BookState) (event : Event) (line_of : Result Ans
   pub shown : line ≡ line_of result
 
 -- a command that is one event: nothing else changes
-abbrev pub Does : (old new : Admin) → Event → OutputLine → Type 0
-Does old new event line =
+abbrev pub DoesEvent : (old new : Admin) → Event → OutputLine → Type 0
+DoesEvent old new event line =
     (new.operations ≡ old.operations) × (new.jobs ≡ old.jobs) × (new.sent ≡ old.sent)
     × StepsLine old.book new.book event shown_line line

@@ -25,8 +25,8 @@ use Rattle.script_output.specs.declared.lines.OutputLine.TheVariants.{Nothing as
 use Rattle.script_output.specs.declared.object_lines.ObjectLine.{ObjectLine as Shown}
 use Rattle.object_lines.specs.ObjectLines.{IsLineOf, MayTakeMemory}
 use Rattle.admin_cli.specs.declared.commands.Admin.{Admin}
-use Rattle.admin_cli.specs.Jobs.{Jobs}
-use Rattle.admin_cli.specs.StepLines.{Does, IsStep, shown_line}
+use Rattle.admin_cli.specs.Jobs.{JobsByNumber}
+use Rattle.admin_cli.specs.StepLines.{DoesEvent, IsStep, shown_line}
 
 -- ---- commits
 
@@ -41,7 +41,7 @@ number_in (Ok (Sent bytes)) = Ok None
 number_in (Err refusal) = Err refusal
 
 -- the job is kept, by its number
-abbrev pub with_begun : Jobs → Result Answer Refusal → Jobs
+abbrev pub with_begun : JobsByNumber → Result Answer Refusal → JobsByNumber
 with_begun jobs (Ok (Job job)) = map.insert jobs job.number job
 with_begun jobs (Ok Nothing) = jobs
 with_begun jobs (Ok (Reply client tid place first reply)) = jobs
@@ -51,7 +51,7 @@ with_begun jobs (Ok (Sent bytes)) = jobs
 with_begun jobs (Err refusal) = jobs
 
 -- a commit of a leaf began, which gave a job of this number, or nothing, or was refused
-pub record BeginsCommit (old new : Admin) (rank : Rank) (dir : Ino) (f : Fragment)
+pub record BeginsJob (old new : Admin) (rank : Rank) (dir : Ino) (f : Fragment)
     (number : Result (Option ℕ) Refusal) : Type 0 where
   pub result : Result Answer Refusal
   pub stepped : IsStep old.book new.book result (BeginEvent rank dir f)
@@ -68,7 +68,7 @@ begun_line (Err refusal) = Refused refusal
 
 abbrev pub BeginsLine : (old new : Admin) → Rank → Ino → Fragment → OutputLine → Type 0
 BeginsLine old new rank dir f line =
-    (number : Result (Option ℕ) Refusal) × BeginsCommit old new rank dir f number × (line ≡ begun_line number)
+    (number : Result (Option ℕ) Refusal) × BeginsJob old new rank dir f number × (line ≡ begun_line number)
 
 -- a commit is over with this result: it was ended or given up, or is stale (refusal 11)
 abbrev pub is_over : Result Answer Refusal → Bool
@@ -103,7 +103,7 @@ CommitsAfter middle new (Err refusal) line = (new ≡ middle) × (line ≡ Refus
 pub record CommitsLine (old new : Admin) (rank : Rank) (dir : Ino) (f : Fragment) (line : OutputLine) : Type 0 where
   pub middle : Admin
   pub number : Result (Option ℕ) Refusal
-  pub begun : BeginsCommit old middle rank dir f number
+  pub begun : BeginsJob old middle rank dir f number
   pub rest : CommitsAfter middle new number line
 
 -- ---- memory that the script itself needs for jobs
@@ -124,7 +124,7 @@ CopiesNone old new number = (new ≡ old) × ((job : Begun) × (map.get old.jobs
 pub record BeginsAlone (old new : Admin) (rank : Rank) (dir : Ino) (f : Fragment) : Type 0 where
   pub middle : Admin
   pub number : ℕ
-  pub begun : BeginsCommit old middle rank dir f (Ok (Some number))
+  pub begun : BeginsJob old middle rank dir f (Ok (Some number))
   pub rest : CopiesNone middle new number
 
 abbrev pub LacksForCommit : (old new : Admin) → Rank → Ino → Fragment → Type 0
@@ -196,9 +196,9 @@ ExecutesStore old new (CommitBegin rank dir f) line = BeginsLine old new rank di
 ExecutesStore old new (CommitEnd number) line = EndsLine old new number line
 ExecutesStore old new (CommitDrop number) line = EndsJob old new number (DropEvent number) line
 ExecutesStore old new (Commit rank dir f) line = CommitsLine old new rank dir f line
-ExecutesStore old new (CommitTree dir) line = Does old new (TreeEvent dir) line
-ExecutesStore old new Purge line = Does old new PurgeEvent line
+ExecutesStore old new (CommitTree dir) line = DoesEvent old new (TreeEvent dir) line
+ExecutesStore old new Purge line = DoesEvent old new PurgeEvent line
 ExecutesStore old new Flush line = FlushesLine old new line
-ExecutesStore old new (Evict rank) line = Does old new (EvictEvent rank) line
+ExecutesStore old new (Evict rank) line = DoesEvent old new (EvictEvent rank) line
 ExecutesStore old new (Object name) line = (new ≡ old) × LooksLine old.book.core.state.tree.objects name line
 ExecutesStore old new Objects line = (new ≡ old) × ListsObjects old.book.core.state.tree.objects line

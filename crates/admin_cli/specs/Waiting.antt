@@ -21,7 +21,7 @@ abbrev pub IsEmpty : Waiting → Type 0
 IsEmpty waiting = (waiting.bytes.items ≡ []) × (waiting.marks.items ≡ [])
 
 -- what a line of the script prints stands behind what waits
-pub record Puts (old new : Waiting) (line : ℕ) (printed : OutputLine) : Type 0 where
+pub record PutsLine (old new : Waiting) (line : ℕ) (printed : OutputLine) : Type 0 where
   pub bytes : new.bytes.items ≡ old.bytes.items ++ text_of printed
   pub marks : new.marks.items ≡ old.marks.items
       ++ record { line = line; end = length (old.bytes.items ++ text_of printed) } ∷ []
@@ -34,9 +34,9 @@ pub record Breaks (waiting : Waiting) (before after : Option (List ℕ)) (fault 
   pub told : fault ≡ record { line = line_at waiting.marks.items place; kind = WriteFault }
 
 -- what waited was written, all of it or up to a fault
-abbrev pub Flushes : (old new : Waiting) → (before after : Option (List ℕ)) → Result (Unit {0}) ScriptFault → Type 0
-Flushes old new before after (Ok done) = IsEmpty new × Appends before after old.bytes.items
-Flushes old new before after (Err fault) = IsEmpty new × Breaks old before after fault
+abbrev pub WritesOut : (old new : Waiting) → (before after : Option (List ℕ)) → Result (Unit {0}) ScriptFault → Type 0
+WritesOut old new before after (Ok done) = IsEmpty new × Appends before after old.bytes.items
+WritesOut old new before after (Err fault) = IsEmpty new × Breaks old before after fault
 
 -- so, or it waits on
 abbrev pub MayFlush : (old new : Waiting) → (before after : Option (List ℕ)) → Result (Unit {0}) ScriptFault → Type 0
@@ -57,7 +57,7 @@ pub record PrintsOwn (waiting : Waiting) (line : ℕ) (printed : OutputLine) (be
 abbrev pub PrintsOutput : (old new : Waiting) → (line : ℕ) → OutputLine → (before after : Option (List ℕ))
     → Result (Unit {0}) ScriptFault → Type 0
 PrintsOutput old new line printed before after (Ok done) =
-    (Puts old new line printed × (after ≡ before))
+    (PutsLine old new line printed × (after ≡ before))
     ⊎ (IsEmpty new × Appends before after (old.bytes.items ++ text_of printed))
 PrintsOutput old new line printed before after (Err fault) =
     IsEmpty new × (Breaks old before after fault ⊎ PrintsOwn old line printed before after fault)

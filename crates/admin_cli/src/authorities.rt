@@ -2,7 +2,7 @@
 ghost use Rattle.std.specs.Prelude.{◌≡◌, IfOk};
 ghost use Rattle.cluster_core.specs.declared.events.Event.TheVariants.{Grant};
 ghost use Rattle.admin_cli.specs.Authorities.{ListsSubtrees, TellsLine, roots_in};
-ghost use Rattle.admin_cli.specs.StepLines.{Does};
+ghost use Rattle.admin_cli.specs.StepLines.{DoesEvent};
 
 use crate::commands::Admin;
 use cluster_core::Event;
@@ -15,7 +15,7 @@ impl Admin {
     // A rank lets a waiting request change fragments that are the rank's.
     #[inline(never)]
     pub(crate) fn grant(&mut self, alloc: Global, rank: Rank, client: u64, tid: u64) -> OutputLine
-        ensures { Does self.old self.new (Grant rank client tid) result }
+        ensures { DoesEvent self.old self.new (Grant rank client tid) result }
     {
         self.step(alloc, Event::Grant { rank, client, tid })
     }

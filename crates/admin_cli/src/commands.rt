@@ -26,8 +26,8 @@ pub struct Admin {
 
 impl Admin {
     ghost use Rattle.cluster_core.specs.declared.events.Event.TheVariants.{Arrive, Merge, Serve, Split};
-    ghost use Rattle.admin_cli.specs.Execute.{Executes, LacksFor, ListsLine, OperatesLine};
-    ghost use Rattle.admin_cli.specs.StepLines.{Does, IsStep, StepsLine, arrived_line};
+    ghost use Rattle.admin_cli.specs.Execute.{Executes, LacksForCommand, ListsLine, OperatesLine};
+    ghost use Rattle.admin_cli.specs.StepLines.{DoesEvent, IsStep, StepsLine, arrived_line};
 
     /// An administrator of this book, who has read no line yet.
     pub fn new(alloc: Global, book: Book<MemStore>) -> Admin
@@ -55,7 +55,7 @@ impl Admin {
     ) -> Result<OutputLine, AllocError>
         requires { self.old.operations + 1 < 2 ^ 64 }
         ensures line { IfOk result (Executes self.old self.new command) }
-        ensures err { OnErr result (LacksFor self.old self.new command) }
+        ensures err { OnErr result (LacksForCommand self.old self.new command) }
         ensures count { self.new.operations ≤ self.old.operations + 1 }
     {
         let alloc = rt.alloc();
@@ -131,7 +131,7 @@ impl Admin {
     // A rank serves.
     #[inline(never)]
     fn serve(&mut self, alloc: Global, rank: Rank) -> OutputLine
-        ensures { Does self.old self.new (Serve rank) result }
+        ensures { DoesEvent self.old self.new (Serve rank) result }
     {
         self.step(alloc, Event::Serve { rank })
     }
@@ -146,7 +146,7 @@ impl Admin {
         frag: Frag,
         bits: u8,
     ) -> OutputLine
-        ensures { Does self.old self.new (Split rank ino frag bits) result }
+        ensures { DoesEvent self.old self.new (Split rank ino frag bits) result }
     {
         self.step(
             alloc,
@@ -162,7 +162,7 @@ impl Admin {
     // Leaves of a directory are merged.
     #[inline(never)]
     pub(crate) fn merge(&mut self, alloc: Global, rank: Rank, ino: Ino, frag: Frag) -> OutputLine
-        ensures { Does self.old self.new (Merge rank ino frag) result }
+        ensures { DoesEvent self.old self.new (Merge rank ino frag) result }
     {
         self.step(alloc, Event::Merge { rank, ino, frag })
     }
@@ -170,7 +170,7 @@ impl Admin {
     // One event. It is put into its callers, as the step of a book is: an event is large, and none is moved then.
     #[inline(always)]
     pub(crate) fn step(&mut self, alloc: Global, event: Event) -> OutputLine
-        ensures { Does self.old self.new event result }
+        ensures { DoesEvent self.old self.new event result }
     {
         shown_line(self.step_book(alloc, event))
     }

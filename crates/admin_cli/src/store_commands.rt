@@ -1,6 +1,6 @@
 //! Commands on the store: commits, fragment trees, the purge list, flushes, eviction, and looks at objects.
 ghost use Rattle.std.specs.Prelude.{◌≡◌, ℕ, IfOk, List, OnErr, Option, Result};
-ghost use Rattle.admin_cli.specs.StoreLines.{BeginsCommit, BeginsLine, CommitsLine, CopiesNone, EndsJob, EndsLine, ExecutesStore, FlushesLine, LacksForCommit, LacksForStore, ListsObjects, LooksLine, LosesJob, begun_line as line_of, is_hindered, is_over};
+ghost use Rattle.admin_cli.specs.StoreLines.{BeginsJob, BeginsLine, CommitsLine, CopiesNone, EndsJob, EndsLine, ExecutesStore, FlushesLine, LacksForCommit, LacksForStore, ListsObjects, LooksLine, LosesJob, begun_line as line_of, is_hindered, is_over};
 
 use crate::commands::{Admin, shown_line};
 use crate::kept_jobs::KeptJobs;
@@ -57,7 +57,7 @@ impl Admin {
         ino: Ino,
         frag: Frag,
     ) -> Result<Result<Option<u64>, Refusal>, AllocError>
-        ensures begun { IfOk result (λ number. BeginsCommit self.old self.new rank ino frag number) }
+        ensures begun { IfOk result (λ number. BeginsJob self.old self.new rank ino frag number) }
         ensures err { OnErr result (LosesJob self.old self.new rank ino frag) }
         ensures count { self.new.operations ≡ self.old.operations }
     {

@@ -1,6 +1,6 @@
 //! What a script prints, before it is written.
 ghost use Rattle.std.specs.Prelude.{◌≡◌, OnOk, OnErr, IfOk, []};
-ghost use Rattle.admin_cli.specs.Waiting.{Flushes, IsEmpty, MayFlush, Puts, line_at};
+ghost use Rattle.admin_cli.specs.Waiting.{WritesOut, IsEmpty, MayFlush, PutsLine, line_at};
 
 use crate::faults::{FaultKind, ScriptFault};
 use script_output::{OutputLine, write_most_of};
@@ -43,7 +43,7 @@ impl Waiting {
 
     /// Puts what the script's line of this number prints behind what waits, unless there is no memory for it.
     pub fn put(&mut self, alloc: Global, line: u64, printed: &OutputLine) -> Result<(), AllocError>
-        ensures ok { OnOk result (Puts self.old self.new line printed.now) }
+        ensures ok { OnOk result (PutsLine self.old self.new line printed.now) }
         ensures err { OnErr result ((self.new.bytes.items ≡ self.old.bytes.items)
             × (self.new.marks.items ≡ self.old.marks.items)) }
     {
@@ -71,7 +71,7 @@ impl Waiting {
     /// Writes what waits. A fault is that of the script's line whose text was not written to its end, and nothing waits
     /// any longer.
     pub fn flush<W: Write>(&mut self, writer: &mut W) -> Result<(), ScriptFault>
-        ensures { Flushes self.old self.new (W.contents writer.old) (W.contents writer.new) result }
+        ensures { WritesOut self.old self.new (W.contents writer.old) (W.contents writer.new) result }
     {
         let written = write_most_of(writer, self.bytes.as_slice());
         let is_whole = written == self.bytes.len();

@@ -1,5 +1,5 @@
 -- The first of the leaves that are to start for another rank.
-use Rattle.cluster_core.proofs.Common.{Equal, Greater, IsAwayTo, IsBehind, IsFirst, IsFirstAway, IsFirstStep, IsLeast, IsNext, IsPlace, IsSome, Leaf, Less, None, OfPin, Option, Ordering, Rank, Roots, Sight, Some, Start, ap, cond, false, inl, inr, is_after, is_lt, is_some, leaf-exact, leaf-total, leaf_cmp, lesser_of, ordering_reverse, refl, subst, sym, true, ◌∙◌, ◌≡◌, ◌⊎◌}
+use Rattle.cluster_core.proofs.Common.{Equal, Greater, IsAwayTo, IsBehind, IsFirst, IsFirstAway, IsFirstStep, IsLeast, IsNext, IsProposable, IsSome, Leaf, Less, None, OfPin, Option, Ordering, Rank, Roots, Sight, Some, Start, ap, cond, false, inl, inr, is_after, is_lt, is_some, leaf-exact, leaf-total, leaf_cmp, lesser_of, ordering_reverse, refl, subst, sym, true, ◌∙◌, ◌≡◌, ◌⊎◌}
 use Rattle.std.specs.FinMap as map
 use Rattle.cluster_core.proofs.WalkLaws.{IsWalked, ended, found, passed}
 
@@ -102,12 +102,12 @@ module _ (s : Sight) (P Q : Leaf → Type 0) where
   first_of_both one (Some other) first second = of_two one other (leaf_cmp other.0 one.0) refl first second
 
 -- the step of the first
-pub start_of : (s : Sight) (found : Leaf × Rank) → IsFirstAway s (IsPlace s) (Some found) → IsLeast s OfPin (Start s.rank found.0.0 found.0.1 found.1)
+pub start_of : (s : Sight) (found : Leaf × Rank) → IsFirstAway s (IsProposable s) (Some found) → IsLeast s OfPin (Start s.rank found.0.0 found.0.1 found.1)
 start_of s at first = record {
   leaf = at.0;
   would = record { to = at.1; own = first.1.own; place = first.0; pin = first.1.pin; other = first.1.other; there = first.1.there; thawed = first.1.thawed; none = first.1.none; is = refl };
   least = λ other event away. first.2 other away.to away.place (record { own = away.own; pin = away.pin; other = away.other; there = away.there; thawed = away.thawed; none = away.none });
 }
 
-pub start_none : (s : Sight) → IsFirstAway s (IsPlace s) None → IsFirstStep s OfPin None
+pub start_none : (s : Sight) → IsFirstAway s (IsProposable s) None → IsFirstStep s OfPin None
 start_none s none = λ leaf event away. none leaf away.to away.place (record { own = away.own; pin = away.pin; other = away.other; there = away.there; thawed = away.thawed; none = away.none })

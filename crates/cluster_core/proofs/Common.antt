@@ -3,7 +3,7 @@ pub use Rattle.cached_frag.specs.Cached.{Cached}
 pub use Rattle.cached_frag.specs.declared.jobs.Job.{Job}
 pub use Rattle.cluster_core.specs.Administers.{Administers, AdministersTree, BeginsAt, BeginsCommit, EvictsOne, HoldsInside, IsAnyPinned, IsUnseen, Merges, MergesLeaves, Splits, SplitsLeaf, nothing, told_job}
 pub use Rattle.cluster_core.specs.Commits.{JobsKeepObjects, JobsTakeWhatIsShown}
-pub use Rattle.cluster_core.specs.Exporting.{CancelsAt, Exports, Finishes, Freezes, HasPinnedUnder, ImportsExport, IsUnseenStep, KeepsTree, Preps, SendsExport, Starts}
+pub use Rattle.cluster_core.specs.Exporting.{CancelsAt, Exports, FinishesIn, FreezesIn, HasPinnedUnder, ImportsExport, IsUnseenStep, KeepsTreeAndRoots, PrepsIn, SendsExport, StartsIn}
 pub use Rattle.cluster_core.specs.Flush.{KeepsCore}
 pub use Rattle.cluster_core.specs.Fragments.{LieAtHolder}
 pub use Rattle.cluster_core.specs.Grants.{AreHeldAmong, AreThawedEach, FindsNone, GrantsFirst, GrantsWaiting, HoldsOne, IsGranted, IsOneFrozen, with_grants}
@@ -12,13 +12,13 @@ pub use Rattle.cluster_core.specs.Mounted.{MountsCore}
 pub use Rattle.cluster_core.specs.Offer.{after_taking}
 pub use Rattle.cluster_core.specs.Pins.{HasPin, inherited, own}
 pub use Rattle.cluster_core.specs.Prepared.{IsPrepared, IsUnready, RefusesChange, WhyUnprepared, outcome_with}
-pub use Rattle.cluster_core.specs.Proposal.{IsAwayTo, IsFirstAway, IsFirstOf, IsFirstStep, IsIdle, IsLarge, IsLeast, IsNextStep, IsOfPinned, IsOwnStep, IsPlace, IsProposal, IsRootAt, Kind, OfExport, OfLarge, OfPin, OfSmall, Proposes, Sight, Would, WouldNot, kinds, lesser_of, sight, sight_of}
-pub use Rattle.cluster_core.specs.Runs.{AddsAtServe, AddsTo, IsOfHistory, IsRun, Records, Runs, StandsAt, StepsBook}
+pub use Rattle.cluster_core.specs.Proposal.{IsAwayTo, IsFirstAway, IsFirstKindOf, IsFirstStep, IsIdle, IsLarge, IsLeast, IsNextStep, IsOfPinned, IsOwnStep, IsProposable, IsProposal, IsRootAt, Kind, OfExport, OfLarge, OfPin, OfSmall, Proposes, Sight, Would, WouldNot, kinds, lesser_of, sight, sight_of}
+pub use Rattle.cluster_core.specs.Runs.{AddsAtServe, AddsTo, IsOfHistory, IsRun, Records, Runs, StandsInHistory, StepsBook}
 pub use Rattle.cluster_core.specs.Serve.{CarryLeaves, FollowPlanned, ForwardsTo, IsApplied, IsForwarded, IsLeft, IsRepeated, IsTakenOut, MakesPlanned, Replies, ServesInbox, ServesRequest, entry_of, number_of, outcome_of, went_with, with_entry, without_gone, without_request}
-pub use Rattle.cluster_core.specs.Settled.{AreSettled, IsAway, IsCalm, IsCalmIn, IsCalmOp, IsSettled, KeepsSettled}
+pub use Rattle.cluster_core.specs.Settled.{AreSettled, IsAway, IsCalm, IsCalmIn, IsCalmOp, HasSettled, KeepsSettled}
 pub use Rattle.cluster_core.specs.Sound.{AreCached, AreExported, AreRanks, AreSupplied, IsFresh, IsSoundWith, IsSound, IsSoundBook, IsSupplied}
 pub use Rattle.cluster_core.specs.State.{Core, BookState, State, core_of, new_state, no_supply, shown, state_of, supply_of, whole_supplies}
-pub use Rattle.cluster_core.specs.Steps.{ArrivesAt, Does, MayRefuse, Steps}
+pub use Rattle.cluster_core.specs.Steps.{ArrivesAt, Does, TreeMayRefuse, Steps}
 pub use Rattle.cluster_core.specs.Uses.{Asks, ChangesOp, ReadsOp, UsesFront, UsesRequest}
 pub use Rattle.cluster_core.specs.declared.applying.Prepared.{Prepared}
 pub use Rattle.cluster_core.specs.declared.events.Answer.{Answer}

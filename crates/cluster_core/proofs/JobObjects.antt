@@ -1,5 +1,5 @@
 -- A step leaves the object of each fragment for which a job stands before and after it.
-use Rattle.cluster_core.proofs.Common.{Administers, Answer, Arrive, ArrivesAt, BeginsAt, Bool, Cancel, CancelsAt, Change, CommitBegin, CommitDrop, CommitEnd, CommitTree, Core, Does, Drops, Ends, Entry, Err, Event, Evict, EvictsOne, Exports, Finish, Finishes, Freeze, Freezes, Grant, GrantsFirst, Import, ImportsExport, IsSound, Job, JobsKeepObjects, JobsTakeWhatIsShown, List, MakesPlanned, MatchBool, MayRefuse, Merge, MergesLeaves, None, NotAuthority, Objects, ObjectsStay, Ok, Op, Option, Prep, Preps, Purge, Purges, Rank, Refusal, Request, Result, SavesTree, Send, SendsExport, Serve, ServesInbox, ServesRequest, Some, Split, SplitsLeaf, Start, Starts, State, Tree, Unsaved, [], ap, begun_objects, dropped_objects, ended_object, false, first_name, first_waiting, inl, inr, length, made_objects, nat_lt, nothing, object_of, purged_object, refl, regrouped_objects, same_state, saved_object, shown_at, sym, told_job, true, waiting_at, ℕ, ◌∷◌, ◌≡◌}
+use Rattle.cluster_core.proofs.Common.{Administers, Answer, Arrive, ArrivesAt, BeginsAt, Bool, Cancel, CancelsAt, Change, CommitBegin, CommitDrop, CommitEnd, CommitTree, Core, Does, Drops, Ends, Entry, Err, Event, Evict, EvictsOne, Exports, Finish, FinishesIn, Freeze, FreezesIn, Grant, GrantsFirst, Import, ImportsExport, IsSound, Job, JobsKeepObjects, JobsTakeWhatIsShown, List, MakesPlanned, MatchBool, TreeMayRefuse, Merge, MergesLeaves, None, NotAuthority, Objects, ObjectsStay, Ok, Op, Option, Prep, PrepsIn, Purge, Purges, Rank, Refusal, Request, Result, SavesTree, Send, SendsExport, Serve, ServesInbox, ServesRequest, Some, Split, SplitsLeaf, Start, StartsIn, State, Tree, Unsaved, [], ap, begun_objects, dropped_objects, ended_object, false, first_name, first_waiting, inl, inr, length, made_objects, nat_lt, nothing, object_of, purged_object, refl, regrouped_objects, same_state, saved_object, shown_at, sym, told_job, true, waiting_at, ℕ, ◌∷◌, ◌≡◌}
 use Rattle.std.specs.FinMap as map
 use Rattle.dentry_cache.specs.Cache.{Leaf}
 use Rattle.mdcache.specs.Shown.{names_of}
@@ -18,25 +18,25 @@ module _ (old new : State) (past now : List Entry) where
   arrived rank request (Ok answer) h = ap (λ (s : State). s.tree.objects) h.2
   arrived rank request (Err reason) h = left old new h.2.left
 
-  served : (MayRefuse : Op → Refusal → Type 0) (rank : Rank) (request : Request) (rest : List Request) (result : Result Answer Refusal) → ServesRequest old new past now MayRefuse rank request rest result → ObjectsStay old.tree new.tree
-  served MayRefuse rank request rest (Ok answer) (inl h) = planned h.made.change old.tree new.tree h.made.made
-  served MayRefuse rank request rest (Ok answer) (inr (inl h)) = ap (λ (s : State). s.tree.objects) h.out.left
-  served MayRefuse rank request rest (Ok answer) (inr (inr (inl h))) = ap (λ (s : State). s.tree.objects) h.left
-  served MayRefuse rank request rest (Ok answer) (inr (inr (inr h))) = ap (λ (s : State). s.tree.objects) h.left
-  served MayRefuse rank request rest (Err reason) (inl h) = ap (λ (s : State). s.tree.objects) h.2.left
-  served MayRefuse rank request rest (Err reason) (inr (inl h)) = ap (λ (s : State). s.tree.objects) h.3.left
-  served MayRefuse rank request rest (Err reason) (inr (inr (inl h))) = left old new h.2.left
-  served MayRefuse rank request rest (Err reason) (inr (inr (inr (inl h)))) = left old new h.2.left
-  served MayRefuse rank request rest (Err reason) (inr (inr (inr (inr h)))) = left old new h.3.left
+  served : (TreeMayRefuse : Op → Refusal → Type 0) (rank : Rank) (request : Request) (rest : List Request) (result : Result Answer Refusal) → ServesRequest old new past now TreeMayRefuse rank request rest result → ObjectsStay old.tree new.tree
+  served TreeMayRefuse rank request rest (Ok answer) (inl h) = planned h.made.change old.tree new.tree h.made.made
+  served TreeMayRefuse rank request rest (Ok answer) (inr (inl h)) = ap (λ (s : State). s.tree.objects) h.out.left
+  served TreeMayRefuse rank request rest (Ok answer) (inr (inr (inl h))) = ap (λ (s : State). s.tree.objects) h.left
+  served TreeMayRefuse rank request rest (Ok answer) (inr (inr (inr h))) = ap (λ (s : State). s.tree.objects) h.left
+  served TreeMayRefuse rank request rest (Err reason) (inl h) = ap (λ (s : State). s.tree.objects) h.2.left
+  served TreeMayRefuse rank request rest (Err reason) (inr (inl h)) = ap (λ (s : State). s.tree.objects) h.3.left
+  served TreeMayRefuse rank request rest (Err reason) (inr (inr (inl h))) = left old new h.2.left
+  served TreeMayRefuse rank request rest (Err reason) (inr (inr (inr (inl h)))) = left old new h.2.left
+  served TreeMayRefuse rank request rest (Err reason) (inr (inr (inr (inr h)))) = left old new h.3.left
 
-  served_inbox : (MayRefuse : Op → Refusal → Type 0) (rank : Rank) (result : Result Answer Refusal) (inbox : List Request) → ServesInbox old new past now MayRefuse rank result inbox → ObjectsStay old.tree new.tree
-  served_inbox MayRefuse rank result [] h = left old new h.1.left
-  served_inbox MayRefuse rank result (request ∷ rest) h = served MayRefuse rank request rest result h
+  served_inbox : (TreeMayRefuse : Op → Refusal → Type 0) (rank : Rank) (result : Result Answer Refusal) (inbox : List Request) → ServesInbox old new past now TreeMayRefuse rank result inbox → ObjectsStay old.tree new.tree
+  served_inbox TreeMayRefuse rank result [] h = left old new h.1.left
+  served_inbox TreeMayRefuse rank result (request ∷ rest) h = served TreeMayRefuse rank request rest result h
 
-  granted : (MayRefuse : Op → Refusal → Type 0) (rank : Rank) (client tid : ℕ) (result : Result Answer Refusal) (found : Option Request) → GrantsFirst old new past now MayRefuse rank client tid result found → ObjectsStay old.tree new.tree
-  granted MayRefuse rank client tid result None h = left old new h.1.left
-  granted MayRefuse rank client tid (Ok answer) (Some request) h = ap (λ (s : State). s.tree.objects) h.left
-  granted MayRefuse rank client tid (Err reason) (Some request) h = left old new h.1.left
+  granted : (TreeMayRefuse : Op → Refusal → Type 0) (rank : Rank) (client tid : ℕ) (result : Result Answer Refusal) (found : Option Request) → GrantsFirst old new past now TreeMayRefuse rank client tid result found → ObjectsStay old.tree new.tree
+  granted TreeMayRefuse rank client tid result None h = left old new h.1.left
+  granted TreeMayRefuse rank client tid (Ok answer) (Some request) h = ap (λ (s : State). s.tree.objects) h.left
+  granted TreeMayRefuse rank client tid (Err reason) (Some request) h = left old new h.1.left
 
 -- ---- a fragment for which a job stands before and after
 
@@ -71,8 +71,8 @@ module _ (opening : Tree) (past now : List Entry) (old new : Core) (sound : IsSo
 
   step : (result : Result Answer Refusal) (event : Event) → Does old new past now result event → Kept
   step result (Arrive rank request) h = at_rank (nat_lt rank.0 (length old.state.inboxes)) result (λ w. kept (arrived old.state new.state past now rank request result w.0)) h
-  step result (Serve rank) h = at_rank (nat_lt rank.0 (length old.state.inboxes)) result (λ w. kept (served_inbox old.state new.state past now (MayRefuse old new) rank result (waiting_at old.state.inboxes rank) w.0)) h
-  step result (Grant rank client tid) h = at_rank (nat_lt rank.0 (length old.state.inboxes)) result (λ w. kept (granted old.state new.state past now (MayRefuse old new) rank client tid result (first_waiting client tid old.state.inboxes) w.0)) h
+  step result (Serve rank) h = at_rank (nat_lt rank.0 (length old.state.inboxes)) result (λ w. kept (served_inbox old.state new.state past now (TreeMayRefuse old new) rank result (waiting_at old.state.inboxes rank) w.0)) h
+  step result (Grant rank client tid) h = at_rank (nat_lt rank.0 (length old.state.inboxes)) result (λ w. kept (granted old.state new.state past now (TreeMayRefuse old new) rank client tid result (first_waiting client tid old.state.inboxes) w.0)) h
   step result (Split rank dir f nb) h =
       at_rank (nat_lt rank.0 (length old.state.inboxes)) result (λ w. worked nothing (SplitsLeaf old new rank dir f nb) (λ done did. kept (regrouped_objects old.state.tree new.state.tree dir _ _ _ did.3.regrouped)) result w.0) h
   step result (Merge rank dir f) h =
@@ -90,12 +90,12 @@ module _ (opening : Tree) (past now : List Entry) (old new : Core) (sound : IsSo
   step result (Evict rank) h =
       at_rank (nat_lt rank.0 (length old.state.inboxes)) result (λ w. worked nothing (EvictsOne old new rank) (λ done did. kept (ap (λ (s : State). s.tree.objects) did.1)) result w.0) h
   step result (Start from dir f to) h =
-      at_rank (nat_lt from.0 (length old.state.inboxes)) result (λ w. at_rank (nat_lt to.0 (length old.state.inboxes)) result (λ done. exported (Starts old.state new.state from (dir, f) to) (λ did. ap (λ (t : TreeState). t.objects) did.2.tree) result done) w) h
-  step result (Freeze dir f) h = exported (Freezes old.state new.state (dir, f)) (λ did. ap (λ (t : TreeState). t.objects) did.1.ended.left) result h
-  step result (Prep dir f) h = exported (Preps old.state new.state (dir, f)) (λ did. ap (λ (t : TreeState). t.objects) did.1.tree) result h
+      at_rank (nat_lt from.0 (length old.state.inboxes)) result (λ w. at_rank (nat_lt to.0 (length old.state.inboxes)) result (λ done. exported (StartsIn old.state new.state from (dir, f) to) (λ did. ap (λ (t : TreeState). t.objects) did.2.tree) result done) w) h
+  step result (Freeze dir f) h = exported (FreezesIn old.state new.state (dir, f)) (λ did. ap (λ (t : TreeState). t.objects) did.1.ended.left) result h
+  step result (Prep dir f) h = exported (PrepsIn old.state new.state (dir, f)) (λ did. ap (λ (t : TreeState). t.objects) did.1.tree) result h
   step result (Send dir f) h = sent (dir, f) result h
   step result (Import dir f bytes) h = imported (dir, f) bytes result h
-  step result (Finish dir f) h = exported (Finishes old.state new.state (dir, f)) (λ did. ap (λ (t : TreeState). t.objects) did.tree) result h
+  step result (Finish dir f) h = exported (FinishesIn old.state new.state (dir, f)) (λ did. ap (λ (t : TreeState). t.objects) did.tree) result h
   step result (Cancel dir f) h = exported (CancelsAt old.state new.state (dir, f)) (λ did. ap (λ (t : TreeState). t.objects) did.2.tree) result h
 
 pub jobs_keep : JobsKeepObjects

@@ -1,5 +1,5 @@
 -- No step changes how many entries a directory may have.
-use Rattle.cluster_core.proofs.Common.{Administers, Answer, Arrive, ArrivesAt, BeginsAt, BeginsWith, Bool, Cancel, CancelsAt, Change, CommitBegin, CommitDrop, CommitEnd, CommitTree, Core, Dentry, Does, Drops, Ends, Entry, Err, Event, Evict, EvictsOne, Exports, Finish, Finishes, Freeze, Freezes, Grant, GrantsFirst, Import, ImportsExport, Ino, Inode, Job, List, MakesPlanned, MatchBool, MayRefuse, Merge, MergesLeaves, None, NotAuthority, Ok, Op, Option, Prep, Preps, Purge, Purges, PurgesName, PutsThen, Rank, Refusal, Request, Result, SavesTree, Send, SendsExport, Serve, ServesInbox, ServesRequest, Some, Split, SplitsLeaf, Spot, Start, Starts, State, TakesThen, Unsaved, [], ap, cond, dentry_at, false, first_name, first_waiting, housed, inl, inr, is_dir_kind, length, nat_lt, nothing, refl, told_job, true, waiting_at, with_directory, with_new, without, ℕ, ◌∙◌, ◌∷◌, ◌≡◌}
+use Rattle.cluster_core.proofs.Common.{Administers, Answer, Arrive, ArrivesAt, BeginsAt, BeginsWith, Bool, Cancel, CancelsAt, Change, CommitBegin, CommitDrop, CommitEnd, CommitTree, Core, Dentry, Does, Drops, Ends, Entry, Err, Event, Evict, EvictsOne, Exports, Finish, FinishesIn, Freeze, FreezesIn, Grant, GrantsFirst, Import, ImportsExport, Ino, Inode, Job, List, MakesPlanned, MatchBool, TreeMayRefuse, Merge, MergesLeaves, None, NotAuthority, Ok, Op, Option, Prep, PrepsIn, Purge, Purges, PurgesName, PutsThen, Rank, Refusal, Request, Result, SavesTree, Send, SendsExport, Serve, ServesInbox, ServesRequest, Some, Split, SplitsLeaf, Spot, Start, StartsIn, State, TakesThen, Unsaved, [], ap, cond, dentry_at, false, first_name, first_waiting, housed, inl, inr, is_dir_kind, length, nat_lt, nothing, refl, told_job, true, waiting_at, with_directory, with_new, without, ℕ, ◌∙◌, ◌∷◌, ◌≡◌}
 use Rattle.dentry_cache.specs.Cache.{Leaf}
 use Rattle.mdcache.specs.Changes.{Makes}
 use Rattle.mdcache.specs.State.{State as TreeState}
@@ -72,25 +72,25 @@ module _ (old new : State) (past now : List Entry) where
   arrived rank request (Ok answer) h = ap (λ (s : State). s.tree.limit) h.2
   arrived rank request (Err reason) h = left old new h.2.left
 
-  served : (MayRefuse : Op → Refusal → Type 0) (rank : Rank) (request : Request) (rest : List Request) (result : Result Answer Refusal) → ServesRequest old new past now MayRefuse rank request rest result → LimitStays old.tree new.tree
-  served MayRefuse rank request rest (Ok answer) (inl h) = planned h.made.change old.tree new.tree h.made.made
-  served MayRefuse rank request rest (Ok answer) (inr (inl h)) = ap (λ (s : State). s.tree.limit) h.out.left
-  served MayRefuse rank request rest (Ok answer) (inr (inr (inl h))) = ap (λ (s : State). s.tree.limit) h.left
-  served MayRefuse rank request rest (Ok answer) (inr (inr (inr h))) = ap (λ (s : State). s.tree.limit) h.left
-  served MayRefuse rank request rest (Err reason) (inl h) = ap (λ (s : State). s.tree.limit) h.2.left
-  served MayRefuse rank request rest (Err reason) (inr (inl h)) = ap (λ (s : State). s.tree.limit) h.3.left
-  served MayRefuse rank request rest (Err reason) (inr (inr (inl h))) = left old new h.2.left
-  served MayRefuse rank request rest (Err reason) (inr (inr (inr (inl h)))) = left old new h.2.left
-  served MayRefuse rank request rest (Err reason) (inr (inr (inr (inr h)))) = left old new h.3.left
+  served : (TreeMayRefuse : Op → Refusal → Type 0) (rank : Rank) (request : Request) (rest : List Request) (result : Result Answer Refusal) → ServesRequest old new past now TreeMayRefuse rank request rest result → LimitStays old.tree new.tree
+  served TreeMayRefuse rank request rest (Ok answer) (inl h) = planned h.made.change old.tree new.tree h.made.made
+  served TreeMayRefuse rank request rest (Ok answer) (inr (inl h)) = ap (λ (s : State). s.tree.limit) h.out.left
+  served TreeMayRefuse rank request rest (Ok answer) (inr (inr (inl h))) = ap (λ (s : State). s.tree.limit) h.left
+  served TreeMayRefuse rank request rest (Ok answer) (inr (inr (inr h))) = ap (λ (s : State). s.tree.limit) h.left
+  served TreeMayRefuse rank request rest (Err reason) (inl h) = ap (λ (s : State). s.tree.limit) h.2.left
+  served TreeMayRefuse rank request rest (Err reason) (inr (inl h)) = ap (λ (s : State). s.tree.limit) h.3.left
+  served TreeMayRefuse rank request rest (Err reason) (inr (inr (inl h))) = left old new h.2.left
+  served TreeMayRefuse rank request rest (Err reason) (inr (inr (inr (inl h)))) = left old new h.2.left
+  served TreeMayRefuse rank request rest (Err reason) (inr (inr (inr (inr h)))) = left old new h.3.left
 
-  served_inbox : (MayRefuse : Op → Refusal → Type 0) (rank : Rank) (result : Result Answer Refusal) (inbox : List Request) → ServesInbox old new past now MayRefuse rank result inbox → LimitStays old.tree new.tree
-  served_inbox MayRefuse rank result [] h = left old new h.1.left
-  served_inbox MayRefuse rank result (request ∷ rest) h = served MayRefuse rank request rest result h
+  served_inbox : (TreeMayRefuse : Op → Refusal → Type 0) (rank : Rank) (result : Result Answer Refusal) (inbox : List Request) → ServesInbox old new past now TreeMayRefuse rank result inbox → LimitStays old.tree new.tree
+  served_inbox TreeMayRefuse rank result [] h = left old new h.1.left
+  served_inbox TreeMayRefuse rank result (request ∷ rest) h = served TreeMayRefuse rank request rest result h
 
-  granted : (MayRefuse : Op → Refusal → Type 0) (rank : Rank) (client tid : ℕ) (result : Result Answer Refusal) (found : Option Request) → GrantsFirst old new past now MayRefuse rank client tid result found → LimitStays old.tree new.tree
-  granted MayRefuse rank client tid result None h = left old new h.1.left
-  granted MayRefuse rank client tid (Ok answer) (Some request) h = ap (λ (s : State). s.tree.limit) h.left
-  granted MayRefuse rank client tid (Err reason) (Some request) h = left old new h.1.left
+  granted : (TreeMayRefuse : Op → Refusal → Type 0) (rank : Rank) (client tid : ℕ) (result : Result Answer Refusal) (found : Option Request) → GrantsFirst old new past now TreeMayRefuse rank client tid result found → LimitStays old.tree new.tree
+  granted TreeMayRefuse rank client tid result None h = left old new h.1.left
+  granted TreeMayRefuse rank client tid (Ok answer) (Some request) h = ap (λ (s : State). s.tree.limit) h.left
+  granted TreeMayRefuse rank client tid (Err reason) (Some request) h = left old new h.1.left
 
 module _ (past now : List Entry) (old new : Core) where
   abbrev Kept : Type 0
@@ -120,8 +120,8 @@ module _ (past now : List Entry) (old new : Core) where
 
   pub limit_stays : (result : Result Answer Refusal) (event : Event) → Does old new past now result event → Kept
   limit_stays result (Arrive rank request) h = at_rank (nat_lt rank.0 (length old.state.inboxes)) result (λ w. arrived old.state new.state past now rank request result w.0) h
-  limit_stays result (Serve rank) h = at_rank (nat_lt rank.0 (length old.state.inboxes)) result (λ w. served_inbox old.state new.state past now (MayRefuse old new) rank result (waiting_at old.state.inboxes rank) w.0) h
-  limit_stays result (Grant rank client tid) h = at_rank (nat_lt rank.0 (length old.state.inboxes)) result (λ w. granted old.state new.state past now (MayRefuse old new) rank client tid result (first_waiting client tid old.state.inboxes) w.0) h
+  limit_stays result (Serve rank) h = at_rank (nat_lt rank.0 (length old.state.inboxes)) result (λ w. served_inbox old.state new.state past now (TreeMayRefuse old new) rank result (waiting_at old.state.inboxes rank) w.0) h
+  limit_stays result (Grant rank client tid) h = at_rank (nat_lt rank.0 (length old.state.inboxes)) result (λ w. granted old.state new.state past now (TreeMayRefuse old new) rank client tid result (first_waiting client tid old.state.inboxes) w.0) h
   limit_stays result (Split rank dir f nb) h =
       at_rank (nat_lt rank.0 (length old.state.inboxes)) result (λ w. worked nothing (SplitsLeaf old new rank dir f nb) (λ done did. ap (λ (t : TreeState). t.limit) did.3.regrouped.left) result w.0) h
   limit_stays result (Merge rank dir f) h =
@@ -139,10 +139,10 @@ module _ (past now : List Entry) (old new : Core) where
   limit_stays result (Evict rank) h =
       at_rank (nat_lt rank.0 (length old.state.inboxes)) result (λ w. worked nothing (EvictsOne old new rank) (λ done did. ap (λ (s : State). s.tree.limit) did.1) result w.0) h
   limit_stays result (Start from dir f to) h =
-      at_rank (nat_lt from.0 (length old.state.inboxes)) result (λ w. at_rank (nat_lt to.0 (length old.state.inboxes)) result (λ done. exported (Starts old.state new.state from (dir, f) to) (λ did. ap (λ (t : TreeState). t.limit) did.2.tree) result done) w) h
-  limit_stays result (Freeze dir f) h = exported (Freezes old.state new.state (dir, f)) (λ did. ap (λ (t : TreeState). t.limit) did.1.ended.left) result h
-  limit_stays result (Prep dir f) h = exported (Preps old.state new.state (dir, f)) (λ did. ap (λ (t : TreeState). t.limit) did.1.tree) result h
+      at_rank (nat_lt from.0 (length old.state.inboxes)) result (λ w. at_rank (nat_lt to.0 (length old.state.inboxes)) result (λ done. exported (StartsIn old.state new.state from (dir, f) to) (λ did. ap (λ (t : TreeState). t.limit) did.2.tree) result done) w) h
+  limit_stays result (Freeze dir f) h = exported (FreezesIn old.state new.state (dir, f)) (λ did. ap (λ (t : TreeState). t.limit) did.1.ended.left) result h
+  limit_stays result (Prep dir f) h = exported (PrepsIn old.state new.state (dir, f)) (λ did. ap (λ (t : TreeState). t.limit) did.1.tree) result h
   limit_stays result (Send dir f) h = sent (dir, f) result h
   limit_stays result (Import dir f bytes) h = imported (dir, f) bytes result h
-  limit_stays result (Finish dir f) h = exported (Finishes old.state new.state (dir, f)) (λ did. ap (λ (t : TreeState). t.limit) did.tree) result h
+  limit_stays result (Finish dir f) h = exported (FinishesIn old.state new.state (dir, f)) (λ did. ap (λ (t : TreeState). t.limit) did.tree) result h
   limit_stays result (Cancel dir f) h = exported (CancelsAt old.state new.state (dir, f)) (λ did. ap (λ (t : TreeState). t.limit) did.2.tree) result h

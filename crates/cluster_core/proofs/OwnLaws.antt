@@ -1,5 +1,5 @@
 -- What a rank proposes is an own step of a rank, which adds nothing to the history.
-use Rattle.cluster_core.proofs.Common.{AddsAtServe, Answer, Arrive, Cancel, CommitBegin, CommitDrop, CommitEnd, CommitTree, Core, Entry, Event, Evict, ExportState, Finish, Freeze, Grant, Import, IsFirstOf, IsNextStep, IsOwnStep, Kind, Leaf, List, Merge, OfExport, OfLarge, OfPin, OfSmall, Ok, Prep, Proposes, Purge, Rank, Records, Refusal, Result, Send, Serve, Sight, Some, Split, Start, Would, [], inl, inr, kinds, sight, subst, sym, ◌∷◌, ◌≡◌}
+use Rattle.cluster_core.proofs.Common.{AddsAtServe, Answer, Arrive, Cancel, CommitBegin, CommitDrop, CommitEnd, CommitTree, Core, Entry, Event, Evict, ExportState, Finish, Freeze, Grant, Import, IsFirstKindOf, IsNextStep, IsOwnStep, Kind, Leaf, List, Merge, OfExport, OfLarge, OfPin, OfSmall, Ok, Prep, Proposes, Purge, Rank, Records, Refusal, Result, Send, Serve, Sight, Some, Split, Start, Would, [], inl, inr, kinds, sight, subst, sym, ◌∷◌, ◌≡◌}
 use Rattle.export_steps.specs.declared.exports.ExportState.TheVariants as at
 
 own_next : (s : Sight) (root : Leaf) (state : ExportState) (event : Event) → IsNextStep s root state event → IsOwnStep event
@@ -17,7 +17,7 @@ own_kind s OfSmall leaf event is = subst IsOwnStep (sym is.is) tt
 own_kind s OfPin leaf event is = subst IsOwnStep (sym is.is) tt
 
 -- a proposal is an own step
-own_first : (s : Sight) (kinds : List Kind) (event : Event) → IsFirstOf s kinds (Some event) → IsOwnStep event
+own_first : (s : Sight) (kinds : List Kind) (event : Event) → IsFirstKindOf s kinds (Some event) → IsOwnStep event
 own_first s [] event none = absurd none
 own_first s (kind ∷ others) event (inl least) = own_kind s kind least.leaf event least.would
 own_first s (kind ∷ others) event (inr (none, rest)) = own_first s others event rest

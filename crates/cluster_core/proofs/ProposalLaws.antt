@@ -1,5 +1,5 @@
 -- Proposals: there is one at most, and its split passes the checks of splits.
-use Rattle.cluster_core.proofs.Common.{CanSplit, DirPins, Event, ExportState, Greater, HasPin, Home, Homes, IsFirstOf, IsLarge, IsLargeIn, IsLeast, IsNext, IsNextOf, IsNextStep, IsSmallIn, Kind, Leaf, Less, List, None, OfExport, OfLarge, OfPin, OfSmall, Option, Rank, Sight, Some, Start, Would, WouldNot, [], ap, arith, inherited, inl, inr, leaf-total, leaf_cmp, leaves_of, not_none, one_value, ordering_reverse, own, refl, subst, sym, ℕ, ◌∙◌, ◌∷◌, ◌≡◌, ◌⊎◌}
+use Rattle.cluster_core.proofs.Common.{CanSplit, DirPins, Event, ExportState, Greater, HasPin, Home, Homes, IsFirstKindOf, IsLarge, IsLargeIn, IsLeast, IsNext, IsNextOf, IsNextStep, IsSmallIn, Kind, Leaf, Less, List, None, OfExport, OfLarge, OfPin, OfSmall, Option, Rank, Sight, Some, Start, Would, WouldNot, [], ap, arith, inherited, inl, inr, leaf-total, leaf_cmp, leaves_of, not_none, one_value, ordering_reverse, own, refl, subst, sym, ℕ, ◌∙◌, ◌∷◌, ◌≡◌, ◌⊎◌}
 use Rattle.export_steps.specs.declared.exports.ExportState.TheVariants as at
 
 -- a directory has at most one effective pin
@@ -46,7 +46,7 @@ one_least s kind a b g h = go (g.least h.leaf b h.would) (h.least g.leaf a g.wou
     go (inr less) (inl same) = one_step s kind h.leaf a b (subst (λ (l : Leaf). Would s kind l a) same g.would) h.would
     go (inr less) (inr more) = absurd (not_both g.leaf h.leaf less more)
 
-pub one_first : (s : Sight) (kinds : List Kind) (a b : Option Event) → IsFirstOf s kinds a → IsFirstOf s kinds b → a ≡ b
+pub one_first : (s : Sight) (kinds : List Kind) (a b : Option Event) → IsFirstKindOf s kinds a → IsFirstKindOf s kinds b → a ≡ b
 one_first s [] None None g h = refl
 one_first s [] None (Some b) g h = absurd h
 one_first s [] (Some a) b g h = absurd g

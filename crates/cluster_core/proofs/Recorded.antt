@@ -1,5 +1,5 @@
 -- What each event makes of the history.
-use Rattle.cluster_core.proofs.Common.{AddsAtServe, Administers, Answer, Arrive, ArrivesAt, BeginsAt, Bool, Cancel, CancelsAt, CommitBegin, CommitDrop, CommitEnd, CommitTree, Core, Does, Drops, Ends, Entry, Err, Event, Evict, EvictsOne, Exports, Finish, Finishes, Freeze, Freezes, Grant, GrantsFirst, Import, ImportsExport, Leaf, List, MatchBool, MayRefuse, Merge, MergesLeaves, None, NotAuthority, Ok, Op, Option, Prep, Preps, Purge, Purges, Rank, Records, Refusal, Request, Result, SavesTree, Send, SendsExport, Serve, Some, Split, SplitsLeaf, Start, Starts, State, Steps, ap, false, first_waiting, length, nat_lt, nothing, told_job, true, ℕ, ◌≡◌}
+use Rattle.cluster_core.proofs.Common.{AddsAtServe, Administers, Answer, Arrive, ArrivesAt, BeginsAt, Bool, Cancel, CancelsAt, CommitBegin, CommitDrop, CommitEnd, CommitTree, Core, Does, Drops, Ends, Entry, Err, Event, Evict, EvictsOne, Exports, Finish, FinishesIn, Freeze, FreezesIn, Grant, GrantsFirst, Import, ImportsExport, Leaf, List, MatchBool, TreeMayRefuse, Merge, MergesLeaves, None, NotAuthority, Ok, Op, Option, Prep, PrepsIn, Purge, Purges, Rank, Records, Refusal, Request, Result, SavesTree, Send, SendsExport, Serve, Some, Split, SplitsLeaf, Start, StartsIn, State, Steps, ap, false, first_waiting, length, nat_lt, nothing, told_job, true, ℕ, ◌≡◌}
 use Rattle.cluster_core.proofs.RunLaws.{step_of}
 
 module _ (old new : State) (past now : List Entry) where
@@ -7,10 +7,10 @@ module _ (old new : State) (past now : List Entry) where
   arrived rank request (Ok answer) h = h.3
   arrived rank request (Err reason) h = h.2.same
 
-  granted : (MayRefuse : Op → Refusal → Type 0) (rank : Rank) (client tid : ℕ) (result : Result Answer Refusal) (found : Option Request) → GrantsFirst old new past now MayRefuse rank client tid result found → now ≡ past
-  granted MayRefuse rank client tid result None h = h.1.same
-  granted MayRefuse rank client tid (Ok answer) (Some request) h = h.same
-  granted MayRefuse rank client tid (Err reason) (Some request) h = h.1.same
+  granted : (TreeMayRefuse : Op → Refusal → Type 0) (rank : Rank) (client tid : ℕ) (result : Result Answer Refusal) (found : Option Request) → GrantsFirst old new past now TreeMayRefuse rank client tid result found → now ≡ past
+  granted TreeMayRefuse rank client tid result None h = h.1.same
+  granted TreeMayRefuse rank client tid (Ok answer) (Some request) h = h.same
+  granted TreeMayRefuse rank client tid (Err reason) (Some request) h = h.1.same
 
   administered : {X : Type 0} (told : X → Answer) (Did : Result X Refusal → Type 0) (result : Result Answer Refusal) → Administers old new past now told Did result → now ≡ past
   administered told Did (Ok answer) h = h.3.same
@@ -39,7 +39,7 @@ adds_at_serve : (old new : Core) (past now : List Entry) (result : Result Answer
 adds_at_serve old new past now result (Arrive rank request) h = at_rank old.state new.state past now (nat_lt rank.0 (length old.state.inboxes)) result (state_stays old new) (λ w. arrived old.state new.state past now rank request result w.0) h
 adds_at_serve old new past now result (Serve rank) h = tt
 adds_at_serve old new past now result (Grant rank client tid) h =
-    at_rank old.state new.state past now (nat_lt rank.0 (length old.state.inboxes)) result (state_stays old new) (λ w. granted old.state new.state past now (MayRefuse old new) rank client tid result (first_waiting client tid old.state.inboxes) w.0) h
+    at_rank old.state new.state past now (nat_lt rank.0 (length old.state.inboxes)) result (state_stays old new) (λ w. granted old.state new.state past now (TreeMayRefuse old new) rank client tid result (first_waiting client tid old.state.inboxes) w.0) h
 adds_at_serve old new past now result (Split rank dir f nb) h =
     at_rank old.state new.state past now (nat_lt rank.0 (length old.state.inboxes)) result (state_stays old new) (λ w. administered old.state new.state past now nothing (SplitsLeaf old new rank dir f nb) result w.0) h
 adds_at_serve old new past now result (Merge rank dir f) h =
@@ -54,12 +54,12 @@ adds_at_serve old new past now result (Evict rank) h =
     at_rank old.state new.state past now (nat_lt rank.0 (length old.state.inboxes)) result (state_stays old new) (λ w. administered old.state new.state past now nothing (EvictsOne old new rank) result w.0) h
 adds_at_serve old new past now result (Start from dir f to) h =
     at_rank old.state new.state past now (nat_lt from.0 (length old.state.inboxes)) result (state_stays old new)
-    (λ w. at_rank old.state new.state past now (nat_lt to.0 (length old.state.inboxes)) result (state_stays old new) (λ d. exported old.state new.state past now old new (Starts old.state new.state from (dir, f) to) result d) w) h
-adds_at_serve old new past now result (Freeze dir f) h = exported old.state new.state past now old new (Freezes old.state new.state (dir, f)) result h
-adds_at_serve old new past now result (Prep dir f) h = exported old.state new.state past now old new (Preps old.state new.state (dir, f)) result h
+    (λ w. at_rank old.state new.state past now (nat_lt to.0 (length old.state.inboxes)) result (state_stays old new) (λ d. exported old.state new.state past now old new (StartsIn old.state new.state from (dir, f) to) result d) w) h
+adds_at_serve old new past now result (Freeze dir f) h = exported old.state new.state past now old new (FreezesIn old.state new.state (dir, f)) result h
+adds_at_serve old new past now result (Prep dir f) h = exported old.state new.state past now old new (PrepsIn old.state new.state (dir, f)) result h
 adds_at_serve old new past now result (Send dir f) h = sent old.state new.state past now old new (dir, f) result h
 adds_at_serve old new past now result (Import dir f bytes) h = imported old.state new.state past now old new (dir, f) bytes result h
-adds_at_serve old new past now result (Finish dir f) h = exported old.state new.state past now old new (Finishes old.state new.state (dir, f)) result h
+adds_at_serve old new past now result (Finish dir f) h = exported old.state new.state past now old new (FinishesIn old.state new.state (dir, f)) result h
 adds_at_serve old new past now result (Cancel dir f) h = exported old.state new.state past now old new (CancelsAt old.state new.state (dir, f)) result h
 
 -- what one step makes of the history

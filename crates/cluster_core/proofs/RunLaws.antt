@@ -1,17 +1,17 @@
 -- Whole runs: the history grows, and each reply that was handed out stands in it.
-use Rattle.cluster_core.proofs.Common.{AddsTo, Administers, Answer, Arrive, ArrivesAt, BeginsAt, Bool, Cancel, CancelsAt, CommitBegin, CommitDrop, CommitEnd, CommitTree, Core, Deferred, Does, Drops, Ends, Entry, Err, Event, Evict, EvictsOne, Exports, Finish, Finishes, Forwarded, Freeze, Freezes, Grant, GrantsFirst, Import, ImportsExport, InboxEmpty, IsApplied, IsLeft, IsOfHistory, IsRepeated, IsRun, IsSoundBook, BookState, Leaf, List, MatchBool, MayRefuse, Merge, MergesLeaves, None, NotAuthority, Nothing, Ok, Op, Option, Prep, Preps, Purge, Purges, Rank, Refusal, Reply, Request, Result, Runs, SavesTree, Send, SendsExport, Sent, Serve, ServesInbox, ServesRequest, Some, Split, SplitsLeaf, StandsAt, Start, Starts, State, StepsBook, [], and_parts, ap, append-nil, append_assoc, arith, drop, drop_more, entry_of, eqb-true, false, first_waiting, get_or, get_or-append_seam, get_or_append_left, inl, inr, length, length-append, length-drop, nat_lt, nothing, refl, slice_index_or, subst, suc, sym, take, take_all, take_more, told_job, true, waiting_at, ℕ, ◌++◌, ◌+◌, ◌-◌, ◌<◌, ◌∙◌, ◌∷◌, ◌≡◌, ◌≤◌}
+use Rattle.cluster_core.proofs.Common.{AddsTo, Administers, Answer, Arrive, ArrivesAt, BeginsAt, Bool, Cancel, CancelsAt, CommitBegin, CommitDrop, CommitEnd, CommitTree, Core, Deferred, Does, Drops, Ends, Entry, Err, Event, Evict, EvictsOne, Exports, Finish, FinishesIn, Forwarded, Freeze, FreezesIn, Grant, GrantsFirst, Import, ImportsExport, InboxEmpty, IsApplied, IsLeft, IsOfHistory, IsRepeated, IsRun, IsSoundBook, BookState, Leaf, List, MatchBool, TreeMayRefuse, Merge, MergesLeaves, None, NotAuthority, Nothing, Ok, Op, Option, Prep, PrepsIn, Purge, Purges, Rank, Refusal, Reply, Request, Result, Runs, SavesTree, Send, SendsExport, Sent, Serve, ServesInbox, ServesRequest, Some, Split, SplitsLeaf, StandsInHistory, Start, StartsIn, State, StepsBook, [], and_parts, ap, append-nil, append_assoc, arith, drop, drop_more, entry_of, eqb-true, false, first_waiting, get_or, get_or-append_seam, get_or_append_left, inl, inr, length, length-append, length-drop, nat_lt, nothing, refl, slice_index_or, subst, suc, sym, take, take_all, take_more, told_job, true, waiting_at, ℕ, ◌++◌, ◌+◌, ◌-◌, ◌<◌, ◌∙◌, ◌∷◌, ◌≡◌, ◌≤◌}
 use Rattle.mds_types.specs.declared.replies.Reply.{Reply as Replied}
 use Rattle.cached_frag.specs.declared.jobs.Job.{Job as Begun}
 use Rattle.cluster_core.specs.declared.events.Answer.TheVariants.{Job}
-use Rattle.cluster_core.specs.Runs.{BeginsWith}
+use Rattle.cluster_core.specs.Runs.{GoesOnFrom}
 
 -- what one step leaves of the history, and what its answer says of it
 pub record IsStepOf (past now : List Entry) (result : Result Answer Refusal) : Type 0 where
-  pub grows : BeginsWith now past
+  pub grows : GoesOnFrom now past
   pub adds : AddsTo past now result
   pub told : IsOfHistory now result
 
-unchanged : (past now : List Entry) → now ≡ past → BeginsWith now past
+unchanged : (past now : List Entry) → now ≡ past → GoesOnFrom now past
 unchanged past now same = ([], same ∙ sym (append-nil past))
 
 refused : (past now : List Entry) (reason : Refusal) → now ≡ past → IsStepOf past now (Err reason)
@@ -67,8 +67,8 @@ module _ (old new : State) (past now : List Entry) where
   arrived rank request (Ok answer) h = quiet answer Nothing h.0 h.3 tt h.3
   arrived rank request (Err reason) h = left reason h.2
 
-  module _ (MayRefuse : Op → Refusal → Type 0) (rank : Rank) where
-    served : (request : Request) (rest : List Request) (result : Result Answer Refusal) → ServesRequest old new past now MayRefuse rank request rest result → IsStepOf past now result
+  module _ (TreeMayRefuse : Op → Refusal → Type 0) (rank : Rank) where
+    served : (request : Request) (rest : List Request) (result : Result Answer Refusal) → ServesRequest old new past now TreeMayRefuse rank request rest result → IsStepOf past now result
     served request rest (Ok answer) (inl h) = applied old new past now rank request rest answer h
     served request rest (Ok answer) (inr (inl h)) = repeated old new past now rank request rest answer h
     served request rest (Ok answer) (inr (inr (inl h))) = quiet answer (Forwarded h.master) h.answered h.same tt h.same
@@ -79,14 +79,14 @@ module _ (old new : State) (past now : List Entry) where
     served request rest (Err reason) (inr (inr (inr (inl h)))) = left reason h.2
     served request rest (Err reason) (inr (inr (inr (inr h)))) = left reason h.3
 
-    served_inbox : (result : Result Answer Refusal) (inbox : List Request) → ServesInbox old new past now MayRefuse rank result inbox → IsStepOf past now result
+    served_inbox : (result : Result Answer Refusal) (inbox : List Request) → ServesInbox old new past now TreeMayRefuse rank result inbox → IsStepOf past now result
     served_inbox result [] h = subst (IsStepOf past now) (sym h.0) (left InboxEmpty h.1)
     served_inbox result (request ∷ rest) h = served request rest result h
 
-  granted : (MayRefuse : Op → Refusal → Type 0) (rank : Rank) (client tid : ℕ) (result : Result Answer Refusal) (found : Option Request) → GrantsFirst old new past now MayRefuse rank client tid result found → IsStepOf past now result
-  granted MayRefuse rank client tid result None h = subst (IsStepOf past now) (sym h.0) (left InboxEmpty h.1)
-  granted MayRefuse rank client tid (Ok answer) (Some request) h = quiet answer Nothing h.answered h.same tt h.same
-  granted MayRefuse rank client tid (Err reason) (Some request) h = left reason h.1
+  granted : (TreeMayRefuse : Op → Refusal → Type 0) (rank : Rank) (client tid : ℕ) (result : Result Answer Refusal) (found : Option Request) → GrantsFirst old new past now TreeMayRefuse rank client tid result found → IsStepOf past now result
+  granted TreeMayRefuse rank client tid result None h = subst (IsStepOf past now) (sym h.0) (left InboxEmpty h.1)
+  granted TreeMayRefuse rank client tid (Ok answer) (Some request) h = quiet answer Nothing h.answered h.same tt h.same
+  granted TreeMayRefuse rank client tid (Err reason) (Some request) h = left reason h.1
 
   -- an administrator's step adds nothing to the history, and what it tells is no reply
   administered : {X : Type 0} (told : X → Answer) (Did : Result X Refusal → Type 0) → ((given : X) → now ≡ past → AddsTo past now (Ok (told given)) × IsOfHistory now (Ok (told given)))
@@ -129,9 +129,9 @@ state_stays old new same = ap (λ (c : Core). c.state) same
 pub step_of : (old new : Core) (past now : List Entry) (result : Result Answer Refusal) (event : Event) → Does old new past now result event → IsStepOf past now result
 step_of old new past now result (Arrive rank request) h = at_rank old.state new.state past now (nat_lt rank.0 (length old.state.inboxes)) result (state_stays old new) (λ w. arrived old.state new.state past now rank request result w.0) h
 step_of old new past now result (Serve rank) h =
-    at_rank old.state new.state past now (nat_lt rank.0 (length old.state.inboxes)) result (state_stays old new) (λ w. served_inbox old.state new.state past now (MayRefuse old new) rank result (waiting_at old.state.inboxes rank) w.0) h
+    at_rank old.state new.state past now (nat_lt rank.0 (length old.state.inboxes)) result (state_stays old new) (λ w. served_inbox old.state new.state past now (TreeMayRefuse old new) rank result (waiting_at old.state.inboxes rank) w.0) h
 step_of old new past now result (Grant rank client tid) h =
-    at_rank old.state new.state past now (nat_lt rank.0 (length old.state.inboxes)) result (state_stays old new) (λ w. granted old.state new.state past now (MayRefuse old new) rank client tid result (first_waiting client tid old.state.inboxes) w.0) h
+    at_rank old.state new.state past now (nat_lt rank.0 (length old.state.inboxes)) result (state_stays old new) (λ w. granted old.state new.state past now (TreeMayRefuse old new) rank client tid result (first_waiting client tid old.state.inboxes) w.0) h
 step_of old new past now result (Split rank dir f nb) h = at_rank old.state new.state past now (nat_lt rank.0 (length old.state.inboxes)) result (state_stays old new) (λ w. done old.state new.state past now (SplitsLeaf old new rank dir f nb) result w.0) h
 step_of old new past now result (Merge rank dir f) h = at_rank old.state new.state past now (nat_lt rank.0 (length old.state.inboxes)) result (state_stays old new) (λ w. done old.state new.state past now (MergesLeaves old new rank dir f) result w.0) h
 step_of old new past now result (CommitBegin rank dir f) h =
@@ -143,16 +143,16 @@ step_of old new past now result Purge h = done old.state new.state past now (Pur
 step_of old new past now result (Evict rank) h = at_rank old.state new.state past now (nat_lt rank.0 (length old.state.inboxes)) result (state_stays old new) (λ w. done old.state new.state past now (EvictsOne old new rank) result w.0) h
 step_of old new past now result (Start from dir f to) h =
     at_rank old.state new.state past now (nat_lt from.0 (length old.state.inboxes)) result (state_stays old new)
-    (λ w. at_rank old.state new.state past now (nat_lt to.0 (length old.state.inboxes)) result (state_stays old new) (λ d. export_done old.state new.state past now old new refl refl (Starts old.state new.state from (dir, f) to) result d) w) h
-step_of old new past now result (Freeze dir f) h = export_done old.state new.state past now old new refl refl (Freezes old.state new.state (dir, f)) result h
-step_of old new past now result (Prep dir f) h = export_done old.state new.state past now old new refl refl (Preps old.state new.state (dir, f)) result h
+    (λ w. at_rank old.state new.state past now (nat_lt to.0 (length old.state.inboxes)) result (state_stays old new) (λ d. export_done old.state new.state past now old new refl refl (StartsIn old.state new.state from (dir, f) to) result d) w) h
+step_of old new past now result (Freeze dir f) h = export_done old.state new.state past now old new refl refl (FreezesIn old.state new.state (dir, f)) result h
+step_of old new past now result (Prep dir f) h = export_done old.state new.state past now old new refl refl (PrepsIn old.state new.state (dir, f)) result h
 step_of old new past now result (Send dir f) h = sent_done old.state new.state past now old new refl refl (dir, f) result h
 step_of old new past now result (Import dir f bytes) h = imported_done old.state new.state past now old new refl refl (dir, f) bytes result h
-step_of old new past now result (Finish dir f) h = export_done old.state new.state past now old new refl refl (Finishes old.state new.state (dir, f)) result h
+step_of old new past now result (Finish dir f) h = export_done old.state new.state past now old new refl refl (FinishesIn old.state new.state (dir, f)) result h
 step_of old new past now result (Cancel dir f) h = export_done old.state new.state past now old new refl refl (CancelsAt old.state new.state (dir, f)) result h
 
 -- what stands in a history stands in each that begins with it
-still_stands : (past now : List Entry) (client tid place : ℕ) (reply : Replied) → BeginsWith now past → StandsAt past client tid place reply → StandsAt now client tid place reply
+still_stands : (past now : List Entry) (client tid place : ℕ) (reply : Replied) → GoesOnFrom now past → StandsInHistory past client tid place reply → StandsInHistory now client tid place reply
 still_stands past now client tid place reply (rest, grown) h =
     let same : (e : Entry) → slice_index_or now place e ≡ slice_index_or past place e = λ e. rw grown (get_or_append_left past rest e place h.in_range) in
     record {
@@ -162,7 +162,7 @@ still_stands past now client tid place reply (rest, grown) h =
       reply_is = λ e. ap (λ (x : Entry). x.reply) (same e) ∙ h.reply_is e;
     }
 
-still_told : (past now : List Entry) (result : Result Answer Refusal) → BeginsWith now past → IsOfHistory past result → IsOfHistory now result
+still_told : (past now : List Entry) (result : Result Answer Refusal) → GoesOnFrom now past → IsOfHistory past result → IsOfHistory now result
 still_told past now (Ok Nothing) grown h = tt
 still_told past now (Ok (Job job)) grown h = tt
 still_told past now (Ok (Sent bytes)) grown h = tt
@@ -171,7 +171,7 @@ still_told past now (Ok Deferred) grown h = tt
 still_told past now (Ok (Reply client tid place first reply)) grown h = still_stands past now client tid place reply grown h
 still_told past now (Err reason) grown h = tt
 
-grown_twice : (a b c : List Entry) → BeginsWith b a → BeginsWith c b → BeginsWith c a
+grown_twice : (a b c : List Entry) → GoesOnFrom b a → GoesOnFrom c b → GoesOnFrom c a
 grown_twice a b c (p, e) (q, f) = (p ++ q, f ∙ ap (λ xs. xs ++ q) e ∙ append_assoc a p q)
 
 run_of_no_events : (start end : BookState) → end ≡ start → IsRun start [] [] end

@@ -1,5 +1,5 @@
 -- What Send of the tree with its ranks is to the cluster.
-use Rattle.cluster_core.proofs.Common.{Core, Entry, Inboxes, IsUnseenStep, KeepsTree, Leaf, List, Ok, Pin, Ranked, Sends, SendsExport, Sent, Subtrees, Supply, Table, ap, core_of, refl, shown_tree, ℕ, ◌≡◌}
+use Rattle.cluster_core.proofs.Common.{Core, Entry, Inboxes, IsUnseenStep, KeepsTreeAndRoots, Leaf, List, Ok, Pin, Ranked, Sends, SendsExport, Sent, Subtrees, Supply, Table, ap, core_of, refl, shown_tree, ℕ, ◌≡◌}
 use Rattle.mdcache.specs.Core.{Core as TreeCore, state_of as tree_state}
 
 module _ (old new : Ranked) (numbers : List Supply) (inboxes : Inboxes) (pins : List Pin) (sessions : Table) (past : List Entry) (leaf : Leaf) (tree : new.tree ≡ old.tree) (subtrees : new.subtrees ≡ old.subtrees) where
@@ -9,7 +9,7 @@ module _ (old new : Ranked) (numbers : List Supply) (inboxes : Inboxes) (pins : 
   abbrev is : Core
   is = core_of new.tree new.subtrees.roots new.exports numbers inboxes pins sessions
 
-  keeps : KeepsTree was.state is.state
+  keeps : KeepsTreeAndRoots was.state is.state
   keeps = record { tree = ap tree_state tree; roots = ap (λ (s : Subtrees). s.roots) subtrees }
 
   unseen : IsUnseenStep was.state is.state past past

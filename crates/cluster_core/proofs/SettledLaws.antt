@@ -1,5 +1,5 @@
 -- A rank of which nothing is pinned away stays so in each calm step; and one that would start no export where none stands is such a rank.
-use Rattle.cluster_core.proofs.Common.{Answer, AreSettled, Attributed, Bool, Change, Contains, Core, Entry, Event, FollowPlanned, HasAuthority, HasPin, Ino, Inode, IsAway, IsCalm, IsCalmIn, IsCalmOp, IsChangeIn, IsLive, IsOffered, IsOneOf, IsProposal, IsRankNumber, IsSettled, IsSome, IsSound, IsUnused, KeepsCore, KeepsSettled, Leaf, List, Lists, Looks, LoseDirectory, Makes, Moves, None, OfPin, Option, Pinned, Rank, Refusal, Removes, Result, Roots, Sets, SettleBy, Shape, Some, Spot, Standing, Start, State, Steps, Tree, Unlinks, WouldNot, [], ap, arith, false, get-empty, inl, inr, is_known, is_some, leaf_cmp, length, number_or, offer, outcome_of, refl, same_or_apart, shape, shown, sight, subst, supply_of, sym, true, ◌++◌, ◌<◌, ◌∙◌, ◌∷◌, ◌≡◌, ◌⊎◌}
+use Rattle.cluster_core.proofs.Common.{Answer, AreSettled, Attributed, Bool, Change, Contains, Core, Entry, Event, FollowPlanned, HasAuthority, HasPin, Ino, Inode, IsAway, IsCalm, IsCalmIn, IsCalmOp, IsChangeIn, IsLive, IsOffered, IsOneOf, IsProposal, IsRankNumber, HasSettled, IsSome, IsSound, IsUnused, KeepsCore, KeepsSettled, Leaf, List, Lists, Looks, LoseDirectory, Makes, Moves, None, OfPin, Option, Pinned, Rank, Refusal, Removes, Result, Roots, Sets, SettleBy, Shape, Some, Spot, Standing, Start, State, Steps, Tree, Unlinks, WouldNot, [], ap, arith, false, get-empty, inl, inr, is_known, is_some, leaf_cmp, length, number_or, offer, outcome_of, refl, same_or_apart, shape, shown, sight, subst, supply_of, sym, true, ◌++◌, ◌<◌, ◌∙◌, ◌∷◌, ◌≡◌, ◌⊎◌}
 use Rattle.std.specs.FinMap as map
 use Rattle.mdcache.specs.State.{State as TreeState}
 use Rattle.cluster_core.proofs.AdminLaws.{one_of_all}
@@ -109,7 +109,7 @@ module _ (opening : Tree) (past now : List Entry) (old new : Core) (sound : IsSo
           lives = live_was (shown old.state) (shown new.state) old.state.tree.homes new.state.tree.homes old.state.tree.pins new.state.tree.pins sound.tree.sound.tabled still.tree.sound.tabled sound.tree.sound.counted.pinned still.tree.sound.counted.pinned stay
               old.state.tree.covers new.state.tree.covers old.state.roots new.state.roots sound.tree.sound.table sound.subtrees a.applied.leaves a.authorities were leaf known away.live
 
-  pub settled_stays : (result : Result Answer Refusal) (event : Event) → Steps old new past now result event → IsCalm event → ((e : Entry) → now ≡ past ++ e ∷ [] → IsCalmOp e.op) → (rank : Rank) → IsSettled old.state rank → IsSettled new.state rank
+  pub settled_stays : (result : Result Answer Refusal) (event : Event) → Steps old new past now result event → IsCalm event → ((e : Entry) → now ≡ past ++ e ∷ [] → IsCalmOp e.op) → (rank : Rank) → HasSettled old.state rank → HasSettled new.state rank
   settled_stays result event steps calm entry rank settled leaf to away = go (ground_stays past now old new result event calm steps)
     where
       ranks : length new.state.numbers ≡ length old.state.numbers
@@ -136,7 +136,7 @@ module _ (opening : Tree) (past now : List Entry) (old new : Core) (sound : IsSo
 -- ---- what is known of a rank
 
 -- where nothing is proposed, and no export stands, nothing is pinned away
-pub none_away : (core : Core) (rank : Rank) → IsProposal (sight core rank) None → core.state.exports ≡ map.empty → IsSettled core.state rank
+pub none_away : (core : Core) (rank : Rank) → IsProposal (sight core rank) None → core.state.exports ≡ map.empty → HasSettled core.state rank
 none_away core rank none empty leaf to away =
     none.1.1.1.0 leaf (Start rank leaf.0 leaf.1 to)
     (record {
@@ -155,13 +155,13 @@ none_away core rank none empty leaf to away =
     no_export at = ap (λ (e : Standing). map.get e at) empty ∙ get-empty leaf_cmp at
 
 -- where nothing is pinned away, no export starts
-pub would_not : (core : Core) (rank : Rank) → IsSettled core.state rank → WouldNot (sight core rank) OfPin
+pub would_not : (core : Core) (rank : Rank) → HasSettled core.state rank → WouldNot (sight core rank) OfPin
 would_not core rank none leaf event would = none leaf would.to (record { live = would.own.live; mine = would.own.mine; place = would.place; pin = would.pin; other = would.other; there = would.there })
 
 -- nothing is pinned away of what was known before and of one rank more
-pub noted : (state : State) (before after : List Rank) (rank : Rank) → AreSettled state before → IsSettled state rank → ((other : Rank) → Contains after other → Contains before other ⊎ (other ≡ rank)) → AreSettled state after
+pub noted : (state : State) (before after : List Rank) (rank : Rank) → AreSettled state before → HasSettled state rank → ((other : Rank) → Contains after other → Contains before other ⊎ (other ≡ rank)) → AreSettled state after
 noted state before after rank settled its either other has = go (either other has)
   where
-    go : Contains before other ⊎ (other ≡ rank) → IsSettled state other
+    go : Contains before other ⊎ (other ≡ rank) → HasSettled state other
     go (inl had) = settled other had
-    go (inr same) = subst (λ (r : Rank). IsSettled state r) (sym same) its
+    go (inr same) = subst (λ (r : Rank). HasSettled state r) (sym same) its

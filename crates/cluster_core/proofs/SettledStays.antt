@@ -1,5 +1,5 @@
 -- Directories, leaves, pins and subtree roots stay in each calm step that applies no request.
-use Rattle.cluster_core.proofs.Common.{AdministersTree, Answer, Arrive, ArrivesAt, BeginsAt, BeginsWith, Bool, Cancel, CancelsAt, CommitBegin, CommitDrop, CommitEnd, CommitTree, Core, Covers, DirPins, Drops, Ends, Entry, Err, Event, Evict, EvictsOne, Exports, Finish, Fragment, Freeze, Grant, GrantsFirst, HoldsInside, Homes, Import, ImportsExport, Ino, IsApplied, IsCalm, IsMergedInto, IsRootMerge, IsRootSplit, IsSplitInto, Job, KeepsAuthorities, KeepsTree, List, MatchBool, MayRefuse, Merge, Merges, None, NotAuthority, Ok, Op, Option, Prep, Preps, Purge, Purges, PurgesName, Rank, Refusal, Request, Result, SavesTree, Send, SendsExport, Serve, ServesInbox, ServesRequest, Some, Split, Splits, Start, Starts, State, Steps, Unsaved, [], ap, false, first_name, first_waiting, inl, inr, length, nat_lt, nothing, refl, told_job, true, waiting_at, ℕ, ◌∷◌, ◌≡◌, ◌⊎◌}
+use Rattle.cluster_core.proofs.Common.{AdministersTree, Answer, Arrive, ArrivesAt, BeginsAt, BeginsWith, Bool, Cancel, CancelsAt, CommitBegin, CommitDrop, CommitEnd, CommitTree, Core, Covers, DirPins, Drops, Ends, Entry, Err, Event, Evict, EvictsOne, Exports, Finish, Fragment, Freeze, Grant, GrantsFirst, HoldsInside, Homes, Import, ImportsExport, Ino, IsApplied, IsCalm, IsMergedInto, IsRootMerge, IsRootSplit, IsSplitInto, Job, KeepsAuthorities, KeepsTreeAndRoots, List, MatchBool, TreeMayRefuse, Merge, Merges, None, NotAuthority, Ok, Op, Option, Prep, PrepsIn, Purge, Purges, PurgesName, Rank, Refusal, Request, Result, SavesTree, Send, SendsExport, Serve, ServesInbox, ServesRequest, Some, Split, Splits, Start, StartsIn, State, Steps, Unsaved, [], ap, false, first_name, first_waiting, inl, inr, length, nat_lt, nothing, refl, told_job, true, waiting_at, ℕ, ◌∷◌, ◌≡◌, ◌⊎◌}
 use Rattle.dentry_cache.specs.Cache.{Leaf}
 use Rattle.mdcache.specs.State.{State as TreeState}
 
@@ -79,7 +79,7 @@ module _ (past now : List Entry) (old new : Core) where
   worked told Did so (Ok answer) h = (so h.0.0 h.0.2, h.1)
   worked told Did so (Err reason) h = state_left h.0.1.left
 
-  kept_tree : KeepsTree old.state new.state → Kept
+  kept_tree : KeepsTreeAndRoots old.state new.state → Kept
   kept_tree kept = (ap tables kept.tree, kept.roots)
 
   exported : (Did : Result (Unit {0}) Refusal → Type 0) → (Did (Ok tt) → Kept) → (result : Result Answer Refusal) → Exports old new past now Did result → Kept
@@ -105,10 +105,10 @@ module _ (past now : List Entry) (old new : Core) where
     pub authorities : KeepsAuthorities old.state.tree new.state.tree old.state.roots new.state.roots
 
   serves : (rank : Rank) (result : Result Answer Refusal) (here : Bool) → nat_lt rank.0 (length old.state.inboxes) ≡ here → (inbox : List Request) → KeepsAuthorities old.state.tree new.state.tree old.state.roots new.state.roots
-      → (Uses : Type 0) → MatchBool here (ServesInbox old.state new.state past now (MayRefuse old new) rank result inbox × Uses) ((result ≡ Err NotAuthority) × (new ≡ old) × (now ≡ past)) → Kept ⊎ Applied
+      → (Uses : Type 0) → MatchBool here (ServesInbox old.state new.state past now (TreeMayRefuse old new) rank result inbox × Uses) ((result ≡ Err NotAuthority) × (new ≡ old) × (now ≡ past)) → Kept ⊎ Applied
   serves rank result false is inbox keeps Uses h = inl (all_left h.1)
   serves rank result true is [] keeps Uses h = inl (state_left h.0.1.left)
-  serves rank result true is (request ∷ rest) keeps Uses h = go (served_request old.state new.state past now (MayRefuse old new) rank request rest result h.0)
+  serves rank result true is (request ∷ rest) keeps Uses h = go (served_request old.state new.state past now (TreeMayRefuse old new) rank request rest result h.0)
     where
       go : ((answer : Answer) × IsApplied old.state new.state past now rank request rest answer) ⊎ Kept → Kept ⊎ Applied
       go (inl (answer, its)) = inr (record { rank = rank; here = is; request = request; rest = rest; answer = answer; applied = its; authorities = keeps })
@@ -156,7 +156,7 @@ module _ (past now : List Entry) (old new : Core) where
   pub ground_stays : (result : Result Answer Refusal) (event : Event) → IsCalm event → Steps old new past now result event → Came
   ground_stays result (Arrive rank request) calm steps = inl (at_rank (nat_lt rank.0 (length old.state.inboxes)) result (λ w. arrived old.state new.state past now rank request result w.0) steps.does)
   ground_stays result (Serve rank) calm steps = served_or (serves rank result (nat_lt rank.0 (length old.state.inboxes)) refl (waiting_at old.state.inboxes rank) steps.authorities _ steps.does)
-  ground_stays result (Grant rank client tid) calm steps = inl (at_rank (nat_lt rank.0 (length old.state.inboxes)) result (λ w. granted old.state new.state past now (MayRefuse old new) rank client tid result (first_waiting client tid old.state.inboxes) w.0) steps.does)
+  ground_stays result (Grant rank client tid) calm steps = inl (at_rank (nat_lt rank.0 (length old.state.inboxes)) result (λ w. granted old.state new.state past now (TreeMayRefuse old new) rank client tid result (first_waiting client tid old.state.inboxes) w.0) steps.does)
   ground_stays result (Split rank dir f nb) calm steps = splits rank dir f nb result (nat_lt rank.0 (length old.state.inboxes)) steps.authorities steps.does
   ground_stays result (Merge rank dir f) calm steps = merges rank dir f result (nat_lt rank.0 (length old.state.inboxes)) steps.authorities steps.does
   ground_stays result (CommitBegin rank dir f) calm steps = inl (at_rank (nat_lt rank.0 (length old.state.inboxes)) result (λ w. worked told_job (BeginsAt old.state new.state rank (dir, f)) (λ given did. begun old.state.tree new.state.tree _ (dir, f) given did.2.2) result w.0) steps.does)
@@ -165,9 +165,9 @@ module _ (past now : List Entry) (old new : Core) where
   ground_stays result (CommitTree dir) calm steps = inl (worked nothing (SavesTree old.state.tree new.state.tree old.faults new.faults dir) (λ done did. ap tables did.1) result steps.does.0)
   ground_stays result Purge calm steps = inl (worked nothing (Purges old.state.tree new.state.tree old.faults new.faults) (λ done did. purged old.state.tree new.state.tree old.faults new.faults (first_name old.state.tree.purge) did) result steps.does.0)
   ground_stays result (Evict rank) calm steps = inl (at_rank (nat_lt rank.0 (length old.state.inboxes)) result (λ w. worked nothing (EvictsOne old new rank) (λ done did. ap ground did.1) result w) steps.does)
-  ground_stays result (Start from dir f to) calm steps = inl (at_rank (nat_lt from.0 (length old.state.inboxes)) result (λ w. at_rank (nat_lt to.0 (length old.state.inboxes)) result (λ done. exported (Starts old.state new.state from (dir, f) to) (λ did. kept_tree did.2) result done) w) steps.does)
+  ground_stays result (Start from dir f to) calm steps = inl (at_rank (nat_lt from.0 (length old.state.inboxes)) result (λ w. at_rank (nat_lt to.0 (length old.state.inboxes)) result (λ done. exported (StartsIn old.state new.state from (dir, f) to) (λ did. kept_tree did.2) result done) w) steps.does)
   ground_stays result (Freeze dir f) calm steps = absurd calm
-  ground_stays result (Prep dir f) calm steps = inl (exported (Preps old.state new.state (dir, f)) (λ did. kept_tree did.1) result steps.does)
+  ground_stays result (Prep dir f) calm steps = inl (exported (PrepsIn old.state new.state (dir, f)) (λ did. kept_tree did.1) result steps.does)
   ground_stays result (Send dir f) calm steps = inl (sent (dir, f) result steps.does)
   ground_stays result (Import dir f bytes) calm steps = inl (imported (dir, f) bytes result steps.does)
   ground_stays result (Finish dir f) calm steps = absurd calm

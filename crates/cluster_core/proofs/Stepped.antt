@@ -1,5 +1,5 @@
 -- A book stays sound at every step.
-use Rattle.cluster_core.proofs.Common.{Administers, Answer, AreCached, AreExported, AreRoots, Arrive, ArrivesAt, BeginsAt, Bool, Cancel, CancelsAt, CommitBegin, CommitDrop, CommitEnd, CommitTree, Core, Does, Drops, Ends, Entry, Err, Event, Evict, EvictsOne, Exports, Finish, Finishes, Freeze, Freezes, Grant, GrantsFirst, Import, ImportsExport, Inboxes, IsForwarded, IsSoundWith, IsLeft, IsSound, IsTakenOut, IsUnseen, Leaf, List, MatchBool, MayRefuse, Merge, MergesLeaves, None, NotAuthority, Ok, Op, Option, Pin, Prep, Preps, Purge, Purges, Rank, Refusal, Request, Result, SavesTree, Send, SendsExport, Serve, ServesInbox, ServesRequest, Some, Split, SplitsLeaf, Start, Starts, State, Tree, [], ap, false, first_waiting, inl, inr, length, length-set, nat_lt, nothing, refl, shown, told_job, true, waiting_at, with_waiting, ℕ, ◌++◌, ◌<◌, ◌∙◌, ◌∷◌, ◌≡◌}
+use Rattle.cluster_core.proofs.Common.{Administers, Answer, AreCached, AreExported, AreRoots, Arrive, ArrivesAt, BeginsAt, Bool, Cancel, CancelsAt, CommitBegin, CommitDrop, CommitEnd, CommitTree, Core, Does, Drops, Ends, Entry, Err, Event, Evict, EvictsOne, Exports, Finish, FinishesIn, Freeze, FreezesIn, Grant, GrantsFirst, Import, ImportsExport, Inboxes, IsForwarded, IsSoundWith, IsLeft, IsSound, IsTakenOut, IsUnseen, Leaf, List, MatchBool, TreeMayRefuse, Merge, MergesLeaves, None, NotAuthority, Ok, Op, Option, Pin, Prep, PrepsIn, Purge, Purges, Rank, Refusal, Request, Result, SavesTree, Send, SendsExport, Serve, ServesInbox, ServesRequest, Some, Split, SplitsLeaf, Start, StartsIn, State, Tree, [], ap, false, first_waiting, inl, inr, length, length-set, nat_lt, nothing, refl, shown, told_job, true, waiting_at, with_waiting, ℕ, ◌++◌, ◌<◌, ◌∙◌, ◌∷◌, ◌≡◌}
 use Rattle.cluster_core.proofs.Applied.{sound-applied}
 use Rattle.cluster_core.proofs.Offered.{there_of}
 
@@ -43,8 +43,8 @@ module _ (opening : Tree) (past now : List Entry) (old new : Core) (sound : IsSo
       let out = with_waiting old.state.inboxes rank rest in
       sound-but h.same _ old.state.pins (length-set out h.master.0 (waiting_at out h.master ++ request ∷ []) ∙ length-set old.state.inboxes rank.0 rest) h.left
 
-  module _ (MayRefuse : Op → Refusal → Type 0) (rank : Rank) (there : rank.0 < length old.state.numbers) where
-    served : (request : Request) (rest : List Request) (result : Result Answer Refusal) → ServesRequest old.state new.state past now MayRefuse rank request rest result → IsSound opening now new
+  module _ (TreeMayRefuse : Op → Refusal → Type 0) (rank : Rank) (there : rank.0 < length old.state.numbers) where
+    served : (request : Request) (rest : List Request) (result : Result Answer Refusal) → ServesRequest old.state new.state past now TreeMayRefuse rank request rest result → IsSound opening now new
     served request rest (Ok answer) (inl h) = sound-applied opening past now old new rank request rest answer there sound tree cached exported count valid limit h
     served request rest (Ok answer) (inr (inl h)) = sound-out rank request rest h.out
     served request rest (Ok answer) (inr (inr (inl h))) = forwarded rank request rest answer h
@@ -55,14 +55,14 @@ module _ (opening : Tree) (past now : List Entry) (old new : Core) (sound : IsSo
     served request rest (Err reason) (inr (inr (inr (inl h)))) = sound-left h.2
     served request rest (Err reason) (inr (inr (inr (inr h)))) = sound-left h.3
 
-    served_inbox : (result : Result Answer Refusal) (inbox : List Request) → ServesInbox old.state new.state past now MayRefuse rank result inbox → IsSound opening now new
+    served_inbox : (result : Result Answer Refusal) (inbox : List Request) → ServesInbox old.state new.state past now TreeMayRefuse rank result inbox → IsSound opening now new
     served_inbox result [] h = sound-left h.1
     served_inbox result (request ∷ rest) h = served request rest result h
 
-  granted : (MayRefuse : Op → Refusal → Type 0) (rank : Rank) (client tid : ℕ) (result : Result Answer Refusal) (found : Option Request) → GrantsFirst old.state new.state past now MayRefuse rank client tid result found → IsSound opening now new
-  granted MayRefuse rank client tid result None h = sound-left h.1
-  granted MayRefuse rank client tid (Ok answer) (Some request) h = sound-but h.same old.state.inboxes _ refl h.left
-  granted MayRefuse rank client tid (Err reason) (Some request) h = sound-left h.1
+  granted : (TreeMayRefuse : Op → Refusal → Type 0) (rank : Rank) (client tid : ℕ) (result : Result Answer Refusal) (found : Option Request) → GrantsFirst old.state new.state past now TreeMayRefuse rank client tid result found → IsSound opening now new
+  granted TreeMayRefuse rank client tid result None h = sound-left h.1
+  granted TreeMayRefuse rank client tid (Ok answer) (Some request) h = sound-but h.same old.state.inboxes _ refl h.left
+  granted TreeMayRefuse rank client tid (Err reason) (Some request) h = sound-left h.1
 
   administered : {X : Type 0} (told : X → Answer) (Did : Result X Refusal → Type 0) (result : Result Answer Refusal) → Administers old.state new.state past now told Did result → IsSound opening now new
   administered told Did (Ok answer) h = unseen h.3
@@ -88,8 +88,8 @@ module _ (opening : Tree) (past now : List Entry) (old new : Core) (sound : IsSo
   -- every step keeps a book sound
   pub sound-step : (result : Result Answer Refusal) (event : Event) → Does old new past now result event → IsSound opening now new
   sound-step result (Arrive rank request) h = at_rank (nat_lt rank.0 (length old.state.inboxes)) result (λ here w. arrived rank request result w.0) h
-  sound-step result (Serve rank) h = at_rank (nat_lt rank.0 (length old.state.inboxes)) result (λ here w. served_inbox (MayRefuse old new) rank (there_of old sound.ranks rank here) result (waiting_at old.state.inboxes rank) w.0) h
-  sound-step result (Grant rank client tid) h = at_rank (nat_lt rank.0 (length old.state.inboxes)) result (λ here w. granted (MayRefuse old new) rank client tid result (first_waiting client tid old.state.inboxes) w.0) h
+  sound-step result (Serve rank) h = at_rank (nat_lt rank.0 (length old.state.inboxes)) result (λ here w. served_inbox (TreeMayRefuse old new) rank (there_of old sound.ranks rank here) result (waiting_at old.state.inboxes rank) w.0) h
+  sound-step result (Grant rank client tid) h = at_rank (nat_lt rank.0 (length old.state.inboxes)) result (λ here w. granted (TreeMayRefuse old new) rank client tid result (first_waiting client tid old.state.inboxes) w.0) h
   sound-step result (Split rank dir f nb) h = at_rank (nat_lt rank.0 (length old.state.inboxes)) result (λ here w. administered nothing (SplitsLeaf old new rank dir f nb) result w.0) h
   sound-step result (Merge rank dir f) h = at_rank (nat_lt rank.0 (length old.state.inboxes)) result (λ here w. administered nothing (MergesLeaves old new rank dir f) result w.0) h
   sound-step result (CommitBegin rank dir f) h = at_rank (nat_lt rank.0 (length old.state.inboxes)) result (λ here done. administered told_job (BeginsAt old.state new.state rank (dir, f)) result done.0.0) h
@@ -99,10 +99,10 @@ module _ (opening : Tree) (past now : List Entry) (old new : Core) (sound : IsSo
   sound-step result Purge h = administered nothing (Purges old.state.tree new.state.tree old.faults new.faults) result h.0.0
   sound-step result (Evict rank) h = at_rank (nat_lt rank.0 (length old.state.inboxes)) result (λ here done. administered nothing (EvictsOne old new rank) result done.0) h
   sound-step result (Start from dir f to) h =
-      at_rank (nat_lt from.0 (length old.state.inboxes)) result (λ here w. at_rank (nat_lt to.0 (length old.state.inboxes)) result (λ there done. stepped (Starts old.state new.state from (dir, f) to) result done) w) h
-  sound-step result (Freeze dir f) h = stepped (Freezes old.state new.state (dir, f)) result h
-  sound-step result (Prep dir f) h = stepped (Preps old.state new.state (dir, f)) result h
+      at_rank (nat_lt from.0 (length old.state.inboxes)) result (λ here w. at_rank (nat_lt to.0 (length old.state.inboxes)) result (λ there done. stepped (StartsIn old.state new.state from (dir, f) to) result done) w) h
+  sound-step result (Freeze dir f) h = stepped (FreezesIn old.state new.state (dir, f)) result h
+  sound-step result (Prep dir f) h = stepped (PrepsIn old.state new.state (dir, f)) result h
   sound-step result (Send dir f) h = sent (dir, f) result h
   sound-step result (Import dir f bytes) h = imported (dir, f) bytes result h
-  sound-step result (Finish dir f) h = stepped (Finishes old.state new.state (dir, f)) result h
+  sound-step result (Finish dir f) h = stepped (FinishesIn old.state new.state (dir, f)) result h
   sound-step result (Cancel dir f) h = stepped (CancelsAt old.state new.state (dir, f)) result h

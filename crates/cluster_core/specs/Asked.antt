@@ -36,6 +36,6 @@ pub record IsAsked (tree : TreeState) (roots : Roots) (exports : Standing) (numb
   pub session : IsSessionOf sessions asked.request.client asked.session
 
 -- a request that was taken out at a rank can be put back there
-pub record HasRoomFor (inboxes : Inboxes) (rank : Rank) : Type 0 where
+pub record HasRoomAt (inboxes : Inboxes) (rank : Rank) : Type 0 where
   pub there : rank.0 < length inboxes
   pub room : length (waiting_at inboxes rank) < 1024

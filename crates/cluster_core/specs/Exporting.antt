@@ -55,7 +55,7 @@ Exports old new past now Did (Ok answer) =
 Exports old new past now Did (Err reason) = Did (Err reason) × IsLeft old.state new.state past now × AsksNone old new
 
 -- the tree and the subtree roots stay
-pub record KeepsTree (old new : State) : Type 0 where
+pub record KeepsTreeAndRoots (old new : State) : Type 0 where
   pub tree : new.tree ≡ old.tree
   pub roots : new.roots ≡ old.roots
 
@@ -71,15 +71,15 @@ pub record MayStart (old : State) (from : Rank) (leaf : Leaf) (to : Rank) : Type
   pub thawed : IsFrozenAt old leaf → ⊥
 
 -- it is recorded as started
-abbrev pub Starts : (old new : State) → Rank → Leaf → Rank → Result (Unit {0}) Refusal → Type 0
-Starts old new from leaf to (Ok done) =
+abbrev pub StartsIn : (old new : State) → Rank → Leaf → Rank → Result (Unit {0}) Refusal → Type 0
+StartsIn old new from leaf to (Ok done) =
     MayStart old from leaf to × (new.exports ≡ map.insert old.exports leaf (record {
       exporter = from;
       importer =
           to;
       state = state.Started;
-    })) × KeepsTree old new
-Starts old new from leaf to (Err reason) =
+    })) × KeepsTreeAndRoots old new
+StartsIn old new from leaf to (Err reason) =
     Check why.WrongExportState (IsSome (map.get old.exports leaf))
     (Check why.NoSuchFrag (IsLive old.tree.homes old.tree.covers leaf → ⊥)
     (Check why.NotAuthority ((from ≡ to)
@@ -88,7 +88,7 @@ Starts old new from leaf to (Err reason) =
 abbrev pub StartsExport : (old new : Core) → (past now : List Entry) → Rank → Leaf → Rank → Result Answer Refusal
     → Type 0
 StartsExport old new past now from leaf to result =
-    Exports old new past now (Starts old.state new.state from leaf to) result
+    Exports old new past now (StartsIn old.state new.state from leaf to) result
 
 -- ---- Freeze
 
@@ -115,32 +115,32 @@ pub record MayFreeze (old : State) (leaf : Leaf) : Type 0 where
   pub free : IsRegionPinned old leaf → ⊥
 
 -- it freezes: its root is a subtree root of the exporter, and the jobs of its leaves end
-pub record IsFreeze (old new : State) (leaf : Leaf) : Type 0 where
+pub record IsFreezeIn (old new : State) (leaf : Leaf) : Type 0 where
   pub step : ComesTo old.exports new.exports leaf state.Started state.Frozen
   pub roots : new.roots ≡ map.insert old.roots leaf step.export.exporter
   pub ended : EndsRegion old.tree new.tree new.roots leaf
 
-abbrev pub Freezes : (old new : State) → Leaf → Result (Unit {0}) Refusal → Type 0
-Freezes old new leaf (Ok done) = MayFreeze old leaf × IsFreeze old new leaf
-Freezes old new leaf (Err reason) =
+abbrev pub FreezesIn : (old new : State) → Leaf → Result (Unit {0}) Refusal → Type 0
+FreezesIn old new leaf (Ok done) = MayFreeze old leaf × IsFreezeIn old new leaf
+FreezesIn old new leaf (Err reason) =
     Check why.WrongExportState (state_at old.exports leaf ≢ Some state.Started)
     (Check why.NoSuchFrag (IsLive old.tree.homes old.tree.covers leaf → ⊥)
     (Check why.NotAuthority (IsExporters old leaf
     → ⊥) (Check why.Frozen (IsFrozenAt old leaf) (Check why.Pinned (IsRegionPinned old leaf) ForMemory)))) reason
 
 abbrev pub FreezesExport : (old new : Core) → (past now : List Entry) → Leaf → Result Answer Refusal → Type 0
-FreezesExport old new past now leaf result = Exports old new past now (Freezes old.state new.state leaf) result
+FreezesExport old new past now leaf result = Exports old new past now (FreezesIn old.state new.state leaf) result
 
 -- ---- Prep
 
 -- a frozen export is prepared; refused where none of this root stands frozen, or for want of memory
-abbrev pub Preps : (old new : State) → Leaf → Result (Unit {0}) Refusal → Type 0
-Preps old new leaf (Ok done) = ComesTo old.exports new.exports leaf state.Frozen state.Prepared × KeepsTree old new
-Preps old new leaf (Err reason) =
+abbrev pub PrepsIn : (old new : State) → Leaf → Result (Unit {0}) Refusal → Type 0
+PrepsIn old new leaf (Ok done) = ComesTo old.exports new.exports leaf state.Frozen state.Prepared × KeepsTreeAndRoots old new
+PrepsIn old new leaf (Err reason) =
     Check why.WrongExportState (state_at old.exports leaf ≢ Some state.Frozen) ForMemory reason
 
 abbrev pub PrepsExport : (old new : Core) → (past now : List Entry) → Leaf → Result Answer Refusal → Type 0
-PrepsExport old new past now leaf result = Exports old new past now (Preps old.state new.state leaf) result
+PrepsExport old new past now leaf result = Exports old new past now (PrepsIn old.state new.state leaf) result
 
 -- ---- Send
 
@@ -149,7 +149,7 @@ PrepsExport old new past now leaf result = Exports old new past now (Preps old.s
 abbrev pub SendsAt : (old new : State) → Leaf → Result (List ℕ) Refusal → Type 0
 SendsAt old new leaf (Ok bytes) =
     (step : ComesTo old.exports new.exports leaf state.Prepared state.Sent)
-    × SpellsRegion old.tree old.roots leaf step.export bytes × KeepsTree old new
+    × SpellsRegion old.tree old.roots leaf step.export bytes × KeepsTreeAndRoots old new
 SendsAt old new leaf (Err reason) =
     Check why.WrongExportState (state_at old.exports leaf ≢ Some state.Prepared)
     (Check why.TooManyFrags (HasTooMany (IsInRegionOf old.tree old.roots leaf) old.tree.unsaved) ForMemory) reason
@@ -187,7 +187,7 @@ ImportsExport old new past now leaf bytes (Err reason) =
 -- ---- Finish
 
 -- the importer of an imported region, which holds it, is its authority, and the export is over
-pub record IsFinish (old new : State) (leaf : Leaf) : Type 0 where
+pub record IsFinishIn (old new : State) (leaf : Leaf) : Type 0 where
   pub export : StandingExport
   pub stood : map.get old.exports leaf ≡ Some export
   pub imported : export.state ≡ state.Imported
@@ -196,13 +196,13 @@ pub record IsFinish (old new : State) (leaf : Leaf) : Type 0 where
   pub tree : new.tree ≡ old.tree
 
 -- refused exactly where no imported export of this root stands
-abbrev pub Finishes : (old new : State) → Leaf → Result (Unit {0}) Refusal → Type 0
-Finishes old new leaf (Ok done) = IsFinish old new leaf
-Finishes old new leaf (Err reason) =
+abbrev pub FinishesIn : (old new : State) → Leaf → Result (Unit {0}) Refusal → Type 0
+FinishesIn old new leaf (Ok done) = IsFinishIn old new leaf
+FinishesIn old new leaf (Err reason) =
     Check why.WrongExportState (state_at old.exports leaf ≢ Some state.Imported) Never reason
 
 abbrev pub FinishesExport : (old new : Core) → (past now : List Entry) → Leaf → Result Answer Refusal → Type 0
-FinishesExport old new past now leaf result = Exports old new past now (Finishes old.state new.state leaf) result
+FinishesExport old new past now leaf result = Exports old new past now (FinishesIn old.state new.state leaf) result
 
 -- ---- Cancel
 
@@ -213,7 +213,7 @@ IsUnsent old leaf =
 
 -- an export that isn't sent yet ends; a subtree root stays one. Refused exactly where there is none
 abbrev pub CancelsAt : (old new : State) → Leaf → Result (Unit {0}) Refusal → Type 0
-CancelsAt old new leaf (Ok done) = IsUnsent old leaf × (new.exports ≡ map.remove old.exports leaf) × KeepsTree old new
+CancelsAt old new leaf (Ok done) = IsUnsent old leaf × (new.exports ≡ map.remove old.exports leaf) × KeepsTreeAndRoots old new
 CancelsAt old new leaf (Err reason) = Check why.WrongExportState (IsUnsent old leaf → ⊥) Never reason
 
 abbrev pub CancelsExport : (old new : Core) → (past now : List Entry) → Leaf → Result Answer Refusal → Type 0

@@ -61,7 +61,7 @@ pub record IsIdle (s : Sight) (leaf : Leaf) : Type 0 where
 
 -- a started export can be frozen: its root is the rank's own and thawed, and no leaf of the region that it is to be has
 -- a grant
-pub record MayFreeze (s : Sight) (root : Leaf) : Type 0 where
+pub record WouldFreeze (s : Sight) (root : Leaf) : Type 0 where
   pub own : IsMine s root
   pub thawed : IsThawed s root
   pub free : (leaf : Leaf) → NearestRoot (map.insert s.roots root s.rank) s.homes s.covers leaf root
@@ -71,7 +71,7 @@ pub record MayFreeze (s : Sight) (root : Leaf) : Type 0 where
 -- can't be frozen now has no next step
 abbrev pub IsNextStep : Sight → Leaf → ExportState → Event → Type 0
 IsNextStep s root at.Started event =
-    ((event ≡ Freeze root.0 root.1) × MayFreeze s root) ⊎ ((event ≡ Cancel root.0 root.1) × (IsMine s root → ⊥))
+    ((event ≡ Freeze root.0 root.1) × WouldFreeze s root) ⊎ ((event ≡ Cancel root.0 root.1) × (IsMine s root → ⊥))
 IsNextStep s root at.Frozen event = event ≡ Prep root.0 root.1
 IsNextStep s root at.Prepared event = event ≡ Send root.0 root.1
 IsNextStep s root at.Sent event = event ≡ Import root.0 root.1 []
@@ -143,15 +143,15 @@ pub record IsLeast (s : Sight) (kind : Kind) (event : Event) : Type 0 where
       ⊎ (leaf_cmp leaf other ≡ Less)
 
 -- the first of these kinds of which it would make a step gives the least; without any there is none
-abbrev pub IsFirstOf : Sight → List Kind → Option Event → Type 0
-IsFirstOf s [] None = Unit {0}
-IsFirstOf s [] (Some event) = ⊥
-IsFirstOf s (kind ∷ others) None = WouldNot s kind × IsFirstOf s others None
-IsFirstOf s (kind ∷ others) (Some event) = IsLeast s kind event ⊎ (WouldNot s kind × IsFirstOf s others (Some event))
+abbrev pub IsFirstKindOf : Sight → List Kind → Option Event → Type 0
+IsFirstKindOf s [] None = Unit {0}
+IsFirstKindOf s [] (Some event) = ⊥
+IsFirstKindOf s (kind ∷ others) None = WouldNot s kind × IsFirstKindOf s others None
+IsFirstKindOf s (kind ∷ others) (Some event) = IsLeast s kind event ⊎ (WouldNot s kind × IsFirstKindOf s others (Some event))
 
 -- the proposal of a rank's own step
 abbrev pub IsProposal : Sight → Option Event → Type 0
-IsProposal s event = IsFirstOf s kinds event
+IsProposal s event = IsFirstKindOf s kinds event
 
 -- the steps that a rank makes of its own
 abbrev pub IsOwnStep : Event → Type 0
@@ -245,7 +245,7 @@ IsFirstStep s kind None = WouldNot s kind
 IsFirstStep s kind (Some event) = IsLeast s kind event
 
 -- an export of a leaf may start
-pub record MayStart (s : Sight) (leaf : Leaf) : Type 0 where
+pub record WouldStart (s : Sight) (leaf : Leaf) : Type 0 where
   pub own : IsMine s leaf
   pub thawed : IsThawed s leaf
   pub none : map.get s.exports leaf ≡ None
@@ -266,8 +266,8 @@ IsRootAt s leaf = IsSome (map.get s.roots leaf)
 abbrev pub IsOfPinned : Sight → Leaf → Type 0
 IsOfPinned s leaf = IsSome (map.get s.pins leaf.0.0)
 
-abbrev pub IsPlace : Sight → Leaf → Type 0
-IsPlace s leaf = IsRootAt s leaf ⊎ IsOfPinned s leaf
+abbrev pub IsProposable : Sight → Leaf → Type 0
+IsProposable s leaf = IsRootAt s leaf ⊎ IsOfPinned s leaf
 
 -- the first leaf of these that would start, with the rank that it would start for
 abbrev pub IsFirstAway : Sight → (Leaf → Type 0) → Option (Leaf × Rank) → Type 0

@@ -26,7 +26,7 @@ Runs start (event ∷ events) (result ∷ results) end =
     (next : BookState) × StepsBook start next result event × IsSoundBook next × Runs next events results end
 
 -- the entry at a place is that of this client and transaction number, with this reply
-pub record StandsAt (history : List Entry) (client tid place : ℕ) (reply : Replied) : Type 0 where
+pub record StandsInHistory (history : List Entry) (client tid place : ℕ) (reply : Replied) : Type 0 where
   pub in_range : place < length history
   pub client_is : (e : Entry) → (slice_index_or history place e).client ≡ client
   pub tid_is : (e : Entry) → (slice_index_or history place e).tid ≡ tid
@@ -35,7 +35,7 @@ pub record StandsAt (history : List Entry) (client tid place : ℕ) (reply : Rep
 -- a reply that was handed out is the history's
 abbrev pub IsOfHistory : List Entry → Result Answer Refusal → Type 0
 IsOfHistory history (Ok Nothing) = Unit {0}
-IsOfHistory history (Ok (Reply client tid place first reply)) = StandsAt history client tid place reply
+IsOfHistory history (Ok (Reply client tid place first reply)) = StandsInHistory history client tid place reply
 IsOfHistory history (Ok (Job job)) = Unit {0}
 IsOfHistory history (Ok (Sent bytes)) = Unit {0}
 IsOfHistory history (Ok (Forwarded rank)) = Unit {0}
@@ -84,13 +84,13 @@ pub record Records (event : Event) (past now : List Entry) (result : Result Answ
   pub told : IsOfHistory now result
 
 -- one history begins with another
-abbrev pub BeginsWith : List Entry → List Entry → Type 0
-BeginsWith history past = (rest : List Entry) × (history ≡ past ++ rest)
+abbrev pub GoesOnFrom : List Entry → List Entry → Type 0
+GoesOnFrom history past = (rest : List Entry) × (history ≡ past ++ rest)
 
 -- a run: the opening stays, the history grows, and each reply that was handed out is the history's at the end
 pub record IsRun (start : BookState) (events : List Event) (results : List (Result Answer Refusal))
     (end : BookState) : Type 0 where
   pub ran : Runs start events results end
   pub same_opening : end.opening ≡ start.opening
-  pub grows : BeginsWith end.history start.history
+  pub grows : GoesOnFrom end.history start.history
   pub told : AllByRecursion (IsOfHistory end.history) results

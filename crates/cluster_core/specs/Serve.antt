@@ -182,8 +182,8 @@ pub record IsAtMaster (old : State) (past : List Entry) (rank : Rank) (request :
 
 -- serving a request takes memory where its reply is copied, since it was applied before, or where it's new and at its
 -- master, and nowhere else
-abbrev pub TakesMemory : State → List Entry → Rank → Request → Type 0
-TakesMemory old past rank request =
+abbrev pub ServingTakesMemory : State → List Entry → Rank → Request → Type 0
+ServingTakesMemory old past rank request =
     ((place : ℕ) × IsKeptAt past request.client request.tid request.oldest place) ⊎ IsAtMaster old past rank request
 
 -- why a request lacks a number: it may change all that it would, and the table takes a number and the rank has none
@@ -204,7 +204,7 @@ RefusesRequest old new past now MayRefuse rank request rest reason =
     ⊎ ((reason ≡ NoInodes) × IsAtMaster old past rank request × LacksAny old MayRefuse rank request
     × IsTakenOut old new past now rank request rest)
     ⊎ ((reason ≡ InboxFull) × FindsFull old past rank request × IsLeft old new past now)
-    ⊎ ((reason ≡ NoMemory) × TakesMemory old past rank request × IsLeft old new past now)
+    ⊎ ((reason ≡ NoMemory) × ServingTakesMemory old past rank request × IsLeft old new past now)
     ⊎ ((reason ≢ NoInodes) × IsAtMaster old past rank request × MayRefuse request.op reason × IsLeft old new past now)
 
 -- what becomes of the request at the front

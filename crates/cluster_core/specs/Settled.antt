@@ -27,12 +27,12 @@ pub record IsAway (state : State) (rank : Rank) (leaf : Leaf) (to : Rank) : Type
   pub there : to.0 < length state.numbers
 
 -- no leaf of the rank's is
-abbrev pub IsSettled : State → Rank → Type 0
-IsSettled state rank = (leaf : Leaf) (to : Rank) → IsAway state rank leaf to → ⊥
+abbrev pub HasSettled : State → Rank → Type 0
+HasSettled state rank = (leaf : Leaf) (to : Rank) → IsAway state rank leaf to → ⊥
 
 -- so it is with each of these ranks
 abbrev pub AreSettled : State → List Rank → Type 0
-AreSettled state ranks = (rank : Rank) → Contains ranks rank → IsSettled state rank
+AreSettled state ranks = (rank : Rank) → Contains ranks rank → HasSettled state rank
 
 -- a book is sound, and nothing of these ranks is pinned away
 pub record IsSettledBook (book : BookState) (ranks : List Rank) : Type 0 where

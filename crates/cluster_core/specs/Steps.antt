@@ -42,15 +42,15 @@ LacksPlaces core op =
 
 -- why the tree refuses an operation in a step: want of memory, a store whose count of faults rose in it, places that
 -- lack, or a counter at its end
-abbrev pub MayRefuse : (old new : Core) → Op → Refusal → Type 0
-MayRefuse old new op reason =
+abbrev pub TreeMayRefuse : (old new : Core) → Op → Refusal → Type 0
+TreeMayRefuse old new op reason =
     (reason ≡ NoMemory) ⊎ ((reason ≡ StoreFault) × (old.faults < new.faults))
     ⊎ ((reason ≡ NothingToEvict) × LacksPlaces old op) ⊎ ((reason ≡ NoInodes) × LacksFor op old.state.tree)
 
 -- the request at the front of the rank's inbox is served
 abbrev pub ServesRank : (old new : Core) → (past now : List Entry) → Rank → Result Answer Refusal → Type 0
 ServesRank old new past now rank result =
-    ServesInbox old.state new.state past now (MayRefuse old new) rank result (waiting_at old.state.inboxes rank)
+    ServesInbox old.state new.state past now (TreeMayRefuse old new) rank result (waiting_at old.state.inboxes rank)
 
 -- what serving it makes of the caches
 abbrev pub UsesInbox : (old new : Core) → Rank → Result Answer Refusal → Type 0
@@ -76,7 +76,7 @@ Does old new past now result (Serve rank) =
     AtRank old new past now rank result (ServesRank old new past now rank result × UsesInbox old new rank result)
 Does old new past now result (Grant rank client tid) =
     AtRank old new past now rank result (GrantsWaiting old.state new.state past now
-    (MayRefuse old new) rank client tid result × UsesGranted old new client tid)
+    (TreeMayRefuse old new) rank client tid result × UsesGranted old new client tid)
 Does old new past now result (Split rank dir f nb) =
     AtRank old new past now rank result (Splits old new past now rank dir f nb result)
 Does old new past now result (Merge rank dir f) =

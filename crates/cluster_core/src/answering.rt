@@ -5,7 +5,7 @@ ghost use Rattle.std.specs.Result.{result_err};
 ghost use Rattle.objstore.specs.Objects.{faults_told};
 ghost use Rattle.inboxes.specs.Inboxes.{with_first};
 ghost use Rattle.sessions.specs.Rooms.{IsReady, IsSessionAt, table};
-ghost use Rattle.cluster_core.specs.Asked.{HasRoomFor, IsSessionOf};
+ghost use Rattle.cluster_core.specs.Asked.{HasRoomAt, IsSessionOf};
 ghost use Rattle.cluster_core.specs.Serve.{Replies};
 
 use crate::events::Answer;
@@ -26,7 +26,7 @@ pub(crate) fn answer(
     reply: Reply,
 ) -> Result<Answer, Refusal>
     requires session { IsSessionOf given.old.sessions asked.request.client asked.session }
-    requires back { HasRoomFor waiting.old.inboxes asked.rank }
+    requires back { HasRoomAt waiting.old.inboxes asked.rank }
     ensures replies { Replies waiting.old.inboxes waiting.new.inboxes waiting.old.pins waiting.new.pins
         (table given.old.sessions) (table given.new.sessions) history.old.items history.new.items asked.rank
         asked.request reply result }
@@ -100,7 +100,7 @@ pub(crate) fn make_room(
 // A request for whose answer there is no memory goes back to the front of its inbox.
 #[inline(never)]
 fn put_back(waiting: &mut Waiting, asked: Asked, reply: Reply) -> Result<Answer, Refusal>
-    requires { HasRoomFor waiting.old.inboxes asked.rank }
+    requires { HasRoomAt waiting.old.inboxes asked.rank }
     ensures inboxes { waiting.new.inboxes ≡ with_first waiting.old.inboxes asked.rank asked.request }
     ensures pins { waiting.new.pins ≡ waiting.old.pins }
     ensures refused { result ≡ Err Refusal.NoMemory }

@@ -8,7 +8,7 @@ ghost use Rattle.mds_types.specs.Tree.{Tree};
 ghost use Rattle.sessions.specs.Rooms.{table};
 ghost use Rattle.mdcache.specs.New.{MayNotFormat, new_caches};
 ghost use Rattle.cluster_core.specs.State.{new_state, whole_supplies};
-ghost use Rattle.cluster_core.specs.Steps.{ArrivesAt, AtRank, MayRefuse, ServesRank, Steps, UsesGranted, UsesInbox};
+ghost use Rattle.cluster_core.specs.Steps.{ArrivesAt, AtRank, TreeMayRefuse, ServesRank, Steps, UsesGranted, UsesInbox};
 ghost use Rattle.cluster_core.specs.Grants.{GrantsWaiting};
 ghost use Rattle.ranked_tree.specs.Subtrees.{AreRoots, KeepsRoots};
 ghost use Rattle.cluster_core.specs.Sound.{AreCached, IsSoundWith, IsSound};
@@ -224,7 +224,7 @@ impl<S: Store + Drop> Cluster<S> {
     #[inline(never)]
     fn grant(&mut self, alloc: Global, rank: Rank, client: u64, tid: u64) -> Result<Answer, Refusal>
         ensures granted { (past : List Applied) → AtRank self.old self.new past past rank result
-            (GrantsWaiting self.old.state self.new.state past past (MayRefuse self.old self.new) rank client tid result
+            (GrantsWaiting self.old.state self.new.state past past (TreeMayRefuse self.old self.new) rank client tid result
             × UsesGranted self.old self.new client tid) }
         ensures tree { self.new.state.tree ≡ self.old.state.tree }
         ensures roots { self.new.state.roots ≡ self.old.state.roots }

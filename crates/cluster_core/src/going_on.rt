@@ -4,7 +4,7 @@ ghost use Rattle.export_steps.specs.declared.exports.ExportState.TheVariants as 
 ghost use Rattle.inboxes.specs.declared.pins.Pin.{Pin};
 ghost use Rattle.mds_types.specs.declared.ids.Rank.{Rank as RankNumber};
 ghost use Rattle.cluster_core.specs.declared.events.Event.{Event as Step};
-ghost use Rattle.cluster_core.specs.Proposal.{IsFirstStep, IsMine, IsNextStep, MayFreeze, OfExport, sight_of};
+ghost use Rattle.cluster_core.specs.Proposal.{IsFirstStep, IsMine, IsNextStep, WouldFreeze, OfExport, sight_of};
 
 use crate::events::Event;
 use crate::pinned::is_region_pinned;
@@ -88,7 +88,7 @@ fn begin<S: Store + Drop>(
 // Whether no part of the region that a leaf of the rank's has as a root is frozen or granted.
 fn may_freeze<S: Store + Drop>(tree: &RankedTree<S>, grants: &Pins, ino: Ino, frag: Frag) -> bool
     ensures { (ranks : ℕ) (rank : RankNumber) → IsMine (sight_of tree.now grants.now ranks rank) (ino, frag)
-        → IsTrue result ↔ MayFreeze (sight_of tree.now grants.now ranks rank) (ino, frag) }
+        → IsTrue result ↔ WouldFreeze (sight_of tree.now grants.now ranks rank) (ino, frag) }
 {
     if tree.is_frozen(ino, frag) {
         return false;

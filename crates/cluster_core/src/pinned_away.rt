@@ -5,7 +5,7 @@ ghost use Rattle.inboxes.specs.declared.pins.Pin.{Pin};
 ghost use Rattle.mds_types.specs.Leaf.{Leaf};
 ghost use Rattle.mds_types.specs.declared.ids.Rank.{Rank as RankNumber};
 ghost use Rattle.cluster_core.specs.Pins.{HasPin};
-ghost use Rattle.cluster_core.specs.Proposal.{IsAwayTo, IsFirstAway, IsFirstStep, IsOfPinned, IsPlace, IsRootAt, MayStart, OfPin, Sight, lesser_away, lesser_of, sight_of};
+ghost use Rattle.cluster_core.specs.Proposal.{IsAwayTo, IsFirstAway, IsFirstStep, IsOfPinned, IsProposable, IsRootAt, WouldStart, OfPin, Sight, lesser_away, lesser_of, sight_of};
 
 use crate::events::Event;
 use crate::going_on::is_mine;
@@ -129,7 +129,7 @@ fn is_another(ranks: usize, rank: Rank, to: Rank) -> bool
 
 // Whether an export of a leaf may start: the leaf is the rank's own and thawed, and none stands.
 fn may_start<S: Store + Drop>(tree: &RankedTree<S>, rank: Rank, ino: Ino, frag: Frag) -> bool
-    ensures { (grants : List Pin) (ranks : ℕ) → IsTrue result ↔ MayStart
+    ensures { (grants : List Pin) (ranks : ℕ) → IsTrue result ↔ WouldStart
         (sight_of tree.now grants ranks rank) (ino, frag) }
 {
     if !is_mine(tree, rank, ino, frag) {
@@ -172,7 +172,7 @@ fn unpinned_home(dirs: &Dirs, dir: Ino) -> Option<&Home>
 // The one at the lesser leaf.
 fn lesser(one: Option<Away>, other: Option<Away>) -> Option<Away>
     ensures { (s : Sight) → IsFirstAway s (IsRootAt s) one → IsFirstAway s
-        (IsOfPinned s) other → IsFirstAway s (IsPlace s) result }
+        (IsOfPinned s) other → IsFirstAway s (IsProposable s) result }
 {
     match one {
         None => other,

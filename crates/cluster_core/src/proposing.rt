@@ -1,8 +1,8 @@
 //! What a rank would do next on its own.
 ghost use Rattle.std.specs.Prelude.{◌≡◌, ◌↔◌, ◌∷◌, [], ◌<◌, true, IsTrue, List, None, Ok, length};
 ghost use Rattle.inboxes.specs.declared.pins.Pin.{Pin};
-ghost use Rattle.cluster_core.specs.Proposal.{IsFirstOf, IsFirstStep, IsProposal, OfLarge, OfPin, OfSmall, Proposes, WouldNot, sight, sight_of};
-ghost use Rattle.cluster_core.specs.Settled.{IsSettled};
+ghost use Rattle.cluster_core.specs.Proposal.{IsFirstKindOf, IsFirstStep, IsProposal, OfLarge, OfPin, OfSmall, Proposes, WouldNot, sight, sight_of};
+ghost use Rattle.cluster_core.specs.Settled.{HasSettled};
 
 use crate::books::Book;
 use crate::clusters::Cluster;
@@ -22,7 +22,7 @@ impl<S: Store + Drop> Cluster<S> {
     //
     // Refused `NotAuthority` exactly where there is no such rank.
     fn propose(&self, alloc: Global, rank: Rank, is_settled: bool) -> Result<Option<Event>, Refusal>
-        requires settled { is_settled ≡ true → IsSettled self.now.state rank }
+        requires settled { is_settled ≡ true → HasSettled self.now.state rank }
         requires numbers { length self.now.state.inboxes ≡ length self.now.state.numbers }
         requires caches { length self.now.caches.used ≡ length self.now.state.numbers }
         ensures proposed { Proposes self.now rank result }
@@ -112,7 +112,7 @@ fn after_exports<S: Store + Drop>(
 ) -> Option<Event>
     requires there { rank.0 < length tree.now.tree.caches.used }
     requires settled { is_settled ≡ true → WouldNot (sight_of tree.now grants.now ranks rank) OfPin }
-    ensures { IsFirstOf (sight_of tree.now grants.now ranks rank) (OfLarge ∷ OfSmall ∷ OfPin ∷ []) result }
+    ensures { IsFirstKindOf (sight_of tree.now grants.now ranks rank) (OfLarge ∷ OfSmall ∷ OfPin ∷ []) result }
 {
     let split = first_split(tree, grants, rank);
     if split.is_some() {
@@ -131,7 +131,7 @@ fn after_splits<S: Store + Drop>(
 ) -> Option<Event>
     requires there { rank.0 < length tree.now.tree.caches.used }
     requires settled { is_settled ≡ true → WouldNot (sight_of tree.now grants.now ranks rank) OfPin }
-    ensures { IsFirstOf (sight_of tree.now grants.now ranks rank) (OfSmall ∷ OfPin ∷ []) result }
+    ensures { IsFirstKindOf (sight_of tree.now grants.now ranks rank) (OfSmall ∷ OfPin ∷ []) result }
 {
     let merge = first_merge(tree, grants, rank);
     if merge.is_some() {

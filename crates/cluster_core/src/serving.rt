@@ -12,7 +12,7 @@ ghost use Rattle.mdcache.specs.Core.{state_of as tree_state};
 ghost use Rattle.mdcache.specs.Shown.{shown_tree};
 ghost use Rattle.cluster_core.specs.State.{no_supply, state_of};
 ghost use Rattle.cluster_core.specs.Serve.{ForwardsTo, Repeats, ServesInbox, without_request};
-ghost use Rattle.cluster_core.specs.Asked.{HasRoomFor, IsAsked};
+ghost use Rattle.cluster_core.specs.Asked.{HasRoomAt, IsAsked};
 ghost use Rattle.cluster_core.specs.Master.{AreMastersThere};
 ghost use Rattle.cluster_core.specs.Uses.{UsesFront};
 ghost use Rattle.ranked_tree.specs.Ranked.{held_roots, MayRefuse};
@@ -110,7 +110,7 @@ fn serve_new<S: Store + Drop>(
         given.old.sessions history.old.items asked }
     requires offered { IsOffered (shown_tree (tree_state tree.old.tree)) (λ n. IsRankNumber n) (offer asked.supply) }
     requires there { asked.rank.0 < length given.old.numbers.items }
-    requires back { HasRoomFor waiting.old.inboxes asked.rank }
+    requires back { HasRoomAt waiting.old.inboxes asked.rank }
     requires valid { AreRoots (tree_state tree.old.tree) tree.old.subtrees.roots }
     ensures served { ServesInbox
         (state_of (tree_state tree.old.tree) tree.old.subtrees.roots tree.old.exports given.old.numbers.items
@@ -179,7 +179,7 @@ fn answer_again(
     place: usize,
     reply: &Reply,
 ) -> Result<Answer, Refusal>
-    requires back { HasRoomFor waiting.old.inboxes rank }
+    requires back { HasRoomAt waiting.old.inboxes rank }
     ensures repeats { Repeats waiting.old.inboxes waiting.new.inboxes waiting.old.pins waiting.new.pins rank
         request place reply.now result }
     ensures counted { faults_told (result_err result) ≡ 0 }
@@ -213,7 +213,7 @@ fn forward(
     request: Request,
 ) -> Result<Answer, Refusal>
     requires master { master.0 < length inboxes.old }
-    requires back { HasRoomFor inboxes.old rank }
+    requires back { HasRoomAt inboxes.old rank }
     ensures forwards { ForwardsTo inboxes.old inboxes.new rank master request result }
     ensures counted { faults_told (result_err result) ≡ 0 }
 {

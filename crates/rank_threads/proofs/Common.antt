@@ -9,7 +9,7 @@ pub use Rattle.mds_types.specs.InodeLaws.{inode_decides}
 pub use Rattle.mds_types.specs.Tree.{Tree}
 pub use Rattle.mds_types.specs.declared.entries.Entry.{Entry}
 pub use Rattle.mds_types.specs.declared.refusals.Refusal.{Refusal}
-pub use Rattle.rank_threads.specs.Agreement.{Agree, AreApart, Stand, first_places}
+pub use Rattle.rank_threads.specs.Agreement.{Agree, NoneTwice, Stand, first_places}
 pub use Rattle.rank_threads.specs.Continued.{Continues}
 pub use Rattle.rank_threads.specs.Standing.{Fits, marked}
 pub use Rattle.rank_threads.specs.Turns.{AreAnswered, FitsTurn, PlansAnswered, first_in, firsts, firsts_of_all, receipt_of, receipts_of, receipts_of_all}

@@ -1,5 +1,5 @@
 -- Receipts, looked at from the last to the first.
-use Rattle.rank_threads.proofs.Common.{AllByRecursion, AreApart, Bool, Entry, Fits, List, Receipt, Stand, [], ap, arith, cond, drop, drop-length, drop_more, false, first_places, get_or, get_or-replicate, length, length-replicate, length-set, list_any, marked, nat_eq, refl, replicate, rules, set, subst, suc, sym, true, zero, ℕ, ◌+◌, ◌-◌, ◌<◌, ◌||◌, ◌∙◌, ◌∷◌, ◌≡◌, ◌≤◌}
+use Rattle.rank_threads.proofs.Common.{AllByRecursion, NoneTwice, Bool, Entry, Fits, List, Receipt, Stand, [], ap, arith, cond, drop, drop-length, drop_more, false, first_places, get_or, get_or-replicate, length, length-replicate, length-set, list_any, marked, nat_eq, refl, replicate, rules, set, subst, suc, sym, true, zero, ℕ, ◌+◌, ◌-◌, ◌<◌, ◌||◌, ◌∙◌, ◌∷◌, ◌≡◌, ◌≤◌}
 
 -- the named places are those of the first ones
 pub record AreMarked (count : ℕ) (named : List Bool) (rs : List Receipt) : Type 0 where
@@ -22,12 +22,12 @@ module _ (history : List Entry) (from : ℕ) (r : Receipt) (rs : List Receipt) w
   rest_of : (b : Bool) → r.first ≡ b → Stand history from (r ∷ rs) → Stand history from rs
   rest_of true is h =
       let newer : AllByRecursion (λ place. from ≤ place) (r.place ∷ first_places rs) = subst (λ b. AllByRecursion (λ place. from ≤ place) (cond b (r.place ∷ first_places rs) (first_places rs))) is h.newer in
-      let apart : AreApart (r.place ∷ first_places rs) = subst (λ b. AreApart (cond b (r.place ∷ first_places rs) (first_places rs))) is h.apart in
+      let apart : NoneTwice (r.place ∷ first_places rs) = subst (λ b. NoneTwice (cond b (r.place ∷ first_places rs) (first_places rs))) is h.apart in
       record { held = h.held.1; newer = newer.1; apart = apart.1 }
   rest_of false is h = record {
     held = h.held.1;
     newer = subst (λ b. AllByRecursion (λ place. from ≤ place) (cond b (r.place ∷ first_places rs) (first_places rs))) is h.newer;
-    apart = subst (λ b. AreApart (cond b (r.place ∷ first_places rs) (first_places rs))) is h.apart;
+    apart = subst (λ b. NoneTwice (cond b (r.place ∷ first_places rs) (first_places rs))) is h.apart;
   }
 
   -- the others stand
@@ -40,7 +40,7 @@ module _ (history : List Entry) (from : ℕ) (r : Receipt) (rs : List Receipt) w
     held = h.held.0;
     first = λ is.
         let newer : AllByRecursion (λ place. from ≤ place) (r.place ∷ first_places rs) = subst (λ b. AllByRecursion (λ place. from ≤ place) (cond b (r.place ∷ first_places rs) (first_places rs))) is h.newer in
-        let apart : AreApart (r.place ∷ first_places rs) = subst (λ b. AreApart (cond b (r.place ∷ first_places rs) (first_places rs))) is h.apart in
+        let apart : NoneTwice (r.place ∷ first_places rs) = subst (λ b. NoneTwice (cond b (r.place ∷ first_places rs) (first_places rs))) is h.apart in
         (newer.0, m.at r.place h.held.0.in_range ∙ apart.0);
   }
 

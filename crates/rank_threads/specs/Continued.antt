@@ -2,7 +2,7 @@
 use Rattle.std.specs.Prelude.{◌≡◌, List}
 use Rattle.mds_types.specs.declared.entries.Entry.{Entry}
 use Rattle.mds_types.specs.Tree.{Tree}
-use Rattle.cluster_core.specs.Runs.{BeginsWith}
+use Rattle.cluster_core.specs.Runs.{GoesOnFrom}
 use Rattle.cluster_core.specs.Sound.{IsSoundBook}
 use Rattle.cluster_core.specs.State.{BookState}
 
@@ -10,4 +10,4 @@ use Rattle.cluster_core.specs.State.{BookState}
 pub record Continues (opening : Tree) (history : List Entry) (book : BookState) : Type 0 where
   pub sound : IsSoundBook book
   pub same_opening : book.opening ≡ opening
-  pub begins : BeginsWith book.history history
+  pub begins : GoesOnFrom book.history history
