@@ -56,16 +56,15 @@ fn read_tree<S: Store>(alloc: Global, store: &mut S, dir: Ino) -> Result<Option<
     ensures same { S.objects store.new ≡ S.objects store.old }
     ensures counted { S.faults store.new ≡ S.faults store.old + faults_told (result_err result) }
 {
-    let name = ObjName::Tree(dir);
-    let text = name.to_text(alloc)?;
+    let text = ObjName::Tree(dir).to_text(alloc)?;
     let Some(header) = store.header(alloc, text.as_str())? else {
         return Ok(None);
     };
     let Some(tree) = decode_tree(alloc, header.as_slice())? else {
-        return Err(Refusal::Damaged(name));
+        return Err(Refusal::Damaged(ObjName::Tree(dir)));
     };
     if has_pairs(alloc, store, text.as_str())? {
-        return Err(Refusal::Damaged(name));
+        return Err(Refusal::Damaged(ObjName::Tree(dir)));
     }
     Ok(Some(tree))
 }

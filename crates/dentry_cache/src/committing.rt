@@ -151,7 +151,6 @@ fn write<S: Store>(alloc: Global, store: &mut S, encoded: &Encoded) -> Result<()
     ensures once { OnOk result (S.IsCall store.old None store.new) }
 {
     let job = encoded.job();
-    let name = ObjName::Frag(job.ino, job.frag);
-    let text = name.to_text(alloc)?;
+    let text = ObjName::Frag(job.ino, job.frag).to_text(alloc)?;
     store.apply(alloc, text.as_str(), encoded.op())
 }

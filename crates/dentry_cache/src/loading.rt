@@ -47,11 +47,10 @@ pub fn load<S: Store>(
     ensures same { S.objects store.new ≡ S.objects store.old }
     ensures counted { S.faults store.new ≡ S.faults store.old + faults_told (result_err result) }
 {
-    let name = ObjName::Frag(dir, frag);
-    let text = name.to_text(alloc)?;
+    let text = ObjName::Frag(dir, frag).to_text(alloc)?;
     match load_object(alloc, store, text.as_str(), frag)? {
         Some(loaded) => Ok(loaded),
-        None => Err(Refusal::Damaged(name)),
+        None => Err(Refusal::Damaged(ObjName::Frag(dir, frag))),
     }
 }
 

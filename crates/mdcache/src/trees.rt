@@ -27,8 +27,7 @@ impl<S: Store + Drop> MdCache<S> {
         if !self.dirs.contains(dir) {
             return Err(Refusal::NoSuchFrag);
         }
-        let name = ObjName::Tree(dir);
-        let text = name.to_text(alloc)?;
+        let text = ObjName::Tree(dir).to_text(alloc)?;
         if let Err(refusal) = save_tree(alloc, &self.dirs, &mut self.store, dir, text.as_str()) {
             return Err(refusal);
         }
