@@ -7,11 +7,10 @@ use Rattle.mdcache.proofs.ObjectLaws.{first_stands}
 
 -- where a name waits there is a first one
 none_first : (names : Keys) → first_name names ≡ None → map.len names ≡ 0
-none_first names none = len-entries names ∙ go (map.entries names) none
-  where
-    go : (es : List (List ℕ × Unit {0})) → option_map (λ (e : List ℕ × Unit {0}). e.0) (slice_get es 0) ≡ None → length es ≡ 0
-    go [] h = refl
-    go (e ∷ es) h = let clash : Some e.0 ≡ None = h in absurd cc
+none_first names none = len-entries names ∙ elim (map.entries names) as (λ es. option_map (λ (e : List ℕ × Unit {0}). e.0) (slice_get es 0) ≡ None → length es ≡ 0) [
+  | [] ↦ λ h. refl
+  | e ∷ es ↦ λ h. let clash : Some e.0 ≡ None = h in absurd cc
+] none
 
 -- where none waits the list is empty
 pub no_names : (names : Keys) → nat_lt 0 (map.len names) ≡ false → names ≡ map.empty
@@ -40,8 +39,7 @@ module _ (old now new : State) (so_far : ArePurged old now) (some : nat_lt 0 (ma
       )
 
   pub purged_more : PurgesName now new before after (first_name now.purge) (Ok tt) → ArePurged old new × (map.len new.purge < map.len now.purge)
-  purged_more is = go (first_name now.purge) refl is
-    where
-      go : (o : Option (List ℕ)) → first_name now.purge ≡ o → PurgesName now new before after o (Ok tt) → ArePurged old new × (map.len new.purge < map.len now.purge)
-      go None none done = let one = ltb-true 0 (map.len now.purge) some in let nothing = none_first now.purge none in absurd (omega (arith, one, nothing))
-      go (Some name) first (left, tree) = one_more name first left tree
+  purged_more is = elim (first_name now.purge) as (λ o. first_name now.purge ≡ o → PurgesName now new before after o (Ok tt) → ArePurged old new × (map.len new.purge < map.len now.purge)) [
+    | None ↦ λ none done. let one = ltb-true 0 (map.len now.purge) some in let nothing = none_first now.purge none in absurd (omega (arith, one, nothing))
+    | Some name ↦ λ first its. one_more name first its.0 its.1
+  ] refl is

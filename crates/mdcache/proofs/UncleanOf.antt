@@ -25,20 +25,19 @@ clean_at s (Some a) clean = elim (a.rank == s) as (λ b. unsaved_in (cond b (Som
 
 module _ (Uses Ends : ℕ → Leaf → Type 0) (objects : Objects) (old : CacheMap) where
   reads_beyond : (s : ℕ) (q : Leaf) (new : CacheMap) → Reads Uses Ends objects old new → unsaved_in (here new s q) ≡ unsaved_in (here old s q)
-  reads_beyond s q new reads = go (finmap.get new.held q) refl
+  reads_beyond s q new reads = elim (finmap.get new.held q) as (λ o. finmap.get new.held q ≡ o → unsaved_in (here new s q) ≡ unsaved_in (here old s q)) [
+    | None ↦ λ is. both_clean (ap unsaved_at is)
+    | Some a ↦ λ is. elim (reads_held Uses Ends objects old new reads q a is) [
+      | inl was ↦ ap (λ (o : Option At). unsaved_in (at_rank s o)) is ∙ elim (a.rank == s) as (λ b. unsaved_in (cond b (Some a.frag) None) ≡ unsaved_in (cond b (Some was.0) None)) [ true ↦ room_unsaved was.0 a.frag was.2 | false ↦ refl ] ∙ sym (ap (λ (o : Option At). unsaved_in (at_rank s o)) was.1)
+      | inr came ↦ both_clean (ap unsaved_at is ∙ room_unsaved came.1 a.frag came.3 ∙ loaded_clean q.1 (object_of objects q.0 q.1) came.1 came.2)
+    ]
+  ] refl
     where
       same : unsaved_at (finmap.get new.held q) ≡ unsaved_at (finmap.get old.held q)
       same = sym (get_unclean new q) ∙ ap (λ m. finmap.get m q) (reads_unclean Uses Ends objects old new reads) ∙ get_unclean old q
 
       both_clean : unsaved_at (finmap.get new.held q) ≡ None → unsaved_in (here new s q) ≡ unsaved_in (here old s q)
       both_clean clean = clean_at s (finmap.get new.held q) clean ∙ sym (clean_at s (finmap.get old.held q) (sym same ∙ clean))
-
-      go : (o : Option At) → finmap.get new.held q ≡ o → unsaved_in (here new s q) ≡ unsaved_in (here old s q)
-      go None is = both_clean (ap unsaved_at is)
-      go (Some a) is = elim (reads_held Uses Ends objects old new reads q a is) [
-        | inl was ↦ ap (λ (o : Option At). unsaved_in (at_rank s o)) is ∙ elim (a.rank == s) as (λ b. unsaved_in (cond b (Some a.frag) None) ≡ unsaved_in (cond b (Some was.0) None)) [ true ↦ room_unsaved was.0 a.frag was.2 | false ↦ refl ] ∙ sym (ap (λ (o : Option At). unsaved_in (at_rank s o)) was.1)
-        | inr came ↦ both_clean (ap unsaved_at is ∙ room_unsaved came.1 a.frag came.3 ∙ loaded_clean q.1 (object_of objects q.0 q.1) came.1 came.2)
-      ]
 
   pub reads_unclean_of : (new : CacheMap) → Reads Uses Ends objects old new → (r : ℕ) → unclean_of new r ≡ unclean_of old r
   reads_unclean_of new reads r = same_map leaf-total leaf-exact (unclean_of new r) (unclean_of old r) (λ q. get_unclean_of new r q ∙ reads_beyond r q new reads ∙ sym (get_unclean_of old r q))
