@@ -44,19 +44,14 @@ module _ (names : Fragment → Names) (after : Option (List ℕ)) where
       ∙ ap (λ o. cond (is_after after q) o None) (sym (get-entries (names f) q))
 
   module _ (q : List ℕ) (v : Option Inode) where
-    Told : Fragment → Type 0
-    Told f = Tells v (find key_cmp q (rows f))
-
     or_is : (a b : Option Inode) → a ≡ v → Tells v b → option_or a b ≡ v
     or_is a b is tells = ap (λ o. option_or o b) is ∙ elim v as (λ w. Tells w b → option_or w b ≡ w) [ None ↦ ⊎_elim (λ none. none) (λ same. same) | Some x ↦ λ tells. refl ] tells
 
     or_was : (a b : Option Inode) → Tells v a → b ≡ v → option_or a b ≡ v
-    or_was a b (inl none) was = ap (λ o. option_or o b) none ∙ was
-    or_was a b (inr is) was = or_is a b is (inr was)
+    or_was a b told was = ⊎_elim (λ none. ap (λ o. option_or o b) none ∙ was) (λ is. or_is a b is (inr was)) told
 
     or_told : (a b : Option Inode) → Tells v a → Tells v b → Tells v (option_or a b)
-    or_told a b (inl none) tells = subst (Tells v) (sym (ap (λ o. option_or o b) none)) tells
-    or_told a b (inr is) tells = inr (or_is a b is tells)
+    or_told a b told tells = ⊎_elim (λ none. subst (Tells v) (sym (ap (λ o. option_or o b) none)) tells) (λ is. inr (or_is a b is tells)) told
 
     after_leaf : (es : List Row) (f : Fragment) → find key_cmp q (puts key_cmp es (rows f)) ≡ option_or (find key_cmp q (rows f)) (find key_cmp q es)
     after_leaf es f = find-puts es (rows f) q (rows_sorted f)

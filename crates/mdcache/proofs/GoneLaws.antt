@@ -148,10 +148,7 @@ module _ (s : State) (sound : HasSoundLeaves s) (dir : Ino) (may : MayGo s.homes
 
   -- the tree
 
-  none_there : (q : Dentry) → q.dir.0 ≡ dir.0 → map.get (shown_tree s) q ≡ None
-  none_there q same = none_unless (map.get (shown_tree s) q) (λ some. let its = value_of (map.get (shown_tree s) q) some in nothing q its.0 its.1 same)
-
   pub left_tree : shown_tree left ≡ shown_tree s
   left_tree = same_map dentry-total dentry-exact (shown_tree left) (shown_tree s) (λ q. ⊎_elim
-      (λ same. stands_nowhere left left_leaves q (ap (is_known left.homes) same ∙ unknown) ∙ sym (none_there q same))
+      (λ same. stands_nowhere left left_leaves q (ap (is_known left.homes) same ∙ unknown) ∙ sym (none_unless (map.get (shown_tree s) q) (λ some. let its = value_of (map.get (shown_tree s) q) some in nothing q its.0 its.1 same)))
       (λ apart. shows_alike s left sound left_leaves q (known_on q.dir.0 apart) (cover_on q.dir.0 apart) (λ f live. left_names (q.dir, f) apart)) (same_number q.dir.0 dir.0))

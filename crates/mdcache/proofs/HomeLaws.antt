@@ -76,10 +76,6 @@ module _ (homes : Homes) (covers : Covers) (table : IsTable homes covers) (to : 
 
 -- ---- a directory comes
 
--- a name that was on no list is on none that lost another
-none_still : (names : Keys) (k q : List ℕ) → map.get names q ≡ None → map.get (map.remove names k) q ≡ None
-none_still names k q none = get-remove nat_list_cmp_total names k q ∙ elim (eq_by_cmp key_cmp q k) as (λ b. cond b None (map.get names q) ≡ None) [ true ↦ refl | false ↦ none ]
-
 module _ (s : State) (sound : HasSoundLeaves s) (dentry : Dentry) (dir : Ino) (come : MayCome s.homes dir.0 (home_at dentry)) (fits : dir.0 < 2 ^ 64) where
   abbrev first : Leaf
   first = first_leaf dir
@@ -130,45 +126,33 @@ module _ (s : State) (sound : HasSoundLeaves s) (dentry : Dentry) (dir : Ino) (c
   unfolding names_of
   first_names = ap (λ o. shown_at o (object_of s.objects dir root_fragment)) unsaved_first ∙ only_below map.empty map.empty refl
 
-  placed_new : (leaf : Leaf) (name : List ℕ) (inode : Inode) → IsLive grown.homes s.covers leaf → map.get (names_of grown.unsaved grown.objects leaf) name ≡ Some inode → IsPick (leaves_of s.covers leaf.0.0) (hash_of name) leaf.1
-  placed_new leaf name inode live has = ⊎_elim
-      (λ same.
-      let clash : None ≡ Some inode = sym (ap (λ (n : Names). map.get n name) (ap (names_of grown.unsaved grown.objects) same ∙ first_names) ∙ get-empty key_cmp name) ∙ has in
-      absurd cc)
-      (λ old. sound.placed leaf name inode old (ap (λ (n : Names). map.get n name) (sym (grown_names leaf old)) ∙ has)) (live_new leaf live)
-
-  unsaved_new : (q : Leaf) (u : Unsaved) → map.get grown.unsaved q ≡ Some u → IsUnsaved grown q u
-  unsaved_new q u is = ⊎_elim
-      (λ same.
-      let its = same_Some (just_made s.next_generation) u (sym unsaved_first ∙ ap (map.get grown.unsaved) (sym same) ∙ is) in
-      subst (λ (p : Leaf × Unsaved). IsUnsaved grown p.0 p.1) (λ i. (sym same i, its i)) (record { live = first_live; made = omega arith; young = λ name mark has. in_empty key_cmp name mark has }))
-      (λ apart.
-      let old = sound.unsaved q u (sym (unsaved_beside q apart) ∙ is) in
-      let made = old.made in
-      record { live = grown_live q old.live; made = omega (arith, made); young = old.young }) (leaf_or_other q first)
-
-  saved_new : (leaf : Leaf) → IsLive grown.homes s.covers leaf → map.get grown.unsaved leaf ≡ None → IsSaved leaf.1 (object_of s.objects leaf.0 leaf.1)
-  saved_new leaf live clean = ⊎_elim (λ same. let clash : None ≡ Some (just_made s.next_generation) = sym clean ∙ ap (map.get grown.unsaved) same ∙ unsaved_first in absurd cc)
-      (λ old. sound.saved leaf old (sym (unsaved_beside leaf (other leaf old)) ∙ clean)) (live_new leaf live)
-
   owned_new : (name : List ℕ) → IsOwned s name → IsOwned grown name
   owned_new name (inl leaf) = inl (leaf.0, grown_live leaf.0 leaf.1, leaf.2)
   owned_new name (inr (inl d)) = inr (inl d)
   owned_new name (inr (inr listed)) = ⊎_elim (λ same. inl (first, first_live, same)) (λ apart. inr (inr (ap is_some (get_left s.purge (text_of first) name apart) ∙ listed))) (key_or_apart name (text_of first))
 
-  listed_new : (leaf : Leaf) → IsLive grown.homes s.covers leaf → map.get grown.purge (text_of leaf) ≡ None
-  listed_new leaf live = ⊎_elim (λ same. ap (λ (l : Leaf). map.get grown.purge (text_of l)) same ∙ get_removed s.purge (text_of first))
-      (λ old. none_still s.purge (text_of first) (text_of leaf) (sound.listed leaf old)) (live_new leaf live)
-
   pub grown_leaves : HasSoundLeaves grown
   grown_leaves = record {
     table = adopted_table s.homes s.covers dir.0 (home_at dentry) sound.table come;
     numbered = λ d known. ⊎_elim (λ same. subst (λ (n : ℕ). n < 2 ^ 64) (sym same) fits) (sound.numbered d) (known_new d known);
-    placed = placed_new;
-    unsaved = unsaved_new;
-    saved = saved_new;
+    placed = λ leaf name inode live has. ⊎_elim
+        (λ same.
+        let clash : None ≡ Some inode = sym (ap (λ (n : Names). map.get n name) (ap (names_of grown.unsaved grown.objects) same ∙ first_names) ∙ get-empty key_cmp name) ∙ has in
+        absurd cc)
+        (λ old. sound.placed leaf name inode old (ap (λ (n : Names). map.get n name) (sym (grown_names leaf old)) ∙ has)) (live_new leaf live);
+    unsaved = λ q u is. ⊎_elim
+        (λ same.
+        let its = same_Some (just_made s.next_generation) u (sym unsaved_first ∙ ap (map.get grown.unsaved) (sym same) ∙ is) in
+        subst (λ (p : Leaf × Unsaved). IsUnsaved grown p.0 p.1) (λ i. (sym same i, its i)) (record { live = first_live; made = omega arith; young = λ name mark has. in_empty key_cmp name mark has }))
+        (λ apart.
+        let old = sound.unsaved q u (sym (unsaved_beside q apart) ∙ is) in
+        let made = old.made in
+        record { live = grown_live q old.live; made = omega (arith, made); young = old.young }) (leaf_or_other q first);
+    saved = λ leaf live clean. ⊎_elim (λ same. let clash : None ≡ Some (just_made s.next_generation) = sym clean ∙ ap (map.get grown.unsaved) same ∙ unsaved_first in absurd cc)
+        (λ old. sound.saved leaf old (sym (unsaved_beside leaf (other leaf old)) ∙ clean)) (live_new leaf live);
     owned = λ name there. owned_new name (sound.owned name there);
-    listed = listed_new;
+    listed = λ leaf live. ⊎_elim (λ same. ap (map.get grown.purge) same ∙ get_removed s.purge (text_of first))
+        (λ apart. get_left s.purge (text_of first) (text_of leaf) apart ∙ ⊎_elim (λ same. absurd (apart (ap text_of same))) (sound.listed leaf) (live_new leaf live)) (key_or_apart (text_of leaf) (text_of first));
     standing = λ leaf job is.
         let old = sound.standing leaf job is in
         let beside = unsaved_beside leaf (other leaf (sound.unsaved leaf old.unsaved old.beside).live) ∙ old.beside in

@@ -40,17 +40,10 @@ module _ (limit : ℕ) (objects : Objects) (tree : Tree) (homes : Homes) (covers
   numbered : (d : ℕ) → is_known homes d ≡ true → d < 2 ^ 64
   numbered d known = ⊎_elim (λ root. omega (arith, root)) (λ r. let most = (allowed objects r.0 r.2).number.most in let is = r.3 in omega (arith, most, is)) (named d known)
 
-  -- ---- what is whole
+  -- ---- leaves and objects
 
   saved : (leaf : Leaf) → IsLive homes covers leaf → IsSaved leaf.1 (object_of objects leaf.0 leaf.1)
   saved leaf live = w.whole leaf (reached_there leaf.0.0 live.known) (cold_leaf s refl w.leaves leaf live)
-
-  placed : (leaf : Leaf) (name : List ℕ) (inode : Inode) → IsLive homes covers leaf → map.get (shown_names s.unsaved objects leaf) name ≡ Some inode → IsPick (leaves_of covers leaf.0.0) (hash_of name) leaf.1
-  placed leaf name inode live stands =
-      pick_from_leaf (leaves_of covers leaf.0.0) (hash_of name) leaf.1 (said_tree (tree_of objects leaf.0) (leaves_of covers leaf.0.0) (w.leaves leaf.0 live.known)) live.stands
-      (belongs leaf.1 (object_of objects leaf.0 leaf.1) name inode (saved leaf live) (ap (λ (n : Names). map.get n name) (sym (shown_as s refl w.leaves leaf)) ∙ stands))
-
-  -- ---- all together
 
   -- a directory whose tree object is there has several leaves, so they were set
   has_row : (dir : Ino) → is_known homes dir.0 ≡ true → is_some (tree_of objects dir) ≡ true → is_some (map.get covers dir.0) ≡ true
@@ -68,7 +61,9 @@ module _ (limit : ℕ) (objects : Objects) (tree : Tree) (homes : Homes) (covers
   leaves_sound = record {
     table = (walked_is_tabled objects tree homes covers purge w).1;
     numbered = numbered;
-    placed = placed;
+    placed = λ leaf name inode live stands.
+        pick_from_leaf (leaves_of covers leaf.0.0) (hash_of name) leaf.1 (said_tree (tree_of objects leaf.0) (leaves_of covers leaf.0.0) (w.leaves leaf.0 live.known)) live.stands
+        (belongs leaf.1 (object_of objects leaf.0 leaf.1) name inode (saved leaf live) (ap (λ (n : Names). map.get n name) (sym (shown_as s refl w.leaves leaf)) ∙ stands));
     unsaved = λ leaf u is. in_empty leaf_cmp leaf u is;
     saved = λ leaf live clean. saved leaf live;
     owned = λ name some. owned name some (w.reached_or_left name some);

@@ -19,13 +19,12 @@ AreDone s after = (d : Ino) → HasRow s d.0 → IsLater s after d.0 ⊎ HasTree
 pub saved_none : (s : State) → SavesTrees s s
 saved_none s = record { left = refl; tree = refl; others = λ name none. (refl, refl); each = λ dir row. inr (refl, refl) }
 
-abbrev number_of : ObjName → ℕ
-number_of (Frag dir f) = dir.0
-number_of (Tree dir) = dir.0
-
 -- directories whose tree objects have one name are one
 pub one_tree_text : (a b : Ino) → a.0 < 2 ^ 64 → b.0 < 2 ^ 64 → tree_text a ≡ tree_text b → a.0 ≡ b.0
-one_tree_text a b p q same = ap number_of (texts_differ (Tree a) (Tree b) p q same)
+one_tree_text a b p q same =
+    let trees : Tree a ≡ Tree b = texts_differ (Tree a) (Tree b) p q same in
+    let one : a ≡ b = cc in
+    ap (λ (d : Ino). d.0) one
 
 -- what is so of a tree stays so where its object does
 stays_so : (now new : State) (dir : Ino) → new.covers ≡ now.covers → HasTree now dir → IsAsBefore now new (tree_text dir) → HasTree new dir

@@ -80,14 +80,10 @@ full_lacks c r stay valid none full =
 -- each passes one of two tests
 two : (g t : Leaf → Bool) (xs : List Leaf) → AllByRecursion (λ (x : Leaf). (g x ≡ true) ⊎ (t x ≡ true)) xs → length xs ≤ length (filter g xs) + length (filter t xs)
 two g t [] all = omega arith
-two g t (x ∷ xs) all = go (g x) refl (t x) refl all.0 (two g t xs all.1)
-  where
-    go : (a : Bool) → g x ≡ a → (b : Bool) → t x ≡ b → (g x ≡ true) ⊎ (t x ≡ true) → length xs ≤ length (filter g xs) + length (filter t xs) → suc (length xs) ≤ length (cond a (x ∷ filter g xs) (filter g xs)) + length (cond b (x ∷ filter t xs) (filter t xs))
-    go true is true also one le = omega (arith, le)
-    go true is false also one le = omega (arith, le)
-    go false is true also one le = omega (arith, le)
-    go false is false also (inl first) le = let clash : false ≡ true = sym is ∙ first in absurd cc
-    go false is false also (inr second) le = let clash : false ≡ true = sym also ∙ second in absurd cc
+two g t (x ∷ xs) all =
+    let either = all.0 in
+    let rest = two g t xs all.1 in
+    grind (arith, either, rest)
 
 -- where fewer places than so many are free or can become so, and none is kept, they lack
 pub few_lack : (count : ℕ) (c : CacheMap) (r : ℕ) → AreCaches c → KeepsNone c → CanNotKeep count c r None → c.cap < finmap.len (unclean_of c r) + count
