@@ -1,6 +1,6 @@
 -- Stores without objects, and objects without pairs.
 use Rattle.mdcache.proofs.Common.{Bool, Fragment, IsTrue, List, NameList, None, Objects, Omap, Option, PairMap, PairPage, Some, [], all_kept, ap, arith, bytes_eq-Decides, cond, empty_of_len, eq_by_cmp, exact_bytes, false, first_names, get_beside, get_put, header_at, key_cmp, key_itself, key_tied, len-empty, len-entries, length, nat_list_cmp_total, nat_lt, nat_tests, not, option_map, page_at, page_of, pointwise, refl, same_Some, same_map, sym, tree_bytes, tree_object, true, with_tree_at, ℕ, ⊎_elim, ◌==◌, ◌↔◌, ◌∙◌, ◌∷◌, ◌≡◌, ◌≤◌}
-use Rattle.std.proofs.lemmas.Bool.{not-false}
+use Rattle.std.proofs.lemmas.Bool.{lt-ltb, not-false}
 use Rattle.std.specs.Prelude.{take, map as each}
 use Rattle.std.specs.FinMap as map
 use Rattle.dirfrag_codec.proofs.ByteKeys.{same_or_apart as key_or_apart}
@@ -59,11 +59,9 @@ none_if_not objects some tells is = elim (map.entries objects) as (λ es. map.en
 -- the object of a tree that is so already
 pub written_already : (objects new : Objects) (name header : List ℕ) (leaves : List Fragment) → header ≡ tree_bytes leaves → 2 ≤ length leaves → map.get objects name ≡ Some (record { header = header; pairs = map.empty }) → new ≡ objects → new ≡ with_tree_at objects name leaves
 written_already objects new name header leaves spelled several there same =
-    same ∙ sym (same_map nat_list_cmp_total exact_bytes (map.insert objects name (tree_object leaves)) objects at) ∙ sym (ap (λ (b : Bool). cond b (map.insert objects name (tree_object leaves)) (map.remove objects name)) many)
+    same ∙ sym (same_map nat_list_cmp_total exact_bytes (map.insert objects name (tree_object leaves)) objects at)
+    ∙ sym (ap (λ (b : Bool). cond b (map.insert objects name (tree_object leaves)) (map.remove objects name)) (lt-ltb 1 (length leaves) several))
   where
-    many : nat_lt 1 (length leaves) ≡ true
-    many = grind (arith, nat_tests)
-
     here : map.get objects name ≡ Some (tree_object leaves)
     here = there ∙ ap (λ (h : List ℕ). Some (record { header = h; pairs = map.empty })) spelled
 

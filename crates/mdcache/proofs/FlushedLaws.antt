@@ -10,16 +10,13 @@ use Rattle.mdcache.proofs.CoverRows.{known_by_row}
 use Rattle.mdcache.proofs.NamedLaws.{HasSoundLeaves, known_or_not, pick_at, sound_leaves, stands_at, stands_nowhere}
 
 -- a tree of fewer than two leaves is `*` alone
-few_bits : (f : Fragment) → IsFragment f → f.value ≡ 0 → 0 + span f.bits ≡ 2 ^ 24 → f ≡ root_fragment
-few_bits f is at ends = ⊎_elim (λ none. λ i. record { bits = none i; value = at i })
-    (λ some.
-    let less : 24 - f.bits < 24 = omega (arith, some, is.few_bits) in
-    let clash : 2 ^ (24 - f.bits) < 2 ^ 24 = pow-lt less in
-    absurd (omega (arith, clash, ends))) (same_or_apart f.bits 0)
-
 one_leaf : (leaves : List Fragment) → IsTree leaves → nat_lt 1 (length leaves) ≡ false → leaves ≡ root_fragment ∷ []
 one_leaf [] tree few = absurd (omega (arith, tree.tiles))
-one_leaf (f ∷ []) tree few = ap (λ (g : Fragment). g ∷ []) (few_bits f tree.tiles.0 tree.tiles.1 tree.tiles.2)
+one_leaf (f ∷ []) tree few = ⊎_elim (λ none. λ i. record { bits = none i; value = tree.tiles.1 i } ∷ [])
+    (λ some.
+    let less : 24 - f.bits < 24 = omega (arith, some, tree.tiles.0.few_bits) in
+    let clash : 2 ^ (24 - f.bits) < 2 ^ 24 = pow-lt less in
+    absurd (omega (arith, clash, tree.tiles.2))) (same_or_apart f.bits 0)
 one_leaf (f ∷ g ∷ fs) tree few = let most = ltb-false 1 (length (f ∷ g ∷ fs)) few in absurd (omega (arith, most))
 
 -- what an object shows tells that it is there

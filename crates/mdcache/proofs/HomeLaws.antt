@@ -36,11 +36,6 @@ module _ (s : State) (homes : Homes) (sound : HasSoundLeaves s) (table : IsTable
   pub rehomed_live : (leaf : Leaf) → IsLive s.homes s.covers leaf → IsLive homes s.covers leaf
   rehomed_live leaf live = record { known = same leaf.0.0 ∙ live.known; stands = live.stands }
 
-  owned_by : (name : List ℕ) → IsOwned s name → IsOwned rehomed name
-  owned_by name (inl leaf) = inl (leaf.0, rehomed_live leaf.0 leaf.1, leaf.2)
-  owned_by name (inr (inl dir)) = inr (inl dir)
-  owned_by name (inr (inr listed)) = inr (inr listed)
-
   pub rehomed_leaves : HasSoundLeaves rehomed
   rehomed_leaves = record {
     table = table;
@@ -48,7 +43,7 @@ module _ (s : State) (homes : Homes) (sound : HasSoundLeaves s) (table : IsTable
     placed = λ leaf name inode live has. sound.placed leaf name inode (back leaf live) has;
     unsaved = λ leaf u is. let old = sound.unsaved leaf u is in record { live = rehomed_live leaf old.live; made = old.made; young = old.young };
     saved = λ leaf live clean. sound.saved leaf (back leaf live) clean;
-    owned = λ name there. owned_by name (sound.owned name there);
+    owned = λ name there. ⊎_elim (λ leaf. inl (leaf.0, rehomed_live leaf.0 leaf.1, leaf.2)) (λ rest. inr rest) (sound.owned name there);
     listed = λ leaf live. sound.listed leaf (back leaf live);
     standing = λ leaf job is. let old = sound.standing leaf job is in record { mine = old.mine; given = old.given; young = old.young; unsaved = old.unsaved; beside = old.beside; taken = old.taken };
     once = sound.once;
@@ -126,11 +121,6 @@ module _ (s : State) (sound : HasSoundLeaves s) (dentry : Dentry) (dir : Ino) (c
   unfolding names_of
   first_names = ap (λ o. shown_at o (object_of s.objects dir root_fragment)) unsaved_first ∙ only_below map.empty map.empty refl
 
-  owned_new : (name : List ℕ) → IsOwned s name → IsOwned grown name
-  owned_new name (inl leaf) = inl (leaf.0, grown_live leaf.0 leaf.1, leaf.2)
-  owned_new name (inr (inl d)) = inr (inl d)
-  owned_new name (inr (inr listed)) = ⊎_elim (λ same. inl (first, first_live, same)) (λ apart. inr (inr (ap is_some (get_left s.purge (text_of first) name apart) ∙ listed))) (key_or_apart name (text_of first))
-
   pub grown_leaves : HasSoundLeaves grown
   grown_leaves = record {
     table = adopted_table s.homes s.covers dir.0 (home_at dentry) sound.table come;
@@ -150,7 +140,8 @@ module _ (s : State) (sound : HasSoundLeaves s) (dentry : Dentry) (dir : Ino) (c
         record { live = grown_live q old.live; made = omega (arith, made); young = old.young }) (leaf_or_other q first);
     saved = λ leaf live clean. ⊎_elim (λ same. let clash : None ≡ Some (just_made s.next_generation) = sym clean ∙ ap (map.get grown.unsaved) same ∙ unsaved_first in absurd cc)
         (λ old. sound.saved leaf old (sym (unsaved_beside leaf (other leaf old)) ∙ clean)) (live_new leaf live);
-    owned = λ name there. owned_new name (sound.owned name there);
+    owned = λ name there. ⊎_elim (λ leaf. inl (leaf.0, grown_live leaf.0 leaf.1, leaf.2)) (λ rest. ⊎_elim (λ row. inr (inl row))
+        (λ listed. ⊎_elim (λ same. inl (first, first_live, same)) (λ apart. inr (inr (ap is_some (get_left s.purge (text_of first) name apart) ∙ listed))) (key_or_apart name (text_of first))) rest) (sound.owned name there);
     listed = λ leaf live. ⊎_elim (λ same. ap (map.get grown.purge) same ∙ get_removed s.purge (text_of first))
         (λ apart. get_left s.purge (text_of first) (text_of leaf) apart ∙ ⊎_elim (λ same. absurd (apart (ap text_of same))) (sound.listed leaf) (live_new leaf live)) (key_or_apart (text_of leaf) (text_of first));
     standing = λ leaf job is.

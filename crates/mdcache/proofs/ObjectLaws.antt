@@ -32,9 +32,7 @@ module _ (s : State) (name : List ℕ) (objects : Objects) (sound : IsSound s) (
 
   -- what owns another object owns it still
   owned_beside : (q : List ℕ) → (q ≡ name → ⊥) → IsOwned s q → IsOwned after q
-  owned_beside q apart (inl leaf) = inl leaf
-  owned_beside q apart (inr (inl tree)) = inr (inl tree)
-  owned_beside q apart (inr (inr listed)) = inr (inr (ap is_some (get_left s.purge name q apart) ∙ listed))
+  owned_beside q apart owned = ⊎_elim (λ leaf. inl leaf) (λ rest. ⊎_elim (λ tree. inr (inl tree)) (λ listed. inr (inr (ap is_some (get_left s.purge name q apart) ∙ listed))) rest) owned
 
   other_changed : (is_some (map.get objects name) ≡ true → IsOwned after name) → KeepsLeaves s after
   other_changed owned =
