@@ -1,5 +1,5 @@
 -- The cold tree of a state of which all is saved is the shown tree, and once all is purged its objects are exact.
-use Rattle.mdcache.proofs.Common.{AreExact, Bool, FlushedIsCold, Fragment, HasLeaf, HasNoFault, HasRecords, Home, Ino, Inode, IsColdLeaf, IsColdTree, IsFaulty, IsFlushed, IsFragment, IsLive, IsOwned, IsPick, IsReached, IsRecord, IsSamePlace, IsSaved, IsSound, IsTree, List, Loads, Names, None, Omap, Option, PurgedAreExact, Reaches, Record, SaysLeaves, Some, SpellsTreeObject, State, [], ap, arith, cond, dentry_of, eqb-true, false, get-empty, hash_of, inl, inr, is_known, is_some, key_cmp, known_by, leaves_of, length, lt-ltb, ltb-true, names_at, nat_lt, object_of, one_pick, one_tree, or_cases, or_right, pow-lt, refl, root_fragment, same_Some, same_or_apart, shown_at, shown_tree, some_pick, span, subst, suc, sym, text_of, tree_object, tree_of, tree_of_row, tree_text, true, zero, ℕ, ⊎_elim, ◌+◌, ◌-◌, ◌<◌, ◌==◌, ◌^◌, ◌∙◌, ◌∷◌, ◌≡◌, ◌⊎◌}
+use Rattle.mdcache.proofs.Common.{AreExact, Bool, FlushedIsCold, Fragment, HasLeaf, HasNoFault, HasRecords, Home, Ino, Inode, IsColdLeaf, IsColdTree, IsFaulty, IsFlushed, IsFragment, IsLive, IsOwned, IsPick, IsReached, IsRecord, IsSamePlace, IsSaved, IsSound, IsTabled, IsTree, List, Loads, Names, None, Omap, Option, PurgedAreExact, Reaches, Record, SaysLeaves, Some, SpellsTreeObject, State, [], ap, arith, cond, dentry_of, eqb-true, false, get-empty, hash_of, inl, inr, is_known, is_some, key_cmp, known_by, leaves_of, length, lt-ltb, ltb-true, names_at, nat_lt, object_of, one_pick, one_tree, or_cases, or_right, pow-lt, refl, root_fragment, same_Some, same_or_apart, shown_at, shown_tree, some_pick, span, subst, suc, sym, text_of, tree_object, tree_of, tree_of_row, tree_text, true, zero, ℕ, ⊎_elim, ◌+◌, ◌-◌, ◌<◌, ◌==◌, ◌^◌, ◌∙◌, ◌∷◌, ◌≡◌, ◌⊎◌}
 use Rattle.std.proofs.lemmas.Bool.{cond_both, ltb-false}
 use Rattle.std.specs.FinMap as map
 use Rattle.mds_types.specs.Leaf.{Leaf}
@@ -49,15 +49,15 @@ module _ (s : State) (clean : s.unsaved ≡ map.empty) (says : (dir : Ino) → i
     record_at : (r : Record) → IsRecord s.objects r → map.get (shown_names s.unsaved s.objects r.leaf) r.name ≡ Some r.inode
     record_at r rec = ap (λ (n : Names). map.get n r.name) (shown_as r.leaf ∙ ap names_at rec.there) ∙ rec.stands
 
-    pub record_pick : (r : Record) → is_known s.homes r.leaf.0.0 ≡ true → IsRecord s.objects r → IsPick (leaves_of s.covers r.leaf.0.0) (hash_of r.name) r.leaf.1
+    record_pick : (r : Record) → is_known s.homes r.leaf.0.0 ≡ true → IsRecord s.objects r → IsPick (leaves_of s.covers r.leaf.0.0) (hash_of r.name) r.leaf.1
     record_pick r known rec = sound.placed r.leaf r.name r.inode (live_leaf r.leaf known rec.leaf) (record_at r rec)
 
     -- and in the shown tree,
-    pub record_shown : (r : Record) → is_known s.homes r.leaf.0.0 ≡ true → IsRecord s.objects r → map.get (shown_tree s) (dentry_of r.leaf.0.0 r.name) ≡ Some r.inode
+    record_shown : (r : Record) → is_known s.homes r.leaf.0.0 ≡ true → IsRecord s.objects r → map.get (shown_tree s) (dentry_of r.leaf.0.0 r.name) ≡ Some r.inode
     record_shown r known rec = stands_at s sound (dentry_of r.leaf.0.0 r.name) r.leaf.1 known (record_pick r known rec) ∙ record_at r rec
 
     -- each of whose entries has its record
-    pub shown_record : (d : ℕ) (name : List ℕ) (inode : Inode) → map.get (shown_tree s) (dentry_of d name) ≡ Some inode
+    shown_record : (d : ℕ) (name : List ℕ) (inode : Inode) → map.get (shown_tree s) (dentry_of d name) ≡ Some inode
         → (f : Fragment) × (is_known s.homes d ≡ true) × IsRecord s.objects (record { leaf = (record { 0 = d }, f); name = name; inode = inode })
     shown_record d name inode stands = ⊎_elim
         (λ known.
@@ -78,6 +78,41 @@ module _ (s : State) (clean : s.unsaved ≡ map.empty) (says : (dir : Ino) → i
         let w = pick_at s sound (dentry_of 1 []) in
         subst (IsSaved w.0) (ap (λ objects. object_of objects (record { 0 = 1 }) w.0) none ∙ get-empty _ _) (sound.saved (record { 0 = 1 }, w.0) (record { known = refl; stands = w.1.stands }) (none_unsaved (record { 0 = 1 }, w.0)))
 
+    -- with the table of the tree, and tree objects without pairs, no object is faulty
+    module _ (tabled : IsTabled (shown_tree s) s.homes) (spelled : (dir : Ino) (object : Omap) → is_known s.homes dir.0 ≡ true → tree_of s.objects dir ≡ Some object → SpellsTreeObject object (leaves_of s.covers dir.0)) where
+      -- each reached directory is known
+      known_there : (d : ℕ) → IsReached s.objects d → is_known s.homes d ≡ true
+      known_there _ IsReached.root = refl
+      known_there _ (IsReached.named r above rec dir) =
+          known_by s.homes r.inode.ino.0 _ (tabled.holds.listed (dentry_of r.leaf.0.0 r.name) r.inode (record_shown r (known_there r.leaf.0.0 above) rec) dir) refl
+
+      -- each known directory is reached
+      reached_by : (n d : ℕ) → Reaches s.homes n d → IsReached s.objects d
+      reached_by zero d root = subst (IsReached s.objects) (sym root) IsReached.root
+      reached_by (suc n) d (home, is, more) =
+          let e = tabled.holds.stands d home is in
+          let w = shown_record home.parent.0 home.name e.0 e.1 in
+          subst (IsReached s.objects) e.2 (IsReached.named _ (reached_by n home.parent.0 more) w.2 e.3)
+
+      reached_there : (d : ℕ) → is_known s.homes d ≡ true → IsReached s.objects d
+      reached_there d known = ⊎_elim (λ root. reached_by zero d (eqb-true d 1 root))
+          (λ some. let h = value_of (map.get s.homes d) some in let w = sound.table.rooted.rooted d h.0 h.1 in reached_by w.0 d w.1) (or_cases (d == 1) (is_some (map.get s.homes d)) known)
+
+      no_fault : HasNoFault s.objects
+      no_fault _ (IsFaulty.bad_tree dir object above there off) = off (leaves_of s.covers dir.0) (spelled dir object (known_there dir.0 above) there)
+      no_fault _ (IsFaulty.bad_leaf leaf above of off) =
+          whole_loads leaf.1 (object_of s.objects leaf.0 leaf.1) (sound.saved leaf (live_leaf leaf (known_there leaf.0.0 above) of) (none_unsaved leaf)) off
+      no_fault _ (IsFaulty.repeated r q ra rr qa qr same apart) =
+          let rk = known_there r.leaf.0.0 ra in
+          let qk = known_there q.leaf.0.0 qa in
+          let w = tabled.whole.once r.leaf.0.0 q.leaf.0.0 r.name q.name r.inode q.inode (record_shown r rk rr) (record_shown q qk qr) same in
+          let mine = subst (λ (p : ℕ × List ℕ). IsPick (leaves_of s.covers p.0) (hash_of p.1) r.leaf.1) (λ i. (w.0 i, w.1 i)) (record_pick r rk rr) in
+          let frag = one_pick (leaves_of s.covers q.leaf.0.0) (hash_of q.name) r.leaf.1 q.leaf.1 mine (record_pick q qk qr) in
+          apart (λ i. (record { 0 = w.0 i }, frag i), w.1)
+
+      pub shows_cold : IsColdTree s.objects (shown_tree s)
+      shows_cold = inr (some_object, no_fault, has_records reached_there known_there)
+
 -- ---- all is saved
 
 module _ (s : State) (sound : IsSound s) (saved : IsFlushed s) where
@@ -97,45 +132,9 @@ module _ (s : State) (sound : IsSound s) (saved : IsFlushed s) where
   says : (dir : Ino) → is_known s.homes dir.0 ≡ true → SaysLeaves (tree_of s.objects dir) (leaves dir)
   says dir known = ⊎_elim (λ one. subst (λ o. SaysLeaves o (leaves dir)) (sym one.0) one.1) (λ several. subst (λ o. SaysLeaves o (leaves dir)) (sym several.0) several.1.header) (one_or_several dir known)
 
-  abbrev sounds : HasSoundLeaves s
-  sounds = sound_leaves s sound
-
-  abbrev shows : (r : Record) → is_known s.homes r.leaf.0.0 ≡ true → IsRecord s.objects r → map.get (shown_tree s) (dentry_of r.leaf.0.0 r.name) ≡ Some r.inode
-  shows = record_shown s saved.clean says sounds
-
-  -- each reached directory is known
-  known_there : (d : ℕ) → IsReached s.objects d → is_known s.homes d ≡ true
-  known_there _ IsReached.root = refl
-  known_there _ (IsReached.named r above rec dir) = known_by s.homes r.inode.ino.0 _ (sound.tabled.holds.listed (dentry_of r.leaf.0.0 r.name) r.inode (shows r (known_there r.leaf.0.0 above) rec) dir) refl
-
-  -- each known directory is reached
-  reached_by : (n d : ℕ) → Reaches s.homes n d → IsReached s.objects d
-  reached_by zero d root = subst (λ k. IsReached s.objects k) (sym root) IsReached.root
-  reached_by (suc n) d (home, is, more) =
-      let e = sound.tabled.holds.stands d home is in
-      let w = shown_record s saved.clean says sounds home.parent.0 home.name e.0 e.1 in
-      subst (λ k. IsReached s.objects k) e.2 (IsReached.named _ (reached_by n home.parent.0 more) w.2 e.3)
-
-  reached_there : (d : ℕ) → is_known s.homes d ≡ true → IsReached s.objects d
-  reached_there d known = ⊎_elim (λ root. reached_by zero d (eqb-true d 1 root))
-      (λ some. let h = value_of (map.get s.homes d) some in let w = sound.table.rooted.rooted d h.0 h.1 in reached_by w.0 d w.1) (or_cases (d == 1) (is_some (map.get s.homes d)) known)
-
-  one_place : (r q : Record) → is_known s.homes r.leaf.0.0 ≡ true → is_known s.homes q.leaf.0.0 ≡ true → IsRecord s.objects r → IsRecord s.objects q → r.inode.ino ≡ q.inode.ino → IsSamePlace r q
-  one_place r q rk qk rr qr same =
-      let w = sound.tabled.whole.once r.leaf.0.0 q.leaf.0.0 r.name q.name r.inode q.inode (shows r rk rr) (shows q qk qr) same in
-      let mine = subst (λ (p : ℕ × List ℕ). IsPick (leaves_of s.covers p.0) (hash_of p.1) r.leaf.1) (λ i. (w.0 i, w.1 i)) (record_pick s saved.clean says sounds r rk rr) in
-      let frag = one_pick (leaves_of s.covers q.leaf.0.0) (hash_of q.name) r.leaf.1 q.leaf.1 mine (record_pick s saved.clean says sounds q qk qr) in
-      ((λ i. (record { 0 = w.0 i }, frag i)), w.1)
-
-  no_fault : HasNoFault s.objects
-  no_fault _ (IsFaulty.bad_tree dir object above there off) = ⊎_elim (λ one. let clash : None ≡ Some object = sym one.0 ∙ there in absurd cc)
-      (λ several. off (leaves dir) (subst (λ o. SpellsTreeObject o (leaves dir)) (same_Some (tree_object (leaves dir)) object (sym several.0 ∙ there)) several.1)) (one_or_several dir (known_there dir.0 above))
-  no_fault _ (IsFaulty.bad_leaf leaf above of off) =
-      whole_loads leaf.1 (object_of s.objects leaf.0 leaf.1) (sound.saved leaf (live_leaf s saved.clean says leaf (known_there leaf.0.0 above) of) (none_unsaved s saved.clean says leaf)) off
-  no_fault _ (IsFaulty.repeated r q ra rr qa qr same apart) = apart (one_place r q (known_there r.leaf.0.0 ra) (known_there q.leaf.0.0 qa) rr qr same)
-
   cold : IsColdTree s.objects (shown_tree s)
-  cold = inr (some_object s saved.clean says sounds, no_fault, has_records s saved.clean says sounds reached_there known_there)
+  cold = shows_cold s saved.clean says (sound_leaves s sound) sound.tabled (λ dir object known there. ⊎_elim (λ one. let clash : None ≡ Some object = sym one.0 ∙ there in absurd cc)
+      (λ several. subst (λ o. SpellsTreeObject o (leaves dir)) (same_Some (tree_object (leaves dir)) object (sym several.0 ∙ there)) several.1) (one_or_several dir known))
 
   -- once all is purged its objects are exact
   exact : s.purge ≡ map.empty → AreExact s

@@ -53,12 +53,11 @@ stays_listed names [] q has = has
 stays_listed names (n ∷ more) q has = stays_listed (map.insert names n tt) more q (some_stays nat_list_cmp_total names n tt q has)
 
 -- and so is one of the others;
-first_listed : (names : Keys) (n : List ℕ) (more : List (List ℕ)) → is_some (map.get (with_objects names (n ∷ more)) n) ≡ true
-first_listed names n more = stays_listed (map.insert names n tt) more n (ap (λ (o : Option (Unit {0})). is_some o) (get_put names n tt))
-
 leaf_listed : (names : Keys) (ls : List Leaf) (q : Leaf) → Contains ls q → is_some (map.get (with_objects names (each text_of ls)) (text_of q)) ≡ true
 leaf_listed names [] q (k, within, is) = absurd (omega (arith, within))
-leaf_listed names (l ∷ ls) q (zero, within, is) = ap (λ (x : Leaf). is_some (map.get (with_objects names (text_of l ∷ each text_of ls)) (text_of x))) (sym is) ∙ first_listed names (text_of l) (each text_of ls)
+leaf_listed names (l ∷ ls) q (zero, within, is) =
+    ap (λ (x : Leaf). is_some (map.get (with_objects names (text_of l ∷ each text_of ls)) (text_of x))) (sym is)
+    ∙ stays_listed (map.insert names (text_of l) tt) (each text_of ls) (text_of l) (ap is_some (get_put names (text_of l) tt))
 leaf_listed names (l ∷ ls) q (suc k, within, is) = leaf_listed (map.insert names (text_of l) tt) ls q (k, omega (arith, within), is)
 
 -- a name that is none of them isn't on it, if it wasn't
@@ -120,7 +119,7 @@ module _ (s : State) (sound : HasSoundLeaves s) (dir : Ino) (may : MayGo s.homes
   owned_left name (inr (inl d)) = ⊎_elim
       (λ same.
       let its : d.0 ≡ dir = λ i. record { 0 = same i } in
-      inr (inr (ap (λ (n : List ℕ). is_some (map.get left.purge n)) (d.2 ∙ ap tree_text its) ∙ first_listed s.purge (tree_text dir) (each text_of ls))))
+      inr (inr (ap (λ (n : List ℕ). is_some (map.get left.purge n)) (d.2 ∙ ap tree_text its) ∙ stays_listed (map.insert s.purge (tree_text dir) tt) (each text_of ls) (tree_text dir) (ap is_some (get_put s.purge (tree_text dir) tt)))))
       (λ apart. inr (inl (d.0, row_left s.covers dir.0 d.0.0 apart d.1, d.2))) (same_number d.0.0 dir.0)
   owned_left name (inr (inr listed)) = inr (inr (stays_listed s.purge (objects_of s dir) name listed))
 

@@ -17,29 +17,26 @@ pub no_names : (names : Keys) → nat_lt 0 (map.len names) ≡ false → names �
 no_names names none = let few = ltb-false 0 (map.len names) none in empty_of_len names (omega (arith, few))
 
 module _ (old now new : State) (so_far : ArePurged old now) (some : nat_lt 0 (map.len now.purge) ≡ true) (before after : ℕ) where
-  one_more : (name : List ℕ) → first_name now.purge ≡ Some name → new ≡ purged now name → shown_tree new ≡ shown_tree now → ArePurged old new × (map.len new.purge < map.len now.purge)
-  one_more name first left tree =
-      let stands = first_stands now.purge name first in
-      subst (λ (k : State). ArePurged old k × (map.len k.purge < map.len now.purge)) (sym left) (
-        record {
-          left = ap (λ (s : State). record s { objects = map.remove now.objects name; purge = map.remove now.purge name }) so_far.left;
-          tree = sym (ap shown_tree left) ∙ tree ∙ so_far.tree;
-          others = λ q none.
-              let w = so_far.others q none in
-              let apart : q ≡ name → ⊥ = λ same. let clash : false ≡ true = ap is_some (sym w.1 ∙ ap (map.get now.purge) same) ∙ stands in cc in
-              (get_left now.objects name q apart ∙ w.0, get_left now.purge name q apart ∙ w.1);
-          gone = λ q off. elim (same_or_apart q name) [
-            | inl same ↦ inr (ap (map.get (map.remove now.objects name)) same ∙ get_removed now.objects name)
-            | inr other ↦ ⊎_elim (λ none. inl none) (λ none. inr (get_left now.objects name q other ∙ none)) (so_far.gone q (sym (get_left now.purge name q other) ∙ off))
-          ];
-        },
-        let less : map.len (map.remove now.purge name) ≡ map.len now.purge - 1 = len-remove nat_list_cmp_total now.purge name ∙ ap (λ b. cond {A = ℕ} b (map.len now.purge - 1) (map.len now.purge)) stands in
-            let one = ltb-true 0 (map.len now.purge) some in
-            omega (arith, less, one),
-      )
-
   pub purged_more : PurgesName now new before after (first_name now.purge) (Ok tt) → ArePurged old new × (map.len new.purge < map.len now.purge)
   purged_more is = elim (first_name now.purge) as (λ o. first_name now.purge ≡ o → PurgesName now new before after o (Ok tt) → ArePurged old new × (map.len new.purge < map.len now.purge)) [
     | None ↦ λ none done. let one = ltb-true 0 (map.len now.purge) some in let nothing = none_first now.purge none in absurd (omega (arith, one, nothing))
-    | Some name ↦ λ first its. one_more name first its.0 its.1
+    | Some name ↦ λ first its.
+        let stands = first_stands now.purge name first in
+        subst (λ (k : State). ArePurged old k × (map.len k.purge < map.len now.purge)) (sym its.0) (
+          record {
+            left = ap (λ (s : State). record s { objects = map.remove now.objects name; purge = map.remove now.purge name }) so_far.left;
+            tree = sym (ap shown_tree its.0) ∙ its.1 ∙ so_far.tree;
+            others = λ q none.
+                let w = so_far.others q none in
+                let apart : q ≡ name → ⊥ = λ same. let clash : false ≡ true = ap is_some (sym w.1 ∙ ap (map.get now.purge) same) ∙ stands in cc in
+                (get_left now.objects name q apart ∙ w.0, get_left now.purge name q apart ∙ w.1);
+            gone = λ q off. elim (same_or_apart q name) [
+              | inl same ↦ inr (ap (map.get (map.remove now.objects name)) same ∙ get_removed now.objects name)
+              | inr other ↦ ⊎_elim (λ none. inl none) (λ none. inr (get_left now.objects name q other ∙ none)) (so_far.gone q (sym (get_left now.purge name q other) ∙ off))
+            ];
+          },
+          let less : map.len (map.remove now.purge name) ≡ map.len now.purge - 1 = len-remove nat_list_cmp_total now.purge name ∙ ap (λ b. cond {A = ℕ} b (map.len now.purge - 1) (map.len now.purge)) stands in
+              let one = ltb-true 0 (map.len now.purge) some in
+              omega (arith, less, one),
+        )
   ] refl is
