@@ -56,19 +56,17 @@ module _ (names : Fragment → Names) (after : Option (List ℕ)) where
     after_leaf : (es : List Row) (f : Fragment) → find key_cmp q (puts key_cmp es (rows f)) ≡ option_or (find key_cmp q (rows f)) (find key_cmp q es)
     after_leaf es f = find-puts es (rows f) q (rows_sorted f)
 
-    -- what is found stays
-    found_stays : (es : List Row) (fs : List Fragment) → ((f : Fragment) → Contains fs f → Tells v (find key_cmp q (rows f))) → find key_cmp q es ≡ v → find key_cmp q (gathered names after es fs) ≡ v
-    found_stays es [] each is = is
-    found_stays es (f ∷ fs) each is =
-        found_stays (puts key_cmp es (rows f)) fs (λ g has. each g (later_has f g fs has)) (after_leaf es f ∙ or_was _ _ (each f (first_has f fs)) is)
-
-    -- and what one leaf has is found
-    found_once : (es : List Row) (fs : List Fragment) (at : Fragment) → ((f : Fragment) → Contains fs f → Tells v (find key_cmp q (rows f))) → Tells v (find key_cmp q es) → find key_cmp q (rows at) ≡ v → Contains fs at → find key_cmp q (gathered names after es fs) ≡ v
-    found_once es [] at each told is (k, within, there) = absurd (omega (arith, within))
-    found_once es (f ∷ fs) at each told is (zero, within, there) =
-        found_stays (puts key_cmp es (rows f)) fs (λ g has. each g (later_has f g fs has)) (after_leaf es f ∙ or_is _ _ (ap (λ (g : Fragment). find key_cmp q (rows g)) there ∙ is) told)
-    found_once es (f ∷ fs) at each told is (suc k, within, there) =
-        found_once (puts key_cmp es (rows f)) fs at (λ g has. each g (later_has f g fs has)) (subst (Tells v) (sym (after_leaf es f)) (or_told _ _ (each f (first_has f fs)) told)) is (k, omega (arith, within), there)
+    -- what is found stays, and what one leaf has is found
+    found : (es : List Row) (fs : List Fragment) → ((f : Fragment) → Contains fs f → Tells v (find key_cmp q (rows f))) → Tells v (find key_cmp q es)
+        → (find key_cmp q es ≡ v) ⊎ ((at : Fragment) × Contains fs at × (find key_cmp q (rows at) ≡ v)) → find key_cmp q (gathered names after es fs) ≡ v
+    found es [] each told (inl is) = is
+    found es [] each told (inr (at, (k, within, there), is)) = absurd (omega (arith, within))
+    found es (f ∷ fs) each told has = found (puts key_cmp es (rows f)) fs (λ g has. each g (later_has f g fs has)) (subst (Tells v) (sym (after_leaf es f)) (or_told _ _ (each f (first_has f fs)) told)) (now has)
+      where
+        now : (find key_cmp q es ≡ v) ⊎ ((at : Fragment) × Contains (f ∷ fs) at × (find key_cmp q (rows at) ≡ v)) → (find key_cmp q (puts key_cmp es (rows f)) ≡ v) ⊎ ((at : Fragment) × Contains fs at × (find key_cmp q (rows at) ≡ v))
+        now (inl is) = inl (after_leaf es f ∙ or_was _ _ (each f (first_has f fs)) is)
+        now (inr (at, (zero, within, there), is)) = inl (after_leaf es f ∙ or_is _ _ (ap (λ (g : Fragment). find key_cmp q (rows g)) there ∙ is) told)
+        now (inr (at, (suc k, within, there), is)) = inr (at, (k, omega (arith, within), there), is)
 
 -- ---- pages
 
@@ -114,7 +112,7 @@ module _ (s : State) (sound : IsSound s) (dir : Ino) (known : is_known s.homes d
   all_found : (q : List ℕ) → find key_cmp q (gathered names_in after [] leaves) ≡ find key_cmp q (names_after (shown_tree s) dir.0 after)
   all_found q =
       let w = some_pick leaves (hash_of q) (tree_of_row s.homes s.covers sound.table dir.0) in
-      found_once names_in after q (told q w.0) [] leaves w.0 (alone q w.0 w.1) (inl refl) refl w.1.stands
+      found names_in after q (told q w.0) [] leaves (alone q w.0 w.1) (inl refl) (inr (w.0, w.1.stands, refl))
       ∙ row_found names_in after w.0 q
       ∙ ap (λ o. cond (is_after after q) o None) (sym (at_dentry s sound dir.0 q w.0 known w.1))
       ∙ sym ((names_are_listed (shown_tree s) dir.0 after).exact q)

@@ -19,9 +19,6 @@ module _ (old mid : CacheMap) (came : Came (HasFragment old) NoneEnds old mid) w
       let its = there_at r (map.get mid.held q) there in
       ⊎_elim (λ same. subst (λ o. IsThere (at_rank r o)) (sym same) (at_its_rank r its.0 its.2)) (λ used. subst (λ k. HasFragment old k q) its.2 used) (came_held (HasFragment old) NoneEnds old mid came q its.0 its.1)
 
-  pub came_on : (new : CacheMap) → Came (HasFragment mid) NoneEnds mid new → Came (HasFragment old) NoneEnds old new
-  came_on new more = came_then (HasFragment old) NoneEnds old mid new came (came_weaker (HasFragment mid) NoneEnds (HasFragment old) NoneEnds was_there (λ r q ends. ends) mid new more)
-
 pub kept_itself : (c : Core) → KeepsTree c c
 kept_itself c = record { limit = refl; homes = refl; covers = refl; counts = refl; pins = refl; tree = refl; generation = refl; version = refl; caches = it_stays }
 
@@ -35,7 +32,8 @@ steps_keep_tree old mid new first second = record {
   tree = second.tree ∙ first.tree;
   generation = second.generation ∙ first.generation;
   version = second.version ∙ first.version;
-  caches = came_on old.caches mid.caches first.caches new.caches second.caches;
+  caches = came_then (HasFragment old.caches) NoneEnds old.caches mid.caches new.caches first.caches
+      (came_weaker (HasFragment mid.caches) NoneEnds (HasFragment old.caches) NoneEnds (was_there old.caches mid.caches first.caches) (λ r q ends. ends) mid.caches new.caches second.caches);
 }
 
 -- a step that leaves the caches, and of the state all but objects, jobs, purge list and the next job's number

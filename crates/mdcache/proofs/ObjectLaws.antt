@@ -70,12 +70,9 @@ tree_beside objects name leaves q apart = cond_both (nat_lt 1 (length leaves)) (
 pub tree_saved_right : (s : State) (dir : Ino) → IsSound s → is_known s.homes dir.0 ≡ true → KeepsLeaves s (tree_saved s dir)
 tree_saved_right s dir sound known = other_changed s (tree_text dir) (with_tree_at s.objects (tree_text dir) leaves) sound (tree_beside s.objects (tree_text dir) leaves)
     (λ leaf live. no_tree_text s.homes s.covers sound.table sound.numbered leaf dir live known)
-    (λ has. inr (inl (
-      dir,
-      several_in_row s.covers dir.0 (cond_both (nat_lt 1 (length leaves)) (Some (tree_object leaves)) None (λ (o : Option Omap). is_some o ≡ true → 1 < length leaves)
-          (λ more some. ltb-true 1 (length leaves) more) (λ few some. absurd cc) (sym (ap is_some (tree_here s.objects (tree_text dir) leaves)) ∙ has)),
-      refl,
-    )))
+    (λ has.
+    let several = cond_both (nat_lt 1 (length leaves)) (Some (tree_object leaves)) None (λ (o : Option Omap). is_some o ≡ true → 1 < length leaves) (λ more some. ltb-true 1 (length leaves) more) (λ few some. absurd cc) in
+    inr (inl (dir, several_in_row s.covers dir.0 (several (sym (ap is_some (tree_here s.objects (tree_text dir) leaves)) ∙ has)), refl)))
   where
     leaves : List Fragment
     leaves = leaves_of s.covers dir.0

@@ -82,9 +82,6 @@ no_first s after dir first none =
 -- ---- a turn of the loop
 
 module _ (now : State) (sound : IsSound now) (after : Option Ino) (dir : Ino) (first : slice_get (trees_after now.homes now.covers after) 0 ≡ Some dir.0) (new : State) (before later : ℕ) where
-  rootless : map.get now.homes 1 ≡ None
-  rootless = sound.table.rooted.rootless
-
   numbered : (d : ℕ) → HasRow now d → d < 2 ^ 64
   numbered d row = sound.numbered d (known_by_row now.homes now.covers sound.table d row)
 
@@ -96,14 +93,14 @@ module _ (now : State) (sound : IsSound now) (after : Option Ino) (dir : Ino) (f
       → SavesTrees old new × AreDone new (Some dir) × (length (trees_after new.homes new.covers (Some dir)) < length (trees_after now.homes now.covers after))
   turn saves old so_far done = subst (λ (s : State). SavesTrees old s × AreDone s (Some dir) × (length (trees_after s.homes s.covers (Some dir)) < length (trees_after now.homes now.covers after))) (sym saves.1) (
     saved_more now numbered dir row old so_far (subst (λ (s : State). shown_tree s ≡ shown_tree now) saves.1 saves.2),
-    fewer_left now numbered dir row after rootless first done,
-    let all : length (trees_after now.homes now.covers after) ≡ length (dir.0 ∷ trees_after now.homes now.covers (Some dir)) = ap length (next_tree_after now.homes now.covers rootless after dir first) in
+    fewer_left now numbered dir row after sound.table.rooted.rootless first done,
+    let all : length (trees_after now.homes now.covers after) ≡ length (dir.0 ∷ trees_after now.homes now.covers (Some dir)) = ap length (next_tree_after now.homes now.covers sound.table.rooted.rootless after dir first) in
         omega (arith, all),
   )
 
   -- the directory is there, so only the store refuses
   pub turn_refused : (reason : Refusal) → SavesTree now new before later dir (Err reason) → MayRefuse before later reason
-  turn_refused reason (inl (is, unknown), same) = let clash : true ≡ false = sym (first_tree_known now.homes now.covers rootless after dir.0 first) ∙ unknown in absurd cc
+  turn_refused reason (inl (is, unknown), same) = let clash : true ≡ false = sym (first_tree_known now.homes now.covers sound.table.rooted.rootless after dir.0 first) ∙ unknown in absurd cc
   turn_refused reason (inr (known, may), same) = may
 
 nothing_listed : (d : ℕ) (ks : List ℕ) → slice_get ks 0 ≡ None → list_any (eq_by_cmp nat_cmp d) ks ≡ true → ⊥

@@ -33,11 +33,10 @@ module _ (Uses Ends : ℕ → Leaf → Type 0) (objects : Objects) (old : CacheM
     ]
   ] refl
     where
-      same : unsaved_at (finmap.get new.held q) ≡ unsaved_at (finmap.get old.held q)
-      same = sym (get_unclean new q) ∙ ap (λ m. finmap.get m q) (reads_unclean Uses Ends objects old new reads) ∙ get_unclean old q
-
       both_clean : unsaved_at (finmap.get new.held q) ≡ None → unsaved_in (here new s q) ≡ unsaved_in (here old s q)
-      both_clean clean = clean_at s (finmap.get new.held q) clean ∙ sym (clean_at s (finmap.get old.held q) (sym same ∙ clean))
+      both_clean clean =
+          clean_at s (finmap.get new.held q) clean
+          ∙ sym (clean_at s (finmap.get old.held q) (sym (get_unclean old q) ∙ ap (λ m. finmap.get m q) (sym (reads_unclean Uses Ends objects old new reads)) ∙ get_unclean new q ∙ clean))
 
   pub reads_unclean_of : (new : CacheMap) → Reads Uses Ends objects old new → (r : ℕ) → unclean_of new r ≡ unclean_of old r
   reads_unclean_of new reads r = same_map leaf-total leaf-exact (unclean_of new r) (unclean_of old r) (λ q. get_unclean_of new r q ∙ reads_beyond r q new reads ∙ sym (get_unclean_of old r q))
