@@ -30,14 +30,13 @@ page_told objects page some is told = elim (map.entries objects) as (λ es. map.
 
 -- ---- an object
 
+none_taken : {X : Type 0} (xs : List X) → length (take 1 xs) ≡ 0 → xs ≡ []
+none_taken [] none = refl
+none_taken (x ∷ xs) none = absurd (omega (arith, none))
+
 no_pairs : (pairs : PairMap) → length (take 1 (pairs_after pairs None)) ≡ 0 → pairs ≡ map.empty
 unfolding pairs_after
-no_pairs pairs none = elim (map.entries pairs) as (λ es. map.entries pairs ≡ es → pairs ≡ map.empty) [
-  | [] ↦ λ is. no_entries pairs is
-  | e ∷ es ↦ λ is.
-      let some : length (take 1 (e ∷ es)) ≡ 0 = sym (ap (λ xs. length (take 1 xs)) (all_kept (map.entries pairs) ∙ is)) ∙ none in
-      absurd (omega (arith, some))
-] refl
+no_pairs pairs none = no_entries pairs (sym (all_kept (map.entries pairs)) ∙ none_taken (pairs_after pairs None) none)
 
 -- an object is told by its header and a page without pairs
 pub object_told : (objects : Objects) (name header : List ℕ) (page : PairPage) → Some header ≡ header_at objects name → Some page ≡ page_at objects name None 1 → length page.pairs ≡ 0 → map.get objects name ≡ Some (record { header = header; pairs = map.empty })

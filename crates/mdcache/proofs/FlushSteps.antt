@@ -41,8 +41,5 @@ module _ (mid new : State) (clean : mid.unsaved ≡ map.empty) (trees : HasTrees
         (purged.others (tree_text dir) has.listed).0 ∙ has.object ∙ ap its_object was
   ] refl
 
-  flushed : IsFlushed new
-  flushed = record { clean = ap (λ (s : State). s.unsaved) purged.left ∙ clean; trees = tree_there }
-
 pub purged_are_flushed : PurgedAreFlushed
-purged_are_flushed old new clean trees purged sound none = flushed old new clean trees purged sound none
+purged_are_flushed old new clean trees purged sound none = record { clean = ap (λ (s : State). s.unsaved) purged.left ∙ clean; trees = tree_there old new clean trees purged sound none }

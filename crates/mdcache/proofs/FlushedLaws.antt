@@ -132,25 +132,20 @@ module _ (s : State) (sound : IsSound s) (saved : IsFlushed s) where
   says : (dir : Ino) → is_known s.homes dir.0 ≡ true → SaysLeaves (tree_of s.objects dir) (leaves dir)
   says dir known = ⊎_elim (λ one. subst (λ o. SaysLeaves o (leaves dir)) (sym one.0) one.1) (λ several. subst (λ o. SaysLeaves o (leaves dir)) (sym several.0) several.1.header) (one_or_several dir known)
 
-  cold : IsColdTree s.objects (shown_tree s)
-  cold = shows_cold s saved.clean says (sound_leaves s sound) sound.tabled (λ dir object known there. ⊎_elim (λ one. let clash : None ≡ Some object = sym one.0 ∙ there in absurd cc)
-      (λ several. subst (λ o. SpellsTreeObject o (leaves dir)) (same_Some (tree_object (leaves dir)) object (sym several.0 ∙ there)) several.1) (one_or_several dir known))
-
-  -- once all is purged its objects are exact
-  exact : s.purge ≡ map.empty → AreExact s
-  exact purged = record {
-    only = λ name some. ⊎_elim (λ leaf. inl leaf) (λ rest. ⊎_elim
-        (λ dir.
-        let known = known_by_row s.homes s.covers sound.table dir.0.0 dir.1 in
-        ⊎_elim (λ one. let clash : false ≡ true = ap is_some (sym one.0) ∙ subst (λ n. is_some (map.get s.objects n) ≡ true) dir.2 some in absurd cc)
-        (λ several. inr (dir.0, known, several.1.header.several, dir.2)) (one_or_several dir.0 known))
-        (λ listed. let clash : false ≡ true = ap is_some (sym (ap (λ p. map.get p name) purged ∙ get-empty _ name)) ∙ listed in absurd cc) rest) (sound.owned name some);
-    leaves = λ leaf live. elim (object_of s.objects leaf.0 leaf.1) as (λ o. IsSaved leaf.1 o → is_some o ≡ true) [ None ↦ λ has. absurd has | Some object ↦ λ has. refl ] (sound.saved leaf live (none_unsaved s saved.clean says leaf));
-    trees = λ dir known more. ap is_some (saved.trees dir known ∙ ap (λ b. cond b (Some (tree_object (leaves dir))) None) (lt-ltb 1 (length (leaves dir)) more));
-  }
-
 pub flushed_is_cold : FlushedIsCold
-flushed_is_cold s sound saved = cold s sound saved
+flushed_is_cold s sound saved = shows_cold s saved.clean (says s sound saved) (sound_leaves s sound) sound.tabled (λ dir object known there. ⊎_elim (λ one. let clash : None ≡ Some object = sym one.0 ∙ there in absurd cc)
+    (λ several. subst (λ o. SpellsTreeObject o (leaves_of s.covers dir.0)) (same_Some (tree_object (leaves_of s.covers dir.0)) object (sym several.0 ∙ there)) several.1) (one_or_several s sound saved dir known))
 
+-- once all is purged its objects are exact
 pub purged_are_exact : PurgedAreExact
-purged_are_exact s sound saved purged = exact s sound saved purged
+purged_are_exact s sound saved purged = record {
+  only = λ name some. ⊎_elim (λ leaf. inl leaf) (λ rest. ⊎_elim
+      (λ dir.
+      let known = known_by_row s.homes s.covers sound.table dir.0.0 dir.1 in
+      ⊎_elim (λ one. let clash : false ≡ true = ap is_some (sym one.0) ∙ subst (λ n. is_some (map.get s.objects n) ≡ true) dir.2 some in absurd cc)
+      (λ several. inr (dir.0, known, several.1.header.several, dir.2)) (one_or_several s sound saved dir.0 known))
+      (λ listed. let clash : false ≡ true = ap is_some (sym (ap (λ p. map.get p name) purged ∙ get-empty _ name)) ∙ listed in absurd cc) rest) (sound.owned name some);
+  leaves = λ leaf live.
+      elim (object_of s.objects leaf.0 leaf.1) as (λ o. IsSaved leaf.1 o → is_some o ≡ true) [ None ↦ λ has. absurd has | Some object ↦ λ has. refl ] (sound.saved leaf live (none_unsaved s saved.clean (says s sound saved) leaf));
+  trees = λ dir known more. ap is_some (saved.trees dir known ∙ ap (λ b. cond b (Some (tree_object (leaves_of s.covers dir.0))) None) (lt-ltb 1 (length (leaves_of s.covers dir.0)) more));
+}

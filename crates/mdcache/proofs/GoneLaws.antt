@@ -18,14 +18,13 @@ use Rattle.mdcache.proofs.TextLaws.{no_tree_text, one_text}
 
 pub get_without : {X : Type 0} (kept : map.FinMap leaf_cmp X) (ls : List Leaf) (q : Leaf) → map.get (without_leaves kept ls) q ≡ cond (list_any (leaf_is q) ls) None (map.get kept q)
 get_without kept [] q = refl
-get_without kept (l ∷ ls) q =
+get_without {X = X} kept (l ∷ ls) q =
     get_without (map.remove kept l) ls q
     ∙ ap (λ o. cond (list_any (leaf_is q) ls) None o) (get-remove leaf-total kept l q ∙ ap (λ (b : Bool). cond b None (map.get kept q)) (tied_leaf q l))
-    ∙ elim (leaf_is q l) as (λ c. cond (list_any (leaf_is q) ls) None (cond c None (map.get kept q)) ≡ cond (c || list_any (leaf_is q) ls) None (map.get kept q)) [ true ↦ cond_same (list_any (leaf_is q) ls) None | false ↦ refl ]
-  where
-    cond_same : {A : Type 0} (b : Bool) (x : A) → cond b x x ≡ x
-    cond_same true x = refl
-    cond_same false x = refl
+    ∙ elim (leaf_is q l) as (λ c. cond (list_any (leaf_is q) ls) None (cond c None (map.get kept q)) ≡ cond (c || list_any (leaf_is q) ls) None (map.get kept q)) [
+      | true ↦ elim (list_any (leaf_is q) ls) as (λ b. cond {A = Option X} b None None ≡ None) [ true ↦ refl | false ↦ refl ]
+      | false ↦ refl
+    ]
 
 -- a leaf of a directory is one of those of it,
 pub one_of_those : (d : ℕ) (q : Leaf) (fs : List Fragment) → q.0.0 ≡ d → HasLeaf fs q.1 → Contains (each (in_directory d) fs) q

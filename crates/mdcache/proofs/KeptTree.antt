@@ -37,25 +37,16 @@ steps_keep_tree old mid new first second = record {
 }
 
 -- a step that leaves the caches, and of the state all but objects, jobs, purge list and the next job's number
-module _ (old new : Core) (caches : new.caches ≡ old.caches) where
-  pub keeps_tree : (objects : Objects) (jobs : Jobs) (purge : Keys) (next : ℕ) → state_of new ≡ record (state_of old) { objects = objects; jobs = jobs; purge = purge; next_job = next } → shown_tree (state_of new) ≡ shown_tree (state_of old) → KeepsTree old new
-  keeps_tree objects jobs purge next left tree = record {
-    limit = ap (λ (s : State). s.limit) left;
-    homes = ap (λ (s : State). s.homes) left;
-    covers = ap (λ (s : State). s.covers) left;
-    counts = ap (λ (s : State). s.counts) left;
-    pins = ap (λ (s : State). s.pins) left;
-    tree = tree;
-    generation = ap (λ (s : State). s.next_generation) left;
-    version = ap (λ (s : State). s.next_version) left;
-    caches = subst (λ c. Came (HasFragment old.caches) NoneEnds old.caches c) (sym caches) it_stays;
-  }
-
-  pub saved_keeps : SavesTrees (state_of old) (state_of new) → KeepsTree old new
-  saved_keeps saved = keeps_tree new.objects old.jobs new.purge old.next_job saved.left saved.tree
-
-  pub purged_keeps : ArePurged (state_of old) (state_of new) → KeepsTree old new
-  purged_keeps purged = keeps_tree new.objects old.jobs new.purge old.next_job purged.left purged.tree
-
-  pub jobless_keeps : state_of new ≡ record (state_of old) { jobs = map.empty } → KeepsTree old new
-  jobless_keeps left = keeps_tree old.objects map.empty old.purge old.next_job left (ap shown_tree left)
+pub keeps_tree : (old new : Core) → new.caches ≡ old.caches → (objects : Objects) (jobs : Jobs) (purge : Keys) (next : ℕ)
+    → state_of new ≡ record (state_of old) { objects = objects; jobs = jobs; purge = purge; next_job = next } → shown_tree (state_of new) ≡ shown_tree (state_of old) → KeepsTree old new
+keeps_tree old new caches objects jobs purge next left tree = record {
+  limit = ap (λ (s : State). s.limit) left;
+  homes = ap (λ (s : State). s.homes) left;
+  covers = ap (λ (s : State). s.covers) left;
+  counts = ap (λ (s : State). s.counts) left;
+  pins = ap (λ (s : State). s.pins) left;
+  tree = tree;
+  generation = ap (λ (s : State). s.next_generation) left;
+  version = ap (λ (s : State). s.next_version) left;
+  caches = subst (λ c. Came (HasFragment old.caches) NoneEnds old.caches c) (sym caches) it_stays;
+}
