@@ -1,5 +1,5 @@
 -- What the steps of a flush end in.
-use Rattle.mdcache.proofs.Common.{AreExact, ArePurged, Err, Frag, Fragment, HasTrees, Ino, IsColdTree, IsFlushed, IsOwned, IsSound, List, None, ObjName, Ok, Omap, OnOk, Option, PurgedAreFlushed, Refusal, Result, Some, State, ap, cond, false, get-empty, inl, inr, is_known, is_some, length, nat_lt, or_whole, refl, shown_tree, subst, sym, texts_differ, tree_object, tree_text, true, ℕ, ◌∙◌, ◌≡◌}
+use Rattle.mdcache.proofs.Common.{ArePurged, Fragment, HasTrees, Ino, IsOwned, IsSound, List, None, Omap, Option, PurgedAreFlushed, Some, State, ap, cond, false, get-empty, inl, inr, is_known, is_some, length, nat_lt, or_whole, refl, sym, tree_object, tree_text, true, ◌∙◌, ◌≡◌}
 use Rattle.std.specs.FinMap as map
 use Rattle.mdcache.proofs.CoverRows.{known_by_row}
 use Rattle.mdcache.proofs.NoNames.{none_unless}
@@ -28,15 +28,12 @@ module _ (s : State) (sound : IsSound s) (none : s.purge ≡ map.empty) (dir : I
 
 module _ (mid new : State) (clean : mid.unsaved ≡ map.empty) (trees : HasTrees mid) (purged : ArePurged mid new)
     (sound : IsSound new) (none : new.purge ≡ map.empty) where
-  covers : new.covers ≡ mid.covers
-  covers = ap (λ (s : State). s.covers) purged.left
-
   tree_there : (dir : Ino) → is_known new.homes dir.0 ≡ true
       → map.get new.objects (tree_text dir) ≡ its_object (map.get new.covers dir.0)
   tree_there dir known = elim (map.get new.covers dir.0) as (λ row. map.get new.covers dir.0 ≡ row → map.get new.objects (tree_text dir) ≡ its_object row) [
     | None ↦ λ unset. no_object new sound none dir known unset
     | Some leaves ↦ λ set.
-        let was : map.get mid.covers dir.0 ≡ Some leaves = ap (λ c. map.get c dir.0) (sym covers) ∙ set in
+        let was : map.get mid.covers dir.0 ≡ Some leaves = sym (ap (λ (s : State). map.get s.covers dir.0) purged.left) ∙ set in
         let has = trees dir (ap is_some was) in
         (purged.others (tree_text dir) has.listed).0 ∙ has.object ∙ ap its_object was
   ] refl

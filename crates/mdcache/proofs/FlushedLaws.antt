@@ -1,5 +1,5 @@
 -- The cold tree of a state of which all is saved is the shown tree, and once all is purged its objects are exact.
-use Rattle.mdcache.proofs.Common.{AreExact, Bool, FlushedIsCold, Fragment, HasLeaf, HasNoFault, HasRecords, Home, Ino, Inode, IsColdLeaf, IsColdTree, IsFaulty, IsFlushed, IsFragment, IsLive, IsOwned, IsPick, IsReached, IsRecord, IsSamePlace, IsSaved, IsSound, IsTabled, IsTree, List, Loads, Names, None, Omap, Option, PurgedAreExact, Reaches, Record, SaysLeaves, Some, SpellsTreeObject, State, [], ap, arith, cond, dentry_of, eqb-true, false, get-empty, hash_of, inl, inr, is_known, is_some, key_cmp, known_by, leaves_of, length, lt-ltb, ltb-true, names_at, nat_lt, object_of, one_pick, one_tree, or_cases, or_right, pow-lt, refl, root_fragment, same_Some, same_or_apart, shown_at, shown_tree, some_pick, span, subst, suc, sym, text_of, tree_object, tree_of, tree_of_row, tree_text, true, zero, ℕ, ⊎_elim, ◌+◌, ◌-◌, ◌<◌, ◌==◌, ◌^◌, ◌∙◌, ◌∷◌, ◌≡◌, ◌⊎◌}
+use Rattle.mdcache.proofs.Common.{FlushedIsCold, Fragment, HasLeaf, HasNoFault, HasRecords, Ino, Inode, IsColdLeaf, IsColdTree, IsFaulty, IsFlushed, IsLive, IsPick, IsReached, IsRecord, IsSaved, IsSound, IsTabled, IsTree, List, Names, None, Omap, Option, PurgedAreExact, Reaches, Record, SaysLeaves, Some, SpellsTreeObject, State, [], ap, arith, cond, dentry_of, eqb-true, false, get-empty, hash_of, inl, inr, is_known, is_some, key_cmp, known_by, leaves_of, length, lt-ltb, ltb-true, names_at, nat_lt, object_of, one_pick, or_cases, pow-lt, refl, root_fragment, same_Some, same_or_apart, shown_at, shown_tree, subst, suc, sym, tree_object, tree_of, tree_of_row, true, zero, ℕ, ⊎_elim, ◌-◌, ◌<◌, ◌==◌, ◌^◌, ◌∙◌, ◌∷◌, ◌≡◌, ◌⊎◌}
 use Rattle.std.proofs.lemmas.Bool.{cond_both, ltb-false}
 use Rattle.std.specs.FinMap as map
 use Rattle.mds_types.specs.Leaf.{Leaf}
@@ -129,6 +129,7 @@ module _ (s : State) (sound : IsSound s) (saved : IsFlushed s) where
       cond_both (nat_lt 1 (length (leaves dir))) (Some (tree_object (leaves dir))) None (λ o. tree_of s.objects dir ≡ o → OneOrSeveral dir)
       (λ more is. inr (is, record { header = record { tree = tree; several = ltb-true 1 _ more; spelled = refl }; pairs = refl })) (λ few is. inl (is, one_leaf (leaves dir) tree few)) (saved.trees dir known)
 
+  -- so its leaves in the store are those of the table
   says : (dir : Ino) → is_known s.homes dir.0 ≡ true → SaysLeaves (tree_of s.objects dir) (leaves dir)
   says dir known = ⊎_elim (λ one. subst (λ o. SaysLeaves o (leaves dir)) (sym one.0) one.1) (λ several. subst (λ o. SaysLeaves o (leaves dir)) (sym several.0) several.1.header) (one_or_several dir known)
 

@@ -31,9 +31,6 @@ module _ (names : Fragment → Names) (after : Option (List ℕ)) where
   abbrev rows : Fragment → List Row
   rows f = rows_after after (map.entries (names f))
 
-  pub rows_sorted : (f : Fragment) → T (is_sorted key_cmp (rows f))
-  rows_sorted f = is_sorted-where_key key_cmp (is_after after) (map.entries (names f)) (entries_sorted (names f))
-
   gathered_sorted : (es : List Row) (fs : List Fragment) → T (is_sorted key_cmp es) → T (is_sorted key_cmp (gathered names after es fs))
   gathered_sorted es [] sorted = sorted
   gathered_sorted es (f ∷ fs) sorted = gathered_sorted (puts key_cmp es (rows f)) fs (puts_sorted es (rows f) sorted)
@@ -54,7 +51,7 @@ module _ (names : Fragment → Names) (after : Option (List ℕ)) where
     or_told a b told tells = ⊎_elim (λ none. subst (Tells v) (sym (ap (λ o. option_or o b) none)) tells) (λ is. inr (or_is a b is tells)) told
 
     after_leaf : (es : List Row) (f : Fragment) → find key_cmp q (puts key_cmp es (rows f)) ≡ option_or (find key_cmp q (rows f)) (find key_cmp q es)
-    after_leaf es f = find-puts es (rows f) q (rows_sorted f)
+    after_leaf es f = find-puts es (rows f) q (is_sorted-where_key key_cmp (is_after after) (map.entries (names f)) (entries_sorted (names f)))
 
     -- what is found stays, and what one leaf has is found
     found : (es : List Row) (fs : List Fragment) → ((f : Fragment) → Contains fs f → Tells v (find key_cmp q (rows f))) → Tells v (find key_cmp q es)

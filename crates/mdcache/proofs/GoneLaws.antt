@@ -110,18 +110,6 @@ module _ (s : State) (sound : HasSoundLeaves s) (dir : Ino) (may : MayGo s.homes
   pub left_names : (leaf : Leaf) → (leaf.0.0 ≡ dir.0 → ⊥) → names_of left.unsaved left.objects leaf ≡ names_of s.unsaved s.objects leaf
   left_names leaf apart = names_alike s left leaf (kept_on s.unsaved leaf apart) refl
 
-  owned_left : (name : List ℕ) → IsOwned s name → IsOwned left name
-  owned_left name (inl leaf) = ⊎_elim
-      (λ same. inr (inr (ap (λ (n : List ℕ). is_some (map.get left.purge n)) leaf.2
-      ∙ leaf_listed (map.insert s.purge (tree_text dir) tt) ls leaf.0 (one_of_those dir.0 leaf.0 (leaves_of s.covers dir.0) same (subst (λ (d : ℕ). HasLeaf (leaves_of s.covers d) leaf.0.1) same leaf.1.stands)))))
-      (λ apart. inl (leaf.0, left_live leaf.0 apart leaf.1, leaf.2)) (same_number leaf.0.0.0 dir.0)
-  owned_left name (inr (inl d)) = ⊎_elim
-      (λ same.
-      let its : d.0 ≡ dir = λ i. record { 0 = same i } in
-      inr (inr (ap (λ (n : List ℕ). is_some (map.get left.purge n)) (d.2 ∙ ap tree_text its) ∙ stays_listed (map.insert s.purge (tree_text dir) tt) (each text_of ls) (tree_text dir) (ap is_some (get_put s.purge (tree_text dir) tt)))))
-      (λ apart. inr (inl (d.0, row_left s.covers dir.0 d.0.0 apart d.1, d.2))) (same_number d.0.0 dir.0)
-  owned_left name (inr (inr listed)) = inr (inr (stays_listed s.purge (objects_of s dir) name listed))
-
   pub left_leaves : HasSoundLeaves left
   left_leaves = record {
     table = dropped_table s.homes s.covers dir.0 sound.table may.childless;
@@ -131,7 +119,17 @@ module _ (s : State) (sound : HasSoundLeaves s) (dir : Ino) (may : MayGo s.homes
         subst (λ (fs : List Fragment). IsPick fs (hash_of name) leaf.1) (sym (cover_on leaf.0.0 b.0)) (sound.placed leaf name inode b.1 (ap (λ (n : Names). map.get n name) (sym (left_names leaf b.0)) ∙ has));
     unsaved = λ q u is. let b = kept_back s.unsaved q u (λ v there. (sound.unsaved q v there).live) is in let old = sound.unsaved q u b.1 in record { live = left_live q b.0 old.live; made = old.made; young = old.young };
     saved = λ leaf live clean. let b = live_back leaf live in sound.saved leaf b.1 (sym (kept_on s.unsaved leaf b.0) ∙ clean);
-    owned = λ name there. owned_left name (sound.owned name there);
+    owned = λ name there. ⊎_elim
+        (λ leaf. ⊎_elim
+        (λ same. inr (inr (ap (λ (n : List ℕ). is_some (map.get left.purge n)) leaf.2
+        ∙ leaf_listed (map.insert s.purge (tree_text dir) tt) ls leaf.0 (one_of_those dir.0 leaf.0 (leaves_of s.covers dir.0) same (subst (λ (d : ℕ). HasLeaf (leaves_of s.covers d) leaf.0.1) same leaf.1.stands)))))
+        (λ apart. inl (leaf.0, left_live leaf.0 apart leaf.1, leaf.2)) (same_number leaf.0.0.0 dir.0))
+        (λ rest. ⊎_elim
+        (λ d. ⊎_elim
+        (λ same. inr (inr (ap (λ (n : List ℕ). is_some (map.get left.purge n)) (d.2 ∙ ap (λ (n : ℕ). tree_text (record { 0 = n })) same)
+        ∙ stays_listed (map.insert s.purge (tree_text dir) tt) (each text_of ls) (tree_text dir) (ap is_some (get_put s.purge (tree_text dir) tt)))))
+        (λ apart. inr (inl (d.0, row_left s.covers dir.0 d.0.0 apart d.1, d.2))) (same_number d.0.0 dir.0))
+        (λ listed. inr (inr (stays_listed s.purge (objects_of s dir) name listed))) rest) (sound.owned name there);
     listed = λ leaf live.
         let b = live_back leaf live in
         not_listed (map.insert s.purge (tree_text dir) tt) dir.0 (text_of leaf) (leaves_of s.covers dir.0)

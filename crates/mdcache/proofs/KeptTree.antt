@@ -1,5 +1,5 @@
 -- What each step of a flush keeps.
-use Rattle.mdcache.proofs.Common.{ArePurged, At, Bool, CacheMap, Came, Core, HasFragment, IsThere, Jobs, KeepsTree, Keys, Leaf, None, NoneEnds, Objects, Option, SavesTrees, Some, State, StepsKeepTree, ap, at_rank, came_held, came_then, came_weaker, cond, eq-eqb, eqb-true, false, inl, inr, refl, shown_tree, state_of, subst, sym, true, ℕ, ⊎_elim, ◌==◌, ◌∙◌, ◌≡◌, ◌⊎◌}
+use Rattle.mdcache.proofs.Common.{At, CacheMap, Came, Core, HasFragment, IsThere, Jobs, KeepsTree, Keys, Leaf, None, NoneEnds, Objects, Option, Some, State, StepsKeepTree, ap, at_rank, came_held, came_then, came_weaker, cond, eq-eqb, eqb-true, refl, shown_tree, state_of, subst, sym, ℕ, ⊎_elim, ◌==◌, ◌∙◌, ◌≡◌}
 use Rattle.std.proofs.lemmas.Bool.{cond_both}
 use Rattle.std.specs.FinMap as map
 use Rattle.dentry_cache.specs.Came.Came.{stays as it_stays}

@@ -45,16 +45,15 @@ module _ (limit : ℕ) (objects : Objects) (tree : Tree) (homes : Homes) (covers
   saved : (leaf : Leaf) → IsLive homes covers leaf → IsSaved leaf.1 (object_of objects leaf.0 leaf.1)
   saved leaf live = w.whole leaf (reached_there leaf.0.0 live.known) (cold_leaf s refl w.leaves leaf live)
 
-  -- a directory whose tree object is there has several leaves, so they were set
-  has_row : (dir : Ino) → is_known homes dir.0 ≡ true → is_some (tree_of objects dir) ≡ true → is_some (map.get covers dir.0) ≡ true
-  has_row dir known = elim (tree_of objects dir) as (λ o. SaysLeaves o (leaves_of covers dir.0) → is_some o ≡ true → is_some (map.get covers dir.0) ≡ true) [
-    | None ↦ λ said some. absurd cc
-    | Some object ↦ λ said some. several_in_row covers dir.0 said.several
-  ] (w.leaves dir known)
-
+  -- a tree object that is there says several leaves, so they were set
   owned : (name : List ℕ) → is_some (map.get objects name) ≡ true → IsReachedObject objects name ⊎ (is_some (map.get purge name) ≡ true) → IsOwned s name
   owned name some (inl (inl (leaf, above, of, is))) = inl (leaf, live_leaf s refl w.leaves leaf (known_there leaf.0.0 above) of, is)
-  owned name some (inl (inr (dir, above, is))) = inr (inl (dir, has_row dir (known_there dir.0 above) (subst (λ n. is_some (map.get objects n) ≡ true) is some), is))
+  owned name some (inl (inr (dir, above, is))) =
+      let row = elim (tree_of objects dir) as (λ o. SaysLeaves o (leaves_of covers dir.0) → is_some o ≡ true → is_some (map.get covers dir.0) ≡ true) [
+        | None ↦ λ said some. absurd cc
+        | Some object ↦ λ said some. several_in_row covers dir.0 said.several
+      ] in
+      inr (inl (dir, row (w.leaves dir (known_there dir.0 above)) (subst (λ n. is_some (map.get objects n) ≡ true) is some), is))
   owned name some (inr listed) = inr (inr listed)
 
   leaves_sound : HasSoundLeaves s

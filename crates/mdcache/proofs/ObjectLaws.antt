@@ -77,17 +77,12 @@ tree_saved_right s dir sound known = other_changed s (tree_text dir) (with_tree_
     leaves : List Fragment
     leaves = leaves_of s.covers dir.0
 
-abbrev no_pairs : PairMap
-no_pairs = map.empty
-
-abbrev no_keys : Keys
-no_keys = map.empty
-
 -- the write of a tree's object: its header, and no pairs
-pub tree_written : (objects : Objects) (name header : List ℕ) → written objects name (record { clear = true; header = Some header; set = no_pairs; remove = no_keys }) ≡ map.insert objects name (record { header = header; pairs = no_pairs })
+pub tree_written : (objects : Objects) (name header : List ℕ)
+    → written objects name (record { clear = true; header = Some header; set = map.empty; remove = map.empty }) ≡ map.insert objects name (record { header = header; pairs = map.empty })
 unfolding written
 tree_written objects name header =
-    let op : WriteOp = record { clear = true; header = Some header; set = no_pairs; remove = no_keys } in
-    let nothing_left : without_keys no_pairs no_keys ≡ no_pairs = same_map nat_list_cmp_total exact_bytes (without_keys no_pairs no_keys) no_pairs (λ q. get-without_keys exact_bytes no_pairs no_keys q
-    ∙ elim (map.contains_key no_keys q) as (λ b. cond b None (map.get no_pairs q) ≡ map.get no_pairs q) [ true ↦ sym (get-empty key_cmp q) | false ↦ refl ]) in
-    ap (map.insert objects name) (sym (applied-by-parts op (unwrap_or (map.get objects name) empty_omap) header no_pairs refl (sym (ap (λ (pairs : PairMap). without_keys pairs no_keys) (overlaid-empty no_pairs) ∙ nothing_left))))
+    let op : WriteOp = record { clear = true; header = Some header; set = map.empty; remove = map.empty } in
+    let nothing_left : without_keys op.set op.remove ≡ op.set = same_map nat_list_cmp_total exact_bytes (without_keys op.set op.remove) op.set (λ q. get-without_keys exact_bytes op.set op.remove q
+    ∙ elim (map.contains_key op.remove q) as (λ b. cond b None (map.get op.set q) ≡ map.get op.set q) [ true ↦ sym (get-empty key_cmp q) | false ↦ refl ]) in
+    ap (map.insert objects name) (sym (applied-by-parts op (unwrap_or (map.get objects name) empty_omap) header op.set refl (sym (ap (λ (pairs : PairMap). without_keys pairs op.remove) (overlaid-empty op.set) ∙ nothing_left))))

@@ -1,5 +1,5 @@
 -- The trees of directories are saved, one after the other.
-use Rattle.mdcache.proofs.Common.{Bool, Covers, Err, Frag, HasTree, HasTrees, Ino, IsAsBefore, IsSound, List, MayRefuse, None, ObjName, Ok, Option, Refusal, SavesTree, SavesTrees, Some, State, [], ap, arith, cond, eq_by_cmp, eqb-true, false, first_has_tree, first_tree_known, get-empty, get_beside, get_left, get_put, get_removed, inl, inr, is_some, leaves_of, length, list_any, nat_cmp, nat_lt, next_tree_after, or_cases, refl, same_or_apart, shown_tree, slice_get, subst, sym, texts_differ, tree_object, tree_saved, tree_text, trees_after, true, unsigned_tied, ℕ, ⊎_elim, ◌<◌, ◌^◌, ◌∙◌, ◌∷◌, ◌≡◌, ◌⊎◌}
+use Rattle.mdcache.proofs.Common.{Covers, Err, HasTree, HasTrees, Ino, IsAsBefore, IsSound, List, MayRefuse, None, Ok, Option, Refusal, SavesTree, SavesTrees, Some, State, [], ap, arith, eq_by_cmp, eqb-true, false, first_has_tree, first_tree_known, get-empty, get_left, get_removed, inl, inr, is_some, leaves_of, length, list_any, nat_cmp, next_tree_after, or_cases, refl, same_or_apart, shown_tree, slice_get, subst, sym, texts_differ, tree_saved, tree_text, trees_after, true, unsigned_tied, ℕ, ⊎_elim, ◌<◌, ◌^◌, ◌∙◌, ◌∷◌, ◌≡◌, ◌⊎◌}
 use Rattle.std.specs.FinMap as map
 use Rattle.mds_types.specs.declared.object_names.ObjName.TheVariants.{Tree}
 use Rattle.mdcache.proofs.CoverRows.{known_by_row}
@@ -26,40 +26,34 @@ one_tree_text a b p q same =
     let one : a ≡ b = cc in
     ap (λ (d : Ino). d.0) one
 
--- what is so of a tree stays so where its object does
-stays_so : (now new : State) (dir : Ino) → new.covers ≡ now.covers → HasTree now dir → IsAsBefore now new (tree_text dir) → HasTree new dir
-stays_so now new dir covers has same = record {
-  object = same.0 ∙ has.object ∙ ap (λ c. cond (nat_lt 1 (length (leaves_of c dir.0))) (Some (tree_object (leaves_of c dir.0))) None) (sym covers);
-  listed = same.1 ∙ has.listed;
-}
-
 -- a directory's tree is saved
 module _ (now : State) (numbered : (d : ℕ) → HasRow now d → d < 2 ^ 64) (dir : Ino) (row : HasRow now dir.0) where
   abbrev new : State
   new = tree_saved now dir
 
-  has_it : HasTree new dir
-  has_it = record { object = tree_here now.objects (tree_text dir) (leaves_of now.covers dir.0); listed = get_removed now.purge (tree_text dir) }
+  has_it : (d : Ino) → d.0 ≡ dir.0 → HasTree new d
+  has_it d same = subst (HasTree new) (λ i. record { 0 = sym same i }) (record { object = tree_here now.objects (tree_text dir) (leaves_of now.covers dir.0); listed = get_removed now.purge (tree_text dir) })
 
   beside : (q : List ℕ) → (q ≡ tree_text dir → ⊥) → IsAsBefore now new q
   beside q apart = (tree_beside now.objects (tree_text dir) (leaves_of now.covers dir.0) q apart, get_left now.purge (tree_text dir) q apart)
 
-  it_has : (d : Ino) → d.0 ≡ dir.0 → HasTree new d
-  it_has d same = subst (HasTree new) (λ i. record { 0 = sym same i }) has_it
-
   -- each other tree is as it was
   other_tree : (d : Ino) → HasRow now d.0 → (d.0 ≡ dir.0 → ⊥) → IsAsBefore now new (tree_text d)
   other_tree d there apart = beside (tree_text d) (λ same. apart (one_tree_text d dir (numbered d.0 there) (numbered dir.0 row) same))
+
+  -- and what is so of a tree stays so where its object does
+  stays_so : (d : Ino) → HasTree now d → IsAsBefore now new (tree_text d) → HasTree new d
+  stays_so d has same = record { object = same.0 ∙ has.object; listed = same.1 ∙ has.listed }
 
   saved_more : (old : State) → SavesTrees old now → shown_tree new ≡ shown_tree now → SavesTrees old new
   saved_more old so_far tree = record {
     left = ap (λ (s : State). record s { objects = new.objects; purge = new.purge }) so_far.left;
     tree = tree ∙ so_far.tree;
     others = λ q none. let was = so_far.others q none in let is = beside q (none dir (sym (same_row dir.0) ∙ row)) in (is.0 ∙ was.0, is.1 ∙ was.1);
-    each = λ d there. ⊎_elim (λ same. inl (it_has d same))
+    each = λ d there. ⊎_elim (λ same. inl (has_it d same))
         (λ apart.
         let is = other_tree d (same_row d.0 ∙ there) apart in
-        ⊎_elim (λ has. inl (stays_so now new d refl has is)) (λ was. inr (is.0 ∙ was.0, is.1 ∙ was.1)) (so_far.each d there)) (same_or_apart d.0 dir.0);
+        ⊎_elim (λ has. inl (stays_so d has is)) (λ was. inr (is.0 ∙ was.0, is.1 ∙ was.1)) (so_far.each d there)) (same_or_apart d.0 dir.0);
   }
     where
       same_row : (d : ℕ) → is_some (map.get now.covers d) ≡ is_some (map.get old.covers d)
@@ -67,11 +61,11 @@ module _ (now : State) (numbered : (d : ℕ) → HasRow now d → d < 2 ^ 64) (d
 
   -- those that are left are one less
   fewer_left : (after : Option Ino) → map.get now.homes 1 ≡ None → slice_get (trees_after now.homes now.covers after) 0 ≡ Some dir.0 → AreDone now after → (d : Ino) → HasRow now d.0 → IsLater now (Some dir) d.0 ⊎ HasTree new d
-  fewer_left after rootless first so_far d there = ⊎_elim (λ same. inr (it_has d same))
+  fewer_left after rootless first so_far d there = ⊎_elim (λ same. inr (has_it d same))
       (λ apart. ⊎_elim
       (λ listed. ⊎_elim (λ this. absurd (apart (eqb-true d.0 dir.0 (sym (unsigned_tied d.0 dir.0) ∙ this)))) (λ later. inl later)
       (or_cases (eq_by_cmp nat_cmp d.0 dir.0) _ (sym (ap (list_any (eq_by_cmp nat_cmp d.0)) (next_tree_after now.homes now.covers rootless after dir first)) ∙ listed)))
-      (λ has. inr (stays_so now new d refl has (other_tree d there apart))) (so_far d there)) (same_or_apart d.0 dir.0)
+      (λ has. inr (stays_so d has (other_tree d there apart))) (so_far d there)) (same_or_apart d.0 dir.0)
 
 -- without rows there is no turn
 pub no_first : (s : State) (after : Option Ino) (dir : Ino) → slice_get (trees_after s.homes s.covers after) 0 ≡ Some dir.0 → s.covers ≡ map.empty → ⊥
