@@ -1,5 +1,5 @@
 -- Writes that are made side by side: what the results are of each job, and what is collected of them.
-use Rattle.mdcache.proofs.Common.{AllZip, Begun, Contains, Err, IfErr, IfOk, IsReadied, List, MatchOption, MatchResult, NoMemory, None, Ok, Option, Ready, Refusal, Result, Some, Vec, [], arith, length, ready_of, refl, slice_get, slice_index_or, subst, suc, sym, zero, ℕ, ◌<◌, ◌∙◌, ◌∷◌, ◌≡◌}
+use Rattle.mdcache.proofs.Common.{AllZip, Begun, Contains, Err, IfErr, IfOk, IsReadied, List, MatchOption, MatchResult, NoMemory, None, Ok, Ready, Refusal, Result, Some, Vec, [], length, ready_of, refl, slice_get, subst, sym, ◌∙◌, ◌∷◌, ◌≡◌}
 use Rattle.std.specs.Prelude.{IsSomeAnd}
 use Rattle.std.proofs.Common.{map as list_map}
 use Rattle.std.proofs.lemmas.Option.{slice_get_read}

@@ -1,5 +1,5 @@
 -- Directories come, go and move: the leaves are sound as before, and the tree stays.
-use Rattle.mdcache.proofs.Common.{Bool, Covers, Dentry, Fragment, HasLeaf, Home, Homes, Ino, Inode, IsLive, IsOwned, IsPick, IsSaved, IsStanding, IsTable, IsUnsaved, Job, Keys, Leaf, List, MayCome, MayMove, Names, None, Option, Some, State, Unsaved, [], adopted_table, ap, arith, cond, dentry-exact, dentry-total, dir_or_not, eq_by_cmp, false, first_leaf, first_or_later, get-empty, get-insert, get-remove, get_left, get_removed, hash_of, home_at, inl, inr, is_apart, is_dir_kind, is_known, is_some, just_made, key_cmp, known_by, leaf-total, leaf_is, leaf_itself, leaf_or_apart, leaves_of, moved_table, nat_list_cmp_total, object_of, one_leaf, only_below, or_whole, refl, root_fragment, same_Some, same_map, shown_at, shown_tree, still_known, subst, sym, text_of, tied_leaf, true, with_dir, with_directory, with_file, with_home, zero, ℕ, ⊎_elim, ◌<◌, ◌==◌, ◌^◌, ◌||◌, ◌∙◌, ◌∷◌, ◌≡◌, ◌⊎◌}
+use Rattle.mdcache.proofs.Common.{Covers, Dentry, Fragment, HasLeaf, Home, Homes, Ino, Inode, IsLive, IsPick, IsTable, IsUnsaved, Leaf, List, MayCome, MayMove, Names, None, Option, Some, State, Unsaved, [], adopted_table, ap, arith, dentry-exact, dentry-total, false, first_leaf, get-empty, get_left, get_removed, hash_of, home_at, inl, inr, is_apart, is_dir_kind, is_known, is_some, just_made, key_cmp, known_by, leaves_of, moved_table, object_of, only_below, or_whole, refl, root_fragment, same_Some, same_map, shown_at, shown_tree, still_known, subst, sym, text_of, true, with_directory, with_home, zero, ℕ, ⊎_elim, ◌<◌, ◌==◌, ◌^◌, ◌||◌, ◌∙◌, ◌∷◌, ◌≡◌, ◌⊎◌}
 use Rattle.std.proofs.lemmas.Bool.{cond_both}
 use Rattle.std.specs.FinMap as map
 use Rattle.mds_types.proofs.LeafLaws.{get_beside, get_put, same_or_apart as leaf_or_other}

@@ -1,5 +1,5 @@
 -- What a walk finds that meets no faulty object is a sound tree, and the one that is shown.
-use Rattle.mdcache.proofs.Common.{AreCached, Bool, CacheMap, Core, Counts, Covers, Dentry, DirPins, Err, Fragment, HasLeaf, Home, Homes, IfOk, Ino, Inode, IsColdLeaf, IsColdTree, IsCounted, IsLive, IsMounted, IsNew, IsOwned, IsPick, IsReached, IsReachedObject, IsRecord, IsSaved, IsSound, IsSoundCore, IsTabled, IsTree, IsWalked, KeepsNone, Keys, List, Names, None, Objects, Ok, Omap, Option, Result, SaysLeaves, Some, State, Tree, allowed, ap, arith, dentry-exact, dentry-total, dentry_of, eqb-true, false, get-empty, hash_of, inl, inr, is_cold, is_dir_kind, is_known, is_some, leaves_of, mounted, names_at, no_caches, object_of, one_tree, or_cases, pick_from_leaf, refl, said_tree, same_map, shown_at, shown_in, shown_tree, some_pick, spells_what_it_shows, state_of, subst, sym, text_of, tree_of, true, unclean, walked_is_tabled, ℕ, ⊎_elim, ◌<◌, ◌==◌, ◌^◌, ◌∙◌, ◌≡◌, ◌⊎◌}
+use Rattle.mdcache.proofs.Common.{AreCached, CacheMap, Core, Counts, Covers, DirPins, Err, Homes, IfOk, IsColdTree, IsCounted, IsLive, IsMounted, IsNew, IsOwned, IsReached, IsReachedObject, IsRecord, IsSaved, IsSound, IsSoundCore, IsTabled, IsWalked, KeepsNone, Keys, List, Names, None, Objects, Ok, Result, SaysLeaves, Some, State, Tree, allowed, ap, arith, eqb-true, hash_of, inl, inr, is_cold, is_dir_kind, is_known, is_some, leaves_of, mounted, no_caches, object_of, or_cases, pick_from_leaf, refl, said_tree, shown_in, shown_tree, state_of, subst, sym, text_of, tree_of, true, unclean, walked_is_tabled, ℕ, ⊎_elim, ◌<◌, ◌==◌, ◌^◌, ◌∙◌, ◌≡◌, ◌⊎◌}
 use Rattle.std.specs.FinMap as map
 use Rattle.mds_types.specs.Leaf.{Leaf, leaf_cmp}
 pub use Rattle.cold_store.specs.Rows.{IsIn}
@@ -9,7 +9,6 @@ use Rattle.cold_store.proofs.ColdLaws.{has_one_cold_tree}
 use Rattle.cold_store.proofs.Members.{in_empty, value_of}
 use Rattle.cold_store.proofs.ObjectLaws.{belongs}
 use Rattle.cold_store.specs.ColdTree.{Record}
-use Rattle.mdcache.specs.Shown.{names_of as shown_names}
 use Rattle.mdcache.proofs.CoverRows.{several_in_row}
 use Rattle.mdcache.proofs.NewLaws.{new_tree, none_held, none_kept, none_unclean}
 use Rattle.mdcache.proofs.NamedLaws.{HasSoundLeaves, sound_again}

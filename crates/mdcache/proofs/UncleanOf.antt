@@ -1,5 +1,5 @@
 -- What isn't clean of one rank, after reads and preparations; and where places lack.
-use Rattle.mdcache.proofs.Common.{AllByRecursion, AreCaches, At, Bool, CacheMap, Cached, CanNotKeep, IsDistinct, IsDistinct-cons, IsDistinct-head, IsDistinct-tail, IsThere, KeepsNone, Leaf, List, None, Objects, Option, Reads, Some, Unsaved, [], all_from, all_of, any_tied, ap, arith, at_rank, clean_in, cond, contains_key-keys, false, filter, get_tabulate, get_unclean, goes, going_at, here, inl, inr, is_clean, is_some, leaf-total, leaf_is, len-entries, length, loaded_clean, not, object_of, order, reads_held, reads_unclean, refl, room_unsaved, roomy, same_map, staying, suc, sym, true, unclean_at, unclean_in, unsaved_at, unsaved_in, ℕ, ◌&&◌, ◌+◌, ◌<◌, ◌==◌, ◌∙◌, ◌∷◌, ◌≡◌, ◌≤◌, ◌⊎◌}
+use Rattle.mdcache.proofs.Common.{AllByRecursion, AreCaches, At, Bool, CacheMap, Cached, CanNotKeep, IsDistinct, IsDistinct-cons, IsDistinct-head, IsDistinct-tail, IsThere, KeepsNone, Leaf, List, None, Objects, Option, Reads, Some, Unsaved, [], all_from, all_of, any_tied, ap, arith, at_rank, clean_in, cond, contains_key-keys, false, filter, get_tabulate, get_unclean, goes, going_at, here, inl, inr, is_clean, is_some, leaf-total, leaf_is, len-entries, length, loaded_clean, not, object_of, order, reads_held, reads_unclean, refl, room_unsaved, roomy, same_map, staying, sym, true, unclean_at, unclean_in, unsaved_at, unsaved_in, ℕ, ◌&&◌, ◌+◌, ◌<◌, ◌==◌, ◌∙◌, ◌∷◌, ◌≡◌, ◌≤◌, ◌⊎◌}
 use Rattle.std.proofs.lemmas.Bool.{not-true}
 use Rattle.std.proofs.lemmas.List.Elements.{All-filter, All-from_recursion, filter_passes, recursion_from_All}
 use Rattle.std.proofs.lemmas.Map.Entries.{length-keys_of}
