@@ -67,12 +67,14 @@ module _ (s : State) (clean : s.unsaved ≡ map.empty) (says : (dir : Ino) → i
         (w.0, known, record { leaf = cold_leaf leaf (record { known = known; stands = w.1.stands }); object = has.0; there = has.1; stands = has.2 }))
         (λ unknown. let clash : None ≡ Some inode = sym (stands_nowhere s sound (dentry_of d name) unknown) ∙ stands in absurd cc) (known_or_not s.homes d)
 
+    -- so it has all records, where the known directories are those that are reached
     pub has_records : ((d : ℕ) → is_known s.homes d ≡ true → IsReached s.objects d) → ((d : ℕ) → IsReached s.objects d → is_known s.homes d ≡ true) → HasRecords s.objects (shown_tree s)
     has_records reached there = record {
       only = λ d name inode stands. let w = shown_record d name inode stands in (w.0, reached d w.1, w.2);
       all = λ r above rec. record_shown r (there r.leaf.0.0 above) rec;
     }
 
+    -- the root's leaf has an object
     pub some_object : s.objects ≡ map.empty → ⊥
     some_object none =
         let w = pick_at s sound (dentry_of 1 []) in
@@ -133,6 +135,7 @@ module _ (s : State) (sound : IsSound s) (saved : IsFlushed s) where
   says : (dir : Ino) → is_known s.homes dir.0 ≡ true → SaysLeaves (tree_of s.objects dir) (leaves dir)
   says dir known = ⊎_elim (λ one. subst (λ o. SaysLeaves o (leaves dir)) (sym one.0) one.1) (λ several. subst (λ o. SaysLeaves o (leaves dir)) (sym several.0) several.1.header) (one_or_several dir known)
 
+-- the cold tree is the shown tree
 pub flushed_is_cold : FlushedIsCold
 flushed_is_cold s sound saved = shows_cold s saved.clean (says s sound saved) (sound_leaves s sound) sound.tabled (λ dir object known there. ⊎_elim (λ one. let clash : None ≡ Some object = sym one.0 ∙ there in absurd cc)
     (λ several. subst (λ o. SpellsTreeObject o (leaves_of s.covers dir.0)) (same_Some (tree_object (leaves_of s.covers dir.0)) object (sym several.0 ∙ there)) several.1) (one_or_several s sound saved dir known))

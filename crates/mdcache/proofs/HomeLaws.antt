@@ -96,6 +96,7 @@ module _ (s : State) (sound : HasSoundLeaves s) (dentry : Dentry) (dir : Ino) (c
     stands = subst (λ (fs : List Fragment). HasLeaf fs root_fragment) (sym no_row) (zero, omega arith, refl);
   }
 
+  -- a leaf of the new directory is its first
   its_first : (leaf : Leaf) → leaf.0.0 ≡ dir.0 → HasLeaf (leaves_of s.covers leaf.0.0) leaf.1 → leaf ≡ first
   its_first leaf same has =
       let one = only_leaf root_fragment leaf.1 (subst (λ (fs : List Fragment). HasLeaf fs leaf.1) (ap (leaves_of s.covers) same ∙ no_row) has) in

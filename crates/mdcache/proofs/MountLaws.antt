@@ -70,6 +70,7 @@ module _ (limit : ℕ) (objects : Objects) (tree : Tree) (homes : Homes) (covers
     once = λ a b i j is. in_empty leaf_cmp a i is;
   }
 
+  -- the shown tree is the one that was walked
   pub shows : shown_tree s ≡ tree
   shows = ⊎_elim (λ none. absurd (some_object s refl w.leaves leaves_sound none.0))
       (λ cold. has_one_cold_tree objects (shown_tree s) tree (inr (cold.0, cold.1, has_records s refl w.leaves leaves_sound reached_there known_there)) (inr cold)) (is_cold objects tree homes covers purge w)

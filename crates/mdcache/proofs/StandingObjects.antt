@@ -21,6 +21,7 @@ without_objects : (s : State) (went : Option Ino) → (without s went).objects �
 without_objects s None = refl
 without_objects s (Some dir) = refl
 
+-- whatever entry it takes and puts
 altered_objects : (takes : Option Spot) (puts : Option (Spot × Inode)) (comes : Bool) (gone : Option Ino) (old new : State)
     → TakesThen old takes (λ left. PutsThen left puts (λ named. new ≡ without (housed named takes puts comes) gone)) → ObjectsStay old new
 altered_objects None None comes gone old new is = same_state (without old gone) new is ∙ without_objects old gone
