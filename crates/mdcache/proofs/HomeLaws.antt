@@ -109,9 +109,6 @@ module _ (s : State) (sound : HasSoundLeaves s) (dentry : Dentry) (dir : Ino) (c
   other : (leaf : Leaf) → IsLive s.homes s.covers leaf → leaf ≡ first → ⊥
   other leaf live same = let clash : true ≡ false = sym live.known ∙ ap (λ (l : Leaf). is_known s.homes l.0.0) same ∙ unknown in cc
 
-  unsaved_first : map.get grown.unsaved first ≡ Some (just_made s.next_generation)
-  unsaved_first = get_put s.unsaved first (just_made s.next_generation)
-
   unsaved_beside : (q : Leaf) → (q ≡ first → ⊥) → map.get grown.unsaved q ≡ map.get s.unsaved q
   unsaved_beside q apart = get_beside s.unsaved first (just_made s.next_generation) q apart
 
@@ -120,7 +117,7 @@ module _ (s : State) (sound : HasSoundLeaves s) (dentry : Dentry) (dir : Ino) (c
 
   first_names : names_of grown.unsaved grown.objects first ≡ map.empty
   unfolding names_of
-  first_names = ap (λ o. shown_at o (object_of s.objects dir root_fragment)) unsaved_first ∙ only_below map.empty map.empty refl
+  first_names = ap (λ o. shown_at o (object_of s.objects dir root_fragment)) (get_put s.unsaved first (just_made s.next_generation)) ∙ only_below map.empty map.empty refl
 
   pub grown_leaves : HasSoundLeaves grown
   grown_leaves = record {
@@ -133,13 +130,13 @@ module _ (s : State) (sound : HasSoundLeaves s) (dentry : Dentry) (dir : Ino) (c
         (λ old. sound.placed leaf name inode old (ap (λ (n : Names). map.get n name) (sym (grown_names leaf old)) ∙ has)) (live_new leaf live);
     unsaved = λ q u is. ⊎_elim
         (λ same.
-        let its = same_Some (just_made s.next_generation) u (sym unsaved_first ∙ ap (map.get grown.unsaved) (sym same) ∙ is) in
+        let its = same_Some (just_made s.next_generation) u (sym (get_put s.unsaved first (just_made s.next_generation)) ∙ ap (map.get grown.unsaved) (sym same) ∙ is) in
         subst (λ (p : Leaf × Unsaved). IsUnsaved grown p.0 p.1) (λ i. (sym same i, its i)) (record { live = first_live; made = omega arith; young = λ name mark has. in_empty key_cmp name mark has }))
         (λ apart.
         let old = sound.unsaved q u (sym (unsaved_beside q apart) ∙ is) in
         let made = old.made in
         record { live = grown_live q old.live; made = omega (arith, made); young = old.young }) (leaf_or_other q first);
-    saved = λ leaf live clean. ⊎_elim (λ same. let clash : None ≡ Some (just_made s.next_generation) = sym clean ∙ ap (map.get grown.unsaved) same ∙ unsaved_first in absurd cc)
+    saved = λ leaf live clean. ⊎_elim (λ same. let clash : None ≡ Some (just_made s.next_generation) = sym clean ∙ ap (map.get grown.unsaved) same ∙ get_put s.unsaved first (just_made s.next_generation) in absurd cc)
         (λ old. sound.saved leaf old (sym (unsaved_beside leaf (other leaf old)) ∙ clean)) (live_new leaf live);
     owned = λ name there. ⊎_elim (λ leaf. inl (leaf.0, grown_live leaf.0 leaf.1, leaf.2)) (λ rest. ⊎_elim (λ row. inr (inl row))
         (λ listed. ⊎_elim (λ same. inl (first, first_live, same)) (λ apart. inr (inr (ap is_some (get_left s.purge (text_of first) name apart) ∙ listed))) (key_or_apart name (text_of first))) rest) (sound.owned name there);

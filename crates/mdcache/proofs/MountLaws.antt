@@ -21,9 +21,6 @@ module _ (limit : ℕ) (objects : Objects) (tree : Tree) (homes : Homes) (covers
 
   -- ---- directories
 
-  known_there : (d : ℕ) → IsReached objects d → is_known homes d ≡ true
-  known_there d above = known_by objects tree homes covers purge w d above
-
   -- a directory is the root, or a record names it
   named : (d : ℕ) → is_known homes d ≡ true → (d ≡ 1) ⊎ ((r : Record) × IsReached objects r.leaf.0.0 × IsRecord objects r × (r.inode.ino.0 ≡ d) × (is_dir_kind r.inode.kind ≡ true))
   named d known = ⊎_elim (λ root. inl (eqb-true d 1 root))
@@ -46,13 +43,13 @@ module _ (limit : ℕ) (objects : Objects) (tree : Tree) (homes : Homes) (covers
 
   -- a tree object that is there says several leaves, so they were set
   owned : (name : List ℕ) → is_some (map.get objects name) ≡ true → IsReachedObject objects name ⊎ (is_some (map.get purge name) ≡ true) → IsOwned s name
-  owned name some (inl (inl (leaf, above, of, is))) = inl (leaf, live_leaf s refl w.leaves leaf (known_there leaf.0.0 above) of, is)
+  owned name some (inl (inl (leaf, above, of, is))) = inl (leaf, live_leaf s refl w.leaves leaf (known_by objects tree homes covers purge w leaf.0.0 above) of, is)
   owned name some (inl (inr (dir, above, is))) =
       let row = elim (tree_of objects dir) as (λ o. SaysLeaves o (leaves_of covers dir.0) → is_some o ≡ true → is_some (map.get covers dir.0) ≡ true) [
         | None ↦ λ said some. absurd cc
         | Some object ↦ λ said some. several_in_row covers dir.0 said.several
       ] in
-      inr (inl (dir, row (w.leaves dir (known_there dir.0 above)) (subst (λ n. is_some (map.get objects n) ≡ true) is some), is))
+      inr (inl (dir, row (w.leaves dir (known_by objects tree homes covers purge w dir.0 above)) (subst (λ n. is_some (map.get objects n) ≡ true) is some), is))
   owned name some (inr listed) = inr (inr listed)
 
   leaves_sound : HasSoundLeaves s
@@ -73,7 +70,7 @@ module _ (limit : ℕ) (objects : Objects) (tree : Tree) (homes : Homes) (covers
   -- the shown tree is the one that was walked
   pub shows : shown_tree s ≡ tree
   shows = ⊎_elim (λ none. absurd (some_object s refl w.leaves leaves_sound none.0))
-      (λ cold. has_one_cold_tree objects (shown_tree s) tree (inr (cold.0, cold.1, has_records s refl w.leaves leaves_sound reached_there known_there)) (inr cold)) (is_cold objects tree homes covers purge w)
+      (λ cold. has_one_cold_tree objects (shown_tree s) tree (inr (cold.0, cold.1, has_records s refl w.leaves leaves_sound reached_there (known_by objects tree homes covers purge w))) (inr cold)) (is_cold objects tree homes covers purge w)
 
   pub is_sound : IsCounted tree counts pins → IsSound s
   is_sound counted = sound_again s leaves_sound (subst (λ t. IsTabled t homes) (sym shows) (walked_is_tabled objects tree homes covers purge w).0) (subst (λ t. IsCounted t counts pins) (sym shows) counted)

@@ -18,8 +18,7 @@ module _ (c : CacheMap) (r : ℕ) (leaf : Leaf) (none : KeepsNone c) where
     none_roomy mid made s q = whole_roomy c mid r stay s q there (valid.distinct r) made (none s q)
 
     pub none_room : (new : CacheMap) → MakesRoomAt r stay c new → KeepsNone new
-    none_room new (inl same) = subst KeepsNone (sym same) none
-    none_room new (inr made) = none_roomy new made
+    none_room new made = ⊎_elim (λ same. subst KeepsNone (sym same) none) (none_roomy new) made
 
     pub none_fetched : (object : Option Omap) (new : CacheMap) (b : Bool) → has_place c r leaf ≡ b → FetchesAt r leaf stay object b c new → KeepsNone new
     none_fetched object new true seen is = none_used new (none r leaf seen) is

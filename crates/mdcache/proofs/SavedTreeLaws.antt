@@ -79,15 +79,12 @@ module _ (now : State) (sound : IsSound now) (after : Option Ino) (dir : Ino) (f
   numbered : (d : ℕ) → HasRow now d → d < 2 ^ 64
   numbered d row = sound.numbered d (known_by_row now.homes now.covers sound.table d row)
 
-  row : HasRow now dir.0
-  row = first_has_tree now.homes now.covers after dir.0 first
-
   -- all that a turn does: more is saved, and less is to come
   pub turn : SavesTree now new before later dir (Ok tt) → (old : State) → SavesTrees old now → AreDone now after
       → SavesTrees old new × AreDone new (Some dir) × (length (trees_after new.homes new.covers (Some dir)) < length (trees_after now.homes now.covers after))
   turn saves old so_far done = subst (λ (s : State). SavesTrees old s × AreDone s (Some dir) × (length (trees_after s.homes s.covers (Some dir)) < length (trees_after now.homes now.covers after))) (sym saves.1) (
-    saved_more now numbered dir row old so_far (subst (λ (s : State). shown_tree s ≡ shown_tree now) saves.1 saves.2),
-    fewer_left now numbered dir row after sound.table.rooted.rootless first done,
+    saved_more now numbered dir (first_has_tree now.homes now.covers after dir.0 first) old so_far (subst (λ (s : State). shown_tree s ≡ shown_tree now) saves.1 saves.2),
+    fewer_left now numbered dir (first_has_tree now.homes now.covers after dir.0 first) after sound.table.rooted.rootless first done,
     let all : length (trees_after now.homes now.covers after) ≡ length (dir.0 ∷ trees_after now.homes now.covers (Some dir)) = ap length (next_tree_after now.homes now.covers sound.table.rooted.rootless after dir first) in
         omega (arith, all),
   )
