@@ -24,15 +24,15 @@ begun_are_at_hand old new leaf job begun = elim (map.get old.unsaved leaf) as (�
   )
 ] refl begun.2
 
+-- a job is at hand still where it stands as before, and its fragment is as before
+still_at_hand : (old new : State) (job : Job) → map.get new.jobs (leaf_of job) ≡ map.get old.jobs (leaf_of job) → map.get new.unsaved (leaf_of job) ≡ map.get old.unsaved (leaf_of job) → IsAtHand old job → IsAtHand new job
+still_at_hand old new job stands beside hand = record { stands = stands ∙ hand.stands; unsaved = hand.unsaved; beside = beside ∙ hand.beside; names = hand.names }
+
 pub begun_leave_at_hand : BegunLeaveAtHand
 begun_leave_at_hand old new leaf job other begun apart hand = elim (map.get old.unsaved leaf) as (λ o. BeginsWith old new leaf o (Some job) → IsAtHand new other) [
   | None ↦ λ none. let clash : Some job ≡ None = none.0 in absurd cc
-  | Some u ↦ λ b. record {
-    stands = ap (λ (t : State). map.get t.jobs (leaf_of other)) b.2 ∙ get_beside old.jobs (leaf_of job) job (leaf_of other) (λ same. apart (same ∙ ap leaf_of b.0)) ∙ hand.stands;
-    unsaved = hand.unsaved;
-    beside = ap (λ (t : State). map.get t.unsaved (leaf_of other)) b.2 ∙ hand.beside;
-    names = hand.names;
-  }
+  | Some u ↦ λ b. still_at_hand old new other (ap (λ (t : State). map.get t.jobs (leaf_of other)) b.2 ∙ get_beside old.jobs (leaf_of job) job (leaf_of other) (λ same. apart (same ∙ ap leaf_of b.0)))
+      (ap (λ (t : State). map.get t.unsaved (leaf_of other)) b.2) hand
 ] begun.2
 
 pub ended_are_clean : EndedAreClean
@@ -43,9 +43,6 @@ ended_are_clean old new job hand ended =
     ap (λ (t : State). t.unsaved) ended.left ∙ ap (with_unsaved old.unsaved (leaf_of job)) none
 
 pub others_stay_at_hand : OthersStayAtHand
-others_stay_at_hand old new job other ended apart mine hand = record {
-  stands = ap (λ (t : State). map.get t.jobs (leaf_of other)) ended.left ∙ get_left old.jobs (leaf_of job) (leaf_of other) apart ∙ hand.stands;
-  unsaved = hand.unsaved;
-  beside = ap (λ m. map.get m (leaf_of other)) (ended_are_clean old new job mine ended) ∙ get_left old.unsaved (leaf_of job) (leaf_of other) apart ∙ hand.beside;
-  names = hand.names;
-}
+others_stay_at_hand old new job other ended apart mine hand =
+    still_at_hand old new other (ap (λ (t : State). map.get t.jobs (leaf_of other)) ended.left ∙ get_left old.jobs (leaf_of job) (leaf_of other) apart)
+    (ap (λ m. map.get m (leaf_of other)) (ended_are_clean old new job mine ended) ∙ get_left old.unsaved (leaf_of job) (leaf_of other) apart) hand

@@ -63,15 +63,6 @@ module _ (now new : State) (job : Job) (sound : IsSound now) (hand : IsAtHand no
       (λ i. shown_over (base_is i) (names_at (object_of now.objects job.ino job.frag)) (hand.names i))
       ∙ ap (λ o. shown_at o (object_of now.objects job.ino job.frag)) (sym hand.beside)
 
-  here_written : IsWritten now new leaf
-  here_written = record {
-    unsaved = hand.unsaved;
-    was = hand.beside;
-    clean = ap (λ m. map.get m leaf) removed ∙ get_removed now.unsaved leaf;
-    spelled = subst (λ (b : Base). HasSpelled (object_of new.objects job.ino job.frag) (next_version b) (names_of now.unsaved now.objects leaf)) base_is
-        (subst (HasSpelled (object_of new.objects job.ino job.frag) (next_version job.snapshot.base)) shows_then ended.spelled);
-  }
-
   object_beside : (name : List ℕ) → (name ≡ text_of leaf → ⊥) → map.get new.objects name ≡ map.get now.objects name
   unfolding written
   object_beside name apart = ap (λ (s : State). map.get s.objects name) ended.left ∙ get_beside now.objects (text_of leaf) _ name apart
@@ -80,7 +71,13 @@ module _ (now new : State) (job : Job) (sound : IsSound now) (hand : IsAtHand no
   ended_whole = record {
     left = subst (λ (k : State). k ≡ record now { unsaved = k.unsaved; objects = k.objects; jobs = k.jobs; next_job = k.next_job }) (sym ended.left) refl;
     tree = ended.tree;
-    each = λ q it_lives. ⊎_elim (λ same. inr (subst (IsWritten now new) (sym same) here_written)) (λ apart. inl (
+    each = λ q it_lives. ⊎_elim (λ same. inr (subst (IsWritten now new) (sym same) (record {
+      unsaved = hand.unsaved;
+      was = hand.beside;
+      clean = ap (λ m. map.get m leaf) removed ∙ get_removed now.unsaved leaf;
+      spelled = subst (λ (b : Base). HasSpelled (object_of new.objects job.ino job.frag) (next_version b) (names_of now.unsaved now.objects leaf)) base_is
+          (subst (HasSpelled (object_of new.objects job.ino job.frag) (next_version job.snapshot.base)) shows_then ended.spelled);
+    }))) (λ apart. inl (
       ap (λ m. map.get m q) removed ∙ get_left now.unsaved leaf q apart,
       object_beside (text_of q) (λ same. apart (one_text now.homes now.covers sound.table sound.numbered q leaf it_lives live same)),
     )) (same_or_apart q leaf);

@@ -1,6 +1,9 @@
 -- Writes that are made side by side: what the results are of each job, and what is collected of them.
-use Rattle.mdcache.proofs.Common.{AllZip, Begun, Contains, Err, IfErr, IfOk, IsReadied, List, MatchResult, NoMemory, Ok, Ready, Refusal, Result, Vec, [], arith, length, ready_of, refl, slice_index_or, subst, suc, zero, ℕ, ◌<◌, ◌∙◌, ◌∷◌, ◌≡◌}
+use Rattle.mdcache.proofs.Common.{AllZip, Begun, Contains, Err, IfErr, IfOk, IsReadied, List, MatchOption, MatchResult, NoMemory, None, Ok, Ready, Refusal, Result, Some, Vec, [], length, ready_of, refl, slice_get, subst, sym, ◌∙◌, ◌∷◌, ◌≡◌}
+use Rattle.std.specs.Prelude.{IsSomeAnd}
 use Rattle.std.proofs.Common.{map as list_map}
+use Rattle.std.proofs.lemmas.Option.{slice_get_read}
+use Rattle.std.proofs.lemmas.Slice.Zip.{AllZip-right}
 
 abbrev Results : Type 0
 Results = List (Result Ready Refusal)
@@ -13,18 +16,6 @@ all_made [] [] each = refl
 all_made [] (r ∷ rs) each = absurd each
 all_made (b ∷ bs) [] each = absurd each
 all_made (b ∷ bs) (r ∷ rs) (here, rest) = λ i. here i ∷ all_made bs rs rest i
-
--- none of them is refused but for want of memory
-refused_at : (begun : List Begun) (results : Results) (reason : Refusal)
-    → AllZip IsReadied begun results
-    → (k : ℕ) → k < length results → slice_index_or results k (Err reason) ≡ Err reason
-    → reason ≡ NoMemory
-refused_at [] [] reason each k within is = absurd (omega (arith, within))
-refused_at [] (r ∷ rs) reason each k within is = absurd each
-refused_at (b ∷ bs) [] reason each k within is = absurd each
-refused_at (b ∷ bs) (r ∷ rs) reason (here, rest) zero within is = subst (IsReadied b) is here
-refused_at (b ∷ bs) (r ∷ rs) reason (here, rest) (suc k) within is =
-    refused_at bs rs reason rest k (omega (arith, within)) is
 
 -- what is collected of them: all writes in their order, or why there is none of some job
 abbrev pub IsCollected : {Z : Type 0} → Results → Result (Vec Ready Z) Refusal → Type 0
@@ -40,9 +31,13 @@ all_encoded begun results (Ok v) each (made, are, has) =
     has ∙ all_made begun made (subst (AllZip IsReadied begun) are each)
 all_encoded begun results (Err reason) each among = tt
 
+-- none of them is refused but for want of memory
 pub refused_for_memory : {Z : Type 0} (begun : List Begun) (results : Results) (collected : Result (Vec Ready Z) Refusal)
     → AllZip IsReadied begun results
     → IsCollected results collected
     → IfErr collected (λ reason. reason ≡ NoMemory)
 refused_for_memory begun results (Ok v) each among = tt
-refused_for_memory begun results (Err reason) each (k, within, is) = refused_at begun results reason each k within is
+refused_for_memory begun results (Err reason) each (k, within, is) =
+    let at : slice_get results k ≡ Some (Err reason) = slice_get_read results (length results) k (Err reason) refl within (sym is) in
+    let so = subst (λ o. MatchOption o (Unit {0}) (λ r. IsSomeAnd (slice_get begun k) (λ (b : Begun). IsReadied b r))) at (AllZip-right IsReadied begun results each k) in
+    elim (slice_get begun k) as (λ o. IsSomeAnd o (λ (b : Begun). IsReadied b (Err reason)) → reason ≡ NoMemory) [ None ↦ λ none. absurd none | Some b ↦ λ is. is ] so

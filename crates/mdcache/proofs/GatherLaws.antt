@@ -1,5 +1,5 @@
 -- The names that are gathered from all leaves of a directory are those that the shown tree lists.
-use Rattle.mdcache.proofs.Common.{Bool, Contains, Fragment, Gathered, Ino, Inode, IsPageOf, IsPick, IsSound, List, Names, None, Option, Row, Some, State, T, [], ap, arith, cond, entries_sorted, eq_by_cmp, exact_bytes, false, find-put, find-where_key, gathered, get-entries, hash_of, inl, inr, is_after, is_known, is_sorted-put, is_sorted-where_key, key_cmp, key_tied, leaves_of, left_of, names_after, names_are_listed, names_of, nat_list_cmp_total, none_either, not_found, option_or, put, puts, refl, right_of, rows_after, same_entries, shown_tree, some_pick, subst, suc, sym, tree_of_row, true, zero, ℕ, ◌∙◌, ◌∷◌, ◌≡◌, ◌⊎◌}
+use Rattle.mdcache.proofs.Common.{Contains, Fragment, Gathered, Ino, Inode, IsPageOf, IsPick, IsSound, List, Names, None, Option, Row, Some, State, T, [], ap, arith, cond, entries_sorted, eq_by_cmp, exact_bytes, false, find-put, find-where_key, gathered, get-entries, hash_of, inl, inr, is_after, is_known, is_sorted-put, is_sorted-where_key, key_cmp, key_tied, leaves_of, left_of, names_after, names_are_listed, names_of, nat_list_cmp_total, none_either, not_found, option_or, put, puts, refl, right_of, rows_after, same_entries, shown_tree, some_pick, subst, suc, sym, tree_of_row, true, zero, ℕ, ⊎_elim, ◌∙◌, ◌∷◌, ◌≡◌, ◌⊎◌}
 use Rattle.std.specs.FinMap as map
 use Rattle.std.specs.FinMap.Entries.{find, is_sorted}
 use Rattle.fragtree.proofs.TreeLaws.{first as first_has, later as later_has}
@@ -16,11 +16,10 @@ find-puts es [] q sorted = refl
 find-puts es (f ∷ fs) q sorted =
     find-puts (put key_cmp f.0 f.1 es) fs q (right_of _ _ sorted)
     ∙ ap (option_or (find key_cmp q fs)) (find-put key_cmp nat_list_cmp_total q f.0 f.1 es)
-    ∙ go (eq_by_cmp key_cmp q f.0) (find key_cmp q fs) (find key_cmp q es) (λ same. not_found f.0 q fs (key_tied q f.0 same) (left_of _ _ sorted))
-  where
-    go : (b : Bool) (later before : Option Inode) → (b ≡ true → later ≡ None) → option_or later (cond b (Some f.1) before) ≡ option_or (cond b (Some f.1) later) before
-    go true later before none = ap (λ l. option_or l (Some f.1)) (none refl)
-    go false later before none = refl
+    ∙ elim (eq_by_cmp key_cmp q f.0) as (λ b. eq_by_cmp key_cmp q f.0 ≡ b → option_or (find key_cmp q fs) (cond b (Some f.1) (find key_cmp q es)) ≡ option_or (cond b (Some f.1) (find key_cmp q fs)) (find key_cmp q es)) [
+      | true ↦ λ same. ap (λ l. option_or l (Some f.1)) (not_found f.0 q fs (key_tied q f.0 same) (left_of _ _ sorted))
+      | false ↦ λ apart. refl
+    ] refl
 
 -- ---- leaf by leaf
 
@@ -32,9 +31,6 @@ module _ (names : Fragment → Names) (after : Option (List ℕ)) where
   abbrev rows : Fragment → List Row
   rows f = rows_after after (map.entries (names f))
 
-  pub rows_sorted : (f : Fragment) → T (is_sorted key_cmp (rows f))
-  rows_sorted f = is_sorted-where_key key_cmp (is_after after) (map.entries (names f)) (entries_sorted (names f))
-
   gathered_sorted : (es : List Row) (fs : List Fragment) → T (is_sorted key_cmp es) → T (is_sorted key_cmp (gathered names after es fs))
   gathered_sorted es [] sorted = sorted
   gathered_sorted es (f ∷ fs) sorted = gathered_sorted (puts key_cmp es (rows f)) fs (puts_sorted es (rows f) sorted)
@@ -45,41 +41,29 @@ module _ (names : Fragment → Names) (after : Option (List ℕ)) where
       ∙ ap (λ o. cond (is_after after q) o None) (sym (get-entries (names f) q))
 
   module _ (q : List ℕ) (v : Option Inode) where
-    Told : Fragment → Type 0
-    Told f = Tells v (find key_cmp q (rows f))
-
     or_is : (a b : Option Inode) → a ≡ v → Tells v b → option_or a b ≡ v
-    or_is a b is tells = ap (λ o. option_or o b) is ∙ go v b tells
-      where
-        go : (w b : Option Inode) → Tells w b → option_or w b ≡ w
-        go None b (inl none) = none
-        go None b (inr same) = same
-        go (Some x) b tells = refl
+    or_is a b is tells = ap (λ o. option_or o b) is ∙ elim v as (λ w. Tells w b → option_or w b ≡ w) [ None ↦ ⊎_elim (λ none. none) (λ same. same) | Some x ↦ λ tells. refl ] tells
 
     or_was : (a b : Option Inode) → Tells v a → b ≡ v → option_or a b ≡ v
-    or_was a b (inl none) was = ap (λ o. option_or o b) none ∙ was
-    or_was a b (inr is) was = or_is a b is (inr was)
+    or_was a b told was = ⊎_elim (λ none. ap (λ o. option_or o b) none ∙ was) (λ is. or_is a b is (inr was)) told
 
     or_told : (a b : Option Inode) → Tells v a → Tells v b → Tells v (option_or a b)
-    or_told a b (inl none) tells = subst (Tells v) (sym (ap (λ o. option_or o b) none)) tells
-    or_told a b (inr is) tells = inr (or_is a b is tells)
+    or_told a b told tells = ⊎_elim (λ none. subst (Tells v) (sym (ap (λ o. option_or o b) none)) tells) (λ is. inr (or_is a b is tells)) told
 
     after_leaf : (es : List Row) (f : Fragment) → find key_cmp q (puts key_cmp es (rows f)) ≡ option_or (find key_cmp q (rows f)) (find key_cmp q es)
-    after_leaf es f = find-puts es (rows f) q (rows_sorted f)
+    after_leaf es f = find-puts es (rows f) q (is_sorted-where_key key_cmp (is_after after) (map.entries (names f)) (entries_sorted (names f)))
 
-    -- what is found stays
-    found_stays : (es : List Row) (fs : List Fragment) → ((f : Fragment) → Contains fs f → Tells v (find key_cmp q (rows f))) → find key_cmp q es ≡ v → find key_cmp q (gathered names after es fs) ≡ v
-    found_stays es [] each is = is
-    found_stays es (f ∷ fs) each is =
-        found_stays (puts key_cmp es (rows f)) fs (λ g has. each g (later_has f g fs has)) (after_leaf es f ∙ or_was _ _ (each f (first_has f fs)) is)
-
-    -- and what one leaf has is found
-    found_once : (es : List Row) (fs : List Fragment) (at : Fragment) → ((f : Fragment) → Contains fs f → Tells v (find key_cmp q (rows f))) → Tells v (find key_cmp q es) → find key_cmp q (rows at) ≡ v → Contains fs at → find key_cmp q (gathered names after es fs) ≡ v
-    found_once es [] at each told is (k, within, there) = absurd (omega (arith, within))
-    found_once es (f ∷ fs) at each told is (zero, within, there) =
-        found_stays (puts key_cmp es (rows f)) fs (λ g has. each g (later_has f g fs has)) (after_leaf es f ∙ or_is _ _ (ap (λ (g : Fragment). find key_cmp q (rows g)) there ∙ is) told)
-    found_once es (f ∷ fs) at each told is (suc k, within, there) =
-        found_once (puts key_cmp es (rows f)) fs at (λ g has. each g (later_has f g fs has)) (subst (Tells v) (sym (after_leaf es f)) (or_told _ _ (each f (first_has f fs)) told)) is (k, omega (arith, within), there)
+    -- what is found stays, and what one leaf has is found
+    found : (es : List Row) (fs : List Fragment) → ((f : Fragment) → Contains fs f → Tells v (find key_cmp q (rows f))) → Tells v (find key_cmp q es)
+        → (find key_cmp q es ≡ v) ⊎ ((at : Fragment) × Contains fs at × (find key_cmp q (rows at) ≡ v)) → find key_cmp q (gathered names after es fs) ≡ v
+    found es [] each told (inl is) = is
+    found es [] each told (inr (at, (k, within, there), is)) = absurd (omega (arith, within))
+    found es (f ∷ fs) each told has = found (puts key_cmp es (rows f)) fs (λ g has. each g (later_has f g fs has)) (subst (Tells v) (sym (after_leaf es f)) (or_told _ _ (each f (first_has f fs)) told)) (now has)
+      where
+        now : (find key_cmp q es ≡ v) ⊎ ((at : Fragment) × Contains (f ∷ fs) at × (find key_cmp q (rows at) ≡ v)) → (find key_cmp q (puts key_cmp es (rows f)) ≡ v) ⊎ ((at : Fragment) × Contains fs at × (find key_cmp q (rows at) ≡ v))
+        now (inl is) = inl (after_leaf es f ∙ or_was _ _ (each f (first_has f fs)) is)
+        now (inr (at, (zero, within, there), is)) = inl (after_leaf es f ∙ or_is _ _ (ap (λ (g : Fragment). find key_cmp q (rows g)) there ∙ is) told)
+        now (inr (at, (suc k, within, there), is)) = inr (at, (k, omega (arith, within), there), is)
 
 -- ---- pages
 
@@ -109,22 +93,26 @@ module _ (s : State) (sound : IsSound s) (dir : Ino) (known : is_known s.homes d
   abbrev leaves : List Fragment
   leaves = leaves_of s.covers dir.0
 
+  -- what a leaf tells of a name
+  abbrev told : List ℕ → Fragment → Option Inode
+  told q f = find key_cmp q (rows_after after (map.entries (names_in f)))
+
+  -- no leaf tells of it but the one that it picks
+  alone : (q : List ℕ) (at : Fragment) → IsPick leaves (hash_of q) at → (g : Fragment) → Contains leaves g → Tells (told q at) (told q g)
+  alone q at pick g stands = elim (map.get (names_in g) q) as (λ o. map.get (names_in g) q ≡ o → Tells (told q at) (told q g)) [
+    | None ↦ λ is. inl (row_found names_in after g q ∙ ap (λ o. cond (is_after after q) o None) is ∙ none_either (is_after after q))
+    | Some inode ↦ λ is.
+        let placed = sound.placed (dir, g) q inode (record { known = known; stands = stands }) is in
+        inr (ap (told q) (pick.alone g placed.stands placed.contains))
+  ] refl
+
   all_found : (q : List ℕ) → find key_cmp q (gathered names_in after [] leaves) ≡ find key_cmp q (names_after (shown_tree s) dir.0 after)
   all_found q =
       let w = some_pick leaves (hash_of q) (tree_of_row s.homes s.covers sound.table dir.0) in
-      found_once names_in after q (find key_cmp q (rows_after after (map.entries (names_in w.0)))) [] leaves w.0 (alone w.0 w.1) (inl refl) refl w.1.stands
+      found names_in after q (told q w.0) [] leaves (alone q w.0 w.1) (inl refl) (inr (w.0, w.1.stands, refl))
       ∙ row_found names_in after w.0 q
       ∙ ap (λ o. cond (is_after after q) o None) (sym (at_dentry s sound dir.0 q w.0 known w.1))
       ∙ sym ((names_are_listed (shown_tree s) dir.0 after).exact q)
-    where
-      alone : (at : Fragment) → IsPick leaves (hash_of q) at → (g : Fragment) → Contains leaves g → Tells (find key_cmp q (rows_after after (map.entries (names_in at)))) (find key_cmp q (rows_after after (map.entries (names_in g))))
-      alone at pick g stands = go (map.get (names_in g) q) refl
-        where
-          go : (o : Option Inode) → map.get (names_in g) q ≡ o → Tells (find key_cmp q (rows_after after (map.entries (names_in at)))) (find key_cmp q (rows_after after (map.entries (names_in g))))
-          go None is = inl (row_found names_in after g q ∙ ap (λ o. cond (is_after after q) o None) is ∙ none_either (is_after after q))
-          go (Some inode) is =
-              let placed : IsPick leaves (hash_of q) g = sound.placed (dir, g) q inode (record { known = known; stands = stands }) is in
-              inr (ap (λ (h : Fragment). find key_cmp q (rows_after after (map.entries (names_in h)))) (pick.alone g placed.stands placed.contains))
 
   -- the names gathered from all leaves of a directory are those that the tree lists
   pub gathers_listed : gathered names_in after [] leaves ≡ names_after (shown_tree s) dir.0 after

@@ -1,13 +1,15 @@
 -- A directory goes in which nothing is: nothing of it is left but names of objects to be removed, and the tree stays.
-use Rattle.mdcache.proofs.Common.{Bool, Contains, Dentry, Fragment, HasLeaf, Home, Ino, Inode, IsLive, IsOwned, IsPick, Job, Keys, Leaf, List, MayGo, Names, None, NothingIn, Option, Some, State, [], ap, arith, cond, dentry-exact, dentry-total, dropped_table, false, first_or_later, get-remove, get_beside, get_put, hash_of, in_directory, inl, inr, is_apart, is_known, is_some, later, leaf-total, leaf_is, leaf_itself, leaves, leaves_of, list_any, names_of, objects_of, one_leaf, or_left, or_right, or_whole, refl, same_map, shown_tree, subst, suc, sym, text_of, tied_leaf, tree_text, true, with_objects, without_directory, without_leaves, zero, ℕ, ⊎_elim, ◌==◌, ◌||◌, ◌∙◌, ◌∷◌, ◌≡◌, ◌⊎◌}
+use Rattle.mdcache.proofs.Common.{Bool, Contains, Fragment, HasLeaf, Home, Ino, IsLive, IsPick, Job, Keys, Leaf, List, MayGo, Names, None, NothingIn, Option, Some, State, [], ap, arith, cond, dentry-exact, dentry-total, dropped_table, false, first_or_later, get-remove, get_beside, get_put, hash_of, in_directory, inl, inr, is_apart, is_known, is_some, later, leaf-total, leaf_is, leaf_itself, leaves, leaves_of, list_any, names_of, nat_list_cmp_total, objects_of, one_leaf, or_left, or_right, or_whole, refl, same_map, shown_tree, subst, suc, sym, text_of, tied_leaf, tree_text, true, with_objects, without_directory, without_leaves, zero, ℕ, ⊎_elim, ◌==◌, ◌||◌, ◌∙◌, ◌∷◌, ◌≡◌}
 use Rattle.std.specs.Prelude.{map as each}
 use Rattle.std.proofs.lemmas.Bool.{cond_both, false_from_ne_true}
 use Rattle.std.specs.FinMap as map
 use Rattle.sorted_map.proofs.NatKeys.{get_left as get_left_home, get_removed as get_removed_home, same_or_apart as same_number}
-use Rattle.dirfrag_codec.proofs.ByteKeys.{same_or_apart as key_or_apart}
 use Rattle.dentry_cache.specs.Cache.{leaf_cmp}
+use Rattle.cold_store.proofs.Members.{some_stays, value_of}
 use Rattle.mdcache.proofs.CoverRows.{row_left}
-use Rattle.mdcache.proofs.NamedLaws.{HasSoundLeaves, known_or_not, pick_at, stands_at, stands_nowhere}
+use Rattle.mdcache.proofs.HomeLaws.{shows_alike}
+use Rattle.mdcache.proofs.NoNames.{none_unless}
+use Rattle.mdcache.proofs.NamedLaws.{HasSoundLeaves, stands_nowhere}
 use Rattle.mdcache.proofs.SoundLaws.{names_alike}
 use Rattle.mdcache.proofs.TextLaws.{no_tree_text, one_text}
 
@@ -15,16 +17,13 @@ use Rattle.mdcache.proofs.TextLaws.{no_tree_text, one_text}
 
 pub get_without : {X : Type 0} (kept : map.FinMap leaf_cmp X) (ls : List Leaf) (q : Leaf) → map.get (without_leaves kept ls) q ≡ cond (list_any (leaf_is q) ls) None (map.get kept q)
 get_without kept [] q = refl
-get_without kept (l ∷ ls) q =
+get_without {X = X} kept (l ∷ ls) q =
     get_without (map.remove kept l) ls q
     ∙ ap (λ o. cond (list_any (leaf_is q) ls) None o) (get-remove leaf-total kept l q ∙ ap (λ (b : Bool). cond b None (map.get kept q)) (tied_leaf q l))
-    ∙ either (list_any (leaf_is q) ls) (leaf_is q l) (map.get kept q)
-  where
-    either : {X : Type 0} (b c : Bool) (o : Option X) → cond b None (cond c None o) ≡ cond (c || b) None o
-    either true true o = refl
-    either true false o = refl
-    either false true o = refl
-    either false false o = refl
+    ∙ elim (leaf_is q l) as (λ c. cond (list_any (leaf_is q) ls) None (cond c None (map.get kept q)) ≡ cond (c || list_any (leaf_is q) ls) None (map.get kept q)) [
+      | true ↦ elim (list_any (leaf_is q) ls) as (λ b. cond {A = Option X} b None None ≡ None) [ true ↦ refl | false ↦ refl ]
+      | false ↦ refl
+    ]
 
 -- a leaf of a directory is one of those of it,
 pub one_of_those : (d : ℕ) (q : Leaf) (fs : List Fragment) → q.0.0 ≡ d → HasLeaf fs q.1 → Contains (each (in_directory d) fs) q
@@ -49,21 +48,15 @@ elsewhere d q (f ∷ fs) apart = λ i. false_from_ne_true (leaf_is q (in_directo
 -- a name that was on it is on it still,
 stays_listed : (names : Keys) (more : List (List ℕ)) (q : List ℕ) → is_some (map.get names q) ≡ true → is_some (map.get (with_objects names more) q) ≡ true
 stays_listed names [] q has = has
-stays_listed names (n ∷ more) q has = stays_listed (map.insert names n tt) more q (⊎_elim (λ same. ap is_some (ap (map.get (map.insert names n tt)) same ∙ get_put names n tt))
-    (λ apart. ap is_some (get_beside names n tt q apart) ∙ has) (key_or_apart q n))
+stays_listed names (n ∷ more) q has = stays_listed (map.insert names n tt) more q (some_stays nat_list_cmp_total names n tt q has)
 
 -- and so is one of the others;
-first_listed : (names : Keys) (n : List ℕ) (more : List (List ℕ)) → is_some (map.get (with_objects names (n ∷ more)) n) ≡ true
-first_listed names n more = stays_listed (map.insert names n tt) more n (ap (λ (o : Option (Unit {0})). is_some o) (get_put names n tt))
-
-leaf_listed : (names : Keys) (d : ℕ) (q : Leaf) (fs : List Fragment) → q.0.0 ≡ d → HasLeaf fs q.1 → is_some (map.get (with_objects names (each text_of (each (in_directory d) fs))) (text_of q)) ≡ true
-leaf_listed names d q [] same (k, stands, is) = absurd (omega (arith, stands))
-leaf_listed names d q (f ∷ fs) same has = ⊎_elim
-    (λ here.
-    let its : in_directory d f ≡ q = λ i. (record { 0 = sym same i }, here i) in
-    ap (λ (l : Leaf). is_some (map.get (with_objects names (text_of (in_directory d f) ∷ each text_of (each (in_directory d) fs))) (text_of l))) (sym its)
-    ∙ first_listed names (text_of (in_directory d f)) (each text_of (each (in_directory d) fs)))
-    (leaf_listed (map.insert names (text_of (in_directory d f)) tt) d q fs same) (first_or_later f q.1 fs has)
+leaf_listed : (names : Keys) (ls : List Leaf) (q : Leaf) → Contains ls q → is_some (map.get (with_objects names (each text_of ls)) (text_of q)) ≡ true
+leaf_listed names [] q (k, within, is) = absurd (omega (arith, within))
+leaf_listed names (l ∷ ls) q (zero, within, is) =
+    ap (λ (x : Leaf). is_some (map.get (with_objects names (text_of l ∷ each text_of ls)) (text_of x))) (sym is)
+    ∙ stays_listed (map.insert names (text_of l) tt) (each text_of ls) (text_of l) (ap is_some (get_put names (text_of l) tt))
+leaf_listed names (l ∷ ls) q (suc k, within, is) = leaf_listed (map.insert names (text_of l) tt) ls q (k, omega (arith, within), is)
 
 -- a name that is none of them isn't on it, if it wasn't
 not_listed : (names : Keys) (d : ℕ) (q : List ℕ) (fs : List Fragment) → map.get names q ≡ None → ((f : Fragment) → HasLeaf fs f → q ≡ text_of (in_directory d f) → ⊥)
@@ -84,12 +77,11 @@ module _ (s : State) (sound : HasSoundLeaves s) (dir : Ino) (may : MayGo s.homes
   unknown : is_known left.homes dir.0 ≡ false
   unknown = λ i. is_apart dir.0 1 may.other i || is_some (get_removed_home s.homes dir.0 i)
 
-  known_back : (d : ℕ) → is_known left.homes d ≡ true → (d ≡ dir.0 → ⊥) × (is_known s.homes d ≡ true)
-  known_back d is = ⊎_elim (λ same. let clash : true ≡ false = sym is ∙ ap (is_known left.homes) same ∙ unknown in absurd cc)
-      (λ apart. (apart, ap (λ (o : Option Home). (d == 1) || is_some o) (sym (get_left_home s.homes dir.0 d apart)) ∙ is)) (same_number d dir.0)
-
   known_on : (d : ℕ) → (d ≡ dir.0 → ⊥) → is_known left.homes d ≡ is_known s.homes d
   known_on d apart = ap (λ (o : Option Home). (d == 1) || is_some o) (get_left_home s.homes dir.0 d apart)
+
+  known_back : (d : ℕ) → is_known left.homes d ≡ true → (d ≡ dir.0 → ⊥) × (is_known s.homes d ≡ true)
+  known_back d is = ⊎_elim (λ same. let clash : true ≡ false = sym is ∙ ap (is_known left.homes) same ∙ unknown in absurd cc) (λ apart. (apart, sym (known_on d apart) ∙ is)) (same_number d dir.0)
 
   cover_on : (d : ℕ) → (d ≡ dir.0 → ⊥) → leaves_of left.covers d ≡ leaves_of s.covers d
   cover_on d apart = ap or_whole (get_left_home s.covers dir.0 d apart)
@@ -117,18 +109,6 @@ module _ (s : State) (sound : HasSoundLeaves s) (dir : Ino) (may : MayGo s.homes
   pub left_names : (leaf : Leaf) → (leaf.0.0 ≡ dir.0 → ⊥) → names_of left.unsaved left.objects leaf ≡ names_of s.unsaved s.objects leaf
   left_names leaf apart = names_alike s left leaf (kept_on s.unsaved leaf apart) refl
 
-  owned_left : (name : List ℕ) → IsOwned s name → IsOwned left name
-  owned_left name (inl leaf) = ⊎_elim
-      (λ same. inr (inr (ap (λ (n : List ℕ). is_some (map.get left.purge n)) leaf.2
-      ∙ leaf_listed (map.insert s.purge (tree_text dir) tt) dir.0 leaf.0 (leaves_of s.covers dir.0) same (subst (λ (d : ℕ). HasLeaf (leaves_of s.covers d) leaf.0.1) same leaf.1.stands))))
-      (λ apart. inl (leaf.0, left_live leaf.0 apart leaf.1, leaf.2)) (same_number leaf.0.0.0 dir.0)
-  owned_left name (inr (inl d)) = ⊎_elim
-      (λ same.
-      let its : d.0 ≡ dir = λ i. record { 0 = same i } in
-      inr (inr (ap (λ (n : List ℕ). is_some (map.get left.purge n)) (d.2 ∙ ap tree_text its) ∙ first_listed s.purge (tree_text dir) (each text_of ls))))
-      (λ apart. inr (inl (d.0, row_left s.covers dir.0 d.0.0 apart d.1, d.2))) (same_number d.0.0 dir.0)
-  owned_left name (inr (inr listed)) = inr (inr (stays_listed s.purge (objects_of s dir) name listed))
-
   pub left_leaves : HasSoundLeaves left
   left_leaves = record {
     table = dropped_table s.homes s.covers dir.0 sound.table may.childless;
@@ -138,7 +118,17 @@ module _ (s : State) (sound : HasSoundLeaves s) (dir : Ino) (may : MayGo s.homes
         subst (λ (fs : List Fragment). IsPick fs (hash_of name) leaf.1) (sym (cover_on leaf.0.0 b.0)) (sound.placed leaf name inode b.1 (ap (λ (n : Names). map.get n name) (sym (left_names leaf b.0)) ∙ has));
     unsaved = λ q u is. let b = kept_back s.unsaved q u (λ v there. (sound.unsaved q v there).live) is in let old = sound.unsaved q u b.1 in record { live = left_live q b.0 old.live; made = old.made; young = old.young };
     saved = λ leaf live clean. let b = live_back leaf live in sound.saved leaf b.1 (sym (kept_on s.unsaved leaf b.0) ∙ clean);
-    owned = λ name there. owned_left name (sound.owned name there);
+    owned = λ name there. ⊎_elim
+        (λ leaf. ⊎_elim
+        (λ same. inr (inr (ap (λ (n : List ℕ). is_some (map.get left.purge n)) leaf.2
+        ∙ leaf_listed (map.insert s.purge (tree_text dir) tt) ls leaf.0 (one_of_those dir.0 leaf.0 (leaves_of s.covers dir.0) same (subst (λ (d : ℕ). HasLeaf (leaves_of s.covers d) leaf.0.1) same leaf.1.stands)))))
+        (λ apart. inl (leaf.0, left_live leaf.0 apart leaf.1, leaf.2)) (same_number leaf.0.0.0 dir.0))
+        (λ rest. ⊎_elim
+        (λ d. ⊎_elim
+        (λ same. inr (inr (ap (λ (n : List ℕ). is_some (map.get left.purge n)) (d.2 ∙ ap (λ (n : ℕ). tree_text (record { 0 = n })) same)
+        ∙ stays_listed (map.insert s.purge (tree_text dir) tt) (each text_of ls) (tree_text dir) (ap is_some (get_put s.purge (tree_text dir) tt)))))
+        (λ apart. inr (inl (d.0, row_left s.covers dir.0 d.0.0 apart d.1, d.2))) (same_number d.0.0 dir.0))
+        (λ listed. inr (inr (stays_listed s.purge (objects_of s dir) name listed))) rest) (sound.owned name there);
     listed = λ leaf live.
         let b = live_back leaf live in
         not_listed (map.insert s.purge (tree_text dir) tt) dir.0 (text_of leaf) (leaves_of s.covers dir.0)
@@ -153,18 +143,7 @@ module _ (s : State) (sound : HasSoundLeaves s) (dir : Ino) (may : MayGo s.homes
 
   -- the tree
 
-  none_there : (q : Dentry) → q.dir.0 ≡ dir.0 → (o : Option Inode) → map.get (shown_tree s) q ≡ o → o ≡ None
-  none_there q same None is = refl
-  none_there q same (Some inode) is = absurd (nothing q inode is same)
-
   pub left_tree : shown_tree left ≡ shown_tree s
-  left_tree = same_map dentry-total dentry-exact (shown_tree left) (shown_tree s) (λ q. go q (same_number q.dir.0 dir.0) (known_or_not s.homes q.dir.0))
-    where
-      go : (q : Dentry) → (q.dir.0 ≡ dir.0) ⊎ (q.dir.0 ≡ dir.0 → ⊥) → (is_known s.homes q.dir.0 ≡ true) ⊎ (is_known s.homes q.dir.0 ≡ false) → map.get (shown_tree left) q ≡ map.get (shown_tree s) q
-      go q (inl same) either = stands_nowhere left left_leaves q (ap (is_known left.homes) same ∙ unknown) ∙ sym (none_there q same (map.get (shown_tree s) q) refl)
-      go q (inr apart) (inl is) =
-          let p = pick_at s sound q in
-          stands_at left left_leaves q p.0 (known_on q.dir.0 apart ∙ is) (subst (λ (fs : List Fragment). IsPick fs (hash_of q.name) p.0) (sym (cover_on q.dir.0 apart)) p.1)
-          ∙ ap (λ (n : Names). map.get n q.name) (left_names (q.dir, p.0) apart)
-          ∙ sym (stands_at s sound q p.0 is p.1)
-      go q (inr apart) (inr none) = stands_nowhere left left_leaves q (known_on q.dir.0 apart ∙ none) ∙ sym (stands_nowhere s sound q none)
+  left_tree = same_map dentry-total dentry-exact (shown_tree left) (shown_tree s) (λ q. ⊎_elim
+      (λ same. stands_nowhere left left_leaves q (ap (is_known left.homes) same ∙ unknown) ∙ sym (none_unless (map.get (shown_tree s) q) (λ some. let its = value_of (map.get (shown_tree s) q) some in nothing q its.0 its.1 same)))
+      (λ apart. shows_alike s left sound left_leaves q (known_on q.dir.0 apart) (cover_on q.dir.0 apart) (λ f live. left_names (q.dir, f) apart)) (same_number q.dir.0 dir.0))

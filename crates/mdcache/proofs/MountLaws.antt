@@ -1,15 +1,19 @@
 -- What a walk finds that meets no faulty object is a sound tree, and the one that is shown.
-use Rattle.mdcache.proofs.Common.{AreCached, Bool, CacheMap, Core, Counts, Covers, Dentry, DirPins, Err, Fragment, HasLeaf, Home, Homes, IfOk, Ino, Inode, IsColdLeaf, IsColdTree, IsCounted, IsLive, IsMounted, IsNew, IsOwned, IsPick, IsReached, IsReachedObject, IsRecord, IsSaved, IsSound, IsSoundCore, IsTabled, IsTree, IsWalked, KeepsNone, Keys, List, Names, None, Objects, Ok, Omap, Option, Result, SaysLeaves, Some, State, Tree, allowed, ap, arith, dentry-exact, dentry-total, dentry_of, eqb-true, false, get-empty, hash_of, inl, inr, is_cold, is_known, is_some, leaves_of, mounted, names_at, no_caches, object_of, one_tree, or_cases, pick_from_leaf, refl, said_tree, same_map, shown_at, shown_in, shown_tree, some_pick, spells_what_it_shows, state_of, subst, sym, text_of, tree_of, true, unclean, walked_is_tabled, ℕ, ◌<◌, ◌==◌, ◌^◌, ◌∙◌, ◌≡◌, ◌⊎◌}
+use Rattle.mdcache.proofs.Common.{AreCached, CacheMap, Core, Counts, Covers, DirPins, Err, Homes, IfOk, IsColdTree, IsCounted, IsLive, IsMounted, IsNew, IsOwned, IsReached, IsReachedObject, IsRecord, IsSaved, IsSound, IsSoundCore, IsTabled, IsWalked, KeepsNone, Keys, List, Names, None, Objects, Ok, Result, SaysLeaves, Some, State, Tree, allowed, ap, arith, eqb-true, hash_of, inl, inr, is_cold, is_dir_kind, is_known, is_some, leaves_of, mounted, no_caches, object_of, or_cases, pick_from_leaf, refl, said_tree, shown_in, shown_tree, state_of, subst, sym, text_of, tree_of, true, unclean, walked_is_tabled, ℕ, ⊎_elim, ◌<◌, ◌==◌, ◌^◌, ◌∙◌, ◌≡◌, ◌⊎◌}
 use Rattle.std.specs.FinMap as map
-use Rattle.mds_types.specs.Frag.{Contains}
-use Rattle.mds_types.specs.Leaf.{Leaf}
+use Rattle.mds_types.specs.Leaf.{Leaf, leaf_cmp}
 pub use Rattle.cold_store.specs.Rows.{IsIn}
 pub use Rattle.cold_store.proofs.Members.{get_entry}
 use Rattle.cold_store.proofs.WalkedLaws.{known_there as known_by}
-use Rattle.mdcache.specs.Shown.{names_of as shown_names}
+use Rattle.cold_store.proofs.ColdLaws.{has_one_cold_tree}
+use Rattle.cold_store.proofs.Members.{in_empty, value_of}
+use Rattle.cold_store.proofs.ObjectLaws.{belongs}
+use Rattle.cold_store.specs.ColdTree.{Record}
 use Rattle.mdcache.proofs.CoverRows.{several_in_row}
 use Rattle.mdcache.proofs.NewLaws.{new_tree, none_held, none_kept, none_unclean}
-use Rattle.mdcache.proofs.ShownLaws.{found_at, found_nowhere}
+use Rattle.mdcache.proofs.NamedLaws.{HasSoundLeaves, sound_again}
+use Rattle.mdcache.proofs.FlushedLaws.{cold_leaf, has_records, live_leaf, shown_as, some_object}
+use Rattle.mdcache.proofs.NoNames.{none_unless}
 
 module _ (limit : ℕ) (objects : Objects) (tree : Tree) (homes : Homes) (covers : Covers) (counts : Counts) (pins : DirPins) (purge : Keys) (w : IsWalked objects tree homes covers purge) where
   abbrev s : State
@@ -17,169 +21,59 @@ module _ (limit : ℕ) (objects : Objects) (tree : Tree) (homes : Homes) (covers
 
   -- ---- directories
 
-  known_there : (d : ℕ) → IsReached objects d → is_known homes d ≡ true
-  known_there d above = known_by objects tree homes covers purge w d above
-
-  some_of : (o : Option Home) → is_some o ≡ true → (home : Home) × (o ≡ Some home)
-  some_of None some = absurd cc
-  some_of (Some home) some = (home, refl)
-
-  by_home : (d : ℕ) (home : Home) → map.get homes d ≡ Some home → IsReached objects d
-  by_home d home is =
-      let e = w.homes_held.stands d home is in
-      let r = w.records.only home.parent.0 home.name e.0 e.1 in
-      subst (IsReached objects) e.2 (IsReached.named _ r.1 r.2 e.3)
+  -- a directory is the root, or a record names it
+  named : (d : ℕ) → is_known homes d ≡ true → (d ≡ 1) ⊎ ((r : Record) × IsReached objects r.leaf.0.0 × IsRecord objects r × (r.inode.ino.0 ≡ d) × (is_dir_kind r.inode.kind ≡ true))
+  named d known = ⊎_elim (λ root. inl (eqb-true d 1 root))
+      (λ some.
+      let h = value_of (map.get homes d) some in
+      let e = w.homes_held.stands d h.0 h.1 in
+      let r = w.records.only h.0.parent.0 h.0.name e.0 e.1 in
+      inr (record { leaf = (h.0.parent, r.0); name = h.0.name; inode = e.0 }, r.1, r.2, e.2, e.3)) (or_cases (d == 1) (is_some (map.get homes d)) known)
 
   reached_there : (d : ℕ) → is_known homes d ≡ true → IsReached objects d
-  reached_there d known = go (or_cases (d == 1) (is_some (map.get homes d)) known)
-    where
-      go : ((d == 1) ≡ true) ⊎ (is_some (map.get homes d) ≡ true) → IsReached objects d
-      go (inl root) = subst (IsReached objects) (sym (eqb-true d 1 root)) IsReached.root
-      go (inr some) = let h = some_of (map.get homes d) some in by_home d h.0 h.1
+  reached_there d known = ⊎_elim (λ root. subst (IsReached objects) (sym root) IsReached.root) (λ r. subst (IsReached objects) r.3 (IsReached.named r.0 r.1 r.2 r.4)) (named d known)
 
   numbered : (d : ℕ) → is_known homes d ≡ true → d < 2 ^ 64
-  numbered d known = go (or_cases (d == 1) (is_some (map.get homes d)) known)
-    where
-      go : ((d == 1) ≡ true) ⊎ (is_some (map.get homes d) ≡ true) → d < 2 ^ 64
-      go (inl root) = let is = eqb-true d 1 root in omega (arith, is)
-      go (inr some) =
-          let h = some_of (map.get homes d) some in
-          let e = w.homes_held.stands d h.0 h.1 in
-          let most = (allowed objects _ (w.records.only h.0.parent.0 h.0.name e.0 e.1).2).number.most in
-          let is = e.2 in
-          omega (arith, most, is)
+  numbered d known = ⊎_elim (λ root. omega (arith, root)) (λ r. let most = (allowed objects r.0 r.2).number.most in let is = r.3 in omega (arith, most, is)) (named d known)
 
-  -- ---- leaves
-
-  is_tree : (dir : Ino) → is_known homes dir.0 ≡ true → IsTree (leaves_of covers dir.0)
-  is_tree dir known = said_tree (tree_of objects dir) (leaves_of covers dir.0) (w.leaves dir known)
-
-  cold_leaf : (leaf : Leaf) → IsLive homes covers leaf → IsColdLeaf objects leaf
-  cold_leaf leaf live = (leaves_of covers leaf.0.0, w.leaves leaf.0 live.known, live.stands)
-
-  said_once : (o : Option Omap) (a b : List Fragment) → SaysLeaves o a → SaysLeaves o b → a ≡ b
-  said_once None a b p q = p ∙ sym q
-  said_once (Some object) a b p q = one_tree object.header a b p q
-
-  live_leaf : (leaf : Leaf) → IsReached objects leaf.0.0 → IsColdLeaf objects leaf → IsLive homes covers leaf
-  live_leaf leaf above (leaves, said, has) =
-      let known = known_there leaf.0.0 above in
-      record { known = known; stands = subst (λ ls. HasLeaf ls leaf.1) (said_once (tree_of objects leaf.0) leaves (leaves_of covers leaf.0.0) said (w.leaves leaf.0 known)) has }
-
-  shown_as : (leaf : Leaf) → shown_names s.unsaved objects leaf ≡ names_at (object_of objects leaf.0 leaf.1)
-  unfolding shown_names
-  shown_as leaf = ap (λ u. shown_at u (object_of objects leaf.0 leaf.1)) (get-empty _ leaf)
-
-  -- ---- what is whole
+  -- ---- leaves and objects
 
   saved : (leaf : Leaf) → IsLive homes covers leaf → IsSaved leaf.1 (object_of objects leaf.0 leaf.1)
-  saved leaf live = w.whole leaf (reached_there leaf.0.0 live.known) (cold_leaf leaf live)
+  saved leaf live = w.whole leaf (reached_there leaf.0.0 live.known) (cold_leaf s refl w.leaves leaf live)
 
-  belongs : (f : Fragment) (o : Option Omap) (name : List ℕ) (inode : Inode) → IsSaved f o → map.get (names_at o) name ≡ Some inode → Contains f (hash_of name)
-  belongs f None name inode has stands = absurd has
-  belongs f (Some object) name inode (version, names, whole) stands = whole.1 name inode (ap (λ (n : Names). map.get n name) (spells_what_it_shows object version names whole.0) ∙ stands)
+  -- a tree object that is there says several leaves, so they were set
+  owned : (name : List ℕ) → is_some (map.get objects name) ≡ true → IsReachedObject objects name ⊎ (is_some (map.get purge name) ≡ true) → IsOwned s name
+  owned name some (inl (inl (leaf, above, of, is))) = inl (leaf, live_leaf s refl w.leaves leaf (known_by objects tree homes covers purge w leaf.0.0 above) of, is)
+  owned name some (inl (inr (dir, above, is))) =
+      let row = elim (tree_of objects dir) as (λ o. SaysLeaves o (leaves_of covers dir.0) → is_some o ≡ true → is_some (map.get covers dir.0) ≡ true) [
+        | None ↦ λ said some. absurd cc
+        | Some object ↦ λ said some. several_in_row covers dir.0 said.several
+      ] in
+      inr (inl (dir, row (w.leaves dir (known_by objects tree homes covers purge w dir.0 above)) (subst (λ n. is_some (map.get objects n) ≡ true) is some), is))
+  owned name some (inr listed) = inr (inr listed)
 
-  placed : (leaf : Leaf) (name : List ℕ) (inode : Inode) → IsLive homes covers leaf → map.get (shown_names s.unsaved objects leaf) name ≡ Some inode → IsPick (leaves_of covers leaf.0.0) (hash_of name) leaf.1
-  placed leaf name inode live stands =
-      pick_from_leaf (leaves_of covers leaf.0.0) (hash_of name) leaf.1 (is_tree leaf.0 live.known) live.stands
-      (belongs leaf.1 (object_of objects leaf.0 leaf.1) name inode (saved leaf live) (ap (λ (n : Names). map.get n name) (sym (shown_as leaf)) ∙ stands))
-
-  -- ---- the shown tree
-
-  abbrev at_leaf : ℕ → Fragment → Leaf
-  at_leaf d f = (record { 0 = d }, f)
-
-  record_shown : (leaf : Leaf) (name : List ℕ) (inode : Inode) → IsRecord objects (record { leaf = leaf; name = name; inode = inode }) → map.get (shown_names s.unsaved objects leaf) name ≡ Some inode
-  record_shown leaf name inode rec = ap (λ (n : Names). map.get n name) (shown_as leaf ∙ ap names_at rec.there) ∙ rec.stands
-
-  shown_record : (leaf : Leaf) (name : List ℕ) (inode : Inode) → IsLive homes covers leaf → map.get (shown_names s.unsaved objects leaf) name ≡ Some inode → IsRecord objects (record { leaf = leaf; name = name; inode = inode })
-  shown_record leaf name inode live is = by_object (object_of objects leaf.0 leaf.1) refl (ap (λ (n : Names). map.get n name) (sym (shown_as leaf)) ∙ is)
-    where
-      by_object : (o : Option Omap) → object_of objects leaf.0 leaf.1 ≡ o → map.get (names_at o) name ≡ Some inode → IsRecord objects (record { leaf = leaf; name = name; inode = inode })
-      by_object None there has = let clash : None ≡ Some inode = sym (get-empty _ name) ∙ has in absurd cc
-      by_object (Some object) there has = record { leaf = cold_leaf leaf live; object = object; there = there; stands = has }
-
-  same_entry : (d : ℕ) (name : List ℕ) (f : Fragment) → is_known homes d ≡ true → IsPick (leaves_of covers d) (hash_of name) f → (o t : Option Inode)
-      → map.get (shown_names s.unsaved objects (at_leaf d f)) name ≡ o → map.get tree (dentry_of d name) ≡ t → o ≡ t
-  same_entry d name f known pick None None is there = refl
-  same_entry d name f known pick (Some i) t is there =
-      sym (w.records.all _ (reached_there d known) (shown_record (at_leaf d f) name i (record { known = known; stands = pick.stands }) is)) ∙ there
-  same_entry d name f known pick None (Some i) is there =
-      let r = w.records.only d name i there in
-      let mine = placed (at_leaf d r.0) name i (live_leaf (at_leaf d r.0) r.1 r.2.leaf) (record_shown (at_leaf d r.0) name i r.2) in
-      let same : r.0 ≡ f = pick.alone r.0 mine.stands mine.contains in
-      sym is ∙ ap (λ g. map.get (shown_names s.unsaved objects (at_leaf d g)) name) (sym same) ∙ record_shown (at_leaf d r.0) name i r.2
-
-  same_at : (d : ℕ) (name : List ℕ) → map.get (shown_tree s) (dentry_of d name) ≡ map.get tree (dentry_of d name)
-  same_at d name = by_known (is_known homes d) refl
-    where
-      only : (f : Fragment) → is_known homes d ≡ true → IsPick (leaves_of covers d) (hash_of name) f → (g : Fragment) (inode : Inode) → HasLeaf (leaves_of covers d) g
-          → map.get (shown_names s.unsaved objects (at_leaf d g)) name ≡ Some inode → g ≡ f
-      only f known pick g inode stands is =
-          let mine = placed (at_leaf d g) name inode (record { known = known; stands = stands }) is in
-          pick.alone g mine.stands mine.contains
-
-      none : is_known homes d ≡ false → (o : Option Inode) → map.get tree (dentry_of d name) ≡ o → None ≡ map.get tree (dentry_of d name)
-      none unknown None is = sym is
-      none unknown (Some i) is = let clash : true ≡ false = sym (known_there d (w.records.only d name i is).1) ∙ unknown in absurd cc
-
-      by_known : (b : Bool) → is_known homes d ≡ b → map.get (shown_tree s) (dentry_of d name) ≡ map.get tree (dentry_of d name)
-      by_known false unknown = found_nowhere (shown_names s.unsaved objects) homes covers d name unknown ∙ none unknown (map.get tree (dentry_of d name)) refl
-      by_known true known =
-          let p = some_pick (leaves_of covers d) (hash_of name) (is_tree (record { 0 = d }) known) in
-          found_at (shown_names s.unsaved objects) homes covers d name p.0 known p.1.stands (only p.0 known p.1)
-          ∙ same_entry d name p.0 known p.1 (map.get (shown_names s.unsaved objects (at_leaf d p.0)) name) (map.get tree (dentry_of d name)) refl refl
-
-  pub shows : shown_tree s ≡ tree
-  shows = same_map dentry-total dentry-exact (shown_tree s) tree (λ (q : Dentry). same_at q.dir.0 q.name)
-
-  -- ---- all together
-
-  -- a directory whose tree object is there has several leaves, so they were set
-  has_row : (dir : Ino) → is_known homes dir.0 ≡ true → is_some (tree_of objects dir) ≡ true → is_some (map.get covers dir.0) ≡ true
-  has_row dir known = go (tree_of objects dir) (w.leaves dir known)
-    where
-      go : (o : Option Omap) → SaysLeaves o (leaves_of covers dir.0) → is_some o ≡ true → is_some (map.get covers dir.0) ≡ true
-      go None said some = absurd cc
-      go (Some object) said some = several_in_row covers dir.0 said.several
-
-  owned : (name : List ℕ) → is_some (map.get objects name) ≡ true → IsOwned s name
-  owned name some = go (w.reached_or_left name some)
-    where
-      go : IsReachedObject objects name ⊎ (is_some (map.get purge name) ≡ true) → IsOwned s name
-      go (inl (inl (leaf, above, of, is))) = inl (leaf, live_leaf leaf above of, is)
-      go (inl (inr (dir, above, is))) = inr (inl (dir, has_row dir (known_there dir.0 above) (subst (λ n. is_some (map.get objects n) ≡ true) is some), is))
-      go (inr listed) = inr (inr listed)
-
-  not_listed : (leaf : Leaf) → IsLive homes covers leaf → map.get purge (text_of leaf) ≡ None
-  not_listed leaf live = go (map.get purge (text_of leaf)) refl
-    where
-      go : (o : Option (Unit {0})) → map.get purge (text_of leaf) ≡ o → map.get purge (text_of leaf) ≡ None
-      go None is = is
-      go (Some u) is = absurd (w.not_reached (text_of leaf) (ap is_some is) (inl (leaf, reached_there leaf.0.0 live.known, cold_leaf leaf live, refl)))
-
-  nothing : {A : Type 0} {X : Type 0} (u : X) → None ≡ Some u → A
-  nothing u clash = absurd cc
-
-  pub is_sound : IsCounted tree counts pins → IsSound s
-  is_sound counted = record {
+  leaves_sound : HasSoundLeaves s
+  leaves_sound = record {
     table = (walked_is_tabled objects tree homes covers purge w).1;
     numbered = numbered;
-    tabled = subst (λ t. IsTabled t homes) (sym shows) (walked_is_tabled objects tree homes covers purge w).0;
-    counted = subst (λ t. IsCounted t counts pins) (sym shows) counted;
-    placed = placed;
-    unsaved = λ leaf u is. nothing u (sym (get-empty _ leaf) ∙ is);
+    placed = λ leaf name inode live stands.
+        pick_from_leaf (leaves_of covers leaf.0.0) (hash_of name) leaf.1 (said_tree (tree_of objects leaf.0) (leaves_of covers leaf.0.0) (w.leaves leaf.0 live.known)) live.stands
+        (belongs leaf.1 (object_of objects leaf.0 leaf.1) name inode (saved leaf live) (ap (λ (n : Names). map.get n name) (sym (shown_as s refl w.leaves leaf)) ∙ stands));
+    unsaved = λ leaf u is. in_empty leaf_cmp leaf u is;
     saved = λ leaf live clean. saved leaf live;
-    owned = owned;
-    listed = not_listed;
-    standing = λ leaf job is. nothing job (sym (get-empty _ leaf) ∙ is);
-    once = λ a b i j is. nothing i (sym (get-empty _ a) ∙ is);
+    owned = λ name some. owned name some (w.reached_or_left name some);
+    listed = λ leaf live. none_unless (map.get purge (text_of leaf)) (λ some. w.not_reached (text_of leaf) some (inl (leaf, reached_there leaf.0.0 live.known, cold_leaf s refl w.leaves leaf live, refl)));
+    standing = λ leaf job is. in_empty leaf_cmp leaf job is;
+    once = λ a b i j is. in_empty leaf_cmp a i is;
   }
 
--- ---- empty caches
+  -- the shown tree is the one that was walked
+  pub shows : shown_tree s ≡ tree
+  shows = ⊎_elim (λ none. absurd (some_object s refl w.leaves leaves_sound none.0))
+      (λ cold. has_one_cold_tree objects (shown_tree s) tree (inr (cold.0, cold.1, has_records s refl w.leaves leaves_sound reached_there (known_by objects tree homes covers purge w))) (inr cold)) (is_cold objects tree homes covers purge w)
 
-none_cached : (ranks places : ℕ) (s : State) → AreCached s (no_caches ranks places)
-none_cached ranks places s leaf a is = let clash : None ≡ Some a = sym (none_held ranks places leaf) ∙ is in absurd cc
+  pub is_sound : IsCounted tree counts pins → IsSound s
+  is_sound counted = sound_again s leaves_sound (subst (λ t. IsTabled t homes) (sym shows) (walked_is_tabled objects tree homes covers purge w).0) (subst (λ t. IsCounted t counts pins) (sym shows) counted)
 
 -- ---- the tree over the store
 
@@ -188,7 +82,7 @@ module _ (limit : ℕ) (objects : Objects) (ranks places : ℕ) (tree : Tree) (c
   mounted_core = record {
     sound = subst IsSound (sym m.state) (is_sound limit objects tree c.homes c.covers c.counts c.pins c.purge m.walked m.counted);
     begun = let first : c.next_generation ≡ 1 = ap (λ (s : State). s.next_generation) m.state in omega (arith, first);
-    cached = subst (AreCached (state_of c)) (sym m.caches) (none_cached ranks places (state_of c));
+    cached = subst (AreCached (state_of c)) (sym m.caches) (λ leaf a is. let clash : None ≡ Some a = sym (none_held ranks places leaf) ∙ is in absurd cc);
     none = (subst KeepsNone (sym m.caches) (none_kept ranks places));
   }
 

@@ -8,19 +8,17 @@ module _ (c : CacheMap) (r : ℕ) (leaf : Leaf) (none : KeepsNone c) where
   none_used new there is = subst KeepsNone (sym is) (λ s q. whole_used c r leaf s q there (none s q))
 
   pub none_edits : (Change : Cached → Cached → Type 0) (new : CacheMap) → Edits Change r leaf c new → KeepsNone new
-  none_edits Change new e = go (here c r leaf) refl e
-    where
-      go : (o : Option Cached) → here c r leaf ≡ o → IsEdited Change r leaf o c new → KeepsNone new
-      go None is e = absurd e
-      go (Some f) is e = subst KeepsNone (sym e.2) (λ s q. whole_with_frag c r leaf e.0 s q (here_free r (finmap.get c.held leaf) (ap is_some is)) (none s q))
+  none_edits Change new e = elim (here c r leaf) as (λ o. here c r leaf ≡ o → IsEdited Change r leaf o c new → KeepsNone new) [
+    | None ↦ λ is e. absurd e
+    | Some f ↦ λ is e. subst KeepsNone (sym e.2) (λ s q. whole_with_frag c r leaf e.0 s q (here_free r (finmap.get c.held leaf) (ap is_some is)) (none s q))
+  ] refl e
 
   module _ (there : r < length c.used) (valid : AreCaches c) (stay : Option Leaf) where
     pub none_roomy : (mid : CacheMap) → roomy c r stay ≡ Some mid → KeepsNone mid
     none_roomy mid made s q = whole_roomy c mid r stay s q there (valid.distinct r) made (none s q)
 
     pub none_room : (new : CacheMap) → MakesRoomAt r stay c new → KeepsNone new
-    none_room new (inl same) = subst KeepsNone (sym same) none
-    none_room new (inr made) = none_roomy new made
+    none_room new made = ⊎_elim (λ same. subst KeepsNone (sym same) none) (none_roomy new) made
 
     pub none_fetched : (object : Option Omap) (new : CacheMap) (b : Bool) → has_place c r leaf ≡ b → FetchesAt r leaf stay object b c new → KeepsNone new
     none_fetched object new true seen is = none_used new (none r leaf seen) is

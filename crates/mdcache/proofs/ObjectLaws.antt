@@ -1,5 +1,6 @@
 -- A purge and a commit of a directory's tree change no object of a live leaf.
-use Rattle.mdcache.proofs.Common.{AreCached, Bool, CacheMap, Fragment, Ino, IsLive, IsOwned, IsSound, Keys, Leaf, List, None, Objects, Option, PairMap, Some, State, WriteOp, [], ap, applied-by-parts, cond, empty_omap, eq_by_cmp, exact_bytes, false, find, first_name, get-empty, get-entries, get-without_keys, get_beside, get_left, get_removed, inl, inr, is_known, is_some, key_cmp, key_itself, leaves_of, length, ltb-true, nat_list_cmp_total, nat_lt, object_of, option_map, overlaid-empty, purged, refl, same_map, shown_tree, slice_get, subst, sym, text_of, tree_object, tree_saved, tree_text, true, unwrap_or, with_tree_at, without_keys, ℕ, ⊎_elim, ◌<◌, ◌∙◌, ◌∷◌, ◌≡◌}
+use Rattle.mdcache.proofs.Common.{AreCached, Bool, CacheMap, Fragment, Ino, IsLive, IsOwned, IsSound, Keys, Leaf, List, None, Objects, Omap, Option, PairMap, Some, State, WriteOp, [], ap, applied-by-parts, cond, empty_omap, eq_by_cmp, exact_bytes, false, find, first_name, get-empty, get-entries, get-without_keys, get_beside, get_left, get_put, get_removed, inl, inr, is_known, is_some, key_cmp, key_itself, leaves_of, length, ltb-true, nat_list_cmp_total, nat_lt, object_of, option_map, overlaid-empty, purged, refl, same_Some, same_map, shown_tree, slice_get, subst, sym, text_of, tree_object, tree_saved, tree_text, true, unwrap_or, with_tree_at, without_keys, ℕ, ⊎_elim, ◌<◌, ◌∙◌, ◌∷◌, ◌≡◌}
+use Rattle.std.proofs.lemmas.Bool.{cond_both}
 use Rattle.dirfrag_codec.proofs.ByteKeys.{same_or_apart as key_or_apart}
 use Rattle.std.specs.FinMap as map
 use Rattle.objstore.specs.Objects.{written}
@@ -10,13 +11,10 @@ use Rattle.mdcache.proofs.TextLaws.{no_tree_text}
 -- ---- the first name of a list
 
 pub first_stands : (names : Keys) (name : List ℕ) → first_name names ≡ Some name → is_some (map.get names name) ≡ true
-first_stands names name is = ap (λ (o : Option (Unit {0})). is_some o) (get-entries names name) ∙ go (map.entries names) is
-  where
-    go : (es : List (List ℕ × Unit {0})) → option_map (λ (e : List ℕ × Unit {0}). e.0) (slice_get es 0) ≡ Some name → is_some (find key_cmp name es) ≡ true
-    go [] h = let clash : None ≡ Some name = h in cc
-    go (e ∷ es) h =
-        let one : e.0 ≡ name = cc in
-        ap (λ (b : Bool). is_some (cond b (Some e.1) (find key_cmp name es))) (ap (λ (k : List ℕ). eq_by_cmp key_cmp name k) one ∙ key_itself name)
+first_stands names name is = ap is_some (get-entries names name) ∙ elim (map.entries names) as (λ es. option_map (λ (e : List ℕ × Unit {0}). e.0) (slice_get es 0) ≡ Some name → is_some (find key_cmp name es) ≡ true) [
+  | [] ↦ λ h. let clash : None ≡ Some name = h in cc
+  | e ∷ es ↦ λ h. ap (λ (b : Bool). is_some (cond b (Some e.1) (find key_cmp name es))) (ap (eq_by_cmp key_cmp name) (same_Some e.0 name h) ∙ key_itself name)
+] is
 
 -- ---- an object changes that no live leaf has, and its name leaves the list
 
@@ -34,9 +32,7 @@ module _ (s : State) (name : List ℕ) (objects : Objects) (sound : IsSound s) (
 
   -- what owns another object owns it still
   owned_beside : (q : List ℕ) → (q ≡ name → ⊥) → IsOwned s q → IsOwned after q
-  owned_beside q apart (inl leaf) = inl leaf
-  owned_beside q apart (inr (inl tree)) = inr (inl tree)
-  owned_beside q apart (inr (inr listed)) = inr (inr (ap is_some (get_left s.purge name q apart) ∙ listed))
+  owned_beside q apart owned = ⊎_elim (λ leaf. inl leaf) (λ rest. ⊎_elim (λ tree. inr (inl tree)) (λ listed. inr (inr (ap is_some (get_left s.purge name q apart) ∙ listed))) rest) owned
 
   other_changed : (is_some (map.get objects name) ≡ true → IsOwned after name) → KeepsLeaves s after
   other_changed owned =
@@ -59,34 +55,34 @@ purged_right s name sound first = other_changed s name (map.remove s.objects nam
     cc)
     (λ has. let clash : false ≡ true = ap is_some (sym (get_removed s.objects name)) ∙ has in absurd cc)
 
+-- the object that a tree has afterwards, and each other
+pub tree_here : (objects : Objects) (name : List ℕ) (leaves : List Fragment) → map.get (with_tree_at objects name leaves) name ≡ cond (nat_lt 1 (length leaves)) (Some (tree_object leaves)) None
+tree_here objects name leaves = elim (nat_lt 1 (length leaves)) as (λ b. map.get (cond b (map.insert objects name (tree_object leaves)) (map.remove objects name)) name ≡ cond b (Some (tree_object leaves)) None) [
+  | true ↦ get_put objects name (tree_object leaves)
+  | false ↦ get_removed objects name
+]
+
+pub tree_beside : (objects : Objects) (name : List ℕ) (leaves : List Fragment) (q : List ℕ) → (q ≡ name → ⊥) → map.get (with_tree_at objects name leaves) q ≡ map.get objects q
+tree_beside objects name leaves q apart = cond_both (nat_lt 1 (length leaves)) (map.insert objects name (tree_object leaves)) (map.remove objects name) (λ (m : Objects). map.get m q ≡ map.get objects q)
+    (λ more. get_beside objects name (tree_object leaves) q apart) (λ few. get_left objects name q apart)
+
 -- the object of a directory's tree is written or removed
 pub tree_saved_right : (s : State) (dir : Ino) → IsSound s → is_known s.homes dir.0 ≡ true → KeepsLeaves s (tree_saved s dir)
-tree_saved_right s dir sound known = other_changed s (tree_text dir) (with_tree_at s.objects (tree_text dir) leaves) sound (beside (nat_lt 1 (length leaves)))
-    (λ leaf live. no_tree_text s.homes s.covers sound.table sound.numbered leaf dir live known) (λ has. inr (inl (dir, several_in_row s.covers dir.0 (several (nat_lt 1 (length leaves)) refl has), refl)))
+tree_saved_right s dir sound known = other_changed s (tree_text dir) (with_tree_at s.objects (tree_text dir) leaves) sound (tree_beside s.objects (tree_text dir) leaves)
+    (λ leaf live. no_tree_text s.homes s.covers sound.table sound.numbered leaf dir live known)
+    (λ has.
+    let several = cond_both (nat_lt 1 (length leaves)) (Some (tree_object leaves)) None (λ (o : Option Omap). is_some o ≡ true → 1 < length leaves) (λ more some. ltb-true 1 (length leaves) more) (λ few some. absurd cc) in
+    inr (inl (dir, several_in_row s.covers dir.0 (several (sym (ap is_some (tree_here s.objects (tree_text dir) leaves)) ∙ has)), refl)))
   where
     leaves : List Fragment
     leaves = leaves_of s.covers dir.0
 
-    beside : (b : Bool) (q : List ℕ) → (q ≡ tree_text dir → ⊥) → map.get (cond b (map.insert s.objects (tree_text dir) (tree_object leaves)) (map.remove s.objects (tree_text dir))) q ≡ map.get s.objects q
-    beside true q apart = get_beside s.objects (tree_text dir) (tree_object leaves) q apart
-    beside false q apart = get_left s.objects (tree_text dir) q apart
-
-    -- where the object is there afterwards the directory has several leaves
-    several : (b : Bool) → nat_lt 1 (length leaves) ≡ b → is_some (map.get (cond b (map.insert s.objects (tree_text dir) (tree_object leaves)) (map.remove s.objects (tree_text dir))) (tree_text dir)) ≡ true → 1 < length leaves
-    several true more some = ltb-true 1 (length leaves) more
-    several false few some = let clash : false ≡ true = ap is_some (sym (get_removed s.objects (tree_text dir))) ∙ some in absurd cc
-
-abbrev no_pairs : PairMap
-no_pairs = map.empty
-
-abbrev no_keys : Keys
-no_keys = map.empty
-
 -- the write of a tree's object: its header, and no pairs
-pub tree_written : (objects : Objects) (name header : List ℕ) → written objects name (record { clear = true; header = Some header; set = no_pairs; remove = no_keys }) ≡ map.insert objects name (record { header = header; pairs = no_pairs })
+pub tree_written : (objects : Objects) (name header : List ℕ)
+    → written objects name (record { clear = true; header = Some header; set = map.empty; remove = map.empty }) ≡ map.insert objects name (record { header = header; pairs = map.empty })
 unfolding written
 tree_written objects name header =
-    let op : WriteOp = record { clear = true; header = Some header; set = no_pairs; remove = no_keys } in
-    let nothing_left : without_keys no_pairs no_keys ≡ no_pairs = same_map nat_list_cmp_total exact_bytes (without_keys no_pairs no_keys) no_pairs (λ q. get-without_keys exact_bytes no_pairs no_keys q
-    ∙ elim (map.contains_key no_keys q) as (λ b. cond b None (map.get no_pairs q) ≡ map.get no_pairs q) [ true ↦ sym (get-empty key_cmp q) | false ↦ refl ]) in
-    ap (map.insert objects name) (sym (applied-by-parts op (unwrap_or (map.get objects name) empty_omap) header no_pairs refl (sym (ap (λ (pairs : PairMap). without_keys pairs no_keys) (overlaid-empty no_pairs) ∙ nothing_left))))
+    let op : WriteOp = record { clear = true; header = Some header; set = map.empty; remove = map.empty } in
+    let nothing_left : without_keys op.set op.remove ≡ op.set = same_map nat_list_cmp_total exact_bytes (without_keys op.set op.remove) op.set (λ q. get-without_keys exact_bytes op.set op.remove q
+    ∙ elim (map.contains_key op.remove q) as (λ b. cond b None (map.get op.set q) ≡ map.get op.set q) [ true ↦ sym (get-empty key_cmp q) | false ↦ refl ]) in
+    ap (map.insert objects name) (sym (applied-by-parts op (unwrap_or (map.get objects name) empty_omap) header op.set refl (sym (ap (λ (pairs : PairMap). without_keys pairs op.remove) (overlaid-empty op.set) ∙ nothing_left))))

@@ -1,5 +1,5 @@
 -- No call touches the object of a fragment while a job stands for it.
-use Rattle.mdcache.proofs.Common.{BeginsWith, Bool, Change, Drops, Ends, Err, Fragment, Ino, Inode, IsRegrouped, IsSound, Job, Leaf, List, Makes, None, Ok, Option, PurgesName, PutsThen, Refusal, Result, SavesTree, Some, Spot, State, TakesThen, Unsaved, ap, cond, dentry_at, false, first_name, get_beside, housed, inl, inr, is_dir_kind, object_of, refl, sym, text_of, true, with_directory, without, ℕ, ◌∙◌, ◌≡◌}
+use Rattle.mdcache.proofs.Common.{BeginsWith, Bool, Change, Drops, Ends, Err, Fragment, Ino, Inode, IsRegrouped, IsSound, Job, Leaf, List, Makes, None, Ok, Option, PurgesName, PutsThen, Refusal, Result, SavesTree, Some, Spot, State, TakesThen, Unsaved, ap, cond, dentry_at, false, first_name, get_beside, housed, inl, inr, is_dir_kind, object_of, refl, sym, text_of, true, with_directory, with_home_at, with_new, without, ℕ, ◌∙◌, ◌≡◌}
 use Rattle.std.specs.FinMap as map
 use Rattle.mds_types.proofs.LeafLaws.{get_removed, same_or_apart}
 use Rattle.objstore.specs.Objects.{written}
@@ -21,24 +21,21 @@ without_objects : (s : State) (went : Option Ino) → (without s went).objects �
 without_objects s None = refl
 without_objects s (Some dir) = refl
 
-housed_objects : (s : State) (takes : Option Spot) (puts : Option (Spot × Inode)) (comes : Bool) → (housed s takes puts comes).objects ≡ s.objects
-housed_objects s None None comes = refl
-housed_objects s (Some spot) None comes = refl
-housed_objects s None (Some put) true = elim (is_dir_kind put.1.kind) as (λ b. (cond b (with_directory s (dentry_at put.0) put.1.ino) s).objects ≡ s.objects) [ true ↦ refl | false ↦ refl ]
-housed_objects s None (Some put) false = refl
-housed_objects s (Some spot) (Some put) comes = refl
+-- whatever entry it takes and puts
+altered_objects : (takes : Option Spot) (puts : Option (Spot × Inode)) (comes : Bool) (gone : Option Ino) (old new : State)
+    → TakesThen old takes (λ left. PutsThen left puts (λ named. new ≡ without (housed named takes puts comes) gone)) → ObjectsStay old new
+altered_objects None None comes gone old new is = same_state (without old gone) new is ∙ without_objects old gone
+altered_objects (Some spot) None comes gone old new (left, taken, is) = same_state (without left gone) new is ∙ without_objects left gone ∙ ap (λ (s : State). s.objects) taken.left
+altered_objects None (Some put) true gone old new (named, is_named, is) =
+    same_state (without (with_new named (dentry_at put.0) put.1) gone) new is ∙ without_objects (with_new named (dentry_at put.0) put.1) gone
+    ∙ elim (is_dir_kind put.1.kind) as (λ b. (cond b (with_directory named (dentry_at put.0) put.1.ino) named).objects ≡ named.objects) [ true ↦ refl | false ↦ refl ] ∙ ap (λ (s : State). s.objects) is_named.left
+altered_objects None (Some put) false gone old new (named, is_named, is) = same_state (without named gone) new is ∙ without_objects named gone ∙ ap (λ (s : State). s.objects) is_named.left
+altered_objects (Some spot) (Some put) comes gone old new (left, taken, (named, is_named, is)) =
+    same_state (without (with_home_at named (dentry_at put.0) put.1) gone) new is ∙ without_objects (with_home_at named (dentry_at put.0) put.1) gone
+    ∙ ap (λ (s : State). s.objects) is_named.left ∙ ap (λ (s : State). s.objects) taken.left
 
 pub made_objects : (change : Change) (old new : State) → Makes change old new → ObjectsStay old new
-made_objects change old new makes = ap (λ (s : State). s.objects) makes.2 ∙ first change.takes makes.1
-  where
-    second : (left : State) (takes : Option Spot) (puts : Option (Spot × Inode)) → PutsThen left puts (λ named. makes.0 ≡ without (housed named takes puts change.comes) change.gone) → makes.0.objects ≡ left.objects
-    second left takes None is = ap (λ (s : State). s.objects) is ∙ without_objects (housed left takes None change.comes) change.gone ∙ housed_objects left takes None change.comes
-    second left takes (Some put) (named, is_named, is) =
-        ap (λ (s : State). s.objects) is ∙ without_objects (housed named takes (Some put) change.comes) change.gone ∙ housed_objects named takes (Some put) change.comes ∙ ap (λ (s : State). s.objects) is_named.left
-
-    first : (takes : Option Spot) → TakesThen old takes (λ left. PutsThen left change.puts (λ named. makes.0 ≡ without (housed named takes change.puts change.comes) change.gone)) → makes.0.objects ≡ old.objects
-    first None makes = second old None change.puts makes
-    first (Some spot) (left, is_named, makes) = second left (Some spot) change.puts makes ∙ ap (λ (s : State). s.objects) is_named.left
+made_objects change old new makes = ap (λ (s : State). s.objects) makes.2 ∙ altered_objects change.takes change.puts change.comes change.gone old makes.0 makes.1
 
 -- nor do a split and a merge
 pub regrouped_objects : (old new : State) (dir : Ino) (gone cover : List Fragment) (count : ℕ) → IsRegrouped old new dir gone cover count → ObjectsStay old new

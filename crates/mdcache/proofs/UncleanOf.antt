@@ -1,5 +1,5 @@
 -- What isn't clean of one rank, after reads and preparations; and where places lack.
-use Rattle.mdcache.proofs.Common.{AllByRecursion, AreCaches, At, Bool, CacheMap, Cached, CanNotKeep, IsDistinct, IsDistinct-cons, IsDistinct-head, IsDistinct-tail, IsThere, KeepsNone, Leaf, List, None, Objects, Option, Reads, Some, Unsaved, [], all_from, all_of, any_tied, ap, arith, at_rank, clean_in, cond, contains_key-keys, false, filter, get_tabulate, get_unclean, goes, going_at, here, inl, inr, is_clean, is_some, leaf-total, leaf_is, len-entries, length, loaded_clean, not, object_of, order, reads_held, reads_unclean, refl, room_unsaved, roomy, same_map, staying, suc, sym, true, unclean_at, unclean_in, unsaved_at, unsaved_in, ℕ, ◌&&◌, ◌+◌, ◌<◌, ◌==◌, ◌∙◌, ◌∷◌, ◌≡◌, ◌≤◌, ◌⊎◌}
+use Rattle.mdcache.proofs.Common.{AllByRecursion, AreCaches, At, Bool, CacheMap, Cached, CanNotKeep, IsDistinct, IsDistinct-cons, IsDistinct-head, IsDistinct-tail, IsThere, KeepsNone, Leaf, List, None, Objects, Option, Reads, Some, Unsaved, [], all_from, all_of, any_tied, ap, arith, at_rank, clean_in, cond, contains_key-keys, false, filter, get_tabulate, get_unclean, goes, going_at, here, inl, inr, is_clean, is_some, leaf-total, leaf_is, len-entries, length, loaded_clean, not, object_of, order, reads_held, reads_unclean, refl, room_unsaved, roomy, same_map, staying, sym, true, unclean_at, unclean_in, unsaved_at, unsaved_in, ℕ, ◌&&◌, ◌+◌, ◌<◌, ◌==◌, ◌∙◌, ◌∷◌, ◌≡◌, ◌≤◌, ◌⊎◌}
 use Rattle.std.proofs.lemmas.Bool.{not-true}
 use Rattle.std.proofs.lemmas.List.Elements.{All-filter, All-from_recursion, filter_passes, recursion_from_All}
 use Rattle.std.proofs.lemmas.Map.Entries.{length-keys_of}
@@ -25,20 +25,18 @@ clean_at s (Some a) clean = elim (a.rank == s) as (λ b. unsaved_in (cond b (Som
 
 module _ (Uses Ends : ℕ → Leaf → Type 0) (objects : Objects) (old : CacheMap) where
   reads_beyond : (s : ℕ) (q : Leaf) (new : CacheMap) → Reads Uses Ends objects old new → unsaved_in (here new s q) ≡ unsaved_in (here old s q)
-  reads_beyond s q new reads = go (finmap.get new.held q) refl
+  reads_beyond s q new reads = elim (finmap.get new.held q) as (λ o. finmap.get new.held q ≡ o → unsaved_in (here new s q) ≡ unsaved_in (here old s q)) [
+    | None ↦ λ is. both_clean (ap unsaved_at is)
+    | Some a ↦ λ is. elim (reads_held Uses Ends objects old new reads q a is) [
+      | inl was ↦ ap (λ (o : Option At). unsaved_in (at_rank s o)) is ∙ elim (a.rank == s) as (λ b. unsaved_in (cond b (Some a.frag) None) ≡ unsaved_in (cond b (Some was.0) None)) [ true ↦ room_unsaved was.0 a.frag was.2 | false ↦ refl ] ∙ sym (ap (λ (o : Option At). unsaved_in (at_rank s o)) was.1)
+      | inr came ↦ both_clean (ap unsaved_at is ∙ room_unsaved came.1 a.frag came.3 ∙ loaded_clean q.1 (object_of objects q.0 q.1) came.1 came.2)
+    ]
+  ] refl
     where
-      same : unsaved_at (finmap.get new.held q) ≡ unsaved_at (finmap.get old.held q)
-      same = sym (get_unclean new q) ∙ ap (λ m. finmap.get m q) (reads_unclean Uses Ends objects old new reads) ∙ get_unclean old q
-
       both_clean : unsaved_at (finmap.get new.held q) ≡ None → unsaved_in (here new s q) ≡ unsaved_in (here old s q)
-      both_clean clean = clean_at s (finmap.get new.held q) clean ∙ sym (clean_at s (finmap.get old.held q) (sym same ∙ clean))
-
-      go : (o : Option At) → finmap.get new.held q ≡ o → unsaved_in (here new s q) ≡ unsaved_in (here old s q)
-      go None is = both_clean (ap unsaved_at is)
-      go (Some a) is = elim (reads_held Uses Ends objects old new reads q a is) [
-        | inl was ↦ ap (λ (o : Option At). unsaved_in (at_rank s o)) is ∙ elim (a.rank == s) as (λ b. unsaved_in (cond b (Some a.frag) None) ≡ unsaved_in (cond b (Some was.0) None)) [ true ↦ room_unsaved was.0 a.frag was.2 | false ↦ refl ] ∙ sym (ap (λ (o : Option At). unsaved_in (at_rank s o)) was.1)
-        | inr came ↦ both_clean (ap unsaved_at is ∙ room_unsaved came.1 a.frag came.3 ∙ loaded_clean q.1 (object_of objects q.0 q.1) came.1 came.2)
-      ]
+      both_clean clean =
+          clean_at s (finmap.get new.held q) clean
+          ∙ sym (clean_at s (finmap.get old.held q) (sym (get_unclean old q) ∙ ap (λ m. finmap.get m q) (sym (reads_unclean Uses Ends objects old new reads)) ∙ get_unclean new q ∙ clean))
 
   pub reads_unclean_of : (new : CacheMap) → Reads Uses Ends objects old new → (r : ℕ) → unclean_of new r ≡ unclean_of old r
   reads_unclean_of new reads r = same_map leaf-total leaf-exact (unclean_of new r) (unclean_of old r) (λ q. get_unclean_of new r q ∙ reads_beyond r q new reads ∙ sym (get_unclean_of old r q))
@@ -81,14 +79,10 @@ full_lacks c r stay valid none full =
 -- each passes one of two tests
 two : (g t : Leaf → Bool) (xs : List Leaf) → AllByRecursion (λ (x : Leaf). (g x ≡ true) ⊎ (t x ≡ true)) xs → length xs ≤ length (filter g xs) + length (filter t xs)
 two g t [] all = omega arith
-two g t (x ∷ xs) all = go (g x) refl (t x) refl all.0 (two g t xs all.1)
-  where
-    go : (a : Bool) → g x ≡ a → (b : Bool) → t x ≡ b → (g x ≡ true) ⊎ (t x ≡ true) → length xs ≤ length (filter g xs) + length (filter t xs) → suc (length xs) ≤ length (cond a (x ∷ filter g xs) (filter g xs)) + length (cond b (x ∷ filter t xs) (filter t xs))
-    go true is true also one le = omega (arith, le)
-    go true is false also one le = omega (arith, le)
-    go false is true also one le = omega (arith, le)
-    go false is false also (inl first) le = let clash : false ≡ true = sym is ∙ first in absurd cc
-    go false is false also (inr second) le = let clash : false ≡ true = sym also ∙ second in absurd cc
+two g t (x ∷ xs) all =
+    let either = all.0 in
+    let rest = two g t xs all.1 in
+    grind (arith, either, rest)
 
 -- where fewer places than so many are free or can become so, and none is kept, they lack
 pub few_lack : (count : ℕ) (c : CacheMap) (r : ℕ) → AreCaches c → KeepsNone c → CanNotKeep count c r None → c.cap < finmap.len (unclean_of c r) + count

@@ -1,7 +1,7 @@
 -- Each turn saves the tree of the first directory that is left.
 use Rattle.mdcache.proofs.Common.{Core, MayRefuse, all_trees, ap, arith, inl, refl, slice_get, state_of, subst, sym, trees_after, ◌∙◌}
 use Rattle.mdcache.proofs.CoverRows.{known_by_row}
-use Rattle.mdcache.proofs.SavedTreeLaws.{all_saved, no_first, saved_none, turn_done, turn_fewer, turn_refused, turn_saved}
+use Rattle.mdcache.proofs.SavedTreeLaws.{all_saved, no_first, saved_none, turn, turn_refused}
 use Rattle.mdcache.proofs.flushing.save_each.Goals as goal
 
 pub loop-dir-init : goal.loop-dir-init
@@ -31,18 +31,19 @@ returns-clause-idle g c = λ none. (refl, c.loop-dir.invariant.idle none)
 pub loop-dir-smaller : goal.loop-dir-smaller
 loop-dir-smaller g c =
     let first = (λ i. slice_get (trees_after (sym c.dirs.ensures.homes i) (sym c.dirs.ensures.trees i) c.loop-dir.last) 0) ∙ sym c.in-Some.ensures in
-    turn_fewer (state_of c.loop-dir.tree) c.loop-dir.invariant.sound.sound c.loop-dir.last c.in-Some.dir first (state_of c.commit_tree.new.self) c.loop-dir.tree.faults c.commit_tree.new.self.faults c.in_default-commit_tree.ensures.saved
+    (turn (state_of c.loop-dir.tree) c.loop-dir.invariant.sound.sound c.loop-dir.last c.in-Some.dir first (state_of c.commit_tree.new.self) c.loop-dir.tree.faults c.commit_tree.new.self.faults c.in_default-commit_tree.ensures.saved
+    (state_of c.args.tree.now) c.loop-dir.invariant.saved c.loop-dir.invariant.done).2
 
 pub loop-dir-preserved : goal.loop-dir-preserved
 loop-dir-preserved g c =
     let first = (λ i. slice_get (trees_after (sym c.dirs.ensures.homes i) (sym c.dirs.ensures.trees i) c.loop-dir.last) 0) ∙ sym c.in-Some.ensures in
+    let its = turn (state_of c.loop-dir.tree) c.loop-dir.invariant.sound.sound c.loop-dir.last c.in-Some.dir first (state_of c.commit_tree.new.self) c.loop-dir.tree.faults c.commit_tree.new.self.faults c.in_default-commit_tree.ensures.saved
+    (state_of c.args.tree.now) c.loop-dir.invariant.saved c.loop-dir.invariant.done in
     let counted = c.in_default-commit_tree.ensures.counted in
     let so_far = c.loop-dir.invariant.faults in
     record {
-      saved = turn_saved (state_of c.loop-dir.tree) c.loop-dir.invariant.sound.sound c.loop-dir.last c.in-Some.dir first (state_of c.commit_tree.new.self) c.loop-dir.tree.faults c.commit_tree.new.self.faults c.in_default-commit_tree.ensures.saved
-          (state_of c.args.tree.now) c.loop-dir.invariant.saved;
-      done = turn_done (state_of c.loop-dir.tree) c.loop-dir.invariant.sound.sound c.loop-dir.last c.in-Some.dir first (state_of c.commit_tree.new.self) c.loop-dir.tree.faults c.commit_tree.new.self.faults c.in_default-commit_tree.ensures.saved
-          c.loop-dir.invariant.done;
+      saved = its.0;
+      done = its.1;
       caches = c.in_default-commit_tree.ensures.caches ∙ c.loop-dir.invariant.caches;
       faults = omega (arith, counted, so_far);
       idle = λ none. absurd (no_first (state_of c.loop-dir.tree) c.loop-dir.last c.in-Some.dir first (ap (λ (t : Core). t.covers) (c.loop-dir.invariant.idle none) ∙ none));

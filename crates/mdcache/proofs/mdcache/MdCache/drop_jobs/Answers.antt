@@ -1,6 +1,6 @@
-use Rattle.mdcache.proofs.Common.{Core, Standing, ap}
+use Rattle.mdcache.proofs.Common.{Core, Standing, ap, shown_tree}
 use Rattle.mdcache.proofs.JoblessLaws.{numbered_core, numbered_state}
-use Rattle.mdcache.proofs.KeptTree.{jobless_keeps}
+use Rattle.mdcache.proofs.KeptTree.{keeps_tree}
 use Rattle.mdcache.proofs.mdcache.MdCache.drop_jobs.Goals as goal
 
 pub returns-clause-sound : goal.returns-clause-sound
@@ -8,5 +8,6 @@ returns-clause-sound g c = numbered_core c.args.self.now _ c.self.view_is c.new.
 
 pub returns-clause-tree : goal.returns-clause-tree
 returns-clause-tree g c =
-    jobless_keeps c.args.self.now _ (ap (λ (k : Core). k.caches) c.self.view_is)
-    (numbered_state c.args.self.now _ c.self.view_is c.new.result.jobs (ap (λ (s : Standing). s.jobs) c.new.ensures) (record { dirs = c.self.inside.dirs.room; jobs = c.new.result.room; purge = c.self.inside.purge.room }) _ _ (ap (λ (k : Core). k.next_job) c.self.view_is))
+    let left = numbered_state c.args.self.now _ c.self.view_is c.new.result.jobs (ap (λ (s : Standing). s.jobs) c.new.ensures)
+    (record { dirs = c.self.inside.dirs.room; jobs = c.new.result.room; purge = c.self.inside.purge.room }) _ _ (ap (λ (k : Core). k.next_job) c.self.view_is) in
+    keeps_tree c.args.self.now _ (ap (λ (k : Core). k.caches) c.self.view_is) _ _ _ _ left (ap shown_tree left)
