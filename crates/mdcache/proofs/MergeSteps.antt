@@ -1,6 +1,6 @@
 -- What a merge makes of the whole, once all was ready for it.
-use Rattle.mdcache.proofs.Common.{AreCached, At, Base, Bool, CacheMap, Came, CanMerge, Comes, Contains, Core, Dirfrag, Frag, Fragment, HasLeaf, HasUnsaved, Inode, IsAmongOr, IsCachedIn, IsConcerned, IsListedAnew, IsLive, IsMergeReady, IsMergedInto, IsNewLeaf, IsRegrouped, IsSound, IsSoundCore, IsTree, KeepsNone, Keys, Leaf, List, Merge, None, NoneEnds, Option, ReadsCore, Some, State, Unsaved, ap, are_empty, arith, at, between, cond, dentry_of, ending_at, false, fresh_tied, get_left, get_removed, get_unclean, get_with_frag, has_none, hash_of, holds, in_directory, inl, inr, is_clean_over, is_known, leaf_is, leaf_itself, leaf_of, leaves_in, leaves_inside, leaves_of, list_all, list_any, marked_as, merged_in, merged_leaves, names_of, object_of, one_leaf, reads_came, reads_weaker, refl, same_Some, same_leaf, shown, shown_tree, state_of, subst, sym, text_of, texts_differ, tree_of_row, true, unclean, unsaved_at, with_frag, with_objects, without_leaves, ℕ, ⊎_elim, ◌+◌, ◌<◌, ◌∙◌, ◌≡◌}
-use Rattle.std.proofs.lemmas.Bool.{cases_Bool, false_from_ne_true, true_from_ne_false}
+use Rattle.mdcache.proofs.Common.{AreCached, At, Base, Bool, CacheMap, Came, CanMerge, Comes, Contains, Core, Dirfrag, Frag, Fragment, HasLeaf, HasUnsaved, Inode, IsAmongOr, IsConcerned, IsListedAnew, IsLive, IsMergeReady, IsMergedInto, IsNewLeaf, IsRegrouped, IsSound, IsSoundCore, IsTied, IsTree, KeepsNone, Keys, Leaf, List, Merge, None, NoneEnds, Option, ReadsCore, Some, State, Unsaved, ap, are_empty, arith, at, between, cond, dentry_of, ending_at, false, fresh_tied, get_left, get_removed, get_unclean, get_with_frag, has_none, hash_of, holds, in_directory, inl, inr, is_clean_over, is_known, leaf_is, leaf_itself, leaf_of, leaves_in, leaves_inside, leaves_of, list_all, list_any, marked_as, merged_in, merged_leaves, names_of, object_of, one_leaf, reads_came, reads_weaker, refl, same_Some, same_leaf, shown, shown_tree, state_of, subst, sym, text_of, texts_differ, tree_of_row, true, unclean, unsaved_at, with_frag, with_objects, without_leaves, ℕ, ⊎_elim, ◌+◌, ◌<◌, ◌∙◌, ◌≡◌}
+use Rattle.std.proofs.lemmas.Bool.{false_from_ne_true, true_from_ne_false}
 use Rattle.std.specs.Cmp.{both_ways}
 use Rattle.std.specs.Prelude.{map as each}
 use Rattle.std.specs.FinMap as map
@@ -15,7 +15,7 @@ use Rattle.mdcache.proofs.ListedLaws.{beside_on, texts_on}
 use Rattle.mdcache.proofs.MergeNames.{joined_is, merged_is_new, pick_inside}
 use Rattle.mdcache.proofs.NamedLaws.{pick_at, sound_leaves, stands_at}
 use Rattle.mdcache.proofs.NoNames.{all_pass, no_name, some_fails, some_name}
-use Rattle.mdcache.proofs.RegroupLaws.{Replaces, apart_live, came_live, dirty_shows, unmapped, which}
+use Rattle.mdcache.proofs.RegroupLaws.{Replaces, dirty_shows, holds_or_none, regroup_cached, unmapped}
 use Rattle.mdcache.proofs.SplitLaws.{has_inside, inside_has, merge_replaces, merges_right, not_itself}
 
 -- the fragment of a merge is cached nowhere before, and the leaves that end are live
@@ -116,13 +116,10 @@ module _ (old mid : Core) (sound : IsSoundCore old) (a : Dirfrag) (merge : Merge
       shown_is name ∙ ap (λ (b : Bool). cond b (map.get (shown_tree s) (dentry_of a.dir.0 name)) None) (sym (pick_inside row merge.plan.cover a.frag tree ready.planned.whole can_now ready.planned.cover (hash_of name) f pick) ∙ both.1) ∙ tree_has
 
   comes_from : (name : List ℕ) (inode : Inode) → map.get (shown merge.joined) name ≡ Some inode → (f : Fragment) × HasLeaf gone f × (map.get (names_of s.unsaved s.objects (a.dir, f)) name ≡ Some inode)
-  comes_from name inode is = elim (cases_Bool (holds a.frag (hash_of name))) [
-    | inl has ↦
-        let p = pick_at s (sound_leaves s mine) (dentry_of a.dir.0 name) in
-        let found : map.get (shown_tree s) (dentry_of a.dir.0 name) ≡ Some inode = sym (shown_is name ∙ ap (λ (b : Bool). cond b (map.get (shown_tree s) (dentry_of a.dir.0 name)) None) has) ∙ is in
-        (p.0, inside_has a.frag p.0 row p.1.stands (pick_inside row merge.plan.cover a.frag tree ready.planned.whole can_now ready.planned.cover (hash_of name) p.0 p.1 ∙ has), sym (stands_at s (sound_leaves s mine) (dentry_of a.dir.0 name) p.0 known_now p.1) ∙ found)
-    | inr out ↦ let clash : None ≡ Some inode = sym (shown_is name ∙ ap (λ (b : Bool). cond b (map.get (shown_tree s) (dentry_of a.dir.0 name)) None) out) ∙ is in absurd cc
-  ]
+  comes_from name inode is =
+      let found = holds_or_none (holds a.frag (hash_of name)) (map.get (shown_tree s) (dentry_of a.dir.0 name)) inode (sym (shown_is name) ∙ is) in
+      let p = pick_at s (sound_leaves s mine) (dentry_of a.dir.0 name) in
+      (p.0, inside_has a.frag p.0 row p.1.stands (pick_inside row merge.plan.cover a.frag tree ready.planned.whole can_now ready.planned.cover (hash_of name) p.0 p.1 ∙ found.0), sym (stands_at s (sound_leaves s mine) (dentry_of a.dir.0 name) p.0 known_now p.1) ∙ found.1)
 
   abbrev is_empty : Fragment → Bool
   is_empty f = has_none (names_of s.unsaved s.objects (a.dir, f))
@@ -209,27 +206,18 @@ module _ (old mid : Core) (sound : IsSoundCore old) (a : Dirfrag) (merge : Merge
 
   -- ---- what is cached
 
+  filled_at : (q : Leaf) (y : Bool) (b : At) → leaf_is q leaf ≡ y → map.get made.caches.held q ≡ Some b → cond y (Some (at a.rank.0 merge.joined)) (map.get mid.caches.held q) ≡ Some b
+  filled_at q y b same is = ap (λ (y : Bool). cond y (Some (at a.rank.0 merge.joined)) (map.get mid.caches.held q)) (sym same) ∙ sym (get_with_frag mid.caches a.rank.0 leaf merge.joined q) ∙ (still_held filled (leaves_in a.dir merge.plan.leaves.items) q b is).1
+
   now_cached : AreCached t made.caches
-  now_cached q b is =
-      let still = still_held filled (leaves_in a.dir merge.plan.leaves.items) q b is in
-      let filled_is : cond (leaf_is q leaf) (Some (at a.rank.0 merge.joined)) (map.get mid.caches.held q) ≡ Some b = sym (get_with_frag mid.caches a.rank.0 leaf merge.joined q) ∙ still.1 in
-      elim (which s mine a.dir gone merge.plan.cover 1 t is_regrouped cut q) [
-        | inl end ↦ let clash : true ≡ false = sym (among a.dir.0 q gone end.0 end.1) ∙ sym (ap (list_any (leaf_is q)) ready.planned.leaves) ∙ still.0 in absurd cc
-        | inr stands ↦ elim stands [
-          | inl came ↦
-              let same : q ≡ leaf = (λ i. (record { 0 = came.0 i }, is_it q.1 came.1 i)) in
-              let number = ready.joined.numbered in
-              subst (λ (k : At). IsCachedIn t q k.frag) (same_Some (at a.rank.0 merge.joined) b (sym (ap (λ (y : Bool). cond y (Some (at a.rank.0 merge.joined)) (map.get mid.caches.held q)) (same_leaf q leaf same)) ∙ filled_is)) (record {
-                live = came_live s mine a.dir gone merge.plan.cover 1 t is_regrouped cut q came.0 came.1.0;
-                tied = fresh_tied merge.joined (object_of t.objects q.0 q.1) ready.joined.fresh;
-                made = omega (arith, number);
-              })
-          | inr apart ↦
-              let before = cached q b (sym (ap (λ (y : Bool). cond y (Some (at a.rank.0 merge.joined)) (map.get mid.caches.held q)) (apart_it q apart)) ∙ filled_is) in
-              let given = before.made in
-              record { live = apart_live s mine a.dir gone merge.plan.cover 1 t is_regrouped cut q apart before.live; tied = before.tied; made = omega (arith, given) }
-        ]
-      ]
+  now_cached = regroup_cached s mine a.dir gone merge.plan.cover 1 t is_regrouped cut mid.caches made.caches cached
+      (λ q same has b is. let clash : true ≡ false = sym (among a.dir.0 q gone same has) ∙ sym (ap (list_any (leaf_is q)) ready.planned.leaves) ∙ (still_held filled (leaves_in a.dir merge.plan.leaves.items) q b is).0 in cc)
+      (λ q same came b is.
+      let number = ready.joined.numbered in
+      subst (λ (k : At). IsTied k.frag (object_of s.objects q.0 q.1) × (k.frag.generation < s.next_generation + 1))
+      (same_Some (at a.rank.0 merge.joined) b (filled_at q true b (same_leaf q leaf (λ i. (record { 0 = same i }, is_it q.1 came i))) is))
+      (fresh_tied merge.joined (object_of s.objects q.0 q.1) ready.joined.fresh, omega (arith, number)))
+      (λ q apart b is. filled_at q false b (apart_it q apart) is)
 
   -- ---- of what was before
 

@@ -10,7 +10,7 @@ all_append : {A : Type 0} (P : A → Type 0) (xs ys : List A) → AllByRecursion
 all_append P [] ys all more = more
 all_append P (x ∷ xs) ys (one, all) more = (one, all_append P xs ys all more)
 
-all_weaker : {A : Type 0} (P Q : A → Type 0) → ((x : A) → P x → Q x) → (xs : List A) → AllByRecursion P xs → AllByRecursion Q xs
+pub all_weaker : {A : Type 0} (P Q : A → Type 0) → ((x : A) → P x → Q x) → (xs : List A) → AllByRecursion P xs → AllByRecursion Q xs
 all_weaker P Q so [] all = tt
 all_weaker P Q so (x ∷ xs) (one, all) = (so x one, all_weaker P Q so xs all)
 

@@ -1,7 +1,6 @@
 -- What a split makes of the whole, once all was ready for it.
-use Rattle.mdcache.proofs.Common.{AreCached, At, Bool, Cached, Came, CanSplit, Comes, Core, Dirfrag, Fragment, Fresh, HasCached, HasLeaf, HasUnsaved, Ino, Inode, IsCachedIn, IsChild, IsChildAt, IsConcerned, IsDistinct, IsFamilyAt, IsFreeFor, IsListedAnew, IsNewLeaf, IsNoChild, IsReadyToSplit, IsRegrouped, IsSound, IsSoundCore, IsSplit, IsSplitInto, IsSplitReady, IsTree, IsWhole, Leaf, List, MayHold, Names, None, Option, Part, ReadsCore, Some, Split, SplitsAt, SplitsInto, State, Unsaved, [], ap, are_empty, arith, at, between, child_of, cond, dentry_of, false, fresh_tied, get-names_in, has_none, hash_of, here, here_free, holds, holds_contains, inl, inr, is_known, is_some, leaf_is, leaf_of, leaf_or_apart, leaves_of, length, marked_as, mul-le-mul_right, names_in, names_of, object_of, one_or_other, order, pick_after_split, reads_came, refl, same_Some, shown, shown_tree, span, span-split, span_pos, split_beside, split_came, split_child, split_gone, split_in, split_unclean_beside, split_unclean_child, split_unclean_gone, split_whole, state_of, string_bytes, subst, sym, tree_of_row, true, unclean, without_objects, zero, ℕ, ⊎_elim, ◌*◌, ◌+◌, ◌<◌, ◌^◌, ◌∙◌, ◌∷◌, ◌≡◌, ◌≤◌, ◌⊎◌}
+use Rattle.mdcache.proofs.Common.{AreCached, At, Bool, Cached, Came, CanSplit, Comes, Core, Dirfrag, Fragment, Fresh, HasCached, HasLeaf, HasUnsaved, Ino, Inode, IsChild, IsChildAt, IsConcerned, IsDistinct, IsFamilyAt, IsFreeFor, IsListedAnew, IsNewLeaf, IsNoChild, IsReadyToSplit, IsRegrouped, IsSound, IsSoundCore, IsSplit, IsSplitInto, IsSplitReady, IsTied, IsTree, IsWhole, Leaf, List, MayHold, Names, None, Option, Part, ReadsCore, Some, Split, SplitsAt, SplitsInto, State, Unsaved, [], ap, are_empty, arith, at, between, child_of, cond, dentry_of, false, fresh_tied, get-names_in, has_none, hash_of, here, here_free, holds, holds_contains, inl, inr, is_known, is_some, leaf_is, leaf_of, leaf_or_apart, leaves_of, length, marked_as, mul-le-mul_right, names_in, names_of, object_of, one_or_other, order, pick_after_split, reads_came, refl, same_Some, shown, shown_tree, span, span-split, span_pos, split_beside, split_came, split_child, split_gone, split_in, split_unclean_beside, split_unclean_child, split_unclean_gone, split_whole, state_of, string_bytes, subst, sym, tree_of_row, true, unclean, without_objects, zero, ℕ, ⊎_elim, ◌*◌, ◌+◌, ◌<◌, ◌^◌, ◌∙◌, ◌∷◌, ◌≡◌, ◌≤◌, ◌⊎◌}
 use Rattle.std.proofs.Math.Bool.{and-true}
-use Rattle.std.proofs.lemmas.Bool.{cases_Bool}
 use Rattle.std.specs.Prelude.{map as each}
 use Rattle.std.specs.List.{slice_index_or}
 use Rattle.std.specs.FinMap as map
@@ -12,7 +11,7 @@ use Rattle.mdcache.proofs.CoreLaws.{reads_cached_so, reads_state, shows_so, ther
 use Rattle.mdcache.proofs.JoinSteps.{cached_nowhere, family_live}
 use Rattle.mdcache.proofs.ListedLaws.{listed_anew}
 use Rattle.mdcache.proofs.NamedLaws.{pick_at, sound_leaves, stands_at}
-use Rattle.mdcache.proofs.RegroupLaws.{Replaces, apart_live, came_live, which}
+use Rattle.mdcache.proofs.RegroupLaws.{Replaces, regroup_cached}
 use Rattle.mdcache.proofs.SplitLaws.{only_one, split_replaces, splits_right}
 
 -- a child is no leaf of a tree that has the fragment
@@ -39,6 +38,11 @@ child_comes row cover frag nb tree can divided i below = ((divided.leaves (child
 pub no_child_cached : (c : Core) → IsSoundCore c → (dir : Ino) (frag : Fragment) (nb : ℕ) → CanSplit (leaves_of c.covers dir.0) frag nb → (i : ℕ) → i < 2 ^ nb → map.get c.caches.held (dir, child_of frag i nb) ≡ None
 no_child_cached c sound dir frag nb can i below = cached_nowhere c sound (dir, child_of frag i nb) (λ live.
     no_leaf_yet (leaves_of c.covers dir.0) frag nb i (tree_of_row c.homes c.covers sound.sound.table dir.0) can.stands can.fits.some can.fits.in_all below live.stands)
+
+-- under a test it is enough that they are alike where it passes
+holds_alike : (b : Bool) (x y : Option Inode) → (b ≡ true → x ≡ y) → cond b x None ≡ cond b y None
+holds_alike true x y same = same refl
+holds_alike false x y same = refl
 
 -- what a split leaves of the whole
 pub record HasSplit (old new : Core) (a : Dirfrag) (nb : ℕ) : Type 0 where
@@ -122,17 +126,12 @@ module _ (old mid : Core) (sound : IsSoundCore old) (a : Dirfrag) (nb : ℕ) (sp
 
   -- a child has the names of the tree that it contains
   child_names : (g : Fragment) → Comes row cover g → (name : List ℕ) → map.get (names_in g (shown f)) name ≡ cond (holds g (hash_of name)) (map.get (shown_tree s) (dentry_of a.dir.0 name)) None
-  child_names g came name = get-names_in g (shown f) name ∙ elim (cases_Bool (holds g (hash_of name))) [
-    | inl has ↦
-        let p = pick_at s (sound_leaves s mine) (dentry_of a.dir.0 name) in
-        let one : a.frag ≡ p.0 = ⊎_elim (λ same. sym same) (λ other.
-        let after = pick_after_split row cover a.frag whole (hash_of name) p.0 p.1 nb divided other in
-        absurd (came.1 (subst (HasLeaf row) (sym (after.alone g came.0 (holds_contains g (hash_of name) has))) p.1.stands))) (one_or_other p.0 a.frag) in
-        ap (λ (b : Bool). cond b (map.get (shown f) name) None) has ∙ ap (λ (m : Names). map.get m name) (sym leaf_shows)
-        ∙ ap (λ (h : Fragment). map.get (names_of s.unsaved s.objects (a.dir, h)) name) one ∙ sym (stands_at s (sound_leaves s mine) (dentry_of a.dir.0 name) p.0 known_now p.1)
-        ∙ sym (ap (λ (b : Bool). cond b (map.get (shown_tree s) (dentry_of a.dir.0 name)) None) has)
-    | inr out ↦ ap (λ (b : Bool). cond b (map.get (shown f) name) None) out ∙ sym (ap (λ (b : Bool). cond b (map.get (shown_tree s) (dentry_of a.dir.0 name)) None) out)
-  ]
+  child_names g came name = get-names_in g (shown f) name ∙ holds_alike (holds g (hash_of name)) (map.get (shown f) name) (map.get (shown_tree s) (dentry_of a.dir.0 name)) (λ has.
+      let p = pick_at s (sound_leaves s mine) (dentry_of a.dir.0 name) in
+      let one : a.frag ≡ p.0 = ⊎_elim (λ same. sym same) (λ other.
+      let after = pick_after_split row cover a.frag whole (hash_of name) p.0 p.1 nb divided other in
+      absurd (came.1 (subst (HasLeaf row) (sym (after.alone g came.0 (holds_contains g (hash_of name) has))) p.1.stands))) (one_or_other p.0 a.frag) in
+      ap (λ (m : Names). map.get m name) (sym leaf_shows) ∙ ap (λ (h : Fragment). map.get (names_of s.unsaved s.objects (a.dir, h)) name) one ∙ sym (stands_at s (sound_leaves s mine) (dentry_of a.dir.0 name) p.0 known_now p.1))
 
   -- what isn't clean of a child
   unclean_child : (i : ℕ) → i < 2 ^ nb
@@ -205,32 +204,20 @@ module _ (old mid : Core) (sound : IsSoundCore old) (a : Dirfrag) (nb : ℕ) (sp
   cut = split_replaces row cover a.frag nb can.fits.some can_now.stands divided
 
   now_cached : AreCached t new.caches
-  now_cached q b is = elim (which s mine a.dir (a.frag ∷ []) cover (2 ^ nb) t is_regrouped cut q) [
-    | inl end ↦
-        let none : map.get new.caches.held q ≡ None = ap (map.get new.caches.held) ((λ i. (record { 0 = end.0 i }, q.1)) ∙ ap (λ (h : Fragment). (a.dir, h)) (sym (only_one a.frag q.1 end.1)))
-        ∙ split_gone a.rank.0 a.dir a.frag nb split.parts mid.next_version mid.caches new.caches f can.fits.some count done free in
-        let clash : None ≡ Some b = sym none ∙ is in
-        absurd cc
-    | inr stands ↦ elim stands [
-      | inl came ↦
-          let child = is_child row cover a.frag nb divided q.1 came.1 in
-          let held : map.get new.caches.held q ≡ Some (at a.rank.0 (slice_index_or done.0 child.0 any).fragment) = ap (map.get new.caches.held) ((λ i. (record { 0 = came.0 i }, q.1)) ∙ ap (λ (h : Fragment). (a.dir, h)) child.2)
-          ∙ split_child a.rank.0 a.dir a.frag nb split.parts mid.next_version mid.caches new.caches f can.fits.some count done child.0 any child.1 in
-          let one : at a.rank.0 (slice_index_or done.0 child.0 any).fragment ≡ b = same_Some (at a.rank.0 (slice_index_or done.0 child.0 any).fragment) b (sym held ∙ is) in
-          let each_is = done.1.each child.0 any (within child.0 child.1) in
-          let given : (slice_index_or done.0 child.0 any).fragment.generation ≡ s.next_generation + child.0 = each_is.numbered ∙ number child.0 child.1 in
-          let below = child.1 in
-          subst (λ (k : At). IsCachedIn t q k.frag) one (record {
-            live = came_live s mine a.dir (a.frag ∷ []) cover (2 ^ nb) t is_regrouped cut q came.0 came.1.0;
-            tied = fresh_tied (slice_index_or done.0 child.0 any).fragment (object_of t.objects q.0 q.1) each_is.fresh;
-            made = omega (arith, given, below);
-          })
-      | inr apart ↦
-          let before = cached q b (sym (split_beside a.rank.0 a.dir a.frag nb split.parts mid.next_version mid.caches new.caches f can.fits.some count done q (apart_from_it q apart) (no_child_of q apart)) ∙ is) in
-          let given = before.made in
-          record { live = apart_live s mine a.dir (a.frag ∷ []) cover (2 ^ nb) t is_regrouped cut q apart before.live; tied = before.tied; made = omega (arith, given) }
-    ]
-  ]
+  now_cached = regroup_cached s mine a.dir (a.frag ∷ []) cover (2 ^ nb) t is_regrouped cut mid.caches new.caches cached
+      (λ q same has b is.
+      let its : q ≡ leaf = (λ i. (record { 0 = same i }, sym (only_one a.frag q.1 has) i)) in
+      let clash : None ≡ Some b = sym (ap (map.get new.caches.held) its ∙ split_gone a.rank.0 a.dir a.frag nb split.parts mid.next_version mid.caches new.caches f can.fits.some count done free) ∙ is in cc)
+      (λ q same came b is.
+      let child = is_child row cover a.frag nb divided q.1 came in
+      let below = child.1 in
+      let held : map.get new.caches.held q ≡ Some (at a.rank.0 (slice_index_or done.0 child.0 any).fragment) = ap (map.get new.caches.held) ((λ i. (record { 0 = same i }, q.1)) ∙ ap (λ (h : Fragment). (a.dir, h)) child.2)
+      ∙ split_child a.rank.0 a.dir a.frag nb split.parts mid.next_version mid.caches new.caches f can.fits.some count done child.0 any below in
+      let each_is = done.1.each child.0 any (within child.0 below) in
+      let given : (slice_index_or done.0 child.0 any).fragment.generation ≡ s.next_generation + child.0 = each_is.numbered ∙ number child.0 below in
+      subst (λ (k : At). IsTied k.frag (object_of s.objects q.0 q.1) × (k.frag.generation < s.next_generation + 2 ^ nb)) (same_Some (at a.rank.0 (slice_index_or done.0 child.0 any).fragment) b (sym held ∙ is))
+      (fresh_tied (slice_index_or done.0 child.0 any).fragment (object_of s.objects q.0 q.1) each_is.fresh, omega (arith, given, below)))
+      (λ q apart b is. sym (split_beside a.rank.0 a.dir a.frag nb split.parts mid.next_version mid.caches new.caches f can.fits.some count done q (apart_from_it q apart) (no_child_of q apart)) ∙ is)
 
   -- ---- of what was before
 

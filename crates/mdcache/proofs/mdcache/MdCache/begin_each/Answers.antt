@@ -1,7 +1,7 @@
 -- Each turn begins a commit of the first leaf that is left.
-use Rattle.mdcache.proofs.Common.{AllByRecursion, AreApart, Begun, IsBegunAt, Jobs, State, [], ap, arith, drop, get-empty, leaf_of, leaves_at, leaves_of_jobs, refl, rules, state_of, subst, sym, ◌++◌, ◌+◌, ◌∙◌, ◌∷◌, ◌≡◌}
+use Rattle.mdcache.proofs.Common.{AllByRecursion, AreApart, Begun, IsBegunAt, IsUncleanAt, Jobs, State, [], ap, arith, drop, get-empty, leaf_of, leaves_at, leaves_of_jobs, refl, rules, state_of, subst, sym, ◌++◌, ◌+◌, ◌∙◌, ◌∷◌, ◌≡◌}
 use Rattle.std.specs.FinMap as map
-use Rattle.mdcache.proofs.BatchLaws.{StandAmong, begin_lacks, first_of_rest, none_stands, rest_listed, turn_begun, turn_left, turn_listed, turn_number, turn_rest, turn_stand}
+use Rattle.mdcache.proofs.BatchLaws.{StandAmong, begin_lacks, none_stands, rest_is, rest_listed, turn_begun, turn_left, turn_listed, turn_number, turn_rest, turn_stand}
 use Rattle.mdcache.proofs.KeptTree.{kept_itself, steps_keep_tree}
 use Rattle.mdcache.proofs.mdcache.MdCache.begin_each.Goals as goal
 
@@ -45,7 +45,7 @@ loop-at-preserved g c =
     let pushed : c.push.new.self.items ≡ c.loop-at.begun.items ++ one ∷ [] = search rules in
     let listed = rest_listed c.args.leaves.now c.loop-at.at-index c.at-item.result c.loop-at-test.true c.at-item.is c.loop-at.begun.items inv.listed in
     let apart = subst AreApart (sym listed) c.requires.apart in
-    let w = first_of_rest c.args.leaves.now c.loop-at.at-index c.at-item.result c.loop-at-test.true c.at-item.is c.loop-at.self.caches inv.rest in
+    let w = subst (AllByRecursion (IsUncleanAt c.loop-at.self.caches)) (rest_is c.args.leaves.now c.loop-at.at-index c.at-item.result c.loop-at-test.true c.at-item.is) inv.rest in
     let raised = turn_number c.loop-at.self c.begin_one.new.self c.at-item.result c.in-Ok.job w.0 c.in-Ok.ensures.begun c.in-Ok.ensures.tree c.loop-at.begun.items (drop (c.loop-at.at-index + 1) c.args.leaves.now) apart in
     let number = inv.number in
     record {
