@@ -1,21 +1,15 @@
 -- Commits of whole fragments, several at once.
-use Rattle.mdcache.proofs.Common.{AllByRecursion, AreApart, Begins, BeginsWith, Begun, CacheMap, Came, Core, Dirfrag, Ends, Err, HasFragment, IsBegunAt, IsEnded, IsFree, IsLive, IsReadyAt, IsSound, IsThat, IsThere, IsUncleanAt, Job, Jobs, KeepsTree, Leaf, List, MayHold, MayNotBeginAll, MayNotBeginOne, None, NoneEnds, NotAmong, Ok, Option, Rank, Ready, Refusal, Some, State, Unsaved, UnsavedLeaves, [], ap, arith, at_rank, came_held, came_ranks, came_weaker, committed, cond, drop, drop_more, empty_of_len, false, get-empty, get_or, get_unclean, inl, inr, is_some, leaves_at, leaves_of_jobs, leaves_of_writes, len-remove, length, ready_of, refl, shown_tree, state_of, subst, suc, sym, true, unclean, unsaved_at, with_job, zero, ℕ, ⊎_elim, ◌++◌, ◌+◌, ◌-◌, ◌<◌, ◌∙◌, ◌∷◌, ◌≡◌, ◌⊎◌}
+use Rattle.mdcache.proofs.Common.{AllByRecursion, AreApart, Begins, BeginsWith, Begun, CacheMap, Came, Core, Dirfrag, Ends, Err, HasFragment, IsBegunAt, IsEnded, IsFree, IsLive, IsReadyAt, IsSound, IsSoundCore, IsThat, IsUncleanAt, Job, Jobs, KeepsTree, Leaf, List, MayHold, MayNotBeginAll, MayNotBeginOne, None, NoneEnds, NotAmong, Ok, Option, Rank, Ready, Refusal, Some, State, Unsaved, UnsavedLeaves, [], ap, arith, came_held, came_ranks, came_weaker, committed, cond, drop, drop_more, empty_of_len, false, get-empty, get_or, inl, inr, is_some, leaves_at, leaves_of_jobs, leaves_of_writes, len-remove, length, ready_of, refl, shown_tree, state_of, subst, suc, sym, true, unclean, with_job, zero, ℕ, ⊎_elim, ◌++◌, ◌+◌, ◌-◌, ◌<◌, ◌∙◌, ◌∷◌, ◌≡◌, ◌⊎◌}
 use Rattle.std.proofs.Common.{map as list_map, Result}
 use Rattle.std.specs.FinMap as map
 use Rattle.mds_types.specs.Leaf.{leaf_of as leaf_at}
 use Rattle.mdcache.specs.Commits.{leaf_of}
 use Rattle.mdcache.proofs.AtHandLaws.{begun_are_at_hand, begun_leave_at_hand, ended_are_clean, others_stay_at_hand}
-use Rattle.mdcache.proofs.KeptTree.{at_its_rank, there_at}
+use Rattle.mdcache.proofs.EndLaws.{unclean_is_there}
+use Rattle.mdcache.proofs.KeptTree.{steps_keep_tree, there_at}
 use Rattle.mdcache.proofs.PlacesLaws.{all_weaker}
 use Rattle.inode_table.proofs.Chains.{some_of}
 use Rattle.mds_types.proofs.LeafLaws.{get_beside, leaf-total}
-
--- the fragment of a leaf that isn't clean is at the one rank that may hold it
-has_fragment : (c : CacheMap) (rank : Rank) (leaf : Leaf) → MayHold c rank leaf → is_some (map.get (unclean c) leaf) ≡ true → HasFragment c rank.0 leaf
-has_fragment c rank leaf may dirty = elim (map.get c.held leaf) as (λ o. IsFree rank.0 o → is_some (unsaved_at o) ≡ true → IsThere (at_rank rank.0 o)) [
-  | None ↦ λ free some. let clash : false ≡ true = some in absurd cc
-  | Some a ↦ λ free some. at_its_rank rank.0 a free
-] may.alone (ap is_some (sym (get_unclean c leaf)) ∙ dirty)
 
 -- a commit that began left its job, and nothing else
 begun_left : (old new : State) (leaf : Leaf) (job : Job) (o : Option Unsaved) → BeginsWith old new leaf o (Some job) → new ≡ with_job old job
@@ -25,7 +19,7 @@ begun_left old new leaf job (Some u) (is, lacks, left) = left
 module _ (old new : Core) (rank : Rank) (leaf : Leaf) (may : MayHold old.caches rank leaf) (dirty : is_some (map.get (unclean old.caches) leaf) ≡ true) (came : Came (IsThat rank.0 leaf) NoneEnds old.caches new.caches) where
   came_there : Came (HasFragment old.caches) NoneEnds old.caches new.caches
   came_there = came_weaker (IsThat rank.0 leaf) NoneEnds (HasFragment old.caches) NoneEnds
-      (λ r q is. subst (λ k. HasFragment old.caches k q) (sym is.0) (subst (HasFragment old.caches rank.0) (sym is.1) (has_fragment old.caches rank leaf may dirty))) (λ r q ends. ends) old.caches new.caches came
+      (λ r q is. subst (λ k. HasFragment old.caches k q) (sym is.0) (subst (HasFragment old.caches rank.0) (sym is.1) (unclean_is_there old.caches rank.0 leaf may.alone dirty))) (λ r q ends. ends) old.caches new.caches came
 
   -- what leaves all of the state but what isn't clean, objects, jobs and their numbers
   keeps : (s : State) → state_of new ≡ record (state_of old) { unsaved = s.unsaved; objects = s.objects; jobs = s.jobs; next_job = s.next_job } → shown_tree (state_of new) ≡ shown_tree (state_of old) → KeepsTree old new
@@ -100,57 +94,73 @@ mapped_push f (x ∷ xs) y rest = ap (λ l. f x ∷ l) (mapped_push f xs y rest)
 abbrev pub StandAmong : Jobs → List Leaf → Type 0
 StandAmong jobs leaves = (q : Leaf) → NotAmong q leaves → map.get jobs q ≡ None
 
-module _ (now new : Core) (at : Dirfrag) (job : Job) (unclean_at : IsUncleanAt now.caches at) (begins : Begins (state_of now) (state_of new) (leaf_at at) (Ok (Some job))) (keeps_it : KeepsTree now new) (begun : List Begun) (rest : List Dirfrag)
-    (apart : AreApart (leaves_of_jobs begun ++ leaf_at at ∷ leaves_at rest)) where
-  its_leaf : leaf_of job ≡ leaf_at at
-  its_leaf = (begun_are_at_hand (state_of now) (state_of new) (leaf_at at) job begins).1
+-- the rest of a slice begins with its element
+pub rest_is : {A : Type 0} (all : List A) (i : ℕ) (one : A) → i < length all → one ≡ get_or all i one → drop i all ≡ one ∷ drop (i + 1) all
+rest_is all i one within is = drop_more all i one within ∙ ap (λ x. x ∷ drop (i + 1) all) (sym is)
 
-  left : state_of new ≡ with_job (state_of now) job
-  left = begun_left (state_of now) (state_of new) (leaf_at at) job (map.get (unclean now.caches) (leaf_at at)) begins.2
+-- so far commits of the first of these leaves have begun, and the others aren't clean
+pub record BeginsFirst (old now : Core) (leaves : List Dirfrag) (i : ℕ) (done : List Begun) : Type 0 where
+  pub begun : AllByRecursion (IsBegunAt now) done
+  pub rest : AllByRecursion (IsUncleanAt now.caches) (drop i leaves)
+  pub listed : leaves_of_jobs done ++ leaves_at (drop i leaves) ≡ leaves_at leaves
+  pub among : StandAmong now.jobs (leaves_of_jobs done)
+  pub left : state_of now ≡ record (state_of old) { jobs = now.jobs; next_job = now.next_job }
+  pub number : now.next_job ≡ old.next_job + i
+  pub tree : KeepsTree old now
+  pub faults : now.faults ≡ old.faults
+  pub sound : IsSoundCore now
 
-  pub turn_begun : AllByRecursion (IsBegunAt now) begun → AllByRecursion (IsBegunAt new) (begun ++ (record { rank = at.rank; job = job }) ∷ [])
-  turn_begun all = all_push (IsBegunAt new) begun (record { rank = at.rank; job = job }) (all_so (λ (b : Begun). leaf_of b.job) (λ q. q ≡ leaf_at at → ⊥) (IsBegunAt now) (IsBegunAt new)
-      (λ b other one. record { holds = may_hold_on now.caches new.caches keeps_it.caches b.rank (leaf_of b.job) one.holds; hand = begun_leave_at_hand (state_of now) (state_of new) (leaf_at at) job b.job begins other one.hand })
-      begun (apart_behind (leaves_of_jobs begun) (leaf_at at) (leaves_at rest) apart) all)
-      (record { holds = subst (MayHold new.caches at.rank) (sym its_leaf) (may_hold_on now.caches new.caches keeps_it.caches at.rank (leaf_at at) unclean_at.holds); hand = (begun_are_at_hand (state_of now) (state_of new) (leaf_at at) job begins).0 })
+module _ (old now : Core) (leaves : List Dirfrag) (i : ℕ) (at : Dirfrag) (within : i < length leaves) (is : at ≡ get_or leaves i at) (done : List Begun) (so_far : BeginsFirst old now leaves i done) (all_apart : AreApart (leaves_at leaves)) where
+  abbrev behind : List Dirfrag
+  behind = drop (i + 1) leaves
 
-  pub turn_rest : (places : List Dirfrag) → AllByRecursion (IsUncleanAt now.caches) places → AllByRecursion (IsUncleanAt new.caches) places
-  turn_rest = all_weaker (IsUncleanAt now.caches) (IsUncleanAt new.caches) (λ a one.
-      record { holds = may_hold_on now.caches new.caches keeps_it.caches a.rank (leaf_at a) one.holds; dirty = ap (λ (s : State). is_some (map.get s.unsaved (leaf_at a))) left ∙ one.dirty })
+  here : drop i leaves ≡ at ∷ behind
+  here = rest_is leaves i at within is
 
-  pub turn_listed : leaves_of_jobs (begun ++ (record { rank = at.rank; job = job }) ∷ []) ++ leaves_at rest ≡ leaves_of_jobs begun ++ leaf_at at ∷ leaves_at rest
-  turn_listed = mapped_push (λ (b : Begun). leaf_of b.job) begun (record { rank = at.rank; job = job }) (leaves_at rest) ∙ ap (λ q. leaves_of_jobs begun ++ q ∷ leaves_at rest) its_leaf
+  whole : leaves_of_jobs done ++ leaf_at at ∷ leaves_at behind ≡ leaves_at leaves
+  whole = ap (λ ds. leaves_of_jobs done ++ leaves_at ds) (sym here) ∙ so_far.listed
 
-  pub turn_stand : StandAmong now.jobs (leaves_of_jobs begun) → StandAmong new.jobs (leaves_of_jobs (begun ++ (record { rank = at.rank; job = job }) ∷ []))
-  turn_stand so_far q others = let w = parts begun others in ap (λ (s : State). map.get s.jobs q) left ∙ get_beside now.jobs (leaf_of job) job q (λ same. w.1 (sym same)) ∙ so_far q w.0
+  others : AllByRecursion (λ (q : Leaf). q ≡ leaf_at at → ⊥) (leaves_of_jobs done)
+  others = apart_behind (leaves_of_jobs done) (leaf_at at) (leaves_at behind) (subst AreApart (sym whole) all_apart)
+
+  -- no job stands for the next leaf,
+  pub next_free : map.get now.jobs (leaf_at at) ≡ None
+  next_free = so_far.among (leaf_at at) others
+
+  -- and once its commit has begun it is one of the first
+  pub begins_next : (new : Core) (job : Job) → Begins (state_of now) (state_of new) (leaf_at at) (Ok (Some job)) → KeepsTree now new → new.faults ≡ now.faults → IsSoundCore new
+      → (pushed : List Begun) → pushed ≡ done ++ (record { rank = at.rank; job = job }) ∷ [] → BeginsFirst old new leaves (i + 1) pushed
+  begins_next new job begins keeps_it faults sound pushed push =
+      let left = begun_left (state_of now) (state_of new) (leaf_at at) job (map.get (unclean now.caches) (leaf_at at)) begins.2 in
+      let hand = begun_are_at_hand (state_of now) (state_of new) (leaf_at at) job begins in
+      let unclean_here = subst (AllByRecursion (IsUncleanAt now.caches)) here so_far.rest in
+      let holds = may_hold_on now.caches new.caches keeps_it.caches in
+      let raised : new.next_job ≡ now.next_job + 1 = ap (λ (s : State). s.next_job) left in
+      let number = so_far.number in
+      subst (BeginsFirst old new leaves (i + 1)) (sym push) (record {
+        begun = all_push (IsBegunAt new) done (record { rank = at.rank; job = job }) (all_so (λ (b : Begun). leaf_of b.job) (λ q. q ≡ leaf_at at → ⊥) (IsBegunAt now) (IsBegunAt new)
+            (λ b other one. record { holds = holds b.rank (leaf_of b.job) one.holds; hand = begun_leave_at_hand (state_of now) (state_of new) (leaf_at at) job b.job begins other one.hand }) done others so_far.begun)
+            (record { holds = subst (MayHold new.caches at.rank) (sym hand.1) (holds at.rank (leaf_at at) unclean_here.0.holds); hand = hand.0 });
+        rest = all_weaker (IsUncleanAt now.caches) (IsUncleanAt new.caches)
+            (λ a one. record { holds = holds a.rank (leaf_at a) one.holds; dirty = ap (λ (s : State). is_some (map.get s.unsaved (leaf_at a))) left ∙ one.dirty }) behind unclean_here.1;
+        listed = mapped_push (λ (b : Begun). leaf_of b.job) done (record { rank = at.rank; job = job }) (leaves_at behind) ∙ ap (λ q. leaves_of_jobs done ++ q ∷ leaves_at behind) hand.1 ∙ whole;
+        among = λ q apart. let w = apart_parts q job done apart in ap (λ (s : State). map.get s.jobs q) left ∙ get_beside now.jobs (leaf_of job) job q (λ same. w.1 (sym same)) ∙ so_far.among q w.0;
+        left = left ∙ ap (λ (s : State). with_job s job) so_far.left ∙ (λ j. record (state_of old) { jobs = sym (ap (λ (s : State). s.jobs) left) j; next_job = sym (ap (λ (s : State). s.next_job) left) j });
+        number = omega (arith, raised, number);
+        tree = steps_keep_tree old now new so_far.tree keeps_it;
+        faults = faults ∙ so_far.faults;
+        sound = sound;
+      })
     where
-      parts : (bs : List Begun) → NotAmong q (leaves_of_jobs (bs ++ (record { rank = at.rank; job = job }) ∷ [])) → NotAmong q (leaves_of_jobs bs) × (leaf_of job ≡ q → ⊥)
-      parts [] (other, done) = (tt, other)
-      parts (b ∷ bs) (other, more) = let w = parts bs more in ((other, w.0), w.1)
-
-  pub turn_left : (old : Core) → state_of now ≡ record (state_of old) { jobs = now.jobs; next_job = now.next_job } → state_of new ≡ record (state_of old) { jobs = new.jobs; next_job = new.next_job }
-  turn_left old so_far = left ∙ ap (λ (s : State). with_job s job) so_far ∙ (λ i. record (state_of old) { jobs = sym (ap (λ (s : State). s.jobs) left) i; next_job = sym (ap (λ (s : State). s.next_job) left) i })
-
-  pub turn_number : new.next_job ≡ now.next_job + 1
-  turn_number = ap (λ (s : State). s.next_job) left
-
--- a leaf apart from those that were begun has no job
-pub none_stands : (jobs : Jobs) (begun : List Begun) (leaf : Leaf) (ys : List Leaf) → AreApart (leaves_of_jobs begun ++ leaf ∷ ys) → StandAmong jobs (leaves_of_jobs begun) → map.get jobs leaf ≡ None
-none_stands jobs begun leaf ys apart among = among leaf (apart_behind (leaves_of_jobs begun) leaf ys apart)
+      apart_parts : (q : Leaf) (job : Job) (bs : List Begun) → NotAmong q (leaves_of_jobs (bs ++ (record { rank = at.rank; job = job }) ∷ [])) → NotAmong q (leaves_of_jobs bs) × (leaf_of job ≡ q → ⊥)
+      apart_parts q job [] (other, done) = (tt, other)
+      apart_parts q job (b ∷ bs) (other, more) = let w = apart_parts q job bs more in ((other, w.0), w.1)
 
 -- why one doesn't begin, so many of them before
 pub begin_lacks : (old now : State) (leaf : Leaf) (count less : ℕ) (reason : Refusal) → now.unsaved ≡ old.unsaved → now.next_job ≡ old.next_job + less → less < count → MayNotBeginOne now leaf reason → MayNotBeginAll count old reason
 begin_lacks old now leaf count less reason same number few (inl no_memory) = inl no_memory
 begin_lacks old now leaf count less reason same number few (inr (no_number, (u, is, inl end))) = inr (no_number, inl (omega (arith, number, end, few)))
 begin_lacks old now leaf count less reason same number few (inr (no_number, (u, is, inr above))) = inr (no_number, inr (leaf, u, ap (λ m. map.get m leaf) (sym same) ∙ is, above))
-
--- ---- places in a slice
-
-pub rest_is : {A : Type 0} (all : List A) (i : ℕ) (one : A) → i < length all → one ≡ get_or all i one → drop i all ≡ one ∷ drop (i + 1) all
-rest_is all i one within is = drop_more all i one within ∙ ap (λ x. x ∷ drop (i + 1) all) (sym is)
-
-pub rest_listed : (all : List Dirfrag) (i : ℕ) (at : Dirfrag) → i < length all → at ≡ get_or all i at → (begun : List Begun) → leaves_of_jobs begun ++ leaves_at (drop i all) ≡ leaves_at all → leaves_of_jobs begun ++ leaf_at at ∷ leaves_at (drop (i + 1) all) ≡ leaves_at all
-rest_listed all i at within is begun listed = ap (λ ds. leaves_of_jobs begun ++ leaves_at ds) (sym (rest_is all i at within is)) ∙ listed
 
 -- ---- others, while one ends
 

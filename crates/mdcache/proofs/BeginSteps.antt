@@ -1,10 +1,10 @@
 -- What the beginning of a commit leaves, done or not.
-use Rattle.mdcache.proofs.Common.{AreCached, AreYoung, Base, Begins, BeginsWith, Bool, Bor, CacheMap, Cached, Came, Core, Dirfrag, Err, HasCached, IsAtEnd, IsBelowEnd, IsFree, IsFreeFor, IsJobOf, IsLive, IsOf, IsSnap, IsSound, IsSoundCore, IsThat, IsThere, Job, Leaf, Mark, NoInodes, NoMemory, None, NoneEnds, Ok, Omap, Option, Refusal, Result, Rooms, Some, State, Unsaved, ap, at, at_rank, cond, counts_of, false, get_unclean, here, here_is, inl, inr, is_clean, is_same, is_some, job_for, object_of, option_copied, option_map, refl, shown, shown_at, state_of, stays, subst, sym, tied_show, true, unclean, unsaved_at, unsaved_in, used_at, used_core, used_unclean, uses, with_job, with_job_in, ℕ, ◌+◌, ◌∙◌, ◌≡◌}
+use Rattle.mdcache.proofs.Common.{AreCached, AreYoung, Base, Begins, BeginsWith, Bool, Bor, Cached, Came, Core, Dirfrag, Err, HasCached, IsAtEnd, IsBelowEnd, IsFreeFor, IsJobOf, IsLive, IsOf, IsSnap, IsSound, IsSoundCore, IsThat, IsThere, Job, Leaf, Mark, NoInodes, NoMemory, None, NoneEnds, Ok, Omap, Option, Refusal, Result, Rooms, Some, State, Unsaved, ap, at, counts_of, false, here, here_is, inl, inr, is_clean, is_some, job_for, object_of, option_copied, option_map, refl, shown, shown_at, state_of, stays, subst, sym, tied_show, true, unsaved_in, used_at, used_core, used_unclean, uses, with_job, with_job_in, ℕ, ◌+◌, ◌∙◌, ◌≡◌}
 use Rattle.std.specs.FinMap as map
 use Rattle.mds_types.specs.Leaf.{leaf_of as leaf_at}
 use Rattle.dentry_cache.specs.Ties.{KeepsAt}
 use Rattle.mdcache.specs.Commits.{leaf_of}
-use Rattle.mdcache.proofs.EndLaws.{beyond_is}
+use Rattle.mdcache.proofs.EndLaws.{beyond_is, unclean_here}
 use Rattle.mdcache.proofs.SoundLaws.{begun_sound}
 use Rattle.mdcache.proofs.NoneLaws.{none_used}
 
@@ -33,13 +33,6 @@ none_found (Some x) r b is told apart = let clash : true ≡ false = sym told �
 keeps_itself : (m : Option Mark) → KeepsAt m m
 keeps_itself None = tt
 keeps_itself (Some mark) = λ same. refl
-
--- what isn't clean of a leaf that is free for a rank is that of its fragment there
-pub unclean_here : (c : CacheMap) (r : ℕ) (leaf : Leaf) → IsFreeFor c r leaf → map.get (unclean c) leaf ≡ unsaved_in (here c r leaf)
-unclean_here c r leaf free = get_unclean c leaf ∙ elim (map.get c.held leaf) as (λ o. IsFree r o → unsaved_at o ≡ unsaved_in (at_rank r o)) [
-  | None ↦ λ is. refl
-  | Some a ↦ λ is. ap (λ (b : Bool). unsaved_in (cond b (Some a.frag) None)) (sym (is_same a.rank r is))
-] free
 
 -- what a call leaves that begins a commit, or is refused
 pub record HasBegun (old new : Core) (a : Dirfrag) (result : Result (Option Job) Refusal) : Type 0 where

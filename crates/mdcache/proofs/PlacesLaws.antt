@@ -1,8 +1,10 @@
 -- The leaves that aren't clean, as they are listed: each is so at its rank, no two are one, and where none is listed all is clean.
-use Rattle.mdcache.proofs.Common.{AllByRecursion, AreApart, AreCaches, At, CacheMap, Dirfrag, IsFree, IsUncleanAt, Leaf, List, None, NotAmong, Option, Some, [], ap, arith, at_rank, cond, eq-eqb, eqb-true, false, get-empty, get_or, get_unclean, here, is_some, leaf-exact, leaf_is, leaf_of, leaves_at, length, list_any, map-append, or_cases, refl, same_map, subst, suc, sym, take, true, unclean, unclean_among, unclean_from, unclean_places, unsaved_at, unsaved_in, zero, ℕ, ⊎_elim, ◌++◌, ◌+◌, ◌<◌, ◌==◌, ◌∙◌, ◌∷◌, ◌≡◌, ◌≤◌}
+use Rattle.mdcache.proofs.Common.{AllByRecursion, AreApart, AreCaches, At, CacheMap, Dirfrag, IsFree, IsUncleanAt, Leaf, List, None, NotAmong, Option, Some, [], ap, arith, at_rank, cond, eq-eqb, eqb-true, false, get-empty, get_or, get_unclean, here, is_some, leaf-exact, leaf_is, leaf_of, leaves_at, length, list_any, map-append, nil_from_length, or_cases, refl, same_map, subst, suc, sym, take, true, unclean, unclean_among, unclean_from, unclean_places, unsaved_at, unsaved_in, zero, ℕ, ⊎_elim, ◌++◌, ◌+◌, ◌<◌, ◌==◌, ◌∙◌, ◌∷◌, ◌≡◌, ◌≤◌}
 use Rattle.std.specs.List.{IsDistinct}
 use Rattle.std.proofs.lemmas.Bool.{cond_both}
 use Rattle.std.specs.List.{take-map}
+use Rattle.std.proofs.Common.{length-append}
+use Rattle.std.proofs.lemmas.List.{length-take}
 use Rattle.std.specs.FinMap as map
 use Rattle.mds_types.proofs.LeafLaws.{leaf-total, one_leaf, same_leaf}
 
@@ -107,8 +109,7 @@ module _ (c : CacheMap) where
       (or_cases (leaf_is q x) (list_any (leaf_is q) leaves) has)) none
 
   first_none : {A : Type 0} (xs ys : List A) → xs ++ ys ≡ [] → (xs ≡ []) × (ys ≡ [])
-  first_none [] ys none = (refl, none)
-  first_none (x ∷ xs) ys none = let clash : x ∷ (xs ++ ys) ≡ [] = none in absurd cc
+  first_none xs ys none = let long = length-append xs ys in let few = ap length none in (nil_from_length xs (omega (arith, long, few)), nil_from_length ys (omega (arith, long, few)))
 
   from_some : (r : ℕ) (used : List (List Leaf)) (k : ℕ) (q : Leaf) → list_any (leaf_is q) (get_or used k []) ≡ true → is_some (unsaved_in (here c (r + k) q)) ≡ true → unclean_from c r used ≡ [] → ⊥
   from_some r [] k q has dirty none = let clash : false ≡ true = has in cc
@@ -128,8 +129,4 @@ module _ (c : CacheMap) where
       at = ap (at_rank a.rank) is ∙ ap (λ b. cond b (Some a.frag) None) (eq-eqb a.rank a.rank refl)
 
   pub nothing_listed : AreCaches c → (n : ℕ) → take (suc n) (unclean_places c) ≡ [] → unclean c ≡ map.empty
-  nothing_listed valid n none = same_map leaf-total leaf-exact (unclean c) map.empty (λ q. get_unclean c q ∙ none_listed valid (all_none (unclean_places c) none) q (map.get c.held q) refl ∙ sym (get-empty _ q))
-    where
-      all_none : (xs : List Dirfrag) → take (suc n) xs ≡ [] → xs ≡ []
-      all_none [] none = refl
-      all_none (x ∷ xs) none = let clash : x ∷ take n xs ≡ [] = none in absurd cc
+  nothing_listed valid n none = same_map leaf-total leaf-exact (unclean c) map.empty (λ q. get_unclean c q ∙ none_listed valid (nil_from_length (unclean_places c) (omega (arith, length-take (suc n) (unclean_places c), ap length none))) q (map.get c.held q) refl ∙ sym (get-empty _ q))
