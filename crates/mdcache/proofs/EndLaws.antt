@@ -140,10 +140,6 @@ module _ (c : Core) (r : ℕ) (job : Job) (kept : IsSoundCore c) (stood : map.ge
 
   -- soundness
 
-  younger : AreYoung (unsettled u.dirty job.snapshot.names) s.next_version
-  younger name mark is = cond_both (not (is_settled (map.get u.dirty name) (map.get job.snapshot.names name))) (map.get u.dirty name) None (λ o. o ≡ Some mark → mark.version < s.next_version)
-      (λ apart. (kept.sound.unsaved leaf u stands.beside).young name mark) (λ settled h. let clash : None ≡ Some mark = h in absurd cc) (sym (get-unsettled u.dirty job.snapshot.names name) ∙ is)
-
   saved_here : map.get t.unsaved leaf ≡ None → IsSaved leaf.1 (Some here)
   unfolding names_of
   saved_here clean =
@@ -159,10 +155,13 @@ module _ (c : Core) (r : ℕ) (job : Job) (kept : IsSoundCore c) (stood : map.ge
     tabled = subst (λ tree. IsTabled tree s.homes) (sym tree_stays) kept.sound.tabled;
     counted = subst (λ tree. IsCounted tree s.counts s.pins) (sym tree_stays) kept.sound.counted;
     placed = λ q name inode is has. kept.sound.placed q name inode is (ap (λ (n : Names). map.get n name) (sym (shows q is)) ∙ has);
-    unsaved = λ q v is. ⊎_elim
+    unsaved = λ q v is.
+        let young : AreYoung (unsettled u.dirty job.snapshot.names) s.next_version = λ name mark is. (cond_both (not (is_settled (map.get u.dirty name) (map.get job.snapshot.names name))) (map.get u.dirty name) None (λ o. o ≡ Some mark → mark.version < s.next_version)
+        (λ apart. (kept.sound.unsaved leaf u stands.beside).young name mark) (λ settled h. let clash : None ≡ Some mark = h in absurd cc) (sym (get-unsettled u.dirty job.snapshot.names name) ∙ is)) in
+        ⊎_elim
         (λ same. subst (λ (l : Leaf). IsUnsaved t l v) (sym same) (subst (IsUnsaved t leaf)
         (some_but (map.len (unsettled u.dirty job.snapshot.names) == 0) (record { base = Stored (next_version job.snapshot.base); generation = u.generation; dirty = unsettled u.dirty job.snapshot.names }) v (sym unsaved_here ∙ ap (map.get t.unsaved) (sym same) ∙ is)).1
-        (record { live = live; made = (kept.sound.unsaved leaf u stands.beside).made; young = younger })))
+        (record { live = live; made = (kept.sound.unsaved leaf u stands.beside).made; young = young })))
         (λ apart. let before = kept.sound.unsaved q v (sym (unsaved_now q false apart) ∙ is) in record { live = before.live; made = before.made; young = before.young }) (leaf_or_apart q leaf);
     saved = λ q is clean. ⊎_elim
         (λ same. subst (λ (l : Leaf). IsSaved l.1 (object_of t.objects l.0 l.1)) (sym same) (subst (IsSaved leaf.1) (sym object_here) (saved_here (ap (map.get t.unsaved) (sym same) ∙ clean))))

@@ -60,10 +60,10 @@ module _ (s : State) (sound : IsSound s) (dir : Ino) (known : is_known s.homes d
     abbrev joined : List Fragment → Option Mark → Option Mark
     joined fs was = name_joined names version (each (in_directory dir.0) fs) name was
 
-    joined_none : (fs : List Fragment) (was : Option Mark) → ((f : Fragment) → HasLeaf fs f → map.get (names (dir, f)) name ≡ None) → joined fs was ≡ was
-    joined_none [] was none = refl
-    joined_none (f ∷ fs) was none =
-        ap (λ (o : Option Inode). joined fs (marked_as version o was)) (none f (zero, omega arith, refl)) ∙ joined_none fs was (λ g has. none g (later f g fs has))
+    -- what each of these leaves leaves, all leave
+    joined_same : (fs : List Fragment) (was : Option Mark) → ((f : Fragment) → HasLeaf fs f → marked_as version (map.get (names (dir, f)) name) was ≡ was) → joined fs was ≡ was
+    joined_same [] was same = refl
+    joined_same (f ∷ fs) was same = ap (joined fs) (same f (zero, omega arith, refl)) ∙ joined_same fs was (λ g has. same g (later f g fs has))
 
     -- that of the tree, once it is there
     abbrev mark : Option Mark
@@ -74,10 +74,7 @@ module _ (s : State) (sound : IsSound s) (dir : Ino) (known : is_known s.homes d
     again (Some inode) = refl
 
     stays : (fs : List Fragment) → ((f : Fragment) → HasLeaf fs f → HasLeaf row f) → joined fs mark ≡ mark
-    stays [] within = refl
-    stays (f ∷ fs) within =
-        ap (joined fs) (⊎_elim (λ is. ap (λ (o : Option Inode). marked_as version o mark) is ∙ again found) (λ none. ap (λ (o : Option Inode). marked_as version o mark) none) (its f (within f (zero, omega arith, refl))))
-        ∙ stays fs (λ g has. within g (later f g fs has))
+    stays fs within = joined_same fs mark (λ f has. ⊎_elim (λ is. ap (λ (o : Option Inode). marked_as version o mark) is ∙ again found) (λ none. ap (λ (o : Option Inode). marked_as version o mark) none) (its f (within f has)))
 
     comes : (fs : List Fragment) → ((f : Fragment) → HasLeaf fs f → HasLeaf row f) → HasLeaf fs pick.0 → joined fs None ≡ mark
     comes [] within has = let none = has.1 in absurd (omega (arith, none))
@@ -100,4 +97,4 @@ module _ (s : State) (sound : IsSound s) (dir : Ino) (known : is_known s.homes d
 
       pub joined_is : joined gone None ≡ marked_as version (cond (holds frag (hash_of name)) found None) None
       joined_is = cond_both (holds frag (hash_of name)) found None (λ o. joined gone None ≡ marked_as version o None) (λ has. comes gone within (inside_has frag pick.0 row pick.1.stands (told ∙ has)))
-          (λ out. joined_none gone None (λ f has. none_beside f (within f has) (λ same. let clash : true ≡ false = sym (has_inside frag f row has).1 ∙ ap (lies_inside frag) same ∙ told ∙ out in cc)))
+          (λ out. joined_same gone None (λ f has. ap (λ (o : Option Inode). marked_as version o None) (none_beside f (within f has) (λ same. let clash : true ≡ false = sym (has_inside frag f row has).1 ∙ ap (lies_inside frag) same ∙ told ∙ out in cc))))

@@ -209,16 +209,6 @@ module _ (old mid : Core) (sound : IsSoundCore old) (a : Dirfrag) (merge : Merge
   filled_at : (q : Leaf) (y : Bool) (b : At) → leaf_is q leaf ≡ y → map.get made.caches.held q ≡ Some b → cond y (Some (at a.rank.0 merge.joined)) (map.get mid.caches.held q) ≡ Some b
   filled_at q y b same is = ap (λ (y : Bool). cond y (Some (at a.rank.0 merge.joined)) (map.get mid.caches.held q)) (sym same) ∙ sym (get_with_frag mid.caches a.rank.0 leaf merge.joined q) ∙ (still_held filled (leaves_in a.dir merge.plan.leaves.items) q b is).1
 
-  now_cached : AreCached t made.caches
-  now_cached = regroup_cached s mine a.dir gone merge.plan.cover 1 t is_regrouped cut mid.caches made.caches cached
-      (λ q same has b is. let clash : true ≡ false = sym (among a.dir.0 q gone same has) ∙ sym (ap (list_any (leaf_is q)) ready.planned.leaves) ∙ (still_held filled (leaves_in a.dir merge.plan.leaves.items) q b is).0 in cc)
-      (λ q same came b is.
-      let number = ready.joined.numbered in
-      subst (λ (k : At). IsTied k.frag (object_of s.objects q.0 q.1) × (k.frag.generation < s.next_generation + 1))
-      (same_Some (at a.rank.0 merge.joined) b (filled_at q true b (same_leaf q leaf (λ i. (record { 0 = same i }, is_it q.1 came i))) is))
-      (fresh_tied merge.joined (object_of s.objects q.0 q.1) ready.joined.fresh, omega (arith, number)))
-      (λ q apart b is. filled_at q false b (apart_it q apart) is)
-
   -- ---- of what was before
 
   merge_made : IsMergedInto (state_of old) (state_of new) a.dir a.frag
@@ -237,7 +227,14 @@ module _ (old mid : Core) (sound : IsSoundCore old) (a : Dirfrag) (merge : Merge
     sound = subst IsSoundCore (sym left) (record {
       sound = (merges_right s t a.dir a.frag mine is_merged).sound;
       begun = (let before : 0 < s.next_generation = subst (λ (u : State). 0 < u.next_generation) (sym was) sound.begun in omega (arith, before));
-      cached = now_cached;
+      cached = regroup_cached s mine a.dir gone merge.plan.cover 1 t is_regrouped cut mid.caches made.caches cached
+          (λ q same has b is. let clash : true ≡ false = sym (among a.dir.0 q gone same has) ∙ sym (ap (list_any (leaf_is q)) ready.planned.leaves) ∙ (still_held filled (leaves_in a.dir merge.plan.leaves.items) q b is).0 in cc)
+          (λ q same came b is.
+          let number = ready.joined.numbered in
+          subst (λ (k : At). IsTied k.frag (object_of s.objects q.0 q.1) × (k.frag.generation < s.next_generation + 1))
+          (same_Some (at a.rank.0 merge.joined) b (filled_at q true b (same_leaf q leaf (λ i. (record { 0 = same i }, is_it q.1 came i))) is))
+          (fresh_tied merge.joined (object_of s.objects q.0 q.1) ready.joined.fresh, omega (arith, number)))
+          (λ q apart b is. filled_at q false b (apart_it q apart) is);
       none = subst (λ (k : Core). KeepsNone k.caches) left none;
     });
   }

@@ -74,19 +74,14 @@ taken_in whole row old new takes page = record {
 pub left_out : (rest whole : List Row) (name : List ℕ) (page : Gathered) → IsBeyond name page → T (below_all key_cmp name rest) → IsPageOf whole page → IsPageOf (puts key_cmp whole rest) page
 left_out [] whole name page beyond below is = is
 left_out (row ∷ rest) whole name page beyond below is =
+    let past = gap_past nat_list_cmp_total name row.0 page.most page.rows (less (key_cmp name row.0) (left_of (is_lt (key_cmp name row.0)) (below_all key_cmp name rest) below)) beyond.full beyond.less in
+    let many : nat_lt page.most (length whole) ≡ true = sym is.more ∙ beyond.more in
+    let long = put_longer key_cmp row.0 row.1 whole in
+    let more : nat_lt page.most (length (put key_cmp row.0 row.1 whole)) ≡ true = grind (arith, nat_tests) in
     left_out rest (put key_cmp row.0 row.1 whole) name page beyond (right_of _ _ below) (record {
       rows = is.rows ∙ sym (put_beyond key_cmp page.most row.0 row.1 whole (ap length (sym is.rows) ∙ beyond.full) (subst (λ xs. IsGap key_cmp row.0 xs page.most) is.rows past));
       more = beyond.more ∙ sym more;
     })
-  where
-    past : IsGap key_cmp row.0 page.rows page.most
-    past = gap_past nat_list_cmp_total name row.0 page.most page.rows (less (key_cmp name row.0) (left_of (is_lt (key_cmp name row.0)) (below_all key_cmp name rest) below)) beyond.full beyond.less
-
-    more : nat_lt page.most (length (put key_cmp row.0 row.1 whole)) ≡ true
-    more =
-        let many : nat_lt page.most (length whole) ≡ true = sym is.more ∙ beyond.more in
-        let long = put_longer key_cmp row.0 row.1 whole in
-        grind (arith, nat_tests)
 
 -- the next of a leaf's names is taken in, and the others are left
 pub next_taken : (row : Row) (names rest now names' whole : List Row) (old new : Gathered) → names ≡ row ∷ rest → Takes row old new → IsPageOf now old → puts key_cmp now names ≡ puts key_cmp whole names' → T (is_sorted key_cmp names)

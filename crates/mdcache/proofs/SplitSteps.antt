@@ -198,26 +198,8 @@ module _ (old mid : Core) (sound : IsSoundCore old) (a : Dirfrag) (nb : ℕ) (sp
     numbered = λ i below. subst (λ (o : Option Unsaved). HasUnsaved o (λ u. u.generation ≡ s.next_generation + i)) (sym (unclean_child i below)) (number i below);
   }
 
-  -- ---- what is cached
-
   cut : Replaces row (a.frag ∷ []) cover
   cut = split_replaces row cover a.frag nb can.fits.some can_now.stands divided
-
-  now_cached : AreCached t new.caches
-  now_cached = regroup_cached s mine a.dir (a.frag ∷ []) cover (2 ^ nb) t is_regrouped cut mid.caches new.caches cached
-      (λ q same has b is.
-      let its : q ≡ leaf = (λ i. (record { 0 = same i }, sym (only_one a.frag q.1 has) i)) in
-      let clash : None ≡ Some b = sym (ap (map.get new.caches.held) its ∙ split_gone a.rank.0 a.dir a.frag nb split.parts mid.next_version mid.caches new.caches f can.fits.some count done free) ∙ is in cc)
-      (λ q same came b is.
-      let child = is_child row cover a.frag nb divided q.1 came in
-      let below = child.1 in
-      let held : map.get new.caches.held q ≡ Some (at a.rank.0 (slice_index_or done.0 child.0 any).fragment) = ap (map.get new.caches.held) ((λ i. (record { 0 = same i }, q.1)) ∙ ap (λ (h : Fragment). (a.dir, h)) child.2)
-      ∙ split_child a.rank.0 a.dir a.frag nb split.parts mid.next_version mid.caches new.caches f can.fits.some count done child.0 any below in
-      let each_is = done.1.each child.0 any (within child.0 below) in
-      let given : (slice_index_or done.0 child.0 any).fragment.generation ≡ s.next_generation + child.0 = each_is.numbered ∙ number child.0 below in
-      subst (λ (k : At). IsTied k.frag (object_of s.objects q.0 q.1) × (k.frag.generation < s.next_generation + 2 ^ nb)) (same_Some (at a.rank.0 (slice_index_or done.0 child.0 any).fragment) b (sym held ∙ is))
-      (fresh_tied (slice_index_or done.0 child.0 any).fragment (object_of s.objects q.0 q.1) each_is.fresh, omega (arith, given, below)))
-      (λ q apart b is. sym (split_beside a.rank.0 a.dir a.frag nb split.parts mid.next_version mid.caches new.caches f can.fits.some count done q (apart_from_it q apart) (no_child_of q apart)) ∙ is)
 
   -- ---- of what was before
 
@@ -232,7 +214,20 @@ module _ (old mid : Core) (sound : IsSoundCore old) (a : Dirfrag) (nb : ℕ) (sp
     sound = subst IsSoundCore (sym left.2) (record {
       sound = (splits_right s t a.dir a.frag nb mine is_split).sound;
       begun = (let before : 0 < s.next_generation = subst (λ (u : State). 0 < u.next_generation) (sym was) sound.begun in omega (arith, before));
-      cached = now_cached;
+      cached = regroup_cached s mine a.dir (a.frag ∷ []) cover (2 ^ nb) t is_regrouped cut mid.caches new.caches cached
+          (λ q same has b is.
+          let its : q ≡ leaf = (λ i. (record { 0 = same i }, sym (only_one a.frag q.1 has) i)) in
+          let clash : None ≡ Some b = sym (ap (map.get new.caches.held) its ∙ split_gone a.rank.0 a.dir a.frag nb split.parts mid.next_version mid.caches new.caches f can.fits.some count done free) ∙ is in cc)
+          (λ q same came b is.
+          let child = is_child row cover a.frag nb divided q.1 came in
+          let below = child.1 in
+          let held : map.get new.caches.held q ≡ Some (at a.rank.0 (slice_index_or done.0 child.0 any).fragment) = ap (map.get new.caches.held) ((λ i. (record { 0 = same i }, q.1)) ∙ ap (λ (h : Fragment). (a.dir, h)) child.2)
+          ∙ split_child a.rank.0 a.dir a.frag nb split.parts mid.next_version mid.caches new.caches f can.fits.some count done child.0 any below in
+          let each_is = done.1.each child.0 any (within child.0 below) in
+          let given : (slice_index_or done.0 child.0 any).fragment.generation ≡ s.next_generation + child.0 = each_is.numbered ∙ number child.0 below in
+          subst (λ (k : At). IsTied k.frag (object_of s.objects q.0 q.1) × (k.frag.generation < s.next_generation + 2 ^ nb)) (same_Some (at a.rank.0 (slice_index_or done.0 child.0 any).fragment) b (sym held ∙ is))
+          (fresh_tied (slice_index_or done.0 child.0 any).fragment (object_of s.objects q.0 q.1) each_is.fresh, omega (arith, given, below)))
+          (λ q apart b is. sym (split_beside a.rank.0 a.dir a.frag nb split.parts mid.next_version mid.caches new.caches f can.fits.some count done q (apart_from_it q apart) (no_child_of q apart)) ∙ is);
       none = split_whole a.rank.0 a.dir a.frag nb split.parts mid.next_version mid.caches new.caches f can.fits.some count done (there_after Family Family old mid a.rank.0 reads may.there) distinct free ready.kept only;
     });
   }
