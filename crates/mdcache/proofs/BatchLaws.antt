@@ -1,10 +1,11 @@
 -- Commits of whole fragments, several at once.
-use Rattle.mdcache.proofs.Common.{AllByRecursion, AreApart, Begins, BeginsWith, Begun, CacheMap, Came, Core, Dirfrag, Ends, Err, HasFragment, IsBegunAt, IsEnded, IsFree, IsLive, IsReadyAt, IsSound, IsSoundCore, IsThat, IsUncleanAt, Job, Jobs, KeepsTree, Leaf, List, MayHold, MayNotBeginAll, MayNotBeginOne, None, NoneEnds, NotAmong, Ok, Option, Rank, Ready, Refusal, Some, State, Unsaved, UnsavedLeaves, [], ap, arith, came_held, came_ranks, came_weaker, committed, cond, drop, drop_more, empty_of_len, false, get-empty, get_or, inl, inr, is_some, leaves_at, leaves_of_jobs, leaves_of_writes, len-remove, length, ready_of, refl, shown_tree, state_of, subst, suc, sym, true, unclean, with_job, zero, ℕ, ⊎_elim, ◌++◌, ◌+◌, ◌-◌, ◌<◌, ◌∙◌, ◌∷◌, ◌≡◌, ◌⊎◌}
+use Rattle.mdcache.proofs.Common.{AllByRecursion, AreApart, Begins, BeginsWith, Begun, CacheMap, Came, CommitsWhole, Core, Dirfrag, Ends, Err, HasFragment, IsBegunAt, IsEnded, IsFree, IsLive, IsReadyAt, IsSound, IsSoundCore, IsThat, IsUncleanAt, Job, Jobs, KeepsTree, Leaf, List, MayHold, MayNotBeginAll, MayNotBeginOne, None, NoneEnds, NotAmong, Ok, Option, Rank, Ready, Refusal, Some, State, Unsaved, UnsavedLeaves, [], ap, arith, came_held, came_ranks, came_weaker, committed, cond, drop, drop_more, empty_of_len, false, get-empty, get_or, inl, inr, is_some, leaves_at, leaves_of_jobs, leaves_of_writes, len-remove, length, ready_of, refl, shown_tree, state_of, subst, suc, sym, true, unclean, with_job, zero, ℕ, ⊎_elim, ◌++◌, ◌+◌, ◌-◌, ◌<◌, ◌∙◌, ◌∷◌, ◌≡◌, ◌⊎◌}
 use Rattle.std.proofs.Common.{map as list_map, Result}
 use Rattle.std.specs.FinMap as map
 use Rattle.mds_types.specs.Leaf.{leaf_of as leaf_at}
 use Rattle.mdcache.specs.Commits.{leaf_of}
 use Rattle.mdcache.proofs.AtHandLaws.{begun_are_at_hand, begun_leave_at_hand, ended_are_clean, others_stay_at_hand}
+use Rattle.mdcache.proofs.CommittedLaws.{whole_then}
 use Rattle.mdcache.proofs.EndLaws.{unclean_is_there}
 use Rattle.mdcache.proofs.KeptTree.{steps_keep_tree, there_at}
 use Rattle.mdcache.proofs.PlacesLaws.{all_weaker}
@@ -171,21 +172,40 @@ some_len m k some = elim (map.len m) as (λ n. map.len m ≡ n → 0 < n) [
   | suc n ↦ λ is. omega arith
 ] refl
 
-module _ (now new : Core) (one : Ready) (ready_at : IsReadyAt now one) (ended : IsEnded (state_of now) (state_of new) one.encoded.job) (keeps_it : KeepsTree now new) where
-  pub stay_ready : (rs : List Ready) → NotAmong (leaf_of one.encoded.job) (leaves_of_writes rs) → AllByRecursion (IsReadyAt now) rs → AllByRecursion (IsReadyAt new) rs
-  stay_ready = all_so (λ (r : Ready). leaf_of r.encoded.job) (λ q. q ≡ leaf_of one.encoded.job → ⊥) (IsReadyAt now) (IsReadyAt new) (λ r other it. record {
-    holds = may_hold_on now.caches new.caches keeps_it.caches r.rank (leaf_of r.encoded.job) it.holds;
-    hand = others_stay_at_hand (state_of now) (state_of new) one.encoded.job r.encoded.job ended other ready_at.hand it.hand;
-  })
+-- so far the first of these commits have ended, and the others are at hand
+pub record EndsFirst (old now : Core) (ready : List Ready) (i : ℕ) : Type 0 where
+  pub rest : AllByRecursion (IsReadyAt now) (drop i ready)
+  pub apart : AreApart (leaves_of_writes (drop i ready))
+  pub whole : CommitsWhole (state_of old) (state_of now)
+  pub fewer : map.len (unclean now.caches) + i ≡ map.len (unclean old.caches)
+  pub tree : KeepsTree old now
+  pub faults : now.faults ≡ old.faults
+  pub sound : IsSoundCore now
 
-  pub one_less : map.len (unclean new.caches) + 1 ≡ map.len (unclean now.caches)
-  one_less =
-      let there : is_some (map.get (unclean now.caches) (leaf_of one.encoded.job)) ≡ true = ap is_some ready_at.hand.beside in
-      let less : map.len (unclean new.caches) ≡ map.len (unclean now.caches) - 1 =
-      ap (λ (m : UnsavedLeaves). map.len m) (ended_are_clean (state_of now) (state_of new) one.encoded.job ready_at.hand ended)
-      ∙ len-remove leaf-total (unclean now.caches) (leaf_of one.encoded.job) ∙ ap (λ b. cond {A = ℕ} b (map.len (unclean now.caches) - 1) (map.len (unclean now.caches))) there in
-      let some = some_len (unclean now.caches) (leaf_of one.encoded.job) there in
-      omega (arith, less, some)
+-- once the next has ended, it is one of the first
+pub ends_next : (old now new : Core) (ready : List Ready) (i : ℕ) (one : Ready) → i < length ready → one ≡ get_or ready i one → EndsFirst old now ready i → IsEnded (state_of now) (state_of new) one.encoded.job
+    → CommitsWhole (state_of now) (state_of new) → KeepsTree now new → new.faults ≡ now.faults → IsSoundCore new → EndsFirst old new ready (i + 1)
+ends_next old now new ready i one within is so_far ended whole keeps_it same sound =
+    let all = subst (AllByRecursion (IsReadyAt now)) (rest_is ready i one within is) so_far.rest in
+    let apart = subst (λ rs. AreApart (leaves_of_writes rs)) (rest_is ready i one within is) so_far.apart in
+    let there : is_some (map.get (unclean now.caches) (leaf_of one.encoded.job)) ≡ true = ap is_some all.0.hand.beside in
+    let less : map.len (unclean new.caches) ≡ map.len (unclean now.caches) - 1 =
+    ap (λ (m : UnsavedLeaves). map.len m) (ended_are_clean (state_of now) (state_of new) one.encoded.job all.0.hand ended)
+    ∙ len-remove leaf-total (unclean now.caches) (leaf_of one.encoded.job) ∙ ap (λ b. cond {A = ℕ} b (map.len (unclean now.caches) - 1) (map.len (unclean now.caches))) there in
+    let some = some_len (unclean now.caches) (leaf_of one.encoded.job) there in
+    let fewer = so_far.fewer in
+    record {
+      rest = all_so (λ (r : Ready). leaf_of r.encoded.job) (λ q. q ≡ leaf_of one.encoded.job → ⊥) (IsReadyAt now) (IsReadyAt new) (λ r other it. record {
+        holds = may_hold_on now.caches new.caches keeps_it.caches r.rank (leaf_of r.encoded.job) it.holds;
+        hand = others_stay_at_hand (state_of now) (state_of new) one.encoded.job r.encoded.job ended other all.0.hand it.hand;
+      }) (drop (i + 1) ready) apart.0 all.1;
+      apart = apart.1;
+      whole = whole_then (state_of old) (state_of now) (state_of new) so_far.whole whole;
+      fewer = omega (arith, less, some, fewer);
+      tree = steps_keep_tree old now new so_far.tree keeps_it;
+      faults = same ∙ so_far.faults;
+      sound = sound;
+    }
 
 -- jobs that were begun are those of their writes
 pub begun_ready : (core : Core) (begun : List Begun) → AllByRecursion (IsBegunAt core) begun → AllByRecursion (IsReadyAt core) (list_map ready_of begun)

@@ -1,5 +1,5 @@
 -- What the end of a commit keeps.
-use Rattle.mdcache.proofs.Common.{AreCached, AreYoung, At, Base, Bool, CacheMap, Cached, Commits, Core, Fresh, HasSpelled, IsCachedIn, IsCommitted, IsCounted, IsEnded, IsFree, IsFreeFor, IsLive, IsOf, IsSaved, IsSound, IsSoundCore, IsStanding, IsTabled, IsThere, IsTied, IsUnsaved, Job, Keeps, Leaf, Marks, Names, None, Omap, Option, Some, State, Stored, Unsaved, ap, arith, at, at_rank, committed, committed_are_tied, cond, empty_of_len, eqb-true, false, get-unsettled, get_beside, get_put, get_unclean, get_with_frag, here_is, inl, inr, is_clean, is_clean_over, is_same, is_settled, is_some, leaf_is, leaf_itself, leaf_or_apart, names_at, names_then, next_version, none_entries, not, object_after, object_of, refl, same_Some, same_leaf, shown, shown_at, shown_over, shown_tree, spells_what_it_shows, state_of, subst, sym, text_of, tied_show, true, unclean, unclean_with, unsaved_at, unsaved_in, unsaved_of, unsettled, with_frag, with_marks, with_unsaved, ℕ, ⊎_elim, ◌<◌, ◌==◌, ◌∙◌, ◌≡◌}
+use Rattle.mdcache.proofs.Common.{AreCached, AreYoung, At, Base, Bool, CacheMap, Cached, Commits, Core, Fresh, HasSpelled, IsCachedIn, IsCommitted, IsCounted, IsEnded, IsFree, IsFreeFor, IsLive, IsOf, IsSaved, IsSound, IsSoundCore, IsStanding, IsTabled, IsThere, IsTied, IsUnsaved, Job, Keeps, Leaf, Marks, Names, None, Omap, Option, Some, State, Stored, Unsaved, ap, arith, at, at_rank, committed, committed_are_tied, cond, empty_of_len, eqb-true, false, get-unsettled, get_beside, get_put, get_unclean, get_with_frag, here_is, inl, is_clean, is_clean_over, is_same, is_settled, is_some, leaf_is, leaf_itself, leaf_or_apart, names_at, names_then, next_version, none_entries, not, object_after, object_of, refl, same_Some, same_leaf, shown, shown_at, shown_over, shown_tree, spells_what_it_shows, state_of, subst, sym, text_of, tied_show, true, unclean, unclean_with, unsaved_at, unsaved_in, unsaved_of, unsettled, with_frag, with_marks, with_unsaved, ℕ, ⊎_elim, ◌<◌, ◌==◌, ◌∙◌, ◌≡◌}
 use Rattle.std.specs.FinMap as map
 use Rattle.std.proofs.lemmas.Bool.{cond_both}
 use Rattle.mds_types.proofs.LeafLaws.{get_removed}
@@ -46,9 +46,6 @@ unclean_here c r leaf free = get_unclean c leaf ∙ elim (map.get c.held leaf) a
 pub unclean_is_there : (c : CacheMap) (r : ℕ) (leaf : Leaf) → IsFreeFor c r leaf → is_some (map.get (unclean c) leaf) ≡ true → IsThere (here_of c r leaf)
 unclean_is_there c r leaf free dirty = elim (here_of c r leaf) as (λ o. is_some (unsaved_in o) ≡ true → IsThere o) [ None ↦ λ none. let clash : false ≡ true = none in absurd cc | Some f ↦ λ some. tt ] (ap is_some (sym (unclean_here c r leaf free)) ∙ dirty)
 
-pub beyond_is : (f : Cached) (u : Unsaved) → unsaved_of f ≡ Some u → (is_clean f ≡ false) × (record { base = f.base; generation = f.generation; dirty = f.dirty } ≡ u)
-beyond_is f u is = some_but (is_clean f) (record { base = f.base; generation = f.generation; dirty = f.dirty }) u is
-
 -- ---- a commit ended
 
 module _ (c : Core) (r : ℕ) (job : Job) (kept : IsSoundCore c) (stood : map.get c.jobs (leaf_of job) ≡ Some job)
@@ -78,7 +75,7 @@ module _ (c : Core) (r : ℕ) (job : Job) (kept : IsSoundCore c) (stood : map.ge
   beyond = sym (get_unclean c.caches leaf ∙ ap unsaved_at held) ∙ stands.beside
 
   its_own : u ≡ record { base = f.base; generation = f.generation; dirty = f.dirty }
-  its_own = sym (beyond_is f u beyond).1
+  its_own = sym (some_but (is_clean f) (record { base = f.base; generation = f.generation; dirty = f.dirty }) u beyond).1
 
   tie : IsTied f object
   tie = (kept.cached leaf (at r f) held).tied
@@ -169,33 +166,28 @@ module _ (c : Core) (r : ℕ) (job : Job) (kept : IsSoundCore c) (stood : map.ge
     owned = λ name has.
         ⊎_elim (λ same. inl (leaf, live, same)) (λ apart. kept.sound.owned name (ap is_some (sym (get_beside s.objects (text_of leaf) _ name apart)) ∙ has)) (key_or_apart name (text_of leaf));
     listed = kept.sound.listed;
-    standing = λ q i is. elim (leaf_or_apart q leaf) [
-      | inl same ↦ let clash : None ≡ Some i = sym (get_removed s.jobs leaf) ∙ ap (map.get t.jobs) (sym same) ∙ is in absurd cc
-      | inr apart ↦
-          let before = kept.sound.standing q i (stood_before s leaf q i is) in
-          record {
-            mine = before.mine;
-            given = before.given;
-            young = before.young;
-            unsaved = before.unsaved;
-            beside = unsaved_now q false apart ∙ before.beside;
-            taken = subst (IsOf i before.unsaved) (sym (object_beside q (kept.sound.unsaved q before.unsaved before.beside).live apart)) before.taken;
-          }
-    ];
+    standing = λ q i is. ⊎_elim (λ same. let clash : None ≡ Some i = sym (get_removed s.jobs leaf) ∙ ap (map.get t.jobs) (sym same) ∙ is in absurd cc) (λ apart.
+        let before = kept.sound.standing q i (stood_before s leaf q i is) in
+        record {
+          mine = before.mine;
+          given = before.given;
+          young = before.young;
+          unsaved = before.unsaved;
+          beside = unsaved_now q false apart ∙ before.beside;
+          taken = subst (IsOf i before.unsaved) (sym (object_beside q (kept.sound.unsaved q before.unsaved before.beside).live apart)) before.taken;
+        }) (leaf_or_apart q leaf);
     once = λ a b i j p q same. kept.sound.once a b i j (stood_before s leaf a i p) (stood_before s leaf b j q) same;
   }
 
   pub ended_cached : AreCached t (with_frag c.caches r leaf now)
-  ended_cached q a is = elim (leaf_or_apart q leaf) [
-    | inl same ↦
-        let now_is : at r now ≡ a = same_Some (at r now) a (sym (get_with_frag c.caches r leaf now q ∙ ap (λ (b : Bool). cond b (Some (at r now)) (map.get c.caches.held q)) (same_leaf q leaf same)) ∙ is) in
-        let given = (kept.cached leaf (at r f) held).made in
-        let generation = done.generation in
-        subst (λ (l : Leaf). IsCachedIn t l a.frag) (sym same) (subst (λ (x : At). IsCachedIn t leaf x.frag) now_is (record { live = live; tied = subst (IsTied now) (sym object_here) right.tied; made = omega (arith, given, generation) }))
-    | inr apart ↦
-        let was = kept.cached q a (sym (get_with_frag c.caches r leaf now q ∙ ap (λ (b : Bool). cond b (Some (at r now)) (map.get c.caches.held q)) apart) ∙ is) in
-        record { live = was.live; tied = subst (IsTied a.frag) (sym (object_beside q was.live apart)) was.tied; made = was.made }
-  ]
+  ended_cached q a is = ⊎_elim (λ same.
+      let now_is : at r now ≡ a = same_Some (at r now) a (sym (get_with_frag c.caches r leaf now q ∙ ap (λ (b : Bool). cond b (Some (at r now)) (map.get c.caches.held q)) (same_leaf q leaf same)) ∙ is) in
+      let given = (kept.cached leaf (at r f) held).made in
+      let generation = done.generation in
+      subst (λ (l : Leaf). IsCachedIn t l a.frag) (sym same) (subst (λ (x : At). IsCachedIn t leaf x.frag) now_is (record { live = live; tied = subst (IsTied now) (sym object_here) right.tied; made = omega (arith, given, generation) })))
+      (λ apart.
+      let was = kept.cached q a (sym (get_with_frag c.caches r leaf now q ∙ ap (λ (b : Bool). cond b (Some (at r now)) (map.get c.caches.held q)) apart) ∙ is) in
+      record { live = was.live; tied = subst (IsTied a.frag) (sym (object_beside q was.live apart)) was.tied; made = was.made }) (leaf_or_apart q leaf)
 
   pub ended : IsEnded s t job
   ended = record { stood = stood; unsaved = u; beside = stands.beside; left = refl; spelled = subst (λ o. HasSpelled o (next_version job.snapshot.base) (names_then job.snapshot object)) (sym object_here) right.spelled; tree = tree_stays }

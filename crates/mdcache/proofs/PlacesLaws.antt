@@ -40,13 +40,10 @@ free_there r (Some a) dirty = cond_both (a.rank == r) (Some a.frag) None (λ o. 
     (λ apart none. let clash : false ≡ true = none in absurd cc) dirty
 
 module _ (c : CacheMap) where
-  unclean_at : (r : ℕ) (q : Leaf) → r < length c.used → is_some (unsaved_in (here c r q)) ≡ true → IsUncleanAt c (record { dir = q.0; frag = q.1; rank = record { 0 = r } })
-  unclean_at r q within dirty = let w = free_there r (map.get c.held q) dirty in record { holds = record { there = within; alone = w.0 }; dirty = ap is_some (get_unclean c q) ∙ w.1 }
-
   among_all : (r : ℕ) → r < length c.used → (leaves : List Leaf) → AllByRecursion (λ (a : Dirfrag). IsUncleanAt c a × (a.rank.0 ≡ r)) (unclean_among c r leaves)
   among_all r within [] = tt
   among_all r within (q ∷ leaves) = cond_both (is_some (unsaved_in (here c r q))) (place_at r q ∷ unclean_among c r leaves) (unclean_among c r leaves) (AllByRecursion (λ (a : Dirfrag). IsUncleanAt c a × (a.rank.0 ≡ r)))
-      (λ dirty. ((unclean_at r q within dirty, refl), among_all r within leaves)) (λ clean. among_all r within leaves)
+      (λ dirty. let w = free_there r (map.get c.held q) dirty in ((record { holds = record { there = within; alone = w.0 }; dirty = ap is_some (get_unclean c q) ∙ w.1 }, refl), among_all r within leaves)) (λ clean. among_all r within leaves)
 
   from_all : (r : ℕ) (used : List (List Leaf)) → r + length used ≤ length c.used → AllByRecursion (λ (a : Dirfrag). IsUncleanAt c a × (r ≤ a.rank.0)) (unclean_from c r used)
   from_all r [] within = tt

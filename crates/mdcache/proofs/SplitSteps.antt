@@ -65,15 +65,12 @@ module _ (old mid : Core) (sound : IsSoundCore old) (a : Dirfrag) (nb : ℕ) (sp
   abbrev Family : ℕ → Leaf → Type 0
   Family = IsFamilyAt a.rank.0 a.dir a.frag nb
 
-  -- what is left, in its own words
-  abbrev made : Core
-  made = split_in mid a nb split.plan cover left.0 new.caches new.room
-
   abbrev s : State
   s = state_of mid
 
+  -- what is left, in its own words
   abbrev t : State
-  t = state_of made
+  t = state_of (split_in mid a nb split.plan cover left.0 new.caches new.room)
 
   was : s ≡ state_of old
   was = reads_state Family Family old mid reads
