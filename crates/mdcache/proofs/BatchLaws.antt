@@ -1,5 +1,5 @@
 -- Commits of whole fragments, several at once.
-use Rattle.mdcache.proofs.Common.{AllByRecursion, AreApart, Begins, BeginsWith, Begun, CacheMap, Came, CommitsWhole, Core, Dirfrag, Ends, Err, HasFragment, IsBegunAt, IsEnded, IsFree, IsLive, IsReadyAt, IsSound, IsSoundCore, IsThat, IsUncleanAt, Job, Jobs, KeepsTree, Leaf, List, MayHold, MayNotBeginAll, MayNotBeginOne, None, NoneEnds, NotAmong, Ok, Option, Rank, Ready, Refusal, Some, State, Unsaved, UnsavedLeaves, [], ap, arith, came_held, came_ranks, came_weaker, committed, cond, drop, drop_more, empty_of_len, false, get-empty, get_or, inl, inr, is_some, leaves_at, leaves_of_jobs, leaves_of_writes, len-remove, length, ready_of, refl, shown_tree, state_of, subst, suc, sym, true, unclean, with_job, zero, ℕ, ⊎_elim, ◌++◌, ◌+◌, ◌-◌, ◌<◌, ◌∙◌, ◌∷◌, ◌≡◌, ◌⊎◌}
+use Rattle.mdcache.proofs.Common.{AllByRecursion, AreApart, Begins, BeginsWith, Begun, CacheMap, Came, CommitsWhole, Core, Dirfrag, Ends, Err, HasFragment, IsBegunAt, IsEnded, IsFree, IsLive, IsReadyAt, IsSound, IsSoundCore, IsThat, IsUncleanAt, Job, Jobs, KeepsTree, Leaf, List, MayHold, MayNotBeginAll, MayNotBeginOne, None, NoneEnds, NotAmong, Ok, Option, Rank, Ready, Refusal, Some, State, Unsaved, UnsavedLeaves, [], ap, append_assoc, arith, came_held, came_ranks, came_weaker, committed, cond, drop, drop_more, empty_of_len, false, get-empty, get_or, inl, inr, is_some, leaves_at, leaves_of_jobs, leaves_of_writes, len-remove, length, map-append, ready_of, refl, shown_tree, state_of, subst, suc, sym, true, unclean, with_job, zero, ℕ, ⊎_elim, ◌++◌, ◌+◌, ◌-◌, ◌<◌, ◌∙◌, ◌∷◌, ◌≡◌, ◌⊎◌}
 use Rattle.std.proofs.Common.{map as list_map, Result}
 use Rattle.std.specs.FinMap as map
 use Rattle.mds_types.specs.Leaf.{leaf_of as leaf_at}
@@ -8,7 +8,7 @@ use Rattle.mdcache.proofs.AtHandLaws.{begun_are_at_hand, begun_leave_at_hand, en
 use Rattle.mdcache.proofs.CommittedLaws.{whole_then}
 use Rattle.mdcache.proofs.EndLaws.{unclean_is_there}
 use Rattle.mdcache.proofs.KeptTree.{steps_keep_tree, there_at}
-use Rattle.mdcache.proofs.PlacesLaws.{all_weaker}
+use Rattle.mdcache.proofs.PlacesLaws.{all_append, all_weaker}
 use Rattle.inode_table.proofs.Chains.{some_of}
 use Rattle.mds_types.proofs.LeafLaws.{get_beside, leaf-total}
 
@@ -78,18 +78,10 @@ apart_behind (x ∷ xs) y ys (others, apart) = (first_apart xs y ys others, apar
     first_apart [] y ys (this, more) same = this (sym same)
     first_apart (z ∷ xs) y ys (this, more) same = first_apart xs y ys more same
 
-all_push : {A : Type 0} (P : A → Type 0) (xs : List A) (y : A) → AllByRecursion P xs → P y → AllByRecursion P (xs ++ y ∷ [])
-all_push P [] y all one = (one, tt)
-all_push P (x ∷ xs) y (first, all) one = (first, all_push P xs y all one)
-
 -- what holds of each goes over, where it does so for those that are apart
 all_so : {A B : Type 0} (f : A → B) (R : B → Type 0) (P Q : A → Type 0) → ((x : A) → R (f x) → P x → Q x) → (xs : List A) → AllByRecursion R (list_map f xs) → AllByRecursion P xs → AllByRecursion Q xs
 all_so f R P Q so [] apart all = tt
 all_so f R P Q so (x ∷ xs) (here, apart) (one, all) = (so x here one, all_so f R P Q so xs apart all)
-
-mapped_push : {A B : Type 0} (f : A → B) (xs : List A) (y : A) (rest : List B) → list_map f (xs ++ y ∷ []) ++ rest ≡ list_map f xs ++ f y ∷ rest
-mapped_push f [] y rest = refl
-mapped_push f (x ∷ xs) y rest = ap (λ l. f x ∷ l) (mapped_push f xs y rest)
 
 -- a job stands only for a leaf among these
 abbrev pub StandAmong : Jobs → List Leaf → Type 0
@@ -139,12 +131,13 @@ module _ (old now : Core) (leaves : List Dirfrag) (i : ℕ) (at : Dirfrag) (with
       let raised : new.next_job ≡ now.next_job + 1 = ap (λ (s : State). s.next_job) left in
       let number = so_far.number in
       subst (BeginsFirst old new leaves (i + 1)) (sym push) (record {
-        begun = all_push (IsBegunAt new) done (record { rank = at.rank; job = job }) (all_so (λ (b : Begun). leaf_of b.job) (λ q. q ≡ leaf_at at → ⊥) (IsBegunAt now) (IsBegunAt new)
+        begun = all_append (IsBegunAt new) done ((record { rank = at.rank; job = job }) ∷ []) (all_so (λ (b : Begun). leaf_of b.job) (λ q. q ≡ leaf_at at → ⊥) (IsBegunAt now) (IsBegunAt new)
             (λ b other one. record { holds = holds b.rank (leaf_of b.job) one.holds; hand = begun_leave_at_hand (state_of now) (state_of new) (leaf_at at) job b.job begins other one.hand }) done others so_far.begun)
-            (record { holds = subst (MayHold new.caches at.rank) (sym hand.1) (holds at.rank (leaf_at at) unclean_here.0.holds); hand = hand.0 });
+            (record { holds = subst (MayHold new.caches at.rank) (sym hand.1) (holds at.rank (leaf_at at) unclean_here.0.holds); hand = hand.0 }, tt);
         rest = all_weaker (IsUncleanAt now.caches) (IsUncleanAt new.caches)
             (λ a one. record { holds = holds a.rank (leaf_at a) one.holds; dirty = ap (λ (s : State). is_some (map.get s.unsaved (leaf_at a))) left ∙ one.dirty }) behind unclean_here.1;
-        listed = mapped_push (λ (b : Begun). leaf_of b.job) done (record { rank = at.rank; job = job }) (leaves_at behind) ∙ ap (λ q. leaves_of_jobs done ++ q ∷ leaves_at behind) hand.1 ∙ whole;
+        listed = ap (λ l. l ++ leaves_at behind) (map-append (λ (b : Begun). leaf_of b.job) done ((record { rank = at.rank; job = job }) ∷ [])) ∙ append_assoc (leaves_of_jobs done) (leaf_of job ∷ []) (leaves_at behind)
+            ∙ ap (λ q. leaves_of_jobs done ++ q ∷ leaves_at behind) hand.1 ∙ whole;
         among = λ q apart. let w = apart_parts q job done apart in ap (λ (s : State). map.get s.jobs q) left ∙ get_beside now.jobs (leaf_of job) job q (λ same. w.1 (sym same)) ∙ so_far.among q w.0;
         left = left ∙ ap (λ (s : State). with_job s job) so_far.left ∙ (λ j. record (state_of old) { jobs = sym (ap (λ (s : State). s.jobs) left) j; next_job = sym (ap (λ (s : State). s.next_job) left) j });
         number = omega (arith, raised, number);

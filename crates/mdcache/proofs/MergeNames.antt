@@ -69,12 +69,8 @@ module _ (s : State) (sound : IsSound s) (dir : Ino) (known : is_known s.homes d
     abbrev mark : Option Mark
     mark = marked_as version found None
 
-    again : (o : Option Inode) → marked_as version o (marked_as version o None) ≡ marked_as version o None
-    again None = refl
-    again (Some inode) = refl
-
     stays : (fs : List Fragment) → ((f : Fragment) → HasLeaf fs f → HasLeaf row f) → joined fs mark ≡ mark
-    stays fs within = joined_same fs mark (λ f has. ⊎_elim (λ is. ap (λ (o : Option Inode). marked_as version o mark) is ∙ again found) (λ none. ap (λ (o : Option Inode). marked_as version o mark) none) (its f (within f has)))
+    stays fs within = joined_same fs mark (λ f has. ⊎_elim (λ is. ap (λ (o : Option Inode). marked_as version o mark) is ∙ elim found as (λ o. marked_as version o (marked_as version o None) ≡ marked_as version o None) [ None ↦ refl | Some inode ↦ refl ]) (λ none. ap (λ (o : Option Inode). marked_as version o mark) none) (its f (within f has)))
 
     comes : (fs : List Fragment) → ((f : Fragment) → HasLeaf fs f → HasLeaf row f) → HasLeaf fs pick.0 → joined fs None ≡ mark
     comes [] within has = let none = has.1 in absurd (omega (arith, none))

@@ -62,14 +62,9 @@ module _ (old mid : Core) (sound : IsSoundCore old) (a : Dirfrag) (merge : Merge
   was : s ≡ state_of old
   was = reads_state Uses NoneEnds old mid reads
 
-  mine : IsSound s
-  mine = subst IsSound (sym was) sound.sound
-
-  known_now : is_known s.homes a.dir.0 ≡ true
-  known_now = ap (λ (u : State). is_known u.homes a.dir.0) was ∙ known
-
-  can_now : CanMerge (leaves_of s.covers a.dir.0) a.frag
-  can_now = subst (λ (u : State). CanMerge (leaves_of u.covers a.dir.0) a.frag) (sym was) can
+  -- the state is sound still, and the leaf can change as before
+  still : IsSound s × (is_known s.homes a.dir.0 ≡ true) × CanMerge (leaves_of s.covers a.dir.0) a.frag
+  still = subst (λ (u : State). IsSound u × (is_known u.homes a.dir.0 ≡ true) × CanMerge (leaves_of u.covers a.dir.0) a.frag) (sym was) (sound.sound, known, can)
 
   -- cached leaves are sound still
   cached : AreCached s mid.caches
@@ -85,11 +80,11 @@ module _ (old mid : Core) (sound : IsSoundCore old) (a : Dirfrag) (merge : Merge
   ending = each (in_directory a.dir.0) gone
 
   tree : IsTree row
-  tree = tree_of_row s.homes s.covers mine.table a.dir.0
+  tree = tree_of_row s.homes s.covers still.0.table a.dir.0
 
   -- the joined fragment alone comes
   comes : Comes row merge.plan.cover a.frag
-  comes = ((ready.planned.cover.leaves a.frag).1 (inr refl), merged_is_new row a.frag tree can_now)
+  comes = ((ready.planned.cover.leaves a.frag).1 (inr refl), merged_is_new row a.frag tree still.2)
 
   is_it : (g : Fragment) → Comes row merge.plan.cover g → g ≡ a.frag
   is_it g came = ⊎_elim (λ old. absurd (came.1 old.0)) (λ same. same) ((ready.planned.cover.leaves g).0 came.0)
@@ -100,7 +95,7 @@ module _ (old mid : Core) (sound : IsSoundCore old) (a : Dirfrag) (merge : Merge
   -- ---- its names
 
   dirty_is : (name : List ℕ) → map.get merge.joined.dirty name ≡ marked_as s.next_version (cond (holds a.frag (hash_of name)) (map.get (shown_tree s) (dentry_of a.dir.0 name)) None) None
-  dirty_is name = ready.joined.dirty name ∙ joined_is s mine a.dir known_now name s.next_version merge.plan.cover a.frag ready.planned.whole can_now ready.planned.cover
+  dirty_is name = ready.joined.dirty name ∙ joined_is s still.0 a.dir still.1 name s.next_version merge.plan.cover a.frag ready.planned.whole still.2 ready.planned.cover
 
   shown_is : (name : List ℕ) → map.get (shown merge.joined) name ≡ cond (holds a.frag (hash_of name)) (map.get (shown_tree s) (dentry_of a.dir.0 name)) None
   shown_is name =
@@ -111,15 +106,15 @@ module _ (old mid : Core) (sound : IsSoundCore old) (a : Dirfrag) (merge : Merge
   found_in : (f : Fragment) (name : List ℕ) (inode : Inode) → HasLeaf gone f → map.get (names_of s.unsaved s.objects (a.dir, f)) name ≡ Some inode → map.get (shown merge.joined) name ≡ Some inode
   found_in f name inode has is =
       let both = has_inside a.frag f row has in
-      let pick = mine.placed (a.dir, f) name inode (record { known = known_now; stands = both.0 }) is in
-      let tree_has : map.get (shown_tree s) (dentry_of a.dir.0 name) ≡ Some inode = stands_at s (sound_leaves s mine) (dentry_of a.dir.0 name) f known_now pick ∙ is in
-      shown_is name ∙ ap (λ (b : Bool). cond b (map.get (shown_tree s) (dentry_of a.dir.0 name)) None) (sym (pick_inside row merge.plan.cover a.frag tree ready.planned.whole can_now ready.planned.cover (hash_of name) f pick) ∙ both.1) ∙ tree_has
+      let pick = still.0.placed (a.dir, f) name inode (record { known = still.1; stands = both.0 }) is in
+      let tree_has : map.get (shown_tree s) (dentry_of a.dir.0 name) ≡ Some inode = stands_at s (sound_leaves s still.0) (dentry_of a.dir.0 name) f still.1 pick ∙ is in
+      shown_is name ∙ ap (λ (b : Bool). cond b (map.get (shown_tree s) (dentry_of a.dir.0 name)) None) (sym (pick_inside row merge.plan.cover a.frag tree ready.planned.whole still.2 ready.planned.cover (hash_of name) f pick) ∙ both.1) ∙ tree_has
 
   comes_from : (name : List ℕ) (inode : Inode) → map.get (shown merge.joined) name ≡ Some inode → (f : Fragment) × HasLeaf gone f × (map.get (names_of s.unsaved s.objects (a.dir, f)) name ≡ Some inode)
   comes_from name inode is =
       let found = holds_or_none (holds a.frag (hash_of name)) (map.get (shown_tree s) (dentry_of a.dir.0 name)) inode (sym (shown_is name) ∙ is) in
-      let p = pick_at s (sound_leaves s mine) (dentry_of a.dir.0 name) in
-      (p.0, inside_has a.frag p.0 row p.1.stands (pick_inside row merge.plan.cover a.frag tree ready.planned.whole can_now ready.planned.cover (hash_of name) p.0 p.1 ∙ found.0), sym (stands_at s (sound_leaves s mine) (dentry_of a.dir.0 name) p.0 known_now p.1) ∙ found.1)
+      let p = pick_at s (sound_leaves s still.0) (dentry_of a.dir.0 name) in
+      (p.0, inside_has a.frag p.0 row p.1.stands (pick_inside row merge.plan.cover a.frag tree ready.planned.whole still.2 ready.planned.cover (hash_of name) p.0 p.1 ∙ found.0), sym (stands_at s (sound_leaves s still.0) (dentry_of a.dir.0 name) p.0 still.1 p.1) ∙ found.1)
 
   abbrev is_empty : Fragment → Bool
   is_empty f = has_none (names_of s.unsaved s.objects (a.dir, f))
@@ -171,7 +166,7 @@ module _ (old mid : Core) (sound : IsSoundCore old) (a : Dirfrag) (merge : Merge
 
   other_text : (g : Fragment) → HasLeaf gone g → text_of (a.dir, g) ≡ text_of (a.dir, a.frag) → ⊥
   other_text g has same =
-      let small = mine.numbered a.dir.0 known_now in
+      let small = still.0.numbered a.dir.0 still.1 in
       let names : Frag a.dir g ≡ Frag a.dir a.frag = texts_differ (Frag a.dir g) (Frag a.dir a.frag) (small, (between 0 16777216 row g tree.tiles (has_inside a.frag g row has).0).0) (small, (between 0 16777216 merge.plan.cover a.frag ready.planned.whole.tiles comes.0).0) same in
       let one : g ≡ a.frag = cc in
       not_gone (subst (HasLeaf gone) one has)
@@ -180,7 +175,7 @@ module _ (old mid : Core) (sound : IsSoundCore old) (a : Dirfrag) (merge : Merge
 
   is_regrouped : IsRegrouped s t a.dir gone merge.plan.cover 1
   is_regrouped = record {
-    known = known_now;
+    known = still.1;
     whole = ready.planned.whole;
     unsaved = unclean made.caches;
     purge = t.purge;
@@ -199,7 +194,7 @@ module _ (old mid : Core) (sound : IsSoundCore old) (a : Dirfrag) (merge : Merge
   }
 
   is_merged : IsMergedInto s t a.dir a.frag
-  is_merged = record { can = can_now; cover = merge.plan.cover; merged = ready.planned.cover; regrouped = is_regrouped }
+  is_merged = record { can = still.2; cover = merge.plan.cover; merged = ready.planned.cover; regrouped = is_regrouped }
 
   cut : Replaces row gone merge.plan.cover
   cut = merge_replaces row merge.plan.cover a.frag ready.planned.cover
@@ -225,9 +220,9 @@ module _ (old mid : Core) (sound : IsSoundCore old) (a : Dirfrag) (merge : Merge
         (ends_came_so Uses Ends old.caches filled (leaves_in a.dir merge.plan.leaves.items) (λ n q among. subst (λ (ls : List Leaf). Contains ls q) (ready.planned.leaves ∙ ap (λ (u : State). each (in_directory a.dir.0) (leaves_inside a.frag (leaves_of u.covers a.dir.0))) was) among)
         (arrives mid.caches a.rank.0 leaf merge.joined (reads_came Uses Ends old.objects old.caches mid.caches (reads_weaker Uses NoneEnds Uses Ends (λ n q is. is) (λ n q no_end. absurd no_end) old.objects old.caches mid.caches reads.caches)) (inr (refl, refl))));
     sound = subst IsSoundCore (sym left) (record {
-      sound = (merges_right s t a.dir a.frag mine is_merged).sound;
+      sound = (merges_right s t a.dir a.frag still.0 is_merged).sound;
       begun = (let before : 0 < s.next_generation = subst (λ (u : State). 0 < u.next_generation) (sym was) sound.begun in omega (arith, before));
-      cached = regroup_cached s mine a.dir gone merge.plan.cover 1 t is_regrouped cut mid.caches made.caches cached
+      cached = regroup_cached s still.0 a.dir gone merge.plan.cover 1 t is_regrouped cut mid.caches made.caches cached
           (λ q same has b is. let clash : true ≡ false = sym (among a.dir.0 q gone same has) ∙ sym (ap (list_any (leaf_is q)) ready.planned.leaves) ∙ (still_held filled (leaves_in a.dir merge.plan.leaves.items) q b is).0 in cc)
           (λ q same came b is.
           let number = ready.joined.numbered in

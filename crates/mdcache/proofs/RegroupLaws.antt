@@ -48,7 +48,7 @@ dirty_shows (Stored v) below u version name inode fresh is = let clash : Stored 
 dirty_shows Fresh below u version name None fresh is = get-patched map.empty u.dirty name ∙ ap (λ (m : Option Mark). inode_or m (map.get {R = key_cmp} map.empty name)) is ∙ get-empty key_cmp name
 dirty_shows Fresh below u version name (Some i) fresh is = get-patched map.empty u.dirty name ∙ ap (λ (m : Option Mark). inode_or m (map.get {R = key_cmp} map.empty name)) is
 
--- a name whose inode would be none has none
+-- what can have no value is none
 pub none_unless : {X : Type 0} (o : Option X) → ((x : X) → o ≡ Some x → ⊥) → o ≡ None
 none_unless None never = refl
 none_unless (Some x) never = absurd (never x refl)

@@ -28,6 +28,7 @@ steps_on number all left rest e before split other = record {
     is : IsRest number all (e ∷ rest)
     is = subst (IsRest number all) split before
 
+-- where the first of them has the number its job is found
 pub found_here : (jobs : Jobs) (number : ℕ) (left rest : List (Leaf × Job)) (e : Leaf × Job) → IsRest number (map.entries jobs) left → left ≡ e ∷ rest → e.1.number ≡ number
     → (job : Job) × (map.get jobs e.0 ≡ Some job) × (job.number ≡ number)
 found_here jobs number left rest e is split same =
