@@ -136,7 +136,7 @@ module _ (c : Core) (sound : IsSoundCore c) (from to : ℕ) (apart : from ≢ to
       sound = core_sound (handed_from from to apart leaves clean c.caches caches cached h) (whole_handed from to apart leaves clean c.caches caches cached h valid there other NoneEnds whole_first)
           (sound_now (state_of c) (unclean caches) leaves sound.sound jobless given);
     }
-    by (Err reason) jobless h refused given left = record {
+    by (Err reason) jobless h refused given left = let same : state_of after ≡ state_of c = λ i. record (state_of c) { unsaved = left i } in record {
       handed = tt;
       given = tt;
       shown = ap shown_tree same;
@@ -150,9 +150,6 @@ module _ (c : Core) (sound : IsSoundCore c) (from to : ℕ) (apart : from ≢ to
           core_sound (λ q a seen. record { was = a; held = wants_from from to apart leaves c.caches caches cached wants.2 q a seen; frag = inl refl }) (whole_wants from to apart leaves c.caches caches cached wants.2 valid other NoneEnds whole_first)
           (subst IsSound (sym same) sound.sound)) refused;
     }
-      where
-        same : state_of after ≡ state_of c
-        same = λ i. record (state_of c) { unsaved = left i }
 
 -- so of what is seen of the parts that are there
 pub called : (old view : Core) → view ≡ old → IsSoundCore old → (from to : ℕ) → from ≢ to → from < length old.caches.used → to < length old.caches.used → (leaves clean : List Leaf) → AreUncleanAt old.caches from leaves

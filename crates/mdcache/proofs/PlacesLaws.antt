@@ -116,14 +116,13 @@ module _ (c : CacheMap) where
 
   none_listed : AreCaches c → unclean_places c ≡ [] → (q : Leaf) → (o : Option At) → map.get c.held q ≡ o → unsaved_at o ≡ None
   none_listed valid none q None is = refl
-  none_listed valid none q (Some a) is = elim (unsaved_in (Some a.frag)) as (λ u. unsaved_in (Some a.frag) ≡ u → u ≡ None) [
-    | None ↦ λ clean. refl
-    | Some u ↦ λ dirty. absurd (from_some 0 c.used a.rank q (valid.placed a.rank q (ap is_some at))
-        (subst (λ n. is_some (unsaved_in (here c n q)) ≡ true) (let same : a.rank ≡ 0 + a.rank = omega arith in same) (ap (λ o. is_some (unsaved_in o)) at ∙ ap is_some dirty)) none)
-  ] refl
-    where
-      at : here c a.rank q ≡ Some a.frag
-      at = ap (at_rank a.rank) is ∙ ap (λ b. cond b (Some a.frag) None) (eq-eqb a.rank a.rank refl)
+  none_listed valid none q (Some a) is =
+      let at : here c a.rank q ≡ Some a.frag = ap (at_rank a.rank) is ∙ ap (λ b. cond b (Some a.frag) None) (eq-eqb a.rank a.rank refl) in
+      elim (unsaved_in (Some a.frag)) as (λ u. unsaved_in (Some a.frag) ≡ u → u ≡ None) [
+        | None ↦ λ clean. refl
+        | Some u ↦ λ dirty. absurd (from_some 0 c.used a.rank q (valid.placed a.rank q (ap is_some at))
+            (subst (λ n. is_some (unsaved_in (here c n q)) ≡ true) (let same : a.rank ≡ 0 + a.rank = omega arith in same) (ap (λ o. is_some (unsaved_in o)) at ∙ ap is_some dirty)) none)
+      ] refl
 
   pub nothing_listed : AreCaches c → (n : ℕ) → take (suc n) (unclean_places c) ≡ [] → unclean c ≡ map.empty
   nothing_listed valid n none = same_map leaf-total leaf-exact (unclean c) map.empty (λ q. get_unclean c q ∙ none_listed valid (nil_from_length (unclean_places c) (omega (arith, length-take (suc n) (unclean_places c), ap length none))) q (map.get c.held q) refl ∙ sym (get-empty _ q))

@@ -1,5 +1,5 @@
 -- A directory gets another cover: the state is sound then, and shows the same tree.
-use Rattle.mdcache.proofs.Common.{AreCached, AreYoung, At, Base, Bool, CacheMap, Comes, Contains, Dentry, Fragment, Fresh, HasLeaf, HasUnsaved, Ino, Inode, IsConcerned, IsCounted, IsLive, IsNewLeaf, IsOwned, IsRegrouped, IsSound, IsTable, IsTabled, IsTied, IsUnsaved, Job, Leaf, List, Mark, Marks, Names, None, Option, Some, State, Stored, Tree, Unsaved, [], ap, are_empty, arith, cond, dentry-exact, dentry-total, dentry_of, false, first_or_later, get-empty, get-patched, has_none, hash_of, holds, holds_contains, in_directory, inl, inode_or, inr, is_known, is_same, is_some, key_cmp, later, leaf_is, leaves_of, list_any, marked_as, names_at, object_of, one_leaf, one_or_other, or_whole, pick_from_leaf, refl, regrouped, same_Some, same_map, set_table, shown_at, shown_over, shown_tree, span, subst, suc, sym, text_of, tree_of_row, true, zero, ℕ, ⊎_elim, ◌%◌, ◌+◌, ◌/◌, ◌<◌, ◌^◌, ◌∙◌, ◌∷◌, ◌≡◌, ◌⊎◌}
+use Rattle.mdcache.proofs.Common.{AreCached, AreYoung, At, Base, Bool, CacheMap, Comes, Contains, Fragment, Fresh, HasLeaf, HasUnsaved, Ino, Inode, IsConcerned, IsCounted, IsLive, IsNewLeaf, IsOwned, IsRegrouped, IsSound, IsTable, IsTabled, IsTied, IsUnsaved, Job, Leaf, List, Mark, Marks, Names, None, Option, Some, State, Stored, Tree, Unsaved, [], ap, are_empty, arith, cond, dentry-exact, dentry-total, dentry_of, false, first_or_later, get-empty, get-patched, has_none, hash_of, holds, holds_contains, in_directory, inl, inode_or, inr, is_known, is_same, is_some, key_cmp, later, leaf_is, leaves_of, list_any, marked_as, names_at, object_of, one_leaf, one_or_other, or_whole, pick_from_leaf, refl, regrouped, same_Some, same_map, set_table, shown_at, shown_over, shown_tree, span, subst, suc, sym, text_of, tree_of_row, true, zero, ℕ, ⊎_elim, ◌%◌, ◌+◌, ◌/◌, ◌<◌, ◌^◌, ◌∙◌, ◌∷◌, ◌≡◌, ◌⊎◌}
 use Rattle.std.proofs.lemmas.Bool.{cond_both, false_from_ne_true, or_cases}
 use Rattle.std.specs.Prelude.{map as each}
 use Rattle.std.specs.FinMap as map
@@ -226,18 +226,17 @@ module _ (s : State) (sound : IsSound s) (dir : Ino) (gone cover : List Fragment
   -- ---- the tree
 
   tree_now : shown_tree n ≡ shown_tree s
-  tree_now = same_map dentry-total dentry-exact (shown_tree n) (shown_tree s) (λ q. ⊎_elim (stands q) (λ none. stands_nowhere n leaves_now q none ∙ sym (stands_nowhere s (sound_leaves s sound) q none)) (known_or_not s.homes q.dir.0))
-    where
-      stands : (q : Dentry) → is_known s.homes q.dir.0 ≡ true → map.get (shown_tree n) q ≡ map.get (shown_tree s) q
-      stands q known =
-          let p = pick_at n leaves_now q in
-          stands_at n leaves_now q p.0 known p.1 ∙ ⊎_elim
-          (λ came. came_names (q.dir, p.0) came.0 came.1 q.name
-          ∙ ap (λ (b : Bool). cond b (map.get (shown_tree s) (dentry_of dir.0 q.name)) None) (is_same ((hash_of q.name % 2 ^ 24) / span p.0.bits) (p.0.value / span p.0.bits) p.1.contains)
-          ∙ (λ i. map.get (shown_tree s) (record { dir = record { 0 = sym came.0 i }; name = q.name })))
-          (λ old. ap (λ (m : Names). map.get m q.name) (apart_names (q.dir, p.0) old.0)
-          ∙ sym (stands_at s (sound_leaves s sound) q p.0 known (pick_from_leaf (leaves_of s.covers q.dir.0) (hash_of q.name) p.0 (tree_of_row s.homes s.covers sound.table q.dir.0) old.1.stands p.1.contains)))
-          (live_which (q.dir, p.0) (record { known = known; stands = p.1.stands }))
+  tree_now = same_map dentry-total dentry-exact (shown_tree n) (shown_tree s) (λ q. ⊎_elim
+      (λ known.
+      let p = pick_at n leaves_now q in
+      stands_at n leaves_now q p.0 known p.1 ∙ ⊎_elim
+      (λ came. came_names (q.dir, p.0) came.0 came.1 q.name
+      ∙ ap (λ (b : Bool). cond b (map.get (shown_tree s) (dentry_of dir.0 q.name)) None) (is_same ((hash_of q.name % 2 ^ 24) / span p.0.bits) (p.0.value / span p.0.bits) p.1.contains)
+      ∙ (λ i. map.get (shown_tree s) (record { dir = record { 0 = sym came.0 i }; name = q.name })))
+      (λ old. ap (λ (m : Names). map.get m q.name) (apart_names (q.dir, p.0) old.0)
+      ∙ sym (stands_at s (sound_leaves s sound) q p.0 known (pick_from_leaf (leaves_of s.covers q.dir.0) (hash_of q.name) p.0 (tree_of_row s.homes s.covers sound.table q.dir.0) old.1.stands p.1.contains)))
+      (live_which (q.dir, p.0) (record { known = known; stands = p.1.stands })))
+      (λ none. stands_nowhere n leaves_now q none ∙ sym (stands_nowhere s (sound_leaves s sound) q none)) (known_or_not s.homes q.dir.0))
 
   pub regroup_right : KeepsTree s t dir gone
   regroup_right = subst (λ (u : State). KeepsTree s u dir gone) (sym r.left) (record {
