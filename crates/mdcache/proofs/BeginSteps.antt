@@ -1,5 +1,5 @@
 -- What the beginning of a commit leaves, done or not.
-use Rattle.mdcache.proofs.Common.{AreCached, AreYoung, Base, Begins, BeginsWith, Bool, Bor, Cached, Came, Core, Dirfrag, Err, HasCached, IsAtEnd, IsBelowEnd, IsFreeFor, IsJobOf, IsLive, IsOf, IsSnap, IsSound, IsSoundCore, IsThat, IsThere, Job, Leaf, Mark, NoInodes, NoMemory, None, NoneEnds, Ok, Omap, Option, Refusal, Result, Rooms, Some, State, Unsaved, ap, at, cond, counts_of, false, here, here_is, inl, inr, is_clean, is_some, job_for, object_of, option_copied, option_map, refl, same_Some, shown, shown_at, state_of, stays, subst, sym, tied_show, true, unsaved_in, used_at, used_core, used_unclean, uses, with_job, with_job_in, ℕ, ◌+◌, ◌∙◌, ◌≡◌}
+use Rattle.mdcache.proofs.Common.{AreCached, AreYoung, Base, Begins, BeginsWith, Bool, Bor, Cached, Came, Core, Dirfrag, Err, HasCached, IsAtEnd, IsBelowEnd, IsFreeFor, IsJobOf, IsLive, IsOf, IsSnap, IsSound, IsSoundCore, IsThat, IsThere, Job, Leaf, NoInodes, NoMemory, None, NoneEnds, Ok, Omap, Option, Refusal, Result, Rooms, Some, State, Unsaved, ap, at, cond, counts_of, false, here, here_is, inl, inr, is_clean, is_some, job_for, object_of, option_copied, option_map, refl, same_Some, shown, shown_at, state_of, stays, subst, sym, tied_show, true, unsaved_in, used_at, used_core, used_unclean, uses, with_job, with_job_in, ℕ, ◌+◌, ◌∙◌, ◌≡◌}
 use Rattle.std.proofs.lemmas.Bool.{cond_both}
 use Rattle.std.specs.FinMap as map
 use Rattle.mds_types.specs.Leaf.{leaf_of as leaf_at}
@@ -32,11 +32,6 @@ pub none_found : (o : Option (Bor Job)) (r : Option Job) (b : Bool) → option_c
 none_found None r b is told apart = sym is
 none_found (Some x) r b is told apart = let clash : true ≡ false = sym told ∙ apart in cc
 
--- a snapshot has the dirty names that it was taken of
-keeps_itself : (m : Option Mark) → KeepsAt m m
-keeps_itself None = tt
-keeps_itself (Some mark) = λ same. refl
-
 -- what a call leaves that begins a commit, or is refused
 pub record HasBegun (old new : Core) (a : Dirfrag) (result : Result (Option Job) Refusal) : Type 0 where
   pub begun : Begins (state_of old) (state_of new) (leaf_at a) result
@@ -53,13 +48,11 @@ module _ (c view : Core) (is : view ≡ c) (sound : IsSoundCore c) (a : Dirfrag)
   none : map.get s.jobs leaf ≡ None
   none = ap (λ (k : Core). map.get k.jobs leaf) (sym is) ∙ none_stands
 
-  -- of the fragment is told what isn't clean of its leaf
-  told_is : told (unsaved_in (here view.caches a.rank.0 leaf)) ≡ told (map.get s.unsaved leaf)
-  told_is = ap (λ (k : Core). told (unsaved_in (here k.caches a.rank.0 leaf))) is ∙ ap told (sym (unclean_here c.caches a.rank.0 leaf free))
-
   -- a clean fragment gives nothing
   pub begins_none : None ≡ told (unsaved_in (here view.caches a.rank.0 leaf)) → HasBegun c c a (Ok None)
-  begins_none clean = record { begun = (live, none, subst (λ (o : Option Unsaved). BeginsWith s s leaf o None) (sym (none_told (map.get s.unsaved leaf) (clean ∙ told_is))) (refl, refl)); came = stays; sound = sound }
+  begins_none clean =
+      let none_left = none_told (map.get s.unsaved leaf) (clean ∙ ap (λ (k : Core). told (unsaved_in (here k.caches a.rank.0 leaf))) is ∙ ap told (sym (unclean_here c.caches a.rank.0 leaf free))) in
+      record { begun = (live, none, subst (λ (o : Option Unsaved). BeginsWith s s leaf o None) (sym none_left) (refl, refl)); came = stays; sound = sound }
 
   module _ (base : Base) (generation : ℕ) (is_told : Some (base, generation) ≡ told (unsaved_in (here view.caches a.rank.0 leaf))) where
     its : (f : Cached) × (here c.caches a.rank.0 leaf ≡ Some f) × (is_clean f ≡ false) × (base ≡ f.base) × (generation ≡ f.generation)
@@ -125,7 +118,7 @@ module _ (c view : Core) (is : view ≡ c) (sound : IsSoundCore c) (a : Dirfrag)
 
         is_of : IsOf job u object
         is_of =
-            subst (λ (j : Job). IsOf j u object) (sym job_is) (record { valid = subst (λ (j : Job). IsSnap j.snapshot) job_is valid; base = refl; generation = refl; keeps = λ name. keeps_itself (map.get u.dirty name); counted = refl })
+            subst (λ (j : Job). IsOf j u object) (sym job_is) (record { valid = subst (λ (j : Job). IsSnap j.snapshot) job_is valid; base = refl; generation = refl; keeps = λ name. elim (map.get u.dirty name) as (λ m. KeepsAt m m) [ None ↦ tt | Some mark ↦ λ same. refl ]; counted = refl })
 
         pub begun_is : (new : Core) → new ≡ begun → HasBegun c new a (Ok (Some job))
         begun_is new is_begun = subst (λ (k : Core). HasBegun c k a (Ok (Some job))) (sym is_begun) (record {

@@ -1,10 +1,11 @@
 -- What a merge makes of the whole, once all was ready for it.
-use Rattle.mdcache.proofs.Common.{AreCached, At, Base, Bool, CacheMap, Came, CanMerge, Comes, Contains, Core, Dirfrag, Frag, Fragment, HasLeaf, HasUnsaved, Inode, IsAmongOr, IsConcerned, IsListedAnew, IsLive, IsMergeReady, IsMergedInto, IsNewLeaf, IsRegrouped, IsSound, IsSoundCore, IsTied, IsTree, KeepsNone, Keys, Leaf, List, Merge, None, NoneEnds, Option, ReadsCore, Some, State, Unsaved, ap, are_empty, arith, at, between, cond, dentry_of, ending_at, false, fresh_tied, get_left, get_removed, get_unclean, get_with_frag, has_none, hash_of, holds, in_directory, inl, inr, is_clean_over, is_known, leaf_is, leaf_itself, leaf_of, leaves_in, leaves_inside, leaves_of, list_all, list_any, marked_as, merged_in, merged_leaves, names_of, object_of, one_leaf, reads_came, reads_weaker, refl, same_Some, same_leaf, shown, shown_tree, state_of, subst, sym, text_of, texts_differ, tree_of_row, true, unclean, unsaved_at, with_frag, with_objects, without_leaves, ℕ, ⊎_elim, ◌+◌, ◌<◌, ◌∙◌, ◌≡◌}
+use Rattle.mdcache.proofs.Common.{AreCached, At, Base, Bool, CacheMap, Came, CanMerge, Comes, Contains, Core, Dirfrag, Frag, Fragment, HasLeaf, HasUnsaved, Inode, IsAmongOr, IsConcerned, IsListedAnew, IsLive, IsMergeReady, IsMergedInto, IsNewLeaf, IsRegrouped, IsSound, IsSoundCore, IsTied, IsTree, KeepsNone, Keys, Leaf, List, Merge, None, NoneEnds, Option, ReadsCore, Some, State, Unsaved, ap, are_empty, arith, at, between, cond, dentry_of, ending_at, false, fresh_tied, get_left, get_removed, get_with_frag, has_none, hash_of, holds, in_directory, inl, inr, is_clean_over, is_known, leaf_is, leaf_itself, leaf_of, leaves_in, leaves_inside, leaves_of, list_all, list_any, marked_as, merged_in, merged_leaves, names_of, object_of, one_leaf, reads_came, reads_weaker, refl, same_Some, same_leaf, shown, shown_tree, state_of, subst, sym, text_of, texts_differ, tree_of_row, true, unclean, unclean_with, unsaved_of, with_frag, with_objects, without_leaves, ℕ, ⊎_elim, ◌+◌, ◌<◌, ◌∙◌, ◌≡◌}
 use Rattle.std.proofs.lemmas.Bool.{false_from_ne_true, true_from_ne_false}
 use Rattle.std.specs.Cmp.{both_ways}
 use Rattle.std.specs.Prelude.{map as each}
 use Rattle.std.specs.FinMap as map
 use Rattle.dentry_cache.specs.Came.Came.{has as arrives}
+use Rattle.dentry_cache.proofs.CacheLaws.{unsaved_here as unsaved_here_at}
 use Rattle.mdcache.specs.Splits.{KeepsTree}
 use Rattle.mdcache.proofs.ChangeSteps.{ends_came_so, still_held, unclean_ended}
 use Rattle.mdcache.proofs.CoreLaws.{reads_cached_so, reads_state}
@@ -143,10 +144,8 @@ module _ (old mid : Core) (sound : IsSoundCore old) (a : Dirfrag) (merge : Merge
   get_now : (q : Leaf) → map.get (unclean made.caches) q ≡ cond (list_any (leaf_is q) ending) None (cond (leaf_is q leaf) (Some beyond) (map.get (unclean mid.caches) q))
   get_now q =
       ap (λ u. map.get u q) (unclean_ended filled (leaves_in a.dir merge.plan.leaves.items) ∙ ap (without_leaves (unclean filled)) ready.planned.leaves) ∙ get_without (unclean filled) ending q
-      ∙ ap (cond (list_any (leaf_is q) ending) None) (get_unclean filled q ∙ ap unsaved_at (get_with_frag mid.caches a.rank.0 leaf merge.joined q) ∙ elim (leaf_is q leaf) as (λ b. unsaved_at (cond b (Some (at a.rank.0 merge.joined)) (map.get mid.caches.held q)) ≡ cond b (Some beyond) (map.get (unclean mid.caches) q)) [
-        | true ↦ ap (λ (b : Bool). cond b None (Some beyond)) (ap (λ (b : Base). is_clean_over b merge.joined.dirty) ready.joined.fresh)
-        | false ↦ sym (get_unclean mid.caches q)
-      ])
+      ∙ ap (cond (list_any (leaf_is q) ending) None) (ap (λ u. map.get u q) (unclean_with mid.caches a.rank.0 leaf merge.joined) ∙ unsaved_here_at (unclean mid.caches) leaf q (unsaved_of merge.joined)
+      ∙ ap (λ (b : Base). cond (leaf_is q leaf) (cond (is_clean_over b merge.joined.dirty) None (Some beyond)) (map.get (unclean mid.caches) q)) ready.joined.fresh)
 
   -- of a leaf that doesn't end
   get_still : (q : Leaf) (y : Bool) → (q.0.0 ≡ a.dir.0 → HasLeaf gone q.1 → ⊥) → leaf_is q leaf ≡ y → map.get (unclean made.caches) q ≡ cond y (Some beyond) (map.get (unclean mid.caches) q)
@@ -164,13 +163,6 @@ module _ (old mid : Core) (sound : IsSoundCore old) (a : Dirfrag) (merge : Merge
   abbrev on : Keys
   on = with_objects s.purge (each text_of ending)
 
-  other_text : (g : Fragment) → HasLeaf gone g → text_of (a.dir, g) ≡ text_of (a.dir, a.frag) → ⊥
-  other_text g has same =
-      let small = still.0.numbered a.dir.0 still.1 in
-      let names : Frag a.dir g ≡ Frag a.dir a.frag = texts_differ (Frag a.dir g) (Frag a.dir a.frag) (small, (between 0 16777216 row g tree.tiles (has_inside a.frag g row has).0).0) (small, (between 0 16777216 merge.plan.cover a.frag ready.planned.whole.tiles comes.0).0) same in
-      let one : g ≡ a.frag = cc in
-      not_gone (subst (HasLeaf gone) one has)
-
   -- ---- all of it
 
   is_regrouped : IsRegrouped s t a.dir gone merge.plan.cover 1
@@ -187,7 +179,11 @@ module _ (old mid : Core) (sound : IsSoundCore old) (a : Dirfrag) (merge : Merge
     ended = λ g has. get_now (a.dir, g) ∙ ap (λ (b : Bool). cond b None (cond (leaf_is (a.dir, g) leaf) (Some beyond) (map.get (unclean mid.caches) (a.dir, g)))) (among a.dir.0 (a.dir, g) gone refl has);
     others = λ q apart. get_still q false (λ same has. apart same (inl has)) (apart_it q apart);
     listed = subst (λ (names : Keys). IsListedAnew s.purge names a.dir gone (Comes row merge.plan.cover)) (λ i. map.remove (with_objects s.purge (sym ready.planned.texts i)) (sym ready.planned.object i)) (record {
-      ended = λ g has. get_left on (text_of (a.dir, a.frag)) (text_of (a.dir, g)) (other_text g has) ∙ texts_on s.purge a.dir gone g has;
+      ended = λ g has. get_left on (text_of (a.dir, a.frag)) (text_of (a.dir, g)) (λ same.
+          let small = still.0.numbered a.dir.0 still.1 in
+          let names : Frag a.dir g ≡ Frag a.dir a.frag = texts_differ (Frag a.dir g) (Frag a.dir a.frag) (small, (between 0 16777216 row g tree.tiles (has_inside a.frag g row has).0).0) (small, (between 0 16777216 merge.plan.cover a.frag ready.planned.whole.tiles comes.0).0) same in
+          let one : g ≡ a.frag = cc in
+          not_gone (subst (HasLeaf gone) one has)) ∙ texts_on s.purge a.dir gone g has;
       came = λ g came. ap (λ (h : Fragment). map.get (map.remove on (text_of (a.dir, a.frag))) (text_of (a.dir, h))) (is_it g came) ∙ get_removed on (text_of (a.dir, a.frag));
       others = λ name none. get_left on (text_of (a.dir, a.frag)) name (none a.frag (inr comes)) ∙ beside_on s.purge a.dir gone name (λ g has. none g (inl has));
     });
