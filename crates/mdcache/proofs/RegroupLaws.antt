@@ -119,15 +119,13 @@ module _ (s : State) (sound : IsSound s) (dir : Ino) (gone cover : List Fragment
 
   -- a leaf of the cover came, or isn't concerned
   live_which : (leaf : Leaf) → IsLive n.homes n.covers leaf → ((leaf.0.0 ≡ dir.0) × Comes row cover leaf.1) ⊎ (Apart leaf × IsLive s.homes s.covers leaf)
-  live_which leaf live = ⊎_elim (λ ended. absurd ((cut.stood leaf.1 ended.1).1 (in_cover leaf ended.0 live))) (⊎_elim (λ came. inl came) (λ apart. inr (
-    apart,
-    record {
-      known = live.known;
-      stands = ⊎_elim
-          (λ same. ⊎_elim (subst (λ (d : ℕ). HasLeaf (leaves_of s.covers d) leaf.1) (sym same)) (λ fresh. absurd (apart same (inr (in_cover leaf same live, fresh)))) (has_or_not row leaf.1))
-          (λ other. subst (λ (fs : List Fragment). HasLeaf fs leaf.1) (cover_on leaf.0.0 other) live.stands) (same_number leaf.0.0 dir.0);
-    },
-  ))) (which leaf)
+  live_which leaf live = ⊎_elim (λ same. ⊎_elim
+      (λ old. inr (
+        (λ here concerned. ⊎_elim (λ ended. (cut.stood leaf.1 ended).1 (in_cover leaf same live)) (λ came. came.1 old) concerned),
+        record { known = live.known; stands = subst (λ (d : ℕ). HasLeaf (leaves_of s.covers d) leaf.1) (sym same) old },
+      ))
+      (λ fresh. inl (same, (in_cover leaf same live, fresh))) (has_or_not row leaf.1))
+      (λ other. inr ((λ same concerned. other same), record { known = live.known; stands = subst (λ (fs : List Fragment). HasLeaf fs leaf.1) (cover_on leaf.0.0 other) live.stands })) (same_number leaf.0.0 dir.0)
 
   -- ---- names
 

@@ -1,5 +1,5 @@
 -- Splits and merges are right: each of them gives a directory another cover.
-use Rattle.mdcache.proofs.Common.{Bool, Fragment, HasLeaf, IsMerge, IsSplit, List, MergesAreRight, SplitsAreRight, [], ap, arith, cond, false, first_or_later, inl, inr, later, leaves_inside, leaves_of, lies_inside, nat_tests, one_or_other, subst, suc, sym, true, zero, ℕ, ⊎_elim, ◌+◌, ◌^◌, ◌∙◌, ◌∷◌, ◌≡◌, ◌≤◌, ◌⊎◌}
+use Rattle.mdcache.proofs.Common.{Bool, Fragment, HasLeaf, IsMerge, IsSplit, List, MergesAreRight, SplitsAreRight, [], ap, arith, cond, false, first_or_later, inl, inr, later, leaves_inside, leaves_of, lies_inside, nat_tests, one_or_other, subst, suc, sym, true, zero, ℕ, ⊎_elim, ◌+◌, ◌^◌, ◌∙◌, ◌∷◌, ◌≡◌, ◌≤◌}
 use Rattle.std.proofs.lemmas.Bool.{cases_Bool}
 use Rattle.std.proofs.lemmas.List.Elements.{All-contains, All-contains_itself, All-filter, filter_passes}
 use Rattle.mdcache.proofs.RegroupLaws.{Replaces, regroup_right}
