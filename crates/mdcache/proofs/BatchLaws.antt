@@ -65,7 +65,8 @@ may_hold_on old new came rank leaf may = record {
   there = (let count : length new.used ≡ length old.used = came_ranks (HasFragment old) NoneEnds old new came in let there = may.there in omega (arith, count, there));
   alone = elim (map.get new.held leaf) as (λ o. map.get new.held leaf ≡ o → IsFree rank.0 o) [
     | None ↦ λ none. tt
-    | Some a ↦ λ is. ⊎_elim (λ same. subst (IsFree rank.0) same may.alone) (λ there. let w = there_at a.rank (map.get old.held leaf) there in sym w.2 ∙ subst (IsFree rank.0) w.1 may.alone) (came_held (HasFragment old) NoneEnds old new came leaf a is)
+    | Some a ↦ λ is. ⊎_elim (λ same. subst (IsFree rank.0) same may.alone)
+        (λ there. let w = there_at a.rank (map.get old.held leaf) there in sym w.2 ∙ subst (IsFree rank.0) w.1 may.alone) (came_held (HasFragment old) NoneEnds old new came leaf a is)
   ] refl;
 }
 
@@ -103,7 +104,8 @@ pub record BeginsFirst (old now : Core) (leaves : List Dirfrag) (i : ℕ) (done 
   pub faults : now.faults ≡ old.faults
   pub sound : IsSoundCore now
 
-module _ (old now : Core) (leaves : List Dirfrag) (i : ℕ) (at : Dirfrag) (within : i < length leaves) (is : at ≡ get_or leaves i at) (done : List Begun) (so_far : BeginsFirst old now leaves i done) (all_apart : AreApart (leaves_at leaves)) where
+module _ (old now : Core) (leaves : List Dirfrag) (i : ℕ) (at : Dirfrag) (within : i < length leaves) (is : at ≡ get_or leaves i at) (done : List Begun)
+    (so_far : BeginsFirst old now leaves i done) (all_apart : AreApart (leaves_at leaves)) where
   abbrev behind : List Dirfrag
   behind = drop (i + 1) leaves
 

@@ -118,7 +118,8 @@ module _ (c view : Core) (is : view ≡ c) (sound : IsSoundCore c) (a : Dirfrag)
 
         is_of : IsOf job u object
         is_of =
-            subst (λ (j : Job). IsOf j u object) (sym job_is) (record { valid = subst (λ (j : Job). IsSnap j.snapshot) job_is valid; base = refl; generation = refl; keeps = λ name. elim (map.get u.dirty name) as (λ m. KeepsAt m m) [ None ↦ tt | Some mark ↦ λ same. refl ]; counted = refl })
+            subst (λ (j : Job). IsOf j u object) (sym job_is)
+            (record { valid = subst (λ (j : Job). IsSnap j.snapshot) job_is valid; base = refl; generation = refl; keeps = λ name. elim (map.get u.dirty name) as (λ m. KeepsAt m m) [ None ↦ tt | Some mark ↦ λ same. refl ]; counted = refl })
 
         pub begun_is : (new : Core) → new ≡ begun → HasBegun c new a (Ok (Some job))
         begun_is new is_begun = subst (λ (k : Core). HasBegun c k a (Ok (Some job))) (sym is_begun) (record {

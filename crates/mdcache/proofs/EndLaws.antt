@@ -44,7 +44,10 @@ unclean_here c r leaf free = get_unclean c leaf ∙ elim (map.get c.held leaf) a
 
 -- so the fragment of a leaf that isn't clean is there
 pub unclean_is_there : (c : CacheMap) (r : ℕ) (leaf : Leaf) → IsFreeFor c r leaf → is_some (map.get (unclean c) leaf) ≡ true → IsThere (here_of c r leaf)
-unclean_is_there c r leaf free dirty = elim (here_of c r leaf) as (λ o. is_some (unsaved_in o) ≡ true → IsThere o) [ None ↦ λ none. let clash : false ≡ true = none in absurd cc | Some f ↦ λ some. tt ] (ap is_some (sym (unclean_here c r leaf free)) ∙ dirty)
+unclean_is_there c r leaf free dirty = elim (here_of c r leaf) as (λ o. is_some (unsaved_in o) ≡ true → IsThere o) [
+  | None ↦ λ none. let clash : false ≡ true = none in absurd cc
+  | Some f ↦ λ some. tt
+] (ap is_some (sym (unclean_here c r leaf free)) ∙ dirty)
 
 -- ---- a commit ended
 
@@ -153,7 +156,8 @@ module _ (c : Core) (r : ℕ) (job : Job) (kept : IsSoundCore c) (stood : map.ge
     counted = subst (λ tree. IsCounted tree s.counts s.pins) (sym tree_stays) kept.sound.counted;
     placed = λ q name inode is has. kept.sound.placed q name inode is (ap (λ (n : Names). map.get n name) (sym (shows q is)) ∙ has);
     unsaved = λ q v is.
-        let young : AreYoung (unsettled u.dirty job.snapshot.names) s.next_version = λ name mark is. (cond_both (not (is_settled (map.get u.dirty name) (map.get job.snapshot.names name))) (map.get u.dirty name) None (λ o. o ≡ Some mark → mark.version < s.next_version)
+        let young : AreYoung (unsettled u.dirty job.snapshot.names) s.next_version = λ name mark is.
+        (cond_both (not (is_settled (map.get u.dirty name) (map.get job.snapshot.names name))) (map.get u.dirty name) None (λ o. o ≡ Some mark → mark.version < s.next_version)
         (λ apart. (kept.sound.unsaved leaf u stands.beside).young name mark) (λ settled h. let clash : None ≡ Some mark = h in absurd cc) (sym (get-unsettled u.dirty job.snapshot.names name) ∙ is)) in
         ⊎_elim
         (λ same. subst (λ (l : Leaf). IsUnsaved t l v) (sym same) (subst (IsUnsaved t leaf)

@@ -15,7 +15,8 @@ module _ (old : State) (unsaved : UnsavedLeaves) (leaves : List Leaf) (sound : I
   was : (leaf : Leaf) → (map.get unsaved leaf ≡ map.get old.unsaved leaf) ⊎ ((v : Unsaved) × (map.get old.unsaved leaf ≡ Some v) × (map.get unsaved leaf ≡ Some (record v { generation = 0 })))
   was leaf = cond_both (list_any (leaf_is leaf) leaves) (option_map (λ (v : Unsaved). record v { generation = 0 }) (map.get old.unsaved leaf)) (map.get old.unsaved leaf)
       (λ o. map.get unsaved leaf ≡ o → (map.get unsaved leaf ≡ map.get old.unsaved leaf) ⊎ ((v : Unsaved) × (map.get old.unsaved leaf ≡ Some v) × (map.get unsaved leaf ≡ Some (record v { generation = 0 }))))
-      (λ among. elim (map.get old.unsaved leaf) as (λ o. map.get unsaved leaf ≡ option_map (λ (v : Unsaved). record v { generation = 0 }) o → (map.get unsaved leaf ≡ o) ⊎ ((v : Unsaved) × (o ≡ Some v) × (map.get unsaved leaf ≡ Some (record v { generation = 0 })))) [
+      (λ among. elim (map.get old.unsaved leaf) as (λ o. map.get unsaved leaf ≡ option_map (λ (v : Unsaved). record v { generation = 0 }) o
+      → (map.get unsaved leaf ≡ o) ⊎ ((v : Unsaved) × (o ≡ Some v) × (map.get unsaved leaf ≡ Some (record v { generation = 0 })))) [
         | None ↦ λ is. inl is
         | Some v ↦ λ is. inr (v, refl, is)
       ]) (λ apart is. inl is) (given leaf)
@@ -46,7 +47,8 @@ module _ (old : State) (unsaved : UnsavedLeaves) (leaves : List Leaf) (sound : I
     standing = λ leaf job is.
         let s = sound.standing leaf job is in
         let apart = false_from_ne_true (list_any (leaf_is leaf) leaves) (λ among. let clash : None ≡ Some job = sym (all_of (λ (l : Leaf). map.get old.jobs l ≡ None) leaf leaves jobless among) ∙ is in cc) in
-        record { mine = s.mine; given = s.given; young = s.young; unsaved = s.unsaved; beside = given leaf ∙ ap (λ b. cond b (option_map (λ (v : Unsaved). record v { generation = 0 }) (map.get old.unsaved leaf)) (map.get old.unsaved leaf)) apart ∙ s.beside; taken = s.taken };
+        let same = given leaf ∙ ap (λ b. cond b (option_map (λ (v : Unsaved). record v { generation = 0 }) (map.get old.unsaved leaf)) (map.get old.unsaved leaf)) apart in
+        record { mine = s.mine; given = s.given; young = s.young; unsaved = s.unsaved; beside = same ∙ s.beside; taken = s.taken };
     once = sound.once;
   }
 
@@ -157,5 +159,6 @@ pub called : (old view : Core) → view ≡ old → IsSoundCore old → (from to
     → IfErr res (MayNotHandOver to leaves view.caches caches) → (AreCleanAt view.caches from clean → OnOk res (AreHanded leaves (unclean view.caches) (unclean caches))) → OnErr res (unclean caches ≡ unclean view.caches)
     → IsHandedOver from to leaves clean res old (record view { caches = caches })
 called old view is sound from to apart there other leaves clean cached saved jobless caches valid res handed refused unsaved left =
-    subst (λ (k : Core). IsSoundCore k → from < length k.caches.used → to < length k.caches.used → AreUncleanAt k.caches from leaves → AreCleanAt k.caches from clean → HaveNoJobs k.jobs leaves → IsHandedOver from to leaves clean res k (record view { caches = caches })) is
+    subst (λ (k : Core). IsSoundCore k → from < length k.caches.used → to < length k.caches.used → AreUncleanAt k.caches from leaves → AreCleanAt k.caches from clean → HaveNoJobs k.jobs leaves
+    → IsHandedOver from to leaves clean res k (record view { caches = caches })) is
     (λ sound there other cached saved jobless. by view sound from to apart there other leaves clean cached caches valid res jobless handed refused (unsaved saved) left) sound there other cached saved jobless

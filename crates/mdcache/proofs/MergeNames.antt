@@ -70,7 +70,9 @@ module _ (s : State) (sound : IsSound s) (dir : Ino) (known : is_known s.homes d
     mark = marked_as version found None
 
     stays : (fs : List Fragment) → ((f : Fragment) → HasLeaf fs f → HasLeaf row f) → joined fs mark ≡ mark
-    stays fs within = joined_same fs mark (λ f has. ⊎_elim (λ is. ap (λ (o : Option Inode). marked_as version o mark) is ∙ elim found as (λ o. marked_as version o (marked_as version o None) ≡ marked_as version o None) [ None ↦ refl | Some inode ↦ refl ]) (λ none. ap (λ (o : Option Inode). marked_as version o mark) none) (its f (within f has)))
+    stays fs within = joined_same fs mark (λ f has. ⊎_elim (λ is. ap (λ (o : Option Inode). marked_as version o mark) is
+        ∙ elim found as (λ o. marked_as version o (marked_as version o None) ≡ marked_as version o None) [ None ↦ refl | Some inode ↦ refl ])
+        (λ none. ap (λ (o : Option Inode). marked_as version o mark) none) (its f (within f has)))
 
     comes : (fs : List Fragment) → ((f : Fragment) → HasLeaf fs f → HasLeaf row f) → HasLeaf fs pick.0 → joined fs None ≡ mark
     comes [] within has = let none = has.1 in absurd (omega (arith, none))
@@ -93,4 +95,5 @@ module _ (s : State) (sound : IsSound s) (dir : Ino) (known : is_known s.homes d
 
       pub joined_is : joined gone None ≡ marked_as version (cond (holds frag (hash_of name)) found None) None
       joined_is = cond_both (holds frag (hash_of name)) found None (λ o. joined gone None ≡ marked_as version o None) (λ has. comes gone within (inside_has frag pick.0 row pick.1.stands (told ∙ has)))
-          (λ out. joined_same gone None (λ f has. ap (λ (o : Option Inode). marked_as version o None) (none_beside f (within f has) (λ same. let clash : true ≡ false = sym (has_inside frag f row has).1 ∙ ap (lies_inside frag) same ∙ told ∙ out in cc))))
+          (λ out. joined_same gone None (λ f has. ap (λ (o : Option Inode). marked_as version o None) (none_beside f (within f has) (λ same.
+          let clash : true ≡ false = sym (has_inside frag f row has).1 ∙ ap (lies_inside frag) same ∙ told ∙ out in cc))))

@@ -109,13 +109,17 @@ module _ (old mid : Core) (sound : IsSoundCore old) (a : Dirfrag) (merge : Merge
       let both = has_inside a.frag f row has in
       let pick = still.0.placed (a.dir, f) name inode (record { known = still.1; stands = both.0 }) is in
       let tree_has : map.get (shown_tree s) (dentry_of a.dir.0 name) ≡ Some inode = stands_at s (sound_leaves s still.0) (dentry_of a.dir.0 name) f still.1 pick ∙ is in
-      shown_is name ∙ ap (λ (b : Bool). cond b (map.get (shown_tree s) (dentry_of a.dir.0 name)) None) (sym (pick_inside row merge.plan.cover a.frag tree ready.planned.whole still.2 ready.planned.cover (hash_of name) f pick) ∙ both.1) ∙ tree_has
+      shown_is name
+      ∙ ap (λ (b : Bool). cond b (map.get (shown_tree s) (dentry_of a.dir.0 name)) None) (sym (pick_inside row merge.plan.cover a.frag tree ready.planned.whole still.2 ready.planned.cover (hash_of name) f pick) ∙ both.1) ∙ tree_has
 
   comes_from : (name : List ℕ) (inode : Inode) → map.get (shown merge.joined) name ≡ Some inode → (f : Fragment) × HasLeaf gone f × (map.get (names_of s.unsaved s.objects (a.dir, f)) name ≡ Some inode)
   comes_from name inode is =
       let found = holds_or_none (holds a.frag (hash_of name)) (map.get (shown_tree s) (dentry_of a.dir.0 name)) inode (sym (shown_is name) ∙ is) in
-      let p = pick_at s (sound_leaves s still.0) (dentry_of a.dir.0 name) in
-      (p.0, inside_has a.frag p.0 row p.1.stands (pick_inside row merge.plan.cover a.frag tree ready.planned.whole still.2 ready.planned.cover (hash_of name) p.0 p.1 ∙ found.0), sym (stands_at s (sound_leaves s still.0) (dentry_of a.dir.0 name) p.0 still.1 p.1) ∙ found.1)
+      let p = pick_at s (sound_leaves s still.0) (dentry_of a.dir.0 name) in (
+        p.0,
+        inside_has a.frag p.0 row p.1.stands (pick_inside row merge.plan.cover a.frag tree ready.planned.whole still.2 ready.planned.cover (hash_of name) p.0 p.1 ∙ found.0),
+        sym (stands_at s (sound_leaves s still.0) (dentry_of a.dir.0 name) p.0 still.1 p.1) ∙ found.1,
+      )
 
   abbrev is_empty : Fragment → Bool
   is_empty f = has_none (names_of s.unsaved s.objects (a.dir, f))
@@ -198,7 +202,9 @@ module _ (old mid : Core) (sound : IsSoundCore old) (a : Dirfrag) (merge : Merge
   -- ---- what is cached
 
   filled_at : (q : Leaf) (y : Bool) (b : At) → leaf_is q leaf ≡ y → map.get made.caches.held q ≡ Some b → cond y (Some (at a.rank.0 merge.joined)) (map.get mid.caches.held q) ≡ Some b
-  filled_at q y b same is = ap (λ (y : Bool). cond y (Some (at a.rank.0 merge.joined)) (map.get mid.caches.held q)) (sym same) ∙ sym (get_with_frag mid.caches a.rank.0 leaf merge.joined q) ∙ (still_held filled (leaves_in a.dir merge.plan.leaves.items) q b is).1
+  filled_at q y b same is =
+      ap (λ (y : Bool). cond y (Some (at a.rank.0 merge.joined)) (map.get mid.caches.held q)) (sym same) ∙ sym (get_with_frag mid.caches a.rank.0 leaf merge.joined q)
+      ∙ (still_held filled (leaves_in a.dir merge.plan.leaves.items) q b is).1
 
   -- ---- of what was before
 

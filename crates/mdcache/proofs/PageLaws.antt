@@ -158,7 +158,8 @@ module _ (name : List ℕ) (inode : Inode) (rows : List Row) (more : Bool) (most
         takes_by rows true (sym all ∙ sym (put_beyond key_cmp most name inode rows (ap length all ∙ full) (subst (λ xs. IsGap key_cmp name xs most) (sym all) (subst (λ n. IsGap key_cmp name rows n) last here)))) (grind (arith, nat_tests))
 
     -- within the page
-    pub placed_takes : (new : List Row) (row : Row) (n : ℕ) → row ≡ (name, inode) → n ≡ most → new ≡ take n (insert rows at row) → (over : Bool) → over ≡ nat_lt n (length (insert rows at row)) → (gone : Bool) → over ≡ gone → TakesWith new (cond gone true more)
+    pub placed_takes : (new : List Row) (row : Row) (n : ℕ) → row ≡ (name, inode) → n ≡ most → new ≡ take n (insert rows at row) → (over : Bool)
+        → over ≡ nat_lt n (length (insert rows at row)) → (gone : Bool) → over ≡ gone → TakesWith new (cond gone true more)
     placed_takes new row n copied bound is over told gone same =
         let put : insert rows at row ≡ with_row = ap (insert rows at) copied ∙ sym put_is in
         takes_by new gone (is ∙ (λ i. take (bound i) (put i))) ((λ i. nat_lt (sym bound i) (length (sym put i))) ∙ sym told ∙ same)

@@ -43,7 +43,9 @@ module _ (c : CacheMap) where
   among_all : (r : ℕ) → r < length c.used → (leaves : List Leaf) → AllByRecursion (λ (a : Dirfrag). IsUncleanAt c a × (a.rank.0 ≡ r)) (unclean_among c r leaves)
   among_all r within [] = tt
   among_all r within (q ∷ leaves) = cond_both (is_some (unsaved_in (here c r q))) (place_at r q ∷ unclean_among c r leaves) (unclean_among c r leaves) (AllByRecursion (λ (a : Dirfrag). IsUncleanAt c a × (a.rank.0 ≡ r)))
-      (λ dirty. let w = free_there r (map.get c.held q) dirty in ((record { holds = record { there = within; alone = w.0 }; dirty = ap is_some (get_unclean c q) ∙ w.1 }, refl), among_all r within leaves)) (λ clean. among_all r within leaves)
+      (λ dirty.
+      let w = free_there r (map.get c.held q) dirty in
+      ((record { holds = record { there = within; alone = w.0 }; dirty = ap is_some (get_unclean c q) ∙ w.1 }, refl), among_all r within leaves)) (λ clean. among_all r within leaves)
 
   from_all : (r : ℕ) (used : List (List Leaf)) → r + length used ≤ length c.used → AllByRecursion (λ (a : Dirfrag). IsUncleanAt c a × (r ≤ a.rank.0)) (unclean_from c r used)
   from_all r [] within = tt
@@ -125,4 +127,6 @@ module _ (c : CacheMap) where
       ] refl
 
   pub nothing_listed : AreCaches c → (n : ℕ) → take (suc n) (unclean_places c) ≡ [] → unclean c ≡ map.empty
-  nothing_listed valid n none = same_map leaf-total leaf-exact (unclean c) map.empty (λ q. get_unclean c q ∙ none_listed valid (nil_from_length (unclean_places c) (omega (arith, length-take (suc n) (unclean_places c), ap length none))) q (map.get c.held q) refl ∙ sym (get-empty _ q))
+  nothing_listed valid n none =
+      let all : unclean_places c ≡ [] = nil_from_length (unclean_places c) (omega (arith, length-take (suc n) (unclean_places c), ap length none)) in
+      same_map leaf-total leaf-exact (unclean c) map.empty (λ q. get_unclean c q ∙ none_listed valid all q (map.get c.held q) refl ∙ sym (get-empty _ q))

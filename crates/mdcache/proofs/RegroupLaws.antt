@@ -172,7 +172,8 @@ module _ (s : State) (sound : IsSound s) (dir : Ino) (gone cover : List Fragment
   owned_now name (inr (inl d)) = inr (inl (d.0, row_stays s.covers dir.0 cover d.0.0 d.1, d.2))
   owned_now name (inr (inr listed)) = ⊎_elim (λ stands. inl ((dir, stands.0), came_live (dir, stands.0) refl stands.1, stands.2))
       (λ none. inr (inr (⊎_elim (λ ended. ap is_some (ap (map.get r.purge) ended.2 ∙ r.listed.ended ended.0 ended.1))
-      (λ other. ap is_some (r.listed.others name (λ f concerned same. ⊎_elim (λ ended. other f ended same) (λ came. none f came.0 same) concerned)) ∙ listed) (some_or_none (λ f. name ≡ text_of (dir, f)) (λ f. key_or_apart name (text_of (dir, f))) gone)))) (some_or_none (λ f. name ≡ text_of (dir, f)) (λ f. key_or_apart name (text_of (dir, f))) cover)
+      (λ other. ap is_some (r.listed.others name (λ f concerned same. ⊎_elim (λ ended. other f ended same) (λ came. none f came.0 same) concerned)) ∙ listed)
+      (some_or_none (λ f. name ≡ text_of (dir, f)) (λ f. key_or_apart name (text_of (dir, f))) gone)))) (some_or_none (λ f. name ≡ text_of (dir, f)) (λ f. key_or_apart name (text_of (dir, f))) cover)
 
   -- what stood isn't concerned where it didn't end
   apart_from_gone : (leaf : Leaf) → IsLive s.homes s.covers leaf → (leaf.0.0 ≡ dir.0 → HasLeaf gone leaf.1 → ⊥) → Apart leaf

@@ -73,7 +73,8 @@ module _ (old mid view : Core) (is : view ≡ mid) (a : Dirfrag) (nb : ℕ) (som
 
   pub children_refused : mid.faults ≡ old.faults → (reason : Refusal) → MayNotKeepAll (2 ^ nb) view.caches a.rank.0 reason → MayNotFind (LacksPlacesIn (2 ^ nb + 1) old.caches a.rank.0) old.faults view.faults reason
   children_refused same reason refused =
-      not_found_before (IsThat a.rank.0 (leaf_of a)) NoneEnds old mid reads (2 ^ nb + 1) a.rank.0 view.faults reason same (subst (λ (k : Core). MayNotFind (LacksPlacesIn (2 ^ nb + 1) k.caches a.rank.0) k.faults view.faults reason) is (⊎_elim (λ memory. inl memory) (λ full.
+      not_found_before (IsThat a.rank.0 (leaf_of a)) NoneEnds old mid reads (2 ^ nb + 1) a.rank.0 view.faults reason same
+      (subst (λ (k : Core). MayNotFind (LacksPlacesIn (2 ^ nb + 1) k.caches a.rank.0) k.faults view.faults reason) is (⊎_elim (λ memory. inl memory) (λ full.
       let lacks = full.1 in
       let kept : length (kept_at view.caches a.rank.0) ≡ 0 = none_kept_at view.caches a.rank.0 (none a.rank.0) in
       let few : length (unclean_at view.caches a.rank.0) ≤ map.len (unclean_of view.caches a.rank.0) = unclean_few view.caches a.rank.0 (subst (λ (k : Core). IsDistinct leaf_is (order k.caches a.rank.0)) (sym is) fetched_distinct) in

@@ -21,8 +21,11 @@ ready_split-requires-clause-absent g c = children_absent c.args.self.now c.fetch
 
 pub returns : goal.returns
 returns g c =
-    let its = children c.args.self.now c.fetch.new.self _ c.self.view_is c.args.at.now c.args.nb c.requires.some c.fetch.ensures.reads c.fetch.ensures.none c.requires.may.there c.requires.absent c.fetch.ensures.valid c.requires.none c.ready_split.new.self c.ready_split.ensures.reads c.ready_split.ensures.stays in
-    let refused = if_err _ _ c.ready_split.result (children_refused c.args.self.now c.fetch.new.self _ c.self.view_is c.args.at.now c.args.nb c.requires.some c.fetch.ensures.reads c.fetch.ensures.none c.requires.may.there c.requires.absent c.fetch.ensures.valid c.requires.none (search rules)) c.ready_split.ensures.refused in
+    let its = children c.args.self.now c.fetch.new.self _ c.self.view_is c.args.at.now c.args.nb c.requires.some c.fetch.ensures.reads c.fetch.ensures.none c.requires.may.there c.requires.absent c.fetch.ensures.valid c.requires.none
+    c.ready_split.new.self c.ready_split.ensures.reads c.ready_split.ensures.stays in
+    let refused = if_err _ _ c.ready_split.result
+    (children_refused c.args.self.now c.fetch.new.self _ c.self.view_is c.args.at.now c.args.nb c.requires.some c.fetch.ensures.reads c.fetch.ensures.none
+    c.requires.may.there c.requires.absent c.fetch.ensures.valid c.requires.none (search rules)) c.ready_split.ensures.refused in
     let only = ok_so c.ready_split.result its.2 in
     let none = on_err_weaker c.ready_split.result its.3 c.ready_split.ensures.left in
     record { ready = search rules; numbered = search rules; kept = search rules; only = only; none = none; reads = its.0; absent = search rules; distinct = its.1; refused = refused; counted = search rules }
