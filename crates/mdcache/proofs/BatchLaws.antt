@@ -1,69 +1,61 @@
 -- Commits of whole fragments, several at once.
-use Rattle.mdcache.proofs.Common.{AllByRecursion, AreApart, At, Begins, BeginsWith, Begun, CacheMap, Came, Core, Dirfrag, Ends, Err, HasFragment, IsBegunAt, IsEnded, IsFree, IsLive, IsReadyAt, IsSound, IsThat, IsThere, IsUncleanAt, Job, Jobs, KeepsTree, Leaf, List, MayHold, MayNotBegin, MayNotBeginAll, MayNotBeginOne, None, NoneEnds, NotAmong, Ok, Option, Rank, Ready, Refusal, Some, State, Unsaved, UnsavedLeaves, [], ap, arith, at_rank, came_held, came_ranks, came_weaker, cond, drop, drop_more, empty_of_len, false, get-empty, get_or, get_unclean, inl, inr, is_some, leaves_at, leaves_of_jobs, leaves_of_writes, len-remove, length, ready_of, refl, shown_tree, state_of, subst, suc, sym, true, unclean, unsaved_at, with_job, zero, ℕ, ◌++◌, ◌+◌, ◌-◌, ◌<◌, ◌∙◌, ◌∷◌, ◌≡◌, ◌⊎◌}
+use Rattle.mdcache.proofs.Common.{AllByRecursion, AreApart, Begins, BeginsWith, Begun, CacheMap, Came, CommitsWhole, Core, Dirfrag, Ends, Err, HasFragment, IsBegunAt, IsEnded, IsFree, IsLive, IsReadyAt, IsSound, IsSoundCore, IsThat, IsUncleanAt, Job, Jobs, KeepsTree, Leaf, List, MayHold, MayNotBeginAll, MayNotBeginOne, None, NoneEnds, NotAmong, Ok, Option, Rank, Ready, Refusal, Some, State, Unsaved, UnsavedLeaves, [], ap, append_assoc, arith, came_held, came_ranks, came_weaker, committed, cond, drop, drop_more, empty_of_len, false, get-empty, get_or, inl, inr, is_some, leaves_at, leaves_of_jobs, leaves_of_writes, len-remove, length, map-append, ready_of, refl, shown_tree, state_of, subst, suc, sym, true, unclean, with_job, zero, ℕ, ⊎_elim, ◌++◌, ◌+◌, ◌-◌, ◌<◌, ◌∙◌, ◌∷◌, ◌≡◌}
 use Rattle.std.proofs.Common.{map as list_map, Result}
 use Rattle.std.specs.FinMap as map
 use Rattle.mds_types.specs.Leaf.{leaf_of as leaf_at}
 use Rattle.mdcache.specs.Commits.{leaf_of}
 use Rattle.mdcache.proofs.AtHandLaws.{begun_are_at_hand, begun_leave_at_hand, ended_are_clean, others_stay_at_hand}
-use Rattle.mdcache.proofs.KeptTree.{at_its_rank, there_at}
+use Rattle.mdcache.proofs.CommittedLaws.{whole_then}
+use Rattle.mdcache.proofs.EndLaws.{unclean_is_there}
+use Rattle.mdcache.proofs.KeptTree.{steps_keep_tree, there_at}
+use Rattle.mdcache.proofs.PlacesLaws.{all_append, all_weaker}
+use Rattle.inode_table.proofs.Chains.{some_of}
 use Rattle.mds_types.proofs.LeafLaws.{get_beside, leaf-total}
 
--- the fragment of a leaf that isn't clean is at the one rank that may hold it
-has_fragment : (c : CacheMap) (rank : Rank) (leaf : Leaf) → MayHold c rank leaf → is_some (map.get (unclean c) leaf) ≡ true → HasFragment c rank.0 leaf
-has_fragment c rank leaf may dirty = go (map.get c.held leaf) refl may.alone
-  where
-    go : (o : Option At) → map.get c.held leaf ≡ o → IsFree rank.0 o → HasFragment c rank.0 leaf
-    go None none free = let clash : false ≡ true = ap is_some (sym (get_unclean c leaf ∙ ap unsaved_at none)) ∙ dirty in absurd cc
-    go (Some a) is free = subst (λ o. IsThere (at_rank rank.0 o)) (sym is) (at_its_rank rank.0 a free)
+-- a commit that began left its job, and nothing else
+begun_left : (old new : State) (leaf : Leaf) (job : Job) (o : Option Unsaved) → BeginsWith old new leaf o (Some job) → new ≡ with_job old job
+begun_left old new leaf job None (none, same) = let clash : Some job ≡ None = none in absurd cc
+begun_left old new leaf job (Some u) (is, lacks, left) = left
 
 module _ (old new : Core) (rank : Rank) (leaf : Leaf) (may : MayHold old.caches rank leaf) (dirty : is_some (map.get (unclean old.caches) leaf) ≡ true) (came : Came (IsThat rank.0 leaf) NoneEnds old.caches new.caches) where
   came_there : Came (HasFragment old.caches) NoneEnds old.caches new.caches
   came_there = came_weaker (IsThat rank.0 leaf) NoneEnds (HasFragment old.caches) NoneEnds
-      (λ r q is. subst (λ k. HasFragment old.caches k q) (sym is.0) (subst (HasFragment old.caches rank.0) (sym is.1) (has_fragment old.caches rank leaf may dirty))) (λ r q ends. ends) old.caches new.caches came
+      (λ r q is. subst (λ k. HasFragment old.caches k q) (sym is.0) (subst (HasFragment old.caches rank.0) (sym is.1) (unclean_is_there old.caches rank.0 leaf may.alone dirty))) (λ r q ends. ends) old.caches new.caches came
 
   -- what leaves all of the state but what isn't clean, objects, jobs and their numbers
-  keeps : new.limit ≡ old.limit → new.homes ≡ old.homes → new.covers ≡ old.covers → new.counts ≡ old.counts → new.pins ≡ old.pins → shown_tree (state_of new) ≡ shown_tree (state_of old) → new.next_generation ≡ old.next_generation → new.next_version ≡ old.next_version → KeepsTree old new
-  keeps limit homes covers counts pins tree generation version = record { limit = limit; homes = homes; covers = covers; counts = counts; pins = pins; tree = tree; generation = generation; version = version; caches = came_there }
-
-  keeps_all : state_of new ≡ state_of old → KeepsTree old new
-  keeps_all same = keeps (ap (λ (s : State). s.limit) same) (ap (λ (s : State). s.homes) same) (ap (λ (s : State). s.covers) same) (ap (λ (s : State). s.counts) same) (ap (λ (s : State). s.pins) same) (ap shown_tree same) (ap (λ (s : State). s.next_generation) same) (ap (λ (s : State). s.next_version) same)
+  keeps : (s : State) → state_of new ≡ record (state_of old) { unsaved = s.unsaved; objects = s.objects; jobs = s.jobs; next_job = s.next_job } → shown_tree (state_of new) ≡ shown_tree (state_of old) → KeepsTree old new
+  keeps s left tree = record {
+    limit = λ i. (left i).limit;
+    homes = λ i. (left i).homes;
+    covers = λ i. (left i).covers;
+    counts = λ i. (left i).counts;
+    pins = λ i. (left i).pins;
+    tree = tree;
+    generation = λ i. (left i).next_generation;
+    version = λ i. (left i).next_version;
+    caches = came_there;
+  }
 
   -- a commit begins, or doesn't
   pub begin_keeps : (job : Job) → Begins (state_of old) (state_of new) leaf (Ok (Some job)) → KeepsTree old new
-  begin_keeps job begun = go (map.get (unclean old.caches) leaf) begun.2
-    where
-      go : (o : Option Unsaved) → BeginsWith (state_of old) (state_of new) leaf o (Some job) → KeepsTree old new
-      go None (none, same) = let clash : Some job ≡ None = none in absurd cc
-      go (Some u) (is, lacks, left) = keeps (ap (λ (s : State). s.limit) left) (ap (λ (s : State). s.homes) left) (ap (λ (s : State). s.covers) left) (ap (λ (s : State). s.counts) left) (ap (λ (s : State). s.pins) left) (ap shown_tree left) (ap (λ (s : State). s.next_generation) left) (ap (λ (s : State). s.next_version) left)
+  begin_keeps job begun = let left = begun_left (state_of old) (state_of new) leaf job (map.get (unclean old.caches) leaf) begun.2 in keeps (with_job (state_of old) job) left (ap shown_tree left)
 
-  pub refused_keeps : (reason : Refusal) → Begins (state_of old) (state_of new) leaf (Err reason) → KeepsTree old new
-  refused_keeps reason refused = keeps_all refused.1
+  pub refused_keeps : state_of new ≡ state_of old → KeepsTree old new
+  refused_keeps same = keeps (state_of old) same (ap shown_tree same)
 
   -- a commit ends, or doesn't
-  end_keeps : (job : Job) → IsEnded (state_of old) (state_of new) job → KeepsTree old new
-  end_keeps job ended = keeps (ap (λ (s : State). s.limit) ended.left) (ap (λ (s : State). s.homes) ended.left) (ap (λ (s : State). s.covers) ended.left) (ap (λ (s : State). s.counts) ended.left) (ap (λ (s : State). s.pins) ended.left) ended.tree (ap (λ (s : State). s.next_generation) ended.left) (ap (λ (s : State). s.next_version) ended.left)
-
   pub ends_keeps : (before after : ℕ) (job : Job) (result : Result (Unit {0}) Refusal) → Ends (state_of old) (state_of new) before after job result → KeepsTree old new
-  ends_keeps before after job (Ok done) ended = end_keeps job ended
-  ends_keeps before after job (Err reason) refused = keeps_all refused.1
+  ends_keeps before after job (Ok done) ended = keeps (committed (state_of old) job ended.unsaved) ended.left ended.tree
+  ends_keeps before after job (Err reason) refused = refused_keeps refused.1
 
 -- a leaf that isn't clean is there
 pub unclean_live : (s : State) (leaf : Leaf) → IsSound s → is_some (map.get s.unsaved leaf) ≡ true → IsLive s.homes s.covers leaf
-unclean_live s leaf sound dirty = go (map.get s.unsaved leaf) refl dirty
-  where
-    go : (o : Option Unsaved) → map.get s.unsaved leaf ≡ o → is_some o ≡ true → IsLive s.homes s.covers leaf
-    go None is some = absurd cc
-    go (Some u) is some = (sound.unsaved leaf u is).live
+unclean_live s leaf sound dirty = let u = some_of (map.get s.unsaved leaf) dirty in (sound.unsaved leaf u.0 u.1).live
 
 -- so it isn't refused as absent
 pub begin_refused : (s : State) (new : State) (leaf : Leaf) (reason : Refusal) → IsSound s → is_some (map.get s.unsaved leaf) ≡ true → map.get s.jobs leaf ≡ None → Begins s new leaf (Err reason) → MayNotBeginOne s leaf reason
-begin_refused s new leaf reason sound dirty free refused = go refused.0
-  where
-    go : MayNotBegin s leaf reason → MayNotBeginOne s leaf reason
-    go (inl (is, absent)) = absurd (absent (unclean_live s leaf sound dirty))
-    go (inr (inl (is, there, stands))) = let clash : false ≡ true = ap is_some (sym free) ∙ stands in absurd cc
-    go (inr (inr (there, none, u, is, inl (no_number, lacks)))) = inr (no_number, (u, is, lacks))
-    go (inr (inr (there, none, u, is, inr (no_memory, lacks)))) = inl no_memory
+begin_refused s new leaf reason sound dirty free refused = ⊎_elim (λ no. absurd (no.1 (unclean_live s leaf sound dirty)))
+    (⊎_elim (λ stands. let clash : false ≡ true = ap is_some (sym free) ∙ stands.2 in absurd cc) (λ w. ⊎_elim (λ lacks. inr (lacks.0, (w.2, w.3, lacks.1))) (λ memory. inl memory.0) w.4)) refused.0
 
 -- ---- others, while one begins
 
@@ -71,19 +63,12 @@ begin_refused s new leaf reason sound dirty free refused = go refused.0
 pub may_hold_on : (old new : CacheMap) → Came (HasFragment old) NoneEnds old new → (rank : Rank) (leaf : Leaf) → MayHold old rank leaf → MayHold new rank leaf
 may_hold_on old new came rank leaf may = record {
   there = (let count : length new.used ≡ length old.used = came_ranks (HasFragment old) NoneEnds old new came in let there = may.there in omega (arith, count, there));
-  alone = go (map.get new.held leaf) refl;
+  alone = elim (map.get new.held leaf) as (λ o. map.get new.held leaf ≡ o → IsFree rank.0 o) [
+    | None ↦ λ none. tt
+    | Some a ↦ λ is. ⊎_elim (λ same. subst (IsFree rank.0) same may.alone)
+        (λ there. let w = there_at a.rank (map.get old.held leaf) there in sym w.2 ∙ subst (IsFree rank.0) w.1 may.alone) (came_held (HasFragment old) NoneEnds old new came leaf a is)
+  ] refl;
 }
-  where
-    at_one : (x : At) → IsFree rank.0 (Some x) → x.rank ≡ rank.0
-    at_one x free = free
-
-    by : (a : At) → (map.get old.held leaf ≡ Some a) ⊎ HasFragment old a.rank leaf → a.rank ≡ rank.0
-    by a (inl same) = subst (IsFree rank.0) same may.alone
-    by a (inr there) = let w = there_at a.rank (map.get old.held leaf) there in sym w.2 ∙ at_one w.0 (subst (IsFree rank.0) w.1 may.alone)
-
-    go : (o : Option At) → map.get new.held leaf ≡ o → IsFree rank.0 o
-    go None none = tt
-    go (Some a) is = by a (came_held (HasFragment old) NoneEnds old new came leaf a is)
 
 -- a leaf apart from all others
 apart_behind : (xs : List Leaf) (y : Leaf) (ys : List Leaf) → AreApart (xs ++ y ∷ ys) → AllByRecursion (λ (q : Leaf). q ≡ y → ⊥) xs
@@ -94,70 +79,78 @@ apart_behind (x ∷ xs) y ys (others, apart) = (first_apart xs y ys others, apar
     first_apart [] y ys (this, more) same = this (sym same)
     first_apart (z ∷ xs) y ys (this, more) same = first_apart xs y ys more same
 
-all_push : {A : Type 0} (P : A → Type 0) (xs : List A) (y : A) → AllByRecursion P xs → P y → AllByRecursion P (xs ++ y ∷ [])
-all_push P [] y all one = (one, tt)
-all_push P (x ∷ xs) y (first, all) one = (first, all_push P xs y all one)
-
-mapped_push : {A B : Type 0} (f : A → B) (xs : List A) (y : A) (rest : List B) → list_map f (xs ++ y ∷ []) ++ rest ≡ list_map f xs ++ f y ∷ rest
-mapped_push f [] y rest = refl
-mapped_push f (x ∷ xs) y rest = ap (λ l. f x ∷ l) (mapped_push f xs y rest)
+-- what holds of each goes over, where it does so for those that are apart
+all_so : {A B : Type 0} (f : A → B) (R : B → Type 0) (P Q : A → Type 0) → ((x : A) → R (f x) → P x → Q x) → (xs : List A) → AllByRecursion R (list_map f xs) → AllByRecursion P xs → AllByRecursion Q xs
+all_so f R P Q so [] apart all = tt
+all_so f R P Q so (x ∷ xs) (here, apart) (one, all) = (so x here one, all_so f R P Q so xs apart all)
 
 -- a job stands only for a leaf among these
 abbrev pub StandAmong : Jobs → List Leaf → Type 0
 StandAmong jobs leaves = (q : Leaf) → NotAmong q leaves → map.get jobs q ≡ None
 
-module _ (now new : Core) (at : Dirfrag) (job : Job) (unclean_at : IsUncleanAt now.caches at) (begins : Begins (state_of now) (state_of new) (leaf_at at) (Ok (Some job))) (keeps_it : KeepsTree now new) (begun : List Begun) (rest : List Dirfrag)
-    (apart : AreApart (leaves_of_jobs begun ++ leaf_at at ∷ leaves_at rest)) where
-  its_leaf : leaf_of job ≡ leaf_at at
-  its_leaf = (begun_are_at_hand (state_of now) (state_of new) (leaf_at at) job begins).1
+-- the rest of a slice begins with its element
+pub rest_is : {A : Type 0} (all : List A) (i : ℕ) (one : A) → i < length all → one ≡ get_or all i one → drop i all ≡ one ∷ drop (i + 1) all
+rest_is all i one within is = drop_more all i one within ∙ ap (λ x. x ∷ drop (i + 1) all) (sym is)
 
-  left : state_of new ≡ with_job (state_of now) job
-  left = go (map.get (unclean now.caches) (leaf_at at)) begins.2
+-- so far commits of the first of these leaves have begun, and the others aren't clean
+pub record BeginsFirst (old now : Core) (leaves : List Dirfrag) (i : ℕ) (done : List Begun) : Type 0 where
+  pub begun : AllByRecursion (IsBegunAt now) done
+  pub rest : AllByRecursion (IsUncleanAt now.caches) (drop i leaves)
+  pub listed : leaves_of_jobs done ++ leaves_at (drop i leaves) ≡ leaves_at leaves
+  pub among : StandAmong now.jobs (leaves_of_jobs done)
+  pub left : state_of now ≡ record (state_of old) { jobs = now.jobs; next_job = now.next_job }
+  pub number : now.next_job ≡ old.next_job + i
+  pub tree : KeepsTree old now
+  pub faults : now.faults ≡ old.faults
+  pub sound : IsSoundCore now
+
+module _ (old now : Core) (leaves : List Dirfrag) (i : ℕ) (at : Dirfrag) (within : i < length leaves) (is : at ≡ get_or leaves i at) (done : List Begun)
+    (so_far : BeginsFirst old now leaves i done) (all_apart : AreApart (leaves_at leaves)) where
+  abbrev behind : List Dirfrag
+  behind = drop (i + 1) leaves
+
+  here : drop i leaves ≡ at ∷ behind
+  here = rest_is leaves i at within is
+
+  whole : leaves_of_jobs done ++ leaf_at at ∷ leaves_at behind ≡ leaves_at leaves
+  whole = ap (λ ds. leaves_of_jobs done ++ leaves_at ds) (sym here) ∙ so_far.listed
+
+  others : AllByRecursion (λ (q : Leaf). q ≡ leaf_at at → ⊥) (leaves_of_jobs done)
+  others = apart_behind (leaves_of_jobs done) (leaf_at at) (leaves_at behind) (subst AreApart (sym whole) all_apart)
+
+  -- no job stands for the next leaf,
+  pub next_free : map.get now.jobs (leaf_at at) ≡ None
+  next_free = so_far.among (leaf_at at) others
+
+  -- and once its commit has begun it is one of the first
+  pub begins_next : (new : Core) (job : Job) → Begins (state_of now) (state_of new) (leaf_at at) (Ok (Some job)) → KeepsTree now new → new.faults ≡ now.faults → IsSoundCore new
+      → (pushed : List Begun) → pushed ≡ done ++ (record { rank = at.rank; job = job }) ∷ [] → BeginsFirst old new leaves (i + 1) pushed
+  begins_next new job begins keeps_it faults sound pushed push =
+      let left = begun_left (state_of now) (state_of new) (leaf_at at) job (map.get (unclean now.caches) (leaf_at at)) begins.2 in
+      let hand = begun_are_at_hand (state_of now) (state_of new) (leaf_at at) job begins in
+      let unclean_here = subst (AllByRecursion (IsUncleanAt now.caches)) here so_far.rest in
+      let holds = may_hold_on now.caches new.caches keeps_it.caches in
+      let raised : new.next_job ≡ now.next_job + 1 = ap (λ (s : State). s.next_job) left in
+      let number = so_far.number in
+      subst (BeginsFirst old new leaves (i + 1)) (sym push) (record {
+        begun = all_append (IsBegunAt new) done ((record { rank = at.rank; job = job }) ∷ []) (all_so (λ (b : Begun). leaf_of b.job) (λ q. q ≡ leaf_at at → ⊥) (IsBegunAt now) (IsBegunAt new)
+            (λ b other one. record { holds = holds b.rank (leaf_of b.job) one.holds; hand = begun_leave_at_hand (state_of now) (state_of new) (leaf_at at) job b.job begins other one.hand }) done others so_far.begun)
+            (record { holds = subst (MayHold new.caches at.rank) (sym hand.1) (holds at.rank (leaf_at at) unclean_here.0.holds); hand = hand.0 }, tt);
+        rest = all_weaker (IsUncleanAt now.caches) (IsUncleanAt new.caches)
+            (λ a one. record { holds = holds a.rank (leaf_at a) one.holds; dirty = ap (λ (s : State). is_some (map.get s.unsaved (leaf_at a))) left ∙ one.dirty }) behind unclean_here.1;
+        listed = ap (λ l. l ++ leaves_at behind) (map-append (λ (b : Begun). leaf_of b.job) done ((record { rank = at.rank; job = job }) ∷ [])) ∙ append_assoc (leaves_of_jobs done) (leaf_of job ∷ []) (leaves_at behind)
+            ∙ ap (λ q. leaves_of_jobs done ++ q ∷ leaves_at behind) hand.1 ∙ whole;
+        among = λ q apart. let w = apart_parts q job done apart in ap (λ (s : State). map.get s.jobs q) left ∙ get_beside now.jobs (leaf_of job) job q (λ same. w.1 (sym same)) ∙ so_far.among q w.0;
+        left = left ∙ ap (λ (s : State). with_job s job) so_far.left ∙ (λ j. record (state_of old) { jobs = sym (ap (λ (s : State). s.jobs) left) j; next_job = sym (ap (λ (s : State). s.next_job) left) j });
+        number = omega (arith, raised, number);
+        tree = steps_keep_tree old now new so_far.tree keeps_it;
+        faults = faults ∙ so_far.faults;
+        sound = sound;
+      })
     where
-      go : (o : Option Unsaved) → BeginsWith (state_of now) (state_of new) (leaf_at at) o (Some job) → state_of new ≡ with_job (state_of now) job
-      go None (none, same) = let clash : Some job ≡ None = none in absurd cc
-      go (Some u) (is, lacks, it) = it
-
-  stay_begun : (bs : List Begun) → AllByRecursion (λ (q : Leaf). q ≡ leaf_at at → ⊥) (leaves_of_jobs bs) → AllByRecursion (IsBegunAt now) bs → AllByRecursion (IsBegunAt new) bs
-  stay_begun [] others all = tt
-  stay_begun (b ∷ bs) (other, others) (one, all) = (
-    record { holds = may_hold_on now.caches new.caches keeps_it.caches b.rank (leaf_of b.job) one.holds; hand = begun_leave_at_hand (state_of now) (state_of new) (leaf_at at) job b.job begins other one.hand },
-    stay_begun bs others all,
-  )
-
-  pub turn_begun : AllByRecursion (IsBegunAt now) begun → AllByRecursion (IsBegunAt new) (begun ++ (record { rank = at.rank; job = job }) ∷ [])
-  turn_begun all = all_push (IsBegunAt new) begun (record { rank = at.rank; job = job }) (stay_begun begun (apart_behind (leaves_of_jobs begun) (leaf_at at) (leaves_at rest) apart) all)
-      (record { holds = subst (MayHold new.caches at.rank) (sym its_leaf) (may_hold_on now.caches new.caches keeps_it.caches at.rank (leaf_at at) unclean_at.holds); hand = (begun_are_at_hand (state_of now) (state_of new) (leaf_at at) job begins).0 })
-
-  pub turn_rest : (places : List Dirfrag) → AllByRecursion (IsUncleanAt now.caches) places → AllByRecursion (IsUncleanAt new.caches) places
-  turn_rest [] all = tt
-  turn_rest (a ∷ places) (one, all) = (
-    record { holds = may_hold_on now.caches new.caches keeps_it.caches a.rank (leaf_at a) one.holds; dirty = ap (λ (s : State). is_some (map.get s.unsaved (leaf_at a))) left ∙ one.dirty },
-    turn_rest places all,
-  )
-
-  pub turn_listed : leaves_of_jobs (begun ++ (record { rank = at.rank; job = job }) ∷ []) ++ leaves_at rest ≡ leaves_of_jobs begun ++ leaf_at at ∷ leaves_at rest
-  turn_listed = mapped_push (λ (b : Begun). leaf_of b.job) begun (record { rank = at.rank; job = job }) (leaves_at rest) ∙ ap (λ q. leaves_of_jobs begun ++ q ∷ leaves_at rest) its_leaf
-
-  pub turn_stand : StandAmong now.jobs (leaves_of_jobs begun) → StandAmong new.jobs (leaves_of_jobs (begun ++ (record { rank = at.rank; job = job }) ∷ []))
-  turn_stand so_far q others = go begun others
-    where
-      parts : (bs : List Begun) → NotAmong q (leaves_of_jobs (bs ++ (record { rank = at.rank; job = job }) ∷ [])) → NotAmong q (leaves_of_jobs bs) × (leaf_of job ≡ q → ⊥)
-      parts [] (other, done) = (tt, other)
-      parts (b ∷ bs) (other, more) = let w = parts bs more in ((other, w.0), w.1)
-
-      go : (bs : List Begun) → NotAmong q (leaves_of_jobs (begun ++ (record { rank = at.rank; job = job }) ∷ [])) → map.get new.jobs q ≡ None
-      go bs others = let w = parts begun others in ap (λ (s : State). map.get s.jobs q) left ∙ get_beside now.jobs (leaf_of job) job q (λ same. w.1 (sym same)) ∙ so_far q w.0
-
-  pub turn_left : (old : Core) → state_of now ≡ record (state_of old) { jobs = now.jobs; next_job = now.next_job } → state_of new ≡ record (state_of old) { jobs = new.jobs; next_job = new.next_job }
-  turn_left old so_far = left ∙ ap (λ (s : State). with_job s job) so_far ∙ (λ i. record (state_of old) { jobs = sym (ap (λ (s : State). s.jobs) left) i; next_job = sym (ap (λ (s : State). s.next_job) left) i })
-
-  pub turn_number : new.next_job ≡ now.next_job + 1
-  turn_number = ap (λ (s : State). s.next_job) left
-
--- a leaf apart from those that were begun has no job
-pub none_stands : (jobs : Jobs) (begun : List Begun) (leaf : Leaf) (ys : List Leaf) → AreApart (leaves_of_jobs begun ++ leaf ∷ ys) → StandAmong jobs (leaves_of_jobs begun) → map.get jobs leaf ≡ None
-none_stands jobs begun leaf ys apart among = among leaf (apart_behind (leaves_of_jobs begun) leaf ys apart)
+      apart_parts : (q : Leaf) (job : Job) (bs : List Begun) → NotAmong q (leaves_of_jobs (bs ++ (record { rank = at.rank; job = job }) ∷ [])) → NotAmong q (leaves_of_jobs bs) × (leaf_of job ≡ q → ⊥)
+      apart_parts q job [] (other, done) = (tt, other)
+      apart_parts q job (b ∷ bs) (other, more) = let w = apart_parts q job bs more in ((other, w.0), w.1)
 
 -- why one doesn't begin, so many of them before
 pub begin_lacks : (old now : State) (leaf : Leaf) (count less : ℕ) (reason : Refusal) → now.unsaved ≡ old.unsaved → now.next_job ≡ old.next_job + less → less < count → MayNotBeginOne now leaf reason → MayNotBeginAll count old reason
@@ -165,51 +158,49 @@ begin_lacks old now leaf count less reason same number few (inl no_memory) = inl
 begin_lacks old now leaf count less reason same number few (inr (no_number, (u, is, inl end))) = inr (no_number, inl (omega (arith, number, end, few)))
 begin_lacks old now leaf count less reason same number few (inr (no_number, (u, is, inr above))) = inr (no_number, inr (leaf, u, ap (λ m. map.get m leaf) (sym same) ∙ is, above))
 
--- ---- places in a slice
-
-module _ (all : List Dirfrag) (i : ℕ) (at : Dirfrag) (within : i < length all) (is : at ≡ get_or all i at) where
-  pub rest_is : drop i all ≡ at ∷ drop (i + 1) all
-  rest_is = drop_more all i at within ∙ ap (λ (a : Dirfrag). a ∷ drop (i + 1) all) (sym is)
-
-  pub first_of_rest : (c : CacheMap) → AllByRecursion (IsUncleanAt c) (drop i all) → IsUncleanAt c at × AllByRecursion (IsUncleanAt c) (drop (i + 1) all)
-  first_of_rest c rest = subst (AllByRecursion (IsUncleanAt c)) rest_is rest
-
-  pub rest_listed : (begun : List Begun) → leaves_of_jobs begun ++ leaves_at (drop i all) ≡ leaves_at all → leaves_of_jobs begun ++ leaf_at at ∷ leaves_at (drop (i + 1) all) ≡ leaves_at all
-  rest_listed begun listed = ap (λ ds. leaves_of_jobs begun ++ leaves_at ds) (sym rest_is) ∙ listed
-
 -- ---- others, while one ends
 
 -- a map that has a key isn't empty
 some_len : (m : UnsavedLeaves) (k : Leaf) → is_some (map.get m k) ≡ true → 0 < map.len m
-some_len m k some = go (map.len m) refl
-  where
-    go : (n : ℕ) → map.len m ≡ n → 0 < n
-    go zero none = let clash : false ≡ true = ap is_some (sym (ap (λ (w : UnsavedLeaves). map.get w k) (empty_of_len m none) ∙ get-empty _ k)) ∙ some in absurd cc
-    go (suc n) is = omega arith
+some_len m k some = elim (map.len m) as (λ n. map.len m ≡ n → 0 < n) [
+  | zero ↦ λ none. let clash : false ≡ true = ap is_some (sym (ap (λ (w : UnsavedLeaves). map.get w k) (empty_of_len m none) ∙ get-empty _ k)) ∙ some in absurd cc
+  | suc n ↦ λ is. omega arith
+] refl
 
-module _ (now new : Core) (one : Ready) (ready_at : IsReadyAt now one) (ended : IsEnded (state_of now) (state_of new) one.encoded.job) (keeps_it : KeepsTree now new) where
-  pub stay_ready : (rs : List Ready) → NotAmong (leaf_of one.encoded.job) (leaves_of_writes rs) → AllByRecursion (IsReadyAt now) rs → AllByRecursion (IsReadyAt new) rs
-  stay_ready [] others all = tt
-  stay_ready (r ∷ rs) (other, others) (it, all) = (
+-- so far the first of these commits have ended, and the others are at hand
+pub record EndsFirst (old now : Core) (ready : List Ready) (i : ℕ) : Type 0 where
+  pub rest : AllByRecursion (IsReadyAt now) (drop i ready)
+  pub apart : AreApart (leaves_of_writes (drop i ready))
+  pub whole : CommitsWhole (state_of old) (state_of now)
+  pub fewer : map.len (unclean now.caches) + i ≡ map.len (unclean old.caches)
+  pub tree : KeepsTree old now
+  pub faults : now.faults ≡ old.faults
+  pub sound : IsSoundCore now
+
+-- once the next has ended, it is one of the first
+pub ends_next : (old now new : Core) (ready : List Ready) (i : ℕ) (one : Ready) → i < length ready → one ≡ get_or ready i one → EndsFirst old now ready i → IsEnded (state_of now) (state_of new) one.encoded.job
+    → CommitsWhole (state_of now) (state_of new) → KeepsTree now new → new.faults ≡ now.faults → IsSoundCore new → EndsFirst old new ready (i + 1)
+ends_next old now new ready i one within is so_far ended whole keeps_it same sound =
+    let all = subst (AllByRecursion (IsReadyAt now)) (rest_is ready i one within is) so_far.rest in
+    let apart = subst (λ rs. AreApart (leaves_of_writes rs)) (rest_is ready i one within is) so_far.apart in
+    let there : is_some (map.get (unclean now.caches) (leaf_of one.encoded.job)) ≡ true = ap is_some all.0.hand.beside in
+    let less : map.len (unclean new.caches) ≡ map.len (unclean now.caches) - 1 =
+    ap (λ (m : UnsavedLeaves). map.len m) (ended_are_clean (state_of now) (state_of new) one.encoded.job all.0.hand ended)
+    ∙ len-remove leaf-total (unclean now.caches) (leaf_of one.encoded.job) ∙ ap (λ b. cond {A = ℕ} b (map.len (unclean now.caches) - 1) (map.len (unclean now.caches))) there in
+    let some = some_len (unclean now.caches) (leaf_of one.encoded.job) there in
+    let fewer = so_far.fewer in
     record {
-      holds = may_hold_on now.caches new.caches keeps_it.caches r.rank (leaf_of r.encoded.job) it.holds;
-      hand = others_stay_at_hand (state_of now) (state_of new) one.encoded.job r.encoded.job ended other ready_at.hand it.hand;
-    },
-    stay_ready rs others all,
-  )
-
-  pub one_less : map.len (unclean new.caches) + 1 ≡ map.len (unclean now.caches)
-  one_less =
-      let there : is_some (map.get (unclean now.caches) (leaf_of one.encoded.job)) ≡ true = ap is_some ready_at.hand.beside in
-      let less : map.len (unclean new.caches) ≡ map.len (unclean now.caches) - 1 =
-      ap (λ (m : UnsavedLeaves). map.len m) (ended_are_clean (state_of now) (state_of new) one.encoded.job ready_at.hand ended)
-      ∙ len-remove leaf-total (unclean now.caches) (leaf_of one.encoded.job) ∙ ap (λ b. cond {A = ℕ} b (map.len (unclean now.caches) - 1) (map.len (unclean now.caches))) there in
-      let some = some_len (unclean now.caches) (leaf_of one.encoded.job) there in
-      omega (arith, less, some)
-
--- the writes of a slice
-pub writes_left : (all : List Ready) (i : ℕ) (one : Ready) → i < length all → one ≡ get_or all i one → drop i all ≡ one ∷ drop (i + 1) all
-writes_left all i one within is = drop_more all i one within ∙ ap (λ (r : Ready). r ∷ drop (i + 1) all) (sym is)
+      rest = all_so (λ (r : Ready). leaf_of r.encoded.job) (λ q. q ≡ leaf_of one.encoded.job → ⊥) (IsReadyAt now) (IsReadyAt new) (λ r other it. record {
+        holds = may_hold_on now.caches new.caches keeps_it.caches r.rank (leaf_of r.encoded.job) it.holds;
+        hand = others_stay_at_hand (state_of now) (state_of new) one.encoded.job r.encoded.job ended other all.0.hand it.hand;
+      }) (drop (i + 1) ready) apart.0 all.1;
+      apart = apart.1;
+      whole = whole_then (state_of old) (state_of now) (state_of new) so_far.whole whole;
+      fewer = omega (arith, less, some, fewer);
+      tree = steps_keep_tree old now new so_far.tree keeps_it;
+      faults = same ∙ so_far.faults;
+      sound = sound;
+    }
 
 -- jobs that were begun are those of their writes
 pub begun_ready : (core : Core) (begun : List Begun) → AllByRecursion (IsBegunAt core) begun → AllByRecursion (IsReadyAt core) (list_map ready_of begun)

@@ -1,10 +1,11 @@
 -- What the beginning of a commit leaves, done or not.
-use Rattle.mdcache.proofs.Common.{AreCached, AreYoung, Base, Begins, BeginsWith, Bool, Bor, CacheMap, Cached, Came, Core, Dirfrag, Err, HasCached, IsAtEnd, IsBelowEnd, IsFree, IsFreeFor, IsJobOf, IsLive, IsOf, IsSnap, IsSound, IsSoundCore, IsThat, IsThere, Job, Leaf, Mark, NoInodes, NoMemory, None, NoneEnds, Ok, Omap, Option, Refusal, Result, Rooms, Some, State, Unsaved, ap, at, at_rank, cond, counts_of, false, get_unclean, here, here_is, inl, inr, is_clean, is_same, is_some, job_for, object_of, option_copied, option_map, refl, shown, shown_at, state_of, stays, subst, sym, tied_show, true, unclean, unsaved_at, unsaved_in, used_at, used_core, used_unclean, uses, with_job, with_job_in, ℕ, ◌+◌, ◌∙◌, ◌≡◌}
+use Rattle.mdcache.proofs.Common.{AreCached, AreYoung, Base, Begins, BeginsWith, Bool, Bor, Cached, Came, Core, Dirfrag, Err, HasCached, IsAtEnd, IsBelowEnd, IsFreeFor, IsJobOf, IsLive, IsOf, IsSnap, IsSound, IsSoundCore, IsThat, IsThere, Job, Leaf, NoInodes, NoMemory, None, NoneEnds, Ok, Omap, Option, Refusal, Result, Rooms, Some, State, Unsaved, ap, at, cond, counts_of, false, here, here_is, inl, inr, is_clean, is_some, job_for, object_of, option_copied, option_map, refl, same_Some, shown, shown_at, state_of, stays, subst, sym, tied_show, true, unsaved_in, used_at, used_core, used_unclean, uses, with_job, with_job_in, ℕ, ◌+◌, ◌∙◌, ◌≡◌}
+use Rattle.std.proofs.lemmas.Bool.{cond_both}
 use Rattle.std.specs.FinMap as map
 use Rattle.mds_types.specs.Leaf.{leaf_of as leaf_at}
 use Rattle.dentry_cache.specs.Ties.{KeepsAt}
 use Rattle.mdcache.specs.Commits.{leaf_of}
-use Rattle.mdcache.proofs.EndLaws.{beyond_is}
+use Rattle.mdcache.proofs.EndLaws.{unclean_here}
 use Rattle.mdcache.proofs.SoundLaws.{begun_sound}
 use Rattle.mdcache.proofs.NoneLaws.{none_used}
 
@@ -14,11 +15,13 @@ abbrev told : Option Unsaved → Option (Base × ℕ)
 told o = option_map (λ (u : Unsaved). (u.base, u.generation)) o
 
 -- a fragment of which this was told isn't clean
-pub unsaved_from : (o : Option Unsaved) (base : Base) (generation : ℕ) → Some (base, generation) ≡ told o → (u : Unsaved) × (o ≡ Some u) × (u.base ≡ base) × (u.generation ≡ generation)
-unsaved_from None base generation is = let clash : Some (base, generation) ≡ None = is in cc
-unsaved_from (Some u) base generation is =
-    let same : (base, generation) ≡ (u.base, u.generation) = cc in
-    (u, refl, sym (ap (λ (p : Base × ℕ). p.0) same), sym (ap (λ (p : Base × ℕ). p.1) same))
+from_told : (o : Option Cached) (base : Base) (generation : ℕ) → Some (base, generation) ≡ told (unsaved_in o) → (f : Cached) × (o ≡ Some f) × (is_clean f ≡ false) × (base ≡ f.base) × (generation ≡ f.generation)
+from_told None base generation is = let clash : Some (base, generation) ≡ None = is in absurd cc
+from_told (Some f) base generation is = cond_both (is_clean f) None (Some (record { base = f.base; generation = f.generation; dirty = f.dirty }))
+    (λ (o : Option Unsaved). Some (base, generation) ≡ told o → (g : Cached) × (Some f ≡ Some g) × (is_clean g ≡ false) × (base ≡ g.base) × (generation ≡ g.generation))
+    (λ clean h. let clash : Some (base, generation) ≡ None = h in absurd cc) (λ dirty h.
+    let same = same_Some (base, generation) (f.base, f.generation) h in
+    (f, refl, dirty, ap (λ (p : Base × ℕ). p.0) same, ap (λ (p : Base × ℕ). p.1) same)) is
 
 pub none_told : (o : Option Unsaved) → None ≡ told o → o ≡ None
 none_told None is = refl
@@ -28,18 +31,6 @@ none_told (Some u) is = let clash : None ≡ Some (u.base, u.generation) = is in
 pub none_found : (o : Option (Bor Job)) (r : Option Job) (b : Bool) → option_copied o ≡ r → b ≡ is_some o → b ≡ false → r ≡ None
 none_found None r b is told apart = sym is
 none_found (Some x) r b is told apart = let clash : true ≡ false = sym told ∙ apart in cc
-
--- a snapshot has the dirty names that it was taken of
-keeps_itself : (m : Option Mark) → KeepsAt m m
-keeps_itself None = tt
-keeps_itself (Some mark) = λ same. refl
-
--- what isn't clean of a leaf that is free for a rank is that of its fragment there
-pub unclean_here : (c : CacheMap) (r : ℕ) (leaf : Leaf) → IsFreeFor c r leaf → map.get (unclean c) leaf ≡ unsaved_in (here c r leaf)
-unclean_here c r leaf free = get_unclean c leaf ∙ elim (map.get c.held leaf) as (λ o. IsFree r o → unsaved_at o ≡ unsaved_in (at_rank r o)) [
-  | None ↦ λ is. refl
-  | Some a ↦ λ is. ap (λ (b : Bool). unsaved_in (cond b (Some a.frag) None)) (sym (is_same a.rank r is))
-] free
 
 -- what a call leaves that begins a commit, or is refused
 pub record HasBegun (old new : Core) (a : Dirfrag) (result : Result (Option Job) Refusal) : Type 0 where
@@ -57,36 +48,30 @@ module _ (c view : Core) (is : view ≡ c) (sound : IsSoundCore c) (a : Dirfrag)
   none : map.get s.jobs leaf ≡ None
   none = ap (λ (k : Core). map.get k.jobs leaf) (sym is) ∙ none_stands
 
-  -- of the fragment is told what isn't clean of its leaf
-  told_is : told (unsaved_in (here view.caches a.rank.0 leaf)) ≡ told (map.get s.unsaved leaf)
-  told_is = ap (λ (k : Core). told (unsaved_in (here k.caches a.rank.0 leaf))) is ∙ ap told (sym (unclean_here c.caches a.rank.0 leaf free))
-
   -- a clean fragment gives nothing
   pub begins_none : None ≡ told (unsaved_in (here view.caches a.rank.0 leaf)) → HasBegun c c a (Ok None)
-  begins_none clean = record { begun = (live, none, subst (λ (o : Option Unsaved). BeginsWith s s leaf o None) (sym (none_told (map.get s.unsaved leaf) (clean ∙ told_is))) (refl, refl)); came = stays; sound = sound }
+  begins_none clean =
+      let none_left = none_told (map.get s.unsaved leaf) (clean ∙ ap (λ (k : Core). told (unsaved_in (here k.caches a.rank.0 leaf))) is ∙ ap told (sym (unclean_here c.caches a.rank.0 leaf free))) in
+      record { begun = (live, none, subst (λ (o : Option Unsaved). BeginsWith s s leaf o None) (sym none_left) (refl, refl)); came = stays; sound = sound }
 
   module _ (base : Base) (generation : ℕ) (is_told : Some (base, generation) ≡ told (unsaved_in (here view.caches a.rank.0 leaf))) where
-    found : (u : Unsaved) × (map.get s.unsaved leaf ≡ Some u) × (u.base ≡ base) × (u.generation ≡ generation)
-    found = unsaved_from (map.get s.unsaved leaf) base generation (is_told ∙ told_is)
+    its : (f : Cached) × (here c.caches a.rank.0 leaf ≡ Some f) × (is_clean f ≡ false) × (base ≡ f.base) × (generation ≡ f.generation)
+    its = from_told (here c.caches a.rank.0 leaf) base generation (is_told ∙ ap (λ (k : Core). told (unsaved_in (here k.caches a.rank.0 leaf))) is)
 
     abbrev u : Unsaved
-    u = found.0
+    u = record { base = its.0.base; generation = its.0.generation; dirty = its.0.dirty }
 
-    its : (f : Cached) × (here c.caches a.rank.0 leaf ≡ Some f) × (is_clean f ≡ false) × (u ≡ record { base = f.base; generation = f.generation; dirty = f.dirty })
-    its = go (here c.caches a.rank.0 leaf) (sym (unclean_here c.caches a.rank.0 leaf free) ∙ found.1)
-      where
-        go : (o : Option Cached) → unsaved_in o ≡ Some u → (f : Cached) × (o ≡ Some f) × (is_clean f ≡ false) × (u ≡ record { base = f.base; generation = f.generation; dirty = f.dirty })
-        go None is = let clash : None ≡ Some u = is in absurd cc
-        go (Some f) is = let w = beyond_is f u is in (f, refl, w.0, sym w.1)
+    found : map.get s.unsaved leaf ≡ Some u
+    found = unclean_here c.caches a.rank.0 leaf free ∙ ap unsaved_in its.1 ∙ ap (λ (b : Bool). cond b None (Some u)) its.2
 
     pub can_begin : IsBelowEnd base → HasCached (here c.caches a.rank.0 leaf) (λ (f : Cached). (is_clean f ≡ false) × IsBelowEnd f.base × (generation ≡ f.generation))
     can_begin below =
         subst (λ (o : Option Cached). HasCached o (λ (f : Cached). (is_clean f ≡ false) × IsBelowEnd f.base × (generation ≡ f.generation))) (sym its.1)
-        (its.2, subst IsBelowEnd (sym found.2 ∙ ap (λ (v : Unsaved). v.base) its.3) below, sym found.3 ∙ ap (λ (v : Unsaved). v.generation) its.3)
+        (its.2, subst IsBelowEnd its.3 below, its.4)
 
     pub lacks_number : (reason : Refusal) → (reason ≡ NoInodes) × IsAtEnd view.next_job base → HasBegun c c a (Err reason)
     lacks_number reason why = record {
-      begun = (inr (inr (live, none, u, found.1, inl (why.0, subst (IsAtEnd s.next_job) (sym found.2) (subst (λ (k : Core). IsAtEnd k.next_job base) is why.1)))), refl);
+      begun = (inr (inr (live, none, u, found, inl (why.0, subst (IsAtEnd s.next_job) its.3 (subst (λ (k : Core). IsAtEnd k.next_job base) is why.1)))), refl);
       came = stays;
       sound = sound;
     }
@@ -105,11 +90,11 @@ module _ (c view : Core) (is : view ≡ c) (sound : IsSoundCore c) (a : Dirfrag)
       }
 
       left : IsAtEnd s.next_job u.base → ⊥
-      left lacks = enough (subst (λ (k : Core). IsAtEnd k.next_job base) (sym is) (subst (IsAtEnd s.next_job) found.2 lacks))
+      left lacks = enough (subst (λ (k : Core). IsAtEnd k.next_job base) (sym is) (subst (IsAtEnd s.next_job) (sym its.3) lacks))
 
       pub not_begun : (new : Core) → new ≡ used_core c a room → (reason : Refusal) → reason ≡ NoMemory → HasBegun c new a (Err reason)
       not_begun new is_used reason why = subst (λ (k : Core). HasBegun c k a (Err reason)) (sym is_used)
-          (record { begun = (inr (inr (live, none, u, found.1, inr (why, left))), used_state); came = uses c.caches a.rank.0 leaf stays (refl, refl); sound = used_sound })
+          (record { begun = (inr (inr (live, none, u, found, inr (why, left))), used_state); came = uses c.caches a.rank.0 leaf stays (refl, refl); sound = used_sound })
 
       -- and its job stands
       module _ (job : Job) (valid : IsSnap job.snapshot) (taken : HasCached (here c.caches a.rank.0 leaf) (IsJobOf s.next_job leaf job)) where
@@ -118,14 +103,9 @@ module _ (c view : Core) (is : view ≡ c) (sound : IsSoundCore c) (a : Dirfrag)
 
         job_is : job ≡ job_for s leaf u
         job_is =
-            let shows : shown its.0 ≡ shown_at (Some u) object = tied_show its.0 object (sound.cached leaf (at a.rank.0 its.0) (here_is a.rank.0 (map.get c.caches.held leaf) its.0 its.1)).tied ∙ ap (λ (v : Unsaved). shown_at (Some v) object) (sym its.3) in
-            subst (λ (o : Option Cached). HasCached o (IsJobOf s.next_job leaf job)) its.1 taken ∙ (λ i. record {
-              number = s.next_job;
-              ino = leaf.0;
-              frag = leaf.1;
-              generation = (sym its.3 i).generation;
-              snapshot = record { base = (sym its.3 i).base; names = (sym its.3 i).dirty; counts = counts_of (shows i) };
-            })
+            let shows : shown its.0 ≡ shown_at (Some u) object = tied_show its.0 object (sound.cached leaf (at a.rank.0 its.0) (here_is a.rank.0 (map.get c.caches.held leaf) its.0 its.1)).tied in
+            subst (λ (o : Option Cached). HasCached o (IsJobOf s.next_job leaf job)) its.1 taken
+            ∙ (λ i. record { number = s.next_job; ino = leaf.0; frag = leaf.1; generation = u.generation; snapshot = record { base = u.base; names = u.dirty; counts = counts_of (shows i) } })
 
         abbrev begun : Core
         begun = with_job_in c a job room
@@ -137,21 +117,17 @@ module _ (c view : Core) (is : view ≡ c) (sound : IsSoundCore c) (a : Dirfrag)
         begun_state = λ i. record s { unsaved = used_unclean c.caches (used_at c.caches a.rank.0 leaf) a.rank.0 leaf refl i; jobs = map.insert s.jobs (sym one_leaf i) job; next_job = s.next_job + 1 }
 
         is_of : IsOf job u object
-        is_of = record {
-          valid = valid;
-          base = ap (λ (j : Job). j.snapshot.base) job_is;
-          generation = ap (λ (j : Job). j.generation) job_is;
-          keeps = λ name. subst (λ (j : Job). KeepsAt (map.get u.dirty name) (map.get j.snapshot.names name)) (sym job_is) (keeps_itself (map.get u.dirty name));
-          counted = subst (λ (j : Job). j.snapshot.counts ≡ counts_of (shown_at (Some (record { base = j.snapshot.base; generation = j.generation; dirty = j.snapshot.names })) object)) (sym job_is) refl;
-        }
+        is_of =
+            subst (λ (j : Job). IsOf j u object) (sym job_is)
+            (record { valid = subst (λ (j : Job). IsSnap j.snapshot) job_is valid; base = refl; generation = refl; keeps = λ name. elim (map.get u.dirty name) as (λ m. KeepsAt m m) [ None ↦ tt | Some mark ↦ λ same. refl ]; counted = refl })
 
         pub begun_is : (new : Core) → new ≡ begun → HasBegun c new a (Ok (Some job))
         begun_is new is_begun = subst (λ (k : Core). HasBegun c k a (Ok (Some job))) (sym is_begun) (record {
-          begun = (live, none, subst (λ (o : Option Unsaved). BeginsWith s (state_of begun) leaf o (Some job)) (sym found.1) (job_is, left, begun_state));
+          begun = (live, none, subst (λ (o : Option Unsaved). BeginsWith s (state_of begun) leaf o (Some job)) (sym found) (job_is, left, begun_state));
           came = uses c.caches a.rank.0 leaf stays (refl, refl);
           sound = record {
-            sound = subst IsSound (sym begun_state) (begun_sound s job u sound.sound (ap (map.get s.unsaved) one_leaf ∙ found.1) (ap (λ (j : Job). j.number) job_is)
-                (subst (λ (j : Job). AreYoung j.snapshot.names s.next_version) (sym job_is) (sound.sound.unsaved leaf u found.1).young) (subst (λ (l : Leaf). IsOf job u (object_of s.objects l.0 l.1)) (sym one_leaf) is_of));
+            sound = subst IsSound (sym begun_state) (begun_sound s job u sound.sound (ap (map.get s.unsaved) one_leaf ∙ found) (ap (λ (j : Job). j.number) job_is)
+                (subst (λ (j : Job). AreYoung j.snapshot.names s.next_version) (sym job_is) (sound.sound.unsaved leaf u found).young) (subst (λ (l : Leaf). IsOf job u (object_of s.objects l.0 l.1)) (sym one_leaf) is_of));
             begun = sound.begun;
             cached = λ q b is. let was = used_sound.cached q b is in record { live = was.live; tied = was.tied; made = was.made };
             none = used_sound.none;

@@ -2,7 +2,7 @@
 use Rattle.mdcache.proofs.Common.{AreCached, AreCaches, CacheMap, Core, Err, Ino, IsDropped, IsSound, IsSoundCore, Job, Jobs, KeepsNone, Keys, Leaf, List, None, Objects, Ok, OnErr, OnOk, Option, Purges, PurgesName, Refusal, Result, Rooms, Some, State, ap, clean_there, evicted, first_name, given_up, goes, held_given_up, is_known, last_passes, leaves_of, length, not, option_map, order, purged, refl, same_Some, shown_tree, state_of, subst, sym, tree_saved, tree_text, true, unclean, unclean_gone, victim, whole_given_up, with_tree_at, ℕ, ◌<◌, ◌∙◌, ◌≡◌}
 use Rattle.std.specs.FinMap as map
 use Rattle.dentry_cache.specs.Cache.{stays}
-use Rattle.mdcache.proofs.ObjectLaws.{purged_right, tree_saved_right}
+use Rattle.mdcache.proofs.ObjectLaws.{KeepsLeaves, purged_right, tree_saved_right}
 use Rattle.mdcache.proofs.SoundLaws.{dropped_sound}
 
 module _ (old view : Core) (is : view ≡ old) (sound : IsSoundCore old) where
@@ -28,21 +28,24 @@ module _ (old view : Core) (is : view ≡ old) (sound : IsSoundCore old) where
       none = now.none;
     }
 
+  -- objects and the purge list change, and each leaf stays as it is
+  abbrev changed : Objects → Keys → ℕ → Rooms → Core
+  changed objects purge faults room = record view { objects = objects; purge = purge; faults = faults; room = room }
+
+  changed_sound : (objects : Objects) (purge : Keys) (faults : ℕ) (room : Rooms) (t : State) → KeepsLeaves (state_of view) t → state_of (changed objects purge faults room) ≡ t → IsSoundCore (changed objects purge faults room)
+  changed_sound objects purge faults room t keeps same =
+      record { sound = subst IsSound (sym same) keeps.sound; begun = now.begun; cached = subst (λ (s : State). AreCached s view.caches) (sym same) (keeps.cached view.caches now.cached); none = now.none }
+
   -- an object that nothing owns is removed
   module _ (name : List ℕ) (objects : Objects) (purge : Keys) (faults : ℕ) (room : Rooms) (first : first_name view.purge ≡ Some name) (removed : objects ≡ map.remove view.objects name) (listed : purge ≡ map.remove view.purge name) where
     abbrev less : Core
-    less = record view { objects = objects; purge = purge; faults = faults; room = room }
+    less = changed objects purge faults room
 
     is_purged : state_of less ≡ purged (state_of view) name
     is_purged = λ i. record (state_of view) { objects = removed i; purge = listed i }
 
     pub purge_sound : IsSoundCore less
-    purge_sound = record {
-      sound = subst IsSound (sym is_purged) (purged_right (state_of view) name now.sound first).sound;
-      begun = now.begun;
-      cached = subst (λ (s : State). AreCached s view.caches) (sym is_purged) ((purged_right (state_of view) name now.sound first).cached view.caches now.cached);
-      none = now.none;
-    }
+    purge_sound = changed_sound objects purge faults room (purged (state_of view) name) (purged_right (state_of view) name now.sound first) is_purged
 
     pub purge_purged : (before after : ℕ) → Purges (state_of old) (state_of less) before after (Ok tt)
     purge_purged before after = subst (λ (k : Core). Purges (state_of k) (state_of less) before after (Ok tt)) is
@@ -51,18 +54,13 @@ module _ (old view : Core) (is : view ≡ old) (sound : IsSoundCore old) where
   -- the object of a directory's tree is brought up to date
   module _ (dir : Ino) (objects : Objects) (purge : Keys) (faults : ℕ) (room : Rooms) (known : is_known view.homes dir.0 ≡ true) (saved : objects ≡ with_tree_at view.objects (tree_text dir) (leaves_of view.covers dir.0)) (listed : purge ≡ map.remove view.purge (tree_text dir)) where
     abbrev written : Core
-    written = record view { objects = objects; purge = purge; faults = faults; room = room }
+    written = changed objects purge faults room
 
     is_written : state_of written ≡ tree_saved (state_of view) dir
     is_written = λ i. record (state_of view) { objects = saved i; purge = listed i }
 
     pub tree_sound : IsSoundCore written
-    tree_sound = record {
-      sound = subst IsSound (sym is_written) (tree_saved_right (state_of view) dir now.sound known).sound;
-      begun = now.begun;
-      cached = subst (λ (s : State). AreCached s view.caches) (sym is_written) ((tree_saved_right (state_of view) dir now.sound known).cached view.caches now.cached);
-      none = now.none;
-    }
+    tree_sound = changed_sound objects purge faults room (tree_saved (state_of view) dir) (tree_saved_right (state_of view) dir now.sound known) is_written
 
     pub tree_is : (is_known old.homes dir.0 ≡ true) × (state_of written ≡ tree_saved (state_of old) dir) × (shown_tree (state_of written) ≡ shown_tree (state_of old))
     tree_is = subst (λ (k : Core). (is_known k.homes dir.0 ≡ true) × (state_of written ≡ tree_saved (state_of k) dir) × (shown_tree (state_of written) ≡ shown_tree (state_of k))) is
@@ -70,25 +68,22 @@ module _ (old view : Core) (is : view ≡ old) (sound : IsSoundCore old) where
 
   -- the least recently used of a rank's clean fragments goes
   module _ (r : ℕ) (caches : CacheMap) (there : r < length view.caches.used) (valid : AreCaches view.caches) where
-    by_victim : (P : CacheMap → Type 0) → ((v : Leaf) → goes view.caches r None v ≡ true → P (given_up view.caches r v)) → evicted view.caches r None ≡ Some caches → P caches
-    by_victim P went gone = go (victim view.caches r None) refl gone
-      where
-        go : (o : Option Leaf) → victim view.caches r None ≡ o → option_map (given_up view.caches r) o ≡ Some caches → P caches
-        go None at h = let clash : None ≡ Some caches = h in absurd cc
-        go (Some v) at h = subst P (same_Some (given_up view.caches r v) caches h) (went v (last_passes (goes view.caches r None) (order view.caches r) v at))
+    -- what isn't clean stays, and what is cached is sound still
+    abbrev IsLess : CacheMap → Type 0
+    IsLess k = (unclean k ≡ unclean view.caches) × AreCached (state_of view) k × KeepsNone k
 
-    pub evicted_unclean : evicted view.caches r None ≡ Some caches → unclean caches ≡ unclean view.caches
-    evicted_unclean = by_victim (λ (k : CacheMap). unclean k ≡ unclean view.caches)
-        (λ v passes. unclean_gone view.caches r v (λ some. clean_there r (map.get view.caches.held v) (not (stays None v)) passes))
-
-    evicted_cached : evicted view.caches r None ≡ Some caches → AreCached (state_of view) caches
-    evicted_cached = by_victim (λ (k : CacheMap). AreCached (state_of view) k) (λ v passes q a at. now.cached q a (held_given_up view.caches r v q a at))
-
-    evicted_none : evicted view.caches r None ≡ Some caches → KeepsNone caches
-    evicted_none = by_victim KeepsNone (λ v passes s q placed. whole_given_up view.caches r v s q there (valid.distinct r) (now.none s q) placed)
+    went : evicted view.caches r None ≡ Some caches → IsLess caches
+    went gone = elim (victim view.caches r None) as (λ o. victim view.caches r None ≡ o → option_map (given_up view.caches r) o ≡ Some caches → IsLess caches) [
+      | None ↦ λ at h. let clash : None ≡ Some caches = h in absurd cc
+      | Some v ↦ λ at h. subst IsLess (same_Some (given_up view.caches r v) caches h) (
+        unclean_gone view.caches r v (λ some. clean_there r (map.get view.caches.held v) (not (stays None v)) (last_passes (goes view.caches r None) (order view.caches r) v at)),
+        (λ q a at. now.cached q a (held_given_up view.caches r v q a at)),
+        (λ s q placed. whole_given_up view.caches r v s q there (valid.distinct r) (now.none s q) placed),
+      )
+    ] refl gone
 
     went_state : evicted view.caches r None ≡ Some caches → state_of (record view { caches = caches }) ≡ state_of view
-    went_state gone = λ i. record (state_of view) { unsaved = evicted_unclean gone i }
+    went_state gone = λ i. record (state_of view) { unsaved = (went gone).0 i }
 
     pub evict_state : (result : Result (Unit {0}) Refusal) → OnOk result (evicted view.caches r None ≡ Some caches) → OnErr result (caches ≡ view.caches) → state_of (record view { caches = caches }) ≡ state_of old
     evict_state (Ok done) gone left = went_state gone ∙ ap state_of is
@@ -98,7 +93,7 @@ module _ (old view : Core) (is : view ≡ old) (sound : IsSoundCore old) where
     evict_sound (Ok done) gone left = record {
       sound = subst IsSound (sym (went_state gone)) now.sound;
       begun = now.begun;
-      cached = subst (λ (s : State). AreCached s caches) (sym (went_state gone)) (evicted_cached gone);
-      none = evicted_none gone;
+      cached = subst (λ (s : State). AreCached s caches) (sym (went_state gone)) (went gone).1;
+      none = (went gone).2;
     }
     evict_sound (Err reason) gone left = subst (λ (k : CacheMap). IsSoundCore (record view { caches = k })) (sym left) now

@@ -1,7 +1,7 @@
 -- What the end of a commit keeps.
-use Rattle.mdcache.proofs.Common.{AreCached, AreYoung, At, Base, Bool, Cached, Commits, Core, Fresh, HasSpelled, IsCachedIn, IsCommitted, IsCounted, IsEnded, IsLive, IsOf, IsSaved, IsSound, IsSoundCore, IsStanding, IsTabled, IsTied, IsUnsaved, Job, Keeps, Leaf, Marks, Names, None, Omap, Option, Some, State, Stored, Unsaved, ap, arith, at, committed, committed_are_tied, cond, empty_of_len, eqb-true, false, get-unsettled, get_beside, get_put, get_unclean, get_with_frag, here_is, inl, inr, is_clean, is_clean_over, is_settled, is_some, leaf_is, leaf_itself, leaf_or_apart, names_at, names_then, next_version, none_entries, not, object_after, object_of, refl, same_Some, same_leaf, shown, shown_at, shown_over, shown_tree, spells_what_it_shows, state_of, subst, sym, text_of, tied_show, true, unclean, unclean_with, unsaved_at, unsaved_of, unsettled, with_frag, with_marks, with_unsaved, ℕ, ⊎_elim, ◌<◌, ◌==◌, ◌∙◌, ◌≡◌}
+use Rattle.mdcache.proofs.Common.{AreCached, AreYoung, At, Base, Bool, CacheMap, Cached, Commits, Core, Fresh, HasSpelled, IsCachedIn, IsCommitted, IsCounted, IsEnded, IsFree, IsFreeFor, IsLive, IsOf, IsSaved, IsSound, IsSoundCore, IsStanding, IsTabled, IsThere, IsTied, IsUnsaved, Job, Keeps, Leaf, Marks, Names, None, Omap, Option, Some, State, Stored, Unsaved, ap, arith, at, at_rank, committed, committed_are_tied, cond, empty_of_len, eqb-true, false, get-unsettled, get_beside, get_put, get_unclean, get_with_frag, here_is, inl, is_clean, is_clean_over, is_same, is_settled, is_some, leaf_is, leaf_itself, leaf_or_apart, names_at, names_then, next_version, none_entries, not, object_after, object_of, refl, same_Some, same_leaf, shown, shown_at, shown_over, shown_tree, spells_what_it_shows, state_of, subst, sym, text_of, tied_show, true, unclean, unclean_with, unsaved_at, unsaved_in, unsaved_of, unsettled, with_frag, with_marks, with_unsaved, ℕ, ⊎_elim, ◌<◌, ◌==◌, ◌∙◌, ◌≡◌}
 use Rattle.std.specs.FinMap as map
-use Rattle.std.proofs.lemmas.Bool.{cases_Bool}
+use Rattle.std.proofs.lemmas.Bool.{cond_both}
 use Rattle.mds_types.proofs.LeafLaws.{get_removed}
 use Rattle.objstore.specs.Objects.{written}
 use Rattle.dirfrag_codec.proofs.ByteKeys.{same_or_apart as key_or_apart}
@@ -23,10 +23,8 @@ nothing_patched names marks none = ap (λ es. with_marks names es) (none_entries
 
 -- a cached fragment shows what isn't clean of it over its object
 pub cached_shows : (f : Cached) (object : Option Omap) → IsTied f object → shown_at (unsaved_of f) object ≡ shown f
-cached_shows f object tie = elim (cases_Bool (is_clean f)) [
-  | inl clean ↦ ap (λ (b : Bool). shown_at (cond b None (Some (record { base = f.base; generation = f.generation; dirty = f.dirty }))) object) clean ∙ clean_shows f.base refl clean ∙ sym (tied_show f object tie)
-  | inr dirty ↦ ap (λ (b : Bool). shown_at (cond b None (Some (record { base = f.base; generation = f.generation; dirty = f.dirty }))) object) dirty ∙ sym (tied_show f object tie)
-]
+cached_shows f object tie = cond_both (is_clean f) None (Some (record { base = f.base; generation = f.generation; dirty = f.dirty })) (λ o. shown_at o object ≡ shown f)
+    (λ clean. clean_shows f.base refl clean ∙ sym (tied_show f object tie)) (λ dirty. sym (tied_show f object tie))
   where
     clean_shows : (b : Base) → f.base ≡ b → is_clean_over b f.dirty ≡ true → names_at object ≡ shown_over b (names_at object) f.dirty
     clean_shows Fresh is clean = let clash : false ≡ true = clean in cc
@@ -37,8 +35,19 @@ some_but : {A : Type 0} (b : Bool) (x y : A) → cond b None (Some x) ≡ Some y
 some_but true x y h = let clash : None ≡ Some y = h in absurd cc
 some_but false x y h = (refl, same_Some x y h)
 
-pub beyond_is : (f : Cached) (u : Unsaved) → unsaved_of f ≡ Some u → (is_clean f ≡ false) × (record { base = f.base; generation = f.generation; dirty = f.dirty } ≡ u)
-beyond_is f u is = some_but (is_clean f) (record { base = f.base; generation = f.generation; dirty = f.dirty }) u is
+-- what isn't clean of a leaf that is free for a rank is that of its fragment there
+pub unclean_here : (c : CacheMap) (r : ℕ) (leaf : Leaf) → IsFreeFor c r leaf → map.get (unclean c) leaf ≡ unsaved_in (here_of c r leaf)
+unclean_here c r leaf free = get_unclean c leaf ∙ elim (map.get c.held leaf) as (λ o. IsFree r o → unsaved_at o ≡ unsaved_in (at_rank r o)) [
+  | None ↦ λ is. refl
+  | Some a ↦ λ is. ap (λ (b : Bool). unsaved_in (cond b (Some a.frag) None)) (sym (is_same a.rank r is))
+] free
+
+-- so the fragment of a leaf that isn't clean is there
+pub unclean_is_there : (c : CacheMap) (r : ℕ) (leaf : Leaf) → IsFreeFor c r leaf → is_some (map.get (unclean c) leaf) ≡ true → IsThere (here_of c r leaf)
+unclean_is_there c r leaf free dirty = elim (here_of c r leaf) as (λ o. is_some (unsaved_in o) ≡ true → IsThere o) [
+  | None ↦ λ none. let clash : false ≡ true = none in absurd cc
+  | Some f ↦ λ some. tt
+] (ap is_some (sym (unclean_here c r leaf free)) ∙ dirty)
 
 -- ---- a commit ended
 
@@ -69,7 +78,7 @@ module _ (c : Core) (r : ℕ) (job : Job) (kept : IsSoundCore c) (stood : map.ge
   beyond = sym (get_unclean c.caches leaf ∙ ap unsaved_at held) ∙ stands.beside
 
   its_own : u ≡ record { base = f.base; generation = f.generation; dirty = f.dirty }
-  its_own = sym (beyond_is f u beyond).1
+  its_own = sym (some_but (is_clean f) (record { base = f.base; generation = f.generation; dirty = f.dirty }) u beyond).1
 
   tie : IsTied f object
   tie = (kept.cached leaf (at r f) held).tied
@@ -131,12 +140,6 @@ module _ (c : Core) (r : ℕ) (job : Job) (kept : IsSoundCore c) (stood : map.ge
 
   -- soundness
 
-  younger : AreYoung (unsettled u.dirty job.snapshot.names) s.next_version
-  younger name mark is = elim (not (is_settled (map.get u.dirty name) (map.get job.snapshot.names name))) as (λ b. cond b (map.get u.dirty name) None ≡ Some mark → mark.version < s.next_version) [
-    | true ↦ (kept.sound.unsaved leaf u stands.beside).young name mark
-    | false ↦ λ h. let clash : None ≡ Some mark = h in absurd cc
-  ] (sym (get-unsettled u.dirty job.snapshot.names name) ∙ is)
-
   saved_here : map.get t.unsaved leaf ≡ None → IsSaved leaf.1 (Some here)
   unfolding names_of
   saved_here clean =
@@ -152,45 +155,43 @@ module _ (c : Core) (r : ℕ) (job : Job) (kept : IsSoundCore c) (stood : map.ge
     tabled = subst (λ tree. IsTabled tree s.homes) (sym tree_stays) kept.sound.tabled;
     counted = subst (λ tree. IsCounted tree s.counts s.pins) (sym tree_stays) kept.sound.counted;
     placed = λ q name inode is has. kept.sound.placed q name inode is (ap (λ (n : Names). map.get n name) (sym (shows q is)) ∙ has);
-    unsaved = λ q v is. elim (leaf_or_apart q leaf) [
-      | inl same ↦ subst (λ (l : Leaf). IsUnsaved t l v) (sym same) (subst (IsUnsaved t leaf)
-          (some_but (map.len (unsettled u.dirty job.snapshot.names) == 0) (record { base = Stored (next_version job.snapshot.base); generation = u.generation; dirty = unsettled u.dirty job.snapshot.names }) v (sym unsaved_here ∙ ap (map.get t.unsaved) (sym same) ∙ is)).1
-          (record { live = live; made = (kept.sound.unsaved leaf u stands.beside).made; young = younger }))
-      | inr apart ↦ let before = kept.sound.unsaved q v (sym (unsaved_now q false apart) ∙ is) in record { live = before.live; made = before.made; young = before.young }
-    ];
+    unsaved = λ q v is.
+        let young : AreYoung (unsettled u.dirty job.snapshot.names) s.next_version = λ name mark is.
+        (cond_both (not (is_settled (map.get u.dirty name) (map.get job.snapshot.names name))) (map.get u.dirty name) None (λ o. o ≡ Some mark → mark.version < s.next_version)
+        (λ apart. (kept.sound.unsaved leaf u stands.beside).young name mark) (λ settled h. let clash : None ≡ Some mark = h in absurd cc) (sym (get-unsettled u.dirty job.snapshot.names name) ∙ is)) in
+        ⊎_elim
+        (λ same. subst (λ (l : Leaf). IsUnsaved t l v) (sym same) (subst (IsUnsaved t leaf)
+        (some_but (map.len (unsettled u.dirty job.snapshot.names) == 0) (record { base = Stored (next_version job.snapshot.base); generation = u.generation; dirty = unsettled u.dirty job.snapshot.names }) v (sym unsaved_here ∙ ap (map.get t.unsaved) (sym same) ∙ is)).1
+        (record { live = live; made = (kept.sound.unsaved leaf u stands.beside).made; young = young })))
+        (λ apart. let before = kept.sound.unsaved q v (sym (unsaved_now q false apart) ∙ is) in record { live = before.live; made = before.made; young = before.young }) (leaf_or_apart q leaf);
     saved = λ q is clean. ⊎_elim
         (λ same. subst (λ (l : Leaf). IsSaved l.1 (object_of t.objects l.0 l.1)) (sym same) (subst (IsSaved leaf.1) (sym object_here) (saved_here (ap (map.get t.unsaved) (sym same) ∙ clean))))
         (λ apart. subst (IsSaved q.1) (sym (object_beside q is apart)) (kept.sound.saved q is (sym (unsaved_now q false apart) ∙ clean))) (leaf_or_apart q leaf);
     owned = λ name has.
         ⊎_elim (λ same. inl (leaf, live, same)) (λ apart. kept.sound.owned name (ap is_some (sym (get_beside s.objects (text_of leaf) _ name apart)) ∙ has)) (key_or_apart name (text_of leaf));
     listed = kept.sound.listed;
-    standing = λ q i is. elim (leaf_or_apart q leaf) [
-      | inl same ↦ let clash : None ≡ Some i = sym (get_removed s.jobs leaf) ∙ ap (map.get t.jobs) (sym same) ∙ is in absurd cc
-      | inr apart ↦
-          let before = kept.sound.standing q i (stood_before s leaf q i is) in
-          record {
-            mine = before.mine;
-            given = before.given;
-            young = before.young;
-            unsaved = before.unsaved;
-            beside = unsaved_now q false apart ∙ before.beside;
-            taken = subst (IsOf i before.unsaved) (sym (object_beside q (kept.sound.unsaved q before.unsaved before.beside).live apart)) before.taken;
-          }
-    ];
+    standing = λ q i is. ⊎_elim (λ same. let clash : None ≡ Some i = sym (get_removed s.jobs leaf) ∙ ap (map.get t.jobs) (sym same) ∙ is in absurd cc) (λ apart.
+        let before = kept.sound.standing q i (stood_before s leaf q i is) in
+        record {
+          mine = before.mine;
+          given = before.given;
+          young = before.young;
+          unsaved = before.unsaved;
+          beside = unsaved_now q false apart ∙ before.beside;
+          taken = subst (IsOf i before.unsaved) (sym (object_beside q (kept.sound.unsaved q before.unsaved before.beside).live apart)) before.taken;
+        }) (leaf_or_apart q leaf);
     once = λ a b i j p q same. kept.sound.once a b i j (stood_before s leaf a i p) (stood_before s leaf b j q) same;
   }
 
   pub ended_cached : AreCached t (with_frag c.caches r leaf now)
-  ended_cached q a is = elim (leaf_or_apart q leaf) [
-    | inl same ↦
-        let now_is : at r now ≡ a = same_Some (at r now) a (sym (get_with_frag c.caches r leaf now q ∙ ap (λ (b : Bool). cond b (Some (at r now)) (map.get c.caches.held q)) (same_leaf q leaf same)) ∙ is) in
-        let given = (kept.cached leaf (at r f) held).made in
-        let generation = done.generation in
-        subst (λ (l : Leaf). IsCachedIn t l a.frag) (sym same) (subst (λ (x : At). IsCachedIn t leaf x.frag) now_is (record { live = live; tied = subst (IsTied now) (sym object_here) right.tied; made = omega (arith, given, generation) }))
-    | inr apart ↦
-        let was = kept.cached q a (sym (get_with_frag c.caches r leaf now q ∙ ap (λ (b : Bool). cond b (Some (at r now)) (map.get c.caches.held q)) apart) ∙ is) in
-        record { live = was.live; tied = subst (IsTied a.frag) (sym (object_beside q was.live apart)) was.tied; made = was.made }
-  ]
+  ended_cached q a is = ⊎_elim (λ same.
+      let now_is : at r now ≡ a = same_Some (at r now) a (sym (get_with_frag c.caches r leaf now q ∙ ap (λ (b : Bool). cond b (Some (at r now)) (map.get c.caches.held q)) (same_leaf q leaf same)) ∙ is) in
+      let given = (kept.cached leaf (at r f) held).made in
+      let generation = done.generation in
+      subst (λ (l : Leaf). IsCachedIn t l a.frag) (sym same) (subst (λ (x : At). IsCachedIn t leaf x.frag) now_is (record { live = live; tied = subst (IsTied now) (sym object_here) right.tied; made = omega (arith, given, generation) })))
+      (λ apart.
+      let was = kept.cached q a (sym (get_with_frag c.caches r leaf now q ∙ ap (λ (b : Bool). cond b (Some (at r now)) (map.get c.caches.held q)) apart) ∙ is) in
+      record { live = was.live; tied = subst (IsTied a.frag) (sym (object_beside q was.live apart)) was.tied; made = was.made }) (leaf_or_apart q leaf)
 
   pub ended : IsEnded s t job
   ended = record { stood = stood; unsaved = u; beside = stands.beside; left = refl; spelled = subst (λ o. HasSpelled o (next_version job.snapshot.base) (names_then job.snapshot object)) (sym object_here) right.spelled; tree = tree_stays }

@@ -1,9 +1,9 @@
 -- What the end of a commit leaves, done or refused.
-use Rattle.mdcache.proofs.Common.{AreCached, At, Bool, CacheMap, Cached, Came, Core, Edits, Ends, Err, IsCommitted, IsEnded, IsFree, IsFreeFor, IsSound, IsSoundCore, IsThat, IsThere, Job, Jobs, KeepsNone, Leaf, MayRefuse, None, NoneEnds, Objects, Ok, Option, Refusal, Result, Rooms, Some, State, WriteOp, ap, at_rank, by_edits, cond, edits_unclean, get_unclean, has, here, here_is, inr, is_same, leaf_text, refl, state_of, stays, subst, sym, unsaved_at, unsaved_in, with_frag, write_of, written, ℕ, ◌∙◌, ◌≡◌}
+use Rattle.mdcache.proofs.Common.{AreCached, CacheMap, Cached, Came, Core, Edits, Ends, Err, IsCommitted, IsEnded, IsFreeFor, IsSound, IsSoundCore, IsThat, IsThere, Job, Jobs, KeepsNone, Leaf, MayRefuse, NoneEnds, Objects, Ok, Refusal, Result, Rooms, Some, State, WriteOp, ap, by_edits, edits_unclean, has, here, here_is, inr, is_some, leaf_text, refl, state_of, stays, subst, sym, unsaved_in, with_frag, write_of, written, ℕ, ◌∙◌, ◌≡◌}
 use Rattle.std.specs.FinMap as map
 use Rattle.mdcache.specs.Commits.{leaf_of}
 use Rattle.mdcache.proofs.CoreLaws.{cached_but}
-use Rattle.mdcache.proofs.EndLaws.{ended, ended_cached, ended_sound, now_unclean, t}
+use Rattle.mdcache.proofs.EndLaws.{ended, ended_cached, ended_sound, now_unclean, t, unclean_is_there}
 use Rattle.mdcache.proofs.NoneLaws.{none_edits}
 use Rattle.mdcache.proofs.PutLaws.{cached_with}
 
@@ -25,13 +25,7 @@ module _ (old view : Core) (is : view ≡ old) (sound : IsSoundCore old) (r : �
 
   -- the fragment of a job that stands is at the rank that may hold it
   pub job_cached : IsThere (here view.caches r leaf)
-  job_cached = go (map.get view.caches.held leaf) refl
-    where
-      go : (o : Option At) → map.get view.caches.held leaf ≡ o → IsThere (here view.caches r leaf)
-      go None at =
-          let standing = now_sound.sound.standing leaf job stood in
-          let clash : None ≡ Some standing.unsaved = sym (ap unsaved_at at) ∙ sym (get_unclean view.caches leaf) ∙ standing.beside in absurd cc
-      go (Some a) at = subst IsThere (sym (ap (at_rank r) at ∙ ap (λ (b : Bool). cond b (Some a.frag) None) (is_same a.rank r (subst (IsFree r) (ap (λ (k : Core). map.get k.caches.held leaf) (sym is) ∙ at) free)))) tt
+  job_cached = unclean_is_there view.caches r leaf (subst (λ (k : Core). IsFreeFor k.caches r leaf) (sym is) free) (ap is_some (now_sound.sound.standing leaf job stood).beside)
 
   -- caches in which this fragment changed, as the most recently used
   module _ (Change : Cached → Cached → Type 0) (caches : CacheMap) (edits : Edits Change r leaf view.caches caches) where

@@ -1,48 +1,31 @@
 -- A state once leaves were handed over: sound, and of the same tree.
-use Rattle.mdcache.proofs.Common.{AreCaches, AreCleanAt, AreHanded, AreUncleanAt, At, Base, Bool, CacheMap, Cached, Core, Err, Fresh, GivenOverIsRight, HandsOver, HaveNoJobs, HaveNoPlace, IfErr, IsCachedIn, IsCounted, IsFrom, IsGivenOver, IsSound, IsSoundCore, IsStanding, IsTabled, IsThere, IsTied, IsTiedAt, IsUnsaved, IsUntouched, IsWholeBut, Job, Leaf, List, MayNotHandOver, Names, None, NoneEnds, Ok, Omap, OnErr, OnOk, Option, Refusal, Result, Some, State, Stored, Tree, Unsaved, UnsavedLeaves, [], all_from, all_of, ap, arith, by_keeping, cap_roomy, cond, drop, false, given_up, handed, handed_from, has_place, here, imported, inl, inr, kept_all, leaf_is, length, list_any, moved_all, moved_as, none_beside, object_of, option_map, ranks_handed, ranks_wants, refl, same_Some, shown_at, shown_in, shown_tree, state_of, subst, sym, true, unclean, unclean_in, wants_from, whole_handed, whole_wants, without_all, ℕ, ⊎_elim, ◌+◌, ◌<◌, ◌∙◌, ◌∷◌, ◌≡◌, ◌≢◌, ◌⊎◌}
-use Rattle.std.proofs.lemmas.Bool.{false_from_ne_true}
+use Rattle.mdcache.proofs.Common.{AreCaches, AreCleanAt, AreHanded, AreUncleanAt, At, Base, CacheMap, Cached, Core, Err, Fresh, GivenOverIsRight, HandsOver, HaveNoJobs, HaveNoPlace, IfErr, IsCachedIn, IsCounted, IsFrom, IsGivenOver, IsSound, IsSoundCore, IsTabled, IsThere, IsTied, IsTiedAt, IsUnsaved, IsUntouched, IsWholeBut, Leaf, List, MayNotHandOver, Names, None, NoneEnds, Ok, Omap, OnErr, OnOk, Option, Refusal, Result, Some, State, Stored, Tree, Unsaved, UnsavedLeaves, [], all_from, all_of, ap, arith, by_keeping, cap_roomy, cond, drop, false, given_up, handed, handed_from, has_place, here, imported, inl, inr, kept_all, leaf_is, length, list_any, moved_all, moved_as, none_beside, object_of, option_map, ranks_handed, ranks_wants, refl, same_Some, shown_at, shown_in, shown_tree, state_of, subst, sym, true, unclean, unclean_in, wants_from, whole_handed, whole_wants, without_all, ℕ, ⊎_elim, ◌+◌, ◌<◌, ◌∙◌, ◌∷◌, ◌≡◌, ◌≢◌, ◌⊎◌}
+use Rattle.std.proofs.lemmas.Bool.{cond_both, false_from_ne_true}
 use Rattle.std.specs.FinMap as map
 use Rattle.mdcache.specs.Shown.{names_of}
 use Rattle.mdcache.proofs.TreeLaws.{tree_alike}
 
 -- ---- states
 
--- what is unsaved now was so, but for its generation
-as_was : (leaves : List Leaf) (leaf : Leaf) (o : Option Unsaved) → (handed leaves leaf o ≡ o) ⊎ ((v : Unsaved) × (o ≡ Some v) × (handed leaves leaf o ≡ Some (record v { generation = 0 })))
-as_was leaves leaf o = go (list_any (leaf_is leaf) leaves) o
-  where
-    go : (b : Bool) (o : Option Unsaved) → (cond b (option_map (λ (v : Unsaved). record v { generation = 0 }) o) o ≡ o) ⊎ ((v : Unsaved) × (o ≡ Some v) × (cond b (option_map (λ (v : Unsaved). record v { generation = 0 }) o) o ≡ Some (record v { generation = 0 })))
-    go true None = inl refl
-    go true (Some v) = inr (v, refl, refl)
-    go false o = inl refl
-
 module _ (old : State) (unsaved : UnsavedLeaves) (leaves : List Leaf) (sound : IsSound old) (jobless : HaveNoJobs old.jobs leaves) (given : AreHanded leaves old.unsaved unsaved) where
   abbrev now : State
   now = record old { unsaved = unsaved }
 
+  -- what is unsaved now was so, but for its generation
   was : (leaf : Leaf) → (map.get unsaved leaf ≡ map.get old.unsaved leaf) ⊎ ((v : Unsaved) × (map.get old.unsaved leaf ≡ Some v) × (map.get unsaved leaf ≡ Some (record v { generation = 0 })))
-  was leaf = ⊎_elim (λ same. inl (given leaf ∙ same)) (λ w. inr (w.0, w.1, given leaf ∙ w.2)) (as_was leaves leaf (map.get old.unsaved leaf))
+  was leaf = cond_both (list_any (leaf_is leaf) leaves) (option_map (λ (v : Unsaved). record v { generation = 0 }) (map.get old.unsaved leaf)) (map.get old.unsaved leaf)
+      (λ o. map.get unsaved leaf ≡ o → (map.get unsaved leaf ≡ map.get old.unsaved leaf) ⊎ ((v : Unsaved) × (map.get old.unsaved leaf ≡ Some v) × (map.get unsaved leaf ≡ Some (record v { generation = 0 }))))
+      (λ among. elim (map.get old.unsaved leaf) as (λ o. map.get unsaved leaf ≡ option_map (λ (v : Unsaved). record v { generation = 0 }) o
+      → (map.get unsaved leaf ≡ o) ⊎ ((v : Unsaved) × (o ≡ Some v) × (map.get unsaved leaf ≡ Some (record v { generation = 0 })))) [
+        | None ↦ λ is. inl is
+        | Some v ↦ λ is. inr (v, refl, is)
+      ]) (λ apart is. inl is) (given leaf)
 
   pub same_names : (leaf : Leaf) → names_of unsaved old.objects leaf ≡ names_of old.unsaved old.objects leaf
   unfolding names_of
   same_names leaf =
       let shows = λ (o : Option Unsaved). shown_at o (object_of old.objects leaf.0 leaf.1) in
       ⊎_elim (ap shows) (λ w. ap shows w.2 ∙ sym (ap shows w.1)) (was leaf)
-
-  unsaved_now : (leaf : Leaf) (u : Unsaved) → map.get unsaved leaf ≡ Some u → IsUnsaved now leaf u
-  unsaved_now leaf u is = ⊎_elim (λ same. let before = sound.unsaved leaf u (sym same ∙ is) in record { live = before.live; made = before.made; young = before.young })
-      (λ w.
-      let before = sound.unsaved leaf w.0 w.1 in
-      subst (IsUnsaved now leaf) (same_Some (record w.0 { generation = 0 }) u (sym w.2 ∙ is)) (record { live = before.live; made = omega (arith, before.made); young = before.young })) (was leaf)
-
-  standing_now : (leaf : Leaf) (job : Job) → map.get old.jobs leaf ≡ Some job → IsStanding now leaf job
-  standing_now leaf job is =
-      let s = sound.standing leaf job is in
-      record { mine = s.mine; given = s.given; young = s.young; unsaved = s.unsaved; beside = given leaf ∙ same (list_any (leaf_is leaf) leaves) refl ∙ s.beside; taken = s.taken }
-    where
-      same : (b : Bool) → list_any (leaf_is leaf) leaves ≡ b → cond b (option_map (λ (v : Unsaved). record v { generation = 0 }) (map.get old.unsaved leaf)) (map.get old.unsaved leaf) ≡ map.get old.unsaved leaf
-      same true among = let clash : None ≡ Some job = sym (all_of (λ (l : Leaf). map.get old.jobs l ≡ None) leaf leaves jobless among) ∙ is in absurd cc
-      same false among = refl
 
   pub tree_now : shown_tree now ≡ shown_tree old
   tree_now = tree_alike old.homes old.covers (names_of unsaved old.objects) (names_of old.unsaved old.objects) (λ leaf live. same_names leaf)
@@ -54,11 +37,18 @@ module _ (old : State) (unsaved : UnsavedLeaves) (leaves : List Leaf) (sound : I
     tabled = subst (λ (t : Tree). IsTabled t old.homes) (sym tree_now) sound.tabled;
     counted = subst (λ (t : Tree). IsCounted t old.counts old.pins) (sym tree_now) sound.counted;
     placed = λ leaf name inode live is. sound.placed leaf name inode live (ap (λ (names : Names). map.get names name) (sym (same_names leaf)) ∙ is);
-    unsaved = unsaved_now;
+    unsaved = λ leaf u is. ⊎_elim (λ same. let before = sound.unsaved leaf u (sym same ∙ is) in record { live = before.live; made = before.made; young = before.young })
+        (λ w.
+        let before = sound.unsaved leaf w.0 w.1 in
+        subst (IsUnsaved now leaf) (same_Some (record w.0 { generation = 0 }) u (sym w.2 ∙ is)) (record { live = before.live; made = omega (arith, before.made); young = before.young })) (was leaf);
     saved = λ leaf live none. sound.saved leaf live (⊎_elim (λ same. sym same ∙ none) (λ w. let clash : None ≡ Some (record w.0 { generation = 0 }) = sym none ∙ w.2 in absurd cc) (was leaf));
     owned = sound.owned;
     listed = sound.listed;
-    standing = standing_now;
+    standing = λ leaf job is.
+        let s = sound.standing leaf job is in
+        let apart = false_from_ne_true (list_any (leaf_is leaf) leaves) (λ among. let clash : None ≡ Some job = sym (all_of (λ (l : Leaf). map.get old.jobs l ≡ None) leaf leaves jobless among) ∙ is in cc) in
+        let same = given leaf ∙ ap (λ b. cond b (option_map (λ (v : Unsaved). record v { generation = 0 }) (map.get old.unsaved leaf)) (map.get old.unsaved leaf)) apart in
+        record { mine = s.mine; given = s.given; young = s.young; unsaved = s.unsaved; beside = same ∙ s.beside; taken = s.taken };
     once = sound.once;
   }
 
@@ -122,15 +112,18 @@ module _ (c : Core) (sound : IsSoundCore c) (from to : ℕ) (apart : from ≢ to
     after = record c { caches = caches }
 
     module _ (each : (q : Leaf) (a : At) → map.get caches.held q ≡ Some a → IsFrom (map.get c.caches.held q) a) (whole : IsWholeBut NoneEnds caches) where
-      cached_so : (q : Leaf) (a : At) → map.get caches.held q ≡ Some a → IsCachedIn (state_of c) q a.frag
-      cached_so q a seen =
-          let f = each q a seen in
-          let was = sound.cached q f.was f.held in
-          ⊎_elim (λ same. subst (IsCachedIn (state_of c) q) (sym same) was)
-          (λ same. subst (IsCachedIn (state_of c) q) (sym same) (record { live = was.live; tied = tied_imported f.was.frag (object_of c.objects q.0 q.1) was.tied; made = sound.begun })) f.frag
-
       core_sound : IsSound (state_of after) → IsSoundCore after
-      core_sound state = record { sound = state; begun = sound.begun; cached = λ q a seen. let w = cached_so q a seen in record { live = w.live; tied = w.tied; made = w.made }; none = λ r q placed. ⊎_elim (λ is. is) (λ never. absurd never) (whole r q placed) }
+      core_sound state = record {
+        sound = state;
+        begun = sound.begun;
+        cached = λ q a seen.
+            let f = each q a seen in
+            let was = sound.cached q f.was f.held in
+            let w = ⊎_elim (λ same. subst (IsCachedIn (state_of c) q) (sym same) was)
+            (λ same. subst (IsCachedIn (state_of c) q) (sym same) (record { live = was.live; tied = tied_imported f.was.frag (object_of c.objects q.0 q.1) was.tied; made = sound.begun })) f.frag in
+            record { live = w.live; tied = w.tied; made = w.made };
+        none = λ r q placed. ⊎_elim (λ is. is) (λ never. absurd never) (whole r q placed);
+      }
 
     by : (res : Result (Unit {0}) Refusal) → HaveNoJobs c.jobs leaves → OnOk res (HandsOver from to leaves clean c.caches caches) → IfErr res (MayNotHandOver to leaves c.caches caches) → OnOk res (AreHanded leaves (unclean c.caches) (unclean caches))
         → OnErr res (unclean caches ≡ unclean c.caches) → IsHandedOver from to leaves clean res c after
@@ -145,7 +138,7 @@ module _ (c : Core) (sound : IsSoundCore c) (from to : ℕ) (apart : from ≢ to
       sound = core_sound (handed_from from to apart leaves clean c.caches caches cached h) (whole_handed from to apart leaves clean c.caches caches cached h valid there other NoneEnds whole_first)
           (sound_now (state_of c) (unclean caches) leaves sound.sound jobless given);
     }
-    by (Err reason) jobless h refused given left = record {
+    by (Err reason) jobless h refused given left = let same : state_of after ≡ state_of c = λ i. record (state_of c) { unsaved = left i } in record {
       handed = tt;
       given = tt;
       shown = ap shown_tree same;
@@ -159,16 +152,13 @@ module _ (c : Core) (sound : IsSoundCore c) (from to : ℕ) (apart : from ≢ to
           core_sound (λ q a seen. record { was = a; held = wants_from from to apart leaves c.caches caches cached wants.2 q a seen; frag = inl refl }) (whole_wants from to apart leaves c.caches caches cached wants.2 valid other NoneEnds whole_first)
           (subst IsSound (sym same) sound.sound)) refused;
     }
-      where
-        same : state_of after ≡ state_of c
-        same = λ i. record (state_of c) { unsaved = left i }
 
 -- so of what is seen of the parts that are there
 pub called : (old view : Core) → view ≡ old → IsSoundCore old → (from to : ℕ) → from ≢ to → from < length old.caches.used → to < length old.caches.used → (leaves clean : List Leaf) → AreUncleanAt old.caches from leaves
     → AreCleanAt old.caches from clean → HaveNoJobs old.jobs leaves → (caches : CacheMap) → AreCaches view.caches → (res : Result (Unit {0}) Refusal) → OnOk res (HandsOver from to leaves clean view.caches caches)
     → IfErr res (MayNotHandOver to leaves view.caches caches) → (AreCleanAt view.caches from clean → OnOk res (AreHanded leaves (unclean view.caches) (unclean caches))) → OnErr res (unclean caches ≡ unclean view.caches)
     → IsHandedOver from to leaves clean res old (record view { caches = caches })
-called old view is sound from to apart there other leaves clean cached saved jobless caches valid res handed refused unsaved left = subst (λ (k : Core). IsHandedOver from to leaves clean res k (record view { caches = caches })) is
-    (by view (subst IsSoundCore (sym is) sound) from to apart (subst (λ (k : Core). from < length k.caches.used) (sym is) there) (subst (λ (k : Core). to < length k.caches.used) (sym is) other) leaves clean
-    (subst (λ (k : Core). AreUncleanAt k.caches from leaves) (sym is) cached) caches valid res (subst (λ (k : Core). HaveNoJobs k.jobs leaves) (sym is) jobless) handed refused
-    (unsaved (subst (λ (k : Core). AreCleanAt k.caches from clean) (sym is) saved)) left)
+called old view is sound from to apart there other leaves clean cached saved jobless caches valid res handed refused unsaved left =
+    subst (λ (k : Core). IsSoundCore k → from < length k.caches.used → to < length k.caches.used → AreUncleanAt k.caches from leaves → AreCleanAt k.caches from clean → HaveNoJobs k.jobs leaves
+    → IsHandedOver from to leaves clean res k (record view { caches = caches })) is
+    (λ sound there other cached saved jobless. by view sound from to apart there other leaves clean cached caches valid res jobless handed refused (unsaved saved) left) sound there other cached saved jobless

@@ -1,16 +1,13 @@
 -- What leaves leave in the fragment that joins their names.
-use Rattle.mdcache.proofs.Common.{At, CacheMap, CanSplit, Cached, Core, Dirfrag, HasCached, HasJoined, IsFamilyAt, IsJoined, IsLive, IsSoundCore, IsThat, Leaf, List, Mark, MayHold, Names, None, NoneEnds, Option, ReadsCore, Some, State, TakesIn, [], ap, child_of, get-empty, here, inl, inr, is_known, key_cmp, leaf_of, leaves_of, made_frag, name_joined, names_of, refl, shown, state_of, subst, sym, true, unclean, ℕ, ◌<◌, ◌^◌, ◌∙◌, ◌∷◌, ◌≡◌}
+use Rattle.mdcache.proofs.Common.{At, CacheMap, Cached, CanSplit, Core, Dirfrag, HasCached, HasJoined, IsFamilyAt, IsJoined, IsLive, IsSoundCore, IsThat, Leaf, List, Mark, MayHold, Names, None, NoneEnds, Option, ReadsCore, Some, State, TakesIn, [], ap, child_of, get-empty, here, inl, inr, is_known, key_cmp, leaf_of, leaves_of, made_frag, name_joined, names_of, shown, state_of, subst, sym, true, unclean, ℕ, ◌<◌, ◌^◌, ◌∙◌, ◌∷◌, ◌≡◌}
 use Rattle.std.specs.FinMap as map
 use Rattle.mdcache.proofs.CoreLaws.{may_fetch, may_fetch_on, of_names, reads_state}
 use Rattle.mdcache.proofs.JoinLaws.{one_joined}
+use Rattle.mdcache.proofs.RegroupLaws.{none_unless}
 
 -- what isn't live is cached nowhere
 pub cached_nowhere : (c : Core) → IsSoundCore c → (q : Leaf) → (IsLive c.homes c.covers q → ⊥) → map.get c.caches.held q ≡ None
-cached_nowhere c sound q dead = go (map.get c.caches.held q) refl
-  where
-    go : (o : Option At) → map.get c.caches.held q ≡ o → o ≡ None
-    go None is = refl
-    go (Some a) is = absurd (dead (sound.cached q a is).live)
+cached_nowhere c sound q dead = none_unless (map.get c.caches.held q) (λ a is. dead (sound.cached q a is).live)
 
 -- the leaf of a split, and its children, are live where they are cached, as long as no child is
 pub family_live : (c : Core) (a : Dirfrag) (nb : ℕ) → is_known c.homes a.dir.0 ≡ true → CanSplit (leaves_of c.covers a.dir.0) a.frag nb → (caches : CacheMap)

@@ -29,21 +29,18 @@ pub listed_anew : (old : Keys) (dir : Ino) (frag : Fragment) (nb : ℕ) (texts :
     → ((g : Fragment) → Came g → IsChild frag nb g) → ((i : ℕ) → i < 2 ^ nb → Came (child_of frag i nb)) → IsListedAnew old (without_objects (map.insert old (text_of (dir, frag)) tt) texts) dir (frag ∷ []) Came
 listed_anew old dir frag nb texts Came small valid some few named is_child comes = record {
   ended = λ g has. subst (λ (h : Fragment). map.get (without_objects (map.insert old (text_of (dir, frag)) tt) texts) (text_of (dir, h)) ≡ Some tt) (only_one frag g has)
-      (is_left (map.insert old (text_of (dir, frag)) tt) texts (text_of (dir, frag)) no_child_text ∙ get_put old (text_of (dir, frag)) tt);
+      (is_left (map.insert old (text_of (dir, frag)) tt) texts (text_of (dir, frag)) (λ has.
+      let child = named.only (text_of (dir, frag)) has in
+      let names : Frag dir frag ≡ Frag dir (child_of frag child.0 nb) = texts_differ (Frag dir frag) (Frag dir (child_of frag child.0 nb)) (small, valid) (small, child_is_fragment frag child.0 nb valid few child.1) child.2 in
+      let one : frag ≡ child_of frag child.0 nb = cc in
+      let bits : frag.bits ≡ frag.bits + nb = ap (λ (g : Fragment). g.bits) one in
+      omega (arith, bits, some)) ∙ get_put old (text_of (dir, frag)) tt);
   came = λ g came. let child = is_child g came in
       is_off (map.insert old (text_of (dir, frag)) tt) texts (text_of (dir, g)) (subst (λ (h : Fragment). Contains texts (text_of (dir, h))) (sym child.2) (named.each child.0 child.1));
   others = λ name none.
       is_left (map.insert old (text_of (dir, frag)) tt) texts name (λ has. let child = named.only name has in none (child_of frag child.0 nb) (inr (comes child.0 child.1)) child.2)
       ∙ get_beside old (text_of (dir, frag)) tt name (none frag (inl (zero, omega arith, refl)));
 }
-  where
-    no_child_text : Contains texts (text_of (dir, frag)) → ⊥
-    no_child_text has =
-        let child = named.only (text_of (dir, frag)) has in
-        let names : Frag dir frag ≡ Frag dir (child_of frag child.0 nb) = texts_differ (Frag dir frag) (Frag dir (child_of frag child.0 nb)) (small, valid) (small, child_is_fragment frag child.0 nb valid few child.1) child.2 in
-        let one : frag ≡ child_of frag child.0 nb = cc in
-        let bits : frag.bits ≡ frag.bits + nb = ap (λ (g : Fragment). g.bits) one in
-        omega (arith, bits, some)
 
 -- ---- a merge
 

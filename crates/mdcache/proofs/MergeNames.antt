@@ -1,12 +1,13 @@
 -- The names of leaves that are merged are those that the joined fragment contains.
-use Rattle.mdcache.proofs.Common.{Bool, CanMerge, Fragment, HasLeaf, Ino, Inode, IsMerge, IsPick, IsSound, IsTree, Leaf, List, Mark, Names, None, Option, Some, State, [], ap, arith, between, cond, dentry_of, false, first_or_later, get_or, hash_of, holds, holds_contains, in_directory, inl, inr, is_known, is_same, later, leaves_inside, leaves_of, lies_inside, marked_as, merged_after_merge, name_joined, names_of, one_or_other, pick_after_merge, range_from_inside, refl, shown_tree, span, span_pos, subst, sym, tree_of_row, true, zero, ℕ, ⊎_elim, ◌%◌, ◌/◌, ◌^◌, ◌∙◌, ◌∷◌, ◌≡◌, ◌⊎◌}
-use Rattle.std.proofs.lemmas.Bool.{cases_Bool, true_from_ne_false}
+use Rattle.mdcache.proofs.Common.{CanMerge, Fragment, HasLeaf, Ino, Inode, IsMerge, IsPick, IsSound, IsTree, Leaf, List, Mark, Names, None, Option, Some, State, [], ap, arith, between, cond, dentry_of, false, first_or_later, get_or, hash_of, holds, holds_contains, in_directory, inl, inr, is_known, is_same, later, leaves_inside, leaves_of, lies_inside, marked_as, merged_after_merge, name_joined, names_of, one_or_other, pick_after_merge, range_from_inside, refl, shown_tree, span, span_pos, subst, sym, tree_of_row, true, zero, ℕ, ⊎_elim, ◌%◌, ◌/◌, ◌^◌, ◌∙◌, ◌∷◌, ◌≡◌, ◌⊎◌}
+use Rattle.std.proofs.lemmas.Bool.{cond_both, true_from_ne_false}
 use Rattle.std.proofs.lemmas.List.Elements.{Contains-get_or}
 use Rattle.std.specs.Cmp.{both_ways}
 use Rattle.std.specs.Prelude.{map as each}
 use Rattle.std.specs.FinMap as map
 use Rattle.fragtree.proofs.Spelled.{one_leaf as one_of_hash}
 use Rattle.mdcache.proofs.NamedLaws.{pick_at, sound_leaves, stands_at}
+use Rattle.mdcache.proofs.RegroupLaws.{none_unless}
 use Rattle.mdcache.proofs.SplitLaws.{has_inside, inside_has}
 
 -- ---- the fragment of a merge
@@ -47,11 +48,7 @@ module _ (s : State) (sound : IsSound s) (dir : Ino) (known : is_known s.homes d
 
   -- of all leaves the pick alone has it, if the tree has it
   none_beside : (f : Fragment) → HasLeaf row f → (f ≡ pick.0 → ⊥) → map.get (names (dir, f)) name ≡ None
-  none_beside f has apart = go (map.get (names (dir, f)) name) refl
-    where
-      go : (o : Option Inode) → map.get (names (dir, f)) name ≡ o → o ≡ None
-      go None is = refl
-      go (Some inode) is = absurd (apart (pick.1.alone f has (sound.placed (dir, f) name inode (record { known = known; stands = has }) is).contains))
+  none_beside f has apart = none_unless (map.get (names (dir, f)) name) (λ inode is. apart (pick.1.alone f has (sound.placed (dir, f) name inode (record { known = known; stands = has }) is).contains))
 
   here : map.get (names (dir, pick.0)) name ≡ found
   here = sym (stands_at s (sound_leaves s sound) (dentry_of dir.0 name) pick.0 known pick.1)
@@ -63,34 +60,27 @@ module _ (s : State) (sound : IsSound s) (dir : Ino) (known : is_known s.homes d
     abbrev joined : List Fragment → Option Mark → Option Mark
     joined fs was = name_joined names version (each (in_directory dir.0) fs) name was
 
-    joined_none : (fs : List Fragment) (was : Option Mark) → ((f : Fragment) → HasLeaf fs f → map.get (names (dir, f)) name ≡ None) → joined fs was ≡ was
-    joined_none [] was none = refl
-    joined_none (f ∷ fs) was none =
-        ap (λ (o : Option Inode). joined fs (marked_as version o was)) (none f (zero, omega arith, refl)) ∙ joined_none fs was (λ g has. none g (later f g fs has))
+    -- what each of these leaves leaves, all leave
+    joined_same : (fs : List Fragment) (was : Option Mark) → ((f : Fragment) → HasLeaf fs f → marked_as version (map.get (names (dir, f)) name) was ≡ was) → joined fs was ≡ was
+    joined_same [] was same = refl
+    joined_same (f ∷ fs) was same = ap (joined fs) (same f (zero, omega arith, refl)) ∙ joined_same fs was (λ g has. same g (later f g fs has))
 
     -- that of the tree, once it is there
     abbrev mark : Option Mark
     mark = marked_as version found None
 
-    again : (o : Option Inode) → marked_as version o (marked_as version o None) ≡ marked_as version o None
-    again None = refl
-    again (Some inode) = refl
-
     stays : (fs : List Fragment) → ((f : Fragment) → HasLeaf fs f → HasLeaf row f) → joined fs mark ≡ mark
-    stays [] within = refl
-    stays (f ∷ fs) within =
-        ap (joined fs) (⊎_elim (λ is. ap (λ (o : Option Inode). marked_as version o mark) is ∙ again found) (λ none. ap (λ (o : Option Inode). marked_as version o mark) none) (its f (within f (zero, omega arith, refl))))
-        ∙ stays fs (λ g has. within g (later f g fs has))
+    stays fs within = joined_same fs mark (λ f has. ⊎_elim (λ is. ap (λ (o : Option Inode). marked_as version o mark) is
+        ∙ elim found as (λ o. marked_as version o (marked_as version o None) ≡ marked_as version o None) [ None ↦ refl | Some inode ↦ refl ])
+        (λ none. ap (λ (o : Option Inode). marked_as version o mark) none) (its f (within f has)))
 
     comes : (fs : List Fragment) → ((f : Fragment) → HasLeaf fs f → HasLeaf row f) → HasLeaf fs pick.0 → joined fs None ≡ mark
     comes [] within has = let none = has.1 in absurd (omega (arith, none))
     comes (f ∷ fs) within has =
         let rest : (g : Fragment) → HasLeaf fs g → HasLeaf row g = λ g h. within g (later f g fs h) in
         let found_in : map.get (names (dir, f)) name ≡ found → joined (f ∷ fs) None ≡ mark = λ is. ap (λ (o : Option Inode). joined fs (marked_as version o None)) is ∙ stays fs rest in
-        elim (first_or_later f pick.0 fs has) [
-          | inl same ↦ found_in (ap (λ (g : Fragment). map.get (names (dir, g)) name) same ∙ here)
-          | inr more ↦ ⊎_elim found_in (λ none. ap (λ (o : Option Inode). joined fs (marked_as version o None)) none ∙ comes fs rest more) (its f (within f (zero, omega arith, refl)))
-        ]
+        ⊎_elim (λ same. found_in (ap (λ (g : Fragment). map.get (names (dir, g)) name) same ∙ here))
+        (λ more. ⊎_elim found_in (λ none. ap (λ (o : Option Inode). joined fs (marked_as version o None)) none ∙ comes fs rest more) (its f (within f (zero, omega arith, refl)))) (first_or_later f pick.0 fs has)
 
     -- a name of the leaves that are merged is dirty in the joined fragment, if this contains it
     module _ (cover : List Fragment) (frag : Fragment) (whole : IsTree cover) (can : CanMerge row frag) (merged : IsMerge row cover frag) where
@@ -104,11 +94,6 @@ module _ (s : State) (sound : IsSound s) (dir : Ino) (known : is_known s.homes d
       within f has = (has_inside frag f row has).0
 
       pub joined_is : joined gone None ≡ marked_as version (cond (holds frag (hash_of name)) found None) None
-      joined_is = elim (cases_Bool (holds frag (hash_of name))) [
-        | inl has ↦ comes gone within (inside_has frag pick.0 row pick.1.stands (told ∙ has)) ∙ sym (ap (λ (b : Bool). marked_as version (cond b found None) None) has)
-        | inr out ↦
-            joined_none gone None (λ f has. none_beside f (within f has) (λ same.
-            let clash : true ≡ false = sym (has_inside frag f row has).1 ∙ ap (lies_inside frag) same ∙ told ∙ out in
-            cc))
-            ∙ sym (ap (λ (b : Bool). marked_as version (cond b found None) None) out)
-      ]
+      joined_is = cond_both (holds frag (hash_of name)) found None (λ o. joined gone None ≡ marked_as version o None) (λ has. comes gone within (inside_has frag pick.0 row pick.1.stands (told ∙ has)))
+          (λ out. joined_same gone None (λ f has. ap (λ (o : Option Inode). marked_as version o None) (none_beside f (within f has) (λ same.
+          let clash : true ≡ false = sym (has_inside frag f row has).1 ∙ ap (lies_inside frag) same ∙ told ∙ out in cc))))

@@ -1,10 +1,11 @@
 -- What a merge makes of the whole, once all was ready for it.
-use Rattle.mdcache.proofs.Common.{AreCached, At, Base, Bool, CacheMap, Came, CanMerge, Comes, Contains, Core, Dirfrag, Frag, Fragment, HasLeaf, HasUnsaved, Inode, IsAmongOr, IsCachedIn, IsConcerned, IsListedAnew, IsLive, IsMergeReady, IsMergedInto, IsNewLeaf, IsRegrouped, IsSound, IsSoundCore, IsTree, KeepsNone, Keys, Leaf, List, Merge, None, NoneEnds, Option, ReadsCore, Some, State, Unsaved, ap, are_empty, arith, at, between, cond, dentry_of, ending_at, false, fresh_tied, get_left, get_removed, get_unclean, get_with_frag, has_none, hash_of, holds, in_directory, inl, inr, is_clean_over, is_known, leaf_is, leaf_itself, leaf_of, leaves_in, leaves_inside, leaves_of, list_all, list_any, marked_as, merged_in, merged_leaves, names_of, object_of, one_leaf, reads_came, reads_weaker, refl, same_Some, same_leaf, shown, shown_tree, state_of, subst, sym, text_of, texts_differ, tree_of_row, true, unclean, unsaved_at, with_frag, with_objects, without_leaves, ℕ, ⊎_elim, ◌+◌, ◌<◌, ◌∙◌, ◌≡◌}
-use Rattle.std.proofs.lemmas.Bool.{cases_Bool, false_from_ne_true, true_from_ne_false}
+use Rattle.mdcache.proofs.Common.{AreCached, At, Base, Bool, CacheMap, Came, CanMerge, Comes, Contains, Core, Dirfrag, Frag, Fragment, HasLeaf, HasUnsaved, Inode, IsAmongOr, IsConcerned, IsListedAnew, IsLive, IsMergeReady, IsMergedInto, IsNewLeaf, IsRegrouped, IsSound, IsSoundCore, IsTied, IsTree, KeepsNone, Keys, Leaf, List, Merge, None, NoneEnds, Option, ReadsCore, Some, State, Unsaved, ap, are_empty, arith, at, between, cond, dentry_of, ending_at, false, fresh_tied, get_left, get_removed, get_with_frag, has_none, hash_of, holds, in_directory, inl, inr, is_clean_over, is_known, leaf_is, leaf_itself, leaf_of, leaves_in, leaves_inside, leaves_of, list_all, list_any, marked_as, merged_in, merged_leaves, names_of, object_of, one_leaf, reads_came, reads_weaker, refl, same_Some, same_leaf, shown, shown_tree, state_of, subst, sym, text_of, texts_differ, tree_of_row, true, unclean, unclean_with, unsaved_of, with_frag, with_objects, without_leaves, ℕ, ⊎_elim, ◌+◌, ◌<◌, ◌∙◌, ◌≡◌}
+use Rattle.std.proofs.lemmas.Bool.{false_from_ne_true, true_from_ne_false}
 use Rattle.std.specs.Cmp.{both_ways}
 use Rattle.std.specs.Prelude.{map as each}
 use Rattle.std.specs.FinMap as map
 use Rattle.dentry_cache.specs.Came.Came.{has as arrives}
+use Rattle.dentry_cache.proofs.CacheLaws.{unsaved_here as unsaved_here_at}
 use Rattle.mdcache.specs.Splits.{KeepsTree}
 use Rattle.mdcache.proofs.ChangeSteps.{ends_came_so, still_held, unclean_ended}
 use Rattle.mdcache.proofs.CoreLaws.{reads_cached_so, reads_state}
@@ -15,7 +16,7 @@ use Rattle.mdcache.proofs.ListedLaws.{beside_on, texts_on}
 use Rattle.mdcache.proofs.MergeNames.{joined_is, merged_is_new, pick_inside}
 use Rattle.mdcache.proofs.NamedLaws.{pick_at, sound_leaves, stands_at}
 use Rattle.mdcache.proofs.NoNames.{all_pass, no_name, some_fails, some_name}
-use Rattle.mdcache.proofs.RegroupLaws.{Replaces, apart_live, came_live, dirty_shows, unmapped, which}
+use Rattle.mdcache.proofs.RegroupLaws.{Replaces, dirty_shows, holds_or_none, regroup_cached, unmapped}
 use Rattle.mdcache.proofs.SplitLaws.{has_inside, inside_has, merge_replaces, merges_right, not_itself}
 
 -- the fragment of a merge is cached nowhere before, and the leaves that end are live
@@ -62,14 +63,9 @@ module _ (old mid : Core) (sound : IsSoundCore old) (a : Dirfrag) (merge : Merge
   was : s ≡ state_of old
   was = reads_state Uses NoneEnds old mid reads
 
-  mine : IsSound s
-  mine = subst IsSound (sym was) sound.sound
-
-  known_now : is_known s.homes a.dir.0 ≡ true
-  known_now = ap (λ (u : State). is_known u.homes a.dir.0) was ∙ known
-
-  can_now : CanMerge (leaves_of s.covers a.dir.0) a.frag
-  can_now = subst (λ (u : State). CanMerge (leaves_of u.covers a.dir.0) a.frag) (sym was) can
+  -- the state is sound still, and the leaf can change as before
+  still : IsSound s × (is_known s.homes a.dir.0 ≡ true) × CanMerge (leaves_of s.covers a.dir.0) a.frag
+  still = subst (λ (u : State). IsSound u × (is_known u.homes a.dir.0 ≡ true) × CanMerge (leaves_of u.covers a.dir.0) a.frag) (sym was) (sound.sound, known, can)
 
   -- cached leaves are sound still
   cached : AreCached s mid.caches
@@ -85,11 +81,11 @@ module _ (old mid : Core) (sound : IsSoundCore old) (a : Dirfrag) (merge : Merge
   ending = each (in_directory a.dir.0) gone
 
   tree : IsTree row
-  tree = tree_of_row s.homes s.covers mine.table a.dir.0
+  tree = tree_of_row s.homes s.covers still.0.table a.dir.0
 
   -- the joined fragment alone comes
   comes : Comes row merge.plan.cover a.frag
-  comes = ((ready.planned.cover.leaves a.frag).1 (inr refl), merged_is_new row a.frag tree can_now)
+  comes = ((ready.planned.cover.leaves a.frag).1 (inr refl), merged_is_new row a.frag tree still.2)
 
   is_it : (g : Fragment) → Comes row merge.plan.cover g → g ≡ a.frag
   is_it g came = ⊎_elim (λ old. absurd (came.1 old.0)) (λ same. same) ((ready.planned.cover.leaves g).0 came.0)
@@ -100,7 +96,7 @@ module _ (old mid : Core) (sound : IsSoundCore old) (a : Dirfrag) (merge : Merge
   -- ---- its names
 
   dirty_is : (name : List ℕ) → map.get merge.joined.dirty name ≡ marked_as s.next_version (cond (holds a.frag (hash_of name)) (map.get (shown_tree s) (dentry_of a.dir.0 name)) None) None
-  dirty_is name = ready.joined.dirty name ∙ joined_is s mine a.dir known_now name s.next_version merge.plan.cover a.frag ready.planned.whole can_now ready.planned.cover
+  dirty_is name = ready.joined.dirty name ∙ joined_is s still.0 a.dir still.1 name s.next_version merge.plan.cover a.frag ready.planned.whole still.2 ready.planned.cover
 
   shown_is : (name : List ℕ) → map.get (shown merge.joined) name ≡ cond (holds a.frag (hash_of name)) (map.get (shown_tree s) (dentry_of a.dir.0 name)) None
   shown_is name =
@@ -111,18 +107,19 @@ module _ (old mid : Core) (sound : IsSoundCore old) (a : Dirfrag) (merge : Merge
   found_in : (f : Fragment) (name : List ℕ) (inode : Inode) → HasLeaf gone f → map.get (names_of s.unsaved s.objects (a.dir, f)) name ≡ Some inode → map.get (shown merge.joined) name ≡ Some inode
   found_in f name inode has is =
       let both = has_inside a.frag f row has in
-      let pick = mine.placed (a.dir, f) name inode (record { known = known_now; stands = both.0 }) is in
-      let tree_has : map.get (shown_tree s) (dentry_of a.dir.0 name) ≡ Some inode = stands_at s (sound_leaves s mine) (dentry_of a.dir.0 name) f known_now pick ∙ is in
-      shown_is name ∙ ap (λ (b : Bool). cond b (map.get (shown_tree s) (dentry_of a.dir.0 name)) None) (sym (pick_inside row merge.plan.cover a.frag tree ready.planned.whole can_now ready.planned.cover (hash_of name) f pick) ∙ both.1) ∙ tree_has
+      let pick = still.0.placed (a.dir, f) name inode (record { known = still.1; stands = both.0 }) is in
+      let tree_has : map.get (shown_tree s) (dentry_of a.dir.0 name) ≡ Some inode = stands_at s (sound_leaves s still.0) (dentry_of a.dir.0 name) f still.1 pick ∙ is in
+      shown_is name
+      ∙ ap (λ (b : Bool). cond b (map.get (shown_tree s) (dentry_of a.dir.0 name)) None) (sym (pick_inside row merge.plan.cover a.frag tree ready.planned.whole still.2 ready.planned.cover (hash_of name) f pick) ∙ both.1) ∙ tree_has
 
   comes_from : (name : List ℕ) (inode : Inode) → map.get (shown merge.joined) name ≡ Some inode → (f : Fragment) × HasLeaf gone f × (map.get (names_of s.unsaved s.objects (a.dir, f)) name ≡ Some inode)
-  comes_from name inode is = elim (cases_Bool (holds a.frag (hash_of name))) [
-    | inl has ↦
-        let p = pick_at s (sound_leaves s mine) (dentry_of a.dir.0 name) in
-        let found : map.get (shown_tree s) (dentry_of a.dir.0 name) ≡ Some inode = sym (shown_is name ∙ ap (λ (b : Bool). cond b (map.get (shown_tree s) (dentry_of a.dir.0 name)) None) has) ∙ is in
-        (p.0, inside_has a.frag p.0 row p.1.stands (pick_inside row merge.plan.cover a.frag tree ready.planned.whole can_now ready.planned.cover (hash_of name) p.0 p.1 ∙ has), sym (stands_at s (sound_leaves s mine) (dentry_of a.dir.0 name) p.0 known_now p.1) ∙ found)
-    | inr out ↦ let clash : None ≡ Some inode = sym (shown_is name ∙ ap (λ (b : Bool). cond b (map.get (shown_tree s) (dentry_of a.dir.0 name)) None) out) ∙ is in absurd cc
-  ]
+  comes_from name inode is =
+      let found = holds_or_none (holds a.frag (hash_of name)) (map.get (shown_tree s) (dentry_of a.dir.0 name)) inode (sym (shown_is name) ∙ is) in
+      let p = pick_at s (sound_leaves s still.0) (dentry_of a.dir.0 name) in (
+        p.0,
+        inside_has a.frag p.0 row p.1.stands (pick_inside row merge.plan.cover a.frag tree ready.planned.whole still.2 ready.planned.cover (hash_of name) p.0 p.1 ∙ found.0),
+        sym (stands_at s (sound_leaves s still.0) (dentry_of a.dir.0 name) p.0 still.1 p.1) ∙ found.1,
+      )
 
   abbrev is_empty : Fragment → Bool
   is_empty f = has_none (names_of s.unsaved s.objects (a.dir, f))
@@ -151,10 +148,8 @@ module _ (old mid : Core) (sound : IsSoundCore old) (a : Dirfrag) (merge : Merge
   get_now : (q : Leaf) → map.get (unclean made.caches) q ≡ cond (list_any (leaf_is q) ending) None (cond (leaf_is q leaf) (Some beyond) (map.get (unclean mid.caches) q))
   get_now q =
       ap (λ u. map.get u q) (unclean_ended filled (leaves_in a.dir merge.plan.leaves.items) ∙ ap (without_leaves (unclean filled)) ready.planned.leaves) ∙ get_without (unclean filled) ending q
-      ∙ ap (cond (list_any (leaf_is q) ending) None) (get_unclean filled q ∙ ap unsaved_at (get_with_frag mid.caches a.rank.0 leaf merge.joined q) ∙ elim (leaf_is q leaf) as (λ b. unsaved_at (cond b (Some (at a.rank.0 merge.joined)) (map.get mid.caches.held q)) ≡ cond b (Some beyond) (map.get (unclean mid.caches) q)) [
-        | true ↦ ap (λ (b : Bool). cond b None (Some beyond)) (ap (λ (b : Base). is_clean_over b merge.joined.dirty) ready.joined.fresh)
-        | false ↦ sym (get_unclean mid.caches q)
-      ])
+      ∙ ap (cond (list_any (leaf_is q) ending) None) (ap (λ u. map.get u q) (unclean_with mid.caches a.rank.0 leaf merge.joined) ∙ unsaved_here_at (unclean mid.caches) leaf q (unsaved_of merge.joined)
+      ∙ ap (λ (b : Base). cond (leaf_is q leaf) (cond (is_clean_over b merge.joined.dirty) None (Some beyond)) (map.get (unclean mid.caches) q)) ready.joined.fresh)
 
   -- of a leaf that doesn't end
   get_still : (q : Leaf) (y : Bool) → (q.0.0 ≡ a.dir.0 → HasLeaf gone q.1 → ⊥) → leaf_is q leaf ≡ y → map.get (unclean made.caches) q ≡ cond y (Some beyond) (map.get (unclean mid.caches) q)
@@ -172,18 +167,11 @@ module _ (old mid : Core) (sound : IsSoundCore old) (a : Dirfrag) (merge : Merge
   abbrev on : Keys
   on = with_objects s.purge (each text_of ending)
 
-  other_text : (g : Fragment) → HasLeaf gone g → text_of (a.dir, g) ≡ text_of (a.dir, a.frag) → ⊥
-  other_text g has same =
-      let small = mine.numbered a.dir.0 known_now in
-      let names : Frag a.dir g ≡ Frag a.dir a.frag = texts_differ (Frag a.dir g) (Frag a.dir a.frag) (small, (between 0 16777216 row g tree.tiles (has_inside a.frag g row has).0).0) (small, (between 0 16777216 merge.plan.cover a.frag ready.planned.whole.tiles comes.0).0) same in
-      let one : g ≡ a.frag = cc in
-      not_gone (subst (HasLeaf gone) one has)
-
   -- ---- all of it
 
   is_regrouped : IsRegrouped s t a.dir gone merge.plan.cover 1
   is_regrouped = record {
-    known = known_now;
+    known = still.1;
     whole = ready.planned.whole;
     unsaved = unclean made.caches;
     purge = t.purge;
@@ -195,41 +183,28 @@ module _ (old mid : Core) (sound : IsSoundCore old) (a : Dirfrag) (merge : Merge
     ended = λ g has. get_now (a.dir, g) ∙ ap (λ (b : Bool). cond b None (cond (leaf_is (a.dir, g) leaf) (Some beyond) (map.get (unclean mid.caches) (a.dir, g)))) (among a.dir.0 (a.dir, g) gone refl has);
     others = λ q apart. get_still q false (λ same has. apart same (inl has)) (apart_it q apart);
     listed = subst (λ (names : Keys). IsListedAnew s.purge names a.dir gone (Comes row merge.plan.cover)) (λ i. map.remove (with_objects s.purge (sym ready.planned.texts i)) (sym ready.planned.object i)) (record {
-      ended = λ g has. get_left on (text_of (a.dir, a.frag)) (text_of (a.dir, g)) (other_text g has) ∙ texts_on s.purge a.dir gone g has;
+      ended = λ g has. get_left on (text_of (a.dir, a.frag)) (text_of (a.dir, g)) (λ same.
+          let small = still.0.numbered a.dir.0 still.1 in
+          let names : Frag a.dir g ≡ Frag a.dir a.frag = texts_differ (Frag a.dir g) (Frag a.dir a.frag) (small, (between 0 16777216 row g tree.tiles (has_inside a.frag g row has).0).0) (small, (between 0 16777216 merge.plan.cover a.frag ready.planned.whole.tiles comes.0).0) same in
+          let one : g ≡ a.frag = cc in
+          not_gone (subst (HasLeaf gone) one has)) ∙ texts_on s.purge a.dir gone g has;
       came = λ g came. ap (λ (h : Fragment). map.get (map.remove on (text_of (a.dir, a.frag))) (text_of (a.dir, h))) (is_it g came) ∙ get_removed on (text_of (a.dir, a.frag));
       others = λ name none. get_left on (text_of (a.dir, a.frag)) name (none a.frag (inr comes)) ∙ beside_on s.purge a.dir gone name (λ g has. none g (inl has));
     });
   }
 
   is_merged : IsMergedInto s t a.dir a.frag
-  is_merged = record { can = can_now; cover = merge.plan.cover; merged = ready.planned.cover; regrouped = is_regrouped }
+  is_merged = record { can = still.2; cover = merge.plan.cover; merged = ready.planned.cover; regrouped = is_regrouped }
 
   cut : Replaces row gone merge.plan.cover
   cut = merge_replaces row merge.plan.cover a.frag ready.planned.cover
 
   -- ---- what is cached
 
-  now_cached : AreCached t made.caches
-  now_cached q b is =
-      let still = still_held filled (leaves_in a.dir merge.plan.leaves.items) q b is in
-      let filled_is : cond (leaf_is q leaf) (Some (at a.rank.0 merge.joined)) (map.get mid.caches.held q) ≡ Some b = sym (get_with_frag mid.caches a.rank.0 leaf merge.joined q) ∙ still.1 in
-      elim (which s mine a.dir gone merge.plan.cover 1 t is_regrouped cut q) [
-        | inl end ↦ let clash : true ≡ false = sym (among a.dir.0 q gone end.0 end.1) ∙ sym (ap (list_any (leaf_is q)) ready.planned.leaves) ∙ still.0 in absurd cc
-        | inr stands ↦ elim stands [
-          | inl came ↦
-              let same : q ≡ leaf = (λ i. (record { 0 = came.0 i }, is_it q.1 came.1 i)) in
-              let number = ready.joined.numbered in
-              subst (λ (k : At). IsCachedIn t q k.frag) (same_Some (at a.rank.0 merge.joined) b (sym (ap (λ (y : Bool). cond y (Some (at a.rank.0 merge.joined)) (map.get mid.caches.held q)) (same_leaf q leaf same)) ∙ filled_is)) (record {
-                live = came_live s mine a.dir gone merge.plan.cover 1 t is_regrouped cut q came.0 came.1.0;
-                tied = fresh_tied merge.joined (object_of t.objects q.0 q.1) ready.joined.fresh;
-                made = omega (arith, number);
-              })
-          | inr apart ↦
-              let before = cached q b (sym (ap (λ (y : Bool). cond y (Some (at a.rank.0 merge.joined)) (map.get mid.caches.held q)) (apart_it q apart)) ∙ filled_is) in
-              let given = before.made in
-              record { live = apart_live s mine a.dir gone merge.plan.cover 1 t is_regrouped cut q apart before.live; tied = before.tied; made = omega (arith, given) }
-        ]
-      ]
+  filled_at : (q : Leaf) (y : Bool) (b : At) → leaf_is q leaf ≡ y → map.get made.caches.held q ≡ Some b → cond y (Some (at a.rank.0 merge.joined)) (map.get mid.caches.held q) ≡ Some b
+  filled_at q y b same is =
+      ap (λ (y : Bool). cond y (Some (at a.rank.0 merge.joined)) (map.get mid.caches.held q)) (sym same) ∙ sym (get_with_frag mid.caches a.rank.0 leaf merge.joined q)
+      ∙ (still_held filled (leaves_in a.dir merge.plan.leaves.items) q b is).1
 
   -- ---- of what was before
 
@@ -247,9 +222,16 @@ module _ (old mid : Core) (sound : IsSoundCore old) (a : Dirfrag) (merge : Merge
         (ends_came_so Uses Ends old.caches filled (leaves_in a.dir merge.plan.leaves.items) (λ n q among. subst (λ (ls : List Leaf). Contains ls q) (ready.planned.leaves ∙ ap (λ (u : State). each (in_directory a.dir.0) (leaves_inside a.frag (leaves_of u.covers a.dir.0))) was) among)
         (arrives mid.caches a.rank.0 leaf merge.joined (reads_came Uses Ends old.objects old.caches mid.caches (reads_weaker Uses NoneEnds Uses Ends (λ n q is. is) (λ n q no_end. absurd no_end) old.objects old.caches mid.caches reads.caches)) (inr (refl, refl))));
     sound = subst IsSoundCore (sym left) (record {
-      sound = (merges_right s t a.dir a.frag mine is_merged).sound;
+      sound = (merges_right s t a.dir a.frag still.0 is_merged).sound;
       begun = (let before : 0 < s.next_generation = subst (λ (u : State). 0 < u.next_generation) (sym was) sound.begun in omega (arith, before));
-      cached = now_cached;
+      cached = regroup_cached s still.0 a.dir gone merge.plan.cover 1 t is_regrouped cut mid.caches made.caches cached
+          (λ q same has b is. let clash : true ≡ false = sym (among a.dir.0 q gone same has) ∙ sym (ap (list_any (leaf_is q)) ready.planned.leaves) ∙ (still_held filled (leaves_in a.dir merge.plan.leaves.items) q b is).0 in cc)
+          (λ q same came b is.
+          let number = ready.joined.numbered in
+          subst (λ (k : At). IsTied k.frag (object_of s.objects q.0 q.1) × (k.frag.generation < s.next_generation + 1))
+          (same_Some (at a.rank.0 merge.joined) b (filled_at q true b (same_leaf q leaf (λ i. (record { 0 = same i }, is_it q.1 came i))) is))
+          (fresh_tied merge.joined (object_of s.objects q.0 q.1) ready.joined.fresh, omega (arith, number)))
+          (λ q apart b is. filled_at q false b (apart_it q apart) is);
       none = subst (λ (k : Core). KeepsNone k.caches) left none;
     });
   }

@@ -1,16 +1,18 @@
 -- The leaves that aren't clean, as they are listed: each is so at its rank, no two are one, and where none is listed all is clean.
-use Rattle.mdcache.proofs.Common.{AllByRecursion, AreApart, AreCaches, At, CacheMap, Dirfrag, IsFree, IsUncleanAt, Leaf, List, None, NotAmong, Option, Some, [], ap, arith, at_rank, cond, eq-eqb, eqb-true, false, get-empty, get_or, get_unclean, here, is_some, leaf-exact, leaf_is, leaf_of, leaves_at, length, list_any, map-append, or_cases, refl, same_map, subst, suc, sym, take, true, unclean, unclean_among, unclean_from, unclean_places, unsaved_at, unsaved_in, zero, ℕ, ⊎_elim, ◌++◌, ◌+◌, ◌<◌, ◌==◌, ◌∙◌, ◌∷◌, ◌≡◌, ◌≤◌}
+use Rattle.mdcache.proofs.Common.{AllByRecursion, AreApart, AreCaches, At, CacheMap, Dirfrag, IsFree, IsUncleanAt, Leaf, List, None, NotAmong, Option, Some, [], ap, arith, at_rank, cond, eq-eqb, eqb-true, false, get-empty, get_or, get_unclean, here, is_some, leaf-exact, leaf_is, leaf_of, leaves_at, length, list_any, map-append, nil_from_length, or_cases, refl, same_map, subst, suc, sym, take, true, unclean, unclean_among, unclean_from, unclean_places, unsaved_at, unsaved_in, zero, ℕ, ⊎_elim, ◌++◌, ◌+◌, ◌<◌, ◌==◌, ◌∙◌, ◌∷◌, ◌≡◌, ◌≤◌}
 use Rattle.std.specs.List.{IsDistinct}
 use Rattle.std.proofs.lemmas.Bool.{cond_both}
 use Rattle.std.specs.List.{take-map}
+use Rattle.std.proofs.Common.{length-append}
+use Rattle.std.proofs.lemmas.List.{length-take}
 use Rattle.std.specs.FinMap as map
 use Rattle.mds_types.proofs.LeafLaws.{leaf-total, one_leaf, same_leaf}
 
-all_append : {A : Type 0} (P : A → Type 0) (xs ys : List A) → AllByRecursion P xs → AllByRecursion P ys → AllByRecursion P (xs ++ ys)
+pub all_append : {A : Type 0} (P : A → Type 0) (xs ys : List A) → AllByRecursion P xs → AllByRecursion P ys → AllByRecursion P (xs ++ ys)
 all_append P [] ys all more = more
 all_append P (x ∷ xs) ys (one, all) more = (one, all_append P xs ys all more)
 
-all_weaker : {A : Type 0} (P Q : A → Type 0) → ((x : A) → P x → Q x) → (xs : List A) → AllByRecursion P xs → AllByRecursion Q xs
+pub all_weaker : {A : Type 0} (P Q : A → Type 0) → ((x : A) → P x → Q x) → (xs : List A) → AllByRecursion P xs → AllByRecursion Q xs
 all_weaker P Q so [] all = tt
 all_weaker P Q so (x ∷ xs) (one, all) = (so x one, all_weaker P Q so xs all)
 
@@ -38,13 +40,12 @@ free_there r (Some a) dirty = cond_both (a.rank == r) (Some a.frag) None (λ o. 
     (λ apart none. let clash : false ≡ true = none in absurd cc) dirty
 
 module _ (c : CacheMap) where
-  unclean_at : (r : ℕ) (q : Leaf) → r < length c.used → is_some (unsaved_in (here c r q)) ≡ true → IsUncleanAt c (record { dir = q.0; frag = q.1; rank = record { 0 = r } })
-  unclean_at r q within dirty = let w = free_there r (map.get c.held q) dirty in record { holds = record { there = within; alone = w.0 }; dirty = ap is_some (get_unclean c q) ∙ w.1 }
-
   among_all : (r : ℕ) → r < length c.used → (leaves : List Leaf) → AllByRecursion (λ (a : Dirfrag). IsUncleanAt c a × (a.rank.0 ≡ r)) (unclean_among c r leaves)
   among_all r within [] = tt
   among_all r within (q ∷ leaves) = cond_both (is_some (unsaved_in (here c r q))) (place_at r q ∷ unclean_among c r leaves) (unclean_among c r leaves) (AllByRecursion (λ (a : Dirfrag). IsUncleanAt c a × (a.rank.0 ≡ r)))
-      (λ dirty. ((unclean_at r q within dirty, refl), among_all r within leaves)) (λ clean. among_all r within leaves)
+      (λ dirty.
+      let w = free_there r (map.get c.held q) dirty in
+      ((record { holds = record { there = within; alone = w.0 }; dirty = ap is_some (get_unclean c q) ∙ w.1 }, refl), among_all r within leaves)) (λ clean. among_all r within leaves)
 
   from_all : (r : ℕ) (used : List (List Leaf)) → r + length used ≤ length c.used → AllByRecursion (λ (a : Dirfrag). IsUncleanAt c a × (r ≤ a.rank.0)) (unclean_from c r used)
   from_all r [] within = tt
@@ -107,8 +108,7 @@ module _ (c : CacheMap) where
       (or_cases (leaf_is q x) (list_any (leaf_is q) leaves) has)) none
 
   first_none : {A : Type 0} (xs ys : List A) → xs ++ ys ≡ [] → (xs ≡ []) × (ys ≡ [])
-  first_none [] ys none = (refl, none)
-  first_none (x ∷ xs) ys none = let clash : x ∷ (xs ++ ys) ≡ [] = none in absurd cc
+  first_none xs ys none = let long = length-append xs ys in let few = ap length none in (nil_from_length xs (omega (arith, long, few)), nil_from_length ys (omega (arith, long, few)))
 
   from_some : (r : ℕ) (used : List (List Leaf)) (k : ℕ) (q : Leaf) → list_any (leaf_is q) (get_or used k []) ≡ true → is_some (unsaved_in (here c (r + k) q)) ≡ true → unclean_from c r used ≡ [] → ⊥
   from_some r [] k q has dirty none = let clash : false ≡ true = has in cc
@@ -118,18 +118,15 @@ module _ (c : CacheMap) where
 
   none_listed : AreCaches c → unclean_places c ≡ [] → (q : Leaf) → (o : Option At) → map.get c.held q ≡ o → unsaved_at o ≡ None
   none_listed valid none q None is = refl
-  none_listed valid none q (Some a) is = elim (unsaved_in (Some a.frag)) as (λ u. unsaved_in (Some a.frag) ≡ u → u ≡ None) [
-    | None ↦ λ clean. refl
-    | Some u ↦ λ dirty. absurd (from_some 0 c.used a.rank q (valid.placed a.rank q (ap is_some at))
-        (subst (λ n. is_some (unsaved_in (here c n q)) ≡ true) (let same : a.rank ≡ 0 + a.rank = omega arith in same) (ap (λ o. is_some (unsaved_in o)) at ∙ ap is_some dirty)) none)
-  ] refl
-    where
-      at : here c a.rank q ≡ Some a.frag
-      at = ap (at_rank a.rank) is ∙ ap (λ b. cond b (Some a.frag) None) (eq-eqb a.rank a.rank refl)
+  none_listed valid none q (Some a) is =
+      let at : here c a.rank q ≡ Some a.frag = ap (at_rank a.rank) is ∙ ap (λ b. cond b (Some a.frag) None) (eq-eqb a.rank a.rank refl) in
+      elim (unsaved_in (Some a.frag)) as (λ u. unsaved_in (Some a.frag) ≡ u → u ≡ None) [
+        | None ↦ λ clean. refl
+        | Some u ↦ λ dirty. absurd (from_some 0 c.used a.rank q (valid.placed a.rank q (ap is_some at))
+            (subst (λ n. is_some (unsaved_in (here c n q)) ≡ true) (let same : a.rank ≡ 0 + a.rank = omega arith in same) (ap (λ o. is_some (unsaved_in o)) at ∙ ap is_some dirty)) none)
+      ] refl
 
   pub nothing_listed : AreCaches c → (n : ℕ) → take (suc n) (unclean_places c) ≡ [] → unclean c ≡ map.empty
-  nothing_listed valid n none = same_map leaf-total leaf-exact (unclean c) map.empty (λ q. get_unclean c q ∙ none_listed valid (all_none (unclean_places c) none) q (map.get c.held q) refl ∙ sym (get-empty _ q))
-    where
-      all_none : (xs : List Dirfrag) → take (suc n) xs ≡ [] → xs ≡ []
-      all_none [] none = refl
-      all_none (x ∷ xs) none = let clash : x ∷ take n xs ≡ [] = none in absurd cc
+  nothing_listed valid n none =
+      let all : unclean_places c ≡ [] = nil_from_length (unclean_places c) (omega (arith, length-take (suc n) (unclean_places c), ap length none)) in
+      same_map leaf-total leaf-exact (unclean c) map.empty (λ q. get_unclean c q ∙ none_listed valid all q (map.get c.held q) refl ∙ sym (get-empty _ q))

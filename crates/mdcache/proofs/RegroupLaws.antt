@@ -1,6 +1,6 @@
 -- A directory gets another cover: the state is sound then, and shows the same tree.
-use Rattle.mdcache.proofs.Common.{AreYoung, Base, Bool, Comes, Contains, Dentry, Fragment, Fresh, HasLeaf, HasUnsaved, Ino, Inode, IsConcerned, IsCounted, IsLive, IsNewLeaf, IsOwned, IsRegrouped, IsSound, IsTable, IsTabled, IsUnsaved, Job, Leaf, List, Mark, Marks, Names, None, Option, Some, State, Stored, Tree, Unsaved, [], ap, are_empty, arith, cond, dentry-exact, dentry-total, dentry_of, false, first_or_later, get-empty, get-patched, has_none, hash_of, holds, holds_contains, in_directory, inl, inode_or, inr, is_known, is_same, is_some, key_cmp, later, leaf_is, leaves_of, list_any, marked_as, names_at, object_of, one_leaf, one_or_other, or_whole, pick_from_leaf, refl, regrouped, same_Some, same_map, set_table, shown_at, shown_over, shown_tree, span, subst, suc, sym, text_of, tree_of_row, true, zero, ℕ, ⊎_elim, ◌%◌, ◌+◌, ◌/◌, ◌<◌, ◌^◌, ◌∙◌, ◌∷◌, ◌≡◌, ◌⊎◌}
-use Rattle.std.proofs.lemmas.Bool.{cases_Bool, false_from_ne_true, or_cases}
+use Rattle.mdcache.proofs.Common.{AreCached, AreYoung, At, Base, Bool, CacheMap, Comes, Contains, Fragment, Fresh, HasLeaf, HasUnsaved, Ino, Inode, IsConcerned, IsCounted, IsLive, IsNewLeaf, IsOwned, IsRegrouped, IsSound, IsTable, IsTabled, IsTied, IsUnsaved, Job, Leaf, List, Mark, Marks, Names, None, Option, Some, State, Stored, Tree, Unsaved, [], ap, are_empty, arith, cond, dentry-exact, dentry-total, dentry_of, false, first_or_later, get-empty, get-patched, has_none, hash_of, holds, holds_contains, in_directory, inl, inode_or, inr, is_known, is_same, is_some, key_cmp, later, leaf_is, leaves_of, list_any, marked_as, names_at, object_of, one_leaf, one_or_other, or_whole, pick_from_leaf, refl, regrouped, same_Some, same_map, set_table, shown_at, shown_over, shown_tree, span, subst, suc, sym, text_of, tree_of_row, true, zero, ℕ, ⊎_elim, ◌%◌, ◌+◌, ◌/◌, ◌<◌, ◌^◌, ◌∙◌, ◌∷◌, ◌≡◌, ◌⊎◌}
+use Rattle.std.proofs.lemmas.Bool.{cond_both, false_from_ne_true, or_cases}
 use Rattle.std.specs.Prelude.{map as each}
 use Rattle.std.specs.FinMap as map
 use Rattle.mds_types.specs.Frag.{Contains as Holds}
@@ -20,13 +20,9 @@ use Rattle.mdcache.proofs.TextLaws.{one_text}
 -- of some leaves there is one of which this holds, or none
 some_or_none : (P : Fragment → Type 0) → ((f : Fragment) → P f ⊎ (P f → ⊥)) → (fs : List Fragment) → ((f : Fragment) × HasLeaf fs f × P f) ⊎ ((f : Fragment) → HasLeaf fs f → P f → ⊥)
 some_or_none P holds_or_not [] = inr (λ f has is. let within = has.1 in absurd (omega (arith, within)))
-some_or_none P holds_or_not (g ∷ fs) = elim (holds_or_not g) [
-  | inl is ↦ inl (g, (zero, omega arith, refl), is)
-  | inr other ↦ elim (some_or_none P holds_or_not fs) [
-    | inl found ↦ inl (found.0, later g found.0 fs found.1, found.2)
-    | inr none ↦ inr (λ f has is. ⊎_elim (λ same. other (subst P (sym same) is)) (λ more. none f more is) (first_or_later g f fs has))
-  ]
-]
+some_or_none P holds_or_not (g ∷ fs) = ⊎_elim (λ is. inl (g, (zero, omega arith, refl), is))
+    (λ other. ⊎_elim (λ found. inl (found.0, later g found.0 fs found.1, found.2))
+    (λ none. inr (λ f has is. ⊎_elim (λ same. other (subst P (sym same) is)) (λ more. none f more is) (first_or_later g f fs has))) (some_or_none P holds_or_not fs)) (holds_or_not g)
 
 -- a fragment is one of some leaves, or isn't
 pub has_or_not : (fs : List Fragment) (f : Fragment) → HasLeaf fs f ⊎ (HasLeaf fs f → ⊥)
@@ -41,10 +37,8 @@ contains_mapped f (y ∷ ys) x (suc k, within, is) = let rest = contains_mapped 
 -- a leaf of a directory is one of those that some fragments are
 pub unmapped : (d : ℕ) (q : Leaf) (fs : List Fragment) → list_any (leaf_is q) (each (in_directory d) fs) ≡ true → (q.0.0 ≡ d) × HasLeaf fs q.1
 unmapped d q [] is = let clash : false ≡ true = is in absurd cc
-unmapped d q (f ∷ fs) is = elim (or_cases (leaf_is q (in_directory d f)) (list_any (leaf_is q) (each (in_directory d) fs)) is) [
-  | inl here ↦ let same = one_leaf q (in_directory d f) here in (ap (λ (l : Leaf). l.0.0) same, (zero, omega arith, ap (λ (l : Leaf). l.1) (sym same)))
-  | inr more ↦ let rest = unmapped d q fs more in (rest.0, later f q.1 fs rest.1)
-]
+unmapped d q (f ∷ fs) is = ⊎_elim (λ here. let same = one_leaf q (in_directory d f) here in (ap (λ (l : Leaf). l.0.0) same, (zero, omega arith, ap (λ (l : Leaf). l.1) (sym same))))
+    (λ more. let rest = unmapped d q fs more in (rest.0, later f q.1 fs rest.1)) (or_cases (leaf_is q (in_directory d f)) (list_any (leaf_is q) (each (in_directory d) fs)) is)
 
 -- ---- names of a leaf that came
 
@@ -53,6 +47,21 @@ pub dirty_shows : (base : Base) (below : Names) (u : Unsaved) (version : ℕ) (n
 dirty_shows (Stored v) below u version name inode fresh is = let clash : Stored v ≡ Fresh = fresh in absurd cc
 dirty_shows Fresh below u version name None fresh is = get-patched map.empty u.dirty name ∙ ap (λ (m : Option Mark). inode_or m (map.get {R = key_cmp} map.empty name)) is ∙ get-empty key_cmp name
 dirty_shows Fresh below u version name (Some i) fresh is = get-patched map.empty u.dirty name ∙ ap (λ (m : Option Mark). inode_or m (map.get {R = key_cmp} map.empty name)) is
+
+-- what can have no value is none
+pub none_unless : {X : Type 0} (o : Option X) → ((x : X) → o ≡ Some x → ⊥) → o ≡ None
+none_unless None never = refl
+none_unless (Some x) never = absurd (never x refl)
+
+-- a mark that was made has the version, and the inode
+marked_is : (version : ℕ) (o : Option Inode) (mark : Mark) → marked_as version o None ≡ Some mark → (i : Inode) × (o ≡ Some i) × (mark.version ≡ version)
+marked_is version None mark is = let clash : None ≡ Some mark = is in absurd cc
+marked_is version (Some i) mark is = (i, refl, ap (λ (m : Mark). m.version) (same_Some mark (record { version = version; inode = Some i }) (sym is)))
+
+-- what is found under a test passes it
+pub holds_or_none : (b : Bool) (o : Option Inode) (i : Inode) → cond b o None ≡ Some i → (b ≡ true) × (o ≡ Some i)
+holds_or_none true o i is = (refl, is)
+holds_or_none false o i is = let clash : None ≡ Some i = is in absurd cc
 
 -- what isn't clean of a leaf of which some is
 its_unsaved : (P : Unsaved → Type 0) (o : Option Unsaved) → HasUnsaved o P → (u : Unsaved) × (o ≡ Some u) × P u
@@ -90,46 +99,33 @@ module _ (s : State) (sound : IsSound s) (dir : Ino) (gone cover : List Fragment
   its : (leaf : Leaf) → leaf.0.0 ≡ dir.0 → (dir, leaf.1) ≡ leaf
   its leaf same = λ i. (record { 0 = sym same i }, leaf.1)
 
-  -- a text is that of one of some leaves, or isn't
-  text_or_not : (fs : List Fragment) (name : List ℕ) → ((f : Fragment) × HasLeaf fs f × (name ≡ text_of (dir, f))) ⊎ ((f : Fragment) → HasLeaf fs f → name ≡ text_of (dir, f) → ⊥)
-  text_or_not fs name = some_or_none (λ f. name ≡ text_of (dir, f)) (λ f. key_or_apart name (text_of (dir, f))) fs
-
   -- a leaf ended, or came, or is not concerned
   pub which : (leaf : Leaf) → ((leaf.0.0 ≡ dir.0) × HasLeaf gone leaf.1) ⊎ (((leaf.0.0 ≡ dir.0) × Comes row cover leaf.1) ⊎ Apart leaf)
-  which leaf = elim (same_number leaf.0.0 dir.0) [
-    | inr apart ↦ inr (inr (λ same concerned. apart same))
-    | inl same ↦ elim (has_or_not gone leaf.1) [
-      | inl ended ↦ inl (same, ended)
-      | inr stays ↦ elim (has_or_not cover leaf.1) [
-        | inr out ↦ inr (inr (λ here concerned. ⊎_elim stays (λ came. out came.0) concerned))
-        | inl stands ↦ ⊎_elim (λ old. inr (inr (λ here concerned. ⊎_elim stays (λ came. came.1 old) concerned))) (λ fresh. inr (inl (same, (stands, fresh)))) (has_or_not row leaf.1)
-      ]
-    ]
-  ]
+  which leaf = ⊎_elim (λ same. ⊎_elim (λ ended. inl (same, ended)) (λ stays. ⊎_elim
+      (λ stands. ⊎_elim (λ old. inr (inr (λ here concerned. ⊎_elim stays (λ came. came.1 old) concerned))) (λ fresh. inr (inl (same, (stands, fresh)))) (has_or_not row leaf.1))
+      (λ out. inr (inr (λ here concerned. ⊎_elim stays (λ came. out came.0) concerned))) (has_or_not cover leaf.1)) (has_or_not gone leaf.1)) (λ apart. inr (inr (λ same concerned. apart same))) (same_number leaf.0.0 dir.0)
 
   pub came_live : (leaf : Leaf) → leaf.0.0 ≡ dir.0 → HasLeaf cover leaf.1 → IsLive n.homes n.covers leaf
   came_live leaf same stands = record { known = ap (is_known s.homes) same ∙ r.known; stands = subst (λ (fs : List Fragment). HasLeaf fs leaf.1) (sym (ap (leaves_of n.covers) same ∙ cover_here)) stands }
 
   -- a leaf that isn't concerned lives after as before
   pub apart_live : (leaf : Leaf) → Apart leaf → IsLive s.homes s.covers leaf → IsLive n.homes n.covers leaf
-  apart_live leaf apart live = elim (same_number leaf.0.0 dir.0) [
-    | inr other ↦ record { known = live.known; stands = subst (λ (fs : List Fragment). HasLeaf fs leaf.1) (sym (cover_on leaf.0.0 other)) live.stands }
-    | inl same ↦ ⊎_elim (λ ended. absurd (apart same (inl ended))) (came_live leaf same) (cut.ends leaf.1 (subst (λ (d : ℕ). HasLeaf (leaves_of s.covers d) leaf.1) same live.stands))
-  ]
+  apart_live leaf apart live = ⊎_elim
+      (λ same. ⊎_elim (λ ended. absurd (apart same (inl ended))) (came_live leaf same) (cut.ends leaf.1 (subst (λ (d : ℕ). HasLeaf (leaves_of s.covers d) leaf.1) same live.stands)))
+      (λ other. record { known = live.known; stands = subst (λ (fs : List Fragment). HasLeaf fs leaf.1) (sym (cover_on leaf.0.0 other)) live.stands }) (same_number leaf.0.0 dir.0)
 
   in_cover : (leaf : Leaf) → leaf.0.0 ≡ dir.0 → IsLive n.homes n.covers leaf → HasLeaf cover leaf.1
   in_cover leaf same live = subst (λ (fs : List Fragment). HasLeaf fs leaf.1) (ap (leaves_of n.covers) same ∙ cover_here) live.stands
 
   -- a leaf of the cover came, or isn't concerned
   live_which : (leaf : Leaf) → IsLive n.homes n.covers leaf → ((leaf.0.0 ≡ dir.0) × Comes row cover leaf.1) ⊎ (Apart leaf × IsLive s.homes s.covers leaf)
-  live_which leaf live = elim (which leaf) [
-    | inl ended ↦ absurd ((cut.stood leaf.1 ended.1).1 (in_cover leaf ended.0 live))
-    | inr stands ↦ ⊎_elim (λ came. inl came) (λ apart. inr (apart, record { known = live.known; stands = before apart (same_number leaf.0.0 dir.0) })) stands
-  ]
-    where
-      before : Apart leaf → (leaf.0.0 ≡ dir.0) ⊎ (leaf.0.0 ≡ dir.0 → ⊥) → HasLeaf (leaves_of s.covers leaf.0.0) leaf.1
-      before apart (inr other) = subst (λ (fs : List Fragment). HasLeaf fs leaf.1) (cover_on leaf.0.0 other) live.stands
-      before apart (inl same) = ⊎_elim (subst (λ (d : ℕ). HasLeaf (leaves_of s.covers d) leaf.1) (sym same)) (λ fresh. absurd (apart same (inr (in_cover leaf same live, fresh)))) (has_or_not row leaf.1)
+  live_which leaf live = ⊎_elim (λ same. ⊎_elim
+      (λ old. inr (
+        (λ here concerned. ⊎_elim (λ ended. (cut.stood leaf.1 ended).1 (in_cover leaf same live)) (λ came. came.1 old) concerned),
+        record { known = live.known; stands = subst (λ (d : ℕ). HasLeaf (leaves_of s.covers d) leaf.1) (sym same) old },
+      ))
+      (λ fresh. inl (same, (in_cover leaf same live, fresh))) (has_or_not row leaf.1))
+      (λ other. inr ((λ same concerned. other same), record { known = live.known; stands = subst (λ (fs : List Fragment). HasLeaf fs leaf.1) (cover_on leaf.0.0 other) live.stands })) (same_number leaf.0.0 dir.0)
 
   -- ---- names
 
@@ -161,32 +157,23 @@ module _ (s : State) (sound : IsSound s) (dir : Ino) (gone cover : List Fragment
       cc)
 
   came_young : (leaf : Leaf) (same : leaf.0.0 ≡ dir.0) (comes : Comes row cover leaf.1) → AreYoung (came_is leaf same comes).0.dirty n.next_version
-  came_young leaf same comes name mark is = go (holds leaf.1 (hash_of name)) refl (map.get (shown_tree s) (dentry_of dir.0 name)) refl (sym ((came_is leaf same comes).2.dirty name) ∙ is)
-    where
-      go : (b : Bool) → holds leaf.1 (hash_of name) ≡ b → (o : Option Inode) → map.get (shown_tree s) (dentry_of dir.0 name) ≡ o → marked_as s.next_version (cond b o None) None ≡ Some mark → mark.version < n.next_version
-      go false out o found h = let clash : None ≡ Some mark = h in absurd cc
-      go true within None found h = let clash : None ≡ Some mark = h in absurd cc
-      go true within (Some inode) found h =
-          let its_version : s.next_version ≡ mark.version = ap (λ (m : Mark). m.version) (same_Some (record { version = s.next_version; inode = Some inode }) mark h) in
-          let raised : n.next_version ≡ s.next_version + 1 = ap (λ (e : Bool). s.next_version + cond e 0 1) (some_went leaf.1 comes name inode (holds_contains leaf.1 (hash_of name) within) found) in
-          omega (arith, its_version, raised)
+  came_young leaf same comes name mark is =
+      let w = marked_is s.next_version (cond (holds leaf.1 (hash_of name)) (map.get (shown_tree s) (dentry_of dir.0 name)) None) mark (sym ((came_is leaf same comes).2.dirty name) ∙ is) in
+      let found = holds_or_none (holds leaf.1 (hash_of name)) (map.get (shown_tree s) (dentry_of dir.0 name)) w.0 w.1 in
+      let raised : n.next_version ≡ s.next_version + 1 = ap (λ (e : Bool). s.next_version + cond e 0 1) (some_went leaf.1 comes name w.0 (holds_contains leaf.1 (hash_of name) found.0) found.1) in
+      omega (arith, w.2, raised)
 
   still_young : (marks : Marks) → AreYoung marks s.next_version → AreYoung marks n.next_version
   still_young marks young name mark there = let was = young name mark there in omega (arith, was)
 
   owned_now : (name : List ℕ) → IsOwned s name → IsOwned n name
-  owned_now name (inl leaf) = elim (which leaf.0) [
-    | inl ended ↦ inr (inr (ap is_some (ap (map.get r.purge) (leaf.2 ∙ ap text_of (sym (its leaf.0 ended.0))) ∙ r.listed.ended leaf.0.1 ended.1)))
-    | inr stands ↦ ⊎_elim (λ came. inl (leaf.0, came_live leaf.0 came.0 came.1.0, leaf.2)) (λ apart. inl (leaf.0, apart_live leaf.0 apart leaf.1, leaf.2)) stands
-  ]
+  owned_now name (inl leaf) = ⊎_elim (λ ended. inr (inr (ap is_some (ap (map.get r.purge) (leaf.2 ∙ ap text_of (sym (its leaf.0 ended.0))) ∙ r.listed.ended leaf.0.1 ended.1))))
+      (⊎_elim (λ came. inl (leaf.0, came_live leaf.0 came.0 came.1.0, leaf.2)) (λ apart. inl (leaf.0, apart_live leaf.0 apart leaf.1, leaf.2))) (which leaf.0)
   owned_now name (inr (inl d)) = inr (inl (d.0, row_stays s.covers dir.0 cover d.0.0 d.1, d.2))
-  owned_now name (inr (inr listed)) = elim (text_or_not cover name) [
-    | inl stands ↦ inl ((dir, stands.0), came_live (dir, stands.0) refl stands.1, stands.2)
-    | inr none ↦ elim (text_or_not gone name) [
-      | inl ended ↦ inr (inr (ap is_some (ap (map.get r.purge) ended.2 ∙ r.listed.ended ended.0 ended.1)))
-      | inr other ↦ inr (inr (ap is_some (r.listed.others name (λ f concerned same. ⊎_elim (λ ended. other f ended same) (λ came. none f came.0 same) concerned)) ∙ listed))
-    ]
-  ]
+  owned_now name (inr (inr listed)) = ⊎_elim (λ stands. inl ((dir, stands.0), came_live (dir, stands.0) refl stands.1, stands.2))
+      (λ none. inr (inr (⊎_elim (λ ended. ap is_some (ap (map.get r.purge) ended.2 ∙ r.listed.ended ended.0 ended.1))
+      (λ other. ap is_some (r.listed.others name (λ f concerned same. ⊎_elim (λ ended. other f ended same) (λ came. none f came.0 same) concerned)) ∙ listed)
+      (some_or_none (λ f. name ≡ text_of (dir, f)) (λ f. key_or_apart name (text_of (dir, f))) gone)))) (some_or_none (λ f. name ≡ text_of (dir, f)) (λ f. key_or_apart name (text_of (dir, f))) cover)
 
   -- what stood isn't concerned where it didn't end
   apart_from_gone : (leaf : Leaf) → IsLive s.homes s.covers leaf → (leaf.0.0 ≡ dir.0 → HasLeaf gone leaf.1 → ⊥) → Apart leaf
@@ -194,13 +181,12 @@ module _ (s : State) (sound : IsSound s) (dir : Ino) (gone cover : List Fragment
 
   -- a job that stands stood before, of a leaf that is not concerned
   job_back : (leaf : Leaf) (job : Job) → map.get n.jobs leaf ≡ Some job → Apart leaf × (map.get s.jobs leaf ≡ Some job)
-  job_back leaf job is = go (list_any (leaf_is leaf) (each (in_directory dir.0) gone)) refl (sym (get_without s.jobs (each (in_directory dir.0) gone) leaf) ∙ is)
-    where
-      go : (b : Bool) → list_any (leaf_is leaf) (each (in_directory dir.0) gone) ≡ b → cond b None (map.get s.jobs leaf) ≡ Some job → Apart leaf × (map.get s.jobs leaf ≡ Some job)
-      go true ended h = let clash : None ≡ Some job = h in absurd cc
-      go false stays h =
-          let j = sound.standing leaf job h in
-          (apart_from_gone leaf (sound.unsaved leaf j.unsaved j.beside).live (λ same ended. let clash : true ≡ false = sym (among dir.0 leaf gone same ended) ∙ stays in cc), h)
+  job_back leaf job is = cond_both (list_any (leaf_is leaf) (each (in_directory dir.0) gone)) None (map.get s.jobs leaf) (λ o. o ≡ Some job → Apart leaf × (map.get s.jobs leaf ≡ Some job))
+      (λ ended h. let clash : None ≡ Some job = h in absurd cc)
+      (λ stays h.
+      let j = sound.standing leaf job h in
+      let apart : leaf.0.0 ≡ dir.0 → HasLeaf gone leaf.1 → ⊥ = λ same ended. (let clash : true ≡ false = sym (among dir.0 leaf gone same ended) ∙ stays in cc) in
+      (apart_from_gone leaf (sound.unsaved leaf j.unsaved j.beside).live apart, h)) (sym (get_without s.jobs (each (in_directory dir.0) gone) leaf) ∙ is)
 
   -- the name of a leaf that isn't concerned is that of no other
   not_named : (leaf : Leaf) → IsLive n.homes n.covers leaf → Apart leaf × IsLive s.homes s.covers leaf → (f : Fragment) → HasLeaf gone f ⊎ Comes row cover f → text_of leaf ≡ text_of (dir, f) → ⊥
@@ -213,34 +199,22 @@ module _ (s : State) (sound : IsSound s) (dir : Ino) (gone cover : List Fragment
   leaves_now = record {
     table = table;
     numbered = sound.numbered;
-    placed = λ leaf name inode live has. pick_from_leaf (leaves_of n.covers leaf.0.0) (hash_of name) leaf.1 (tree_of_row n.homes n.covers table leaf.0.0) live.stands (elim (live_which leaf live) [
-      | inl came ↦ elim (cases_Bool (holds leaf.1 (hash_of name))) [
-        | inl is ↦ holds_contains leaf.1 (hash_of name) is
-        | inr out ↦ let clash : None ≡ Some inode = sym (came_names leaf came.0 came.1 name ∙ ap (λ (b : Bool). cond b (map.get (shown_tree s) (dentry_of dir.0 name)) None) out) ∙ has in absurd cc
-      ]
-      | inr old ↦ (sound.placed leaf name inode old.1 (ap (λ (m : Names). map.get m name) (sym (apart_names leaf old.0)) ∙ has)).contains
-    ]);
-    unsaved = λ leaf u is. elim (which leaf) [
-      | inl ended ↦ let clash : None ≡ Some u = sym (ap (map.get r.unsaved) (sym (its leaf ended.0)) ∙ r.ended leaf.1 ended.1) ∙ is in absurd cc
-      | inr stands ↦ elim stands [
-        | inl came ↦
-            let w = came_is leaf came.0 came.1 in
-            subst (IsUnsaved n leaf) (same_Some w.0 u (sym w.1 ∙ is)) (record { live = came_live leaf came.0 came.1.0; made = w.2.last; young = came_young leaf came.0 came.1 })
-        | inr apart ↦
-            let old = sound.unsaved leaf u (sym (r.others leaf apart) ∙ is) in
-            let made = old.made in
-            record { live = apart_live leaf apart old.live; made = omega (arith, made); young = still_young u.dirty old.young }
-      ]
-    ];
-    saved = λ leaf live clean. elim (live_which leaf live) [
-      | inl came ↦ let w = came_is leaf came.0 came.1 in let clash : None ≡ Some w.0 = sym clean ∙ w.1 in absurd cc
-      | inr old ↦ sound.saved leaf old.1 (sym (r.others leaf old.0) ∙ clean)
-    ];
+    placed = λ leaf name inode live has. pick_from_leaf (leaves_of n.covers leaf.0.0) (hash_of name) leaf.1 (tree_of_row n.homes n.covers table leaf.0.0) live.stands (⊎_elim
+        (λ came. holds_contains leaf.1 (hash_of name) (holds_or_none (holds leaf.1 (hash_of name)) (map.get (shown_tree s) (dentry_of dir.0 name)) inode (sym (came_names leaf came.0 came.1 name) ∙ has)).0)
+        (λ old. (sound.placed leaf name inode old.1 (ap (λ (m : Names). map.get m name) (sym (apart_names leaf old.0)) ∙ has)).contains) (live_which leaf live));
+    unsaved = λ leaf u is. ⊎_elim (λ ended. let clash : None ≡ Some u = sym (ap (map.get r.unsaved) (sym (its leaf ended.0)) ∙ r.ended leaf.1 ended.1) ∙ is in absurd cc) (⊎_elim
+        (λ came.
+        let w = came_is leaf came.0 came.1 in
+        subst (IsUnsaved n leaf) (same_Some w.0 u (sym w.1 ∙ is)) (record { live = came_live leaf came.0 came.1.0; made = w.2.last; young = came_young leaf came.0 came.1 }))
+        (λ apart.
+        let old = sound.unsaved leaf u (sym (r.others leaf apart) ∙ is) in
+        let made = old.made in
+        record { live = apart_live leaf apart old.live; made = omega (arith, made); young = still_young u.dirty old.young })) (which leaf);
+    saved = λ leaf live clean. ⊎_elim (λ came. let w = came_is leaf came.0 came.1 in let clash : None ≡ Some w.0 = sym clean ∙ w.1 in absurd cc)
+        (λ old. sound.saved leaf old.1 (sym (r.others leaf old.0) ∙ clean)) (live_which leaf live);
     owned = λ name there. owned_now name (sound.owned name there);
-    listed = λ leaf live. elim (live_which leaf live) [
-      | inl came ↦ ap (λ (l : Leaf). map.get r.purge (text_of l)) (sym (its leaf came.0)) ∙ r.listed.came leaf.1 came.1
-      | inr old ↦ r.listed.others (text_of leaf) (not_named leaf live old) ∙ sound.listed leaf old.1
-    ];
+    listed = λ leaf live. ⊎_elim (λ came. ap (λ (l : Leaf). map.get r.purge (text_of l)) (sym (its leaf came.0)) ∙ r.listed.came leaf.1 came.1)
+        (λ old. r.listed.others (text_of leaf) (not_named leaf live old) ∙ sound.listed leaf old.1) (live_which leaf live);
     standing = λ leaf job is.
         let b = job_back leaf job is in
         let old = sound.standing leaf job b.1 in
@@ -251,20 +225,17 @@ module _ (s : State) (sound : IsSound s) (dir : Ino) (gone cover : List Fragment
   -- ---- the tree
 
   tree_now : shown_tree n ≡ shown_tree s
-  tree_now = same_map dentry-total dentry-exact (shown_tree n) (shown_tree s) (λ q. ⊎_elim (stands q) (λ none. stands_nowhere n leaves_now q none ∙ sym (stands_nowhere s (sound_leaves s sound) q none)) (known_or_not s.homes q.dir.0))
-    where
-      stands : (q : Dentry) → is_known s.homes q.dir.0 ≡ true → map.get (shown_tree n) q ≡ map.get (shown_tree s) q
-      stands q known =
-          let p = pick_at n leaves_now q in
-          stands_at n leaves_now q p.0 known p.1 ∙ elim (live_which (q.dir, p.0) (record { known = known; stands = p.1.stands })) [
-            | inl came ↦
-                came_names (q.dir, p.0) came.0 came.1 q.name
-                ∙ ap (λ (b : Bool). cond b (map.get (shown_tree s) (dentry_of dir.0 q.name)) None) (is_same ((hash_of q.name % 2 ^ 24) / span p.0.bits) (p.0.value / span p.0.bits) p.1.contains)
-                ∙ (λ i. map.get (shown_tree s) (record { dir = record { 0 = sym came.0 i }; name = q.name }))
-            | inr old ↦
-                ap (λ (m : Names). map.get m q.name) (apart_names (q.dir, p.0) old.0)
-                ∙ sym (stands_at s (sound_leaves s sound) q p.0 known (pick_from_leaf (leaves_of s.covers q.dir.0) (hash_of q.name) p.0 (tree_of_row s.homes s.covers sound.table q.dir.0) old.1.stands p.1.contains))
-          ]
+  tree_now = same_map dentry-total dentry-exact (shown_tree n) (shown_tree s) (λ q. ⊎_elim
+      (λ known.
+      let p = pick_at n leaves_now q in
+      stands_at n leaves_now q p.0 known p.1 ∙ ⊎_elim
+      (λ came. came_names (q.dir, p.0) came.0 came.1 q.name
+      ∙ ap (λ (b : Bool). cond b (map.get (shown_tree s) (dentry_of dir.0 q.name)) None) (is_same ((hash_of q.name % 2 ^ 24) / span p.0.bits) (p.0.value / span p.0.bits) p.1.contains)
+      ∙ (λ i. map.get (shown_tree s) (record { dir = record { 0 = sym came.0 i }; name = q.name })))
+      (λ old. ap (λ (m : Names). map.get m q.name) (apart_names (q.dir, p.0) old.0)
+      ∙ sym (stands_at s (sound_leaves s sound) q p.0 known (pick_from_leaf (leaves_of s.covers q.dir.0) (hash_of q.name) p.0 (tree_of_row s.homes s.covers sound.table q.dir.0) old.1.stands p.1.contains)))
+      (live_which (q.dir, p.0) (record { known = known; stands = p.1.stands })))
+      (λ none. stands_nowhere n leaves_now q none ∙ sym (stands_nowhere s (sound_leaves s sound) q none)) (known_or_not s.homes q.dir.0))
 
   pub regroup_right : KeepsTree s t dir gone
   regroup_right = subst (λ (u : State). KeepsTree s u dir gone) (sym r.left) (record {
@@ -274,3 +245,11 @@ module _ (s : State) (sound : IsSound s) (dir : Ino) (gone cover : List Fragment
         let apart = apart_from_gone leaf live (λ same ended. none (subst (Contains (each (in_directory dir.0) gone)) (its leaf same) (contains_mapped (in_directory dir.0) gone leaf.1 ended))) in
         record { live = apart_live leaf apart live; names = apart_names leaf apart };
   })
+
+  -- so are its caches, where fragments of leaves that came are tied and have one of the new numbers, and those of leaves that aren't concerned are as they were
+  pub regroup_cached : (old new : CacheMap) → AreCached s old → ((q : Leaf) → q.0.0 ≡ dir.0 → HasLeaf gone q.1 → (b : At) → map.get new.held q ≡ Some b → ⊥)
+      → ((q : Leaf) → q.0.0 ≡ dir.0 → Comes row cover q.1 → (b : At) → map.get new.held q ≡ Some b → IsTied b.frag (object_of s.objects q.0 q.1) × (b.frag.generation < s.next_generation + count))
+      → ((q : Leaf) → Apart q → (b : At) → map.get new.held q ≡ Some b → map.get old.held q ≡ Some b) → AreCached t new
+  regroup_cached old new cached ended fresh others = subst (λ (u : State). AreCached u new) (sym r.left) (λ q b is. ⊎_elim (λ end. absurd (ended q end.0 end.1 b is)) (⊎_elim
+      (λ came. let its = fresh q came.0 came.1 b is in record { live = came_live q came.0 came.1.0; tied = its.0; made = its.1 })
+      (λ apart. let was = cached q b (others q apart b is) in let given = was.made in record { live = apart_live q apart was.live; tied = was.tied; made = omega (arith, given) })) (which q))

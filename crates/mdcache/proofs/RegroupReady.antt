@@ -56,37 +56,29 @@ module _ (old mid view : Core) (is : view ≡ mid) (a : Dirfrag) (nb : ℕ) (som
   pub children_there : a.rank.0 < length view.caches.used
   children_there = subst (λ (k : Core). a.rank.0 < length k.caches.used) (sym is) (there_after (IsThat a.rank.0 (leaf_of a)) NoneEnds old mid a.rank.0 reads there)
 
-  module _ (caches' : CacheMap) (family : ReadsFamily a.rank.0 a.dir a.frag nb view.caches caches') (stays : StaysAt a.rank.0 (leaf_of a) view.caches caches') where
-    pub children_reads : ReadsCore (Family a nb) (Family a nb) old (record view { caches = caches' })
-    children_reads = next_step (Family a nb) (Family a nb) old view (record view { caches = caches' }) (no_less_itself view.room) refl mid fetched_family is
-        (reads_weaker (Family a nb) (Child a nb) (Family a nb) (Family a nb) (λ s q is. is) (λ s q child. inr child) view.objects view.caches caches' (family view.objects))
-
-    -- from before the fetch on
-    all_reads : Reads (Family a nb) (Child a nb) old.objects old.caches caches'
-    all_reads = reads_then (Family a nb) (Child a nb) old.objects old.caches mid.caches caches'
-        (reads_weaker (IsThat a.rank.0 (leaf_of a)) NoneEnds (Family a nb) (Child a nb) (λ s q that. inl that) (λ s q no_end. absurd no_end) old.objects old.caches mid.caches reads.caches)
-        (subst (λ (c : CacheMap). Reads (Family a nb) (Child a nb) old.objects c caches') (ap (λ (k : Core). k.caches) is) (family old.objects))
-
-    pub children_distinct : IsDistinct leaf_is (order caches' a.rank.0)
-    children_distinct = (reads_placed (Family a nb) (Child a nb) old.objects old.caches valid (λ s q named. subst (λ (n : ℕ). n < length old.caches.used) (sym (⊎_elim (λ it. it.0) (λ child. child.0) named)) there) caches' all_reads).distinct a.rank.0
-
-    pub children_only : (s : ℕ) (q : Leaf) → IsWhole caches' s q ⊎ Child a nb s q
-    children_only = readies_whole a.rank.0 a.dir a.frag nb old.objects old.caches caches' there valid none_old all_reads (stays_there (here view.caches a.rank.0 (leaf_of a)) (here caches' a.rank.0 (leaf_of a)) stays)
-
-    pub children_none : AreAbsent caches' a.rank.0 a.dir a.frag nb → KeepsNone caches'
-    children_none = refused_whole a.rank.0 a.dir a.frag nb old.objects old.caches caches' there valid none_old all_reads (stays_there (here view.caches a.rank.0 (leaf_of a)) (here caches' a.rank.0 (leaf_of a)) stays)
+  -- what is left once room was made for them: what was read, no leaf twice in the order of use, and what is whole
+  pub children : (caches' : CacheMap) → ReadsFamily a.rank.0 a.dir a.frag nb view.caches caches' → StaysAt a.rank.0 (leaf_of a) view.caches caches' → ReadsCore (Family a nb) (Family a nb) old (record view { caches = caches' })
+      × IsDistinct leaf_is (order caches' a.rank.0) × ((s : ℕ) (q : Leaf) → IsWhole caches' s q ⊎ Child a nb s q) × (AreAbsent caches' a.rank.0 a.dir a.frag nb → KeepsNone caches')
+  children caches' family stays =
+      let all : Reads (Family a nb) (Child a nb) old.objects old.caches caches' = reads_then (Family a nb) (Child a nb) old.objects old.caches mid.caches caches'
+      (reads_weaker (IsThat a.rank.0 (leaf_of a)) NoneEnds (Family a nb) (Child a nb) (λ s q that. inl that) (λ s q no_end. absurd no_end) old.objects old.caches mid.caches reads.caches)
+      (subst (λ (c : CacheMap). Reads (Family a nb) (Child a nb) old.objects c caches') (ap (λ (k : Core). k.caches) is) (family old.objects)) in
+      let there_still = stays_there (here view.caches a.rank.0 (leaf_of a)) (here caches' a.rank.0 (leaf_of a)) stays in (
+        next_step (Family a nb) (Family a nb) old view (record view { caches = caches' }) (no_less_itself view.room) refl mid fetched_family is
+            (reads_weaker (Family a nb) (Child a nb) (Family a nb) (Family a nb) (λ s q is. is) (λ s q child. inr child) view.objects view.caches caches' (family view.objects)),
+        (reads_placed (Family a nb) (Child a nb) old.objects old.caches valid (λ s q named. subst (λ (n : ℕ). n < length old.caches.used) (sym (⊎_elim (λ it. it.0) (λ child. child.0) named)) there) caches' all).distinct a.rank.0,
+        readies_whole a.rank.0 a.dir a.frag nb old.objects old.caches caches' there valid none_old all there_still,
+        refused_whole a.rank.0 a.dir a.frag nb old.objects old.caches caches' there valid none_old all there_still,
+      )
 
   pub children_refused : mid.faults ≡ old.faults → (reason : Refusal) → MayNotKeepAll (2 ^ nb) view.caches a.rank.0 reason → MayNotFind (LacksPlacesIn (2 ^ nb + 1) old.caches a.rank.0) old.faults view.faults reason
   children_refused same reason refused =
-      not_found_before (IsThat a.rank.0 (leaf_of a)) NoneEnds old mid reads (2 ^ nb + 1) a.rank.0 view.faults reason same (subst (λ (k : Core). MayNotFind (LacksPlacesIn (2 ^ nb + 1) k.caches a.rank.0) k.faults view.faults reason) is (on refused))
-    where
-      on : MayNotKeepAll (2 ^ nb) view.caches a.rank.0 reason → MayNotFind (LacksPlacesIn (2 ^ nb + 1) view.caches a.rank.0) view.faults view.faults reason
-      on (inl memory) = inl memory
-      on (inr full) =
-          let lacks = full.1 in
-          let kept : length (kept_at view.caches a.rank.0) ≡ 0 = none_kept_at view.caches a.rank.0 (none a.rank.0) in
-          let few : length (unclean_at view.caches a.rank.0) ≤ map.len (unclean_of view.caches a.rank.0) = unclean_few view.caches a.rank.0 (subst (λ (k : Core). IsDistinct leaf_is (order k.caches a.rank.0)) (sym is) fetched_distinct) in
-          inr (inr (full.0, omega (arith, lacks, kept, few)))
+      not_found_before (IsThat a.rank.0 (leaf_of a)) NoneEnds old mid reads (2 ^ nb + 1) a.rank.0 view.faults reason same
+      (subst (λ (k : Core). MayNotFind (LacksPlacesIn (2 ^ nb + 1) k.caches a.rank.0) k.faults view.faults reason) is (⊎_elim (λ memory. inl memory) (λ full.
+      let lacks = full.1 in
+      let kept : length (kept_at view.caches a.rank.0) ≡ 0 = none_kept_at view.caches a.rank.0 (none a.rank.0) in
+      let few : length (unclean_at view.caches a.rank.0) ≤ map.len (unclean_of view.caches a.rank.0) = unclean_few view.caches a.rank.0 (subst (λ (k : Core). IsDistinct leaf_is (order k.caches a.rank.0)) (sym is) fetched_distinct) in
+      inr (inr (full.0, omega (arith, lacks, kept, few)))) refused))
 
 -- ---- the places of a split's children are given up again
 

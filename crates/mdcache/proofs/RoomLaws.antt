@@ -1,5 +1,5 @@
 -- Fragments that got room.
-use Rattle.mdcache.proofs.Common.{Bool, CacheMap, Cached, Edits, HasCached, HasRoom, IsButRoom, IsEdited, Leaf, None, Option, Some, ap, arith, at_rank, cond, eqb-true, here, here_is, here_put, here_with_frag, leaf_is, one_leaf, refl, room_changed, subst, sym, ℕ, ◌<◌, ◌==◌, ◌∙◌, ◌≡◌, ◌≤◌}
+use Rattle.mdcache.proofs.Common.{Bool, CacheMap, Cached, Edits, HasCached, HasRoom, IsButRoom, Leaf, None, Option, Some, ap, arith, at_rank, by_edits, cond, eqb-true, here, here_is, here_put, here_with_frag, leaf_is, one_leaf, room_changed, subst, sym, true, ℕ, ◌<◌, ◌==◌, ◌∙◌, ◌≡◌, ◌≤◌}
 use Rattle.std.proofs.lemmas.Bool.{cond_both}
 use Rattle.std.specs.FinMap as finmap
 
@@ -9,10 +9,7 @@ other_room f now is = room_changed f now is.0
 
 -- a fragment that was changed so is there so
 pub edited_has : (Change : Cached → Cached → Type 0) (P : Cached → Type 0) (r : ℕ) (leaf : Leaf) (old new : CacheMap) → ((f now : Cached) → Change f now → P now) → Edits Change r leaf old new → HasCached (here new r leaf) P
-edited_has Change P r leaf old new so e = elim (here old r leaf) as (λ o. IsEdited Change r leaf o old new → HasCached (here new r leaf) P) [
-  | None ↦ λ e. absurd e
-  | Some f ↦ λ e. subst (λ (o : Option Cached). HasCached o P) (sym (ap (λ (c : CacheMap). here c r leaf) e.2 ∙ here_put old r leaf e.0)) (so f e.0 e.1)
-] e
+edited_has Change P r leaf old new so e = by_edits r leaf Change old new e (λ (c : CacheMap). HasCached (here c r leaf) P) (λ f now seen change. subst (λ (o : Option Cached). HasCached o P) (sym (here_put old r leaf now)) (so f now change))
 
 pub has_rooms : (changes r : ℕ) (leaf : Leaf) (old new : CacheMap) → Edits (λ (f now : Cached). changes ≤ now.room) r leaf old new → HasCached (here new r leaf) (λ (f : Cached). changes ≤ f.room)
 has_rooms changes r leaf old new e = edited_has (λ (f now : Cached). changes ≤ now.room) (λ (f : Cached). changes ≤ f.room) r leaf old new (λ f now is. is) e
@@ -20,17 +17,14 @@ has_rooms changes r leaf old new e = edited_has (λ (f now : Cached). changes �
 -- a fragment that has room for two changes has it still where another one got room, or it itself did
 pub stays_roomy : (r s : ℕ) (leaf one : Leaf) (old new : CacheMap) → Edits (λ (f now : Cached). (now ≡ record f { room = now.room }) × (f.room ≤ now.room)) r leaf old new → HasCached (here old s one) (λ (f : Cached). 1 < f.room)
     → HasCached (here new s one) (λ (f : Cached). 1 < f.room)
-stays_roomy r s leaf one old new e has = go (here old r leaf) refl e
+stays_roomy r s leaf one old new e has = by_edits r leaf (λ (f now : Cached). (now ≡ record f { room = now.room }) × (f.room ≤ now.room)) old new e (λ (c : CacheMap). Roomy (here c s one)) (λ f now is change.
+    let was : leaf_is one leaf ≡ true → Roomy (here old s leaf) = λ same. subst Roomy (ap (here old s) (one_leaf one leaf same)) has in
+    subst Roomy (sym (here_with_frag old r leaf now s one)) (cond_both (leaf_is one leaf) (cond (r == s) (Some now) None) (here old s one) Roomy
+    (λ same. cond_both (r == s) (Some now) None Roomy (λ rank. omega (arith, subst Roomy (ap (λ (n : ℕ). here old n leaf) (sym (eqb-true r s rank)) ∙ is) (was same), change.1))
+    (λ rank. subst Roomy (ap (at_rank s) (here_is r (finmap.get old.held leaf) f is) ∙ ap (λ (b : Bool). cond b (Some f) None) rank) (was same))) (λ apart. has)))
   where
     Roomy : Option Cached → Type 0
     Roomy o = HasCached o (λ (f : Cached). 1 < f.room)
-
-    go : (o : Option Cached) → here old r leaf ≡ o → IsEdited (λ (f now : Cached). (now ≡ record f { room = now.room }) × (f.room ≤ now.room)) r leaf o old new → Roomy (here new s one)
-    go None is e = absurd e
-    go (Some f) is e = subst Roomy (sym (ap (λ (c : CacheMap). here c s one) e.2 ∙ here_with_frag old r leaf e.0 s one)) (cond_both (leaf_is one leaf) (cond (r == s) (Some e.0) None) (here old s one) Roomy
-        (λ same. cond_both (r == s) (Some e.0) None Roomy
-        (λ rank. omega (arith, subst Roomy (ap (here old s) (one_leaf one leaf same) ∙ ap (λ (n : ℕ). here old n leaf) (sym (eqb-true r s rank)) ∙ is) has, e.1.1))
-        (λ rank. subst Roomy (ap (here old s) (one_leaf one leaf same) ∙ ap (at_rank s) (here_is r (finmap.get old.held leaf) f is) ∙ ap (λ (b : Bool). cond b (Some f) None) rank) has)) (λ apart. has))
 
 pub has_room : (o : Option Cached) → HasCached o (λ (f : Cached). 1 ≤ f.room) → HasRoom o
 has_room None h = absurd h

@@ -1,5 +1,5 @@
 -- Splits and merges are right: each of them gives a directory another cover.
-use Rattle.mdcache.proofs.Common.{Bool, Fragment, HasLeaf, IsChild, IsMerge, IsSplit, List, MergesAreRight, SplitsAreRight, [], ap, arith, cond, false, first_or_later, inl, inr, later, leaves_inside, leaves_of, lies_inside, nat_tests, one_or_other, subst, suc, sym, true, zero, ℕ, ⊎_elim, ◌+◌, ◌^◌, ◌∙◌, ◌∷◌, ◌≡◌, ◌≢◌, ◌≤◌, ◌⊎◌}
+use Rattle.mdcache.proofs.Common.{Bool, Fragment, HasLeaf, IsMerge, IsSplit, List, MergesAreRight, SplitsAreRight, [], ap, arith, cond, false, first_or_later, inl, inr, later, leaves_inside, leaves_of, lies_inside, nat_tests, one_or_other, subst, suc, sym, true, zero, ℕ, ⊎_elim, ◌+◌, ◌^◌, ◌∙◌, ◌∷◌, ◌≡◌, ◌≤◌}
 use Rattle.std.proofs.lemmas.Bool.{cases_Bool}
 use Rattle.std.proofs.lemmas.List.Elements.{All-contains, All-contains_itself, All-filter, filter_passes}
 use Rattle.mdcache.proofs.RegroupLaws.{Replaces, regroup_right}
@@ -14,12 +14,10 @@ only_one f g (suc k, within, is) = absurd (omega (arith, within))
 pub split_replaces : (old cover : List Fragment) (frag : Fragment) (nb : ℕ) → 1 ≤ nb → HasLeaf old frag → IsSplit old cover frag nb → Replaces old (frag ∷ []) cover
 split_replaces old cover frag nb some stands divided = record {
   ends = λ f there. ⊎_elim (λ is. inl (zero, omega arith, is)) (λ other. inr ((divided.leaves f).1 (inl (there, λ same. other (sym same))))) (one_or_other frag f);
-  stood = λ f ended. let same = only_one frag f ended in (subst (HasLeaf old) same stands, λ has. go f same ((divided.leaves f).0 has));
+  stood = λ f ended.
+      let same = only_one frag f ended in
+      (subst (HasLeaf old) same stands, λ has. ⊎_elim (λ other. other.1 (sym same)) (λ child. let bits : frag.bits ≡ frag.bits + nb = ap (λ (g : Fragment). g.bits) (same ∙ child.2) in omega (arith, bits, some)) ((divided.leaves f).0 has));
 }
-  where
-    go : (f : Fragment) → frag ≡ f → (HasLeaf old f × (f ≢ frag)) ⊎ IsChild frag nb f → ⊥
-    go f same (inl other) = other.1 (sym same)
-    go f same (inr child) = let bits : frag.bits ≡ frag.bits + nb = ap (λ (g : Fragment). g.bits) (same ∙ child.2) in omega (arith, bits, some)
 
 pub splits_right : SplitsAreRight
 splits_right old new dir frag nb sound split =
@@ -30,12 +28,11 @@ splits_right old new dir frag nb sound split =
 -- the leaves inside a fragment are those leaves that lie inside it
 pub inside_has : (frag f : Fragment) (fs : List Fragment) → HasLeaf fs f → lies_inside frag f ≡ true → HasLeaf (leaves_inside frag fs) f
 inside_has frag f [] (k, within, is) inside = absurd (omega (arith, within))
-inside_has frag f (g ∷ gs) has inside = elim (first_or_later g f gs has) [
-  | inl same ↦ subst (λ (b : Bool). HasLeaf (cond b (g ∷ leaves_inside frag gs) (leaves_inside frag gs)) f) (sym (ap (lies_inside frag) same ∙ inside)) (zero, omega arith, same)
-  | inr more ↦
-      let rest = inside_has frag f gs more inside in
-      elim (lies_inside frag g) as (λ b. HasLeaf (cond b (g ∷ leaves_inside frag gs) (leaves_inside frag gs)) f) [ true ↦ later g f (leaves_inside frag gs) rest | false ↦ rest ]
-]
+inside_has frag f (g ∷ gs) has inside = ⊎_elim
+    (λ same. subst (λ (b : Bool). HasLeaf (cond b (g ∷ leaves_inside frag gs) (leaves_inside frag gs)) f) (sym (ap (lies_inside frag) same ∙ inside)) (zero, omega arith, same))
+    (λ more.
+    let rest = inside_has frag f gs more inside in
+    elim (lies_inside frag g) as (λ b. HasLeaf (cond b (g ∷ leaves_inside frag gs) (leaves_inside frag gs)) f) [ true ↦ later g f (leaves_inside frag gs) rest | false ↦ rest ]) (first_or_later g f gs has)
 
 pub has_inside : (frag f : Fragment) (fs : List Fragment) → HasLeaf (leaves_inside frag fs) f → HasLeaf fs f × (lies_inside frag f ≡ true)
 has_inside frag f fs has = (
@@ -50,12 +47,11 @@ not_itself f = grind (arith, nat_tests)
 pub merge_replaces : (old cover : List Fragment) (frag : Fragment) → IsMerge old cover frag → Replaces old (leaves_inside frag old) cover
 merge_replaces old cover frag merged = record {
   ends = λ f there. ⊎_elim (λ inside. inl (inside_has frag f old there inside)) (λ outside. inr ((merged.leaves f).1 (inl (there, outside)))) (cases_Bool (lies_inside frag f));
-  stood = λ f ended. let both = has_inside frag f old ended in (both.0, λ has. go f both.1 ((merged.leaves f).0 has));
+  stood = λ f ended.
+      let both = has_inside frag f old ended in
+      let not_inside : (lies_inside frag f ≡ false) → ⊥ = λ outside. (let clash : true ≡ false = sym both.1 ∙ outside in cc) in
+      (both.0, λ has. ⊎_elim (λ outside. not_inside outside.1) (λ same. not_inside (ap (lies_inside frag) same ∙ not_itself frag)) ((merged.leaves f).0 has));
 }
-  where
-    go : (f : Fragment) → lies_inside frag f ≡ true → (HasLeaf old f × (lies_inside frag f ≡ false)) ⊎ (f ≡ frag) → ⊥
-    go f inside (inl outside) = let clash : true ≡ false = sym inside ∙ outside.1 in cc
-    go f inside (inr same) = let clash : true ≡ false = sym inside ∙ ap (lies_inside frag) same ∙ not_itself frag in cc
 
 pub merges_right : MergesAreRight
 merges_right old new dir frag sound merge =

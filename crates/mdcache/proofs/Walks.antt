@@ -1,5 +1,6 @@
 -- A walk over the jobs in search of a number.
-use Rattle.mdcache.proofs.Common.{Bool, Job, Jobs, List, None, NoneHasNumber, Some, T, [], ap, cond, entries_sorted, eq_by_cmp, false, find, get-entries, is_sorted, leaf-exact, leaf_cmp, left_of, not_found_below, refl, right_of, subst, sym, tie, true, ℕ, ◌∙◌, ◌∷◌, ◌≡◌}
+use Rattle.mdcache.proofs.Common.{Bool, Job, Jobs, List, None, NoneHasNumber, Some, T, [], ap, cond, entries_sorted, eq_by_cmp, find, get-entries, is_sorted, leaf-exact, leaf_cmp, left_of, not_found_below, right_of, same_Some, subst, sym, tie, ℕ, ◌∙◌, ◌∷◌, ◌≡◌}
+use Rattle.std.proofs.lemmas.Bool.{cond_both}
 use Rattle.std.specs.FinMap as map
 use Rattle.mds_types.specs.Leaf.{Leaf}
 use Rattle.mds_types.proofs.LeafLaws.{key_itself, leaf-total}
@@ -13,33 +14,26 @@ pub record IsRest (number : ℕ) (all left : List (Leaf × Job)) : Type 0 where
 pub at_first : (jobs : Jobs) (number : ℕ) (left : List (Leaf × Job)) → left ≡ map.entries jobs → IsRest number (map.entries jobs) left
 at_first jobs number left is = subst (IsRest number (map.entries jobs)) (sym is) (record { sorted = entries_sorted jobs; found = λ leaf job h. h; kept = λ leaf job h same. h })
 
-module _ (number : ℕ) (all rest : List (Leaf × Job)) (e : Leaf × Job) (is : IsRest number all (e ∷ rest)) where
-  pub goes_on : (e.1.number ≡ number → ⊥) → IsRest number all rest
-  goes_on other = record { sorted = right_of _ _ is.sorted; found = λ leaf job h. is.found leaf job (behind leaf job (eq_by_cmp leaf_cmp leaf e.0) refl h); kept = λ leaf job h same. past leaf job same (eq_by_cmp leaf_cmp leaf e.0) (is.kept leaf job h same) }
-    where
-      behind : (leaf : Leaf) (job : Job) (b : Bool) → eq_by_cmp leaf_cmp leaf e.0 ≡ b → find leaf_cmp leaf rest ≡ Some job → cond b (Some e.1) (find leaf_cmp leaf rest) ≡ Some job
-      behind leaf job false apart h = h
-      behind leaf job true tied h =
-          let none : find leaf_cmp leaf rest ≡ None = ap (λ k. find leaf_cmp k rest) (leaf-exact _ _ (tie _ tied)) ∙ not_found_below leaf-total e.0 rest (left_of _ _ is.sorted) in
-          let clash : None ≡ Some job = sym none ∙ h in cc
+-- where the first of them is another, the rest can have it still
+pub steps_on : (number : ℕ) (all left rest : List (Leaf × Job)) (e : Leaf × Job) → IsRest number all left → left ≡ e ∷ rest → (e.1.number ≡ number → ⊥) → IsRest number all rest
+steps_on number all left rest e before split other = record {
+  sorted = right_of _ _ is.sorted;
+  found = λ leaf job h. is.found leaf job (cond_both (eq_by_cmp leaf_cmp leaf e.0) (Some e.1) (find leaf_cmp leaf rest) (λ o. o ≡ Some job) (λ tied.
+      let none : find leaf_cmp leaf rest ≡ None = ap (λ k. find leaf_cmp k rest) (leaf-exact _ _ (tie _ tied)) ∙ not_found_below leaf-total e.0 rest (left_of _ _ is.sorted) in
+      let clash : None ≡ Some job = sym none ∙ h in absurd cc) (λ apart. h));
+  kept = λ leaf job h same. cond_both (eq_by_cmp leaf_cmp leaf e.0) (Some e.1) (find leaf_cmp leaf rest) (λ o. o ≡ Some job → find leaf_cmp leaf rest ≡ Some job)
+      (λ tied it. absurd (other (ap (λ (j : Job). j.number) (same_Some e.1 job it) ∙ same))) (λ apart it. it) (is.kept leaf job h same);
+}
+  where
+    is : IsRest number all (e ∷ rest)
+    is = subst (IsRest number all) split before
 
-      past : (leaf : Leaf) (job : Job) → job.number ≡ number → (b : Bool) → cond b (Some e.1) (find leaf_cmp leaf rest) ≡ Some job → find leaf_cmp leaf rest ≡ Some job
-      past leaf job same false h = h
-      past leaf job same true h = let one : e.1 ≡ job = cc in absurd (other (ap (λ (j : Job). j.number) one ∙ same))
-
-  pub here : (jobs : Jobs) → all ≡ map.entries jobs → map.get jobs e.0 ≡ Some e.1
-  here jobs all_is = get-entries jobs e.0 ∙ ap (find leaf_cmp e.0) (sym all_is) ∙ is.found e.0 e.1 (ap (λ (b : Bool). cond b (Some e.1) (find leaf_cmp e.0 rest)) (key_itself e.0))
-
-pub none_left : (jobs : Jobs) (number : ℕ) → IsRest number (map.entries jobs) [] → NoneHasNumber jobs number
-none_left jobs number is leaf job h same = let clash : None ≡ Some job = is.kept leaf job (sym (get-entries jobs leaf) ∙ h) same in cc
-
--- the same of a list whose first job is this one
+-- where the first of them has the number its job is found
 pub found_here : (jobs : Jobs) (number : ℕ) (left rest : List (Leaf × Job)) (e : Leaf × Job) → IsRest number (map.entries jobs) left → left ≡ e ∷ rest → e.1.number ≡ number
     → (job : Job) × (map.get jobs e.0 ≡ Some job) × (job.number ≡ number)
-found_here jobs number left rest e is split same = (e.1, here number (map.entries jobs) rest e (subst (IsRest number (map.entries jobs)) split is) jobs refl, same)
+found_here jobs number left rest e is split same =
+    (e.1, get-entries jobs e.0 ∙ (subst (IsRest number (map.entries jobs)) split is).found e.0 e.1 (ap (λ (b : Bool). cond b (Some e.1) (find leaf_cmp e.0 rest)) (key_itself e.0)), same)
 
-pub steps_on : (number : ℕ) (all left rest : List (Leaf × Job)) (e : Leaf × Job) → IsRest number all left → left ≡ e ∷ rest → (e.1.number ≡ number → ⊥) → IsRest number all rest
-steps_on number all left rest e is split other = goes_on number all rest e (subst (IsRest number all) split is) other
-
+-- none has it where none is left
 pub none_left_of : (jobs : Jobs) (number : ℕ) (left : List (Leaf × Job)) → IsRest number (map.entries jobs) left → left ≡ [] → NoneHasNumber jobs number
-none_left_of jobs number left is empty = none_left jobs number (subst (IsRest number (map.entries jobs)) empty is)
+none_left_of jobs number left is empty leaf job h same = let clash : None ≡ Some job = (subst (IsRest number (map.entries jobs)) empty is).kept leaf job (sym (get-entries jobs leaf) ∙ h) same in cc

@@ -1,5 +1,5 @@
 -- Each turn commits some leaves, or finds that all is clean.
-use Rattle.mdcache.proofs.Common.{HasFragment, MayNotCommit, NoneEnds, arith, came_ranks, cond, refl, state_of, subst, sym, unclean, ℕ, ◌+◌, ◌<◌, ◌∙◌, ◌≤◌}
+use Rattle.mdcache.proofs.Common.{HasFragment, MayNotCommit, NoneEnds, arith, came_ranks, cond, refl, rules, state_of, subst, sym, unclean, ℕ, ◌+◌, ◌<◌, ◌∙◌, ◌≤◌}
 use Rattle.std.specs.FinMap as map
 use Rattle.mdcache.proofs.CommittedLaws.{given_up_whole, lacked_before, turn_ends, whole_then}
 use Rattle.mdcache.proofs.KeptTree.{kept_itself, steps_keep_tree}
@@ -17,16 +17,15 @@ loop-more-init g c = record {
   sound = c.requires.sound;
 }
 
-pub returns-in-Err-clause-whole : goal.returns-in-Err-clause-whole
-returns-in-Err-clause-whole g c = whole_then (state_of c.args.tree.now) (state_of c.loop-more.tree) (state_of c.commit_some.new.self) c.loop-more.invariant.whole c.in-Err.ensures.whole
-
-pub returns-in-Err-clause-tree : goal.returns-in-Err-clause-tree
-returns-in-Err-clause-tree g c = steps_keep_tree c.args.tree.now c.loop-more.tree c.commit_some.new.self c.loop-more.invariant.tree c.in-Err.ensures.tree
-
-pub returns-in-Err-clause-refused : goal.returns-in-Err-clause-refused
-returns-in-Err-clause-refused g c =
-    subst (λ n. MayNotCommit 256 (state_of c.args.tree.now) n c.commit_some.new.self.faults c.in-Err.refusal) c.loop-more.invariant.faults
-    (lacked_before 256 (state_of c.args.tree.now) (state_of c.loop-more.tree) c.loop-more.tree.faults c.commit_some.new.self.faults c.in-Err.refusal c.loop-more.invariant.whole c.loop-more.invariant.sound.sound c.loop-more.invariant.number c.in-Err.ensures.refused)
+pub returns-in-Err : goal.returns-in-Err
+returns-in-Err g c =
+    let inv = c.loop-more.invariant in
+    let e = c.in-Err.ensures in
+    let whole = whole_then (state_of c.args.tree.now) (state_of c.loop-more.tree) (state_of c.commit_some.new.self) inv.whole e.whole in
+    let tree = steps_keep_tree c.args.tree.now c.loop-more.tree c.commit_some.new.self inv.tree e.tree in
+    let refused = subst (λ n. MayNotCommit 256 (state_of c.args.tree.now) n c.commit_some.new.self.faults c.in-Err.refusal) inv.faults
+    (lacked_before 256 (state_of c.args.tree.now) (state_of c.loop-more.tree) c.loop-more.tree.faults c.commit_some.new.self.faults c.in-Err.refusal inv.whole inv.sound.sound inv.number e.refused) in
+    record { clean = tt; whole = whole; jobs = e.jobs; number = e.number ∙ inv.number; tree = tree; refused = refused; counted = search rules; sound = e.sound }
 
 pub loop-more-smaller : goal.loop-more-smaller
 loop-more-smaller g c =

@@ -3,18 +3,10 @@ use Rattle.mdcache.proofs.Common.{AllZip, IsReadied, ap, min_len_base, subst, ve
 use Rattle.mdcache.proofs.EncodingLaws.{all_encoded, refused_for_memory}
 use Rattle.mdcache.proofs.batches.encode_each.Goals as goal
 
-pub returns-clause-encoded : goal.returns-clause-encoded
-returns-clause-encoded g c =
+pub returns : goal.returns
+returns g c =
     let collected = c.in_ok-collect.ensures in
     let base = ap (λ it. vec_items (min_len_base it)) c.map.ensures.base ∙ ap (λ it. vec_items it) c.with_min_len.ensures.base in
-    let jobs = collected.1.1 ∙ base ∙ c.into_par_iter.ensures in
-    let each = subst (λ bs. AllZip IsReadied bs collected.0) jobs collected.1.2 in
-    all_encoded c.args.begun.items collected.0 c.in_ok-collect.field-0 each collected.2
-
-pub returns-clause-refused : goal.returns-clause-refused
-returns-clause-refused g c =
-    let collected = c.in_ok-collect.ensures in
-    let base = ap (λ it. vec_items (min_len_base it)) c.map.ensures.base ∙ ap (λ it. vec_items it) c.with_min_len.ensures.base in
-    let jobs = collected.1.1 ∙ base ∙ c.into_par_iter.ensures in
-    let each = subst (λ bs. AllZip IsReadied bs collected.0) jobs collected.1.2 in
-    refused_for_memory c.args.begun.items collected.0 c.in_ok-collect.field-0 each collected.2
+    let each = subst (λ bs. AllZip IsReadied bs collected.0) (collected.1.1 ∙ base ∙ c.into_par_iter.ensures) collected.1.2 in
+    let encoded = all_encoded c.args.begun.items collected.0 c.in_ok-collect.field-0 each collected.2 in
+    record { encoded = encoded; refused = refused_for_memory c.args.begun.items collected.0 c.in_ok-collect.field-0 each collected.2 }

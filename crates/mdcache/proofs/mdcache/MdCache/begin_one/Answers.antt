@@ -12,7 +12,7 @@ returns-in-Ok-Some-clause-tree g c =
 
 pub returns-in-Err-clause-tree : goal.returns-in-Err-clause-tree
 returns-in-Err-clause-tree g c =
-    refused_keeps c.args.self.now c.begin.new.self c.args.at.now.rank (leaf_of c.args.at.now) c.requires.unclean.holds c.requires.unclean.dirty c.in-Err.ensures.came c.in-Err.refusal c.in-Err.ensures.begun
+    refused_keeps c.args.self.now c.begin.new.self c.args.at.now.rank (leaf_of c.args.at.now) c.requires.unclean.holds c.requires.unclean.dirty c.in-Err.ensures.came c.in-Err.ensures.begun.1
 
 pub returns-in-Err-clause-refused : goal.returns-in-Err-clause-refused
 returns-in-Err-clause-refused g c =

@@ -1,6 +1,6 @@
 -- Each turn ends the first commit that is left.
-use Rattle.mdcache.proofs.Common.{AllByRecursion, AreApart, IsReadyAt, arith, drop, leaves_of_writes, refl, state_of, subst, ◌+◌}
-use Rattle.mdcache.proofs.BatchLaws.{one_less, stay_ready, writes_left}
+use Rattle.mdcache.proofs.Common.{AllByRecursion, IsReadyAt, arith, refl, state_of, subst}
+use Rattle.mdcache.proofs.BatchLaws.{ends_next, rest_is}
 use Rattle.mdcache.proofs.CommittedLaws.{given_up_whole, whole_then}
 use Rattle.mdcache.proofs.KeptTree.{kept_itself, steps_keep_tree}
 use Rattle.mdcache.proofs.mdcache.MdCache.end_each.Goals as goal
@@ -17,7 +17,7 @@ loop-one-init g c = record {
 }
 
 pub end_one-requires-clause-begun : goal.end_one-requires-clause-begun
-end_one-requires-clause-begun g c = (subst (AllByRecursion (IsReadyAt c.loop-one.self)) (writes_left c.args.ready.now c.loop-one.one-index c.one-item.result c.loop-one-test.true c.one-item.is) c.loop-one.invariant.rest).0.hand
+end_one-requires-clause-begun g c = (subst (AllByRecursion (IsReadyAt c.loop-one.self)) (rest_is c.args.ready.now c.loop-one.one-index c.one-item.result c.loop-one-test.true c.one-item.is) c.loop-one.invariant.rest).0.hand
 
 pub returns-in-Err-clause-whole : goal.returns-in-Err-clause-whole
 returns-in-Err-clause-whole g c = whole_then (state_of c.args.self.now) (state_of c.loop-one.self) (state_of c.end_one.new.self) c.loop-one.invariant.whole c.in-Err.ensures.whole
@@ -27,20 +27,6 @@ returns-in-Err-clause-tree g c = steps_keep_tree c.args.self.now c.loop-one.self
 
 pub loop-one-preserved : goal.loop-one-preserved
 loop-one-preserved g c =
-    let inv = c.loop-one.invariant in
-    let left = writes_left c.args.ready.now c.loop-one.one-index c.one-item.result c.loop-one-test.true c.one-item.is in
-    let all = subst (AllByRecursion (IsReadyAt c.loop-one.self)) left inv.rest in
-    let apart = subst (λ rs. AreApart (leaves_of_writes rs)) left inv.apart in
-    let less = one_less c.loop-one.self c.end_one.new.self c.one-item.result all.0 c.in_default.ensures.ended c.in_default.ensures.tree in
-    let fewer = inv.fewer in
     let counted = c.in_default.ensures.counted in
-    let so_far = inv.faults in
-    record {
-      rest = stay_ready c.loop-one.self c.end_one.new.self c.one-item.result all.0 c.in_default.ensures.ended c.in_default.ensures.tree (drop (c.loop-one.one-index + 1) c.args.ready.now) apart.0 all.1;
-      apart = apart.1;
-      whole = whole_then (state_of c.args.self.now) (state_of c.loop-one.self) (state_of c.end_one.new.self) inv.whole c.in_default.ensures.whole;
-      fewer = omega (arith, less, fewer);
-      tree = steps_keep_tree c.args.self.now c.loop-one.self c.end_one.new.self inv.tree c.in_default.ensures.tree;
-      faults = omega (arith, counted, so_far);
-      sound = c.in_default.ensures.sound;
-    }
+    ends_next c.args.self.now c.loop-one.self c.end_one.new.self c.args.ready.now c.loop-one.one-index c.one-item.result c.loop-one-test.true c.one-item.is c.loop-one.invariant
+    c.in_default.ensures.ended c.in_default.ensures.whole c.in_default.ensures.tree (omega (arith, counted)) c.in_default.ensures.sound

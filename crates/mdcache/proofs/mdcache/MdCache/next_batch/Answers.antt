@@ -3,20 +3,15 @@ use Rattle.mdcache.proofs.Common.{AllByRecursion, AreApart, AreCaches, Core, IsU
 use Rattle.mdcache.proofs.PlacesLaws.{listed_apart, listed_unclean, nothing_listed}
 use Rattle.mdcache.proofs.mdcache.MdCache.next_batch.Goals as goal
 
-pub returns-in-Ok-clause-unclean : goal.returns-in-Ok-clause-unclean
-returns-in-Ok-clause-unclean g c =
+pub returns-in-Ok : goal.returns-in-Ok
+returns-in-Ok g c =
     let same = ap (λ (k : Core). k.caches) c.self.view_is in
-    subst (AllByRecursion (IsUncleanAt c.args.self.now.caches)) (sym (c.in-Ok.ensures.leaves ∙ ap (λ k. take 256 (unclean_places k)) same)) (listed_unclean c.args.self.now.caches 256)
-
-pub returns-in-Ok-clause-apart : goal.returns-in-Ok-clause-apart
-returns-in-Ok-clause-apart g c =
-    let same = ap (λ (k : Core). k.caches) c.self.view_is in
-    subst (λ ls. AreApart (leaves_at ls)) (sym (c.in-Ok.ensures.leaves ∙ ap (λ k. take 256 (unclean_places k)) same)) (listed_apart c.args.self.now.caches (subst AreCaches same c.in-Ok.ensures.valid) 256)
-
-pub returns-in-Ok-clause-few : goal.returns-in-Ok-clause-few
-returns-in-Ok-clause-few g c = subst (λ ls. length ls ≤ 256) (sym c.in-Ok.ensures.leaves) (few_taken 256 _)
-
-pub returns-in-Ok-clause-none : goal.returns-in-Ok-clause-none
-returns-in-Ok-clause-none g c none =
-    let same = ap (λ (k : Core). k.caches) c.self.view_is in
-    nothing_listed c.args.self.now.caches (subst AreCaches same c.in-Ok.ensures.valid) 255 (sym (c.in-Ok.ensures.leaves ∙ ap (λ k. take 256 (unclean_places k)) same) ∙ none)
+    let leaves = c.in-Ok.ensures.leaves ∙ ap (λ k. take 256 (unclean_places k)) same in
+    let valid = subst AreCaches same c.in-Ok.ensures.valid in
+    record {
+      unclean = subst (AllByRecursion (IsUncleanAt c.args.self.now.caches)) (sym leaves) (listed_unclean c.args.self.now.caches 256);
+      apart = subst (λ ls. AreApart (leaves_at ls)) (sym leaves) (listed_apart c.args.self.now.caches valid 256);
+      few = subst (λ ls. length ls ≤ 256) (sym leaves) (few_taken 256 _);
+      none = λ none. nothing_listed c.args.self.now.caches valid 255 (sym leaves ∙ none);
+      refused = tt;
+    }
