@@ -1,8 +1,7 @@
 -- What a change makes of the caches, in the words of directories and the ranks that hold their leaves.
-use Rattle.ranked_tree.proofs.Common.{AreHeldAt, AsksFor, Came, Change, Core, EndsWith, Homes, IfSome, Ino, IsChanged, IsChangedHeld, IsGone, IsNamedIn, IsSound, Makes, MayChange, MayGo, NamesDir, None, NoneEnds, Option, Roots, Shape, Some, add, came_then, came_weaker, dentry_at, false, is_known, is_some, known_is, move, none-some, reads_came, reads_weaker, remove, rows_but, same_Some, set, shape_of, shown_tree, state_of, subst, sym, with_home, ◌||◌, ◌∙◌, ◌≡◌}
+use Rattle.ranked_tree.proofs.Common.{AreHeldAt, AsksFor, Came, Change, Core, EndsWith, Homes, IfSome, Ino, IsChanged, IsChangedHeld, IsGone, IsNamedIn, IsSound, Makes, MayChange, MayGo, NamesDir, None, NoneEnds, Option, Roots, Shape, Some, add, came_then, came_weaker, dentry_at, false, is_known, is_some, known_is, move, none-some, reads_came, reads_weaker, remove, rows_but, same_Some, set, shape_of, shown_tree, state_of, subst, sym, with_home, ◌||◌, ◌∙◌, ◌≡◌, State}
 use Rattle.std.specs.FinMap as map
 use Rattle.sorted_map.proofs.NatKeys as nat
-use Rattle.mdcache.specs.State.{State as TreeState}
 use Rattle.ranked_tree.proofs.ChangedTables.{moved_tables, removed_tables}
 use Rattle.ranked_tree.proofs.MoveLaws.{replaces}
 use Rattle.ranked_tree.proofs.ReadsForLaws.{asks_change}
@@ -14,7 +13,7 @@ row_gone homes None dir may is = absurd (none-some dir is)
 row_gone homes (Some d) dir may is = subst (λ (x : Ino). is_known (map.remove homes d.0) x.0 ≡ false) (same_Some d dir is) (λ i. nat.is_apart d.0 1 may.other i || is_some (nat.get_removed homes d.0 i))
 
 -- the directory that went with a change isn't known then
-gone_unknown : (change : Change) → Shape change → (old new : TreeState) → IsSound old → MayChange (shown_tree old) old.covers change → Makes change old new → (dir : Ino) → change.gone ≡ Some dir → is_known new.homes dir.0 ≡ false
+gone_unknown : (change : Change) → Shape change → (old new : State) → IsSound old → MayChange (shown_tree old) old.covers change → Makes change old new → (dir : Ino) → change.gone ≡ Some dir → is_known new.homes dir.0 ≡ false
 gone_unknown _ (add spot inode) old new sound may makes dir is = absurd (none-some dir is)
 gone_unknown _ (set spot inode) old new sound may makes dir is = absurd (none-some dir is)
 gone_unknown _ (remove spot went) old new sound may makes dir is = rw (removed_tables old new spot went makes).0 (row_gone old.homes went dir (removable old spot went sound may) is)

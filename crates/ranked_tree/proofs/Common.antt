@@ -20,6 +20,7 @@ pub use Rattle.dentry_cache.specs.Came.Came.{ends, stays}
 pub use Rattle.dentry_cache.specs.Handing.{AreCleanAt, AreUncleanAt, HandsOver, MayNotHandOver, moved_all}
 pub use Rattle.dentry_cache.specs.Loading.{object_of}
 pub use Rattle.dentry_cache.specs.Reads.{Reads}
+pub use Rattle.dentry_cache.specs.Reads.Reads.{stays as reads_none}
 pub use Rattle.dentry_cache.specs.Ties.{IsTiedAt}
 pub use Rattle.dirfrag_codec.proofs.ByteKeys.{key_itself}
 pub use Rattle.dirfrag_codec.specs.FragmentObject.{Names}

@@ -1,10 +1,9 @@
 -- What a change, a split and a merge leave of a tree that is divided among ranks, where they change no frozen leaf.
-use Rattle.ranked_tree.proofs.Common.{AllHave, AreFrozenRegionsKept, AreHeld, AreHeldAt, AreThawed, Came, CameAt, Change, Contains, Core, Covers, EndsWith, FollowChange, Fragment, GivesToChildren, HasLeaf, HaveOneAuthority, Homes, Ino, IsDivided, IsFamilyOf, IsFrozen, IsFrozenIn, IsLive, IsMergedHere, IsMergedInto, IsNamedIn, IsRootMerge, IsRootSplit, IsSoundCore, IsSplitInto, IsTree, KeepsAuthorities, KeepsRoots, Leaf, LoseDirectory, Makes, MayChange, Regions, Roots, Rules, Shape, Standing, StandsOver, Subtrees, TakesOver, add, after_merge, after_split, ap, child_is_new, false≢true, fragments_of, held_in, holding, in_directory, inr, is_known, leaves_inside, leaves_of, merged_is_new, move, or_whole, refl, remove, set, shape_of, shown_in, state_of, subst, sym, tree_of_row, valid_so, ◌^◌, ◌∙◌}
-use Rattle.std.specs.Prelude.{◌≡◌, ℕ, true, length, List, [], ◌∷◌, map as each}
+use Rattle.ranked_tree.proofs.Common.{AllHave, AreFrozenRegionsKept, AreHeld, AreHeldAt, AreThawed, Came, CameAt, Change, Contains, Core, Covers, EndsWith, FollowChange, Fragment, GivesToChildren, HasLeaf, HaveOneAuthority, Homes, Ino, IsDivided, IsFamilyOf, IsFrozen, IsFrozenIn, IsLive, IsMergedHere, IsMergedInto, IsNamedIn, IsRootMerge, IsRootSplit, IsSoundCore, IsSplitInto, IsTree, KeepsAuthorities, KeepsRoots, Leaf, LoseDirectory, Makes, MayChange, Regions, Roots, Rules, Shape, Standing, StandsOver, Subtrees, TakesOver, add, after_merge, after_split, ap, child_is_new, false≢true, fragments_of, held_in, holding, in_directory, inr, is_known, leaves_inside, leaves_of, merged_is_new, move, or_whole, refl, remove, set, shape_of, shown_in, state_of, subst, sym, tree_of_row, valid_so, ◌^◌, ◌∙◌, State, adds}
 use Rattle.std.specs.FinMap as map
 use Rattle.sorted_map.proofs.NatKeys as nat
+use Rattle.std.specs.Prelude.{◌≡◌, ℕ, true, length, List, [], ◌∷◌, map as each}
 use Rattle.mdcache.specs.Splits.{IsRegrouped}
-use Rattle.mdcache.specs.State.{State as TreeState}
 use Rattle.ranked_tree.proofs.ExportLaws.{change_keeps}
 use Rattle.ranked_tree.proofs.HeldChanges.{change_held}
 use Rattle.ranked_tree.proofs.HeldLaws.{HaveCaches}
@@ -12,13 +11,6 @@ use Rattle.ranked_tree.proofs.HeldRegroups.{merge_held, split_held}
 use Rattle.ranked_tree.proofs.RootLaws.{IsSoundChange}
 use Rattle.ranked_tree.proofs.StandLaws.{FewerJobs, change_jobs, all_held, came_by, held_bound, jobs_without, keeps_held, stand_kept, thawed_held, thawed_rules}
 use Rattle.ranked_tree.proofs.SubtreeLaws.{changes_soundly, children_have, merge_soundly, split_soundly, takes_over}
-
--- where a directory comes the roots stay
-adds_keep : (change : Change) → Shape change → (tree : TreeState) (before after : Roots) → FollowChange change tree before after → change.comes ≡ true → after ≡ before
-adds_keep _ (add spot inode) tree before after follow comes = follow.2 ∙ follow.1
-adds_keep _ (set spot inode) tree before after follow comes = absurd (false≢true comes)
-adds_keep _ (remove spot went) tree before after follow comes = absurd (false≢true comes)
-adds_keep _ (move from to inode went) tree before after follow comes = absurd (false≢true comes)
 
 module _ (old new : Core) (regions : Regions) (now : Subtrees) (divided : IsDivided old regions) (later : IsSoundCore new) (count : length new.caches.used ≡ length old.caches.used) where
   abbrev was : Subtrees
@@ -52,23 +44,23 @@ module _ (old new : Core) (regions : Regions) (now : Subtrees) (divided : IsDivi
       → Came (IsNamedIn change) (EndsWith change) old.caches new.caches → IsKept
   change_divided change holders may makes follow promises thawed came =
       let shape = shape_of (shown_in old) old.covers change may in
-      event (change_jobs change (state_of old) (state_of new) may makes)
+      event (change_jobs change shape (state_of old) (state_of new) makes)
       (change_keeps exports (state_of old) (state_of new) was now divided.owned.sound.sound divided.stand.valid divided.stand.placed change shape may makes follow promises thawed)
       (changes_soundly change shape (state_of old) (state_of new) was.roots now.roots divided.owned.sound.sound may makes follow divided.stand.valid)
       (λ keeps have.
       change_held old new (held_in regions) (holding exports now.roots) divided.owned later keeps change holders may makes
-      (λ comes. ap (λ (r : Roots). holding exports r) (adds_keep change shape (state_of old) was.roots now.roots follow comes)) have came)
+      (λ spot inode is. let stay = subst (λ (c : Change). FollowChange c (state_of old) was.roots now.roots) is follow in ap (λ (r : Roots). holding exports r) (stay.2 ∙ stay.1)) have came)
 
   -- leaves of a directory are regrouped
   module _ (dir : Ino) (gone cover : List Fragment) (more : ℕ) (regrouped : IsRegrouped (state_of old) (state_of new) dir gone cover more) where
     covers_now : new.covers ≡ map.insert old.covers dir.0 cover
-    covers_now = ap (λ (s : TreeState). s.covers) regrouped.left
+    covers_now = ap (λ (s : State). s.covers) regrouped.left
 
     homes_now : new.homes ≡ old.homes
-    homes_now = ap (λ (s : TreeState). s.homes) regrouped.left
+    homes_now = ap (λ (s : State). s.homes) regrouped.left
 
     fewer_jobs : FewerJobs (state_of old) (state_of new)
-    fewer_jobs leaf job is = jobs_without old.jobs (each (in_directory dir.0) gone) leaf job (ap (λ (s : TreeState). map.get s.jobs leaf) (sym regrouped.left) ∙ is)
+    fewer_jobs leaf job is = jobs_without old.jobs (each (in_directory dir.0) gone) leaf job (ap (λ (s : State). map.get s.jobs leaf) (sym regrouped.left) ∙ is)
 
     -- a leaf that comes isn't frozen
     new_thawed : AreFrozenRegionsKept exports was now old.homes new.homes old.covers new.covers → (f : Fragment) → HasLeaf cover f → (HasLeaf (leaves_of old.covers dir.0) f → ⊥) → IsFrozen exports now.roots new.homes new.covers (dir, f) → ⊥

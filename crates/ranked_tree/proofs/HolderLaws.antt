@@ -1,8 +1,7 @@
 -- The leaves that a change names, and the ranks that hold them.
-use Rattle.ranked_tree.proofs.Common.{AreHeld, AreHeldAt, AreOneRank, CacheMap, Change, Dentry, Fragment, HoldsAt, Home, Homes, IfSome, IfSome_then, Ino, Inode, IsLive, IsNamedIn, IsPick, IsSound, IsSpot, IsThat, Leaf, MayChange, MayCome, MayHoldEach, NamesDir, None, Option, Roots, Rules, Shape, Some, Spot, add, adds, ap, dentry_at, false, first_leaf, hash_of, inl, inr, is_directory, is_known, is_some, known_is, leaf_of, leaves_of, may_come, move, one_authority, refl, remove, set, shape_of, shown_tree, subst, sym, true, ℕ, ⊎_elim, ◌||◌, ◌∙◌, ◌≡◌, ◌⊎◌}
+use Rattle.ranked_tree.proofs.Common.{AreHeld, AreHeldAt, AreOneRank, CacheMap, Change, Dentry, Fragment, HoldsAt, Home, Homes, IfSome, IfSome_then, Ino, Inode, IsLive, IsNamedIn, IsPick, IsSound, IsSpot, IsThat, Leaf, MayChange, MayCome, MayHoldEach, NamesDir, None, Option, Roots, Rules, Shape, Some, Spot, add, adds, ap, dentry_at, false, first_leaf, hash_of, inl, inr, is_directory, is_known, is_some, known_is, leaf_of, leaves_of, may_come, move, one_authority, refl, remove, set, shape_of, shown_tree, subst, sym, true, ℕ, ⊎_elim, ◌||◌, ◌∙◌, ◌≡◌, ◌⊎◌, State}
 use Rattle.std.specs.FinMap as map
 use Rattle.sorted_map.proofs.NatKeys as nat
-use Rattle.mdcache.specs.State.{State as TreeState}
 use Rattle.ranked_tree.proofs.HeldLaws.{is_that, may_hold}
 
 -- a directory that comes in was not known
@@ -12,7 +11,7 @@ is_unknown homes d home may = λ i. nat.is_apart d 1 may.other i || is_some (may
 pub was_unknown : (homes : Homes) (d : ℕ) (home : Home) → MayCome homes d home → is_known homes d ≡ true → ⊥
 was_unknown homes d home may known = let clash : true ≡ false = sym known ∙ is_unknown homes d home may in cc
 
-module _ (s : TreeState) (sound : IsSound s) where
+module _ (s : State) (sound : IsSound s) where
   -- the leaf that the hash of a name picks of a directory is live
   pub pick_live : (dir : Ino) (hash : ℕ) (f : Fragment) → is_directory (shown_tree s) dir.0 ≡ true → IsPick (leaves_of s.covers dir.0) hash f → IsLive s.homes s.covers (dir, f)
   pick_live dir hash f is pick = record { known = known_is (shown_tree s) s.homes sound.tabled dir.0 ∙ is; stands = pick.stands }

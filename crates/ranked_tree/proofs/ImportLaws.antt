@@ -1,9 +1,8 @@
 -- What Import makes of a tree that is divided among ranks: the importer of a sent region holds it, and has what isn't clean of it.
-use Rattle.ranked_tree.proofs.Common.{AreAtTheirRank, AreCachedOf, AreCaches, AreCleanAt, ArePlaced, AreUncleanAt, At, Bool, CacheMap, Cached, ComeToImporter, ComesTo, Core, Covers, Dirfrag, Err, Export, HandsOver, HandsRegion, HasHolder, HasTooMany, HaveNoJobs, Homes, IfErr, IfErr-weaker, Imported, Imports, IsDistinct, IsDivided, IsExportOf, IsGivenOver, IsHere, IsIn, IsInRegionOf, IsRenewed, IsSoundCore, IsSpelled, IsSpelledBy, KeepsOutside, LacksPlacesAt, Leaf, List, MatchOption, MayNotHandOver, MayNotImport, NearestRoot, None, Ok, OnErr, OnOk, Option, Rank, Refusal, RegionLeaves, Regions, Result, Sent, SentFrag, Some, Spelled, SpellsExport, SpellsRegion, StandSoundly, Standing, StandingExport, Subtrees, Takes, UncleanLeaves, Unsaved, [], all_left_at, all_so, and_parts, ap, arith, at, at_rank, clean_in, cases_Bool, cond, cond_both, each_passes, eq_by_cmp, export_bytes, false, false≢true, few_lack, find, get-entries, handed_where, hands_over, held_in, here, here_of, holder_is, how_many, imported_unsaved, inl, inr, is_base_of, is_clean, is_frag_before, is_fragment, is_freezing, is_imported, is_name_before, is_same, is_sendable, is_sent_frag, is_sent_name, leaf_cmp, leaf_is, left_by, length, list_all, list_any, moved_all, nat_lt, nat_tests, near_to, none-some, not, one_authority, one_export, one_root, one_value, option_map, order, passing_picked, picked_distinct, picked_passes, refl, rise, rules, same_Some, same_or_apart, sent_of, state_of, subst, sym, true, unclean, unclean_in, valid_so, wants_from, ℕ, ⊎_elim, ◌&&◌, ◌==◌, ◌^◌, ◌∙◌, ◌∷◌, ◌≡◌, ◌≤◌, ◌⊎◌}
-use Rattle.std.proofs.Common.{◌≢◌, is_some, map as list_map}
+use Rattle.ranked_tree.proofs.Common.{AreAtTheirRank, AreCachedOf, AreCaches, AreCleanAt, ArePlaced, AreUncleanAt, At, Bool, CacheMap, Cached, ComeToImporter, ComesTo, Core, Covers, Dirfrag, Err, Export, HandsOver, HandsRegion, HasHolder, HasTooMany, HaveNoJobs, Homes, IfErr, IfErr-weaker, Imported, Imports, IsDistinct, IsDivided, IsExportOf, IsGivenOver, IsHere, IsIn, IsInRegionOf, IsRenewed, IsSoundCore, IsSpelled, IsSpelledBy, KeepsOutside, LacksPlacesAt, Leaf, List, MatchOption, MayNotHandOver, MayNotImport, NearestRoot, None, Ok, OnErr, OnOk, Option, Rank, Refusal, RegionLeaves, Regions, Result, Sent, SentFrag, Some, Spelled, SpellsExport, SpellsRegion, StandSoundly, Standing, StandingExport, Subtrees, Takes, UncleanLeaves, Unsaved, [], all_left_at, all_so, and_parts, ap, arith, at, at_rank, clean_in, cases_Bool, cond, cond_both, each_passes, eq_by_cmp, export_bytes, false, false≢true, few_lack, find, get-entries, handed_where, hands_over, held_in, here, here_of, holder_is, how_many, imported_unsaved, inl, inr, is_base_of, is_clean, is_frag_before, is_fragment, is_freezing, is_imported, is_name_before, is_same, is_sendable, is_sent_frag, is_sent_name, leaf_cmp, leaf_is, left_by, length, list_all, list_any, moved_all, nat_lt, nat_tests, near_to, none-some, not, one_authority, one_export, one_root, one_value, option_map, order, passing_picked, picked_distinct, picked_passes, refl, rise, rules, same_Some, same_or_apart, sent_of, state_of, subst, sym, true, unclean, unclean_in, valid_so, wants_from, ℕ, ⊎_elim, ◌&&◌, ◌==◌, ◌^◌, ◌∙◌, ◌∷◌, ◌≡◌, ◌≤◌, ◌⊎◌, State}
 use Rattle.std.specs.FinMap as map
+use Rattle.std.proofs.Common.{◌≢◌, is_some, map as list_map}
 use Rattle.export_steps.specs.Handover.{HandsOver as HandsRegionOver}
-use Rattle.mdcache.specs.State.{State as TreeState}
 use Rattle.ranked_tree.proofs.HeldLaws.{held_after, none_unless}
 use Rattle.ranked_tree.proofs.SendLaws.{at_root, export_here, of_tree, region_held, region_here}
 use Rattle.ranked_tree.proofs.StandLaws.{divided_still, held_bound, same_jobs}
@@ -186,13 +185,13 @@ module _ (core new : Core) (regions : Regions) (divided : IsDivided core regions
       → OnErr result (IsDivided new regions)
   still_divided (Ok done) h l count sound = tt
   still_divided (Err reason) h l count sound =
-      let homes : new.homes ≡ core.homes = ap (λ (s : TreeState). s.homes) l in
-      let covers : new.covers ≡ core.covers = ap (λ (s : TreeState). s.covers) l in
+      let homes : new.homes ≡ core.homes = ap (λ (s : State). s.homes) l in
+      let covers : new.covers ≡ core.covers = ap (λ (s : State). s.covers) l in
       divided_still core new regions divided (record {
         sound = sound;
         valid = rw (homes, covers) divided.owned.valid;
         held = held_after (state_of new) new.caches (held_in regions) (rw count divided.owned.held.ranks) sound.none (λ leaf a is. rw (homes, covers) (divided.owned.held.cached leaf a (was leaf a is h)));
-      }) count (same_jobs (state_of core) (state_of new) (ap (λ (s : TreeState). s.jobs) l)) homes covers
+      }) count (same_jobs (state_of core) (state_of new) (ap (λ (s : State). s.jobs) l)) homes covers
     where
       was : (leaf : Leaf) (a : At) → map.get new.caches.held leaf ≡ Some a → MayNotHandOver export.importer.0 leaves.unclean core.caches new.caches reason → map.get core.caches.held leaf ≡ Some a
       was leaf a is =
@@ -207,10 +206,10 @@ module _ (old new : Core) (regions : Regions) (later : Standing) (root : Leaf) (
   this = one_value _ step.export export step.stood stands
 
   homes_stay : new.homes ≡ old.homes
-  homes_stay = ap (λ (s : TreeState). s.homes) takes.renewed.left
+  homes_stay = ap (λ (s : State). s.homes) takes.renewed.left
 
   covers_stay : new.covers ≡ old.covers
-  covers_stay = ap (λ (s : TreeState). s.covers) takes.renewed.left
+  covers_stay = ap (λ (s : State). s.covers) takes.renewed.left
 
   hands : HandsRegionOver regions.exports later regions.roots.roots old.homes old.covers root export.importer
   hands = subst (λ (e : StandingExport). HandsRegionOver regions.exports later regions.roots.roots old.homes old.covers root e.importer) this (hands_over regions.exports later root step regions.roots.roots old.homes old.covers)
@@ -240,7 +239,7 @@ module _ (old new : Core) (regions : Regions) (later : Standing) (root : Leaf) (
       placed = placed;
       ranked = rw count divided.stand.ranked;
       there = rw count (step_there (length old.caches.used) regions.exports later root Sent Imported step divided.stand.there);
-      unbegun = λ leaf job is frozen. divided.stand.unbegun leaf job (ap (λ (s : TreeState). map.get s.jobs leaf) (sym takes.renewed.left) ∙ is) ((hands.frozen leaf).0 (rw (← homes_stay, ← covers_stay) frozen));
+      unbegun = λ leaf job is frozen. divided.stand.unbegun leaf job (ap (λ (s : State). map.get s.jobs leaf) (sym takes.renewed.left) ∙ is) ((hands.frozen leaf).0 (rw (← homes_stay, ← covers_stay) frozen));
     }
 
     pub imported_divided : IsDivided new now

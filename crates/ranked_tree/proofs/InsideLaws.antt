@@ -1,7 +1,6 @@
 -- A walk over the leaves of a directory that lie properly inside a fragment, from hash to hash.
-use Rattle.ranked_tree.proofs.Common.{Contains-from_range, Covers, Fragment, HasLeaf, Homes, Ino, IsFragment, IsInsideAt, IsLive, IsPick, IsTree, List, None, Some, and_from, and_parts, ap, arith, cases_lt, contains_start, ends_before, ends_low, ends_within, eq-eqb, eqb-true, false, is_inside, leaves, leaves_of, lies_inside, lies_inside-true, range_from_Contains, range_from_inside, refl, span, subst, sym, true, ℕ, ⊎_elim, ◌%◌, ◌+◌, ◌<◌, ◌==◌, ◌^◌, ◌∙◌, ◌≡◌, ◌≤◌}
+use Rattle.ranked_tree.proofs.Common.{Contains-from_range, Covers, Fragment, HasLeaf, Homes, Ino, IsFragment, IsInsideAt, IsLive, IsPick, IsTree, List, None, Some, and_from, and_parts, ap, arith, cases_lt, contains_start, ends_before, ends_low, ends_within, eq-eqb, eqb-true, false, is_inside, leaves, leaves_of, lies_inside, lies_inside-true, range_from_Contains, range_from_inside, refl, span, subst, sym, true, ℕ, ⊎_elim, ◌%◌, ◌+◌, ◌<◌, ◌==◌, ◌^◌, ◌∙◌, ◌≡◌, ◌≤◌, Leaf}
 use Rattle.mds_types.specs.Frag.{Contains}
-use Rattle.mds_types.specs.Leaf.{Leaf}
 use Rattle.subtree_map.proofs.Covers.{is_fragment, one_leaf}
 
 -- a leaf that contains a hash as a number of its range

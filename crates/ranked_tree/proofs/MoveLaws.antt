@@ -1,7 +1,6 @@
 -- Where a rename may be made, a directory may have its home at the new dentry, and one that is replaced may go.
-use Rattle.ranked_tree.proofs.Common.{IfSome, Ino, Inode, IsSound, MayChange, MayGo, None, Option, Some, Spot, State, cond_both, dentry_at, directory_at, home_at, is_dir_kind, may_relocate, may_replace, moves, refl, shown_tree, subst, sym, true, with_home, ◌≡◌}
+use Rattle.ranked_tree.proofs.Common.{IfSome, Ino, Inode, IsSound, MayChange, MayGo, None, Option, Some, Spot, State, cond_both, dentry_at, directory_at, home_at, is_dir_kind, may_relocate, may_replace, moves, refl, shown_tree, subst, sym, true, with_home, ◌≡◌, MayMove}
 use Rattle.std.specs.FinMap as map
-use Rattle.inode_table.specs.Dirs.{MayMove as MayRelocate}
 
 -- what holds of a directory holds of what is found, if it is one
 pub if_dir : (P : Ino → Type 0) (found : Option Inode) → ((inode : Inode) → found ≡ Some inode → is_dir_kind inode.kind ≡ true → P inode.ino) → IfSome (directory_at found) P
@@ -11,7 +10,7 @@ if_dir P (Some inode) so = cond_both (is_dir_kind inode.kind) (Some inode.ino) N
 -- where a rename may be made
 module _ (s : State) (sound : IsSound s) (source target : Spot) (inode : Inode) (went : Option Ino) (may : MayChange (shown_tree s) s.covers (moves source target inode went)) where
   -- a directory may have its home there,
-  pub relocates : is_dir_kind inode.kind ≡ true → MayRelocate s.homes inode.ino.0 (home_at (dentry_at target))
+  pub relocates : is_dir_kind inode.kind ≡ true → MayMove s.homes inode.ino.0 (home_at (dentry_at target))
   relocates kinded = may_relocate (shown_tree s) s.homes (dentry_at source) (dentry_at target) inode sound.tabled may.takes kinded
 
   -- and one that is replaced may go then

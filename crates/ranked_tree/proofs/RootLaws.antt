@@ -1,8 +1,7 @@
 -- What becomes of the roots and of every leaf's authority where directories come, move and go: from the table of directories alone.
-use Rattle.ranked_tree.proofs.Common.{AreGone, BecomesMerged, BecomesSplit, CanMerge, Covers, FitsSplit, Fragment, HasAuthority, HasLeaf, HaveOneAuthority, Home, Homes, Ino, IsChild, IsInheritedAt, IsLive, IsMerge, IsRootMerge, IsRootSplit, IsSettled, IsSome, IsSplit, IsSubtrees, IsTable, IsTree, KeepAuthority, Leaf, List, MayCome, MayGo, MayMove, NoNewRank, None, Option, Rank, Roots, Some, adopted_authority, adopted_valid, and_right, ap, arith, child_is_new, drops_soundly, cases_Bool, false, inl, inr, is_inside, is_known, is_some, leaves_now, leaves_of, lies_inside, merges_soundly, moves_soundly, nat_lt, nat_tests, not_none, one_value, refl, some_authority, some_holder, span, splits_soundly, subst, sym, tree_of_row, true, value_of, ℕ, ⊎_elim, ◌&&◌, ◌+◌, ◌/◌, ◌==◌, ◌||◌, ◌∙◌, ◌≡◌, ◌≢◌}
+use Rattle.ranked_tree.proofs.Common.{AreGone, BecomesMerged, BecomesSplit, CanMerge, Covers, FitsSplit, Fragment, HasAuthority, HasLeaf, HaveOneAuthority, Home, Homes, Ino, IsChild, IsInheritedAt, IsLive, IsMerge, IsRootMerge, IsRootSplit, IsSettled, IsSome, IsSplit, IsSubtrees, IsTable, IsTree, KeepAuthority, Leaf, List, MayCome, MayGo, MayMove, NoNewRank, None, Option, Rank, Roots, Some, adopted_authority, adopted_valid, and_right, ap, arith, child_is_new, drops_soundly, cases_Bool, false, inl, inr, is_inside, is_known, is_some, leaves_now, leaves_of, lies_inside, merges_soundly, moves_soundly, nat_lt, nat_tests, not_none, one_value, refl, some_authority, some_holder, span, splits_soundly, subst, sym, tree_of_row, true, value_of, ℕ, ⊎_elim, ◌&&◌, ◌+◌, ◌/◌, ◌==◌, ◌||◌, ◌∙◌, ◌≡◌, ◌≢◌, same_or_apart}
 use Rattle.std.specs.FinMap as map
 use Rattle.sorted_map.proofs.NatKeys as nat
-use Rattle.mds_types.proofs.LeafLaws.{same_or_apart as same_leaf_or_apart}
 use Rattle.subtree_map.specs.Changes.{leaf_of}
 
 -- what every change leaves: each leaf that stood and still stands has its authority, only leaves are roots, and no root has a rank that none had
@@ -95,26 +94,23 @@ module _ (before after : Roots) (homes : Homes) (covers : Covers) (table : IsTab
     both : KeepAuthority before after homes homes covers later (BecomesSplit d f nb) × IsSubtrees after homes later
     both = splits_soundly before after d f nb split homes covers later to table valid divided has fits whole becomes
 
-    is_other : (leaf : Leaf) → IsLive homes later leaf → leaf ≢ at_f
-    is_other leaf live same =
-        ⊎_elim (λ its. its.1 refl) (λ child. let more : f.bits ≡ f.bits + nb = ap (λ (g : Fragment). g.bits) child.2 in omega (arith, more, fits.some))
-        ((divided.leaves f).0 (subst (λ (fs : List Fragment). HasLeaf fs f) (leaves_now covers later d to becomes) (subst (λ (l : Leaf). HasLeaf (leaves_of later l.0.0) l.1) same live.stands)))
-
     -- what was a root was a leaf, so it is no child
     no_child : (leaf : Leaf) → IsSome (map.get before leaf) → (g : Fragment) → IsChild f nb g → leaf ≢ leaf_of d g
     no_child leaf some g child same =
         child_is_new (leaves_of covers d) f g nb (tree_of_row homes covers table d) has fits child (subst (λ (l : Leaf). HasLeaf (leaves_of covers l.0.0) l.1) same (valid.live leaf some).stands)
 
-    split_ranks : NoNewRank before after
-    split_ranks leaf rank is =
-        ⊎_elim (λ some. (leaf, sym (split.others leaf (λ same. not_none _ rank (ap (map.get after) same ∙ split.gone) is) (no_child leaf some)) ∙ is))
-        (λ made. (at_f, sym (split.children made.1.0 made.1.1 made.0) ∙ ap (map.get after) (sym made.1.2) ∙ is)) (split.made leaf (ap is_some is))
-
     pub divided_soundly : IsSoundChange before after homes homes covers later
     divided_soundly = record {
-      keeps = λ leaf rank was is has. both.0 leaf leaf rank was (inl (is_other leaf is, refl)) has;
+      keeps = λ leaf rank was is has. both.0 leaf leaf rank was (inl (
+        λ same.
+            ⊎_elim (λ its. its.1 refl) (λ child. let more : f.bits ≡ f.bits + nb = ap (λ (g : Fragment). g.bits) child.2 in omega (arith, more, fits.some))
+            ((divided.leaves f).0 (subst (λ (fs : List Fragment). HasLeaf fs f) (leaves_now covers later d to becomes) (subst (λ (l : Leaf). HasLeaf (leaves_of later l.0.0) l.1) same is.stands))),
+        refl,
+      )) has;
       valid = both.1;
-      ranks = split_ranks;
+      ranks = λ leaf rank is.
+          ⊎_elim (λ some. (leaf, sym (split.others leaf (λ same. not_none _ rank (ap (map.get after) same ∙ split.gone) is) (no_child leaf some)) ∙ is))
+          (λ made. (at_f, sym (split.children made.1.0 made.1.1 made.0) ∙ ap (map.get after) (sym made.1.2) ∙ is)) (split.made leaf (ap is_some is));
     }
 
     -- each child has the authority that the leaf had
@@ -132,23 +128,19 @@ module _ (before after : Roots) (homes : Homes) (covers : Covers) (table : IsTab
         let equal : nat_lt f.bits f.bits ≡ false = grind (arith, nat_tests) in
         ⊎_elim (λ its. its.1) (λ same. ap (lies_inside f) same ∙ (λ i. equal i && (f.value / span f.bits == f.value / span f.bits))) ((merged.leaves g).0 has)
 
-    is_outside : (leaf : Leaf) → IsLive homes later leaf → is_inside d f leaf ≡ false
-    is_outside leaf live =
-        ⊎_elim (λ same. and_right (leaf.0.0 == d) _ (none_inside leaf.1 (subst (λ (fs : List Fragment). HasLeaf fs leaf.1) (leaves_now covers later d to becomes) (subst (λ (e : ℕ). HasLeaf (leaves_of later e) leaf.1) same live.stands))))
-        (λ apart. λ i. nat.is_apart leaf.0.0 d apart i && lies_inside f leaf.1) (nat.same_or_apart leaf.0.0 d)
-
-    merge_ranks : NoNewRank before after
-    merge_ranks leaf rank is =
-        ⊎_elim (λ same. let found = merge.rank rank (ap (map.get after) (sym same) ∙ is) in (found.0, found.2))
-        (λ apart.
-        ⊎_elim (λ inside. absurd (not_none _ rank (merge.gone leaf inside) is)) (λ outside. (leaf, sym (merge.others leaf outside apart) ∙ is)) (cases_Bool (is_inside d f leaf)))
-        (same_leaf_or_apart leaf (leaf_of d f))
-
     pub merged_soundly : IsSoundChange before after homes homes covers later
     merged_soundly = record {
-      keeps = λ leaf rank was is has. joined.0 leaf leaf rank was (inl (is_outside leaf is, refl)) has;
+      keeps = λ leaf rank was is has. joined.0 leaf leaf rank was (inl (
+        ⊎_elim (λ same. and_right (leaf.0.0 == d) _ (none_inside leaf.1 (subst (λ (fs : List Fragment). HasLeaf fs leaf.1) (leaves_now covers later d to becomes) (subst (λ (e : ℕ). HasLeaf (leaves_of later e) leaf.1) same is.stands))))
+            (λ apart. λ i. nat.is_apart leaf.0.0 d apart i && lies_inside f leaf.1) (nat.same_or_apart leaf.0.0 d),
+        refl,
+      )) has;
       valid = joined.1;
-      ranks = merge_ranks;
+      ranks = λ leaf rank is.
+          ⊎_elim (λ same. let found = merge.rank rank (ap (map.get after) (sym same) ∙ is) in (found.0, found.2))
+          (λ apart.
+          ⊎_elim (λ inside. absurd (not_none _ rank (merge.gone leaf inside) is)) (λ outside. (leaf, sym (merge.others leaf outside apart) ∙ is)) (cases_Bool (is_inside d f leaf)))
+          (same_or_apart leaf (leaf_of d f));
     }
 
     -- the merged leaf has the authority that each of them had

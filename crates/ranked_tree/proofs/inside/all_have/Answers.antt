@@ -1,5 +1,4 @@
-use Rattle.ranked_tree.proofs.Common.{HasAuthority, Rank, arith, false, leaves_of, one_authority, refl, rules, subst, sym, tree_of_row, true, ℕ, ◌∙◌, ◌≡◌}
-use Rattle.mds_types.specs.Leaf.{Leaf}
+use Rattle.ranked_tree.proofs.Common.{HasAuthority, Rank, arith, false, leaves_of, one_authority, refl, rules, subst, sym, tree_of_row, true, ℕ, ◌∙◌, ◌≡◌, Leaf}
 use Rattle.ranked_tree.proofs.InsideLaws.{Done, is_within, of_all, walk_ends, walk_goes, walk_on, walk_starts}
 use Rattle.ranked_tree.proofs.inside.all_have.Goals as goal
 

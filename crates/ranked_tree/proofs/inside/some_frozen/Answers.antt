@@ -1,5 +1,4 @@
-use Rattle.ranked_tree.proofs.Common.{IsFrozen, arith, false, leaves_of, refl, rules, subst, sym, tree_of_row, true, ℕ, ◌∙◌, ◌≡◌}
-use Rattle.mds_types.specs.Leaf.{Leaf}
+use Rattle.ranked_tree.proofs.Common.{IsFrozen, arith, false, leaves_of, refl, rules, subst, sym, tree_of_row, true, ℕ, ◌∙◌, ◌≡◌, Leaf}
 use Rattle.ranked_tree.proofs.InsideLaws.{Done, is_within, of_all, walk_ends, walk_goes, walk_on, walk_starts}
 use Rattle.ranked_tree.proofs.inside.some_frozen.Goals as goal
 
