@@ -59,20 +59,18 @@ ranked_later a b c op reason kept because =
 -- ---- why a change isn't made ready
 
 -- what lacks at the ranks that hold the leaves of a change
-lacks_asked : (old : Core) (roots : Roots) (change : Change) → AreHeldAt (state_of old) roots change → LacksPlacesOf old change → LacksPlacesAsked 2 old roots (NamesDir change)
-lacks_asked old roots change held = go change.takes change.puts held.taken held.put
-  where
-    go : (takes : Option Spot) (puts : Option (Spot × Inode)) → IfSome takes (λ spot. HoldsAt (state_of old) roots spot.at) → IfSome puts (λ put. HoldsAt (state_of old) roots put.0.at) → LacksPlacesBy old takes puts → LacksPlacesAsked 2 old roots (NamesBy takes puts)
-    go None None here there lacks = absurd lacks
-    go None (Some put) here there lacks = (leaf_of put.0.at, refl, (put.0.at.rank, there, lacks))
-    go (Some spot) None here there lacks = (leaf_of spot.at, refl, (spot.at.rank, here, lacks))
-    go (Some spot) (Some put) here there (inl lacks) = (leaf_of spot.at, inl refl, (spot.at.rank, here, lacks))
-    go (Some spot) (Some put) here there (inr lacks) = (leaf_of put.0.at, inr refl, (put.0.at.rank, there, lacks))
+lacks_asked : (old : Core) (roots : Roots) (takes : Option Spot) (puts : Option (Spot × Inode)) → IfSome takes (λ spot. HoldsAt (state_of old) roots spot.at) → IfSome puts (λ put. HoldsAt (state_of old) roots put.0.at) → LacksPlacesBy old takes puts
+    → LacksPlacesAsked 2 old roots (NamesBy takes puts)
+lacks_asked old roots None None here there lacks = absurd lacks
+lacks_asked old roots None (Some put) here there lacks = (leaf_of put.0.at, refl, (put.0.at.rank, there, lacks))
+lacks_asked old roots (Some spot) None here there lacks = (leaf_of spot.at, refl, (spot.at.rank, here, lacks))
+lacks_asked old roots (Some spot) (Some put) here there (inl lacks) = (leaf_of spot.at, inl refl, (spot.at.rank, here, lacks))
+lacks_asked old roots (Some spot) (Some put) here there (inr lacks) = (leaf_of put.0.at, inr refl, (put.0.at.rank, there, lacks))
 
 pub told_change : (X Lacks : Type 0) (result : Result X Refusal) (old : Core) (roots : Roots) (change : Change) (after : ℕ) → AreHeldAt (state_of old) roots change → IfErr result (MayNotBeReady Lacks (LacksPlacesOf old change) old.faults after)
     → IfErr result (MayNotBeReady Lacks (LacksPlacesAsked 2 old roots (NamesDir change)) old.faults after)
 told_change X Lacks result old roots change after held =
-    IfErr-weaker result _ _ (λ reason. ⊎_elim (λ numbers. inl numbers) (λ other. inr (other.0, not_found_weaker _ _ old.faults after reason (lacks_asked old roots change held) other.1)))
+    IfErr-weaker result _ _ (λ reason. ⊎_elim (λ numbers. inl numbers) (λ other. inr (other.0, not_found_weaker _ _ old.faults after reason (lacks_asked old roots change.takes change.puts held.taken held.put) other.1)))
 
 -- ---- what is still so
 

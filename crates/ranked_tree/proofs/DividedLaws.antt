@@ -80,7 +80,11 @@ module _ (old new : Core) (regions : Regions) (now : Subtrees) (divided : IsDivi
         event (fewer_jobs dir (frag ∷ []) split.cover (2 ^ nb) split.regrouped) kept (split_soundly (state_of old) (state_of new) was.roots now.roots divided.owned.sound.sound divided.stand.valid dir frag nb split roots)
         (λ keeps have.
         split_held old new (held_in regions) (holding exports now.roots) divided.owned count later dir frag nb (record { known = split.regrouped.known; stands = split.can.stands })
-        (came_by (Rules (state_of old) was.roots (dir, frag)) _ (IsFamilyOf dir frag nb) old.caches new.caches (λ rank. thawed_held exports was.roots old.homes old.covers (dir, frag) rank thawed) came) keeps have gives)
+        (came_by (Rules (state_of old) was.roots (dir, frag)) _ (IsFamilyOf dir frag nb) old.caches new.caches (λ rank. thawed_held exports was.roots old.homes old.covers (dir, frag) rank thawed) came) keeps have
+        (λ child rank is has.
+        thawed_held exports now.roots new.homes new.covers (dir, child) rank
+        (new_thawed dir (frag ∷ []) split.cover (2 ^ nb) split.regrouped kept child ((split.divided.leaves child).1 (inr is)) (child_is_new (leaves_of old.covers dir.0) frag child nb tree split.can.stands split.can.fits is))
+        (children_have (state_of old) (state_of new) was.roots now.roots divided.owned.sound.sound divided.stand.valid dir frag nb split roots child rank is (thawed_rules exports was.roots old.homes old.covers (dir, frag) rank thawed has))))
       where
         kept : AreFrozenRegionsKept exports was now old.homes new.homes old.covers new.covers
         kept = subst (λ (h : Homes). AreFrozenRegionsKept exports was now old.homes h old.covers new.covers) (sym (homes_now dir (frag ∷ []) split.cover (2 ^ nb) split.regrouped)) (after_split exports was now old.homes old.covers new.covers over (record {
@@ -98,18 +102,16 @@ module _ (old new : Core) (regions : Regions) (now : Subtrees) (divided : IsDivi
           promises = promises;
         }))
 
-        gives : GivesToChildren (state_of old) (state_of new) (held_in regions) (holding exports now.roots) dir frag nb
-        gives child rank is has =
-            thawed_held exports now.roots new.homes new.covers (dir, child) rank
-            (new_thawed dir (frag ∷ []) split.cover (2 ^ nb) split.regrouped kept child ((split.divided.leaves child).1 (inr is)) (child_is_new (leaves_of old.covers dir.0) frag child nb tree split.can.stands split.can.fits is))
-            (children_have (state_of old) (state_of new) was.roots now.roots divided.owned.sound.sound divided.stand.valid dir frag nb split roots child rank is (thawed_rules exports was.roots old.homes old.covers (dir, frag) rank thawed has))
-
     -- a merge of leaves of one authority
     pub merge_divided : IsMergedInto (state_of old) (state_of new) dir frag → IsRootMerge was.roots now.roots dir.0 frag → HaveOneAuthority was.roots old.homes old.covers dir.0 frag → AreThawed exports was.roots old.homes old.covers dir frag
         → CameAt (AllHave old.homes old.covers was.roots dir frag) (IsMergedHere old.covers dir frag) old.caches new.caches → IsKept
     merge_divided merge roots one thawed came =
         event (fewer_jobs dir inside merge.cover 1 merge.regrouped) kept (merge_soundly (state_of old) (state_of new) was.roots now.roots divided.owned.sound.sound divided.stand.valid dir frag merge roots one)
-        (λ keeps have. merge_held old new (held_in regions) (holding exports now.roots) divided.owned count later dir frag merge.regrouped.known merge.can (came_by (AllHave old.homes old.covers was.roots dir frag) _ (IsMergedHere old.covers dir frag) old.caches new.caches (all_held exports was.roots old.homes old.covers dir frag thawed) came) keeps have takes)
+        (λ keeps have. merge_held old new (held_in regions) (holding exports now.roots) divided.owned count later dir frag merge.regrouped.known merge.can (came_by (AllHave old.homes old.covers was.roots dir frag) _ (IsMergedHere old.covers dir frag) old.caches new.caches (all_held exports was.roots old.homes old.covers dir frag thawed) came) keeps have
+        (λ leaf rank in_frag live has.
+        thawed_held exports now.roots new.homes new.covers (dir, frag) rank
+        (new_thawed dir inside merge.cover 1 merge.regrouped kept frag ((merge.merged.leaves frag).1 (inr refl)) (merged_is_new (leaves_of old.covers dir.0) frag tree merge.can))
+        (takes_over (state_of old) (state_of new) was.roots now.roots divided.owned.sound.sound divided.stand.valid dir frag merge roots one leaf rank in_frag live (thawed_rules exports was.roots old.homes old.covers leaf rank (thawed leaf in_frag live) has))))
       where
         inside : List Fragment
         inside = leaves_inside frag (leaves_of old.covers dir.0)
@@ -127,9 +129,3 @@ module _ (old new : Core) (regions : Regions) (now : Subtrees) (divided : IsDivi
           roots = roots;
           promises = promises;
         }))
-
-        takes : TakesOver (state_of old) (state_of new) (held_in regions) (holding exports now.roots) dir frag
-        takes leaf rank in_frag live has =
-            thawed_held exports now.roots new.homes new.covers (dir, frag) rank
-            (new_thawed dir inside merge.cover 1 merge.regrouped kept frag ((merge.merged.leaves frag).1 (inr refl)) (merged_is_new (leaves_of old.covers dir.0) frag tree merge.can))
-            (takes_over (state_of old) (state_of new) was.roots now.roots divided.owned.sound.sound divided.stand.valid dir frag merge roots one leaf rank in_frag live (thawed_rules exports was.roots old.homes old.covers leaf rank (thawed leaf in_frag live) has))

@@ -12,11 +12,6 @@ among d [] f (k, within, is) = absurd (omega (arith, within))
 among d (g ∷ fs) f (zero, within, is) = subst (λ (x : Fragment). Contains (each (in_directory d) (g ∷ fs)) (in_directory d x)) is (first (in_directory d g) (each (in_directory d) fs))
 among d (g ∷ fs) f (suc k, within, is) = later (in_directory d g) (in_directory d f) (each (in_directory d) fs) (among d fs f (k, omega (arith, within), is))
 
-among_gone : (covers : Covers) (dir : Ino) (leaf : Leaf) → leaf.0.0 ≡ dir.0 → HasLeaf (leaves_of covers leaf.0.0) leaf.1 → Contains (leaves_gone covers (Some dir)) leaf
-among_gone covers dir leaf at has =
-    let here : ◌≡◌ {A = Leaf} (in_directory dir.0 leaf.1) leaf = λ i. (record { 0 = sym at i }, leaf.1) in
-    subst (λ (l : Leaf). Contains (leaves covers dir.0) l) here (among dir.0 (leaves_of covers dir.0) leaf.1 (subst (λ (d : ℕ). HasLeaf (leaves_of covers d) leaf.1) at has))
-
 module _ (standing : Standing) where
   abbrev Kept : Subtrees → Subtrees → Homes → Homes → Covers → Covers → Type 0
   Kept was now homes later covers later_covers = AreFrozenRegionsKept standing was now homes later covers later_covers
@@ -48,7 +43,9 @@ module _ (standing : Standing) where
         dir = dir.0;
         below = may.other;
         childless = may.childless;
-        thawed = λ leaf at live frozen. thawed leaf live (among_gone covers dir leaf at live.stands) frozen;
+        thawed = λ leaf at live frozen.
+            let here : ◌≡◌ {A = Leaf} (in_directory dir.0 leaf.1) leaf = λ i. (record { 0 = sym at i }, leaf.1) in
+            thawed leaf live (subst (λ (l : Leaf). Contains (leaves covers dir.0) l) here (among dir.0 (leaves_of covers dir.0) leaf.1 (subst (λ (d : ℕ). HasLeaf (leaves_of covers d) leaf.1) at live.stands))) frozen;
         home_gone = refl;
         leaves_gone = refl;
         roots = roots;
@@ -117,24 +114,19 @@ module _ (standing : Standing) where
           let tables = moved_tables old new from to inode went makes in
           rw (tables.0, tables.1) (both was mid now old.homes moved (rows_but moved went) old.covers old.covers (rows_but old.covers went) one two)
 
-    -- a new directory, whose dentry's leaf is thawed
-    comes : (spot : Spot) (inode : Inode) → MayChange (shown_tree old) old.covers (adds spot inode) → IsThawed (adds spot inode)
-        → Kept was was old.homes (map.insert old.homes inode.ino.0 (home_at (dentry_at spot))) old.covers old.covers
-    comes spot inode may thawed = after_making standing was old.homes (map.insert old.homes inode.ino.0 (home_at (dentry_at spot))) old.covers over (record {
-      dir = inode.ino.0;
-      home = home_at (dentry_at spot);
-      may = may_come (shown_tree old) old.homes (dentry_at spot) inode sound.tabled may.takes;
-      thawed = at_spot spot may.carries.put (thawed (leaf_of spot.at) (first (leaf_of spot.at) []));
-      changed = refl;
-    })
-
     pub change_keeps : (change : Change) → Shape change → MayChange (shown_tree old) old.covers change → Makes change old new → FollowChange change old was.roots now.roots → LoseDirectory was.promises now.promises change.gone → IsThawed change → AllKept
     change_keeps _ (set spot inode) may makes follow promises thawed = let tables = set_tables old new spot inode makes in rw (tables.0, tables.1) (still was now old.homes old.covers (follow.2 ∙ follow.1) promises placed)
     change_keeps _ (add spot inode) may makes follow promises thawed =
         ⊎_elim (λ kinded.
         let tables = grown_tables old new spot inode kinded makes in
         let grown = map.insert old.homes inode.ino.0 (home_at (dentry_at spot)) in
-        let come = comes spot inode may thawed in
+        let come : Kept was was old.homes grown old.covers old.covers = after_making standing was old.homes grown old.covers over (record {
+          dir = inode.ino.0;
+          home = home_at (dentry_at spot);
+          may = may_come (shown_tree old) old.homes (dentry_at spot) inode sound.tabled may.takes;
+          thawed = at_spot spot may.carries.put (thawed (leaf_of spot.at) (first (leaf_of spot.at) []));
+          changed = refl;
+        }) in
         rw (tables.0, tables.1) (both was was now old.homes grown grown old.covers old.covers old.covers come (still was now grown old.covers (follow.2 ∙ follow.1) promises come.placed)))
         (λ kinded. let tables = added_tables old new spot inode kinded makes in rw (tables.0, tables.1) (still was now old.homes old.covers (follow.2 ∙ follow.1) promises placed)) (dir_or_not inode)
     change_keeps _ (remove spot went) may makes follow promises thawed =

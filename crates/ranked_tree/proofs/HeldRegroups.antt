@@ -59,7 +59,8 @@ pub family_came : (s : State) (roots : Roots) (rank : Rank) (dir : Ino) (frag : 
     → Came (IsFamilyAt rank.0 dir frag nb) (IsFamilyAt rank.0 dir frag nb) old new → CameAt (Rules s roots (dir, frag)) (IsFamilyOf dir frag nb) old new
 family_came s roots rank dir frag nb rules old new came =
     came_weaker (IsFamilyAt rank.0 dir frag nb) (IsFamilyAt rank.0 dir frag nb) (UsedAt (Rules s roots (dir, frag)) (IsFamilyOf dir frag nb)) (λ r q. IsFamilyOf dir frag nb q)
-    (λ r q. ⊎_elim (λ it. (subst (λ (n : ℕ). Rules s roots (dir, frag) (record { 0 = n })) (sym it.0) rules, inl it.1)) (λ child. (subst (λ (n : ℕ). Rules s roots (dir, frag) (record { 0 = n })) (sym child.0) rules, inr (child.1, child.2, child.3))))
+    (λ r q. ⊎_elim (λ it. (subst (λ (n : ℕ). Rules s roots (dir, frag) (record { 0 = n })) (sym it.0) rules, inl it.1))
+    (λ child. (subst (λ (n : ℕ). Rules s roots (dir, frag) (record { 0 = n })) (sym child.0) rules, inr (child.1, child.2, child.3))))
     (λ r q. ⊎_elim (λ it. inl it.1) (λ child. inr (child.1, child.2, child.3))) old new came
 
 pub merged_came : (core : Core) (roots : Roots) (rank : Rank) (dir : Ino) (frag : Fragment) → AllHave core.homes core.covers roots dir frag rank → (new : CacheMap)
@@ -68,7 +69,8 @@ pub merged_came : (core : Core) (roots : Roots) (rank : Rank) (dir : Ino) (frag 
 merged_came core roots rank dir frag all new came =
     let ending = ending_at core (record { dir = dir; frag = frag; rank = rank }) in
     came_weaker (IsAmongOr rank.0 ending (dir, frag)) (λ (r : ℕ) (q : Leaf). Contains ending q) (UsedAt (AllHave core.homes core.covers roots dir frag) (IsMergedHere core.covers dir frag)) (λ r q. IsMergedHere core.covers dir frag q)
-    (λ r q. ⊎_elim (λ among. (subst (λ (n : ℕ). AllHave core.homes core.covers roots dir frag (record { 0 = n })) (sym among.0) all, inl among.1)) (λ it. (subst (λ (n : ℕ). AllHave core.homes core.covers roots dir frag (record { 0 = n })) (sym it.0) all, inr it.1)))
+    (λ r q. ⊎_elim (λ among. (subst (λ (n : ℕ). AllHave core.homes core.covers roots dir frag (record { 0 = n })) (sym among.0) all, inl among.1))
+    (λ it. (subst (λ (n : ℕ). AllHave core.homes core.covers roots dir frag (record { 0 = n })) (sym it.0) all, inr it.1)))
     (λ r q contains. inl contains) core.caches new came
 
 -- ---- what is cached afterwards

@@ -44,25 +44,21 @@ module _ (s : State) (sound : IsSound s) where
 
   -- the leaves that a change names are used by ranks that hold them, where they are leaves
   module _ (roots : Roots) where
-    pub named_by : (change : Change) → MayChange (shown_tree s) s.covers change → AreHeldAt s roots change → (r : ℕ) (q : Leaf) → IsNamedIn change r q
-        → (NamesDir change q.0.0 × IsLive s.homes s.covers q × Rules s roots q (record { 0 = r })) ⊎ ((spot : Spot) × (inode : Inode) × (change ≡ adds spot inode) × IsThat spot.at.rank.0 (first_leaf inode.ino) r q)
-    named_by change may held r q is = go change (shape_of (shown_tree s) s.covers change may) may held is
-      where
-        at_spot : (spot : Spot) → IsLive s.homes s.covers (leaf_of spot.at) → HoldsAt s roots spot.at → IsThat spot.at.rank.0 (leaf_of spot.at) r q → (q.0.0 ≡ spot.at.dir.0) × IsLive s.homes s.covers q × Rules s roots q (record { 0 = r })
-        at_spot spot live holds that = (ap (λ (l : Leaf). l.0.0) that.1, subst (IsLive s.homes s.covers) (sym that.1) live, is_that s roots (leaf_of spot.at) spot.at.rank holds r q that)
+    at_spot : (r : ℕ) (q : Leaf) (spot : Spot) → IsLive s.homes s.covers (leaf_of spot.at) → HoldsAt s roots spot.at → IsThat spot.at.rank.0 (leaf_of spot.at) r q → (q.0.0 ≡ spot.at.dir.0) × IsLive s.homes s.covers q × Rules s roots q (record { 0 = r })
+    at_spot r q spot live holds that = (ap (λ (l : Leaf). l.0.0) that.1, subst (IsLive s.homes s.covers) (sym that.1) live, is_that s roots (leaf_of spot.at) spot.at.rank holds r q that)
 
-        go : (made : Change) → Shape made → MayChange (shown_tree s) s.covers made → AreHeldAt s roots made → IsNamedIn made r q
-            → (NamesDir made q.0.0 × IsLive s.homes s.covers q × Rules s roots q (record { 0 = r })) ⊎ ((spot : Spot) × (inode : Inode) × (made ≡ adds spot inode) × IsThat spot.at.rank.0 (first_leaf inode.ino) r q)
-        go _ (add spot inode) able at (inl that) = inl (at_spot spot (named_live _ (add spot inode) able).1 at.put that)
-        go _ (add spot inode) able at (inr that) = inr (spot, inode, refl, that)
-        go _ (set spot inode) able at that = inl (at_spot spot (named_live _ (set spot inode) able).1 at.put that)
-        go _ (remove spot went) able at that = inl (at_spot spot (named_live _ (remove spot went) able).0 at.taken that)
-        go _ (move source target inode went) able at (inl that) = let its = at_spot source (named_live _ (move source target inode went) able).0 at.taken that in inl (inl its.0, its.1, its.2)
-        go _ (move source target inode went) able at (inr that) = let its = at_spot target (named_live _ (move source target inode went) able).1 at.put that in inl (inr its.0, its.1, its.2)
+    pub named_by : (change : Change) → Shape change → MayChange (shown_tree s) s.covers change → AreHeldAt s roots change → (r : ℕ) (q : Leaf) → IsNamedIn change r q
+        → (NamesDir change q.0.0 × IsLive s.homes s.covers q × Rules s roots q (record { 0 = r })) ⊎ ((spot : Spot) × (inode : Inode) × (change ≡ adds spot inode) × IsThat spot.at.rank.0 (first_leaf inode.ino) r q)
+    named_by _ (add spot inode) able at r q (inl that) = inl (at_spot r q spot (named_live _ (add spot inode) able).1 at.put that)
+    named_by _ (add spot inode) able at r q (inr that) = inr (spot, inode, refl, that)
+    named_by _ (set spot inode) able at r q that = inl (at_spot r q spot (named_live _ (set spot inode) able).1 at.put that)
+    named_by _ (remove spot went) able at r q that = inl (at_spot r q spot (named_live _ (remove spot went) able).0 at.taken that)
+    named_by _ (move source target inode went) able at r q (inl that) = let its = at_spot r q source (named_live _ (move source target inode went) able).0 at.taken that in inl (inl its.0, its.1, its.2)
+    named_by _ (move source target inode went) able at r q (inr that) = let its = at_spot r q target (named_live _ (move source target inode went) able).1 at.put that in inl (inr its.0, its.1, its.2)
 
     pub named_held : (change : Change) → MayChange (shown_tree s) s.covers change → AreHeldAt s roots change → (r : ℕ) (q : Leaf) → IsNamedIn change r q → IsLive s.homes s.covers q → Rules s roots q (record { 0 = r })
     named_held change may held r q is live =
-        ⊎_elim (λ its. its.2) (λ new. absurd (new_is_not_live new.0 new.1 (subst (MayChange (shown_tree s) s.covers) new.2 may) (subst (IsLive s.homes s.covers) new.3.1 live))) (named_by change may held r q is)
+        ⊎_elim (λ its. its.2) (λ new. absurd (new_is_not_live new.0 new.1 (subst (MayChange (shown_tree s) s.covers) new.2 may) (subst (IsLive s.homes s.covers) new.3.1 live))) (named_by change (shape_of (shown_tree s) s.covers change may) may held r q is)
 
     -- the ranks may hold the leaves; one leaf has one holder
     pub hold_each : (caches : CacheMap) → AreHeld s caches roots → (change : Change) → AreHeldAt s roots change → MayHoldEach caches change

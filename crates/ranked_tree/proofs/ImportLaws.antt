@@ -17,9 +17,6 @@ module _ (core : Core) (regions : Regions) (divided : IsDivided core regions) (r
   at_home : AreAtTheirRank In core.caches export.exporter.0
   at_home = region_here core regions divided root export stands (ap is_freezing sent) (ap is_imported sent)
 
-  no_job : (leaf : Leaf) → In leaf → map.get core.jobs leaf ≡ None
-  no_job leaf near = none_unless (map.get core.jobs leaf) (λ job is. divided.stand.unbegun leaf job is (record { root = root; export = export; nearest = near; stands = stands; freezing = ap is_freezing sent }))
-
   module _ (leaves : RegionLeaves) (cached : AreCachedOf In core.caches export.exporter.0 leaves) where
     -- what is handed over: the leaves of the region that are unclean, with no job, and those that are clean
     pub record AreReady : Type 0 where
@@ -35,7 +32,8 @@ module _ (core : Core) (regions : Regions) (divided : IsDivided core regions) (r
           unclean = all_so _ (λ (leaf : Leaf). unclean_in (here core.caches export.exporter.0 leaf) ≡ true) (λ q both. both.0) leaves.unclean dirty;
           clean = all_so _ (λ (leaf : Leaf). clean_in (here core.caches export.exporter.0 leaf) ≡ true) (λ q both. both.0) leaves.clean
               (each_passes In clean_in core.caches export.exporter.0 (order core.caches export.exporter.0) leaves.clean cached.clean);
-          jobless = all_so _ (λ (leaf : Leaf). map.get core.jobs leaf ≡ None) (λ q both. no_job q both.1) leaves.unclean dirty;
+          jobless = all_so _ (λ (leaf : Leaf). map.get core.jobs leaf ≡ None) (λ q both.
+              none_unless (map.get core.jobs q) (λ job is. divided.stand.unbegun q job is (record { root = root; export = export; nearest = both.1; stands = stands; freezing = ap is_freezing sent }))) leaves.unclean dirty;
           distinct = λ valid. picked_distinct In unclean_in core.caches export.exporter.0 (order core.caches export.exporter.0) leaves.unclean cached.unclean (valid.distinct export.exporter.0);
         }
 
@@ -44,10 +42,6 @@ module _ (core : Core) (regions : Regions) (divided : IsDivided core regions) (r
       dirty_picked : (leaf : Leaf) (f : Cached) → here core.caches export.exporter.0 leaf ≡ Some f → is_clean f ≡ false → In leaf → list_any (leaf_is leaf) leaves.unclean ≡ true
       dirty_picked leaf f seen dirty near =
           passing_picked In unclean_in core.caches export.exporter.0 (order core.caches export.exporter.0) leaves.unclean cached.unclean leaf (valid.placed export.exporter.0 leaf (ap (λ (o : Option Cached). is_some o) seen)) (ap unclean_in seen ∙ ap not dirty) near
-
-      clean_picked : (leaf : Leaf) (f : Cached) → here core.caches export.exporter.0 leaf ≡ Some f → is_clean f ≡ true → In leaf → list_any (leaf_is leaf) leaves.clean ≡ true
-      clean_picked leaf f seen clean near =
-          passing_picked In clean_in core.caches export.exporter.0 (order core.caches export.exporter.0) leaves.clean cached.clean leaf (valid.placed export.exporter.0 leaf (ap (λ (o : Option Cached). is_some o) seen)) (ap clean_in seen ∙ clean) near
 
       -- so what is unsaved is of generation 0 there, and nowhere else
       abbrev had : Leaf → Option Unsaved
@@ -101,7 +95,8 @@ module _ (core : Core) (regions : Regions) (divided : IsDivided core regions) (r
                   let mine : a.rank ≡ export.exporter.0 = ap (λ (r : Rank). r.0)
                   (one_authority (held_in regions) core.homes core.covers leaf (record { 0 = a.rank }) export.exporter (divided.owned.held.cached leaf a was) (region_held core regions divided root export stands (ap is_freezing sent) (ap is_imported sent) leaf near)) in
                   let seen : here core.caches export.exporter.0 leaf ≡ Some a.frag = ap (at_rank export.exporter.0) was ∙ ap (λ (b : Bool). cond b (Some a.frag) None) (is_same a.rank export.exporter.0 mine) in
-                  absurd (⊎_elim (λ clean. gone mine (clean_picked leaf a.frag seen clean near)) (λ dirty. false≢true (sym among ∙ dirty_picked leaf a.frag seen dirty near)) (cases_Bool (is_clean a.frag)))
+                  absurd (⊎_elim (λ clean. gone mine (passing_picked In clean_in core.caches export.exporter.0 (order core.caches export.exporter.0) leaves.clean cached.clean leaf
+                  (valid.placed export.exporter.0 leaf (ap (λ (o : Option Cached). is_some o) seen)) (ap clean_in seen ∙ clean) near)) (λ dirty. false≢true (sym among ∙ dirty_picked leaf a.frag seen dirty near)) (cases_Bool (is_clean a.frag)))
 
 -- ---- so it is with the caches and tables that a call is given
 
@@ -225,13 +220,6 @@ module _ (old new : Core) (regions : Regions) (later : Standing) (root : Leaf) (
   abbrev now : Regions
   now = record { roots = regions.roots; exports = later }
 
-  -- whoever had a fragment holds it
-  holds_now : (leaf : Leaf) (a : At) → map.get new.caches.held leaf ≡ Some a → HasHolder later regions.roots.roots old.homes old.covers leaf (record { 0 = a.rank })
-  holds_now leaf a is =
-      ⊎_elim (λ there. subst (λ (n : ℕ). HasHolder later regions.roots.roots old.homes old.covers leaf (record { 0 = n })) (sym there.1) (hands.region leaf there.0))
-      (λ was. hands.others leaf (record { 0 = a.rank }) was.0 ((holder_is regions.exports regions.roots.roots old.homes old.covers leaf (record { 0 = a.rank })).1 (divided.owned.held.cached leaf (at a.rank was.1) was.2)))
-      (takes.caches.came leaf a is)
-
   module _ (sound : IsSoundCore new) (count : length new.caches.used ≡ length old.caches.used) (placed : ArePlaced later regions.roots) where
     stand_now : StandSoundly (state_of new) (length new.caches.used) regions.roots later
     stand_now = record {
@@ -248,7 +236,11 @@ module _ (old new : Core) (regions : Regions) (later : Standing) (root : Leaf) (
         sound = sound;
         valid = (valid_so later regions.roots.roots new.homes new.covers).0 stand_now.valid;
         held = held_after (state_of new) new.caches (held_in now) (held_bound (state_of new) (length new.caches.used) regions.roots later stand_now) sound.none
-            (λ leaf a is. rw (homes_stay, covers_stay) ((holder_is later regions.roots.roots old.homes old.covers leaf (record { 0 = a.rank })).0 (holds_now leaf a is)));
+            -- whoever had a fragment holds it
+            (λ leaf a is. rw (homes_stay, covers_stay) ((holder_is later regions.roots.roots old.homes old.covers leaf (record { 0 = a.rank })).0
+            (⊎_elim (λ there. subst (λ (n : ℕ). HasHolder later regions.roots.roots old.homes old.covers leaf (record { 0 = n })) (sym there.1) (hands.region leaf there.0))
+            (λ was. hands.others leaf (record { 0 = a.rank }) was.0 ((holder_is regions.exports regions.roots.roots old.homes old.covers leaf (record { 0 = a.rank })).1 (divided.owned.held.cached leaf (at a.rank was.1) was.2)))
+            (takes.caches.came leaf a is))));
       };
       stand = stand_now;
     }

@@ -30,19 +30,13 @@ module _ (leaves : List Fragment) (tree : IsTree leaves) (f : Fragment) (valid :
     inside_found inside = (pick.stands, inside, range.0, range.1)
 
     -- or it contains the fragment, and no leaf lies inside
-    contains_f : lies_inside f leaf ≡ false → leaf.bits ≤ f.bits
-    contains_f outside = ⊎_elim (λ less. absurd (more less)) (λ few. few) (cases_lt f.bits leaf.bits)
-      where
-        more : f.bits < leaf.bits → ⊥
-        more less =
-            let start : leaf.value < f.value → ⊥ = λ before. let ends = ends_before f leaf valid its (omega (arith, less)) before in omega (arith, ends, from, range.1) in
-            let inside = lies_inside-true f leaf valid less (omega (arith, start)) (omega (arith, range.0, within)) in
-            let clash : true ≡ false = sym inside ∙ outside in
-            cc
-
     pub none_inside : lies_inside f leaf ≡ false → IsInsideAt leaves f hash None
     none_inside outside g has inside =
-        let fewer = contains_f outside in
+        let fewer : leaf.bits ≤ f.bits =
+        ⊎_elim (λ less.
+        let start : leaf.value < f.value → ⊥ = λ before. let ends = ends_before f leaf valid its (omega (arith, less)) before in omega (arith, ends, from, range.1) in
+        let clash : true ≡ false = sym (lies_inside-true f leaf valid less (omega (arith, start)) (omega (arith, range.0, within))) ∙ outside in
+        absurd cc) (λ few. few) (cases_lt f.bits leaf.bits) in
         let start : f.value < leaf.value → ⊥ = λ after. let ends = ends_before leaf f its valid fewer after in omega (arith, ends, within, range.0) in
         let ends = ends_within leaf f its valid fewer (omega (arith, from, range.1)) in
         let of_g = is_fragment leaves g tree has in

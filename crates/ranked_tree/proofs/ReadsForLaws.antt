@@ -1,5 +1,5 @@
 -- What reads of a directory's leaves make of the caches, one after the other.
-use Rattle.ranked_tree.proofs.Common.{AreHeldAt, AsksFor, Change, Concerns, ConcernsIn, Core, Dentry, Inode, IsChangeIn, IsNamedIn, IsSound, KeepsRanked, KeepsState, Leaf, Lists, Looks, MayChange, Moves, NamesBy, NamesDir, None, NoneEnds, Op, Option, PutsAt, Ranked, Reads, ReadsCore, ReadsFor, Refusal, Removes, Roots, Sets, Some, Spot, TakesAt, Tree, Unlinks, ap, dentry_at, false, held_roots, inl, inr, is_known, keeps_on, may_come, none-some, reads_then, reads_weaker, shown_tree, state_of, subst, sym, ℕ, ⊎_elim, ◌∙◌, ◌≡◌, State}
+use Rattle.ranked_tree.proofs.Common.{AreHeldAt, AsksFor, Change, Concerns, ConcernsIn, Core, Dentry, Inode, IsChangeIn, IsNamedIn, IsSound, KeepsRanked, KeepsState, Leaf, Lists, Looks, MayChange, Moves, NamesBy, NamesDir, None, NoneEnds, Op, Option, PutsAt, Ranked, Reads, ReadsCore, ReadsFor, Refusal, Removes, Roots, Sets, Some, Spot, TakesAt, Tree, Unlinks, ap, dentry_at, false, held_roots, inl, inr, is_known, keeps_on, may_come, none-some, reads_then, reads_weaker, shown_tree, state_of, subst, sym, ℕ, ⊎_elim, ◌∙◌, ◌≡◌, State, shape_of}
 use Rattle.mds_types.specs.Shape.{Shape as OpShape, Makes}
 use Rattle.ranked_tree.proofs.AskLaws.{held_still}
 use Rattle.ranked_tree.proofs.HolderLaws.{is_unknown, named_by}
@@ -33,7 +33,7 @@ asks_change old roots change sound may held r q is =
     (λ new.
     let come = may_come (shown_tree (state_of old)) old.homes (dentry_at new.0) new.1 sound.tabled (subst (MayChange (shown_tree (state_of old)) old.covers) new.2 may).takes in
     inr (subst (λ (l : Leaf). is_known old.homes l.0.0 ≡ false) (sym new.3.1) (is_unknown old.homes new.1.ino.0 _ come), ap (λ (l : Leaf). l.1) new.3.1))
-    (named_by (state_of old) sound roots change may held r q is)
+    (named_by (state_of old) sound roots change (shape_of (shown_tree (state_of old)) old.covers change may) may held r q is)
 
 -- reads of them
 pub reads_change : (old new : Core) (roots : Roots) (change : Change) → IsSound (state_of old) → MayChange (shown_tree (state_of old)) old.covers change → AreHeldAt (state_of old) roots change → ReadsCore (IsNamedIn change) NoneEnds old new

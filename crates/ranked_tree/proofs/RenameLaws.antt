@@ -59,7 +59,8 @@ Settles d now before after lost = (homes : Homes) (covers : Covers) (home : Home
 
 -- and its roots are settled
 module _ (old new : State) (sound : IsSound old) (before after : Roots) (lost : Option Rank) where
-  pub settles : (change : Change) → Shape change → MayChange (shown_tree old) old.covers change → IsRight change old new → ((put : Spot × Inode) → change.puts ≡ Some put → IfSome (dir_moving change) (λ (dir : Ino). IsLostRank before old.homes old.covers dir.0 (home_at (dentry_at put.0)) lost))
+  pub settles : (change : Change) → Shape change → MayChange (shown_tree old) old.covers change → IsRight change old new
+      → ((put : Spot × Inode) → change.puts ≡ Some put → IfSome (dir_moving change) (λ (dir : Ino). IsLostRank before old.homes old.covers dir.0 (home_at (dentry_at put.0)) lost))
       → Settles (dir_moving change) new.covers before after lost → SettleMoving change old before after
   settles _ (add spot inode) able done is its = its old.homes old.covers (home_at (dentry_at spot))
   settles _ (set spot inode) able done is its = its old.homes old.covers (home_at (dentry_at spot))

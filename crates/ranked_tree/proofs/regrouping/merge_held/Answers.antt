@@ -13,7 +13,8 @@ returns g c =
     let its = c.merge.ensures in
     let (leaf, live, inside) = c.holder_of_all-rank.ensures.inside in
     let all : AllHave c.args.tree.now.homes c.args.tree.now.covers c.args.regions.now.roots.roots c.args.dir c.args.frag c.holder_of_all-rank.result
-    = λ leaf live inside. thawed_rules c.args.regions.now.exports c.args.regions.now.roots.roots c.args.tree.now.homes c.args.tree.now.covers leaf c.holder_of_all-rank.result (c.requires.thawed leaf inside live) (c.holder_of_all-rank.ensures.all leaf live inside) in
+    = λ leaf live inside. thawed_rules c.args.regions.now.exports c.args.regions.now.roots.roots c.args.tree.now.homes c.args.tree.now.covers leaf c.holder_of_all-rank.result
+    (c.requires.thawed leaf inside live) (c.holder_of_all-rank.ensures.all leaf live inside) in
     record {
       merged = merge_on (LacksPlacesAt 1 c.args.tree.now c.holder_of_all-rank.result) (LacksPlacesInside 1 c.args.tree.now c.args.regions.now.roots.roots c.args.dir c.args.frag) c.args.tree.now c.merge.new.self c.args.dir c.args.frag c.merge.result (λ lacks. (leaf, live, inside, (c.holder_of_all-rank.result, all leaf live inside, lacks))) its.merged;
       count = came_ranks _ _ c.args.tree.now.caches c.merge.new.self.caches its.came;
