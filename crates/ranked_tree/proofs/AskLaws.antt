@@ -47,14 +47,12 @@ asked old new op reason Lacks so (inr (inr (is, lacks))) = let (leaf, concerns, 
 -- after reads for it that were not refused
 pub ranked_later : (a b c : Ranked) (op : Op) (reason : Refusal) → KeepsRanked a b op None → MayRefuse b c op reason → MayRefuse a c op reason
 ranked_later a b c op reason kept because =
-    refused_later (LacksPlacesAsked 2 b.tree (held_roots b) (Concerns (shown_tree (state_of b.tree)) op)) (LacksPlacesAsked 2 a.tree (held_roots a) (Concerns (shown_tree (state_of a.tree)) op)) a.tree b.tree c.tree op reason so kept.tree because
-  where
-    so : LacksPlacesAsked 2 b.tree (held_roots b) (Concerns (shown_tree (state_of b.tree)) op) → LacksPlacesAsked 2 a.tree (held_roots a) (Concerns (shown_tree (state_of a.tree)) op)
-    so (leaf, concerns, lacks) = (
+    refused_later (LacksPlacesAsked 2 b.tree (held_roots b) (Concerns (shown_tree (state_of b.tree)) op)) (LacksPlacesAsked 2 a.tree (held_roots a) (Concerns (shown_tree (state_of a.tree)) op)) a.tree b.tree c.tree op reason
+    (λ all. let (leaf, concerns, lacks) = all in (
       leaf,
       subst (λ (s : State). Concerns (shown_tree s) op leaf.0.0) kept.tree.state concerns,
       lacks_still 2 a.tree b.tree (held_roots a) leaf kept.tree (subst (λ (r : Roots). LacksPlacesFor 2 b.tree r leaf) (held_still a b op None kept) lacks),
-    )
+    )) kept.tree because
 
 -- ---- why a change isn't made ready
 

@@ -2,8 +2,7 @@
 use Rattle.ranked_tree.proofs.Common.{AreHeldAt, AsksFor, Came, Change, Core, EndsWith, Homes, IfSome, Ino, IsChanged, IsChangedHeld, IsGone, IsNamedIn, IsSound, Makes, MayChange, MayGo, NamesDir, None, NoneEnds, Option, Roots, Shape, Some, add, came_then, came_weaker, dentry_at, false, is_known, is_some, known_is, move, none-some, reads_came, reads_weaker, remove, rows_but, same_Some, set, shape_of, shown_tree, state_of, subst, sym, with_home, ◌||◌, ◌∙◌, ◌≡◌, State}
 use Rattle.std.specs.FinMap as map
 use Rattle.sorted_map.proofs.NatKeys as nat
-use Rattle.ranked_tree.proofs.ChangedTables.{moved_tables, removed_tables}
-use Rattle.ranked_tree.proofs.MoveLaws.{replaces}
+use Rattle.ranked_tree.proofs.ChangedTables.{moved_tables, removed_tables, replaces}
 use Rattle.ranked_tree.proofs.ReadsForLaws.{asks_change}
 use Rattle.ranked_tree.proofs.SubtreeLaws.{removable}
 

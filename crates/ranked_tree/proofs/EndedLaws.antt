@@ -1,8 +1,8 @@
 -- The jobs of a region end, leaf by leaf.
-use Rattle.ranked_tree.proofs.Common.{Bool, Covers, EndsInside, EndsRegion, Homes, IsNext, Job, Jobs, Leaf, List, MatchOption, NearestRoot, None, Option, Roots, Some, [], ap, arith, cases_Bool, cond, cond_both, eq_by_cmp, false, false≢true, find, get-entries, get_left, get_removed, inl, inr, is_behind, is_lt, is_some, leaf-exact, leaf-total, leaf_cmp, less_is, none-some, not, one_root, refl, same_or_apart, stood_before, subst, suc, sym, tie, tied_itself, true, true≢false, value_of, ℕ, ⊎_elim, ◌+◌, ◌<◌, ◌∙◌, ◌∷◌, ◌≡◌, ◌≢◌, ◌≤◌, State}
+use Rattle.ranked_tree.proofs.Common.{Bool, Covers, EndsInside, EndsRegion, Homes, IsNext, Job, Jobs, Leaf, List, MatchOption, NearestRoot, None, Option, Roots, Some, [], ap, arith, cases_Bool, cond, cond_both, eq_by_cmp, false, false≢true, find, get-entries, get_left, get_removed, inl, inr, is_behind, is_lt, is_some, leaf-exact, leaf-total, leaf_cmp, less_is, none-some, not, one_root, refl, same_or_apart, stood_before, subst, suc, sym, tie, tied_itself, true, true≢false, value_of, ℕ, ⊎_elim, ◌+◌, ◌<◌, ◌∙◌, ◌∷◌, ◌≡◌, ◌≢◌, ◌≤◌, State, ◌⊎◌}
 use Rattle.std.specs.FinMap as map
 use Rattle.ranked_tree.proofs.HeldLaws.{none_unless}
-use Rattle.ranked_tree.proofs.StandLaws.{FewerJobs, same_jobs}
+use Rattle.ranked_tree.proofs.StandLaws.{FewerJobs, found_left, same_jobs}
 
 -- ---- how many are to come
 
@@ -81,31 +81,15 @@ module _ (roots : Roots) (root : Leaf) where
         less (is_behind last) (is_behind (Some next)) (still_behind last next first.0) next stands.0 first.0 (ap is_lt (tied_itself leaf-total next)) (map.entries old.jobs) (sym (get-entries old.jobs next) ∙ so_far.fewer next stands.0 stands.1)
 
     module _ (new : State) (turn : EndsInside roots root now new next) where
-      -- what the turn makes of the jobs
-      record Turned : Type 0 where
-        beside : (leaf : Leaf) → leaf ≢ next → map.get new.jobs leaf ≡ map.get now.jobs leaf
-        here : IsInside old next → map.get new.jobs next ≡ None
-        outside : (IsInside old next → ⊥) → new.jobs ≡ now.jobs
-        stood : FewerJobs now new
-        left : new ≡ record now { jobs = new.jobs }
-
-      turned : Turned
+      -- of the jobs the turn ends that of the leaf, if it is inside, and no other
+      turned : (new ≡ record now { jobs = new.jobs }) × ((IsInside old next × (new.jobs ≡ map.remove now.jobs next)) ⊎ ((IsInside old next → ⊥) × (new.jobs ≡ now.jobs)))
       turned = elim turn [
-        | inl (inside, ends) ↦ record {
-          beside = λ leaf apart. ap (λ (s : State). map.get s.jobs leaf) ends ∙ get_left now.jobs next leaf apart;
-          here = λ its. ap (λ (s : State). map.get s.jobs next) ends ∙ get_removed now.jobs next;
-          outside = λ out. absurd (out (subst (λ (s : State). IsInside s next) so_far.left inside));
-          stood = λ leaf job stands. stood_before now next leaf job (ap (λ (s : State). map.get s.jobs leaf) (sym ends) ∙ stands);
-          left = ends ∙ ap (λ (j : Jobs). record now { jobs = j }) (sym (ap (λ (s : State). s.jobs) ends));
-        }
-        | inr (other, same) ↦ record {
-          beside = λ leaf apart. ap (λ (s : State). map.get s.jobs leaf) same;
-          here = λ its. absurd (other (subst (λ (s : State). IsInside s next) (sym so_far.left) its));
-          outside = λ out. ap (λ (s : State). s.jobs) same;
-          stood = same_jobs now new (ap (λ (s : State). s.jobs) same);
-          left = same ∙ ap (λ (j : Jobs). record now { jobs = j }) (sym (ap (λ (s : State). s.jobs) same));
-        }
+        | inl (inside, ends) ↦ (ends ∙ ap (λ (j : Jobs). record now { jobs = j }) (sym (ap (λ (s : State). s.jobs) ends)), inl (subst (λ (s : State). IsInside s next) so_far.left inside, ap (λ (s : State). s.jobs) ends))
+        | inr (other, same) ↦ (same ∙ ap (λ (j : Jobs). record now { jobs = j }) (sym (ap (λ (s : State). s.jobs) same)), inr (λ its. other (subst (λ (s : State). IsInside s next) (sym so_far.left) its), ap (λ (s : State). s.jobs) same))
       ]
+
+      beside : (leaf : Leaf) → leaf ≢ next → map.get new.jobs leaf ≡ map.get now.jobs leaf
+      beside leaf apart = ⊎_elim (λ its. ap (λ (j : Jobs). map.get j leaf) its.1 ∙ get_left now.jobs next leaf apart) (λ its. ap (λ (j : Jobs). map.get j leaf) its.1) turned.1
 
       -- of a leaf between the last and the next none stood
       between : (leaf : Leaf) → leaf ≢ next → is_behind (Some next) leaf ≡ false → IsInside old leaf → map.get now.jobs leaf ≡ None
@@ -115,9 +99,10 @@ module _ (roots : Roots) (root : Leaf) where
       pub ended_on : HaveEnded old new (Some next)
       ended_on = record {
         ended = λ leaf not inside.
-            ⊎_elim (λ same. ap (map.get new.jobs) same ∙ turned.here (subst (IsInside old) same inside)) (λ apart. turned.beside leaf apart ∙ between leaf apart not inside) (same_or_apart leaf next);
+            ⊎_elim (λ same. ap (map.get new.jobs) same ∙ ⊎_elim (λ its. ap (λ (j : Jobs). map.get j next) its.1 ∙ get_removed now.jobs next) (λ its. absurd (its.0 (subst (IsInside old) same inside))) turned.1)
+            (λ apart. beside leaf apart ∙ between leaf apart not inside) (same_or_apart leaf next);
         others = λ leaf out.
-            ⊎_elim (λ same. ap (λ (j : Jobs). map.get j leaf) (turned.outside (λ inside. out (subst (IsInside old) (sym same) inside)))) (turned.beside leaf) (same_or_apart leaf next) ∙ so_far.others leaf out;
-        fewer = λ leaf job stands. so_far.fewer leaf job (turned.stood leaf job stands);
-        left = turned.left ∙ ap (λ (s : State). record s { jobs = new.jobs }) so_far.left;
+            ⊎_elim (λ same. ⊎_elim (λ its. absurd (out (subst (IsInside old) (sym same) its.0))) (λ its. ap (λ (j : Jobs). map.get j leaf) its.1) turned.1) (beside leaf) (same_or_apart leaf next) ∙ so_far.others leaf out;
+        fewer = λ leaf job stands. so_far.fewer leaf job (⊎_elim (λ its. found_left now.jobs next leaf job (ap (λ (j : Jobs). map.get j leaf) (sym its.1) ∙ stands)) (λ its. ap (λ (j : Jobs). map.get j leaf) (sym its.1) ∙ stands) turned.1);
+        left = turned.0 ∙ ap (λ (s : State). record s { jobs = new.jobs }) so_far.left;
       }

@@ -2,8 +2,7 @@
 use Rattle.ranked_tree.proofs.Common.{AreHeld, AreHeldAt, Bool, Came, Change, Core, Covers, EndsWith, Fragment, HasLeaf, Home, Homes, IfSome, Ino, Inode, IsLive, IsNamedIn, IsOwned, IsPick, IsSome, IsSound, IsSoundCore, IsTable, IsThat, KeepsAuthorities, Leaf, List, Makes, MayChange, MayCome, MayGo, None, Option, Rank, Roots, Rules, Shape, Some, Spot, [], add, adds, ap, dentry_at, dir_or_not, false, first_leaf, hash_of, home_at, inherited, inl, inr, is_dir_kind, is_some, leaf_of, leaves_of, may_come, move, moved_known, only_leaf, or_whole, refl, remove, root_fragment, rows_but, set, shown_in, shown_tree, state_of, still_known, subst, sym, true, with_home, ℕ, ⊎_elim, ◌==◌, ◌||◌, ◌∙◌, ◌∷◌, ◌≡◌, ◌⊎◌, State, shape_of}
 use Rattle.std.specs.FinMap as map
 use Rattle.sorted_map.proofs.NatKeys as nat
-use Rattle.ranked_tree.proofs.MoveLaws.{relocates, replaces}
-use Rattle.ranked_tree.proofs.ChangedTables.{TablesAre, added_tables, grown_tables, moved_tables, removed_tables, set_tables}
+use Rattle.ranked_tree.proofs.ChangedTables.{TablesAre, added_tables, grown_tables, moved_tables, removed_tables, set_tables, relocates, replaces}
 use Rattle.ranked_tree.proofs.HeldLaws.{HaveCaches, held_since, is_that, none_unless}
 use Rattle.ranked_tree.proofs.HolderLaws.{named_by, new_is_not_live, put_live, was_unknown}
 use Rattle.ranked_tree.proofs.RootLaws.{is_elsewhere}

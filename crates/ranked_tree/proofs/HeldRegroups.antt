@@ -46,13 +46,6 @@ none_before leaves frag valid can before =
     let less = before w.0 w.1 w.2 in
     omega (arith, range.1, less)
 
--- the authority of one is that of all
-pub all_as_one : (s : State) (roots : Roots) (dir : Ino) (frag : Fragment) (rank : Rank) (one : Leaf) → IsSound s → AreRoots s roots → HaveOneAuthority roots s.homes s.covers dir.0 frag → is_inside dir.0 frag one ≡ true → IsLive s.homes s.covers one → Rules s roots one rank
-    → AllHave s.homes s.covers roots dir frag rank
-all_as_one s roots dir frag rank one sound valid alike within lives rules leaf live inside =
-    let has = some_authority roots s.homes s.covers sound.table valid leaf live in
-    subst (λ (r : Rank). Rules s roots leaf r) (sym (alike one leaf rank has.0 within inside lives live rules has.1)) has.1
-
 -- ---- which fragments come
 
 pub family_came : (s : State) (roots : Roots) (rank : Rank) (dir : Ino) (frag : Fragment) (nb : ℕ) → Rules s roots (dir, frag) rank → (old new : CacheMap)
@@ -110,10 +103,3 @@ module _ (old new : Core) (before after : Roots) (owned : IsOwned old before) (c
         (λ rank q all named lives.
         ⊎_elim (λ contains. let its = inside_live (state_of old) dir frag known q contains in all q its.0 its.1)
         (λ here. absurd (merged_is_new (leaves_of old.covers dir.0) frag (tree_of_row old.homes old.covers owned.sound.sound.table dir.0) can (subst (IsLive old.homes old.covers) here lives).stands)) named)
-
--- the one rank may hold each of the leaves that are merged
-pub may_hold_all : (core : Core) (roots : Roots) (dir : Ino) (frag : Fragment) (rank : Rank) → is_known core.homes dir.0 ≡ true → IsOwned core roots → AllHave core.homes core.covers roots dir frag rank
-    → (q : Leaf) → Contains (each (in_directory dir.0) (leaves_inside frag (leaves_of core.covers dir.0))) q → MayHold core.caches rank q
-may_hold_all core roots dir frag rank known owned all q contains =
-    let its = inside_live (state_of core) dir frag known q contains in
-    may_hold (state_of core) core.caches roots owned.held q rank (all q its.0 its.1)

@@ -16,7 +16,6 @@ pub mod ImportLaws
 pub mod InsideLaws
 pub mod Kept
 pub mod MountedRoots
-pub mod MoveLaws
 pub mod NewLaws
 pub mod ReadsForLaws
 pub mod RenameLaws

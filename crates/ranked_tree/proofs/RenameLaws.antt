@@ -2,7 +2,7 @@
 use Rattle.ranked_tree.proofs.Common.{Bool, Change, Covers, Home, Homes, IfSome, Ino, Inode, IsInheritedAt, IsLostRank, IsRight, IsSettled, IsSound, IsSpot, MatchBool, MatchOption, MayChange, MayMove, None, Option, Rank, Roots, Rules, SettleMoving, Shape, Some, Spot, State, Tree, add, changed, cond, cond_both, dentry_at, dir_moving, directory_at, entry_stands, false, home_at, is_dir_kind, is_directory, leaf_of, leaves_of, move, moves, refl, remove, rules, same_Some, set, shape_of, shown_tree, subst, sym, taken, true, ◌≡◌, ◌≢◌}
 use Rattle.std.specs.FinMap as map
 use Rattle.mds_types.proofs.EntryLaws.{get_put}
-use Rattle.ranked_tree.proofs.MoveLaws.{relocates}
+use Rattle.ranked_tree.proofs.ChangedTables.{relocates}
 
 -- the rank that is lost, where the directory's dentry is at a leaf of one rank and the new one at a leaf of another
 abbrev pub IsLost : (was other : Rank) → Option Rank → Type 0

@@ -57,8 +57,11 @@ module _ (before after : Roots) (homes : Homes) (covers : Covers) (table : IsTab
       Found : Type 0
       Found = (other : Leaf) × (map.get before other ≡ Some rank)
 
-      of_leaf : map.get before leaf ≡ None → leaf.0.0 ≡ d → IsLive homes covers leaf → Found
-      of_leaf none own live =
+      go : (o : Option Rank) → map.get before leaf ≡ o → Found
+      go (Some r) was = (leaf, sym (settled.kept leaf (ap is_some was)) ∙ has)
+      go None none =
+          ⊎_elim (λ own. ⊎_elim (λ some. let there = value_of _ some in absurd (not_none _ there.0 none there.1))
+          (λ live.
           let its = some_authority before homes covers table valid leaf live in
           let holder = some_holder homes covers table home in
           let stands : IsLive homes covers holder.0 = record { known = subst (λ (i : Ino). is_known homes i.0 ≡ true) (sym holder.1.parent) parent; stands = subst (λ (i : Ino). HasLeaf (leaves_of covers i.0) holder.0.1) (sym holder.1.parent) holder.1.pick.stands } in
@@ -67,12 +70,7 @@ module _ (before after : Roots) (homes : Homes) (covers : Covers) (table : IsTab
           ⊎_elim (λ same. absurd (not_none _ rank (settled.same leaf its.0 live own none its.1 (subst (IsInheritedAt before homes covers home) (λ i. record { 0 = sym same i }) inherits)) has))
           (λ apart.
           let rank_is = one_value _ its.0 rank (settled.lost leaf its.0 there.0 live own none its.1 inherits (λ same. apart (ap (λ (r : Rank). r.0) same))) has in
-          (its.1.root, subst (λ (r : Rank). map.get before its.1.root ≡ Some r) rank_is its.1.ranked)) (nat.same_or_apart its.0.0 there.0.0)
-
-      go : (o : Option Rank) → map.get before leaf ≡ o → Found
-      go (Some r) was = (leaf, sym (settled.kept leaf (ap is_some was)) ∙ has)
-      go None none =
-          ⊎_elim (λ own. ⊎_elim (λ some. let there = value_of _ some in absurd (not_none _ there.0 none there.1)) (of_leaf none own) (settled.made leaf (ap is_some has)))
+          (its.1.root, subst (λ (r : Rank). map.get before its.1.root ≡ Some r) rank_is its.1.ranked)) (nat.same_or_apart its.0.0 there.0.0)) (settled.made leaf (ap is_some has)))
           (λ apart. absurd (not_none _ rank (settled.elsewhere leaf apart ∙ none) has)) (nat.same_or_apart leaf.0.0 d)
 
   -- a directory moves, and its roots were settled first
