@@ -57,8 +57,8 @@ ranked_later a b c op reason kept because =
 -- ---- why a change isn't made ready
 
 -- what lacks at the ranks that hold the leaves of a change
-lacks_asked : (old : Core) (roots : Roots) (takes : Option Spot) (puts : Option (Spot × Inode)) → IfSome takes (λ spot. HoldsAt (state_of old) roots spot.at) → IfSome puts (λ put. HoldsAt (state_of old) roots put.0.at) → LacksPlacesBy old takes puts
-    → LacksPlacesAsked 2 old roots (NamesBy takes puts)
+lacks_asked : (old : Core) (roots : Roots) (takes : Option Spot) (puts : Option (Spot × Inode)) → IfSome takes (λ spot. HoldsAt (state_of old) roots spot.at) → IfSome puts (λ put. HoldsAt (state_of old) roots put.0.at)
+    → LacksPlacesBy old takes puts → LacksPlacesAsked 2 old roots (NamesBy takes puts)
 lacks_asked old roots None None here there lacks = absurd lacks
 lacks_asked old roots None (Some put) here there lacks = (leaf_of put.0.at, refl, (put.0.at.rank, there, lacks))
 lacks_asked old roots (Some spot) None here there lacks = (leaf_of spot.at, refl, (spot.at.rank, here, lacks))

@@ -91,16 +91,13 @@ module _ (roots : Roots) (root : Leaf) where
       beside : (leaf : Leaf) → leaf ≢ next → map.get new.jobs leaf ≡ map.get now.jobs leaf
       beside leaf apart = ⊎_elim (λ its. ap (λ (j : Jobs). map.get j leaf) its.1 ∙ get_left now.jobs next leaf apart) (λ its. ap (λ (j : Jobs). map.get j leaf) its.1) turned.1
 
-      -- of a leaf between the last and the next none stood
-      between : (leaf : Leaf) → leaf ≢ next → is_behind (Some next) leaf ≡ false → IsInside old leaf → map.get now.jobs leaf ≡ None
-      between leaf apart not inside =
-          ⊎_elim (λ behind. none_unless (map.get now.jobs leaf) (λ job stands. ⊎_elim apart (λ after. true≢false (sym (ap is_lt after) ∙ not)) (first.2 leaf behind (ap is_some stands)))) (λ before. so_far.ended leaf before inside) (cases_Bool (is_behind last leaf))
-
       pub ended_on : HaveEnded old new (Some next)
       ended_on = record {
         ended = λ leaf not inside.
             ⊎_elim (λ same. ap (map.get new.jobs) same ∙ ⊎_elim (λ its. ap (λ (j : Jobs). map.get j next) its.1 ∙ get_removed now.jobs next) (λ its. absurd (its.0 (subst (IsInside old) same inside))) turned.1)
-            (λ apart. beside leaf apart ∙ between leaf apart not inside) (same_or_apart leaf next);
+            (λ apart. beside leaf apart ∙
+            -- of a leaf between the last and the next none stood
+            ⊎_elim (λ behind. none_unless (map.get now.jobs leaf) (λ job stands. ⊎_elim apart (λ after. true≢false (sym (ap is_lt after) ∙ not)) (first.2 leaf behind (ap is_some stands)))) (λ before. so_far.ended leaf before inside) (cases_Bool (is_behind last leaf))) (same_or_apart leaf next);
         others = λ leaf out.
             ⊎_elim (λ same. ⊎_elim (λ its. absurd (out (subst (IsInside old) (sym same) its.0))) (λ its. ap (λ (j : Jobs). map.get j leaf) its.1) turned.1) (beside leaf) (same_or_apart leaf next) ∙ so_far.others leaf out;
         fewer = λ leaf job stands. so_far.fewer leaf job (⊎_elim (λ its. found_left now.jobs next leaf job (ap (λ (j : Jobs). map.get j leaf) (sym its.1) ∙ stands)) (λ its. ap (λ (j : Jobs). map.get j leaf) (sym its.1) ∙ stands) turned.1);

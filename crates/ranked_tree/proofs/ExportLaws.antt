@@ -95,21 +95,17 @@ module _ (standing : Standing) where
       })
       moving false kinded same = rw (with_file old.homes (dentry_at to) inode kinded) (still was mid old.homes old.covers same refl placed)
 
-      one : Kept was mid old.homes moved old.covers old.covers
-      one = moving (is_dir_kind inode.kind) refl follow.1
-
-      two : Kept mid now moved (rows_but moved went) old.covers (rows_but old.covers went)
-      two = loses mid now moved old.covers went
+      rename_keeps : AllKept
+      rename_keeps =
+          let one : Kept was mid old.homes moved old.covers old.covers = moving (is_dir_kind inode.kind) refl follow.1 in
+          let two = loses mid now moved old.covers went
           (record { table = moved_home old.homes old.covers sound.table (dentry_at to) inode able; valid = (rehomes old was.roots follow.0 (dentry_at to) inode sound valid able follow.1).valid; placed = one.placed })
           (replaces old sound from to inode went may)
           (λ leaf live has frozen.
           let lived : IsLive old.homes old.covers leaf = record { known = sym (moved_known old.homes old.covers sound.table (dentry_at to) inode able leaf.0.0) ∙ live.known; stands = live.stands } in
           thawed leaf (later (leaf_of from.at) leaf (leaf_of to.at ∷ leaves_gone old.covers went) (later (leaf_of to.at) leaf (leaves_gone old.covers went) has))
           ((keep_frozen standing was mid old.homes moved old.covers old.covers one leaf lived live).1 frozen))
-          follow.2 promises
-
-      rename_keeps : AllKept
-      rename_keeps =
+          follow.2 promises in
           let tables = moved_tables old new from to inode went makes in
           rw (tables.0, tables.1) (both was mid now old.homes moved (rows_but moved went) old.covers old.covers (rows_but old.covers went) one two)
 

@@ -10,17 +10,14 @@ use Rattle.ranked_tree.proofs.SubtreeLaws.{removable}
 
 -- ---- which leaves come
 
-module _ (homes : Homes) (covers : Covers) (table : IsTable homes covers) (dir : Ino) (home : Home) (come : MayCome homes dir.0 home) where
-  no_row : leaves_of covers dir.0 ≡ root_fragment ∷ []
-  no_row = ap or_whole (none_unless (map.get covers dir.0) (λ fs is. was_unknown homes dir.0 home come (table.known dir.0 fs is)))
-
-  -- a leaf of tables in which a directory came stood before, or is that of the directory
-  live_or_first : (leaf : Leaf) → IsLive (map.insert homes dir.0 home) covers leaf → IsLive homes covers leaf ⊎ (leaf ≡ first_leaf dir)
-  live_or_first leaf live =
-      ⊎_elim (λ same.
-      let only = only_leaf root_fragment leaf.1 (subst (λ (fs : List Fragment). HasLeaf fs leaf.1) (ap (leaves_of covers) same ∙ no_row) live.stands) in
-      inr (λ i. (record { 0 = same i }, only i)))
-      (λ apart. inl (record { known = ap (λ (o : Option Home). (leaf.0.0 == 1) || is_some o) (sym (nat.get_beside homes dir.0 home leaf.0.0 apart)) ∙ live.known; stands = live.stands })) (nat.same_or_apart leaf.0.0 dir.0)
+-- a leaf of tables in which a directory came stood before, or is that of the directory
+live_or_first : (homes : Homes) (covers : Covers) → IsTable homes covers → (dir : Ino) (home : Home) → MayCome homes dir.0 home → (leaf : Leaf) → IsLive (map.insert homes dir.0 home) covers leaf → IsLive homes covers leaf ⊎ (leaf ≡ first_leaf dir)
+live_or_first homes covers table dir home come leaf live =
+    let row : leaves_of covers dir.0 ≡ root_fragment ∷ [] = ap or_whole (none_unless (map.get covers dir.0) (λ fs is. was_unknown homes dir.0 home come (table.known dir.0 fs is))) in
+    ⊎_elim (λ same.
+    let only = only_leaf root_fragment leaf.1 (subst (λ (fs : List Fragment). HasLeaf fs leaf.1) (ap (leaves_of covers) same ∙ row) live.stands) in
+    inr (λ i. (record { 0 = same i }, only i)))
+    (λ apart. inl (record { known = ap (λ (o : Option Home). (leaf.0.0 == 1) || is_some o) (sym (nat.get_beside homes dir.0 home leaf.0.0 apart)) ∙ live.known; stands = live.stands })) (nat.same_or_apart leaf.0.0 dir.0)
 
 -- ---- whose it is
 
@@ -29,59 +26,42 @@ module _ (old new : Core) (before after : Roots) (owned : IsOwned old before) (n
   sound = owned.sound.sound
 
   -- the leaf of a directory that comes inherits from the leaf that its dentry is in
-  module _ (spot : Spot) (inode : Inode) (may : MayChange (shown_in old) old.covers (adds spot inode)) (makes : Makes (adds spot inode) (state_of old) (state_of new))
-      (follow : after ≡ before) (rank : Rank) (rules : Rules (state_of old) before (leaf_of spot.at) rank) (kinded : is_dir_kind inode.kind ≡ true) where
-    abbrev first : Leaf
-    first = first_leaf inode.ino
+  first_inherits : (spot : Spot) (inode : Inode) → MayChange (shown_in old) old.covers (adds spot inode) → Makes (adds spot inode) (state_of old) (state_of new) → after ≡ before → (rank : Rank) → Rules (state_of old) before (leaf_of spot.at) rank
+      → is_dir_kind inode.kind ≡ true → Rules (state_of new) after (first_leaf inode.ino) rank
+  first_inherits spot inode may makes follow rank rules kinded =
+      let home = home_at (dentry_at spot) in
+      let tables = grown_tables (state_of old) (state_of new) spot inode kinded makes in
+      let live = put_live (state_of old) sound (adds spot inode) may (spot, inode) refl in
+      let stays : IsLive new.homes new.covers (leaf_of spot.at) = rw (tables.0, tables.1) (record { known = still_known old.homes inode.ino.0 home spot.at.dir.0 live.known; stands = live.stands }) in
+      let no_root : map.get after (first_leaf inode.ino) ≡ None = none_unless (map.get after (first_leaf inode.ino)) (λ rank is.
+      let was : IsSome (map.get before (first_leaf inode.ino)) = ap is_some (sym (ap (λ (r : Roots). map.get r (first_leaf inode.ino)) follow) ∙ is) in
+      was_unknown old.homes inode.ino.0 home (may_come (shown_in old) old.homes (dentry_at spot) inode sound.tabled may.takes) (owned.valid.live (first_leaf inode.ino) was).known) in
+      let has = keeps (leaf_of spot.at) rank live stays rules in
+      record {
+        root = has.root;
+        nearest = inherited (first_leaf inode.ino) (leaf_of spot.at) has.root home no_root (ap (λ (h : Homes). map.get h inode.ino.0) tables.0 ∙ nat.get_put old.homes inode.ino.0 home)
+            (record { parent = refl; pick = subst (λ (cs : Covers). IsPick (leaves_of cs spot.at.dir.0) (hash_of spot.name) spot.at.frag) (sym tables.1) may.carries.put }) has.nearest;
+        ranked = has.ranked;
+      }
 
-    abbrev holder : Leaf
-    holder = leaf_of spot.at
-
-    tables : TablesAre (state_of new) (map.insert old.homes inode.ino.0 (home_at (dentry_at spot))) old.covers
-    tables = grown_tables (state_of old) (state_of new) spot inode kinded makes
-
-    comes : MayCome old.homes inode.ino.0 (home_at (dentry_at spot))
-    comes = may_come (shown_in old) old.homes (dentry_at spot) inode sound.tabled may.takes
-
-    holder_live : IsLive old.homes old.covers holder
-    holder_live = put_live (state_of old) sound (adds spot inode) may (spot, inode) refl
-
-    no_root : map.get after first ≡ None
-    no_root = none_unless (map.get after first) (λ rank is.
-        let was : IsSome (map.get before first) = ap is_some (sym (ap (λ (r : Roots). map.get r first) follow) ∙ is) in was_unknown old.homes inode.ino.0 (home_at (dentry_at spot)) comes (owned.valid.live first was).known)
-
-    pub first_inherits : Rules (state_of new) after first rank
-    first_inherits =
-        let stays : IsLive new.homes new.covers holder = rw (tables.0, tables.1) (record { known = still_known old.homes inode.ino.0 (home_at (dentry_at spot)) spot.at.dir.0 holder_live.known; stands = holder_live.stands }) in
-        let has = keeps holder rank holder_live stays rules in
-        record {
-          root = has.root;
-          nearest = inherited first holder has.root (home_at (dentry_at spot)) no_root (ap (λ (h : Homes). map.get h inode.ino.0) tables.0 ∙ nat.get_put old.homes inode.ino.0 (home_at (dentry_at spot)))
-              (record { parent = refl; pick = subst (λ (cs : Covers). IsPick (leaves_of cs spot.at.dir.0) (hash_of spot.name) spot.at.frag) (sym tables.1) may.carries.put }) has.nearest;
-          ranked = has.ranked;
-        }
-
-  -- a leaf that a change names is used at its authority
-  named : (change : Change) → AreHeldAt (state_of old) before change → MayChange (shown_in old) old.covers change → Makes change (state_of old) (state_of new) → ((spot : Spot) (inode : Inode) → change ≡ adds spot inode → after ≡ before) → (r : ℕ) (q : Leaf) → IsNamedIn change r q
-      → IsLive new.homes new.covers q → Rules (state_of new) after q (record { 0 = r })
-  named change held may makes follow r q is live =
+  -- a change leaves each cached fragment at its leaf's authority
+  pub change_held : (change : Change) → AreHeldAt (state_of old) before change → MayChange (shown_in old) old.covers change → Makes change (state_of old) (state_of new) → ((spot : Spot) (inode : Inode) → change ≡ adds spot inode → after ≡ before) → HaveCaches after new.caches
+      → Came (IsNamedIn change) (EndsWith change) old.caches new.caches → AreHeld (state_of new) new.caches after
+  change_held change holders may makes follow have came =
+      held_since (IsNamedIn change) (EndsWith change) old new came now_sound before after owned keeps have (λ r q is live.
       ⊎_elim (λ its. keeps q (record { 0 = r }) its.1 live its.2)
       (λ come.
-      coming come.0 come.1 (subst (MayChange (shown_in old) old.covers) come.2 may) (subst (λ (c : Change). Makes c (state_of old) (state_of new)) come.2 makes) (follow come.0 come.1 come.2) (subst (AreHeldAt (state_of old) before) come.2 held) come.3)
-      (named_by (state_of old) sound before change (shape_of (shown_in old) old.covers change may) may held r q is)
+      coming r q live come.0 come.1 (subst (MayChange (shown_in old) old.covers) come.2 may) (subst (λ (c : Change). Makes c (state_of old) (state_of new)) come.2 makes) (follow come.0 come.1 come.2)
+      (subst (AreHeldAt (state_of old) before) come.2 holders) come.3)
+      (named_by (state_of old) sound before change (shape_of (shown_in old) old.covers change may) may holders r q is))
     where
-      coming : (spot : Spot) (inode : Inode) → MayChange (shown_in old) old.covers (adds spot inode) → Makes (adds spot inode) (state_of old) (state_of new) → after ≡ before → AreHeldAt (state_of old) before (adds spot inode) → IsThat spot.at.rank.0 (first_leaf inode.ino) r q
+      -- a leaf that the change names is used at its authority, that of a directory that comes too
+      coming : (r : ℕ) (q : Leaf) → IsLive new.homes new.covers q → (spot : Spot) (inode : Inode) → MayChange (shown_in old) old.covers (adds spot inode) → Makes (adds spot inode) (state_of old) (state_of new) → after ≡ before → AreHeldAt (state_of old) before (adds spot inode) → IsThat spot.at.rank.0 (first_leaf inode.ino) r q
           → Rules (state_of new) after q (record { 0 = r })
-      coming spot inode able done same at that =
+      coming r q live spot inode able done same at that =
           let unlived : IsLive old.homes old.covers q → ⊥ = λ lived. new_is_not_live (state_of old) sound spot inode able (subst (IsLive old.homes old.covers) that.1 lived) in
           ⊎_elim (λ kinded.
           let its = grown_tables (state_of old) (state_of new) spot inode kinded done in
           ⊎_elim (λ lived. absurd (unlived lived)) (λ first. is_that (state_of new) after (first_leaf inode.ino) spot.at.rank (first_inherits spot inode able done same spot.at.rank at.put kinded) r q that)
           (live_or_first old.homes old.covers sound.table inode.ino (home_at (dentry_at spot)) (may_come (shown_in old) old.homes (dentry_at spot) inode sound.tabled able.takes) q (rw (← its.0, ← its.1) live)))
           (λ kinded. let its = added_tables (state_of old) (state_of new) spot inode kinded done in absurd (unlived (rw (← its.0, ← its.1) live))) (dir_or_not inode)
-
-  -- a change leaves each cached fragment at its leaf's authority
-  pub change_held : (change : Change) → AreHeldAt (state_of old) before change → MayChange (shown_in old) old.covers change → Makes change (state_of old) (state_of new) → ((spot : Spot) (inode : Inode) → change ≡ adds spot inode → after ≡ before) → HaveCaches after new.caches
-      → Came (IsNamedIn change) (EndsWith change) old.caches new.caches → AreHeld (state_of new) new.caches after
-  change_held change holders may makes follow have came =
-      held_since (IsNamedIn change) (EndsWith change) old new came now_sound before after owned keeps have (named change holders may makes follow)

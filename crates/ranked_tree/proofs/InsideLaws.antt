@@ -3,27 +3,21 @@ use Rattle.ranked_tree.proofs.Common.{Contains-from_range, Covers, Fragment, Has
 use Rattle.mds_types.specs.Frag.{Contains}
 use Rattle.subtree_map.proofs.Covers.{is_fragment, one_leaf}
 
--- a leaf that contains a hash as a number of its range
-in_range : (leaf : Fragment) (hash : ℕ) → IsFragment leaf → hash < 2 ^ 24 → Contains leaf hash → (leaf.value ≤ hash) × (hash < leaf.value + span leaf.bits)
-in_range leaf hash valid low holds =
-    let range = range_from_Contains leaf hash valid holds in
-    let same : hash % 2 ^ 24 ≡ hash = omega (arith, low) in
-    (omega (arith, range.0, same), omega (arith, range.1, same))
-
 -- where a fragment ends, all leaves inside begin before
 pub none_beyond : (leaves : List Fragment) (f : Fragment) (hash : ℕ) → IsFragment f → f.value + span f.bits ≤ hash → IsInsideAt leaves f hash None
 none_beyond leaves f hash valid beyond g has inside = let range = range_from_inside f g valid inside in omega (arith, beyond, range.2)
 
 module _ (leaves : List Fragment) (tree : IsTree leaves) (f : Fragment) (valid : IsFragment f) (hash : ℕ) where
   module _ (from : f.value ≤ hash) (within : hash < f.value + span f.bits) (leaf : Fragment) (pick : IsPick leaves hash leaf) where
-    low : hash < 2 ^ 24
-    low = omega (arith, within, ends_low f valid)
-
     its : IsFragment leaf
     its = is_fragment leaves leaf tree pick.stands
 
     range : (leaf.value ≤ hash) × (hash < leaf.value + span leaf.bits)
-    range = in_range leaf hash its low pick.contains
+    range =
+        let ends = range_from_Contains leaf hash its pick.contains in
+        let low : hash < 2 ^ 24 = omega (arith, within, ends_low f valid) in
+        let same : hash % 2 ^ 24 ≡ hash = omega (arith, low) in
+        (omega (arith, ends.0, same), omega (arith, ends.1, same))
 
     -- the leaf at the hash lies inside,
     pub inside_found : lies_inside f leaf ≡ true → IsInsideAt leaves f hash (Some leaf)

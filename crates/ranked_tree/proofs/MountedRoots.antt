@@ -29,21 +29,6 @@ top_of_none roots top = same_map leaf-total leaf-exact roots new_roots at
         ∙ sym (get_beside map.empty root_leaf (record { 0 = 0 }) leaf apart ∙ get-empty leaf_cmp leaf)) (same_or_apart leaf root_leaf)
 
 module _ (limit : ℕ) (objects : Objects) (ranks places : ℕ) (some : 0 < ranks) (tree : Tree) (c : Core) (roots : Roots) (sound : IsSoundCore c) (top : AreTopRoots c.covers roots) where
-  walked_held : IsMounted limit objects ranks places tree c → AreHeld (state_of c) c.caches roots
-  walked_held m = record {
-    cached = none;
-    placed = placed_at (state_of c) c.caches roots sound.none none;
-    ranks = λ leaf rank has.
-        let at = top.alone leaf (ap is_some has) in
-        let here : leaf ≡ leaf_of 1 leaf.1 = λ i. (record { 0 = at.0 i }, leaf.1) in
-        let zeroth : rank.0 ≡ 0 = ap (λ (r : Rank). r.0) (one_value (map.get roots leaf) rank (record { 0 = 0 }) has (ap (map.get roots) here ∙ top.ranked leaf.1 at.1)) in
-        let many : length c.caches.used ≡ ranks = ap (λ (cs : CacheMap). length cs.used) m.caches ∙ length-replicate ranks [] in
-        omega (arith, zeroth, many, some);
-  }
-    where
-      none : (leaf : Leaf) (a : At) → map.get c.caches.held leaf ≡ Some a → Rules (state_of c) roots leaf (record { 0 = a.rank })
-      none leaf a is = let clash : None ≡ Some a = sym (ap (λ (cs : CacheMap). map.get cs.held leaf) m.caches ∙ get-empty leaf_cmp leaf) ∙ is in absurd cc
-
   -- a mounted tree with its roots
   pub mounted_owned : Mounts limit objects ranks places tree c → IsOwned c roots
   mounted_owned m = record {
@@ -54,5 +39,18 @@ module _ (limit : ℕ) (objects : Objects) (ranks places : ℕ) (some : 0 < rank
           let at = top.alone leaf some in
           record { known = ap (is_known c.homes) at.0; stands = subst (λ d. HasLeaf (leaves_of c.covers d) leaf.1) (sym at.0) at.1 };
     };
-    held = ⊎_elim (λ new. new_are_held c roots limit ranks places some new.1.state new.1.caches (top_of_none roots (subst (λ (cs : Covers). AreTopRoots cs roots) (ap (λ (s : State). s.covers) new.1.state) top))) (λ walked. walked_held walked.1) m;
+    held = ⊎_elim (λ new. new_are_held c roots limit ranks places some new.1.state new.1.caches (top_of_none roots (subst (λ (cs : Covers). AreTopRoots cs roots) (ap (λ (s : State). s.covers) new.1.state) top)))
+        (λ walked.
+        let none : (leaf : Leaf) (a : At) → map.get c.caches.held leaf ≡ Some a → Rules (state_of c) roots leaf (record { 0 = a.rank })
+        = λ leaf a is. let clash : None ≡ Some a = sym (ap (λ (cs : CacheMap). map.get cs.held leaf) walked.1.caches ∙ get-empty leaf_cmp leaf) ∙ is in absurd cc in
+        record {
+          cached = none;
+          placed = placed_at (state_of c) c.caches roots sound.none none;
+          ranks = λ leaf rank has.
+              let at = top.alone leaf (ap is_some has) in
+              let here : leaf ≡ leaf_of 1 leaf.1 = λ i. (record { 0 = at.0 i }, leaf.1) in
+              let zeroth : rank.0 ≡ 0 = ap (λ (r : Rank). r.0) (one_value (map.get roots leaf) rank (record { 0 = 0 }) has (ap (map.get roots) here ∙ top.ranked leaf.1 at.1)) in
+              let many : length c.caches.used ≡ ranks = ap (λ (cs : CacheMap). length cs.used) walked.1.caches ∙ length-replicate ranks [] in
+              omega (arith, zeroth, many, some);
+        }) m;
   }

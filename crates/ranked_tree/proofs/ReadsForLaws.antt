@@ -35,12 +35,6 @@ asks_change old roots change sound may held r q is =
     inr (subst (λ (l : Leaf). is_known old.homes l.0.0 ≡ false) (sym new.3.1) (is_unknown old.homes new.1.ino.0 _ come), ap (λ (l : Leaf). l.1) new.3.1))
     (named_by (state_of old) sound roots change (shape_of (shown_tree (state_of old)) old.covers change may) may held r q is)
 
--- reads of them
-pub reads_change : (old new : Core) (roots : Roots) (change : Change) → IsSound (state_of old) → MayChange (shown_tree (state_of old)) old.covers change → AreHeldAt (state_of old) roots change → ReadsCore (IsNamedIn change) NoneEnds old new
-    → ReadsFor roots (NamesDir change) old new
-reads_change old new roots change sound may held reads =
-    reads_weaker (IsNamedIn change) NoneEnds (AsksFor (state_of old) roots (NamesDir change)) NoneEnds (asks_change old roots change sound may held) (λ r q none. none) old.objects old.caches new.caches reads.caches
-
 -- ---- what is taken and what gets an inode, by where
 
 module _ (P : Option Spot → Option (Spot × Inode) → Type 0) where

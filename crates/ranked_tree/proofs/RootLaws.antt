@@ -54,10 +54,7 @@ module _ (before after : Roots) (homes : Homes) (covers : Covers) (table : IsTab
   settled_ranks : (d : ℕ) (home : Home) → IsSettled before after homes covers d home → is_known homes home.parent.0 ≡ true → NoNewRank before after
   settled_ranks d home settled parent leaf rank has = go (map.get before leaf) refl
     where
-      Found : Type 0
-      Found = (other : Leaf) × (map.get before other ≡ Some rank)
-
-      go : (o : Option Rank) → map.get before leaf ≡ o → Found
+      go : (o : Option Rank) → map.get before leaf ≡ o → (other : Leaf) × (map.get before other ≡ Some rank)
       go (Some r) was = (leaf, sym (settled.kept leaf (ap is_some was)) ∙ has)
       go None none =
           ⊎_elim (λ own. ⊎_elim (λ some. let there = value_of _ some in absurd (not_none _ there.0 none there.1))
@@ -92,11 +89,6 @@ module _ (before after : Roots) (homes : Homes) (covers : Covers) (table : IsTab
     both : KeepAuthority before after homes homes covers later (BecomesSplit d f nb) × IsSubtrees after homes later
     both = splits_soundly before after d f nb split homes covers later to table valid divided has fits whole becomes
 
-    -- what was a root was a leaf, so it is no child
-    no_child : (leaf : Leaf) → IsSome (map.get before leaf) → (g : Fragment) → IsChild f nb g → leaf ≢ leaf_of d g
-    no_child leaf some g child same =
-        child_is_new (leaves_of covers d) f g nb (tree_of_row homes covers table d) has fits child (subst (λ (l : Leaf). HasLeaf (leaves_of covers l.0.0) l.1) same (valid.live leaf some).stands)
-
     pub divided_soundly : IsSoundChange before after homes homes covers later
     divided_soundly = record {
       keeps = λ leaf rank was is has. both.0 leaf leaf rank was (inl (
@@ -107,7 +99,11 @@ module _ (before after : Roots) (homes : Homes) (covers : Covers) (table : IsTab
       )) has;
       valid = both.1;
       ranks = λ leaf rank is.
-          ⊎_elim (λ some. (leaf, sym (split.others leaf (λ same. not_none _ rank (ap (map.get after) same ∙ split.gone) is) (no_child leaf some)) ∙ is))
+          ⊎_elim (λ some. (
+            leaf,
+            sym (split.others leaf (λ same. not_none _ rank (ap (map.get after) same ∙ split.gone) is)
+                (λ g child same. child_is_new (leaves_of covers d) f g nb (tree_of_row homes covers table d) has fits child (subst (λ (l : Leaf). HasLeaf (leaves_of covers l.0.0) l.1) same (valid.live leaf some).stands))) ∙ is,
+          ))
           (λ made. (at_f, sym (split.children made.1.0 made.1.1 made.0) ∙ ap (map.get after) (sym made.1.2) ∙ is)) (split.made leaf (ap is_some is));
     }
 
@@ -121,25 +117,24 @@ module _ (before after : Roots) (homes : Homes) (covers : Covers) (table : IsTab
     joined : KeepAuthority before after homes homes covers later (BecomesMerged d f) × IsSubtrees after homes later
     joined = merges_soundly before after d f merge homes covers later to table valid one can merged whole becomes
 
-    none_inside : (g : Fragment) → HasLeaf to g → lies_inside f g ≡ false
-    none_inside g has =
-        let equal : nat_lt f.bits f.bits ≡ false = grind (arith, nat_tests) in
-        ⊎_elim (λ its. its.1) (λ same. ap (lies_inside f) same ∙ (λ i. equal i && (f.value / span f.bits == f.value / span f.bits))) ((merged.leaves g).0 has)
-
     pub merged_soundly : IsSoundChange before after homes homes covers later
-    merged_soundly = record {
-      keeps = λ leaf rank was is has. joined.0 leaf leaf rank was (inl (
-        ⊎_elim (λ same. and_right (leaf.0.0 == d) _ (none_inside leaf.1 (subst (λ (fs : List Fragment). HasLeaf fs leaf.1) (leaves_now covers later d to becomes) (subst (λ (e : ℕ). HasLeaf (leaves_of later e) leaf.1) same is.stands))))
-            (λ apart. λ i. nat.is_apart leaf.0.0 d apart i && lies_inside f leaf.1) (nat.same_or_apart leaf.0.0 d),
-        refl,
-      )) has;
-      valid = joined.1;
-      ranks = λ leaf rank is.
-          ⊎_elim (λ same. let found = merge.rank rank (ap (map.get after) (sym same) ∙ is) in (found.0, found.2))
-          (λ apart.
-          ⊎_elim (λ inside. absurd (not_none _ rank (merge.gone leaf inside) is)) (λ outside. (leaf, sym (merge.others leaf outside apart) ∙ is)) (cases_Bool (is_inside d f leaf)))
-          (same_or_apart leaf (leaf_of d f));
-    }
+    merged_soundly =
+        let none_inside : (g : Fragment) → HasLeaf to g → lies_inside f g ≡ false = λ g has.
+        let equal : nat_lt f.bits f.bits ≡ false = grind (arith, nat_tests) in
+        ⊎_elim (λ its. its.1) (λ same. ap (lies_inside f) same ∙ (λ i. equal i && (f.value / span f.bits == f.value / span f.bits))) ((merged.leaves g).0 has) in
+        record {
+          keeps = λ leaf rank was is has. joined.0 leaf leaf rank was (inl (
+            ⊎_elim (λ same. and_right (leaf.0.0 == d) _ (none_inside leaf.1 (subst (λ (fs : List Fragment). HasLeaf fs leaf.1) (leaves_now covers later d to becomes) (subst (λ (e : ℕ). HasLeaf (leaves_of later e) leaf.1) same is.stands))))
+                (λ apart. λ i. nat.is_apart leaf.0.0 d apart i && lies_inside f leaf.1) (nat.same_or_apart leaf.0.0 d),
+            refl,
+          )) has;
+          valid = joined.1;
+          ranks = λ leaf rank is.
+              ⊎_elim (λ same. let found = merge.rank rank (ap (map.get after) (sym same) ∙ is) in (found.0, found.2))
+              (λ apart.
+              ⊎_elim (λ inside. absurd (not_none _ rank (merge.gone leaf inside) is)) (λ outside. (leaf, sym (merge.others leaf outside apart) ∙ is)) (cases_Bool (is_inside d f leaf)))
+              (same_or_apart leaf (leaf_of d f));
+        }
 
     -- the merged leaf has the authority that each of them had
     pub merged_authority : (leaf : Leaf) (rank : Rank) → is_inside d f leaf ≡ true → IsLive homes covers leaf → HasAuthority before homes covers leaf rank → HasAuthority after homes later (leaf_of d f) rank

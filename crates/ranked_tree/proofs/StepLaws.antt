@@ -132,17 +132,15 @@ module _ (old new : Core) (was now : Regions) (root : Leaf) (divided : IsDivided
       rw (homes_stay, covers_stay) ((holder_is now.exports now.roots.roots old.homes old.covers leaf rank).0 (soundly.holders leaf rank ((holder_is was.exports was.roots.roots old.homes old.covers leaf rank).1 rules)))
 
   module _ (caches : new.caches ≡ old.caches) (sound : IsSoundCore new) (placed : ArePlaced now.exports now.roots) where
-    count_stays : length new.caches.used ≡ length old.caches.used
-    count_stays = ap (λ (k : CacheMap). length k.used) caches
-
     freeze_stands : StandSoundly (state_of new) (length new.caches.used) now.roots now.exports
     freeze_stands =
         let its = divided.stand.there root is.step.export is.step.stood in
+        let count : length new.caches.used ≡ length old.caches.used = ap (λ (k : CacheMap). length k.used) caches in
         record {
           valid = rw (homes_stay, covers_stay) (put_roots (state_of old) was.roots.roots now.roots.roots root is.step.export.exporter is.roots may.live divided.stand.valid);
           placed = placed;
-          ranked = rw count_stays (put_ranked (length old.caches.used) was.roots.roots now.roots.roots root is.step.export.exporter is.roots its.0 divided.stand.ranked);
-          there = rw count_stays (put_there (length old.caches.used) was.exports now.exports root (come_to Frozen is.step.export) is.step.changed its divided.stand.there);
+          ranked = rw count (put_ranked (length old.caches.used) was.roots.roots now.roots.roots root is.step.export.exporter is.roots its.0 divided.stand.ranked);
+          there = rw count (put_there (length old.caches.used) was.exports now.exports root (come_to Frozen is.step.export) is.step.changed its divided.stand.there);
           -- a job that stands stood, and its leaf isn't in the region
           unbegun = λ leaf job stands frozen.
               let outside : NearestRoot now.roots.roots old.homes old.covers leaf root → ⊥ = λ inside. not_none _ job (ends.ended leaf inside) stands in
