@@ -83,10 +83,8 @@ module _ (roots : Roots) (root : Leaf) where
     module _ (new : State) (turn : EndsInside roots root now new next) where
       -- of the jobs the turn ends that of the leaf, if it is inside, and no other
       turned : (new ≡ record now { jobs = new.jobs }) × ((IsInside old next × (new.jobs ≡ map.remove now.jobs next)) ⊎ ((IsInside old next → ⊥) × (new.jobs ≡ now.jobs)))
-      turned = elim turn [
-        | inl (inside, ends) ↦ (ends ∙ ap (λ (j : Jobs). record now { jobs = j }) (sym (ap (λ (s : State). s.jobs) ends)), inl (subst (λ (s : State). IsInside s next) so_far.left inside, ap (λ (s : State). s.jobs) ends))
-        | inr (other, same) ↦ (same ∙ ap (λ (j : Jobs). record now { jobs = j }) (sym (ap (λ (s : State). s.jobs) same)), inr (λ its. other (subst (λ (s : State). IsInside s next) (sym so_far.left) its), ap (λ (s : State). s.jobs) same))
-      ]
+      turned = ⊎_elim (λ its. (its.1 ∙ ap (λ (j : Jobs). record now { jobs = j }) (sym (ap (λ (s : State). s.jobs) its.1)), inl (subst (λ (s : State). IsInside s next) so_far.left its.0, ap (λ (s : State). s.jobs) its.1)))
+          (λ its. (its.1 ∙ ap (λ (j : Jobs). record now { jobs = j }) (sym (ap (λ (s : State). s.jobs) its.1)), inr (λ there. its.0 (subst (λ (s : State). IsInside s next) (sym so_far.left) there), ap (λ (s : State). s.jobs) its.1))) turn
 
       beside : (leaf : Leaf) → leaf ≢ next → map.get new.jobs leaf ≡ map.get now.jobs leaf
       beside leaf apart = ⊎_elim (λ its. ap (λ (j : Jobs). map.get j leaf) its.1 ∙ get_left now.jobs next leaf apart) (λ its. ap (λ (j : Jobs). map.get j leaf) its.1) turned.1

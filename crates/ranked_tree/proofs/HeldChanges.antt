@@ -1,9 +1,10 @@
--- What a change of the tree leaves: each cached fragment is at its leaf's authority then.
-use Rattle.ranked_tree.proofs.Common.{AreHeld, AreHeldAt, Bool, Came, Change, Core, Covers, EndsWith, Fragment, HasLeaf, Home, Homes, IfSome, Ino, Inode, IsLive, IsNamedIn, IsOwned, IsPick, IsSome, IsSound, IsSoundCore, IsTable, IsThat, KeepsAuthorities, Leaf, List, Makes, MayChange, MayCome, MayGo, None, Option, Rank, Roots, Rules, Shape, Some, Spot, [], add, adds, ap, dentry_at, dir_or_not, false, first_leaf, hash_of, home_at, inherited, inl, inr, is_dir_kind, is_some, leaf_of, leaves_of, may_come, move, moved_known, only_leaf, or_whole, refl, remove, root_fragment, rows_but, set, shown_in, shown_tree, state_of, still_known, subst, sym, true, with_home, ℕ, ⊎_elim, ◌==◌, ◌||◌, ◌∙◌, ◌∷◌, ◌≡◌, ◌⊎◌, State, shape_of}
+-- What a change of the tree leaves: each cached fragment is at its leaf's authority then; what it makes of the caches.
+use Rattle.ranked_tree.proofs.Common.{AreHeld, AreHeldAt, Bool, Came, Change, Core, Covers, EndsWith, Fragment, HasLeaf, Home, Homes, IfSome, Ino, Inode, IsLive, IsNamedIn, IsOwned, IsPick, IsSome, IsSound, IsSoundCore, IsTable, IsThat, KeepsAuthorities, Leaf, List, Makes, MayChange, MayCome, MayGo, None, Option, Rank, Roots, Rules, Shape, Some, Spot, [], add, adds, ap, dentry_at, dir_or_not, false, first_leaf, hash_of, home_at, inherited, inl, inr, is_dir_kind, is_some, leaf_of, leaves_of, may_come, move, moved_known, only_leaf, or_whole, refl, remove, root_fragment, rows_but, set, shown_in, shown_tree, state_of, still_known, subst, sym, true, with_home, ℕ, ⊎_elim, ◌==◌, ◌||◌, ◌∙◌, ◌∷◌, ◌≡◌, ◌⊎◌, State, shape_of, AsksFor, IsChanged, IsChangedHeld, IsGone, NamesDir, NoneEnds, came_then, came_weaker, is_known, known_is, none-some, reads_came, reads_weaker, same_Some}
 use Rattle.std.specs.FinMap as map
 use Rattle.sorted_map.proofs.NatKeys as nat
 use Rattle.ranked_tree.proofs.ChangedTables.{TablesAre, added_tables, grown_tables, moved_tables, removed_tables, set_tables, relocates, replaces}
 use Rattle.ranked_tree.proofs.HeldLaws.{HaveCaches, held_since, is_that, none_unless}
+use Rattle.ranked_tree.proofs.ReadsForLaws.{asks_change}
 use Rattle.ranked_tree.proofs.HolderLaws.{named_by, new_is_not_live, put_live, was_unknown}
 use Rattle.ranked_tree.proofs.RootLaws.{is_elsewhere}
 use Rattle.ranked_tree.proofs.SubtreeLaws.{removable}
@@ -11,7 +12,8 @@ use Rattle.ranked_tree.proofs.SubtreeLaws.{removable}
 -- ---- which leaves come
 
 -- a leaf of tables in which a directory came stood before, or is that of the directory
-live_or_first : (homes : Homes) (covers : Covers) → IsTable homes covers → (dir : Ino) (home : Home) → MayCome homes dir.0 home → (leaf : Leaf) → IsLive (map.insert homes dir.0 home) covers leaf → IsLive homes covers leaf ⊎ (leaf ≡ first_leaf dir)
+live_or_first : (homes : Homes) (covers : Covers) → IsTable homes covers → (dir : Ino) (home : Home) → MayCome homes dir.0 home → (leaf : Leaf)
+    → IsLive (map.insert homes dir.0 home) covers leaf → IsLive homes covers leaf ⊎ (leaf ≡ first_leaf dir)
 live_or_first homes covers table dir home come leaf live =
     let row : leaves_of covers dir.0 ≡ root_fragment ∷ [] = ap or_whole (none_unless (map.get covers dir.0) (λ fs is. was_unknown homes dir.0 home come (table.known dir.0 fs is))) in
     ⊎_elim (λ same.
@@ -26,8 +28,8 @@ module _ (old new : Core) (before after : Roots) (owned : IsOwned old before) (n
   sound = owned.sound.sound
 
   -- the leaf of a directory that comes inherits from the leaf that its dentry is in
-  first_inherits : (spot : Spot) (inode : Inode) → MayChange (shown_in old) old.covers (adds spot inode) → Makes (adds spot inode) (state_of old) (state_of new) → after ≡ before → (rank : Rank) → Rules (state_of old) before (leaf_of spot.at) rank
-      → is_dir_kind inode.kind ≡ true → Rules (state_of new) after (first_leaf inode.ino) rank
+  first_inherits : (spot : Spot) (inode : Inode) → MayChange (shown_in old) old.covers (adds spot inode) → Makes (adds spot inode) (state_of old) (state_of new) → after ≡ before → (rank : Rank)
+      → Rules (state_of old) before (leaf_of spot.at) rank → is_dir_kind inode.kind ≡ true → Rules (state_of new) after (first_leaf inode.ino) rank
   first_inherits spot inode may makes follow rank rules kinded =
       let home = home_at (dentry_at spot) in
       let tables = grown_tables (state_of old) (state_of new) spot inode kinded makes in
@@ -65,3 +67,35 @@ module _ (old new : Core) (before after : Roots) (owned : IsOwned old before) (n
           ⊎_elim (λ lived. absurd (unlived lived)) (λ first. is_that (state_of new) after (first_leaf inode.ino) spot.at.rank (first_inherits spot inode able done same spot.at.rank at.put kinded) r q that)
           (live_or_first old.homes old.covers sound.table inode.ino (home_at (dentry_at spot)) (may_come (shown_in old) old.homes (dentry_at spot) inode sound.tabled able.takes) q (rw (← its.0, ← its.1) live)))
           (λ kinded. let its = added_tables (state_of old) (state_of new) spot inode kinded done in absurd (unlived (rw (← its.0, ← its.1) live))) (dir_or_not inode)
+
+-- ---- in the words of directories and the ranks that hold their leaves
+
+-- of rows without a directory's, which isn't the root, it isn't known
+row_gone : (homes : Homes) (went : Option Ino) (dir : Ino) → IfSome went (λ (d : Ino). MayGo homes d.0) → went ≡ Some dir → is_known (rows_but homes went) dir.0 ≡ false
+row_gone homes None dir may is = absurd (none-some dir is)
+row_gone homes (Some d) dir may is = subst (λ (x : Ino). is_known (map.remove homes d.0) x.0 ≡ false) (same_Some d dir is) (λ i. nat.is_apart d.0 1 may.other i || is_some (nat.get_removed homes d.0 i))
+
+-- the directory that went with a change isn't known then
+gone_unknown : (change : Change) → Shape change → (old new : State) → IsSound old → MayChange (shown_tree old) old.covers change → Makes change old new → (dir : Ino) → change.gone ≡ Some dir → is_known new.homes dir.0 ≡ false
+gone_unknown _ (add spot inode) old new sound may makes dir is = absurd (none-some dir is)
+gone_unknown _ (set spot inode) old new sound may makes dir is = absurd (none-some dir is)
+gone_unknown _ (remove spot went) old new sound may makes dir is = rw (removed_tables old new spot went makes).0 (row_gone old.homes went dir (removable old spot went sound may) is)
+gone_unknown _ (move source target inode went) old new sound may makes dir is =
+    rw (moved_tables old new source target inode went makes).0 (row_gone (with_home old.homes (dentry_at target) inode) went dir (replaces old sound source target inode went may) is)
+
+-- what a change that was made makes of the caches, with its reads
+pub whole_came : (change : Change) (old new : Core) → IsChanged change old new → Came (IsNamedIn change) (EndsWith change) old.caches new.caches
+whole_came change old new is =
+    came_then (IsNamedIn change) (EndsWith change) old.caches is.between new.caches
+    (came_weaker (IsNamedIn change) NoneEnds (IsNamedIn change) (EndsWith change) (λ r q uses. uses) (λ r q none. absurd none) old.caches is.between (reads_came (IsNamedIn change) NoneEnds old.objects old.caches is.between is.read)) is.came
+
+-- a change that was made names leaves of directories, each at its rank, and those of the directory that went
+pub changed_held : (old new : Core) (roots : Roots) (change : Change) → IsSound (state_of old) → IsSound (state_of new) → MayChange (shown_tree (state_of old)) old.covers change → AreHeldAt (state_of old) roots change
+    → IsChanged change old new → IsChangedHeld roots change old new
+changed_held old new roots change sound now may holders is = record {
+  made = is.made;
+  right = is.right;
+  between = is.between;
+  read = reads_weaker (IsNamedIn change) NoneEnds (AsksFor (state_of old) roots (NamesDir change)) NoneEnds (asks_change old roots change sound may holders) (λ r q none. none) old.objects old.caches is.between is.read;
+  came = came_weaker (IsNamedIn change) (EndsWith change) (AsksFor (state_of old) roots (NamesDir change)) (IsGone (shown_tree (state_of new))) (asks_change old roots change sound may holders) (λ r q ends. sym (known_is (shown_tree (state_of new)) new.homes now.tabled q.0.0) ∙ gone_unknown change (shape_of (shown_tree (state_of old)) old.covers change may) (state_of old) (state_of new) sound may is.made q.0 ends) is.between new.caches is.came;
+}

@@ -16,9 +16,6 @@ module _ (s : State) (sound : IsSound s) where
   pub pick_live : (dir : Ino) (hash : ℕ) (f : Fragment) → is_directory (shown_tree s) dir.0 ≡ true → IsPick (leaves_of s.covers dir.0) hash f → IsLive s.homes s.covers (dir, f)
   pick_live dir hash f is pick = record { known = known_is (shown_tree s) s.homes sound.tabled dir.0 ∙ is; stands = pick.stands }
 
-  parent : (dentry : Dentry) (inode : Inode) → map.get (shown_tree s) dentry ≡ Some inode → is_directory (shown_tree s) dentry.dir.0 ≡ true
-  parent dentry inode stands = sound.tabled.whole.parents dentry.dir.0 dentry.name inode stands
-
   -- the leaf of a spot in a directory that is there is live
   spot_live : (spot : Spot) → is_directory (shown_tree s) spot.at.dir.0 ≡ true → IsSpot s.covers spot → IsLive s.homes s.covers (leaf_of spot.at)
   spot_live spot is pick = pick_live spot.at.dir (hash_of spot.name) spot.at.frag is pick
@@ -26,9 +23,9 @@ module _ (s : State) (sound : IsSound s) where
   -- the leaves that a change names are live
   named_live : (change : Change) → Shape change → MayChange (shown_tree s) s.covers change → IfSome change.takes (λ (spot : Spot). IsLive s.homes s.covers (leaf_of spot.at)) × IfSome change.puts (λ (put : Spot × Inode). IsLive s.homes s.covers (leaf_of put.0.at))
   named_live _ (add spot inode) may = (tt, spot_live spot may.takes.parent may.carries.put)
-  named_live _ (set spot inode) may = (tt, spot_live spot (parent (dentry_at spot) may.takes.before may.takes.stands) may.carries.put)
-  named_live _ (remove spot went) may = (spot_live spot (parent (dentry_at spot) may.takes.inode may.takes.stands) may.carries.taken, tt)
-  named_live _ (move source target inode went) may = (spot_live source (parent (dentry_at source) inode may.takes.stands) may.carries.taken, spot_live target may.takes.parent may.carries.put)
+  named_live _ (set spot inode) may = (tt, spot_live spot (sound.tabled.whole.parents spot.at.dir.0 spot.name may.takes.before may.takes.stands) may.carries.put)
+  named_live _ (remove spot went) may = (spot_live spot (sound.tabled.whole.parents spot.at.dir.0 spot.name may.takes.inode may.takes.stands) may.carries.taken, tt)
+  named_live _ (move source target inode went) may = (spot_live source (sound.tabled.whole.parents source.at.dir.0 source.name inode may.takes.stands) may.carries.taken, spot_live target may.takes.parent may.carries.put)
 
   pub taken_live : (change : Change) → MayChange (shown_tree s) s.covers change → (from : Spot) → change.takes ≡ Some from → IsLive s.homes s.covers (leaf_of from.at)
   taken_live change may from is = subst (λ (o : Option Spot). IfSome o (λ (spot : Spot). IsLive s.homes s.covers (leaf_of spot.at))) is (named_live change (shape_of (shown_tree s) s.covers change may) may).0

@@ -87,16 +87,15 @@ module _ (core : Core) (regions : Regions) (divided : IsDivided core regions) (r
 
           stays : list_any (leaf_is leaf) leaves.unclean ≡ false → map.get core.caches.held leaf ≡ Some a → HasHolder regions.exports regions.roots.roots core.homes core.covers leaf (record { 0 = a.rank })
               → (In leaf × (a.rank ≡ export.importer.0)) ⊎ ((In leaf → ⊥) × (f : Cached) × (map.get core.caches.held leaf ≡ Some (at a.rank f)))
-          stays among was holder = ⊎_elim inside (λ other. inr ((λ near. other (one_root regions.roots.roots core.homes core.covers leaf holder.root root holder.nearest near)), a.frag, was)) (same_or_apart holder.root root)
-            where
-              inside : holder.root ≡ root → (In leaf × (a.rank ≡ export.importer.0)) ⊎ ((In leaf → ⊥) × (f : Cached) × (map.get core.caches.held leaf ≡ Some (at a.rank f)))
-              inside same =
-                  let near : In leaf = subst (NearestRoot regions.roots.roots core.homes core.covers leaf) same holder.nearest in
-                  let mine : a.rank ≡ export.exporter.0 = ap (λ (r : Rank). r.0)
-                  (one_authority (held_in regions) core.homes core.covers leaf (record { 0 = a.rank }) export.exporter (divided.owned.held.cached leaf a was) (region_held core regions divided root export stands (ap is_freezing sent) (ap is_imported sent) leaf near)) in
-                  let seen : here core.caches export.exporter.0 leaf ≡ Some a.frag = ap (at_rank export.exporter.0) was ∙ ap (λ (b : Bool). cond b (Some a.frag) None) (is_same a.rank export.exporter.0 mine) in
-                  absurd (⊎_elim (λ clean. gone mine (passing_picked In clean_in core.caches export.exporter.0 (order core.caches export.exporter.0) leaves.clean cached.clean leaf
-                  (valid.placed export.exporter.0 leaf (ap (λ (o : Option Cached). is_some o) seen)) (ap clean_in seen ∙ clean) near)) (λ dirty. false≢true (sym among ∙ dirty_picked leaf a.frag seen dirty near)) (cases_Bool (is_clean a.frag)))
+          stays among was holder =
+              ⊎_elim (λ same.
+              let near : In leaf = subst (NearestRoot regions.roots.roots core.homes core.covers leaf) same holder.nearest in
+              let mine : a.rank ≡ export.exporter.0 = ap (λ (r : Rank). r.0)
+              (one_authority (held_in regions) core.homes core.covers leaf (record { 0 = a.rank }) export.exporter (divided.owned.held.cached leaf a was) (region_held core regions divided root export stands (ap is_freezing sent) (ap is_imported sent) leaf near)) in
+              let seen : here core.caches export.exporter.0 leaf ≡ Some a.frag = ap (at_rank export.exporter.0) was ∙ ap (λ (b : Bool). cond b (Some a.frag) None) (is_same a.rank export.exporter.0 mine) in
+              absurd (⊎_elim (λ clean. gone mine (passing_picked In clean_in core.caches export.exporter.0 (order core.caches export.exporter.0) leaves.clean cached.clean leaf
+              (valid.placed export.exporter.0 leaf (ap (λ (o : Option Cached). is_some o) seen)) (ap clean_in seen ∙ clean) near)) (λ dirty. false≢true (sym among ∙ dirty_picked leaf a.frag seen dirty near)) (cases_Bool (is_clean a.frag))))
+              (λ other. inr ((λ near. other (one_root regions.roots.roots core.homes core.covers leaf holder.root root holder.nearest near)), a.frag, was)) (same_or_apart holder.root root)
 
 -- ---- so it is with the caches and tables that a call is given
 
@@ -185,13 +184,10 @@ module _ (core new : Core) (regions : Regions) (divided : IsDivided core regions
       divided_still core new regions divided (record {
         sound = sound;
         valid = rw (homes, covers) divided.owned.valid;
-        held = held_after (state_of new) new.caches (held_in regions) (rw count divided.owned.held.ranks) sound.none (λ leaf a is. rw (homes, covers) (divided.owned.held.cached leaf a (was leaf a is h)));
+        held = held_after (state_of new) new.caches (held_in regions) (rw count divided.owned.held.ranks) sound.none (λ leaf a is. rw (homes, covers) (divided.owned.held.cached leaf a (
+            ⊎_elim (λ full. ap (λ (k : CacheMap). map.get k.held leaf) (sym full.2) ∙ is)
+            (λ memory. wants_from export.exporter.0 export.importer.0 apart leaves.unclean core.caches new.caches (ready core regions divided root export stands sent leaves cached).unclean memory.2 leaf a is) h)));
       }) count (same_jobs (state_of core) (state_of new) (ap (λ (s : State). s.jobs) l)) homes covers
-    where
-      was : (leaf : Leaf) (a : At) → map.get new.caches.held leaf ≡ Some a → MayNotHandOver export.importer.0 leaves.unclean core.caches new.caches reason → map.get core.caches.held leaf ≡ Some a
-      was leaf a is =
-          ⊎_elim (λ full. ap (λ (k : CacheMap). map.get k.held leaf) (sym full.2) ∙ is)
-          (λ memory. wants_from export.exporter.0 export.importer.0 apart leaves.unclean core.caches new.caches (ready core regions divided root export stands sent leaves cached).unclean memory.2 leaf a is)
 
 -- ---- Import
 

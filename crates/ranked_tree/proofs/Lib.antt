@@ -1,6 +1,5 @@
 pub mod AskLaws
 pub mod AuthorityLaws
-pub mod CameForLaws
 pub mod ChangedTables
 pub mod Common
 pub mod DividedLaws

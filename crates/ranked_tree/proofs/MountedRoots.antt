@@ -17,16 +17,13 @@ are_top covers none roots is filled = record {
 
 -- those of a new tree
 pub top_of_none : (roots : Roots) → AreTopRoots no_covers roots → roots ≡ new_roots
-top_of_none roots top = same_map leaf-total leaf-exact roots new_roots at
-  where
-    at : (leaf : Leaf) → map.get roots leaf ≡ map.get new_roots leaf
-    at leaf =
-        ⊎_elim (λ same. ap (map.get roots) same ∙ top.ranked root_fragment root_live.stands ∙ sym root_is ∙ ap (map.get new_roots) (sym same))
-        (λ apart.
-        none_unless (map.get roots leaf) (λ rank is.
-        let at = top.alone leaf (ap is_some is) in
-        apart (live_root leaf (record { known = ap (is_known no_homes) at.0; stands = subst (λ d. HasLeaf (leaves_of no_covers d) leaf.1) (sym at.0) at.1 })))
-        ∙ sym (get_beside map.empty root_leaf (record { 0 = 0 }) leaf apart ∙ get-empty leaf_cmp leaf)) (same_or_apart leaf root_leaf)
+top_of_none roots top = same_map leaf-total leaf-exact roots new_roots (λ leaf.
+    ⊎_elim (λ same. ap (map.get roots) same ∙ top.ranked root_fragment root_live.stands ∙ sym root_is ∙ ap (map.get new_roots) (sym same))
+    (λ apart.
+    none_unless (map.get roots leaf) (λ rank is.
+    let at = top.alone leaf (ap is_some is) in
+    apart (live_root leaf (record { known = ap (is_known no_homes) at.0; stands = subst (λ d. HasLeaf (leaves_of no_covers d) leaf.1) (sym at.0) at.1 })))
+    ∙ sym (get_beside map.empty root_leaf (record { 0 = 0 }) leaf apart ∙ get-empty leaf_cmp leaf)) (same_or_apart leaf root_leaf))
 
 module _ (limit : ℕ) (objects : Objects) (ranks places : ℕ) (some : 0 < ranks) (tree : Tree) (c : Core) (roots : Roots) (sound : IsSoundCore c) (top : AreTopRoots c.covers roots) where
   -- a mounted tree with its roots

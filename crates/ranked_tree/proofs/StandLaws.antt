@@ -58,14 +58,12 @@ held_bound tree count subtrees exports stand leaf rank is = by (map.get subtrees
 
 -- each rank holds its own regions,
 pub none_stand : (exports : Standing) (roots : Roots) → exports ≡ map.empty → holding exports roots ≡ roots
-none_stand exports roots none = same_map leaf-total leaf-exact (holding exports roots) roots at
+none_stand exports roots none = same_map leaf-total leaf-exact (holding exports roots) roots (λ q.
+    get_holding exports roots q ∙ ap (λ (e : Standing). option_map (holder_or (map.get e q)) (map.get roots q)) none ∙ ap (λ (o : Option StandingExport). option_map (holder_or o) (map.get roots q)) (get-empty leaf_cmp q) ∙ go (map.get roots q))
   where
     go : (o : Option Rank) → option_map (holder_or None) o ≡ o
     go None = refl
     go (Some r) = refl
-
-    at : (q : Leaf) → map.get (holding exports roots) q ≡ map.get roots q
-    at q = get_holding exports roots q ∙ ap (λ (e : Standing). option_map (holder_or (map.get e q)) (map.get roots q)) none ∙ ap (λ (o : Option StandingExport). option_map (holder_or o) (map.get roots q)) (get-empty leaf_cmp q) ∙ go (map.get roots q)
 
 -- and so they stand soundly
 pub stand_none : (core : Core) (regions : Regions) → regions.exports ≡ map.empty → IsOwned core regions.roots.roots → IsDivided core regions

@@ -1,6 +1,6 @@
 use Rattle.ranked_tree.proofs.Common.{Covers, EndsWith, Err, FollowChange, Fragment, IfSome, Ino, IsNamedIn, IsSome, LacksToMake, List, LoseDirectory, NoneEnds, Option, Roots, Some, ap, came_cap, came_ranks, faults_in, held_in, inl, inr, keeps_itself, keeps_refused, leaves_of, length, reads_keeps, reads_state, refl, state_of, subst, sym, ◌∙◌, ◌≡◌, ◌≤◌, reads_none, shape_of, shown_tree, reads_weaker, AsksFor, NamesDir}
 use Rattle.ranked_tree.proofs.AskLaws.{told_change}
-use Rattle.ranked_tree.proofs.CameForLaws.{changed_held, whole_came}
+use Rattle.ranked_tree.proofs.HeldChanges.{changed_held, whole_came}
 use Rattle.ranked_tree.proofs.DividedLaws.{change_divided}
 use Rattle.ranked_tree.proofs.HeldLaws.{owned_reads}
 use Rattle.ranked_tree.proofs.HolderLaws.{hold_each, named_held}

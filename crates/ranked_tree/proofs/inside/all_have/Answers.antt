@@ -10,9 +10,6 @@ loop-leaf-init c = record {
       (walk_starts (leaves_of c.args.dirs.now.trees c.args.dir.0) (tree_of_row c.args.dirs.now.homes c.args.dirs.now.trees c.contains.ensures.valid c.args.dir.0) c.args.frag c.value-hash.ensures.valid _);
 }
 
-pub leaf_inside-requires : goal.leaf_inside-requires
-leaf_inside-requires c = c.loop-leaf.invariant.from
-
 pub returns-then-ne : goal.returns-then-ne
 returns-then-ne c =
     let apart : c.authority.result ≡ c.args.rank → ⊥ = search rules in

@@ -10,9 +10,6 @@ loop-leaf-init c = record {
       (walk_starts (leaves_of c.args.dirs.now.trees c.args.dir.0) (tree_of_row c.args.dirs.now.homes c.args.dirs.now.trees c.contains.ensures.valid c.args.dir.0) c.args.frag c.value-hash.ensures.valid _);
 }
 
-pub leaf_inside-requires : goal.leaf_inside-requires
-leaf_inside-requires c = c.loop-leaf.invariant.from
-
 pub returns-then-is_frozen : goal.returns-then-is_frozen
 returns-then-is_frozen c =
     let frozen : c.is_frozen.result ≡ true = search rules in
