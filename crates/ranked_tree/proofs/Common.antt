@@ -66,7 +66,6 @@ pub use Rattle.mdcache.proofs.HomeLaws.{moved_home, moved_known}
 pub use Rattle.mdcache.proofs.JoinLaws.{from_mapped}
 pub use Rattle.mdcache.proofs.NewLaws.{live_root, new_none, no_covers, no_homes, root_live}
 pub use Rattle.mdcache.proofs.NoNames.{all_pass, no_name, some_fails, some_name}
-pub use Rattle.mdcache.proofs.SoundLaws.{stood_before}
 pub use Rattle.mdcache.proofs.SplitLaws.{has_inside}
 pub use Rattle.mdcache.proofs.TreeLookups.{at_dentry}
 pub use Rattle.mdcache.proofs.UncleanOf.{few_lack, get_unclean_of}
@@ -80,7 +79,7 @@ pub use Rattle.mdcache.specs.Given.{HaveNoJobs, IsGivenOver}
 pub use Rattle.mdcache.specs.Going.{rows_but}
 pub use Rattle.mdcache.specs.Joining.{IsAmongOr}
 pub use Rattle.mdcache.specs.Made.{IsRight}
-pub use Rattle.mdcache.specs.Mounted.{IsMounted, Mounts}
+pub use Rattle.mdcache.specs.Mounted.{Mounts}
 pub use Rattle.mdcache.specs.New.{cached_root, new_caches, new_state, root_leaf}
 pub use Rattle.mdcache.specs.Objects.{PurgesName, SavesTree}
 pub use Rattle.mdcache.specs.Pages.{IsPageOf, gathered}

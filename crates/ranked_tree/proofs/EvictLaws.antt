@@ -1,5 +1,5 @@
 -- What an eviction leaves: what isn't clean, and whose each fragment is.
-use Rattle.ranked_tree.proofs.Common.{At, Bool, CacheMap, Came, Core, Err, IfErr, IsOwned, IsSoundCore, KeepsState, None, NoneEnds, NothingToEvict, Ok, OnErr, OnOk, Option, Refusal, Result, Roots, Some, ap, arith, at_rank, came_cap, came_ranks, clean_there, cond, cond_both, ends, evicted, false, faults_told, get_unclean_of, given_up, goes, here, here_given_up, last_passes, leaf_is, length, one_leaf, option_map, order, refl, result_err, same_Some, same_map, state_of, stays, subst, sym, true, unclean_of, unsaved_at, unsaved_in, victim, ℕ, ◌&&◌, ◌+◌, ◌==◌, ◌∙◌, ◌≡◌, State, Leaf, leaf-exact, leaf-total, keeps_refused, keeps_itself, faults_in}
+use Rattle.ranked_tree.proofs.Common.{At, Bool, CacheMap, Came, Core, Err, IfErr, IsOwned, IsSoundCore, KeepsState, None, NoneEnds, NothingToEvict, Ok, OnErr, OnOk, Option, Refusal, Result, Roots, Some, ap, arith, at_rank, came_cap, came_ranks, clean_there, cond, cond_both, ends, evicted, false, get_unclean_of, given_up, goes, here, here_given_up, last_passes, leaf_is, one_leaf, option_map, order, refl, result_err, same_Some, same_map, state_of, stays, subst, sym, true, unclean_of, unsaved_at, unsaved_in, victim, ℕ, ◌&&◌, ◌==◌, ◌∙◌, ◌≡◌, State, Leaf, leaf-exact, leaf-total, keeps_refused, keeps_itself, faults_in}
 use Rattle.std.specs.FinMap as map
 use Rattle.ranked_tree.proofs.HeldLaws.{owned_came}
 

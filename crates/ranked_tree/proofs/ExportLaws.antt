@@ -1,5 +1,5 @@
 -- What a change of the tree leaves of frozen regions, where it changes no frozen leaf: each of their leaves.
-use Rattle.ranked_tree.proofs.Common.{AreFrozenRegionsKept, ArePlaced, AreRoots, Bool, Change, Contains, Covers, FollowChange, Fragment, HasLeaf, HoldsDentry, Home, Homes, IfSome, Ino, Inode, IsFrozen, IsInRegion, IsLive, IsPick, IsSettled, IsSound, Leaf, List, LoseDirectory, Makes, MatchBool, MayChange, MayGo, MayMove, None, Option, Roots, Shape, Some, Spot, Standing, StandsOver, Subtrees, [], add, adds, after_making, after_move, after_removal, arith, dentry_at, dir_or_not, false, first, fragments_of, hash_of, home_at, home_of, in_directory, is_dir_kind, keep_frozen, later, leaf_of, leaves, leaves_gone, leaves_of, may_come, move, moved_home, moved_known, moves, one_holder, one_value, refl, remove, rows_but, set, shown_tree, subst, suc, sym, true, with_dir, with_file, with_home, zero, ℕ, ⊎_elim, ◌↔◌, ◌∙◌, ◌∷◌, ◌≡◌, State}
+use Rattle.ranked_tree.proofs.Common.{AreFrozenRegionsKept, ArePlaced, AreRoots, Bool, Change, Contains, Covers, FollowChange, Fragment, HasLeaf, HoldsDentry, Home, Homes, IfSome, Ino, Inode, IsFrozen, IsInRegion, IsLive, IsPick, IsSettled, IsSound, Leaf, List, LoseDirectory, Makes, MatchBool, MayChange, MayGo, MayMove, None, Option, Roots, Shape, Some, Spot, Standing, StandsOver, Subtrees, [], add, after_making, after_move, after_removal, arith, dentry_at, dir_or_not, false, first, fragments_of, hash_of, home_at, home_of, in_directory, is_dir_kind, keep_frozen, later, leaf_of, leaves, leaves_gone, leaves_of, may_come, move, moved_home, moved_known, moves, one_holder, one_value, refl, remove, rows_but, set, shown_tree, subst, suc, sym, true, with_dir, with_file, with_home, zero, ℕ, ⊎_elim, ◌↔◌, ◌∙◌, ◌∷◌, ◌≡◌, State}
 use Rattle.std.specs.FinMap as map
 use Rattle.std.proofs.Common.{map as each}
 use Rattle.ranked_tree.proofs.ChangedTables.{added_tables, grown_tables, moved_tables, removed_tables, set_tables, relocates, replaces}

@@ -1,12 +1,11 @@
 -- What a change of the tree leaves: each cached fragment is at its leaf's authority then; what it makes of the caches.
-use Rattle.ranked_tree.proofs.Common.{AreHeld, AreHeldAt, Bool, Came, Change, Core, Covers, EndsWith, Fragment, HasLeaf, Home, Homes, IfSome, Ino, Inode, IsLive, IsNamedIn, IsOwned, IsPick, IsSome, IsSound, IsSoundCore, IsTable, IsThat, KeepsAuthorities, Leaf, List, Makes, MayChange, MayCome, MayGo, None, Option, Rank, Roots, Rules, Shape, Some, Spot, [], add, adds, ap, dentry_at, dir_or_not, false, first_leaf, hash_of, home_at, inherited, inl, inr, is_dir_kind, is_some, leaf_of, leaves_of, may_come, move, moved_known, only_leaf, or_whole, refl, remove, root_fragment, rows_but, set, shown_in, shown_tree, state_of, still_known, subst, sym, true, with_home, ℕ, ⊎_elim, ◌==◌, ◌||◌, ◌∙◌, ◌∷◌, ◌≡◌, ◌⊎◌, State, shape_of, AsksFor, IsChanged, IsChangedHeld, IsGone, NamesDir, NoneEnds, came_then, came_weaker, is_known, known_is, none-some, reads_came, reads_weaker, same_Some}
+use Rattle.ranked_tree.proofs.Common.{AreHeld, AreHeldAt, Came, Change, Core, Covers, EndsWith, Fragment, HasLeaf, Home, Homes, IfSome, Ino, Inode, IsLive, IsNamedIn, IsOwned, IsPick, IsSome, IsSound, IsSoundCore, IsTable, IsThat, KeepsAuthorities, Leaf, List, Makes, MayChange, MayCome, MayGo, None, Option, Rank, Roots, Rules, Shape, Some, Spot, [], add, adds, ap, dentry_at, dir_or_not, false, first_leaf, hash_of, home_at, inherited, inl, inr, is_dir_kind, is_some, leaf_of, leaves_of, may_come, move, only_leaf, or_whole, refl, remove, root_fragment, rows_but, set, shown_in, shown_tree, state_of, still_known, subst, sym, true, with_home, ℕ, ⊎_elim, ◌==◌, ◌||◌, ◌∙◌, ◌∷◌, ◌≡◌, ◌⊎◌, State, shape_of, AsksFor, IsChanged, IsChangedHeld, IsGone, NamesDir, NoneEnds, came_then, came_weaker, is_known, known_is, none-some, reads_came, reads_weaker, same_Some}
 use Rattle.std.specs.FinMap as map
 use Rattle.sorted_map.proofs.NatKeys as nat
-use Rattle.ranked_tree.proofs.ChangedTables.{TablesAre, added_tables, grown_tables, moved_tables, removed_tables, set_tables, relocates, replaces}
+use Rattle.ranked_tree.proofs.ChangedTables.{added_tables, grown_tables, moved_tables, removed_tables, replaces}
 use Rattle.ranked_tree.proofs.HeldLaws.{HaveCaches, held_since, is_that, none_unless}
 use Rattle.ranked_tree.proofs.ReadsForLaws.{asks_change}
 use Rattle.ranked_tree.proofs.HolderLaws.{named_by, new_is_not_live, put_live, was_unknown}
-use Rattle.ranked_tree.proofs.RootLaws.{is_elsewhere}
 use Rattle.ranked_tree.proofs.SubtreeLaws.{removable}
 
 -- ---- which leaves come

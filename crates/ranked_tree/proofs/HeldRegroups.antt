@@ -1,7 +1,7 @@
 -- What splits and merges leave: each cached fragment is at its leaf's authority then.
-use Rattle.ranked_tree.proofs.Common.{AllHave, AreHeld, AreRoots, CacheMap, Came, CameAt, CanMerge, CanSplit, Contains, Core, FitsSplit, Fragment, GivesToChildren, HasLeaf, HaveOneAuthority, Ino, IsAmongOr, IsFamilyAt, IsFamilyOf, IsFragment, IsLive, IsMergedHere, IsOwned, IsSound, IsSoundCore, KeepsAuthorities, Leaf, MayHold, MayNotRegroup, MergesLeaves, Rank, Refusal, RefusesMerge, RefusesSplit, Roots, Rules, SplitsLeaf, TakesOver, UsedAt, and_from, ap, arith, came_weaker, child_is_new, child_of, ending_at, eq-eqb, from_mapped, has_inside, in_directory, inl, inr, is_inside, is_known, leaves, leaves_inside, leaves_of, lies_inside, merged_is_new, not_found_weaker, range_from_inside, refl, rules, some_authority, some_inside, state_of, subst, sym, tree_of_row, ⊎_elim, State}
+use Rattle.ranked_tree.proofs.Common.{AllHave, AreHeld, CacheMap, Came, CameAt, CanMerge, CanSplit, Contains, Core, FitsSplit, Fragment, GivesToChildren, HasLeaf, Ino, IsAmongOr, IsFamilyAt, IsFamilyOf, IsFragment, IsLive, IsMergedHere, IsOwned, IsSoundCore, KeepsAuthorities, Leaf, MayNotRegroup, MergesLeaves, Rank, Refusal, RefusesMerge, RefusesSplit, Roots, Rules, SplitsLeaf, TakesOver, UsedAt, and_from, ap, arith, came_weaker, child_is_new, child_of, ending_at, eq-eqb, from_mapped, has_inside, in_directory, inl, inr, is_inside, is_known, leaves, leaves_inside, leaves_of, lies_inside, merged_is_new, not_found_weaker, range_from_inside, refl, rules, some_inside, state_of, subst, sym, tree_of_row, ⊎_elim, State}
 use Rattle.std.specs.Prelude.{◌≡◌, ◌<◌, ◌==◌, ◌^◌, ℕ, true, map as each, length, List, Result, Ok, Err}
-use Rattle.ranked_tree.proofs.HeldLaws.{HaveCaches, held_since, may_hold, owned_came}
+use Rattle.ranked_tree.proofs.HeldLaws.{HaveCaches, held_since, owned_came}
 
 -- ---- why it was refused, in the words of whose places lack
 

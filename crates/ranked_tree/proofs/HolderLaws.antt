@@ -1,6 +1,5 @@
 -- The leaves that a change names, and the ranks that hold them.
-use Rattle.ranked_tree.proofs.Common.{AreHeld, AreHeldAt, AreOneRank, CacheMap, Change, Dentry, Fragment, HoldsAt, Home, Homes, IfSome, IfSome_then, Ino, Inode, IsLive, IsNamedIn, IsPick, IsSound, IsSpot, IsThat, Leaf, MayChange, MayCome, MayHoldEach, NamesDir, None, Option, Roots, Rules, Shape, Some, Spot, add, adds, ap, dentry_at, false, first_leaf, hash_of, inl, inr, is_directory, is_known, is_some, known_is, leaf_of, leaves_of, may_come, move, one_authority, refl, remove, set, shape_of, shown_tree, subst, sym, true, ℕ, ⊎_elim, ◌||◌, ◌∙◌, ◌≡◌, ◌⊎◌, State}
-use Rattle.std.specs.FinMap as map
+use Rattle.ranked_tree.proofs.Common.{AreHeld, AreHeldAt, AreOneRank, CacheMap, Change, Fragment, HoldsAt, Home, Homes, IfSome, IfSome_then, Ino, Inode, IsLive, IsNamedIn, IsPick, IsSound, IsSpot, IsThat, Leaf, MayChange, MayCome, MayHoldEach, NamesDir, None, Option, Roots, Rules, Shape, Some, Spot, add, adds, ap, dentry_at, false, first_leaf, hash_of, inl, inr, is_directory, is_known, is_some, known_is, leaf_of, leaves_of, may_come, move, one_authority, refl, remove, set, shape_of, shown_tree, subst, sym, true, ℕ, ⊎_elim, ◌||◌, ◌∙◌, ◌≡◌, ◌⊎◌, State}
 use Rattle.sorted_map.proofs.NatKeys as nat
 use Rattle.ranked_tree.proofs.HeldLaws.{is_that, may_hold}
 

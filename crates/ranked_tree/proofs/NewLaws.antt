@@ -1,5 +1,5 @@
 -- The one root of a new tree is its one leaf, and rank 0 holds it.
-use Rattle.ranked_tree.proofs.Common.{AreHeld, AreRoots, At, CacheMap, Core, IsLive, IsSome, Leaf, Rank, Roots, Rules, Some, State, [], ap, at, cached_root, cond_both, get-empty, get_beside, get_put, get_with_frag, inl, inr, is_some, itself, leaf_is, length, length-replicate, live_root, new_caches, new_none, new_roots, new_state, no_caches, no_covers, no_homes, none-some, one_leaf, one_value, ranks_with_frag, refl, root_leaf, root_live, same_Some, same_or_apart, state_of, subst, sym, ℕ, ◌<◌, ◌∙◌, ◌≡◌, ⊎_elim}
+use Rattle.ranked_tree.proofs.Common.{AreHeld, AreRoots, At, CacheMap, Core, IsLive, IsSome, Leaf, Rank, Roots, Rules, Some, State, [], ap, at, cached_root, cond_both, get-empty, get_beside, get_put, get_with_frag, is_some, itself, leaf_is, length, length-replicate, live_root, new_caches, new_none, new_roots, new_state, no_caches, no_covers, no_homes, none-some, one_leaf, one_value, ranks_with_frag, refl, root_leaf, root_live, same_Some, same_or_apart, state_of, subst, sym, ℕ, ◌<◌, ◌∙◌, ◌≡◌, ⊎_elim}
 use Rattle.std.specs.FinMap as map
 use Rattle.ranked_tree.proofs.HeldLaws.{placed_at}
 

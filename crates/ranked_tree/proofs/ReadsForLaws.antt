@@ -1,5 +1,5 @@
 -- What reads of a directory's leaves make of the caches, one after the other.
-use Rattle.ranked_tree.proofs.Common.{AreHeldAt, AsksFor, Change, Concerns, ConcernsIn, Core, Dentry, Inode, IsChangeIn, IsNamedIn, IsSound, KeepsRanked, KeepsState, Leaf, Lists, Looks, MayChange, Moves, NamesBy, NamesDir, None, NoneEnds, Op, Option, PutsAt, Ranked, Reads, ReadsCore, ReadsFor, Refusal, Removes, Roots, Sets, Some, Spot, TakesAt, Tree, Unlinks, ap, dentry_at, false, held_roots, inl, inr, is_known, keeps_on, may_come, none-some, reads_then, reads_weaker, shown_tree, state_of, subst, sym, ℕ, ⊎_elim, ◌∙◌, ◌≡◌, State, shape_of}
+use Rattle.ranked_tree.proofs.Common.{AreHeldAt, AsksFor, Change, Concerns, ConcernsIn, Core, Dentry, Inode, IsChangeIn, IsNamedIn, IsSound, KeepsRanked, KeepsState, Leaf, Lists, Looks, MayChange, Moves, NamesBy, NamesDir, None, NoneEnds, Op, Option, PutsAt, Ranked, Reads, ReadsFor, Refusal, Removes, Roots, Sets, Some, Spot, TakesAt, Tree, Unlinks, ap, dentry_at, false, held_roots, inl, inr, is_known, keeps_on, may_come, none-some, reads_then, reads_weaker, shown_tree, state_of, subst, sym, ℕ, ⊎_elim, ◌∙◌, ◌≡◌, State, shape_of}
 use Rattle.mds_types.specs.Shape.{Shape as OpShape, Makes}
 use Rattle.ranked_tree.proofs.AskLaws.{held_still}
 use Rattle.ranked_tree.proofs.HolderLaws.{is_unknown, named_by}

@@ -1,5 +1,5 @@
 -- What a directory's move needs of the roots: it keeps its leaves, and the rank that they inherit is known at both its dentries.
-use Rattle.ranked_tree.proofs.Common.{Bool, Change, Covers, Home, Homes, IfSome, Ino, Inode, IsInheritedAt, IsLostRank, IsRight, IsSettled, IsSound, IsSpot, MatchBool, MatchOption, MayChange, MayMove, None, Option, Rank, Roots, Rules, SettleMoving, Shape, Some, Spot, State, Tree, add, changed, cond, cond_both, dentry_at, dir_moving, directory_at, entry_stands, false, home_at, is_dir_kind, is_directory, leaf_of, leaves_of, move, moves, refl, remove, rules, same_Some, set, shape_of, shown_tree, subst, sym, taken, true, ◌≡◌, ◌≢◌}
+use Rattle.ranked_tree.proofs.Common.{Bool, Change, Covers, Home, Homes, IfSome, Ino, Inode, IsInheritedAt, IsLostRank, IsRight, IsSettled, IsSound, IsSpot, MatchBool, MatchOption, MayChange, MayMove, None, Option, Rank, Roots, Rules, SettleMoving, Shape, Some, Spot, State, Tree, add, changed, cond, cond_both, dentry_at, dir_moving, directory_at, entry_stands, false, home_at, is_dir_kind, is_directory, leaf_of, leaves_of, move, moves, refl, remove, rules, same_Some, set, shown_tree, subst, sym, taken, true, ◌≡◌, ◌≢◌}
 use Rattle.std.specs.FinMap as map
 use Rattle.mds_types.proofs.EntryLaws.{get_put}
 use Rattle.ranked_tree.proofs.ChangedTables.{relocates}

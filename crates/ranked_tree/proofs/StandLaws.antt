@@ -1,5 +1,5 @@
 -- What is kept of the exports that stand: by what changes neither directories nor roots, and by what changes no frozen leaf.
-use Rattle.ranked_tree.proofs.Common.{AllHave, Alters, AreFrozenRegionsKept, AreRoots, AreThawed, Begins, BeginsWith, CacheMap, CameAt, Change, Core, Covers, Drops, Ends, Err, Fragment, HasAuthority, HaveOneAuthority, Homes, Ino, IsDivided, IsFrozen, IsFrozenIn, IsLive, IsOwned, IsSound, IsSoundCore, Job, Jobs, KeepsAuthorities, KeepsHolders, Leaf, List, Makes, MayChange, NearestRoot, NoNewRank, None, Ok, Option, Rank, Refusal, Regions, Result, Roots, Shape, Some, StandSoundly, Standing, StandingExport, Subtrees, Unsaved, UsedAt, add, ap, came_weaker, cond_both, dentry_at, get-empty, get_beside, get_holding, get_left, get_removed, get_without, held_in, holder_is, holder_or, holding, imported_freezes, is_dir_kind, is_imported, keep_frozen, keep_holders, leaf-exact, leaf-total, leaf_cmp, leaf_is, leaves, length, list_any, move, none-some, option_map, refl, region_holder, remove, rules, same_Some, same_map, same_or_apart, set, shape_of, shown_tree, state_of, subst, sym, unclean, with_directory, without, without_leaves, ℕ, ⊎_elim, ◌<◌, ◌∙◌, ◌≡◌, State}
+use Rattle.ranked_tree.proofs.Common.{AllHave, Alters, AreFrozenRegionsKept, AreRoots, AreThawed, Begins, BeginsWith, CacheMap, CameAt, Change, Core, Covers, Drops, Ends, Err, Fragment, HasAuthority, Homes, Ino, IsDivided, IsFrozen, IsFrozenIn, IsLive, IsOwned, IsSound, IsSoundCore, Job, Jobs, KeepsAuthorities, KeepsHolders, Leaf, List, Makes, NearestRoot, NoNewRank, None, Ok, Option, Rank, Refusal, Regions, Result, Roots, Shape, Some, StandSoundly, Standing, StandingExport, Subtrees, Unsaved, UsedAt, add, ap, came_weaker, cond_both, dentry_at, get-empty, get_beside, get_holding, get_left, get_removed, get_without, held_in, holder_is, holder_or, holding, imported_freezes, is_dir_kind, is_imported, keep_frozen, keep_holders, leaf-exact, leaf-total, leaf_cmp, leaf_is, leaves, length, list_any, move, none-some, option_map, refl, region_holder, remove, rules, same_Some, same_map, same_or_apart, set, state_of, subst, sym, unclean, with_directory, without, without_leaves, ℕ, ⊎_elim, ◌<◌, ◌∙◌, ◌≡◌, State}
 use Rattle.std.specs.FinMap as map
 use Rattle.mdcache.specs.Commits.{leaf_of}
 use Rattle.ranked_tree.proofs.HeldLaws.{held_after}

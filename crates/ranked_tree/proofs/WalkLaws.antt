@@ -1,6 +1,5 @@
 -- What a walk over the leaves of a directory finds.
 use Rattle.ranked_tree.proofs.Common.{Bool, Contains, Fragment, HasLeaf, Ino, Inode, IsPick, IsSound, List, Names, None, Some, State, [], all_pass, ap, at_dentry, cond, dentry_of, entries_there, false, find, has_entries, has_none, hash_of, is_known, key_cmp, key_itself, leaves_of, list_all, names_after, names_are_listed, names_of, no_entries_listed, no_name, not, refl, shown_tree, some_fails, some_name, some_pick, subst, sym, tree_of_row, true, ℕ, ◌&&◌, ◌∙◌, ◌∷◌, ◌≡◌}
-use Rattle.std.specs.FinMap as map
 use Rattle.fragtree.proofs.TreeLaws.{first as first_has, later as later_has}
 
 -- ---- leaf by leaf

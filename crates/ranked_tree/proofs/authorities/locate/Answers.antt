@@ -1,5 +1,4 @@
-use Rattle.ranked_tree.proofs.Common.{Counts, Homes, ap, count_of, held_in, ◌∙◌}
-use Rattle.std.specs.FinMap as map
+use Rattle.ranked_tree.proofs.Common.{Counts, ap, count_of, held_in, ◌∙◌}
 use Rattle.ranked_tree.proofs.AuthorityLaws.{located, nowhere, there_live}
 use Rattle.ranked_tree.proofs.authorities.locate.Goals as goal
 
