@@ -1,7 +1,5 @@
 -- Why a read is refused, in the words of all ranks, and of a call that ends with the read.
-use Rattle.ranked_tree.proofs.Common.{AreHeldAt, AsksFor, Change, Concerns, Core, Fragment, HasLeaf, HoldsAt, IfErr, IfErr-weaker, IfSome, Ino, Inode, IsLive, IsOwned, IsSound, IsSoundCore, IsThat, KeepsRanked, KeepsState, LacksPlacesAsked, LacksPlacesAt, LacksPlacesBy, LacksPlacesDir, LacksPlacesFor, LacksPlacesOf, List, MayNotBeReady, MayNotFind, MayRefuse, NamesBy, NamesDir, None, NoneEnds, Op, Option, Rank, Ranked, ReadsCore, ReadsDir, Refusal, Result, Roots, Rules, Some, Spot, Standing, ap, arith, faults_told, held_roots, holding, inl, inr, is_directory, is_known, known_is, lacked_at, leaf_of, leaves, leaves_of, not_found_weaker, reads_keeps, reads_weaker, refl, refused_later, result_err, rules, shown_tree, state_of, subst, sym, true, ℕ, ⊎_elim, ◌+◌, ◌∙◌, ◌≡◌}
-use Rattle.mds_types.specs.Leaf.{Leaf}
-use Rattle.mdcache.specs.State.{State as TreeState}
+use Rattle.ranked_tree.proofs.Common.{AreHeldAt, AsksFor, Change, Concerns, Core, Fragment, HasLeaf, HoldsAt, IfErr, IfErr-weaker, IfSome, Ino, Inode, IsLive, IsOwned, IsSound, IsSoundCore, IsThat, KeepsRanked, KeepsState, LacksPlacesAsked, LacksPlacesAt, LacksPlacesBy, LacksPlacesDir, LacksPlacesFor, LacksPlacesOf, List, MayNotBeReady, MayNotFind, MayRefuse, NamesBy, NamesDir, None, NoneEnds, Op, Option, Rank, Ranked, ReadsCore, ReadsDir, Refusal, Result, Roots, Rules, Some, Spot, Standing, ap, arith, faults_told, held_roots, holding, inl, inr, is_directory, is_known, known_is, lacked_at, leaf_of, leaves, leaves_of, not_found_weaker, reads_keeps, reads_weaker, refl, refused_later, result_err, rules, shown_tree, state_of, subst, sym, true, ℕ, ⊎_elim, ◌+◌, ◌∙◌, ◌≡◌, State, Leaf}
 use Rattle.ranked_tree.proofs.HeldLaws.{is_that, owned_reads}
 
 -- what is known of a read of one leaf at the rank that holds it
@@ -23,7 +21,7 @@ read_of {X} old new roots leaf rank result owned rules reads sound counted becau
 
 -- reads before it change nothing of what lacks at the rank that holds a leaf
 pub lacks_still : (count : ℕ) (a b : Core) (roots : Roots) (leaf : Leaf) → KeepsState a b None → LacksPlacesFor count b roots leaf → LacksPlacesFor count a roots leaf
-lacks_still count a b roots leaf kept (rank, rules, lacks) = (rank, subst (λ (s : TreeState). Rules s roots leaf rank) kept.state rules, lacked_at count a b rank kept lacks)
+lacks_still count a b roots leaf kept (rank, rules, lacks) = (rank, subst (λ (s : State). Rules s roots leaf rank) kept.state rules, lacked_at count a b rank kept lacks)
 
 -- so it is with a read of one leaf of a directory, after reads of others
 pub refused_before : (a b : Core) (roots : Roots) (leaf : Leaf) (after : ℕ) (reason : Refusal) → KeepsState a b None → MayNotFind (LacksPlacesFor 1 b roots leaf) b.faults after reason
@@ -49,41 +47,37 @@ asked old new op reason Lacks so (inr (inr (is, lacks))) = let (leaf, concerns, 
 -- after reads for it that were not refused
 pub ranked_later : (a b c : Ranked) (op : Op) (reason : Refusal) → KeepsRanked a b op None → MayRefuse b c op reason → MayRefuse a c op reason
 ranked_later a b c op reason kept because =
-    refused_later (LacksPlacesAsked 2 b.tree (held_roots b) (Concerns (shown_tree (state_of b.tree)) op)) (LacksPlacesAsked 2 a.tree (held_roots a) (Concerns (shown_tree (state_of a.tree)) op)) a.tree b.tree c.tree op reason so kept.tree because
-  where
-    so : LacksPlacesAsked 2 b.tree (held_roots b) (Concerns (shown_tree (state_of b.tree)) op) → LacksPlacesAsked 2 a.tree (held_roots a) (Concerns (shown_tree (state_of a.tree)) op)
-    so (leaf, concerns, lacks) = (
+    refused_later (LacksPlacesAsked 2 b.tree (held_roots b) (Concerns (shown_tree (state_of b.tree)) op)) (LacksPlacesAsked 2 a.tree (held_roots a) (Concerns (shown_tree (state_of a.tree)) op)) a.tree b.tree c.tree op reason
+    (λ all. let (leaf, concerns, lacks) = all in (
       leaf,
-      subst (λ (s : TreeState). Concerns (shown_tree s) op leaf.0.0) kept.tree.state concerns,
+      subst (λ (s : State). Concerns (shown_tree s) op leaf.0.0) kept.tree.state concerns,
       lacks_still 2 a.tree b.tree (held_roots a) leaf kept.tree (subst (λ (r : Roots). LacksPlacesFor 2 b.tree r leaf) (held_still a b op None kept) lacks),
-    )
+    )) kept.tree because
 
 -- ---- why a change isn't made ready
 
 -- what lacks at the ranks that hold the leaves of a change
-lacks_asked : (old : Core) (roots : Roots) (change : Change) → AreHeldAt (state_of old) roots change → LacksPlacesOf old change → LacksPlacesAsked 2 old roots (NamesDir change)
-lacks_asked old roots change held = go change.takes change.puts held.taken held.put
-  where
-    go : (takes : Option Spot) (puts : Option (Spot × Inode)) → IfSome takes (λ spot. HoldsAt (state_of old) roots spot.at) → IfSome puts (λ put. HoldsAt (state_of old) roots put.0.at) → LacksPlacesBy old takes puts → LacksPlacesAsked 2 old roots (NamesBy takes puts)
-    go None None here there lacks = absurd lacks
-    go None (Some put) here there lacks = (leaf_of put.0.at, refl, (put.0.at.rank, there, lacks))
-    go (Some spot) None here there lacks = (leaf_of spot.at, refl, (spot.at.rank, here, lacks))
-    go (Some spot) (Some put) here there (inl lacks) = (leaf_of spot.at, inl refl, (spot.at.rank, here, lacks))
-    go (Some spot) (Some put) here there (inr lacks) = (leaf_of put.0.at, inr refl, (put.0.at.rank, there, lacks))
+lacks_asked : (old : Core) (roots : Roots) (takes : Option Spot) (puts : Option (Spot × Inode)) → IfSome takes (λ spot. HoldsAt (state_of old) roots spot.at) → IfSome puts (λ put. HoldsAt (state_of old) roots put.0.at)
+    → LacksPlacesBy old takes puts → LacksPlacesAsked 2 old roots (NamesBy takes puts)
+lacks_asked old roots None None here there lacks = absurd lacks
+lacks_asked old roots None (Some put) here there lacks = (leaf_of put.0.at, refl, (put.0.at.rank, there, lacks))
+lacks_asked old roots (Some spot) None here there lacks = (leaf_of spot.at, refl, (spot.at.rank, here, lacks))
+lacks_asked old roots (Some spot) (Some put) here there (inl lacks) = (leaf_of spot.at, inl refl, (spot.at.rank, here, lacks))
+lacks_asked old roots (Some spot) (Some put) here there (inr lacks) = (leaf_of put.0.at, inr refl, (put.0.at.rank, there, lacks))
 
 pub told_change : (X Lacks : Type 0) (result : Result X Refusal) (old : Core) (roots : Roots) (change : Change) (after : ℕ) → AreHeldAt (state_of old) roots change → IfErr result (MayNotBeReady Lacks (LacksPlacesOf old change) old.faults after)
     → IfErr result (MayNotBeReady Lacks (LacksPlacesAsked 2 old roots (NamesDir change)) old.faults after)
 told_change X Lacks result old roots change after held =
-    IfErr-weaker result _ _ (λ reason. ⊎_elim (λ numbers. inl numbers) (λ other. inr (other.0, not_found_weaker _ _ old.faults after reason (lacks_asked old roots change held) other.1)))
+    IfErr-weaker result _ _ (λ reason. ⊎_elim (λ numbers. inl numbers) (λ other. inr (other.0, not_found_weaker _ _ old.faults after reason (lacks_asked old roots change.takes change.puts held.taken held.put) other.1)))
 
 -- ---- what is still so
 
 -- a leaf is live still
 pub live_still : (a b : Core) (leaf : Leaf) → KeepsState a b None → IsLive a.homes a.covers leaf → IsLive b.homes b.covers leaf
-live_still a b leaf kept live = subst (λ (s : TreeState). IsLive s.homes s.covers leaf) (sym kept.state) live
+live_still a b leaf kept live = subst (λ (s : State). IsLive s.homes s.covers leaf) (sym kept.state) live
 
 -- a directory of the tree is one of the table, and its leaves are live
-module _ (s : TreeState) (sound : IsSound s) (dir : Ino) (is : is_directory (shown_tree s) dir.0 ≡ true) where
+module _ (s : State) (sound : IsSound s) (dir : Ino) (is : is_directory (shown_tree s) dir.0 ≡ true) where
   pub dir_known : is_known s.homes dir.0 ≡ true
   dir_known = known_is (shown_tree s) s.homes sound.tabled dir.0 ∙ is
 

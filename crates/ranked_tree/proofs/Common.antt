@@ -20,6 +20,7 @@ pub use Rattle.dentry_cache.specs.Came.Came.{ends, stays}
 pub use Rattle.dentry_cache.specs.Handing.{AreCleanAt, AreUncleanAt, HandsOver, MayNotHandOver, moved_all}
 pub use Rattle.dentry_cache.specs.Loading.{object_of}
 pub use Rattle.dentry_cache.specs.Reads.{Reads}
+pub use Rattle.dentry_cache.specs.Reads.Reads.{stays as reads_none}
 pub use Rattle.dentry_cache.specs.Ties.{IsTiedAt}
 pub use Rattle.dirfrag_codec.proofs.ByteKeys.{key_itself}
 pub use Rattle.dirfrag_codec.specs.FragmentObject.{Names}
@@ -65,7 +66,6 @@ pub use Rattle.mdcache.proofs.HomeLaws.{moved_home, moved_known}
 pub use Rattle.mdcache.proofs.JoinLaws.{from_mapped}
 pub use Rattle.mdcache.proofs.NewLaws.{live_root, new_none, no_covers, no_homes, root_live}
 pub use Rattle.mdcache.proofs.NoNames.{all_pass, no_name, some_fails, some_name}
-pub use Rattle.mdcache.proofs.SoundLaws.{stood_before}
 pub use Rattle.mdcache.proofs.SplitLaws.{has_inside}
 pub use Rattle.mdcache.proofs.TreeLookups.{at_dentry}
 pub use Rattle.mdcache.proofs.UncleanOf.{few_lack, get_unclean_of}
@@ -79,7 +79,7 @@ pub use Rattle.mdcache.specs.Given.{HaveNoJobs, IsGivenOver}
 pub use Rattle.mdcache.specs.Going.{rows_but}
 pub use Rattle.mdcache.specs.Joining.{IsAmongOr}
 pub use Rattle.mdcache.specs.Made.{IsRight}
-pub use Rattle.mdcache.specs.Mounted.{IsMounted, Mounts}
+pub use Rattle.mdcache.specs.Mounted.{Mounts}
 pub use Rattle.mdcache.specs.New.{cached_root, new_caches, new_state, root_leaf}
 pub use Rattle.mdcache.specs.Objects.{PurgesName, SavesTree}
 pub use Rattle.mdcache.specs.Pages.{IsPageOf, gathered}

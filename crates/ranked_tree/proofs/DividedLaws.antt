@@ -1,10 +1,9 @@
 -- What a change, a split and a merge leave of a tree that is divided among ranks, where they change no frozen leaf.
-use Rattle.ranked_tree.proofs.Common.{AllHave, AreFrozenRegionsKept, AreHeld, AreHeldAt, AreThawed, Came, CameAt, Change, Contains, Core, Covers, EndsWith, FollowChange, Fragment, GivesToChildren, HasLeaf, HaveOneAuthority, Homes, Ino, IsDivided, IsFamilyOf, IsFrozen, IsFrozenIn, IsLive, IsMergedHere, IsMergedInto, IsNamedIn, IsRootMerge, IsRootSplit, IsSoundCore, IsSplitInto, IsTree, KeepsAuthorities, KeepsRoots, Leaf, LoseDirectory, Makes, MayChange, Regions, Roots, Rules, Shape, Standing, StandsOver, Subtrees, TakesOver, add, after_merge, after_split, ap, child_is_new, false≢true, fragments_of, held_in, holding, in_directory, inr, is_known, leaves_inside, leaves_of, merged_is_new, move, or_whole, refl, remove, set, shape_of, shown_in, state_of, subst, sym, tree_of_row, valid_so, ◌^◌, ◌∙◌}
-use Rattle.std.specs.Prelude.{◌≡◌, ℕ, true, length, List, [], ◌∷◌, map as each}
+use Rattle.ranked_tree.proofs.Common.{AllHave, AreFrozenRegionsKept, AreHeld, AreHeldAt, AreThawed, Came, CameAt, Change, Contains, Core, Covers, EndsWith, FollowChange, Fragment, HasLeaf, HaveOneAuthority, Homes, Ino, IsDivided, IsFamilyOf, IsFrozen, IsFrozenIn, IsLive, IsMergedHere, IsMergedInto, IsNamedIn, IsRootMerge, IsRootSplit, IsSoundCore, IsSplitInto, IsTree, KeepsAuthorities, KeepsRoots, Leaf, LoseDirectory, Makes, MayChange, Regions, Roots, Rules, Standing, StandsOver, Subtrees, after_merge, after_split, ap, child_is_new, fragments_of, held_in, holding, in_directory, inr, is_known, leaves_inside, leaves_of, merged_is_new, or_whole, refl, shape_of, shown_in, state_of, subst, sym, tree_of_row, valid_so, ◌^◌, ◌∙◌, State}
 use Rattle.std.specs.FinMap as map
 use Rattle.sorted_map.proofs.NatKeys as nat
+use Rattle.std.specs.Prelude.{◌≡◌, ℕ, length, List, [], ◌∷◌, map as each}
 use Rattle.mdcache.specs.Splits.{IsRegrouped}
-use Rattle.mdcache.specs.State.{State as TreeState}
 use Rattle.ranked_tree.proofs.ExportLaws.{change_keeps}
 use Rattle.ranked_tree.proofs.HeldChanges.{change_held}
 use Rattle.ranked_tree.proofs.HeldLaws.{HaveCaches}
@@ -12,13 +11,6 @@ use Rattle.ranked_tree.proofs.HeldRegroups.{merge_held, split_held}
 use Rattle.ranked_tree.proofs.RootLaws.{IsSoundChange}
 use Rattle.ranked_tree.proofs.StandLaws.{FewerJobs, change_jobs, all_held, came_by, held_bound, jobs_without, keeps_held, stand_kept, thawed_held, thawed_rules}
 use Rattle.ranked_tree.proofs.SubtreeLaws.{changes_soundly, children_have, merge_soundly, split_soundly, takes_over}
-
--- where a directory comes the roots stay
-adds_keep : (change : Change) → Shape change → (tree : TreeState) (before after : Roots) → FollowChange change tree before after → change.comes ≡ true → after ≡ before
-adds_keep _ (add spot inode) tree before after follow comes = follow.2 ∙ follow.1
-adds_keep _ (set spot inode) tree before after follow comes = absurd (false≢true comes)
-adds_keep _ (remove spot went) tree before after follow comes = absurd (false≢true comes)
-adds_keep _ (move from to inode went) tree before after follow comes = absurd (false≢true comes)
 
 module _ (old new : Core) (regions : Regions) (now : Subtrees) (divided : IsDivided old regions) (later : IsSoundCore new) (count : length new.caches.used ≡ length old.caches.used) where
   abbrev was : Subtrees
@@ -52,23 +44,23 @@ module _ (old new : Core) (regions : Regions) (now : Subtrees) (divided : IsDivi
       → Came (IsNamedIn change) (EndsWith change) old.caches new.caches → IsKept
   change_divided change holders may makes follow promises thawed came =
       let shape = shape_of (shown_in old) old.covers change may in
-      event (change_jobs change (state_of old) (state_of new) may makes)
+      event (change_jobs change shape (state_of old) (state_of new) makes)
       (change_keeps exports (state_of old) (state_of new) was now divided.owned.sound.sound divided.stand.valid divided.stand.placed change shape may makes follow promises thawed)
       (changes_soundly change shape (state_of old) (state_of new) was.roots now.roots divided.owned.sound.sound may makes follow divided.stand.valid)
       (λ keeps have.
       change_held old new (held_in regions) (holding exports now.roots) divided.owned later keeps change holders may makes
-      (λ comes. ap (λ (r : Roots). holding exports r) (adds_keep change shape (state_of old) was.roots now.roots follow comes)) have came)
+      (λ spot inode is. let stay = subst (λ (c : Change). FollowChange c (state_of old) was.roots now.roots) is follow in ap (λ (r : Roots). holding exports r) (stay.2 ∙ stay.1)) have came)
 
   -- leaves of a directory are regrouped
   module _ (dir : Ino) (gone cover : List Fragment) (more : ℕ) (regrouped : IsRegrouped (state_of old) (state_of new) dir gone cover more) where
     covers_now : new.covers ≡ map.insert old.covers dir.0 cover
-    covers_now = ap (λ (s : TreeState). s.covers) regrouped.left
+    covers_now = ap (λ (s : State). s.covers) regrouped.left
 
     homes_now : new.homes ≡ old.homes
-    homes_now = ap (λ (s : TreeState). s.homes) regrouped.left
+    homes_now = ap (λ (s : State). s.homes) regrouped.left
 
     fewer_jobs : FewerJobs (state_of old) (state_of new)
-    fewer_jobs leaf job is = jobs_without old.jobs (each (in_directory dir.0) gone) leaf job (ap (λ (s : TreeState). map.get s.jobs leaf) (sym regrouped.left) ∙ is)
+    fewer_jobs leaf job is = jobs_without old.jobs (each (in_directory dir.0) gone) leaf job (ap (λ (s : State). map.get s.jobs leaf) (sym regrouped.left) ∙ is)
 
     -- a leaf that comes isn't frozen
     new_thawed : AreFrozenRegionsKept exports was now old.homes new.homes old.covers new.covers → (f : Fragment) → HasLeaf cover f → (HasLeaf (leaves_of old.covers dir.0) f → ⊥) → IsFrozen exports now.roots new.homes new.covers (dir, f) → ⊥
@@ -88,7 +80,11 @@ module _ (old new : Core) (regions : Regions) (now : Subtrees) (divided : IsDivi
         event (fewer_jobs dir (frag ∷ []) split.cover (2 ^ nb) split.regrouped) kept (split_soundly (state_of old) (state_of new) was.roots now.roots divided.owned.sound.sound divided.stand.valid dir frag nb split roots)
         (λ keeps have.
         split_held old new (held_in regions) (holding exports now.roots) divided.owned count later dir frag nb (record { known = split.regrouped.known; stands = split.can.stands })
-        (came_by (Rules (state_of old) was.roots (dir, frag)) _ (IsFamilyOf dir frag nb) old.caches new.caches (λ rank. thawed_held exports was.roots old.homes old.covers (dir, frag) rank thawed) came) keeps have gives)
+        (came_by (Rules (state_of old) was.roots (dir, frag)) _ (IsFamilyOf dir frag nb) old.caches new.caches (λ rank. thawed_held exports was.roots old.homes old.covers (dir, frag) rank thawed) came) keeps have
+        (λ child rank is has.
+        thawed_held exports now.roots new.homes new.covers (dir, child) rank
+        (new_thawed dir (frag ∷ []) split.cover (2 ^ nb) split.regrouped kept child ((split.divided.leaves child).1 (inr is)) (child_is_new (leaves_of old.covers dir.0) frag child nb tree split.can.stands split.can.fits is))
+        (children_have (state_of old) (state_of new) was.roots now.roots divided.owned.sound.sound divided.stand.valid dir frag nb split roots child rank is (thawed_rules exports was.roots old.homes old.covers (dir, frag) rank thawed has))))
       where
         kept : AreFrozenRegionsKept exports was now old.homes new.homes old.covers new.covers
         kept = subst (λ (h : Homes). AreFrozenRegionsKept exports was now old.homes h old.covers new.covers) (sym (homes_now dir (frag ∷ []) split.cover (2 ^ nb) split.regrouped)) (after_split exports was now old.homes old.covers new.covers over (record {
@@ -106,18 +102,16 @@ module _ (old new : Core) (regions : Regions) (now : Subtrees) (divided : IsDivi
           promises = promises;
         }))
 
-        gives : GivesToChildren (state_of old) (state_of new) (held_in regions) (holding exports now.roots) dir frag nb
-        gives child rank is has =
-            thawed_held exports now.roots new.homes new.covers (dir, child) rank
-            (new_thawed dir (frag ∷ []) split.cover (2 ^ nb) split.regrouped kept child ((split.divided.leaves child).1 (inr is)) (child_is_new (leaves_of old.covers dir.0) frag child nb tree split.can.stands split.can.fits is))
-            (children_have (state_of old) (state_of new) was.roots now.roots divided.owned.sound.sound divided.stand.valid dir frag nb split roots child rank is (thawed_rules exports was.roots old.homes old.covers (dir, frag) rank thawed has))
-
     -- a merge of leaves of one authority
     pub merge_divided : IsMergedInto (state_of old) (state_of new) dir frag → IsRootMerge was.roots now.roots dir.0 frag → HaveOneAuthority was.roots old.homes old.covers dir.0 frag → AreThawed exports was.roots old.homes old.covers dir frag
         → CameAt (AllHave old.homes old.covers was.roots dir frag) (IsMergedHere old.covers dir frag) old.caches new.caches → IsKept
     merge_divided merge roots one thawed came =
         event (fewer_jobs dir inside merge.cover 1 merge.regrouped) kept (merge_soundly (state_of old) (state_of new) was.roots now.roots divided.owned.sound.sound divided.stand.valid dir frag merge roots one)
-        (λ keeps have. merge_held old new (held_in regions) (holding exports now.roots) divided.owned count later dir frag merge.regrouped.known merge.can (came_by (AllHave old.homes old.covers was.roots dir frag) _ (IsMergedHere old.covers dir frag) old.caches new.caches (all_held exports was.roots old.homes old.covers dir frag thawed) came) keeps have takes)
+        (λ keeps have. merge_held old new (held_in regions) (holding exports now.roots) divided.owned count later dir frag merge.regrouped.known merge.can (came_by (AllHave old.homes old.covers was.roots dir frag) _ (IsMergedHere old.covers dir frag) old.caches new.caches (all_held exports was.roots old.homes old.covers dir frag thawed) came) keeps have
+        (λ leaf rank in_frag live has.
+        thawed_held exports now.roots new.homes new.covers (dir, frag) rank
+        (new_thawed dir inside merge.cover 1 merge.regrouped kept frag ((merge.merged.leaves frag).1 (inr refl)) (merged_is_new (leaves_of old.covers dir.0) frag tree merge.can))
+        (takes_over (state_of old) (state_of new) was.roots now.roots divided.owned.sound.sound divided.stand.valid dir frag merge roots one leaf rank in_frag live (thawed_rules exports was.roots old.homes old.covers leaf rank (thawed leaf in_frag live) has))))
       where
         inside : List Fragment
         inside = leaves_inside frag (leaves_of old.covers dir.0)
@@ -135,9 +129,3 @@ module _ (old new : Core) (regions : Regions) (now : Subtrees) (divided : IsDivi
           roots = roots;
           promises = promises;
         }))
-
-        takes : TakesOver (state_of old) (state_of new) (held_in regions) (holding exports now.roots) dir frag
-        takes leaf rank in_frag live has =
-            thawed_held exports now.roots new.homes new.covers (dir, frag) rank
-            (new_thawed dir inside merge.cover 1 merge.regrouped kept frag ((merge.merged.leaves frag).1 (inr refl)) (merged_is_new (leaves_of old.covers dir.0) frag tree merge.can))
-            (takes_over (state_of old) (state_of new) was.roots now.roots divided.owned.sound.sound divided.stand.valid dir frag merge roots one leaf rank in_frag live (thawed_rules exports was.roots old.homes old.covers leaf rank (thawed leaf in_frag live) has))

@@ -1,9 +1,8 @@
 -- The jobs of a region end, leaf by leaf.
-use Rattle.ranked_tree.proofs.Common.{Bool, Covers, EndsInside, EndsRegion, Homes, IsNext, Job, Jobs, Leaf, List, MatchOption, NearestRoot, None, Option, Roots, Some, [], ap, arith, cases_Bool, cond, cond_both, eq_by_cmp, false, false≢true, find, get-entries, get_left, get_removed, inl, inr, is_behind, is_lt, is_some, leaf-exact, leaf-total, leaf_cmp, less_is, none-some, not, one_root, refl, same_or_apart, stood_before, subst, suc, sym, tie, tied_itself, true, true≢false, value_of, ℕ, ⊎_elim, ◌+◌, ◌<◌, ◌∙◌, ◌∷◌, ◌≡◌, ◌≢◌, ◌≤◌}
+use Rattle.ranked_tree.proofs.Common.{Bool, Covers, EndsInside, EndsRegion, Homes, IsNext, Job, Jobs, Leaf, List, MatchOption, NearestRoot, None, Option, Roots, Some, [], ap, arith, cases_Bool, cond, cond_both, eq_by_cmp, false, false≢true, find, get-entries, get_left, get_removed, inl, inr, is_behind, is_lt, is_some, leaf-exact, leaf-total, leaf_cmp, less_is, none-some, one_root, refl, same_or_apart, subst, suc, sym, tie, tied_itself, true, true≢false, value_of, ℕ, ⊎_elim, ◌+◌, ◌<◌, ◌∙◌, ◌∷◌, ◌≡◌, ◌≢◌, ◌≤◌, State, ◌⊎◌}
 use Rattle.std.specs.FinMap as map
-use Rattle.mdcache.specs.State.{State as TreeState}
 use Rattle.ranked_tree.proofs.HeldLaws.{none_unless}
-use Rattle.ranked_tree.proofs.StandLaws.{FewerJobs, same_jobs}
+use Rattle.ranked_tree.proofs.StandLaws.{FewerJobs, found_left, same_jobs}
 
 -- ---- how many are to come
 
@@ -50,17 +49,17 @@ module _ (roots : Roots) (root : Leaf) (homes : Homes) (covers : Covers) (leaf :
 -- ---- how far it has come
 
 module _ (roots : Roots) (root : Leaf) where
-  abbrev IsInside : TreeState → Leaf → Type 0
+  abbrev IsInside : State → Leaf → Type 0
   IsInside tree leaf = NearestRoot roots tree.homes tree.covers leaf root
 
   -- the jobs of the region have ended as far as a leaf, and nothing else of the state changed
-  pub record HaveEnded (old now : TreeState) (last : Option Leaf) : Type 0 where
+  pub record HaveEnded (old now : State) (last : Option Leaf) : Type 0 where
     pub ended : (leaf : Leaf) → is_behind last leaf ≡ false → IsInside old leaf → map.get now.jobs leaf ≡ None
     pub others : (leaf : Leaf) → (IsInside old leaf → ⊥) → map.get now.jobs leaf ≡ map.get old.jobs leaf
     pub fewer : FewerJobs old now
     pub left : now ≡ record old { jobs = now.jobs }
 
-  pub none_ended : (old : TreeState) → HaveEnded old old None
+  pub none_ended : (old : State) → HaveEnded old old None
   none_ended old = record {
     ended = λ leaf is inside. let clash : true ≡ false = is in absurd cc;
     others = λ leaf outside. refl;
@@ -68,57 +67,37 @@ module _ (roots : Roots) (root : Leaf) where
     left = refl;
   }
 
-  pub all_ended : (old now : TreeState) (last : Option Leaf) → HaveEnded old now last → IsNext now.jobs last None → EndsRegion old now roots root
+  pub all_ended : (old now : State) (last : Option Leaf) → HaveEnded old now last → IsNext now.jobs last None → EndsRegion old now roots root
   all_ended old now last so_far none = record {
     ended = λ leaf inside. ⊎_elim (none leaf) (λ before. so_far.ended leaf before inside) (cases_Bool (is_behind last leaf));
     others = so_far.others;
     left = so_far.left;
   }
 
-  module _ (old now : TreeState) (last : Option Leaf) (next : Leaf) (so_far : HaveEnded old now last) (first : IsNext now.jobs last (Some next)) where
+  module _ (old now : State) (last : Option Leaf) (next : Leaf) (so_far : HaveEnded old now last) (first : IsNext now.jobs last (Some next)) where
     pub fewer_left : count_behind (Some next) old.jobs < count_behind last old.jobs
     fewer_left =
         let stands = value_of _ first.1 in
         less (is_behind last) (is_behind (Some next)) (still_behind last next first.0) next stands.0 first.0 (ap is_lt (tied_itself leaf-total next)) (map.entries old.jobs) (sym (get-entries old.jobs next) ∙ so_far.fewer next stands.0 stands.1)
 
-    module _ (new : TreeState) (turn : EndsInside roots root now new next) where
-      -- what the turn makes of the jobs
-      record Turned : Type 0 where
-        beside : (leaf : Leaf) → leaf ≢ next → map.get new.jobs leaf ≡ map.get now.jobs leaf
-        here : IsInside old next → map.get new.jobs next ≡ None
-        outside : (IsInside old next → ⊥) → new.jobs ≡ now.jobs
-        stood : FewerJobs now new
-        left : new ≡ record now { jobs = new.jobs }
+    module _ (new : State) (turn : EndsInside roots root now new next) where
+      -- of the jobs the turn ends that of the leaf, if it is inside, and no other
+      turned : (new ≡ record now { jobs = new.jobs }) × ((IsInside old next × (new.jobs ≡ map.remove now.jobs next)) ⊎ ((IsInside old next → ⊥) × (new.jobs ≡ now.jobs)))
+      turned = ⊎_elim (λ its. (its.1 ∙ ap (λ (j : Jobs). record now { jobs = j }) (sym (ap (λ (s : State). s.jobs) its.1)), inl (subst (λ (s : State). IsInside s next) so_far.left its.0, ap (λ (s : State). s.jobs) its.1)))
+          (λ its. (its.1 ∙ ap (λ (j : Jobs). record now { jobs = j }) (sym (ap (λ (s : State). s.jobs) its.1)), inr (λ there. its.0 (subst (λ (s : State). IsInside s next) (sym so_far.left) there), ap (λ (s : State). s.jobs) its.1))) turn
 
-      turned : Turned
-      turned = elim turn [
-        | inl (inside, ends) ↦ record {
-          beside = λ leaf apart. ap (λ (s : TreeState). map.get s.jobs leaf) ends ∙ get_left now.jobs next leaf apart;
-          here = λ its. ap (λ (s : TreeState). map.get s.jobs next) ends ∙ get_removed now.jobs next;
-          outside = λ out. absurd (out (subst (λ (s : TreeState). IsInside s next) so_far.left inside));
-          stood = λ leaf job stands. stood_before now next leaf job (ap (λ (s : TreeState). map.get s.jobs leaf) (sym ends) ∙ stands);
-          left = ends ∙ ap (λ (j : Jobs). record now { jobs = j }) (sym (ap (λ (s : TreeState). s.jobs) ends));
-        }
-        | inr (other, same) ↦ record {
-          beside = λ leaf apart. ap (λ (s : TreeState). map.get s.jobs leaf) same;
-          here = λ its. absurd (other (subst (λ (s : TreeState). IsInside s next) (sym so_far.left) its));
-          outside = λ out. ap (λ (s : TreeState). s.jobs) same;
-          stood = same_jobs now new (ap (λ (s : TreeState). s.jobs) same);
-          left = same ∙ ap (λ (j : Jobs). record now { jobs = j }) (sym (ap (λ (s : TreeState). s.jobs) same));
-        }
-      ]
-
-      -- of a leaf between the last and the next none stood
-      between : (leaf : Leaf) → leaf ≢ next → is_behind (Some next) leaf ≡ false → IsInside old leaf → map.get now.jobs leaf ≡ None
-      between leaf apart not inside =
-          ⊎_elim (λ behind. none_unless (map.get now.jobs leaf) (λ job stands. ⊎_elim apart (λ after. true≢false (sym (ap is_lt after) ∙ not)) (first.2 leaf behind (ap is_some stands)))) (λ before. so_far.ended leaf before inside) (cases_Bool (is_behind last leaf))
+      beside : (leaf : Leaf) → leaf ≢ next → map.get new.jobs leaf ≡ map.get now.jobs leaf
+      beside leaf apart = ⊎_elim (λ its. ap (λ (j : Jobs). map.get j leaf) its.1 ∙ get_left now.jobs next leaf apart) (λ its. ap (λ (j : Jobs). map.get j leaf) its.1) turned.1
 
       pub ended_on : HaveEnded old new (Some next)
       ended_on = record {
         ended = λ leaf not inside.
-            ⊎_elim (λ same. ap (map.get new.jobs) same ∙ turned.here (subst (IsInside old) same inside)) (λ apart. turned.beside leaf apart ∙ between leaf apart not inside) (same_or_apart leaf next);
+            ⊎_elim (λ same. ap (map.get new.jobs) same ∙ ⊎_elim (λ its. ap (λ (j : Jobs). map.get j next) its.1 ∙ get_removed now.jobs next) (λ its. absurd (its.0 (subst (IsInside old) same inside))) turned.1)
+            (λ apart. beside leaf apart ∙
+            -- of a leaf between the last and the next none stood
+            ⊎_elim (λ behind. none_unless (map.get now.jobs leaf) (λ job stands. ⊎_elim apart (λ after. true≢false (sym (ap is_lt after) ∙ not)) (first.2 leaf behind (ap is_some stands)))) (λ before. so_far.ended leaf before inside) (cases_Bool (is_behind last leaf))) (same_or_apart leaf next);
         others = λ leaf out.
-            ⊎_elim (λ same. ap (λ (j : Jobs). map.get j leaf) (turned.outside (λ inside. out (subst (IsInside old) (sym same) inside)))) (turned.beside leaf) (same_or_apart leaf next) ∙ so_far.others leaf out;
-        fewer = λ leaf job stands. so_far.fewer leaf job (turned.stood leaf job stands);
-        left = turned.left ∙ ap (λ (s : TreeState). record s { jobs = new.jobs }) so_far.left;
+            ⊎_elim (λ same. ⊎_elim (λ its. absurd (out (subst (IsInside old) (sym same) its.0))) (λ its. ap (λ (j : Jobs). map.get j leaf) its.1) turned.1) (beside leaf) (same_or_apart leaf next) ∙ so_far.others leaf out;
+        fewer = λ leaf job stands. so_far.fewer leaf job (⊎_elim (λ its. found_left now.jobs next leaf job (ap (λ (j : Jobs). map.get j leaf) (sym its.1) ∙ stands)) (λ its. ap (λ (j : Jobs). map.get j leaf) (sym its.1) ∙ stands) turned.1);
+        left = turned.0 ∙ ap (λ (s : State). record s { jobs = new.jobs }) so_far.left;
       }

@@ -1,9 +1,6 @@
 -- What an eviction leaves: what isn't clean, and whose each fragment is.
-use Rattle.ranked_tree.proofs.Common.{At, Bool, CacheMap, Came, Core, Err, IfErr, IsOwned, IsSoundCore, KeepsState, None, NoneEnds, NothingToEvict, Ok, OnErr, OnOk, Option, Refusal, Result, Roots, Some, ap, arith, at_rank, came_cap, came_ranks, clean_there, cond, cond_both, ends, evicted, false, faults_told, get_unclean_of, given_up, goes, here, here_given_up, last_passes, leaf_is, length, one_leaf, option_map, order, refl, result_err, same_Some, same_map, state_of, stays, subst, sym, true, unclean_of, unsaved_at, unsaved_in, victim, ℕ, ◌&&◌, ◌+◌, ◌==◌, ◌∙◌, ◌≡◌}
+use Rattle.ranked_tree.proofs.Common.{At, Bool, CacheMap, Came, Core, Err, IfErr, IsOwned, IsSoundCore, KeepsState, None, NoneEnds, NothingToEvict, Ok, OnErr, OnOk, Option, Refusal, Result, Roots, Some, ap, arith, at_rank, came_cap, came_ranks, clean_there, cond, cond_both, ends, evicted, false, get_unclean_of, given_up, goes, here, here_given_up, last_passes, leaf_is, one_leaf, option_map, order, refl, result_err, same_Some, same_map, state_of, stays, subst, sym, true, unclean_of, unsaved_at, unsaved_in, victim, ℕ, ◌&&◌, ◌==◌, ◌∙◌, ◌≡◌, State, Leaf, leaf-exact, leaf-total, keeps_refused, keeps_itself, faults_in}
 use Rattle.std.specs.FinMap as map
-use Rattle.dentry_cache.specs.Cache.{Leaf}
-use Rattle.dentry_cache.proofs.LeafLaws.{leaf-exact, leaf-total}
-use Rattle.mdcache.specs.State.{State as TreeState}
 use Rattle.ranked_tree.proofs.HeldLaws.{owned_came}
 
 -- any leaf ends
@@ -43,14 +40,8 @@ module _ (old new : Core) (r : ℕ) where
       cap = came_cap NoneEnds AnyEnds old.caches new.caches (came went);
       counted = omega (arith, faults);
     }
-    evict_keeps (Err reason) went left why faults = record {
-      state = state;
-      unclean = λ s. ap (λ (k : Core). unclean_of k.caches s) left;
-      count = ap (λ (k : Core). length k.caches.used) left;
-      cap = ap (λ (k : Core). k.caches.cap) left;
-      counted = subst (λ (x : Refusal). new.faults ≡ old.faults + faults_told (Some x)) (sym why) (omega (arith, faults));
-    }
+    evict_keeps (Err reason) went left why faults = subst (λ (k : Core). KeepsState old k (Some reason)) (sym left) (keeps_refused old old reason (ap faults_in why) (keeps_itself old))
 
     pub evict_owned : (result : Result (Unit {0}) Refusal) → OnOk result (evicted old.caches r None ≡ Some new.caches) → OnErr result (new ≡ old) → (roots : Roots) → IsSoundCore new → IsOwned old roots → IsOwned new roots
-    evict_owned (Ok done) went left roots sound owned = owned_came NoneEnds AnyEnds old new (came went) sound roots (ap (λ (s : TreeState). s.homes) state) (ap (λ (s : TreeState). s.covers) state) (λ r q never live. absurd never) owned
+    evict_owned (Ok done) went left roots sound owned = owned_came NoneEnds AnyEnds old new (came went) sound roots (ap (λ (s : State). s.homes) state) (ap (λ (s : State). s.covers) state) (λ r q never live. absurd never) owned
     evict_owned (Err reason) went left roots sound owned = subst (λ (k : Core). IsOwned k roots) (sym left) owned

@@ -1,10 +1,8 @@
 -- What a change of the tree leaves of frozen regions, where it changes no frozen leaf: each of their leaves.
-use Rattle.ranked_tree.proofs.Common.{AreFrozenRegionsKept, ArePlaced, AreRoots, Bool, Change, Contains, Covers, FollowChange, Fragment, HasLeaf, HoldsDentry, Home, Homes, IfSome, Ino, Inode, IsFrozen, IsInRegion, IsLive, IsPick, IsSettled, IsSound, Leaf, List, LoseDirectory, Makes, MatchBool, MayChange, MayGo, MayMove, None, Option, Roots, Shape, Some, Spot, Standing, StandsOver, Subtrees, [], add, adds, after_making, after_move, after_removal, arith, dentry_at, dir_or_not, false, first, fragments_of, hash_of, home_at, home_of, in_directory, is_dir_kind, keep_frozen, later, leaf_of, leaves, leaves_gone, leaves_of, may_come, move, moved_home, moved_known, moves, one_holder, one_value, refl, remove, rows_but, set, shown_tree, subst, suc, sym, true, with_dir, with_file, with_home, zero, ℕ, ⊎_elim, ◌↔◌, ◌∙◌, ◌∷◌, ◌≡◌}
-use Rattle.std.proofs.Common.{map as each}
+use Rattle.ranked_tree.proofs.Common.{AreFrozenRegionsKept, ArePlaced, AreRoots, Bool, Change, Contains, Covers, FollowChange, Fragment, HasLeaf, HoldsDentry, Home, Homes, IfSome, Ino, Inode, IsFrozen, IsInRegion, IsLive, IsPick, IsSettled, IsSound, Leaf, List, LoseDirectory, Makes, MatchBool, MayChange, MayGo, MayMove, None, Option, Roots, Shape, Some, Spot, Standing, StandsOver, Subtrees, [], add, after_making, after_move, after_removal, arith, dentry_at, dir_or_not, false, first, fragments_of, hash_of, home_at, home_of, in_directory, is_dir_kind, keep_frozen, later, leaf_of, leaves, leaves_gone, leaves_of, may_come, move, moved_home, moved_known, moves, one_holder, one_value, refl, remove, rows_but, set, shown_tree, subst, suc, sym, true, with_dir, with_file, with_home, zero, ℕ, ⊎_elim, ◌↔◌, ◌∙◌, ◌∷◌, ◌≡◌, State}
 use Rattle.std.specs.FinMap as map
-use Rattle.mdcache.specs.State.{State as TreeState}
-use Rattle.ranked_tree.proofs.ChangedTables.{added_tables, grown_tables, moved_tables, removed_tables, set_tables}
-use Rattle.ranked_tree.proofs.MoveLaws.{relocates, replaces}
+use Rattle.std.proofs.Common.{map as each}
+use Rattle.ranked_tree.proofs.ChangedTables.{added_tables, grown_tables, moved_tables, removed_tables, set_tables, relocates, replaces}
 use Rattle.ranked_tree.proofs.SubtreeLaws.{moves as rehomes, removable}
 
 -- a live leaf of a directory is among all of them
@@ -12,11 +10,6 @@ among : (d : ℕ) (fs : List Fragment) (f : Fragment) → HasLeaf fs f → Conta
 among d [] f (k, within, is) = absurd (omega (arith, within))
 among d (g ∷ fs) f (zero, within, is) = subst (λ (x : Fragment). Contains (each (in_directory d) (g ∷ fs)) (in_directory d x)) is (first (in_directory d g) (each (in_directory d) fs))
 among d (g ∷ fs) f (suc k, within, is) = later (in_directory d g) (in_directory d f) (each (in_directory d) fs) (among d fs f (k, omega (arith, within), is))
-
-among_gone : (covers : Covers) (dir : Ino) (leaf : Leaf) → leaf.0.0 ≡ dir.0 → HasLeaf (leaves_of covers leaf.0.0) leaf.1 → Contains (leaves_gone covers (Some dir)) leaf
-among_gone covers dir leaf at has =
-    let here : ◌≡◌ {A = Leaf} (in_directory dir.0 leaf.1) leaf = λ i. (record { 0 = sym at i }, leaf.1) in
-    subst (λ (l : Leaf). Contains (leaves covers dir.0) l) here (among dir.0 (leaves_of covers dir.0) leaf.1 (subst (λ (d : ℕ). HasLeaf (leaves_of covers d) leaf.1) at has))
 
 module _ (standing : Standing) where
   abbrev Kept : Subtrees → Subtrees → Homes → Homes → Covers → Covers → Type 0
@@ -49,14 +42,16 @@ module _ (standing : Standing) where
         dir = dir.0;
         below = may.other;
         childless = may.childless;
-        thawed = λ leaf at live frozen. thawed leaf live (among_gone covers dir leaf at live.stands) frozen;
+        thawed = λ leaf at live frozen.
+            let here : ◌≡◌ {A = Leaf} (in_directory dir.0 leaf.1) leaf = λ i. (record { 0 = sym at i }, leaf.1) in
+            thawed leaf live (subst (λ (l : Leaf). Contains (leaves covers dir.0) l) here (among dir.0 (leaves_of covers dir.0) leaf.1 (subst (λ (d : ℕ). HasLeaf (leaves_of covers d) leaf.1) at live.stands))) frozen;
         home_gone = refl;
         leaves_gone = refl;
         roots = roots;
         promises = promises;
       })
 
-  module _ (old new : TreeState) (was now : Subtrees) (sound : IsSound old) (valid : AreRoots old was.roots) (placed : ArePlaced standing was) where
+  module _ (old new : State) (was now : Subtrees) (sound : IsSound old) (valid : AreRoots old was.roots) (placed : ArePlaced standing was) where
     over : StandsOver standing was old.homes old.covers
     over = record { table = sound.table; valid = valid; placed = placed }
 
@@ -100,34 +95,19 @@ module _ (standing : Standing) where
       })
       moving false kinded same = rw (with_file old.homes (dentry_at to) inode kinded) (still was mid old.homes old.covers same refl placed)
 
-      one : Kept was mid old.homes moved old.covers old.covers
-      one = moving (is_dir_kind inode.kind) refl follow.1
-
-      two : Kept mid now moved (rows_but moved went) old.covers (rows_but old.covers went)
-      two = loses mid now moved old.covers went
+      rename_keeps : AllKept
+      rename_keeps =
+          let one : Kept was mid old.homes moved old.covers old.covers = moving (is_dir_kind inode.kind) refl follow.1 in
+          let two = loses mid now moved old.covers went
           (record { table = moved_home old.homes old.covers sound.table (dentry_at to) inode able; valid = (rehomes old was.roots follow.0 (dentry_at to) inode sound valid able follow.1).valid; placed = one.placed })
           (replaces old sound from to inode went may)
           (λ leaf live has frozen.
           let lived : IsLive old.homes old.covers leaf = record { known = sym (moved_known old.homes old.covers sound.table (dentry_at to) inode able leaf.0.0) ∙ live.known; stands = live.stands } in
           thawed leaf (later (leaf_of from.at) leaf (leaf_of to.at ∷ leaves_gone old.covers went) (later (leaf_of to.at) leaf (leaves_gone old.covers went) has))
           ((keep_frozen standing was mid old.homes moved old.covers old.covers one leaf lived live).1 frozen))
-          follow.2 promises
-
-      rename_keeps : AllKept
-      rename_keeps =
+          follow.2 promises in
           let tables = moved_tables old new from to inode went makes in
           rw (tables.0, tables.1) (both was mid now old.homes moved (rows_but moved went) old.covers old.covers (rows_but old.covers went) one two)
-
-    -- a new directory, whose dentry's leaf is thawed
-    comes : (spot : Spot) (inode : Inode) → MayChange (shown_tree old) old.covers (adds spot inode) → IsThawed (adds spot inode)
-        → Kept was was old.homes (map.insert old.homes inode.ino.0 (home_at (dentry_at spot))) old.covers old.covers
-    comes spot inode may thawed = after_making standing was old.homes (map.insert old.homes inode.ino.0 (home_at (dentry_at spot))) old.covers over (record {
-      dir = inode.ino.0;
-      home = home_at (dentry_at spot);
-      may = may_come (shown_tree old) old.homes (dentry_at spot) inode sound.tabled may.takes;
-      thawed = at_spot spot may.carries.put (thawed (leaf_of spot.at) (first (leaf_of spot.at) []));
-      changed = refl;
-    })
 
     pub change_keeps : (change : Change) → Shape change → MayChange (shown_tree old) old.covers change → Makes change old new → FollowChange change old was.roots now.roots → LoseDirectory was.promises now.promises change.gone → IsThawed change → AllKept
     change_keeps _ (set spot inode) may makes follow promises thawed = let tables = set_tables old new spot inode makes in rw (tables.0, tables.1) (still was now old.homes old.covers (follow.2 ∙ follow.1) promises placed)
@@ -135,7 +115,13 @@ module _ (standing : Standing) where
         ⊎_elim (λ kinded.
         let tables = grown_tables old new spot inode kinded makes in
         let grown = map.insert old.homes inode.ino.0 (home_at (dentry_at spot)) in
-        let come = comes spot inode may thawed in
+        let come : Kept was was old.homes grown old.covers old.covers = after_making standing was old.homes grown old.covers over (record {
+          dir = inode.ino.0;
+          home = home_at (dentry_at spot);
+          may = may_come (shown_tree old) old.homes (dentry_at spot) inode sound.tabled may.takes;
+          thawed = at_spot spot may.carries.put (thawed (leaf_of spot.at) (first (leaf_of spot.at) []));
+          changed = refl;
+        }) in
         rw (tables.0, tables.1) (both was was now old.homes grown grown old.covers old.covers old.covers come (still was now grown old.covers (follow.2 ∙ follow.1) promises come.placed)))
         (λ kinded. let tables = added_tables old new spot inode kinded makes in rw (tables.0, tables.1) (still was now old.homes old.covers (follow.2 ∙ follow.1) promises placed)) (dir_or_not inode)
     change_keeps _ (remove spot went) may makes follow promises thawed =

@@ -1,7 +1,6 @@
 -- What calls for an operation keep, and why they are refused, in the words of the operation.
-use Rattle.ranked_tree.proofs.Common.{Bool, Change, ChangesHeld, Concerns, Core, Dirfrag, Err, FollowsChange, HoldsAt, IfErr, IfErr-weaker, Ino, IsAt, IsChangeIn, IsChangeOf, IsChangedHeld, IsLive, IsPick, IsSound, KeepsAll, KeepsRanked, KeepsState, LacksBy, LacksForIn, LacksNumbers, LacksPlacesAsked, LacksPlacesDir, LacksToMake, Lists, Looks, MayNotFind, MayRefuse, Moves, NamesDir, Ok, OnErr, OnOk, Op, Option, Ranked, ReadsDir, Refusal, Regions, Removes, Result, Sets, Unlinks, ap, false, held_in, held_roots, inl, inr, is_dir_kind, is_directory, leaf_of, leaves_of, refl, result_err, shape, shown_tree, state_of, subst, sym, true, ℕ, ⊎_elim, ◌∙◌, ◌≡◌}
+use Rattle.ranked_tree.proofs.Common.{Bool, Change, ChangesHeld, Concerns, Core, Dirfrag, Err, FollowsChange, HoldsAt, IfErr, IfErr-weaker, Ino, IsAt, IsChangeIn, IsChangeOf, IsChangedHeld, IsLive, IsPick, IsSound, KeepsAll, KeepsRanked, KeepsState, LacksBy, LacksForIn, LacksNumbers, LacksPlacesAsked, LacksPlacesDir, LacksToMake, Lists, Looks, MayNotFind, MayRefuse, Moves, NamesDir, Ok, OnErr, OnOk, Op, Option, Ranked, ReadsDir, Refusal, Regions, Removes, Result, Sets, Unlinks, ap, false, held_in, held_roots, inl, inr, is_dir_kind, is_directory, leaf_of, leaves_of, refl, result_err, shape, shown_tree, state_of, subst, sym, true, ℕ, ⊎_elim, ◌∙◌, ◌≡◌, State}
 use Rattle.mds_types.specs.Shape.{Shape, Makes}
-use Rattle.mdcache.specs.State.{State as TreeState}
 use Rattle.ranked_tree.proofs.HolderLaws.{pick_live}
 use Rattle.ranked_tree.proofs.AskLaws.{asked}
 use Rattle.ranked_tree.proofs.ReadsForLaws.{by_move, by_put, by_taken, change_concerns, reads_less}
@@ -15,8 +14,8 @@ module _ (tree new : Core) (regions : Regions) (now : Ranked) (is : over tree re
   pub keeps_dir : (dir : Ino) (told : Option Refusal) → Concerns (shown_tree (state_of now.tree)) op dir.0 → KeepsState tree new told → ReadsDir (held_in regions) dir tree new
       → KeepsAll (shown_tree (state_of now.tree)) (shown_tree (state_of new)) now.tree.covers new.covers (KeepsRanked now (over new regions) op told)
   keeps_dir dir told concerns kept reads = subst (λ (n : Ranked). KeepsAll (shown_tree (state_of n.tree)) (shown_tree (state_of new)) n.tree.covers new.covers (KeepsRanked n (over new regions) op told)) is (record {
-    tree = ap (λ (s : TreeState). shown_tree s) kept.state;
-    leaves = ap (λ (s : TreeState). s.covers) kept.state;
+    tree = ap (λ (s : State). shown_tree s) kept.state;
+    leaves = ap (λ (s : State). s.covers) kept.state;
     follows = record {
       tree = kept;
       roots = refl;
@@ -38,7 +37,7 @@ module _ (tree new : Core) (regions : Regions) (now : Ranked) (is : over tree re
       looks_refused result (LacksPlacesDir 1 tree (held_in regions) dir) (λ lacks. (lacks.0, subst (λ (d : ℕ). Concerns (shown_tree (state_of now.tree)) op d) (sym lacks.1) concerns, lacks.2))
 
 -- the numbers that lack for a change lack for its operation
-numbers_lack : (s : TreeState) (sort : Shape) (change : Change) → IsChangeIn sort change → LacksToMake change s → LacksForIn sort s
+numbers_lack : (s : State) (sort : Shape) (change : Change) → IsChangeIn sort change → LacksToMake change s → LacksForIn sort s
 numbers_lack s (Looks dentry answer) change of lacks = absurd of
 numbers_lack s (Lists dir after max) change of lacks = absurd of
 numbers_lack s (Makes dentry kind mode birth) change of lacks =
@@ -52,45 +51,35 @@ numbers_lack s (Moves from to) change of lacks = by_move (λ t p. LacksBy t p ch
 
 -- ---- a change
 
-module _ (old new : Ranked) (op : Op) (change : Change) (of : IsChangeOf op change) (result : Result (Unit {0}) Refusal) (changes : ChangesHeld (held_roots old) change old.tree new.tree result) where
+module _ (old new : Ranked) (op : Op) (change : Change) (of : IsChangeOf op change) where
   -- where it was made
-  pub where_made : {P : Type 0} → (IsChangedHeld (held_roots old) change old.tree new.tree → P) → OnOk result P
-  where_made {P} so = go result changes
-    where
-      go : (r : Result (Unit {0}) Refusal) → ChangesHeld (held_roots old) change old.tree new.tree r → OnOk r P
-      go (Ok done) is = so is
-      go (Err reason) is = tt
+  pub where_made : {P : Type 0} (result : Result (Unit {0}) Refusal) → ChangesHeld (held_roots old) change old.tree new.tree result → (IsChangedHeld (held_roots old) change old.tree new.tree → P) → OnOk result P
+  where_made {P} (Ok done) is so = so is
+  where_made {P} (Err reason) is so = tt
 
   -- where it wasn't, leaves of directories that the operation concerns were read
-  pub where_refused : FollowsChange change (state_of old.tree) old.subtrees new.subtrees result → new.exports ≡ old.exports
+  pub where_refused : (result : Result (Unit {0}) Refusal) → ChangesHeld (held_roots old) change old.tree new.tree result → FollowsChange change (state_of old.tree) old.subtrees new.subtrees result → new.exports ≡ old.exports
       → OnErr result (KeepsAll (shown_tree (state_of old.tree)) (shown_tree (state_of new.tree)) old.tree.covers new.tree.covers (KeepsRanked old new op (result_err result)))
-  where_refused follows exports = go result changes follows
-    where
-      go : (r : Result (Unit {0}) Refusal) → ChangesHeld (held_roots old) change old.tree new.tree r → FollowsChange change (state_of old.tree) old.subtrees new.subtrees r
-          → OnErr r (KeepsAll (shown_tree (state_of old.tree)) (shown_tree (state_of new.tree)) old.tree.covers new.tree.covers (KeepsRanked old new op (result_err r)))
-      go (Ok done) is roots = tt
-      go (Err reason) is roots = record {
-        tree = ap (λ (s : TreeState). shown_tree s) is.0.state;
-        leaves = ap (λ (s : TreeState). s.covers) is.0.state;
-        follows = record {
-          tree = is.0;
-          roots = roots.0;
-          exports = exports;
-          reads = reads_less (held_roots old) (NamesDir change) (Concerns (shown_tree (state_of old.tree)) op) old.tree new.tree (λ d named. change_concerns (shown_tree (state_of old.tree)) (shape op) change of d named) is.1;
-        };
-      }
+  where_refused (Ok done) is roots exports = tt
+  where_refused (Err reason) is roots exports = record {
+    tree = ap (λ (s : State). shown_tree s) is.0.state;
+    leaves = ap (λ (s : State). s.covers) is.0.state;
+    follows = record {
+      tree = is.0;
+      roots = roots.0;
+      exports = exports;
+      reads = reads_less (held_roots old) (NamesDir change) (Concerns (shown_tree (state_of old.tree)) op) old.tree new.tree (λ d named. change_concerns (shown_tree (state_of old.tree)) (shape op) change of d named) is.1;
+    };
+  }
 
   -- and why it wasn't
-  pub because : IfErr result (MayRefuse old new op)
-  because = go result changes
-    where
-      go : (r : Result (Unit {0}) Refusal) → ChangesHeld (held_roots old) change old.tree new.tree r → IfErr r (MayRefuse old new op)
-      go (Ok done) is = tt
-      go (Err reason) (kept, reads, inl memory) = inl memory
-      go (Err reason) (kept, reads, inr (inl (told, numbers))) = inr (inr (inr (told, numbers_lack (state_of old.tree) (shape op) change of numbers)))
-      go (Err reason) (kept, reads, inr (inr (none, inl memory))) = inl memory
-      go (Err reason) (kept, reads, inr (inr (none, inr (inl fault)))) = inr (inl fault)
-      go (Err reason) (kept, reads, inr (inr (none, inr (inr (told, (leaf, named, lacks)))))) = inr (inr (inl (told, (leaf, change_concerns (shown_tree (state_of old.tree)) (shape op) change of leaf.0.0 named, lacks))))
+  pub because : (result : Result (Unit {0}) Refusal) → ChangesHeld (held_roots old) change old.tree new.tree result → IfErr result (MayRefuse old new op)
+  because (Ok done) is = tt
+  because (Err reason) (kept, reads, inl memory) = inl memory
+  because (Err reason) (kept, reads, inr (inl (told, numbers))) = inr (inr (inr (told, numbers_lack (state_of old.tree) (shape op) change of numbers)))
+  because (Err reason) (kept, reads, inr (inr (none, inl memory))) = inl memory
+  because (Err reason) (kept, reads, inr (inr (none, inr (inl fault)))) = inr (inl fault)
+  because (Err reason) (kept, reads, inr (inr (none, inr (inr (told, (leaf, named, lacks)))))) = inr (inr (inl (told, (leaf, change_concerns (shown_tree (state_of old.tree)) (shape op) change of leaf.0.0 named, lacks))))
 
 -- a leaf where a hash falls is live
 pub found_live : (tree : Core) (regions : Regions) (now : Ranked) → over tree regions ≡ now → IsSound (state_of tree) → (at : Dirfrag) → (dir hash : ℕ) × IsAt (shown_tree (state_of now.tree)) now.tree.covers (HoldsAt (state_of now.tree) (held_roots now)) dir hash at

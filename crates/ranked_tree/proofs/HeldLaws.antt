@@ -1,9 +1,8 @@
 -- Each cached fragment stays at the rank that holds its leaf. Here the roots are those with the ranks that hold their regions.
-use Rattle.ranked_tree.proofs.Common.{AreHeld, At, CacheMap, Cached, Came, Core, IsFree, IsLive, IsOwned, IsSoundCore, IsThat, IsThere, KeepsAuthorities, KeepsNone, Leaf, MayHold, None, NoneEnds, Option, Rank, ReadsCore, Roots, Rules, Some, UsedAt, UsesAt, ap, came_cap, came_held, came_ranks, came_weaker, has_place, here, here_is, length, one_authority, reads_came, reads_state, refl, rules, state_of, subst, sym, true, ℕ, ⊎_elim, ◌<◌, ◌≡◌}
+use Rattle.ranked_tree.proofs.Common.{AreHeld, At, CacheMap, Cached, Came, Core, IsFree, IsLive, IsOwned, IsSoundCore, IsThat, IsThere, KeepsAuthorities, KeepsNone, Leaf, MayHold, None, NoneEnds, Option, Rank, ReadsCore, Roots, Rules, Some, UsedAt, UsesAt, ap, came_cap, came_held, came_ranks, came_weaker, has_place, here, here_is, length, one_authority, reads_came, reads_state, refl, rules, state_of, subst, sym, true, ℕ, ⊎_elim, ◌<◌, ◌≡◌, State}
 use Rattle.std.specs.FinMap as map
-use Rattle.mdcache.specs.State.{State as TreeState}
 
-module _ (tree : TreeState) (caches : CacheMap) (roots : Roots) (held : AreHeld tree caches roots) (leaf : Leaf) (rank : Rank) (rules : Rules tree roots leaf rank) where
+module _ (tree : State) (caches : CacheMap) (roots : Roots) (held : AreHeld tree caches roots) (leaf : Leaf) (rank : Rank) (rules : Rules tree roots leaf rank) where
   -- there is a cache for the authority of a leaf, and no other rank has the leaf
   pub may_hold : MayHold caches rank leaf
   may_hold = record { there = held.ranks rules.root rank rules.ranked; alone = alone_at (map.get caches.held leaf) refl }
@@ -18,14 +17,14 @@ none_unless {X} None never = refl
 none_unless {X} (Some x) never = absurd (never x refl)
 
 -- a rank holds each leaf whose fragment it has, and each place is that of a cached fragment
-pub there_held : (tree : TreeState) (caches : CacheMap) (roots : Roots) → ((leaf : Leaf) (a : At) → map.get caches.held leaf ≡ Some a → Rules tree roots leaf (record { 0 = a.rank })) → (r : ℕ) (leaf : Leaf) → IsThere (here caches r leaf) → Rules tree roots leaf (record { 0 = r })
+pub there_held : (tree : State) (caches : CacheMap) (roots : Roots) → ((leaf : Leaf) (a : At) → map.get caches.held leaf ≡ Some a → Rules tree roots leaf (record { 0 = a.rank })) → (r : ℕ) (leaf : Leaf) → IsThere (here caches r leaf) → Rules tree roots leaf (record { 0 = r })
 there_held tree caches roots cached r leaf there = of_frag (here caches r leaf) refl there
   where
     of_frag : (o : Option Cached) → here caches r leaf ≡ o → IsThere o → Rules tree roots leaf (record { 0 = r })
     of_frag None is h = absurd h
     of_frag (Some f) is h = cached leaf (record { rank = r; frag = f }) (here_is r (map.get caches.held leaf) f is)
 
-pub placed_at : (tree : TreeState) (caches : CacheMap) (roots : Roots) → KeepsNone caches → ((leaf : Leaf) (a : At) → map.get caches.held leaf ≡ Some a → Rules tree roots leaf (record { 0 = a.rank }))
+pub placed_at : (tree : State) (caches : CacheMap) (roots : Roots) → KeepsNone caches → ((leaf : Leaf) (a : At) → map.get caches.held leaf ≡ Some a → Rules tree roots leaf (record { 0 = a.rank }))
     → (r : ℕ) (leaf : Leaf) → has_place caches r leaf ≡ true → IsLive tree.homes tree.covers leaf → Rules tree roots leaf (record { 0 = r })
 placed_at tree caches roots none cached r leaf placed live = there_held tree caches roots cached r leaf (none r leaf placed)
 
@@ -33,7 +32,7 @@ placed_at tree caches roots none cached r leaf placed live = there_held tree cac
 abbrev pub HaveCaches : Roots → CacheMap → Type 0
 HaveCaches roots caches = (leaf : Leaf) (rank : Rank) → map.get roots leaf ≡ Some rank → rank.0 < length caches.used
 
-pub held_after : (new : TreeState) (later : CacheMap) (after : Roots) → HaveCaches after later → KeepsNone later
+pub held_after : (new : State) (later : CacheMap) (after : Roots) → HaveCaches after later → KeepsNone later
     → ((leaf : Leaf) (a : At) → map.get later.held leaf ≡ Some a → Rules new after leaf (record { 0 = a.rank })) → AreHeld new later after
 held_after new later after ranks none cached = record {
   cached = cached;
@@ -42,7 +41,7 @@ held_after new later after ranks none cached = record {
 }
 
 -- the authority of a leaf at a rank of this number
-pub is_that : (tree : TreeState) (roots : Roots) (leaf : Leaf) (rank : Rank) → Rules tree roots leaf rank → (r : ℕ) (q : Leaf) → IsThat rank.0 leaf r q → Rules tree roots q (record { 0 = r })
+pub is_that : (tree : State) (roots : Roots) (leaf : Leaf) (rank : Rank) → Rules tree roots leaf rank → (r : ℕ) (q : Leaf) → IsThat rank.0 leaf r q → Rules tree roots q (record { 0 = r })
 is_that tree roots leaf rank rules r q that = subst (λ (n : ℕ). Rules tree roots q (record { 0 = n })) (sym that.0) (subst (λ (l : Leaf). Rules tree roots l rank) (sym that.1) rules)
 
 -- where each leaf that stays keeps its authority, and each that is used is so at its own
@@ -67,7 +66,7 @@ module _ (Uses Ends : ℕ → Leaf → Type 0) (old new : Core) (roots : Roots) 
   pub owned_reads : IsOwned new roots
   owned_reads =
       let same = reads_state Uses Ends old new reads in
-      owned_came Uses Ends old new (reads_came Uses Ends old.objects old.caches new.caches reads.caches) sound roots (ap (λ (s : TreeState). s.homes) same) (ap (λ (s : TreeState). s.covers) same) holds owned
+      owned_came Uses Ends old new (reads_came Uses Ends old.objects old.caches new.caches reads.caches) sound roots (ap (λ (s : State). s.homes) same) (ap (λ (s : State). s.covers) same) holds owned
 
 -- uses of a leaf at its authority, where directories and leaves stay
 pub record IsUsed (old new : Core) (roots : Roots) (leaf : Leaf) : Type 0 where

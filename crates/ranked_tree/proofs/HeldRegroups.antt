@@ -1,12 +1,11 @@
 -- What splits and merges leave: each cached fragment is at its leaf's authority then.
-use Rattle.ranked_tree.proofs.Common.{AllHave, AreHeld, AreRoots, CacheMap, Came, CameAt, CanMerge, CanSplit, Contains, Core, FitsSplit, Fragment, GivesToChildren, HasLeaf, HaveOneAuthority, Ino, IsAmongOr, IsFamilyAt, IsFamilyOf, IsFragment, IsLive, IsMergedHere, IsOwned, IsSound, IsSoundCore, KeepsAuthorities, Leaf, MayHold, MayNotRegroup, MergesLeaves, Rank, Refusal, RefusesMerge, RefusesSplit, Roots, Rules, SplitsLeaf, TakesOver, UsedAt, and_from, ap, arith, came_weaker, child_is_new, child_of, ending_at, eq-eqb, from_mapped, has_inside, in_directory, inl, inr, is_inside, is_known, leaves, leaves_inside, leaves_of, lies_inside, merged_is_new, not_found_weaker, range_from_inside, refl, rules, some_authority, some_inside, state_of, subst, sym, tree_of_row, ⊎_elim}
+use Rattle.ranked_tree.proofs.Common.{AllHave, AreHeld, CacheMap, Came, CameAt, CanMerge, CanSplit, Contains, Core, FitsSplit, Fragment, GivesToChildren, HasLeaf, Ino, IsAmongOr, IsFamilyAt, IsFamilyOf, IsFragment, IsLive, IsMergedHere, IsOwned, IsSoundCore, KeepsAuthorities, Leaf, MayNotRegroup, MergesLeaves, Rank, Refusal, RefusesMerge, RefusesSplit, Roots, Rules, SplitsLeaf, TakesOver, UsedAt, and_from, ap, arith, came_weaker, child_is_new, child_of, ending_at, eq-eqb, from_mapped, has_inside, in_directory, inl, inr, is_inside, is_known, leaves, leaves_inside, leaves_of, lies_inside, merged_is_new, not_found_weaker, range_from_inside, refl, rules, some_inside, state_of, subst, sym, tree_of_row, ⊎_elim, State}
 use Rattle.std.specs.Prelude.{◌≡◌, ◌<◌, ◌==◌, ◌^◌, ℕ, true, map as each, length, List, Result, Ok, Err}
-use Rattle.mdcache.specs.State.{State as TreeState}
-use Rattle.ranked_tree.proofs.HeldLaws.{HaveCaches, held_since, may_hold, owned_came}
+use Rattle.ranked_tree.proofs.HeldLaws.{HaveCaches, held_since, owned_came}
 
 -- ---- why it was refused, in the words of whose places lack
 
-pub regroup_on : (Can : Type 0) (Refuses : Refusal → Type 0) (s : TreeState) (dir : Ino) (count : ℕ) (NoPlace Fewer : Type 0) (before after : ℕ) (reason : Refusal) → (NoPlace → Fewer)
+pub regroup_on : (Can : Type 0) (Refuses : Refusal → Type 0) (s : State) (dir : Ino) (count : ℕ) (NoPlace Fewer : Type 0) (before after : ℕ) (reason : Refusal) → (NoPlace → Fewer)
     → MayNotRegroup Can Refuses s dir count NoPlace before after reason → MayNotRegroup Can Refuses s dir count Fewer before after reason
 regroup_on Can Refuses s dir count NoPlace Fewer before after reason less =
     ⊎_elim (λ unknown. inl unknown) (⊎_elim (λ refused. inr (inl refused))
@@ -24,7 +23,7 @@ merge_on NoPlace Fewer old new dir frag (Err reason) less (because, undone) =
 
 -- ---- leaves inside a fragment
 
-module _ (s : TreeState) (dir : Ino) (frag : Fragment) (known : is_known s.homes dir.0 ≡ true) where
+module _ (s : State) (dir : Ino) (frag : Fragment) (known : is_known s.homes dir.0 ≡ true) where
   -- it is live, and lies inside
   pub inside_live : (q : Leaf) → Contains (each (in_directory dir.0) (leaves_inside frag (leaves_of s.covers dir.0))) q → IsLive s.homes s.covers q × (is_inside dir.0 frag q ≡ true)
   inside_live q contains =
@@ -47,36 +46,25 @@ none_before leaves frag valid can before =
     let less = before w.0 w.1 w.2 in
     omega (arith, range.1, less)
 
--- the authority of one is that of all
-pub all_as_one : (s : TreeState) (roots : Roots) (dir : Ino) (frag : Fragment) (rank : Rank) (one : Leaf) → IsSound s → AreRoots s roots → HaveOneAuthority roots s.homes s.covers dir.0 frag → is_inside dir.0 frag one ≡ true → IsLive s.homes s.covers one → Rules s roots one rank
-    → AllHave s.homes s.covers roots dir frag rank
-all_as_one s roots dir frag rank one sound valid alike within lives rules leaf live inside =
-    let has = some_authority roots s.homes s.covers sound.table valid leaf live in
-    subst (λ (r : Rank). Rules s roots leaf r) (sym (alike one leaf rank has.0 within inside lives live rules has.1)) has.1
-
 -- ---- which fragments come
 
-pub family_came : (s : TreeState) (roots : Roots) (rank : Rank) (dir : Ino) (frag : Fragment) (nb : ℕ) → Rules s roots (dir, frag) rank → (old new : CacheMap)
+pub family_came : (s : State) (roots : Roots) (rank : Rank) (dir : Ino) (frag : Fragment) (nb : ℕ) → Rules s roots (dir, frag) rank → (old new : CacheMap)
     → Came (IsFamilyAt rank.0 dir frag nb) (IsFamilyAt rank.0 dir frag nb) old new → CameAt (Rules s roots (dir, frag)) (IsFamilyOf dir frag nb) old new
 family_came s roots rank dir frag nb rules old new came =
-    came_weaker (IsFamilyAt rank.0 dir frag nb) (IsFamilyAt rank.0 dir frag nb) (UsedAt (Rules s roots (dir, frag)) (IsFamilyOf dir frag nb)) (λ r q. IsFamilyOf dir frag nb q) used (λ r q it. (used r q it).1) old new came
-  where
-    used : (r : ℕ) (q : Leaf) → IsFamilyAt rank.0 dir frag nb r q → UsedAt (Rules s roots (dir, frag)) (IsFamilyOf dir frag nb) r q
-    used r q (inl it) = (subst (λ (n : ℕ). Rules s roots (dir, frag) (record { 0 = n })) (sym it.0) rules, inl it.1)
-    used r q (inr child) = (subst (λ (n : ℕ). Rules s roots (dir, frag) (record { 0 = n })) (sym child.0) rules, inr (child.1, child.2, child.3))
+    came_weaker (IsFamilyAt rank.0 dir frag nb) (IsFamilyAt rank.0 dir frag nb) (UsedAt (Rules s roots (dir, frag)) (IsFamilyOf dir frag nb)) (λ r q. IsFamilyOf dir frag nb q)
+    (λ r q. ⊎_elim (λ it. (subst (λ (n : ℕ). Rules s roots (dir, frag) (record { 0 = n })) (sym it.0) rules, inl it.1))
+    (λ child. (subst (λ (n : ℕ). Rules s roots (dir, frag) (record { 0 = n })) (sym child.0) rules, inr (child.1, child.2, child.3))))
+    (λ r q. ⊎_elim (λ it. inl it.1) (λ child. inr (child.1, child.2, child.3))) old new came
 
 pub merged_came : (core : Core) (roots : Roots) (rank : Rank) (dir : Ino) (frag : Fragment) → AllHave core.homes core.covers roots dir frag rank → (new : CacheMap)
     → Came (IsAmongOr rank.0 (ending_at core (record { dir = dir; frag = frag; rank = rank })) (dir, frag)) (λ (r : ℕ) (q : Leaf). Contains (ending_at core (record { dir = dir; frag = frag; rank = rank })) q) core.caches new
     → CameAt (AllHave core.homes core.covers roots dir frag) (IsMergedHere core.covers dir frag) core.caches new
 merged_came core roots rank dir frag all new came =
-    came_weaker (IsAmongOr rank.0 ending (dir, frag)) (λ (r : ℕ) (q : Leaf). Contains ending q) (UsedAt (AllHave core.homes core.covers roots dir frag) (IsMergedHere core.covers dir frag)) (λ r q. IsMergedHere core.covers dir frag q) used (λ r q contains. inl contains) core.caches new came
-  where
-    ending : List Leaf
-    ending = ending_at core (record { dir = dir; frag = frag; rank = rank })
-
-    used : (r : ℕ) (q : Leaf) → IsAmongOr rank.0 ending (dir, frag) r q → UsedAt (AllHave core.homes core.covers roots dir frag) (IsMergedHere core.covers dir frag) r q
-    used r q (inl among) = (subst (λ (n : ℕ). AllHave core.homes core.covers roots dir frag (record { 0 = n })) (sym among.0) all, inl among.1)
-    used r q (inr it) = (subst (λ (n : ℕ). AllHave core.homes core.covers roots dir frag (record { 0 = n })) (sym it.0) all, inr it.1)
+    let ending = ending_at core (record { dir = dir; frag = frag; rank = rank }) in
+    came_weaker (IsAmongOr rank.0 ending (dir, frag)) (λ (r : ℕ) (q : Leaf). Contains ending q) (UsedAt (AllHave core.homes core.covers roots dir frag) (IsMergedHere core.covers dir frag)) (λ r q. IsMergedHere core.covers dir frag q)
+    (λ r q. ⊎_elim (λ among. (subst (λ (n : ℕ). AllHave core.homes core.covers roots dir frag (record { 0 = n })) (sym among.0) all, inl among.1))
+    (λ it. (subst (λ (n : ℕ). AllHave core.homes core.covers roots dir frag (record { 0 = n })) (sym it.0) all, inr it.1)))
+    (λ r q contains. inl contains) core.caches new came
 
 -- ---- what is cached afterwards
 
@@ -84,47 +72,34 @@ module _ (old new : Core) (before after : Roots) (owned : IsOwned old before) (c
   -- where nothing was regrouped, and no leaf that would have come is live
   undone_owned : (Holds : Rank → Type 0) (Named : Leaf → Type 0) → CameAt Holds Named old.caches new.caches → state_of new ≡ state_of old → ((rank : Rank) (q : Leaf) → Holds rank → Named q → IsLive old.homes old.covers q → Rules (state_of old) before q rank) → IsOwned new before
   undone_owned Holds Named came same at =
-      owned_came (UsedAt Holds Named) (λ r q. Named q) old new came now_sound before (ap (λ (s : TreeState). s.homes) same) (ap (λ (s : TreeState). s.covers) same) (λ r q used. at (record { 0 = r }) q used.0 used.1) owned
+      owned_came (UsedAt Holds Named) (λ r q. Named q) old new came now_sound before (ap (λ (s : State). s.homes) same) (ap (λ (s : State). s.covers) same) (λ r q used. at (record { 0 = r }) q used.0 used.1) owned
 
   -- a leaf was split
   module _ (nb : ℕ) (live : IsLive old.homes old.covers (dir, frag)) (came : CameAt (Rules (state_of old) before (dir, frag)) (IsFamilyOf dir frag nb) old.caches new.caches) where
     pub split_held : KeepsAuthorities (state_of old) (state_of new) before after → HaveCaches after new.caches → GivesToChildren (state_of old) (state_of new) before after dir frag nb → AreHeld (state_of new) new.caches after
-    split_held keeps have gives = held_since (UsedAt (Rules (state_of old) before (dir, frag)) (IsFamilyOf dir frag nb)) (λ r q. IsFamilyOf dir frag nb q) old new came now_sound before after owned keeps have go
-      where
-        go : (r : ℕ) (q : Leaf) → UsedAt (Rules (state_of old) before (dir, frag)) (IsFamilyOf dir frag nb) r q → IsLive new.homes new.covers q → Rules (state_of new) after q (record { 0 = r })
-        go r q (rules, inl same) lives = keeps q (record { 0 = r }) (subst (IsLive old.homes old.covers) (sym same) live) lives (subst (λ (l : Leaf). Rules (state_of old) before l (record { 0 = r })) (sym same) rules)
-        go r q (rules, inr (i, below, same)) lives = subst (λ (l : Leaf). Rules (state_of new) after l (record { 0 = r })) (sym same) (gives (child_of frag i nb) (record { 0 = r }) (i, below, refl) rules)
+    split_held keeps have gives = held_since (UsedAt (Rules (state_of old) before (dir, frag)) (IsFamilyOf dir frag nb)) (λ r q. IsFamilyOf dir frag nb q) old new came now_sound before after owned keeps have
+        (λ r q used lives.
+        ⊎_elim (λ same. keeps q (record { 0 = r }) (subst (IsLive old.homes old.covers) (sym same) live) lives (subst (λ (l : Leaf). Rules (state_of old) before l (record { 0 = r })) (sym same) used.0))
+        (λ child. subst (λ (l : Leaf). Rules (state_of new) after l (record { 0 = r })) (sym child.2) (gives (child_of frag child.0 nb) (record { 0 = r }) (child.0, child.1, refl) used.0)) used.1)
 
     -- or it wasn't
     pub unsplit_owned : state_of new ≡ state_of old → FitsSplit frag nb → IsOwned new before
-    unsplit_owned same fits = undone_owned (Rules (state_of old) before (dir, frag)) (IsFamilyOf dir frag nb) came same go
-      where
-        go : (rank : Rank) (q : Leaf) → Rules (state_of old) before (dir, frag) rank → IsFamilyOf dir frag nb q → IsLive old.homes old.covers q → Rules (state_of old) before q rank
-        go rank q rules (inl here) lives = subst (λ (l : Leaf). Rules (state_of old) before l rank) (sym here) rules
-        go rank q rules (inr (i, below, child)) lives =
-            absurd (child_is_new (leaves_of old.covers dir.0) frag (child_of frag i nb) nb (tree_of_row old.homes old.covers owned.sound.sound.table dir.0) live.stands fits (i, below, refl) (subst (IsLive old.homes old.covers) child lives).stands)
+    unsplit_owned same fits = undone_owned (Rules (state_of old) before (dir, frag)) (IsFamilyOf dir frag nb) came same
+        (λ rank q rules named lives.
+        ⊎_elim (λ here. subst (λ (l : Leaf). Rules (state_of old) before l rank) (sym here) rules)
+        (λ child. absurd (child_is_new (leaves_of old.covers dir.0) frag (child_of frag child.0 nb) nb (tree_of_row old.homes old.covers owned.sound.sound.table dir.0) live.stands fits (child.0, child.1, refl) (subst (IsLive old.homes old.covers) child.2 lives).stands)) named)
 
   -- leaves were merged
   module _ (known : is_known old.homes dir.0 ≡ true) (can : CanMerge (leaves_of old.covers dir.0) frag) (came : CameAt (AllHave old.homes old.covers before dir frag) (IsMergedHere old.covers dir frag) old.caches new.caches) where
     pub merge_held : KeepsAuthorities (state_of old) (state_of new) before after → HaveCaches after new.caches → TakesOver (state_of old) (state_of new) before after dir frag → AreHeld (state_of new) new.caches after
-    merge_held keeps have takes = held_since (UsedAt (AllHave old.homes old.covers before dir frag) (IsMergedHere old.covers dir frag)) (λ r q. IsMergedHere old.covers dir frag q) old new came now_sound before after owned keeps have go
-      where
-        go : (r : ℕ) (q : Leaf) → UsedAt (AllHave old.homes old.covers before dir frag) (IsMergedHere old.covers dir frag) r q → IsLive new.homes new.covers q → Rules (state_of new) after q (record { 0 = r })
-        go r q (all, inl contains) lives = let its = inside_live (state_of old) dir frag known q contains in keeps q (record { 0 = r }) its.0 lives (all q its.0 its.1)
-        go r q (all, inr same) lives =
-            let w = one_inside (state_of old) dir frag known can in subst (λ (l : Leaf). Rules (state_of new) after l (record { 0 = r })) (sym same) (takes (dir, w.0) (record { 0 = r }) w.2 w.1 (all (dir, w.0) w.1 w.2))
+    merge_held keeps have takes = held_since (UsedAt (AllHave old.homes old.covers before dir frag) (IsMergedHere old.covers dir frag)) (λ r q. IsMergedHere old.covers dir frag q) old new came now_sound before after owned keeps have
+        (λ r q used lives.
+        ⊎_elim (λ contains. let its = inside_live (state_of old) dir frag known q contains in keeps q (record { 0 = r }) its.0 lives (used.0 q its.0 its.1))
+        (λ same. let w = one_inside (state_of old) dir frag known can in subst (λ (l : Leaf). Rules (state_of new) after l (record { 0 = r })) (sym same) (takes (dir, w.0) (record { 0 = r }) w.2 w.1 (used.0 (dir, w.0) w.1 w.2))) used.1)
 
     -- or they weren't
     pub unmerged_owned : state_of new ≡ state_of old → IsOwned new before
-    unmerged_owned same = undone_owned (AllHave old.homes old.covers before dir frag) (IsMergedHere old.covers dir frag) came same go
-      where
-        go : (rank : Rank) (q : Leaf) → AllHave old.homes old.covers before dir frag rank → IsMergedHere old.covers dir frag q → IsLive old.homes old.covers q → Rules (state_of old) before q rank
-        go rank q all (inl contains) lives = let its = inside_live (state_of old) dir frag known q contains in all q its.0 its.1
-        go rank q all (inr here) lives = absurd (merged_is_new (leaves_of old.covers dir.0) frag (tree_of_row old.homes old.covers owned.sound.sound.table dir.0) can (subst (IsLive old.homes old.covers) here lives).stands)
-
--- the one rank may hold each of the leaves that are merged
-pub may_hold_all : (core : Core) (roots : Roots) (dir : Ino) (frag : Fragment) (rank : Rank) → is_known core.homes dir.0 ≡ true → IsOwned core roots → AllHave core.homes core.covers roots dir frag rank
-    → (q : Leaf) → Contains (each (in_directory dir.0) (leaves_inside frag (leaves_of core.covers dir.0))) q → MayHold core.caches rank q
-may_hold_all core roots dir frag rank known owned all q contains =
-    let its = inside_live (state_of core) dir frag known q contains in
-    may_hold (state_of core) core.caches roots owned.held q rank (all q its.0 its.1)
+    unmerged_owned same = undone_owned (AllHave old.homes old.covers before dir frag) (IsMergedHere old.covers dir frag) came same
+        (λ rank q all named lives.
+        ⊎_elim (λ contains. let its = inside_live (state_of old) dir frag known q contains in all q its.0 its.1)
+        (λ here. absurd (merged_is_new (leaves_of old.covers dir.0) frag (tree_of_row old.homes old.covers owned.sound.sound.table dir.0) can (subst (IsLive old.homes old.covers) here lives).stands)) named)

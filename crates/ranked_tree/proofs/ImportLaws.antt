@@ -1,9 +1,8 @@
 -- What Import makes of a tree that is divided among ranks: the importer of a sent region holds it, and has what isn't clean of it.
-use Rattle.ranked_tree.proofs.Common.{AreAtTheirRank, AreCachedOf, AreCaches, AreCleanAt, ArePlaced, AreUncleanAt, At, Bool, CacheMap, Cached, ComeToImporter, ComesTo, Core, Covers, Dirfrag, Err, Export, HandsOver, HandsRegion, HasHolder, HasTooMany, HaveNoJobs, Homes, IfErr, IfErr-weaker, Imported, Imports, IsDistinct, IsDivided, IsExportOf, IsGivenOver, IsHere, IsIn, IsInRegionOf, IsRenewed, IsSoundCore, IsSpelled, IsSpelledBy, KeepsOutside, LacksPlacesAt, Leaf, List, MatchOption, MayNotHandOver, MayNotImport, NearestRoot, None, Ok, OnErr, OnOk, Option, Rank, Refusal, RegionLeaves, Regions, Result, Sent, SentFrag, Some, Spelled, SpellsExport, SpellsRegion, StandSoundly, Standing, StandingExport, Subtrees, Takes, UncleanLeaves, Unsaved, [], all_left_at, all_so, and_parts, ap, arith, at, at_rank, clean_in, cases_Bool, cond, cond_both, each_passes, eq_by_cmp, export_bytes, false, false≢true, few_lack, find, get-entries, handed_where, hands_over, held_in, here, here_of, holder_is, how_many, imported_unsaved, inl, inr, is_base_of, is_clean, is_frag_before, is_fragment, is_freezing, is_imported, is_name_before, is_same, is_sendable, is_sent_frag, is_sent_name, leaf_cmp, leaf_is, left_by, length, list_all, list_any, moved_all, nat_lt, nat_tests, near_to, none-some, not, one_authority, one_export, one_root, one_value, option_map, order, passing_picked, picked_distinct, picked_passes, refl, rise, rules, same_Some, same_or_apart, sent_of, state_of, subst, sym, true, unclean, unclean_in, valid_so, wants_from, ℕ, ⊎_elim, ◌&&◌, ◌==◌, ◌^◌, ◌∙◌, ◌∷◌, ◌≡◌, ◌≤◌, ◌⊎◌}
-use Rattle.std.proofs.Common.{◌≢◌, is_some, map as list_map}
+use Rattle.ranked_tree.proofs.Common.{AreAtTheirRank, AreCachedOf, AreCaches, AreCleanAt, ArePlaced, AreUncleanAt, At, Bool, CacheMap, Cached, ComeToImporter, ComesTo, Core, Covers, Dirfrag, Err, Export, HandsOver, HandsRegion, HasHolder, HasTooMany, HaveNoJobs, Homes, IfErr, IfErr-weaker, Imported, Imports, IsDistinct, IsDivided, IsExportOf, IsGivenOver, IsHere, IsIn, IsInRegionOf, IsRenewed, IsSoundCore, IsSpelled, IsSpelledBy, KeepsOutside, LacksPlacesAt, Leaf, List, MatchOption, MayNotHandOver, MayNotImport, NearestRoot, None, Ok, OnErr, OnOk, Option, Rank, Refusal, RegionLeaves, Regions, Result, Sent, SentFrag, Some, Spelled, SpellsExport, SpellsRegion, StandSoundly, Standing, StandingExport, Subtrees, Takes, UncleanLeaves, Unsaved, [], all_left_at, all_so, and_parts, ap, arith, at, at_rank, clean_in, cases_Bool, cond, cond_both, each_passes, eq_by_cmp, export_bytes, false, false≢true, few_lack, find, get-entries, handed_where, hands_over, held_in, here, here_of, holder_is, how_many, imported_unsaved, inl, inr, is_base_of, is_clean, is_frag_before, is_fragment, is_freezing, is_imported, is_name_before, is_same, is_sendable, is_sent_frag, is_sent_name, leaf_cmp, leaf_is, left_by, length, list_all, list_any, moved_all, nat_lt, nat_tests, near_to, none-some, not, one_authority, one_export, one_root, one_value, option_map, order, passing_picked, picked_distinct, picked_passes, refl, rise, rules, same_Some, same_or_apart, sent_of, state_of, subst, sym, true, unclean, unclean_in, valid_so, wants_from, ℕ, ⊎_elim, ◌&&◌, ◌==◌, ◌^◌, ◌∙◌, ◌∷◌, ◌≡◌, ◌≤◌, ◌⊎◌, State}
 use Rattle.std.specs.FinMap as map
+use Rattle.std.proofs.Common.{◌≢◌, is_some, map as list_map}
 use Rattle.export_steps.specs.Handover.{HandsOver as HandsRegionOver}
-use Rattle.mdcache.specs.State.{State as TreeState}
 use Rattle.ranked_tree.proofs.HeldLaws.{held_after, none_unless}
 use Rattle.ranked_tree.proofs.SendLaws.{at_root, export_here, of_tree, region_held, region_here}
 use Rattle.ranked_tree.proofs.StandLaws.{divided_still, held_bound, same_jobs}
@@ -17,9 +16,6 @@ module _ (core : Core) (regions : Regions) (divided : IsDivided core regions) (r
 
   at_home : AreAtTheirRank In core.caches export.exporter.0
   at_home = region_here core regions divided root export stands (ap is_freezing sent) (ap is_imported sent)
-
-  no_job : (leaf : Leaf) → In leaf → map.get core.jobs leaf ≡ None
-  no_job leaf near = none_unless (map.get core.jobs leaf) (λ job is. divided.stand.unbegun leaf job is (record { root = root; export = export; nearest = near; stands = stands; freezing = ap is_freezing sent }))
 
   module _ (leaves : RegionLeaves) (cached : AreCachedOf In core.caches export.exporter.0 leaves) where
     -- what is handed over: the leaves of the region that are unclean, with no job, and those that are clean
@@ -36,7 +32,8 @@ module _ (core : Core) (regions : Regions) (divided : IsDivided core regions) (r
           unclean = all_so _ (λ (leaf : Leaf). unclean_in (here core.caches export.exporter.0 leaf) ≡ true) (λ q both. both.0) leaves.unclean dirty;
           clean = all_so _ (λ (leaf : Leaf). clean_in (here core.caches export.exporter.0 leaf) ≡ true) (λ q both. both.0) leaves.clean
               (each_passes In clean_in core.caches export.exporter.0 (order core.caches export.exporter.0) leaves.clean cached.clean);
-          jobless = all_so _ (λ (leaf : Leaf). map.get core.jobs leaf ≡ None) (λ q both. no_job q both.1) leaves.unclean dirty;
+          jobless = all_so _ (λ (leaf : Leaf). map.get core.jobs leaf ≡ None) (λ q both.
+              none_unless (map.get core.jobs q) (λ job is. divided.stand.unbegun q job is (record { root = root; export = export; nearest = both.1; stands = stands; freezing = ap is_freezing sent }))) leaves.unclean dirty;
           distinct = λ valid. picked_distinct In unclean_in core.caches export.exporter.0 (order core.caches export.exporter.0) leaves.unclean cached.unclean (valid.distinct export.exporter.0);
         }
 
@@ -45,10 +42,6 @@ module _ (core : Core) (regions : Regions) (divided : IsDivided core regions) (r
       dirty_picked : (leaf : Leaf) (f : Cached) → here core.caches export.exporter.0 leaf ≡ Some f → is_clean f ≡ false → In leaf → list_any (leaf_is leaf) leaves.unclean ≡ true
       dirty_picked leaf f seen dirty near =
           passing_picked In unclean_in core.caches export.exporter.0 (order core.caches export.exporter.0) leaves.unclean cached.unclean leaf (valid.placed export.exporter.0 leaf (ap (λ (o : Option Cached). is_some o) seen)) (ap unclean_in seen ∙ ap not dirty) near
-
-      clean_picked : (leaf : Leaf) (f : Cached) → here core.caches export.exporter.0 leaf ≡ Some f → is_clean f ≡ true → In leaf → list_any (leaf_is leaf) leaves.clean ≡ true
-      clean_picked leaf f seen clean near =
-          passing_picked In clean_in core.caches export.exporter.0 (order core.caches export.exporter.0) leaves.clean cached.clean leaf (valid.placed export.exporter.0 leaf (ap (λ (o : Option Cached). is_some o) seen)) (ap clean_in seen ∙ clean) near
 
       -- so what is unsaved is of generation 0 there, and nowhere else
       abbrev had : Leaf → Option Unsaved
@@ -94,15 +87,15 @@ module _ (core : Core) (regions : Regions) (divided : IsDivided core regions) (r
 
           stays : list_any (leaf_is leaf) leaves.unclean ≡ false → map.get core.caches.held leaf ≡ Some a → HasHolder regions.exports regions.roots.roots core.homes core.covers leaf (record { 0 = a.rank })
               → (In leaf × (a.rank ≡ export.importer.0)) ⊎ ((In leaf → ⊥) × (f : Cached) × (map.get core.caches.held leaf ≡ Some (at a.rank f)))
-          stays among was holder = ⊎_elim inside (λ other. inr ((λ near. other (one_root regions.roots.roots core.homes core.covers leaf holder.root root holder.nearest near)), a.frag, was)) (same_or_apart holder.root root)
-            where
-              inside : holder.root ≡ root → (In leaf × (a.rank ≡ export.importer.0)) ⊎ ((In leaf → ⊥) × (f : Cached) × (map.get core.caches.held leaf ≡ Some (at a.rank f)))
-              inside same =
-                  let near : In leaf = subst (NearestRoot regions.roots.roots core.homes core.covers leaf) same holder.nearest in
-                  let mine : a.rank ≡ export.exporter.0 = ap (λ (r : Rank). r.0)
-                  (one_authority (held_in regions) core.homes core.covers leaf (record { 0 = a.rank }) export.exporter (divided.owned.held.cached leaf a was) (region_held core regions divided root export stands (ap is_freezing sent) (ap is_imported sent) leaf near)) in
-                  let seen : here core.caches export.exporter.0 leaf ≡ Some a.frag = ap (at_rank export.exporter.0) was ∙ ap (λ (b : Bool). cond b (Some a.frag) None) (is_same a.rank export.exporter.0 mine) in
-                  absurd (⊎_elim (λ clean. gone mine (clean_picked leaf a.frag seen clean near)) (λ dirty. false≢true (sym among ∙ dirty_picked leaf a.frag seen dirty near)) (cases_Bool (is_clean a.frag)))
+          stays among was holder =
+              ⊎_elim (λ same.
+              let near : In leaf = subst (NearestRoot regions.roots.roots core.homes core.covers leaf) same holder.nearest in
+              let mine : a.rank ≡ export.exporter.0 = ap (λ (r : Rank). r.0)
+              (one_authority (held_in regions) core.homes core.covers leaf (record { 0 = a.rank }) export.exporter (divided.owned.held.cached leaf a was) (region_held core regions divided root export stands (ap is_freezing sent) (ap is_imported sent) leaf near)) in
+              let seen : here core.caches export.exporter.0 leaf ≡ Some a.frag = ap (at_rank export.exporter.0) was ∙ ap (λ (b : Bool). cond b (Some a.frag) None) (is_same a.rank export.exporter.0 mine) in
+              absurd (⊎_elim (λ clean. gone mine (passing_picked In clean_in core.caches export.exporter.0 (order core.caches export.exporter.0) leaves.clean cached.clean leaf
+              (valid.placed export.exporter.0 leaf (ap (λ (o : Option Cached). is_some o) seen)) (ap clean_in seen ∙ clean) near)) (λ dirty. false≢true (sym among ∙ dirty_picked leaf a.frag seen dirty near)) (cases_Bool (is_clean a.frag))))
+              (λ other. inr ((λ near. other (one_root regions.roots.roots core.homes core.covers leaf holder.root root holder.nearest near)), a.frag, was)) (same_or_apart holder.root root)
 
 -- ---- so it is with the caches and tables that a call is given
 
@@ -186,18 +179,15 @@ module _ (core new : Core) (regions : Regions) (divided : IsDivided core regions
       → OnErr result (IsDivided new regions)
   still_divided (Ok done) h l count sound = tt
   still_divided (Err reason) h l count sound =
-      let homes : new.homes ≡ core.homes = ap (λ (s : TreeState). s.homes) l in
-      let covers : new.covers ≡ core.covers = ap (λ (s : TreeState). s.covers) l in
+      let homes : new.homes ≡ core.homes = ap (λ (s : State). s.homes) l in
+      let covers : new.covers ≡ core.covers = ap (λ (s : State). s.covers) l in
       divided_still core new regions divided (record {
         sound = sound;
         valid = rw (homes, covers) divided.owned.valid;
-        held = held_after (state_of new) new.caches (held_in regions) (rw count divided.owned.held.ranks) sound.none (λ leaf a is. rw (homes, covers) (divided.owned.held.cached leaf a (was leaf a is h)));
-      }) count (same_jobs (state_of core) (state_of new) (ap (λ (s : TreeState). s.jobs) l)) homes covers
-    where
-      was : (leaf : Leaf) (a : At) → map.get new.caches.held leaf ≡ Some a → MayNotHandOver export.importer.0 leaves.unclean core.caches new.caches reason → map.get core.caches.held leaf ≡ Some a
-      was leaf a is =
-          ⊎_elim (λ full. ap (λ (k : CacheMap). map.get k.held leaf) (sym full.2) ∙ is)
-          (λ memory. wants_from export.exporter.0 export.importer.0 apart leaves.unclean core.caches new.caches (ready core regions divided root export stands sent leaves cached).unclean memory.2 leaf a is)
+        held = held_after (state_of new) new.caches (held_in regions) (rw count divided.owned.held.ranks) sound.none (λ leaf a is. rw (homes, covers) (divided.owned.held.cached leaf a (
+            ⊎_elim (λ full. ap (λ (k : CacheMap). map.get k.held leaf) (sym full.2) ∙ is)
+            (λ memory. wants_from export.exporter.0 export.importer.0 apart leaves.unclean core.caches new.caches (ready core regions divided root export stands sent leaves cached).unclean memory.2 leaf a is) h)));
+      }) count (same_jobs (state_of core) (state_of new) (ap (λ (s : State). s.jobs) l)) homes covers
 
 -- ---- Import
 
@@ -207,10 +197,10 @@ module _ (old new : Core) (regions : Regions) (later : Standing) (root : Leaf) (
   this = one_value _ step.export export step.stood stands
 
   homes_stay : new.homes ≡ old.homes
-  homes_stay = ap (λ (s : TreeState). s.homes) takes.renewed.left
+  homes_stay = ap (λ (s : State). s.homes) takes.renewed.left
 
   covers_stay : new.covers ≡ old.covers
-  covers_stay = ap (λ (s : TreeState). s.covers) takes.renewed.left
+  covers_stay = ap (λ (s : State). s.covers) takes.renewed.left
 
   hands : HandsRegionOver regions.exports later regions.roots.roots old.homes old.covers root export.importer
   hands = subst (λ (e : StandingExport). HandsRegionOver regions.exports later regions.roots.roots old.homes old.covers root e.importer) this (hands_over regions.exports later root step regions.roots.roots old.homes old.covers)
@@ -226,13 +216,6 @@ module _ (old new : Core) (regions : Regions) (later : Standing) (root : Leaf) (
   abbrev now : Regions
   now = record { roots = regions.roots; exports = later }
 
-  -- whoever had a fragment holds it
-  holds_now : (leaf : Leaf) (a : At) → map.get new.caches.held leaf ≡ Some a → HasHolder later regions.roots.roots old.homes old.covers leaf (record { 0 = a.rank })
-  holds_now leaf a is =
-      ⊎_elim (λ there. subst (λ (n : ℕ). HasHolder later regions.roots.roots old.homes old.covers leaf (record { 0 = n })) (sym there.1) (hands.region leaf there.0))
-      (λ was. hands.others leaf (record { 0 = a.rank }) was.0 ((holder_is regions.exports regions.roots.roots old.homes old.covers leaf (record { 0 = a.rank })).1 (divided.owned.held.cached leaf (at a.rank was.1) was.2)))
-      (takes.caches.came leaf a is)
-
   module _ (sound : IsSoundCore new) (count : length new.caches.used ≡ length old.caches.used) (placed : ArePlaced later regions.roots) where
     stand_now : StandSoundly (state_of new) (length new.caches.used) regions.roots later
     stand_now = record {
@@ -240,7 +223,7 @@ module _ (old new : Core) (regions : Regions) (later : Standing) (root : Leaf) (
       placed = placed;
       ranked = rw count divided.stand.ranked;
       there = rw count (step_there (length old.caches.used) regions.exports later root Sent Imported step divided.stand.there);
-      unbegun = λ leaf job is frozen. divided.stand.unbegun leaf job (ap (λ (s : TreeState). map.get s.jobs leaf) (sym takes.renewed.left) ∙ is) ((hands.frozen leaf).0 (rw (← homes_stay, ← covers_stay) frozen));
+      unbegun = λ leaf job is frozen. divided.stand.unbegun leaf job (ap (λ (s : State). map.get s.jobs leaf) (sym takes.renewed.left) ∙ is) ((hands.frozen leaf).0 (rw (← homes_stay, ← covers_stay) frozen));
     }
 
     pub imported_divided : IsDivided new now
@@ -249,7 +232,11 @@ module _ (old new : Core) (regions : Regions) (later : Standing) (root : Leaf) (
         sound = sound;
         valid = (valid_so later regions.roots.roots new.homes new.covers).0 stand_now.valid;
         held = held_after (state_of new) new.caches (held_in now) (held_bound (state_of new) (length new.caches.used) regions.roots later stand_now) sound.none
-            (λ leaf a is. rw (homes_stay, covers_stay) ((holder_is later regions.roots.roots old.homes old.covers leaf (record { 0 = a.rank })).0 (holds_now leaf a is)));
+            -- whoever had a fragment holds it
+            (λ leaf a is. rw (homes_stay, covers_stay) ((holder_is later regions.roots.roots old.homes old.covers leaf (record { 0 = a.rank })).0
+            (⊎_elim (λ there. subst (λ (n : ℕ). HasHolder later regions.roots.roots old.homes old.covers leaf (record { 0 = n })) (sym there.1) (hands.region leaf there.0))
+            (λ was. hands.others leaf (record { 0 = a.rank }) was.0 ((holder_is regions.exports regions.roots.roots old.homes old.covers leaf (record { 0 = a.rank })).1 (divided.owned.held.cached leaf (at a.rank was.1) was.2)))
+            (takes.caches.came leaf a is))));
       };
       stand = stand_now;
     }

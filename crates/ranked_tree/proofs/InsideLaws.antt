@@ -1,15 +1,7 @@
 -- A walk over the leaves of a directory that lie properly inside a fragment, from hash to hash.
-use Rattle.ranked_tree.proofs.Common.{Contains-from_range, Covers, Fragment, HasLeaf, Homes, Ino, IsFragment, IsInsideAt, IsLive, IsPick, IsTree, List, None, Some, and_from, and_parts, ap, arith, cases_lt, contains_start, ends_before, ends_low, ends_within, eq-eqb, eqb-true, false, is_inside, leaves, leaves_of, lies_inside, lies_inside-true, range_from_Contains, range_from_inside, refl, span, subst, sym, true, ℕ, ⊎_elim, ◌%◌, ◌+◌, ◌<◌, ◌==◌, ◌^◌, ◌∙◌, ◌≡◌, ◌≤◌}
+use Rattle.ranked_tree.proofs.Common.{Contains-from_range, Covers, Fragment, HasLeaf, Homes, Ino, IsFragment, IsInsideAt, IsLive, IsPick, IsTree, List, None, Some, and_from, and_parts, ap, arith, cases_lt, contains_start, ends_before, ends_low, ends_within, eq-eqb, eqb-true, false, is_inside, leaves, leaves_of, lies_inside, lies_inside-true, range_from_Contains, range_from_inside, refl, span, subst, sym, true, ℕ, ⊎_elim, ◌%◌, ◌+◌, ◌<◌, ◌==◌, ◌^◌, ◌∙◌, ◌≡◌, ◌≤◌, Leaf}
 use Rattle.mds_types.specs.Frag.{Contains}
-use Rattle.mds_types.specs.Leaf.{Leaf}
 use Rattle.subtree_map.proofs.Covers.{is_fragment, one_leaf}
-
--- a leaf that contains a hash as a number of its range
-in_range : (leaf : Fragment) (hash : ℕ) → IsFragment leaf → hash < 2 ^ 24 → Contains leaf hash → (leaf.value ≤ hash) × (hash < leaf.value + span leaf.bits)
-in_range leaf hash valid low holds =
-    let range = range_from_Contains leaf hash valid holds in
-    let same : hash % 2 ^ 24 ≡ hash = omega (arith, low) in
-    (omega (arith, range.0, same), omega (arith, range.1, same))
 
 -- where a fragment ends, all leaves inside begin before
 pub none_beyond : (leaves : List Fragment) (f : Fragment) (hash : ℕ) → IsFragment f → f.value + span f.bits ≤ hash → IsInsideAt leaves f hash None
@@ -17,33 +9,28 @@ none_beyond leaves f hash valid beyond g has inside = let range = range_from_ins
 
 module _ (leaves : List Fragment) (tree : IsTree leaves) (f : Fragment) (valid : IsFragment f) (hash : ℕ) where
   module _ (from : f.value ≤ hash) (within : hash < f.value + span f.bits) (leaf : Fragment) (pick : IsPick leaves hash leaf) where
-    low : hash < 2 ^ 24
-    low = omega (arith, within, ends_low f valid)
-
     its : IsFragment leaf
     its = is_fragment leaves leaf tree pick.stands
 
     range : (leaf.value ≤ hash) × (hash < leaf.value + span leaf.bits)
-    range = in_range leaf hash its low pick.contains
+    range =
+        let ends = range_from_Contains leaf hash its pick.contains in
+        let low : hash < 2 ^ 24 = omega (arith, within, ends_low f valid) in
+        let same : hash % 2 ^ 24 ≡ hash = omega (arith, low) in
+        (omega (arith, ends.0, same), omega (arith, ends.1, same))
 
     -- the leaf at the hash lies inside,
     pub inside_found : lies_inside f leaf ≡ true → IsInsideAt leaves f hash (Some leaf)
     inside_found inside = (pick.stands, inside, range.0, range.1)
 
     -- or it contains the fragment, and no leaf lies inside
-    contains_f : lies_inside f leaf ≡ false → leaf.bits ≤ f.bits
-    contains_f outside = ⊎_elim (λ less. absurd (more less)) (λ few. few) (cases_lt f.bits leaf.bits)
-      where
-        more : f.bits < leaf.bits → ⊥
-        more less =
-            let start : leaf.value < f.value → ⊥ = λ before. let ends = ends_before f leaf valid its (omega (arith, less)) before in omega (arith, ends, from, range.1) in
-            let inside = lies_inside-true f leaf valid less (omega (arith, start)) (omega (arith, range.0, within)) in
-            let clash : true ≡ false = sym inside ∙ outside in
-            cc
-
     pub none_inside : lies_inside f leaf ≡ false → IsInsideAt leaves f hash None
     none_inside outside g has inside =
-        let fewer = contains_f outside in
+        let fewer : leaf.bits ≤ f.bits =
+        ⊎_elim (λ less.
+        let start : leaf.value < f.value → ⊥ = λ before. let ends = ends_before f leaf valid its (omega (arith, less)) before in omega (arith, ends, from, range.1) in
+        let clash : true ≡ false = sym (lies_inside-true f leaf valid less (omega (arith, start)) (omega (arith, range.0, within))) ∙ outside in
+        absurd cc) (λ few. few) (cases_lt f.bits leaf.bits) in
         let start : f.value < leaf.value → ⊥ = λ after. let ends = ends_before leaf f its valid fewer after in omega (arith, ends, within, range.0) in
         let ends = ends_within leaf f its valid fewer (omega (arith, from, range.1)) in
         let of_g = is_fragment leaves g tree has in

@@ -1,6 +1,5 @@
 pub mod AskLaws
 pub mod AuthorityLaws
-pub mod CameForLaws
 pub mod ChangedTables
 pub mod Common
 pub mod DividedLaws
@@ -16,7 +15,6 @@ pub mod ImportLaws
 pub mod InsideLaws
 pub mod Kept
 pub mod MountedRoots
-pub mod MoveLaws
 pub mod NewLaws
 pub mod ReadsForLaws
 pub mod RenameLaws

@@ -1,7 +1,6 @@
 -- The roots of a tree that was mounted are its own, and each rank caches what it holds: rank 0 the one leaf of a new tree, and no rank anything else.
-use Rattle.ranked_tree.proofs.Common.{AreFilled, AreHeld, AreRoots, AreTopRoots, At, CacheMap, Core, Covers, HasLeaf, IsMounted, IsOwned, IsSoundCore, Mounts, None, Objects, Rank, Roots, Rules, Some, State, Tree, [], ap, arith, get-empty, get_beside, inl, inr, is_known, is_some, leaf-exact, leaf-total, leaf_cmp, leaves_of, length, length-replicate, live_root, new_roots, no_covers, no_homes, one_value, root_fragment, root_leaf, root_live, same_map, same_or_apart, state_of, subst, sym, ℕ, ⊎_elim, ◌<◌, ◌∙◌, ◌≡◌}
+use Rattle.ranked_tree.proofs.Common.{AreFilled, AreTopRoots, At, CacheMap, Core, Covers, HasLeaf, IsOwned, IsSoundCore, Mounts, None, Objects, Rank, Roots, Rules, Some, State, Tree, [], ap, arith, get-empty, get_beside, is_known, is_some, leaf-exact, leaf-total, leaf_cmp, leaves_of, length, length-replicate, live_root, new_roots, no_covers, no_homes, one_value, root_fragment, root_leaf, root_live, same_map, same_or_apart, state_of, subst, sym, ℕ, ⊎_elim, ◌<◌, ◌∙◌, ◌≡◌, Leaf}
 use Rattle.std.specs.FinMap as map
-use Rattle.mds_types.specs.Leaf.{Leaf}
 use Rattle.subtree_map.specs.Changes.{leaf_of}
 use Rattle.ranked_tree.proofs.HeldLaws.{none_unless, placed_at}
 use Rattle.ranked_tree.proofs.NewLaws.{new_are_held, root_is}
@@ -16,54 +15,39 @@ are_top covers none roots is filled = record {
     nowhere : (leaf : Leaf) → map.get none leaf ≡ None
     nowhere leaf = ap (λ (m : Roots). map.get m leaf) is ∙ get-empty leaf_cmp leaf
 
-pub top_are_roots : (s : State) (roots : Roots) → AreTopRoots s.covers roots → AreRoots s roots
-top_are_roots s roots top = record {
-  top = λ f has. ap is_some (top.ranked f has);
-  live = λ leaf some.
-      let at = top.alone leaf some in
-      record { known = ap (is_known s.homes) at.0; stands = subst (λ d. HasLeaf (leaves_of s.covers d) leaf.1) (sym at.0) at.1 };
-}
-
--- each root is rank 0's
-first_ranked : (covers : Covers) (roots : Roots) → AreTopRoots covers roots → (leaf : Leaf) (rank : Rank) → map.get roots leaf ≡ Some rank → rank.0 ≡ 0
-first_ranked covers roots top leaf rank has =
-    let at = top.alone leaf (ap is_some has) in
-    let here : leaf ≡ leaf_of 1 leaf.1 = λ i. (record { 0 = at.0 i }, leaf.1) in
-    ap (λ (r : Rank). r.0) (one_value (map.get roots leaf) rank (record { 0 = 0 }) has (ap (map.get roots) here ∙ top.ranked leaf.1 at.1))
-
 -- those of a new tree
 pub top_of_none : (roots : Roots) → AreTopRoots no_covers roots → roots ≡ new_roots
-top_of_none roots top = same_map leaf-total leaf-exact roots new_roots at
-  where
-    other : (leaf : Leaf) → (leaf ≡ root_leaf → ⊥) → map.get roots leaf ≡ None
-    other leaf apart = none_unless (map.get roots leaf) (λ rank is.
-        let at = top.alone leaf (ap is_some is) in
-        apart (live_root leaf (record { known = ap (is_known no_homes) at.0; stands = subst (λ d. HasLeaf (leaves_of no_covers d) leaf.1) (sym at.0) at.1 })))
-
-    at : (leaf : Leaf) → map.get roots leaf ≡ map.get new_roots leaf
-    at leaf = elim (same_or_apart leaf root_leaf) [
-      | inl same ↦ ap (map.get roots) same ∙ top.ranked root_fragment root_live.stands ∙ sym root_is ∙ ap (map.get new_roots) (sym same)
-      | inr apart ↦ other leaf apart ∙ sym (get_beside map.empty root_leaf (record { 0 = 0 }) leaf apart ∙ get-empty leaf_cmp leaf)
-    ]
+top_of_none roots top = same_map leaf-total leaf-exact roots new_roots (λ leaf.
+    ⊎_elim (λ same. ap (map.get roots) same ∙ top.ranked root_fragment root_live.stands ∙ sym root_is ∙ ap (map.get new_roots) (sym same))
+    (λ apart.
+    none_unless (map.get roots leaf) (λ rank is.
+    let at = top.alone leaf (ap is_some is) in
+    apart (live_root leaf (record { known = ap (is_known no_homes) at.0; stands = subst (λ d. HasLeaf (leaves_of no_covers d) leaf.1) (sym at.0) at.1 })))
+    ∙ sym (get_beside map.empty root_leaf (record { 0 = 0 }) leaf apart ∙ get-empty leaf_cmp leaf)) (same_or_apart leaf root_leaf))
 
 module _ (limit : ℕ) (objects : Objects) (ranks places : ℕ) (some : 0 < ranks) (tree : Tree) (c : Core) (roots : Roots) (sound : IsSoundCore c) (top : AreTopRoots c.covers roots) where
-  walked_held : IsMounted limit objects ranks places tree c → AreHeld (state_of c) c.caches roots
-  walked_held m = record {
-    cached = none;
-    placed = placed_at (state_of c) c.caches roots sound.none none;
-    ranks = λ leaf rank has.
-        let zeroth = first_ranked c.covers roots top leaf rank has in
-        let many : length c.caches.used ≡ ranks = ap (λ (cs : CacheMap). length cs.used) m.caches ∙ length-replicate ranks [] in
-        omega (arith, zeroth, many, some);
-  }
-    where
-      none : (leaf : Leaf) (a : At) → map.get c.caches.held leaf ≡ Some a → Rules (state_of c) roots leaf (record { 0 = a.rank })
-      none leaf a is = let clash : None ≡ Some a = sym (ap (λ (cs : CacheMap). map.get cs.held leaf) m.caches ∙ get-empty leaf_cmp leaf) ∙ is in absurd cc
-
   -- a mounted tree with its roots
   pub mounted_owned : Mounts limit objects ranks places tree c → IsOwned c roots
   mounted_owned m = record {
     sound = sound;
-    valid = top_are_roots (state_of c) roots top;
-    held = ⊎_elim (λ new. new_are_held c roots limit ranks places some new.1.state new.1.caches (top_of_none roots (subst (λ (cs : Covers). AreTopRoots cs roots) (ap (λ (s : State). s.covers) new.1.state) top))) (λ walked. walked_held walked.1) m;
+    valid = record {
+      top = λ f has. ap is_some (top.ranked f has);
+      live = λ leaf some.
+          let at = top.alone leaf some in
+          record { known = ap (is_known c.homes) at.0; stands = subst (λ d. HasLeaf (leaves_of c.covers d) leaf.1) (sym at.0) at.1 };
+    };
+    held = ⊎_elim (λ new. new_are_held c roots limit ranks places some new.1.state new.1.caches (top_of_none roots (subst (λ (cs : Covers). AreTopRoots cs roots) (ap (λ (s : State). s.covers) new.1.state) top)))
+        (λ walked.
+        let none : (leaf : Leaf) (a : At) → map.get c.caches.held leaf ≡ Some a → Rules (state_of c) roots leaf (record { 0 = a.rank })
+        = λ leaf a is. let clash : None ≡ Some a = sym (ap (λ (cs : CacheMap). map.get cs.held leaf) walked.1.caches ∙ get-empty leaf_cmp leaf) ∙ is in absurd cc in
+        record {
+          cached = none;
+          placed = placed_at (state_of c) c.caches roots sound.none none;
+          ranks = λ leaf rank has.
+              let at = top.alone leaf (ap is_some has) in
+              let here : leaf ≡ leaf_of 1 leaf.1 = λ i. (record { 0 = at.0 i }, leaf.1) in
+              let zeroth : rank.0 ≡ 0 = ap (λ (r : Rank). r.0) (one_value (map.get roots leaf) rank (record { 0 = 0 }) has (ap (map.get roots) here ∙ top.ranked leaf.1 at.1)) in
+              let many : length c.caches.used ≡ ranks = ap (λ (cs : CacheMap). length cs.used) walked.1.caches ∙ length-replicate ranks [] in
+              omega (arith, zeroth, many, some);
+        }) m;
   }

@@ -1,7 +1,6 @@
 -- What reads of a directory's leaves make of the caches, one after the other.
-use Rattle.ranked_tree.proofs.Common.{AreHeldAt, AsksFor, Change, Concerns, ConcernsIn, Core, Dentry, Inode, IsChangeIn, IsNamedIn, IsSound, KeepsRanked, KeepsState, Leaf, Lists, Looks, MayChange, Moves, NamesBy, NamesDir, None, NoneEnds, Op, Option, PutsAt, Ranked, Reads, ReadsCore, ReadsFor, Refusal, Removes, Roots, Sets, Some, Spot, TakesAt, Tree, Unlinks, ap, dentry_at, false, held_roots, inl, inr, is_known, keeps_on, may_come, none-some, reads_then, reads_weaker, shown_tree, state_of, subst, sym, ℕ, ⊎_elim, ◌∙◌, ◌≡◌}
+use Rattle.ranked_tree.proofs.Common.{AreHeldAt, AsksFor, Change, Concerns, ConcernsIn, Core, Dentry, Inode, IsChangeIn, IsNamedIn, IsSound, KeepsRanked, KeepsState, Leaf, Lists, Looks, MayChange, Moves, NamesBy, NamesDir, None, NoneEnds, Op, Option, PutsAt, Ranked, Reads, ReadsFor, Refusal, Removes, Roots, Sets, Some, Spot, TakesAt, Tree, Unlinks, ap, dentry_at, false, held_roots, inl, inr, is_known, keeps_on, may_come, none-some, reads_then, reads_weaker, shown_tree, state_of, subst, sym, ℕ, ⊎_elim, ◌∙◌, ◌≡◌, State, shape_of}
 use Rattle.mds_types.specs.Shape.{Shape as OpShape, Makes}
-use Rattle.mdcache.specs.State.{State as TreeState}
 use Rattle.ranked_tree.proofs.AskLaws.{held_still}
 use Rattle.ranked_tree.proofs.HolderLaws.{is_unknown, named_by}
 
@@ -9,7 +8,7 @@ use Rattle.ranked_tree.proofs.HolderLaws.{is_unknown, named_by}
 pub reads_on : (roots : Roots) (Asked : ℕ → Type 0) (a b c : Core) → KeepsState a b None → ReadsFor roots Asked a b → ReadsFor roots Asked b c → ReadsFor roots Asked a c
 reads_on roots Asked a b c kept first second =
     reads_then (AsksFor (state_of a) roots Asked) NoneEnds a.objects a.caches b.caches c.caches first
-    (subst (λ (s : TreeState). Reads (AsksFor s roots Asked) NoneEnds s.objects b.caches c.caches) kept.state second)
+    (subst (λ (s : State). Reads (AsksFor s roots Asked) NoneEnds s.objects b.caches c.caches) kept.state second)
 
 -- reads of no more than these
 pub reads_less : (roots : Roots) (Asked More : ℕ → Type 0) (old new : Core) → ((d : ℕ) → Asked d → More d) → ReadsFor roots Asked old new → ReadsFor roots More old new
@@ -24,7 +23,7 @@ keeps_ranked_on a b c op told first second = record {
   roots = second.roots ∙ first.roots;
   exports = second.exports ∙ first.exports;
   reads = reads_on (held_roots a) (Concerns (shown_tree (state_of a.tree)) op) a.tree b.tree c.tree first.tree first.reads
-      (subst (λ (s : TreeState). ReadsFor (held_roots a) (Concerns (shown_tree s) op) b.tree c.tree) first.tree.state (subst (λ (r : Roots). ReadsFor r (Concerns (shown_tree (state_of b.tree)) op) b.tree c.tree) (held_still a b op None first) second.reads));
+      (subst (λ (s : State). ReadsFor (held_roots a) (Concerns (shown_tree s) op) b.tree c.tree) first.tree.state (subst (λ (r : Roots). ReadsFor r (Concerns (shown_tree (state_of b.tree)) op) b.tree c.tree) (held_still a b op None first) second.reads));
 }
 
 -- the leaves that a change names lie in directories that it names, each at its rank, or it is that of a directory that comes
@@ -34,13 +33,7 @@ asks_change old roots change sound may held r q is =
     (λ new.
     let come = may_come (shown_tree (state_of old)) old.homes (dentry_at new.0) new.1 sound.tabled (subst (MayChange (shown_tree (state_of old)) old.covers) new.2 may).takes in
     inr (subst (λ (l : Leaf). is_known old.homes l.0.0 ≡ false) (sym new.3.1) (is_unknown old.homes new.1.ino.0 _ come), ap (λ (l : Leaf). l.1) new.3.1))
-    (named_by (state_of old) sound roots change may held r q is)
-
--- reads of them
-pub reads_change : (old new : Core) (roots : Roots) (change : Change) → IsSound (state_of old) → MayChange (shown_tree (state_of old)) old.covers change → AreHeldAt (state_of old) roots change → ReadsCore (IsNamedIn change) NoneEnds old new
-    → ReadsFor roots (NamesDir change) old new
-reads_change old new roots change sound may held reads =
-    reads_weaker (IsNamedIn change) NoneEnds (AsksFor (state_of old) roots (NamesDir change)) NoneEnds (asks_change old roots change sound may held) (λ r q none. none) old.objects old.caches new.caches reads.caches
+    (named_by (state_of old) sound roots change (shape_of (shown_tree (state_of old)) old.covers change may) may held r q is)
 
 -- ---- what is taken and what gets an inode, by where
 

@@ -1,8 +1,7 @@
 -- What becomes of the roots and of every leaf's authority where directories come, move and go: from the table of directories alone.
-use Rattle.ranked_tree.proofs.Common.{AreGone, BecomesMerged, BecomesSplit, CanMerge, Covers, FitsSplit, Fragment, HasAuthority, HasLeaf, HaveOneAuthority, Home, Homes, Ino, IsChild, IsInheritedAt, IsLive, IsMerge, IsRootMerge, IsRootSplit, IsSettled, IsSome, IsSplit, IsSubtrees, IsTable, IsTree, KeepAuthority, Leaf, List, MayCome, MayGo, MayMove, NoNewRank, None, Option, Rank, Roots, Some, adopted_authority, adopted_valid, and_right, ap, arith, child_is_new, drops_soundly, cases_Bool, false, inl, inr, is_inside, is_known, is_some, leaves_now, leaves_of, lies_inside, merges_soundly, moves_soundly, nat_lt, nat_tests, not_none, one_value, refl, some_authority, some_holder, span, splits_soundly, subst, sym, tree_of_row, true, value_of, ℕ, ⊎_elim, ◌&&◌, ◌+◌, ◌/◌, ◌==◌, ◌||◌, ◌∙◌, ◌≡◌, ◌≢◌}
+use Rattle.ranked_tree.proofs.Common.{AreGone, BecomesMerged, BecomesSplit, CanMerge, Covers, FitsSplit, Fragment, HasAuthority, HasLeaf, HaveOneAuthority, Home, Homes, Ino, IsChild, IsInheritedAt, IsLive, IsMerge, IsRootMerge, IsRootSplit, IsSettled, IsSplit, IsSubtrees, IsTable, IsTree, KeepAuthority, Leaf, List, MayCome, MayGo, MayMove, NoNewRank, None, Option, Rank, Roots, Some, adopted_authority, adopted_valid, and_right, ap, arith, child_is_new, drops_soundly, cases_Bool, false, inl, inr, is_inside, is_known, is_some, leaves_now, leaves_of, lies_inside, merges_soundly, moves_soundly, nat_lt, nat_tests, not_none, one_value, refl, some_authority, some_holder, span, splits_soundly, subst, sym, tree_of_row, true, value_of, ℕ, ⊎_elim, ◌&&◌, ◌+◌, ◌/◌, ◌==◌, ◌||◌, ◌∙◌, ◌≡◌, ◌≢◌, same_or_apart}
 use Rattle.std.specs.FinMap as map
 use Rattle.sorted_map.proofs.NatKeys as nat
-use Rattle.mds_types.proofs.LeafLaws.{same_or_apart as same_leaf_or_apart}
 use Rattle.subtree_map.specs.Changes.{leaf_of}
 
 -- what every change leaves: each leaf that stood and still stands has its authority, only leaves are roots, and no root has a rank that none had
@@ -55,11 +54,11 @@ module _ (before after : Roots) (homes : Homes) (covers : Covers) (table : IsTab
   settled_ranks : (d : ℕ) (home : Home) → IsSettled before after homes covers d home → is_known homes home.parent.0 ≡ true → NoNewRank before after
   settled_ranks d home settled parent leaf rank has = go (map.get before leaf) refl
     where
-      Found : Type 0
-      Found = (other : Leaf) × (map.get before other ≡ Some rank)
-
-      of_leaf : map.get before leaf ≡ None → leaf.0.0 ≡ d → IsLive homes covers leaf → Found
-      of_leaf none own live =
+      go : (o : Option Rank) → map.get before leaf ≡ o → (other : Leaf) × (map.get before other ≡ Some rank)
+      go (Some r) was = (leaf, sym (settled.kept leaf (ap is_some was)) ∙ has)
+      go None none =
+          ⊎_elim (λ own. ⊎_elim (λ some. let there = value_of _ some in absurd (not_none _ there.0 none there.1))
+          (λ live.
           let its = some_authority before homes covers table valid leaf live in
           let holder = some_holder homes covers table home in
           let stands : IsLive homes covers holder.0 = record { known = subst (λ (i : Ino). is_known homes i.0 ≡ true) (sym holder.1.parent) parent; stands = subst (λ (i : Ino). HasLeaf (leaves_of covers i.0) holder.0.1) (sym holder.1.parent) holder.1.pick.stands } in
@@ -68,12 +67,7 @@ module _ (before after : Roots) (homes : Homes) (covers : Covers) (table : IsTab
           ⊎_elim (λ same. absurd (not_none _ rank (settled.same leaf its.0 live own none its.1 (subst (IsInheritedAt before homes covers home) (λ i. record { 0 = sym same i }) inherits)) has))
           (λ apart.
           let rank_is = one_value _ its.0 rank (settled.lost leaf its.0 there.0 live own none its.1 inherits (λ same. apart (ap (λ (r : Rank). r.0) same))) has in
-          (its.1.root, subst (λ (r : Rank). map.get before its.1.root ≡ Some r) rank_is its.1.ranked)) (nat.same_or_apart its.0.0 there.0.0)
-
-      go : (o : Option Rank) → map.get before leaf ≡ o → Found
-      go (Some r) was = (leaf, sym (settled.kept leaf (ap is_some was)) ∙ has)
-      go None none =
-          ⊎_elim (λ own. ⊎_elim (λ some. let there = value_of _ some in absurd (not_none _ there.0 none there.1)) (of_leaf none own) (settled.made leaf (ap is_some has)))
+          (its.1.root, subst (λ (r : Rank). map.get before its.1.root ≡ Some r) rank_is its.1.ranked)) (nat.same_or_apart its.0.0 there.0.0)) (settled.made leaf (ap is_some has)))
           (λ apart. absurd (not_none _ rank (settled.elsewhere leaf apart ∙ none) has)) (nat.same_or_apart leaf.0.0 d)
 
   -- a directory moves, and its roots were settled first
@@ -95,26 +89,22 @@ module _ (before after : Roots) (homes : Homes) (covers : Covers) (table : IsTab
     both : KeepAuthority before after homes homes covers later (BecomesSplit d f nb) × IsSubtrees after homes later
     both = splits_soundly before after d f nb split homes covers later to table valid divided has fits whole becomes
 
-    is_other : (leaf : Leaf) → IsLive homes later leaf → leaf ≢ at_f
-    is_other leaf live same =
-        ⊎_elim (λ its. its.1 refl) (λ child. let more : f.bits ≡ f.bits + nb = ap (λ (g : Fragment). g.bits) child.2 in omega (arith, more, fits.some))
-        ((divided.leaves f).0 (subst (λ (fs : List Fragment). HasLeaf fs f) (leaves_now covers later d to becomes) (subst (λ (l : Leaf). HasLeaf (leaves_of later l.0.0) l.1) same live.stands)))
-
-    -- what was a root was a leaf, so it is no child
-    no_child : (leaf : Leaf) → IsSome (map.get before leaf) → (g : Fragment) → IsChild f nb g → leaf ≢ leaf_of d g
-    no_child leaf some g child same =
-        child_is_new (leaves_of covers d) f g nb (tree_of_row homes covers table d) has fits child (subst (λ (l : Leaf). HasLeaf (leaves_of covers l.0.0) l.1) same (valid.live leaf some).stands)
-
-    split_ranks : NoNewRank before after
-    split_ranks leaf rank is =
-        ⊎_elim (λ some. (leaf, sym (split.others leaf (λ same. not_none _ rank (ap (map.get after) same ∙ split.gone) is) (no_child leaf some)) ∙ is))
-        (λ made. (at_f, sym (split.children made.1.0 made.1.1 made.0) ∙ ap (map.get after) (sym made.1.2) ∙ is)) (split.made leaf (ap is_some is))
-
     pub divided_soundly : IsSoundChange before after homes homes covers later
     divided_soundly = record {
-      keeps = λ leaf rank was is has. both.0 leaf leaf rank was (inl (is_other leaf is, refl)) has;
+      keeps = λ leaf rank was is has. both.0 leaf leaf rank was (inl (
+        λ same.
+            ⊎_elim (λ its. its.1 refl) (λ child. let more : f.bits ≡ f.bits + nb = ap (λ (g : Fragment). g.bits) child.2 in omega (arith, more, fits.some))
+            ((divided.leaves f).0 (subst (λ (fs : List Fragment). HasLeaf fs f) (leaves_now covers later d to becomes) (subst (λ (l : Leaf). HasLeaf (leaves_of later l.0.0) l.1) same is.stands))),
+        refl,
+      )) has;
       valid = both.1;
-      ranks = split_ranks;
+      ranks = λ leaf rank is.
+          ⊎_elim (λ some. (
+            leaf,
+            sym (split.others leaf (λ same. not_none _ rank (ap (map.get after) same ∙ split.gone) is)
+                (λ g child same. child_is_new (leaves_of covers d) f g nb (tree_of_row homes covers table d) has fits child (subst (λ (l : Leaf). HasLeaf (leaves_of covers l.0.0) l.1) same (valid.live leaf some).stands))) ∙ is,
+          ))
+          (λ made. (at_f, sym (split.children made.1.0 made.1.1 made.0) ∙ ap (map.get after) (sym made.1.2) ∙ is)) (split.made leaf (ap is_some is));
     }
 
     -- each child has the authority that the leaf had
@@ -127,29 +117,24 @@ module _ (before after : Roots) (homes : Homes) (covers : Covers) (table : IsTab
     joined : KeepAuthority before after homes homes covers later (BecomesMerged d f) × IsSubtrees after homes later
     joined = merges_soundly before after d f merge homes covers later to table valid one can merged whole becomes
 
-    none_inside : (g : Fragment) → HasLeaf to g → lies_inside f g ≡ false
-    none_inside g has =
-        let equal : nat_lt f.bits f.bits ≡ false = grind (arith, nat_tests) in
-        ⊎_elim (λ its. its.1) (λ same. ap (lies_inside f) same ∙ (λ i. equal i && (f.value / span f.bits == f.value / span f.bits))) ((merged.leaves g).0 has)
-
-    is_outside : (leaf : Leaf) → IsLive homes later leaf → is_inside d f leaf ≡ false
-    is_outside leaf live =
-        ⊎_elim (λ same. and_right (leaf.0.0 == d) _ (none_inside leaf.1 (subst (λ (fs : List Fragment). HasLeaf fs leaf.1) (leaves_now covers later d to becomes) (subst (λ (e : ℕ). HasLeaf (leaves_of later e) leaf.1) same live.stands))))
-        (λ apart. λ i. nat.is_apart leaf.0.0 d apart i && lies_inside f leaf.1) (nat.same_or_apart leaf.0.0 d)
-
-    merge_ranks : NoNewRank before after
-    merge_ranks leaf rank is =
-        ⊎_elim (λ same. let found = merge.rank rank (ap (map.get after) (sym same) ∙ is) in (found.0, found.2))
-        (λ apart.
-        ⊎_elim (λ inside. absurd (not_none _ rank (merge.gone leaf inside) is)) (λ outside. (leaf, sym (merge.others leaf outside apart) ∙ is)) (cases_Bool (is_inside d f leaf)))
-        (same_leaf_or_apart leaf (leaf_of d f))
-
     pub merged_soundly : IsSoundChange before after homes homes covers later
-    merged_soundly = record {
-      keeps = λ leaf rank was is has. joined.0 leaf leaf rank was (inl (is_outside leaf is, refl)) has;
-      valid = joined.1;
-      ranks = merge_ranks;
-    }
+    merged_soundly =
+        let none_inside : (g : Fragment) → HasLeaf to g → lies_inside f g ≡ false = λ g has.
+        let equal : nat_lt f.bits f.bits ≡ false = grind (arith, nat_tests) in
+        ⊎_elim (λ its. its.1) (λ same. ap (lies_inside f) same ∙ (λ i. equal i && (f.value / span f.bits == f.value / span f.bits))) ((merged.leaves g).0 has) in
+        record {
+          keeps = λ leaf rank was is has. joined.0 leaf leaf rank was (inl (
+            ⊎_elim (λ same. and_right (leaf.0.0 == d) _ (none_inside leaf.1 (subst (λ (fs : List Fragment). HasLeaf fs leaf.1) (leaves_now covers later d to becomes) (subst (λ (e : ℕ). HasLeaf (leaves_of later e) leaf.1) same is.stands))))
+                (λ apart. λ i. nat.is_apart leaf.0.0 d apart i && lies_inside f leaf.1) (nat.same_or_apart leaf.0.0 d),
+            refl,
+          )) has;
+          valid = joined.1;
+          ranks = λ leaf rank is.
+              ⊎_elim (λ same. let found = merge.rank rank (ap (map.get after) (sym same) ∙ is) in (found.0, found.2))
+              (λ apart.
+              ⊎_elim (λ inside. absurd (not_none _ rank (merge.gone leaf inside) is)) (λ outside. (leaf, sym (merge.others leaf outside apart) ∙ is)) (cases_Bool (is_inside d f leaf)))
+              (same_or_apart leaf (leaf_of d f));
+        }
 
     -- the merged leaf has the authority that each of them had
     pub merged_authority : (leaf : Leaf) (rank : Rank) → is_inside d f leaf ≡ true → IsLive homes covers leaf → HasAuthority before homes covers leaf rank → HasAuthority after homes later (leaf_of d f) rank

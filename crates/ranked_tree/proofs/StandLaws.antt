@@ -1,17 +1,16 @@
 -- What is kept of the exports that stand: by what changes neither directories nor roots, and by what changes no frozen leaf.
-use Rattle.ranked_tree.proofs.Common.{AllHave, Alters, AreFrozenRegionsKept, AreRoots, AreThawed, Begins, BeginsWith, CacheMap, CameAt, Change, Core, Covers, Drops, Ends, Err, Fragment, HasAuthority, HaveOneAuthority, Homes, Ino, IsDivided, IsFrozen, IsFrozenIn, IsLive, IsOwned, IsSound, IsSoundCore, Job, Jobs, KeepsAuthorities, KeepsHolders, Leaf, List, Makes, MayChange, NearestRoot, NoNewRank, None, Ok, Option, Rank, Refusal, Regions, Result, Roots, Shape, Some, StandSoundly, Standing, StandingExport, Subtrees, Unsaved, UsedAt, add, ap, came_weaker, cond_both, dentry_at, get-empty, get_beside, get_holding, get_left, get_removed, get_without, held_in, holder_is, holder_or, holding, imported_freezes, is_dir_kind, is_imported, keep_frozen, keep_holders, leaf-exact, leaf-total, leaf_cmp, leaf_is, leaves, length, list_any, move, none-some, option_map, refl, region_holder, remove, rules, same_Some, same_map, same_or_apart, set, shape_of, shown_tree, state_of, subst, sym, unclean, with_directory, without, without_leaves, ℕ, ⊎_elim, ◌<◌, ◌∙◌, ◌≡◌}
+use Rattle.ranked_tree.proofs.Common.{AllHave, Alters, AreFrozenRegionsKept, AreRoots, AreThawed, Begins, BeginsWith, CacheMap, CameAt, Change, Core, Covers, Drops, Ends, Err, Fragment, HasAuthority, Homes, Ino, IsDivided, IsFrozen, IsFrozenIn, IsLive, IsOwned, IsSound, IsSoundCore, Job, Jobs, KeepsAuthorities, KeepsHolders, Leaf, List, Makes, NearestRoot, NoNewRank, None, Ok, Option, Rank, Refusal, Regions, Result, Roots, Shape, Some, StandSoundly, Standing, StandingExport, Subtrees, Unsaved, UsedAt, add, ap, came_weaker, cond_both, dentry_at, get-empty, get_beside, get_holding, get_left, get_removed, get_without, held_in, holder_is, holder_or, holding, imported_freezes, is_dir_kind, is_imported, keep_frozen, keep_holders, leaf-exact, leaf-total, leaf_cmp, leaf_is, leaves, length, list_any, move, none-some, option_map, refl, region_holder, remove, rules, same_Some, same_map, same_or_apart, set, state_of, subst, sym, unclean, with_directory, without, without_leaves, ℕ, ⊎_elim, ◌<◌, ◌∙◌, ◌≡◌, State}
 use Rattle.std.specs.FinMap as map
 use Rattle.mdcache.specs.Commits.{leaf_of}
-use Rattle.mdcache.specs.State.{State as TreeState}
 use Rattle.ranked_tree.proofs.HeldLaws.{held_after}
 
 -- ---- jobs
 
 -- each job that stands stood
-abbrev pub FewerJobs : (old new : TreeState) → Type 0
+abbrev pub FewerJobs : (old new : State) → Type 0
 FewerJobs old new = (leaf : Leaf) (job : Job) → map.get new.jobs leaf ≡ Some job → map.get old.jobs leaf ≡ Some job
 
-pub same_jobs : (old new : TreeState) → new.jobs ≡ old.jobs → FewerJobs old new
+pub same_jobs : (old new : State) → new.jobs ≡ old.jobs → FewerJobs old new
 same_jobs old new same leaf job is = ap (λ (j : Jobs). map.get j leaf) (sym same) ∙ is
 
 pub jobs_without : (jobs : Jobs) (ls : List Leaf) (leaf : Leaf) (job : Job) → map.get (without_leaves jobs ls) leaf ≡ Some job → map.get jobs leaf ≡ Some job
@@ -23,31 +22,30 @@ pub found_left : {X : Type 0} (m : map.FinMap leaf_cmp X) (k q : Leaf) (x : X) �
 found_left {X} m k q x is =
     ⊎_elim (λ same. absurd (none-some x (sym (get_removed m k) ∙ ap (map.get (map.remove m k)) (sym same) ∙ is))) (λ apart. sym (get_left m k q apart) ∙ is) (same_or_apart q k)
 
-jobs_kept : (s : TreeState) (went : Option Ino) → FewerJobs s (without s went)
+jobs_kept : (s : State) (went : Option Ino) → FewerJobs s (without s went)
 jobs_kept s None leaf job is = is
 jobs_kept s (Some dir) leaf job is = jobs_without s.jobs (leaves s.covers dir.0) leaf job is
 
 -- a change begins none
-by_shape : (change : Change) → Shape change → (old new : TreeState) → Alters change old new → FewerJobs old new
-by_shape _ (set spot inode) old new makes = same_jobs old new (ap (λ (s : TreeState). s.jobs) makes.2 ∙ ap (λ (s : TreeState). s.jobs) makes.1.left)
-by_shape _ (add spot inode) old new makes = same_jobs old new (ap (λ (s : TreeState). s.jobs) makes.2 ∙ cond_both (is_dir_kind inode.kind) (with_directory makes.0 (dentry_at spot) inode.ino) makes.0 (λ (s : TreeState). s.jobs ≡ makes.0.jobs) (λ dir. refl) (λ file. refl) ∙ ap (λ (s : TreeState). s.jobs) makes.1.left)
+by_shape : (change : Change) → Shape change → (old new : State) → Alters change old new → FewerJobs old new
+by_shape _ (set spot inode) old new makes = same_jobs old new (ap (λ (s : State). s.jobs) makes.2 ∙ ap (λ (s : State). s.jobs) makes.1.left)
+by_shape _ (add spot inode) old new makes = same_jobs old new (ap (λ (s : State). s.jobs) makes.2 ∙ cond_both (is_dir_kind inode.kind) (with_directory makes.0 (dentry_at spot) inode.ino) makes.0 (λ (s : State). s.jobs ≡ makes.0.jobs) (λ dir. refl) (λ file. refl) ∙ ap (λ (s : State). s.jobs) makes.1.left)
 by_shape _ (remove spot went) old new makes = λ leaf job is.
-    same_jobs old makes.0 (ap (λ (s : TreeState). s.jobs) makes.1.left) leaf job (jobs_kept makes.0 went leaf job (ap (λ (s : TreeState). map.get s.jobs leaf) (sym makes.2) ∙ is))
+    same_jobs old makes.0 (ap (λ (s : State). s.jobs) makes.1.left) leaf job (jobs_kept makes.0 went leaf job (ap (λ (s : State). map.get s.jobs leaf) (sym makes.2) ∙ is))
 by_shape _ (move from to inode went) old new (left, is_left, (named, is_named, is)) = λ leaf job stands.
-    same_jobs old named (ap (λ (s : TreeState). s.jobs) is_named.left ∙ ap (λ (s : TreeState). s.jobs) is_left.left) leaf job
-    (jobs_kept _ went leaf job (ap (λ (s : TreeState). map.get s.jobs leaf) (sym is) ∙ stands))
+    same_jobs old named (ap (λ (s : State). s.jobs) is_named.left ∙ ap (λ (s : State). s.jobs) is_left.left) leaf job
+    (jobs_kept _ went leaf job (ap (λ (s : State). map.get s.jobs leaf) (sym is) ∙ stands))
 
-pub change_jobs : (change : Change) (old new : TreeState) → MayChange (shown_tree old) old.covers change → Makes change old new → FewerJobs old new
-change_jobs change old new may makes leaf job is =
-    by_shape change (shape_of (shown_tree old) old.covers change may) old makes.0 makes.1 leaf job (ap (λ (s : TreeState). map.get s.jobs leaf) (sym makes.2) ∙ is)
+pub change_jobs : (change : Change) → Shape change → (old new : State) → Makes change old new → FewerJobs old new
+change_jobs change shape old new makes leaf job is = by_shape change shape old makes.0 makes.1 leaf job (ap (λ (s : State). map.get s.jobs leaf) (sym makes.2) ∙ is)
 
 -- the leaf of a job is live
-job_live : (s : TreeState) → IsSound s → (leaf : Leaf) (job : Job) → map.get s.jobs leaf ≡ Some job → IsLive s.homes s.covers leaf
+job_live : (s : State) → IsSound s → (leaf : Leaf) (job : Job) → map.get s.jobs leaf ≡ Some job → IsLive s.homes s.covers leaf
 job_live s sound leaf job is = let standing = sound.standing leaf job is in (sound.unsaved leaf standing.unsaved standing.beside).live
 
 -- ---- the ranks that hold regions have caches
 
-pub held_bound : (tree : TreeState) (count : ℕ) (subtrees : Subtrees) (exports : Standing) → StandSoundly tree count subtrees exports → (leaf : Leaf) (rank : Rank) → map.get (holding exports subtrees.roots) leaf ≡ Some rank → rank.0 < count
+pub held_bound : (tree : State) (count : ℕ) (subtrees : Subtrees) (exports : Standing) → StandSoundly tree count subtrees exports → (leaf : Leaf) (rank : Rank) → map.get (holding exports subtrees.roots) leaf ≡ Some rank → rank.0 < count
 held_bound tree count subtrees exports stand leaf rank is = by (map.get subtrees.roots leaf) (map.get exports leaf) refl refl (sym (get_holding exports subtrees.roots leaf) ∙ is)
   where
     by : (o : Option Rank) (e : Option StandingExport) → map.get subtrees.roots leaf ≡ o → map.get exports leaf ≡ e → option_map (holder_or e) o ≡ Some rank → rank.0 < count
@@ -60,14 +58,12 @@ held_bound tree count subtrees exports stand leaf rank is = by (map.get subtrees
 
 -- each rank holds its own regions,
 pub none_stand : (exports : Standing) (roots : Roots) → exports ≡ map.empty → holding exports roots ≡ roots
-none_stand exports roots none = same_map leaf-total leaf-exact (holding exports roots) roots at
+none_stand exports roots none = same_map leaf-total leaf-exact (holding exports roots) roots (λ q.
+    get_holding exports roots q ∙ ap (λ (e : Standing). option_map (holder_or (map.get e q)) (map.get roots q)) none ∙ ap (λ (o : Option StandingExport). option_map (holder_or o) (map.get roots q)) (get-empty leaf_cmp q) ∙ go (map.get roots q))
   where
-    at : (q : Leaf) → map.get (holding exports roots) q ≡ map.get roots q
-    at q = get_holding exports roots q ∙ ap (λ (e : Standing). option_map (holder_or (map.get e q)) (map.get roots q)) none ∙ ap (λ (o : Option StandingExport). option_map (holder_or o) (map.get roots q)) (get-empty leaf_cmp q) ∙ go (map.get roots q)
-      where
-        go : (o : Option Rank) → option_map (holder_or None) o ≡ o
-        go None = refl
-        go (Some r) = refl
+    go : (o : Option Rank) → option_map (holder_or None) o ≡ o
+    go None = refl
+    go (Some r) = refl
 
 -- and so they stand soundly
 pub stand_none : (core : Core) (regions : Regions) → regions.exports ≡ map.empty → IsOwned core regions.roots.roots → IsDivided core regions
@@ -88,11 +84,11 @@ stand_none core regions none owned = record {
 -- ---- what an event leaves
 
 -- each job of a frozen leaf that stands stood
-abbrev FewerFrozen : (old new : TreeState) → Roots → Standing → Type 0
+abbrev FewerFrozen : (old new : State) → Roots → Standing → Type 0
 FewerFrozen old new roots exports = (leaf : Leaf) (job : Job) → map.get new.jobs leaf ≡ Some job → IsFrozen exports roots old.homes old.covers leaf → map.get old.jobs leaf ≡ Some job
 
 -- directories, leaves and roots stay
-module _ (old new : TreeState) (n m : ℕ) (was now : Subtrees) (exports : Standing) (stand : StandSoundly old n was exports) (count : m ≡ n) (fewer : FewerFrozen old new was.roots exports) where
+module _ (old new : State) (n m : ℕ) (was now : Subtrees) (exports : Standing) (stand : StandSoundly old n was exports) (count : m ≡ n) (fewer : FewerFrozen old new was.roots exports) where
   pub stand_still : new.homes ≡ old.homes → new.covers ≡ old.covers → now.roots ≡ was.roots → now.promises ≡ was.promises → StandSoundly new m now exports
   stand_still homes covers roots promises = record {
     valid = rw (homes, covers, roots) stand.valid;
@@ -103,7 +99,7 @@ module _ (old new : TreeState) (n m : ℕ) (was now : Subtrees) (exports : Stand
   }
 
 -- no frozen leaf changed
-module _ (old new : TreeState) (n m : ℕ) (was now : Subtrees) (exports : Standing) (stand : StandSoundly old n was exports) (count : m ≡ n) (fewer : FewerJobs old new) where
+module _ (old new : State) (n m : ℕ) (was now : Subtrees) (exports : Standing) (stand : StandSoundly old n was exports) (count : m ≡ n) (fewer : FewerJobs old new) where
   module _ (kept : AreFrozenRegionsKept exports was now old.homes new.homes old.covers new.covers) where
     pub stand_kept : IsSound old → IsSound new → AreRoots new now.roots → NoNewRank was.roots now.roots → StandSoundly new m now exports
     stand_kept sound later valid none = record {
@@ -127,7 +123,7 @@ pub undone : (old new : Core) (regions : Regions) (now : Subtrees) → IsDivided
 undone old new regions now divided owned same count roots promises = record {
   owned = subst (λ (r : Roots). IsOwned new (holding regions.exports r)) (sym roots) owned;
   stand = stand_still (state_of old) (state_of new) (length old.caches.used) (length new.caches.used) regions.roots now regions.exports divided.stand count
-      (λ leaf job is frozen. same_jobs (state_of old) (state_of new) (ap (λ (s : TreeState). s.jobs) same) leaf job is) (ap (λ (s : TreeState). s.homes) same) (ap (λ (s : TreeState). s.covers) same) roots promises;
+      (λ leaf job is frozen. same_jobs (state_of old) (state_of new) (ap (λ (s : State). s.jobs) same) leaf job is) (ap (λ (s : State). s.homes) same) (ap (λ (s : State). s.covers) same) roots promises;
 }
 
 -- so it is where of a tree neither directories, leaves nor the number of caches change, and no job begins
@@ -150,15 +146,15 @@ divided_same old new regions divided caches sound fewer homes covers =
 -- a commit of a leaf that isn't frozen began, or was refused
 module _ (old new : Core) (regions : Regions) (divided : IsDivided old regions) (owned : IsOwned new (held_in regions)) (count : length new.caches.used ≡ length old.caches.used) (at : Leaf) (thawed : IsFrozenIn (state_of old) regions at → ⊥) where
   begun_jobs : (result : Result (Option Job) Refusal) → Begins (state_of old) (state_of new) at result → FewerFrozen (state_of old) (state_of new) regions.roots.roots regions.exports
-  begun_jobs (Err reason) h leaf job is frozen = same_jobs (state_of old) (state_of new) (ap (λ (s : TreeState). s.jobs) h.1) leaf job is
+  begun_jobs (Err reason) h leaf job is frozen = same_jobs (state_of old) (state_of new) (ap (λ (s : State). s.jobs) h.1) leaf job is
   begun_jobs (Ok begun) h leaf job is frozen = go (map.get (unclean old.caches) at) begun h.2
     where
       go : (u : Option Unsaved) (made : Option Job) → BeginsWith (state_of old) (state_of new) at u made → map.get old.jobs leaf ≡ Some job
-      go None made b = same_jobs (state_of old) (state_of new) (ap (λ (s : TreeState). s.jobs) b.1) leaf job is
+      go None made b = same_jobs (state_of old) (state_of new) (ap (λ (s : State). s.jobs) b.1) leaf job is
       go (Some u) None b = absurd b
       go (Some u) (Some made) b =
           ⊎_elim (λ same. absurd (thawed (subst (λ (l : Leaf). IsFrozenIn (state_of old) regions l) (same ∙ ap leaf_of b.0) frozen)))
-          (λ apart. sym (get_beside old.jobs (leaf_of made) made leaf apart) ∙ ap (λ (s : TreeState). map.get s.jobs leaf) (sym b.2) ∙ is) (same_or_apart leaf (leaf_of made))
+          (λ apart. sym (get_beside old.jobs (leaf_of made) made leaf apart) ∙ ap (λ (s : State). map.get s.jobs leaf) (sym b.2) ∙ is) (same_or_apart leaf (leaf_of made))
 
   pub divided_begun : (result : Result (Option Job) Refusal) → Begins (state_of old) (state_of new) at result → new.homes ≡ old.homes → new.covers ≡ old.covers → IsDivided new regions
   divided_begun result begins homes covers = record {
@@ -171,14 +167,14 @@ pub no_jobs : (old new : Core) → new.jobs ≡ map.empty → FewerJobs (state_o
 no_jobs old new none leaf job is = absurd (none-some job (sym (get-empty leaf_cmp leaf) ∙ ap (λ (j : Jobs). map.get j leaf) (sym none) ∙ is))
 
 -- other calls about commits end jobs at most
-module _ (old new : TreeState) where
+module _ (old new : State) where
   pub jobs_ended : (before after : ℕ) (job : Job) (result : Result (Unit {0}) Refusal) → Ends old new before after job result → FewerJobs old new
-  jobs_ended before after job (Ok done) h = λ leaf other is. found_left old.jobs (leaf_of job) leaf other (ap (λ (s : TreeState). map.get s.jobs leaf) (sym h.left) ∙ is)
-  jobs_ended before after job (Err reason) h = same_jobs old new (ap (λ (s : TreeState). s.jobs) h.1)
+  jobs_ended before after job (Ok done) h = λ leaf other is. found_left old.jobs (leaf_of job) leaf other (ap (λ (s : State). map.get s.jobs leaf) (sym h.left) ∙ is)
+  jobs_ended before after job (Err reason) h = same_jobs old new (ap (λ (s : State). s.jobs) h.1)
 
   pub jobs_dropped : (number : ℕ) (result : Result (Unit {0}) Refusal) → Drops old new number result → FewerJobs old new
-  jobs_dropped number (Ok done) h = λ leaf other is. found_left old.jobs h.leaf leaf other (ap (λ (s : TreeState). map.get s.jobs leaf) (sym h.left) ∙ is)
-  jobs_dropped number (Err reason) h = same_jobs old new (ap (λ (s : TreeState). s.jobs) h.2)
+  jobs_dropped number (Ok done) h = λ leaf other is. found_left old.jobs h.leaf leaf other (ap (λ (s : State). map.get s.jobs leaf) (sym h.left) ∙ is)
+  jobs_dropped number (Err reason) h = same_jobs old new (ap (λ (s : State). s.jobs) h.2)
 
 -- ---- a leaf that isn't frozen
 
@@ -196,15 +192,6 @@ module _ (exports : Standing) (roots : Roots) (homes : Homes) (covers : Covers) 
   pub thawed_rules : HasAuthority (holding exports roots) homes covers leaf rank → HasAuthority roots homes covers leaf rank
   thawed_rules has =
       let h = (holder_is exports roots homes covers leaf rank).1 has in record { root = h.root; nearest = h.nearest; ranked = sym (own h.root h.nearest (map.get exports h.root) refl) ∙ h.holds }
-
--- the leaves inside a fragment have one holder, where they have one authority and none is frozen
-pub one_holds : (exports : Standing) (roots : Roots) (homes : Homes) (covers : Covers) (dir : Ino) (frag : Fragment) → AreThawed exports roots homes covers dir frag → HaveOneAuthority roots homes covers dir.0 frag → HaveOneAuthority (holding exports roots) homes covers dir.0 frag
-one_holds exports roots homes covers dir frag thawed one a b r s in_a in_b live_a live_b has_a has_b =
-    one a b r s in_a in_b live_a live_b (thawed_rules exports roots homes covers a r (thawed a in_a live_a) has_a) (thawed_rules exports roots homes covers b s (thawed b in_b live_b) has_b)
-
--- the one that holds them is the authority of each
-pub all_rule : (exports : Standing) (roots : Roots) (homes : Homes) (covers : Covers) (dir : Ino) (frag : Fragment) (rank : Rank) → AreThawed exports roots homes covers dir frag → AllHave homes covers (holding exports roots) dir frag rank → AllHave homes covers roots dir frag rank
-all_rule exports roots homes covers dir frag rank thawed all leaf live inside = thawed_rules exports roots homes covers leaf rank (thawed leaf inside live) (all leaf live inside)
 
 -- what was used at ranks that hold leaves was used at ranks of which more is known
 pub came_by : (Holds More : Rank → Type 0) (Named : Leaf → Type 0) (old new : CacheMap) → ((rank : Rank) → Holds rank → More rank) → CameAt Holds Named old new → CameAt More Named old new

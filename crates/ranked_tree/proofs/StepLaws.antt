@@ -1,7 +1,6 @@
 -- What the steps of an export leave of a tree that is divided among ranks.
-use Rattle.ranked_tree.proofs.Common.{ArePlaced, AreRoots, CacheMap, Cancels, ComesTo, Core, Covers, EndsRegion, Err, ExportState, Finishes, FreezesSoundly, Frozen, Homes, IsDivided, IsFreeze, IsFrozen, IsFrozenLeaf, IsLive, IsOwned, IsSome, IsSoundCore, KeepsAuthorities, KeepsOutside, Leaf, NearestRoot, Ok, Option, Prepared, Preps, Rank, Ranked, Refusal, Regions, Result, Roots, Rules, Sent, Some, StandSoundly, Standing, StandingExport, Started, Starts, Steps, Subtrees, ap, cancel_holding, cancels_soundly, come_to, finish_holding, finishes_soundly, freezes_soundly, get_beside, get_put, held_in, holder_is, holding, is_freezing, is_some, leaf_cmp, length, not_none, prep_holding, prep_soundly, refl, rules, same_Some, same_or_apart, send_holding, send_soundly, start_holding, start_soundly, state_of, subst, sym, valid_so, ℕ, ⊎_elim, ◌<◌, ◌∙◌, ◌≡◌, ◌≢◌}
+use Rattle.ranked_tree.proofs.Common.{ArePlaced, AreRoots, CacheMap, Cancels, ComesTo, Core, Covers, EndsRegion, Err, ExportState, Finishes, FreezesSoundly, Frozen, Homes, IsDivided, IsFreeze, IsFrozen, IsFrozenLeaf, IsLive, IsOwned, IsSome, IsSoundCore, KeepsAuthorities, KeepsOutside, Leaf, NearestRoot, Ok, Option, Prepared, Preps, Rank, Ranked, Refusal, Regions, Result, Roots, Rules, Sent, Some, StandSoundly, Standing, StandingExport, Started, Starts, Steps, Subtrees, ap, cancel_holding, cancels_soundly, come_to, finish_holding, finishes_soundly, freezes_soundly, get_beside, get_put, held_in, holder_is, holding, is_freezing, is_some, leaf_cmp, length, not_none, prep_holding, prep_soundly, refl, rules, same_Some, same_or_apart, send_holding, send_soundly, start_holding, start_soundly, state_of, subst, sym, valid_so, ℕ, ⊎_elim, ◌<◌, ◌∙◌, ◌≡◌, ◌≢◌, State}
 use Rattle.std.specs.FinMap as map
-use Rattle.mdcache.specs.State.{State as TreeState}
 use Rattle.ranked_tree.proofs.HeldLaws.{held_after}
 use Rattle.ranked_tree.proofs.StandLaws.{found_left, held_bound}
 
@@ -94,7 +93,7 @@ module _ (count : ℕ) (old new : Standing) (was now : Subtrees) (root : Leaf) w
 
 -- ---- a root of a live leaf is put: those that were roots are, and their ranks have caches
 
-put_roots : (tree : TreeState) (before after : Roots) (root : Leaf) (rank : Rank) → after ≡ map.insert before root rank → IsLive tree.homes tree.covers root → AreRoots tree before → AreRoots tree after
+put_roots : (tree : State) (before after : Roots) (root : Leaf) (rank : Rank) → after ≡ map.insert before root rank → IsLive tree.homes tree.covers root → AreRoots tree before → AreRoots tree after
 put_roots tree before after root rank is live valid = rw is (record {
   top = λ f here. put_cases before root rank _ IsSome (λ same. refl) (λ apart. valid.top f here);
   live = λ q. put_cases before root rank q (λ o. IsSome o → IsLive tree.homes tree.covers q) (λ same some. subst (IsLive tree.homes tree.covers) (sym same) live) (λ apart. valid.live q);
@@ -116,10 +115,10 @@ pub record MayFreeze (ranked : Ranked) (leaf : Leaf) : Type 0 where
 module _ (old new : Core) (was now : Regions) (root : Leaf) (divided : IsDivided old was) (may : MayFreeze (record { tree = old; subtrees = was.roots; exports = was.exports }) root) (is : IsFreeze was.exports now.exports was.roots now.roots root)
     (ends : EndsRegion (state_of old) (state_of new) now.roots.roots root) where
   homes_stay : new.homes ≡ old.homes
-  homes_stay = ap (λ (s : TreeState). s.homes) ends.left
+  homes_stay = ap (λ (s : State). s.homes) ends.left
 
   covers_stay : new.covers ≡ old.covers
-  covers_stay = ap (λ (s : TreeState). s.covers) ends.left
+  covers_stay = ap (λ (s : State). s.covers) ends.left
 
   soundly : FreezesSoundly was.exports now.exports was.roots.roots now.roots.roots old.homes old.covers root
   soundly = freezes_soundly was.exports now.exports was.roots now.roots root is old.homes old.covers may.thawed (may.mine is.step.export is.step.stood)
@@ -133,17 +132,15 @@ module _ (old new : Core) (was now : Regions) (root : Leaf) (divided : IsDivided
       rw (homes_stay, covers_stay) ((holder_is now.exports now.roots.roots old.homes old.covers leaf rank).0 (soundly.holders leaf rank ((holder_is was.exports was.roots.roots old.homes old.covers leaf rank).1 rules)))
 
   module _ (caches : new.caches ≡ old.caches) (sound : IsSoundCore new) (placed : ArePlaced now.exports now.roots) where
-    count_stays : length new.caches.used ≡ length old.caches.used
-    count_stays = ap (λ (k : CacheMap). length k.used) caches
-
     freeze_stands : StandSoundly (state_of new) (length new.caches.used) now.roots now.exports
     freeze_stands =
         let its = divided.stand.there root is.step.export is.step.stood in
+        let count : length new.caches.used ≡ length old.caches.used = ap (λ (k : CacheMap). length k.used) caches in
         record {
           valid = rw (homes_stay, covers_stay) (put_roots (state_of old) was.roots.roots now.roots.roots root is.step.export.exporter is.roots may.live divided.stand.valid);
           placed = placed;
-          ranked = rw count_stays (put_ranked (length old.caches.used) was.roots.roots now.roots.roots root is.step.export.exporter is.roots its.0 divided.stand.ranked);
-          there = rw count_stays (put_there (length old.caches.used) was.exports now.exports root (come_to Frozen is.step.export) is.step.changed its divided.stand.there);
+          ranked = rw count (put_ranked (length old.caches.used) was.roots.roots now.roots.roots root is.step.export.exporter is.roots its.0 divided.stand.ranked);
+          there = rw count (put_there (length old.caches.used) was.exports now.exports root (come_to Frozen is.step.export) is.step.changed its divided.stand.there);
           -- a job that stands stood, and its leaf isn't in the region
           unbegun = λ leaf job stands frozen.
               let outside : NearestRoot now.roots.roots old.homes old.covers leaf root → ⊥ = λ inside. not_none _ job (ends.ended leaf inside) stands in

@@ -1,8 +1,7 @@
 -- What a change of the tree makes of the roots, and of every leaf's authority.
 use Rattle.ranked_tree.proofs.Common.{AreRoots, Bool, Change, Covers, Dentry, FollowChange, Fragment, GivesToChildren, HasAuthority, HaveOneAuthority, Homes, IfSome, Ino, Inode, IsMergedInto, IsRootMerge, IsRootSplit, IsSettled, IsSound, IsSplitInto, IsSubtrees, IsTable, LoseDirectory, Makes, MatchBool, MayChange, MayGo, MayMove, None, Option, Roots, SettleMove, Shape, Some, Spot, State, TakesOver, add, ap, dentry_at, dir_or_not, false, home_at, is_dir_kind, may_come, may_drop, move, moved_home, moved_known, refl, remove, removes, rows_but, set, shown_tree, subst, sym, true, with_dir, with_file, with_home, ℕ, ⊎_elim, ◌∙◌, ◌≡◌}
 use Rattle.std.specs.FinMap as map
-use Rattle.ranked_tree.proofs.MoveLaws.{if_dir, relocates, replaces}
-use Rattle.ranked_tree.proofs.ChangedTables.{added_tables, grown_tables, moved_tables, removed_tables, set_tables}
+use Rattle.ranked_tree.proofs.ChangedTables.{added_tables, grown_tables, moved_tables, removed_tables, set_tables, if_dir, relocates, replaces}
 use Rattle.ranked_tree.proofs.RootLaws.{IsSoundChange, child_authority, divided_soundly, grown, lost, merged_authority, merged_soundly, rehomed, sound_on, unchanged}
 
 -- a directory went, or none did

@@ -1,6 +1,5 @@
 -- What a walk over the leaves of a directory finds.
 use Rattle.ranked_tree.proofs.Common.{Bool, Contains, Fragment, HasLeaf, Ino, Inode, IsPick, IsSound, List, Names, None, Some, State, [], all_pass, ap, at_dentry, cond, dentry_of, entries_there, false, find, has_entries, has_none, hash_of, is_known, key_cmp, key_itself, leaves_of, list_all, names_after, names_are_listed, names_of, no_entries_listed, no_name, not, refl, shown_tree, some_fails, some_name, some_pick, subst, sym, tree_of_row, true, ℕ, ◌&&◌, ◌∙◌, ◌∷◌, ◌≡◌}
-use Rattle.std.specs.FinMap as map
 use Rattle.fragtree.proofs.TreeLaws.{first as first_has, later as later_has}
 
 -- ---- leaf by leaf
@@ -27,16 +26,13 @@ module _ (s : State) (sound : IsSound s) (dir : Ino) (known : is_known s.homes d
   abbrev p : Fragment → Bool
   p f = has_none (names_in f)
 
-  none_at : list_all p (leaves_of s.covers dir.0) ≡ true → (name : List ℕ) → map.get (shown_tree s) (dentry_of dir.0 name) ≡ None
-  none_at holds name =
-      let w = some_pick (leaves_of s.covers dir.0) (hash_of name) (tree_of_row s.homes s.covers sound.table dir.0) in
-      at_dentry s sound dir.0 name w.0 known w.1 ∙ no_name (names_in w.0) name (all_pass p (leaves_of s.covers dir.0) holds w.0 w.1.stands)
-
   none_listed : list_all p (leaves_of s.covers dir.0) ≡ true → (rows : List (List ℕ × Inode)) → names_after (shown_tree s) dir.0 None ≡ rows → rows ≡ []
   none_listed holds [] is = refl
   none_listed holds (row ∷ rows) is =
+      let w = some_pick (leaves_of s.covers dir.0) (hash_of row.0) (tree_of_row s.homes s.covers sound.table dir.0) in
+      let none = at_dentry s sound dir.0 row.0 w.0 known w.1 ∙ no_name (names_in w.0) row.0 (all_pass p (leaves_of s.covers dir.0) holds w.0 w.1.stands) in
       let found : Some row.1 ≡ None =
-      sym (ap (λ (b : Bool). cond b (Some row.1) (find key_cmp row.0 rows)) (key_itself row.0)) ∙ ap (find key_cmp row.0) (sym is) ∙ (names_are_listed (shown_tree s) dir.0 None).exact row.0 ∙ none_at holds row.0 in
+      sym (ap (λ (b : Bool). cond b (Some row.1) (find key_cmp row.0 rows)) (key_itself row.0)) ∙ ap (find key_cmp row.0) (sym is) ∙ (names_are_listed (shown_tree s) dir.0 None).exact row.0 ∙ none in
       absurd cc
 
   -- a directory of whose leaves none shows a name has no entries, and no other has none

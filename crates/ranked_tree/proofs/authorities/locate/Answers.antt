@@ -1,5 +1,4 @@
-use Rattle.ranked_tree.proofs.Common.{Counts, Homes, ap, count_of, held_in, ◌∙◌}
-use Rattle.std.specs.FinMap as map
+use Rattle.ranked_tree.proofs.Common.{Counts, ap, count_of, held_in, ◌∙◌}
 use Rattle.ranked_tree.proofs.AuthorityLaws.{located, nowhere, there_live}
 use Rattle.ranked_tree.proofs.authorities.locate.Goals as goal
 
@@ -8,9 +7,6 @@ returns-in_default g c = nowhere c.args.tree.now (held_in c.args.regions.now) c.
 
 pub held_leaf-at-requires-clause-live : goal.held_leaf-at-requires-clause-live
 held_leaf-at-requires-clause-live g c = there_live c.args.tree.now (held_in c.args.regions.now) c.requires c.args.dir c.args.hash c.dirs-dirs.result.now.homes c.dirs-dirs.result.now.trees c.dirs-dirs.ensures.homes c.dirs-dirs.ensures.trees c.in-Some.leaf.frag _ c.in-Some.ensures.at
-
-pub held_leaf-at-requires-clause-home : goal.held_leaf-at-requires-clause-home
-held_leaf-at-requires-clause-home g c = c.in-Some.ensures.at.home ∙ ap (λ (h : Homes). map.get h c.args.dir.0) c.dirs-dirs.ensures.homes
 
 pub returns : goal.returns
 returns g c = record {

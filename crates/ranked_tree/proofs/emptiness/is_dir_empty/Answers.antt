@@ -1,7 +1,6 @@
-use Rattle.ranked_tree.proofs.Common.{Fragment, IfOk-weaker, List, ap, has_none, leaves_of, list_all, names_of, refl, state_of, ◌∙◌}
+use Rattle.ranked_tree.proofs.Common.{Fragment, IfOk-weaker, List, ap, has_none, leaves_of, list_all, names_of, refl, state_of, ◌∙◌, reads_none}
 use Rattle.ranked_tree.proofs.WalkLaws.{told_empty}
 use Rattle.ranked_tree.proofs.AskLaws.{dir_known, leaf_live}
-use Rattle.dentry_cache.specs.Reads.Reads.{stays}
 use Rattle.ranked_tree.proofs.emptiness.is_dir_empty.Goals as goal
 
 pub are_empty-requires-clause-live : goal.are_empty-requires-clause-live
@@ -18,4 +17,4 @@ returns-in-Ok-clause-found g c =
     c.are_empty.ensures.found
 
 pub returns-in-Err-clause-reads : goal.returns-in-Err-clause-reads
-returns-in-Err-clause-reads g c = stays
+returns-in-Err-clause-reads g c = reads_none

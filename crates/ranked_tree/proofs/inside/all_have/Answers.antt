@@ -1,5 +1,4 @@
-use Rattle.ranked_tree.proofs.Common.{HasAuthority, Rank, arith, false, leaves_of, one_authority, refl, rules, subst, sym, tree_of_row, true, ℕ, ◌∙◌, ◌≡◌}
-use Rattle.mds_types.specs.Leaf.{Leaf}
+use Rattle.ranked_tree.proofs.Common.{HasAuthority, Rank, arith, false, leaves_of, one_authority, refl, rules, subst, sym, tree_of_row, true, ℕ, ◌∙◌, ◌≡◌, Leaf}
 use Rattle.ranked_tree.proofs.InsideLaws.{Done, is_within, of_all, walk_ends, walk_goes, walk_on, walk_starts}
 use Rattle.ranked_tree.proofs.inside.all_have.Goals as goal
 
@@ -10,9 +9,6 @@ loop-leaf-init c = record {
       subst (λ (h : ℕ). Done (leaves_of c.args.dirs.now.trees c.args.dir.0) c.args.frag (λ g. HasAuthority c.args.roots.now.roots c.args.dirs.now.homes c.args.dirs.now.trees (c.args.dir, g) c.args.rank) h) (sym c.value-hash.ensures.value)
       (walk_starts (leaves_of c.args.dirs.now.trees c.args.dir.0) (tree_of_row c.args.dirs.now.homes c.args.dirs.now.trees c.contains.ensures.valid c.args.dir.0) c.args.frag c.value-hash.ensures.valid _);
 }
-
-pub leaf_inside-requires : goal.leaf_inside-requires
-leaf_inside-requires c = c.loop-leaf.invariant.from
 
 pub returns-then-ne : goal.returns-then-ne
 returns-then-ne c =

@@ -1,5 +1,4 @@
-use Rattle.ranked_tree.proofs.Common.{IsFrozen, arith, false, leaves_of, refl, rules, subst, sym, tree_of_row, true, ℕ, ◌∙◌, ◌≡◌}
-use Rattle.mds_types.specs.Leaf.{Leaf}
+use Rattle.ranked_tree.proofs.Common.{IsFrozen, arith, false, leaves_of, refl, rules, subst, sym, tree_of_row, true, ℕ, ◌∙◌, ◌≡◌, Leaf}
 use Rattle.ranked_tree.proofs.InsideLaws.{Done, is_within, of_all, walk_ends, walk_goes, walk_on, walk_starts}
 use Rattle.ranked_tree.proofs.inside.some_frozen.Goals as goal
 
@@ -10,9 +9,6 @@ loop-leaf-init c = record {
       subst (λ (h : ℕ). Done (leaves_of c.args.dirs.now.trees c.args.dir.0) c.args.frag (λ g. IsFrozen c.args.regions.now.exports c.args.regions.now.roots.roots c.args.dirs.now.homes c.args.dirs.now.trees (c.args.dir, g) → ⊥) h) (sym c.value-hash.ensures.value)
       (walk_starts (leaves_of c.args.dirs.now.trees c.args.dir.0) (tree_of_row c.args.dirs.now.homes c.args.dirs.now.trees c.contains.ensures.valid c.args.dir.0) c.args.frag c.value-hash.ensures.valid _);
 }
-
-pub leaf_inside-requires : goal.leaf_inside-requires
-leaf_inside-requires c = c.loop-leaf.invariant.from
 
 pub returns-then-is_frozen : goal.returns-then-is_frozen
 returns-then-is_frozen c =

@@ -1,9 +1,7 @@
-use Rattle.ranked_tree.proofs.Common.{Covers, Fragment, HasLeaf, List, None, ap, gathered, held_in, keeps_itself, keeps_on, leaf_more, leaves_of, names_of, option_copied, refl, subst, unclean, ℕ, ◌∙◌, ◌≡◌}
-use Rattle.mdcache.specs.State.{State as TreeState}
+use Rattle.ranked_tree.proofs.Common.{Covers, Fragment, HasLeaf, List, None, ap, gathered, held_in, keeps_itself, keeps_on, leaf_more, leaves_of, names_of, option_copied, refl, subst, unclean, ℕ, ◌∙◌, ◌≡◌, State, reads_none}
 use Rattle.ranked_tree.proofs.WalkLaws.{first_within, rest_within}
 use Rattle.ranked_tree.proofs.AskLaws.{live_still, refused_before}
 use Rattle.ranked_tree.proofs.ReadsForLaws.{reads_on}
-use Rattle.dentry_cache.specs.Reads.Reads.{stays}
 use Rattle.ranked_tree.proofs.listing.gather_leaves.Goals as goal
 
 pub gather_leaf-requires-clause-live : goal.gather_leaf-requires-clause-live
@@ -14,7 +12,7 @@ pub loop-frag-preserved : goal.loop-frag-preserved
 loop-frag-preserved g c =
     let inv = c.loop-frag.invariant in
     let steps = c.in-Some.ensures.steps in
-    let told : names_of (unclean c.loop-frag.tree.caches) c.loop-frag.tree.objects (c.args.dir, c.in-Some.frag) ≡ names_of (unclean c.args.tree.now.caches) c.args.tree.now.objects (c.args.dir, c.in-Some.frag) = ap (λ (s : TreeState). names_of s.unsaved s.objects (c.args.dir, c.in-Some.frag)) inv.kept.state in
+    let told : names_of (unclean c.loop-frag.tree.caches) c.loop-frag.tree.objects (c.args.dir, c.in-Some.frag) ≡ names_of (unclean c.args.tree.now.caches) c.args.tree.now.objects (c.args.dir, c.in-Some.frag) = ap (λ (s : State). names_of s.unsaved s.objects (c.args.dir, c.in-Some.frag)) inv.kept.state in
     record {
       kept = keeps_on c.args.tree.now c.loop-frag.tree c.gather_leaf.new.tree None inv.kept c.in-Ok.ensures.kept;
       reads = reads_on (held_in c.args.regions.now) (λ (d : ℕ). d ≡ c.args.dir.0) c.args.tree.now c.loop-frag.tree c.gather_leaf.new.tree inv.kept inv.reads c.in-Ok.ensures.reads;
@@ -39,7 +37,7 @@ loop-frag-init g c =
     let same : c.into_iter-frag-iterator.result ≡ leaves_of c.args.tree.now.covers c.args.dir.0 = c.into_iter-frag-iterator.ensures.into_iter_gives ∙ c.in_ok-leaves.ensures.leaves ∙ ap (λ (cs : Covers). leaves_of cs c.args.dir.0) c.dirs.ensures.trees in
     record {
       kept = keeps_itself c.args.tree.now;
-      reads = stays;
+      reads = reads_none;
       owned = c.requires.owned;
       within = λ f has. subst (λ (fs : List Fragment). HasLeaf fs f) same has;
       most = refl;
@@ -47,4 +45,4 @@ loop-frag-init g c =
     }
 
 pub returns-in_err-leaves-clause-reads : goal.returns-in_err-leaves-clause-reads
-returns-in_err-leaves-clause-reads g c = stays
+returns-in_err-leaves-clause-reads g c = reads_none

@@ -11,9 +11,6 @@ invariant_of-self g c =
     (evict_keeps c.self.inside.tree c.evict.new.self c.args.rank.0 its.state c.evict.result its.evicted its.left its.refused (ap (λ (k : Core). k.faults) its.beside)).count
     (same_jobs (state_of c.self.inside.tree) (state_of c.evict.new.self) (ap (λ (s : State). s.jobs) its.state)) (ap (λ (s : State). s.homes) its.state) (ap (λ (s : State). s.covers) its.state)
 
-pub returns-clause-evicted : goal.returns-clause-evicted
-returns-clause-evicted g c = rw (← c.self.view_is) c.evict.ensures.evicted
-
 pub returns-clause-kept : goal.returns-clause-kept
 returns-clause-kept g c =
     let its = c.evict.ensures in rw (← c.self.view_is) (evict_keeps c.self.inside.tree c.evict.new.self c.args.rank.0 its.state c.evict.result its.evicted its.left its.refused (ap (λ (k : Core). k.faults) its.beside))

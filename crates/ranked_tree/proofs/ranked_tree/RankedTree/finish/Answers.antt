@@ -1,9 +1,6 @@
 use Rattle.ranked_tree.proofs.StepLaws.{finish_divided, finish_holds, finish_others}
 use Rattle.ranked_tree.proofs.ranked_tree.RankedTree.finish.Goals as goal
 
-pub finish-requires : goal.finish-requires
-finish-requires g c = c.self.invariant.stand.placed
-
 pub invariant_of-self : goal.invariant_of-self
 invariant_of-self g c = finish_divided c.self.inside.tree c.self.inside.regions (record { roots = c.finish.new.subtrees; exports = c.finish.new.self }) _ c.self.invariant c.finish.ensures.placed c.finish.result c.finish.ensures.outcome
 

@@ -10,8 +10,5 @@ merge_with_roots-requires-clause-thawed g c = subst (λ (r : Ranked). AreThawed 
 pub returns-clause-one : goal.returns-clause-one
 returns-clause-one g c = rw (← c.self.view_is) c.merge_with_roots.ensures.one
 
-pub returns-clause-kept : goal.returns-clause-kept
-returns-clause-kept g c = rw (← c.self.view_is) c.merge_with_roots.ensures.kept
-
 pub returns-clause-merged : goal.returns-clause-merged
 returns-clause-merged g c = rw (← c.self.view_is) c.merge_with_roots.ensures.merged

@@ -1,4 +1,0 @@
-use Rattle.ranked_tree.proofs.authorities.is_frozen.Goals as goal
-
-pub returns : goal.returns
-returns g c = rw (← c.dirs.ensures.homes, ← c.dirs.ensures.trees) c.is_frozen.ensures
