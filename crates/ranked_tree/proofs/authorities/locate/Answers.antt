@@ -1,12 +1,9 @@
 use Rattle.ranked_tree.proofs.Common.{Counts, ap, count_of, held_in, ◌∙◌}
-use Rattle.ranked_tree.proofs.AuthorityLaws.{located, nowhere, there_live}
+use Rattle.ranked_tree.proofs.AuthorityLaws.{located, nowhere}
 use Rattle.ranked_tree.proofs.authorities.locate.Goals as goal
 
 pub returns-in_default : goal.returns-in_default
 returns-in_default g c = nowhere c.args.tree.now (held_in c.args.regions.now) c.requires c.args.dir c.args.hash c.dirs-dirs.result.now.homes c.dirs-dirs.result.now.trees c.dirs-dirs.ensures.homes c.dirs-dirs.ensures.trees c.in_default.ensures.at
-
-pub held_leaf-at-requires-clause-live : goal.held_leaf-at-requires-clause-live
-held_leaf-at-requires-clause-live g c = there_live c.args.tree.now (held_in c.args.regions.now) c.requires c.args.dir c.args.hash c.dirs-dirs.result.now.homes c.dirs-dirs.result.now.trees c.dirs-dirs.ensures.homes c.dirs-dirs.ensures.trees c.in-Some.leaf.frag _ c.in-Some.ensures.at
 
 pub returns : goal.returns
 returns g c = record {

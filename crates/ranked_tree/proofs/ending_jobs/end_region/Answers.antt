@@ -1,14 +1,6 @@
-use Rattle.ranked_tree.proofs.Common.{refl, state_of, ◌∙◌}
-use Rattle.ranked_tree.proofs.EndedLaws.{all_ended, ended_on, fewer_left, none_ended}
+use Rattle.ranked_tree.proofs.Common.{state_of, ◌∙◌}
+use Rattle.ranked_tree.proofs.EndedLaws.{ended_on, fewer_left}
 use Rattle.ranked_tree.proofs.ending_jobs.end_region.Goals as goal
-
-pub loop-leaf-init : goal.loop-leaf-init
-loop-leaf-init g c = record {
-  ended = none_ended c.args.roots.now.roots c.args.root.now (state_of c.args.tree.now);
-  caches = refl;
-  faults = refl;
-  sound = c.requires.sound;
-}
 
 pub loop-leaf-smaller : goal.loop-leaf-smaller
 loop-leaf-smaller g c = fewer_left c.args.roots.now.roots c.args.root.now (state_of c.args.tree.now) (state_of c.loop-leaf.tree) c.loop-leaf.last c.in-Some.leaf c.loop-leaf.invariant.ended c.in-Some.ensures
@@ -20,6 +12,3 @@ loop-leaf-preserved g c = record {
   faults = c.end_inside.ensures.faults ∙ c.loop-leaf.invariant.faults;
   sound = c.end_inside.ensures.sound;
 }
-
-pub returns-clause-ended : goal.returns-clause-ended
-returns-clause-ended g c = all_ended c.args.roots.now.roots c.args.root.now (state_of c.args.tree.now) (state_of c.loop-leaf.tree) c.loop-leaf.last c.loop-leaf.invariant.ended c.in_default.ensures

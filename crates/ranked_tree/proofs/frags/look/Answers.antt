@@ -1,4 +1,4 @@
-use Rattle.ranked_tree.proofs.Common.{Dentry, IfOk, Ino, IsPick, ReadsDir, ap, hash_of, held_in, is_directory, leaf_of, leaves_of, on_ok_weaker, shown_tree, state_of, subst, sym, ◌∙◌, ◌≡◌}
+use Rattle.ranked_tree.proofs.Common.{Dentry, IfOk, Ino, ReadsDir, held_in, leaf_of, on_ok_weaker, shown_tree, state_of, subst, ◌≡◌}
 use Rattle.std.specs.FinMap as map
 use Rattle.ranked_tree.proofs.AskLaws.{read_of}
 use Rattle.ranked_tree.proofs.HeldLaws.{may_hold}
@@ -6,12 +6,6 @@ use Rattle.ranked_tree.proofs.frags.look.Goals as goal
 
 pub look-requires-clause-holds : goal.look-requires-clause-holds
 look-requires-clause-holds g c = may_hold (state_of c.args.tree.now) c.args.tree.now.caches (held_in c.args.regions.now) c.requires.owned.held (leaf_of c.args.at.now) c.args.at.now.rank c.requires.at.held
-
-pub look-requires-clause-known : goal.look-requires-clause-known
-look-requires-clause-known g c = ap (is_directory (shown_tree (state_of c.args.tree.now))) c.requires.at.dir ∙ c.requires.at.stands
-
-pub look-requires-clause-leaf : goal.look-requires-clause-leaf
-look-requires-clause-leaf g c = subst (λ d. IsPick (leaves_of c.args.tree.now.covers d) (hash_of c.args.dentry.now.name) c.args.at.now.frag) (sym c.requires.at.dir) c.requires.at.leaf
 
 pub returns : goal.returns
 returns g c =

@@ -1,14 +1,6 @@
-use Rattle.ranked_tree.proofs.Common.{HasAuthority, Rank, arith, false, leaves_of, one_authority, refl, rules, subst, sym, tree_of_row, true, ℕ, ◌∙◌, ◌≡◌, Leaf}
-use Rattle.ranked_tree.proofs.InsideLaws.{Done, is_within, of_all, walk_ends, walk_goes, walk_on, walk_starts}
+use Rattle.ranked_tree.proofs.Common.{HasAuthority, Rank, arith, false, leaves_of, one_authority, rules, subst, sym, tree_of_row, true, ◌∙◌, ◌≡◌}
+use Rattle.ranked_tree.proofs.InsideLaws.{is_within, walk_goes, walk_on}
 use Rattle.ranked_tree.proofs.inside.all_have.Goals as goal
-
-pub loop-leaf-init : goal.loop-leaf-init
-loop-leaf-init c = record {
-  from = omega (arith, c.value-hash.ensures.value);
-  done =
-      subst (λ (h : ℕ). Done (leaves_of c.args.dirs.now.trees c.args.dir.0) c.args.frag (λ g. HasAuthority c.args.roots.now.roots c.args.dirs.now.homes c.args.dirs.now.trees (c.args.dir, g) c.args.rank) h) (sym c.value-hash.ensures.value)
-      (walk_starts (leaves_of c.args.dirs.now.trees c.args.dir.0) (tree_of_row c.args.dirs.now.homes c.args.dirs.now.trees c.contains.ensures.valid c.args.dir.0) c.args.frag c.value-hash.ensures.valid _);
-}
 
 pub returns-then-ne : goal.returns-then-ne
 returns-then-ne c =
@@ -18,11 +10,6 @@ returns-then-ne c =
       λ all. absurd (apart (one_authority c.args.roots.now.roots c.args.dirs.now.homes c.args.dirs.now.trees (c.args.dir, c.in-Some.leaf) c.authority.result c.args.rank c.authority.ensures
           (all (c.args.dir, c.in-Some.leaf) (record { known = known; stands = c.in-Some.ensures.0 }) (is_within c.args.dir c.args.frag c.in-Some.leaf c.in-Some.ensures.1)))),
     )
-
-pub loop-leaf-smaller : goal.loop-leaf-smaller
-loop-leaf-smaller c =
-    let on = walk_on (leaves_of c.args.dirs.now.trees c.args.dir.0) c.args.frag c.loop-leaf.hash c.in-Some.leaf c.end_of-hash.result (tree_of_row c.args.dirs.now.homes c.args.dirs.now.trees c.contains.ensures.valid c.args.dir.0) c.in-Some.ensures c.end_of-hash.ensures.end in
-    omega (arith, on.0, on.1)
 
 pub loop-leaf-preserved : goal.loop-leaf-preserved
 loop-leaf-preserved c =
@@ -35,10 +22,3 @@ loop-leaf-preserved c =
           walk_goes (leaves_of c.args.dirs.now.trees c.args.dir.0) tree c.args.frag c.value-hash.ensures.valid (λ g. HasAuthority c.args.roots.now.roots c.args.dirs.now.homes c.args.dirs.now.trees (c.args.dir, g) c.args.rank) c.loop-leaf.hash c.in-Some.leaf c.end_of-hash.result c.loop-leaf.invariant.done c.in-Some.ensures
           (subst (λ (r : Rank). HasAuthority c.args.roots.now.roots c.args.dirs.now.homes c.args.dirs.now.trees (c.args.dir, c.in-Some.leaf) r) same c.authority.ensures) c.end_of-hash.ensures.end;
     }
-
-pub returns : goal.returns
-returns c = (
-  λ told. of_all c.args.dirs.now.homes c.args.dirs.now.trees c.args.dir c.args.frag (λ (leaf : Leaf). HasAuthority c.args.roots.now.roots c.args.dirs.now.homes c.args.dirs.now.trees leaf c.args.rank)
-      (walk_ends (leaves_of c.args.dirs.now.trees c.args.dir.0) (tree_of_row c.args.dirs.now.homes c.args.dirs.now.trees c.contains.ensures.valid c.args.dir.0) c.args.frag c.value-hash.ensures.valid (λ g. HasAuthority c.args.roots.now.roots c.args.dirs.now.homes c.args.dirs.now.trees (c.args.dir, g) c.args.rank) c.loop-leaf.hash c.loop-leaf.invariant.done c.in_default.ensures),
-  λ all. refl,
-)

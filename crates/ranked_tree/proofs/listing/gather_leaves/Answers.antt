@@ -25,10 +25,6 @@ loop-frag-preserved g c =
           (names_of (unclean c.loop-frag.tree.caches) c.loop-frag.tree.objects (c.args.dir, c.in-Some.frag)) told steps w.1 w.2 c.in-Ok.ensures.page;
     }
 
-pub returns-in-Err-clause-refused : goal.returns-in-Err-clause-refused
-returns-in-Err-clause-refused g c =
-    refused_before c.args.tree.now c.loop-frag.tree (held_in c.args.regions.now) (c.args.dir, c.in-Some.frag) c.gather_leaf.new.tree.faults c.in-Err.refusal c.loop-frag.invariant.kept c.in-Err.ensures.refused
-
 pub returns-in-Err-clause-reads : goal.returns-in-Err-clause-reads
 returns-in-Err-clause-reads g c = reads_on (held_in c.args.regions.now) (λ (d : ℕ). d ≡ c.args.dir.0) c.args.tree.now c.loop-frag.tree c.gather_leaf.new.tree c.loop-frag.invariant.kept c.loop-frag.invariant.reads c.gather_leaf.ensures.reads
 

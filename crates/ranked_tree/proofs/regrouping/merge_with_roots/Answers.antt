@@ -24,14 +24,8 @@ returns-in-Err g c =
       divided = undone c.args.tree.now c.args.tree.now c.args.regions.now c.reserve_merge.new.roots c.requires.divided c.requires.divided.owned refl refl same c.reserve_merge.ensures.promises;
     }
 
-pub merge_held-requires-clause-owned : goal.merge_held-requires-clause-owned
-merge_held-requires-clause-owned g c = subst (λ (r : Roots). IsOwned c.args.tree.now (holding c.args.regions.now.exports r)) (sym c.reserve_merge.ensures.same) c.requires.divided.owned
-
 pub merge_held-requires-clause-one : goal.merge_held-requires-clause-one
 merge_held-requires-clause-one g c = subst (λ (r : Roots). HaveOneAuthority r c.args.tree.now.homes c.args.tree.now.covers c.args.dir.0 c.args.frag) (sym c.reserve_merge.ensures.same) c.requires.one
-
-pub merge_held-requires-clause-thawed : goal.merge_held-requires-clause-thawed
-merge_held-requires-clause-thawed g c = subst (λ (r : Roots). AreThawed c.args.regions.now.exports r c.args.tree.now.homes c.args.tree.now.covers c.args.dir c.args.frag) (sym c.reserve_merge.ensures.same) c.requires.thawed
 
 pub returns-in-Err-merge_held : goal.returns-in-Err-merge_held
 returns-in-Err-merge_held g c =

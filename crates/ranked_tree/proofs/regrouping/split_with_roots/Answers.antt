@@ -1,4 +1,4 @@
-use Rattle.ranked_tree.proofs.Common.{CameAt, CanSplit, Err, IsFamilyOf, IsFrozen, IsOwned, IsRootSplit, LacksPlacesFor, RefusesSplit, Roots, Rules, SplitsLeaf, arith, held_in, holding, leaf_of, leaves_of, refl, regroup_free, state_of, stays, subst, sym, ◌+◌, ◌^◌, ◌∙◌}
+use Rattle.ranked_tree.proofs.Common.{CameAt, CanSplit, Err, IsFamilyOf, IsRootSplit, LacksPlacesFor, RefusesSplit, Roots, Rules, SplitsLeaf, arith, held_in, leaf_of, leaves_of, refl, regroup_free, state_of, stays, subst, ◌+◌, ◌^◌, ◌∙◌}
 use Rattle.ranked_tree.proofs.DividedLaws.{split_divided}
 use Rattle.ranked_tree.proofs.HeldRegroups.{regroup_on, unsplit_owned}
 use Rattle.ranked_tree.proofs.Kept.{keeps_same}
@@ -23,12 +23,6 @@ returns-in-Err g c =
       kept = keeps_same (state_of c.args.tree.now) (state_of c.args.tree.now) _ _ _ _ refl same refl c.requires.divided.stand.valid;
       divided = undone c.args.tree.now c.args.tree.now c.args.regions.now c.reserve_split.new.roots c.requires.divided c.requires.divided.owned refl refl same c.reserve_split.ensures.promises;
     }
-
-pub split_held-requires-clause-owned : goal.split_held-requires-clause-owned
-split_held-requires-clause-owned g c = subst (λ (r : Roots). IsOwned c.args.tree.now (holding c.args.regions.now.exports r)) (sym c.reserve_split.ensures.same) c.requires.divided.owned
-
-pub split_held-requires-clause-thawed : goal.split_held-requires-clause-thawed
-split_held-requires-clause-thawed g c = subst (λ (r : Roots). IsFrozen c.args.regions.now.exports r c.args.tree.now.homes c.args.tree.now.covers (leaf_of c.args.at.now) → ⊥) (sym c.reserve_split.ensures.same) c.requires.thawed
 
 pub returns-in-Err-split_held : goal.returns-in-Err-split_held
 returns-in-Err-split_held g c =

@@ -5,8 +5,5 @@ pub invariant_of-self : goal.invariant_of-self
 invariant_of-self g c =
     step_divided c.self.inside.tree c.self.inside.regions (record { roots = c.cancel.new.subtrees; exports = c.cancel.new.self }) c.self.invariant (cancel_still _ _ _ _ _ _ c.cancel.result c.cancel.ensures.outcome) (c.cancel.ensures.placed c.self.invariant.stand.placed)
 
-pub returns-clause-roots : goal.returns-clause-roots
-returns-clause-roots g c = rw (← c.self.view_is) (cancel_still 0 _ _ _ _ _ c.cancel.result c.cancel.ensures.outcome).roots
-
 pub returns-clause-holders : goal.returns-clause-holders
 returns-clause-holders g c = rw (← c.self.view_is) (cancel_still 0 _ _ _ _ _ c.cancel.result c.cancel.ensures.outcome).holds

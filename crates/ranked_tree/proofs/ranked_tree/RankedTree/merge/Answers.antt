@@ -4,9 +4,6 @@ use Rattle.ranked_tree.proofs.ranked_tree.RankedTree.merge.Goals as goal
 pub merge_with_roots-requires-clause-one : goal.merge_with_roots-requires-clause-one
 merge_with_roots-requires-clause-one g c = subst (λ (r : Ranked). HaveOneAuthority r.subtrees.roots r.tree.homes r.tree.covers c.args.dir.0 c.args.frag) (sym c.self.view_is) c.requires.one
 
-pub merge_with_roots-requires-clause-thawed : goal.merge_with_roots-requires-clause-thawed
-merge_with_roots-requires-clause-thawed g c = subst (λ (r : Ranked). AreThawed r.exports r.subtrees.roots r.tree.homes r.tree.covers c.args.dir c.args.frag) (sym c.self.view_is) c.requires.thawed
-
 pub returns-clause-one : goal.returns-clause-one
 returns-clause-one g c = rw (← c.self.view_is) c.merge_with_roots.ensures.one
 
