@@ -8,10 +8,10 @@ returns-in-Err-clause-sound g c = faults_sound c.args.self.now _ c.self.view_is 
 
 pub returns-clause-saved : goal.returns-clause-saved
 returns-clause-saved g c = tree_is c.args.self.now _ c.self.view_is c.requires c.args.dir (g.S.Store.objects c.save_tree.new.store) c.remove.new.self.names (g.S.Store.faults c.save_tree.new.store) (record { dirs = c.self.inside.dirs.room; jobs = c.self.inside.jobs.room; purge = c.remove.new.self.room }) (sym c.contains.ensures.known ∙ c.if-not-contains.false)
-    (subst (λ (text : List ℕ). g.S.Store.objects c.save_tree.new.store ≡ with_tree_at (g.S.Store.objects c.self.inside.store) text (leaves_of c.self.inside.dirs.trees c.args.dir.0)) (c.as_str.ensures.value ∙ c.in_ok-text.ensures.ok) c.in_default.ensures.saved)
-    (c.remove.ensures.removed ∙ ap (map.remove c.self.inside.purge.names) (c.as_str-2.ensures.value ∙ c.in_ok-text.ensures.ok))
+    (subst (λ (text : List ℕ). g.S.Store.objects c.save_tree.new.store ≡ with_tree_at (g.S.Store.objects c.self.inside.store) text (leaves_of c.self.inside.dirs.trees c.args.dir.0)) (c.as_str.ensures.value ∙ c.in_ok-text.ensures) c.in_default.ensures.saved)
+    (c.remove.ensures.removed ∙ ap (map.remove c.self.inside.purge.names) (c.as_str-2.ensures.value ∙ c.in_ok-text.ensures))
 
 pub returns-clause-sound : goal.returns-clause-sound
 returns-clause-sound g c = tree_sound c.args.self.now _ c.self.view_is c.requires c.args.dir (g.S.Store.objects c.save_tree.new.store) c.remove.new.self.names (g.S.Store.faults c.save_tree.new.store) (record { dirs = c.self.inside.dirs.room; jobs = c.self.inside.jobs.room; purge = c.remove.new.self.room }) (sym c.contains.ensures.known ∙ c.if-not-contains.false)
-    (subst (λ (text : List ℕ). g.S.Store.objects c.save_tree.new.store ≡ with_tree_at (g.S.Store.objects c.self.inside.store) text (leaves_of c.self.inside.dirs.trees c.args.dir.0)) (c.as_str.ensures.value ∙ c.in_ok-text.ensures.ok) c.in_default.ensures.saved)
-    (c.remove.ensures.removed ∙ ap (map.remove c.self.inside.purge.names) (c.as_str-2.ensures.value ∙ c.in_ok-text.ensures.ok))
+    (subst (λ (text : List ℕ). g.S.Store.objects c.save_tree.new.store ≡ with_tree_at (g.S.Store.objects c.self.inside.store) text (leaves_of c.self.inside.dirs.trees c.args.dir.0)) (c.as_str.ensures.value ∙ c.in_ok-text.ensures) c.in_default.ensures.saved)
+    (c.remove.ensures.removed ∙ ap (map.remove c.self.inside.purge.names) (c.as_str-2.ensures.value ∙ c.in_ok-text.ensures))
