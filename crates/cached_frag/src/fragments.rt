@@ -42,9 +42,24 @@ impl Model for CachedFrag {
 
     ghost coded = { Prim.hlevel (codes, map.code) };
 
-    ghost view = { λ f. record { base = f.base; generation = f.generation; clean = contents key_cmp f.clean; dirty = contents key_cmp f.dirty; room = f.room; places = f.clean.room } };
+    ghost view = { λ f. record {
+      base = f.base;
+      generation = f.generation;
+      clean = contents key_cmp f.clean;
+      dirty = contents key_cmp f.dirty;
+      room = f.room;
+      places = f.clean.room;
+    } };
 
-    ghost invariant = { λ f. IsKept (record { base = f.base; generation = f.generation; clean = contents key_cmp f.clean; dirty = contents key_cmp f.dirty; room = f.room; places = f.clean.room }) f.counts f.dirty.room };
+    ghost invariant = { λ f. IsKept
+        (record {
+          base = f.base;
+          generation = f.generation;
+          clean = contents key_cmp f.clean;
+          dirty = contents key_cmp f.dirty;
+          room = f.room;
+          places = f.clean.room;
+        }) f.counts f.dirty.room };
 }
 
 impl CachedFrag {

@@ -16,7 +16,14 @@ impl CachedFrag {
     /// A fragment whose object spells these names at this commit version. Takes no memory.
     pub fn stored(alloc: Global, version: u64, names: SortedMap<Name, Inode>) -> CachedFrag
         requires { AreEntries (contents key_cmp names) }
-        ensures { result ≡ record { base = Base.Stored version; generation = 0; clean = contents key_cmp names; dirty = map.empty; room = 0; places = names.room } }
+        ensures { result ≡ record {
+          base = Base.Stored version;
+          generation = 0;
+          clean = contents key_cmp names;
+          dirty = map.empty;
+          room = 0;
+          places = names.room;
+        } }
     {
         let counts = counts_in(&names);
         CachedFrag {

@@ -39,7 +39,15 @@ impl Model for Found {
 
     ghost coded = { Prim.hlevel (codes, map.code) };
 
-    ghost view = { λ f. record { shape = record { queue = f.queue.items; met = contents nat_cmp f.met; tree = contents dentry_cmp f.entries; homes = f.dirs.homes }; covers = f.dirs.trees } };
+    ghost view = { λ f. record {
+      shape = record {
+        queue = f.queue.items;
+        met = contents nat_cmp f.met;
+        tree = contents dentry_cmp f.entries;
+        homes = f.dirs.homes;
+      };
+      covers = f.dirs.trees;
+    } };
 
     ghost invariant = { λ f. IsCounted map.empty f.dirs.counts f.dirs.pins };
 }

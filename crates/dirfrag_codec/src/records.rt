@@ -149,7 +149,8 @@ fn fields_of(bytes: &[u8]) -> Option<Fields<'_>>
 
 // What stands behind the letter and the version, and the bytes after it.
 fn front_of(bytes: &[u8]) -> Option<(Front, &[u8])>
-    ensures { Gives (λ x. (x.0.kind ∷ x.0.ino ∷ x.0.mode ∷ x.0.size ∷ x.0.mtime ∷ [], x.1.now)) result (numbers_at widths_front bytes.now) }
+    ensures { Gives (λ x. (x.0.kind ∷ x.0.ino ∷ x.0.mode ∷ x.0.size ∷ x.0.mtime ∷ [], x.1.now)) result
+        (numbers_at widths_front bytes.now) }
 {
     let (kind, rest) = u8_at(bytes)?;
     let (ino, rest) = u64_at(rest)?;

@@ -108,7 +108,8 @@ fn forget(splits: &mut SortedMap<Frag, u8>, f: Frag)
 // The first fragment within another that is split. They stand side by side, from the other one on.
 fn first_within(splits: &SortedMap<Frag, u8>, f: Frag) -> Option<Frag>
     ensures valid { IsFragment f }
-    ensures none { IfNone result ((g : Fragment) → IsFragment g → ContainsFragment f g → map.get (contents frag_cmp splits.now) g ≡ None) }
+    ensures none { IfNone result ((g : Fragment) → IsFragment g → ContainsFragment f g
+        → map.get (contents frag_cmp splits.now) g ≡ None) }
     ensures some { IfSome result (λ g. IsSome (map.get (contents frag_cmp splits.now) g) × ContainsFragment f g) }
 {
     let last = last_hash(f);

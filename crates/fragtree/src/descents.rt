@@ -12,7 +12,8 @@ pub fn leaf_of(splits: &SortedMap<Frag, u8>, hash: u32) -> Frag
     requires low { hash < 2 ^ 24 }
     requires some { AllSome (contents frag_cmp splits.now) }
     requires ends { EndsBeyond (contents frag_cmp splits.now) hash 0 }
-    ensures { (bits : ℕ) → bits ≤ 24 → Ends (splits_round (contents frag_cmp splits.now) hash) bits → result ≡ frag_at bits hash }
+    ensures { (bits : ℕ) → bits ≤ 24 → Ends (splits_round (contents frag_cmp splits.now) hash) bits
+        → result ≡ frag_at bits hash }
 {
     let mut leaf = Frag::ROOT;
     while let Some(nb) = splits.get(&leaf) {

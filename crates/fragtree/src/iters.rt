@@ -26,7 +26,8 @@ impl<'a> Model for Iter<'a> {
 
     ghost view = { λ a. drop a.done a.tree.now };
 
-    ghost invariant = { λ a. (a.done ≤ length a.tree.now) × IsTree a.tree.now × Tiles a.next (2 ^ 24) (drop a.done a.tree.now) };
+    ghost invariant = { λ a. (a.done ≤ length a.tree.now) × IsTree a.tree.now
+        × Tiles a.next (2 ^ 24) (drop a.done a.tree.now) };
 }
 
 impl<'a> Iterator for Iter<'a> {

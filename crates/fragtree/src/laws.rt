@@ -17,7 +17,8 @@ pub fn tree_covers()
 
 /// Trees with the same leaves are the same: their order and number follow.
 pub fn same_leaves_same_tree()
-    ensures { (a b : List Fragment) → IsTree a → IsTree b → ((leaf : Fragment) → HasLeaf a leaf ↔ HasLeaf b leaf) → a ≡ b }
+    ensures { (a b : List Fragment) → IsTree a → IsTree b → ((leaf : Fragment) → HasLeaf a leaf ↔ HasLeaf b leaf)
+        → a ≡ b }
 {}
 
 /// Every hash has a pick.
@@ -27,20 +28,24 @@ pub fn each_hash_has_a_pick()
 
 /// A hash has one pick.
 pub fn pick_is_unique()
-    ensures { (leaves : List Fragment) (hash : ℕ) (f g : Fragment) → IsPick leaves hash f → IsPick leaves hash g → f ≡ g }
+    ensures { (leaves : List Fragment) (hash : ℕ) (f g : Fragment) → IsPick leaves hash f → IsPick leaves hash g
+        → f ≡ g }
 {}
 
 /// What lies properly inside a fragment is contained in it, and is not the fragment itself.
 pub fn inside_is_contained()
-    ensures { (f g : Fragment) → IsFragment f → IsFragment g → (lies_inside f g ≡ true) ↔ (ContainsFragment f g × (g ≢ f)) }
+    ensures { (f g : Fragment) → IsFragment f → IsFragment g → (lies_inside f g ≡ true)
+        ↔ (ContainsFragment f g × (g ≢ f)) }
 {}
 
 /// A split is refused for one reason alone, and for want of memory only where it could be made.
 pub fn split_is_refused_for_one_reason()
-    ensures { (leaves : List Fragment) (f : Fragment) (nb : ℕ) (a b : Refusal) → RefusesSplit leaves f nb a → RefusesSplit leaves f nb b → a ≡ b }
+    ensures { (leaves : List Fragment) (f : Fragment) (nb : ℕ) (a b : Refusal) → RefusesSplit leaves f nb a
+        → RefusesSplit leaves f nb b → a ≡ b }
 {}
 
 /// A merge is refused for one reason alone, and for want of memory only where it could be made.
 pub fn merge_is_refused_for_one_reason()
-    ensures { (leaves : List Fragment) (f : Fragment) (a b : Refusal) → RefusesMerge leaves f a → RefusesMerge leaves f b → a ≡ b }
+    ensures { (leaves : List Fragment) (f : Fragment) (a b : Refusal) → RefusesMerge leaves f a
+        → RefusesMerge leaves f b → a ≡ b }
 {}

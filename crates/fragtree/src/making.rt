@@ -60,7 +60,8 @@ fn splits_of(alloc: Global, leaves: &[Frag]) -> Result<SortedMap<Frag, u8>, Allo
 
 // Splits each fragment round a leaf by 1 bit.
 fn split_round(splits: &mut SortedMap<Frag, u8>, leaf: Frag) -> Result<(), AllocError>
-    ensures split { OnOk result (IsSplitRound (contents frag_cmp splits.old) (contents frag_cmp splits.new) leaf leaf.bits) }
+    ensures split { OnOk result
+        (IsSplitRound (contents frag_cmp splits.old) (contents frag_cmp splits.new) leaf leaf.bits) }
     ensures some { OnErr result (0 < leaf.bits) }
 {
     for bits in 0..leaf.bits() {

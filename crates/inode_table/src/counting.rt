@@ -31,7 +31,10 @@ fn count_entry(dirs: &mut Dirs, dentry: &Dentry, inode: &Inode)
     requires known { is_known dirs.old.homes dentry.now.dir.0 ≡ true }
     requires few { count_of dirs.old.counts dentry.now.dir.0 < 2 ^ 64 - 1 }
     requires listed { is_dir_kind inode.now.kind ≡ true → is_some (map.get dirs.old.homes inode.now.ino.0) ≡ true }
-    ensures { dirs.new ≡ record dirs.old { counts = one_more dirs.old.counts dentry.now.dir.0; pins = with_pin dirs.old.pins inode.now } }
+    ensures { dirs.new ≡ record dirs.old {
+      counts = one_more dirs.old.counts dentry.now.dir.0;
+      pins = with_pin dirs.old.pins inode.now;
+    } }
 {
     dirs.entry_comes(dentry.dir);
     if inode.kind.is_dir() {

@@ -70,9 +70,16 @@ impl Model for Dirs {
 
     ghost coded = { Prim.hlevel (codes, map.code) };
 
-    ghost view = { λ d. record { homes = homes_of (contents nat_cmp d.below); trees = covers_of d.root (contents nat_cmp d.below); counts = counts_of d.in_root (contents nat_cmp d.below); pins = pins_of (contents nat_cmp d.below); room = d.below.room } };
+    ghost view = { λ d. record {
+      homes = homes_of (contents nat_cmp d.below);
+      trees = covers_of d.root (contents nat_cmp d.below);
+      counts = counts_of d.in_root (contents nat_cmp d.below);
+      pins = pins_of (contents nat_cmp d.below);
+      room = d.below.room;
+    } };
 
-    ghost invariant = { λ d. IsTable (homes_of (contents nat_cmp d.below)) (covers_of d.root (contents nat_cmp d.below)) };
+    ghost invariant = { λ d. IsTable (homes_of (contents nat_cmp d.below))
+        (covers_of d.root (contents nat_cmp d.below)) };
 }
 
 impl Dirs {
@@ -149,7 +156,8 @@ impl Dirs {
     /// The leaf of a directory that a hash picks, and what else its row tells; none exactly where there is no such
     /// directory. Takes no memory, and one search.
     pub fn leaf_at(&self, dir: Ino, hash: u32) -> Option<LeafAt<'_>>
-        ensures at { MatchOption result (is_known self.now.homes dir.0 ≡ false) (λ at. IsLeafAt self.now.homes self.now.trees dir.0 hash at.frag (option_copied at.home)) }
+        ensures at { MatchOption result (is_known self.now.homes dir.0
+            ≡ false) (λ at. IsLeafAt self.now.homes self.now.trees dir.0 hash at.frag (option_copied at.home)) }
         ensures entries { IfSome result (λ at. at.entries ≡ count_of self.now.counts dir.0) }
         ensures leaves { IfSome result (λ at. or_whole (option_copied at.leaves) ≡ leaves_of self.now.trees dir.0) }
     {
@@ -244,7 +252,8 @@ impl Dirs {
         ensures home { IfOk result (λ at. option_copied at.home ≡ map.get self.now.homes dir.0) }
         ensures entries { IfOk result (λ at. at.entries ≡ count_of self.now.counts dir.0) }
         ensures leaves { IfOk result (λ at. or_whole (option_copied at.leaves) ≡ leaves_of self.now.trees dir.0) }
-        ensures err { IfErr result (RefusesLeaves (RefusesSplit (leaves_of self.now.trees dir.0) frag bits) self.now.homes dir) }
+        ensures err { IfErr result
+            (RefusesLeaves (RefusesSplit (leaves_of self.now.trees dir.0) frag bits) self.now.homes dir) }
     {
         let Some(at) = self.leaf_at(dir, frag.value()) else {
             return Err(Refusal::NoSuchFrag);
@@ -310,8 +319,10 @@ impl Dirs {
     pub fn split(&mut self, alloc: Global, dir: Ino, frag: Frag, bits: u8) -> Result<(), Refusal>
         requires known { is_known self.old.homes dir.0 ≡ true }
         requires can { CanSplit (leaves_of self.old.trees dir.0) frag bits }
-        ensures split { OnOk result (IsSplit (leaves_of self.old.trees dir.0) (leaves_of self.new.trees dir.0) frag bits) }
-        ensures others { OnOk result (self.new ≡ record self.old { trees = map.insert self.old.trees dir.0 (leaves_of self.new.trees dir.0) }) }
+        ensures split { OnOk result
+            (IsSplit (leaves_of self.old.trees dir.0) (leaves_of self.new.trees dir.0) frag bits) }
+        ensures others { OnOk result (self.new
+            ≡ record self.old { trees = map.insert self.old.trees dir.0 (leaves_of self.new.trees dir.0) }) }
         ensures left { OnErr result (self.new ≡ self.old) }
         ensures refused { IfErr result (λ reason. reason ≡ NoMemory) }
         ensures valid { IsTable self.new.homes self.new.trees }

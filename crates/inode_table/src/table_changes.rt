@@ -71,7 +71,8 @@ pub fn relocate_dir(dirs: &mut Dirs, spare: &mut Option<Name>, dentry: &Dentry, 
 /// Forgets in the table the inode that goes, if there is one and it is a directory: its home, its leaves, its count
 /// and its pin.
 pub fn drop_dir(dirs: &mut Dirs, inode: Option<&Inode>)
-    requires { (gone : Node) → option_copied inode ≡ Some gone → is_dir_kind gone.kind ≡ true → MayGo dirs.old.homes gone.ino.0 }
+    requires { (gone : Node) → option_copied inode ≡ Some gone → is_dir_kind gone.kind ≡ true
+        → MayGo dirs.old.homes gone.ino.0 }
     ensures homes { dirs.new.homes ≡ without_home dirs.old.homes (option_copied inode.entry) }
     ensures trees { dirs.new.trees ≡ without_cover dirs.old.trees (option_copied inode.entry) }
     ensures counts { dirs.new.counts ≡ without_row dirs.old.counts (option_copied inode.entry) }

@@ -38,7 +38,22 @@ impl<S: Store + Drop> Model for MdCache<S> {
 
     ghost coded = { Prim.hlevel (codes, map.code) };
 
-    ghost view = { λ m. record { limit = m.limit; homes = m.dirs.homes; covers = m.dirs.trees; counts = m.dirs.counts; pins = m.dirs.pins; caches = m.caches; objects = S.objects m.store; faults = S.faults m.store; jobs = m.jobs.jobs; purge = m.purge.names; next_job = m.next.job; next_generation = m.next.generation; next_version = m.next.version; room = record { dirs = m.dirs.room; jobs = m.jobs.room; purge = m.purge.room } } };
+    ghost view = { λ m. record {
+      limit = m.limit;
+      homes = m.dirs.homes;
+      covers = m.dirs.trees;
+      counts = m.dirs.counts;
+      pins = m.dirs.pins;
+      caches = m.caches;
+      objects = S.objects m.store;
+      faults = S.faults m.store;
+      jobs = m.jobs.jobs;
+      purge = m.purge.names;
+      next_job = m.next.job;
+      next_generation = m.next.generation;
+      next_version = m.next.version;
+      room = record { dirs = m.dirs.room; jobs = m.jobs.room; purge = m.purge.room };
+    } };
 }
 
 impl<S: Store + Drop> MdCache<S> {

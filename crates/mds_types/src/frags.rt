@@ -42,7 +42,8 @@ impl Frag {
     /// The fragment of this value and number of bits, if it is one: at most 24 bits, and the value left-justified in
     /// 24 bits and zero below them.
     pub fn new(value: u32, bits: u8) -> Option<Frag>
-        ensures { SomeIff result (IsFragment (record { bits = bits; value = value })) (record { bits = bits; value = value }) }
+        ensures { SomeIff result (IsFragment (record { bits = bits; value = value }))
+            (record { bits = bits; value = value }) }
     {
         if bits > Frag::MAX_BITS || value >= 1 << 24 || value % span(bits) != 0 {
             return None;

@@ -99,7 +99,9 @@ impl PartialEq for KeySet {
 
     /// Whether both have the same keys.
     fn eq(&self, other: &KeySet) -> bool
-        ensures value { result ≡ pointwise (pairs_eq (pointwise ◌==◌) ⟦<() as PartialEq>⟧.eq) (map.entries self.now) (map.entries other.now) }
+        ensures value { result
+            ≡ pointwise (pairs_eq (pointwise ◌==◌) ⟦<() as PartialEq>⟧.eq) (map.entries self.now)
+            (map.entries other.now) }
         ensures same { IsTrue result ↔ (self.now ≡ other.now) }
     {
         // The contract of `len` is what says here that the keys of a map rise.

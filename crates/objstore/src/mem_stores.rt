@@ -194,7 +194,8 @@ fn rest_after<'a>(
     objects: &'a SortedMap<Text, Object>,
     after: Option<&str>,
 ) -> Iter<'a, Text, Object>
-    ensures { map (λ (e : List ℕ × Omap). e.0) result ≡ names_after (contents key_cmp objects.entry.now) (option_copied after.entry) }
+    ensures { map (λ (e : List ℕ × Omap). e.0) result
+        ≡ names_after (contents key_cmp objects.entry.now) (option_copied after.entry) }
 {
     match after {
         Some(name) => objects.iter_after(&TextRef { text: name }),

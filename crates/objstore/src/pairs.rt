@@ -117,7 +117,8 @@ impl PartialEq for Pairs {
 
     /// Whether both have the same pairs.
     fn eq(&self, other: &Pairs) -> bool
-        ensures value { result ≡ pointwise (pairs_eq (pointwise ◌==◌) (pointwise ◌==◌)) (map.entries self.now) (map.entries other.now) }
+        ensures value { result
+            ≡ pointwise (pairs_eq (pointwise ◌==◌) (pointwise ◌==◌)) (map.entries self.now) (map.entries other.now) }
         ensures same { IsTrue result ↔ (self.now ≡ other.now) }
     {
         // The contract of `len` is what says here that the keys of a map rise.

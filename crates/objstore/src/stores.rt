@@ -44,7 +44,8 @@ pub trait Store {
         max: usize,
     ) -> Result<Option<Page>, Refusal>
         requires { 1 ≤ max }
-        ensures found { IfOk result (λ page. page ≡ page_at (objects self.old) name.now (option_copied after.entry) max) }
+        ensures found { IfOk result (λ page. page
+            ≡ page_at (objects self.old) name.now (option_copied after.entry) max) }
         ensures same { objects self.new ≡ objects self.old }
         ensures grows { faults self.old ≤ faults self.new }
         ensures refused { IfErr result (MayRefuse (faults self.old) (faults self.new)) }
@@ -77,7 +78,8 @@ pub trait Store {
         max: usize,
     ) -> Result<NamePage, Refusal>
         requires { 1 ≤ max }
-        ensures found { IfOk result (λ page. page ≡ first_names max (names_after (objects self.old) (option_copied after.entry))) }
+        ensures found { IfOk result (λ page. page
+            ≡ first_names max (names_after (objects self.old) (option_copied after.entry))) }
         ensures same { objects self.new ≡ objects self.old }
         ensures grows { faults self.old ≤ faults self.new }
         ensures refused { IfErr result (MayRefuse (faults self.old) (faults self.new)) }

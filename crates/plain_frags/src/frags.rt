@@ -48,7 +48,14 @@ impl Model for PlainFrags {
 
     ghost coded = { Prim.hlevel (codes, map.code) };
 
-    ghost view = { λ f. record { tree = contents dentry_cmp f.entries; homes = f.dirs.homes; covers = f.dirs.trees; entries_left = f.entries.room; dirs_left = f.dirs.room; spare = f.spare } };
+    ghost view = { λ f. record {
+      tree = contents dentry_cmp f.entries;
+      homes = f.dirs.homes;
+      covers = f.dirs.trees;
+      entries_left = f.entries.room;
+      dirs_left = f.dirs.room;
+      spare = f.spare;
+    } };
 
     ghost invariant = { λ f. IsTabled (contents dentry_cmp f.entries) f.dirs.homes };
 }

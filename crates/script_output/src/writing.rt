@@ -63,7 +63,8 @@ pub fn write_line<W: Write>(
     writer: &mut W,
     line: &OutputLine,
 ) -> Result<(), OutputFault>
-    ensures written { WritesLine (W.contents writer.old) (W.contents writer.new) (output_line line.now ++ codes "\n") result }
+    ensures written { WritesLine (W.contents writer.old) (W.contents writer.new)
+        (output_line line.now ++ codes "\n") result }
     ensures memory { IfErr result (λ fault. fault ≡ OutputFault.NoMemory → TakesText line.now) }
 {
     if let Some(text) = fixed_text(line) {

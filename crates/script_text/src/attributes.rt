@@ -53,7 +53,8 @@ pub fn given_birth(words: &[u8]) -> Result<Birth, ReadError>
 
 // The word behind the key, where the words begin with the key, and the words that are left.
 fn keyed<'a>(key: &[u8], words: &'a [u8]) -> Result<(Option<&'a [u8]>, &'a [u8]), ReadError>
-    ensures { Reads (λ w. (option_map (λ word. word.now) w.0, words_of w.1.now)) result (keyed key.now (words_of words.now)) }
+    ensures { Reads (λ w. (option_map (λ word. word.now) w.0, words_of w.1.now)) result
+        (keyed key.now (words_of words.now)) }
 {
     let Some((word, rest)) = next_word(words) else {
         return Ok((None, words));

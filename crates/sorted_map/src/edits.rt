@@ -52,7 +52,8 @@ impl<K: ExactOrd + Drop, V: Drop> SortedMap<K, V> {
     pub fn pop_first(&mut self) -> Option<(K, V)>
         ensures value { result ≡ first_pair (contents K.cmp self.old) }
         ensures rest { map.entries (contents K.cmp self.new) ≡ drop 1 (map.entries (contents K.cmp self.old)) }
-        ensures removed { IfSome result (λ pair. contents K.cmp self.new ≡ map.remove (contents K.cmp self.old) pair.0) }
+        ensures removed { IfSome result (λ pair. contents K.cmp self.new
+            ≡ map.remove (contents K.cmp self.old) pair.0) }
         ensures empty { IfNone result (self.new ≡ self.old) }
         ensures room { self.old.room ≤ self.new.room }
     {

@@ -41,7 +41,8 @@ pub enum Shown {
 /// reader is noted in the buffer where it is answered, and not otherwise. After a fault the buffer holds a part of a
 /// line.
 pub fn next_line<R: BufRead>(reader: &mut R, line: &mut LineBuffer) -> Result<NextLine, LineFault>
-    ensures line { IfSome (R.remaining reader.old) (λ bytes. GivesLine bytes line.new.line (R.remaining reader.new) result) }
+    ensures line { IfSome (R.remaining reader.old)
+        (λ bytes. GivesLine bytes line.new.line (R.remaining reader.new) result) }
     ensures failed { IfErr result (λ fault. fault ≡ LineFault.Fault → line.new.failed ≡ true) }
     ensures kept { OnOk result (line.new.failed ≡ line.old.failed) }
     ensures too_long { IfErr result (λ fault. fault ≡ LineFault.TooLong → line.new.failed ≡ line.old.failed) }
@@ -64,9 +65,11 @@ pub fn next_line<R: BufRead>(reader: &mut R, line: &mut LineBuffer) -> Result<Ne
 
 // Moves the bytes that the reader shows to the end of the line, up to an LF, which is taken off too and not kept.
 fn take_shown<R: BufRead>(reader: &mut R, line: &mut LineBuffer) -> Result<Shown, LineFault>
-    ensures moves { IfOk result (λ shown. Moves (R.remaining reader.old) (R.remaining reader.new) line.old.line line.new.line shown) }
+    ensures moves { IfOk result
+        (λ shown. Moves (R.remaining reader.old) (R.remaining reader.new) line.old.line line.new.line shown) }
     ensures short { OnOk result (length line.new.line ≤ 16384) }
-    ensures long { IfErr result (λ fault. fault ≡ LineFault.TooLong → IfSome (R.remaining reader.old) (λ bytes. Overflows bytes line.old.line)) }
+    ensures long { IfErr result (λ fault. fault ≡ LineFault.TooLong
+        → IfSome (R.remaining reader.old) (λ bytes. Overflows bytes line.old.line)) }
     ensures failed { IfErr result (λ fault. fault ≡ LineFault.Fault → line.new.failed ≡ true) }
     ensures kept { OnOk result (line.new.failed ≡ line.old.failed) }
     ensures too_long { IfErr result (λ fault. fault ≡ LineFault.TooLong → line.new.failed ≡ line.old.failed) }

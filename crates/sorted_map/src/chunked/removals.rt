@@ -11,7 +11,8 @@ use crate::map::SortedMap;
 impl<K: ExactOrd + Drop, V: Drop> ChunkMap<K, V> {
     /// Forgets each pair whose key is less than the probe's.
     pub fn remove_below<Q: Probe<K>>(&mut self, q: &Q)
-        ensures kept { contents K.cmp self.new ≡ map.retain_keys (contents K.cmp self.old) (is_from K.cmp (Q.key q.now)) }
+        ensures kept { contents K.cmp self.new
+            ≡ map.retain_keys (contents K.cmp self.old) (is_from K.cmp (Q.key q.now)) }
         ensures room { self.old.room ≤ self.new.room }
     {
         while self.starts_below(q) {

@@ -54,7 +54,9 @@ fn put_behind<K: Drop, V: Drop>(chunks: &mut Chunks<K, V>, home: usize, pair: (K
     requires last { home + 1 ≡ length chunks.old.lists }
     requires half { 32 ≤ length (slice_index_or chunks.old.lists home []) }
     requires room { 0 < room_in chunks.old }
-    ensures items { flat chunks.new.lists ≡ insert (flat chunks.old.lists) (start chunks.old.lists home + length (slice_index_or chunks.old.lists home [])) pair }
+    ensures items { flat chunks.new.lists
+        ≡ insert (flat chunks.old.lists)
+        (start chunks.old.lists home + length (slice_index_or chunks.old.lists home [])) pair }
     ensures some { AllSome chunks.new.lists }
     ensures room { room_in chunks.old ≤ room_in chunks.new + 1 }
 {
@@ -102,8 +104,11 @@ pub fn put_value<K, V>(chunks: &mut Chunks<K, V>, home: usize, at: usize, value:
     requires some { AllSome chunks.old.lists }
     requires home { home < length chunks.old.lists }
     requires within { at < length (slice_index_or chunks.old.lists home []) }
-    ensures items { (d : K × V) → flat chunks.new.lists ≡ slice_set (flat chunks.old.lists) (start chunks.old.lists home + at) ((slice_index_or (flat chunks.old.lists) (start chunks.old.lists home + at) d).0, value) }
-    ensures value { (d : K × V) → result ≡ (slice_index_or (flat chunks.old.lists) (start chunks.old.lists home + at) d).1 }
+    ensures items { (d : K × V) → flat chunks.new.lists
+        ≡ slice_set (flat chunks.old.lists) (start chunks.old.lists home + at)
+        ((slice_index_or (flat chunks.old.lists) (start chunks.old.lists home + at) d).0, value) }
+    ensures value { (d : K × V)
+        → result ≡ (slice_index_or (flat chunks.old.lists) (start chunks.old.lists home + at) d).1 }
     ensures some { AllSome chunks.new.lists }
     ensures room { room_in chunks.new ≡ room_in chunks.old }
 {

@@ -25,7 +25,8 @@ impl<K, V> Model for IntoIter<K, V> {
 
     ghost view = { λ a. into_iter_items a.front ++ flat (into_iter_items a.rest) };
 
-    ghost invariant = { λ a. AreLeft (into_iter_items a.front) (into_iter_len a.front) (into_iter_items a.rest) (into_iter_len a.rest) };
+    ghost invariant = { λ a. AreLeft (into_iter_items a.front) (into_iter_len a.front) (into_iter_items a.rest)
+        (into_iter_len a.rest) };
 }
 
 impl<K, V> IntoIter<K, V> {

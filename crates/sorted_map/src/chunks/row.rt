@@ -36,7 +36,10 @@ impl<K, V> Model for Chunks<K, V> {
 
     ghost view = { λ c. record { lists = c.row.items; spare = c.ready } };
 
-    ghost invariant = { λ c. IsCounted c.row.items c.len c.extra × (c.ready ≤ vec_len c.spare) × (vec_len c.row + vec_len c.spare ≤ vec_capacity c.row) × (vec_len c.row + vec_len c.spare ≤ vec_capacity c.spare) × (vec_len c.row + vec_len c.spare ≤ 1099511627776) };
+    ghost invariant = { λ c. IsCounted c.row.items c.len c.extra × (c.ready ≤ vec_len c.spare)
+        × (vec_len c.row + vec_len c.spare ≤ vec_capacity c.row)
+        × (vec_len c.row + vec_len c.spare ≤ vec_capacity c.spare)
+        × (vec_len c.row + vec_len c.spare ≤ 1099511627776) };
 }
 
 impl<K, V> Chunks<K, V> {
@@ -131,7 +134,10 @@ impl<K, V> Chunks<K, V> {
     pub(crate) fn replaced(&mut self, home: usize, at: usize, value: V) -> V
         requires home { home < length self.old.lists }
         requires within { at < length (slice_index_or self.old.lists home []) }
-        ensures lists { (d : K × V) → self.new.lists ≡ slice_set self.old.lists home (slice_set (slice_index_or self.old.lists home []) at ((slice_index_or (slice_index_or self.old.lists home []) at d).0, value)) }
+        ensures lists { (d : K × V) → self.new.lists
+            ≡ slice_set self.old.lists home
+            (slice_set (slice_index_or self.old.lists home []) at
+            ((slice_index_or (slice_index_or self.old.lists home []) at d).0, value)) }
         ensures value { (d : K × V) → result ≡ (slice_index_or (slice_index_or self.old.lists home []) at d).1 }
         ensures spare { self.new.spare ≡ self.old.spare }
     {
@@ -152,7 +158,8 @@ impl<K, V> Chunks<K, V> {
     pub(crate) fn take_at(&mut self, home: usize, at: usize) -> (K, V)
         requires home { home < length self.old.lists }
         requires within { at < length (slice_index_or self.old.lists home []) }
-        ensures lists { self.new.lists ≡ slice_set self.old.lists home (remove (slice_index_or self.old.lists home []) at) }
+        ensures lists { self.new.lists
+            ≡ slice_set self.old.lists home (remove (slice_index_or self.old.lists home []) at) }
         ensures value { (d : K × V) → result ≡ slice_index_or (slice_index_or self.old.lists home []) at d }
         ensures spare { self.new.spare ≡ self.old.spare }
     {
@@ -185,7 +192,8 @@ impl<K: Drop, V: Drop> Chunks<K, V> {
         requires home { home < length self.old.lists }
         requires within { at ≤ length (slice_index_or self.old.lists home []) }
         requires room { length (slice_index_or self.old.lists home []) < 64 }
-        ensures lists { self.new.lists ≡ slice_set self.old.lists home (insert (slice_index_or self.old.lists home []) at pair) }
+        ensures lists { self.new.lists
+            ≡ slice_set self.old.lists home (insert (slice_index_or self.old.lists home []) at pair) }
         ensures spare { self.new.spare ≡ self.old.spare }
     {
         let len = self.row[home].len();
@@ -210,7 +218,9 @@ impl<K: Drop, V: Drop> Chunks<K, V> {
         requires home { home < length self.old.lists }
         requires full { length (slice_index_or self.old.lists home []) ≡ 64 }
         requires spare { 0 < self.old.spare }
-        ensures lists { self.new.lists ≡ insert (slice_set self.old.lists home (take 32 (slice_index_or self.old.lists home []))) (home + 1) (drop 32 (slice_index_or self.old.lists home [])) }
+        ensures lists { self.new.lists
+            ≡ insert (slice_set self.old.lists home (take 32 (slice_index_or self.old.lists home []))) (home + 1)
+            (drop 32 (slice_index_or self.old.lists home [])) }
         ensures few { length self.old.lists ≤ 1099511627776 }
         ensures spare { self.new.spare + 1 ≡ self.old.spare }
     {
@@ -236,8 +246,11 @@ impl<K: Drop, V: Drop> Chunks<K, V> {
     /// Moves the pairs of a chunk to the end of the one before it.
     pub(crate) fn move_down(&mut self, home: usize)
         requires home { home + 1 < length self.old.lists }
-        requires room { length (slice_index_or self.old.lists home []) + length (slice_index_or self.old.lists (home + 1) []) ≤ 64 }
-        ensures lists { self.new.lists ≡ slice_set (remove self.old.lists (home + 1)) home (slice_index_or self.old.lists home [] ++ slice_index_or self.old.lists (home + 1) []) }
+        requires room { length (slice_index_or self.old.lists home [])
+            + length (slice_index_or self.old.lists (home + 1) []) ≤ 64 }
+        ensures lists { self.new.lists
+            ≡ slice_set (remove self.old.lists (home + 1)) home
+            (slice_index_or self.old.lists home [] ++ slice_index_or self.old.lists (home + 1) []) }
         ensures spare { self.new.spare ≡ self.old.spare + 1 }
     {
         let mut next = self.row.remove(home + 1);

@@ -17,7 +17,8 @@ pub fn put_at<T: Drop>(items: &mut Vec<T>, at: usize, item: T)
 /// Puts a value at a place, and returns the one that was there.
 pub fn replaced<K, V>(pairs: &mut Vec<(K, V)>, at: usize, value: V) -> V
     requires { at < vec_len pairs.old }
-    ensures items { (d : K × V) → pairs.new.items ≡ slice_set pairs.old.items at ((slice_index_or pairs.old.items at d).0, value) }
+    ensures items { (d : K × V) → pairs.new.items
+        ≡ slice_set pairs.old.items at ((slice_index_or pairs.old.items at d).0, value) }
     ensures value { (d : K × V) → result ≡ (slice_index_or pairs.old.items at d).1 }
     ensures len { vec_len pairs.new ≡ vec_len pairs.old }
     ensures capacity { vec_capacity pairs.new ≡ vec_capacity pairs.old }

@@ -58,7 +58,8 @@ impl<K: ExactOrd + Drop, V: Drop> FlatMap<K, V> {
     pub fn pop_first(&mut self) -> Option<(K, V)>
         ensures value { result ≡ first_pair (contents K.cmp self.old) }
         ensures rest { map.entries (contents K.cmp self.new) ≡ drop 1 (map.entries (contents K.cmp self.old)) }
-        ensures removed { IfSome result (λ pair. contents K.cmp self.new ≡ map.remove (contents K.cmp self.old) pair.0) }
+        ensures removed { IfSome result (λ pair. contents K.cmp self.new
+            ≡ map.remove (contents K.cmp self.old) pair.0) }
         ensures empty { IfNone result (self.new ≡ self.old) }
         ensures room { self.new.room ≡ (if is_some result then self.old.room + 1 else self.old.room) }
     {
@@ -70,7 +71,8 @@ impl<K: ExactOrd + Drop, V: Drop> FlatMap<K, V> {
 
     /// Forgets each pair whose key is less than the probe's. The pairs that stay move.
     pub fn remove_below<Q: Probe<K>>(&mut self, q: &Q)
-        ensures kept { contents K.cmp self.new ≡ map.retain_keys (contents K.cmp self.old) (is_from K.cmp (Q.key q.now)) }
+        ensures kept { contents K.cmp self.new
+            ≡ map.retain_keys (contents K.cmp self.old) (is_from K.cmp (Q.key q.now)) }
         ensures room { self.old.room ≤ self.new.room }
     {
         let from = place_from(&self.pairs, q);

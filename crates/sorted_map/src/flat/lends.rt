@@ -14,7 +14,8 @@ impl<K: ExactOrd, V> FlatMap<K, V> {
 
     /// The value of the key, to write to. Takes logarithmic time.
     pub fn get_mut<Q: Probe<K>>(&mut self, q: &Q) -> Option<&mut V>
-        ensures* writes_back { sem 𝓛 (lends_value K.row V.row K.cmp K.eq K.partial_cmp self.entry (Q.key q.now) result) }
+        ensures* writes_back { sem 𝓛
+            (lends_value K.row V.row K.cmp K.eq K.partial_cmp self.entry (Q.key q.now) result) }
         ensures value { option_copied_mut result ≡ map.get (contents K.cmp self.old) (Q.key q.now) }
     {
         match place(&self.pairs, q) {
