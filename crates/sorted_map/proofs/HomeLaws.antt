@@ -99,7 +99,7 @@ module _ {K : Type 0} {R : K → K → Ordering} (o : IsTotalOrder R) (k : K) wh
       go Greater e n = turned o x k Less (o.trans x y k p (turned o k y Greater e))
 
 module _ {K V : Type 0} {R : K → K → Ordering} (o : IsTotalOrder R) (k : K) where
-  gap_less : (x : K) (fs : List (K × V)) → R k x ≡ Less → T (below_all R x fs) → IsGap R k fs zero
+  pub gap_less : (x : K) (fs : List (K × V)) → R k x ≡ Less → T (below_all R x fs) → IsGap R k fs zero
   gap_less x [] p h = tt
   gap_less x (e ∷ fs) p h = (o.trans k x e.0 p (less _ (left_of _ _ h)), gap_less x fs p (right_of _ _ h))
 

@@ -6,6 +6,7 @@ pub mod ContentLaws
 pub mod Decided
 pub mod EqualLaws
 pub mod Filters
+pub mod FingerLaws
 pub mod FlatLaws
 pub mod HomeLaws
 pub mod MapLaws

@@ -2,6 +2,7 @@
 
 pub mod changes;
 pub mod clones;
+pub mod fingers;
 pub mod lends;
 pub mod map;
 pub mod places;

@@ -10,6 +10,7 @@ mod chunks;
 mod clones;
 mod compare;
 mod edits;
+mod fingers;
 mod flat;
 mod growth;
 mod keys;
@@ -20,5 +21,6 @@ mod ranges;
 mod removals;
 
 pub use chunks::{IntoIter, Iter};
+pub use fingers::Finger;
 pub use keys::{ExactOrd, Probe};
 pub use map::SortedMap;

@@ -4,8 +4,9 @@ ghost use Rattle.std.specs.FinMap as map;
 ghost use Rattle.sorted_map.specs.SortedMap.{contents, first_pair};
 
 use crate::chunked::map::ChunkMap;
-use crate::chunked::places::{spot, spot_from_end};
-use crate::chunks::{put_new, put_value, take_out};
+use crate::chunked::places::spot;
+use crate::chunks::{put_value, take_out};
+use crate::fingers::Finger;
 use crate::keys::{ExactOrd, Probe};
 
 impl<K: ExactOrd + Drop, V: Drop> ChunkMap<K, V> {
@@ -16,13 +17,7 @@ impl<K: ExactOrd + Drop, V: Drop> ChunkMap<K, V> {
         ensures inserted { contents K.cmp self.new ≡ map.insert (contents K.cmp self.old) key value }
         ensures room { (if is_some result then self.old.room else self.old.room - 1) ≤ self.new.room }
     {
-        match spot_from_end(self.chunks.row(), &key) {
-            (home, Ok(at)) => Some(put_value(&mut self.chunks, home, at, value)),
-            (home, Err(at)) => {
-                put_new(&mut self.chunks, home, at, (key, value));
-                None
-            }
-        }
+        self.insert_near(&Finger::none(), key, value)
     }
 
     /// Gives a key that is there another value, and returns the one that it had.
@@ -55,7 +50,8 @@ impl<K: ExactOrd + Drop, V: Drop> ChunkMap<K, V> {
     pub fn pop_first(&mut self) -> Option<(K, V)>
         ensures value { result ≡ first_pair (contents K.cmp self.old) }
         ensures rest { map.entries (contents K.cmp self.new) ≡ drop 1 (map.entries (contents K.cmp self.old)) }
-        ensures removed { IfSome result (λ pair. contents K.cmp self.new ≡ map.remove (contents K.cmp self.old) pair.0) }
+        ensures removed { IfSome result (λ pair. contents K.cmp self.new
+            ≡ map.remove (contents K.cmp self.old) pair.0) }
         ensures empty { IfNone result (self.new ≡ self.old) }
         ensures room { self.old.room ≤ self.new.room }
     {

@@ -1,0 +1,100 @@
+//! The calls that look for a key where it was found before.
+ghost use Rattle.std.specs.Prelude.{◌≡◌, ◌-◌, ◌<◌, ◌≤◌, if◌then◌else◌, Some, None, T, IfSome, OnOk, [], length, slice_index_or, is_some, option_copied};
+ghost use Rattle.std.specs.FinMap as map;
+ghost use Rattle.std.specs.FinMap.{is_sorted};
+ghost use Rattle.std.specs.List.Sorted.{IsSearchInRange};
+ghost use Rattle.sorted_map.specs.SortedMap.{contents};
+ghost use Rattle.sorted_map.specs.Chunks.{AllSome, flat};
+ghost use Rattle.sorted_map.specs.Homes.{place_in};
+ghost use Rattle.sorted_map.specs.Places.{IsPlace};
+
+use crate::chunked::map::ChunkMap;
+use crate::chunked::places::spot_from_end;
+use crate::chunks::{Chunk, put_new, put_value};
+use crate::fingers::Finger;
+use crate::keys::{ExactOrd, Probe};
+use std::cmp::Ordering;
+
+impl<K: ExactOrd, V> ChunkMap<K, V> {
+    /// Where the key is, or would go.
+    pub fn finger<Q: Probe<K>>(&self, q: &Q) -> Finger {
+        match spot_from_end(self.chunks.row(), q) {
+            (home, Ok(at)) => Finger { home, at },
+            (home, Err(at)) => Finger { home, at },
+        }
+    }
+
+    /// The value of the key.
+    pub fn get_near<Q: Probe<K>>(&self, near: &Finger, q: &Q) -> Option<&V>
+        ensures { option_copied result ≡ map.get (contents K.cmp self.now) (Q.key q.now) }
+    {
+        let row = self.chunks.row();
+        match spot_near(row, near, q) {
+            (home, Ok(at)) => Some(&row[home].pairs()[at].1),
+            (_, Err(_)) => None,
+        }
+    }
+}
+
+impl<K: ExactOrd + Drop, V: Drop> ChunkMap<K, V> {
+    /// Gives the key a value, and returns the one that it had. A new key needs room.
+    pub fn insert_near(&mut self, near: &Finger, key: K, value: V) -> Option<V>
+        requires { map.get (contents K.cmp self.old) key ≡ None → 0 < self.old.room }
+        ensures value { result ≡ map.get (contents K.cmp self.old) key }
+        ensures inserted { contents K.cmp self.new ≡ map.insert (contents K.cmp self.old) key value }
+        ensures room { (if is_some result then self.old.room else self.old.room - 1) ≤ self.new.room }
+    {
+        match spot_near(self.chunks.row(), near, &key) {
+            (home, Ok(at)) => Some(put_value(&mut self.chunks, home, at, value)),
+            (home, Err(at)) => {
+                put_new(&mut self.chunks, home, at, (key, value));
+                None
+            }
+        }
+    }
+}
+
+// The chunk of the probe's key and its place there, or that where it would go, as `spot_from_end` finds them.
+fn spot_near<K: Ord, V, Q: Probe<K>>(
+    chunks: &[Chunk<K, V>],
+    near: &Finger,
+    q: &Q,
+) -> (usize, Result<usize, usize>)
+    requires sorted { T (is_sorted K.cmp (flat chunks.now)) }
+    requires some { AllSome chunks.now }
+    ensures found { OnOk result.1 (result.0 < length chunks.now) }
+    ensures home { 0 < length chunks.now → result.0 < length chunks.now }
+    ensures within { IsSearchInRange result.1 (length (slice_index_or chunks.now result.0 [])) }
+    ensures place { IsPlace K.cmp (Q.key q.now) (flat chunks.now) (place_in chunks.now result.0 result.1) }
+{
+    if near.home < chunks.len() {
+        if let Some(place) = place_near(chunks, near.home, near.at, q) {
+            return (near.home, place);
+        }
+    }
+    spot_from_end(chunks, q)
+}
+
+// The place of the probe's key in a chunk, if that is this one, or where it would go.
+fn place_near<K: Ord, V, Q: Probe<K>>(
+    chunks: &[Chunk<K, V>],
+    home: usize,
+    at: usize,
+    q: &Q,
+) -> Option<Result<usize, usize>>
+    requires sorted { T (is_sorted K.cmp (flat chunks.now)) }
+    requires home { home < length chunks.now }
+    ensures within { IfSome result (λ place. IsSearchInRange place (length (slice_index_or chunks.now home []))) }
+    ensures place { IfSome result (λ place. IsPlace K.cmp (Q.key q.now)
+        (flat chunks.now) (place_in chunks.now home place)) }
+{
+    let pairs = chunks[home].pairs();
+    if at >= pairs.len() {
+        return None;
+    }
+    match q.order(&pairs[at].0) {
+        Ordering::Equal => Some(Ok(at)),
+        Ordering::Less if at > 0 && q.order(&pairs[at - 1].0).is_gt() => Some(Err(at)),
+        _ => None,
+    }
+}

@@ -1,0 +1,61 @@
+//! `Finger`: where a key was found, for the calls that look for it once more.
+ghost use Rattle.std.specs.Prelude.{◌≡◌, ◌-◌, ◌<◌, ◌≤◌, if◌then◌else◌, None, is_some, option_copied};
+ghost use Rattle.std.specs.FinMap as map;
+ghost use Rattle.sorted_map.specs.SortedMap.{contents};
+
+use crate::keys::{ExactOrd, Probe};
+use crate::map::{SortedMap, Store};
+
+/// Where a key is in a large map, or would go. It is a hint: a call that it is given tries this place first, at one
+/// comparison or two, and searches where the key isn't there. So no answer depends on it, and it may be that of another
+/// key, of a map that has changed since, or of another map.
+#[derive(Clone, Copy)]
+pub struct Finger {
+    pub(crate) home: usize,
+    pub(crate) at: usize,
+}
+
+impl Finger {
+    /// That of no key.
+    pub fn none() -> Finger {
+        Finger {
+            home: usize::MAX,
+            at: 0,
+        }
+    }
+}
+
+impl<K: ExactOrd, V> SortedMap<K, V> {
+    /// Where the key is, or would go. Takes logarithmic time in a large map; that of a small one tells nothing.
+    pub fn finger<Q: Probe<K>>(&self, q: &Q) -> Finger {
+        match &self.store {
+            Store::Flat(_) => Finger::none(),
+            Store::Chunked(chunked) => chunked.finger(q),
+        }
+    }
+
+    /// The value of the key, as `get` finds it.
+    pub fn get_near<Q: Probe<K>>(&self, near: &Finger, q: &Q) -> Option<&V>
+        ensures { option_copied result ≡ map.get (contents K.cmp self.now) (Q.key q.now) }
+    {
+        match &self.store {
+            Store::Flat(flat) => flat.get(q),
+            Store::Chunked(chunked) => chunked.get_near(near, q),
+        }
+    }
+}
+
+impl<K: ExactOrd + Drop, V: Drop> SortedMap<K, V> {
+    /// Gives the key a value, as `insert` does.
+    pub fn insert_near(&mut self, near: &Finger, key: K, value: V) -> Option<V>
+        requires { map.get (contents K.cmp self.old) key ≡ None → 0 < self.old.room }
+        ensures value { result ≡ map.get (contents K.cmp self.old) key }
+        ensures inserted { contents K.cmp self.new ≡ map.insert (contents K.cmp self.old) key value }
+        ensures room { (if is_some result then self.old.room else self.old.room - 1) ≤ self.new.room }
+    {
+        match &mut self.store {
+            Store::Flat(flat) => flat.insert(key, value),
+            Store::Chunked(chunked) => chunked.insert_near(near, key, value),
+        }
+    }
+}
