@@ -14,7 +14,7 @@ use crate::fragments::CachedFrag;
 use crate::laws::dirty_names_are_recorded;
 use crate::marks::Mark;
 use mds_types::{Inode, Name};
-use sorted_map::SortedMap;
+use sorted_map::{Finger, SortedMap};
 
 impl CachedFrag {
     /// Gives a name this inode, whether it was there or not. The name is dirty then, at this version.
@@ -48,7 +48,7 @@ impl CachedFrag {
         dirty_names_are_recorded(&name, &mark);
         let after = counted(mark.inode.as_ref());
         let below = counted(self.clean.get(&name));
-        let before = put_mark(&mut self.dirty, name, mark, below);
+        let before = put_mark(&mut self.dirty, &self.near, name, mark, below);
         self.counts = recounted(self.counts, before, after);
         self.room -= 1;
     }
@@ -57,6 +57,7 @@ impl CachedFrag {
 // Says what became of a name, where there is room, and tells what it counted as: `below`, unless it was dirty.
 fn put_mark(
     dirty: &mut SortedMap<Name, Mark>,
+    near: &Finger,
     name: Name,
     mark: Mark,
     below: EntryCounts,
@@ -66,7 +67,7 @@ fn put_mark(
     ensures put { contents key_cmp dirty.new ≡ map.insert (contents key_cmp dirty.old) name mark }
     ensures room { dirty.old.room ≤ dirty.new.room + 1 }
 {
-    match dirty.insert(name, mark) {
+    match dirty.insert_near(near, name, mark) {
         Some(before) => counted(before.inode.as_ref()),
         None => below,
     }

@@ -11,7 +11,7 @@ ghost use Rattle.cached_frag.specs.Cached.{imported, is_clean, shown};
 use crate::bases::{Base, EntryCounts};
 use crate::marks::Mark;
 use mds_types::{Inode, Name};
-use sorted_map::SortedMap;
+use sorted_map::{Finger, SortedMap};
 use std::alloc::{AllocError, Global};
 use std::marker::Model;
 
@@ -28,6 +28,8 @@ pub struct CachedFrag {
     pub(crate) counts: EntryCounts,
     // how many changes fit
     pub(crate) room: usize,
+    // where a name was looked for among the dirty ones
+    pub(crate) near: Finger,
 }
 
 impl Model for CachedFrag {
@@ -75,6 +77,7 @@ impl CachedFrag {
             dirty: SortedMap::new(alloc),
             counts: EntryCounts { files: 0, dirs: 0 },
             room: 0,
+            near: Finger::none(),
         }
     }
 
@@ -115,7 +118,15 @@ impl CachedFrag {
         ensures found { option_copied result ≡ map.get (shown self.now) name.now }
         ensures recorded { IfSome (option_copied result) HasRecord }
     {
-        shown_in(&self.clean, &self.dirty, name)
+        shown_in(&self.clean, &self.dirty, &self.near, name)
+    }
+
+    /// Looks for a name among the dirty ones, where the calls for this name that follow find it at a comparison or two.
+    /// What it shows stays.
+    pub fn seek(&mut self, name: &Name)
+        ensures { self.new ≡ self.old }
+    {
+        self.near = self.dirty.finger(name);
     }
 
     /// A record allows what each of its names stands for: a law of the type, so nothing is done.
@@ -175,12 +186,13 @@ impl CachedFrag {
 pub(crate) fn shown_in<'a>(
     clean: &'a SortedMap<Name, Inode>,
     dirty: &'a SortedMap<Name, Mark>,
+    near: &Finger,
     name: &Name,
 ) -> Option<&'a Inode>
     ensures { option_copied result ≡ inode_or (map.get (contents key_cmp dirty.entry.now) name.now)
         (map.get (contents key_cmp clean.entry.now) name.now) }
 {
-    match dirty.get(name) {
+    match dirty.get_near(near, name) {
         Some(mark) => mark.inode.as_ref(),
         None => clean.get(name),
     }

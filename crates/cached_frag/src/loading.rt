@@ -9,7 +9,7 @@ ghost use Rattle.cached_frag.specs.Cached.{AreEntries};
 use crate::bases::{Base, EntryCounts};
 use crate::fragments::CachedFrag;
 use mds_types::{Inode, Name};
-use sorted_map::SortedMap;
+use sorted_map::{Finger, SortedMap};
 use std::alloc::Global;
 
 impl CachedFrag {
@@ -33,6 +33,7 @@ impl CachedFrag {
             dirty: SortedMap::new(alloc),
             counts,
             room: 0,
+            near: Finger::none(),
         }
     }
 }

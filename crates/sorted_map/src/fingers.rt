@@ -9,7 +9,7 @@ use crate::map::{SortedMap, Store};
 /// Where a key is in a large map, or would go. It is a hint: a call that it is given tries this place first, at one
 /// comparison or two, and searches where the key isn't there. So no answer depends on it, and it may be that of another
 /// key, of a map that has changed since, or of another map.
-#[derive(Clone, Copy)]
+#[derive(Clone, Copy, Debug)]
 pub struct Finger {
     pub(crate) home: usize,
     pub(crate) at: usize,
