@@ -13,7 +13,7 @@ use cluster_core::{Book, format};
 use mds_types::Limit;
 use objstore::MemStore;
 use script_output::{OutputFault, OutputLine, write_line};
-use script_text::{Command, Line, LineBuffer, LineFault, NextLine, next_line, read_line};
+use script_text::{Command, Line, LineBuffer, LineFault, NextLine, has_line, next_line, read_line};
 use std::alloc::{AllocError, Global};
 use std::io::{BufRead, BufReader, Read, Write};
 use std::thread::Threads;
@@ -116,7 +116,7 @@ trait ReadAhead: BufRead {
 
 impl<R: Read> ReadAhead for BufReader<R> {
     fn has_line(&self) -> bool {
-        self.buffer().contains(&b'\n')
+        has_line(self.buffer())
     }
 }
 

@@ -6,7 +6,7 @@ ghost use Rattle.script_words.specs.Arguments.{mode_of, decimal_of, id_of};
 ghost use Rattle.script_text.specs.Attributes.{attributes_of, birth_of, if_given, keyed};
 
 use mds_types::{Attributes, Birth, Mode};
-use script_words::{ReadError, decimal, first, id, mode, next_word, none};
+use script_words::{ReadError, decimal, first, id, is_text, mode, next_word, none};
 
 /// `[mode MODE] [size N] [mtime N] [uid N] [gid N]`: in this order, and at least one of them.
 #[tactic(auto, unfolding(crate::specs::Attributes::attributes_of))]
@@ -59,7 +59,7 @@ fn keyed<'a>(key: &[u8], words: &'a [u8]) -> Result<(Option<&'a [u8]>, &'a [u8])
     let Some((word, rest)) = next_word(words) else {
         return Ok((None, words));
     };
-    if word != key {
+    if !is_text(word, key) {
         return Ok((None, words));
     }
     let (value, rest) = first(rest)?;

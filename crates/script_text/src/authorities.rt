@@ -4,7 +4,7 @@ ghost use Rattle.script_words.specs.Reading.{Reads};
 ghost use Rattle.script_text.specs.Authorities.{authority_of, get_of, grant_of};
 
 use crate::commands::Command;
-use script_words::{NOT_COMMAND, ReadError, decimal, frag, ino, one, rank, three, two};
+use script_words::{NOT_COMMAND, ReadError, decimal, frag, ino, is_text, one, rank, three, two};
 
 /// `grant RANK CLIENT TID`, where CLIENT may be 0, that of operations alone.
 #[tactic(auto, unfolding(crate::specs::Authorities::grant_of))]
@@ -24,7 +24,7 @@ pub fn get(args: &[u8]) -> Result<Command, ReadError>
     ensures { Reads (λ command. command) result (get_of (words_of args.now)) }
 {
     let word = one(args)?;
-    if word == b"subtrees".as_slice() {
+    if is_text(word, b"subtrees") {
         return Ok(Command::Subtrees);
     }
     Err(NOT_COMMAND)

@@ -10,7 +10,7 @@ use crate::exports::{ExportCommand, read_export};
 use crate::operations::read_operation;
 use crate::store_commands::{StoreCommand, is_store_verb, read_store_command};
 use mds_types::{Frag, Ino, Op, Rank, Request};
-use script_words::{NOT_COMMAND, ReadError, client, decimal, first, next_word, one, rank};
+use script_words::{NOT_COMMAND, ReadError, client, decimal, first, is_text, next_word, one, rank};
 use std::alloc::Global;
 
 /// What a line of the script asks for.
@@ -65,31 +65,31 @@ pub enum Command {
 pub fn read_command(alloc: Global, verb: &[u8], args: &[u8]) -> Result<Command, ReadError>
     ensures { GivesText HoldsText result (command_of verb.now (words_of args.now)) }
 {
-    if verb == b"serve".as_slice() {
+    if is_text(verb, b"serve") {
         return serve(args);
     }
-    if verb == b"own".as_slice() {
+    if is_text(verb, b"own") {
         return own(args);
     }
-    if verb == b"req".as_slice() {
+    if is_text(verb, b"req") {
         return req(alloc, args);
     }
-    if verb == b"history".as_slice() {
+    if is_text(verb, b"history") {
         return history(args);
     }
-    if verb == b"dirfrag".as_slice() {
+    if is_text(verb, b"dirfrag") {
         return dirfrag(args);
     }
-    if verb == b"grant".as_slice() {
+    if is_text(verb, b"grant") {
         return grant(args);
     }
-    if verb == b"get".as_slice() {
+    if is_text(verb, b"get") {
         return get(args);
     }
-    if verb == b"authority".as_slice() {
+    if is_text(verb, b"authority") {
         return authority(args);
     }
-    if verb == b"export".as_slice() {
+    if is_text(verb, b"export") {
         return Ok(Command::Export(read_export(args)?));
     }
     if is_store_verb(verb) {

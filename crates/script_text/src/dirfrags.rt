@@ -4,7 +4,9 @@ ghost use Rattle.script_words.specs.Reading.{Reads};
 ghost use Rattle.script_text.specs.Dirfrags.{dirfrag_of, dirfrag_step_of, leaves_of, merge_of, split_of};
 
 use crate::commands::Command;
-use script_words::{NOT_COMMAND, ReadError, first, four, frag, ino, one, rank, split_bits, three};
+use script_words::{
+    NOT_COMMAND, ReadError, first, four, frag, ino, is_text, one, rank, split_bits, three,
+};
 
 /// `dirfrag` and what follows it.
 #[tactic(auto, unfolding(crate::specs::Dirfrags::dirfrag_of))]
@@ -20,13 +22,13 @@ pub fn dirfrag(args: &[u8]) -> Result<Command, ReadError>
 fn dirfrag_step(verb: &[u8], args: &[u8]) -> Result<Command, ReadError>
     ensures { Reads (λ command. command) result (dirfrag_step_of verb.now (words_of args.now)) }
 {
-    if verb == b"split".as_slice() {
+    if is_text(verb, b"split") {
         return split(args);
     }
-    if verb == b"merge".as_slice() {
+    if is_text(verb, b"merge") {
         return merge(args);
     }
-    if verb == b"ls".as_slice() {
+    if is_text(verb, b"ls") {
         return leaves(args);
     }
     Err(NOT_COMMAND)

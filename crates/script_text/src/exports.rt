@@ -4,7 +4,7 @@ ghost use Rattle.script_words.specs.Reading.{Reads};
 ghost use Rattle.script_text.specs.Exports.{dir_of, export_of, export_step_of, exported_of};
 
 use mds_types::{Frag, Ino, Rank};
-use script_words::{NOT_COMMAND, ReadError, first, four, frag, ino, rank, two};
+use script_words::{NOT_COMMAND, ReadError, first, four, frag, ino, is_text, rank, two};
 
 /// What a line on an export asks for. But for the first, an export is named by its root: a fragment of a directory.
 #[derive(Debug, Drop, PartialEq, Eq)]
@@ -62,30 +62,30 @@ pub fn read_export(args: &[u8]) -> Result<ExportCommand, ReadError>
 fn export_step(verb: &[u8], args: &[u8]) -> Result<ExportCommand, ReadError>
     ensures { Reads (λ command. command) result (export_step_of verb.now (words_of args.now)) }
 {
-    if verb == b"dir".as_slice() {
+    if is_text(verb, b"dir") {
         return dir(args);
     }
-    if verb == b"freeze".as_slice() {
+    if is_text(verb, b"freeze") {
         let (ino, frag) = exported(args)?;
         return Ok(ExportCommand::Freeze { ino, frag });
     }
-    if verb == b"prep".as_slice() {
+    if is_text(verb, b"prep") {
         let (ino, frag) = exported(args)?;
         return Ok(ExportCommand::Prep { ino, frag });
     }
-    if verb == b"send".as_slice() {
+    if is_text(verb, b"send") {
         let (ino, frag) = exported(args)?;
         return Ok(ExportCommand::Send { ino, frag });
     }
-    if verb == b"import".as_slice() {
+    if is_text(verb, b"import") {
         let (ino, frag) = exported(args)?;
         return Ok(ExportCommand::Import { ino, frag });
     }
-    if verb == b"finish".as_slice() {
+    if is_text(verb, b"finish") {
         let (ino, frag) = exported(args)?;
         return Ok(ExportCommand::Finish { ino, frag });
     }
-    if verb == b"cancel".as_slice() {
+    if is_text(verb, b"cancel") {
         let (ino, frag) = exported(args)?;
         return Ok(ExportCommand::Cancel { ino, frag });
     }

@@ -7,8 +7,8 @@ ghost use Rattle.script_text.specs.Texts.{GivesText, HoldsName};
 use crate::attributes::{given_attributes, given_birth};
 use mds_types::{Birth, Dentry, Mode, Op};
 use script_words::{
-    NOT_COMMAND, ReadError, after_name, after_text, first, four, ino, mode, name, page_size, pin,
-    target, text, three, two, two_texts,
+    NOT_COMMAND, ReadError, after_name, after_text, first, four, ino, is_text, mode, name,
+    page_size, pin, target, text, three, two, two_texts,
 };
 use std::alloc::Global;
 
@@ -17,13 +17,13 @@ use std::alloc::Global;
 pub fn read_operation(alloc: Global, verb: &[u8], args: &[u8]) -> Result<Op, ReadError>
     ensures { GivesText HoldsName result (operation_of verb.now (words_of args.now)) }
 {
-    if verb == b"lookup".as_slice() {
+    if is_text(verb, b"lookup") {
         return Ok(Op::Lookup(dentry(alloc, args)?));
     }
-    if verb == b"readdir".as_slice() {
+    if is_text(verb, b"readdir") {
         return readdir(alloc, args);
     }
-    if verb == b"create".as_slice() {
+    if is_text(verb, b"create") {
         let (dentry, mode, birth) = made(alloc, args)?;
         return Ok(Op::Create {
             dentry,
@@ -31,7 +31,7 @@ pub fn read_operation(alloc: Global, verb: &[u8], args: &[u8]) -> Result<Op, Rea
             birth,
         });
     }
-    if verb == b"mkdir".as_slice() {
+    if is_text(verb, b"mkdir") {
         let (dentry, mode, birth) = made(alloc, args)?;
         return Ok(Op::Mkdir {
             dentry,
@@ -39,25 +39,25 @@ pub fn read_operation(alloc: Global, verb: &[u8], args: &[u8]) -> Result<Op, Rea
             birth,
         });
     }
-    if verb == b"readlink".as_slice() {
+    if is_text(verb, b"readlink") {
         return Ok(Op::Readlink(dentry(alloc, args)?));
     }
-    if verb == b"symlink".as_slice() {
+    if is_text(verb, b"symlink") {
         return symlink(alloc, args);
     }
-    if verb == b"setattr".as_slice() {
+    if is_text(verb, b"setattr") {
         return setattr(alloc, args);
     }
-    if verb == b"setpin".as_slice() {
+    if is_text(verb, b"setpin") {
         return setpin(alloc, args);
     }
-    if verb == b"unlink".as_slice() {
+    if is_text(verb, b"unlink") {
         return Ok(Op::Unlink(dentry(alloc, args)?));
     }
-    if verb == b"rmdir".as_slice() {
+    if is_text(verb, b"rmdir") {
         return Ok(Op::Rmdir(dentry(alloc, args)?));
     }
-    if verb == b"rename".as_slice() {
+    if is_text(verb, b"rename") {
         return rename(alloc, args);
     }
     Err(NOT_COMMAND)

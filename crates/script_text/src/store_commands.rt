@@ -6,7 +6,7 @@ ghost use Rattle.script_text.specs.StoreCommands.{begin_of, commit_of, drop_of, 
 ghost use Rattle.script_text.specs.Texts.{GivesText, HoldsObject};
 
 use mds_types::{Frag, Ino, Rank, Text};
-use script_words::{NOT_COMMAND, ReadError, decimal, frag, ino, none, one, rank, three};
+use script_words::{NOT_COMMAND, ReadError, decimal, frag, ino, is_text, none, one, rank, three};
 use std::alloc::Global;
 
 /// What a line on the store asks for.
@@ -38,16 +38,16 @@ pub enum StoreCommand {
 pub fn is_store_verb(verb: &[u8]) -> bool
     ensures { result ≡ is_store_verb verb.now }
 {
-    verb == b"begin".as_slice()
-        || verb == b"end".as_slice()
-        || verb == b"drop".as_slice()
-        || verb == b"commit".as_slice()
-        || verb == b"tree".as_slice()
-        || verb == b"purge".as_slice()
-        || verb == b"flush".as_slice()
-        || verb == b"evict".as_slice()
-        || verb == b"object".as_slice()
-        || verb == b"objects".as_slice()
+    is_text(verb, b"begin")
+        || is_text(verb, b"end")
+        || is_text(verb, b"drop")
+        || is_text(verb, b"commit")
+        || is_text(verb, b"tree")
+        || is_text(verb, b"purge")
+        || is_text(verb, b"flush")
+        || is_text(verb, b"evict")
+        || is_text(verb, b"object")
+        || is_text(verb, b"objects")
 }
 
 /// The command on the store of this first word, with the arguments in these words. Takes memory for an object's name.
@@ -59,34 +59,34 @@ pub fn read_store_command(
 ) -> Result<StoreCommand, ReadError>
     ensures { GivesText HoldsObject result (store_command_of verb.now (words_of args.now)) }
 {
-    if verb == b"begin".as_slice() {
+    if is_text(verb, b"begin") {
         return begin(args);
     }
-    if verb == b"end".as_slice() {
+    if is_text(verb, b"end") {
         return end(args);
     }
-    if verb == b"drop".as_slice() {
+    if is_text(verb, b"drop") {
         return drop_job(args);
     }
-    if verb == b"commit".as_slice() {
+    if is_text(verb, b"commit") {
         return commit(args);
     }
-    if verb == b"tree".as_slice() {
+    if is_text(verb, b"tree") {
         return tree(args);
     }
-    if verb == b"purge".as_slice() {
+    if is_text(verb, b"purge") {
         return purge(args);
     }
-    if verb == b"flush".as_slice() {
+    if is_text(verb, b"flush") {
         return flush(args);
     }
-    if verb == b"evict".as_slice() {
+    if is_text(verb, b"evict") {
         return evict(args);
     }
-    if verb == b"object".as_slice() {
+    if is_text(verb, b"object") {
         return object(alloc, args);
     }
-    if verb == b"objects".as_slice() {
+    if is_text(verb, b"objects") {
         return objects(args);
     }
     Err(NOT_COMMAND)

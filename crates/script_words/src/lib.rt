@@ -18,4 +18,4 @@ pub use arguments::{
 pub use counts::{first, four, none, one, three, two};
 pub use faults::{Fault, NOT_COMMAND, ReadError};
 pub use fragments::{frag, split_bits};
-pub use words::{is_comment, is_printable, next_word};
+pub use words::{is_comment, is_printable, is_text, next_word};

@@ -1,7 +1,7 @@
 //! Words between spaces.
 ghost use Rattle.std.specs.Prelude.{◌≡◌, ◌≤◌, [], ◌∷◌, length, MatchOption};
 ghost use Rattle.std.specs.List.{list_all, prefix_len};
-ghost use Rattle.script_words.specs.Words.{words_of, is_space, is_not_space, is_printable, is_comment};
+ghost use Rattle.script_words.specs.Words.{is_text, words_of, is_space, is_not_space, is_printable, is_comment};
 
 /// The first word, and what follows it; none where only spaces are left.
 pub fn next_word(bytes: &[u8]) -> Option<(&[u8], &[u8])>
@@ -28,6 +28,22 @@ fn word_len(bytes: &[u8]) -> usize
     ensures bound { result ≤ length bytes.now }
 {
     bytes.iter().take_while(|byte| **byte != b' ').count()
+}
+
+/// Whether a word is this text.
+#[inline(always)]
+pub fn is_text(word: &[u8], text: &[u8]) -> bool
+    ensures { result ≡ is_text word.now text.now }
+{
+    if word.len() != text.len() {
+        return false;
+    }
+    for i in 0..text.len() {
+        if word[i] != text[i] {
+            return false;
+        }
+    }
+    true
 }
 
 /// Whether the line is a comment: whether its first byte is `#`.

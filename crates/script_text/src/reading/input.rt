@@ -1,5 +1,5 @@
 //! The next line of a reader.
-ghost use Rattle.std.specs.Prelude.{◌≡◌, ◌≤◌, length, true, IfOk, OnOk, IfSome, IfErr};
+ghost use Rattle.std.specs.Prelude.{◌≡◌, ◌≤◌, length, nat_lt, true, IfOk, OnOk, IfSome, IfErr};
 ghost use Rattle.std.specs.List.{prefix_len};
 ghost use Rattle.script_text.specs.Input.{GivesLine};
 ghost use Rattle.script_text.specs.Looks.{is_not_lf, Moves, Overflows};
@@ -97,6 +97,13 @@ fn take_shown<R: BufRead>(reader: &mut R, line: &mut LineBuffer) -> Result<Shown
     } else {
         Ok(Shown::More)
     }
+}
+
+/// Whether a whole line is among bytes that a reader shows, with its LF.
+pub fn has_line(bytes: &[u8]) -> bool
+    ensures { result ≡ nat_lt (prefix_len is_not_lf bytes.now) (length bytes.now) }
+{
+    len_before_lf(bytes) < bytes.len()
 }
 
 // How many bytes stand before the first LF.
