@@ -86,3 +86,11 @@ changed_so First Then leaf old new (Some f) so c = (c.0, so f c.0 c.1, c.2)
 pub there_with : (P : Cached → Type 0) (o : Option Cached) → HasCached o P → IsThere o
 there_with P (Some f) h = tt
 there_with P None h = h
+
+-- a fragment that was only read shows what it showed
+pub read_same : (leaf : Leaf) (old new : Held) → IsThere (cached old.entries leaf) → IsChanged (cached old.entries leaf) (λ (f now : Cached). now ≡ f) leaf old new → cached new.entries leaf ≡ cached old.entries leaf
+read_same leaf old new = go (cached old.entries leaf) refl
+  where
+    go : (o : Option Cached) → cached old.entries leaf ≡ o → IsThere o → IsChanged o (λ (f now : Cached). now ≡ f) leaf old new → cached new.entries leaf ≡ cached old.entries leaf
+    go (Some f) is there c = cached_now leaf c.0 old new c.2 ∙ ap Some c.1 ∙ sym is
+    go None is there c = absurd there
