@@ -3,12 +3,12 @@ use Rattle.std.proofs.Common.{◌≡◌, Bool, true, false, cond, [], ◌∷◌,
 use Rattle.std.specs.List.{IsDistinct}
 use Rattle.std.specs.Map.{keys_of, lookup, remove_entry}
 use Rattle.std.specs.FinMap as finmap
-use Rattle.std.specs.FinMap.{get-empty, get-insert, get-remove}
+use Rattle.std.specs.FinMap.{get-insert, get-remove}
 use Rattle.std.proofs.lemmas.Map.{NonePasses, lookup-remove_entry}
 use Rattle.lru.proofs.Splits.{all_left, distinct_differs}
 use Rattle.lru.specs.LruCache.{lru_cache}
 use Rattle.dentry_cache.specs.declared.cache.Place.{Place}
-use Rattle.dentry_cache.specs.Cache.{Evicts, Held, IsOldest, Leaf, NoneGoes, Places, Unsaved, cached, fragment_in, leaf_cmp, leaf_is, may_go, unsaved, unsaved_in, with_unsaved}
+use Rattle.dentry_cache.specs.Cache.{Evicts, Held, IsOldest, Leaf, NoneGoes, Places, Unsaved, fragment_in, leaf_cmp, leaf_is, may_go, unsaved_in, with_unsaved}
 use Rattle.dentry_cache.proofs.LeafLaws.{flips, leaf-total, leaf_equivalence, leaf_itself, one_leaf, tied_leaf}
 
 -- ---- what isn't clean

@@ -1,20 +1,18 @@
 -- What each call does to the order of use, and to what isn't clean.
-use Rattle.std.proofs.Common.{◌≡◌, ℕ, Bool, true, false, inl, inr, List, length, nat_lt, option_map, Option, Some, None, refl, sym, ap, subst, ◌∙◌, cond}
+use Rattle.std.proofs.Common.{◌≡◌, ℕ, Bool, true, false, List, length, nat_lt, option_map, Option, Some, None, refl, sym, ap, subst, ◌∙◌, cond}
 use Rattle.std.specs.FinMap as finmap
 use Rattle.std.specs.FinMap.{get-remove}
 use Rattle.std.specs.Ordering.{eq_by_cmp}
 use Rattle.std.proofs.lemmas.Option.{same_Some}
 use Rattle.std.specs.Prelude.{◌==◌}
-use Rattle.objstore.specs.Omap.{Omap}
 use Rattle.cached_frag.specs.declared.marks.Mark.{Mark}
 use Rattle.cached_frag.specs.Cached.{Cached, marked}
 use Rattle.dentry_cache.specs.Cache.{Leaf, leaf_cmp, unsaved_in, with_unsaved}
-use Rattle.dentry_cache.specs.CacheCalls.{Edits, FetchesAt, IsEdited, KeepsAt, MakesRoomAt}
-use Rattle.dentry_cache.specs.CacheMap.{At, CacheMap, at_rank, edited_as, given_up, has_place, here, order, removed, roomy, victim, unclean, unsaved_at, used_at, with_mark}
-use Rattle.dentry_cache.specs.Came.{Came, StaysNamed}
-use Rattle.dentry_cache.specs.Came.Came.{uses, has, room, ends}
-use Rattle.dentry_cache.proofs.UncleanLaws.{unclean_alike, unclean_roomy, unclean_same, unclean_with}
-use Rattle.dentry_cache.proofs.UsedLaws.{loaded_clean}
+use Rattle.dentry_cache.specs.CacheCalls.{Edits, IsEdited}
+use Rattle.dentry_cache.specs.CacheMap.{At, CacheMap, at_rank, edited_as, given_up, here, order, removed, roomy, victim, unclean, unsaved_at, used_at, with_mark}
+use Rattle.dentry_cache.specs.Came.{Came}
+use Rattle.dentry_cache.specs.Came.Came.{has}
+use Rattle.dentry_cache.proofs.UncleanLaws.{unclean_alike, unclean_same, unclean_with}
 use Rattle.dentry_cache.proofs.LeafLaws.{leaf-total}
 
 -- what was absent is absent once a place is free

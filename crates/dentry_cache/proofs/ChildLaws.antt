@@ -1,5 +1,5 @@
 -- Places of a fragment's children: kept one after the other, and given up.
-use Rattle.dentry_cache.proofs.Common.{AreAbsent, Bool, CacheMap, Cached, Fragment, Ino, IsAbsent, IsChildAt, IsDistinct, IsFamilyAt, IsKeptFor, KeepsChildren, Leaf, MakesRoomAt, None, NoneEnds, Objects, Option, Reads, Some, ap, arith, at_rank, child_of, cond, false, frees, given_up, has_place, here, inl, inr, is_same, leaf_is, length, less, order, refl, removed, room, roomy, subst, suc, sym, true, used_at, uses, without_children, zero, ℕ, ◌&&◌, ◌<◌, ◌^◌, ◌∙◌, ◌≡◌, ◌≤◌, ◌⊎◌}
+use Rattle.dentry_cache.proofs.Common.{AreAbsent, Bool, CacheMap, Cached, Fragment, Ino, IsAbsent, IsChildAt, IsDistinct, IsFamilyAt, IsKeptFor, Leaf, MakesRoomAt, None, NoneEnds, Objects, Option, Reads, Some, ap, arith, at_rank, child_of, cond, false, frees, given_up, has_place, here, inl, inr, is_same, leaf_is, length, less, order, refl, removed, room, roomy, subst, suc, sym, true, used_at, uses, without_children, zero, ℕ, ◌&&◌, ◌<◌, ◌^◌, ◌∙◌, ◌≡◌, ◌≤◌, ◌⊎◌}
 use Rattle.std.specs.FinMap as finmap
 use Rattle.dentry_cache.specs.Reads.Reads.{stays as it_stays}
 use Rattle.dentry_cache.proofs.KeptLaws.{first_distinct, just_kept, less_distinct, order_given_up, order_used, roomy_absent, roomy_distinct, roomy_kept, roomy_stays, used_absent, used_kept}

@@ -1,14 +1,14 @@
 -- What a step leaves of a leaf that it doesn't name, and of the order of a rank that it doesn't name.
-use Rattle.std.proofs.Common.{◌≡◌, ℕ, Bool, true, false, cond, not, ◌⊎◌, inl, inr, [], length, nat_lt, ◌≢◌, get_or-set_other, option_map, Option, Some, None, refl, sym, ap, subst, ◌∙◌}
+use Rattle.std.proofs.Common.{◌≡◌, ℕ, Bool, true, false, cond, not, ◌⊎◌, inl, inr, length, nat_lt, option_map, Option, Some, None, refl, sym, ap, subst, ◌∙◌}
 use Rattle.std.specs.FinMap as finmap
-use Rattle.std.specs.FinMap.{get-insert, get-remove}
+use Rattle.std.specs.FinMap.{get-remove}
 use Rattle.std.proofs.lemmas.Option.{same_Some}
 use Rattle.cached_frag.specs.Cached.{Cached}
 use Rattle.dentry_cache.specs.Cache.{Leaf, leaf_is, stays}
-use Rattle.dentry_cache.specs.CacheMap.{At, CacheMap, at, first, given_up, goes, has_place, here, less, order, removed, roomy, unsaved_at, victim}
+use Rattle.dentry_cache.specs.CacheMap.{At, CacheMap, at, first, given_up, goes, here, order, removed, roomy, unsaved_at, victim}
 use Rattle.dentry_cache.specs.Came.{Came, StaysNamed}
 use Rattle.dentry_cache.specs.Came.Came.{stays as it_stays, uses, has, room, ends}
-use Rattle.dentry_cache.proofs.StepLaws.{cap_roomy, get_beside, get_with_frag, held_given_up, held_roomy, placed_given_up, placed_roomy, placed_used, ranks_given_up, ranks_roomy, ranks_used, ranks_with_frag}
+use Rattle.dentry_cache.proofs.StepLaws.{cap_roomy, get_with_frag, held_given_up, held_roomy, ranks_given_up, ranks_roomy, ranks_used, ranks_with_frag}
 use Rattle.dentry_cache.proofs.UncleanLaws.{clean_there, last_passes}
 use Rattle.dentry_cache.proofs.LeafLaws.{leaf-total, one_leaf, tied_leaf}
 

@@ -9,13 +9,13 @@ use Rattle.cached_frag.specs.Cached.{Cached, imported, is_clean}
 use Rattle.dentry_cache.specs.Cache.{IsThere, Leaf, Unsaved, leaf_is, unsaved_of}
 use Rattle.dentry_cache.specs.CacheCalls.{unclean_in}
 use Rattle.dentry_cache.specs.CacheMap.{AreCaches, At, CacheMap, at, at_rank, clean_in, given_up, has_place, here, roomy, unclean, unsaved_at, used_at, with_frag}
-use Rattle.dentry_cache.specs.Handing.{AreCleanAt, AreHanded, AreUncleanAt, HandsOver, WantsPlace, handed, kept_all, moved, moved_all, moved_as, without_all}
+use Rattle.dentry_cache.specs.Handing.{AreCleanAt, AreHanded, AreUncleanAt, HandsOver, WantsPlace, handed, kept_all, moved, moved_all, without_all}
 use Rattle.dentry_cache.proofs.KeepingLaws.{all_from, all_of, by_keeping, kept_from, kept_held, kept_unclean, room_held}
 use Rattle.dentry_cache.proofs.LacksLaws.{IsPlaced, caches_placed, placed_by_end, placed_by_frag, placed_by_use}
 use Rattle.dentry_cache.proofs.LeafLaws.{one_leaf}
 use Rattle.dentry_cache.proofs.MoveLaws.{all_left_at, all_moved_at, left_by, moved_none, moved_some, none_beside, none_left, sent}
 use Rattle.dentry_cache.proofs.ReadsLaws.{here_is}
-use Rattle.dentry_cache.proofs.StepLaws.{by_room, has_given_up, held_roomy, here_given_up, here_put, here_with_frag, placed_given_up, placed_roomy, placed_used, ranks_given_up, ranks_used, ranks_with_frag}
+use Rattle.dentry_cache.proofs.StepLaws.{by_room, has_given_up, held_roomy, here_given_up, here_put, here_with_frag, placed_used, ranks_given_up, ranks_used, ranks_with_frag}
 use Rattle.dentry_cache.proofs.UncleanLaws.{get_unclean, unclean_alike, unclean_roomy}
 
 dirty_there : (o : Option Cached) → unclean_in o ≡ true → (f : Cached) × (o ≡ Some f)

@@ -1,26 +1,20 @@
 -- Places that can't become free: no more of them where fragments are read or get other room.
 use Rattle.std.proofs.Common.{◌≡◌, ℕ, ◌+◌, ◌<◌, ◌≤◌, ◌==◌, Bool, true, false, cond, not, ◌&&◌, ◌||◌, ◌⊎◌, inl, inr, List, [], ◌∷◌, length, filter, get_or, set, is_some, Option, Some, None, refl, sym, ap, subst, ◌∙◌, arith, get_or-set_same}
 use Rattle.std.specs.List.{AllByRecursion, IsDistinct, list_any}
-use Rattle.std.specs.FinMap as finmap
 use Rattle.sorted_map.proofs.NatKeys.{is_apart, is_same, same_or_apart}
-use Rattle.mds_types.specs.Frag.{Fragment}
-use Rattle.objstore.specs.Omap.{Omap}
 use Rattle.objstore.specs.Objects.{Objects}
-use Rattle.cached_frag.specs.Cached.{Cached, is_clean}
-use Rattle.dentry_cache.specs.Cache.{IsThere, Leaf, Unsaved, leaf_is}
-use Rattle.dentry_cache.specs.CacheCalls.{IsWhole, LacksAt, kept_at, unclean_at, unclean_in}
-use Rattle.dentry_cache.specs.CacheMap.{AreCaches, CacheMap, IsFree, IsFreeFor, at_rank, first, given_up, has_place, here, less, order, roomy, used_at, with_frag}
-use Rattle.dentry_cache.specs.Loading.{Loads, object_of}
+use Rattle.cached_frag.specs.Cached.{Cached}
+use Rattle.dentry_cache.specs.Cache.{IsThere, Leaf, leaf_is}
+use Rattle.dentry_cache.specs.CacheCalls.{IsWhole, LacksAt, kept_at, unclean_at}
+use Rattle.dentry_cache.specs.CacheMap.{AreCaches, CacheMap, first, given_up, has_place, here, less, order, roomy, used_at, with_frag}
 use Rattle.dentry_cache.specs.Reads.{Reads}
 use Rattle.dentry_cache.specs.Reads.Reads.{stays as it_stays, uses, grows, loads, room, frees}
 use Rattle.dentry_cache.proofs.CountLaws.{full_counts, staying}
-use Rattle.dentry_cache.proofs.KeptLaws.{counted, first_distinct, less_distinct, same_filter}
-use Rattle.dentry_cache.proofs.FrameLaws.{came_cap, came_ranks}
-use Rattle.dentry_cache.proofs.MapLaws.{at_other, here_free}
+use Rattle.dentry_cache.proofs.KeptLaws.{first_distinct, less_distinct}
+use Rattle.dentry_cache.proofs.FrameLaws.{came_ranks}
 use Rattle.dentry_cache.proofs.ReadsLaws.{reads_came}
 use Rattle.dentry_cache.proofs.StepLaws.{any_less, by_room, here_given_up, here_with_frag, set_either}
-use Rattle.dentry_cache.proofs.UsedLaws.{loaded_clean}
-use Rattle.dentry_cache.proofs.LeafLaws.{leaf_itself, one_leaf}
+use Rattle.dentry_cache.proofs.LeafLaws.{leaf_itself}
 
 -- ---- what holds between the steps
 

@@ -1,13 +1,12 @@
 -- A split at a rank: what is made ready for it, and what it leaves.
-use Rattle.dentry_cache.proofs.Common.{AreAbsent, AreApart, AreCaches, AreChildren, AreFillable, AreKept, Bool, CacheMap, Cached, Edits, Fragment, HasCached, Ino, IsButPlaces, IsChildAt, IsEdited, IsFamilyAt, IsFreeFor, IsKeptFor, Leaf, List, Names, None, NoneEnds, Objects, Option, Part, ReadiesAt, Reads, Some, SplitsAt, [], ap, arith, child_of, cond, false, given_up, has_place, here, inl, inr, is_same, leaf_is, length, refl, shown, slice_index_or, subst, suc, sym, true, unclean, with_frag, with_parts, with_unclean, ℕ, ◌&&◌, ◌+◌, ◌<◌, ◌==◌, ◌^◌, ◌∙◌, ◌∷◌, ◌≡◌, ◌≤◌, ◌⊎◌}
+use Rattle.dentry_cache.proofs.Common.{AreAbsent, AreApart, AreChildren, AreFillable, AreKept, Bool, CacheMap, Cached, Edits, Fragment, HasCached, Ino, IsButPlaces, IsChildAt, IsEdited, IsFamilyAt, IsKeptFor, Leaf, List, Names, None, Objects, Option, Part, Reads, Some, SplitsAt, [], ap, arith, child_of, cond, false, given_up, has_place, here, inl, inr, is_same, leaf_is, length, refl, shown, slice_index_or, subst, suc, sym, true, with_frag, with_parts, ℕ, ◌&&◌, ◌+◌, ◌<◌, ◌==◌, ◌^◌, ◌∙◌, ◌∷◌, ◌≡◌, ◌≤◌, ◌⊎◌}
 use Rattle.std.specs.FinMap as finmap
 use Rattle.dentry_cache.specs.Reads.Reads.{stays as it_stays}
-use Rattle.dentry_cache.proofs.LacksLaws.{IsPlaced, caches_placed, placed_by_frag, still_left}
+use Rattle.dentry_cache.proofs.LacksLaws.{still_left}
 use Rattle.dentry_cache.proofs.NameParts.{no_child, one_child}
-use Rattle.dentry_cache.proofs.ReadsLaws.{edits_reads, places_changed, reads_then, reads_weaker}
+use Rattle.dentry_cache.proofs.ReadsLaws.{edits_reads, places_changed}
 use Rattle.dentry_cache.proofs.SplitShows.{apart_from}
-use Rattle.dentry_cache.proofs.StepLaws.{by_edits, get_beside, get_with_frag, has_with_frag, here_put, placed_used, ranks_with_frag}
-use Rattle.dentry_cache.proofs.UncleanLaws.{unclean_given_up, unclean_with}
+use Rattle.dentry_cache.proofs.StepLaws.{by_edits, get_beside, get_with_frag, has_with_frag, here_put, placed_used}
 use Rattle.dentry_cache.proofs.LeafLaws.{flips, leaf_itself}
 
 -- ---- the fragment is ready

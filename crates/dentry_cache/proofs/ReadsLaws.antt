@@ -3,10 +3,10 @@ use Rattle.std.proofs.Common.{◌≡◌, ℕ, Bool, true, false, cond, ◌⊎◌
 use Rattle.std.specs.FinMap as finmap
 use Rattle.std.proofs.lemmas.Option.{same_Some}
 use Rattle.objstore.specs.Objects.{Objects}
-use Rattle.cached_frag.specs.Cached.{Cached, is_clean}
-use Rattle.dentry_cache.specs.Cache.{Leaf, Unsaved, leaf_is, unsaved_in}
+use Rattle.cached_frag.specs.Cached.{Cached}
+use Rattle.dentry_cache.specs.Cache.{Leaf, leaf_is, unsaved_in}
 use Rattle.dentry_cache.specs.CacheCalls.{Edits, FetchesAt, IsEdited, KeepsAt, MakesRoomAt}
-use Rattle.dentry_cache.specs.CacheMap.{At, CacheMap, at, at_rank, given_up, has_place, here, unclean, unsaved_at, used_at}
+use Rattle.dentry_cache.specs.CacheMap.{At, CacheMap, at, at_rank, has_place, here, unclean, unsaved_at, used_at}
 use Rattle.dentry_cache.specs.Came.{Came, StaysNamed}
 use Rattle.dentry_cache.specs.Came.Came.{stays as came_stays, uses as came_uses, has as came_has, room as came_room, ends as came_ends}
 use Rattle.dentry_cache.specs.Loading.{object_of}
@@ -16,7 +16,7 @@ use Rattle.dentry_cache.proofs.CameLaws.{absent_roomy}
 use Rattle.sorted_map.proofs.NatKeys.{is_apart, is_same, same_or_apart}
 use Rattle.dentry_cache.proofs.FrameLaws.{staying_named}
 use Rattle.dentry_cache.proofs.StepLaws.{get_with_frag, held_given_up, held_roomy}
-use Rattle.dentry_cache.proofs.UncleanLaws.{get_unclean, unclean_alike, unclean_gone, unclean_roomy, unclean_same}
+use Rattle.dentry_cache.proofs.UncleanLaws.{unclean_alike, unclean_gone, unclean_roomy, unclean_same}
 use Rattle.dentry_cache.proofs.UsedLaws.{loaded_clean}
 use Rattle.dentry_cache.proofs.LeafLaws.{one_leaf}
 

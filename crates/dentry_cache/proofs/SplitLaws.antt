@@ -13,7 +13,7 @@ use Rattle.dentry_cache.specs.declared.parts.Part.{Part}
 use Rattle.dentry_cache.specs.Cache.{HasCached, IsThere, Leaf, Unsaved, leaf_is, unsaved_in}
 use Rattle.dentry_cache.specs.CacheCalls.{IsWhole}
 use Rattle.dentry_cache.specs.CacheMap.{At, CacheMap, IsFree, IsFreeFor, at, at_rank, given_up, has_place, here, order, unclean, unsaved_at, with_frag}
-use Rattle.dentry_cache.specs.CacheSplits.{AreKept, IsChildAt, SplitsAt, with_parts, with_unclean}
+use Rattle.dentry_cache.specs.CacheSplits.{AreKept, IsChildAt, SplitsAt, with_parts}
 use Rattle.dentry_cache.specs.Came.{Came}
 use Rattle.dentry_cache.specs.Came.Came.{has, ends}
 use Rattle.dentry_cache.specs.Divided.{IsChild, IsNoChild}

@@ -10,7 +10,7 @@ use Rattle.std.specs.List.{AllByRecursion}
 use Rattle.sorted_map.proofs.NatKeys.{is_apart, is_same, same_or_apart}
 use Rattle.cached_frag.specs.declared.marks.Mark.{Mark}
 use Rattle.cached_frag.specs.Cached.{Cached, marked}
-use Rattle.dentry_cache.specs.Cache.{HasCached, Leaf, leaf_is}
+use Rattle.dentry_cache.specs.Cache.{Leaf, leaf_is}
 use Rattle.dentry_cache.specs.CacheCalls.{Edits, IsEdited}
 use Rattle.dentry_cache.specs.CacheMap.{At, CacheMap, IsFree, IsFreeFor, at, at_rank, edited_as, first, given_up, goes, has_place, here, less, order, removed, roomy, used_at, victim, with_frag, with_mark}
 use Rattle.dentry_cache.proofs.UncleanLaws.{last_passes}

@@ -1,5 +1,5 @@
 -- A rank more.
-use Rattle.dentry_cache.proofs.Common.{ap, arith, length, rules, subst, sym, unclean_places, ◌<◌, ◌∙◌, ◌≡◌, ◌≤◌}
+use Rattle.dentry_cache.proofs.Common.{arith, length, rules, subst, sym, ◌<◌, ◌≡◌, ◌≤◌}
 use Rattle.dentry_cache.proofs.MapCalls.{all_caches, cached_is, keys_are, ranks_are, valid_at}
 use Rattle.dentry_cache.proofs.UncleanPlaces.{few_taken, rank_more}
 use Rattle.dentry_cache.proofs.caches.Caches.unclean_leaves.Goals as goal
