@@ -1,8 +1,8 @@
 -- What is in each place once one of them is used, taken or given up.
 use Rattle.std.proofs.Common.{◌≡◌, ℕ, ◌+◌, ◌-◌, ◌<◌, ◌≤◌, Bool, true, false, cond, inl, inr, [], ◌∷◌, ◌++◌, length, take, Option, Some, None, refl, sym, ap, subst, ◌∙◌, arith}
-use Rattle.std.specs.Prelude.{Result, Ok, Err, IsOk, IfErr, OnOk, OnErr, is_some, slice_get, ◌==◌}
+use Rattle.std.specs.Prelude.{Result, Ok, Err, IfErr, OnOk, OnErr, is_some, slice_get, ◌==◌}
 use Rattle.std.specs.Option.{option_map_or}
-use Rattle.std.specs.Map.{lookup, lookup_entry, remove_entry}
+use Rattle.std.specs.Map.{lookup, lookup_entry, remove_entry, set_value}
 use Rattle.std.specs.FinMap.{len-empty}
 use Rattle.std.proofs.lemmas.List.{length-append, take_all}
 use Rattle.std.proofs.lemmas.Option.{same_Some}
@@ -19,7 +19,7 @@ use Rattle.dentry_cache.specs.Loading.{Loads}
 use Rattle.dentry_cache.specs.declared.cache.Place.{Place}
 use Rattle.dentry_cache.specs.Cache.{Evicts, Held, IsNewest, IsUsed, Leaf, MakesRoom, MayMakeRoom, Places, TakesPlace, fragment_in, held, is_kept, leaf_is, unsaved_in, used_as}
 use Rattle.dentry_cache.specs.Fetches.{IsFetched, IsNotFetched, IsRefusedIn}
-use Rattle.dentry_cache.proofs.LeafLaws.{flips, one_leaf}
+use Rattle.dentry_cache.proofs.LeafLaws.{flips, leaf_itself, one_leaf}
 
 -- ---- look-ups
 
@@ -158,21 +158,15 @@ module _ (stay : Option Leaf) (leaf : Leaf) (object : Option Omap) (old mid new 
 
 -- ---- a place that is filled
 
-filled_as : (leaf : Leaf) (place : Place) (old : Held) (o : Option Place) → lookup (leaf_is leaf) old.entries ≡ o → is_kept o ≡ true → lru_cache (put_entries leaf_is old leaf place) old.cap ≡ used_as leaf place old
-filled_as leaf place old (Some kept) is h =
-    ap (λ (e : Option (Leaf × Place)). lru_cache (option_map_or (λ e. (e.0, place) ∷ remove_entry (leaf_is leaf) old.entries) e ((leaf, place) ∷ take (old.cap - 1) old.entries)) old.cap) (entry_of_lookup leaf old.entries kept is)
-filled_as leaf place old None is h = let clash : false ≡ true = h in cc
-
-is_there : (o : Option Place) → is_kept o ≡ true → is_some o ≡ true
-is_there (Some kept) h = refl
-is_there None h = h
-
-pub filled : {A E : Type 0} (r : Result A E) (leaf : Leaf) (place : Place) (old mid new : Held) → mid ≡ old → is_kept (lookup (leaf_is leaf) old.entries) ≡ true → (is_some (lookup (leaf_is leaf) mid.entries) ≡ true → IsOk r)
-    → OnOk r (new ≡ lru_cache (put_entries leaf_is mid leaf place) mid.cap) → new ≡ used_as leaf place old
-filled (Ok x) leaf place old mid new same kept succeeds ok = ok ∙ ap (λ (h : Held). lru_cache (put_entries leaf_is h leaf place) h.cap) same ∙ filled_as leaf place old (lookup (leaf_is leaf) old.entries) refl kept
-filled (Err e) leaf place old mid new same kept succeeds ok =
-    let never = succeeds (ap (λ (h : Held). is_some (lookup (leaf_is leaf) h.entries)) same ∙ is_there (lookup (leaf_is leaf) old.entries) kept) in
-    let clash : false ≡ true = never in absurd cc
+pub filled : (leaf : Leaf) (old mid : Held) → mid ≡ old → is_kept (lookup (leaf_is leaf) old.entries) ≡ true → (place : Place)
+    → lru_cache (set_value (leaf_is leaf) (promoted (leaf_is leaf) mid.entries) place) mid.cap ≡ used_as leaf place old
+filled leaf old mid same kept place = ap (λ (h : Held). lru_cache (set_value (leaf_is leaf) (promoted (leaf_is leaf) h.entries) place) h.cap) same ∙ go (lookup (leaf_is leaf) old.entries) refl kept
+  where
+    go : (o : Option Place) → lookup (leaf_is leaf) old.entries ≡ o → is_kept o ≡ true → lru_cache (set_value (leaf_is leaf) (promoted (leaf_is leaf) old.entries) place) old.cap ≡ used_as leaf place old
+    go (Some was) is h =
+        ap (λ (es : Places). lru_cache (set_value (leaf_is leaf) es place) old.cap) (promoted_is leaf was old.entries is)
+        ∙ ap (λ (b : Bool). lru_cache (cond b ((leaf, place) ∷ remove_entry (leaf_is leaf) old.entries) ((leaf, was) ∷ set_value (leaf_is leaf) (remove_entry (leaf_is leaf) old.entries) place)) old.cap) (leaf_itself leaf)
+    go None is h = let clash : false ≡ true = h in cc
 
 -- ---- what a refusal leaves
 

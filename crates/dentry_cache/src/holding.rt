@@ -55,13 +55,11 @@ impl Cache {
         ensures { self.new ≡ used_as (dir, frag) (held fragment) self.old }
     {
         let now = Some(fragment.len());
-        let _ = self.places.put(
-            (dir, frag),
-            Place {
-                frag: fragment,
-                kept: false,
-            },
-        );
+        let Some(place) = self.places.get_mut(&(dir, frag)) else {
+            unreachable!()
+        };
+        place.frag = fragment;
+        place.kept = false;
         self.candidates
             .resize(&self.places, &(dir, frag), None, now);
     }

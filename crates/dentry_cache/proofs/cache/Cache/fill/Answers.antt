@@ -4,9 +4,9 @@ use Rattle.dentry_cache.proofs.CandidateSteps.{resized_kept}
 use Rattle.dentry_cache.proofs.cache.Cache.fill.Goals as goal
 
 pub returns : goal.returns
-returns c = filled c.put.result (c.args.dir, c.args.frag) (held c.args.fragment) c.args.self.now _ _ c.self.view_is c.requires c.put.ensures.succeeds c.put.ensures.entries
+returns c = filled (c.args.dir, c.args.frag) c.args.self.now c.self.inside.places c.self.view_is c.requires (held c.args.fragment)
 
 pub resize-requires : goal.resize-requires
 resize-requires c =
-    resized_kept (c.args.dir, c.args.frag) (held c.args.fragment) c.args.self.now c.put.new.self c.self.inside.candidates _ (subst (λ (h : Held). AreTold h.entries c.self.inside.candidates) c.self.view_is c.self.invariant) c.requires
-    (filled c.put.result (c.args.dir, c.args.frag) (held c.args.fragment) c.args.self.now _ _ c.self.view_is c.requires c.put.ensures.succeeds c.put.ensures.entries) (search rules)
+    resized_kept (c.args.dir, c.args.frag) (held c.args.fragment) c.args.self.now _ c.self.inside.candidates _ (subst (λ (h : Held). AreTold h.entries c.self.inside.candidates) c.self.view_is c.self.invariant) c.requires
+    (filled (c.args.dir, c.args.frag) c.args.self.now c.self.inside.places c.self.view_is c.requires (held c.args.fragment)) (search rules)
