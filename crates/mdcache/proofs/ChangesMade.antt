@@ -1,5 +1,5 @@
 -- What a change makes, once its steps are known.
-use Rattle.mdcache.proofs.Common.{AreCached, Bool, Cached, Came, Change, Core, Dirfrag, EndsWith, Going, HasCached, HasNumber, HasRoom, HasSpace, IfSome, Ino, Inode, IsChanged, IsGoingOrNone, IsKeptFor, IsNamedIn, IsRight, IsSound, IsSoundCore, IsThere, KeepsNone, KeepsOnlyAt, Leaf, List, Makes, MayChange, MayGo, MayMove, NewDirectory, None, NoneEnds, Option, Rank, ReadsCore, Rooms, Some, Spot, State, adds, ap, arith, cond, count_of, counts_moved, dentry_at, dir_going, directory_at, false, first_leaf, here, home_at, inl, inr, is_dir_kind, is_some, leaf_of, leaves_going, length, made_frag, may_come, may_drop, may_relocate, may_replace, moves, named, one_less, one_more, pinned, refl, removes, root_fragment, rows_but, sets, shown_in, shown_tree, shows, state_of, string_bytes, subst, sym, text_of, texts_going, true, unclean_with, with_directory, with_entry, with_home, with_new, with_pin, without, without_dir, without_entry, ℕ, ◌-◌, ◌<◌, ◌==◌, ◌^◌, ◌∙◌, ◌≡◌}
+use Rattle.mdcache.proofs.Common.{AreCached, Bool, Cached, Came, Change, Core, Dirfrag, EndsWith, Going, HasCached, HasNumber, HasRoom, HasSpace, IfSome, Ino, Inode, IsChanged, IsGoingOrNone, IsKeptFor, IsNamedIn, IsRight, IsSound, IsSoundCore, IsThere, KeepsNone, KeepsOnlyAt, Leaf, List, Makes, MayChange, MayGo, MayMove, NewDirectory, None, NoneEnds, Option, Rank, ReadsCore, Rooms, Some, Spot, State, adds, ap, arith, cond, count_of, counts_moved, dentry_at, dir_going, directory_at, false, first_leaf, here, home_at, inl, inr, is_dir_kind, is_some, leaf_of, leaves_going, length, made_frag, may_come, may_drop, may_relocate, may_replace, moves, named, one_less, one_more, pinned, refl, removes, root_fragment, rows_but, sets, shown_in, shown_tree, shows, state_of, subst, sym, text_of, texts_going, true, unclean_with, with_directory, with_entry, with_home, with_new, with_pin, without, without_dir, without_entry, ℕ, ◌-◌, ◌<◌, ◌==◌, ◌^◌, ◌∙◌, ◌≡◌}
 use Rattle.std.proofs.lemmas.Bool.{cond_both}
 use Rattle.std.specs.FinMap as map
 use Rattle.mdcache.specs.Core.{moved, with_dir}
@@ -105,9 +105,9 @@ module _ (old new : Core) (sound : IsSound (state_of old)) (begun : 0 < old.next
     -- a directory has its home, and its leaf, for which a place is kept
     module _ (only : KeepsOnlyAt kept old.caches) (kept_place : IsKeptFor old.caches spot.at.rank.0 (first_leaf inode.ino)) (kinded : is_dir_kind inode.kind ≡ true) (fits : inode.ino.0 < 2 ^ 64) (rank : spot.at.rank.0 < length old.caches.used)
         (may : MayChange (shown_in old) old.covers (adds spot inode)) (rooms : Rooms) where
-      pub directory_done : (made : NewDirectory) → made.name ≡ spot.name → string_bytes made.object ≡ text_of (first_leaf inode.ino)
-          → new ≡ with_dir (with_entry now place.dir) first (record { parent = spot.at.dir; name = made.name }) (string_bytes made.object) rooms → IsDone (adds spot inode) old new
-      directory_done made name object is =
+      pub directory_done : (made : NewDirectory) → made.name ≡ spot.name
+          → new ≡ with_dir (with_entry now place.dir) first (record { parent = spot.at.dir; name = made.name }) (text_of (first_leaf inode.ino)) rooms → IsDone (adds spot inode) old new
+      directory_done made name is =
           let leaves = sound_leaves (state_of old) sound in
           let come = may_come (shown_in old) old.homes (dentry_at spot) inode sound.tabled may.takes in
           let counts = one_more old.counts place.dir.0 in
@@ -117,7 +117,7 @@ module _ (old new : Core) (sound : IsSound (state_of old)) (begun : 0 < old.next
           (kept_named old place spot.name (Some inode) there (first_leaf inode.ino) kept_place rank).1 (home_at (dentry_at spot)) (text_of (first_leaf inode.ino)) rooms
           (first_live (state_of old) leaves (dentry_at spot) inode.ino come fits) (grown_live (state_of old) leaves (dentry_at spot) inode.ino come fits) (inr (refl, refl)) in
           let with_leaf : State = record (with_directory (state_of now) (dentry_at spot) inode.ino) { counts = map.insert counts inode.ino.0 0 } in
-          subst (IsDone (adds spot inode) old) (sym (is ∙ (λ i. with_dir (with_entry now place.dir) first (record { parent = spot.at.dir; name = name i }) (object i) rooms)))
+          subst (IsDone (adds spot inode) old) (sym (is ∙ (λ i. with_dir (with_entry now place.dir) first (record { parent = spot.at.dir; name = name i }) (text_of (first_leaf inode.ino)) rooms)))
           (done (adds spot inode) old (with_dir (with_entry now place.dir) first (home_at (dentry_at spot)) (text_of (first_leaf inode.ino)) rooms) sound (λ new. fits) may (
             with_new (state_of now) (dentry_at spot) inode,
             (state_of now, is_named _ _ kept old old before place spot.name (Some inode) there, refl),

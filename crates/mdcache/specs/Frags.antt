@@ -1,6 +1,6 @@
 -- The tree over caches and a store as operations see it: what reads keep, why a call is refused, and what a change
 -- takes.
-use Rattle.std.specs.Prelude.{◌≡◌, ◌⊎◌, ℕ, ◌+◌, ◌-◌, ◌<◌, ◌≤◌, ◌^◌, Bool, true, false, List, Option, Some, None, length, string_bytes}
+use Rattle.std.specs.Prelude.{◌≡◌, ◌⊎◌, ℕ, ◌+◌, ◌-◌, ◌<◌, ◌≤◌, ◌^◌, Bool, true, false, List, Option, Some, None, length, option_map, string_bytes}
 use Rattle.mds_types.specs.declared.dentries.Dentry.{Dentry}
 use Rattle.mds_types.specs.declared.ids.Ino.{Ino}
 use Rattle.mds_types.specs.declared.ids.Rank.{Rank}
@@ -24,6 +24,7 @@ use Rattle.mdcache.specs.declared.prepared.NewDirectory.{NewDirectory}
 use Rattle.mdcache.specs.Core.{Core, LacksPlacesAt, state_of}
 use Rattle.mdcache.specs.Changes.{first_leaf}
 use Rattle.mdcache.specs.Going.{IsGoingOrNone, count_going, dir_going}
+use Rattle.mdcache.specs.PurgeList.{IsGiven}
 use Rattle.mdcache.specs.Ready.{LacksNumbers}
 use Rattle.mdcache.specs.State.{State, text_of}
 
@@ -90,14 +91,14 @@ pub record IsNameReady (core : Core) (rank : Rank) (leaf : Leaf) : Type 0 where
   pub number : core.next_version < 2 ^ 64 - 1
 
 -- a place is kept at a rank for the leaf of a directory that comes, a generation is left for it, and there is room for
--- the directory, its name, and the name of its leaf's object
+-- the directory, its name, and the name of its leaf's object, unless no object is to be removed
 pub record IsDirectoryReady (core : Core) (rank : Rank) (dentry : Dentry) (dir : Ino)
     (made : NewDirectory) : Type 0 where
   pub place : IsKeptFor core.caches rank.0 (first_leaf dir)
   pub home : 0 < core.room.dirs
   pub generation : core.next_generation < 2 ^ 64 - 1
   pub name : made.name ≡ dentry.name
-  pub object : string_bytes made.object ≡ text_of (first_leaf dir)
+  pub object : IsGiven core.purge (text_of (first_leaf dir)) (option_map string_bytes made.object)
 
 -- what an entry takes that goes: the names of the objects, where it is a directory, for which the purge list has room
 abbrev pub IsForRemoval : Covers → ℕ → Option Ino → Option Going → Type 0

@@ -1,6 +1,7 @@
 -- What a contract sees of a purge list.
-use Rattle.std.specs.Prelude.{ℕ, List, Option}
+use Rattle.std.specs.Prelude.{◌≡◌, ℕ, List, Option, Some, None}
 use Rattle.std.specs.Option.{option_map}
+use Rattle.std.specs.FinMap as map
 use Rattle.objstore.specs.Omap.{Keys}
 use Rattle.sorted_map.specs.SortedMap.{first_pair}
 
@@ -13,3 +14,8 @@ pub record Listed : Type 0 where
 -- the first name, if there is one
 abbrev pub first_name : Keys → Option (List ℕ)
 first_name names = option_map (λ (e : List ℕ × Unit {0}). e.0) (first_pair names)
+
+-- the name of an object that may be on a list is given; no name needs to be where the list is empty
+abbrev pub IsGiven : Keys → List ℕ → Option (List ℕ) → Type 0
+IsGiven names text (Some given) = given ≡ text
+IsGiven names text None = names ≡ map.empty

@@ -1,5 +1,5 @@
 //! The steps of a change for which all is ready. None takes memory, and none can fail.
-ghost use Rattle.std.specs.Prelude.{◌≡◌, ◌==◌, ◌+◌, ◌-◌, ◌<◌, ◌^◌, true, false, is_some, Some, None, IfSome, length, string_bytes, ◌≤◌};
+ghost use Rattle.std.specs.Prelude.{◌≡◌, ◌==◌, ◌+◌, ◌-◌, ◌<◌, ◌^◌, true, false, is_some, Some, None, IfSome, length, option_map, string_bytes, ◌≤◌};
 ghost use Rattle.std.specs.FinMap as map;
 ghost use Rattle.mds_types.specs.Frag.{root_fragment};
 ghost use Rattle.mds_types.specs.Leaf.{leaf_of};
@@ -15,6 +15,8 @@ ghost use Rattle.inode_table.specs.TreeTable.{with_home};
 ghost use Rattle.mdcache.specs.Changes.{first_leaf};
 ghost use Rattle.mdcache.specs.Core.{moved, named, pinned, shows, with_dir, with_entry, without_dir, without_entry};
 ghost use Rattle.mdcache.specs.Going.{count_going, dir_going, leaves_going, texts_going};
+ghost use Rattle.mdcache.specs.PurgeList.{IsGiven};
+ghost use Rattle.mdcache.specs.State.{text_of};
 
 use crate::changes::shows;
 use crate::going::Going;
@@ -65,9 +67,11 @@ impl<S: Store + Drop> MdCache<S> {
         requires may { MayCome self.old.homes inode.ino.0 (record { parent = spot.at.dir; name = made.name }) }
         requires place { IsKeptFor self.old.caches spot.at.rank.0 (first_leaf inode.ino) }
         requires generation { self.old.next_generation < 2 ^ 64 - 1 }
+        requires object { IsGiven self.old.purge (text_of (first_leaf inode.ino))
+            (option_map string_bytes made.object) }
         ensures { self.new ≡ with_dir (with_entry (named self.old spot.at spot.name (Some inode)) spot.at.dir)
             (record { dir = inode.ino; frag = root_fragment; rank = spot.at.rank })
-            (record { parent = spot.at.dir; name = made.name }) (string_bytes made.object) self.new.room }
+            (record { parent = spot.at.dir; name = made.name }) (text_of (first_leaf inode.ino)) self.new.room }
     {
         let NewDirectory { name, object } = made;
         let first = Dirfrag {
@@ -81,7 +85,7 @@ impl<S: Store + Drop> MdCache<S> {
         };
         self.put(spot.at, spot.name, inode);
         self.entry_comes(spot.at.dir);
-        self.add_dir(self.alloc, first, home, object.as_str());
+        self.add_dir(self.alloc, first, home, &object);
     }
 
     /// The name of a dentry is removed, and counted no longer, and the directory that stood there, if one did.

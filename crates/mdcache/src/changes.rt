@@ -1,5 +1,5 @@
 //! Changes of names and of the counts that go with them, and directories that come, move and go.
-ghost use Rattle.std.specs.Prelude.{◌≡◌, ◌==◌, ◌+◌, ◌-◌, ◌<◌, ◌≤◌, ◌^◌, is_some, true, false, None, Some, IfSome, length, string_bytes, [], ◌∷◌};
+ghost use Rattle.std.specs.Prelude.{◌≡◌, ◌==◌, ◌+◌, ◌-◌, ◌<◌, ◌≤◌, ◌^◌, is_some, true, false, None, Some, IfSome, length, option_map, string_bytes, [], ◌∷◌};
 ghost use Rattle.std.specs.FinMap as map;
 ghost use Rattle.mds_types.specs.Tree.{is_dir_kind};
 ghost use Rattle.mds_types.specs.Leaf.{leaf_of};
@@ -11,6 +11,8 @@ ghost use Rattle.inode_table.specs.Dirs.{MayCome, MayGo, MayMove, count_of, is_k
 ghost use Rattle.inode_table.specs.TreeTable.{counts_moved, with_home};
 ghost use Rattle.mdcache.specs.Going.{count_going, dir_going, leaves_going, leaves_in, texts_going, texts_in};
 ghost use Rattle.mdcache.specs.Core.{named, pinned, shows_in, with_dir, with_entry, without_dir, without_entry, without_frags};
+ghost use Rattle.mdcache.specs.PurgeList.{IsGiven};
+ghost use Rattle.mdcache.specs.State.{text_of};
 
 use crate::going::{Going, GoingLeaf};
 use crate::mdcache::MdCache;
@@ -83,22 +85,29 @@ impl<S: Store + Drop> MdCache<S> {
         }
     }
 
-    /// A directory comes, with its one leaf, for which a place is kept; `object` is the name of the leaf's object,
-    /// which isn't to be removed then. Takes no memory.
-    pub(crate) fn add_dir(&mut self, alloc: Global, at: Dirfrag, home: Home, object: &str)
+    /// A directory comes, with its one leaf, for which a place is kept. The leaf's object, whose name is given unless
+    /// the purge list is empty, isn't to be removed then. Takes no memory.
+    pub(crate) fn add_dir(
+        &mut self,
+        alloc: Global,
+        at: Dirfrag,
+        home: Home,
+        object: &Option<String>,
+    )
         requires room { 0 < self.old.room.dirs }
         requires may { MayCome self.old.homes at.dir.0 home }
         requires there { at.rank.0 < length self.old.caches.used }
         requires place { has_place self.old.caches at.rank.0 (leaf_of at) ≡ true }
         requires absent { map.get self.old.caches.held (leaf_of at) ≡ None }
         requires number { self.old.next_generation < 2 ^ 64 - 1 }
-        ensures { self.new ≡ with_dir self.old at home object.now self.new.room }
+        requires object { IsGiven self.old.purge (text_of (leaf_of at)) (option_map string_bytes object.now) }
+        ensures { self.new ≡ with_dir self.old at home (text_of (leaf_of at)) self.new.room }
     {
         self.dirs.adopt(at.dir, home);
         self.caches
             .fill(at, CachedFrag::fresh(alloc, self.next.generation));
         self.next.generation += 1;
-        self.purge.remove(object);
+        self.purge.spare(object);
     }
 
     /// An inode that came to a name of a directory has its home there, if it is a directory itself. Takes no memory.

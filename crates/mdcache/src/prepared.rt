@@ -8,8 +8,8 @@ use mds_types::Name;
 pub struct NewDirectory {
     /// Its name, once more.
     pub name: Name,
-    /// The name of the object of its leaf `*`.
-    pub object: String,
+    /// The name of the object of its leaf `*`, unless the purge list is empty: there alone it has to be looked for.
+    pub object: Option<String>,
 }
 
 /// What an entry that moves takes beside its two dentries and its inode.

@@ -1,9 +1,9 @@
 //! `PurgeList`, what a contract sees of it, and its calls.
-ghost use Rattle.std.specs.Prelude.{◌≡◌, ◌≤◌, ◌<◌, ◌+◌, ℕ, List, string_bytes, IsOk, OnOk, OnErr, IfSome, IfNone, option_copied};
+ghost use Rattle.std.specs.Prelude.{◌≡◌, ◌≤◌, ◌<◌, ◌+◌, ◌↔◌, ℕ, List, string_bytes, IsOk, IsTrue, OnOk, OnErr, IfSome, IfNone, option_copied, option_map};
 ghost use Rattle.std.specs.FinMap as map;
 ghost use Rattle.sorted_map.specs.SortedMap.{contents};
 ghost use Rattle.objstore.specs.Omap.{key_cmp};
-ghost use Rattle.mdcache.specs.PurgeList.{first_name};
+ghost use Rattle.mdcache.specs.PurgeList.{IsGiven, first_name};
 
 use mds_types::{Text, TextRef};
 use sorted_map::SortedMap;
@@ -52,6 +52,13 @@ impl PurgeList {
         ensures { result ≡ map.len self.now.names }
     {
         self.names.len()
+    }
+
+    /// Whether no name waits.
+    pub fn is_empty(&self) -> bool
+        ensures { IsTrue result ↔ (self.now.names ≡ map.empty) }
+    {
+        self.names.is_empty()
     }
 
     /// How many new names surely fit before memory is needed.
@@ -104,6 +111,19 @@ impl PurgeList {
         ensures room { self.old.room ≤ self.new.room }
     {
         let _ = self.names.remove(&TextRef { text: name });
+    }
+
+    /// Takes the name of an object off the list that isn't to be removed, given unless the list is empty. Takes no
+    /// memory.
+    pub(crate) fn spare(&mut self, object: &Option<String>)
+        ensures spared { (name : List ℕ) → IsGiven self.old.names name (option_map string_bytes object.now)
+            → self.new.names ≡ map.remove self.old.names name }
+        ensures room { self.old.room ≤ self.new.room }
+    {
+        match object {
+            Some(name) => self.remove(name.as_str()),
+            None => {}
+        }
     }
 
     /// Takes the first name off the list; an empty list stays so. Takes no memory.

@@ -1,5 +1,5 @@
 //! What each kind of change needs is made ready: numbers, leaves, places and room.
-ghost use Rattle.std.specs.Prelude.{◌≡◌, ◌⊎◌, ◌+◌, ◌-◌, ◌<◌, ◌≤◌, ◌^◌, ℕ, List, true, false, Some, None, string_bytes, length, OnErr, OnOk, IfOk, IfErr, IfSome};
+ghost use Rattle.std.specs.Prelude.{◌≡◌, ◌⊎◌, ◌+◌, ◌-◌, ◌<◌, ◌≤◌, ◌^◌, ℕ, List, true, false, Some, None, option_map, string_bytes, length, OnErr, OnOk, IfOk, IfErr, IfSome};
 ghost use Rattle.std.specs.Result.{result_err};
 ghost use Rattle.std.specs.FinMap as map;
 ghost use Rattle.mds_types.specs.declared.refusals.Refusal.TheVariants.{NoInodes, NoMemory};
@@ -16,6 +16,7 @@ ghost use Rattle.mdcache.specs.Changes.{first_leaf};
 ghost use Rattle.mdcache.specs.Core.{AreCached, IsSoundCore, LacksPlacesAt, ReadsCore, state_of};
 ghost use Rattle.mdcache.specs.Frags.{IsDirectoryReady, IsForMove, IsForRemoval, IsNameReady};
 ghost use Rattle.mdcache.specs.Going.{IsGoing};
+ghost use Rattle.mdcache.specs.PurgeList.{IsGiven};
 ghost use Rattle.mdcache.specs.Ranks.{KeepsOnlyAt, MayHold};
 ghost use Rattle.mdcache.specs.Ready.{LacksNumbers, MayNotBeReady};
 ghost use Rattle.mdcache.specs.Shown.{names_of};
@@ -94,7 +95,7 @@ impl<S: Store + Drop> MdCache<S> {
         if let Err(refusal) = self.dirs.reserve() {
             return Err(refusal);
         }
-        let made = new_directory(alloc, &spot.name, dir)?;
+        let made = new_directory(alloc, &self.purge, &spot.name, dir)?;
         let first = Dirfrag {
             dir,
             frag: Frag::ROOT,
@@ -236,14 +237,31 @@ fn check_two_left(next: u64) -> Result<(), Refusal>
 }
 
 // What a directory of this number takes that comes.
-fn new_directory(alloc: Global, name: &Name, dir: Ino) -> Result<NewDirectory, Refusal>
+fn new_directory(
+    alloc: Global,
+    purge: &PurgeList,
+    name: &Name,
+    dir: Ino,
+) -> Result<NewDirectory, Refusal>
     ensures name { IfOk result (λ made. made.name ≡ name.now) }
-    ensures object { IfOk result (λ made. string_bytes made.object ≡ text_of (first_leaf dir)) }
+    ensures object { IfOk result (λ made. IsGiven purge.now.names (text_of (first_leaf dir))
+        (option_map string_bytes made.object)) }
     ensures err { IfErr result (λ reason. reason ≡ NoMemory) }
 {
     let name = name.try_clone()?;
-    let object = ObjName::Frag(dir, Frag::ROOT).to_text(alloc)?;
+    let object = first_object(alloc, purge, dir)?;
     Ok(NewDirectory { name, object })
+}
+
+// The name of the object of a directory's leaf `*`; an empty purge list doesn't need it.
+fn first_object(alloc: Global, purge: &PurgeList, dir: Ino) -> Result<Option<String>, AllocError>
+    ensures { IfOk result (λ object. IsGiven purge.now.names (text_of (first_leaf dir))
+        (option_map string_bytes object)) }
+{
+    if purge.is_empty() {
+        return Ok(None);
+    }
+    Ok(Some(ObjName::Frag(dir, Frag::ROOT).to_text(alloc)?))
 }
 
 /// A record allows what each name of a cached fragment stands for: a law of the type, so nothing is done.

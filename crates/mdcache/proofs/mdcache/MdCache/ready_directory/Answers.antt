@@ -1,4 +1,5 @@
-use Rattle.mdcache.proofs.Common.{Core, IsThat, Leaf, NoneEnds, Table, ap, arith, first_leaf, leaf_of, rules, ℕ, ⊎_elim, ◌<◌, ◌⊎◌}
+use Rattle.mdcache.proofs.Common.{Core, IsThat, Leaf, NoneEnds, Table, ap, arith, first_leaf, leaf_of, option_map, rules, string_bytes, subst, sym, text_of, ℕ, ⊎_elim, ◌<◌, ◌⊎◌}
+use Rattle.mdcache.specs.PurgeList.{IsGiven}
 use Rattle.mdcache.proofs.CoreLaws.{dirs_grown, grown_may, grown_refused, grown_sound, grows_by, not_ready, on_err_so, reads_cached_so, reads_core_on, reads_itself, reads_sound_so, still_absent}
 use Rattle.mdcache.proofs.PrepareLaws.{first_live_so, first_nowhere}
 use Rattle.mdcache.proofs.mdcache.MdCache.ready_directory.Goals as goal
@@ -40,7 +41,22 @@ returns-in-Ok g c =
     let reads = reads_core_on Uses NoneEnds c.args.self.now _ c.ready_first.new.self (room Uses NoneEnds) c.ready_first.ensures.reads in
     let live = first_live_so c.args.self.now c.args.spot.now.at.rank.0 (leaf_of c.args.spot.now.at) (first_leaf c.args.dir) c.ready_first.new.self.caches c.requires.live c.ready_first.ensures.absent in
     let cached = reads_cached_so Uses NoneEnds c.args.self.now c.ready_first.new.self reads c.requires.sound live in
-    record { ready = search rules; place = search rules; only = search rules; cached = cached; reads = reads; sound = tt; counted = search rules; refused = tt }
+    record {
+      ready = search rules;
+      place = record {
+        place = c.in-Ok.ensures.place;
+        home = search rules;
+        generation = search rules;
+        name = c.in_ok-made.ensures.name;
+        object = subst (λ (k : Core). IsGiven k.purge (text_of (first_leaf c.args.dir)) (option_map string_bytes c.in_ok-made.made.object)) (sym c.ready_first.ensures.reads.beside) c.in_ok-made.ensures.object;
+      };
+      only = search rules;
+      cached = cached;
+      reads = reads;
+      sound = tt;
+      counted = search rules;
+      refused = tt;
+    }
 
 pub returns-in-Err-ready_first : goal.returns-in-Err-ready_first
 returns-in-Err-ready_first g c =
