@@ -1,5 +1,5 @@
 -- Commits of whole fragments, several at once.
-use Rattle.mdcache.proofs.Common.{AllByRecursion, AreApart, Begins, BeginsWith, Begun, CacheMap, Came, CommitsWhole, Core, Dirfrag, Ends, Err, HasFragment, IsBegunAt, IsEnded, IsFree, IsLive, IsReadyAt, IsSound, IsSoundCore, IsThat, IsUncleanAt, Job, Jobs, KeepsTree, Leaf, List, MayHold, MayNotBeginAll, MayNotBeginOne, None, NoneEnds, NotAmong, Ok, Option, Rank, Ready, Refusal, Some, State, Unsaved, UnsavedLeaves, [], ap, append_assoc, arith, came_held, came_ranks, came_weaker, committed, cond, drop, drop_more, empty_of_len, false, get-empty, get_or, inl, inr, is_some, leaves_at, leaves_of_jobs, leaves_of_writes, len-remove, length, map-append, ready_of, refl, shown_tree, state_of, subst, suc, sym, true, unclean, with_job, zero, ℕ, ⊎_elim, ◌++◌, ◌+◌, ◌-◌, ◌<◌, ◌∙◌, ◌∷◌, ◌≡◌}
+use Rattle.mdcache.proofs.Common.{AllByRecursion, AreApart, Begins, BeginsWith, Begun, CacheMap, Came, CommitsWhole, Core, Dirfrag, Ends, Err, HasFragment, IsBegunAt, IsEnded, IsFree, IsLive, IsReadyAt, IsSound, IsSoundCore, IsThat, IsUncleanAt, Job, Jobs, KeepsTree, Leaf, List, MayHold, MayNotBeginAll, MayNotBeginOne, None, NoneEnds, NotAmong, Ok, Option, Rank, Ready, Refusal, Some, State, Unsaved, UnsavedLeaves, [], ap, append_assoc, arith, came_held, came_ranks, came_weaker, committed, cond, drop, drop_more, empty_of_len, false, get-empty, get_or, inl, inr, is_some, leaves_at, leaves_of_jobs, leaves_of_writes, len-remove, length, map-append, ready_of, refl, rules, shown_tree, state_of, subst, suc, sym, true, unclean, with_job, zero, ℕ, ⊎_elim, ◌++◌, ◌+◌, ◌-◌, ◌<◌, ◌∙◌, ◌∷◌, ◌≡◌}
 use Rattle.std.proofs.Common.{map as list_map, Result}
 use Rattle.std.specs.FinMap as map
 use Rattle.mds_types.specs.Leaf.{leaf_of as leaf_at}
@@ -14,8 +14,7 @@ use Rattle.mds_types.proofs.LeafLaws.{get_beside, leaf-total}
 
 -- a commit that began left its job, and nothing else
 begun_left : (old new : State) (leaf : Leaf) (job : Job) (o : Option Unsaved) → BeginsWith old new leaf o (Some job) → new ≡ with_job old job
-begun_left old new leaf job None (none, same) = let clash : Some job ≡ None = none in absurd cc
-begun_left old new leaf job (Some u) (is, lacks, left) = left
+begun_left old new leaf job o is = search rules
 
 module _ (old new : Core) (rank : Rank) (leaf : Leaf) (may : MayHold old.caches rank leaf) (dirty : is_some (map.get (unclean old.caches) leaf) ≡ true) (came : Came (IsThat rank.0 leaf) NoneEnds old.caches new.caches) where
   came_there : Came (HasFragment old.caches) NoneEnds old.caches new.caches
@@ -24,17 +23,7 @@ module _ (old new : Core) (rank : Rank) (leaf : Leaf) (may : MayHold old.caches 
 
   -- what leaves all of the state but what isn't clean, objects, jobs and their numbers
   keeps : (s : State) → state_of new ≡ record (state_of old) { unsaved = s.unsaved; objects = s.objects; jobs = s.jobs; next_job = s.next_job } → shown_tree (state_of new) ≡ shown_tree (state_of old) → KeepsTree old new
-  keeps s left tree = record {
-    limit = λ i. (left i).limit;
-    homes = λ i. (left i).homes;
-    covers = λ i. (left i).covers;
-    counts = λ i. (left i).counts;
-    pins = λ i. (left i).pins;
-    tree = tree;
-    generation = λ i. (left i).next_generation;
-    version = λ i. (left i).next_version;
-    caches = came_there;
-  }
+  keeps s left tree = search (rules, came_there)
 
   -- a commit begins, or doesn't
   pub begin_keeps : (job : Job) → Begins (state_of old) (state_of new) leaf (Ok (Some job)) → KeepsTree old new

@@ -1,6 +1,5 @@
 -- What the beginning of a commit leaves, done or not.
-use Rattle.mdcache.proofs.Common.{AreCached, AreYoung, Base, Begins, BeginsWith, Bool, Bor, Cached, Came, Core, Dirfrag, Err, HasCached, IsAtEnd, IsBelowEnd, IsFreeFor, IsJobOf, IsLive, IsOf, IsSnap, IsSound, IsSoundCore, IsThat, IsThere, Job, Leaf, NoInodes, NoMemory, None, NoneEnds, Ok, Omap, Option, Refusal, Result, Rooms, Some, State, Unsaved, ap, at, cond, counts_of, false, here, here_is, inl, inr, is_clean, is_some, job_for, object_of, option_copied, option_map, refl, same_Some, shown, shown_at, state_of, stays, subst, sym, tied_show, true, unsaved_in, used_at, used_core, used_unclean, uses, with_job, with_job_in, ℕ, ◌+◌, ◌∙◌, ◌≡◌}
-use Rattle.std.proofs.lemmas.Bool.{cond_both}
+use Rattle.mdcache.proofs.Common.{AreCached, AreYoung, Base, Begins, BeginsWith, Bool, Bor, Cached, Came, Core, Dirfrag, Err, HasCached, IsAtEnd, IsBelowEnd, IsFreeFor, IsJobOf, IsLive, IsOf, IsSnap, IsSound, IsSoundCore, IsThat, IsThere, Job, Leaf, NoInodes, NoMemory, None, NoneEnds, Ok, Omap, Option, Refusal, Result, Rooms, Some, State, Unsaved, ap, at, cond, cond_both, counts_of, false, here, here_is, inl, inr, is_clean, is_some, job_for, object_of, option_copied, option_map, refl, rules, same_Some, shown, shown_at, state_of, stays, subst, sym, tied_show, true, unsaved_in, used_at, used_core, used_unclean, uses, with_job, with_job_in, ℕ, ◌+◌, ◌∙◌, ◌≡◌}
 use Rattle.std.specs.FinMap as map
 use Rattle.mds_types.specs.Leaf.{leaf_of as leaf_at}
 use Rattle.dentry_cache.specs.Ties.{KeepsAt}
@@ -24,13 +23,11 @@ from_told (Some f) base generation is = cond_both (is_clean f) None (Some (recor
     (f, refl, dirty, ap (λ (p : Base × ℕ). p.0) same, ap (λ (p : Base × ℕ). p.1) same)) is
 
 pub none_told : (o : Option Unsaved) → None ≡ told o → o ≡ None
-none_told None is = refl
-none_told (Some u) is = let clash : None ≡ Some (u.base, u.generation) = is in absurd cc
+none_told o is = search rules
 
 -- no job stands where none is found
 pub none_found : (o : Option (Bor Job)) (r : Option Job) (b : Bool) → option_copied o ≡ r → b ≡ is_some o → b ≡ false → r ≡ None
-none_found None r b is told apart = sym is
-none_found (Some x) r b is told apart = let clash : true ≡ false = sym told ∙ apart in cc
+none_found o r b is told apart = search rules
 
 -- what a call leaves that begins a commit, or is refused
 pub record HasBegun (old new : Core) (a : Dirfrag) (result : Result (Option Job) Refusal) : Type 0 where

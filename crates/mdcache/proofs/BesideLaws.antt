@@ -16,17 +16,17 @@ module _ (old view : Core) (is : view ≡ old) (sound : IsSoundCore old) where
 
   -- a job is given up
   module _ (leaf : Leaf) (jobs : Jobs) (ended : jobs ≡ map.remove view.jobs leaf) where
-    pub drop_dropped : (number : ℕ) → (job : Job) × (map.get view.jobs leaf ≡ Some job) × (job.number ≡ number) → IsDropped (state_of old) (state_of (record view { jobs = jobs })) number
-    drop_dropped number found = subst (λ (k : Core). IsDropped (state_of k) (state_of (record view { jobs = jobs })) number) is
-        (record { leaf = leaf; job = found.0; stood = found.1; numbered = found.2; left = λ i. record (state_of view) { jobs = ended i } })
-
     pub drop_sound : (room : Rooms) → IsSoundCore (record view { jobs = jobs; room = room })
-    drop_sound room = record {
-      sound = subst (λ (j : Jobs). IsSound (record (state_of view) { jobs = j })) (sym ended) (dropped_sound (state_of view) leaf now.sound);
-      begun = now.begun;
-      cached = λ q a at. let was = now.cached q a at in record { live = was.live; tied = was.tied; made = was.made };
-      none = now.none;
-    }
+    drop_sound room =
+        let sound = subst (λ (j : Jobs). IsSound (record (state_of view) { jobs = j })) (sym ended) (dropped_sound (state_of view) leaf now.sound) in
+        record { sound = sound; begun = now.begun; cached = λ q a at. let was = now.cached q a at in record { live = was.live; tied = was.tied; made = was.made }; none = now.none }
+
+    pub drop_done : (number : ℕ) (room : Rooms) → (job : Job) × (map.get view.jobs leaf ≡ Some job) × (job.number ≡ number) → IsDropped (state_of old) (state_of (record view { jobs = jobs; room = room })) number × IsSoundCore (record view { jobs = jobs; room = room })
+    drop_done number room found = (
+      subst (λ (k : Core). IsDropped (state_of k) (state_of (record view { jobs = jobs; room = room })) number) is
+          (record { leaf = leaf; job = found.0; stood = found.1; numbered = found.2; left = λ i. record (state_of view) { jobs = ended i } }),
+      drop_sound room,
+    )
 
   -- objects and the purge list change, and each leaf stays as it is
   abbrev changed : Objects → Keys → ℕ → Rooms → Core
@@ -44,12 +44,13 @@ module _ (old view : Core) (is : view ≡ old) (sound : IsSoundCore old) where
     is_purged : state_of less ≡ purged (state_of view) name
     is_purged = λ i. record (state_of view) { objects = removed i; purge = listed i }
 
-    pub purge_sound : IsSoundCore less
-    purge_sound = changed_sound objects purge faults room (purged (state_of view) name) (purged_right (state_of view) name now.sound first) is_purged
-
-    pub purge_purged : (before after : ℕ) → Purges (state_of old) (state_of less) before after (Ok tt)
-    purge_purged before after = subst (λ (k : Core). Purges (state_of k) (state_of less) before after (Ok tt)) is
-        (subst (λ (o : Option (List ℕ)). PurgesName (state_of view) (state_of less) before after o (Ok tt)) (sym first) (is_purged, ap shown_tree is_purged ∙ (purged_right (state_of view) name now.sound first).tree))
+    pub purge_done : (before after : ℕ) → Purges (state_of old) (state_of less) before after (Ok tt) × IsSoundCore less
+    purge_done before after =
+        let right = purged_right (state_of view) name now.sound first in (
+          subst (λ (k : Core). Purges (state_of k) (state_of less) before after (Ok tt)) is
+              (subst (λ (o : Option (List ℕ)). PurgesName (state_of view) (state_of less) before after o (Ok tt)) (sym first) (is_purged, ap shown_tree is_purged ∙ right.tree)),
+          changed_sound objects purge faults room (purged (state_of view) name) right is_purged,
+        )
 
   -- the object of a directory's tree is brought up to date
   module _ (dir : Ino) (objects : Objects) (purge : Keys) (faults : ℕ) (room : Rooms) (known : is_known view.homes dir.0 ≡ true) (saved : objects ≡ with_tree_at view.objects (tree_text dir) (leaves_of view.covers dir.0)) (listed : purge ≡ map.remove view.purge (tree_text dir)) where
@@ -59,12 +60,13 @@ module _ (old view : Core) (is : view ≡ old) (sound : IsSoundCore old) where
     is_written : state_of written ≡ tree_saved (state_of view) dir
     is_written = λ i. record (state_of view) { objects = saved i; purge = listed i }
 
-    pub tree_sound : IsSoundCore written
-    tree_sound = changed_sound objects purge faults room (tree_saved (state_of view) dir) (tree_saved_right (state_of view) dir now.sound known) is_written
-
-    pub tree_is : (is_known old.homes dir.0 ≡ true) × (state_of written ≡ tree_saved (state_of old) dir) × (shown_tree (state_of written) ≡ shown_tree (state_of old))
-    tree_is = subst (λ (k : Core). (is_known k.homes dir.0 ≡ true) × (state_of written ≡ tree_saved (state_of k) dir) × (shown_tree (state_of written) ≡ shown_tree (state_of k))) is
-        (known, is_written, ap shown_tree is_written ∙ (tree_saved_right (state_of view) dir now.sound known).tree)
+    pub tree_done : ((is_known old.homes dir.0 ≡ true) × (state_of written ≡ tree_saved (state_of old) dir) × (shown_tree (state_of written) ≡ shown_tree (state_of old))) × IsSoundCore written
+    tree_done =
+        let right = tree_saved_right (state_of view) dir now.sound known in (
+          subst (λ (k : Core). (is_known k.homes dir.0 ≡ true) × (state_of written ≡ tree_saved (state_of k) dir) × (shown_tree (state_of written) ≡ shown_tree (state_of k))) is
+              (known, is_written, ap shown_tree is_written ∙ right.tree),
+          changed_sound objects purge faults room (tree_saved (state_of view) dir) right is_written,
+        )
 
   -- the least recently used of a rank's clean fragments goes
   module _ (r : ℕ) (caches : CacheMap) (there : r < length view.caches.used) (valid : AreCaches view.caches) where
@@ -85,15 +87,9 @@ module _ (old view : Core) (is : view ≡ old) (sound : IsSoundCore old) where
     went_state : evicted view.caches r None ≡ Some caches → state_of (record view { caches = caches }) ≡ state_of view
     went_state gone = λ i. record (state_of view) { unsaved = (went gone).0 i }
 
-    pub evict_state : (result : Result (Unit {0}) Refusal) → OnOk result (evicted view.caches r None ≡ Some caches) → OnErr result (caches ≡ view.caches) → state_of (record view { caches = caches }) ≡ state_of old
-    evict_state (Ok done) gone left = went_state gone ∙ ap state_of is
-    evict_state (Err reason) gone left = ap (λ (k : CacheMap). state_of (record view { caches = k })) left ∙ ap state_of is
-
-    pub evict_sound : (result : Result (Unit {0}) Refusal) → OnOk result (evicted view.caches r None ≡ Some caches) → OnErr result (caches ≡ view.caches) → IsSoundCore (record view { caches = caches })
-    evict_sound (Ok done) gone left = record {
-      sound = subst IsSound (sym (went_state gone)) now.sound;
-      begun = now.begun;
-      cached = subst (λ (s : State). AreCached s caches) (sym (went_state gone)) (went gone).1;
-      none = (went gone).2;
-    }
-    evict_sound (Err reason) gone left = subst (λ (k : CacheMap). IsSoundCore (record view { caches = k })) (sym left) now
+    pub evict_done : (result : Result (Unit {0}) Refusal) → OnOk result (evicted view.caches r None ≡ Some caches) → OnErr result (caches ≡ view.caches) → (state_of (record view { caches = caches }) ≡ state_of old) × IsSoundCore (record view { caches = caches })
+    evict_done (Ok done) gone left = (
+      went_state gone ∙ ap state_of is,
+      record { sound = subst IsSound (sym (went_state gone)) now.sound; begun = now.begun; cached = subst (λ (s : State). AreCached s caches) (sym (went_state gone)) (went gone).1; none = (went gone).2 },
+    )
+    evict_done (Err reason) gone left = (ap (λ (k : CacheMap). state_of (record view { caches = k })) left ∙ ap state_of is, subst (λ (k : CacheMap). IsSoundCore (record view { caches = k })) (sym left) now)

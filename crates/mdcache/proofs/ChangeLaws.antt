@@ -1,6 +1,5 @@
 -- The four changes are right.
-use Rattle.mdcache.proofs.Common.{Alters, Change, ChangesAreRight, ChangesOnly, Contains, Counts, Covers, Dentry, DirPins, Fragment, HasLeaf, HasNumber, Homes, Ino, Inode, IsCounted, IsLeafAt, IsLive, IsNamed, IsRight, IsSound, IsTabled, IsUntouched, KeepLeaves, Leaf, List, MayChange, MayCome, MayGo, None, NothingIn, Option, Shape, Some, Spot, State, StaysAsItIs, Tree, [], add, added_counted, added_tabled, adds, ap, arith, changed, cond, counts_moved, dentry_at, directory_at, entry_stands, false, fragments_of, home_at, is_dir_kind, is_directory, is_known, is_some, known_is, leaf_is, leaf_of, leaves, leaves_gone, leaves_kept, leaves_of, may_come, may_drop, may_relocate, may_replace, move, moved_counted, moved_tabled, moves, nat_cmp, noted, nothing_in, one_leaf, one_less, refl, remove, removed_counted, removed_tabled, removes, replaced_empty, rows_but, same_Some, set, set_counted, set_tabled, sets, shape_of, shown_tree, stands_after_removal, subst, suc, sym, true, with_dir, with_directory, with_file, with_home, with_home_at, with_moved, without, without_cover, without_directory, without_home, without_row, zero, ℕ, ◌<◌, ◌^◌, ◌∙◌, ◌∷◌, ◌≡◌}
-use Rattle.std.proofs.lemmas.Bool.{cond_both, false_from_ne_true}
+use Rattle.mdcache.proofs.Common.{Alters, Change, ChangesAreRight, ChangesOnly, Contains, Counts, Covers, Dentry, DirPins, Fragment, HasLeaf, HasNumber, Homes, Ino, Inode, IsCounted, IsLeafAt, IsLive, IsNamed, IsRight, IsSound, IsStanding, IsTabled, IsUnsaved, IsUntouched, Job, KeepLeaves, Leaf, List, MayChange, MayCome, MayGo, None, NothingIn, Option, Shape, Some, Spot, State, StaysAsItIs, Tree, Unsaved, [], add, added_counted, added_tabled, adds, ap, arith, changed, cond, cond_both, counts_moved, dentry_at, directory_at, entry_stands, false, false_from_ne_true, fragments_of, home_at, is_dir_kind, is_directory, is_known, is_some, known_is, leaf_is, leaf_of, leaves, leaves_gone, leaves_kept, leaves_of, may_come, may_drop, may_relocate, may_replace, move, moved_counted, moved_tabled, moves, nat_cmp, noted, nothing_in, one_leaf, one_less, refl, remove, removed_counted, removed_tabled, removes, replaced_empty, rows_but, rules, same_Some, set, set_counted, set_tabled, sets, shape_of, shown_tree, stands_after_removal, subst, suc, sym, true, with_dir, with_directory, with_file, with_home, with_home_at, with_moved, without, without_cover, without_directory, without_home, without_row, zero, ℕ, ◌<◌, ◌^◌, ◌∙◌, ◌∷◌, ◌≡◌}
 use Rattle.std.specs.FinMap as map
 use Rattle.inode_table.specs.Dirs.{MayMove as MayRelocate}
 use Rattle.mdcache.proofs.NamedLaws.{HasSoundLeaves, named_leaves, named_tree, shows_beside, sound_leaves, with_at}
@@ -44,11 +43,8 @@ named_so old new dentry f inode sound known pick named =
     live = record { known = known; stands = pick.stands }
 
 -- the directory of an entry is known
-dir_known : (s : State) (dentry : Dentry) → IsSound s → is_directory (shown_tree s) dentry.dir.0 ≡ true → is_known s.homes dentry.dir.0 ≡ true
-dir_known s dentry sound is = known_is (shown_tree s) s.homes sound.tabled dentry.dir.0 ∙ is
-
 pub entry_known : (s : State) (dentry : Dentry) (inode : Inode) → IsSound s → map.get (shown_tree s) dentry ≡ Some inode → is_known s.homes dentry.dir.0 ≡ true
-entry_known s dentry inode sound stands = dir_known s dentry sound (sound.tabled.whole.parents dentry.dir.0 dentry.name inode stands)
+entry_known s dentry inode sound stands = known_is (shown_tree s) s.homes sound.tabled dentry.dir.0 ∙ sound.tabled.whole.parents dentry.dir.0 dentry.name inode stands
 
 -- a table of one tree is that of another that is equal
 tabled_as : (old new : Tree) (homes now : Homes) → new ≡ old → now ≡ homes → IsTabled old homes → IsTabled new now
@@ -66,32 +62,19 @@ record IsAltered (change : Change) (old new : State) : Type 0 where
 
 -- and then all
 noted_right : (change : Change) (old new : State) (counts : Counts) (pins : DirPins) → IsAltered change old new → IsCounted (changed (shown_tree old) change) counts pins → IsRight change old (record new { counts = counts; pins = pins })
-noted_right change old new counts pins altered counted = record {
-  sound = record {
-    table = its.table;
-    numbered = its.numbered;
-    tabled = altered.tabled;
-    counted = subst (λ (t : Tree). IsCounted t counts pins) (sym altered.tree) counted;
-    placed = its.placed;
-    unsaved = λ leaf u is. let old = its.unsaved leaf u is in record { live = old.live; made = old.made; young = old.young };
-    saved = its.saved;
-    owned = λ name there. its.owned name there;
-    listed = its.listed;
-    standing = λ leaf job is. let old = its.standing leaf job is in record { mine = old.mine; given = old.given; young = old.young; unsaved = old.unsaved; beside = old.beside; taken = old.taken };
-    once = its.once;
-  };
-  tree = altered.tree;
-  leaves = altered.leaves;
-  frame = λ leaf none live. let still = altered.frame leaf none live in record { live = still.live; names = still.names };
-}
-  where
-    its : HasSoundLeaves new
-    its = altered.sound
+noted_right change old new counts pins altered counted =
+    let its = altered.sound in
+    let now : State = record new { counts = counts; pins = pins } in
+    let counted_now : IsCounted (shown_tree new) counts pins = subst (λ (t : Tree). IsCounted t counts pins) (sym altered.tree) counted in
+    let unsaved : (leaf : Leaf) (u : Unsaved) → map.get new.unsaved leaf ≡ Some u → IsUnsaved now leaf u = λ leaf u is. (let old = its.unsaved leaf u is in record { live = old.live; made = old.made; young = old.young }) in
+    let standing : (leaf : Leaf) (job : Job) → map.get new.jobs leaf ≡ Some job → IsStanding now leaf job = λ leaf job is.
+    (let old = its.standing leaf job is in record { mine = old.mine; given = old.given; young = old.young; unsaved = old.unsaved; beside = old.beside; taken = old.taken }) in
+    let frame : ChangesOnly (IsUntouched old now) (fragments_of old.covers change) = λ leaf none live. (let still = altered.frame leaf none live in record { live = still.live; names = still.names }) in
+    search (rules, its.owned)
 
 -- rows of directories without that of a directory that went
 row_gone : {X : Type 0} (rows : map.FinMap nat_cmp X) (found : Option Inode) → rows_but rows (directory_at found) ≡ without_row rows found
-row_gone rows None = refl
-row_gone rows (Some inode) = elim (is_dir_kind inode.kind) as (λ b. rows_but rows (cond b (Some inode.ino) None) ≡ cond b (map.remove rows inode.ino.0) rows) [ true ↦ refl | false ↦ refl ]
+row_gone rows found = search rules
 
 -- a name got an inode, and no directory comes
 named_altered : (change : Change) (spot : Spot) (inode : Inode) (old new : State) → IsNamedSo old new (dentry_at spot) spot.at.frag (Some inode) → IsTabled (map.insert (shown_tree old) (dentry_at spot) inode) old.homes
@@ -137,7 +120,7 @@ added_dir spot inode old named sound fits may so kinded = record {
 add_altered : (spot : Spot) (inode : Inode) (old new : State) → IsSound old → inode.ino.0 < 2 ^ 64 → MayChange (shown_tree old) old.covers (adds spot inode) → Alters (adds spot inode) old new
     → IsAltered (adds spot inode) old new
 add_altered spot inode old new sound fits may makes =
-    let so = named_so old makes.0 (dentry_at spot) spot.at.frag (Some inode) (sound_leaves old sound) (dir_known old (dentry_at spot) sound may.takes.parent) may.carries.put makes.1 in
+    let so = named_so old makes.0 (dentry_at spot) spot.at.frag (Some inode) (sound_leaves old sound) (known_is (shown_tree old) old.homes sound.tabled spot.at.dir.0 ∙ may.takes.parent) may.carries.put makes.1 in
     subst (IsAltered (adds spot inode) old) (sym makes.2) (cond_both (is_dir_kind inode.kind) (with_directory makes.0 (dentry_at spot) inode.ino) makes.0 (IsAltered (adds spot inode) old) (added_dir spot inode old makes.0 sound fits may so)
     (λ file. named_altered (adds spot inode) spot inode old makes.0 so (subst (IsTabled (map.insert (shown_tree old) (dentry_at spot) inode)) (with_file old.homes (dentry_at spot) inode file)
     (added_tabled (shown_tree old) old.homes (dentry_at spot) inode sound.tabled may.takes)) refl refl))
@@ -164,12 +147,7 @@ none_left named sound = record { leaves = sound; tree = refl; stays = λ leaf no
 
 -- the table and the leaves of directories without what stood at a dentry
 tables_without : (s : State) (found : Option Inode) → ((without s (directory_at found)).homes ≡ without_home s.homes found) × ((without s (directory_at found)).covers ≡ without_cover s.covers found)
-tables_without s None = (refl, refl)
-tables_without s (Some inode) = elim (is_dir_kind inode.kind)
-    as (λ b. ((without s (cond b (Some inode.ino) None)).homes ≡ cond b (map.remove s.homes inode.ino.0) s.homes) × ((without s (cond b (Some inode.ino) None)).covers ≡ cond b (map.remove s.covers inode.ino.0) s.covers)) [
-      | true ↦ (refl, refl)
-      | false ↦ (refl, refl)
-    ]
+tables_without s found = search rules
 
 -- what stood at a dentry goes, whatever it was
 left_so : (named : State) (found : Option Inode) → HasSoundLeaves named
@@ -245,7 +223,7 @@ move_altered source target inode gone old new sound may makes =
     let in_place = makes.2.0 in
     let there = with_home_at in_place (dentry_at target) inode in
     let first = named_so old out (dentry_at source) source.at.frag None (sound_leaves old sound) (entry_known old (dentry_at source) inode sound may.takes.stands) may.carries.taken makes.1 in
-    let second = named_so out in_place (dentry_at target) target.at.frag (Some inode) first.leaves (ap (λ (h : Homes). is_known h (dentry_at target).dir.0) first.homes ∙ dir_known old (dentry_at target) sound may.takes.parent)
+    let second = named_so out in_place (dentry_at target) target.at.frag (Some inode) first.leaves (ap (λ (h : Homes). is_known h (dentry_at target).dir.0) first.homes ∙ known_is (shown_tree old) old.homes sound.tabled target.at.dir.0 ∙ may.takes.parent)
     (subst (λ (c : Covers). IsLeafAt c (dentry_at target) target.at.frag) (sym first.covers) may.carries.put) makes.2.1 in
     let homes : in_place.homes ≡ old.homes = second.homes ∙ first.homes in
     let relocates : is_dir_kind inode.kind ≡ true → MayRelocate in_place.homes inode.ino.0 (home_at (dentry_at target)) = λ kinded.

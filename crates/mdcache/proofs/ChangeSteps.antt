@@ -1,8 +1,6 @@
 -- What the steps of a change leave, one after the other.
-use Rattle.mdcache.proofs.Common.{AreCached, AreCaches, At, Bool, CacheMap, Cached, Came, Contains, Core, Counts, DirPins, Dirfrag, Fragment, Going, GoingLeaf, HasCached, HasLeaf, HasRoom, Home, Homes, Ino, Inode, IsCachedIn, IsFree, IsGoingOrNone, IsKeptFor, IsLive, IsNamed, IsThere, IsTied, KeepsNone, KeepsOnlyAt, Leaf, List, Mark, None, Option, Rank, Rooms, Some, State, UnsavedLeaves, [], ap, arith, at, at_rank, cond, dir_going, edited_as, ended, ended_all, ended_at, ends, false, get_given_up, get_with_frag, given_up, has, has_place, has_with_mark, here, here_is, here_put, here_with_frag, holder_there, is_some, leaf_is, leaf_of, leaves, leaves_going, leaves_in, leaves_of, length, list_any, made_frag, marked, named, none_given_up, object_of, one_leaf, or_whole, refl, removed, rows_but, same_Some, state_of, stays, subst, suc, sym, texts_going, true, unclean, unclean_alike, unclean_given_up, unsaved_at, with_frag, with_objects, without, without_dir, without_leaves, zero, ℕ, ⊎_elim, ◌&&◌, ◌<◌, ◌==◌, ◌||◌, ◌∙◌, ◌∷◌, ◌≡◌, ◌≤◌}
-use Rattle.std.proofs.lemmas.Bool.{cond_both, false_from_ne_true}
+use Rattle.mdcache.proofs.Common.{AreCached, AreCaches, At, Bool, CacheMap, Cached, Came, Contains, Core, Counts, DirPins, Dirfrag, Fragment, Going, GoingLeaf, HasCached, HasLeaf, HasRoom, Home, Homes, Ino, Inode, IsCachedIn, IsFree, IsGoingOrNone, IsKeptFor, IsLive, IsNamed, IsThere, IsTied, KeepsNone, KeepsOnlyAt, Leaf, List, Mark, None, Option, Rank, Rooms, Some, State, UnsavedLeaves, [], ap, arith, at, at_rank, cond, cond_both, dir_going, edited_as, ended, ended_all, ended_at, ends, false, false_from_ne_true, get_given_up, get_left_home, get_with_frag, given_up, has, has_place, has_with_mark, here, here_is, here_put, here_with_frag, holder_there, is_some, leaf_is, leaf_of, leaves, leaves_going, leaves_in, leaves_of, length, list_any, made_frag, marked, named, none_given_up, object_of, one_leaf, or_whole, refl, removed, rows_but, rules, same_Some, state_of, stays, subst, suc, sym, texts_going, true, unclean, unclean_alike, unclean_given_up, unsaved_at, with_frag, with_objects, without, without_dir, without_leaves, zero, ℕ, ⊎_elim, ◌&&◌, ◌<◌, ◌==◌, ◌||◌, ◌∙◌, ◌∷◌, ◌≡◌, ◌≤◌}
 use Rattle.std.specs.FinMap as map
-use Rattle.sorted_map.proofs.NatKeys.{get_left as get_left_home}
 use Rattle.dentry_cache.specs.CacheMap.{with_mark}
 use Rattle.mdcache.specs.Core.{with_dir}
 use Rattle.mdcache.proofs.GoneLaws.{among}
@@ -15,12 +13,10 @@ its None h = absurd h
 its (Some f) h = (f, refl)
 
 pub roomy_there : (o : Option Cached) → HasRoom o → IsThere o
-roomy_there None h = h
-roomy_there (Some f) h = tt
+roomy_there o h = search rules
 
 pub cached_there : (P : Cached → Type 0) (o : Option Cached) → HasCached o P → IsThere o
-cached_there P None h = h
-cached_there P (Some f) h = tt
+cached_there P o h = search rules
 
 -- cached fragments are sound in another state that has the objects, whatever was live, and gave out no fewer generations
 pub cached_on : (s t : State) (caches : CacheMap) → ((leaf : Leaf) → IsLive s.homes s.covers leaf → IsLive t.homes t.covers leaf) → t.objects ≡ s.objects → s.next_generation ≤ t.next_generation

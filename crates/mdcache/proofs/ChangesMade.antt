@@ -1,14 +1,12 @@
 -- What a change makes, once its steps are known.
-use Rattle.mdcache.proofs.Common.{AreCached, Bool, Cached, Came, Change, Core, Dirfrag, EndsWith, Going, HasCached, HasNumber, HasRoom, HasSpace, IfSome, Ino, Inode, IsChanged, IsGoingOrNone, IsKeptFor, IsNamedIn, IsRight, IsSound, IsSoundCore, IsThere, KeepsNone, KeepsOnlyAt, Leaf, List, Makes, MayChange, MayGo, MayMove, NewDirectory, None, NoneEnds, Option, Rank, ReadsCore, Rooms, Some, Spot, State, adds, ap, arith, cond, count_of, counts_moved, dentry_at, dir_going, directory_at, false, first_leaf, here, home_at, inl, inr, is_dir_kind, is_some, leaf_of, leaves_going, length, made_frag, may_come, may_drop, may_relocate, may_replace, moves, named, one_less, one_more, pinned, refl, removes, root_fragment, rows_but, sets, shown_in, shown_tree, shows, state_of, subst, sym, text_of, texts_going, true, unclean_with, with_directory, with_entry, with_home, with_new, with_pin, without, without_dir, without_entry, ℕ, ◌-◌, ◌<◌, ◌==◌, ◌^◌, ◌∙◌, ◌≡◌}
-use Rattle.std.proofs.lemmas.Bool.{cond_both}
+use Rattle.mdcache.proofs.Common.{AreCached, Bool, Cached, Came, Change, Core, Dirfrag, EndsWith, Going, HasCached, HasNumber, HasRoom, HasSpace, IfSome, Ino, Inode, IsChanged, IsGoingOrNone, IsKeptFor, IsNamedIn, IsRight, IsSound, IsSoundCore, IsThere, KeepsNone, KeepsOnlyAt, Leaf, List, Makes, MayChange, MayGo, MayMove, NewDirectory, None, NoneEnds, Option, Rank, ReadsCore, Rooms, Some, Spot, State, adds, ap, arith, cond, cond_both, count_of, counts_moved, dentry_at, dir_going, directory_at, false, first_leaf, here, home_at, inl, inr, is_dir_kind, is_some, leaf_of, leaves_going, length, made_frag, may_come, may_drop, may_relocate, may_replace, moves, named, one_less, one_more, pinned, refl, removes, root_fragment, rows_but, sets, shown_in, shown_tree, shows, state_of, subst, sym, text_of, texts_going, true, unclean_with, with_directory, with_entry, with_home, with_new, with_pin, without, without_dir, without_entry, ℕ, ◌-◌, ◌<◌, ◌==◌, ◌^◌, ◌∙◌, ◌≡◌}
 use Rattle.std.specs.FinMap as map
 use Rattle.mdcache.specs.Core.{moved, with_dir}
 use Rattle.mdcache.proofs.ChangeLaws.{changes_are_right}
 use Rattle.mdcache.proofs.CoreLaws.{dir_known, reads_state, shows_names}
-use Rattle.mdcache.proofs.TreeLookups.{at_dentry}
 use Rattle.mdcache.proofs.ChangeSteps.{HasMade, cached_there, is_gone, is_named, kept_named, left, made_dir, made_first, made_gone, made_named, made_tables, room_left, roomy_there}
-use Rattle.mdcache.proofs.HomeLaws.{first_live, grown_live, moved_known}
-use Rattle.mdcache.proofs.NamedLaws.{sound_leaves}
+use Rattle.mdcache.proofs.HomeLaws.{first_live, grown_live, moved_known, relocates}
+use Rattle.mdcache.proofs.NamedLaws.{sound_leaves, stands_at}
 use Rattle.mdcache.proofs.NoneLaws.{none_only, only_none}
 
 -- all that the steps of a change leave
@@ -139,36 +137,17 @@ module _ (old new : Core) (sound : IsSound (state_of old)) (begun : 0 < old.next
         (without (state_of erased) (dir_going going), (state_of erased, is_named _ _ None old old before place spot.name None there, refl), is_gone erased counts going stands rooms)
         (made_gone erased counts going stands rooms _ _ old (λ r q is. is) (made_named _ _ None old old before place spot.name None there (refl, refl)) (λ was. subst (λ (k : Core). KeepsNone k.caches) is (stays_none none))) begun)
 
--- of a directory that stands somewhere, if one does
-if_directory : (P : Ino → Type 0) (found : Option Inode) → ((i : Inode) → found ≡ Some i → is_dir_kind i.kind ≡ true → P i.ino) → IfSome (directory_at found) P
-if_directory P None so = tt
-if_directory P (Some i) so = cond_both (is_dir_kind i.kind) (Some i.ino) None (λ d. IfSome d P) (so i refl) (λ file. tt)
-
--- a directory that goes with an entry may go
-pub may_go : (c : Core) → IsSoundCore c → (spot : Spot) (went : Option Ino) → MayChange (shown_in c) c.covers (removes spot went) → IfSome went (λ (dir : Ino). MayGo c.homes dir.0)
-may_go c sound spot went may = subst (λ (d : Option Ino). IfSome d (λ (dir : Ino). MayGo c.homes dir.0)) (sym may.carries.gone)
-    (if_directory (λ (dir : Ino). MayGo c.homes dir.0) (map.get (shown_in c) (dentry_at spot)) (λ inode is kinded. may_drop (shown_in c) c.homes (dentry_at spot) (Some inode) is sound.sound.tabled may.takes inode refl kinded))
-
 -- ---- an entry moves
 
 module _ (old new : Core) (sound : IsSoundCore old) (source target : Spot) (inode : Inode) (going : Option Going) (may : MayChange (shown_in old) old.covers (moves source target inode (dir_going going))) where
   abbrev change : Change
   change = moves source target inode (dir_going going)
 
-  -- a directory may have its home there,
-  pub relocates : is_dir_kind inode.kind ≡ true → MayMove old.homes inode.ino.0 (home_at (dentry_at target))
-  relocates kinded = may_relocate (shown_in old) old.homes (dentry_at source) (dentry_at target) inode sound.sound.tabled may.takes kinded
-
-  -- and one that is replaced may go then
-  pub replaces : IfSome (dir_going going) (λ (dir : Ino). MayGo (with_home old.homes (dentry_at target) inode) dir.0)
-  replaces = subst (λ (d : Option Ino). IfSome d (λ (dir : Ino). MayGo (with_home old.homes (dentry_at target) inode) dir.0)) (sym may.carries.gone)
-      (if_directory (λ (dir : Ino). MayGo (with_home old.homes (dentry_at target) inode) dir.0) (map.get (shown_in old) (dentry_at target)) (λ i is dir. may_replace (shown_in old) old.homes (dentry_at source) (dentry_at target) inode sound.sound.tabled may.takes i is))
-
   -- its new name is shown where something stands there
   pub stands_at_target : HasRoom (here old.caches target.at.rank.0 (leaf_of target.at)) → shows old target.at target.name ≡ is_some (map.get (shown_in old) (dentry_at target))
   stands_at_target room =
       shows_names old sound target.at target.name (roomy_there (here old.caches target.at.rank.0 (leaf_of target.at)) room)
-      ∙ ap is_some (sym (at_dentry (state_of old) sound.sound target.at.dir.0 target.name target.at.frag (dir_known old sound target.at.dir.0 may.takes.parent) may.carries.put))
+      ∙ ap is_some (sym (stands_at (state_of old) (sound_leaves (state_of old) sound.sound) (dentry_at target) target.at.frag (dir_known old sound target.at.dir.0 may.takes.parent) may.carries.put))
 
   -- and what comes to another directory, where nothing does, can be counted there
   pub counts_fit : HasRoom (here old.caches target.at.rank.0 (leaf_of target.at)) → shows old target.at target.name ≡ false → (source.at.dir.0 == target.at.dir.0) ≡ false → count_of old.counts target.at.dir.0 < 2 ^ 64 - 1
@@ -189,7 +168,7 @@ module _ (old new : Core) (sound : IsSoundCore old) (source target : Spot) (inod
         let before = first_made change old sound.cached sound.none in
         let there_first = cached_there (λ (f : Cached). 1 < f.room) (here old.caches source.at.rank.0 (leaf_of source.at)) two in
         let housed_made = made_tables _ _ None old left_name (made_named _ _ None old old before source.at source.name None there_first (inl (refl, refl))) (with_home old.homes (dentry_at target) inode) old.counts old.pins
-        (λ leaf live. record { known = moved_known old.homes old.covers sound.sound.table (dentry_at target) inode relocates leaf.0.0 ∙ live.known; stands = live.stands }) in
+        (λ leaf live. record { known = moved_known old.homes old.covers sound.sound.table (dentry_at target) inode (relocates (state_of old) sound.sound source target inode (dir_going going) may) leaf.0.0 ∙ live.known; stands = live.stands }) in
         let there_second = roomy_there _ (room_left old.caches source.at.rank.0 target.at.rank.0 (leaf_of source.at) (leaf_of target.at) source.name (record { version = old.next_version; inode = None }) two one) in
         let named = is_named _ _ None old housed housed_made target.at target.name (Some inode) there_second in
         let now : new ≡ left came_name counts going leaves_stand rooms = is ∙ ap (λ (n : List ℕ). without_dir (moved old source.at source.name target.at target.name n inode) (dir_going going) (leaves_going going) (texts_going going) rooms) its in

@@ -1,6 +1,5 @@
 -- The names of the objects of children, one by one.
-use Rattle.mdcache.proofs.Common.{Contains, Contains-append_left, Contains-push, Contains-push_cases, Fragment, Ino, List, NameChildren, [], ap, arith, below_or_it, child_of, inl, inr, refl, subst, sym, text_of, ℕ, ◌++◌, ◌+◌, ◌<◌, ◌^◌, ◌∙◌, ◌∷◌, ◌≡◌, ◌≤◌, ◌⊎◌}
-use Rattle.std.specs.Prelude.{map as each}
+use Rattle.mdcache.proofs.Common.{Contains, Contains-append_left, Contains-push, Contains-push_cases, Fragment, Ino, List, NameChildren, [], ap, arith, below_or_it, child_of, each, inl, inr, refl, subst, sym, text_of, ℕ, ◌++◌, ◌+◌, ◌<◌, ◌^◌, ◌∙◌, ◌∷◌, ◌≡◌, ◌≤◌, ◌⊎◌}
 
 -- these name the objects of the first children
 pub record NameFirst (dir : Ino) (frag : Fragment) (nb n : ℕ) (texts : List (List ℕ)) : Type 0 where
@@ -26,8 +25,3 @@ more_named dir frag nb n texts text below named is = record {
 
 pub all_named : (dir : Ino) (frag : Fragment) (nb n : ℕ) (texts : List (List ℕ)) → 2 ^ nb ≤ n → NameFirst dir frag nb n texts → NameChildren dir frag nb texts
 all_named dir frag nb n texts all named = record { each = λ i below. named.each i (omega (arith, all, below)); only = named.only }
-
--- a list mapped grows as it does
-pub each_pushed : {A B : Type 0} (f : A → B) (xs : List A) (x : A) → each f (xs ++ x ∷ []) ≡ each f xs ++ f x ∷ []
-each_pushed f [] x = refl
-each_pushed f (y ∷ xs) x = ap (λ l. f y ∷ l) (each_pushed f xs x)

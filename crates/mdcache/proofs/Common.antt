@@ -12,21 +12,23 @@ pub use Rattle.cached_frag.specs.declared.bases.Base.{Base}
 pub use Rattle.cached_frag.specs.declared.bases.Base.TheVariants.{Fresh, Stored}
 pub use Rattle.cached_frag.specs.declared.jobs.Job.{Job}
 pub use Rattle.cached_frag.specs.declared.marks.Mark.{Mark}
-pub use Rattle.cold_store.proofs.ObjectLaws.{said_tree}
+pub use Rattle.cold_store.proofs.Members.{in_empty, some_stays, value_of}
+pub use Rattle.cold_store.proofs.ObjectLaws.{belongs, said_by, said_tree, whole_loads}
 pub use Rattle.cold_store.proofs.StoreRows.{allowed}
 pub use Rattle.cold_store.proofs.TabledLaws.{walked_is_tabled}
 pub use Rattle.cold_store.proofs.WalkedLaws.{is_cold}
 pub use Rattle.cold_store.specs.ColdTree.{HasNoFault, HasRecords, IsColdLeaf, IsColdTree, IsFaulty, IsReached, IsRecord, IsSamePlace, Record, SaysLeaves, tree_of}
 pub use Rattle.cold_store.specs.Walked.{IsReachedObject, IsWalked}
-pub use Rattle.dentry_cache.proofs.CameLaws.{absent_roomy, edits_unclean, used_unclean}
+pub use Rattle.dentry_cache.proofs.CacheLaws.{unsaved_here as unsaved_here_at}
+pub use Rattle.dentry_cache.proofs.CameLaws.{absent_roomy, edits_unclean, marked_unclean as now_unclean, used_unclean}
 pub use Rattle.dentry_cache.proofs.CountLaws.{full_counts, staying}
 pub use Rattle.dentry_cache.proofs.EndedLaws.{holder_there}
 pub use Rattle.dentry_cache.proofs.FrameLaws.{IsLeft, came_cap, came_held, came_ranks, came_then, came_weaker, roomy_left}
 pub use Rattle.dentry_cache.proofs.HandedLaws.{IsFrom, IsWholeBut, handed_from, ranks_handed, ranks_wants, wants_from, whole_handed, whole_wants}
 pub use Rattle.dentry_cache.proofs.KeepingLaws.{all_from, all_of, by_keeping}
 pub use Rattle.dentry_cache.proofs.KeptLaws.{roomy_stays}
-pub use Rattle.dentry_cache.proofs.LacksLaws.{reads_placed}
-pub use Rattle.dentry_cache.proofs.LeafLaws.{flips, leaf-total, leaf_itself, leaf_or_apart, one_leaf, same_leaf, tied_leaf}
+pub use Rattle.dentry_cache.proofs.LacksLaws.{full_lacks as all_unclean, none_kept_at, reads_placed}
+pub use Rattle.dentry_cache.proofs.LeafLaws.{flips, leaf-total, leaf_equivalence, leaf_itself, leaf_or_apart, one_leaf, same_leaf, tied_leaf}
 pub use Rattle.dentry_cache.proofs.LoadLaws.{holds_contains}
 pub use Rattle.dentry_cache.proofs.MapLaws.{get_tabulate, here_free}
 pub use Rattle.dentry_cache.proofs.MoveLaws.{none_beside}
@@ -53,11 +55,11 @@ pub use Rattle.dentry_cache.specs.Handing.{AreCleanAt, AreHanded, AreUncleanAt, 
 pub use Rattle.dentry_cache.specs.Loading.{IsSaved, Loads, object_of}
 pub use Rattle.dentry_cache.specs.Pairs.{holds}
 pub use Rattle.dentry_cache.specs.Reads.{IsButRoom, IsReadOf, Reads}
-pub use Rattle.dentry_cache.specs.Reads.Reads.{frees, grows, loads, room}
+pub use Rattle.dentry_cache.specs.Reads.Reads.{frees, grows, loads, room, stays as it_stays}
 pub use Rattle.dentry_cache.specs.Ties.{Commits, IsTied, IsTiedAt, Keeps, names_at, object_after}
 pub use Rattle.dentry_cache.specs.Unclean.{unclean_among, unclean_from, unclean_places}
 pub use Rattle.dentry_cache.specs.declared.parts.Part.{Part}
-pub use Rattle.dirfrag_codec.proofs.ByteKeys.{get_beside, get_left, get_put, get_removed, key_itself, key_tied, not_found, one_map}
+pub use Rattle.dirfrag_codec.proofs.ByteKeys.{get_beside, get_left, get_put, get_removed, key_itself, key_tied, not_found, one_map, same_or_apart as key_or_apart}
 pub use Rattle.dirfrag_codec.proofs.FragmentLaws.{spells_what_it_shows}
 pub use Rattle.dirfrag_codec.proofs.TreeLaws.{one_tree}
 pub use Rattle.dirfrag_codec.specs.EntryRecord.{HasTarget, IsRankNumber, IsRecordable}
@@ -65,8 +67,9 @@ pub use Rattle.dirfrag_codec.specs.FragmentObject.{Names, SpellsFragment, Spells
 pub use Rattle.dirfrag_codec.specs.TreeObject.{SpellsTree, tree_bytes}
 pub use Rattle.fragtree.proofs.Entries.{one_or_other}
 pub use Rattle.fragtree.proofs.Ranges.{range_from_inside, span_pos}
+pub use Rattle.fragtree.proofs.Spelled.{one_leaf as one_of_hash}
 pub use Rattle.fragtree.proofs.Tilings.{between}
-pub use Rattle.fragtree.proofs.TreeLaws.{first_or_later, later, merged_after_merge, one_pick, pick_after_merge, pick_after_split, pick_from_leaf, some_pick}
+pub use Rattle.fragtree.proofs.TreeLaws.{first_or_later, later, merged_after_merge, one_pick, only_leaf, pick_after_merge, pick_after_split, pick_from_leaf, some_pick}
 pub use Rattle.fragtree.specs.FragTree.{CanMerge, CanSplit, HasLeaf, IsChild, IsMerge, IsPick, IsSplit, IsTree, leaves_inside, lies_inside}
 pub use Rattle.inode_table.proofs.MoveLaws.{may_relocate, may_replace, moved_tabled, replaced_empty}
 pub use Rattle.inode_table.proofs.NotedLaws.{added_counted, moved_counted, none_counted, removed_counted, set_counted}
@@ -123,7 +126,7 @@ pub use Rattle.mds_types.proofs.LeafLaws.{leaf-exact}
 pub use Rattle.mds_types.proofs.ListingLaws.{names_are_listed, tied_dentry}
 pub use Rattle.mds_types.proofs.ObjectTextLaws.{texts_differ}
 pub use Rattle.mds_types.proofs.OrderLaws.{dentry-total}
-pub use Rattle.mds_types.specs.Frag.{ContainsFragment, Fragment, IsFragment, child_of, root_fragment, span}
+pub use Rattle.mds_types.specs.Frag.{Contains as Holds, ContainsFragment, Fragment, IsFragment, child_of, root_fragment, span}
 pub use Rattle.mds_types.specs.Leaf.{leaf_cmp, leaf_of}
 pub use Rattle.mds_types.specs.OrderLaws.{dentry-exact}
 pub use Rattle.mds_types.specs.Step.{HasSpace, IsMove, is_after, names_after, with_moved}
@@ -152,34 +155,35 @@ pub use Rattle.rayon.specs.Lists.{min_len_base, vec_items}
 pub use Rattle.sorted_map.proofs.Bools.{both_of, left_of, right_of}
 pub use Rattle.sorted_map.proofs.Filters.{all_kept}
 pub use Rattle.sorted_map.proofs.MapLaws.{get-without_keys, tie}
-pub use Rattle.sorted_map.proofs.NatKeys.{is_apart, is_same, same_or_apart}
+pub use Rattle.sorted_map.proofs.NatKeys.{get_left as get_left_home, is_apart, is_same, same_or_apart}
 pub use Rattle.sorted_map.proofs.OverlayLaws.{none_entries}
-pub use Rattle.sorted_map.proofs.PlaceLaws.{less, put_at, put_gap, searched, turned}
+pub use Rattle.sorted_map.proofs.PlaceLaws.{gap_behind, less, put_at, put_gap, searched, turned}
 pub use Rattle.sorted_map.specs.Overlay.{without_keys}
 pub use Rattle.sorted_map.specs.Places.{IsAt, IsGap, puts}
 pub use Rattle.sorted_map.specs.SortedMap.{contents}
-pub use Rattle.std.proofs.Common.{Bool, Bor, Equal, Err, Greater, Less, List, None, Ok, Option, Ordering, Some, T, [], ap, append_assoc, arith, cond, drop, drop-cons, false, filter, get_or, get_or-set_same, inl, inr, insert, is_lt, length, not, refl, rules, slice_index_or, subst, suc, sym, take, true, zero, ℕ, ⊎_elim, ◌%◌, ◌&&◌, ◌*◌, ◌++◌, ◌+◌, ◌-◌, ◌/◌, ◌<◌, ◌^◌, ◌||◌, ◌∙◌, ◌∷◌, ◌≡◌, ◌≢◌, ◌≤◌, ◌⊎◌}
+pub use Rattle.std.proofs.Common.{Bool, Bor, Equal, Err, Greater, Less, List, None, Ok, Option, Ordering, Some, T, [], ap, append_assoc, arith, cond, drop, drop-cons, drop_of_length-le, false, filter, get_or, get_or-set_same, inl, inr, insert, is_gt, is_lt, length, length-append, map as list_map, not, refl, rules, slice_index_or, subst, suc, sym, take, true, zero, ℕ, ⊎_elim, ◌%◌, ◌&&◌, ◌*◌, ◌++◌, ◌+◌, ◌-◌, ◌/◌, ◌<◌, ◌^◌, ◌||◌, ◌∙◌, ◌∷◌, ◌≡◌, ◌≢◌, ◌≤◌, ◌⊎◌}
 pub use Rattle.std.proofs.Math.Nat.{mul-le-mul_right}
 pub use Rattle.std.proofs.Math.Pow.{pow-lt}
-pub use Rattle.std.proofs.lemmas.Bool.{and_parts, and_right, eq-eqb, eqb-true, lt-ltb, ltb-true, or_cases, or_left, or_right}
+pub use Rattle.std.proofs.lemmas.Bool.{and_from, and_parts, and_right, cases_Bool, cond_both, eq-eqb, eqb-true, false_from_ne_true, lt-ltb, ltb-false, ltb-true, not-false, not-true, or_cases, or_left, or_right, true_from_ne_false}
 pub use Rattle.std.proofs.lemmas.Bool.Decides.{nat_tests}
 pub use Rattle.std.proofs.lemmas.Fn.{always_returns_same}
-pub use Rattle.std.proofs.lemmas.List.{drop_more, length-set, map-append, nil_from_length, take_all}
+pub use Rattle.std.proofs.lemmas.List.{drop_more, length-set, length-take, map-append, map_push, nil_from_length, take-append-drop, take_all}
 pub use Rattle.std.proofs.lemmas.List.Edits.{length-insert}
-pub use Rattle.std.proofs.lemmas.List.Elements.{Contains-append_left, Contains-push, Contains-push_cases}
+pub use Rattle.std.proofs.lemmas.List.Elements.{All-contains, All-contains_itself, All-filter, All-from_recursion, Contains-append_left, Contains-get_or, Contains-push, Contains-push_cases, filter-append, filter_passes, recursion_from_All}
 pub use Rattle.std.proofs.lemmas.Map.Keys.{IsDistinct-cons, IsDistinct-head, IsDistinct-tail}
 pub use Rattle.std.proofs.lemmas.Map.Lookups.{exact_bytes}
-pub use Rattle.std.proofs.lemmas.Option.{same_Some}
-pub use Rattle.std.proofs.lemmas.Result.{IfOk-weaker, on_ok_weaker}
+pub use Rattle.std.proofs.lemmas.Map.Views.{Contains-from_any, list_any-from_Contains}
+pub use Rattle.std.proofs.lemmas.Option.{cond_some, same_Some, slice_get_read}
+pub use Rattle.std.proofs.lemmas.Result.{IfErr-weaker, IfOk-weaker, on_err_weaker, on_ok_weaker}
 pub use Rattle.std.proofs.lemmas.Slice.Eq.{bytes_eq-Decides}
-pub use Rattle.std.specs.Cmp.{IsTotalOrder, tied_itself, unsigned_tied}
+pub use Rattle.std.specs.Cmp.{IsTotalOrder, both_ways, tied_itself, unsigned_tied}
 pub use Rattle.std.specs.Cmp.Lexicographic.{nat_list_cmp_total, pointwise}
 pub use Rattle.std.specs.FinMap.{contains_key-keys, empty_of_len, entries_sorted, find, get-empty, get-entries, get-from_entries, get-insert, get-remove, is_sorted, len-empty, len-entries, len-remove, same_map}
 pub use Rattle.std.specs.FinMap.Entries.{below_all, by_order, find-put, find-where_key, is_sorted-put, is_sorted-where_key, put, same_entries, where_key}
-pub use Rattle.std.specs.List.{AllByRecursion, AllZip, Contains, IsDistinct, list_all, list_any}
+pub use Rattle.std.specs.List.{AllByRecursion, AllZip, Contains, IsDistinct, list_all, list_any, take-map}
 pub use Rattle.std.specs.Option.{option_copied, option_map, option_or, unwrap_or}
 pub use Rattle.std.specs.Ordering.{eq_by_cmp, is_eq, nat_cmp, ordering_reverse}
-pub use Rattle.std.specs.Prelude.{IfErr, IfOk, IfSome, IsSome, IsTrue, MatchOption, MatchResult, OnErr, OnOk, Result, is_some, nat_lt, replicate, slice_get, string_bytes, ◌==◌, ◌↔◌}
+pub use Rattle.std.specs.Prelude.{IfErr, IfOk, IfSome, IsSome, IsSomeAnd, IsTrue, MatchOption, MatchResult, OnErr, OnOk, Result, is_some, map as each, nat_lt, replicate, slice_get, string_bytes, ◌==◌, ◌↔◌}
 pub use Rattle.std.specs.Result.{result_err}
 pub use Rattle.std.specs.Vec.Iter.{into_iter_items, into_iter_len}
 pub use Rattle.std.specs.declared.vec.Vec.{Vec}

@@ -1,29 +1,25 @@
 -- What reads and preparations leave of the tree over caches and a store, and what they find.
-use Rattle.mdcache.proofs.Common.{AreCached, At, Base, CacheMap, Cached, Came, Core, Counts, Covers, Dentry, DirPins, Dirfrag, Edits, Err, Fragment, Fresh, HasCached, Homes, IfErr, IfOk, IfOk-weaker, Ino, Inode, IsButRoom, IsCachedIn, IsFree, IsLive, IsNoLess, IsPick, IsSaved, IsSound, IsSoundCore, IsThat, IsThere, IsTiedAt, KeepsNone, KeepsState, Keys, LacksPlacesIn, Leaf, List, Loads, MayFetch, MayHold, MayNotBeReady, MayNotFind, Names, None, NoneEnds, Objects, Ok, Omap, OnErr, OnOk, Option, Reads, ReadsCore, Refusal, Result, Rooms, Some, State, Stored, UnsavedLeaves, ap, arith, at, came_cap, came_ranks, edits_reads, faults_told, fetched_are_tied, get_unclean, hash_of, here, here_is, inl, inr, is_directory, is_known, is_some, known_is, leaf_of, leaves_of, length, object_of, reads_came, reads_held, reads_then, reads_unclean, reads_weaker, refl, shown, shown_at, shown_in, shows, shows_in, state_of, subst, suc, sym, true, unclean, unsaved_at, used_at, used_reads, zero, ℕ, ⊎_elim, ◌+◌, ◌<◌, ◌∙◌, ◌≡◌, ◌≤◌, ◌⊎◌}
-use Rattle.std.proofs.lemmas.Result.{IfErr-weaker}
+use Rattle.mdcache.proofs.Common.{AreCached, At, Base, CacheMap, Cached, Came, Core, Counts, Covers, Dentry, DirPins, Dirfrag, Edits, Err, Fragment, Fresh, HasCached, Homes, IfErr, IfErr-weaker, IfOk, IfOk-weaker, Ino, Inode, IsButRoom, IsCachedIn, IsFree, IsLive, IsNoLess, IsPick, IsSaved, IsSound, IsSoundCore, IsThat, IsThere, IsTiedAt, KeepsNone, KeepsState, Keys, LacksPlacesIn, Leaf, List, Loads, MayFetch, MayHold, MayNotBeReady, MayNotFind, Names, None, NoneEnds, Objects, Ok, Omap, OnErr, OnOk, Option, Reads, ReadsCore, Refusal, Result, Rooms, Some, State, Stored, UnsavedLeaves, ap, arith, at, came_cap, came_ranks, edits_reads, faults_told, fetched_are_tied, get_unclean, hash_of, here, here_is, inl, inr, is_directory, is_known, is_some, it_stays, known_is, leaf_of, leaves_of, length, object_of, reads_came, reads_held, reads_then, reads_unclean, reads_weaker, refl, rules, shown, shown_at, shown_in, shows, shows_in, state_of, subst, suc, sym, true, unclean, unsaved_at, used_at, used_reads, zero, ℕ, ⊎_elim, ◌+◌, ◌<◌, ◌∙◌, ◌≡◌, ◌≤◌, ◌⊎◌}
 use Rattle.std.specs.FinMap as map
-use Rattle.dentry_cache.specs.Reads.Reads.{stays as it_stays}
 use Rattle.mdcache.specs.Shown.{names_of}
 pub use Rattle.std.proofs.lemmas.Result.{on_ok_weaker as on_ok}
 use Rattle.mdcache.proofs.EndLaws.{cached_shows}
 use Rattle.mdcache.proofs.UncleanOf.{reads_unclean_of}
-use Rattle.mdcache.proofs.TreeLookups.{at_dentry}
+use Rattle.mdcache.proofs.NamedLaws.{sound_leaves, stands_at}
+use Rattle.mdcache.proofs.NoNames.{none_unless}
 
 -- ---- one fragment
 
 -- room is no part of a tie
 tied_but : (b : Base) (f : Cached) (room places : ℕ) (object : Option Omap) → IsTiedAt b f object → IsTiedAt b (record f { room = room; places = places }) object
-tied_but Fresh f room places object tie = tt
-tied_but (Stored version) f room places None tie = tie
-tied_but (Stored version) f room places (Some object) tie = tie
+tied_but b f room places object tie = search rules
 
 pub cached_but : (s : State) (leaf : Leaf) (g f : Cached) → IsButRoom g f → IsCachedIn s leaf g → IsCachedIn s leaf f
 cached_but s leaf g f but was =
     subst (IsCachedIn s leaf) (sym but) (record { live = was.live; tied = tied_but g.base g f.room f.places (object_of s.objects leaf.0 leaf.1) was.tied; made = was.made })
 
 loaded_first : (leaf : Leaf) (f : Cached) (object : Option Omap) → Loads leaf.1 object (Some f) → f.generation ≡ 0
-loaded_first leaf f None h = absurd h
-loaded_first leaf f (Some object) h = ap (λ (k : Cached). k.generation) h.3
+loaded_first leaf f object h = search rules
 
 -- a fragment that was read
 loaded_cached : (s : State) (leaf : Leaf) (f : Cached) → 0 < s.next_generation → IsLive s.homes s.covers leaf → Loads leaf.1 (object_of s.objects leaf.0 leaf.1) (Some f) → IsCachedIn s leaf f
@@ -87,10 +83,7 @@ module _ (Uses Ends : ℕ → Leaf → Type 0) (old new : Core) (reads : ReadsCo
 
 -- a leaf that was cached nowhere, and isn't named, is cached nowhere
 pub still_absent : (Uses Ends : ℕ → Leaf → Type 0) (old new : Core) (q : Leaf) → ReadsCore Uses Ends old new → ((r : ℕ) → Uses r q → ⊥) → map.get old.caches.held q ≡ None → map.get new.caches.held q ≡ None
-still_absent Uses Ends old new q reads unnamed none = elim (map.get new.caches.held q) as (λ o. map.get new.caches.held q ≡ o → o ≡ None) [
-  | None ↦ λ is. refl
-  | Some a ↦ λ is. absurd (⊎_elim (λ was. let clash : None ≡ Some (at a.rank was.0) = sym none ∙ was.1 in cc) (λ read. unnamed a.rank read.0) (reads_held Uses Ends old.objects old.caches new.caches reads.caches q a is))
-] refl
+still_absent Uses Ends old new q reads unnamed none = none_unless (map.get new.caches.held q) (λ a is. ⊎_elim (λ was. let clash : None ≡ Some (at a.rank was.0) = sym none ∙ was.1 in cc) (λ read. unnamed a.rank read.0) (reads_held Uses Ends old.objects old.caches new.caches reads.caches q a is))
 
 -- one after the other
 pub reads_core_on : (Uses Ends : ℕ → Leaf → Type 0) (old mid new : Core) → ReadsCore Uses Ends old mid → ReadsCore Uses Ends mid new → ReadsCore Uses Ends old new
@@ -174,12 +167,6 @@ module _ (c : Core) (sound : IsSoundCore c) where
     | Some f ↦ λ is h. ap (λ (names : Names). is_some (map.get names name)) (sym (shows_cached a.rank.0 (leaf_of a) f is))
   ] refl there
 
-  -- what is found in the leaf of a dentry is what stands there
-  pub found_there : (r : ℕ) (dentry : Dentry) (f : Fragment) (found : Option Inode) → is_known c.homes dentry.dir.0 ≡ true → IsPick (leaves_of c.covers dentry.dir.0) (hash_of dentry.name) f
-      → HasCached (here c.caches r (dentry.dir, f)) (λ (g : Cached). found ≡ map.get (shown g) dentry.name) → found ≡ map.get (shown_in c) dentry
-  found_there r dentry f found known pick has =
-      of_names (λ (names : Names). found ≡ map.get names dentry.name) r (dentry.dir, f) has ∙ sym (at_dentry (state_of c) sound.sound dentry.dir.0 dentry.name f known pick)
-
 -- ---- why a read is refused, said of what was before others
 
 pub if_ok : {A E : Type 0} (P Q : A → Type 0) (r : Result A E) → ((x : A) → P x → Q x) → IfOk r P → IfOk r Q
@@ -189,21 +176,16 @@ pub if_err : {A E : Type 0} (P Q : E → Type 0) (r : Result A E) → ((e : E) �
 if_err P Q r = IfErr-weaker r P Q
 
 pub on_err_so : {A E P : Type 0} (r : Result A E) → P → OnErr r P
-on_err_so (Ok x) p = tt
-on_err_so (Err e) p = p
+on_err_so r p = search rules
 
 pub ok_so : {A E P : Type 0} (r : Result A E) → P → OnOk r P
-ok_so (Ok x) p = p
-ok_so (Err e) p = tt
+ok_so r p = search rules
 
 pub not_found_weaker : (P Q : Type 0) (before after : ℕ) (reason : Refusal) → (P → Q) → MayNotFind P before after reason → MayNotFind Q before after reason
-not_found_weaker P Q before after reason f (inl memory) = inl memory
-not_found_weaker P Q before after reason f (inr (inl fault)) = inr (inl fault)
-not_found_weaker P Q before after reason f (inr (inr full)) = inr (inr (full.0, f full.1))
+not_found_weaker P Q before after reason f is = search rules
 
 pub cached_so : (P Q : Cached → Type 0) (o : Option Cached) → ((f : Cached) → P f → Q f) → HasCached o P → HasCached o Q
-cached_so P Q None f h = h
-cached_so P Q (Some g) f h = f g h
+cached_so P Q o f h = search rules
 
 module _ (Uses Ends : ℕ → Leaf → Type 0) (old mid : Core) (reads : ReadsCore Uses Ends old mid) where
   pub lacks_before : (count r : ℕ) → LacksPlacesIn count mid.caches r → LacksPlacesIn count old.caches r
@@ -234,7 +216,7 @@ module _ (Uses : ℕ → Leaf → Type 0) (old new : Core) (read : ReadsCore Use
       → HasCached (here new.caches r (dentry.dir, f)) (λ (g : Cached). found ≡ map.get (shown g) dentry.name) → found ≡ map.get (shown_in old) dentry
   read_found r dentry f found known pick has =
       read_names (λ (names : Names). found ≡ map.get names dentry.name) r (dentry.dir, f) has
-      ∙ sym (at_dentry (state_of old) sound.sound dentry.dir.0 dentry.name f (dir_known old sound dentry.dir.0 known) pick)
+      ∙ sym (stands_at (state_of old) (sound_leaves (state_of old) sound.sound) dentry f (dir_known old sound dentry.dir.0 known) pick)
 
 -- one leaf that is live
 pub that_live : (c : Core) (r : ℕ) (leaf : Leaf) → IsLive c.homes c.covers leaf → (s : ℕ) (q : Leaf) → IsThat r leaf s q → IsLive c.homes c.covers q
@@ -261,8 +243,7 @@ dirs_grown Uses Ends old view is homes covers counts pins room same_homes same_c
 
 -- room where nothing is done if it is there
 pub grows_by : (old new : ℕ) → (0 < old → new ≡ old) → old ≤ new
-grows_by zero new ready = omega arith
-grows_by (suc n) new ready = omega (arith, ready (omega arith))
+grows_by old new ready = search rules
 
 -- why it isn't, once numbers are known to be left
 pub not_ready : (Lacks P : Type 0) (before after : ℕ) (reason : Refusal) → (Lacks → ⊥) → MayNotFind P before after reason → MayNotBeReady Lacks P before after reason
@@ -270,8 +251,7 @@ not_ready Lacks P before after reason left is = inr (left, is)
 
 -- so where more may lack, but of the numbers no more
 pub not_ready_wider : (Few Many Less More : Type 0) (before after : ℕ) (reason : Refusal) → (Few → Many) → (Many → Few) → (Less → More) → MayNotBeReady Few Less before after reason → MayNotBeReady Many More before after reason
-not_ready_wider Few Many Less More before after reason more few wider (inl lacks) = inl (lacks.0, more lacks.1)
-not_ready_wider Few Many Less More before after reason more few wider (inr why) = inr (λ lacks. why.0 (few lacks), not_found_weaker Less More before after reason wider why.1)
+not_ready_wider Few Many Less More before after reason more few wider is = search rules
 
 -- room grew alone
 module _ (old grown : Core) (room : (Uses Ends : ℕ → Leaf → Type 0) → ReadsCore Uses Ends old grown) (sound : IsSoundCore old) where

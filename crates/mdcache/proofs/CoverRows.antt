@@ -1,24 +1,16 @@
 -- The rows of leaves: which directories have one, and what a change leaves of them.
-use Rattle.mdcache.proofs.Common.{Covers, Fragment, Homes, IsTable, List, None, Option, Some, ap, arith, inl, inr, is_known, is_some, leaves_of, length, or_whole, refl, same_or_apart, true, ℕ, ◌<◌, ◌∙◌, ◌≡◌, ◌⊎◌}
+use Rattle.mdcache.proofs.Common.{Covers, Fragment, Homes, IsTable, List, None, Option, Some, ap, arith, inl, inr, is_known, is_some, leaves_of, length, or_whole, refl, rules, same_or_apart, true, ℕ, ◌<◌, ◌∙◌, ◌≡◌, ◌⊎◌}
 use Rattle.std.specs.FinMap as map
 use Rattle.sorted_map.proofs.NatKeys.{get_beside, get_left, get_put}
 
 -- a directory of several leaves has a row
 pub several_in_row : (covers : Covers) (d : ℕ) → 1 < length (leaves_of covers d) → is_some (map.get covers d) ≡ true
-several_in_row covers d = go (map.get covers d)
-  where
-    go : (row : Option (List Fragment)) → 1 < length (or_whole row) → is_some row ≡ true
-    go None more = absurd (omega (arith, more))
-    go (Some leaves) more = refl
+several_in_row covers d = search rules
 
 -- what has a row is a directory
 pub known_by_row : (homes : Homes) (covers : Covers) → IsTable homes covers
     → (d : ℕ) → is_some (map.get covers d) ≡ true → is_known homes d ≡ true
-known_by_row homes covers table d = go (map.get covers d) refl
-  where
-    go : (row : Option (List Fragment)) → map.get covers d ≡ row → is_some row ≡ true → is_known homes d ≡ true
-    go None is some = absurd cc
-    go (Some leaves) is some = table.known d leaves is
+known_by_row homes covers table d = search rules
 
 -- it keeps it where one is put, and where another's goes
 pub row_stays : (covers : Covers) (d : ℕ) (leaves : List Fragment) (x : ℕ) → is_some (map.get covers x) ≡ true

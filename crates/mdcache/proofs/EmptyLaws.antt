@@ -1,9 +1,7 @@
 -- Stores without objects, and objects without pairs.
-use Rattle.mdcache.proofs.Common.{Bool, Fragment, IsTrue, List, NameList, None, Objects, Omap, Option, PairMap, PairPage, Some, [], all_kept, ap, arith, bytes_eq-Decides, cond, empty_of_len, exact_bytes, false, first_names, get_beside, get_put, header_at, key_cmp, len-empty, len-entries, length, nat_list_cmp_total, nat_tests, not, option_map, page_at, page_of, pointwise, refl, same_Some, same_map, sym, tree_bytes, tree_object, true, with_tree_at, ℕ, ⊎_elim, ◌==◌, ◌↔◌, ◌∙◌, ◌∷◌, ◌≡◌, ◌≤◌}
-use Rattle.std.proofs.lemmas.Bool.{lt-ltb, not-false}
+use Rattle.mdcache.proofs.Common.{Bool, Fragment, IsTrue, List, NameList, None, Objects, Omap, Option, PairMap, PairPage, Some, [], all_kept, ap, arith, bytes_eq-Decides, cond, empty_of_len, exact_bytes, false, first_names, get_beside, get_put, header_at, key_cmp, key_or_apart, len-empty, len-entries, length, lt-ltb, nat_list_cmp_total, nat_tests, not, not-false, option_map, page_at, page_of, pointwise, refl, rules, same_Some, same_map, sym, tree_bytes, tree_object, true, with_tree_at, ℕ, ⊎_elim, ◌==◌, ◌↔◌, ◌∙◌, ◌∷◌, ◌≡◌, ◌≤◌}
 use Rattle.std.specs.Prelude.{take, map as each}
 use Rattle.std.specs.FinMap as map
-use Rattle.dirfrag_codec.proofs.ByteKeys.{same_or_apart as key_or_apart}
 use Rattle.objstore.specs.Omap.{pairs_after}
 use Rattle.objstore.specs.Objects.{names_after}
 
@@ -32,8 +30,7 @@ page_told objects page some is told = elim (map.entries objects) as (λ es. map.
 
 -- an object whose page of one pair is empty has no pairs
 none_taken : {X : Type 0} (xs : List X) → length (take 1 xs) ≡ 0 → xs ≡ []
-none_taken [] none = refl
-none_taken (x ∷ xs) none = absurd (omega (arith, none))
+none_taken xs none = search rules
 
 no_pairs : (pairs : PairMap) → length (take 1 (pairs_after pairs None)) ≡ 0 → pairs ≡ map.empty
 unfolding pairs_after

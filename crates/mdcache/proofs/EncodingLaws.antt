@@ -1,8 +1,5 @@
 -- Writes that are made side by side: what the results are of each job, and what is collected of them.
-use Rattle.mdcache.proofs.Common.{AllZip, Begun, Contains, Err, IfErr, IfOk, IsReadied, List, MatchOption, MatchResult, NoMemory, None, Ok, Ready, Refusal, Result, Some, Vec, [], length, ready_of, refl, slice_get, subst, sym, ◌∙◌, ◌∷◌, ◌≡◌}
-use Rattle.std.specs.Prelude.{IsSomeAnd}
-use Rattle.std.proofs.Common.{map as list_map}
-use Rattle.std.proofs.lemmas.Option.{slice_get_read}
+use Rattle.mdcache.proofs.Common.{AllZip, Begun, Contains, Err, IfErr, IfOk, IsReadied, IsSomeAnd, List, MatchOption, MatchResult, NoMemory, None, Ok, Ready, Refusal, Result, Some, Vec, [], length, list_map, ready_of, refl, rules, slice_get, slice_get_read, subst, sym, ◌∙◌, ◌∷◌, ◌≡◌}
 use Rattle.std.proofs.lemmas.Slice.Zip.{AllZip-right}
 
 abbrev Results : Type 0
@@ -27,9 +24,7 @@ pub all_encoded : {Z : Type 0} (begun : List Begun) (results : Results) (collect
     → AllZip IsReadied begun results
     → IsCollected results collected
     → IfOk collected (λ v. v.items ≡ list_map ready_of begun)
-all_encoded begun results (Ok v) each (made, are, has) =
-    has ∙ all_made begun made (subst (AllZip IsReadied begun) are each)
-all_encoded begun results (Err reason) each among = tt
+all_encoded begun results collected each among = search (rules, all_made)
 
 -- none of them is refused but for want of memory
 pub refused_for_memory : {Z : Type 0} (begun : List Begun) (results : Results) (collected : Result (Vec Ready Z) Refusal)

@@ -1,16 +1,13 @@
 -- A fetch of a leaf: what it leaves, and why it is refused.
-use Rattle.mdcache.proofs.Common.{AreCaches, Bool, CacheMap, Core, Dirfrag, Err, FetchesAt, Fragment, IfErr, IsAbsent, IsNewest, IsSaved, IsThere, KeepsNone, LacksPlacesIn, Leaf, List, Loads, MakesRoomAt, MayFetch, MayNotFetchAt, MayNotFind, None, NoneEnds, Objects, Ok, Omap, OnErr, OnOk, Option, Reads, ReadsCore, Refusal, Result, Some, StaysNamed, [], ap, arith, at, at_rank, cond, false, faults_told, fetched_reads, first, get_or-set_same, get_unclean, get_with_frag, has_place, here, inl, inr, leaf_is, leaf_of, length, object_of, one_leaf, order, ranks_roomy, refl, result_err, room_reads, roomy, roomy_stays, slice_get, staying, subst, sym, true, unsaved_at, used_at, ℕ, ⊎_elim, ◌+◌, ◌<◌, ◌∙◌, ◌≡◌}
+use Rattle.mdcache.proofs.Common.{AreCaches, Bool, CacheMap, Core, Dirfrag, Err, FetchesAt, Fragment, IfErr, IsAbsent, IsNewest, IsSaved, IsThere, KeepsNone, LacksPlacesIn, Leaf, List, Loads, MakesRoomAt, MayFetch, MayNotFetchAt, MayNotFind, None, NoneEnds, Objects, Ok, Omap, OnErr, OnOk, Option, Reads, ReadsCore, Refusal, Result, Some, StaysNamed, [], ap, arith, at, at_rank, cond, false, false_from_ne_true, faults_told, fetched_reads, first, get_or-set_same, get_unclean, get_with_frag, has_place, here, inl, inr, it_stays, leaf_is, leaf_of, length, object_of, one_leaf, order, ranks_roomy, refl, result_err, room_reads, roomy, roomy_stays, rules, slice_get, staying, subst, sym, true, unsaved_at, used_at, ℕ, ⊎_elim, ◌+◌, ◌<◌, ◌∙◌, ◌≡◌}
 use Rattle.std.specs.FinMap as map
-use Rattle.std.proofs.lemmas.Bool.{false_from_ne_true}
-use Rattle.dentry_cache.specs.Reads.Reads.{stays as it_stays}
 use Rattle.mdcache.proofs.CoreLaws.{first_step, no_less_itself}
 use Rattle.mdcache.proofs.NoneLaws.{none_fetched, none_room}
 use Rattle.mdcache.proofs.UncleanOf.{full_lacks}
 
 -- an object that spells a fragment isn't one that spells none
 not_damaged : (f : Fragment) (o : Option Omap) → IsSaved f o → Loads f o None → ⊥
-not_damaged f None saved loads = saved
-not_damaged f (Some object) saved loads = loads saved.0 saved.1 saved.2
+not_damaged f o saved loads = search rules
 
 -- what is used comes to the front of its rank's order
 pub newest_used : (c : CacheMap) (r : ℕ) (leaf : Leaf) → r < length c.used → IsNewest (used_at c r leaf) r leaf

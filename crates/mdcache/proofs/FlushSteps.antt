@@ -24,7 +24,7 @@ module _ (s : State) (sound : IsSound s) (none : s.purge ≡ map.empty) (dir : I
       cc
 
   pub no_object : map.get s.objects (tree_text dir) ≡ None
-  no_object = none_unless (map.get s.objects (tree_text dir)) (λ some. not_owned (sound.owned (tree_text dir) some))
+  no_object = none_unless (map.get s.objects (tree_text dir)) (λ o is. not_owned (sound.owned (tree_text dir) (ap is_some is)))
 
 module _ (mid new : State) (clean : mid.unsaved ≡ map.empty) (trees : HasTrees mid) (purged : ArePurged mid new)
     (sound : IsSound new) (none : new.purge ≡ map.empty) where

@@ -1,10 +1,7 @@
 -- The cold tree of a state of which all is saved is the shown tree, and once all is purged its objects are exact.
-use Rattle.mdcache.proofs.Common.{FlushedIsCold, Fragment, HasLeaf, HasNoFault, HasRecords, Ino, Inode, IsColdLeaf, IsColdTree, IsFaulty, IsFlushed, IsLive, IsPick, IsReached, IsRecord, IsSaved, IsSound, IsTabled, IsTree, List, Names, None, Omap, Option, PurgedAreExact, Reaches, Record, SaysLeaves, Some, SpellsTreeObject, State, [], ap, arith, cond, dentry_of, eqb-true, false, get-empty, hash_of, inl, inr, is_known, is_some, key_cmp, known_by, leaves_of, length, lt-ltb, ltb-true, names_at, nat_lt, object_of, one_pick, or_cases, pow-lt, refl, root_fragment, same_Some, same_or_apart, shown_at, shown_tree, subst, suc, sym, tree_object, tree_of, tree_of_row, true, zero, ℕ, ⊎_elim, ◌-◌, ◌<◌, ◌==◌, ◌^◌, ◌∙◌, ◌∷◌, ◌≡◌, ◌⊎◌}
-use Rattle.std.proofs.lemmas.Bool.{cond_both, ltb-false}
+use Rattle.mdcache.proofs.Common.{FlushedIsCold, Fragment, HasLeaf, HasNoFault, HasRecords, Ino, Inode, IsColdLeaf, IsColdTree, IsFaulty, IsFlushed, IsLive, IsPick, IsReached, IsRecord, IsSaved, IsSound, IsTabled, IsTree, List, Names, None, Omap, Option, PurgedAreExact, Reaches, Record, SaysLeaves, Some, SpellsTreeObject, State, [], ap, arith, cond, cond_both, dentry_of, eqb-true, false, get-empty, hash_of, in_empty, inl, inr, is_known, is_some, key_cmp, known_by, leaves_of, length, lt-ltb, ltb-false, ltb-true, names_at, nat_lt, object_of, one_pick, or_cases, pow-lt, refl, root_fragment, said_by, same_Some, same_or_apart, shown_at, shown_tree, subst, suc, sym, tree_object, tree_of, tree_of_row, true, value_of, whole_loads, zero, ℕ, ⊎_elim, ◌-◌, ◌<◌, ◌==◌, ◌^◌, ◌∙◌, ◌∷◌, ◌≡◌, ◌⊎◌}
 use Rattle.std.specs.FinMap as map
 use Rattle.mds_types.specs.Leaf.{Leaf}
-use Rattle.cold_store.proofs.Members.{in_empty, value_of}
-use Rattle.cold_store.proofs.ObjectLaws.{said_by, whole_loads}
 use Rattle.mdcache.specs.Shown.{names_of as shown_names}
 use Rattle.mdcache.proofs.CoverRows.{known_by_row}
 use Rattle.mdcache.proofs.NamedLaws.{HasSoundLeaves, known_or_not, pick_at, sound_leaves, stands_at, stands_nowhere}

@@ -1,6 +1,6 @@
 -- The laws of what reads keep of the tree over caches and a store, and of why their calls are refused.
 use Rattle.std.specs.Prelude.{◌≡◌, ℕ, Option, None, Some, refl}
-use Rattle.std.proofs.Common.{inl, inr, sym, ap, subst, ◌∙◌, arith}
+use Rattle.std.proofs.Common.{inl, inr, sym, ap, subst, ◌∙◌, arith, rules}
 use Rattle.std.specs.FinMap as map
 use Rattle.mds_types.specs.declared.operations.Op.{Op}
 use Rattle.mds_types.specs.declared.ids.Rank.{Rank}
@@ -61,7 +61,4 @@ refused_later Now Before a b c op reason so kept (inr (inr (inl (is, lacks)))) =
 refused_later Now Before a b c op reason so kept (inr (inr (inr (is, lacks)))) = inr (inr (inr (is, subst (λ (s : State). LacksFor op s) kept.state lacks)))
 
 pub refused_so : (NoPlace : Type 0) (a b : Core) (op : Op) (reason : Refusal) → MayRefuse NoPlace a b op reason → IsOfFragments reason
-refused_so NoPlace a b op reason (inl is) = subst IsOfFragments (sym is) tt
-refused_so NoPlace a b op reason (inr (inl (is, rose))) = subst IsOfFragments (sym is) tt
-refused_so NoPlace a b op reason (inr (inr (inl (is, lacks)))) = subst IsOfFragments (sym is) tt
-refused_so NoPlace a b op reason (inr (inr (inr (is, lacks)))) = subst IsOfFragments (sym is) tt
+refused_so NoPlace a b op reason is = search rules

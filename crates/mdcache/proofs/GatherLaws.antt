@@ -1,9 +1,9 @@
 -- The names that are gathered from all leaves of a directory are those that the shown tree lists.
-use Rattle.mdcache.proofs.Common.{Contains, Fragment, Gathered, Ino, Inode, IsPageOf, IsPick, IsSound, List, Names, None, Option, Row, Some, State, T, [], ap, arith, cond, entries_sorted, eq_by_cmp, exact_bytes, false, find-put, find-where_key, gathered, get-entries, hash_of, inl, inr, is_after, is_known, is_sorted-put, is_sorted-where_key, key_cmp, key_tied, leaves_of, left_of, names_after, names_are_listed, names_of, nat_list_cmp_total, none_either, not_found, option_or, put, puts, refl, right_of, rows_after, same_entries, shown_tree, some_pick, subst, suc, sym, tree_of_row, true, zero, ℕ, ⊎_elim, ◌∙◌, ◌∷◌, ◌≡◌, ◌⊎◌}
+use Rattle.mdcache.proofs.Common.{Contains, Fragment, Gathered, Ino, Inode, IsPageOf, IsPick, IsSound, List, Names, None, Option, Row, Some, State, T, [], ap, arith, cond, dentry_of, entries_sorted, eq_by_cmp, exact_bytes, false, find-put, find-where_key, gathered, get-entries, hash_of, inl, inr, is_after, is_known, is_sorted-put, is_sorted-where_key, key_cmp, key_tied, leaves_of, left_of, names_after, names_are_listed, names_of, nat_list_cmp_total, none_either, not_found, option_or, put, puts, refl, right_of, rows_after, same_entries, shown_tree, some_pick, subst, suc, sym, tree_of_row, true, zero, ℕ, ⊎_elim, ◌∙◌, ◌∷◌, ◌≡◌, ◌⊎◌}
 use Rattle.std.specs.FinMap as map
 use Rattle.std.specs.FinMap.Entries.{find, is_sorted}
 use Rattle.fragtree.proofs.TreeLaws.{first as first_has, later as later_has}
-use Rattle.mdcache.proofs.TreeLookups.{at_dentry}
+use Rattle.mdcache.proofs.NamedLaws.{sound_leaves, stands_at}
 
 -- ---- names put to others
 
@@ -111,7 +111,7 @@ module _ (s : State) (sound : IsSound s) (dir : Ino) (known : is_known s.homes d
       let w = some_pick leaves (hash_of q) (tree_of_row s.homes s.covers sound.table dir.0) in
       found names_in after q (told q w.0) [] leaves (alone q w.0 w.1) (inl refl) (inr (w.0, w.1.stands, refl))
       ∙ row_found names_in after w.0 q
-      ∙ ap (λ o. cond (is_after after q) o None) (sym (at_dentry s sound dir.0 q w.0 known w.1))
+      ∙ ap (λ o. cond (is_after after q) o None) (sym (stands_at s (sound_leaves s sound) (dentry_of dir.0 q) w.0 known w.1))
       ∙ sym ((names_are_listed (shown_tree s) dir.0 after).exact q)
 
   -- the names gathered from all leaves of a directory are those that the tree lists

@@ -1,11 +1,8 @@
 -- A directory goes in which nothing is: nothing of it is left but names of objects to be removed, and the tree stays.
-use Rattle.mdcache.proofs.Common.{Bool, Contains, Fragment, HasLeaf, Home, Ino, IsLive, IsPick, Job, Keys, Leaf, List, MayGo, Names, None, NothingIn, Option, Some, State, [], ap, arith, cond, dentry-exact, dentry-total, dropped_table, false, first_or_later, get-remove, get_beside, get_put, hash_of, in_directory, inl, inr, is_apart, is_known, is_some, later, leaf-total, leaf_is, leaf_itself, leaves, leaves_of, list_any, names_of, nat_list_cmp_total, objects_of, one_leaf, or_left, or_right, or_whole, refl, same_map, shown_tree, subst, suc, sym, text_of, tied_leaf, tree_text, true, with_objects, without_directory, without_leaves, zero, ℕ, ⊎_elim, ◌==◌, ◌||◌, ◌∙◌, ◌∷◌, ◌≡◌}
-use Rattle.std.specs.Prelude.{map as each}
-use Rattle.std.proofs.lemmas.Bool.{cond_both, false_from_ne_true}
+use Rattle.mdcache.proofs.Common.{Bool, Contains, Fragment, HasLeaf, Home, Ino, IsLive, IsPick, Job, Keys, Leaf, List, MayGo, Names, None, NothingIn, Option, Some, State, [], ap, arith, cond, cond_both, dentry-exact, dentry-total, dropped_table, each, false, false_from_ne_true, first_or_later, get-remove, get_beside, get_put, hash_of, in_directory, inl, inr, is_apart, is_known, is_some, later, leaf-total, leaf_equivalence, leaf_is, leaf_itself, leaves, leaves_of, list_any, list_any-from_Contains, names_of, nat_list_cmp_total, objects_of, one_leaf, or_left, or_right, or_whole, refl, same_map, shown_tree, some_stays, subst, suc, sym, text_of, tied_leaf, tree_text, true, value_of, with_objects, without_directory, without_leaves, zero, ℕ, ⊎_elim, ◌==◌, ◌||◌, ◌∙◌, ◌∷◌, ◌≡◌}
 use Rattle.std.specs.FinMap as map
 use Rattle.sorted_map.proofs.NatKeys.{get_left as get_left_home, get_removed as get_removed_home, same_or_apart as same_number}
 use Rattle.dentry_cache.specs.Cache.{leaf_cmp}
-use Rattle.cold_store.proofs.Members.{some_stays, value_of}
 use Rattle.mdcache.proofs.CoverRows.{row_left}
 use Rattle.mdcache.proofs.HomeLaws.{shows_alike}
 use Rattle.mdcache.proofs.NoNames.{none_unless}
@@ -25,18 +22,19 @@ get_without {X = X} kept (l ∷ ls) q =
       | false ↦ refl
     ]
 
+-- what is made of one of some is among what is made of all
+pub contains_mapped : {A B : Type 0} (f : A → B) (xs : List A) (x : A) → Contains xs x → Contains (each f xs) (f x)
+contains_mapped f [] x (k, within, is) = absurd (omega (arith, within))
+contains_mapped f (y ∷ ys) x (zero, within, is) = (zero, omega arith, ap f is)
+contains_mapped f (y ∷ ys) x (suc k, within, is) = let rest = contains_mapped f ys x (k, omega (arith, within), is) in (suc rest.0, omega (arith, rest.1), rest.2)
+
 -- a leaf of a directory is one of those of it,
 pub one_of_those : (d : ℕ) (q : Leaf) (fs : List Fragment) → q.0.0 ≡ d → HasLeaf fs q.1 → Contains (each (in_directory d) fs) q
-one_of_those d q [] same (k, stands, is) = absurd (omega (arith, stands))
-one_of_those d q (f ∷ fs) same (zero, stands, is) = (zero, omega arith, λ i. (record { 0 = sym same i }, is i))
-one_of_those d q (f ∷ fs) same (suc k, stands, is) = let n = one_of_those d q fs same (k, omega (arith, stands), is) in (suc n.0, omega (arith, n.1), n.2)
+one_of_those d q fs same has = subst (Contains (each (in_directory d) fs)) (λ i. (record { 0 = sym same i }, q.1)) (contains_mapped (in_directory d) fs q.1 has)
 
 -- so they are among them,
 pub among : (d : ℕ) (q : Leaf) (fs : List Fragment) → q.0.0 ≡ d → HasLeaf fs q.1 → list_any (leaf_is q) (each (in_directory d) fs) ≡ true
-among d q [] same (k, stands, is) = absurd (omega (arith, stands))
-among d q (f ∷ fs) same has = ⊎_elim
-    (λ here. let its : in_directory d f ≡ q = λ i. (record { 0 = sym same i }, here i) in or_left (leaf_is q (in_directory d f)) _ (ap (leaf_is q) its ∙ leaf_itself q))
-    (λ more. or_right (leaf_is q (in_directory d f)) _ (among d q fs same more)) (first_or_later f q.1 fs has)
+among d q fs same has = list_any-from_Contains leaf_equivalence q (each (in_directory d) fs) (one_of_those d q fs same has)
 
 -- and those of another aren't
 elsewhere : (d : ℕ) (q : Leaf) (fs : List Fragment) → (q.0.0 ≡ d → ⊥) → list_any (leaf_is q) (each (in_directory d) fs) ≡ false
@@ -50,20 +48,19 @@ stays_listed : (names : Keys) (more : List (List ℕ)) (q : List ℕ) → is_som
 stays_listed names [] q has = has
 stays_listed names (n ∷ more) q has = stays_listed (map.insert names n tt) more q (some_stays nat_list_cmp_total names n tt q has)
 
--- and so is one of the others;
-leaf_listed : (names : Keys) (ls : List Leaf) (q : Leaf) → Contains ls q → is_some (map.get (with_objects names (each text_of ls)) (text_of q)) ≡ true
+-- and so is one of the others,
+pub leaf_listed : (names : Keys) (ls : List Leaf) (q : Leaf) → Contains ls q → is_some (map.get (with_objects names (each text_of ls)) (text_of q)) ≡ true
 leaf_listed names [] q (k, within, is) = absurd (omega (arith, within))
 leaf_listed names (l ∷ ls) q (zero, within, is) =
     ap (λ (x : Leaf). is_some (map.get (with_objects names (text_of l ∷ each text_of ls)) (text_of x))) (sym is)
     ∙ stays_listed (map.insert names (text_of l) tt) (each text_of ls) (text_of l) (ap is_some (get_put names (text_of l) tt))
 leaf_listed names (l ∷ ls) q (suc k, within, is) = leaf_listed (map.insert names (text_of l) tt) ls q (k, omega (arith, within), is)
 
--- a name that is none of them isn't on it, if it wasn't
-not_listed : (names : Keys) (d : ℕ) (q : List ℕ) (fs : List Fragment) → map.get names q ≡ None → ((f : Fragment) → HasLeaf fs f → q ≡ text_of (in_directory d f) → ⊥)
-    → map.get (with_objects names (each text_of (each (in_directory d) fs))) q ≡ None
-not_listed names d q [] none apart = none
-not_listed names d q (f ∷ fs) none apart =
-    not_listed (map.insert names (text_of (in_directory d f)) tt) d q fs (get_beside names (text_of (in_directory d f)) tt q (apart f (zero, omega arith, refl)) ∙ none) (λ g stands. apart g (later f g fs stands))
+-- and any other is as it was
+pub beside_on : (names : Keys) (dir : Ino) (fs : List Fragment) (q : List ℕ) → ((f : Fragment) → HasLeaf fs f → q ≡ text_of (dir, f) → ⊥) → map.get (with_objects names (each text_of (each (in_directory dir.0) fs))) q ≡ map.get names q
+beside_on names dir [] q none = refl
+beside_on names dir (g ∷ fs) q none =
+    beside_on (map.insert names (text_of (dir, g)) tt) dir fs q (λ f has. none f (later g f fs has)) ∙ get_beside names (text_of (dir, g)) tt q (none g (zero, omega arith, refl))
 
 module _ (s : State) (sound : HasSoundLeaves s) (dir : Ino) (may : MayGo s.homes dir.0) (known : is_known s.homes dir.0 ≡ true) (nothing : NothingIn (shown_tree s) dir.0) where
   abbrev pub left : State
@@ -131,9 +128,8 @@ module _ (s : State) (sound : HasSoundLeaves s) (dir : Ino) (may : MayGo s.homes
         (λ listed. inr (inr (stays_listed s.purge (objects_of s dir) name listed))) rest) (sound.owned name there);
     listed = λ leaf live.
         let b = live_back leaf live in
-        not_listed (map.insert s.purge (tree_text dir) tt) dir.0 (text_of leaf) (leaves_of s.covers dir.0)
-        (get_beside s.purge (tree_text dir) tt (text_of leaf) (no_tree_text s.homes s.covers sound.table sound.numbered leaf dir b.1 known) ∙ sound.listed leaf b.1)
-        (λ f stands same. b.0 (ap (λ (l : Leaf). l.0.0) (one_text s.homes s.covers sound.table sound.numbered leaf (in_directory dir.0 f) b.1 (record { known = known; stands = stands }) same)));
+        beside_on (map.insert s.purge (tree_text dir) tt) dir (leaves_of s.covers dir.0) (text_of leaf) (λ f stands same. b.0 (ap (λ (l : Leaf). l.0.0) (one_text s.homes s.covers sound.table sound.numbered leaf (in_directory dir.0 f) b.1 (record { known = known; stands = stands }) same)))
+        ∙ get_beside s.purge (tree_text dir) tt (text_of leaf) (no_tree_text s.homes s.covers sound.table sound.numbered leaf dir b.1 known) ∙ sound.listed leaf b.1;
     standing = λ leaf job is.
         let b = job_back leaf job is in
         let old = sound.standing leaf job b.1 in
@@ -145,5 +141,5 @@ module _ (s : State) (sound : HasSoundLeaves s) (dir : Ino) (may : MayGo s.homes
 
   pub left_tree : shown_tree left ≡ shown_tree s
   left_tree = same_map dentry-total dentry-exact (shown_tree left) (shown_tree s) (λ q. ⊎_elim
-      (λ same. stands_nowhere left left_leaves q (ap (is_known left.homes) same ∙ unknown) ∙ sym (none_unless (map.get (shown_tree s) q) (λ some. let its = value_of (map.get (shown_tree s) q) some in nothing q its.0 its.1 same)))
+      (λ same. stands_nowhere left left_leaves q (ap (is_known left.homes) same ∙ unknown) ∙ sym (none_unless (map.get (shown_tree s) q) (λ i is. nothing q i is same)))
       (λ apart. shows_alike s left sound left_leaves q (known_on q.dir.0 apart) (cover_on q.dir.0 apart) (λ f live. left_names (q.dir, f) apart)) (same_number q.dir.0 dir.0))

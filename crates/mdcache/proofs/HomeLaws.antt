@@ -1,12 +1,8 @@
 -- Directories come, go and move: the leaves are sound as before, and the tree stays.
-use Rattle.mdcache.proofs.Common.{Covers, Dentry, Fragment, HasLeaf, Home, Homes, Ino, Inode, IsLive, IsPick, IsTable, IsUnsaved, Leaf, List, MayCome, MayMove, Names, None, Option, Some, State, Unsaved, [], adopted_table, ap, arith, dentry-exact, dentry-total, false, first_leaf, get-empty, get_left, get_removed, hash_of, home_at, inl, inr, is_apart, is_dir_kind, is_known, is_some, just_made, key_cmp, known_by, leaves_of, moved_table, object_of, only_below, or_whole, refl, root_fragment, same_Some, same_map, shown_at, shown_tree, still_known, subst, sym, text_of, true, with_directory, with_home, zero, ℕ, ⊎_elim, ◌<◌, ◌==◌, ◌^◌, ◌||◌, ◌∙◌, ◌∷◌, ◌≡◌, ◌⊎◌}
-use Rattle.std.proofs.lemmas.Bool.{cond_both}
+use Rattle.mdcache.proofs.Common.{Covers, Dentry, Fragment, HasLeaf, Home, Homes, IfSome, Ino, Inode, IsLive, IsPick, IsSound, IsTable, IsUnsaved, Leaf, List, MayChange, MayCome, MayGo, MayMove, Names, None, Option, Some, Spot, State, Unsaved, [], adopted_table, ap, arith, cond_both, dentry-exact, dentry-total, dentry_at, directory_at, false, first_leaf, get-empty, get_left, get_removed, hash_of, home_at, in_empty, inl, inr, is_apart, is_dir_kind, is_known, is_some, just_made, key_cmp, key_or_apart, known_by, leaves_of, may_drop, may_relocate, may_replace, moved_table, moves, object_of, only_below, only_leaf, or_whole, refl, removes, root_fragment, rules, same_Some, same_map, shown_at, shown_tree, still_known, subst, sym, text_of, true, with_directory, with_home, zero, ℕ, ⊎_elim, ◌<◌, ◌==◌, ◌^◌, ◌||◌, ◌∙◌, ◌∷◌, ◌≡◌, ◌⊎◌}
 use Rattle.std.specs.FinMap as map
 use Rattle.mds_types.proofs.LeafLaws.{get_beside, get_put, same_or_apart as leaf_or_other}
-use Rattle.cold_store.proofs.Members.{in_empty}
-use Rattle.fragtree.proofs.TreeLaws.{only_leaf}
 use Rattle.sorted_map.proofs.NatKeys.{get_beside as get_other_home, get_put as get_home, same_or_apart as same_number}
-use Rattle.dirfrag_codec.proofs.ByteKeys.{same_or_apart as key_or_apart}
 use Rattle.mdcache.specs.Shown.{names_of}
 use Rattle.mdcache.proofs.CoverRows.{known_by_row}
 use Rattle.mdcache.proofs.NoNames.{none_unless}
@@ -69,6 +65,26 @@ module _ (homes : Homes) (covers : Covers) (table : IsTable homes covers) (to : 
   pub moved_home : IsTable (with_home homes to inode) covers
   moved_home = cond_both (is_dir_kind inode.kind) (map.insert homes inode.ino.0 (home_at to)) homes (λ (h : Homes). IsTable h covers) (λ kinded. moved_table homes covers inode.ino.0 (home_at to) table (may kinded)) (λ file. table)
 
+-- what holds of a directory holds of what is found, if it is one
+if_directory : (P : Ino → Type 0) (found : Option Inode) → ((i : Inode) → found ≡ Some i → is_dir_kind i.kind ≡ true → P i.ino) → IfSome (directory_at found) P
+if_directory P found so = search rules
+
+-- a directory that goes with an entry may go
+pub may_go : (s : State) (spot : Spot) (went : Option Ino) → IsSound s → MayChange (shown_tree s) s.covers (removes spot went) → IfSome went (λ (dir : Ino). MayGo s.homes dir.0)
+may_go s spot went sound may = subst (λ (d : Option Ino). IfSome d (λ (dir : Ino). MayGo s.homes dir.0)) (sym may.carries.gone)
+    (if_directory _ (map.get (shown_tree s) (dentry_at spot)) (λ i is kinded. may_drop (shown_tree s) s.homes (dentry_at spot) (Some i) is sound.tabled may.takes i refl kinded))
+
+-- where a rename may be made
+module _ (s : State) (sound : IsSound s) (source target : Spot) (inode : Inode) (went : Option Ino) (may : MayChange (shown_tree s) s.covers (moves source target inode went)) where
+  -- a directory may have its home there,
+  pub relocates : is_dir_kind inode.kind ≡ true → MayMove s.homes inode.ino.0 (home_at (dentry_at target))
+  relocates kinded = may_relocate (shown_tree s) s.homes (dentry_at source) (dentry_at target) inode sound.tabled may.takes kinded
+
+  -- and one that is replaced may go then
+  pub replaces : IfSome went (λ (dir : Ino). MayGo (with_home s.homes (dentry_at target) inode) dir.0)
+  replaces = subst (λ (d : Option Ino). IfSome d (λ (dir : Ino). MayGo (with_home s.homes (dentry_at target) inode) dir.0)) (sym may.carries.gone)
+      (if_directory _ (map.get (shown_tree s) (dentry_at target)) (λ i is kinded. may_replace (shown_tree s) s.homes (dentry_at source) (dentry_at target) inode sound.tabled may.takes i is))
+
 -- ---- a directory comes
 
 module _ (s : State) (sound : HasSoundLeaves s) (dentry : Dentry) (dir : Ino) (come : MayCome s.homes dir.0 (home_at dentry)) (fits : dir.0 < 2 ^ 64) where
@@ -82,7 +98,7 @@ module _ (s : State) (sound : HasSoundLeaves s) (dentry : Dentry) (dir : Ino) (c
   unknown = (λ i. is_apart dir.0 1 come.other i || is_some (come.fresh i))
 
   no_row : leaves_of s.covers dir.0 ≡ root_fragment ∷ []
-  no_row = ap or_whole (none_unless (map.get s.covers dir.0) (λ some. let clash : true ≡ false = sym (known_by_row s.homes s.covers sound.table dir.0 some) ∙ unknown in cc))
+  no_row = ap or_whole (none_unless (map.get s.covers dir.0) (λ fs is. let clash : true ≡ false = sym (known_by_row s.homes s.covers sound.table dir.0 (ap is_some is)) ∙ unknown in cc))
 
   known_new : (d : ℕ) → is_known grown.homes d ≡ true → (d ≡ dir.0) ⊎ (is_known s.homes d ≡ true)
   known_new d known = ⊎_elim (λ same. inl same) (λ apart. inr (sym (known_beside s.homes dir.0 (home_at dentry) d apart) ∙ known)) (same_number d dir.0)

@@ -3,7 +3,7 @@ use Rattle.mdcache.proofs.Common.{At, CacheMap, Cached, CanSplit, Core, Dirfrag,
 use Rattle.std.specs.FinMap as map
 use Rattle.mdcache.proofs.CoreLaws.{may_fetch, may_fetch_on, of_names, reads_state}
 use Rattle.mdcache.proofs.JoinLaws.{one_joined}
-use Rattle.mdcache.proofs.RegroupLaws.{none_unless}
+use Rattle.mdcache.proofs.NoNames.{none_unless}
 
 -- what isn't live is cached nowhere
 pub cached_nowhere : (c : Core) → IsSoundCore c → (q : Leaf) → (IsLive c.homes c.covers q → ⊥) → map.get c.caches.held q ≡ None

@@ -1,16 +1,13 @@
 -- A place that is kept for a leaf that will come, beside one that stays: what it leaves, and why it is refused.
-use Rattle.mdcache.proofs.Common.{AreCaches, CacheMap, Cached, Core, Err, IfErr, IsKeptFor, KeepsAt, KeepsNone, KeepsOnlyAt, LacksPlacesIn, Leaf, MakesRoomAt, MayNotFind, MayNotKeepAt, None, NoneEnds, Ok, OnErr, OnOk, Option, Rank, ReadsCore, Refusal, Result, Some, StaysNamed, absent_roomy, ap, at_rank, false, has_place, here, inl, inr, keeps_reads, length, on_ok_weaker, refl, room_reads, staying, subst, sym, ℕ, ⊎_elim, ◌+◌, ◌<◌, ◌∙◌, ◌≡◌}
+use Rattle.mdcache.proofs.Common.{AreCaches, CacheMap, Cached, Core, Err, IfErr, IsKeptFor, KeepsAt, KeepsNone, KeepsOnlyAt, LacksPlacesIn, Leaf, MakesRoomAt, MayNotFind, MayNotKeepAt, None, NoneEnds, Ok, OnErr, OnOk, Option, Rank, ReadsCore, Refusal, Result, Some, StaysNamed, absent_roomy, ap, at_rank, false, has_place, here, inl, inr, it_stays, keeps_reads, length, on_err_weaker, on_ok_weaker, refl, room_reads, rules, staying, subst, sym, ℕ, ⊎_elim, ◌+◌, ◌<◌, ◌∙◌, ◌≡◌}
 use Rattle.std.specs.FinMap as map
-use Rattle.std.proofs.lemmas.Result.{on_err_weaker}
-use Rattle.dentry_cache.specs.Reads.Reads.{stays as it_stays}
 use Rattle.mdcache.proofs.CoreLaws.{if_err, next_step, no_less_itself, not_found_before}
 use Rattle.mdcache.proofs.NoneLaws.{kept_for, kept_stays, none_absent, none_room, only_kept}
 use Rattle.mdcache.proofs.UncleanOf.{full_lacks}
 
 -- what both outcomes leave
 either : {A E X P Q : Type 0} (r : Result A E) → (P → X) → (Q → X) → OnOk r P → OnErr r Q → X
-either (Ok x) f g p q = f p
-either (Err e) f g p q = g q
+either r f g p q = search rules
 
 module _ (Uses : ℕ → Leaf → Type 0) (old mid view : Core) (is : view ≡ mid) (before : ReadsCore Uses NoneEnds old mid) (none_mid : KeepsNone mid.caches)
     (rank : Rank) (leaf : Leaf) (stay : Option Leaf) (there_mid : rank.0 < length mid.caches.used) (absent_mid : map.get mid.caches.held leaf ≡ None) (named : Uses rank.0 leaf) (stayed : StaysNamed Uses stay)
@@ -25,29 +22,31 @@ module _ (Uses : ℕ → Leaf → Type 0) (old mid view : Core) (is : view ≡ m
   absent : map.get view.caches.held leaf ≡ None
   absent = subst (λ (k : Core). map.get k.caches.held leaf ≡ None) (sym is) absent_mid
 
-  pub keep_absent : has_place view.caches rank.0 leaf ≡ false
+  keep_absent : has_place view.caches rank.0 leaf ≡ false
   keep_absent = none_absent view.caches rank.0 leaf none absent
 
   -- the leaf is cached nowhere still
   nowhere_kept : KeepsAt rank.0 leaf stay view.caches caches' → map.get caches'.held leaf ≡ None
   nowhere_kept k = ap (λ (c : CacheMap). map.get c.held leaf) k.2 ∙ absent_roomy view.caches k.0 rank.0 stay leaf k.1 absent
 
-  pub keep_nowhere : map.get caches'.held leaf ≡ None
-  keep_nowhere = either result nowhere_kept (⊎_elim (λ same. ap (λ (k : CacheMap). map.get k.held leaf) same ∙ absent) (λ made. absent_roomy view.caches caches' rank.0 stay leaf made absent)) kept left
+  -- what is left once the place is kept, or was refused
+  pub record HasKept : Type 0 where
+    pub nowhere : map.get caches'.held leaf ≡ None
+    pub reads : ReadsCore Uses NoneEnds old (record view { caches = caches' })
+    pub place : OnOk result (IsKeptFor caches' rank.0 leaf)
+    pub only : OnOk result (KeepsOnlyAt (Some (rank, leaf)) caches')
+    pub none_kept : OnErr result (KeepsNone caches')
 
-  pub keep_reads : ReadsCore Uses NoneEnds old (record view { caches = caches' })
-  keep_reads = next_step Uses NoneEnds old view (record view { caches = caches' }) (no_less_itself view.room) refl mid before is
-      (either result (keeps_reads Uses NoneEnds view.objects view.caches view.caches caches' rank.0 leaf stay it_stays named stayed keep_absent)
-      (room_reads Uses NoneEnds view.objects view.caches view.caches caches' rank.0 leaf stay it_stays named stayed keep_absent) kept left)
-
-  pub keep_place : OnOk result (IsKeptFor caches' rank.0 leaf)
-  keep_place = on_ok_weaker result (λ k. (kept_for view.caches rank.0 leaf none there valid stay caches' absent k, nowhere_kept k)) kept
-
-  pub keep_only : OnOk result (KeepsOnlyAt (Some (rank, leaf)) caches')
-  keep_only = on_ok_weaker result (only_kept view.caches rank.0 leaf none there valid stay caches' rank refl absent) kept
-
-  pub keep_none : OnErr result (KeepsNone caches')
-  keep_none = on_err_weaker result (none_room view.caches rank.0 leaf none there valid stay caches') left
+  pub keep_so : HasKept
+  keep_so = record {
+    nowhere = either result nowhere_kept (⊎_elim (λ same. ap (λ (k : CacheMap). map.get k.held leaf) same ∙ absent) (λ made. absent_roomy view.caches caches' rank.0 stay leaf made absent)) kept left;
+    reads = next_step Uses NoneEnds old view (record view { caches = caches' }) (no_less_itself view.room) refl mid before is
+        (either result (keeps_reads Uses NoneEnds view.objects view.caches view.caches caches' rank.0 leaf stay it_stays named stayed keep_absent)
+        (room_reads Uses NoneEnds view.objects view.caches view.caches caches' rank.0 leaf stay it_stays named stayed keep_absent) kept left);
+    place = on_ok_weaker result (λ k. (kept_for view.caches rank.0 leaf none there valid stay caches' absent k, nowhere_kept k)) kept;
+    only = on_ok_weaker result (only_kept view.caches rank.0 leaf none there valid stay caches' rank refl absent) kept;
+    none_kept = on_err_weaker result (none_room view.caches rank.0 leaf none there valid stay caches') left;
+  }
 
   -- what is to stay is there as it was
   pub keep_stays : (P : Option Cached → Type 0) (one : Leaf) (s : ℕ) → stay ≡ Some one → P (here mid.caches s one) → OnOk result (P (here caches' s one))

@@ -1,6 +1,5 @@
 -- What each step of a flush keeps.
-use Rattle.mdcache.proofs.Common.{At, CacheMap, Came, Core, HasFragment, IsThere, Jobs, KeepsTree, Keys, Leaf, None, NoneEnds, Objects, Option, Some, State, StepsKeepTree, ap, at_rank, came_held, came_then, came_weaker, cond, eq-eqb, eqb-true, refl, shown_tree, state_of, subst, sym, ℕ, ⊎_elim, ◌==◌, ◌∙◌, ◌≡◌}
-use Rattle.std.proofs.lemmas.Bool.{cond_both}
+use Rattle.mdcache.proofs.Common.{At, CacheMap, Came, Core, HasFragment, IsThere, Jobs, KeepsTree, Keys, Leaf, None, NoneEnds, Objects, Option, Some, State, StepsKeepTree, ap, at_rank, came_held, came_then, came_weaker, cond, cond_both, eq-eqb, eqb-true, refl, rules, shown_tree, state_of, subst, sym, ℕ, ⊎_elim, ◌==◌, ◌∙◌, ◌≡◌}
 use Rattle.std.specs.FinMap as map
 use Rattle.dentry_cache.specs.Came.Came.{stays as it_stays}
 
@@ -9,44 +8,25 @@ pub there_at : (r : ℕ) (o : Option At) → IsThere (at_rank r o) → (a : At) 
 there_at r None there = absurd there
 there_at r (Some a) there = cond_both (a.rank == r) (Some a.frag) None (λ o. IsThere o → (x : At) × (Some a ≡ Some x) × (x.rank ≡ r)) (λ is it. (a, refl, eqb-true a.rank r is)) (λ off it. absurd it) there
 
-pub at_its_rank : (r : ℕ) (a : At) → a.rank ≡ r → IsThere (at_rank r (Some a))
-at_its_rank r a is = subst (λ b. IsThere (cond b (Some a.frag) None)) (sym (eq-eqb a.rank r is)) tt
-
 -- a fragment that is there after such steps was there before
 module _ (old mid : CacheMap) (came : Came (HasFragment old) NoneEnds old mid) where
   pub was_there : (r : ℕ) (q : Leaf) → HasFragment mid r q → HasFragment old r q
   was_there r q there =
       let its = there_at r (map.get mid.held q) there in
-      ⊎_elim (λ same. subst (λ o. IsThere (at_rank r o)) (sym same) (at_its_rank r its.0 its.2)) (λ used. subst (λ k. HasFragment old k q) its.2 used) (came_held (HasFragment old) NoneEnds old mid came q its.0 its.1)
+      ⊎_elim (λ same. subst (λ o. IsThere (at_rank r o)) (sym same) (subst (λ b. IsThere (cond b (Some its.0.frag) None)) (sym (eq-eqb its.0.rank r its.2)) tt)) (λ used. subst (λ k. HasFragment old k q) its.2 used) (came_held (HasFragment old) NoneEnds old mid came q its.0 its.1)
 
 pub kept_itself : (c : Core) → KeepsTree c c
 kept_itself c = record { limit = refl; homes = refl; covers = refl; counts = refl; pins = refl; tree = refl; generation = refl; version = refl; caches = it_stays }
 
 pub steps_keep_tree : StepsKeepTree
-steps_keep_tree old mid new first second = record {
-  limit = second.limit ∙ first.limit;
-  homes = second.homes ∙ first.homes;
-  covers = second.covers ∙ first.covers;
-  counts = second.counts ∙ first.counts;
-  pins = second.pins ∙ first.pins;
-  tree = second.tree ∙ first.tree;
-  generation = second.generation ∙ first.generation;
-  version = second.version ∙ first.version;
-  caches = came_then (HasFragment old.caches) NoneEnds old.caches mid.caches new.caches first.caches
-      (came_weaker (HasFragment mid.caches) NoneEnds (HasFragment old.caches) NoneEnds (was_there old.caches mid.caches first.caches) (λ r q ends. ends) mid.caches new.caches second.caches);
-}
+steps_keep_tree old mid new first second =
+    let caches : Came (HasFragment old.caches) NoneEnds old.caches new.caches = came_then (HasFragment old.caches) NoneEnds old.caches mid.caches new.caches first.caches
+    (came_weaker (HasFragment mid.caches) NoneEnds (HasFragment old.caches) NoneEnds (was_there old.caches mid.caches first.caches) (λ r q ends. ends) mid.caches new.caches second.caches) in
+    search rules
 
 -- a step that leaves the caches, and of the state all but objects, jobs, purge list and the next job's number
 pub keeps_tree : (old new : Core) → new.caches ≡ old.caches → (objects : Objects) (jobs : Jobs) (purge : Keys) (next : ℕ)
     → state_of new ≡ record (state_of old) { objects = objects; jobs = jobs; purge = purge; next_job = next } → shown_tree (state_of new) ≡ shown_tree (state_of old) → KeepsTree old new
-keeps_tree old new caches objects jobs purge next left tree = record {
-  limit = ap (λ (s : State). s.limit) left;
-  homes = ap (λ (s : State). s.homes) left;
-  covers = ap (λ (s : State). s.covers) left;
-  counts = ap (λ (s : State). s.counts) left;
-  pins = ap (λ (s : State). s.pins) left;
-  tree = tree;
-  generation = ap (λ (s : State). s.next_generation) left;
-  version = ap (λ (s : State). s.next_version) left;
-  caches = subst (λ c. Came (HasFragment old.caches) NoneEnds old.caches c) (sym caches) it_stays;
-}
+keeps_tree old new caches objects jobs purge next left tree =
+    let came : Came (HasFragment old.caches) NoneEnds old.caches new.caches = subst (λ c. Came (HasFragment old.caches) NoneEnds old.caches c) (sym caches) it_stays in
+    search rules

@@ -56,6 +56,5 @@ pub mod SplitSteps
 pub mod StandingObjects
 pub mod TextLaws
 pub mod TreeLaws
-pub mod TreeLookups
 pub mod UncleanOf
 pub mod Walks

@@ -1,8 +1,6 @@
 -- The purge list, where a leaf was split and where leaves were merged.
-use Rattle.mdcache.proofs.Common.{Contains, Frag, Fragment, HasLeaf, Ino, IsChild, IsFragment, IsListedAnew, Keys, List, NameChildren, None, Some, [], ap, arith, child_is_fragment, child_of, get_beside, get_left, get_put, get_removed, in_directory, inl, inr, refl, subst, suc, sym, text_of, texts_differ, with_objects, without_objects, zero, ℕ, ⊎_elim, ◌+◌, ◌<◌, ◌^◌, ◌∙◌, ◌∷◌, ◌≡◌, ◌≤◌}
-use Rattle.std.specs.Prelude.{map as each}
+use Rattle.mdcache.proofs.Common.{Contains, Frag, Fragment, HasLeaf, Ino, IsChild, IsFragment, IsListedAnew, Keys, List, NameChildren, None, Some, [], ap, arith, child_is_fragment, child_of, each, get_beside, get_left, get_put, get_removed, in_directory, inl, inr, key_or_apart, refl, subst, suc, sym, text_of, texts_differ, with_objects, without_objects, zero, ℕ, ⊎_elim, ◌+◌, ◌<◌, ◌^◌, ◌∙◌, ◌∷◌, ◌≡◌, ◌≤◌}
 use Rattle.std.specs.FinMap as map
-use Rattle.dirfrag_codec.proofs.ByteKeys.{same_or_apart as key_or_apart}
 use Rattle.mdcache.proofs.SplitLaws.{only_one}
 
 -- what isn't on the list stays off it
@@ -41,25 +39,3 @@ listed_anew old dir frag nb texts Came small valid some few named is_child comes
       is_left (map.insert old (text_of (dir, frag)) tt) texts name (λ has. let child = named.only name has in none (child_of frag child.0 nb) (inr (comes child.0 child.1)) child.2)
       ∙ get_beside old (text_of (dir, frag)) tt name (none frag (inl (zero, omega arith, refl)));
 }
-
--- ---- a merge
-
--- the list with names that came on it has them, and those that it had
-came_on : (names : Keys) (texts : List (List ℕ)) (q : List ℕ) → map.get names q ≡ Some tt → map.get (with_objects names texts) q ≡ Some tt
-came_on names [] q has = has
-came_on names (text ∷ texts) q has =
-    came_on (map.insert names text tt) texts q (⊎_elim (λ same. ap (map.get (map.insert names text tt)) same ∙ get_put names text tt) (λ apart. get_beside names text tt q apart ∙ has) (key_or_apart q text))
-
-pub texts_on : (names : Keys) (dir : Ino) (fs : List Fragment) (f : Fragment) → HasLeaf fs f → map.get (with_objects names (each text_of (each (in_directory dir.0) fs))) (text_of (dir, f)) ≡ Some tt
-texts_on names dir [] f (k, stands, is) = absurd (omega (arith, stands))
-texts_on names dir (g ∷ fs) f (zero, stands, is) =
-    ap (λ (h : Fragment). map.get (with_objects (map.insert names (text_of (dir, g)) tt) (each text_of (each (in_directory dir.0) fs))) (text_of (dir, h))) (sym is)
-    ∙ came_on (map.insert names (text_of (dir, g)) tt) (each text_of (each (in_directory dir.0) fs)) (text_of (dir, g)) (get_put names (text_of (dir, g)) tt)
-texts_on names dir (g ∷ fs) f (suc k, stands, is) = texts_on (map.insert names (text_of (dir, g)) tt) dir fs f (k, omega (arith, stands), is)
-
--- and any other is as it was
-pub beside_on : (names : Keys) (dir : Ino) (fs : List Fragment) (q : List ℕ) → ((f : Fragment) → HasLeaf fs f → q ≡ text_of (dir, f) → ⊥) → map.get (with_objects names (each text_of (each (in_directory dir.0) fs))) q ≡ map.get names q
-beside_on names dir [] q none = refl
-beside_on names dir (g ∷ fs) q none =
-    beside_on (map.insert names (text_of (dir, g)) tt) dir fs q (λ f has. none f (suc has.0, let within = has.1 in omega (arith, within), has.2))
-    ∙ get_beside names (text_of (dir, g)) tt q (none g (zero, omega arith, refl))

@@ -1,13 +1,8 @@
 -- The names of leaves that are merged are those that the joined fragment contains.
-use Rattle.mdcache.proofs.Common.{CanMerge, Fragment, HasLeaf, Ino, Inode, IsMerge, IsPick, IsSound, IsTree, Leaf, List, Mark, Names, None, Option, Some, State, [], ap, arith, between, cond, dentry_of, false, first_or_later, get_or, hash_of, holds, holds_contains, in_directory, inl, inr, is_known, is_same, later, leaves_inside, leaves_of, lies_inside, marked_as, merged_after_merge, name_joined, names_of, one_or_other, pick_after_merge, range_from_inside, refl, shown_tree, span, span_pos, subst, sym, tree_of_row, true, zero, ℕ, ⊎_elim, ◌%◌, ◌/◌, ◌^◌, ◌∙◌, ◌∷◌, ◌≡◌, ◌⊎◌}
-use Rattle.std.proofs.lemmas.Bool.{cond_both, true_from_ne_false}
-use Rattle.std.proofs.lemmas.List.Elements.{Contains-get_or}
-use Rattle.std.specs.Cmp.{both_ways}
-use Rattle.std.specs.Prelude.{map as each}
+use Rattle.mdcache.proofs.Common.{CanMerge, Contains-get_or, Fragment, HasLeaf, Ino, Inode, IsMerge, IsPick, IsSound, IsTree, Leaf, List, Mark, Names, None, Option, Some, State, [], ap, arith, between, both_ways, cond, cond_both, dentry_of, each, false, first_or_later, get_or, hash_of, holds, holds_contains, in_directory, inl, inr, is_known, is_same, later, leaves_inside, leaves_of, lies_inside, marked_as, merged_after_merge, name_joined, names_of, one_of_hash, one_or_other, pick_after_merge, range_from_inside, refl, shown_tree, span, span_pos, subst, sym, tree_of_row, true, true_from_ne_false, zero, ℕ, ⊎_elim, ◌%◌, ◌/◌, ◌^◌, ◌∙◌, ◌∷◌, ◌≡◌, ◌⊎◌}
 use Rattle.std.specs.FinMap as map
-use Rattle.fragtree.proofs.Spelled.{one_leaf as one_of_hash}
 use Rattle.mdcache.proofs.NamedLaws.{pick_at, sound_leaves, stands_at}
-use Rattle.mdcache.proofs.RegroupLaws.{none_unless}
+use Rattle.mdcache.proofs.NoNames.{none_unless}
 use Rattle.mdcache.proofs.SplitLaws.{has_inside, inside_has}
 
 -- ---- the fragment of a merge

@@ -1,22 +1,17 @@
 -- What a merge makes of the whole, once all was ready for it.
-use Rattle.mdcache.proofs.Common.{AreCached, At, Base, Bool, CacheMap, Came, CanMerge, Comes, Contains, Core, Dirfrag, Frag, Fragment, HasLeaf, HasUnsaved, Inode, IsAmongOr, IsConcerned, IsListedAnew, IsLive, IsMergeReady, IsMergedInto, IsNewLeaf, IsRegrouped, IsSound, IsSoundCore, IsTied, IsTree, KeepsNone, Keys, Leaf, List, Merge, None, NoneEnds, Option, ReadsCore, Some, State, Unsaved, ap, are_empty, arith, at, between, cond, dentry_of, ending_at, false, fresh_tied, get_left, get_removed, get_with_frag, has_none, hash_of, holds, in_directory, inl, inr, is_clean_over, is_known, leaf_is, leaf_itself, leaf_of, leaves_in, leaves_inside, leaves_of, list_all, list_any, marked_as, merged_in, merged_leaves, names_of, object_of, one_leaf, reads_came, reads_weaker, refl, same_Some, same_leaf, shown, shown_tree, state_of, subst, sym, text_of, texts_differ, tree_of_row, true, unclean, unclean_with, unsaved_of, with_frag, with_objects, without_leaves, ℕ, ⊎_elim, ◌+◌, ◌<◌, ◌∙◌, ◌≡◌}
-use Rattle.std.proofs.lemmas.Bool.{false_from_ne_true, true_from_ne_false}
-use Rattle.std.specs.Cmp.{both_ways}
-use Rattle.std.specs.Prelude.{map as each}
+use Rattle.mdcache.proofs.Common.{AreCached, At, Base, Bool, CacheMap, Came, CanMerge, Comes, Contains, Contains-from_any, Core, Dirfrag, Frag, Fragment, HasLeaf, HasUnsaved, Inode, IsAmongOr, IsConcerned, IsListedAnew, IsLive, IsMergeReady, IsMergedInto, IsNewLeaf, IsRegrouped, IsSound, IsSoundCore, IsTied, IsTree, KeepsNone, Keys, Leaf, List, Merge, None, NoneEnds, Option, ReadsCore, Some, State, Unsaved, ap, are_empty, arith, at, between, both_ways, cond, dentry_of, each, ending_at, false, false_from_ne_true, fresh_tied, get_left, get_removed, get_with_frag, has_none, hash_of, holds, in_directory, inl, inr, is_clean_over, is_known, leaf_is, leaf_itself, leaf_of, leaves_in, leaves_inside, leaves_of, list_all, list_any, marked_as, merged_in, merged_leaves, names_of, object_of, one_leaf, reads_came, reads_weaker, refl, same_Some, same_leaf, shown, shown_tree, state_of, subst, sym, text_of, texts_differ, tree_of_row, true, true_from_ne_false, unclean, unclean_with, unsaved_here_at, unsaved_of, value_of, with_frag, with_objects, without_leaves, ℕ, ⊎_elim, ◌+◌, ◌<◌, ◌∙◌, ◌≡◌}
 use Rattle.std.specs.FinMap as map
 use Rattle.dentry_cache.specs.Came.Came.{has as arrives}
-use Rattle.dentry_cache.proofs.CacheLaws.{unsaved_here as unsaved_here_at}
 use Rattle.mdcache.specs.Splits.{KeepsTree}
 use Rattle.mdcache.proofs.ChangeSteps.{ends_came_so, still_held, unclean_ended}
 use Rattle.mdcache.proofs.CoreLaws.{reads_cached_so, reads_state}
-use Rattle.mdcache.proofs.GoneLaws.{among, get_without}
+use Rattle.mdcache.proofs.GoneLaws.{among, beside_on, get_without, leaf_listed, one_of_those}
 use Rattle.mdcache.proofs.JoinLaws.{from_mapped}
 use Rattle.mdcache.proofs.JoinSteps.{cached_nowhere}
-use Rattle.mdcache.proofs.ListedLaws.{beside_on, texts_on}
 use Rattle.mdcache.proofs.MergeNames.{joined_is, merged_is_new, pick_inside}
 use Rattle.mdcache.proofs.NamedLaws.{pick_at, sound_leaves, stands_at}
 use Rattle.mdcache.proofs.NoNames.{all_pass, no_name, some_fails, some_name}
-use Rattle.mdcache.proofs.RegroupLaws.{Replaces, dirty_shows, holds_or_none, regroup_cached, unmapped}
+use Rattle.mdcache.proofs.RegroupLaws.{Replaces, dirty_shows, holds_or_none, regroup_cached}
 use Rattle.mdcache.proofs.SplitLaws.{has_inside, inside_has, merge_replaces, merges_right, not_itself}
 
 -- the fragment of a merge is cached nowhere before, and the leaves that end are live
@@ -154,7 +149,7 @@ module _ (old mid : Core) (sound : IsSoundCore old) (a : Dirfrag) (merge : Merge
   -- of a leaf that doesn't end
   get_still : (q : Leaf) (y : Bool) → (q.0.0 ≡ a.dir.0 → HasLeaf gone q.1 → ⊥) → leaf_is q leaf ≡ y → map.get (unclean made.caches) q ≡ cond y (Some beyond) (map.get (unclean mid.caches) q)
   get_still q y stays is =
-      let apart = false_from_ne_true (list_any (leaf_is q) ending) (λ among. let w = unmapped a.dir.0 q gone among in stays w.0 w.1) in
+      let apart = false_from_ne_true (list_any (leaf_is q) ending) (λ among. let w = from_mapped a.dir gone q (Contains-from_any one_leaf q ending among) in stays (ap (λ (l : Leaf). l.0.0) w.2) (subst (HasLeaf gone) (sym (ap (λ (l : Leaf). l.1) w.2)) w.1)) in
       get_now q ∙ (λ i. cond (apart i) None (cond (is i) (Some beyond) (map.get (unclean mid.caches) q)))
 
   apart_it : (q : Leaf) → (q.0.0 ≡ a.dir.0 → IsConcerned row merge.plan.cover gone q.1 → ⊥) → leaf_is q leaf ≡ false
@@ -187,7 +182,7 @@ module _ (old mid : Core) (sound : IsSoundCore old) (a : Dirfrag) (merge : Merge
           let small = still.0.numbered a.dir.0 still.1 in
           let names : Frag a.dir g ≡ Frag a.dir a.frag = texts_differ (Frag a.dir g) (Frag a.dir a.frag) (small, (between 0 16777216 row g tree.tiles (has_inside a.frag g row has).0).0) (small, (between 0 16777216 merge.plan.cover a.frag ready.planned.whole.tiles comes.0).0) same in
           let one : g ≡ a.frag = cc in
-          not_gone (subst (HasLeaf gone) one has)) ∙ texts_on s.purge a.dir gone g has;
+          not_gone (subst (HasLeaf gone) one has)) ∙ (value_of (map.get on (text_of (a.dir, g))) (leaf_listed s.purge ending (a.dir, g) (one_of_those a.dir.0 (a.dir, g) gone refl has))).1;
       came = λ g came. ap (λ (h : Fragment). map.get (map.remove on (text_of (a.dir, a.frag))) (text_of (a.dir, h))) (is_it g came) ∙ get_removed on (text_of (a.dir, a.frag));
       others = λ name none. get_left on (text_of (a.dir, a.frag)) name (none a.frag (inr comes)) ∙ beside_on s.purge a.dir gone name (λ g has. none g (inl has));
     });

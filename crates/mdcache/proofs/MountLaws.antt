@@ -1,14 +1,11 @@
 -- What a walk finds that meets no faulty object is a sound tree, and the one that is shown.
-use Rattle.mdcache.proofs.Common.{AreCached, CacheMap, Core, Counts, Covers, DirPins, Err, Homes, IfOk, IsColdTree, IsCounted, IsLive, IsMounted, IsNew, IsOwned, IsReached, IsReachedObject, IsRecord, IsSaved, IsSound, IsSoundCore, IsTabled, IsWalked, KeepsNone, Keys, List, Names, None, Objects, Ok, Result, SaysLeaves, Some, State, Tree, allowed, ap, arith, eqb-true, hash_of, inl, inr, is_cold, is_dir_kind, is_known, is_some, leaves_of, mounted, no_caches, object_of, or_cases, pick_from_leaf, refl, said_tree, shown_in, shown_tree, state_of, subst, sym, text_of, tree_of, true, unclean, walked_is_tabled, ℕ, ⊎_elim, ◌<◌, ◌==◌, ◌^◌, ◌∙◌, ◌≡◌, ◌⊎◌}
+use Rattle.mdcache.proofs.Common.{AreCached, CacheMap, Core, Counts, Covers, DirPins, Err, Homes, IfOk, IsColdTree, IsCounted, IsLive, IsMounted, IsNew, IsOwned, IsReached, IsReachedObject, IsRecord, IsSaved, IsSound, IsSoundCore, IsTabled, IsWalked, KeepsNone, Keys, List, Names, None, Objects, Ok, Record, Result, SaysLeaves, Some, State, Tree, allowed, ap, arith, belongs, eqb-true, hash_of, in_empty, inl, inr, is_cold, is_dir_kind, is_known, is_some, leaves_of, mounted, no_caches, object_of, or_cases, pick_from_leaf, refl, rules, said_tree, shown_in, shown_tree, state_of, subst, sym, text_of, tree_of, true, unclean, value_of, walked_is_tabled, ℕ, ⊎_elim, ◌<◌, ◌==◌, ◌^◌, ◌∙◌, ◌≡◌, ◌⊎◌}
 use Rattle.std.specs.FinMap as map
 use Rattle.mds_types.specs.Leaf.{Leaf, leaf_cmp}
 pub use Rattle.cold_store.specs.Rows.{IsIn}
 pub use Rattle.cold_store.proofs.Members.{get_entry}
 use Rattle.cold_store.proofs.WalkedLaws.{known_there as known_by}
 use Rattle.cold_store.proofs.ColdLaws.{has_one_cold_tree}
-use Rattle.cold_store.proofs.Members.{in_empty, value_of}
-use Rattle.cold_store.proofs.ObjectLaws.{belongs}
-use Rattle.cold_store.specs.ColdTree.{Record}
 use Rattle.mdcache.proofs.CoverRows.{several_in_row}
 use Rattle.mdcache.proofs.NewLaws.{new_tree, none_held, none_kept, none_unclean}
 use Rattle.mdcache.proofs.NamedLaws.{HasSoundLeaves, sound_again}
@@ -62,7 +59,7 @@ module _ (limit : ℕ) (objects : Objects) (tree : Tree) (homes : Homes) (covers
     unsaved = λ leaf u is. in_empty leaf_cmp leaf u is;
     saved = λ leaf live clean. saved leaf live;
     owned = λ name some. owned name some (w.reached_or_left name some);
-    listed = λ leaf live. none_unless (map.get purge (text_of leaf)) (λ some. w.not_reached (text_of leaf) some (inl (leaf, reached_there leaf.0.0 live.known, cold_leaf s refl w.leaves leaf live, refl)));
+    listed = λ leaf live. none_unless (map.get purge (text_of leaf)) (λ u is. w.not_reached (text_of leaf) (ap is_some is) (inl (leaf, reached_there leaf.0.0 live.known, cold_leaf s refl w.leaves leaf live, refl)));
     standing = λ leaf job is. in_empty leaf_cmp leaf job is;
     once = λ a b i j is. in_empty leaf_cmp a i is;
   }
@@ -112,5 +109,4 @@ is_mounted limit objects ranks places tree found homes covers counts pins left c
 
 -- what follows from two facts, where a mount isn't refused
 pub ok_both : {A E : Type 0} (result : Result A E) {P Q R : A → Type 0} → ((a : A) → P a → Q a → R a) → IfOk result P → IfOk result Q → IfOk result R
-ok_both (Ok a) so p q = so a p q
-ok_both (Err e) so p q = tt
+ok_both result so p q = search rules

@@ -1,7 +1,5 @@
 -- A name of a leaf gets an inode, or is removed: all but the table of directories is sound as before, and the tree has the name so.
-use Rattle.mdcache.proofs.Common.{AreYoung, Bool, Dentry, Fragment, Fresh, Homes, Inode, IsAsItStands, IsCounted, IsLeafAt, IsLive, IsOwned, IsPick, IsSaved, IsSound, IsStanding, IsTable, IsTabled, IsUnsaved, Job, Keeps, Leaf, List, Mark, Marks, Names, None, Omap, Option, Some, State, Stored, Tree, Unsaved, ap, arith, cond, dentry-exact, dentry-total, dirtied, false, get-empty, get-insert, get_beside, get_put, hash_of, inl, inr, is_known, is_some, key_cmp, leaf-total, leaf_is, leaf_itself, leaf_or_apart, leaves_of, marked_beside, marked_here, names_at, object_of, one_leaf, only_below, refl, same_Some, same_leaf, same_map, shown_at, shown_over, shown_put, shown_tree, some_pick, subst, sym, text_of, tied_leaf, tree_of_row, true, with_mark, with_name, ℕ, ⊎_elim, ◌<◌, ◌^◌, ◌∙◌, ◌≡◌, ◌⊎◌}
-use Rattle.std.proofs.lemmas.Bool.{cases_Bool, false_from_ne_true}
-use Rattle.dirfrag_codec.proofs.ByteKeys.{same_or_apart as key_or_apart}
+use Rattle.mdcache.proofs.Common.{AreYoung, Bool, Dentry, Fragment, Fresh, Homes, Inode, IsAsItStands, IsCounted, IsLeafAt, IsLive, IsOwned, IsPick, IsSaved, IsSound, IsStanding, IsTable, IsTabled, IsUnsaved, Job, Keeps, Leaf, List, Mark, Marks, Names, None, Omap, Option, Some, State, Stored, Tree, Unsaved, ap, arith, cases_Bool, cond, dentry-exact, dentry-total, dirtied, false, false_from_ne_true, get-empty, get-insert, get_beside, get_put, hash_of, inl, inr, is_known, is_some, key_cmp, key_or_apart, leaf-total, leaf_is, leaf_itself, leaf_or_apart, leaves_of, marked_beside, marked_here, names_at, object_of, one_leaf, only_below, refl, rules, same_Some, same_leaf, same_map, shown_at, shown_over, shown_put, shown_tree, some_pick, subst, sym, text_of, tied_leaf, tree_of_row, true, with_mark, with_name, ℕ, ⊎_elim, ◌<◌, ◌^◌, ◌∙◌, ◌≡◌, ◌⊎◌}
 use Rattle.std.specs.FinMap as map
 use Rattle.mds_types.proofs.EntryLaws.{get_put as get_dentry, get_beside as get_other_dentry, get_removed, get_left as get_left_dentry, same_or_apart}
 use Rattle.dentry_cache.specs.Ties.{KeepsAt}
@@ -23,22 +21,10 @@ pub record HasSoundLeaves (s : State) : Type 0 where
   pub once : (a b : Leaf) (i j : Job) → map.get s.jobs a ≡ Some i → map.get s.jobs b ≡ Some j → i.number ≡ j.number → a ≡ b
 
 pub sound_leaves : (s : State) → IsSound s → HasSoundLeaves s
-sound_leaves s sound = record { table = sound.table; numbered = sound.numbered; placed = sound.placed; unsaved = sound.unsaved; saved = sound.saved; owned = sound.owned; listed = sound.listed; standing = sound.standing; once = sound.once }
+sound_leaves s sound = search rules
 
 pub sound_again : (s : State) → HasSoundLeaves s → IsTabled (shown_tree s) s.homes → IsCounted (shown_tree s) s.counts s.pins → IsSound s
-sound_again s leaves tabled counted = record {
-  table = leaves.table;
-  numbered = leaves.numbered;
-  tabled = tabled;
-  counted = counted;
-  placed = leaves.placed;
-  unsaved = leaves.unsaved;
-  saved = leaves.saved;
-  owned = leaves.owned;
-  listed = leaves.listed;
-  standing = leaves.standing;
-  once = leaves.once;
-}
+sound_again s leaves tabled counted = search rules
 
 -- ---- what stands in a tree whose leaves are sound
 
@@ -56,7 +42,7 @@ module _ (s : State) (sound : HasSoundLeaves s) where
 
 -- a directory is known or isn't
 pub known_or_not : (homes : Homes) (d : ℕ) → (is_known homes d ≡ true) ⊎ (is_known homes d ≡ false)
-known_or_not homes d = cases_Bool (is_known homes d)
+known_or_not homes d = search rules
 
 -- the tree with an inode at a dentry, or with none
 abbrev pub with_at : Tree → Dentry → Option Inode → Tree
@@ -64,12 +50,10 @@ with_at tree dentry (Some inode) = map.insert tree dentry inode
 with_at tree dentry None = map.remove tree dentry
 
 get_here : (tree : Tree) (p : Dentry) (o : Option Inode) → map.get (with_at tree p o) p ≡ o
-get_here tree p None = get_removed tree p
-get_here tree p (Some inode) = get_dentry tree p inode
+get_here tree p o = search (rules, get_removed, get_dentry)
 
 get_elsewhere : (tree : Tree) (p : Dentry) (o : Option Inode) (q : Dentry) → (q ≡ p → ⊥) → map.get (with_at tree p o) q ≡ map.get tree q
-get_elsewhere tree p None q apart = get_left_dentry tree p q apart
-get_elsewhere tree p (Some inode) q apart = get_other_dentry tree p inode q apart
+get_elsewhere tree p o q apart = search (rules, get_left_dentry, get_other_dentry)
 
 -- ---- one name
 
@@ -186,19 +170,12 @@ module _ (s : State) (sound : HasSoundLeaves s) (dentry : Dentry) (f : Fragment)
       (λ apart. record { mine = old.mine; given = old.given; young = raised job.snapshot.names old.young; unsaved = old.unsaved; beside = unsaved_beside q apart ∙ old.beside; taken = old.taken }) (leaf_or_apart q leaf)
 
   pub named_leaves : HasSoundLeaves t
-  named_leaves = record {
-    table = sound.table;
-    numbered = sound.numbered;
-    placed = placed_still;
-    unsaved = unsaved_still;
-    saved = λ q is clean.
-        let apart = false_from_ne_true (leaf_is q leaf) (λ same. let clash : None ≡ Some v = sym clean ∙ ap (map.get t.unsaved) (one_leaf q leaf same) ∙ unsaved_here in cc) in
-        sound.saved q is (sym (unsaved_beside q apart) ∙ clean);
-    owned = λ name there. sound.owned name there;
-    listed = sound.listed;
-    standing = λ q job is. standing_still q job (sound.standing q job is);
-    once = sound.once;
-  }
+  named_leaves =
+      let saved : (q : Leaf) → IsLive s.homes s.covers q → map.get t.unsaved q ≡ None → IsSaved q.1 (object_of s.objects q.0 q.1) = λ q is clean.
+      (let apart = false_from_ne_true (leaf_is q leaf) (λ same. let clash : None ≡ Some v = sym clean ∙ ap (map.get t.unsaved) (one_leaf q leaf same) ∙ unsaved_here in cc) in
+      sound.saved q is (sym (unsaved_beside q apart) ∙ clean)) in
+      let standing : (q : Leaf) (job : Job) → map.get s.jobs q ≡ Some job → IsStanding t q job = λ q job is. standing_still q job (sound.standing q job is) in
+      search (rules, placed_still, unsaved_still, sound.owned)
 
   -- the tree
 

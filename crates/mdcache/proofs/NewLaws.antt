@@ -1,7 +1,6 @@
 -- The state over an empty store is sound.
-use Rattle.mdcache.proofs.Common.{AreCached, Bool, Contains, Core, Covers, Homes, IsCounted, IsFree, IsLive, IsSound, IsSoundCore, IsTable, IsTabled, IsUnsaved, KeepsNone, Leaf, Mark, Names, None, Omap, Option, Some, State, Unsaved, UnsavedLeaves, [], ap, arith, cached_root, cond, dentry-exact, dentry-total, dentry_cmp, directories, empty_tabled, entries_in, entries_of, entries_under, eqb-true, false, get-empty, get-from_entries, get-insert, get_unclean, is_known, is_some, key_cmp, leaf-total, leaf_is, leaf_itself, leaves_of, len-empty, list_any, nat_cmp, new_caches, new_root, new_state, no_caches, none_counted, none_entries, none_with_frag, object_of, one_leaf, or_cases, or_whole, refl, replicate, root_fragment, root_leaf, same_map, shown_at, shown_tree, state_of, subst, suc, sym, text_of, tied_leaf, true, unclean, unclean_with, unsaved_at, zero, ℕ, ⊎_elim, ◌++◌, ◌==◌, ◌||◌, ◌∙◌, ◌∷◌, ◌≡◌}
+use Rattle.mdcache.proofs.Common.{AreCached, Bool, Contains, Core, Covers, Homes, IsCounted, IsFree, IsLive, IsSound, IsSoundCore, IsTable, IsTabled, IsUnsaved, KeepsNone, Leaf, Mark, Names, None, Omap, Option, Some, State, Unsaved, UnsavedLeaves, [], ap, arith, cached_root, cond, cond_some, dentry-exact, dentry-total, dentry_cmp, directories, empty_tabled, entries_in, entries_of, entries_under, eqb-true, false, get-empty, get-from_entries, get-insert, get_unclean, is_known, is_some, key_cmp, leaf-total, leaf_is, leaf_itself, leaves_of, len-empty, list_any, nat_cmp, new_caches, new_root, new_state, no_caches, none_counted, none_entries, none_with_frag, object_of, one_leaf, or_cases, or_whole, refl, replicate, root_fragment, root_leaf, same_map, shown_at, shown_tree, state_of, subst, suc, sym, text_of, tied_leaf, true, unclean, unclean_with, unsaved_at, zero, ℕ, ⊎_elim, ◌++◌, ◌==◌, ◌||◌, ◌∙◌, ◌∷◌, ◌≡◌}
 use Rattle.std.specs.Prelude.{get_or, map as each}
-use Rattle.std.proofs.lemmas.Option.{cond_some}
 use Rattle.std.specs.FinMap as map
 use Rattle.dentry_cache.specs.Cache.{leaf_cmp}
 use Rattle.dentry_cache.proofs.LeafLaws.{leaf-exact}

@@ -1,7 +1,6 @@
 -- The first leaf behind another for which a job stands, by the rows behind it.
-use Rattle.mdcache.proofs.Common.{Bool, IsNext, IsSome, Job, Jobs, List, None, Option, Some, T, [], ap, below_all, cond, entries_sorted, eq_by_cmp, false, find, find-where_key, get-entries, inl, inr, is_behind, is_eq, is_some, is_sorted, is_sorted-where_key, leaf-exact, leaf_cmp, left_of, refl, right_of, subst, sym, tie, tied_itself, true, where_key, ◌∙◌, ◌∷◌, ◌≡◌, ◌⊎◌}
+use Rattle.mdcache.proofs.Common.{Bool, IsNext, IsSome, Job, Jobs, List, None, Option, Some, T, [], ap, below_all, cond, cond_both, entries_sorted, eq_by_cmp, false, find, find-where_key, get-entries, inl, inr, is_behind, is_eq, is_some, is_sorted, is_sorted-where_key, leaf-exact, leaf_cmp, left_of, refl, right_of, subst, sym, tie, tied_itself, true, where_key, ◌∙◌, ◌∷◌, ◌≡◌, ◌⊎◌}
 use Rattle.std.specs.declared.cmp.Ordering.TheVariants.{Less}
-use Rattle.std.proofs.lemmas.Bool.{cond_both}
 use Rattle.std.specs.FinMap as map
 use Rattle.sorted_map.proofs.PlaceLaws.{less as less_of}
 use Rattle.mds_types.specs.Leaf.{Leaf}

@@ -1,11 +1,10 @@
 -- Names that are none, and fragments of which all pass a test, or one fails.
-use Rattle.mdcache.proofs.Common.{Bool, Fragment, HasLeaf, Inode, List, Names, None, Option, Some, [], and_parts, ap, arith, cond, false, find, get-entries, has_none, is_some, key_cmp, key_itself, later, len-entries, length, list_all, nat_tests, refl, suc, sym, true, zero, ℕ, ◌&&◌, ◌∙◌, ◌∷◌, ◌≡◌}
+use Rattle.mdcache.proofs.Common.{Bool, Fragment, HasLeaf, Inode, List, Names, None, Option, Some, [], and_parts, ap, arith, cond, false, find, get-entries, has_none, is_some, key_cmp, key_itself, later, len-entries, length, list_all, nat_tests, refl, rules, suc, sym, true, zero, ℕ, ◌&&◌, ◌∙◌, ◌∷◌, ◌≡◌}
 use Rattle.std.specs.FinMap as map
 
--- what isn't there is none
-pub none_unless : {X : Type 0} (o : Option X) → (is_some o ≡ true → ⊥) → o ≡ None
-none_unless None never = refl
-none_unless (Some x) never = absurd (never refl)
+-- what can have no value is none
+pub none_unless : {X : Type 0} (o : Option X) → ((x : X) → o ≡ Some x → ⊥) → o ≡ None
+none_unless o never = search rules
 
 pub some_fails : (p : Fragment → Bool) (fs : List Fragment) → list_all p fs ≡ false → (f : Fragment) × HasLeaf fs f × (p f ≡ false)
 some_fails p [] fails = let clash : true ≡ false = fails in absurd cc

@@ -1,6 +1,5 @@
 -- Which places are kept, after each call of the caches.
-use Rattle.mdcache.proofs.Common.{AreCaches, Bool, CacheMap, Cached, Edits, FetchesAt, IsEdited, IsFree, IsThere, KeepsAt, KeepsNone, KeepsOnlyAt, Leaf, MakesRoomAt, None, Omap, Option, Rank, Some, absent_roomy, ap, at_rank, cond, false, has_place, has_used, here, here_free, inl, inr, is_same, is_some, leaf_is, leaf_itself, length, placed_used, ranks_roomy, refl, roomy, roomy_stays, subst, sym, true, used_at, whole_roomy, whole_used, whole_with_frag, ℕ, ⊎_elim, ◌&&◌, ◌<◌, ◌∙◌, ◌≡◌}
-use Rattle.std.proofs.lemmas.Bool.{false_from_ne_true}
+use Rattle.mdcache.proofs.Common.{AreCaches, Bool, CacheMap, Cached, Edits, FetchesAt, IsEdited, IsFree, IsThere, KeepsAt, KeepsNone, KeepsOnlyAt, Leaf, MakesRoomAt, None, Omap, Option, Rank, Some, absent_roomy, ap, at_rank, cond, false, false_from_ne_true, has_place, has_used, here, here_free, inl, inr, is_same, is_some, leaf_is, leaf_itself, length, placed_used, ranks_roomy, refl, roomy, roomy_stays, subst, sym, true, used_at, whole_roomy, whole_used, whole_with_frag, ℕ, ⊎_elim, ◌&&◌, ◌<◌, ◌∙◌, ◌≡◌}
 use Rattle.std.specs.FinMap as finmap
 
 module _ (c : CacheMap) (r : ℕ) (leaf : Leaf) (none : KeepsNone c) where

@@ -1,7 +1,5 @@
 -- A purge and a commit of a directory's tree change no object of a live leaf.
-use Rattle.mdcache.proofs.Common.{AreCached, Bool, CacheMap, Fragment, Ino, IsLive, IsOwned, IsSound, Keys, Leaf, List, None, Objects, Omap, Option, PairMap, Some, State, WriteOp, [], ap, applied-by-parts, cond, empty_omap, eq_by_cmp, exact_bytes, false, find, first_name, get-empty, get-entries, get-without_keys, get_beside, get_left, get_put, get_removed, inl, inr, is_known, is_some, key_cmp, key_itself, leaves_of, length, ltb-true, nat_list_cmp_total, nat_lt, object_of, option_map, overlaid-empty, purged, refl, same_Some, same_map, shown_tree, slice_get, subst, sym, text_of, tree_object, tree_saved, tree_text, true, unwrap_or, with_tree_at, without_keys, ℕ, ⊎_elim, ◌<◌, ◌∙◌, ◌∷◌, ◌≡◌}
-use Rattle.std.proofs.lemmas.Bool.{cond_both}
-use Rattle.dirfrag_codec.proofs.ByteKeys.{same_or_apart as key_or_apart}
+use Rattle.mdcache.proofs.Common.{AreCached, Bool, CacheMap, Fragment, Ino, IsLive, IsOwned, IsSound, Keys, Leaf, List, None, Objects, Omap, Option, PairMap, Some, State, WriteOp, [], ap, applied-by-parts, cond, cond_both, empty_omap, eq_by_cmp, exact_bytes, false, find, first_name, get-empty, get-entries, get-without_keys, get_beside, get_left, get_put, get_removed, inl, inr, is_known, is_some, key_cmp, key_itself, key_or_apart, leaves_of, length, ltb-true, nat_list_cmp_total, nat_lt, object_of, option_map, overlaid-empty, purged, refl, rules, same_Some, same_map, shown_tree, slice_get, subst, sym, text_of, tree_object, tree_saved, tree_text, true, unwrap_or, with_tree_at, without_keys, ℕ, ⊎_elim, ◌<◌, ◌∙◌, ◌∷◌, ◌≡◌}
 use Rattle.std.specs.FinMap as map
 use Rattle.objstore.specs.Objects.{written}
 use Rattle.mdcache.proofs.CoverRows.{several_in_row}
@@ -57,14 +55,10 @@ purged_right s name sound first = other_changed s name (map.remove s.objects nam
 
 -- the object that a tree has afterwards, and each other
 pub tree_here : (objects : Objects) (name : List ℕ) (leaves : List Fragment) → map.get (with_tree_at objects name leaves) name ≡ cond (nat_lt 1 (length leaves)) (Some (tree_object leaves)) None
-tree_here objects name leaves = elim (nat_lt 1 (length leaves)) as (λ b. map.get (cond b (map.insert objects name (tree_object leaves)) (map.remove objects name)) name ≡ cond b (Some (tree_object leaves)) None) [
-  | true ↦ get_put objects name (tree_object leaves)
-  | false ↦ get_removed objects name
-]
+tree_here objects name leaves = search (rules, get_put, get_removed)
 
 pub tree_beside : (objects : Objects) (name : List ℕ) (leaves : List Fragment) (q : List ℕ) → (q ≡ name → ⊥) → map.get (with_tree_at objects name leaves) q ≡ map.get objects q
-tree_beside objects name leaves q apart = cond_both (nat_lt 1 (length leaves)) (map.insert objects name (tree_object leaves)) (map.remove objects name) (λ (m : Objects). map.get m q ≡ map.get objects q)
-    (λ more. get_beside objects name (tree_object leaves) q apart) (λ few. get_left objects name q apart)
+tree_beside objects name leaves q apart = search (rules, get_beside, get_left)
 
 -- the object of a directory's tree is written or removed
 pub tree_saved_right : (s : State) (dir : Ino) → IsSound s → is_known s.homes dir.0 ≡ true → KeepsLeaves s (tree_saved s dir)

@@ -1,10 +1,6 @@
 -- The leaves that aren't clean, as they are listed: each is so at its rank, no two are one, and where none is listed all is clean.
-use Rattle.mdcache.proofs.Common.{AllByRecursion, AreApart, AreCaches, At, CacheMap, Dirfrag, IsFree, IsUncleanAt, Leaf, List, None, NotAmong, Option, Some, [], ap, arith, at_rank, cond, eq-eqb, eqb-true, false, get-empty, get_or, get_unclean, here, is_some, leaf-exact, leaf_is, leaf_of, leaves_at, length, list_any, map-append, nil_from_length, or_cases, refl, same_map, subst, suc, sym, take, true, unclean, unclean_among, unclean_from, unclean_places, unsaved_at, unsaved_in, zero, ℕ, ⊎_elim, ◌++◌, ◌+◌, ◌<◌, ◌==◌, ◌∙◌, ◌∷◌, ◌≡◌, ◌≤◌}
+use Rattle.mdcache.proofs.Common.{AllByRecursion, AreApart, AreCaches, At, CacheMap, Dirfrag, IsFree, IsUncleanAt, Leaf, List, None, NotAmong, Option, Some, [], ap, arith, at_rank, cond, cond_both, eq-eqb, eqb-true, false, get-empty, get_or, get_unclean, here, is_some, leaf-exact, leaf_is, leaf_of, leaves_at, length, length-append, length-take, list_any, map-append, nil_from_length, or_cases, refl, rules, same_map, subst, suc, sym, take, take-map, true, unclean, unclean_among, unclean_from, unclean_places, unsaved_at, unsaved_in, zero, ℕ, ⊎_elim, ◌++◌, ◌+◌, ◌<◌, ◌==◌, ◌∙◌, ◌∷◌, ◌≡◌, ◌≤◌}
 use Rattle.std.specs.List.{IsDistinct}
-use Rattle.std.proofs.lemmas.Bool.{cond_both}
-use Rattle.std.specs.List.{take-map}
-use Rattle.std.proofs.Common.{length-append}
-use Rattle.std.proofs.lemmas.List.{length-take}
 use Rattle.std.specs.FinMap as map
 use Rattle.mds_types.proofs.LeafLaws.{leaf-total, one_leaf, same_leaf}
 
@@ -35,9 +31,7 @@ place_at r leaf = record { dir = leaf.0; frag = leaf.1; rank = record { 0 = r } 
 
 -- a fragment with something unsaved is at its rank, and at no other
 free_there : (r : ℕ) (o : Option At) → is_some (unsaved_in (at_rank r o)) ≡ true → IsFree r o × (is_some (unsaved_at o) ≡ true)
-free_there r None dirty = let clash : false ≡ true = dirty in absurd cc
-free_there r (Some a) dirty = cond_both (a.rank == r) (Some a.frag) None (λ o. is_some (unsaved_in o) ≡ true → (a.rank ≡ r) × (is_some (unsaved_in (Some a.frag)) ≡ true)) (λ is dirty. (eqb-true a.rank r is, dirty))
-    (λ apart none. let clash : false ≡ true = none in absurd cc) dirty
+free_there r o dirty = search rules
 
 module _ (c : CacheMap) where
   among_all : (r : ℕ) → r < length c.used → (leaves : List Leaf) → AllByRecursion (λ (a : Dirfrag). IsUncleanAt c a × (a.rank.0 ≡ r)) (unclean_among c r leaves)

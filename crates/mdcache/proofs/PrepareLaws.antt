@@ -2,7 +2,8 @@
 use Rattle.mdcache.proofs.Common.{At, CacheMap, Core, Dentry, Fragment, HasTarget, IfSome, Ino, Inode, IsLeafAt, IsLive, IsRankNumber, IsRecordable, IsSoundCore, IsThat, LacksPlacesAt, Leaf, MayAdd, MaySet, None, Option, Rank, Some, Tree, ap, arith, false, first_leaf, hash_of, inl, inr, is_directory, is_known, names_of, no_pin, refl, shown_in, state_of, subst, sym, true, unclean, ℕ, ◌∙◌, ◌≡◌, ◌≤◌, ◌⊎◌}
 use Rattle.std.specs.FinMap as map
 use Rattle.mdcache.proofs.CoreLaws.{pick_live}
-use Rattle.mdcache.proofs.TreeLookups.{at_dentry}
+use Rattle.mdcache.proofs.NamedLaws.{sound_leaves, stands_at}
+use Rattle.mdcache.proofs.NoNames.{none_unless}
 
 -- ---- inodes that a record allows
 
@@ -30,7 +31,7 @@ module _ (c : Core) (sound : IsSoundCore c) (dentry : Dentry) (leaf : Fragment) 
 
     -- which shows it
     pub shows_entry : map.get (shown_in c) dentry ≡ map.get (names_of (unclean c.caches) c.objects (dentry.dir, leaf)) dentry.name
-    shows_entry = at_dentry (state_of c) sound.sound dentry.dir.0 dentry.name leaf entry_live.known pick
+    shows_entry = stands_at (state_of c) (sound_leaves (state_of c) sound.sound) dentry leaf entry_live.known pick
 
 -- ---- what lacks
 
@@ -42,10 +43,7 @@ one_or_two c rank lacks = omega (arith, lacks)
 
 -- a cached fragment is live, so none is of a directory that isn't there
 pub first_nowhere : (c : Core) → IsSoundCore c → (dir : Ino) → is_known c.homes dir.0 ≡ false → map.get c.caches.held (first_leaf dir) ≡ None
-first_nowhere c sound dir unknown = elim (map.get c.caches.held (first_leaf dir)) as (λ o. map.get c.caches.held (first_leaf dir) ≡ o → o ≡ None) [
-  | None ↦ λ is. refl
-  | Some a ↦ λ is. let clash : true ≡ false = sym (sound.cached (first_leaf dir) a is).live.known ∙ unknown in absurd cc
-] refl
+first_nowhere c sound dir unknown = none_unless (map.get c.caches.held (first_leaf dir)) (λ a is. let clash : true ≡ false = sym (sound.cached (first_leaf dir) a is).live.known ∙ unknown in cc)
 
 -- what is used for it is live where it is cached: the leaf of the dentry
 pub first_live_so : (c : Core) (r : ℕ) (leaf first : Leaf) (caches : CacheMap) → IsLive c.homes c.covers leaf → map.get caches.held first ≡ None

@@ -1,15 +1,11 @@
 -- A directory gets another cover: the state is sound then, and shows the same tree.
-use Rattle.mdcache.proofs.Common.{AreCached, AreYoung, At, Base, Bool, CacheMap, Comes, Contains, Fragment, Fresh, HasLeaf, HasUnsaved, Ino, Inode, IsConcerned, IsCounted, IsLive, IsNewLeaf, IsOwned, IsRegrouped, IsSound, IsTable, IsTabled, IsTied, IsUnsaved, Job, Leaf, List, Mark, Marks, Names, None, Option, Some, State, Stored, Tree, Unsaved, [], ap, are_empty, arith, cond, dentry-exact, dentry-total, dentry_of, false, first_or_later, get-empty, get-patched, has_none, hash_of, holds, holds_contains, in_directory, inl, inode_or, inr, is_known, is_same, is_some, key_cmp, later, leaf_is, leaves_of, list_any, marked_as, names_at, object_of, one_leaf, one_or_other, or_whole, pick_from_leaf, refl, regrouped, same_Some, same_map, set_table, shown_at, shown_over, shown_tree, span, subst, suc, sym, text_of, tree_of_row, true, zero, ℕ, ⊎_elim, ◌%◌, ◌+◌, ◌/◌, ◌<◌, ◌^◌, ◌∙◌, ◌∷◌, ◌≡◌, ◌⊎◌}
-use Rattle.std.proofs.lemmas.Bool.{cond_both, false_from_ne_true, or_cases}
-use Rattle.std.specs.Prelude.{map as each}
+use Rattle.mdcache.proofs.Common.{AreCached, AreYoung, At, Base, Bool, CacheMap, Comes, Contains, Fragment, Fresh, HasLeaf, HasUnsaved, Holds, Ino, Inode, IsConcerned, IsCounted, IsLive, IsNewLeaf, IsOwned, IsRegrouped, IsSound, IsTable, IsTabled, IsTied, IsUnsaved, Job, Leaf, List, Mark, Marks, Names, None, Option, Some, State, Stored, Tree, Unsaved, [], ap, are_empty, arith, cond, cond_both, dentry-exact, dentry-total, dentry_of, each, false, false_from_ne_true, first_or_later, get-empty, get-patched, has_none, hash_of, holds, holds_contains, in_directory, inl, inode_or, inr, is_known, is_same, is_some, key_cmp, key_or_apart, later, leaf_is, leaves_of, list_any, marked_as, names_at, object_of, one_leaf, one_or_other, or_cases, or_whole, pick_from_leaf, refl, regrouped, rules, same_Some, same_map, set_table, shown_at, shown_over, shown_tree, span, subst, suc, sym, text_of, tree_of_row, true, zero, ℕ, ⊎_elim, ◌%◌, ◌+◌, ◌/◌, ◌<◌, ◌^◌, ◌∙◌, ◌∷◌, ◌≡◌, ◌⊎◌}
 use Rattle.std.specs.FinMap as map
-use Rattle.mds_types.specs.Frag.{Contains as Holds}
 use Rattle.sorted_map.proofs.NatKeys.{get_beside as get_other_cover, get_put as get_cover, same_or_apart as same_number}
-use Rattle.dirfrag_codec.proofs.ByteKeys.{same_or_apart as key_or_apart}
 use Rattle.mdcache.specs.Shown.{names_of}
 use Rattle.mdcache.specs.Splits.{KeepsTree}
 use Rattle.mdcache.proofs.CoverRows.{row_stays}
-use Rattle.mdcache.proofs.GoneLaws.{get_without, among}
+use Rattle.mdcache.proofs.GoneLaws.{among, get_without, one_of_those}
 use Rattle.mdcache.proofs.NamedLaws.{HasSoundLeaves, known_or_not, pick_at, sound_again, sound_leaves, stands_at, stands_nowhere}
 use Rattle.mdcache.proofs.NoNames.{all_pass, no_name}
 use Rattle.mdcache.proofs.SoundLaws.{names_alike}
@@ -28,18 +24,6 @@ some_or_none P holds_or_not (g ∷ fs) = ⊎_elim (λ is. inl (g, (zero, omega a
 pub has_or_not : (fs : List Fragment) (f : Fragment) → HasLeaf fs f ⊎ (HasLeaf fs f → ⊥)
 has_or_not fs f = ⊎_elim (λ found. inl (subst (HasLeaf fs) found.2 found.1)) (λ none. inr (λ has. none f has refl)) (some_or_none (λ g. g ≡ f) (λ g. one_or_other g f) fs)
 
--- what is made of one of some is among what is made of all
-pub contains_mapped : {A B : Type 0} (f : A → B) (xs : List A) (x : A) → Contains xs x → Contains (each f xs) (f x)
-contains_mapped f [] x (k, within, is) = absurd (omega (arith, within))
-contains_mapped f (y ∷ ys) x (zero, within, is) = (zero, omega arith, ap f is)
-contains_mapped f (y ∷ ys) x (suc k, within, is) = let rest = contains_mapped f ys x (k, omega (arith, within), is) in (suc rest.0, omega (arith, rest.1), rest.2)
-
--- a leaf of a directory is one of those that some fragments are
-pub unmapped : (d : ℕ) (q : Leaf) (fs : List Fragment) → list_any (leaf_is q) (each (in_directory d) fs) ≡ true → (q.0.0 ≡ d) × HasLeaf fs q.1
-unmapped d q [] is = let clash : false ≡ true = is in absurd cc
-unmapped d q (f ∷ fs) is = ⊎_elim (λ here. let same = one_leaf q (in_directory d f) here in (ap (λ (l : Leaf). l.0.0) same, (zero, omega arith, ap (λ (l : Leaf). l.1) (sym same))))
-    (λ more. let rest = unmapped d q fs more in (rest.0, later f q.1 fs rest.1)) (or_cases (leaf_is q (in_directory d f)) (list_any (leaf_is q) (each (in_directory d) fs)) is)
-
 -- ---- names of a leaf that came
 
 -- a name that became dirty is shown with the inode that it has
@@ -48,20 +32,13 @@ dirty_shows (Stored v) below u version name inode fresh is = let clash : Stored 
 dirty_shows Fresh below u version name None fresh is = get-patched map.empty u.dirty name ∙ ap (λ (m : Option Mark). inode_or m (map.get {R = key_cmp} map.empty name)) is ∙ get-empty key_cmp name
 dirty_shows Fresh below u version name (Some i) fresh is = get-patched map.empty u.dirty name ∙ ap (λ (m : Option Mark). inode_or m (map.get {R = key_cmp} map.empty name)) is
 
--- what can have no value is none
-pub none_unless : {X : Type 0} (o : Option X) → ((x : X) → o ≡ Some x → ⊥) → o ≡ None
-none_unless None never = refl
-none_unless (Some x) never = absurd (never x refl)
-
 -- a mark that was made has the version, and the inode
 marked_is : (version : ℕ) (o : Option Inode) (mark : Mark) → marked_as version o None ≡ Some mark → (i : Inode) × (o ≡ Some i) × (mark.version ≡ version)
-marked_is version None mark is = let clash : None ≡ Some mark = is in absurd cc
-marked_is version (Some i) mark is = (i, refl, ap (λ (m : Mark). m.version) (same_Some mark (record { version = version; inode = Some i }) (sym is)))
+marked_is version o mark is = search rules
 
 -- what is found under a test passes it
 pub holds_or_none : (b : Bool) (o : Option Inode) (i : Inode) → cond b o None ≡ Some i → (b ≡ true) × (o ≡ Some i)
-holds_or_none true o i is = (refl, is)
-holds_or_none false o i is = let clash : None ≡ Some i = is in absurd cc
+holds_or_none b o i is = search rules
 
 -- what isn't clean of a leaf of which some is
 its_unsaved : (P : Unsaved → Type 0) (o : Option Unsaved) → HasUnsaved o P → (u : Unsaved) × (o ≡ Some u) × P u
@@ -242,7 +219,7 @@ module _ (s : State) (sound : IsSound s) (dir : Ino) (gone cover : List Fragment
     sound = sound_again n leaves_now (subst (λ (tree : Tree). IsTabled tree s.homes) (sym tree_now) sound.tabled) (subst (λ (tree : Tree). IsCounted tree s.counts s.pins) (sym tree_now) sound.counted);
     tree = tree_now;
     frame = λ leaf none live.
-        let apart = apart_from_gone leaf live (λ same ended. none (subst (Contains (each (in_directory dir.0) gone)) (its leaf same) (contains_mapped (in_directory dir.0) gone leaf.1 ended))) in
+        let apart = apart_from_gone leaf live (λ same ended. none (one_of_those dir.0 leaf gone same ended)) in
         record { live = apart_live leaf apart live; names = apart_names leaf apart };
   })
 

@@ -1,9 +1,7 @@
 -- What is made ready for a split or a merge: first room and names are planned, then the place that was kept is given up, then leaves are read.
-use Rattle.mdcache.proofs.Common.{AreAbsent, AreCaches, AreKept, CacheMap, Cached, Core, Dirfrag, Fragment, HasCached, Ino, IsButPlaces, IsChildAt, IsDistinct, IsFamilyAt, IsNoLess, IsThat, IsThere, IsWhole, KeepsNone, LacksPlacesIn, Leaf, MayNotFind, MayNotKeepAll, None, NoneEnds, Option, Reads, ReadsCore, ReadsFamily, Refusal, Some, StaysAt, ap, arith, at_rank, child_of, false, has_place, here, inl, inr, kept_at, leaf_is, leaf_itself, leaf_of, length, no_child, order, placed_given_up, readies_whole, reads_placed, reads_then, reads_weaker, refl, refused_whole, subst, suc, sym, true, unclean_at, unclean_of, without_children, zero, ℕ, ⊎_elim, ◌+◌, ◌<◌, ◌^◌, ◌∙◌, ◌≡◌, ◌≤◌, ◌⊎◌}
+use Rattle.mdcache.proofs.Common.{AreAbsent, AreCaches, AreKept, CacheMap, Cached, Core, Dirfrag, Fragment, HasCached, Ino, IsButPlaces, IsChildAt, IsDistinct, IsFamilyAt, IsNoLess, IsThat, IsThere, IsWhole, KeepsNone, LacksPlacesIn, Leaf, MayNotFind, MayNotKeepAll, None, NoneEnds, Option, Reads, ReadsCore, ReadsFamily, Refusal, Some, StaysAt, ap, arith, at_rank, child_of, false, has_place, here, inl, inr, it_stays, kept_at, leaf_is, leaf_itself, leaf_of, length, no_child, none_kept_at, order, placed_given_up, readies_whole, reads_placed, reads_then, reads_weaker, refl, refused_whole, rules, subst, suc, sym, true, unclean_at, unclean_of, without_children, zero, ℕ, ⊎_elim, ◌+◌, ◌<◌, ◌^◌, ◌∙◌, ◌≡◌, ◌≤◌, ◌⊎◌}
 use Rattle.std.specs.FinMap as map
-use Rattle.dentry_cache.specs.Reads.Reads.{stays as it_stays}
 use Rattle.dentry_cache.proofs.ChildLaws.{AreDropped, are_dropped}
-use Rattle.dentry_cache.proofs.LacksLaws.{none_kept_at}
 use Rattle.mdcache.proofs.CoreLaws.{first_step, next_step, no_less_itself, not_found_before, reads_core_wider, still_absent, there_after}
 use Rattle.mdcache.proofs.NoneLaws.{none_absent}
 use Rattle.mdcache.proofs.UncleanOf.{unclean_few}
@@ -15,9 +13,7 @@ placed_without r dir frag bits (suc n) c s q placed = placed_without r dir frag 
 
 -- what stays where it is is there
 stays_there : (was now : Option Cached) → HasCached was (λ (f : Cached). HasCached now (IsButPlaces f)) → IsThere now
-stays_there None now h = absurd h
-stays_there (Some f) None h = absurd h
-stays_there (Some f) (Some g) h = tt
+stays_there was now h = search rules
 
 -- room grew alone
 pub room_reads : (old new : Core) → new ≡ record old { room = new.room } → IsNoLess old.room new.room → (Uses Ends : ℕ → Leaf → Type 0) → ReadsCore Uses Ends old new
@@ -33,28 +29,32 @@ Child a nb = IsChildAt a.rank.0 a.dir a.frag nb
 
 module _ (old mid view : Core) (is : view ≡ mid) (a : Dirfrag) (nb : ℕ) (some : 1 ≤ nb) (reads : ReadsCore (IsThat a.rank.0 (leaf_of a)) NoneEnds old mid) (none_mid : KeepsNone mid.caches)
     (there : a.rank.0 < length old.caches.used) (absent : (i : ℕ) → i < 2 ^ nb → map.get old.caches.held (a.dir, child_of a.frag i nb) ≡ None) (valid : AreCaches old.caches) (none_old : KeepsNone old.caches) where
-  -- the fetch alone, where it was refused
-  pub fetched_nowhere : (i : ℕ) → i < 2 ^ nb → map.get mid.caches.held (a.dir, child_of a.frag i nb) ≡ None
+  fetched_nowhere : (i : ℕ) → i < 2 ^ nb → map.get mid.caches.held (a.dir, child_of a.frag i nb) ≡ None
   fetched_nowhere i below = still_absent (IsThat a.rank.0 (leaf_of a)) NoneEnds old mid (a.dir, child_of a.frag i nb) reads (λ q that.
       let clash : true ≡ false = sym (leaf_itself (leaf_of a)) ∙ ap (leaf_is (leaf_of a)) (sym that.1) ∙ no_child a.dir a.frag nb i some in absurd cc) (absent i below)
 
-  pub fetched_family : ReadsCore (Family a nb) (Family a nb) old mid
+  fetched_family : ReadsCore (Family a nb) (Family a nb) old mid
   fetched_family = reads_core_wider (IsThat a.rank.0 (leaf_of a)) (Family a nb) NoneEnds (Family a nb) old mid (λ s q that. inl that) (λ s q no_end. absurd no_end) reads
 
   -- no leaf stands twice in the order of use
-  pub fetched_distinct : IsDistinct leaf_is (order mid.caches a.rank.0)
+  fetched_distinct : IsDistinct leaf_is (order mid.caches a.rank.0)
   fetched_distinct = (reads_placed (IsThat a.rank.0 (leaf_of a)) NoneEnds old.objects old.caches valid (λ s q that. subst (λ (n : ℕ). n < length old.caches.used) (sym that.0) there) mid.caches reads.caches).distinct a.rank.0
+
+  -- the fetch alone, where it was refused
+  pub fetched : ReadsCore (Family a nb) (Family a nb) old mid × ((i : ℕ) → i < 2 ^ nb → map.get mid.caches.held (a.dir, child_of a.frag i nb) ≡ None) × IsDistinct leaf_is (order mid.caches a.rank.0)
+  fetched = (fetched_family, fetched_nowhere, fetched_distinct)
 
   none : KeepsNone view.caches
   none = subst (λ (k : Core). KeepsNone k.caches) (sym is) none_mid
 
-  pub children_absent : AreAbsent view.caches a.rank.0 a.dir a.frag nb
-  children_absent i below =
-      let held : map.get view.caches.held (a.dir, child_of a.frag i nb) ≡ None = ap (λ (k : Core). map.get k.caches.held (a.dir, child_of a.frag i nb)) is ∙ fetched_nowhere i below in
-      (none_absent view.caches a.rank.0 (a.dir, child_of a.frag i nb) none held, held)
-
-  pub children_there : a.rank.0 < length view.caches.used
-  children_there = subst (λ (k : Core). a.rank.0 < length k.caches.used) (sym is) (there_after (IsThat a.rank.0 (leaf_of a)) NoneEnds old mid a.rank.0 reads there)
+  -- there is a cache at the rank, and no child in any
+  pub children_free : (a.rank.0 < length view.caches.used) × AreAbsent view.caches a.rank.0 a.dir a.frag nb
+  children_free = (
+    subst (λ (k : Core). a.rank.0 < length k.caches.used) (sym is) (there_after (IsThat a.rank.0 (leaf_of a)) NoneEnds old mid a.rank.0 reads there),
+    λ i below.
+        let held : map.get view.caches.held (a.dir, child_of a.frag i nb) ≡ None = ap (λ (k : Core). map.get k.caches.held (a.dir, child_of a.frag i nb)) is ∙ fetched_nowhere i below in
+        (none_absent view.caches a.rank.0 (a.dir, child_of a.frag i nb) none held, held),
+  )
 
   -- what is left once room was made for them: what was read, no leaf twice in the order of use, and what is whole
   pub children : (caches' : CacheMap) → ReadsFamily a.rank.0 a.dir a.frag nb view.caches caches' → StaysAt a.rank.0 (leaf_of a) view.caches caches' → ReadsCore (Family a nb) (Family a nb) old (record view { caches = caches' })

@@ -1,18 +1,15 @@
 -- Fragments that got room.
-use Rattle.mdcache.proofs.Common.{Bool, CacheMap, Cached, Edits, HasCached, HasRoom, IsButRoom, Leaf, None, Option, Some, ap, arith, at_rank, by_edits, cond, eqb-true, here, here_is, here_put, here_with_frag, leaf_is, one_leaf, room_changed, subst, sym, true, ℕ, ◌<◌, ◌==◌, ◌∙◌, ◌≡◌, ◌≤◌}
-use Rattle.std.proofs.lemmas.Bool.{cond_both}
+use Rattle.mdcache.proofs.Common.{Bool, CacheMap, Cached, Edits, HasCached, HasRoom, IsButRoom, Leaf, None, Option, Some, ap, arith, at_rank, by_edits, cond, cond_both, eqb-true, here, here_is, here_put, here_with_frag, leaf_is, one_leaf, room_changed, rules, subst, sym, true, ℕ, ◌<◌, ◌==◌, ◌∙◌, ◌≡◌, ◌≤◌}
 use Rattle.std.specs.FinMap as finmap
 
 -- what a call for room leaves has other room at most
 pub other_room : (f now : Cached) → (now ≡ record f { room = now.room }) × (f.room ≤ now.room) → IsButRoom f now
 other_room f now is = room_changed f now is.0
 
--- a fragment that was changed so is there so
-pub edited_has : (Change : Cached → Cached → Type 0) (P : Cached → Type 0) (r : ℕ) (leaf : Leaf) (old new : CacheMap) → ((f now : Cached) → Change f now → P now) → Edits Change r leaf old new → HasCached (here new r leaf) P
-edited_has Change P r leaf old new so e = by_edits r leaf Change old new e (λ (c : CacheMap). HasCached (here c r leaf) P) (λ f now seen change. subst (λ (o : Option Cached). HasCached o P) (sym (here_put old r leaf now)) (so f now change))
-
+-- a fragment that got room for so many changes has it
 pub has_rooms : (changes r : ℕ) (leaf : Leaf) (old new : CacheMap) → Edits (λ (f now : Cached). changes ≤ now.room) r leaf old new → HasCached (here new r leaf) (λ (f : Cached). changes ≤ f.room)
-has_rooms changes r leaf old new e = edited_has (λ (f now : Cached). changes ≤ now.room) (λ (f : Cached). changes ≤ f.room) r leaf old new (λ f now is. is) e
+has_rooms changes r leaf old new e = by_edits r leaf (λ (f now : Cached). changes ≤ now.room) old new e (λ (c : CacheMap). HasCached (here c r leaf) (λ (f : Cached). changes ≤ f.room))
+    (λ f now seen enough. subst (λ (o : Option Cached). HasCached o (λ (f : Cached). changes ≤ f.room)) (sym (here_put old r leaf now)) enough)
 
 -- a fragment that has room for two changes has it still where another one got room, or it itself did
 pub stays_roomy : (r s : ℕ) (leaf one : Leaf) (old new : CacheMap) → Edits (λ (f now : Cached). (now ≡ record f { room = now.room }) × (f.room ≤ now.room)) r leaf old new → HasCached (here old s one) (λ (f : Cached). 1 < f.room)
@@ -27,5 +24,4 @@ stays_roomy r s leaf one old new e has = by_edits r leaf (λ (f now : Cached). (
     Roomy o = HasCached o (λ (f : Cached). 1 < f.room)
 
 pub has_room : (o : Option Cached) → HasCached o (λ (f : Cached). 1 ≤ f.room) → HasRoom o
-has_room None h = absurd h
-has_room (Some f) h = omega (arith, h)
+has_room o h = search rules

@@ -1,5 +1,5 @@
 -- What stands in the shown tree: a name of a directory of the table stands for what the leaf has that its hash picks.
-use Rattle.mdcache.proofs.Common.{Bool, Covers, Dentry, Fragment, HasLeaf, Homes, Inode, Leaf, List, Names, None, Option, Some, [], ap, append_assoc, arith, cond, contains_key-keys, dentry-total, dentry_cmp, dentry_of, directories, entries_in, entries_of, entries_under, eq_by_cmp, eqb-true, false, find, first_or_later, get-entries, get-from_entries, inl, inr, is_apart, is_known, is_same, key_cmp, later, leaves_of, list_any, nat_cmp, option_or, refl, sym, tied_dentry, true, unsigned_tied, zero, ℕ, ⊎_elim, ◌&&◌, ◌++◌, ◌==◌, ◌||◌, ◌∙◌, ◌∷◌, ◌≡◌, ◌⊎◌}
+use Rattle.mdcache.proofs.Common.{Bool, Covers, Dentry, Fragment, HasLeaf, Homes, Inode, Leaf, List, Names, None, Option, Some, [], ap, append_assoc, arith, cond, contains_key-keys, dentry-total, dentry_cmp, dentry_of, directories, entries_in, entries_of, entries_under, eq_by_cmp, eqb-true, false, find, first_or_later, get-entries, get-from_entries, inl, inr, is_apart, is_known, is_same, key_cmp, later, leaves_of, list_any, nat_cmp, option_or, refl, rules, sym, tied_dentry, true, unsigned_tied, zero, ℕ, ⊎_elim, ◌&&◌, ◌++◌, ◌==◌, ◌||◌, ◌∙◌, ◌∷◌, ◌≡◌, ◌⊎◌}
 use Rattle.std.specs.FinMap as finmap
 use Rattle.mdcache.specs.Shown.{tree_of}
 
@@ -15,9 +15,7 @@ found_row d e name (row ∷ rows) rest b here =
   where
     joined : (b c : Bool) → cond (b && c) (Some row.1) (option_or (cond b (find key_cmp name rows) None) (find dentry_cmp (dentry_of d name) rest))
         ≡ option_or (cond b (cond c (Some row.1) (find key_cmp name rows)) None) (find dentry_cmp (dentry_of d name) rest)
-    joined true true = refl
-    joined true false = refl
-    joined false c = refl
+    joined b c = search rules
 
 module _ (names : Leaf → Names) where
   -- the first of some leaves of a directory that has a name tells what it stands for
@@ -38,9 +36,7 @@ module _ (names : Leaf → Names) where
     where
       joined : (b : Bool) (o : Option Inode) → option_or (cond b o None) (option_or (cond b (first_of e name fs) None) (find dentry_cmp (dentry_of d name) rest))
           ≡ option_or (cond b (option_or o (first_of e name fs)) None) (find dentry_cmp (dentry_of d name) rest)
-      joined true None = refl
-      joined true (Some i) = refl
-      joined false o = refl
+      joined b o = search rules
 
   found_in : (covers : Covers) (d : ℕ) (name : List ℕ) (dirs : List ℕ)
       → find dentry_cmp (dentry_of d name) (entries_in names covers dirs) ≡ cond (list_any (eq_by_cmp nat_cmp d) dirs) (first_of d name (leaves_of covers d)) None
@@ -54,9 +50,7 @@ module _ (names : Leaf → Names) where
       x = first_of d name (leaves_of covers d)
 
       twice : (c : Bool) (o : Option Inode) → option_or o (cond c o None) ≡ o
-      twice true None = refl
-      twice false None = refl
-      twice c (Some i) = refl
+      twice c o = search rules
 
       go : (b : Bool) → (e == d) ≡ b → option_or (cond b (first_of e name (leaves_of covers e)) None) (cond (list_any (eq_by_cmp nat_cmp d) dirs) x None) ≡ cond (eq_by_cmp nat_cmp d e || list_any (eq_by_cmp nat_cmp d) dirs) x None
       go true is =

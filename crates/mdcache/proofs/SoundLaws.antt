@@ -1,6 +1,5 @@
 -- What keeps a state sound.
-use Rattle.mdcache.proofs.Common.{AreCached, AreYoung, Bool, CacheMap, IsCounted, IsLive, IsOf, IsOwned, IsSaved, IsSound, IsStanding, IsTabled, IsTied, Job, Jobs, Keys, Leaf, List, Names, None, Objects, Some, State, Unsaved, ap, arith, cond, get-insert, get-remove, inl, inr, is_some, leaf-total, leaf_is, object_of, one_leaf, refl, same_Some, shown_at, shown_tree, subst, sym, text_of, tied_leaf, true, with_job, ℕ, ⊎_elim, ◌∙◌, ◌≡◌, ◌⊎◌}
-use Rattle.std.proofs.lemmas.Bool.{cond_both}
+use Rattle.mdcache.proofs.Common.{AreCached, AreYoung, Bool, CacheMap, IsCounted, IsLive, IsOf, IsOwned, IsSaved, IsSound, IsStanding, IsTabled, IsTied, IsUnsaved, Job, Jobs, Keys, Leaf, List, Names, None, Objects, Some, State, Unsaved, ap, arith, cond, cond_both, get-insert, get-remove, inl, inr, is_some, leaf-total, leaf_is, object_of, one_leaf, refl, rules, same_Some, shown_at, shown_tree, subst, sym, text_of, tied_leaf, true, with_job, ℕ, ⊎_elim, ◌∙◌, ◌≡◌, ◌⊎◌}
 use Rattle.std.specs.FinMap as map
 use Rattle.mdcache.specs.Commits.{leaf_of}
 use Rattle.mdcache.specs.Shown.{names_of}
@@ -58,21 +57,11 @@ pub stood_before : (s : State) (leaf q : Leaf) (job : Job) → map.get (map.remo
 stood_before s leaf q job is = cond_both (leaf_is q leaf) None (map.get s.jobs q) (λ o. o ≡ Some job → map.get s.jobs q ≡ Some job) (λ gone h. let clash : None ≡ Some job = h in absurd cc) (λ stays h. h) (sym (get_ended s leaf q) ∙ is)
 
 -- all is sound with other jobs that stand, and whose numbers are one each
-jobs_sound : (s : State) (jobs : Jobs) (next : ℕ) → IsSound s → ((q : Leaf) (i : Job) → map.get jobs q ≡ Some i → IsStanding (record s { jobs = jobs; next_job = next }) q i)
+pub jobs_sound : (s : State) (jobs : Jobs) (next : ℕ) → IsSound s → ((q : Leaf) (i : Job) → map.get jobs q ≡ Some i → IsStanding (record s { jobs = jobs; next_job = next }) q i)
     → ((a b : Leaf) (i j : Job) → map.get jobs a ≡ Some i → map.get jobs b ≡ Some j → i.number ≡ j.number → a ≡ b) → IsSound (record s { jobs = jobs; next_job = next })
-jobs_sound s jobs next sound standing once = record {
-  table = sound.table;
-  numbered = sound.numbered;
-  tabled = sound.tabled;
-  counted = sound.counted;
-  placed = sound.placed;
-  unsaved = λ q u is. let old = sound.unsaved q u is in record { live = old.live; made = old.made; young = old.young };
-  saved = sound.saved;
-  owned = λ name there. sound.owned name there;
-  listed = sound.listed;
-  standing = standing;
-  once = once;
-}
+jobs_sound s jobs next sound standing once =
+    let unsaved : (q : Leaf) (u : Unsaved) → map.get s.unsaved q ≡ Some u → IsUnsaved (record s { jobs = jobs; next_job = next }) q u = λ q u is. (let old = sound.unsaved q u is in record { live = old.live; made = old.made; young = old.young }) in
+    search (rules, sound.owned)
 
 pub dropped_sound : (s : State) (leaf : Leaf) → IsSound s → IsSound (record s { jobs = map.remove s.jobs leaf })
 dropped_sound s leaf sound = jobs_sound s (map.remove s.jobs leaf) s.next_job sound

@@ -1,15 +1,12 @@
 -- Splits and merges are right: each of them gives a directory another cover.
-use Rattle.mdcache.proofs.Common.{Bool, Fragment, HasLeaf, IsMerge, IsSplit, List, MergesAreRight, SplitsAreRight, [], ap, arith, cond, false, first_or_later, inl, inr, later, leaves_inside, leaves_of, lies_inside, nat_tests, one_or_other, subst, suc, sym, true, zero, ℕ, ⊎_elim, ◌+◌, ◌^◌, ◌∙◌, ◌∷◌, ◌≡◌, ◌≤◌}
-use Rattle.std.proofs.lemmas.Bool.{cases_Bool}
-use Rattle.std.proofs.lemmas.List.Elements.{All-contains, All-contains_itself, All-filter, filter_passes}
+use Rattle.mdcache.proofs.Common.{All-contains, All-contains_itself, All-filter, Bool, Fragment, HasLeaf, IsMerge, IsSplit, List, MergesAreRight, SplitsAreRight, [], ap, arith, cases_Bool, cond, false, filter_passes, first_or_later, inl, inr, later, leaves_inside, leaves_of, lies_inside, nat_tests, one_or_other, rules, subst, suc, sym, true, zero, ℕ, ⊎_elim, ◌+◌, ◌^◌, ◌∙◌, ◌∷◌, ◌≡◌, ◌≤◌}
 use Rattle.mdcache.proofs.RegroupLaws.{Replaces, regroup_right}
 
 -- ---- a split
 
 -- the one leaf that ends
 pub only_one : (f g : Fragment) → HasLeaf (f ∷ []) g → f ≡ g
-only_one f g (zero, within, is) = is
-only_one f g (suc k, within, is) = absurd (omega (arith, within))
+only_one f g is = search rules
 
 pub split_replaces : (old cover : List Fragment) (frag : Fragment) (nb : ℕ) → 1 ≤ nb → HasLeaf old frag → IsSplit old cover frag nb → Replaces old (frag ∷ []) cover
 split_replaces old cover frag nb some stands divided = record {

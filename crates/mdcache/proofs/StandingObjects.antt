@@ -1,5 +1,5 @@
 -- No call touches the object of a fragment while a job stands for it.
-use Rattle.mdcache.proofs.Common.{BeginsWith, Bool, Change, Drops, Ends, Err, Fragment, Ino, Inode, IsRegrouped, IsSound, Job, Leaf, List, Makes, None, Ok, Option, PurgesName, PutsThen, Refusal, Result, SavesTree, Some, Spot, State, TakesThen, Unsaved, ap, cond, dentry_at, false, first_name, get_beside, housed, inl, inr, is_dir_kind, object_of, refl, sym, text_of, true, with_directory, with_home_at, with_new, without, ℕ, ◌∙◌, ◌≡◌}
+use Rattle.mdcache.proofs.Common.{BeginsWith, Bool, Change, Drops, Ends, Err, Fragment, Ino, Inode, IsRegrouped, IsSound, Job, Leaf, List, Makes, None, Ok, Option, PurgesName, PutsThen, Refusal, Result, SavesTree, Some, Spot, State, TakesThen, Unsaved, ap, cond, dentry_at, false, first_name, get_beside, housed, inl, inr, is_dir_kind, object_of, refl, rules, sym, text_of, true, with_directory, with_home_at, with_new, without, ℕ, ◌∙◌, ◌≡◌}
 use Rattle.std.specs.FinMap as map
 use Rattle.mds_types.proofs.LeafLaws.{get_removed, same_or_apart}
 use Rattle.objstore.specs.Objects.{written}
@@ -18,21 +18,12 @@ same_state old new same = ap (λ (s : State). s.objects) same
 -- ---- a change of the tree touches no object
 
 without_objects : (s : State) (went : Option Ino) → (without s went).objects ≡ s.objects
-without_objects s None = refl
-without_objects s (Some dir) = refl
+without_objects s went = search rules
 
 -- whatever entry it takes and puts
 altered_objects : (takes : Option Spot) (puts : Option (Spot × Inode)) (comes : Bool) (gone : Option Ino) (old new : State)
     → TakesThen old takes (λ left. PutsThen left puts (λ named. new ≡ without (housed named takes puts comes) gone)) → ObjectsStay old new
-altered_objects None None comes gone old new is = same_state (without old gone) new is ∙ without_objects old gone
-altered_objects (Some spot) None comes gone old new (left, taken, is) = same_state (without left gone) new is ∙ without_objects left gone ∙ ap (λ (s : State). s.objects) taken.left
-altered_objects None (Some put) true gone old new (named, is_named, is) =
-    same_state (without (with_new named (dentry_at put.0) put.1) gone) new is ∙ without_objects (with_new named (dentry_at put.0) put.1) gone
-    ∙ elim (is_dir_kind put.1.kind) as (λ b. (cond b (with_directory named (dentry_at put.0) put.1.ino) named).objects ≡ named.objects) [ true ↦ refl | false ↦ refl ] ∙ ap (λ (s : State). s.objects) is_named.left
-altered_objects None (Some put) false gone old new (named, is_named, is) = same_state (without named gone) new is ∙ without_objects named gone ∙ ap (λ (s : State). s.objects) is_named.left
-altered_objects (Some spot) (Some put) comes gone old new (left, taken, (named, is_named, is)) =
-    same_state (without (with_home_at named (dentry_at put.0) put.1) gone) new is ∙ without_objects (with_home_at named (dentry_at put.0) put.1) gone
-    ∙ ap (λ (s : State). s.objects) is_named.left ∙ ap (λ (s : State). s.objects) taken.left
+altered_objects takes puts comes gone old new is = search (rules, without_objects)
 
 pub made_objects : (change : Change) (old new : State) → Makes change old new → ObjectsStay old new
 made_objects change old new makes = ap (λ (s : State). s.objects) makes.2 ∙ altered_objects change.takes change.puts change.comes change.gone old makes.0 makes.1
@@ -45,13 +36,10 @@ regrouped_objects old new dir gone cover count did = ap (λ (s : State). s.objec
 
 module _ (old new : State) where
   pub begun_objects : (unsaved : Option Unsaved) (leaf : Leaf) (job : Option Job) → BeginsWith old new leaf unsaved job → ObjectsStay old new
-  begun_objects None leaf job h = same_state old new h.1
-  begun_objects (Some u) leaf None h = absurd h
-  begun_objects (Some u) leaf (Some job) h = ap (λ (s : State). s.objects) h.2
+  begun_objects unsaved leaf job h = search rules
 
   pub dropped_objects : (number : ℕ) (result : Result (Unit {0}) Refusal) → Drops old new number result → ObjectsStay old new
-  dropped_objects number (Ok done) h = ap (λ (s : State). s.objects) h.left
-  dropped_objects number (Err reason) h = same_state old new h.2
+  dropped_objects number result h = search rules
 
   -- a job stands for a leaf before and after
   module _ (sound : IsSound old) (leaf : Leaf) (job : Job) (stood : map.get old.jobs leaf ≡ Some job) where

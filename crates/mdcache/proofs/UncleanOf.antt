@@ -1,12 +1,9 @@
 -- What isn't clean of one rank, after reads and preparations; and where places lack.
-use Rattle.mdcache.proofs.Common.{AllByRecursion, AreCaches, At, Bool, CacheMap, Cached, CanNotKeep, IsDistinct, IsDistinct-cons, IsDistinct-head, IsDistinct-tail, IsThere, KeepsNone, Leaf, List, None, Objects, Option, Reads, Some, Unsaved, [], all_from, all_of, any_tied, ap, arith, at_rank, clean_in, cond, contains_key-keys, false, filter, get_tabulate, get_unclean, goes, going_at, here, inl, inr, is_clean, is_some, leaf-total, leaf_is, len-entries, length, loaded_clean, not, object_of, order, reads_held, reads_unclean, refl, room_unsaved, roomy, same_map, staying, sym, true, unclean_at, unclean_in, unsaved_at, unsaved_in, ℕ, ◌&&◌, ◌+◌, ◌<◌, ◌==◌, ◌∙◌, ◌∷◌, ◌≡◌, ◌≤◌, ◌⊎◌}
-use Rattle.std.proofs.lemmas.Bool.{not-true}
-use Rattle.std.proofs.lemmas.List.Elements.{All-filter, All-from_recursion, filter_passes, recursion_from_All}
+use Rattle.mdcache.proofs.Common.{All-filter, All-from_recursion, AllByRecursion, AreCaches, At, Bool, CacheMap, Cached, CanNotKeep, IsDistinct, IsDistinct-cons, IsDistinct-head, IsDistinct-tail, IsThere, KeepsNone, Leaf, List, None, Objects, Option, Reads, Some, Unsaved, [], all_from, all_of, all_unclean, any_tied, ap, arith, at_rank, clean_in, cond, contains_key-keys, false, filter, filter_passes, get_tabulate, get_unclean, goes, going_at, here, inl, inr, is_clean, is_some, leaf-total, leaf_is, len-entries, length, loaded_clean, not, not-true, object_of, order, reads_held, reads_unclean, recursion_from_All, refl, room_unsaved, roomy, rules, same_map, staying, sym, true, unclean_at, unclean_in, unsaved_at, unsaved_in, ℕ, ◌&&◌, ◌+◌, ◌<◌, ◌==◌, ◌∙◌, ◌∷◌, ◌≡◌, ◌≤◌, ◌⊎◌}
 use Rattle.std.proofs.lemmas.Map.Entries.{length-keys_of}
 use Rattle.std.proofs.lemmas.Map.Made.{length-le_from_is_member}
 use Rattle.std.specs.FinMap as finmap
 use Rattle.dentry_cache.specs.CacheMap.{unclean_of}
-use Rattle.dentry_cache.proofs.LacksLaws.{full_lacks as all_unclean}
 use Rattle.dentry_cache.proofs.LeafLaws.{leaf-exact, leaf_equivalence}
 
 pub get_unclean_of : (c : CacheMap) (r : ℕ) (q : Leaf) → finmap.get (unclean_of c r) q ≡ unsaved_in (here c r q)
@@ -20,8 +17,7 @@ get_unclean_of c r q =
 
 -- what isn't clean nowhere isn't at a rank
 clean_at : (s : ℕ) (o : Option At) → unsaved_at o ≡ None → unsaved_in (at_rank s o) ≡ None
-clean_at s None clean = refl
-clean_at s (Some a) clean = elim (a.rank == s) as (λ b. unsaved_in (cond b (Some a.frag) None) ≡ None) [ true ↦ clean | false ↦ refl ]
+clean_at s o clean = search rules
 
 module _ (Uses Ends : ℕ → Leaf → Type 0) (objects : Objects) (old : CacheMap) where
   reads_beyond : (s : ℕ) (q : Leaf) (new : CacheMap) → Reads Uses Ends objects old new → unsaved_in (here new s q) ≡ unsaved_in (here old s q)

@@ -1,6 +1,5 @@
 -- A walk over the jobs in search of a number.
-use Rattle.mdcache.proofs.Common.{Bool, Job, Jobs, List, None, NoneHasNumber, Some, T, [], ap, cond, entries_sorted, eq_by_cmp, find, get-entries, is_sorted, leaf-exact, leaf_cmp, left_of, not_found_below, right_of, same_Some, subst, sym, tie, ℕ, ◌∙◌, ◌∷◌, ◌≡◌}
-use Rattle.std.proofs.lemmas.Bool.{cond_both}
+use Rattle.mdcache.proofs.Common.{Bool, Job, Jobs, List, None, NoneHasNumber, Some, T, [], ap, cond, cond_both, entries_sorted, eq_by_cmp, find, get-entries, is_sorted, leaf-exact, leaf_cmp, left_of, not_found_below, right_of, same_Some, subst, sym, tie, ℕ, ◌∙◌, ◌∷◌, ◌≡◌}
 use Rattle.std.specs.FinMap as map
 use Rattle.mds_types.specs.Leaf.{Leaf}
 use Rattle.mds_types.proofs.LeafLaws.{key_itself, leaf-total}

@@ -6,16 +6,7 @@ use Rattle.mdcache.proofs.KeptTree.{kept_itself, steps_keep_tree}
 use Rattle.mdcache.proofs.batches.commit_batches.Goals as goal
 
 pub loop-more-init : goal.loop-more-init
-loop-more-init g c = record {
-  clean = λ none. absurd cc;
-  whole = given_up_whole (state_of c.args.tree.now) (state_of c.args.tree.now) _ _ refl;
-  jobs = c.requires.none;
-  number = refl;
-  few = c.requires.few;
-  tree = kept_itself c.args.tree.now;
-  faults = refl;
-  sound = c.requires.sound;
-}
+loop-more-init g c = search (rules, given_up_whole (state_of c.args.tree.now) (state_of c.args.tree.now) c.args.tree.now.jobs c.args.tree.now.next_job refl, kept_itself c.args.tree.now)
 
 pub returns-in-Err : goal.returns-in-Err
 returns-in-Err g c =
@@ -35,15 +26,7 @@ loop-more-smaller g c =
 pub loop-more-preserved : goal.loop-more-preserved
 loop-more-preserved g c =
     let inv = c.loop-more.invariant in
-    let counted = c.in-Ok.ensures.counted in
-    let so_far = inv.faults in
-    record {
-      clean = c.in-Ok.ensures.clean;
-      whole = whole_then (state_of c.args.tree.now) (state_of c.loop-more.tree) (state_of c.commit_some.new.self) inv.whole c.in-Ok.ensures.whole;
-      jobs = c.in-Ok.ensures.jobs;
-      number = c.in-Ok.ensures.number ∙ inv.number;
-      few = subst (λ n. n ≤ 256) (sym (came_ranks (HasFragment c.loop-more.tree.caches) NoneEnds c.loop-more.tree.caches c.commit_some.new.self.caches c.in-Ok.ensures.tree.caches)) inv.few;
-      tree = steps_keep_tree c.args.tree.now c.loop-more.tree c.commit_some.new.self inv.tree c.in-Ok.ensures.tree;
-      faults = omega (arith, counted, so_far);
-      sound = c.in-Ok.ensures.sound;
-    }
+    let whole = whole_then (state_of c.args.tree.now) (state_of c.loop-more.tree) (state_of c.commit_some.new.self) inv.whole c.in-Ok.ensures.whole in
+    let few = subst (λ n. n ≤ 256) (sym (came_ranks (HasFragment c.loop-more.tree.caches) NoneEnds c.loop-more.tree.caches c.commit_some.new.self.caches c.in-Ok.ensures.tree.caches)) inv.few in
+    let tree = steps_keep_tree c.args.tree.now c.loop-more.tree c.commit_some.new.self inv.tree c.in-Ok.ensures.tree in
+    search (rules, inv, c.in-Ok.ensures, whole, few, tree)

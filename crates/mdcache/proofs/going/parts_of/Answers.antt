@@ -1,5 +1,4 @@
-use Rattle.mdcache.proofs.Common.{Fragment, GoingLeaf, List, ap, in_directory, string_bytes, text_of}
-use Rattle.std.specs.Prelude.{map as each}
+use Rattle.mdcache.proofs.Common.{Fragment, GoingLeaf, List, ap, each, in_directory, string_bytes, text_of}
 use Rattle.mdcache.proofs.GoingLaws.{part_on}
 use Rattle.mdcache.proofs.going.parts_of.Goals as goal
 

@@ -1,6 +1,5 @@
 -- The parts so far and the leaves to come are all of them.
-use Rattle.mdcache.proofs.Common.{in_directory, leaves_in, text_of, texts_in, ◌++◌, ◌≡◌}
-use Rattle.std.specs.Prelude.{map as each}
+use Rattle.mdcache.proofs.Common.{each, in_directory, leaves_in, text_of, texts_in, ◌++◌, ◌≡◌}
 use Rattle.mdcache.proofs.going.parts_of.Given as goal
 
 abbrev pub invariant-loop-frag : goal.invariant-loop-frag

@@ -1,6 +1,5 @@
 -- The parts so far and the leaves inside that are to come are all of them.
-use Rattle.mdcache.proofs.Common.{in_directory, leaves_in, leaves_inside, text_of, texts_in, ◌++◌, ◌≡◌}
-use Rattle.std.specs.Prelude.{map as each}
+use Rattle.mdcache.proofs.Common.{each, in_directory, leaves_in, leaves_inside, text_of, texts_in, ◌++◌, ◌≡◌}
 use Rattle.mdcache.proofs.merge_plan.ending_leaves.Given as goal
 
 abbrev pub invariant-loop-leaf : goal.invariant-loop-leaf

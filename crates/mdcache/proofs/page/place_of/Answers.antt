@@ -1,7 +1,4 @@
-use Rattle.mdcache.proofs.Common.{always_returns_same, key_cmp, nat_list_cmp_total, ordering_reverse, rules, searched}
-use Rattle.std.proofs.Common.{Equal, Greater, Less, Ordering, ap, arith, drop, drop_of_length-le, is_gt, length, refl, subst, suc, sym, true, zero, ℕ, ◌-◌, ◌∙◌, ◌≡◌}
-use Rattle.sorted_map.proofs.PlaceLaws.{gap_behind}
-use Rattle.sorted_map.specs.Places.{IsGap}
+use Rattle.mdcache.proofs.Common.{Equal, Greater, IsGap, Less, Ordering, always_returns_same, ap, arith, drop, drop_of_length-le, gap_behind, is_gt, key_cmp, length, nat_list_cmp_total, ordering_reverse, refl, rules, searched, subst, suc, sym, true, zero, ℕ, ◌-◌, ◌∙◌, ◌≡◌}
 use Rattle.mdcache.proofs.page.place_of.Goals as goal
 
 -- the closure turns what the name compares as

@@ -1,6 +1,5 @@
 -- The names are those of the objects of the children that were passed.
-use Rattle.mdcache.proofs.Common.{string_bytes}
-use Rattle.std.specs.Prelude.{map as each}
+use Rattle.mdcache.proofs.Common.{each, string_bytes}
 use Rattle.mdcache.proofs.ChildNames.{NameFirst}
 use Rattle.mdcache.proofs.split_plan.child_names.Given as goal
 

@@ -1,5 +1,5 @@
 -- Each turn begins a commit of the first leaf that is left.
-use Rattle.mdcache.proofs.Common.{AllByRecursion, IsBegunAt, Jobs, State, ap, arith, get-empty, leaf_of, leaves_at, leaves_of_jobs, refl, rules, state_of, subst, sym, ◌++◌, ◌∙◌}
+use Rattle.mdcache.proofs.Common.{AllByRecursion, IsBegunAt, Jobs, Leaf, State, ap, arith, get-empty, leaf_cmp, leaf_of, leaves_at, leaves_of_jobs, refl, rules, state_of, subst, sym, ◌++◌, ◌∙◌}
 use Rattle.std.specs.FinMap as map
 use Rattle.mdcache.proofs.BatchLaws.{begin_lacks, begins_next, next_free}
 use Rattle.mdcache.proofs.KeptTree.{kept_itself, steps_keep_tree}
@@ -11,17 +11,9 @@ returns-in_err-begun-clause-tree g c = kept_itself c.args.self.now
 pub loop-at-init : goal.loop-at-init
 loop-at-init g c =
     let none = c.in_ok-begun.ensures.items in
-    record {
-      begun = subst (AllByRecursion (IsBegunAt c.args.self.now)) (sym none) tt;
-      rest = c.requires.unclean;
-      listed = ap (λ bs. leaves_of_jobs bs ++ leaves_at c.args.leaves.now) none;
-      among = λ q others. ap (λ (jobs : Jobs). map.get jobs q) c.requires.none ∙ get-empty _ q;
-      left = refl;
-      number = omega arith;
-      tree = kept_itself c.args.self.now;
-      faults = refl;
-      sound = c.requires.sound;
-    }
+    let begun = subst (AllByRecursion (IsBegunAt c.args.self.now)) (sym none) tt in
+    let listed = ap (λ bs. leaves_of_jobs bs ++ leaves_at c.args.leaves.now) none in
+    search (rules, begun, listed, λ (q : Leaf). ap (λ (jobs : Jobs). map.get jobs q) c.requires.none ∙ get-empty leaf_cmp q, kept_itself c.args.self.now)
 
 pub begin_one-requires-clause-free : goal.begin_one-requires-clause-free
 begin_one-requires-clause-free g c = next_free c.args.self.now c.loop-at.self c.args.leaves.now c.loop-at.at-index c.at-item.result c.loop-at-test.true c.at-item.is c.loop-at.begun.items c.loop-at.invariant c.requires.apart

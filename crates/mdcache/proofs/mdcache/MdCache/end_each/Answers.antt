@@ -1,20 +1,12 @@
 -- Each turn ends the first commit that is left.
-use Rattle.mdcache.proofs.Common.{AllByRecursion, IsReadyAt, arith, refl, state_of, subst}
+use Rattle.mdcache.proofs.Common.{AllByRecursion, IsReadyAt, arith, refl, rules, state_of, subst}
 use Rattle.mdcache.proofs.BatchLaws.{ends_next, rest_is}
 use Rattle.mdcache.proofs.CommittedLaws.{given_up_whole, whole_then}
 use Rattle.mdcache.proofs.KeptTree.{kept_itself, steps_keep_tree}
 use Rattle.mdcache.proofs.mdcache.MdCache.end_each.Goals as goal
 
 pub loop-one-init : goal.loop-one-init
-loop-one-init g c = record {
-  rest = c.requires.begun;
-  apart = c.requires.apart;
-  whole = given_up_whole (state_of c.args.self.now) (state_of c.args.self.now) _ _ refl;
-  fewer = omega arith;
-  tree = kept_itself c.args.self.now;
-  faults = refl;
-  sound = c.requires.sound;
-}
+loop-one-init g c = search (rules, given_up_whole (state_of c.args.self.now) (state_of c.args.self.now) c.args.self.now.jobs c.args.self.now.next_job refl, kept_itself c.args.self.now)
 
 pub end_one-requires-clause-begun : goal.end_one-requires-clause-begun
 end_one-requires-clause-begun g c = (subst (AllByRecursion (IsReadyAt c.loop-one.self)) (rest_is c.args.ready.now c.loop-one.one-index c.one-item.result c.loop-one-test.true c.one-item.is) c.loop-one.invariant.rest).0.hand

@@ -4,10 +4,6 @@ use Rattle.mdcache.proofs.FetchSteps.{newest_used}
 use Rattle.mdcache.proofs.NoneLaws.{none_used}
 use Rattle.mdcache.proofs.mdcache.MdCache.find.Goals as goal
 
-pub look-requires-clause-there : goal.look-requires-clause-there
-look-requires-clause-there g c =
-    subst (λ (k : Core). c.args.at.now.rank.0 < length k.caches.used) (sym c.self.view_is) (there_after (IsThat c.args.at.now.rank.0 (leaf_of c.args.at.now)) NoneEnds c.args.self.now c.fetch.new.self c.args.at.now.rank.0 c.fetch.ensures.reads c.requires.may.there)
-
 pub returns : goal.returns
 returns g c =
     let r = c.args.at.now.rank.0 in

@@ -3,9 +3,6 @@ use Rattle.mdcache.proofs.Common.{IsPageOf, IsThat, Names, here, key_cmp, leaf_o
 use Rattle.mdcache.proofs.CoreLaws.{cached_so, may_fetch, read_names, read_sound, on_ok, that_live}
 use Rattle.mdcache.proofs.mdcache.MdCache.gather.Goals as goal
 
-pub gather_at-requires-clause-may : goal.gather_at-requires-clause-may
-gather_at-requires-clause-may g c = may_fetch c.args.self.now c.requires.sound _ c.requires.holds c.requires.live
-
 pub returns-clause-page : goal.returns-clause-page
 returns-clause-page g c whole is = on_ok c.gather_at.result (λ has.
     read_names (IsThat c.args.at.now.rank.0 (leaf_of c.args.at.now)) c.args.self.now c.gather_at.new.self c.gather_at.ensures.reads c.requires.sound c.gather_at.ensures.none

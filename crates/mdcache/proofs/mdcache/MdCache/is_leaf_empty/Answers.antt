@@ -2,9 +2,6 @@ use Rattle.mdcache.proofs.Common.{IsThat, Names, has_none, ◌≡◌}
 use Rattle.mdcache.proofs.CoreLaws.{may_fetch, read_names, read_sound, if_ok, that_live}
 use Rattle.mdcache.proofs.mdcache.MdCache.is_leaf_empty.Goals as goal
 
-pub is_empty_at-requires-clause-may : goal.is_empty_at-requires-clause-may
-is_empty_at-requires-clause-may g c = may_fetch c.args.self.now c.requires.sound _ c.requires.holds c.requires.live
-
 pub returns-clause-found : goal.returns-clause-found
 returns-clause-found g c = if_ok _ _ c.is_empty_at.result (λ empty has.
     read_names (IsThat c.args.rank.0 (c.args.dir, c.args.frag)) c.args.self.now c.is_empty_at.new.self c.is_empty_at.ensures.reads c.requires.sound c.is_empty_at.ensures.none

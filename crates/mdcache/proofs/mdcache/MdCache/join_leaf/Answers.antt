@@ -6,9 +6,6 @@ use Rattle.mdcache.proofs.mdcache.MdCache.join_leaf.Goals as goal
 pub returns-in-Err-clause-sound : goal.returns-in-Err-clause-sound
 returns-in-Err-clause-sound g c = reads_sound (IsThat c.args.at.now.rank.0 (leaf_of c.args.at.now)) NoneEnds c.args.self.now c.fetch.new.self c.fetch.ensures.reads c.requires.sound (that_live c.args.self.now c.args.at.now.rank.0 (leaf_of c.args.at.now) c.requires.live) c.fetch.ensures.none
 
-pub copy_names-requires-clause-there : goal.copy_names-requires-clause-there
-copy_names-requires-clause-there g c = subst (λ (k : Core). c.args.at.now.rank.0 < length k.caches.used) (sym c.self.view_is) (there_after (IsThat c.args.at.now.rank.0 (leaf_of c.args.at.now)) NoneEnds c.args.self.now c.fetch.new.self c.args.at.now.rank.0 c.fetch.ensures.reads c.requires.holds.there)
-
 pub returns-clause-joined : goal.returns-clause-joined
 returns-clause-joined g c = join_told c.args.self.now c.fetch.new.self _ c.self.view_is c.args.at.now c.fetch.ensures.reads (reads_sound (IsThat c.args.at.now.rank.0 (leaf_of c.args.at.now)) NoneEnds c.args.self.now c.fetch.new.self c.fetch.ensures.reads c.requires.sound (that_live c.args.self.now c.args.at.now.rank.0 (leaf_of c.args.at.now) c.requires.live) c.fetch.ensures.none) c.args.joined.now c.copy_names.new.into c.in_ok-copy_names.ensures.copied
 

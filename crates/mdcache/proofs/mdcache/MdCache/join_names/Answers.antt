@@ -2,7 +2,7 @@ use Rattle.mdcache.proofs.Common.{Core, Err, IsAmong, IsAmongOr, KeepsNone, None
 use Rattle.std.specs.FinMap as map
 use Rattle.mdcache.proofs.CoreLaws.{reads_core_wider, still_absent, there_after}
 use Rattle.mdcache.proofs.JoinSteps.{joined_of}
-use Rattle.mdcache.proofs.KeepSteps.{keep_none, keep_nowhere, keep_only, keep_place, keep_reads, keep_refused}
+use Rattle.mdcache.proofs.KeepSteps.{keep_refused, keep_so}
 use Rattle.mdcache.proofs.NoneLaws.{none_absent}
 use Rattle.mdcache.proofs.mdcache.MdCache.join_names.Goals as goal
 
@@ -11,9 +11,6 @@ returns-in-Err-clause-absent g c = still_absent _ _ c.args.self.now c.join_leave
 
 pub returns-in-Err-clause-reads : goal.returns-in-Err-clause-reads
 returns-in-Err-clause-reads g c = reads_core_wider (IsAmong c.args.at.now.rank.0 (leaves_in c.args.at.now.dir c.args.leaves.now)) (IsAmongOr c.args.at.now.rank.0 (leaves_in c.args.at.now.dir c.args.leaves.now) (leaf_of c.args.at.now)) NoneEnds NoneEnds c.args.self.now c.join_leaves.new.self (λ r q is. inl is) (λ r q is. is) c.join_leaves.ensures.reads
-
-pub keep-requires-clause-there : goal.keep-requires-clause-there
-keep-requires-clause-there g c = subst (λ (k : Core). c.args.at.now.rank.0 < length k.caches.used) (sym c.self-2.view_is) (there_after _ _ c.args.self.now c.join_leaves.new.self c.args.at.now.rank.0 c.join_leaves.ensures.reads c.requires.there)
 
 pub keep-requires-clause-absent : goal.keep-requires-clause-absent
 keep-requires-clause-absent g c =
@@ -26,30 +23,18 @@ returns-in-Err-keep g c =
     let there = there_after _ _ c.args.self.now c.join_leaves.new.self c.args.at.now.rank.0 c.join_leaves.ensures.reads c.requires.there in
     let absent = still_absent _ _ c.args.self.now c.join_leaves.new.self (leaf_of c.args.at.now) c.join_leaves.ensures.reads (λ r is. c.requires.apart is.1) c.requires.absent in
     let reads = reads_core_wider (IsAmong c.args.at.now.rank.0 (leaves_in c.args.at.now.dir c.args.leaves.now)) (IsAmongOr c.args.at.now.rank.0 (leaves_in c.args.at.now.dir c.args.leaves.now) (leaf_of c.args.at.now)) NoneEnds NoneEnds c.args.self.now c.join_leaves.new.self (λ r q is. inl is) (λ r q is. is) c.join_leaves.ensures.reads in
-    record {
-      joined = tt;
-      kept = tt;
-      only = tt;
-      none = keep_none (IsAmongOr c.args.at.now.rank.0 (leaves_in c.args.at.now.dir c.args.leaves.now) (leaf_of c.args.at.now)) c.args.self.now c.join_leaves.new.self _ c.self-2.view_is reads c.join_leaves.ensures.none c.args.at.now.rank (leaf_of c.args.at.now) None there absent (inr (refl, refl)) tt (Err c.in-Err-keep.refusal) c.keep.new.self c.keep.ensures.valid tt c.in-Err-keep.ensures.left;
-      absent = keep_nowhere (IsAmongOr c.args.at.now.rank.0 (leaves_in c.args.at.now.dir c.args.leaves.now) (leaf_of c.args.at.now)) c.args.self.now c.join_leaves.new.self _ c.self-2.view_is reads c.join_leaves.ensures.none c.args.at.now.rank (leaf_of c.args.at.now) None there absent (inr (refl, refl)) tt (Err c.in-Err-keep.refusal) c.keep.new.self c.keep.ensures.valid tt c.in-Err-keep.ensures.left;
-      reads = keep_reads (IsAmongOr c.args.at.now.rank.0 (leaves_in c.args.at.now.dir c.args.leaves.now) (leaf_of c.args.at.now)) c.args.self.now c.join_leaves.new.self _ c.self-2.view_is reads c.join_leaves.ensures.none c.args.at.now.rank (leaf_of c.args.at.now) None there absent (inr (refl, refl)) tt (Err c.in-Err-keep.refusal) c.keep.new.self c.keep.ensures.valid tt c.in-Err-keep.ensures.left;
-      refused = keep_refused (IsAmongOr c.args.at.now.rank.0 (leaves_in c.args.at.now.dir c.args.leaves.now) (leaf_of c.args.at.now)) c.args.self.now c.join_leaves.new.self _ c.self-2.view_is reads c.join_leaves.ensures.none c.args.at.now.rank (leaf_of c.args.at.now) None there absent (inr (refl, refl)) tt (Err c.in-Err-keep.refusal) c.keep.new.self c.keep.ensures.valid tt c.in-Err-keep.ensures.left c.in-Err-keep.ensures.refused same;
-      counted = search rules;
-    }
+    let its = keep_so (IsAmongOr c.args.at.now.rank.0 (leaves_in c.args.at.now.dir c.args.leaves.now) (leaf_of c.args.at.now)) c.args.self.now c.join_leaves.new.self _ c.self-2.view_is reads c.join_leaves.ensures.none c.args.at.now.rank (leaf_of c.args.at.now) None there absent (inr (refl, refl)) tt (Err c.in-Err-keep.refusal) c.keep.new.self c.keep.ensures.valid tt c.in-Err-keep.ensures.left in
+    let refused = keep_refused (IsAmongOr c.args.at.now.rank.0 (leaves_in c.args.at.now.dir c.args.leaves.now) (leaf_of c.args.at.now)) c.args.self.now c.join_leaves.new.self _ c.self-2.view_is reads c.join_leaves.ensures.none c.args.at.now.rank (leaf_of c.args.at.now) None there absent (inr (refl, refl)) tt (Err c.in-Err-keep.refusal) c.keep.new.self c.keep.ensures.valid tt c.in-Err-keep.ensures.left c.in-Err-keep.ensures.refused same in
+    search (rules, its, refused)
 
 pub returns : goal.returns
 returns g c =
     let there = there_after _ _ c.args.self.now c.join_leaves.new.self c.args.at.now.rank.0 c.join_leaves.ensures.reads c.requires.there in
     let absent = still_absent _ _ c.args.self.now c.join_leaves.new.self (leaf_of c.args.at.now) c.join_leaves.ensures.reads (λ r is. c.requires.apart is.1) c.requires.absent in
     let reads = reads_core_wider (IsAmong c.args.at.now.rank.0 (leaves_in c.args.at.now.dir c.args.leaves.now)) (IsAmongOr c.args.at.now.rank.0 (leaves_in c.args.at.now.dir c.args.leaves.now) (leaf_of c.args.at.now)) NoneEnds NoneEnds c.args.self.now c.join_leaves.new.self (λ r q is. inl is) (λ r q is. is) c.join_leaves.ensures.reads in
-    let all = keep_reads (IsAmongOr c.args.at.now.rank.0 (leaves_in c.args.at.now.dir c.args.leaves.now) (leaf_of c.args.at.now)) c.args.self.now c.join_leaves.new.self _ c.self-2.view_is reads c.join_leaves.ensures.none c.args.at.now.rank (leaf_of c.args.at.now) None there absent (inr (refl, refl)) tt (Ok tt) c.keep.new.self c.keep.ensures.valid c.in_default-keep.ensures.kept tt in
-    record {
-      joined = joined_of _ _ c.args.self.now _ all (leaves_in c.args.at.now.dir c.args.leaves.now) c.fresh-joined.result c.join_leaves.new.joined (c.fresh-joined.ensures ∙ ap (λ (k : Core). made_frag k.next_generation) c.self.view_is) c.in_default.ensures.joined;
-      kept = keep_place (IsAmongOr c.args.at.now.rank.0 (leaves_in c.args.at.now.dir c.args.leaves.now) (leaf_of c.args.at.now)) c.args.self.now c.join_leaves.new.self _ c.self-2.view_is reads c.join_leaves.ensures.none c.args.at.now.rank (leaf_of c.args.at.now) None there absent (inr (refl, refl)) tt (Ok tt) c.keep.new.self c.keep.ensures.valid c.in_default-keep.ensures.kept tt;
-      only = keep_only (IsAmongOr c.args.at.now.rank.0 (leaves_in c.args.at.now.dir c.args.leaves.now) (leaf_of c.args.at.now)) c.args.self.now c.join_leaves.new.self _ c.self-2.view_is reads c.join_leaves.ensures.none c.args.at.now.rank (leaf_of c.args.at.now) None there absent (inr (refl, refl)) tt (Ok tt) c.keep.new.self c.keep.ensures.valid c.in_default-keep.ensures.kept tt;
-      none = tt;
-      absent = keep_nowhere (IsAmongOr c.args.at.now.rank.0 (leaves_in c.args.at.now.dir c.args.leaves.now) (leaf_of c.args.at.now)) c.args.self.now c.join_leaves.new.self _ c.self-2.view_is reads c.join_leaves.ensures.none c.args.at.now.rank (leaf_of c.args.at.now) None there absent (inr (refl, refl)) tt (Ok tt) c.keep.new.self c.keep.ensures.valid c.in_default-keep.ensures.kept tt;
-      reads = all;
-      refused = tt;
-      counted = search rules;
-    }
+    let its = keep_so (IsAmongOr c.args.at.now.rank.0 (leaves_in c.args.at.now.dir c.args.leaves.now) (leaf_of c.args.at.now)) c.args.self.now c.join_leaves.new.self _ c.self-2.view_is reads c.join_leaves.ensures.none c.args.at.now.rank (leaf_of c.args.at.now) None there absent (inr (refl, refl)) tt (Ok tt) c.keep.new.self c.keep.ensures.valid c.in_default-keep.ensures.kept tt in
+    let joined = joined_of _ _ c.args.self.now _ its.reads (leaves_in c.args.at.now.dir c.args.leaves.now) c.fresh-joined.result c.join_leaves.new.joined (c.fresh-joined.ensures ∙ ap (λ (k : Core). made_frag k.next_generation) c.self.view_is) c.in_default.ensures.joined in
+    search (rules, its, joined)
+
+pub keep-requires-clause-there : goal.keep-requires-clause-there
+keep-requires-clause-there g c = subst (λ (k : Core). c.args.at.now.rank.0 < length k.caches.used) (sym c.self-2.view_is) (there_after _ _ c.args.self.now c.join_leaves.new.self c.args.at.now.rank.0 c.join_leaves.ensures.reads c.requires.there)

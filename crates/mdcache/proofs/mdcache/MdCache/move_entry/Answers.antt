@@ -2,7 +2,8 @@ use Rattle.mdcache.proofs.Common.{Cached, Core, HasCached, IfSome, Ino, Inode, I
 use Rattle.std.specs.FinMap as map
 use Rattle.cached_frag.specs.Cached.{shown as shown_of}
 use Rattle.mdcache.proofs.ChangeLaws.{entry_known}
-use Rattle.mdcache.proofs.ChangesMade.{IsDone, after_reads, counts_fit, entry_moved, may_still, relocates, replaces}
+use Rattle.mdcache.proofs.ChangesMade.{IsDone, after_reads, counts_fit, entry_moved, may_still}
+use Rattle.mdcache.proofs.HomeLaws.{relocates, replaces}
 use Rattle.mdcache.proofs.CoreLaws.{dir_known, of_names, there_after}
 use Rattle.mdcache.proofs.PrepareLaws.{dir_live, entry_live, shows_entry}
 use Rattle.mdcache.proofs.mdcache.MdCache.move_entry.Goals as goal
@@ -12,9 +13,6 @@ ready_move-requires-clause-from_live g c = entry_live c.args.self.now c.requires
 
 pub ready_move-requires-clause-to_live : goal.ready_move-requires-clause-to_live
 ready_move-requires-clause-to_live g c = dir_live c.args.self.now c.requires.sound (dentry_at c.args.to) c.args.to.at.frag c.requires.may.takes.parent c.requires.may.carries.put
-
-pub has_records-requires-clause-there : goal.has_records-requires-clause-there
-has_records-requires-clause-there g c = subst (λ (k : Core). c.args.from.at.rank.0 < length k.caches.used) (sym c.self.view_is) (there_after _ _ _ _ _ c.ready_move.ensures.reads c.requires.holds.taken.there)
 
 pub pass-requires : goal.pass-requires
 pass-requires g c =
@@ -36,9 +34,9 @@ pass-requires g c =
       to = dir_known now ready.sound _ may.takes.parent;
       few = counts_fit now now ready.sound c.args.from c.args.to c.args.inode c.in-Ok.moving.going so ready.target;
       home = λ kinded. subst (λ (name : List ℕ). MayMove now.homes c.args.inode.ino.0 (record { parent = c.args.to.at.dir; name = name })) (sym ready.moving.0)
-          (relocates now now ready.sound c.args.from c.args.to c.args.inode c.in-Ok.moving.going so kinded);
+          (relocates (state_of now) ready.sound.sound c.args.from c.args.to c.args.inode (dir_going c.in-Ok.moving.going) so kinded);
       may = subst (λ (name : List ℕ). IfSome (dir_going c.in-Ok.moving.going) (λ (dir : Ino). MayGo (with_home now.homes (record { dir = c.args.to.at.dir; name = name }) c.args.inode) dir.0)) (sym ready.moving.0)
-          (replaces now now ready.sound c.args.from c.args.to c.args.inode c.in-Ok.moving.going so);
+          (replaces (state_of now) ready.sound.sound c.args.from c.args.to c.args.inode (dir_going c.in-Ok.moving.going) so);
       purge = ready.moving.1.2;
     }
 
@@ -54,3 +52,6 @@ returns-in-Ok g c =
 
 pub returns-in-Err-clause-changed : goal.returns-in-Err-clause-changed
 returns-in-Err-clause-changed g c = (c.ready_move.ensures.reads, c.in-Err.ensures.refused)
+
+pub has_records-requires-clause-there : goal.has_records-requires-clause-there
+has_records-requires-clause-there g c = subst (λ (k : Core). c.args.from.at.rank.0 < length k.caches.used) (sym c.self.view_is) (there_after _ _ _ _ _ c.ready_move.ensures.reads c.requires.holds.taken.there)

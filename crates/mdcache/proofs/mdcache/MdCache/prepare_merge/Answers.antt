@@ -41,12 +41,7 @@ returns-in-Err-join_names g c =
     let ending = ap (leaves_in c.args.at.now.dir) c.deref.ensures.value ∙ c.in-Ok.ensures.planned.leaves ∙ ap (λ (k : Core). ending_at k c.args.at.now) c.plan_merge.ensures.left in
     let reads = reads_core_on _ _ c.args.self.now c.plan_merge.new.self c.join_names.new.self (room _ _)
     (subst (λ (ls : List Leaf). ReadsCore (IsAmongOr c.args.at.now.rank.0 ls (leaf_of c.args.at.now)) NoneEnds c.plan_merge.new.self c.join_names.new.self) ending c.join_names.ensures.reads) in
-    record {
-      ready = tt;
-      only = tt;
-      reads = reads;
-      sound = reads_sound_so _ _ c.args.self.now c.join_names.new.self reads c.requires.sound (ending_or_it c.args.self.now c.requires.sound c.args.at.now c.requires.known c.requires.can c.join_names.new.self.caches c.join_names.ensures.absent) c.in-Err-join_names.ensures.none;
-      undone = reads_state _ _ c.args.self.now c.join_names.new.self reads;
-      refused = grown_refused c.args.self.now c.plan_merge.new.self room c.requires.sound 1 c.args.at.now.rank.0 c.join_names.new.self.faults c.in-Err-join_names.refusal (ap (λ (k : Core). k.faults) c.plan_merge.ensures.left) c.in-Err-join_names.ensures.refused;
-      counted = search rules;
-    }
+    let sound = reads_sound_so _ _ c.args.self.now c.join_names.new.self reads c.requires.sound (ending_or_it c.args.self.now c.requires.sound c.args.at.now c.requires.known c.requires.can c.join_names.new.self.caches c.join_names.ensures.absent) c.in-Err-join_names.ensures.none in
+    let undone = reads_state _ _ c.args.self.now c.join_names.new.self reads in
+    let refused = grown_refused c.args.self.now c.plan_merge.new.self room c.requires.sound 1 c.args.at.now.rank.0 c.join_names.new.self.faults c.in-Err-join_names.refusal (ap (λ (k : Core). k.faults) c.plan_merge.ensures.left) c.in-Err-join_names.ensures.refused in
+    search (rules, reads, sound, undone, refused)

@@ -11,10 +11,6 @@ returns-in-Err g c =
     let sound = grown_sound c.args.self.now c.plan_split.new.self room c.requires.sound (ap (λ (k : Core). k.caches) c.plan_split.ensures.left) in
     record { ready = tt; only = tt; distinct = tt; reads = room _ _; sound = sound; undone = ap state_of c.plan_split.ensures.left; refused = search rules; counted = search rules }
 
-pub ready_children-requires-clause-may : goal.ready_children-requires-clause-may
-ready_children-requires-clause-may g c =
-    grown_may c.args.self.now c.plan_split.new.self (room_reads c.args.self.now c.plan_split.new.self c.plan_split.ensures.left c.plan_split.ensures.room) c.requires.sound c.args.at.now c.requires.holds (record { known = c.requires.known; stands = c.requires.can.stands })
-
 pub ready_children-requires-clause-absent : goal.ready_children-requires-clause-absent
 ready_children-requires-clause-absent g c = λ i below.
     still_absent NoneEnds NoneEnds c.args.self.now c.plan_split.new.self (c.args.at.now.dir, child_of c.args.at.now.frag i c.args.nb) (room_reads c.args.self.now c.plan_split.new.self c.plan_split.ensures.left c.plan_split.ensures.room _ _)
@@ -28,13 +24,7 @@ pub returns-in-Err-ready_children : goal.returns-in-Err-ready_children
 returns-in-Err-ready_children g c =
     let room = room_reads c.args.self.now c.plan_split.new.self c.plan_split.ensures.left c.plan_split.ensures.room in
     let reads = reads_core_on _ _ c.args.self.now c.plan_split.new.self c.ready_children.new.self (room _ _) c.ready_children.ensures.reads in
-    record {
-      ready = tt;
-      only = tt;
-      distinct = tt;
-      reads = reads;
-      sound = reads_sound_so _ _ c.args.self.now c.ready_children.new.self reads c.requires.sound (family_live c.args.self.now c.args.at.now c.args.nb c.requires.known c.requires.can c.ready_children.new.self.caches c.in-Err-ready_children.ensures.absent) c.in-Err-ready_children.ensures.none;
-      undone = reads_state _ _ c.args.self.now c.ready_children.new.self reads;
-      refused = grown_refused c.args.self.now c.plan_split.new.self room c.requires.sound (2 ^ c.args.nb + 1) c.args.at.now.rank.0 c.ready_children.new.self.faults c.in-Err-ready_children.refusal (ap (λ (k : Core). k.faults) c.plan_split.ensures.left) c.in-Err-ready_children.ensures.refused;
-      counted = search rules;
-    }
+    let sound = reads_sound_so _ _ c.args.self.now c.ready_children.new.self reads c.requires.sound (family_live c.args.self.now c.args.at.now c.args.nb c.requires.known c.requires.can c.ready_children.new.self.caches c.in-Err-ready_children.ensures.absent) c.in-Err-ready_children.ensures.none in
+    let undone = reads_state _ _ c.args.self.now c.ready_children.new.self reads in
+    let refused = grown_refused c.args.self.now c.plan_split.new.self room c.requires.sound (2 ^ c.args.nb + 1) c.args.at.now.rank.0 c.ready_children.new.self.faults c.in-Err-ready_children.refusal (ap (λ (k : Core). k.faults) c.plan_split.ensures.left) c.in-Err-ready_children.ensures.refused in
+    search (rules, reads, sound, undone, refused)

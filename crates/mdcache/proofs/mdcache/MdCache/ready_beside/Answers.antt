@@ -4,10 +4,6 @@ use Rattle.mdcache.proofs.NoneLaws.{none_edits}
 use Rattle.mdcache.proofs.RoomLaws.{has_room, has_rooms, other_room, stays_roomy}
 use Rattle.mdcache.proofs.mdcache.MdCache.ready_beside.Goals as goal
 
-pub reserve-requires-clause-there : goal.reserve-requires-clause-there
-reserve-requires-clause-there g c =
-    subst (λ (k : Core). c.args.at.now.rank.0 < length k.caches.used) (sym c.self.view_is) (there_after (λ (r : ℕ) (q : Leaf). IsThat c.args.first.now.rank.0 (leaf_of c.args.first.now) r q ⊎ IsThat c.args.at.now.rank.0 (leaf_of c.args.at.now) r q) NoneEnds c.args.self.now c.fetch_beside.new.self c.args.at.now.rank.0 c.fetch_beside.ensures.reads c.requires.may.there)
-
 pub returns-in_err-reserve : goal.returns-in_err-reserve
 returns-in_err-reserve g c =
     let reads = room_step (λ (r : ℕ) (q : Leaf). IsThat c.args.first.now.rank.0 (leaf_of c.args.first.now) r q ⊎ IsThat c.args.at.now.rank.0 (leaf_of c.args.at.now) r q) NoneEnds c.args.self.now c.fetch_beside.new.self _ c.self.view_is c.fetch_beside.ensures.reads c.args.at.now.rank.0 (leaf_of c.args.at.now) (inr (refl, refl)) c.reserve.new.self _ other_room c.reserve.ensures.same in
@@ -24,3 +20,7 @@ returns g c =
     let reads = room_step (λ (r : ℕ) (q : Leaf). IsThat c.args.first.now.rank.0 (leaf_of c.args.first.now) r q ⊎ IsThat c.args.at.now.rank.0 (leaf_of c.args.at.now) r q) NoneEnds c.args.self.now c.fetch_beside.new.self _ c.self.view_is c.fetch_beside.ensures.reads c.args.at.now.rank.0 (leaf_of c.args.at.now) (inr (refl, refl)) c.reserve.new.self _ other_room c.reserve.ensures.same in
     let none = none_edits c.self.inside.caches c.args.at.now.rank.0 (leaf_of c.args.at.now) (subst (λ (k : Core). KeepsNone k.caches) (sym c.self.view_is) c.fetch_beside.ensures.none) _ c.reserve.new.self c.reserve.ensures.same in
     record { room = room; stays = stays; reads = reads; none = none; refused = tt; counted = search rules }
+
+pub reserve-requires-clause-there : goal.reserve-requires-clause-there
+reserve-requires-clause-there g c =
+    subst (λ (k : Core). c.args.at.now.rank.0 < length k.caches.used) (sym c.self.view_is) (there_after (λ (r : ℕ) (q : Leaf). IsThat c.args.first.now.rank.0 (leaf_of c.args.first.now) r q ⊎ IsThat c.args.at.now.rank.0 (leaf_of c.args.at.now) r q) NoneEnds c.args.self.now c.fetch_beside.new.self c.args.at.now.rank.0 c.fetch_beside.ensures.reads c.requires.may.there)

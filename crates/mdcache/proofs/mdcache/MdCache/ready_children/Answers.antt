@@ -1,23 +1,13 @@
-use Rattle.mdcache.proofs.Common.{refl, rules}
-use Rattle.std.proofs.lemmas.Result.{on_err_weaker}
+use Rattle.mdcache.proofs.Common.{on_err_weaker, refl, rules}
 use Rattle.mdcache.proofs.CoreLaws.{if_err, ok_so}
-use Rattle.mdcache.proofs.RegroupReady.{children, children_absent, children_refused, children_there, fetched_distinct, fetched_family, fetched_nowhere}
+use Rattle.mdcache.proofs.RegroupReady.{children, children_free, children_refused, fetched}
 use Rattle.mdcache.proofs.mdcache.MdCache.ready_children.Goals as goal
 
-pub returns-in-Err-clause-reads : goal.returns-in-Err-clause-reads
-returns-in-Err-clause-reads g c = fetched_family c.args.self.now c.fetch.new.self c.fetch.new.self refl c.args.at.now c.args.nb c.requires.some c.fetch.ensures.reads c.fetch.ensures.none c.requires.may.there c.requires.absent c.fetch.ensures.valid c.requires.none
+pub returns-in-Err : goal.returns-in-Err
+returns-in-Err g c = search (rules, fetched c.args.self.now c.fetch.new.self c.fetch.new.self refl c.args.at.now c.args.nb c.requires.some c.fetch.ensures.reads c.fetch.ensures.none c.requires.may.there c.requires.absent c.fetch.ensures.valid c.requires.none)
 
-pub returns-in-Err-clause-absent : goal.returns-in-Err-clause-absent
-returns-in-Err-clause-absent g c = fetched_nowhere c.args.self.now c.fetch.new.self c.fetch.new.self refl c.args.at.now c.args.nb c.requires.some c.fetch.ensures.reads c.fetch.ensures.none c.requires.may.there c.requires.absent c.fetch.ensures.valid c.requires.none
-
-pub returns-in-Err-clause-distinct : goal.returns-in-Err-clause-distinct
-returns-in-Err-clause-distinct g c = fetched_distinct c.args.self.now c.fetch.new.self c.fetch.new.self refl c.args.at.now c.args.nb c.requires.some c.fetch.ensures.reads c.fetch.ensures.none c.requires.may.there c.requires.absent c.fetch.ensures.valid c.requires.none
-
-pub ready_split-requires-clause-there : goal.ready_split-requires-clause-there
-ready_split-requires-clause-there g c = children_there c.args.self.now c.fetch.new.self _ c.self.view_is c.args.at.now c.args.nb c.requires.some c.fetch.ensures.reads c.fetch.ensures.none c.requires.may.there c.requires.absent c.fetch.ensures.valid c.requires.none
-
-pub ready_split-requires-clause-absent : goal.ready_split-requires-clause-absent
-ready_split-requires-clause-absent g c = children_absent c.args.self.now c.fetch.new.self _ c.self.view_is c.args.at.now c.args.nb c.requires.some c.fetch.ensures.reads c.fetch.ensures.none c.requires.may.there c.requires.absent c.fetch.ensures.valid c.requires.none
+pub ready_split-requires : goal.ready_split-requires
+ready_split-requires g c = search (rules, children_free c.args.self.now c.fetch.new.self _ c.self.view_is c.args.at.now c.args.nb c.requires.some c.fetch.ensures.reads c.fetch.ensures.none c.requires.may.there c.requires.absent c.fetch.ensures.valid c.requires.none)
 
 pub returns : goal.returns
 returns g c =

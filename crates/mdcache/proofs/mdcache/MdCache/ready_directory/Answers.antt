@@ -24,11 +24,6 @@ returns-in_err-made g c =
     let sound = on_err_so c.from_residual.result (grown_sound c.args.self.now _ room c.requires.sound (ap (λ (k : Core). k.caches) c.self.view_is)) in
     record { ready = search rules; place = search rules; only = search rules; cached = search rules; reads = reads; sound = sound; counted = search rules; refused = search rules }
 
-pub ready_first-requires-clause-may : goal.ready_first-requires-clause-may
-ready_first-requires-clause-may g c =
-    let room = (λ (Uses Ends : ℕ → Leaf → Type 0). dirs_grown Uses Ends c.args.self.now _ c.self.view_is c.reserve.new.self.homes c.reserve.new.self.trees c.reserve.new.self.counts c.reserve.new.self.pins c.reserve.new.self.room c.reserve.ensures.homes c.reserve.ensures.trees c.reserve.ensures.counts c.reserve.ensures.pins (grows_by c.self.inside.dirs.room c.reserve.new.self.room (λ some. ap (λ (d : Table). d.room) (c.reserve.ensures.ready some).1))) in
-    grown_may c.args.self.now _ room c.requires.sound c.args.spot.now.at c.requires.holds c.requires.live
-
 pub ready_first-requires-clause-absent : goal.ready_first-requires-clause-absent
 ready_first-requires-clause-absent g c =
     let room = (λ (Uses Ends : ℕ → Leaf → Type 0). dirs_grown Uses Ends c.args.self.now _ c.self.view_is c.reserve.new.self.homes c.reserve.new.self.trees c.reserve.new.self.counts c.reserve.new.self.pins c.reserve.new.self.room c.reserve.ensures.homes c.reserve.ensures.trees c.reserve.ensures.counts c.reserve.ensures.pins (grows_by c.self.inside.dirs.room c.reserve.new.self.room (λ some. ap (λ (d : Table). d.room) (c.reserve.ensures.ready some).1))) in

@@ -1,7 +1,7 @@
 use Rattle.mdcache.proofs.Common.{Core, HasRoom, IfErr, IsThat, KeepsNone, LacksPlacesIn, Leaf, MayNotFind, None, NoneEnds, Rank, Some, here, inl, inr, leaf_of, length, refl, rules, subst, sym, ℕ, ◌<◌, ◌≡◌, ◌⊎◌}
 use Rattle.std.specs.FinMap as map
 use Rattle.mdcache.proofs.CoreLaws.{reads_core_wider, still_absent, there_after}
-use Rattle.mdcache.proofs.KeepSteps.{keep_none, keep_only, keep_place, keep_reads, keep_refused, keep_stays, keep_nowhere}
+use Rattle.mdcache.proofs.KeepSteps.{keep_refused, keep_so, keep_stays}
 use Rattle.mdcache.proofs.NoneLaws.{none_absent}
 use Rattle.mdcache.proofs.RoomLaws.{has_room}
 use Rattle.mdcache.proofs.mdcache.MdCache.ready_first.Goals as goal
@@ -34,14 +34,8 @@ returns g c =
     let there = subst (λ (k : Rank). k.0 < length mid.caches.used) (sym c.requires.rank) (there_after _ _ _ _ _ c.ready_names.ensures.reads c.requires.may.there) in
     let absent = still_absent _ NoneEnds old mid first c.ready_names.ensures.reads (λ r is. c.requires.apart is.1) c.requires.absent in
     let roomy = has_room (here mid.caches c.args.at.now.rank.0 (leaf_of c.args.at.now)) c.in_default.ensures.room in
-    record {
-      room = keep_stays Uses old mid _ c.self.view_is reads none c.args.first.now.rank first (Some (leaf_of c.args.at.now)) there absent (inr (refl, refl)) (c.args.at.now.rank.0, inl (refl, refl)) c.keep.result new e.valid e.kept e.left HasRoom (leaf_of c.args.at.now) c.args.at.now.rank.0 refl roomy;
-      place = keep_place Uses old mid _ c.self.view_is reads none c.args.first.now.rank first (Some (leaf_of c.args.at.now)) there absent (inr (refl, refl)) (c.args.at.now.rank.0, inl (refl, refl)) c.keep.result new e.valid e.kept e.left;
-      reads = keep_reads Uses old mid _ c.self.view_is reads none c.args.first.now.rank first (Some (leaf_of c.args.at.now)) there absent (inr (refl, refl)) (c.args.at.now.rank.0, inl (refl, refl)) c.keep.result new e.valid e.kept e.left;
-      only = keep_only Uses old mid _ c.self.view_is reads none c.args.first.now.rank first (Some (leaf_of c.args.at.now)) there absent (inr (refl, refl)) (c.args.at.now.rank.0, inl (refl, refl)) c.keep.result new e.valid e.kept e.left;
-      absent = keep_nowhere Uses old mid _ c.self.view_is reads none c.args.first.now.rank first (Some (leaf_of c.args.at.now)) there absent (inr (refl, refl)) (c.args.at.now.rank.0, inl (refl, refl)) c.keep.result new e.valid e.kept e.left;
-      none = keep_none Uses old mid _ c.self.view_is reads none c.args.first.now.rank first (Some (leaf_of c.args.at.now)) there absent (inr (refl, refl)) (c.args.at.now.rank.0, inl (refl, refl)) c.keep.result new e.valid e.kept e.left;
-      refused = subst (λ (k : Rank). IfErr c.keep.result (MayNotFind (LacksPlacesIn 2 old.caches k.0) old.faults (g.S.Store.faults c.self.inside.store))) c.requires.rank
-          (keep_refused Uses old mid _ c.self.view_is reads none c.args.first.now.rank first (Some (leaf_of c.args.at.now)) there absent (inr (refl, refl)) (c.args.at.now.rank.0, inl (refl, refl)) c.keep.result new e.valid e.kept e.left e.refused same);
-      counted = search rules;
-    }
+    let its = keep_so Uses old mid _ c.self.view_is reads none c.args.first.now.rank first (Some (leaf_of c.args.at.now)) there absent (inr (refl, refl)) (c.args.at.now.rank.0, inl (refl, refl)) c.keep.result new e.valid e.kept e.left in
+    let room = keep_stays Uses old mid _ c.self.view_is reads none c.args.first.now.rank first (Some (leaf_of c.args.at.now)) there absent (inr (refl, refl)) (c.args.at.now.rank.0, inl (refl, refl)) c.keep.result new e.valid e.kept e.left HasRoom (leaf_of c.args.at.now) c.args.at.now.rank.0 refl roomy in
+    let refused = subst (λ (k : Rank). IfErr c.keep.result (MayNotFind (LacksPlacesIn 2 old.caches k.0) old.faults (g.S.Store.faults c.self.inside.store))) c.requires.rank
+    (keep_refused Uses old mid _ c.self.view_is reads none c.args.first.now.rank first (Some (leaf_of c.args.at.now)) there absent (inr (refl, refl)) (c.args.at.now.rank.0, inl (refl, refl)) c.keep.result new e.valid e.kept e.left e.refused same) in
+    search (rules, its, room, refused)

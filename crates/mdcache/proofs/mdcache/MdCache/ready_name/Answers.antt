@@ -5,9 +5,6 @@ use Rattle.mdcache.proofs.mdcache.MdCache.ready_name.Goals as goal
 pub returns-in-Err-clause-reads : goal.returns-in-Err-clause-reads
 returns-in-Err-clause-reads g c = reads_itself (IsThat c.args.at.now.rank.0 (leaf_of c.args.at.now)) NoneEnds c.args.self.now
 
-pub ready_names-requires-clause-may : goal.ready_names-requires-clause-may
-ready_names-requires-clause-may g c = may_fetch c.args.self.now c.requires.sound c.args.at.now c.requires.holds c.requires.live
-
 pub returns-clause-sound : goal.returns-clause-sound
 returns-clause-sound g c =
     read_sound (IsThat c.args.at.now.rank.0 (leaf_of c.args.at.now)) c.args.self.now c.ready_names.new.self c.ready_names.ensures.reads c.requires.sound c.ready_names.ensures.none

@@ -4,10 +4,6 @@ use Rattle.mdcache.proofs.NoneLaws.{none_edits}
 use Rattle.mdcache.proofs.RoomLaws.{has_rooms, other_room}
 use Rattle.mdcache.proofs.mdcache.MdCache.ready_names.Goals as goal
 
-pub reserve-requires-clause-there : goal.reserve-requires-clause-there
-reserve-requires-clause-there g c =
-    subst (λ (k : Core). c.args.at.now.rank.0 < length k.caches.used) (sym c.self.view_is) (there_after (IsThat c.args.at.now.rank.0 (leaf_of c.args.at.now)) NoneEnds c.args.self.now c.fetch.new.self c.args.at.now.rank.0 c.fetch.ensures.reads c.requires.may.there)
-
 pub returns-in_err-reserve : goal.returns-in_err-reserve
 returns-in_err-reserve g c =
     let reads = room_step (IsThat c.args.at.now.rank.0 (leaf_of c.args.at.now)) NoneEnds c.args.self.now c.fetch.new.self _ c.self.view_is c.fetch.ensures.reads c.args.at.now.rank.0 (leaf_of c.args.at.now) (refl, refl) c.reserve.new.self _ other_room c.reserve.ensures.same in

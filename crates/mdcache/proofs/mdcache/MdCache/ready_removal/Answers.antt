@@ -14,11 +14,6 @@ returns-in_err-going-clause-sound g c =
     let room = (λ (Uses Ends : ℕ → Leaf → Type 0). purge_grown Uses Ends c.args.self.now _ c.self.view_is c.ready_going.new.purge.names c.ready_going.new.purge.room c.ready_going.ensures.same c.ready_going.ensures.grows) in
     grown_sound c.args.self.now _ room c.requires.sound (ap (λ (k : Core). k.caches) c.self.view_is)
 
-pub ready_names-requires-clause-may : goal.ready_names-requires-clause-may
-ready_names-requires-clause-may g c =
-    let room = (λ (Uses Ends : ℕ → Leaf → Type 0). purge_grown Uses Ends c.args.self.now _ c.self.view_is c.ready_going.new.purge.names c.ready_going.new.purge.room c.ready_going.ensures.same c.ready_going.ensures.grows) in
-    grown_may c.args.self.now _ room c.requires.sound c.args.at.now c.requires.holds c.requires.live
-
 pub returns-in-Ok : goal.returns-in-Ok
 returns-in-Ok g c =
     let Uses = IsThat c.args.at.now.rank.0 (leaf_of c.args.at.now) in

@@ -1,6 +1,7 @@
 use Rattle.mdcache.proofs.Common.{Core, Ino, MayChange, Option, ap, dentry_at, removes, shown_in, state_of, subst, sym, ◌∙◌}
 use Rattle.mdcache.proofs.ChangeLaws.{entry_known}
-use Rattle.mdcache.proofs.ChangesMade.{IsDone, after_reads, may_go, may_still, removal_done}
+use Rattle.mdcache.proofs.ChangesMade.{IsDone, after_reads, may_still, removal_done}
+use Rattle.mdcache.proofs.HomeLaws.{may_go}
 use Rattle.mdcache.proofs.CoreLaws.{not_ready_wider, there_after}
 use Rattle.mdcache.proofs.PrepareLaws.{entry_live, one_or_two}
 use Rattle.mdcache.proofs.mdcache.MdCache.remove_entry.Goals as goal
@@ -18,7 +19,7 @@ leave-requires g c =
       room = ready.ready.room;
       version = ready.ready.number;
       known = entry_known (state_of now) (dentry_at c.args.spot) may.takes.inode ready.sound.sound may.takes.stands;
-      may = may_go now ready.sound c.args.spot _ may;
+      may = may_go (state_of now) c.args.spot _ ready.sound.sound may;
       purge = ready.going.2;
     }
 
