@@ -1,5 +1,5 @@
 -- Why a read is refused, in the words of all ranks, and of a call that ends with the read.
-use Rattle.ranked_tree.proofs.Common.{AreHeldAt, AsksFor, Change, Concerns, Core, Fragment, HasLeaf, HoldsAt, IfErr, IfErr-weaker, IfSome, Ino, Inode, IsLive, IsOwned, IsSound, IsSoundCore, IsThat, KeepsRanked, KeepsState, LacksPlacesAsked, LacksPlacesAt, LacksPlacesBy, LacksPlacesDir, LacksPlacesFor, LacksPlacesOf, List, MayNotBeReady, MayNotFind, MayRefuse, NamesBy, NamesDir, None, NoneEnds, Op, Option, Rank, Ranked, ReadsCore, ReadsDir, Refusal, Result, Roots, Rules, Some, Spot, Standing, ap, arith, faults_told, held_roots, holding, inl, inr, is_directory, is_known, known_is, lacked_at, leaf_of, leaves, leaves_of, not_found_weaker, reads_keeps, reads_weaker, refl, refused_later, result_err, rules, shown_tree, state_of, subst, sym, true, ℕ, ⊎_elim, ◌+◌, ◌∙◌, ◌≡◌, State, Leaf}
+use Rattle.ranked_tree.proofs.Common.{AreHeldAt, AsksFor, Change, Concerns, Core, Fragment, HasLeaf, HoldsAt, IfErr, IfErr-weaker, IfSome, Ino, Inode, IsLive, IsOwned, IsSound, IsSoundCore, IsThat, KeepsRanked, KeepsState, LacksPlacesAsked, LacksPlacesAt, LacksPlacesBy, LacksPlacesDir, LacksPlacesFor, LacksPlacesOf, List, MayNotBeReady, MayNotFind, MayRefuse, NamesBy, NamesDir, None, NoneEnds, Op, Option, Rank, Ranked, ReadsCore, ReadsDir, Refusal, Result, Roots, Rules, Spot, Standing, ap, arith, faults_told, held_roots, holding, inl, inr, is_directory, known_is, lacked_at, leaves, leaves_of, not_found_weaker, reads_keeps, reads_weaker, refl, refused_later, result_err, rules, shown_tree, state_of, subst, sym, true, ℕ, ⊎_elim, ◌+◌, ◌∙◌, ◌≡◌, State, Leaf}
 use Rattle.ranked_tree.proofs.HeldLaws.{is_that, owned_reads}
 
 -- what is known of a read of one leaf at the rank that holds it
@@ -59,11 +59,7 @@ ranked_later a b c op reason kept because =
 -- what lacks at the ranks that hold the leaves of a change
 lacks_asked : (old : Core) (roots : Roots) (takes : Option Spot) (puts : Option (Spot × Inode)) → IfSome takes (λ spot. HoldsAt (state_of old) roots spot.at) → IfSome puts (λ put. HoldsAt (state_of old) roots put.0.at)
     → LacksPlacesBy old takes puts → LacksPlacesAsked 2 old roots (NamesBy takes puts)
-lacks_asked old roots None None here there lacks = absurd lacks
-lacks_asked old roots None (Some put) here there lacks = (leaf_of put.0.at, refl, (put.0.at.rank, there, lacks))
-lacks_asked old roots (Some spot) None here there lacks = (leaf_of spot.at, refl, (spot.at.rank, here, lacks))
-lacks_asked old roots (Some spot) (Some put) here there (inl lacks) = (leaf_of spot.at, inl refl, (spot.at.rank, here, lacks))
-lacks_asked old roots (Some spot) (Some put) here there (inr lacks) = (leaf_of put.0.at, inr refl, (put.0.at.rank, there, lacks))
+lacks_asked old roots takes puts here there lacks = search rules
 
 pub told_change : (X Lacks : Type 0) (result : Result X Refusal) (old : Core) (roots : Roots) (change : Change) (after : ℕ) → AreHeldAt (state_of old) roots change → IfErr result (MayNotBeReady Lacks (LacksPlacesOf old change) old.faults after)
     → IfErr result (MayNotBeReady Lacks (LacksPlacesAsked 2 old roots (NamesDir change)) old.faults after)
@@ -76,10 +72,6 @@ told_change X Lacks result old roots change after held =
 pub live_still : (a b : Core) (leaf : Leaf) → KeepsState a b None → IsLive a.homes a.covers leaf → IsLive b.homes b.covers leaf
 live_still a b leaf kept live = subst (λ (s : State). IsLive s.homes s.covers leaf) (sym kept.state) live
 
--- a directory of the tree is one of the table, and its leaves are live
-module _ (s : State) (sound : IsSound s) (dir : Ino) (is : is_directory (shown_tree s) dir.0 ≡ true) where
-  pub dir_known : is_known s.homes dir.0 ≡ true
-  dir_known = known_is (shown_tree s) s.homes sound.tabled dir.0 ∙ is
-
-  pub leaf_live : (leaves : List Fragment) → leaves ≡ leaves_of s.covers dir.0 → (f : Fragment) → HasLeaf leaves f → IsLive s.homes s.covers (dir, f)
-  leaf_live leaves are f has = record { known = dir_known; stands = subst (λ (fs : List Fragment). HasLeaf fs f) are has }
+-- the leaves of a directory of the tree are live
+pub leaf_live : (s : State) → IsSound s → (dir : Ino) → is_directory (shown_tree s) dir.0 ≡ true → (leaves : List Fragment) → leaves ≡ leaves_of s.covers dir.0 → (f : Fragment) → HasLeaf leaves f → IsLive s.homes s.covers (dir, f)
+leaf_live s sound dir is leaves are f has = record { known = known_is (shown_tree s) s.homes sound.tabled dir.0 ∙ is; stands = subst (λ (fs : List Fragment). HasLeaf fs f) are has }

@@ -26,11 +26,7 @@ module _ (core : Core) (roots : Roots) (owned : IsOwned core roots) (dir : Ino) 
     pick : IsPick (leaves_of core.covers dir.0) hash frag
     pick = subst (λ (cs : Covers). IsPick (leaves_of cs dir.0) hash frag) alike is.pick
 
-    -- the leaf is live
-    pub there_live : IsLive core.homes core.covers (dir, frag)
-    there_live = record { known = known; stands = pick.stands }
-
-    -- and it lies at the rank that holds it
+    -- the leaf lies at the rank that holds it
     pub located : (at : Dirfrag) → at.dir ≡ dir → at.frag ≡ frag → HoldsAt (state_of core) roots at → IsAt (shown_tree (state_of core)) core.covers (HoldsAt (state_of core) roots) dir.0 hash at
     located at here this held = record {
       dir = ap (λ (d : Ino). d.0) here;

@@ -1,6 +1,5 @@
--- What a change of the tree makes of the directory table; where a rename may be made, a directory may have its home at the new dentry, and one that
--- is replaced may go.
-use Rattle.ranked_tree.proofs.Common.{Bool, Covers, Homes, Ino, Inode, Makes, None, Option, Some, Spot, State, adds, ap, cond, dentry_at, false, home_at, is_dir_kind, moves, refl, removes, rows_but, sets, true, with_directory, with_home, with_home_at, without, ◌∙◌, ◌≡◌, IfSome, IsSound, MayChange, MayGo, cond_both, directory_at, may_relocate, may_replace, shown_tree, subst, sym, MayMove}
+-- What a change of the tree makes of the directory table.
+use Rattle.ranked_tree.proofs.Common.{Bool, Covers, Homes, Ino, Inode, Makes, Option, Spot, State, adds, ap, cond, dentry_at, false, home_at, is_dir_kind, moves, removes, rows_but, rules, sets, true, with_directory, with_home, with_home_at, without, ◌∙◌, ◌≡◌}
 use Rattle.std.specs.FinMap as map
 
 -- the tables of a state are these
@@ -8,8 +7,7 @@ abbrev pub TablesAre : State → Homes → Covers → Type 0
 TablesAre s homes covers = (s.homes ≡ homes) × (s.covers ≡ covers)
 
 tables_without : (s : State) (went : Option Ino) → TablesAre (without s went) (rows_but s.homes went) (rows_but s.covers went)
-tables_without s None = (refl, refl)
-tables_without s (Some dir) = (refl, refl)
+tables_without s went = search rules
 
 tables_of : (a b : State) → a ≡ b → TablesAre a b.homes b.covers
 tables_of a b same = (ap (λ (s : State). s.homes) same, ap (λ (s : State). s.covers) same)
@@ -47,21 +45,3 @@ module _ (old new : State) where
         (tables_without (with_home_at named (dentry_at target) inode) went).0 ∙ ap (λ (h : Homes). rows_but (with_home h (dentry_at target) inode) went) before.0,
         (tables_without (with_home_at named (dentry_at target) inode) went).1 ∙ ap (λ (c : Covers). rows_but c went) before.1,
       ))
-
--- ---- a rename
-
--- what holds of a directory holds of what is found, if it is one
-pub if_dir : (P : Ino → Type 0) (found : Option Inode) → ((inode : Inode) → found ≡ Some inode → is_dir_kind inode.kind ≡ true → P inode.ino) → IfSome (directory_at found) P
-if_dir P None so = tt
-if_dir P (Some inode) so = cond_both (is_dir_kind inode.kind) (Some inode.ino) None (λ o. IfSome o P) (so inode refl) (λ file. tt)
-
--- where a rename may be made
-module _ (s : State) (sound : IsSound s) (source target : Spot) (inode : Inode) (went : Option Ino) (may : MayChange (shown_tree s) s.covers (moves source target inode went)) where
-  -- a directory may have its home there,
-  pub relocates : is_dir_kind inode.kind ≡ true → MayMove s.homes inode.ino.0 (home_at (dentry_at target))
-  relocates kinded = may_relocate (shown_tree s) s.homes (dentry_at source) (dentry_at target) inode sound.tabled may.takes kinded
-
-  -- and one that is replaced may go then
-  pub replaces : IfSome went (λ (dir : Ino). MayGo (with_home s.homes (dentry_at target) inode) dir.0)
-  replaces = subst (λ (d : Option Ino). IfSome d (λ (dir : Ino). MayGo (with_home s.homes (dentry_at target) inode) dir.0)) (sym may.carries.gone)
-      (if_dir _ (map.get (shown_tree s) (dentry_at target)) (λ i is kinded. may_replace (shown_tree s) s.homes (dentry_at source) (dentry_at target) inode sound.tabled may.takes i is))

@@ -41,7 +41,7 @@ pub use Rattle.export_steps.proofs.Elsewhere.{after_making, after_merge, after_m
 pub use Rattle.export_steps.proofs.Handover.{cancels_soundly, finishes_soundly, freezes_soundly, hands_over}
 pub use Rattle.export_steps.proofs.Holding.{get_holding, holder_is, imported_freezes, keep_frozen, keep_holders, near_to, valid_so}
 pub use Rattle.export_steps.proofs.HoldingSteps.{cancel_holding, finish_holding, prep_holding, prep_soundly, send_holding, send_soundly, start_holding, start_soundly}
-pub use Rattle.export_steps.specs.Handover.{FreezesSoundly}
+pub use Rattle.export_steps.specs.Handover.{FreezesSoundly, HandsOver as HandsRegionOver}
 pub use Rattle.export_steps.specs.Holder.{HasHolder, IsFrozen, holder_or, holding, is_imported, region_holder}
 pub use Rattle.export_steps.specs.Regions.{AreFrozenRegionsKept, StandsOver}
 pub use Rattle.export_steps.specs.Standing.{ArePlaced, Cancels, ComesTo, Finishes, IsFreeze, Preps, Standing, Starts, Steps, come_to, is_freezing}
@@ -49,7 +49,7 @@ pub use Rattle.export_steps.specs.declared.exports.ExportState.{ExportState}
 pub use Rattle.export_steps.specs.declared.exports.ExportState.TheVariants.{Frozen, Imported, Prepared, Sent, Started}
 pub use Rattle.export_steps.specs.declared.exports.StandingExport.{StandingExport}
 pub use Rattle.fragtree.proofs.Ranges.{Contains-from_range, ends_before, ends_low, ends_within, lies_inside-true, range_from_Contains, range_from_inside}
-pub use Rattle.fragtree.proofs.TreeLaws.{only_leaf, some_pick}
+pub use Rattle.fragtree.proofs.TreeLaws.{first as first_has, later as later_has, only_leaf, some_pick}
 pub use Rattle.fragtree.specs.FragTree.{CanMerge, CanSplit, FitsSplit, HasLeaf, IsChild, IsMerge, IsPick, IsSplit, IsTree, RefusesMerge, RefusesSplit, leaves_inside, lies_inside}
 pub use Rattle.inode_table.proofs.MoveLaws.{may_relocate, may_replace}
 pub use Rattle.inode_table.proofs.TableLaws.{dir_or_not, home_of, known_is, may_come, may_drop, with_dir, with_file}
@@ -61,13 +61,13 @@ pub use Rattle.mdcache.proofs.CoreLaws.{not_found_weaker, reads_keeps, reads_sta
 pub use Rattle.mdcache.proofs.CountLaws.{regroup_free}
 pub use Rattle.mdcache.proofs.FragsLaws.{keeps_itself, keeps_on, keeps_refused, lacked_at, refused_later}
 pub use Rattle.mdcache.proofs.GatherLaws.{gathers_listed, leaf_more}
-pub use Rattle.mdcache.proofs.GoneLaws.{get_without}
-pub use Rattle.mdcache.proofs.HomeLaws.{moved_home, moved_known}
+pub use Rattle.mdcache.proofs.GoneLaws.{get_without, one_of_those}
+pub use Rattle.mdcache.proofs.HomeLaws.{may_go, moved_home, moved_known, relocates, replaces}
 pub use Rattle.mdcache.proofs.JoinLaws.{from_mapped}
+pub use Rattle.mdcache.proofs.NamedLaws.{sound_leaves, stands_at}
 pub use Rattle.mdcache.proofs.NewLaws.{live_root, new_none, no_covers, no_homes, root_live}
-pub use Rattle.mdcache.proofs.NoNames.{all_pass, no_name, some_fails, some_name}
+pub use Rattle.mdcache.proofs.NoNames.{all_pass, no_name, none_unless, some_fails, some_name}
 pub use Rattle.mdcache.proofs.SplitLaws.{has_inside}
-pub use Rattle.mdcache.proofs.TreeLookups.{at_dentry}
 pub use Rattle.mdcache.proofs.UncleanOf.{few_lack, get_unclean_of}
 pub use Rattle.mdcache.specs.Changes.{Alters, Makes, first_leaf, with_directory, with_home_at, without, without_leaves}
 pub use Rattle.mdcache.specs.Changing.{IsChanged}
@@ -91,7 +91,7 @@ pub use Rattle.mdcache.specs.Regrouping.{ending_at}
 pub use Rattle.mdcache.specs.Regroups.{LacksCounts, MayNotRegroup}
 pub use Rattle.mdcache.specs.Shown.{names_of, shown_tree}
 pub use Rattle.mdcache.specs.Sound.{IsSound}
-pub use Rattle.mdcache.specs.Splits.{IsMergedInto, IsSplitInto}
+pub use Rattle.mdcache.specs.Splits.{IsMergedInto, IsRegrouped, IsSplitInto}
 pub use Rattle.mdcache.specs.SplitsAndMerges.{MergesLeaves, SplitsLeaf}
 pub use Rattle.mdcache.specs.StandingJobs.{IsNext, Jobs, is_behind}
 pub use Rattle.mdcache.specs.State.{State}

@@ -1,9 +1,8 @@
 -- What a change, a split and a merge leave of a tree that is divided among ranks, where they change no frozen leaf.
-use Rattle.ranked_tree.proofs.Common.{AllHave, AreFrozenRegionsKept, AreHeld, AreHeldAt, AreThawed, Came, CameAt, Change, Contains, Core, Covers, EndsWith, FollowChange, Fragment, HasLeaf, HaveOneAuthority, Homes, Ino, IsDivided, IsFamilyOf, IsFrozen, IsFrozenIn, IsLive, IsMergedHere, IsMergedInto, IsNamedIn, IsRootMerge, IsRootSplit, IsSoundCore, IsSplitInto, IsTree, KeepsAuthorities, KeepsRoots, Leaf, LoseDirectory, Makes, MayChange, Regions, Roots, Rules, Standing, StandsOver, Subtrees, after_merge, after_split, ap, child_is_new, fragments_of, held_in, holding, in_directory, inr, is_known, leaves_inside, leaves_of, merged_is_new, or_whole, refl, shape_of, shown_in, state_of, subst, sym, tree_of_row, valid_so, ◌^◌, ◌∙◌, State}
+use Rattle.ranked_tree.proofs.Common.{AllHave, AreFrozenRegionsKept, AreHeld, AreHeldAt, AreThawed, Came, CameAt, Change, Contains, Core, Covers, EndsWith, FollowChange, Fragment, HasLeaf, HaveOneAuthority, Homes, Ino, IsDivided, IsFamilyOf, IsFrozen, IsFrozenIn, IsLive, IsMergedHere, IsMergedInto, IsNamedIn, IsRegrouped, IsRootMerge, IsRootSplit, IsSoundCore, IsSplitInto, IsTree, KeepsAuthorities, KeepsRoots, Leaf, LoseDirectory, Makes, MayChange, Regions, Roots, Rules, Standing, StandsOver, State, Subtrees, after_merge, after_split, ap, child_is_new, fragments_of, held_in, holding, in_directory, inr, is_known, leaves_inside, leaves_of, merged_is_new, or_whole, refl, shape_of, shown_in, state_of, subst, sym, tree_of_row, valid_so, ◌^◌, ◌∙◌}
 use Rattle.std.specs.FinMap as map
 use Rattle.sorted_map.proofs.NatKeys as nat
 use Rattle.std.specs.Prelude.{◌≡◌, ℕ, length, List, [], ◌∷◌, map as each}
-use Rattle.mdcache.specs.Splits.{IsRegrouped}
 use Rattle.ranked_tree.proofs.ExportLaws.{change_keeps}
 use Rattle.ranked_tree.proofs.HeldChanges.{change_held}
 use Rattle.ranked_tree.proofs.HeldLaws.{HaveCaches}

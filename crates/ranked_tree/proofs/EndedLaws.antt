@@ -1,8 +1,7 @@
 -- The jobs of a region end, leaf by leaf.
-use Rattle.ranked_tree.proofs.Common.{Bool, Covers, EndsInside, EndsRegion, Homes, IsNext, Job, Jobs, Leaf, List, MatchOption, NearestRoot, None, Option, Roots, Some, [], ap, arith, cases_Bool, cond, cond_both, eq_by_cmp, false, false≢true, find, get-entries, get_left, get_removed, inl, inr, is_behind, is_lt, is_some, leaf-exact, leaf-total, leaf_cmp, less_is, none-some, one_root, refl, same_or_apart, subst, suc, sym, tie, tied_itself, true, true≢false, value_of, ℕ, ⊎_elim, ◌+◌, ◌<◌, ◌∙◌, ◌∷◌, ◌≡◌, ◌≢◌, ◌≤◌, State, ◌⊎◌}
+use Rattle.ranked_tree.proofs.Common.{Bool, Covers, EndsInside, Homes, IsNext, Job, Jobs, Leaf, List, MatchOption, NearestRoot, None, Option, Roots, Some, State, [], ap, arith, cases_Bool, cond, cond_both, eq_by_cmp, false, false≢true, find, get-entries, get_left, get_removed, inl, inr, is_behind, is_lt, is_some, leaf-exact, leaf-total, leaf_cmp, less_is, none-some, none_unless, one_root, refl, rules, same_or_apart, subst, suc, sym, tie, tied_itself, true, true≢false, value_of, ℕ, ⊎_elim, ◌+◌, ◌<◌, ◌∙◌, ◌∷◌, ◌≡◌, ◌≢◌, ◌≤◌, ◌⊎◌}
 use Rattle.std.specs.FinMap as map
-use Rattle.ranked_tree.proofs.HeldLaws.{none_unless}
-use Rattle.ranked_tree.proofs.StandLaws.{FewerJobs, found_left, same_jobs}
+use Rattle.ranked_tree.proofs.StandLaws.{FewerJobs, found_left}
 
 -- ---- how many are to come
 
@@ -43,8 +42,7 @@ module _ (roots : Roots) (root : Leaf) (homes : Homes) (covers : Covers) (leaf :
   FindsRoot found = MatchOption found ((near : Leaf) → NearestRoot roots homes covers leaf near → ⊥) (NearestRoot roots homes covers leaf)
 
   pub found_outside : (found : Option Leaf) → FindsRoot found → (found ≡ Some root → ⊥) → NearestRoot roots homes covers leaf root → ⊥
-  found_outside None is apart near = is root near
-  found_outside (Some other) is apart near = apart (ap (λ (l : Leaf). Some l) (one_root roots homes covers leaf other root is near))
+  found_outside found is apart near = search (rules, one_root)
 
 -- ---- how far it has come
 
@@ -58,21 +56,6 @@ module _ (roots : Roots) (root : Leaf) where
     pub others : (leaf : Leaf) → (IsInside old leaf → ⊥) → map.get now.jobs leaf ≡ map.get old.jobs leaf
     pub fewer : FewerJobs old now
     pub left : now ≡ record old { jobs = now.jobs }
-
-  pub none_ended : (old : State) → HaveEnded old old None
-  none_ended old = record {
-    ended = λ leaf is inside. let clash : true ≡ false = is in absurd cc;
-    others = λ leaf outside. refl;
-    fewer = same_jobs old old refl;
-    left = refl;
-  }
-
-  pub all_ended : (old now : State) (last : Option Leaf) → HaveEnded old now last → IsNext now.jobs last None → EndsRegion old now roots root
-  all_ended old now last so_far none = record {
-    ended = λ leaf inside. ⊎_elim (none leaf) (λ before. so_far.ended leaf before inside) (cases_Bool (is_behind last leaf));
-    others = so_far.others;
-    left = so_far.left;
-  }
 
   module _ (old now : State) (last : Option Leaf) (next : Leaf) (so_far : HaveEnded old now last) (first : IsNext now.jobs last (Some next)) where
     pub fewer_left : count_behind (Some next) old.jobs < count_behind last old.jobs

@@ -1,5 +1,5 @@
 -- What an eviction leaves: what isn't clean, and whose each fragment is.
-use Rattle.ranked_tree.proofs.Common.{At, Bool, CacheMap, Came, Core, Err, IfErr, IsOwned, IsSoundCore, KeepsState, None, NoneEnds, NothingToEvict, Ok, OnErr, OnOk, Option, Refusal, Result, Roots, Some, ap, arith, at_rank, came_cap, came_ranks, clean_there, cond, cond_both, ends, evicted, false, get_unclean_of, given_up, goes, here, here_given_up, last_passes, leaf_is, one_leaf, option_map, order, refl, result_err, same_Some, same_map, state_of, stays, subst, sym, true, unclean_of, unsaved_at, unsaved_in, victim, ℕ, ◌&&◌, ◌==◌, ◌∙◌, ◌≡◌, State, Leaf, leaf-exact, leaf-total, keeps_refused, keeps_itself, faults_in}
+use Rattle.ranked_tree.proofs.Common.{At, Bool, CacheMap, Came, Core, Err, IfErr, IsOwned, IsSoundCore, KeepsState, Leaf, None, NoneEnds, NothingToEvict, Ok, OnErr, OnOk, Option, Refusal, Result, Roots, Some, State, ap, arith, at_rank, came_cap, came_ranks, clean_there, cond, ends, evicted, false, faults_in, get_unclean_of, given_up, goes, here, here_given_up, keeps_itself, keeps_refused, last_passes, leaf-exact, leaf-total, leaf_is, one_leaf, option_map, order, refl, result_err, rules, same_Some, same_map, state_of, stays, subst, sym, true, unclean_of, unsaved_at, unsaved_in, victim, ℕ, ◌&&◌, ◌==◌, ◌∙◌, ◌≡◌}
 use Rattle.std.specs.FinMap as map
 use Rattle.ranked_tree.proofs.HeldLaws.{owned_came}
 
@@ -8,8 +8,7 @@ abbrev AnyEnds : ℕ → Leaf → Type 0
 AnyEnds r leaf = Unit {0}
 
 clean_beyond : (s : ℕ) (o : Option At) → unsaved_at o ≡ None → unsaved_in (at_rank s o) ≡ None
-clean_beyond s None clean = refl
-clean_beyond s (Some a) clean = cond_both (a.rank == s) (Some a.frag) None (λ o. unsaved_in o ≡ None) (λ here_so. clean) (λ elsewhere. refl)
+clean_beyond s o clean = search rules
 
 -- a clean fragment went
 gone_unclean : (c : CacheMap) (r : ℕ) (v : Leaf) → goes c r None v ≡ true → (s : ℕ) → unclean_of (given_up c r v) s ≡ unclean_of c s

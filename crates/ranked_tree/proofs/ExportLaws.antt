@@ -1,15 +1,8 @@
 -- What a change of the tree leaves of frozen regions, where it changes no frozen leaf: each of their leaves.
-use Rattle.ranked_tree.proofs.Common.{AreFrozenRegionsKept, ArePlaced, AreRoots, Bool, Change, Contains, Covers, FollowChange, Fragment, HasLeaf, HoldsDentry, Home, Homes, IfSome, Ino, Inode, IsFrozen, IsInRegion, IsLive, IsPick, IsSettled, IsSound, Leaf, List, LoseDirectory, Makes, MatchBool, MayChange, MayGo, MayMove, None, Option, Roots, Shape, Some, Spot, Standing, StandsOver, Subtrees, [], add, after_making, after_move, after_removal, arith, dentry_at, dir_or_not, false, first, fragments_of, hash_of, home_at, home_of, in_directory, is_dir_kind, keep_frozen, later, leaf_of, leaves, leaves_gone, leaves_of, may_come, move, moved_home, moved_known, moves, one_holder, one_value, refl, remove, rows_but, set, shown_tree, subst, suc, sym, true, with_dir, with_file, with_home, zero, ℕ, ⊎_elim, ◌↔◌, ◌∙◌, ◌∷◌, ◌≡◌, State}
+use Rattle.ranked_tree.proofs.Common.{AreFrozenRegionsKept, ArePlaced, AreRoots, Bool, Change, Contains, Covers, FollowChange, HasLeaf, HoldsDentry, Home, Homes, IfSome, Ino, Inode, IsFrozen, IsInRegion, IsLive, IsPick, IsSettled, IsSound, Leaf, LoseDirectory, Makes, MatchBool, MayChange, MayGo, MayMove, None, Option, Roots, Shape, Some, Spot, Standing, StandsOver, State, Subtrees, [], add, after_making, after_move, after_removal, dentry_at, dir_or_not, false, first, fragments_of, hash_of, home_at, home_of, is_dir_kind, keep_frozen, later, leaf_of, leaves_gone, leaves_of, may_come, may_go, move, moved_home, moved_known, moves, one_holder, one_of_those, one_value, refl, relocates, remove, replaces, rows_but, set, shown_tree, subst, sym, true, with_dir, with_file, with_home, ℕ, ⊎_elim, ◌↔◌, ◌∙◌, ◌∷◌, ◌≡◌}
 use Rattle.std.specs.FinMap as map
-use Rattle.std.proofs.Common.{map as each}
-use Rattle.ranked_tree.proofs.ChangedTables.{added_tables, grown_tables, moved_tables, removed_tables, set_tables, relocates, replaces}
-use Rattle.ranked_tree.proofs.SubtreeLaws.{moves as rehomes, removable}
-
--- a live leaf of a directory is among all of them
-among : (d : ℕ) (fs : List Fragment) (f : Fragment) → HasLeaf fs f → Contains (each (in_directory d) fs) (in_directory d f)
-among d [] f (k, within, is) = absurd (omega (arith, within))
-among d (g ∷ fs) f (zero, within, is) = subst (λ (x : Fragment). Contains (each (in_directory d) (g ∷ fs)) (in_directory d x)) is (first (in_directory d g) (each (in_directory d) fs))
-among d (g ∷ fs) f (suc k, within, is) = later (in_directory d g) (in_directory d f) (each (in_directory d) fs) (among d fs f (k, omega (arith, within), is))
+use Rattle.ranked_tree.proofs.ChangedTables.{added_tables, grown_tables, moved_tables, removed_tables, set_tables}
+use Rattle.ranked_tree.proofs.SubtreeLaws.{moves as rehomes}
 
 module _ (standing : Standing) where
   abbrev Kept : Subtrees → Subtrees → Homes → Homes → Covers → Covers → Type 0
@@ -43,8 +36,7 @@ module _ (standing : Standing) where
         below = may.other;
         childless = may.childless;
         thawed = λ leaf at live frozen.
-            let here : ◌≡◌ {A = Leaf} (in_directory dir.0 leaf.1) leaf = λ i. (record { 0 = sym at i }, leaf.1) in
-            thawed leaf live (subst (λ (l : Leaf). Contains (leaves covers dir.0) l) here (among dir.0 (leaves_of covers dir.0) leaf.1 (subst (λ (d : ℕ). HasLeaf (leaves_of covers d) leaf.1) at live.stands))) frozen;
+            thawed leaf live (one_of_those dir.0 leaf (leaves_of covers dir.0) at (subst (λ (d : ℕ). HasLeaf (leaves_of covers d) leaf.1) at live.stands)) frozen;
         home_gone = refl;
         leaves_gone = refl;
         roots = roots;
@@ -126,6 +118,6 @@ module _ (standing : Standing) where
         (λ kinded. let tables = added_tables old new spot inode kinded makes in rw (tables.0, tables.1) (still was now old.homes old.covers (follow.2 ∙ follow.1) promises placed)) (dir_or_not inode)
     change_keeps _ (remove spot went) may makes follow promises thawed =
         let tables = removed_tables old new spot went makes in
-        rw (tables.0, tables.1) (loses was now old.homes old.covers went over (removable old spot went sound may) (λ leaf live has frozen. thawed leaf (later (leaf_of spot.at) leaf (leaves_gone old.covers went) has) frozen)
+        rw (tables.0, tables.1) (loses was now old.homes old.covers went over (may_go old spot went sound may) (λ leaf live has frozen. thawed leaf (later (leaf_of spot.at) leaf (leaves_gone old.covers went) has) frozen)
         (subst (λ (r : Roots). LoseDirectory r now.roots went) follow.1 follow.2) promises)
     change_keeps _ (move from to inode went) may makes follow promises thawed = rename_keeps from to inode went may makes follow promises thawed

@@ -1,5 +1,5 @@
 -- What calls for an operation keep, and why they are refused, in the words of the operation.
-use Rattle.ranked_tree.proofs.Common.{Bool, Change, ChangesHeld, Concerns, Core, Dirfrag, Err, FollowsChange, HoldsAt, IfErr, IfErr-weaker, Ino, IsAt, IsChangeIn, IsChangeOf, IsChangedHeld, IsLive, IsPick, IsSound, KeepsAll, KeepsRanked, KeepsState, LacksBy, LacksForIn, LacksNumbers, LacksPlacesAsked, LacksPlacesDir, LacksToMake, Lists, Looks, MayNotFind, MayRefuse, Moves, NamesDir, Ok, OnErr, OnOk, Op, Option, Ranked, ReadsDir, Refusal, Regions, Removes, Result, Sets, Unlinks, ap, false, held_in, held_roots, inl, inr, is_dir_kind, is_directory, leaf_of, leaves_of, refl, result_err, shape, shown_tree, state_of, subst, sym, true, ℕ, ⊎_elim, ◌∙◌, ◌≡◌, State}
+use Rattle.ranked_tree.proofs.Common.{Bool, Change, ChangesHeld, Concerns, Core, Dirfrag, Err, FollowsChange, HoldsAt, IfErr, IfErr-weaker, Ino, IsAt, IsChangeIn, IsChangeOf, IsLive, IsPick, IsSound, KeepsAll, KeepsRanked, KeepsState, LacksBy, LacksForIn, LacksNumbers, LacksPlacesAsked, LacksPlacesDir, LacksToMake, MayNotFind, MayRefuse, Moves, NamesDir, Ok, OnErr, Op, Option, Ranked, ReadsDir, Refusal, Regions, Removes, Result, Sets, Unlinks, ap, false, held_in, held_roots, inl, inr, is_dir_kind, is_directory, leaf_of, leaves_of, refl, result_err, shape, shown_tree, state_of, subst, sym, true, ℕ, ⊎_elim, ◌∙◌, ◌≡◌, State}
 use Rattle.mds_types.specs.Shape.{Shape, Makes}
 use Rattle.ranked_tree.proofs.HolderLaws.{pick_live}
 use Rattle.ranked_tree.proofs.AskLaws.{asked}
@@ -38,8 +38,6 @@ module _ (tree new : Core) (regions : Regions) (now : Ranked) (is : over tree re
 
 -- the numbers that lack for a change lack for its operation
 numbers_lack : (s : State) (sort : Shape) (change : Change) → IsChangeIn sort change → LacksToMake change s → LacksForIn sort s
-numbers_lack s (Looks dentry answer) change of lacks = absurd of
-numbers_lack s (Lists dir after max) change of lacks = absurd of
 numbers_lack s (Makes dentry kind mode birth) change of lacks =
     by_put (λ t p. LacksBy t p true s → LacksForIn (Makes dentry kind mode birth) s) dentry _ change.takes change.puts of.takes of.puts
     (λ put at is. ⊎_elim (λ version. inl version) (λ dir. inr (ap is_dir_kind (sym is) ∙ dir.0, dir.1))) (subst (λ (b : Bool). LacksBy change.takes change.puts b s) of.comes lacks)
@@ -48,15 +46,11 @@ numbers_lack s (Sets dentry alteration) change of lacks =
 numbers_lack s (Unlinks dentry) change of lacks = by_taken (λ t p. LacksBy t p change.comes s → LacksNumbers 1 s.next_version) dentry change.takes change.puts of.removal.takes of.removal.puts (λ spot at version. version) lacks
 numbers_lack s (Removes dentry) change of lacks = by_taken (λ t p. LacksBy t p change.comes s → LacksNumbers 1 s.next_version) dentry change.takes change.puts of.takes of.puts (λ spot at version. version) lacks
 numbers_lack s (Moves from to) change of lacks = by_move (λ t p. LacksBy t p change.comes s → LacksNumbers 2 s.next_version) from to _ change.takes change.puts of.takes of.puts (λ spot put at there versions. versions) lacks
+numbers_lack s _ change of lacks = absurd of
 
 -- ---- a change
 
 module _ (old new : Ranked) (op : Op) (change : Change) (of : IsChangeOf op change) where
-  -- where it was made
-  pub where_made : {P : Type 0} (result : Result (Unit {0}) Refusal) → ChangesHeld (held_roots old) change old.tree new.tree result → (IsChangedHeld (held_roots old) change old.tree new.tree → P) → OnOk result P
-  where_made {P} (Ok done) is so = so is
-  where_made {P} (Err reason) is so = tt
-
   -- where it wasn't, leaves of directories that the operation concerns were read
   pub where_refused : (result : Result (Unit {0}) Refusal) → ChangesHeld (held_roots old) change old.tree new.tree result → FollowsChange change (state_of old.tree) old.subtrees new.subtrees result → new.exports ≡ old.exports
       → OnErr result (KeepsAll (shown_tree (state_of old.tree)) (shown_tree (state_of new.tree)) old.tree.covers new.tree.covers (KeepsRanked old new op (result_err result)))

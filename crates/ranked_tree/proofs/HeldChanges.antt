@@ -1,12 +1,11 @@
 -- What a change of the tree leaves: each cached fragment is at its leaf's authority then; what it makes of the caches.
-use Rattle.ranked_tree.proofs.Common.{AreHeld, AreHeldAt, Came, Change, Core, Covers, EndsWith, Fragment, HasLeaf, Home, Homes, IfSome, Ino, Inode, IsLive, IsNamedIn, IsOwned, IsPick, IsSome, IsSound, IsSoundCore, IsTable, IsThat, KeepsAuthorities, Leaf, List, Makes, MayChange, MayCome, MayGo, None, Option, Rank, Roots, Rules, Shape, Some, Spot, [], add, adds, ap, dentry_at, dir_or_not, false, first_leaf, hash_of, home_at, inherited, inl, inr, is_dir_kind, is_some, leaf_of, leaves_of, may_come, move, only_leaf, or_whole, refl, remove, root_fragment, rows_but, set, shown_in, shown_tree, state_of, still_known, subst, sym, true, with_home, ℕ, ⊎_elim, ◌==◌, ◌||◌, ◌∙◌, ◌∷◌, ◌≡◌, ◌⊎◌, State, shape_of, AsksFor, IsChanged, IsChangedHeld, IsGone, NamesDir, NoneEnds, came_then, came_weaker, is_known, known_is, none-some, reads_came, reads_weaker, same_Some}
+use Rattle.ranked_tree.proofs.Common.{AreHeld, AreHeldAt, AsksFor, Came, Change, Core, Covers, EndsWith, Fragment, HasLeaf, Home, Homes, IfSome, Ino, Inode, IsChanged, IsChangedHeld, IsGone, IsLive, IsNamedIn, IsOwned, IsPick, IsSome, IsSound, IsSoundCore, IsTable, IsThat, KeepsAuthorities, Leaf, List, Makes, MayChange, MayCome, MayGo, NamesDir, None, NoneEnds, Option, Rank, Roots, Rules, Shape, Some, Spot, State, [], adds, ap, came_then, came_weaker, dentry_at, dir_or_not, false, first_leaf, hash_of, home_at, inherited, inl, inr, is_dir_kind, is_known, is_some, known_is, leaf_of, leaves_of, may_come, may_go, move, none-some, none_unless, only_leaf, or_whole, reads_came, reads_weaker, refl, remove, replaces, root_fragment, rows_but, same_Some, shape_of, shown_in, shown_tree, state_of, still_known, subst, sym, true, with_home, ℕ, ⊎_elim, ◌==◌, ◌||◌, ◌∙◌, ◌∷◌, ◌≡◌, ◌⊎◌}
 use Rattle.std.specs.FinMap as map
 use Rattle.sorted_map.proofs.NatKeys as nat
-use Rattle.ranked_tree.proofs.ChangedTables.{added_tables, grown_tables, moved_tables, removed_tables, replaces}
-use Rattle.ranked_tree.proofs.HeldLaws.{HaveCaches, held_since, is_that, none_unless}
+use Rattle.ranked_tree.proofs.ChangedTables.{added_tables, grown_tables, moved_tables, removed_tables}
+use Rattle.ranked_tree.proofs.HeldLaws.{HaveCaches, held_since, is_that}
 use Rattle.ranked_tree.proofs.ReadsForLaws.{asks_change}
 use Rattle.ranked_tree.proofs.HolderLaws.{named_by, new_is_not_live, put_live, was_unknown}
-use Rattle.ranked_tree.proofs.SubtreeLaws.{removable}
 
 -- ---- which leaves come
 
@@ -76,11 +75,10 @@ row_gone homes (Some d) dir may is = subst (λ (x : Ino). is_known (map.remove h
 
 -- the directory that went with a change isn't known then
 gone_unknown : (change : Change) → Shape change → (old new : State) → IsSound old → MayChange (shown_tree old) old.covers change → Makes change old new → (dir : Ino) → change.gone ≡ Some dir → is_known new.homes dir.0 ≡ false
-gone_unknown _ (add spot inode) old new sound may makes dir is = absurd (none-some dir is)
-gone_unknown _ (set spot inode) old new sound may makes dir is = absurd (none-some dir is)
-gone_unknown _ (remove spot went) old new sound may makes dir is = rw (removed_tables old new spot went makes).0 (row_gone old.homes went dir (removable old spot went sound may) is)
+gone_unknown _ (remove spot went) old new sound may makes dir is = rw (removed_tables old new spot went makes).0 (row_gone old.homes went dir (may_go old spot went sound may) is)
 gone_unknown _ (move source target inode went) old new sound may makes dir is =
     rw (moved_tables old new source target inode went makes).0 (row_gone (with_home old.homes (dentry_at target) inode) went dir (replaces old sound source target inode went may) is)
+gone_unknown _ _ old new sound may makes dir is = absurd (none-some dir is)
 
 -- what a change that was made makes of the caches, with its reads
 pub whole_came : (change : Change) (old new : Core) → IsChanged change old new → Came (IsNamedIn change) (EndsWith change) old.caches new.caches

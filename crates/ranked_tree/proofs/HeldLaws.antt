@@ -11,11 +11,6 @@ module _ (tree : State) (caches : CacheMap) (roots : Roots) (held : AreHeld tree
       alone_at None is = tt
       alone_at (Some a) is = ap (λ (r : Rank). r.0) (one_authority roots tree.homes tree.covers leaf (record { 0 = a.rank }) rank (held.cached leaf a is) rules)
 
--- there is none where no value can be the one
-pub none_unless : {X : Type 0} (o : Option X) → ((x : X) → o ≡ Some x → ⊥) → o ≡ None
-none_unless {X} None never = refl
-none_unless {X} (Some x) never = absurd (never x refl)
-
 -- a rank holds each leaf whose fragment it has, and each place is that of a cached fragment
 pub there_held : (tree : State) (caches : CacheMap) (roots : Roots) → ((leaf : Leaf) (a : At) → map.get caches.held leaf ≡ Some a → Rules tree roots leaf (record { 0 = a.rank })) → (r : ℕ) (leaf : Leaf) → IsThere (here caches r leaf) → Rules tree roots leaf (record { 0 = r })
 there_held tree caches roots cached r leaf there = of_frag (here caches r leaf) refl there
@@ -34,11 +29,7 @@ HaveCaches roots caches = (leaf : Leaf) (rank : Rank) → map.get roots leaf ≡
 
 pub held_after : (new : State) (later : CacheMap) (after : Roots) → HaveCaches after later → KeepsNone later
     → ((leaf : Leaf) (a : At) → map.get later.held leaf ≡ Some a → Rules new after leaf (record { 0 = a.rank })) → AreHeld new later after
-held_after new later after ranks none cached = record {
-  cached = cached;
-  placed = placed_at new later after none cached;
-  ranks = ranks;
-}
+held_after new later after ranks none cached = record { cached = cached; placed = placed_at new later after none cached; ranks = ranks }
 
 -- the authority of a leaf at a rank of this number
 pub is_that : (tree : State) (roots : Roots) (leaf : Leaf) (rank : Rank) → Rules tree roots leaf rank → (r : ℕ) (q : Leaf) → IsThat rank.0 leaf r q → Rules tree roots q (record { 0 = r })

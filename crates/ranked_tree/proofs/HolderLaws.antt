@@ -1,5 +1,5 @@
 -- The leaves that a change names, and the ranks that hold them.
-use Rattle.ranked_tree.proofs.Common.{AreHeld, AreHeldAt, AreOneRank, CacheMap, Change, Fragment, HoldsAt, Home, Homes, IfSome, IfSome_then, Ino, Inode, IsLive, IsNamedIn, IsPick, IsSound, IsSpot, IsThat, Leaf, MayChange, MayCome, MayHoldEach, NamesDir, None, Option, Roots, Rules, Shape, Some, Spot, add, adds, ap, dentry_at, false, first_leaf, hash_of, inl, inr, is_directory, is_known, is_some, known_is, leaf_of, leaves_of, may_come, move, one_authority, refl, remove, set, shape_of, shown_tree, subst, sym, true, ℕ, ⊎_elim, ◌||◌, ◌∙◌, ◌≡◌, ◌⊎◌, State}
+use Rattle.ranked_tree.proofs.Common.{AreHeld, AreHeldAt, AreOneRank, CacheMap, Change, Fragment, HoldsAt, Home, Homes, IfSome, IfSome_then, Ino, Inode, IsLive, IsNamedIn, IsPick, IsSound, IsSpot, IsThat, Leaf, MayChange, MayCome, MayHoldEach, NamesDir, Option, Roots, Rules, Shape, Some, Spot, add, adds, ap, dentry_at, false, first_leaf, hash_of, inl, inr, is_directory, is_known, is_some, known_is, leaf_of, leaves_of, may_come, move, one_authority, refl, remove, set, shape_of, shown_tree, subst, sym, true, ℕ, ⊎_elim, ◌||◌, ◌∙◌, ◌≡◌, ◌⊎◌, State}
 use Rattle.sorted_map.proofs.NatKeys as nat
 use Rattle.ranked_tree.proofs.HeldLaws.{is_that, may_hold}
 
@@ -65,6 +65,5 @@ module _ (s : State) (sound : IsSound s) where
     }
       where
         one : (takes : Option Spot) (puts : Option (Spot × Inode)) → IfSome takes (λ spot. HoldsAt s roots spot.at) → IfSome puts (λ put. HoldsAt s roots put.0.at) → AreOneRank takes puts
-        one None puts here there = tt
-        one (Some spot) None here there = tt
         one (Some spot) (Some to) here there = λ same. one_authority roots s.homes s.covers (leaf_of to.0.at) spot.at.rank to.0.at.rank (subst (λ (l : Leaf). Rules s roots l spot.at.rank) same here) there
+        one _ _ here there = tt

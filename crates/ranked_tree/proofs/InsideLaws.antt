@@ -3,10 +3,6 @@ use Rattle.ranked_tree.proofs.Common.{Contains-from_range, Covers, Fragment, Has
 use Rattle.mds_types.specs.Frag.{Contains}
 use Rattle.subtree_map.proofs.Covers.{is_fragment, one_leaf}
 
--- where a fragment ends, all leaves inside begin before
-pub none_beyond : (leaves : List Fragment) (f : Fragment) (hash : ℕ) → IsFragment f → f.value + span f.bits ≤ hash → IsInsideAt leaves f hash None
-none_beyond leaves f hash valid beyond g has inside = let range = range_from_inside f g valid inside in omega (arith, beyond, range.2)
-
 module _ (leaves : List Fragment) (tree : IsTree leaves) (f : Fragment) (valid : IsFragment f) (hash : ℕ) where
   module _ (from : f.value ≤ hash) (within : hash < f.value + span f.bits) (leaf : Fragment) (pick : IsPick leaves hash leaf) where
     its : IsFragment leaf
@@ -19,11 +15,7 @@ module _ (leaves : List Fragment) (tree : IsTree leaves) (f : Fragment) (valid :
         let same : hash % 2 ^ 24 ≡ hash = omega (arith, low) in
         (omega (arith, ends.0, same), omega (arith, ends.1, same))
 
-    -- the leaf at the hash lies inside,
-    pub inside_found : lies_inside f leaf ≡ true → IsInsideAt leaves f hash (Some leaf)
-    inside_found inside = (pick.stands, inside, range.0, range.1)
-
-    -- or it contains the fragment, and no leaf lies inside
+    -- where the leaf at the hash contains the fragment, no leaf lies inside
     pub none_inside : lies_inside f leaf ≡ false → IsInsideAt leaves f hash None
     none_inside outside g has inside =
         let fewer : leaf.bits ≤ f.bits =

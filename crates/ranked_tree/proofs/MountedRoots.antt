@@ -1,8 +1,8 @@
 -- The roots of a tree that was mounted are its own, and each rank caches what it holds: rank 0 the one leaf of a new tree, and no rank anything else.
-use Rattle.ranked_tree.proofs.Common.{AreFilled, AreTopRoots, At, CacheMap, Core, Covers, HasLeaf, IsOwned, IsSoundCore, Mounts, None, Objects, Rank, Roots, Rules, Some, State, Tree, [], ap, arith, get-empty, get_beside, is_known, is_some, leaf-exact, leaf-total, leaf_cmp, leaves_of, length, length-replicate, live_root, new_roots, no_covers, no_homes, one_value, root_fragment, root_leaf, root_live, same_map, same_or_apart, state_of, subst, sym, ℕ, ⊎_elim, ◌<◌, ◌∙◌, ◌≡◌, Leaf}
+use Rattle.ranked_tree.proofs.Common.{AreFilled, AreTopRoots, At, CacheMap, Core, Covers, HasLeaf, IsOwned, IsSoundCore, Mounts, None, Objects, Rank, Roots, Rules, Some, State, Tree, [], ap, arith, get-empty, get_beside, is_known, is_some, leaf-exact, leaf-total, leaf_cmp, leaves_of, length, length-replicate, live_root, new_roots, no_covers, no_homes, one_value, root_fragment, root_leaf, root_live, same_map, same_or_apart, state_of, subst, sym, ℕ, ⊎_elim, ◌<◌, ◌∙◌, ◌≡◌, Leaf, none_unless}
 use Rattle.std.specs.FinMap as map
 use Rattle.subtree_map.specs.Changes.{leaf_of}
-use Rattle.ranked_tree.proofs.HeldLaws.{none_unless, placed_at}
+use Rattle.ranked_tree.proofs.HeldLaws.{placed_at}
 use Rattle.ranked_tree.proofs.NewLaws.{new_are_held, root_is}
 
 -- the leaves of the root directory where there was no root

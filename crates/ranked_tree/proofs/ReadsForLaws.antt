@@ -1,5 +1,5 @@
 -- What reads of a directory's leaves make of the caches, one after the other.
-use Rattle.ranked_tree.proofs.Common.{AreHeldAt, AsksFor, Change, Concerns, ConcernsIn, Core, Dentry, Inode, IsChangeIn, IsNamedIn, IsSound, KeepsRanked, KeepsState, Leaf, Lists, Looks, MayChange, Moves, NamesBy, NamesDir, None, NoneEnds, Op, Option, PutsAt, Ranked, Reads, ReadsFor, Refusal, Removes, Roots, Sets, Some, Spot, TakesAt, Tree, Unlinks, ap, dentry_at, false, held_roots, inl, inr, is_known, keeps_on, may_come, none-some, reads_then, reads_weaker, shown_tree, state_of, subst, sym, ℕ, ⊎_elim, ◌∙◌, ◌≡◌, State, shape_of}
+use Rattle.ranked_tree.proofs.Common.{AreHeldAt, AsksFor, Change, Concerns, ConcernsIn, Core, Dentry, Inode, IsChangeIn, IsNamedIn, IsSound, KeepsRanked, KeepsState, Leaf, MayChange, Moves, NamesBy, NamesDir, None, NoneEnds, Op, Option, PutsAt, Ranked, Reads, ReadsFor, Refusal, Removes, Roots, Sets, Some, Spot, State, TakesAt, Tree, Unlinks, ap, dentry_at, false, held_roots, inl, inr, is_known, keeps_on, may_come, reads_then, reads_weaker, rules, shape_of, shown_tree, state_of, subst, sym, ℕ, ⊎_elim, ◌∙◌, ◌≡◌}
 use Rattle.mds_types.specs.Shape.{Shape as OpShape, Makes}
 use Rattle.ranked_tree.proofs.AskLaws.{held_still}
 use Rattle.ranked_tree.proofs.HolderLaws.{is_unknown, named_by}
@@ -39,25 +39,17 @@ asks_change old roots change sound may held r q is =
 
 module _ (P : Option Spot → Option (Spot × Inode) → Type 0) where
   pub by_put : (dentry : Dentry) (Is : Inode → Type 0) (takes : Option Spot) (puts : Option (Spot × Inode)) → takes ≡ None → PutsAt dentry Is puts → ((put : Spot × Inode) → dentry_at put.0 ≡ dentry → Is put.1 → P None (Some put)) → P takes puts
-  by_put dentry Is None None none at so = absurd at
-  by_put dentry Is None (Some put) none at so = so put at.0 at.1
-  by_put dentry Is (Some spot) puts none at so = absurd (none-some spot (sym none))
+  by_put dentry Is takes puts none at so = search rules
 
   pub by_taken : (dentry : Dentry) (takes : Option Spot) (puts : Option (Spot × Inode)) → TakesAt dentry takes → puts ≡ None → ((spot : Spot) → dentry_at spot ≡ dentry → P (Some spot) None) → P takes puts
-  by_taken dentry None puts at none so = absurd at
-  by_taken dentry (Some spot) None at none so = so spot at
-  by_taken dentry (Some spot) (Some put) at none so = absurd (none-some put (sym none))
+  by_taken dentry takes puts at none so = search rules
 
   pub by_move : (here there : Dentry) (Is : Inode → Type 0) (takes : Option Spot) (puts : Option (Spot × Inode)) → TakesAt here takes → PutsAt there Is puts
       → ((spot : Spot) (put : Spot × Inode) → dentry_at spot ≡ here → dentry_at put.0 ≡ there → P (Some spot) (Some put)) → P takes puts
-  by_move here there Is None puts at to so = absurd at
-  by_move here there Is (Some spot) None at to so = absurd to
-  by_move here there Is (Some spot) (Some put) at to so = so spot put at to.0
+  by_move here there Is takes puts at to so = search rules
 
 -- the directories of a change are those that its operation concerns
 pub change_concerns : (tree : Tree) (sort : OpShape) (change : Change) → IsChangeIn sort change → (d : ℕ) → NamesDir change d → ConcernsIn tree sort d
-change_concerns tree (Looks dentry answer) change of d = absurd of
-change_concerns tree (Lists dir after max) change of d = absurd of
 change_concerns tree (Makes dentry kind mode birth) change of d = by_put (λ t p. NamesBy t p d → d ≡ dentry.dir.0) dentry _ change.takes change.puts of.takes of.puts (λ put at is named. named ∙ ap (λ (e : Dentry). e.dir.0) at)
 change_concerns tree (Sets dentry alteration) change of d = by_put (λ t p. NamesBy t p d → d ≡ dentry.dir.0) dentry _ change.takes change.puts of.takes of.puts (λ put at is named. named ∙ ap (λ (e : Dentry). e.dir.0) at)
 change_concerns tree (Unlinks dentry) change of d = by_taken (λ t p. NamesBy t p d → d ≡ dentry.dir.0) dentry change.takes change.puts of.removal.takes of.removal.puts (λ spot at named. named ∙ ap (λ (e : Dentry). e.dir.0) at)
@@ -65,3 +57,4 @@ change_concerns tree (Removes dentry) change of d = by_taken (λ t p. NamesBy t 
 change_concerns tree (Moves from to) change of d =
     by_move (λ t p. NamesBy t p d → ConcernsIn tree (Moves from to) d) from to _ change.takes change.puts of.takes of.puts
     (λ spot put at there. ⊎_elim (λ named. inl (named ∙ ap (λ (e : Dentry). e.dir.0) at)) (λ named. inr (inl (named ∙ ap (λ (e : Dentry). e.dir.0) there))))
+change_concerns tree _ change of d = absurd of

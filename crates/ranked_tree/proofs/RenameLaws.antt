@@ -1,8 +1,7 @@
 -- What a directory's move needs of the roots: it keeps its leaves, and the rank that they inherit is known at both its dentries.
-use Rattle.ranked_tree.proofs.Common.{Bool, Change, Covers, Home, Homes, IfSome, Ino, Inode, IsInheritedAt, IsLostRank, IsRight, IsSettled, IsSound, IsSpot, MatchBool, MatchOption, MayChange, MayMove, None, Option, Rank, Roots, Rules, SettleMoving, Shape, Some, Spot, State, Tree, add, changed, cond, cond_both, dentry_at, dir_moving, directory_at, entry_stands, false, home_at, is_dir_kind, is_directory, leaf_of, leaves_of, move, moves, refl, remove, rules, same_Some, set, shown_tree, subst, sym, taken, true, ◌≡◌, ◌≢◌}
+use Rattle.ranked_tree.proofs.Common.{Bool, Change, Covers, Home, Homes, IfSome, Ino, Inode, IsInheritedAt, IsLostRank, IsRight, IsSettled, IsSound, IsSpot, MatchBool, MatchOption, MayChange, MayMove, None, Option, Rank, Roots, Rules, SettleMoving, Shape, Some, Spot, State, Tree, add, changed, cond, cond_both, dentry_at, dir_moving, directory_at, entry_stands, false, home_at, is_dir_kind, is_directory, leaf_of, leaves_of, move, moves, refl, relocates, remove, rules, same_Some, set, shown_tree, subst, sym, taken, true, ◌≡◌, ◌≢◌}
 use Rattle.std.specs.FinMap as map
 use Rattle.mds_types.proofs.EntryLaws.{get_put}
-use Rattle.ranked_tree.proofs.ChangedTables.{relocates}
 
 -- the rank that is lost, where the directory's dentry is at a leaf of one rank and the new one at a leaf of another
 abbrev pub IsLost : (was other : Rank) → Option Rank → Type 0
@@ -37,21 +36,18 @@ module _ (s : State) (sound : IsSound s) (roots : Roots) where
 
 -- a directory that moved has the leaves that it had
 pub leaves_stay : (old new : State) (change : Change) → Shape change → IsRight change old new → IfSome (dir_moving change) (λ (dir : Ino). leaves_of old.covers dir.0 ≡ leaves_of new.covers dir.0)
-leaves_stay old new _ (add spot inode) is = tt
-leaves_stay old new _ (set spot inode) is = tt
-leaves_stay old new _ (remove spot went) is = tt
 leaves_stay old new _ (move source target inode went) is =
     cond_both (is_dir_kind inode.kind) (Some inode.ino) None (λ o. IfSome o (λ (dir : Ino). leaves_of old.covers dir.0 ≡ leaves_of new.covers dir.0))
     (λ kinded.
     sym (is.leaves inode.ino.0 (subst (λ (t : Tree). is_directory t inode.ino.0 ≡ true) (sym is.tree)
     (entry_stands (changed (shown_tree old) (moves source target inode went)) (dentry_at target) inode (get_put (taken (shown_tree old) (Some source)) (dentry_at target) inode) kinded))))
     (λ file. tt)
+leaves_stay old new _ _ is = tt
 
 -- so there is room for as many as before
 pub room_still : (d : Option Ino) (covers now : Covers) (P : Ino → Covers → Type 0) → ((dir : Ino) → leaves_of covers dir.0 ≡ leaves_of now dir.0 → P dir covers → P dir now)
     → IfSome d (λ (dir : Ino). leaves_of covers dir.0 ≡ leaves_of now dir.0) → IfSome d (λ (dir : Ino). P dir covers) → IfSome d (λ (dir : Ino). P dir now)
-room_still None covers now P keeps same has = tt
-room_still (Some dir) covers now P keeps same has = keeps dir same has
+room_still d covers now P keeps same has = search rules
 
 -- what is known of the roots of a directory, if one moved, that has the leaves of this table
 abbrev pub Settles : Option Ino → Covers → (before after : Roots) → Option Rank → Type 0

@@ -1,5 +1,5 @@
 -- What becomes of the roots and of every leaf's authority where directories come, move and go: from the table of directories alone.
-use Rattle.ranked_tree.proofs.Common.{AreGone, BecomesMerged, BecomesSplit, CanMerge, Covers, FitsSplit, Fragment, HasAuthority, HasLeaf, HaveOneAuthority, Home, Homes, Ino, IsChild, IsInheritedAt, IsLive, IsMerge, IsRootMerge, IsRootSplit, IsSettled, IsSplit, IsSubtrees, IsTable, IsTree, KeepAuthority, Leaf, List, MayCome, MayGo, MayMove, NoNewRank, None, Option, Rank, Roots, Some, adopted_authority, adopted_valid, and_right, ap, arith, child_is_new, drops_soundly, cases_Bool, false, inl, inr, is_inside, is_known, is_some, leaves_now, leaves_of, lies_inside, merges_soundly, moves_soundly, nat_lt, nat_tests, not_none, one_value, refl, some_authority, some_holder, span, splits_soundly, subst, sym, tree_of_row, true, value_of, ℕ, ⊎_elim, ◌&&◌, ◌+◌, ◌/◌, ◌==◌, ◌||◌, ◌∙◌, ◌≡◌, ◌≢◌, same_or_apart}
+use Rattle.ranked_tree.proofs.Common.{AreGone, BecomesMerged, BecomesSplit, CanMerge, Covers, FitsSplit, Fragment, HasAuthority, HasLeaf, HaveOneAuthority, Home, Homes, Ino, IsInheritedAt, IsLive, IsMerge, IsRootMerge, IsRootSplit, IsSettled, IsSplit, IsSubtrees, IsTable, IsTree, KeepAuthority, Leaf, List, MayCome, MayGo, MayMove, NoNewRank, None, Option, Rank, Roots, Some, adopted_authority, adopted_valid, and_right, ap, arith, child_is_new, drops_soundly, cases_Bool, false, inl, is_inside, is_known, is_some, leaves_now, leaves_of, lies_inside, merges_soundly, moves_soundly, nat_lt, nat_tests, not_none, one_value, refl, some_authority, some_holder, span, splits_soundly, subst, sym, tree_of_row, true, value_of, ℕ, ⊎_elim, ◌&&◌, ◌+◌, ◌/◌, ◌==◌, ◌||◌, ◌∙◌, ◌≡◌, ◌≢◌, same_or_apart}
 use Rattle.std.specs.FinMap as map
 use Rattle.sorted_map.proofs.NatKeys as nat
 use Rattle.subtree_map.specs.Changes.{leaf_of}
@@ -86,18 +86,18 @@ module _ (before after : Roots) (homes : Homes) (covers : Covers) (table : IsTab
     abbrev at_f : Leaf
     at_f = leaf_of d f
 
-    both : KeepAuthority before after homes homes covers later (BecomesSplit d f nb) × IsSubtrees after homes later
-    both = splits_soundly before after d f nb split homes covers later to table valid divided has fits whole becomes
+    pub split_keeps : KeepAuthority before after homes homes covers later (BecomesSplit d f nb) × IsSubtrees after homes later
+    split_keeps = splits_soundly before after d f nb split homes covers later to table valid divided has fits whole becomes
 
     pub divided_soundly : IsSoundChange before after homes homes covers later
     divided_soundly = record {
-      keeps = λ leaf rank was is has. both.0 leaf leaf rank was (inl (
+      keeps = λ leaf rank was is has. split_keeps.0 leaf leaf rank was (inl (
         λ same.
             ⊎_elim (λ its. its.1 refl) (λ child. let more : f.bits ≡ f.bits + nb = ap (λ (g : Fragment). g.bits) child.2 in omega (arith, more, fits.some))
             ((divided.leaves f).0 (subst (λ (fs : List Fragment). HasLeaf fs f) (leaves_now covers later d to becomes) (subst (λ (l : Leaf). HasLeaf (leaves_of later l.0.0) l.1) same is.stands))),
         refl,
       )) has;
-      valid = both.1;
+      valid = split_keeps.1;
       ranks = λ leaf rank is.
           ⊎_elim (λ some. (
             leaf,
@@ -107,15 +107,11 @@ module _ (before after : Roots) (homes : Homes) (covers : Covers) (table : IsTab
           (λ made. (at_f, sym (split.children made.1.0 made.1.1 made.0) ∙ ap (map.get after) (sym made.1.2) ∙ is)) (split.made leaf (ap is_some is));
     }
 
-    -- each child has the authority that the leaf had
-    pub child_authority : (g : Fragment) (rank : Rank) → IsChild f nb g → IsLive homes covers at_f → HasAuthority before homes covers at_f rank → HasAuthority after homes later (leaf_of d g) rank
-    child_authority g rank child live its = both.0 at_f (leaf_of d g) rank live (inr (refl, (g, child, refl))) its
-
   -- leaves are merged that have one authority
   module _ (d : ℕ) (f : Fragment) (to : List Fragment) (later : Covers) (merge : IsRootMerge before after d f) (one : HaveOneAuthority before homes covers d f) (can : CanMerge (leaves_of covers d) f) (merged : IsMerge (leaves_of covers d) to f) (whole : IsTree to)
       (becomes : later ≡ map.insert covers d to) where
-    joined : KeepAuthority before after homes homes covers later (BecomesMerged d f) × IsSubtrees after homes later
-    joined = merges_soundly before after d f merge homes covers later to table valid one can merged whole becomes
+    pub merge_keeps : KeepAuthority before after homes homes covers later (BecomesMerged d f) × IsSubtrees after homes later
+    merge_keeps = merges_soundly before after d f merge homes covers later to table valid one can merged whole becomes
 
     pub merged_soundly : IsSoundChange before after homes homes covers later
     merged_soundly =
@@ -123,19 +119,15 @@ module _ (before after : Roots) (homes : Homes) (covers : Covers) (table : IsTab
         let equal : nat_lt f.bits f.bits ≡ false = grind (arith, nat_tests) in
         ⊎_elim (λ its. its.1) (λ same. ap (lies_inside f) same ∙ (λ i. equal i && (f.value / span f.bits == f.value / span f.bits))) ((merged.leaves g).0 has) in
         record {
-          keeps = λ leaf rank was is has. joined.0 leaf leaf rank was (inl (
+          keeps = λ leaf rank was is has. merge_keeps.0 leaf leaf rank was (inl (
             ⊎_elim (λ same. and_right (leaf.0.0 == d) _ (none_inside leaf.1 (subst (λ (fs : List Fragment). HasLeaf fs leaf.1) (leaves_now covers later d to becomes) (subst (λ (e : ℕ). HasLeaf (leaves_of later e) leaf.1) same is.stands))))
                 (λ apart. λ i. nat.is_apart leaf.0.0 d apart i && lies_inside f leaf.1) (nat.same_or_apart leaf.0.0 d),
             refl,
           )) has;
-          valid = joined.1;
+          valid = merge_keeps.1;
           ranks = λ leaf rank is.
               ⊎_elim (λ same. let found = merge.rank rank (ap (map.get after) (sym same) ∙ is) in (found.0, found.2))
               (λ apart.
               ⊎_elim (λ inside. absurd (not_none _ rank (merge.gone leaf inside) is)) (λ outside. (leaf, sym (merge.others leaf outside apart) ∙ is)) (cases_Bool (is_inside d f leaf)))
               (same_or_apart leaf (leaf_of d f));
         }
-
-    -- the merged leaf has the authority that each of them had
-    pub merged_authority : (leaf : Leaf) (rank : Rank) → is_inside d f leaf ≡ true → IsLive homes covers leaf → HasAuthority before homes covers leaf rank → HasAuthority after homes later (leaf_of d f) rank
-    merged_authority leaf rank inside live its = joined.0 leaf (leaf_of d f) rank live (inr (inside, refl)) its

@@ -1,6 +1,6 @@
 -- What is known of fragments that aren't clean where a tree is divided among ranks: each has a base that a fragment may have, and lies at the
 -- rank that holds its region. What follows for Send.
-use Rattle.ranked_tree.proofs.Common.{AreAtTheirRank, At, Base, Bool, CacheMap, Cached, ComesTo, Core, Covers, Dirfrag, Err, Export, ExportState, Fresh, HasVersion, HaveVersions, Homes, IfErr, IsDivided, IsErrAnd, IsExportOf, IsIn, IsInRegionOf, IsSoundCore, IsTiedAt, Leaf, List, MayNotSend, NearestRoot, None, Ok, Omap, Option, Prepared, Refusal, RefusesSend, Regions, Result, Rules, Sends, Sent, Some, SpellsExport, SpellsPrepared, SpellsRegion, Standing, StandingExport, Stored, Subtrees, Unsaved, ap, arith, cond, cond_both, false, get_unclean, held_in, holder_is, inr, is_clean, is_freezing, is_imported, none-some, object_of, one_value, option_map, refl, region_holder, same_Some, state_of, subst, sym, true, unclean, unsaved_at, ℕ, ◌∙◌, ◌≡◌, ◌≤◌}
+use Rattle.ranked_tree.proofs.Common.{AreAtTheirRank, At, Base, Bool, CacheMap, Cached, ComesTo, Core, Covers, Dirfrag, Export, ExportState, HasVersion, HaveVersions, Homes, IfErr, IsDivided, IsErrAnd, IsExportOf, IsIn, IsInRegionOf, IsSoundCore, IsTiedAt, Leaf, List, MayNotSend, NearestRoot, None, Omap, Option, Prepared, Refusal, RefusesSend, Regions, Result, Rules, Sends, Sent, Some, SpellsExport, SpellsPrepared, SpellsRegion, Standing, StandingExport, Subtrees, Unsaved, ap, cond, cond_both, false, get_unclean, held_in, holder_is, inr, is_clean, is_freezing, is_imported, none-some, object_of, one_value, option_map, refl, region_holder, rules, same_Some, state_of, subst, sym, true, unclean, unsaved_at, ℕ, ◌∙◌, ◌≡◌}
 use Rattle.std.specs.FinMap as map
 use Rattle.ranked_tree.proofs.HeldLaws.{may_hold}
 use Rattle.ranked_tree.proofs.SubtreeLaws.{over}
@@ -9,9 +9,7 @@ use Rattle.ranked_tree.proofs.SubtreeLaws.{over}
 
 -- an object that counts spells a fragment, at a commit version of 1 at least
 based : (base : Base) (f : Cached) (object : Option Omap) → IsTiedAt base f object → HasVersion base
-based Fresh f object tied = tt
-based (Stored version) f None tied = absurd tied
-based (Stored version) f (Some o) tied = let least : 1 ≤ version = tied.0.header.committed in omega (arith, least)
+based base f object tied = search rules
 
 module _ (core : Core) (sound : IsSoundCore core) where
   pub have_versions : HaveVersions (unclean core.caches)
@@ -80,8 +78,7 @@ module _ (core : Core) (regions : Regions) (root : Leaf) (export : StandingExpor
 
 -- what is refused with a reason for which this holds
 pub refuses : {A : Type 0} (P : Refusal → Type 0) (result : Result A Refusal) (why : Refusal) → IsErrAnd result (λ e. e ≡ why) → P why → IfErr result P
-refuses P (Ok x) why and holds = tt
-refuses P (Err e) why and holds = subst P (sym and) holds
+refuses P result why and holds = search rules
 
 -- the export that was found steps, and no other
 pub sends : (core : Core) (subtrees : Subtrees) (old new : Standing) (root : Leaf) (bytes : List ℕ) → SpellsPrepared (state_of core) subtrees.roots old root bytes → ComesTo old new root Prepared Sent

@@ -1,5 +1,5 @@
 -- What is kept of the exports that stand: by what changes neither directories nor roots, and by what changes no frozen leaf.
-use Rattle.ranked_tree.proofs.Common.{AllHave, Alters, AreFrozenRegionsKept, AreRoots, AreThawed, Begins, BeginsWith, CacheMap, CameAt, Change, Core, Covers, Drops, Ends, Err, Fragment, HasAuthority, Homes, Ino, IsDivided, IsFrozen, IsFrozenIn, IsLive, IsOwned, IsSound, IsSoundCore, Job, Jobs, KeepsAuthorities, KeepsHolders, Leaf, List, Makes, NearestRoot, NoNewRank, None, Ok, Option, Rank, Refusal, Regions, Result, Roots, Shape, Some, StandSoundly, Standing, StandingExport, Subtrees, Unsaved, UsedAt, add, ap, came_weaker, cond_both, dentry_at, get-empty, get_beside, get_holding, get_left, get_removed, get_without, held_in, holder_is, holder_or, holding, imported_freezes, is_dir_kind, is_imported, keep_frozen, keep_holders, leaf-exact, leaf-total, leaf_cmp, leaf_is, leaves, length, list_any, move, none-some, option_map, refl, region_holder, remove, rules, same_Some, same_map, same_or_apart, set, state_of, subst, sym, unclean, with_directory, without, without_leaves, ℕ, ⊎_elim, ◌<◌, ◌∙◌, ◌≡◌, State}
+use Rattle.ranked_tree.proofs.Common.{AllHave, Alters, AreFrozenRegionsKept, AreRoots, AreThawed, Begins, BeginsWith, CacheMap, CameAt, Change, Core, Covers, Drops, Ends, Err, Fragment, HasAuthority, Homes, Ino, IsDivided, IsFrozen, IsFrozenIn, IsLive, IsOwned, IsSound, IsSoundCore, Job, Jobs, KeepsAuthorities, KeepsHolders, Leaf, List, Makes, NearestRoot, NoNewRank, None, Ok, Option, Rank, Refusal, Regions, Result, Roots, Shape, Some, StandSoundly, Standing, StandingExport, Subtrees, Unsaved, UsedAt, add, ap, came_weaker, cond_both, dentry_at, get-empty, get_beside, get_holding, get_left, get_removed, get_without, held_in, holder_is, holder_or, holding, imported_freezes, is_dir_kind, is_imported, keep_frozen, keep_holders, leaf-exact, leaf-total, leaf_cmp, leaf_is, length, list_any, move, none-some, option_map, refl, region_holder, remove, rules, same_Some, same_map, same_or_apart, set, state_of, subst, sym, unclean, with_directory, without, without_leaves, ℕ, ⊎_elim, ◌<◌, ◌∙◌, ◌≡◌, State}
 use Rattle.std.specs.FinMap as map
 use Rattle.mdcache.specs.Commits.{leaf_of}
 use Rattle.ranked_tree.proofs.HeldLaws.{held_after}
@@ -23,8 +23,7 @@ found_left {X} m k q x is =
     ⊎_elim (λ same. absurd (none-some x (sym (get_removed m k) ∙ ap (map.get (map.remove m k)) (sym same) ∙ is))) (λ apart. sym (get_left m k q apart) ∙ is) (same_or_apart q k)
 
 jobs_kept : (s : State) (went : Option Ino) → FewerJobs s (without s went)
-jobs_kept s None leaf job is = is
-jobs_kept s (Some dir) leaf job is = jobs_without s.jobs (leaves s.covers dir.0) leaf job is
+jobs_kept s went leaf job is = search (rules, jobs_without)
 
 -- a change begins none
 by_shape : (change : Change) → Shape change → (old new : State) → Alters change old new → FewerJobs old new
@@ -58,12 +57,10 @@ held_bound tree count subtrees exports stand leaf rank is = by (map.get subtrees
 
 -- each rank holds its own regions,
 pub none_stand : (exports : Standing) (roots : Roots) → exports ≡ map.empty → holding exports roots ≡ roots
-none_stand exports roots none = same_map leaf-total leaf-exact (holding exports roots) roots (λ q.
-    get_holding exports roots q ∙ ap (λ (e : Standing). option_map (holder_or (map.get e q)) (map.get roots q)) none ∙ ap (λ (o : Option StandingExport). option_map (holder_or o) (map.get roots q)) (get-empty leaf_cmp q) ∙ go (map.get roots q))
-  where
-    go : (o : Option Rank) → option_map (holder_or None) o ≡ o
-    go None = refl
-    go (Some r) = refl
+none_stand exports roots none =
+    let same : (o : Option Rank) → option_map (holder_or None) o ≡ o = search rules in
+    same_map leaf-total leaf-exact (holding exports roots) roots (λ q.
+    get_holding exports roots q ∙ ap (λ (e : Standing). option_map (holder_or (map.get e q)) (map.get roots q)) none ∙ ap (λ (o : Option StandingExport). option_map (holder_or o) (map.get roots q)) (get-empty leaf_cmp q) ∙ same (map.get roots q))
 
 -- and so they stand soundly
 pub stand_none : (core : Core) (regions : Regions) → regions.exports ≡ map.empty → IsOwned core regions.roots.roots → IsDivided core regions
@@ -169,12 +166,10 @@ no_jobs old new none leaf job is = absurd (none-some job (sym (get-empty leaf_cm
 -- other calls about commits end jobs at most
 module _ (old new : State) where
   pub jobs_ended : (before after : ℕ) (job : Job) (result : Result (Unit {0}) Refusal) → Ends old new before after job result → FewerJobs old new
-  jobs_ended before after job (Ok done) h = λ leaf other is. found_left old.jobs (leaf_of job) leaf other (ap (λ (s : State). map.get s.jobs leaf) (sym h.left) ∙ is)
-  jobs_ended before after job (Err reason) h = same_jobs old new (ap (λ (s : State). s.jobs) h.1)
+  jobs_ended before after job result h = search (rules, found_left)
 
   pub jobs_dropped : (number : ℕ) (result : Result (Unit {0}) Refusal) → Drops old new number result → FewerJobs old new
-  jobs_dropped number (Ok done) h = λ leaf other is. found_left old.jobs h.leaf leaf other (ap (λ (s : State). map.get s.jobs leaf) (sym h.left) ∙ is)
-  jobs_dropped number (Err reason) h = same_jobs old new (ap (λ (s : State). s.jobs) h.2)
+  jobs_dropped number result h = search (rules, found_left)
 
 -- ---- a leaf that isn't frozen
 

@@ -1,5 +1,5 @@
 -- What the calls about commits and objects leave of the tables: directories and leaves stay, and so do the roots.
-use Rattle.ranked_tree.proofs.Common.{Begins, BeginsWith, Drops, Ends, Err, Ino, IsLive, IsSound, List, None, Ok, Option, PurgesName, Refusal, Result, SavesTree, Some, Unsaved, ap, ℕ, ◌≡◌, State, Leaf, Job}
+use Rattle.ranked_tree.proofs.Common.{Begins, BeginsWith, Drops, Ends, Ino, IsLive, IsSound, Job, Leaf, List, Option, PurgesName, Refusal, Result, SavesTree, Some, State, Unsaved, ap, rules, ℕ, ◌≡◌}
 use Rattle.std.specs.FinMap as map
 
 -- directories and leaves stay
@@ -18,31 +18,23 @@ same_tables old new same = (ap (λ (s : State). s.homes) same, ap (λ (s : State
 
 module _ (old new : State) where
   pub begun : (unsaved : Option Unsaved) (leaf : Leaf) (job : Option Job) → BeginsWith old new leaf unsaved job → TablesStay old new
-  begun None leaf job h = same_tables old new h.1
-  begun (Some u) leaf None h = absurd h
-  begun (Some u) leaf (Some job) h = (ap (λ (s : State). s.homes) h.2, ap (λ (s : State). s.covers) h.2)
+  begun unsaved leaf job h = search rules
 
   -- a commit of a leaf begins, or is refused
   pub begun_stays : (leaf : Leaf) (result : Result (Option Job) Refusal) → Begins old new leaf result → TablesStay old new
-  begun_stays leaf (Ok job) h = begun (map.get old.unsaved leaf) leaf job h.2
-  begun_stays leaf (Err reason) h = same_tables old new h.1
+  begun_stays leaf result h = search (rules, begun)
 
   pub ended : (before after : ℕ) (job : Job) (result : Result (Unit {0}) Refusal) → Ends old new before after job result → TablesStay old new
-  ended before after job (Ok done) h = (ap (λ (s : State). s.homes) h.left, ap (λ (s : State). s.covers) h.left)
-  ended before after job (Err reason) h = same_tables old new h.1
+  ended before after job result h = search rules
 
   pub dropped : (number : ℕ) (result : Result (Unit {0}) Refusal) → Drops old new number result → TablesStay old new
-  dropped number (Ok done) h = (ap (λ (s : State). s.homes) h.left, ap (λ (s : State). s.covers) h.left)
-  dropped number (Err reason) h = same_tables old new h.2
+  dropped number result h = search rules
 
   pub saved : (before after : ℕ) (dir : Ino) (result : Result (Unit {0}) Refusal) → SavesTree old new before after dir result → AllStay old new
-  saved before after dir (Ok done) h = (ap (λ (s : State). s.homes) h.1, ap (λ (s : State). s.covers) h.1, ap (λ (s : State). s.jobs) h.1)
-  saved before after dir (Err reason) h = same_all old new h.1
+  saved before after dir result h = search rules
 
   pub purged : (before after : ℕ) (name : Option (List ℕ)) (result : Result (Unit {0}) Refusal) → PurgesName old new before after name result → AllStay old new
-  purged before after None result h = same_all old new h.1
-  purged before after (Some name) (Ok done) h = (ap (λ (s : State). s.homes) h.0, ap (λ (s : State). s.covers) h.0, ap (λ (s : State). s.jobs) h.0)
-  purged before after (Some name) (Err reason) h = same_all old new h.1
+  purged before after name result h = search rules
 
 -- where a leaf isn't live no job stands for it
 pub none_stands : (s : State) (leaf : Leaf) (job : Job) → IsSound s → (IsLive s.homes s.covers leaf → ⊥) → map.get s.jobs leaf ≡ Some job → ⊥

@@ -1,19 +1,13 @@
 -- What a change of the tree makes of the roots, and of every leaf's authority.
-use Rattle.ranked_tree.proofs.Common.{AreRoots, Bool, Change, Covers, Dentry, FollowChange, Fragment, GivesToChildren, HasAuthority, HaveOneAuthority, Homes, IfSome, Ino, Inode, IsMergedInto, IsRootMerge, IsRootSplit, IsSettled, IsSound, IsSplitInto, IsSubtrees, IsTable, LoseDirectory, Makes, MatchBool, MayChange, MayGo, MayMove, None, Option, Roots, SettleMove, Shape, Some, Spot, State, TakesOver, add, ap, dentry_at, dir_or_not, false, home_at, is_dir_kind, may_come, may_drop, move, moved_home, moved_known, refl, remove, removes, rows_but, set, shown_tree, subst, sym, true, with_dir, with_file, with_home, ℕ, ⊎_elim, ◌∙◌, ◌≡◌}
-use Rattle.std.specs.FinMap as map
-use Rattle.ranked_tree.proofs.ChangedTables.{added_tables, grown_tables, moved_tables, removed_tables, set_tables, if_dir, relocates, replaces}
-use Rattle.ranked_tree.proofs.RootLaws.{IsSoundChange, child_authority, divided_soundly, grown, lost, merged_authority, merged_soundly, rehomed, sound_on, unchanged}
+use Rattle.ranked_tree.proofs.Common.{AreRoots, Bool, Change, Covers, Dentry, FollowChange, Fragment, GivesToChildren, HasAuthority, HaveOneAuthority, Homes, IfSome, Ino, Inode, IsMergedInto, IsRootMerge, IsRootSplit, IsSettled, IsSound, IsSplitInto, IsSubtrees, IsTable, LoseDirectory, Makes, MatchBool, MayChange, MayGo, MayMove, None, Option, Roots, SettleMove, Shape, Some, State, TakesOver, add, ap, dentry_at, dir_or_not, false, home_at, inr, is_dir_kind, may_come, may_go, move, moved_home, moved_known, refl, relocates, remove, replaces, rows_but, set, shown_tree, subst, sym, true, with_dir, with_file, with_home, ℕ, ⊎_elim, ◌∙◌, ◌≡◌}
+use Rattle.ranked_tree.proofs.ChangedTables.{added_tables, grown_tables, moved_tables, removed_tables, set_tables}
+use Rattle.ranked_tree.proofs.RootLaws.{IsSoundChange, split_keeps, divided_soundly, grown, lost, merge_keeps, merged_soundly, rehomed, sound_on, unchanged}
 
 -- a directory went, or none did
 lose : (before after : Roots) (homes : Homes) (covers : Covers) (went : Option Ino) → IsTable homes covers → IsSubtrees before homes covers → LoseDirectory before after went → IfSome went (λ (dir : Ino). MayGo homes dir.0)
     → IsSoundChange before after homes (rows_but homes went) covers (rows_but covers went)
 lose before after homes covers None table valid same may = unchanged before after homes covers table valid same
 lose before after homes covers (Some dir) table valid gone may = lost before after homes covers table valid dir.0 gone may
-
--- a directory that a removal takes away may go
-pub removable : (old : State) (spot : Spot) (went : Option Ino) → IsSound old → MayChange (shown_tree old) old.covers (removes spot went) → IfSome went (λ (dir : Ino). MayGo old.homes dir.0)
-removable old spot went sound may = subst (λ (d : Option Ino). IfSome d (λ (dir : Ino). MayGo old.homes dir.0)) (sym may.carries.gone)
-    (if_dir _ (map.get (shown_tree old) (dentry_at spot)) (λ i is kinded. may_drop (shown_tree old) old.homes (dentry_at spot) (Some i) is sound.tabled may.takes i refl kinded))
 
 -- what moves has its home there
 module _ (old : State) (before settled : Roots) (to : Dentry) (inode : Inode) (sound : IsSound old) (valid : AreRoots old before) (may : is_dir_kind inode.kind ≡ true → MayMove old.homes inode.ino.0 (home_at to)) where
@@ -35,7 +29,7 @@ changes_soundly _ (add spot inode) old new before after sound may makes follow v
     (λ kinded. let tables = added_tables old new spot inode kinded makes in rw (tables.0, tables.1) (unchanged before after old.homes old.covers sound.table valid (follow.2 ∙ follow.1))) (dir_or_not inode)
 changes_soundly _ (remove spot went) old new before after sound may makes follow valid =
     let tables = removed_tables old new spot went makes in
-    rw (tables.0, tables.1) (lose before after old.homes old.covers went sound.table valid (subst (λ (r : Roots). LoseDirectory r after went) follow.1 follow.2) (removable old spot went sound may))
+    rw (tables.0, tables.1) (lose before after old.homes old.covers went sound.table valid (subst (λ (r : Roots). LoseDirectory r after went) follow.1 follow.2) (may_go old spot went sound may))
 changes_soundly _ (move source target inode went) old new before after sound may makes follow valid =
     let settled = follow.0 in
     let moved_homes = with_home old.homes (dentry_at target) inode in
@@ -58,8 +52,8 @@ module _ (old new : State) (before after : Roots) (sound : IsSound old) (valid :
     pub children_have : GivesToChildren old new before after dir frag nb
     children_have child rank is has =
         subst (λ (h : Homes). HasAuthority after h new.covers (dir, child) rank) (sym (ap (λ (s : State). s.homes) split.regrouped.left))
-        (child_authority before after old.homes old.covers sound.table valid dir.0 frag nb split.cover new.covers roots split.divided split.can.stands split.can.fits split.regrouped.whole (ap (λ (s : State). s.covers) split.regrouped.left)
-        child rank is (record { known = split.regrouped.known; stands = split.can.stands }) has)
+        ((split_keeps before after old.homes old.covers sound.table valid dir.0 frag nb split.cover new.covers roots split.divided split.can.stands split.can.fits split.regrouped.whole (ap (λ (s : State). s.covers) split.regrouped.left)).0
+        (dir, frag) (dir, child) rank (record { known = split.regrouped.known; stands = split.can.stands }) (inr (refl, (child, is, refl))) has)
 
   -- leaves were merged that had one authority
   module _ (merge : IsMergedInto old new dir frag) (roots : IsRootMerge before after dir.0 frag) (one : HaveOneAuthority before old.homes old.covers dir.0 frag) where
@@ -70,7 +64,7 @@ module _ (old new : State) (before after : Roots) (sound : IsSound old) (valid :
     pub takes_over : TakesOver old new before after dir frag
     takes_over leaf rank inside live has =
         subst (λ (h : Homes). HasAuthority after h new.covers (dir, frag) rank) (sym (ap (λ (s : State). s.homes) merge.regrouped.left))
-        (merged_authority before after old.homes old.covers sound.table valid dir.0 frag merge.cover new.covers roots one merge.can merge.merged merge.regrouped.whole (ap (λ (s : State). s.covers) merge.regrouped.left) leaf rank inside live has)
+        ((merge_keeps before after old.homes old.covers sound.table valid dir.0 frag merge.cover new.covers roots one merge.can merge.merged merge.regrouped.whole (ap (λ (s : State). s.covers) merge.regrouped.left)).0 leaf (dir, frag) rank live (inr (inside, refl)) has)
 
 -- ---- a table that is lent
 

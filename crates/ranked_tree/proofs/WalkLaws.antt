@@ -1,6 +1,5 @@
 -- What a walk over the leaves of a directory finds.
-use Rattle.ranked_tree.proofs.Common.{Bool, Contains, Fragment, HasLeaf, Ino, Inode, IsPick, IsSound, List, Names, None, Some, State, [], all_pass, ap, at_dentry, cond, dentry_of, entries_there, false, find, has_entries, has_none, hash_of, is_known, key_cmp, key_itself, leaves_of, list_all, names_after, names_are_listed, names_of, no_entries_listed, no_name, not, refl, shown_tree, some_fails, some_name, some_pick, subst, sym, tree_of_row, true, ℕ, ◌&&◌, ◌∙◌, ◌∷◌, ◌≡◌}
-use Rattle.fragtree.proofs.TreeLaws.{first as first_has, later as later_has}
+use Rattle.ranked_tree.proofs.Common.{Bool, Contains, Fragment, HasLeaf, Ino, Inode, IsPick, IsSound, List, Names, None, Some, State, [], all_pass, ap, cond, dentry_of, entries_there, false, find, first_has, has_entries, has_none, hash_of, is_known, key_cmp, key_itself, later_has, leaves_of, list_all, names_after, names_are_listed, names_of, no_entries_listed, no_name, not, refl, shown_tree, some_fails, some_name, some_pick, sound_leaves, stands_at, subst, sym, tree_of_row, true, ℕ, ◌&&◌, ◌∙◌, ◌∷◌, ◌≡◌}
 
 -- ---- leaf by leaf
 
@@ -30,7 +29,7 @@ module _ (s : State) (sound : IsSound s) (dir : Ino) (known : is_known s.homes d
   none_listed holds [] is = refl
   none_listed holds (row ∷ rows) is =
       let w = some_pick (leaves_of s.covers dir.0) (hash_of row.0) (tree_of_row s.homes s.covers sound.table dir.0) in
-      let none = at_dentry s sound dir.0 row.0 w.0 known w.1 ∙ no_name (names_in w.0) row.0 (all_pass p (leaves_of s.covers dir.0) holds w.0 w.1.stands) in
+      let none = stands_at s (sound_leaves s sound) (dentry_of dir.0 row.0) w.0 known w.1 ∙ no_name (names_in w.0) row.0 (all_pass p (leaves_of s.covers dir.0) holds w.0 w.1.stands) in
       let found : Some row.1 ≡ None =
       sym (ap (λ (b : Bool). cond b (Some row.1) (find key_cmp row.0 rows)) (key_itself row.0)) ∙ ap (find key_cmp row.0) (sym is) ∙ (names_are_listed (shown_tree s) dir.0 None).exact row.0 ∙ none in
       absurd cc
@@ -42,4 +41,4 @@ module _ (s : State) (sound : IsSound s) (dir : Ino) (known : is_known s.homes d
       let w = some_fails p (leaves_of s.covers dir.0) fails in
       let n = some_name (names_in w.0) w.2 in
       let pick : IsPick (leaves_of s.covers dir.0) (hash_of n.0) w.0 = sound.placed (dir, w.0) n.0 n.1 (record { known = known; stands = w.1 }) n.2 in
-      ap not (sym (entries_there (shown_tree s) (dentry_of dir.0 n.0) n.1 (at_dentry s sound dir.0 n.0 w.0 known pick ∙ n.2)))
+      ap not (sym (entries_there (shown_tree s) (dentry_of dir.0 n.0) n.1 (stands_at s (sound_leaves s sound) (dentry_of dir.0 n.0) w.0 known pick ∙ n.2)))

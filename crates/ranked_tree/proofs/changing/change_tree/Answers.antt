@@ -1,4 +1,4 @@
-use Rattle.ranked_tree.proofs.Common.{Covers, EndsWith, Err, FollowChange, Fragment, IfSome, Ino, IsNamedIn, IsSome, LacksToMake, List, LoseDirectory, NoneEnds, Option, Roots, Some, ap, came_cap, came_ranks, faults_in, held_in, inl, inr, keeps_itself, keeps_refused, leaves_of, length, reads_keeps, reads_state, refl, state_of, subst, sym, ◌∙◌, ◌≡◌, ◌≤◌, reads_none, shape_of, shown_tree, reads_weaker, AsksFor, NamesDir}
+use Rattle.ranked_tree.proofs.Common.{AsksFor, Covers, EndsWith, Err, FollowChange, Fragment, IfSome, Ino, IsNamedIn, IsSome, LacksToMake, List, LoseDirectory, NamesDir, NoneEnds, Option, Roots, Some, ap, came_cap, came_ranks, faults_in, held_in, inl, inr, keeps_itself, keeps_refused, leaves_of, length, reads_keeps, reads_none, reads_state, reads_weaker, refl, rules, shape_of, shown_tree, state_of, subst, sym, ◌∙◌, ◌≡◌, ◌≤◌}
 use Rattle.ranked_tree.proofs.AskLaws.{told_change}
 use Rattle.ranked_tree.proofs.HeldChanges.{changed_held, whole_came}
 use Rattle.ranked_tree.proofs.DividedLaws.{change_divided}
@@ -68,12 +68,6 @@ returns g c =
     ) in
     let promises = subst (λ (p : Roots). LoseDirectory p c.lose.new.roots.promises c.args.change.gone) (c.settle.ensures.promises ∙ c.reserve_lost.ensures.promises) c.lose.ensures.promises in
     let kept = change_divided c.args.tree.now c.change.new.self c.args.regions.now c.lose.new.roots c.requires.divided its.sound count c.args.change c.requires.held c.requires.may its.changed.made roots promises c.requires.thawed came in
-    record {
-      changed = changed_held c.args.tree.now c.change.new.self (held_in c.args.regions.now) c.args.change sound its.sound.sound c.requires.may c.requires.held its.changed;
-      followed = (roots, promises);
-      kept = kept.0;
-      count = count;
-      cap = came_cap (IsNamedIn c.args.change) (EndsWith c.args.change) c.args.tree.now.caches c.change.new.self.caches came;
-      counted = its.counted;
-      divided = kept.1;
-    }
+    let changed = changed_held c.args.tree.now c.change.new.self (held_in c.args.regions.now) c.args.change sound its.sound.sound c.requires.may c.requires.held its.changed in
+    let cap = came_cap (IsNamedIn c.args.change) (EndsWith c.args.change) c.args.tree.now.caches c.change.new.self.caches came in
+    search (rules, its, changed, roots, promises, kept, count, cap)

@@ -26,12 +26,6 @@ returns g c =
     let stay = ended (state_of c.args.tree.now) (state_of c.end.new.self) c.args.tree.now.faults c.end.new.self.faults job c.end.result its.ended in
     let rules_here = subst (λ (job : Job). Rules (state_of c.args.tree.now) (held_in c.args.regions.now) (leaf_of job) c.in-Some.rank) c.job-job.ensures.job c.in-Some.ensures.1 in
     let used = used_at c.args.tree.now c.end.new.self (held_in c.args.regions.now) (leaf_of job) c.in-Some.rank c.requires.divided.owned rules_here its.came its.sound stay.0 stay.1 in
-    record {
-      ended = its.ended;
-      came = used.came;
-      count = used.count;
-      cap = used.cap;
-      counted = its.counted;
-      divided = divided_still c.args.tree.now c.end.new.self c.args.regions.now c.requires.divided used.owned used.count
-          (jobs_ended (state_of c.args.tree.now) (state_of c.end.new.self) c.args.tree.now.faults c.end.new.self.faults job c.end.result its.ended) stay.0 stay.1;
-    }
+    let divided = divided_still c.args.tree.now c.end.new.self c.args.regions.now c.requires.divided used.owned used.count
+    (jobs_ended (state_of c.args.tree.now) (state_of c.end.new.self) c.args.tree.now.faults c.end.new.self.faults job c.end.result its.ended) stay.0 stay.1 in
+    search (rules, its, used, divided)

@@ -1,4 +1,4 @@
-use Rattle.ranked_tree.proofs.Common.{AreCachedOf, IfErr-weaker, IsInRegionOf, IsSpelledBy, RegionLeaves, inl, inr, length, state_of, subst, sym, ⊎_elim, ◌≡◌}
+use Rattle.ranked_tree.proofs.Common.{AreCachedOf, IfErr-weaker, IsInRegionOf, IsSpelledBy, RegionLeaves, inl, inr, length, rules, state_of, subst, sym, ⊎_elim, ◌≡◌}
 use Rattle.ranked_tree.proofs.ImportLaws.{may_not, ready, still_divided, took}
 use Rattle.ranked_tree.proofs.importing.take_region.Goals as goal
 
@@ -7,16 +7,7 @@ hand_over-requires g c =
     let cached = subst (λ (l : RegionLeaves). AreCachedOf (IsInRegionOf (state_of c.args.tree.now) c.args.regions.now.roots.roots c.args.root.now) c.args.tree.now.caches c.args.export.exporter.0 l) (λ i. record { unclean = sym c.unclean.ensures i; clean = sym c.clean.ensures i }) c.in-Ok.ensures.cached in
     let its = ready c.args.tree.now c.args.regions.now c.requires.divided c.args.root.now c.args.export c.requires.stands c.requires.sent (record { unclean = c.unclean.result.now; clean = c.clean.result.now }) cached in
     let ranks = c.requires.divided.stand.there c.args.root.now c.args.export c.requires.stands in
-    record {
-      apart = c.requires.ranks.apart;
-      there = ranks.0;
-      other = ranks.1;
-      sound = c.requires.divided.owned.sound;
-      cached = its.unclean;
-      saved = its.clean;
-      once = its.distinct c.in-Ok.ensures.valid;
-      jobless = its.jobless;
-    }
+    search (rules, its, ranks, its.distinct c.in-Ok.ensures.valid)
 
 pub returns-in-Ok : goal.returns-in-Ok
 returns-in-Ok g c =

@@ -1,6 +1,6 @@
 use Rattle.ranked_tree.proofs.Common.{Covers, Fragment, HasLeaf, List, None, ap, gathered, held_in, keeps_itself, keeps_on, leaf_more, leaves_of, names_of, option_copied, refl, subst, unclean, ℕ, ◌∙◌, ◌≡◌, State, reads_none}
 use Rattle.ranked_tree.proofs.WalkLaws.{first_within, rest_within}
-use Rattle.ranked_tree.proofs.AskLaws.{live_still, refused_before}
+use Rattle.ranked_tree.proofs.AskLaws.{live_still}
 use Rattle.ranked_tree.proofs.ReadsForLaws.{reads_on}
 use Rattle.ranked_tree.proofs.listing.gather_leaves.Goals as goal
 

@@ -1,4 +1,4 @@
-use Rattle.ranked_tree.proofs.Common.{LacksPlacesAt, LacksPlacesInside, came_cap, came_ranks, AllHave}
+use Rattle.ranked_tree.proofs.Common.{AllHave, LacksPlacesAt, LacksPlacesInside, came_cap, came_ranks, rules}
 use Rattle.ranked_tree.proofs.HeldRegroups.{merge_on, merged_came}
 use Rattle.ranked_tree.proofs.StandLaws.{thawed_rules}
 use Rattle.ranked_tree.proofs.regrouping.merge_held.Goals as goal
@@ -15,11 +15,6 @@ returns g c =
     let all : AllHave c.args.tree.now.homes c.args.tree.now.covers c.args.regions.now.roots.roots c.args.dir c.args.frag c.holder_of_all-rank.result
     = λ leaf live inside. thawed_rules c.args.regions.now.exports c.args.regions.now.roots.roots c.args.tree.now.homes c.args.tree.now.covers leaf c.holder_of_all-rank.result
     (c.requires.thawed leaf inside live) (c.holder_of_all-rank.ensures.all leaf live inside) in
-    record {
-      merged = merge_on (LacksPlacesAt 1 c.args.tree.now c.holder_of_all-rank.result) (LacksPlacesInside 1 c.args.tree.now c.args.regions.now.roots.roots c.args.dir c.args.frag) c.args.tree.now c.merge.new.self c.args.dir c.args.frag c.merge.result (λ lacks. (leaf, live, inside, (c.holder_of_all-rank.result, all leaf live inside, lacks))) its.merged;
-      count = came_ranks _ _ c.args.tree.now.caches c.merge.new.self.caches its.came;
-      cap = came_cap _ _ c.args.tree.now.caches c.merge.new.self.caches its.came;
-      counted = its.counted;
-      came = merged_came c.args.tree.now c.args.regions.now.roots.roots c.holder_of_all-rank.result c.args.dir c.args.frag all c.merge.new.self.caches its.came;
-      sound = its.sound;
-    }
+    let merged = merge_on (LacksPlacesAt 1 c.args.tree.now c.holder_of_all-rank.result) (LacksPlacesInside 1 c.args.tree.now c.args.regions.now.roots.roots c.args.dir c.args.frag) c.args.tree.now c.merge.new.self c.args.dir c.args.frag c.merge.result (λ lacks. (leaf, live, inside, (c.holder_of_all-rank.result, all leaf live inside, lacks))) its.merged in
+    let came = merged_came c.args.tree.now c.args.regions.now.roots.roots c.holder_of_all-rank.result c.args.dir c.args.frag all c.merge.new.self.caches its.came in
+    search (rules, its, merged, came, came_ranks _ _ c.args.tree.now.caches c.merge.new.self.caches its.came, came_cap _ _ c.args.tree.now.caches c.merge.new.self.caches its.came)

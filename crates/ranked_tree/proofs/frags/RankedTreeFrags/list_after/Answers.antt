@@ -1,5 +1,5 @@
 use Rattle.ranked_tree.proofs.Common.{result_err}
-use Rattle.ranked_tree.proofs.FragsLaws.{keeps_dir, walk_refused}
+use Rattle.ranked_tree.proofs.FragsLaws.{keeps_dir}
 use Rattle.ranked_tree.proofs.frags.RankedTreeFrags.list_after.Goals as goal
 
 pub returns-clause-kept : goal.returns-clause-kept

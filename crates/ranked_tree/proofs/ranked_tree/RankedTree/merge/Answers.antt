@@ -1,4 +1,4 @@
-use Rattle.ranked_tree.proofs.Common.{AreThawed, HaveOneAuthority, Ranked, subst, sym}
+use Rattle.ranked_tree.proofs.Common.{HaveOneAuthority, Ranked, subst, sym}
 use Rattle.ranked_tree.proofs.ranked_tree.RankedTree.merge.Goals as goal
 
 pub merge_with_roots-requires-clause-one : goal.merge_with_roots-requires-clause-one
