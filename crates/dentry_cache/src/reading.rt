@@ -32,20 +32,20 @@ impl Cache {
         ensures { IsChanged (cached self.old.entries (dir, frag))
             (λ (f now : Cached). now ≡ f) (dir, frag) self.old self.new }
     {
-        let _ = self.touch(dir, frag);
-        if !self.has_many(dir, frag) {
+        if self.is_small(dir, frag) {
+            let _ = self.touch(dir, frag);
             return;
         }
-        let Some(place) = self.places.peek_mut(&(dir, frag)) else {
+        let Some(place) = self.places.get_mut(&(dir, frag)) else {
             return;
         };
         place.frag.seek(name);
     }
 
-    // Whether a fragment has so many names that one is searched among chunks of them.
-    fn has_many(&self, dir: Ino, frag: Frag) -> bool {
-        match self.get(dir, frag) {
-            Some(fragment) => fragment.len() > IN_ONE_VECTOR,
+    // Whether a fragment is the most recently used and has few names, which are searched in one vector.
+    fn is_small(&self, dir: Ino, frag: Frag) -> bool {
+        match self.newest(dir, frag) {
+            Some(place) => place.frag.len() <= IN_ONE_VECTOR,
             None => false,
         }
     }
