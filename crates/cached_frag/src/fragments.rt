@@ -28,7 +28,7 @@ pub struct CachedFrag {
     pub(crate) counts: EntryCounts,
     // how many changes fit
     pub(crate) room: usize,
-    // where a name was looked for among the dirty ones
+    // where the two names were that were sought last among the dirty ones
     pub(crate) near: Finger,
 }
 
@@ -126,7 +126,7 @@ impl CachedFrag {
     pub fn seek(&mut self, name: &Name)
         ensures { self.new ≡ self.old }
     {
-        self.near = self.dirty.finger(name);
+        self.near = self.dirty.seek(&self.near, name);
     }
 
     /// A record allows what each of its names stands for: a law of the type, so nothing is done.

@@ -6,31 +6,48 @@ ghost use Rattle.sorted_map.specs.SortedMap.{contents};
 use crate::keys::{ExactOrd, Probe};
 use crate::map::{SortedMap, Store};
 
-/// Where a key is in a large map, or would go. It is a hint: a call that it is given tries this place first, at one
-/// comparison or two, and searches where the key isn't there. So no answer depends on it, and it may be that of another
-/// key, of a map that has changed since, or of another map.
+/// Where the two keys of a large map are, or would go, that were sought last. It is a hint: a call that it is given tries
+/// these places first, at a comparison or two each, and searches where the key isn't there. So no answer depends on it,
+/// and it may be that of other keys, of a map that has changed since, or of another map.
 #[derive(Clone, Copy, Debug)]
 pub struct Finger {
+    pub(crate) last: Spot,
+    pub(crate) before: Spot,
+}
+
+/// A place of one of the chunks.
+#[derive(Clone, Copy, Debug)]
+pub(crate) struct Spot {
     pub(crate) home: usize,
     pub(crate) at: usize,
 }
+
+/// A place of no chunk.
+pub(crate) const NOWHERE: Spot = Spot {
+    home: usize::MAX,
+    at: 0,
+};
 
 impl Finger {
     /// That of no key.
     pub fn none() -> Finger {
         Finger {
-            home: usize::MAX,
-            at: 0,
+            last: NOWHERE,
+            before: NOWHERE,
         }
     }
 }
 
 impl<K: ExactOrd, V> SortedMap<K, V> {
-    /// Where the key is, or would go. Takes logarithmic time in a large map; that of a small one tells nothing.
-    pub fn finger<Q: Probe<K>>(&self, q: &Q) -> Finger {
+    /// Seeks the key, and tells where it is or would go, beside what was sought before. Takes logarithmic time in a large
+    /// map; of a small one it tells nothing.
+    pub fn seek<Q: Probe<K>>(&self, near: &Finger, q: &Q) -> Finger {
         match &self.store {
             Store::Flat(_) => Finger::none(),
-            Store::Chunked(chunked) => chunked.finger(q),
+            Store::Chunked(chunked) => Finger {
+                last: chunked.spot_of(q),
+                before: near.last,
+            },
         }
     }
 
