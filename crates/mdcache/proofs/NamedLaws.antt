@@ -1,5 +1,5 @@
 -- A name of a leaf gets an inode, or is removed: all but the table of directories is sound as before, and the tree has the name so.
-use Rattle.mdcache.proofs.Common.{AreYoung, Bool, Dentry, Fragment, Fresh, Homes, Inode, IsAsItStands, IsCounted, IsLeafAt, IsLive, IsOwned, IsPick, IsSaved, IsSound, IsStanding, IsTable, IsTabled, IsUnsaved, Job, Keeps, Leaf, List, Mark, Marks, Names, None, Omap, Option, Some, State, Stored, Tree, Unsaved, ap, arith, cases_Bool, cond, dentry-exact, dentry-total, dirtied, false, false_from_ne_true, get-empty, get-insert, get_beside, get_put, hash_of, inl, inr, is_known, is_some, key_cmp, key_or_apart, leaf-total, leaf_is, leaf_itself, leaf_or_apart, leaves_of, marked_beside, marked_here, names_at, object_of, one_leaf, only_below, refl, rules, same_Some, same_leaf, same_map, shown_at, shown_over, shown_put, shown_tree, some_pick, subst, sym, text_of, tied_leaf, tree_of_row, true, with_mark, with_name, ℕ, ⊎_elim, ◌<◌, ◌^◌, ◌∙◌, ◌≡◌, ◌⊎◌}
+use Rattle.mdcache.proofs.Common.{AreYoung, Bool, Dentry, Fragment, Fresh, Homes, Inode, IsAsItStands, IsCounted, IsLeafAt, IsLive, IsOwned, IsPick, IsSaved, IsSound, IsStanding, IsTable, IsTabled, IsUnsaved, Job, Keeps, Leaf, List, Mark, Marks, Names, None, Omap, Option, Some, State, Stored, Tree, Unsaved, ap, arith, cond, dentry-exact, dentry-total, dirtied, false, false_from_ne_true, get-empty, get-insert, get_beside, get_put, hash_of, inl, inr, is_known, is_some, key_cmp, key_or_apart, leaf-total, leaf_is, leaf_itself, leaf_or_apart, leaves_of, marked_beside, marked_here, names_at, object_of, one_leaf, only_below, refl, rules, same_Some, same_leaf, same_map, shown_at, shown_over, shown_put, shown_tree, some_pick, subst, sym, text_of, tied_leaf, tree_of_row, true, with_mark, with_name, ℕ, ⊎_elim, ◌<◌, ◌^◌, ◌∙◌, ◌≡◌, ◌⊎◌}
 use Rattle.std.specs.FinMap as map
 use Rattle.mds_types.proofs.EntryLaws.{get_put as get_dentry, get_beside as get_other_dentry, get_removed, get_left as get_left_dentry, same_or_apart}
 use Rattle.dentry_cache.specs.Ties.{KeepsAt}
@@ -172,8 +172,8 @@ module _ (s : State) (sound : HasSoundLeaves s) (dentry : Dentry) (f : Fragment)
   pub named_leaves : HasSoundLeaves t
   named_leaves =
       let saved : (q : Leaf) → IsLive s.homes s.covers q → map.get t.unsaved q ≡ None → IsSaved q.1 (object_of s.objects q.0 q.1) = λ q is clean.
-          (let apart = false_from_ne_true (leaf_is q leaf) (λ same. let clash : None ≡ Some v = sym clean ∙ ap (map.get t.unsaved) (one_leaf q leaf same) ∙ unsaved_here in cc) in
-          sound.saved q is (sym (unsaved_beside q apart) ∙ clean)) in
+      (let apart = false_from_ne_true (leaf_is q leaf) (λ same. let clash : None ≡ Some v = sym clean ∙ ap (map.get t.unsaved) (one_leaf q leaf same) ∙ unsaved_here in cc) in
+      sound.saved q is (sym (unsaved_beside q apart) ∙ clean)) in
       let standing : (q : Leaf) (job : Job) → map.get s.jobs q ≡ Some job → IsStanding t q job = λ q job is. standing_still q job (sound.standing q job is) in
       search (rules, placed_still, unsaved_still, sound.owned)
 

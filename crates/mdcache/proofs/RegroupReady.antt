@@ -1,5 +1,5 @@
 -- What is made ready for a split or a merge: first room and names are planned, then the place that was kept is given up, then leaves are read.
-use Rattle.mdcache.proofs.Common.{AreAbsent, AreCaches, AreKept, CacheMap, Cached, Core, Dirfrag, Fragment, HasCached, Ino, IsButPlaces, IsChildAt, IsDistinct, IsFamilyAt, IsNoLess, IsThat, IsThere, IsWhole, KeepsNone, LacksPlacesIn, Leaf, MayNotFind, MayNotKeepAll, None, NoneEnds, Option, Reads, ReadsCore, ReadsFamily, Refusal, Some, StaysAt, ap, arith, at_rank, child_of, false, has_place, here, inl, inr, it_stays, kept_at, leaf_is, leaf_itself, leaf_of, length, no_child, none_kept_at, order, placed_given_up, readies_whole, reads_placed, reads_then, reads_weaker, refl, refused_whole, rules, subst, suc, sym, true, unclean_at, unclean_of, without_children, zero, ℕ, ⊎_elim, ◌+◌, ◌<◌, ◌^◌, ◌∙◌, ◌≡◌, ◌≤◌, ◌⊎◌}
+use Rattle.mdcache.proofs.Common.{AreAbsent, AreCaches, AreKept, CacheMap, Cached, Core, Dirfrag, Fragment, HasCached, Ino, IsButPlaces, IsChildAt, IsDistinct, IsFamilyAt, IsNoLess, IsThat, IsThere, IsWhole, KeepsNone, LacksPlacesIn, Leaf, MayNotFind, MayNotKeepAll, None, NoneEnds, Option, Reads, ReadsCore, ReadsFamily, Refusal, StaysAt, ap, arith, at_rank, child_of, false, has_place, here, inl, inr, it_stays, kept_at, leaf_is, leaf_itself, leaf_of, length, no_child, none_kept_at, order, placed_given_up, readies_whole, reads_placed, reads_then, reads_weaker, refl, refused_whole, rules, subst, suc, sym, true, unclean_at, unclean_of, without_children, zero, ℕ, ⊎_elim, ◌+◌, ◌<◌, ◌^◌, ◌∙◌, ◌≡◌, ◌≤◌, ◌⊎◌}
 use Rattle.std.specs.FinMap as map
 use Rattle.dentry_cache.proofs.ChildLaws.{AreDropped, are_dropped}
 use Rattle.mdcache.proofs.CoreLaws.{first_step, next_step, no_less_itself, not_found_before, reads_core_wider, still_absent, there_after}
@@ -49,9 +49,12 @@ module _ (old mid view : Core) (is : view ≡ mid) (a : Dirfrag) (nb : ℕ) (som
 
   -- there is a cache at the rank, and no child in any
   pub children_free : (a.rank.0 < length view.caches.used) × AreAbsent view.caches a.rank.0 a.dir a.frag nb
-  children_free = (subst (λ (k : Core). a.rank.0 < length k.caches.used) (sym is) (there_after (IsThat a.rank.0 (leaf_of a)) NoneEnds old mid a.rank.0 reads there), λ i below.
-      let held : map.get view.caches.held (a.dir, child_of a.frag i nb) ≡ None = ap (λ (k : Core). map.get k.caches.held (a.dir, child_of a.frag i nb)) is ∙ fetched_nowhere i below in
-      (none_absent view.caches a.rank.0 (a.dir, child_of a.frag i nb) none held, held))
+  children_free = (
+    subst (λ (k : Core). a.rank.0 < length k.caches.used) (sym is) (there_after (IsThat a.rank.0 (leaf_of a)) NoneEnds old mid a.rank.0 reads there),
+    λ i below.
+        let held : map.get view.caches.held (a.dir, child_of a.frag i nb) ≡ None = ap (λ (k : Core). map.get k.caches.held (a.dir, child_of a.frag i nb)) is ∙ fetched_nowhere i below in
+        (none_absent view.caches a.rank.0 (a.dir, child_of a.frag i nb) none held, held),
+  )
 
   -- what is left once room was made for them: what was read, no leaf twice in the order of use, and what is whole
   pub children : (caches' : CacheMap) → ReadsFamily a.rank.0 a.dir a.frag nb view.caches caches' → StaysAt a.rank.0 (leaf_of a) view.caches caches' → ReadsCore (Family a nb) (Family a nb) old (record view { caches = caches' })
