@@ -1,5 +1,5 @@
 -- What the beginning of a commit leaves, done or not.
-use Rattle.mdcache.proofs.Common.{AreCached, AreYoung, Base, Begins, BeginsWith, Bool, Bor, Cached, Came, Core, Dirfrag, Err, HasCached, IsAtEnd, IsBelowEnd, IsFreeFor, IsJobOf, IsLive, IsOf, IsSnap, IsSound, IsSoundCore, IsThat, IsThere, Job, Leaf, NoInodes, NoMemory, None, NoneEnds, Ok, Omap, Option, Refusal, Result, Rooms, Some, State, Unsaved, ap, at, cond, cond_both, counts_of, false, here, here_is, inl, inr, is_clean, is_some, job_for, object_of, option_copied, option_map, refl, rules, same_Some, shown, shown_at, state_of, stays, subst, sym, tied_show, true, unsaved_in, used_at, used_core, used_unclean, uses, with_job, with_job_in, ℕ, ◌+◌, ◌∙◌, ◌≡◌}
+use Rattle.mdcache.proofs.Common.{AreCached, AreYoung, Base, Begins, BeginsWith, Bool, Bor, Cached, Came, Core, Dirfrag, Err, HasCached, IsAtEnd, IsBelowEnd, IsFreeFor, IsJobOf, IsLive, IsOf, IsSnap, IsSound, IsSoundCore, IsThat, IsThere, Job, Leaf, NoInodes, NoMemory, None, NoneEnds, Ok, Omap, Option, Refusal, Result, Rooms, Some, State, Unsaved, ap, at, cond, cond_both, counts_of, false, here, here_is, inl, inr, is_clean, is_some, job_for, object_of, option_copied, option_map, refl, rules, same_Some, shown, shown_at, state_of, stays, subst, sym, tied_show, unsaved_in, used_at, used_core, used_unclean, uses, with_job, with_job_in, ℕ, ◌+◌, ◌∙◌, ◌≡◌}
 use Rattle.std.specs.FinMap as map
 use Rattle.mds_types.specs.Leaf.{leaf_of as leaf_at}
 use Rattle.dentry_cache.specs.Ties.{KeepsAt}

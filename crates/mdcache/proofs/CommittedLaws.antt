@@ -1,5 +1,5 @@
 -- Commits of whole fragments, one after the other.
-use Rattle.mdcache.proofs.Common.{Base, Bool, CommitsWhole, Ends, Err, HasSpelled, IsAsItWas, IsAtHand, IsEnded, IsLive, IsSound, IsWritten, Job, Jobs, LacksNumbers, Leaf, List, MayNotCommit, None, Ok, Refusal, Result, Some, State, Unsaved, UnsavedLeaves, ap, arith, cond, false, get_beside, inl, inr, len-empty, names_at, names_then, next_version, object_of, refl, rules, same_Some, shown_at, shown_over, subst, sym, text_of, true, ℕ, ⊎_elim, ◌+◌, ◌<◌, ◌∙◌, ◌≡◌, ◌⊎◌}
+use Rattle.mdcache.proofs.Common.{Base, Bool, CommitsWhole, Ends, Err, HasSpelled, IsAsItWas, IsAtHand, IsEnded, IsLive, IsSound, IsWritten, Job, Jobs, LacksNumbers, Leaf, List, MayNotCommit, None, Ok, Refusal, Result, Some, State, Unsaved, UnsavedLeaves, ap, arith, cond, false, get_beside, inl, inr, len-empty, names_at, names_then, next_version, object_of, refl, same_Some, shown_at, shown_over, subst, sym, text_of, true, ℕ, ⊎_elim, ◌+◌, ◌<◌, ◌∙◌, ◌≡◌, ◌⊎◌}
 use Rattle.std.specs.FinMap as map
 use Rattle.mds_types.proofs.LeafLaws.{get_left, get_removed, same_or_apart}
 use Rattle.objstore.specs.Objects.{written}

@@ -1,5 +1,5 @@
 -- A directory goes in which nothing is: nothing of it is left but names of objects to be removed, and the tree stays.
-use Rattle.mdcache.proofs.Common.{Bool, Contains, Fragment, HasLeaf, Home, Ino, IsLive, IsPick, Job, Keys, Leaf, List, MayGo, Names, None, NothingIn, Option, Some, State, [], ap, arith, cond, cond_both, dentry-exact, dentry-total, dropped_table, each, false, false_from_ne_true, first_or_later, get-remove, get_beside, get_put, hash_of, in_directory, inl, inr, is_apart, is_known, is_some, later, leaf-total, leaf_equivalence, leaf_is, leaf_itself, leaves, leaves_of, list_any, list_any-from_Contains, names_of, nat_list_cmp_total, objects_of, one_leaf, or_left, or_right, or_whole, refl, same_map, shown_tree, some_stays, subst, suc, sym, text_of, tied_leaf, tree_text, true, value_of, with_objects, without_directory, without_leaves, zero, ℕ, ⊎_elim, ◌==◌, ◌||◌, ◌∙◌, ◌∷◌, ◌≡◌}
+use Rattle.mdcache.proofs.Common.{Bool, Contains, Fragment, HasLeaf, Home, Ino, IsLive, IsPick, Job, Keys, Leaf, List, MayGo, Names, None, NothingIn, Option, Some, State, [], ap, arith, cond, cond_both, dentry-exact, dentry-total, dropped_table, each, false, false_from_ne_true, get-remove, get_beside, get_put, hash_of, in_directory, inl, inr, is_apart, is_known, is_some, later, leaf-total, leaf_equivalence, leaf_is, leaves, leaves_of, list_any, list_any-from_Contains, names_of, nat_list_cmp_total, objects_of, one_leaf, or_whole, refl, same_map, shown_tree, some_stays, subst, suc, sym, text_of, tied_leaf, tree_text, true, with_objects, without_directory, without_leaves, zero, ℕ, ⊎_elim, ◌==◌, ◌||◌, ◌∙◌, ◌∷◌, ◌≡◌}
 use Rattle.std.specs.FinMap as map
 use Rattle.sorted_map.proofs.NatKeys.{get_left as get_left_home, get_removed as get_removed_home, same_or_apart as same_number}
 use Rattle.dentry_cache.specs.Cache.{leaf_cmp}

@@ -1,5 +1,5 @@
 -- What a walk finds that meets no faulty object is a sound tree, and the one that is shown.
-use Rattle.mdcache.proofs.Common.{AreCached, CacheMap, Core, Counts, Covers, DirPins, Err, Homes, IfOk, IsColdTree, IsCounted, IsLive, IsMounted, IsNew, IsOwned, IsReached, IsReachedObject, IsRecord, IsSaved, IsSound, IsSoundCore, IsTabled, IsWalked, KeepsNone, Keys, List, Names, None, Objects, Ok, Record, Result, SaysLeaves, Some, State, Tree, allowed, ap, arith, belongs, eqb-true, hash_of, in_empty, inl, inr, is_cold, is_dir_kind, is_known, is_some, leaves_of, mounted, no_caches, object_of, or_cases, pick_from_leaf, refl, rules, said_tree, shown_in, shown_tree, state_of, subst, sym, text_of, tree_of, true, unclean, value_of, walked_is_tabled, ℕ, ⊎_elim, ◌<◌, ◌==◌, ◌^◌, ◌∙◌, ◌≡◌, ◌⊎◌}
+use Rattle.mdcache.proofs.Common.{AreCached, CacheMap, Core, Counts, Covers, DirPins, Homes, IfOk, IsColdTree, IsCounted, IsLive, IsMounted, IsNew, IsOwned, IsReached, IsReachedObject, IsRecord, IsSaved, IsSound, IsSoundCore, IsTabled, IsWalked, KeepsNone, Keys, List, Names, None, Objects, Record, Result, SaysLeaves, Some, State, Tree, allowed, ap, arith, belongs, eqb-true, hash_of, in_empty, inl, inr, is_cold, is_dir_kind, is_known, is_some, leaves_of, mounted, no_caches, object_of, or_cases, pick_from_leaf, refl, rules, said_tree, shown_in, shown_tree, state_of, subst, sym, text_of, tree_of, true, unclean, value_of, walked_is_tabled, ℕ, ⊎_elim, ◌<◌, ◌==◌, ◌^◌, ◌∙◌, ◌≡◌, ◌⊎◌}
 use Rattle.std.specs.FinMap as map
 use Rattle.mds_types.specs.Leaf.{Leaf, leaf_cmp}
 pub use Rattle.cold_store.specs.Rows.{IsIn}

@@ -1,5 +1,5 @@
 -- A name of a leaf gets an inode, or is removed: all but the table of directories is sound as before, and the tree has the name so.
-use Rattle.mdcache.proofs.Common.{AreYoung, Bool, Dentry, Fragment, Fresh, Homes, Inode, IsAsItStands, IsCounted, IsLeafAt, IsLive, IsOwned, IsPick, IsSaved, IsSound, IsStanding, IsTable, IsTabled, IsUnsaved, Job, Keeps, Leaf, List, Mark, Marks, Names, None, Omap, Option, Some, State, Stored, Tree, Unsaved, ap, arith, cases_Bool, cond, dentry-exact, dentry-total, dirtied, false, false_from_ne_true, get-empty, get-insert, get_beside, get_put, hash_of, inl, inr, is_known, is_some, key_cmp, key_or_apart, leaf-total, leaf_is, leaf_itself, leaf_or_apart, leaves_of, marked_beside, marked_here, names_at, object_of, one_leaf, only_below, refl, rules, same_Some, same_leaf, same_map, shown_at, shown_over, shown_put, shown_tree, some_pick, subst, sym, text_of, tied_leaf, tree_of_row, true, with_mark, with_name, ℕ, ⊎_elim, ◌<◌, ◌^◌, ◌∙◌, ◌≡◌, ◌⊎◌}
+use Rattle.mdcache.proofs.Common.{AreYoung, Bool, Dentry, Fragment, Fresh, Homes, Inode, IsAsItStands, IsCounted, IsLeafAt, IsLive, IsOwned, IsPick, IsSaved, IsSound, IsStanding, IsTable, IsTabled, IsUnsaved, Job, Keeps, Leaf, List, Mark, Marks, Names, None, Omap, Option, Some, State, Stored, Tree, Unsaved, ap, arith, cond, dentry-exact, dentry-total, dirtied, false, false_from_ne_true, get-empty, get-insert, get_beside, get_put, hash_of, inl, inr, is_known, is_some, key_cmp, key_or_apart, leaf-total, leaf_is, leaf_itself, leaf_or_apart, leaves_of, marked_beside, marked_here, names_at, object_of, one_leaf, only_below, refl, rules, same_Some, same_leaf, same_map, shown_at, shown_over, shown_put, shown_tree, some_pick, subst, sym, text_of, tied_leaf, tree_of_row, true, with_mark, with_name, ℕ, ⊎_elim, ◌<◌, ◌^◌, ◌∙◌, ◌≡◌, ◌⊎◌}
 use Rattle.std.specs.FinMap as map
 use Rattle.mds_types.proofs.EntryLaws.{get_put as get_dentry, get_beside as get_other_dentry, get_removed, get_left as get_left_dentry, same_or_apart}
 use Rattle.dentry_cache.specs.Ties.{KeepsAt}

@@ -1,5 +1,5 @@
 -- What a page gathers, name by name.
-use Rattle.mdcache.proofs.Common.{Bool, Equal, Gathered, Greater, Inode, IsAt, IsBeyond, IsGap, IsPageOf, IsTotalOrder, Less, List, Ordering, Row, T, Takes, [], ap, arith, below_all, by_order, cond, drop, false, get_or, insert, is_lt, is_sorted-put, key_cmp, left_of, length, length-insert, length-set, length-take, less, nat_list_cmp_total, nat_tests, or_right, put, put_at, put_gap, puts, refl, right_of, rules, subst, suc, sym, take, take-append-drop, take_all, true, turned, zero, ℕ, ◌||◌, ◌∙◌, ◌∷◌, ◌≡◌, ◌≤◌}
+use Rattle.mdcache.proofs.Common.{Bool, Equal, Gathered, Greater, Inode, IsAt, IsBeyond, IsGap, IsPageOf, IsTotalOrder, Less, List, Ordering, Row, T, Takes, [], ap, arith, below_all, by_order, cond, drop, false, get_or, insert, is_lt, is_sorted-put, key_cmp, left_of, length, length-insert, length-set, length-take, less, nat_list_cmp_total, nat_tests, put, put_at, put_gap, puts, refl, right_of, rules, subst, suc, sym, take, take-append-drop, take_all, true, turned, zero, ℕ, ◌||◌, ◌∙◌, ◌∷◌, ◌≡◌, ◌≤◌}
 use Rattle.std.proofs.Common.{set, nat_lt}
 use Rattle.std.specs.FinMap.Entries.{is_sorted}
 use Rattle.sorted_map.proofs.HomeLaws.{sorted_front}

@@ -1,5 +1,5 @@
 -- What a change of one name leaves.
-use Rattle.mdcache.proofs.Common.{AreCached, At, Base, Bool, CacheMap, Cached, Core, Dirfrag, Fresh, Inode, IsAsItStands, IsCachedIn, IsFree, IsFreeFor, IsNamed, IsThere, IsTied, IsTiedAt, KeepsOnlyAt, Leaf, List, Mark, Marks, None, Omap, Option, Rank, Some, State, Stored, Unsaved, ap, at, at_rank, changed_are_tied, cond, cond_both, dirtied, edited_as, empty_of_len, eqb-true, false, false_from_ne_true, get-empty, get_put, get_unclean, get_with_frag, here, here_beside, here_is, here_put, inl, inr, is_clean, is_clean_over, key_cmp, leaf_is, leaf_of, leaf_or_apart, marked, named, now_unclean, object_of, one_leaf, placed_used, refl, rules, same_Some, state_of, subst, sym, true, true_from_ne_false, unclean, unsaved_at, unsaved_of, with_frag, with_unsaved, ℕ, ⊎_elim, ◌+◌, ◌<◌, ◌==◌, ◌∙◌, ◌≡◌, ◌⊎◌}
+use Rattle.mdcache.proofs.Common.{AreCached, At, Base, Bool, CacheMap, Cached, Core, Dirfrag, Fresh, Inode, IsAsItStands, IsCachedIn, IsFree, IsFreeFor, IsNamed, IsThere, IsTied, IsTiedAt, KeepsOnlyAt, Leaf, List, Mark, Marks, None, Omap, Option, Rank, Some, State, Stored, Unsaved, ap, at, at_rank, changed_are_tied, cond, cond_both, dirtied, edited_as, empty_of_len, eqb-true, false, false_from_ne_true, get-empty, get_put, get_unclean, get_with_frag, here, here_beside, here_is, here_put, inl, inr, is_clean, is_clean_over, key_cmp, leaf_is, leaf_of, leaf_or_apart, marked, named, now_unclean, object_of, one_leaf, placed_used, refl, same_Some, state_of, subst, sym, true, true_from_ne_false, unclean, unsaved_at, unsaved_of, with_frag, with_unsaved, ℕ, ⊎_elim, ◌+◌, ◌<◌, ◌==◌, ◌∙◌, ◌≡◌, ◌⊎◌}
 use Rattle.std.specs.FinMap as map
 use Rattle.mdcache.specs.Changes.{Counts}
 

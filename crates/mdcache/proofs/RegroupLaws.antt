@@ -1,5 +1,5 @@
 -- A directory gets another cover: the state is sound then, and shows the same tree.
-use Rattle.mdcache.proofs.Common.{AreCached, AreYoung, At, Base, Bool, CacheMap, Comes, Contains, Fragment, Fresh, HasLeaf, HasUnsaved, Holds, Ino, Inode, IsConcerned, IsCounted, IsLive, IsNewLeaf, IsOwned, IsRegrouped, IsSound, IsTable, IsTabled, IsTied, IsUnsaved, Job, Leaf, List, Mark, Marks, Names, None, Option, Some, State, Stored, Tree, Unsaved, [], ap, are_empty, arith, cond, cond_both, dentry-exact, dentry-total, dentry_of, each, false, false_from_ne_true, first_or_later, get-empty, get-patched, has_none, hash_of, holds, holds_contains, in_directory, inl, inode_or, inr, is_known, is_same, is_some, key_cmp, key_or_apart, later, leaf_is, leaves_of, list_any, marked_as, names_at, object_of, one_leaf, one_or_other, or_cases, or_whole, pick_from_leaf, refl, regrouped, rules, same_Some, same_map, set_table, shown_at, shown_over, shown_tree, span, subst, suc, sym, text_of, tree_of_row, true, zero, ℕ, ⊎_elim, ◌%◌, ◌+◌, ◌/◌, ◌<◌, ◌^◌, ◌∙◌, ◌∷◌, ◌≡◌, ◌⊎◌}
+use Rattle.mdcache.proofs.Common.{AreCached, AreYoung, At, Base, Bool, CacheMap, Comes, Fragment, Fresh, HasLeaf, HasUnsaved, Holds, Ino, Inode, IsConcerned, IsCounted, IsLive, IsNewLeaf, IsOwned, IsRegrouped, IsSound, IsTable, IsTabled, IsTied, IsUnsaved, Job, Leaf, List, Mark, Marks, Names, None, Option, Some, State, Stored, Tree, Unsaved, [], ap, are_empty, arith, cond, cond_both, dentry-exact, dentry-total, dentry_of, each, false, false_from_ne_true, first_or_later, get-empty, get-patched, has_none, hash_of, holds, holds_contains, in_directory, inl, inode_or, inr, is_known, is_same, is_some, key_cmp, key_or_apart, later, leaf_is, leaves_of, list_any, marked_as, names_at, object_of, one_or_other, or_whole, pick_from_leaf, refl, regrouped, rules, same_Some, same_map, set_table, shown_at, shown_over, shown_tree, span, subst, sym, text_of, tree_of_row, true, zero, ℕ, ⊎_elim, ◌%◌, ◌+◌, ◌/◌, ◌<◌, ◌^◌, ◌∙◌, ◌∷◌, ◌≡◌, ◌⊎◌}
 use Rattle.std.specs.FinMap as map
 use Rattle.sorted_map.proofs.NatKeys.{get_beside as get_other_cover, get_put as get_cover, same_or_apart as same_number}
 use Rattle.mdcache.specs.Shown.{names_of}

@@ -1,5 +1,5 @@
 -- No call touches the object of a fragment while a job stands for it.
-use Rattle.mdcache.proofs.Common.{BeginsWith, Bool, Change, Drops, Ends, Err, Fragment, Ino, Inode, IsRegrouped, IsSound, Job, Leaf, List, Makes, None, Ok, Option, PurgesName, PutsThen, Refusal, Result, SavesTree, Some, Spot, State, TakesThen, Unsaved, ap, cond, dentry_at, false, first_name, get_beside, housed, inl, inr, is_dir_kind, object_of, refl, rules, sym, text_of, true, with_directory, with_home_at, with_new, without, ℕ, ◌∙◌, ◌≡◌}
+use Rattle.mdcache.proofs.Common.{BeginsWith, Bool, Change, Drops, Ends, Err, Fragment, Ino, Inode, IsRegrouped, IsSound, Job, Leaf, List, Makes, None, Ok, Option, PurgesName, PutsThen, Refusal, Result, SavesTree, Some, Spot, State, TakesThen, Unsaved, ap, first_name, get_beside, housed, inl, inr, object_of, rules, sym, text_of, without, ℕ, ◌∙◌, ◌≡◌}
 use Rattle.std.specs.FinMap as map
 use Rattle.mds_types.proofs.LeafLaws.{get_removed, same_or_apart}
 use Rattle.objstore.specs.Objects.{written}

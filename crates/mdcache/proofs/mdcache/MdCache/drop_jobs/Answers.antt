@@ -1,4 +1,4 @@
-use Rattle.mdcache.proofs.Common.{Core, Standing, ap, rules, shown_tree}
+use Rattle.mdcache.proofs.Common.{Core, Standing, ap, rules}
 use Rattle.mdcache.proofs.JoblessLaws.{numbered}
 use Rattle.mdcache.proofs.mdcache.MdCache.drop_jobs.Goals as goal
 
