@@ -125,7 +125,7 @@ impl<S: Store + Drop> MdCache<S> {
             (λ dir. MayGo (with_home self.old.homes (record { dir = to.at.dir; name = moving.name }) inode) dir.0) }
         requires purge { count_going moving.going ≤ self.old.room.purge }
         ensures none { KeepsNone self.old.caches → KeepsNone self.new.caches }
-        ensures moved_entry { self.new ≡ without_dir (moved_entry self.old from.at from.name to.at to.name moving.name inode)
+        ensures moved { self.new ≡ without_dir (moved_entry self.old from.at from.name to.at to.name moving.name inode)
             (dir_going moving.going) (leaves_going moving.going) (texts_going moving.going) self.new.room }
     {
         let MovingEntry { name, going } = moving;
