@@ -18,41 +18,13 @@ impl Cache {
         ensures used { IsChanged (cached self.old.entries (dir, frag))
             (λ (f now : Cached). now ≡ f) (dir, frag) self.old self.new }
     {
-        self.seek(dir, frag, name);
+        let _ = self.touch(dir, frag);
         match self.get(dir, frag) {
             Some(fragment) => copied(fragment.look(name)),
             None => Ok(None),
         }
     }
-
-    // Makes a fragment the most recently used. One of many names looks for this one, so that neither a change of it nor
-    // another look searches once more.
-    fn seek(&mut self, dir: Ino, frag: Frag, name: &Name)
-        requires { IsThere (cached self.old.entries (dir, frag)) }
-        ensures { IsChanged (cached self.old.entries (dir, frag))
-            (λ (f now : Cached). now ≡ f) (dir, frag) self.old self.new }
-    {
-        if self.is_small(dir, frag) {
-            let _ = self.touch(dir, frag);
-            return;
-        }
-        let Some(place) = self.places.get_mut(&(dir, frag)) else {
-            return;
-        };
-        place.frag.seek(name);
-    }
-
-    // Whether a fragment is the most recently used and has few names, which are searched in one vector.
-    fn is_small(&self, dir: Ino, frag: Frag) -> bool {
-        match self.newest(dir, frag) {
-            Some(place) => place.frag.len() <= IN_ONE_VECTOR,
-            None => false,
-        }
-    }
 }
-
-// So many names or fewer are kept in one vector, or few chunks.
-const IN_ONE_VECTOR: usize = 64;
 
 // A copy of an inode, if there is one.
 fn copied(inode: Option<&Inode>) -> Result<Option<Inode>, AllocError>

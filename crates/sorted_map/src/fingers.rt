@@ -5,6 +5,7 @@ ghost use Rattle.sorted_map.specs.SortedMap.{contents};
 
 use crate::keys::{ExactOrd, Probe};
 use crate::map::{SortedMap, Store};
+use std::cell::Cell;
 
 /// Where the two keys of a large map are, or would go, that were sought last. It is a hint: a call that it is given tries
 /// these places first, at a comparison or two each, and searches where the key isn't there. So no answer depends on it,
@@ -39,25 +40,13 @@ impl Finger {
 }
 
 impl<K: ExactOrd, V> SortedMap<K, V> {
-    /// Seeks the key, and tells where it is or would go, beside what was sought before. Takes logarithmic time in a large
-    /// map; of a small one it tells nothing.
-    pub fn seek<Q: Probe<K>>(&self, near: &Finger, q: &Q) -> Finger {
-        match &self.store {
-            Store::Flat(_) => Finger::none(),
-            Store::Chunked(chunked) => Finger {
-                last: chunked.spot_of(q),
-                before: near.last,
-            },
-        }
-    }
-
-    /// The value of the key, as `get` finds it.
-    pub fn get_near<Q: Probe<K>>(&self, near: &Finger, q: &Q) -> Option<&V>
+    /// The value of the key, as `get` finds it. In a large map the finger is where the key is then, or would go.
+    pub fn get_noting<Q: Probe<K>>(&self, near: &Cell<Finger>, q: &Q) -> Option<&V>
         ensures { option_copied result ≡ map.get (contents K.cmp self.now) (Q.key q.now) }
     {
         match &self.store {
             Store::Flat(flat) => flat.get(q),
-            Store::Chunked(chunked) => chunked.get_near(near, q),
+            Store::Chunked(chunked) => chunked.get_noting(near, q),
         }
     }
 }

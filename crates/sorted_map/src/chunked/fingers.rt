@@ -13,25 +13,24 @@ use crate::chunked::places::spot_from_end;
 use crate::chunks::{Chunk, put_new, put_value};
 use crate::fingers::{Finger, Spot};
 use crate::keys::{ExactOrd, Probe};
+use std::cell::Cell;
 use std::cmp::Ordering;
 
 impl<K: ExactOrd, V> ChunkMap<K, V> {
-    /// Where the key is, or would go.
-    pub fn spot_of<Q: Probe<K>>(&self, q: &Q) -> Spot {
-        match spot_from_end(self.chunks.row(), q) {
-            (home, Ok(at)) => Spot { home, at },
-            (home, Err(at)) => Spot { home, at },
-        }
-    }
-
-    /// The value of the key.
-    pub fn get_near<Q: Probe<K>>(&self, near: &Finger, q: &Q) -> Option<&V>
+    /// The value of the key; the finger is where it is then, or would go.
+    pub fn get_noting<Q: Probe<K>>(&self, near: &Cell<Finger>, q: &Q) -> Option<&V>
         ensures { option_copied result ≡ map.get (contents K.cmp self.now) (Q.key q.now) }
     {
         let row = self.chunks.row();
-        match spot_near(row, near, q) {
-            (home, Ok(at)) => Some(&row[home].pairs()[at].1),
-            (_, Err(_)) => None,
+        match spot_from_end(row, q) {
+            (home, Ok(at)) => {
+                note(near, home, at);
+                Some(&row[home].pairs()[at].1)
+            }
+            (home, Err(at)) => {
+                note(near, home, at);
+                None
+            }
         }
     }
 }
@@ -52,6 +51,15 @@ impl<K: ExactOrd + Drop, V: Drop> ChunkMap<K, V> {
             }
         }
     }
+}
+
+// A key was sought, and found at this place.
+fn note(near: &Cell<Finger>, home: usize, at: usize) {
+    let before = near.get().last;
+    near.set(Finger {
+        last: Spot { home, at },
+        before,
+    });
 }
 
 // The chunk of the probe's key and its place there, or that where it would go, as `spot_from_end` finds them.
