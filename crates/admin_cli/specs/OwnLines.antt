@@ -39,13 +39,13 @@ came_of (Refused refusal) = came.Refused refusal
 came_of (Errno errno) = came.Nothing
 
 -- the line of a step that was made: what it was, at which leaf, and what came of it
-abbrev pub told : OwnStep → Ino → Fragment → OutputLine → OutputLine
-told step dir f shown = Own (record { step = step; ino = dir; frag = f; result = came_of shown })
+abbrev pub own_line_of : OwnStep → Ino → Fragment → OutputLine → OutputLine
+own_line_of step dir f shown = Own (record { step = step; ino = dir; frag = f; result = came_of shown })
 
--- a step was made, and told so
+-- a step was made, and own_line_of so
 abbrev pub MakesOne : (old new : Admin) → OwnStep → Ino → Fragment → Event → OutputLine → Type 0
 MakesOne old new step dir f event line =
-    (shown : OutputLine) × DoesEvent old new event shown × (line ≡ told step dir f shown)
+    (shown : OutputLine) × DoesEvent old new event shown × (line ≡ own_line_of step dir f shown)
 
 -- the step that a rank proposed was made as its own command makes it, an Import with the bytes that are kept for it
 abbrev pub MakesStep : (old new : Admin) → Event → OutputLine → Type 0
@@ -64,9 +64,9 @@ MakesStep old new (Start from dir f to) line = MakesOne old new own.Start dir f 
 MakesStep old new (Freeze dir f) line = MakesOne old new own.Freeze dir f (Freeze dir f) line
 MakesStep old new (Prep dir f) line = MakesOne old new own.Prep dir f (Prep dir f) line
 MakesStep old new (Send dir f) line =
-    (shown : OutputLine) × SendsLine old new dir f shown × (line ≡ told own.Send dir f shown)
+    (shown : OutputLine) × SendsLine old new dir f shown × (line ≡ own_line_of own.Send dir f shown)
 MakesStep old new (Import dir f bytes) line =
-    (shown : OutputLine) × ImportsLine old new dir f shown × (line ≡ told own.Import dir f shown)
+    (shown : OutputLine) × ImportsLine old new dir f shown × (line ≡ own_line_of own.Import dir f shown)
 MakesStep old new (Finish dir f) line = MakesOne old new own.Finish dir f (Finish dir f) line
 MakesStep old new (Cancel dir f) line = MakesOne old new own.Cancel dir f (Cancel dir f) line
 

@@ -1,7 +1,7 @@
 //! The line `own RANK`: a rank proposes a step of its own, and makes it.
 ghost use Rattle.std.specs.Prelude.{◌≡◌, IfOk, OnErr};
 ghost use Rattle.cluster_core.specs.Proposal.{IsOwnStep};
-ghost use Rattle.admin_cli.specs.OwnLines.{LacksForStep, LacksForTurn, MakesOne, MakesStep, TakesTurn, came_of, told};
+ghost use Rattle.admin_cli.specs.OwnLines.{LacksForStep, LacksForTurn, MakesOne, MakesStep, TakesTurn, came_of, own_line_of};
 
 use crate::commands::Admin;
 use cluster_core::Event;
@@ -124,7 +124,7 @@ impl Admin {
 
 // The line of a step that was made, by the line that its own command prints.
 fn told(step: OwnStep, ino: Ino, frag: Frag, shown: OutputLine) -> OutputLine
-    ensures { result ≡ told step ino frag shown }
+    ensures { result ≡ own_line_of step ino frag shown }
 {
     let result = came_of(&shown);
     OutputLine::Own(OwnTurn {

@@ -48,7 +48,8 @@ impl CachedFrag {
         dirty_names_are_recorded(&name, &mark);
         let after = counted(mark.inode.as_ref());
         let below = counted(self.clean.get(&name));
-        let before = put_mark(&mut self.dirty, &self.near, name, mark, below);
+        let near = self.near.get();
+        let before = put_mark(&mut self.dirty, &near, name, mark, below);
         self.counts = recounted(self.counts, before, after);
         self.room -= 1;
     }

@@ -13,6 +13,7 @@ use crate::marks::Mark;
 use mds_types::{Inode, Name};
 use sorted_map::{Finger, SortedMap};
 use std::alloc::{AllocError, Global};
+use std::cell::Cell;
 use std::marker::Model;
 
 /// A cached fragment: a whole one. It shows the names of its base, with the dirty names over them.
@@ -28,8 +29,8 @@ pub struct CachedFrag {
     pub(crate) counts: EntryCounts,
     // how many changes fit
     pub(crate) room: usize,
-    // where a name was looked for among the dirty ones
-    pub(crate) near: Finger,
+    // where the two names were that were sought last among the dirty ones
+    pub(crate) near: Cell<Finger>,
 }
 
 impl Model for CachedFrag {
@@ -77,7 +78,7 @@ impl CachedFrag {
             dirty: SortedMap::new(alloc),
             counts: EntryCounts { files: 0, dirs: 0 },
             room: 0,
-            near: Finger::none(),
+            near: Cell::new(Finger::none()),
         }
     }
 
@@ -113,20 +114,13 @@ impl CachedFrag {
         !self.base.is_fresh() && self.dirty.len() == 0
     }
 
-    /// The inode that a name stands for, if it is there. Takes logarithmic time.
+    /// The inode that a name stands for, if it is there. Takes logarithmic time; where the name is changed next it is
+    /// found at a comparison or two.
     pub fn look(&self, name: &Name) -> Option<&Inode>
         ensures found { option_copied result ≡ map.get (shown self.now) name.now }
         ensures recorded { IfSome (option_copied result) HasRecord }
     {
         shown_in(&self.clean, &self.dirty, &self.near, name)
-    }
-
-    /// Looks for a name among the dirty ones, where the calls for this name that follow find it at a comparison or two.
-    /// What it shows stays.
-    pub fn seek(&mut self, name: &Name)
-        ensures { self.new ≡ self.old }
-    {
-        self.near = self.dirty.finger(name);
     }
 
     /// A record allows what each of its names stands for: a law of the type, so nothing is done.
@@ -186,13 +180,13 @@ impl CachedFrag {
 pub(crate) fn shown_in<'a>(
     clean: &'a SortedMap<Name, Inode>,
     dirty: &'a SortedMap<Name, Mark>,
-    near: &Finger,
+    near: &Cell<Finger>,
     name: &Name,
 ) -> Option<&'a Inode>
     ensures { option_copied result ≡ inode_or (map.get (contents key_cmp dirty.entry.now) name.now)
         (map.get (contents key_cmp clean.entry.now) name.now) }
 {
-    match dirty.get_near(near, name) {
+    match dirty.get_noting(near, name) {
         Some(mark) => mark.inode.as_ref(),
         None => clean.get(name),
     }

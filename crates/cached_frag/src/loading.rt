@@ -11,6 +11,7 @@ use crate::fragments::CachedFrag;
 use mds_types::{Inode, Name};
 use sorted_map::{Finger, SortedMap};
 use std::alloc::Global;
+use std::cell::Cell;
 
 impl CachedFrag {
     /// A fragment whose object spells these names at this commit version. Takes no memory.
@@ -33,7 +34,7 @@ impl CachedFrag {
             dirty: SortedMap::new(alloc),
             counts,
             room: 0,
-            near: Finger::none(),
+            near: Cell::new(Finger::none()),
         }
     }
 }

@@ -1,5 +1,5 @@
 -- The first of the leaves that are to start for another rank.
-use Rattle.cluster_core.proofs.Common.{Equal, Greater, IsAwayTo, IsBehind, IsFirst, IsFirstAway, IsFirstStep, IsLeast, IsNext, IsProposable, IsSome, Leaf, Less, None, OfPin, Option, Ordering, Rank, Roots, Sight, Some, Start, ap, cond, false, inl, inr, is_after, is_lt, is_some, leaf-exact, leaf-total, leaf_cmp, lesser_of, ordering_reverse, refl, subst, sym, true, ◌∙◌, ◌≡◌, ◌⊎◌}
+use Rattle.cluster_core.proofs.Common.{Equal, Greater, IsAwayTo, IsBehind, IsFirst, IsFirstAway, IsFirstStep, IsLeast, IsNext, IsProposable, IsSome, Leaf, Less, None, OfPin, Option, Ordering, Rank, Roots, Sight, Some, Start, ap, cond, false, inl, inr, is_after, is_lt, is_some, leaf-exact, leaf-total, leaf_cmp, lesser_candidate, ordering_reverse, refl, subst, sym, true, ◌∙◌, ◌≡◌, ◌⊎◌}
 use Rattle.std.specs.FinMap as map
 use Rattle.cluster_core.proofs.WalkLaws.{IsWalked, ended, found, passed}
 
@@ -97,7 +97,7 @@ module _ (s : Sight) (P Q : Leaf → Type 0) where
       go leaf to away (inl p) = first.2 leaf to p away
       go leaf to away (inr q) = on leaf (second.2 leaf to q away)
 
-  pub first_of_both : (one : Leaf × Rank) (other : Option (Leaf × Rank)) → IsFirstAway s P (Some one) → IsFirstAway s Q other → IsFirstAway s Both (Some (lesser_of one other))
+  pub first_of_both : (one : Leaf × Rank) (other : Option (Leaf × Rank)) → IsFirstAway s P (Some one) → IsFirstAway s Q other → IsFirstAway s Both (Some (lesser_candidate one other))
   first_of_both one None first none = no_second one first none
   first_of_both one (Some other) first second = of_two one other (leaf_cmp other.0 one.0) refl first second
 

@@ -1,7 +1,7 @@
 -- Names of other crates, and of this one's definitions, as the proofs of this crate take them.
 pub use Rattle.cached_frag.specs.Cached.{Cached}
 pub use Rattle.cached_frag.specs.declared.jobs.Job.{Job}
-pub use Rattle.cluster_core.specs.Administers.{Administers, AdministersTree, BeginsAt, BeginsCommit, EvictsOne, HoldsInside, IsAnyPinned, IsUnseen, Merges, MergesLeaves, Splits, SplitsLeaf, nothing, told_job}
+pub use Rattle.cluster_core.specs.Administers.{Administers, AdministersTree, BeginsAt, BeginsCommit, EvictsOne, HoldsInside, IsAnyPinned, IsUnseen, Merges, MergesLeaves, Splits, SplitsLeaf, told_nothing, told_job}
 pub use Rattle.cluster_core.specs.Commits.{JobsKeepObjects, JobsTakeWhatIsShown}
 pub use Rattle.cluster_core.specs.Exporting.{CancelsAt, Exports, FinishesIn, FreezesIn, HasPinnedUnder, ImportsExport, IsUnseenStep, KeepsTreeAndRoots, PrepsIn, SendsExport, StartsIn}
 pub use Rattle.cluster_core.specs.Flush.{KeepsCore}
@@ -12,7 +12,7 @@ pub use Rattle.cluster_core.specs.Mounted.{MountsCore}
 pub use Rattle.cluster_core.specs.Offer.{after_taking}
 pub use Rattle.cluster_core.specs.Pins.{HasPin, inherited, own}
 pub use Rattle.cluster_core.specs.Prepared.{IsPrepared, IsUnready, RefusesChange, WhyUnprepared, outcome_with}
-pub use Rattle.cluster_core.specs.Proposal.{IsAwayTo, IsFirstAway, IsFirstKindOf, IsFirstStep, IsIdle, IsLarge, IsLeast, IsNextStep, IsOfPinned, IsOwnStep, IsProposable, IsProposal, IsRootAt, Kind, OfExport, OfLarge, OfPin, OfSmall, Proposes, Sight, Would, WouldNot, kinds, lesser_of, sight, sight_of}
+pub use Rattle.cluster_core.specs.Proposal.{IsAwayTo, IsFirstAway, IsFirstKindOf, IsFirstStep, IsIdle, IsLarge, IsLeast, IsNextStep, IsOfPinned, IsOwnStep, IsProposable, IsProposal, IsRootAt, Kind, OfExport, OfLarge, OfPin, OfSmall, Proposes, Sight, Would, WouldNot, kinds, lesser_candidate, sight, sight_of}
 pub use Rattle.cluster_core.specs.Runs.{AddsAtServe, AddsTo, IsOfHistory, IsRun, Records, Runs, StandsInHistory, StepsBook}
 pub use Rattle.cluster_core.specs.Serve.{CarryLeaves, FollowPlanned, ForwardsTo, IsApplied, IsForwarded, IsLeft, IsRepeated, IsTakenOut, MakesPlanned, Replies, ServesInbox, ServesRequest, entry_of, number_of, outcome_of, went_with, with_entry, without_gone, without_request}
 pub use Rattle.cluster_core.specs.Settled.{AreSettled, IsAway, IsCalm, IsCalmIn, IsCalmOp, HasSettled, KeepsSettled}
@@ -63,8 +63,8 @@ pub use Rattle.mdcache.proofs.FragsLaws.{keeps_itself, keeps_refused, refused_so
 pub use Rattle.mdcache.proofs.MountLaws.{IsIn, get_entry}
 pub use Rattle.mdcache.proofs.NewLaws.{new_tree}
 pub use Rattle.mdcache.proofs.StandingObjects.{ObjectsStay, begun_objects, dropped_objects, ended_object, made_objects, purged_object, regrouped_objects, same_state, saved_object}
-pub use Rattle.mdcache.specs.Changes.{PutsThen, TakesThen, housed, with_directory, with_new, without}
-pub use Rattle.mdcache.specs.Commits.{BeginsWith, Drops, Ends}
+pub use Rattle.mdcache.specs.Changes.{PutsThen, TakesThen, housed, with_directory, with_new, without_gone_dir}
+pub use Rattle.mdcache.specs.Commits.{BeginsUnsaved, Drops, EndsJobOf}
 pub use Rattle.mdcache.specs.Core.{LacksPlacesAt, shown_in}
 pub use Rattle.mdcache.specs.Flushed.{HasFragment}
 pub use Rattle.mdcache.specs.Made.{IsUntouched}

@@ -1,5 +1,5 @@
 -- A step leaves the object of each fragment for which a job stands before and after it.
-use Rattle.cluster_core.proofs.Common.{Administers, Answer, Arrive, ArrivesAt, BeginsAt, Bool, Cancel, CancelsAt, Change, CommitBegin, CommitDrop, CommitEnd, CommitTree, Core, Does, Drops, Ends, Entry, Err, Event, Evict, EvictsOne, Exports, Finish, FinishesIn, Freeze, FreezesIn, Grant, GrantsFirst, Import, ImportsExport, IsSound, Job, JobsKeepObjects, JobsTakeWhatIsShown, List, MakesPlanned, MatchBool, TreeMayRefuse, Merge, MergesLeaves, None, NotAuthority, Objects, ObjectsStay, Ok, Op, Option, Prep, PrepsIn, Purge, Purges, Rank, Refusal, Request, Result, SavesTree, Send, SendsExport, Serve, ServesInbox, ServesRequest, Some, Split, SplitsLeaf, Start, StartsIn, State, Tree, Unsaved, [], ap, begun_objects, dropped_objects, ended_object, false, first_name, first_waiting, inl, inr, length, made_objects, nat_lt, nothing, object_of, purged_object, refl, regrouped_objects, same_state, saved_object, shown_at, sym, told_job, true, waiting_at, ℕ, ◌∷◌, ◌≡◌}
+use Rattle.cluster_core.proofs.Common.{Administers, Answer, Arrive, ArrivesAt, BeginsAt, Bool, Cancel, CancelsAt, Change, CommitBegin, CommitDrop, CommitEnd, CommitTree, Core, Does, Drops, EndsJobOf, Entry, Err, Event, Evict, EvictsOne, Exports, Finish, FinishesIn, Freeze, FreezesIn, Grant, GrantsFirst, Import, ImportsExport, IsSound, Job, JobsKeepObjects, JobsTakeWhatIsShown, List, MakesPlanned, MatchBool, TreeMayRefuse, Merge, MergesLeaves, None, NotAuthority, Objects, ObjectsStay, Ok, Op, Option, Prep, PrepsIn, Purge, Purges, Rank, Refusal, Request, Result, SavesTree, Send, SendsExport, Serve, ServesInbox, ServesRequest, Some, Split, SplitsLeaf, Start, StartsIn, State, Tree, Unsaved, [], ap, begun_objects, dropped_objects, ended_object, false, first_name, first_waiting, inl, inr, length, made_objects, nat_lt, told_nothing, object_of, purged_object, refl, regrouped_objects, same_state, saved_object, shown_at, sym, told_job, true, waiting_at, ℕ, ◌∷◌, ◌≡◌}
 use Rattle.std.specs.FinMap as map
 use Rattle.dentry_cache.specs.Cache.{Leaf}
 use Rattle.mdcache.specs.Shown.{names_of}
@@ -74,21 +74,21 @@ module _ (opening : Tree) (past now : List Entry) (old new : Core) (sound : IsSo
   step result (Serve rank) h = at_rank (nat_lt rank.0 (length old.state.inboxes)) result (λ w. kept (served_inbox old.state new.state past now (TreeMayRefuse old new) rank result (waiting_at old.state.inboxes rank) w.0)) h
   step result (Grant rank client tid) h = at_rank (nat_lt rank.0 (length old.state.inboxes)) result (λ w. kept (granted old.state new.state past now (TreeMayRefuse old new) rank client tid result (first_waiting client tid old.state.inboxes) w.0)) h
   step result (Split rank dir f nb) h =
-      at_rank (nat_lt rank.0 (length old.state.inboxes)) result (λ w. worked nothing (SplitsLeaf old new rank dir f nb) (λ done did. kept (regrouped_objects old.state.tree new.state.tree dir _ _ _ did.3.regrouped)) result w.0) h
+      at_rank (nat_lt rank.0 (length old.state.inboxes)) result (λ w. worked told_nothing (SplitsLeaf old new rank dir f nb) (λ done did. kept (regrouped_objects old.state.tree new.state.tree dir _ _ _ did.3.regrouped)) result w.0) h
   step result (Merge rank dir f) h =
-      at_rank (nat_lt rank.0 (length old.state.inboxes)) result (λ w. worked nothing (MergesLeaves old new rank dir f) (λ done did. kept (regrouped_objects old.state.tree new.state.tree dir _ _ _ did.3.regrouped)) result w.0) h
+      at_rank (nat_lt rank.0 (length old.state.inboxes)) result (λ w. worked told_nothing (MergesLeaves old new rank dir f) (λ done did. kept (regrouped_objects old.state.tree new.state.tree dir _ _ _ did.3.regrouped)) result w.0) h
   step result (CommitBegin rank dir f) h =
       at_rank (nat_lt rank.0 (length old.state.inboxes)) result (λ w. worked told_job (BeginsAt old.state new.state rank (dir, f)) (λ given did. kept (begun_objects old.state.tree new.state.tree _ (dir, f) given did.2.2)) result w.0.0) h
   step result (CommitEnd encoded) h =
-      worked nothing (Ends old.state.tree new.state.tree old.faults new.faults encoded.job) (λ done did. ended_object old.state.tree new.state.tree sound.tree.sound leaf job stood stands old.faults new.faults encoded.job (Ok done) did) result h.0.0
-  step result (CommitDrop number) h = worked nothing (Drops old.state.tree new.state.tree number) (λ done did. kept (dropped_objects old.state.tree new.state.tree number (Ok done) did)) result h.0.0
+      worked told_nothing (EndsJobOf old.state.tree new.state.tree old.faults new.faults encoded.job) (λ done did. ended_object old.state.tree new.state.tree sound.tree.sound leaf job stood stands old.faults new.faults encoded.job (Ok done) did) result h.0.0
+  step result (CommitDrop number) h = worked told_nothing (Drops old.state.tree new.state.tree number) (λ done did. kept (dropped_objects old.state.tree new.state.tree number (Ok done) did)) result h.0.0
   step result (CommitTree dir) h =
-      worked nothing (SavesTree old.state.tree new.state.tree old.faults new.faults dir) (λ done did. saved_object old.state.tree new.state.tree sound.tree.sound leaf job stood old.faults new.faults dir (Ok done) did) result h.0.0
+      worked told_nothing (SavesTree old.state.tree new.state.tree old.faults new.faults dir) (λ done did. saved_object old.state.tree new.state.tree sound.tree.sound leaf job stood old.faults new.faults dir (Ok done) did) result h.0.0
   step result Purge h =
-      worked nothing (Purges old.state.tree new.state.tree old.faults new.faults)
+      worked told_nothing (Purges old.state.tree new.state.tree old.faults new.faults)
       (λ done did. purged_object old.state.tree new.state.tree sound.tree.sound leaf job stood old.faults new.faults (first_name old.state.tree.purge) refl (Ok done) did) result h.0.0
   step result (Evict rank) h =
-      at_rank (nat_lt rank.0 (length old.state.inboxes)) result (λ w. worked nothing (EvictsOne old new rank) (λ done did. kept (ap (λ (s : State). s.tree.objects) did.1)) result w.0) h
+      at_rank (nat_lt rank.0 (length old.state.inboxes)) result (λ w. worked told_nothing (EvictsOne old new rank) (λ done did. kept (ap (λ (s : State). s.tree.objects) did.1)) result w.0) h
   step result (Start from dir f to) h =
       at_rank (nat_lt from.0 (length old.state.inboxes)) result (λ w. at_rank (nat_lt to.0 (length old.state.inboxes)) result (λ done. exported (StartsIn old.state new.state from (dir, f) to) (λ did. ap (λ (t : TreeState). t.objects) did.2.tree) result done) w) h
   step result (Freeze dir f) h = exported (FreezesIn old.state new.state (dir, f)) (λ did. ap (λ (t : TreeState). t.objects) did.1.ended.left) result h

@@ -1,5 +1,5 @@
 -- No step changes how many entries a directory may have.
-use Rattle.cluster_core.proofs.Common.{Administers, Answer, Arrive, ArrivesAt, BeginsAt, BeginsWith, Bool, Cancel, CancelsAt, Change, CommitBegin, CommitDrop, CommitEnd, CommitTree, Core, Dentry, Does, Drops, Ends, Entry, Err, Event, Evict, EvictsOne, Exports, Finish, FinishesIn, Freeze, FreezesIn, Grant, GrantsFirst, Import, ImportsExport, Ino, Inode, Job, List, MakesPlanned, MatchBool, TreeMayRefuse, Merge, MergesLeaves, None, NotAuthority, Ok, Op, Option, Prep, PrepsIn, Purge, Purges, PurgesName, PutsThen, Rank, Refusal, Request, Result, SavesTree, Send, SendsExport, Serve, ServesInbox, ServesRequest, Some, Split, SplitsLeaf, Spot, Start, StartsIn, State, TakesThen, Unsaved, [], ap, cond, dentry_at, false, first_name, first_waiting, housed, inl, inr, is_dir_kind, length, nat_lt, nothing, refl, told_job, true, waiting_at, with_directory, with_new, without, ℕ, ◌∙◌, ◌∷◌, ◌≡◌}
+use Rattle.cluster_core.proofs.Common.{Administers, Answer, Arrive, ArrivesAt, BeginsAt, BeginsUnsaved, Bool, Cancel, CancelsAt, Change, CommitBegin, CommitDrop, CommitEnd, CommitTree, Core, Dentry, Does, Drops, EndsJobOf, Entry, Err, Event, Evict, EvictsOne, Exports, Finish, FinishesIn, Freeze, FreezesIn, Grant, GrantsFirst, Import, ImportsExport, Ino, Inode, Job, List, MakesPlanned, MatchBool, TreeMayRefuse, Merge, MergesLeaves, None, NotAuthority, Ok, Op, Option, Prep, PrepsIn, Purge, Purges, PurgesName, PutsThen, Rank, Refusal, Request, Result, SavesTree, Send, SendsExport, Serve, ServesInbox, ServesRequest, Some, Split, SplitsLeaf, Spot, Start, StartsIn, State, TakesThen, Unsaved, [], ap, cond, dentry_at, false, first_name, first_waiting, housed, inl, inr, is_dir_kind, length, nat_lt, told_nothing, refl, told_job, true, waiting_at, with_directory, with_new, without_gone_dir, ℕ, ◌∙◌, ◌∷◌, ◌≡◌}
 use Rattle.dentry_cache.specs.Cache.{Leaf}
 use Rattle.mdcache.specs.Changes.{Makes}
 use Rattle.mdcache.specs.State.{State as TreeState}
@@ -17,7 +17,7 @@ new_limit s dentry inode = go (is_dir_kind inode.kind)
     go true = refl
     go false = refl
 
-without_limit : (s : TreeState) (went : Option Ino) → (without s went).limit ≡ s.limit
+without_limit : (s : TreeState) (went : Option Ino) → (without_gone_dir s went).limit ≡ s.limit
 without_limit s None = refl
 without_limit s (Some dir) = refl
 
@@ -34,20 +34,20 @@ made_limit change old new makes = ap (λ (s : TreeState). s.limit) makes.2 ∙ f
     altered : TreeState
     altered = makes.0
 
-    ends : (left : TreeState) (takes : Option Spot) (puts : Option (Spot × Inode)) → altered ≡ without (housed left takes puts change.comes) change.gone → altered.limit ≡ left.limit
+    ends : (left : TreeState) (takes : Option Spot) (puts : Option (Spot × Inode)) → altered ≡ without_gone_dir (housed left takes puts change.comes) change.gone → altered.limit ≡ left.limit
     ends left takes puts is = ap (λ (s : TreeState). s.limit) is ∙ without_limit (housed left takes puts change.comes) change.gone ∙ housed_limit left takes puts change.comes
 
-    second : (left : TreeState) (takes : Option Spot) (puts : Option (Spot × Inode)) → PutsThen left puts (λ named. altered ≡ without (housed named takes puts change.comes) change.gone) → altered.limit ≡ left.limit
+    second : (left : TreeState) (takes : Option Spot) (puts : Option (Spot × Inode)) → PutsThen left puts (λ named. altered ≡ without_gone_dir (housed named takes puts change.comes) change.gone) → altered.limit ≡ left.limit
     second left takes None is = ends left takes None is
     second left takes (Some put) (named, is_named, is) = ends named takes (Some put) is ∙ ap (λ (s : TreeState). s.limit) is_named.left
 
-    first : (takes : Option Spot) → TakesThen old takes (λ left. PutsThen left change.puts (λ named. altered ≡ without (housed named takes change.puts change.comes) change.gone)) → altered.limit ≡ old.limit
+    first : (takes : Option Spot) → TakesThen old takes (λ left. PutsThen left change.puts (λ named. altered ≡ without_gone_dir (housed named takes change.puts change.comes) change.gone)) → altered.limit ≡ old.limit
     first None makes = second old None change.puts makes
     first (Some spot) (left, is_named, makes) = second left (Some spot) change.puts makes ∙ ap (λ (s : TreeState). s.limit) is_named.left
 
 -- ---- commits, tree objects and the purge list
 
-begun_limit : (old new : TreeState) (unsaved : Option Unsaved) (leaf : Leaf) (job : Option Job) → BeginsWith old new leaf unsaved job → LimitStays old new
+begun_limit : (old new : TreeState) (unsaved : Option Unsaved) (leaf : Leaf) (job : Option Job) → BeginsUnsaved old new leaf unsaved job → LimitStays old new
 begun_limit old new None leaf job h = ap (λ (s : TreeState). s.limit) h.1
 begun_limit old new (Some u) leaf None h = absurd h
 begun_limit old new (Some u) leaf (Some job) h = ap (λ (s : TreeState). s.limit) h.2
@@ -123,21 +123,21 @@ module _ (past now : List Entry) (old new : Core) where
   limit_stays result (Serve rank) h = at_rank (nat_lt rank.0 (length old.state.inboxes)) result (λ w. served_inbox old.state new.state past now (TreeMayRefuse old new) rank result (waiting_at old.state.inboxes rank) w.0) h
   limit_stays result (Grant rank client tid) h = at_rank (nat_lt rank.0 (length old.state.inboxes)) result (λ w. granted old.state new.state past now (TreeMayRefuse old new) rank client tid result (first_waiting client tid old.state.inboxes) w.0) h
   limit_stays result (Split rank dir f nb) h =
-      at_rank (nat_lt rank.0 (length old.state.inboxes)) result (λ w. worked nothing (SplitsLeaf old new rank dir f nb) (λ done did. ap (λ (t : TreeState). t.limit) did.3.regrouped.left) result w.0) h
+      at_rank (nat_lt rank.0 (length old.state.inboxes)) result (λ w. worked told_nothing (SplitsLeaf old new rank dir f nb) (λ done did. ap (λ (t : TreeState). t.limit) did.3.regrouped.left) result w.0) h
   limit_stays result (Merge rank dir f) h =
-      at_rank (nat_lt rank.0 (length old.state.inboxes)) result (λ w. worked nothing (MergesLeaves old new rank dir f) (λ done did. ap (λ (t : TreeState). t.limit) did.3.regrouped.left) result w.0) h
+      at_rank (nat_lt rank.0 (length old.state.inboxes)) result (λ w. worked told_nothing (MergesLeaves old new rank dir f) (λ done did. ap (λ (t : TreeState). t.limit) did.3.regrouped.left) result w.0) h
   limit_stays result (CommitBegin rank dir f) h =
       at_rank (nat_lt rank.0 (length old.state.inboxes)) result (λ w. worked told_job (BeginsAt old.state new.state rank (dir, f)) (λ given did. begun_limit old.state.tree new.state.tree _ (dir, f) given did.2.2) result w.0.0) h
   limit_stays result (CommitEnd encoded) h =
-      worked nothing (Ends old.state.tree new.state.tree old.faults new.faults encoded.job) (λ done did. ap (λ (t : TreeState). t.limit) did.left) result h.0.0
-  limit_stays result (CommitDrop number) h = worked nothing (Drops old.state.tree new.state.tree number) (λ done did. ap (λ (t : TreeState). t.limit) did.left) result h.0.0
+      worked told_nothing (EndsJobOf old.state.tree new.state.tree old.faults new.faults encoded.job) (λ done did. ap (λ (t : TreeState). t.limit) did.left) result h.0.0
+  limit_stays result (CommitDrop number) h = worked told_nothing (Drops old.state.tree new.state.tree number) (λ done did. ap (λ (t : TreeState). t.limit) did.left) result h.0.0
   limit_stays result (CommitTree dir) h =
-      worked nothing (SavesTree old.state.tree new.state.tree old.faults new.faults dir) (λ done did. ap (λ (t : TreeState). t.limit) did.1) result h.0.0
+      worked told_nothing (SavesTree old.state.tree new.state.tree old.faults new.faults dir) (λ done did. ap (λ (t : TreeState). t.limit) did.1) result h.0.0
   limit_stays result Purge h =
-      worked nothing (Purges old.state.tree new.state.tree old.faults new.faults)
+      worked told_nothing (Purges old.state.tree new.state.tree old.faults new.faults)
       (λ done did. purged_limit old.state.tree new.state.tree old.faults new.faults (first_name old.state.tree.purge) (Ok done) did) result h.0.0
   limit_stays result (Evict rank) h =
-      at_rank (nat_lt rank.0 (length old.state.inboxes)) result (λ w. worked nothing (EvictsOne old new rank) (λ done did. ap (λ (s : State). s.tree.limit) did.1) result w.0) h
+      at_rank (nat_lt rank.0 (length old.state.inboxes)) result (λ w. worked told_nothing (EvictsOne old new rank) (λ done did. ap (λ (s : State). s.tree.limit) did.1) result w.0) h
   limit_stays result (Start from dir f to) h =
       at_rank (nat_lt from.0 (length old.state.inboxes)) result (λ w. at_rank (nat_lt to.0 (length old.state.inboxes)) result (λ done. exported (StartsIn old.state new.state from (dir, f) to) (λ did. ap (λ (t : TreeState). t.limit) did.2.tree) result done) w) h
   limit_stays result (Freeze dir f) h = exported (FreezesIn old.state new.state (dir, f)) (λ did. ap (λ (t : TreeState). t.limit) did.1.ended.left) result h

@@ -1,5 +1,5 @@
 -- What each event makes of the history.
-use Rattle.cluster_core.proofs.Common.{AddsAtServe, Administers, Answer, Arrive, ArrivesAt, BeginsAt, Bool, Cancel, CancelsAt, CommitBegin, CommitDrop, CommitEnd, CommitTree, Core, Does, Drops, Ends, Entry, Err, Event, Evict, EvictsOne, Exports, Finish, FinishesIn, Freeze, FreezesIn, Grant, GrantsFirst, Import, ImportsExport, Leaf, List, MatchBool, TreeMayRefuse, Merge, MergesLeaves, None, NotAuthority, Ok, Op, Option, Prep, PrepsIn, Purge, Purges, Rank, Records, Refusal, Request, Result, SavesTree, Send, SendsExport, Serve, Some, Split, SplitsLeaf, Start, StartsIn, State, Steps, ap, false, first_waiting, length, nat_lt, nothing, told_job, true, ℕ, ◌≡◌}
+use Rattle.cluster_core.proofs.Common.{AddsAtServe, Administers, Answer, Arrive, ArrivesAt, BeginsAt, Bool, Cancel, CancelsAt, CommitBegin, CommitDrop, CommitEnd, CommitTree, Core, Does, Drops, EndsJobOf, Entry, Err, Event, Evict, EvictsOne, Exports, Finish, FinishesIn, Freeze, FreezesIn, Grant, GrantsFirst, Import, ImportsExport, Leaf, List, MatchBool, TreeMayRefuse, Merge, MergesLeaves, None, NotAuthority, Ok, Op, Option, Prep, PrepsIn, Purge, Purges, Rank, Records, Refusal, Request, Result, SavesTree, Send, SendsExport, Serve, Some, Split, SplitsLeaf, Start, StartsIn, State, Steps, ap, false, first_waiting, length, nat_lt, told_nothing, told_job, true, ℕ, ◌≡◌}
 use Rattle.cluster_core.proofs.RunLaws.{step_of}
 
 module _ (old new : State) (past now : List Entry) where
@@ -41,17 +41,17 @@ adds_at_serve old new past now result (Serve rank) h = tt
 adds_at_serve old new past now result (Grant rank client tid) h =
     at_rank old.state new.state past now (nat_lt rank.0 (length old.state.inboxes)) result (state_stays old new) (λ w. granted old.state new.state past now (TreeMayRefuse old new) rank client tid result (first_waiting client tid old.state.inboxes) w.0) h
 adds_at_serve old new past now result (Split rank dir f nb) h =
-    at_rank old.state new.state past now (nat_lt rank.0 (length old.state.inboxes)) result (state_stays old new) (λ w. administered old.state new.state past now nothing (SplitsLeaf old new rank dir f nb) result w.0) h
+    at_rank old.state new.state past now (nat_lt rank.0 (length old.state.inboxes)) result (state_stays old new) (λ w. administered old.state new.state past now told_nothing (SplitsLeaf old new rank dir f nb) result w.0) h
 adds_at_serve old new past now result (Merge rank dir f) h =
-    at_rank old.state new.state past now (nat_lt rank.0 (length old.state.inboxes)) result (state_stays old new) (λ w. administered old.state new.state past now nothing (MergesLeaves old new rank dir f) result w.0) h
+    at_rank old.state new.state past now (nat_lt rank.0 (length old.state.inboxes)) result (state_stays old new) (λ w. administered old.state new.state past now told_nothing (MergesLeaves old new rank dir f) result w.0) h
 adds_at_serve old new past now result (CommitBegin rank dir f) h =
     at_rank old.state new.state past now (nat_lt rank.0 (length old.state.inboxes)) result (state_stays old new) (λ w. administered old.state new.state past now told_job (BeginsAt old.state new.state rank (dir, f)) result w.0.0) h
-adds_at_serve old new past now result (CommitEnd encoded) h = administered old.state new.state past now nothing (Ends old.state.tree new.state.tree old.faults new.faults encoded.job) result h.0.0
-adds_at_serve old new past now result (CommitDrop number) h = administered old.state new.state past now nothing (Drops old.state.tree new.state.tree number) result h.0.0
-adds_at_serve old new past now result (CommitTree dir) h = administered old.state new.state past now nothing (SavesTree old.state.tree new.state.tree old.faults new.faults dir) result h.0.0
-adds_at_serve old new past now result Purge h = administered old.state new.state past now nothing (Purges old.state.tree new.state.tree old.faults new.faults) result h.0.0
+adds_at_serve old new past now result (CommitEnd encoded) h = administered old.state new.state past now told_nothing (EndsJobOf old.state.tree new.state.tree old.faults new.faults encoded.job) result h.0.0
+adds_at_serve old new past now result (CommitDrop number) h = administered old.state new.state past now told_nothing (Drops old.state.tree new.state.tree number) result h.0.0
+adds_at_serve old new past now result (CommitTree dir) h = administered old.state new.state past now told_nothing (SavesTree old.state.tree new.state.tree old.faults new.faults dir) result h.0.0
+adds_at_serve old new past now result Purge h = administered old.state new.state past now told_nothing (Purges old.state.tree new.state.tree old.faults new.faults) result h.0.0
 adds_at_serve old new past now result (Evict rank) h =
-    at_rank old.state new.state past now (nat_lt rank.0 (length old.state.inboxes)) result (state_stays old new) (λ w. administered old.state new.state past now nothing (EvictsOne old new rank) result w.0) h
+    at_rank old.state new.state past now (nat_lt rank.0 (length old.state.inboxes)) result (state_stays old new) (λ w. administered old.state new.state past now told_nothing (EvictsOne old new rank) result w.0) h
 adds_at_serve old new past now result (Start from dir f to) h =
     at_rank old.state new.state past now (nat_lt from.0 (length old.state.inboxes)) result (state_stays old new)
     (λ w. at_rank old.state new.state past now (nat_lt to.0 (length old.state.inboxes)) result (state_stays old new) (λ d. exported old.state new.state past now old new (StartsIn old.state new.state from (dir, f) to) result d) w) h

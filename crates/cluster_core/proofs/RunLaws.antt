@@ -1,5 +1,5 @@
 -- Whole runs: the history grows, and each reply that was handed out stands in it.
-use Rattle.cluster_core.proofs.Common.{AddsTo, Administers, Answer, Arrive, ArrivesAt, BeginsAt, Bool, Cancel, CancelsAt, CommitBegin, CommitDrop, CommitEnd, CommitTree, Core, Deferred, Does, Drops, Ends, Entry, Err, Event, Evict, EvictsOne, Exports, Finish, FinishesIn, Forwarded, Freeze, FreezesIn, Grant, GrantsFirst, Import, ImportsExport, InboxEmpty, IsApplied, IsLeft, IsOfHistory, IsRepeated, IsRun, IsSoundBook, BookState, Leaf, List, MatchBool, TreeMayRefuse, Merge, MergesLeaves, None, NotAuthority, Nothing, Ok, Op, Option, Prep, PrepsIn, Purge, Purges, Rank, Refusal, Reply, Request, Result, Runs, SavesTree, Send, SendsExport, Sent, Serve, ServesInbox, ServesRequest, Some, Split, SplitsLeaf, StandsInHistory, Start, StartsIn, State, StepsBook, [], and_parts, ap, append-nil, append_assoc, arith, drop, drop_more, entry_of, eqb-true, false, first_waiting, get_or, get_or-append_seam, get_or_append_left, inl, inr, length, length-append, length-drop, nat_lt, nothing, refl, slice_index_or, subst, suc, sym, take, take_all, take_more, told_job, true, waiting_at, ℕ, ◌++◌, ◌+◌, ◌-◌, ◌<◌, ◌∙◌, ◌∷◌, ◌≡◌, ◌≤◌}
+use Rattle.cluster_core.proofs.Common.{AddsTo, Administers, Answer, Arrive, ArrivesAt, BeginsAt, Bool, Cancel, CancelsAt, CommitBegin, CommitDrop, CommitEnd, CommitTree, Core, Deferred, Does, Drops, EndsJobOf, Entry, Err, Event, Evict, EvictsOne, Exports, Finish, FinishesIn, Forwarded, Freeze, FreezesIn, Grant, GrantsFirst, Import, ImportsExport, InboxEmpty, IsApplied, IsLeft, IsOfHistory, IsRepeated, IsRun, IsSoundBook, BookState, Leaf, List, MatchBool, TreeMayRefuse, Merge, MergesLeaves, None, NotAuthority, Nothing, Ok, Op, Option, Prep, PrepsIn, Purge, Purges, Rank, Refusal, Reply, Request, Result, Runs, SavesTree, Send, SendsExport, Sent, Serve, ServesInbox, ServesRequest, Some, Split, SplitsLeaf, StandsInHistory, Start, StartsIn, State, StepsBook, [], and_parts, ap, append-nil, append_assoc, arith, drop, drop_more, entry_of, eqb-true, false, first_waiting, get_or, get_or-append_seam, get_or_append_left, inl, inr, length, length-append, length-drop, nat_lt, told_nothing, refl, slice_index_or, subst, suc, sym, take, take_all, take_more, told_job, true, waiting_at, ℕ, ◌++◌, ◌+◌, ◌-◌, ◌<◌, ◌∙◌, ◌∷◌, ◌≡◌, ◌≤◌}
 use Rattle.mds_types.specs.declared.replies.Reply.{Reply as Replied}
 use Rattle.cached_frag.specs.declared.jobs.Job.{Job as Begun}
 use Rattle.cluster_core.specs.declared.events.Answer.TheVariants.{Job}
@@ -88,15 +88,15 @@ module _ (old new : State) (past now : List Entry) where
   granted TreeMayRefuse rank client tid (Ok answer) (Some request) h = quiet answer Nothing h.answered h.same tt h.same
   granted TreeMayRefuse rank client tid (Err reason) (Some request) h = left reason h.1
 
-  -- an administrator's step adds nothing to the history, and what it tells is no reply
+  -- an administrator's step adds told_nothing to the history, and what it tells is no reply
   administered : {X : Type 0} (told : X → Answer) (Did : Result X Refusal → Type 0) → ((given : X) → now ≡ past → AddsTo past now (Ok (told given)) × IsOfHistory now (Ok (told given)))
       → (result : Result Answer Refusal) → Administers old new past now told Did result → IsStepOf past now result
   administered told Did quiet_told (Ok answer) h =
       let w = quiet_told h.0 h.3.same in quiet answer (told h.0) h.1 w.0 w.1 h.3.same
   administered told Did quiet_told (Err reason) h = left reason h.1
 
-  done : (Did : Result (Unit {0}) Refusal → Type 0) (result : Result Answer Refusal) → Administers old new past now nothing Did result → IsStepOf past now result
-  done Did result h = administered nothing Did (λ given same. (same, tt)) result h
+  done : (Did : Result (Unit {0}) Refusal → Type 0) (result : Result Answer Refusal) → Administers old new past now told_nothing Did result → IsStepOf past now result
+  done Did result h = administered told_nothing Did (λ given same. (same, tt)) result h
 
   -- so does a step of an export
   export_done : (old_core new_core : Core) → new_core.state ≡ new → old_core.state ≡ old → (Did : Result (Unit {0}) Refusal → Type 0) (result : Result Answer Refusal) → Exports old_core new_core past now Did result → IsStepOf past now result
@@ -136,7 +136,7 @@ step_of old new past now result (Split rank dir f nb) h = at_rank old.state new.
 step_of old new past now result (Merge rank dir f) h = at_rank old.state new.state past now (nat_lt rank.0 (length old.state.inboxes)) result (state_stays old new) (λ w. done old.state new.state past now (MergesLeaves old new rank dir f) result w.0) h
 step_of old new past now result (CommitBegin rank dir f) h =
     at_rank old.state new.state past now (nat_lt rank.0 (length old.state.inboxes)) result (state_stays old new) (λ w. begun old.state new.state past now (BeginsAt old.state new.state rank (dir, f)) result w.0.0) h
-step_of old new past now result (CommitEnd encoded) h = done old.state new.state past now (Ends old.state.tree new.state.tree old.faults new.faults encoded.job) result h.0.0
+step_of old new past now result (CommitEnd encoded) h = done old.state new.state past now (EndsJobOf old.state.tree new.state.tree old.faults new.faults encoded.job) result h.0.0
 step_of old new past now result (CommitDrop number) h = done old.state new.state past now (Drops old.state.tree new.state.tree number) result h.0.0
 step_of old new past now result (CommitTree dir) h = done old.state new.state past now (SavesTree old.state.tree new.state.tree old.faults new.faults dir) result h.0.0
 step_of old new past now result Purge h = done old.state new.state past now (Purges old.state.tree new.state.tree old.faults new.faults) result h.0.0

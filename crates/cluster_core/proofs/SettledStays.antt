@@ -1,5 +1,5 @@
 -- Directories, leaves, pins and subtree roots stay in each calm step that applies no request.
-use Rattle.cluster_core.proofs.Common.{AdministersTree, Answer, Arrive, ArrivesAt, BeginsAt, BeginsWith, Bool, Cancel, CancelsAt, CommitBegin, CommitDrop, CommitEnd, CommitTree, Core, Covers, DirPins, Drops, Ends, Entry, Err, Event, Evict, EvictsOne, Exports, Finish, Fragment, Freeze, Grant, GrantsFirst, HoldsInside, Homes, Import, ImportsExport, Ino, IsApplied, IsCalm, IsMergedInto, IsRootMerge, IsRootSplit, IsSplitInto, Job, KeepsAuthorities, KeepsTreeAndRoots, List, MatchBool, TreeMayRefuse, Merge, Merges, None, NotAuthority, Ok, Op, Option, Prep, PrepsIn, Purge, Purges, PurgesName, Rank, Refusal, Request, Result, SavesTree, Send, SendsExport, Serve, ServesInbox, ServesRequest, Some, Split, Splits, Start, StartsIn, State, Steps, Unsaved, [], ap, false, first_name, first_waiting, inl, inr, length, nat_lt, nothing, refl, told_job, true, waiting_at, ℕ, ◌∷◌, ◌≡◌, ◌⊎◌}
+use Rattle.cluster_core.proofs.Common.{AdministersTree, Answer, Arrive, ArrivesAt, BeginsAt, BeginsUnsaved, Bool, Cancel, CancelsAt, CommitBegin, CommitDrop, CommitEnd, CommitTree, Core, Covers, DirPins, Drops, EndsJobOf, Entry, Err, Event, Evict, EvictsOne, Exports, Finish, Fragment, Freeze, Grant, GrantsFirst, HoldsInside, Homes, Import, ImportsExport, Ino, IsApplied, IsCalm, IsMergedInto, IsRootMerge, IsRootSplit, IsSplitInto, Job, KeepsAuthorities, KeepsTreeAndRoots, List, MatchBool, TreeMayRefuse, Merge, Merges, None, NotAuthority, Ok, Op, Option, Prep, PrepsIn, Purge, Purges, PurgesName, Rank, Refusal, Request, Result, SavesTree, Send, SendsExport, Serve, ServesInbox, ServesRequest, Some, Split, Splits, Start, StartsIn, State, Steps, Unsaved, [], ap, false, first_name, first_waiting, inl, inr, length, nat_lt, told_nothing, refl, told_job, true, waiting_at, ℕ, ◌∷◌, ◌≡◌, ◌⊎◌}
 use Rattle.dentry_cache.specs.Cache.{Leaf}
 use Rattle.mdcache.specs.State.{State as TreeState}
 
@@ -18,7 +18,7 @@ GroundStays old new = (tables new.tree ≡ tables old.tree) × (new.roots ≡ ol
 
 -- ---- commits, tree objects and the purge list
 
-begun : (old new : TreeState) (unsaved : Option Unsaved) (leaf : Leaf) (job : Option Job) → BeginsWith old new leaf unsaved job → tables new ≡ tables old
+begun : (old new : TreeState) (unsaved : Option Unsaved) (leaf : Leaf) (job : Option Job) → BeginsUnsaved old new leaf unsaved job → tables new ≡ tables old
 begun old new None leaf job h = ap tables h.1
 begun old new (Some u) leaf None h = absurd h
 begun old new (Some u) leaf (Some job) h = ap tables h.2
@@ -160,11 +160,11 @@ module _ (past now : List Entry) (old new : Core) where
   ground_stays result (Split rank dir f nb) calm steps = splits rank dir f nb result (nat_lt rank.0 (length old.state.inboxes)) steps.authorities steps.does
   ground_stays result (Merge rank dir f) calm steps = merges rank dir f result (nat_lt rank.0 (length old.state.inboxes)) steps.authorities steps.does
   ground_stays result (CommitBegin rank dir f) calm steps = inl (at_rank (nat_lt rank.0 (length old.state.inboxes)) result (λ w. worked told_job (BeginsAt old.state new.state rank (dir, f)) (λ given did. begun old.state.tree new.state.tree _ (dir, f) given did.2.2) result w.0) steps.does)
-  ground_stays result (CommitEnd encoded) calm steps = inl (worked nothing (Ends old.state.tree new.state.tree old.faults new.faults encoded.job) (λ done did. ap tables did.left) result steps.does.0)
-  ground_stays result (CommitDrop number) calm steps = inl (worked nothing (Drops old.state.tree new.state.tree number) (λ done did. ap tables did.left) result steps.does.0)
-  ground_stays result (CommitTree dir) calm steps = inl (worked nothing (SavesTree old.state.tree new.state.tree old.faults new.faults dir) (λ done did. ap tables did.1) result steps.does.0)
-  ground_stays result Purge calm steps = inl (worked nothing (Purges old.state.tree new.state.tree old.faults new.faults) (λ done did. purged old.state.tree new.state.tree old.faults new.faults (first_name old.state.tree.purge) did) result steps.does.0)
-  ground_stays result (Evict rank) calm steps = inl (at_rank (nat_lt rank.0 (length old.state.inboxes)) result (λ w. worked nothing (EvictsOne old new rank) (λ done did. ap ground did.1) result w) steps.does)
+  ground_stays result (CommitEnd encoded) calm steps = inl (worked told_nothing (EndsJobOf old.state.tree new.state.tree old.faults new.faults encoded.job) (λ done did. ap tables did.left) result steps.does.0)
+  ground_stays result (CommitDrop number) calm steps = inl (worked told_nothing (Drops old.state.tree new.state.tree number) (λ done did. ap tables did.left) result steps.does.0)
+  ground_stays result (CommitTree dir) calm steps = inl (worked told_nothing (SavesTree old.state.tree new.state.tree old.faults new.faults dir) (λ done did. ap tables did.1) result steps.does.0)
+  ground_stays result Purge calm steps = inl (worked told_nothing (Purges old.state.tree new.state.tree old.faults new.faults) (λ done did. purged old.state.tree new.state.tree old.faults new.faults (first_name old.state.tree.purge) did) result steps.does.0)
+  ground_stays result (Evict rank) calm steps = inl (at_rank (nat_lt rank.0 (length old.state.inboxes)) result (λ w. worked told_nothing (EvictsOne old new rank) (λ done did. ap ground did.1) result w) steps.does)
   ground_stays result (Start from dir f to) calm steps = inl (at_rank (nat_lt from.0 (length old.state.inboxes)) result (λ w. at_rank (nat_lt to.0 (length old.state.inboxes)) result (λ done. exported (StartsIn old.state new.state from (dir, f) to) (λ did. kept_tree did.2) result done) w) steps.does)
   ground_stays result (Freeze dir f) calm steps = absurd calm
   ground_stays result (Prep dir f) calm steps = inl (exported (PrepsIn old.state new.state (dir, f)) (λ did. kept_tree did.1) result steps.does)

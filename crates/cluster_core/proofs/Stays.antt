@@ -1,5 +1,5 @@
 -- What an administrator's step on the tree leaves: each leaf keeps its authority.
-use Rattle.cluster_core.proofs.Common.{AdministersTree, AllStay, Answer, AreRoots, BeginsAt, Bool, Core, Drops, Ends, Entry, Err, EvictsOne, Ino, KeepsRoots, List, MatchBool, NotAuthority, Ok, Option, Purges, Rank, Refusal, Result, SavesTree, State, TablesStay, ap, begun, dropped, ended, false, first_name, inl, inr, keeps_same, keeps_tables, nothing, purged, same_tables, saved, told_job, true, ℕ, ◌≡◌}
+use Rattle.cluster_core.proofs.Common.{AdministersTree, AllStay, Answer, AreRoots, BeginsAt, Bool, Core, Drops, EndsJobOf, Entry, Err, EvictsOne, Ino, KeepsRoots, List, MatchBool, NotAuthority, Ok, Option, Purges, Rank, Refusal, Result, SavesTree, State, TablesStay, ap, begun, dropped, ended, false, first_name, inl, inr, keeps_same, keeps_tables, told_nothing, purged, same_tables, saved, told_job, true, ℕ, ◌≡◌}
 use Rattle.cached_frag.specs.declared.jobs.Job.{Job as Begun}
 use Rattle.dentry_cache.specs.Cache.{Leaf}
 
@@ -22,20 +22,20 @@ module _ (old new : State) (past now : List Entry) (valid : AreRoots old.tree ol
   pub begun_keeps : (rank : Rank) (leaf : Leaf) (result : Result Answer Refusal) → AdministersTree old new past now told_job (BeginsAt old new rank leaf) result → KeepsRoots old.tree new.tree old.roots new.roots old.exports new.exports
   begun_keeps rank leaf result h = by_work told_job (BeginsAt old new rank leaf) (begun_at rank leaf) result h
 
-  pub ended_keeps : (before after : ℕ) (job : Begun) (result : Result Answer Refusal) → AdministersTree old new past now nothing (Ends old.tree new.tree before after job) result → KeepsRoots old.tree new.tree old.roots new.roots old.exports new.exports
-  ended_keeps before after job result h = by_work nothing (Ends old.tree new.tree before after job) (ended old.tree new.tree before after job) result h
+  pub ended_keeps : (before after : ℕ) (job : Begun) (result : Result Answer Refusal) → AdministersTree old new past now told_nothing (EndsJobOf old.tree new.tree before after job) result → KeepsRoots old.tree new.tree old.roots new.roots old.exports new.exports
+  ended_keeps before after job result h = by_work told_nothing (EndsJobOf old.tree new.tree before after job) (ended old.tree new.tree before after job) result h
 
-  pub dropped_keeps : (number : ℕ) (result : Result Answer Refusal) → AdministersTree old new past now nothing (Drops old.tree new.tree number) result → KeepsRoots old.tree new.tree old.roots new.roots old.exports new.exports
-  dropped_keeps number result h = by_work nothing (Drops old.tree new.tree number) (dropped old.tree new.tree number) result h
+  pub dropped_keeps : (number : ℕ) (result : Result Answer Refusal) → AdministersTree old new past now told_nothing (Drops old.tree new.tree number) result → KeepsRoots old.tree new.tree old.roots new.roots old.exports new.exports
+  dropped_keeps number result h = by_work told_nothing (Drops old.tree new.tree number) (dropped old.tree new.tree number) result h
 
-  pub saved_keeps : (before after : ℕ) (dir : Ino) (result : Result Answer Refusal) → AdministersTree old new past now nothing (SavesTree old.tree new.tree before after dir) result → KeepsRoots old.tree new.tree old.roots new.roots old.exports new.exports
-  saved_keeps before after dir result h = by_work nothing (SavesTree old.tree new.tree before after dir) (λ done did. tables_of (saved old.tree new.tree before after dir done did)) result h
+  pub saved_keeps : (before after : ℕ) (dir : Ino) (result : Result Answer Refusal) → AdministersTree old new past now told_nothing (SavesTree old.tree new.tree before after dir) result → KeepsRoots old.tree new.tree old.roots new.roots old.exports new.exports
+  saved_keeps before after dir result h = by_work told_nothing (SavesTree old.tree new.tree before after dir) (λ done did. tables_of (saved old.tree new.tree before after dir done did)) result h
 
-  pub purged_keeps : (before after : ℕ) (result : Result Answer Refusal) → AdministersTree old new past now nothing (Purges old.tree new.tree before after) result → KeepsRoots old.tree new.tree old.roots new.roots old.exports new.exports
-  purged_keeps before after result h = by_work nothing (Purges old.tree new.tree before after) (λ done did. tables_of (purged old.tree new.tree before after (first_name old.tree.purge) done did)) result h
+  pub purged_keeps : (before after : ℕ) (result : Result Answer Refusal) → AdministersTree old new past now told_nothing (Purges old.tree new.tree before after) result → KeepsRoots old.tree new.tree old.roots new.roots old.exports new.exports
+  purged_keeps before after result h = by_work told_nothing (Purges old.tree new.tree before after) (λ done did. tables_of (purged old.tree new.tree before after (first_name old.tree.purge) done did)) result h
 
 -- an eviction leaves the whole state
-pub evicted_keeps : (old new : Core) (past now : List Entry) (rank : Rank) (result : Result Answer Refusal) → AreRoots old.state.tree old.state.roots → AdministersTree old.state new.state past now nothing (EvictsOne old new rank) result
+pub evicted_keeps : (old new : Core) (past now : List Entry) (rank : Rank) (result : Result Answer Refusal) → AreRoots old.state.tree old.state.roots → AdministersTree old.state new.state past now told_nothing (EvictsOne old new rank) result
     → KeepsRoots old.state.tree new.state.tree old.state.roots new.state.roots old.state.exports new.state.exports
 evicted_keeps old new past now rank (Ok answer) valid h = keeps_same old.state.tree new.state.tree old.state.roots new.state.roots old.state.exports new.state.exports (ap (λ (s : State). s.tree) h.0.2.1) h.1 (ap (λ (s : State). s.exports) h.0.2.1) valid
 evicted_keeps old new past now rank (Err reason) valid h = keeps_same old.state.tree new.state.tree old.state.roots new.state.roots old.state.exports new.state.exports (ap (λ (s : State). s.tree) h.0.1.left) h.1 (ap (λ (s : State). s.exports) h.0.1.left) valid

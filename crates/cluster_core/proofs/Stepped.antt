@@ -1,5 +1,5 @@
 -- A book stays sound at every step.
-use Rattle.cluster_core.proofs.Common.{Administers, Answer, AreCached, AreExported, AreRoots, Arrive, ArrivesAt, BeginsAt, Bool, Cancel, CancelsAt, CommitBegin, CommitDrop, CommitEnd, CommitTree, Core, Does, Drops, Ends, Entry, Err, Event, Evict, EvictsOne, Exports, Finish, FinishesIn, Freeze, FreezesIn, Grant, GrantsFirst, Import, ImportsExport, Inboxes, IsForwarded, IsSoundWith, IsLeft, IsSound, IsTakenOut, IsUnseen, Leaf, List, MatchBool, TreeMayRefuse, Merge, MergesLeaves, None, NotAuthority, Ok, Op, Option, Pin, Prep, PrepsIn, Purge, Purges, Rank, Refusal, Request, Result, SavesTree, Send, SendsExport, Serve, ServesInbox, ServesRequest, Some, Split, SplitsLeaf, Start, StartsIn, State, Tree, [], ap, false, first_waiting, inl, inr, length, length-set, nat_lt, nothing, refl, shown, told_job, true, waiting_at, with_waiting, ℕ, ◌++◌, ◌<◌, ◌∙◌, ◌∷◌, ◌≡◌}
+use Rattle.cluster_core.proofs.Common.{Administers, Answer, AreCached, AreExported, AreRoots, Arrive, ArrivesAt, BeginsAt, Bool, Cancel, CancelsAt, CommitBegin, CommitDrop, CommitEnd, CommitTree, Core, Does, Drops, EndsJobOf, Entry, Err, Event, Evict, EvictsOne, Exports, Finish, FinishesIn, Freeze, FreezesIn, Grant, GrantsFirst, Import, ImportsExport, Inboxes, IsForwarded, IsSoundWith, IsLeft, IsSound, IsTakenOut, IsUnseen, Leaf, List, MatchBool, TreeMayRefuse, Merge, MergesLeaves, None, NotAuthority, Ok, Op, Option, Pin, Prep, PrepsIn, Purge, Purges, Rank, Refusal, Request, Result, SavesTree, Send, SendsExport, Serve, ServesInbox, ServesRequest, Some, Split, SplitsLeaf, Start, StartsIn, State, Tree, [], ap, false, first_waiting, inl, inr, length, length-set, nat_lt, told_nothing, refl, shown, told_job, true, waiting_at, with_waiting, ℕ, ◌++◌, ◌<◌, ◌∙◌, ◌∷◌, ◌≡◌}
 use Rattle.cluster_core.proofs.Applied.{sound-applied}
 use Rattle.cluster_core.proofs.Offered.{there_of}
 
@@ -90,14 +90,14 @@ module _ (opening : Tree) (past now : List Entry) (old new : Core) (sound : IsSo
   sound-step result (Arrive rank request) h = at_rank (nat_lt rank.0 (length old.state.inboxes)) result (λ here w. arrived rank request result w.0) h
   sound-step result (Serve rank) h = at_rank (nat_lt rank.0 (length old.state.inboxes)) result (λ here w. served_inbox (TreeMayRefuse old new) rank (there_of old sound.ranks rank here) result (waiting_at old.state.inboxes rank) w.0) h
   sound-step result (Grant rank client tid) h = at_rank (nat_lt rank.0 (length old.state.inboxes)) result (λ here w. granted (TreeMayRefuse old new) rank client tid result (first_waiting client tid old.state.inboxes) w.0) h
-  sound-step result (Split rank dir f nb) h = at_rank (nat_lt rank.0 (length old.state.inboxes)) result (λ here w. administered nothing (SplitsLeaf old new rank dir f nb) result w.0) h
-  sound-step result (Merge rank dir f) h = at_rank (nat_lt rank.0 (length old.state.inboxes)) result (λ here w. administered nothing (MergesLeaves old new rank dir f) result w.0) h
+  sound-step result (Split rank dir f nb) h = at_rank (nat_lt rank.0 (length old.state.inboxes)) result (λ here w. administered told_nothing (SplitsLeaf old new rank dir f nb) result w.0) h
+  sound-step result (Merge rank dir f) h = at_rank (nat_lt rank.0 (length old.state.inboxes)) result (λ here w. administered told_nothing (MergesLeaves old new rank dir f) result w.0) h
   sound-step result (CommitBegin rank dir f) h = at_rank (nat_lt rank.0 (length old.state.inboxes)) result (λ here done. administered told_job (BeginsAt old.state new.state rank (dir, f)) result done.0.0) h
-  sound-step result (CommitEnd encoded) h = administered nothing (Ends old.state.tree new.state.tree old.faults new.faults encoded.job) result h.0.0
-  sound-step result (CommitDrop number) h = administered nothing (Drops old.state.tree new.state.tree number) result h.0.0
-  sound-step result (CommitTree dir) h = administered nothing (SavesTree old.state.tree new.state.tree old.faults new.faults dir) result h.0.0
-  sound-step result Purge h = administered nothing (Purges old.state.tree new.state.tree old.faults new.faults) result h.0.0
-  sound-step result (Evict rank) h = at_rank (nat_lt rank.0 (length old.state.inboxes)) result (λ here done. administered nothing (EvictsOne old new rank) result done.0) h
+  sound-step result (CommitEnd encoded) h = administered told_nothing (EndsJobOf old.state.tree new.state.tree old.faults new.faults encoded.job) result h.0.0
+  sound-step result (CommitDrop number) h = administered told_nothing (Drops old.state.tree new.state.tree number) result h.0.0
+  sound-step result (CommitTree dir) h = administered told_nothing (SavesTree old.state.tree new.state.tree old.faults new.faults dir) result h.0.0
+  sound-step result Purge h = administered told_nothing (Purges old.state.tree new.state.tree old.faults new.faults) result h.0.0
+  sound-step result (Evict rank) h = at_rank (nat_lt rank.0 (length old.state.inboxes)) result (λ here done. administered told_nothing (EvictsOne old new rank) result done.0) h
   sound-step result (Start from dir f to) h =
       at_rank (nat_lt from.0 (length old.state.inboxes)) result (λ here w. at_rank (nat_lt to.0 (length old.state.inboxes)) result (λ there done. stepped (StartsIn old.state new.state from (dir, f) to) result done) w) h
   sound-step result (Freeze dir f) h = stepped (FreezesIn old.state new.state (dir, f)) result h

@@ -16,7 +16,7 @@ use Rattle.inboxes.specs.declared.pins.Pin.{Pin}
 use Rattle.inboxes.specs.Pins.{is_on}
 use Rattle.inode_table.specs.Dirs.{Covers, Homes, IsLive, is_known, leaves_of}
 use Rattle.subtree_map.specs.Changes.{IsRootMerge, IsRootSplit, is_inside}
-use Rattle.mdcache.specs.Commits.{Begins, Drops, Ends, leaf_of}
+use Rattle.mdcache.specs.Commits.{Begins, Drops, EndsJobOf, leaf_of}
 use Rattle.mdcache.specs.Objects.{Purges, SavesTree}
 use Rattle.mdcache.specs.Regroups.{MayNotRegroup}
 use Rattle.mdcache.specs.Splits.{IsMergedInto, IsSplitInto}
@@ -49,9 +49,9 @@ abbrev pub AdministersTree : {X : Type 0} → (old new : State) → (past now : 
 AdministersTree old new past now told Did result =
     Administers old new past now told Did result × (new.roots ≡ old.roots)
 
--- work that gives nothing is told so
-abbrev pub nothing : Unit {0} → Answer
-nothing done = Nothing
+-- work that gives told_nothing is told so
+abbrev pub told_nothing : Unit {0} → Answer
+told_nothing done = Nothing
 
 -- the rank is the authority of each leaf of a directory that lies properly inside a fragment
 abbrev pub HoldsInside : State → Rank → Ino → Fragment → Type 0
@@ -144,12 +144,12 @@ MergesLeaves old new rank dir f (Err reason) =
 abbrev pub Splits : (old new : Core) → (past now : List Entry) → Rank → Ino → Fragment → ℕ → Result Answer Refusal
     → Type 0
 Splits old new past now rank dir f nb result =
-    Administers old.state new.state past now nothing (SplitsLeaf old new rank dir f nb) result
+    Administers old.state new.state past now told_nothing (SplitsLeaf old new rank dir f nb) result
     × UsesFamily old new (dir, f) nb
 
 abbrev pub Merges : (old new : Core) → (past now : List Entry) → Rank → Ino → Fragment → Result Answer Refusal → Type 0
 Merges old new past now rank dir f result =
-    Administers old.state new.state past now nothing (MergesLeaves old new rank dir f) result × UsesInside old new dir f
+    Administers old.state new.state past now told_nothing (MergesLeaves old new rank dir f) result × UsesInside old new dir f
 
 -- the leaves of a directory by value; refused NoSuchFrag exactly where there is no such directory, and else for want of
 -- memory
@@ -167,7 +167,7 @@ TellsAuthority state leaf (Err reason) = (reason ≡ NoSuchFrag) × (IsLive stat
 
 -- ---- commits
 
--- the job that was begun; nothing for a clean fragment
+-- the job that was begun; told_nothing for a clean fragment
 abbrev pub told_job : Option Begun → Answer
 told_job None = Nothing
 told_job (Some job) = Job job
@@ -192,24 +192,24 @@ BeginsCommit old new past now rank leaf result =
 
 abbrev pub EndsCommit : (old new : Core) → (past now : List Entry) → Begun → Result Answer Refusal → Type 0
 EndsCommit old new past now job result =
-    AdministersTree old.state new.state past now nothing
-    (Ends old.state.tree new.state.tree old.faults new.faults job) result × UsesLeaf old new (leaf_of job)
+    AdministersTree old.state new.state past now told_nothing
+    (EndsJobOf old.state.tree new.state.tree old.faults new.faults job) result × UsesLeaf old new (leaf_of job)
 
 abbrev pub DropsCommit : (old new : Core) → (past now : List Entry) → ℕ → Result Answer Refusal → Type 0
 DropsCommit old new past now number result =
-    AdministersTree old.state new.state past now nothing (Drops old.state.tree new.state.tree number) result
+    AdministersTree old.state new.state past now told_nothing (Drops old.state.tree new.state.tree number) result
     × AsksNone old new
 
 -- ---- objects and places
 
 abbrev pub CommitsTree : (old new : Core) → (past now : List Entry) → Ino → Result Answer Refusal → Type 0
 CommitsTree old new past now dir result =
-    AdministersTree old.state new.state past now nothing
+    AdministersTree old.state new.state past now told_nothing
     (SavesTree old.state.tree new.state.tree old.faults new.faults dir) result × AsksNone old new
 
 abbrev pub PurgesObject : (old new : Core) → (past now : List Entry) → Result Answer Refusal → Type 0
 PurgesObject old new past now result =
-    AdministersTree old.state new.state past now nothing
+    AdministersTree old.state new.state past now told_nothing
     (Purges old.state.tree new.state.tree old.faults new.faults) result × AsksNone old new
 
 -- the least recently used of the clean fragments that a rank caches is no longer cached, and all else is as it was, the
@@ -221,4 +221,4 @@ EvictsOne old new rank (Err reason) =
 
 abbrev pub EvictsFragment : (old new : Core) → (past now : List Entry) → Rank → Result Answer Refusal → Type 0
 EvictsFragment old new past now rank result =
-    AdministersTree old.state new.state past now nothing (EvictsOne old new rank) result
+    AdministersTree old.state new.state past now told_nothing (EvictsOne old new rank) result

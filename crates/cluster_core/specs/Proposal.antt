@@ -282,6 +282,6 @@ abbrev pub lesser_away : Leaf × Rank → Leaf × Rank → Leaf × Rank
 lesser_away one other = cond (is_lt (leaf_cmp other.0 one.0)) other one
 
 -- of one and another, if there is another
-abbrev pub lesser_of : Leaf × Rank → Option (Leaf × Rank) → Leaf × Rank
-lesser_of one None = one
-lesser_of one (Some other) = lesser_away one other
+abbrev pub lesser_candidate : Leaf × Rank → Option (Leaf × Rank) → Leaf × Rank
+lesser_candidate one None = one
+lesser_candidate one (Some other) = lesser_away one other

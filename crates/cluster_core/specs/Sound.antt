@@ -12,7 +12,7 @@ use Rattle.dentry_cache.specs.CacheCalls.{KeepsNone}
 use Rattle.dentry_cache.specs.CacheMap.{AreCaches, CacheMap, unclean}
 use Rattle.export_steps.specs.declared.exports.StandingExport.{StandingExport}
 use Rattle.export_steps.specs.Standing.{is_freezing}
-use Rattle.mdcache.specs.Core.{AreCached as AreCachedIn}
+use Rattle.mdcache.specs.Core.{AllCachedIn as AreCachedIn}
 use Rattle.mdcache.specs.Sound.{IsSound as IsSoundTree}
 use Rattle.mdcache.specs.State.{State as TreeState}
 use Rattle.sessions.specs.Table.{IsTableOf}

@@ -12,7 +12,7 @@ use Rattle.inboxes.specs.declared.pins.Pin.{Pin}
 use Rattle.inode_table.specs.Numbers.{Supply, first_number}
 use Rattle.mdcache.specs.Core.{Core as TreeCore, state_of as tree_state}
 pub use Rattle.mdcache.specs.New.{new_caches}
-use Rattle.mdcache.specs.New.{new_state as new_tree}
+use Rattle.mdcache.specs.New.{new_tree_state as new_tree}
 use Rattle.ranked_tree.specs.Ranked.{new_roots}
 use Rattle.mdcache.specs.Shown.{shown_tree}
 use Rattle.mdcache.specs.State.{State as TreeState}

@@ -108,34 +108,34 @@ abbrev pub hands_none : HandsOn
 hands_none = record { authority = None; holder = None }
 
 -- Finish hands the authority on, Import what is held
-abbrev pub handed : Event → HandsOn
-handed (Arrive rank request) = hands_none
-handed (Serve rank) = hands_none
-handed (Grant rank client tid) = hands_none
-handed (Split rank dir f nb) = hands_none
-handed (Merge rank dir f) = hands_none
-handed (CommitBegin rank dir f) = hands_none
-handed (CommitEnd encoded) = hands_none
-handed (CommitDrop number) = hands_none
-handed (CommitTree dir) = hands_none
-handed Purge = hands_none
-handed (Evict rank) = hands_none
-handed (Start from dir f to) = hands_none
-handed (Freeze dir f) = hands_none
-handed (Prep dir f) = hands_none
-handed (Send dir f) = hands_none
-handed (Import dir f bytes) = record { authority = None; holder = Some (dir, f) }
-handed (Finish dir f) = record { authority = Some (dir, f); holder = None }
-handed (Cancel dir f) = hands_none
+abbrev pub hands_of : Event → HandsOn
+hands_of (Arrive rank request) = hands_none
+hands_of (Serve rank) = hands_none
+hands_of (Grant rank client tid) = hands_none
+hands_of (Split rank dir f nb) = hands_none
+hands_of (Merge rank dir f) = hands_none
+hands_of (CommitBegin rank dir f) = hands_none
+hands_of (CommitEnd encoded) = hands_none
+hands_of (CommitDrop number) = hands_none
+hands_of (CommitTree dir) = hands_none
+hands_of Purge = hands_none
+hands_of (Evict rank) = hands_none
+hands_of (Start from dir f to) = hands_none
+hands_of (Freeze dir f) = hands_none
+hands_of (Prep dir f) = hands_none
+hands_of (Send dir f) = hands_none
+hands_of (Import dir f bytes) = record { authority = None; holder = Some (dir, f) }
+hands_of (Finish dir f) = record { authority = Some (dir, f); holder = None }
+hands_of (Cancel dir f) = hands_none
 
 -- one step: what its event does. Each leaf that stays keeps its authority and its holder, but in a region that is
--- handed on; there are as many ranks, with as many places each, and the store's count of faults rises by one where the
+-- hands_of on; there are as many ranks, with as many places each, and the store's count of faults rises by one where the
 -- event is refused by a fault, and not otherwise: so no fault is hidden, tried again, or told as anything else
 pub record Steps (old new : Core) (past now : List Entry) (result : Result Answer Refusal)
     (event : Event) : Type 0 where
   pub does : Does old new past now result event
-  pub authorities : KeepsOutside (handed event).authority old.state.tree new.state.tree old.state.roots new.state.roots
-  pub holders : KeepsOutside (handed event).holder old.state.tree new.state.tree (held_roots old.state)
+  pub authorities : KeepsOutside (hands_of event).authority old.state.tree new.state.tree old.state.roots new.state.roots
+  pub holders : KeepsOutside (hands_of event).holder old.state.tree new.state.tree (held_roots old.state)
       (held_roots new.state)
   pub ranks : length new.caches.used ≡ length old.caches.used
   pub capacity : new.caches.cap ≡ old.caches.cap

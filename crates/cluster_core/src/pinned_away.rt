@@ -5,7 +5,7 @@ ghost use Rattle.inboxes.specs.declared.pins.Pin.{Pin};
 ghost use Rattle.mds_types.specs.Leaf.{Leaf};
 ghost use Rattle.mds_types.specs.declared.ids.Rank.{Rank as RankNumber};
 ghost use Rattle.cluster_core.specs.Pins.{HasPin};
-ghost use Rattle.cluster_core.specs.Proposal.{IsAwayTo, IsFirstAway, IsFirstStep, IsOfPinned, IsProposable, IsRootAt, WouldStart, OfPin, Sight, lesser_away, lesser_of, sight_of};
+ghost use Rattle.cluster_core.specs.Proposal.{IsAwayTo, IsFirstAway, IsFirstStep, IsOfPinned, IsProposable, IsRootAt, WouldStart, OfPin, Sight, lesser_away, lesser_candidate, sight_of};
 
 use crate::events::Event;
 use crate::going_on::is_mine;
@@ -182,7 +182,7 @@ fn lesser(one: Option<Away>, other: Option<Away>) -> Option<Away>
 
 // The one at the lesser leaf of one and another, if there is another.
 fn lesser_of(first: Away, other: Option<Away>) -> Away
-    ensures { result ≡ lesser_of first other }
+    ensures { result ≡ lesser_candidate first other }
 {
     match other {
         None => first,

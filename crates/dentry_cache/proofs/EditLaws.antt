@@ -1,6 +1,8 @@
 -- A fragment that is changed in its place.
 use Rattle.dentry_cache.proofs.Common.{Bool, Cached, HasCached, HasRoom, Held, IsChanged, IsThere, IsUsed, Leaf, None, Option, Place, Some, ap, cached, cond, false, fragment_in, held, leaf_is, lookup, lru_cache, refl, remove_entry, set_value, subst, sym, true, used_as, ◌<◌, ◌∙◌, ◌∷◌, ◌≡◌}
+use Rattle.lru.specs.LruCache.{promoted}
 use Rattle.dentry_cache.proofs.LeafLaws.{leaf_itself}
+use Rattle.dentry_cache.proofs.UsedLaws.{found_promoted, is_used}
 
 -- a fragment that is there stands in its place
 held_as : (o : Option Place) (f : Cached) → fragment_in o ≡ Some f → o ≡ Some (held f)
@@ -45,6 +47,14 @@ module _ (leaf : Leaf) (old touched mid : Held) (there : Bool) (touch : IsUsed (
       ∙ ap (λ (b : Bool). lru_cache (cond b ((leaf, held now) ∷ remove_entry (leaf_is leaf) old.entries) ((leaf, held f) ∷ set_value (leaf_is leaf) (remove_entry (leaf_is leaf) old.entries) (held now))) old.cap) (leaf_itself leaf) in
       (now, subst (λ (p : Place). Change p.frag now) one change, here)
   changed Change None place now is h at change = absurd h
+
+-- so is one that is brought to the front by the same call
+pub used_changed : (leaf : Leaf) (old mid : Held) → mid ≡ old → (Change : Cached → Cached → Type 0) (o : Option Cached) (place : Place) (now : Cached) → cached old.entries leaf ≡ o → IsThere o
+    → Some place ≡ lookup (leaf_is leaf) mid.entries → Change place.frag now
+    → IsChanged o Change leaf old (lru_cache (set_value (leaf_is leaf) (promoted (leaf_is leaf) mid.entries) (record { frag = now; kept = place.kept })) mid.cap)
+used_changed leaf old mid same Change o place now is there at change =
+    let touched = lru_cache (promoted (leaf_is leaf) mid.entries) mid.cap in
+    changed leaf old touched touched _ (is_used leaf old mid touched _ same refl refl) refl Change o place now is there (at ∙ sym (found_promoted leaf mid.entries)) change
 
 pub there_with_room : (o : Option Cached) → HasRoom o → IsThere o
 there_with_room (Some f) room = tt

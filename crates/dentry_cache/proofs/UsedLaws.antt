@@ -69,6 +69,14 @@ promoted_is leaf place places is = ap (λ (o : Option (Leaf × Place)). option_m
 pub not_promoted : (leaf : Leaf) (places : Places) → lookup (leaf_is leaf) places ≡ None → promoted (leaf_is leaf) places ≡ places
 not_promoted leaf places is = ap (λ (o : Option (Leaf × Place)). option_map_or (λ e. e ∷ remove_entry (leaf_is leaf) places) o places) (no_entry leaf places is)
 
+-- a place is there whether it is brought to the front or not
+pub found_promoted : (leaf : Leaf) (places : Places) → lookup (leaf_is leaf) (promoted (leaf_is leaf) places) ≡ lookup (leaf_is leaf) places
+found_promoted leaf places = go (lookup (leaf_is leaf) places) refl
+  where
+    go : (o : Option Place) → lookup (leaf_is leaf) places ≡ o → lookup (leaf_is leaf) (promoted (leaf_is leaf) places) ≡ lookup (leaf_is leaf) places
+    go (Some place) is = ap (lookup (leaf_is leaf)) (promoted_is leaf place places is) ∙ ap (λ (b : Bool). cond b (Some place) (lookup (leaf_is leaf) (remove_entry (leaf_is leaf) places))) (leaf_itself leaf) ∙ sym is
+    go None is = ap (lookup (leaf_is leaf)) (not_promoted leaf places is)
+
 pub is_used : (leaf : Leaf) (old mid new : Held) (there : Bool) → mid ≡ old → there ≡ is_some (lookup (leaf_is leaf) mid.entries) → new ≡ lru_cache (promoted (leaf_is leaf) mid.entries) mid.cap
     → IsUsed (lookup (leaf_is leaf) old.entries) leaf old new there
 is_used leaf old mid new there same told is = go (lookup (leaf_is leaf) old.entries) refl

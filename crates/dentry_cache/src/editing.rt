@@ -18,8 +18,7 @@ impl Cache {
             (λ (f now : Cached). now ≡ marked f name (record { version = version; inode = Some inode }))
             (dir, frag) self.old self.new }
     {
-        let _ = self.touch(dir, frag);
-        let Some(place) = self.places.peek_mut(&(dir, frag)) else {
+        let Some(place) = self.places.get_mut(&(dir, frag)) else {
             return;
         };
         let was = place.size();
@@ -36,8 +35,7 @@ impl Cache {
             (λ (f now : Cached). now ≡ marked f name (record { version = version; inode = None }))
             (dir, frag) self.old self.new }
     {
-        let _ = self.touch(dir, frag);
-        let Some(place) = self.places.peek_mut(&(dir, frag)) else {
+        let Some(place) = self.places.get_mut(&(dir, frag)) else {
             return;
         };
         let was = place.size();
@@ -59,12 +57,11 @@ impl Cache {
             (λ (f : Cached). changes ≤ f.room) → IsOk result }
     {
         // mostly the room is there, and then no key of the newest leaf is hashed
-        let ready = self.has_room(dir, frag, changes);
-        let _ = self.touch(dir, frag);
-        if ready {
+        if self.has_room(dir, frag, changes) {
+            let _ = self.touch(dir, frag);
             return Ok(());
         }
-        let Some(place) = self.places.peek_mut(&(dir, frag)) else {
+        let Some(place) = self.places.get_mut(&(dir, frag)) else {
             return Ok(());
         };
         place.frag.reserve(changes)

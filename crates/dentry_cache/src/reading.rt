@@ -18,41 +18,13 @@ impl Cache {
         ensures used { IsChanged (cached self.old.entries (dir, frag))
             (λ (f now : Cached). now ≡ f) (dir, frag) self.old self.new }
     {
-        self.seek(dir, frag, name);
+        let _ = self.touch(dir, frag);
         match self.get(dir, frag) {
             Some(fragment) => copied(fragment.look(name)),
             None => Ok(None),
         }
     }
-
-    // Makes a fragment the most recently used. One of many names looks for this one, so that neither a change of it nor
-    // another look searches once more.
-    fn seek(&mut self, dir: Ino, frag: Frag, name: &Name)
-        requires { IsThere (cached self.old.entries (dir, frag)) }
-        ensures { IsChanged (cached self.old.entries (dir, frag))
-            (λ (f now : Cached). now ≡ f) (dir, frag) self.old self.new }
-    {
-        let _ = self.touch(dir, frag);
-        if !self.has_many(dir, frag) {
-            return;
-        }
-        let Some(place) = self.places.peek_mut(&(dir, frag)) else {
-            return;
-        };
-        place.frag.seek(name);
-    }
-
-    // Whether a fragment has so many names that one is searched among chunks of them.
-    fn has_many(&self, dir: Ino, frag: Frag) -> bool {
-        match self.get(dir, frag) {
-            Some(fragment) => fragment.len() > IN_ONE_VECTOR,
-            None => false,
-        }
-    }
 }
-
-// So many names or fewer are kept in one vector, or few chunks.
-const IN_ONE_VECTOR: usize = 64;
 
 // A copy of an inode, if there is one.
 fn copied(inode: Option<&Inode>) -> Result<Option<Inode>, AllocError>

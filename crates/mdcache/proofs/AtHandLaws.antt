@@ -1,5 +1,5 @@
 -- Commits of whole fragments.
-use Rattle.mdcache.proofs.Common.{BeginsWith, BegunAreAtHand, BegunLeaveAtHand, EndedAreClean, IsAtHand, Job, Mark, Marks, None, Option, OthersStayAtHand, Some, State, Stored, Unsaved, ap, cond, eq-eqb, get-empty, get-unsettled, is_settled, key_cmp, len-empty, next_version, not, one_map, refl, same_Some, stored_with, sym, unsettled, with_unsaved, ℕ, ◌∙◌, ◌≡◌}
+use Rattle.mdcache.proofs.Common.{BeginsUnsaved, BegunAreAtHand, BegunLeaveAtHand, EndedAreClean, IsAtHand, Job, Mark, Marks, None, Option, OthersStayAtHand, Some, State, Stored, Unsaved, ap, cond, eq-eqb, get-empty, get-unsettled, is_settled, key_cmp, len-empty, next_version, not, one_map, refl, same_Some, stored_with, sym, unsettled, with_unsaved, ℕ, ◌∙◌, ◌≡◌}
 use Rattle.std.specs.FinMap as map
 use Rattle.mds_types.proofs.LeafLaws.{get_beside, get_left, get_put}
 use Rattle.mdcache.specs.Commits.{leaf_of, left_of}
@@ -11,7 +11,7 @@ nothing_left version generation dirty =
     ∙ ap (λ b. cond {A = Option Unsaved} b None (Some (record { base = Stored version; generation = generation; dirty = map.empty }))) (eq-eqb (map.len (map.empty {X = Mark} {R = key_cmp})) 0 (len-empty key_cmp Mark))
 
 pub begun_are_at_hand : BegunAreAtHand
-begun_are_at_hand old new leaf job begun = elim (map.get old.unsaved leaf) as (λ o. map.get old.unsaved leaf ≡ o → BeginsWith old new leaf o (Some job) → IsAtHand new job × (leaf_of job ≡ leaf)) [
+begun_are_at_hand old new leaf job begun = elim (map.get old.unsaved leaf) as (λ o. map.get old.unsaved leaf ≡ o → BeginsUnsaved old new leaf o (Some job) → IsAtHand new job × (leaf_of job ≡ leaf)) [
   | None ↦ λ is none. let clash : Some job ≡ None = none.0 in absurd cc
   | Some u ↦ λ is b. (
     record {
@@ -29,7 +29,7 @@ still_at_hand : (old new : State) (job : Job) → map.get new.jobs (leaf_of job)
 still_at_hand old new job stands beside hand = record { stands = stands ∙ hand.stands; unsaved = hand.unsaved; beside = beside ∙ hand.beside; names = hand.names }
 
 pub begun_leave_at_hand : BegunLeaveAtHand
-begun_leave_at_hand old new leaf job other begun apart hand = elim (map.get old.unsaved leaf) as (λ o. BeginsWith old new leaf o (Some job) → IsAtHand new other) [
+begun_leave_at_hand old new leaf job other begun apart hand = elim (map.get old.unsaved leaf) as (λ o. BeginsUnsaved old new leaf o (Some job) → IsAtHand new other) [
   | None ↦ λ none. let clash : Some job ≡ None = none.0 in absurd cc
   | Some u ↦ λ b. still_at_hand old new other (ap (λ (t : State). map.get t.jobs (leaf_of other)) b.2 ∙ get_beside old.jobs (leaf_of job) job (leaf_of other) (λ same. apart (same ∙ ap leaf_of b.0)))
       (ap (λ (t : State). map.get t.unsaved (leaf_of other)) b.2) hand

@@ -1,5 +1,5 @@
 -- Commits of whole fragments, several at once.
-use Rattle.mdcache.proofs.Common.{AllByRecursion, AreApart, Begins, BeginsWith, Begun, CacheMap, Came, CommitsWhole, Core, Dirfrag, Ends, Err, HasFragment, IsBegunAt, IsEnded, IsFree, IsLive, IsReadyAt, IsSound, IsSoundCore, IsThat, IsUncleanAt, Job, Jobs, KeepsTree, Leaf, List, MayHold, MayNotBeginAll, MayNotBeginOne, None, NoneEnds, NotAmong, Ok, Option, Rank, Ready, Refusal, Some, State, Unsaved, UnsavedLeaves, [], ap, append_assoc, arith, came_held, came_ranks, came_weaker, committed, cond, drop, drop_more, empty_of_len, false, get-empty, get_or, inl, inr, is_some, leaves_at, leaves_of_jobs, leaves_of_writes, len-remove, length, map-append, ready_of, refl, rules, shown_tree, state_of, subst, suc, sym, true, unclean, with_job, zero, ℕ, ⊎_elim, ◌++◌, ◌+◌, ◌-◌, ◌<◌, ◌∙◌, ◌∷◌, ◌≡◌}
+use Rattle.mdcache.proofs.Common.{AllByRecursion, AreOfOtherLeaves, Begins, BeginsUnsaved, Begun, CacheMap, Came, CommitsWhole, Core, Dirfrag, EndsJobOf, Err, HasFragment, IsBegunAt, IsEnded, IsFree, IsLive, IsReadyWrite, IsSound, IsSoundCore, IsThat, IsUncleanAt, Job, Jobs, KeepsTree, Leaf, List, MayHold, MayNotBeginAll, MayNotBeginOne, None, NoneEnds, NotAmong, Ok, Option, Rank, Ready, Refusal, Some, State, Unsaved, UnsavedLeaves, [], ap, append_assoc, arith, came_held, came_ranks, came_weaker, committed, cond, drop, drop_more, empty_of_len, false, get-empty, get_or, inl, inr, is_some, leaves_at, leaves_of_jobs, leaves_of_writes, len-remove, length, map-append, ready_of, refl, rules, shown_tree, state_of, subst, suc, sym, true, unclean, with_job, zero, ℕ, ⊎_elim, ◌++◌, ◌+◌, ◌-◌, ◌<◌, ◌∙◌, ◌∷◌, ◌≡◌}
 use Rattle.std.proofs.Common.{map as list_map, Result}
 use Rattle.std.specs.FinMap as map
 use Rattle.mds_types.specs.Leaf.{leaf_of as leaf_at}
@@ -13,7 +13,7 @@ use Rattle.inode_table.proofs.Chains.{some_of}
 use Rattle.mds_types.proofs.LeafLaws.{get_beside, leaf-total}
 
 -- a commit that began left its job, and nothing else
-begun_left : (old new : State) (leaf : Leaf) (job : Job) (o : Option Unsaved) → BeginsWith old new leaf o (Some job) → new ≡ with_job old job
+begun_left : (old new : State) (leaf : Leaf) (job : Job) (o : Option Unsaved) → BeginsUnsaved old new leaf o (Some job) → new ≡ with_job old job
 begun_left old new leaf job o is = search rules
 
 module _ (old new : Core) (rank : Rank) (leaf : Leaf) (may : MayHold old.caches rank leaf) (dirty : is_some (map.get (unclean old.caches) leaf) ≡ true) (came : Came (IsThat rank.0 leaf) NoneEnds old.caches new.caches) where
@@ -33,7 +33,7 @@ module _ (old new : Core) (rank : Rank) (leaf : Leaf) (may : MayHold old.caches 
   refused_keeps same = keeps (state_of old) same (ap shown_tree same)
 
   -- a commit ends, or doesn't
-  pub ends_keeps : (before after : ℕ) (job : Job) (result : Result (Unit {0}) Refusal) → Ends (state_of old) (state_of new) before after job result → KeepsTree old new
+  pub ends_keeps : (before after : ℕ) (job : Job) (result : Result (Unit {0}) Refusal) → EndsJobOf (state_of old) (state_of new) before after job result → KeepsTree old new
   ends_keeps before after job (Ok done) ended = keeps (committed (state_of old) job ended.unsaved) ended.left ended.tree
   ends_keeps before after job (Err reason) refused = refused_keeps refused.1
 
@@ -60,7 +60,7 @@ may_hold_on old new came rank leaf may = record {
 }
 
 -- a leaf apart from all others
-apart_behind : (xs : List Leaf) (y : Leaf) (ys : List Leaf) → AreApart (xs ++ y ∷ ys) → AllByRecursion (λ (q : Leaf). q ≡ y → ⊥) xs
+apart_behind : (xs : List Leaf) (y : Leaf) (ys : List Leaf) → AreOfOtherLeaves (xs ++ y ∷ ys) → AllByRecursion (λ (q : Leaf). q ≡ y → ⊥) xs
 apart_behind [] y ys apart = tt
 apart_behind (x ∷ xs) y ys (others, apart) = (first_apart xs y ys others, apart_behind xs y ys apart)
   where
@@ -94,7 +94,7 @@ pub record BeginsFirst (old now : Core) (leaves : List Dirfrag) (i : ℕ) (done 
   pub sound : IsSoundCore now
 
 module _ (old now : Core) (leaves : List Dirfrag) (i : ℕ) (at : Dirfrag) (within : i < length leaves) (is : at ≡ get_or leaves i at) (done : List Begun)
-    (so_far : BeginsFirst old now leaves i done) (all_apart : AreApart (leaves_at leaves)) where
+    (so_far : BeginsFirst old now leaves i done) (all_apart : AreOfOtherLeaves (leaves_at leaves)) where
   abbrev behind : List Dirfrag
   behind = drop (i + 1) leaves
 
@@ -105,7 +105,7 @@ module _ (old now : Core) (leaves : List Dirfrag) (i : ℕ) (at : Dirfrag) (with
   whole = ap (λ ds. leaves_of_jobs done ++ leaves_at ds) (sym here) ∙ so_far.listed
 
   others : AllByRecursion (λ (q : Leaf). q ≡ leaf_at at → ⊥) (leaves_of_jobs done)
-  others = apart_behind (leaves_of_jobs done) (leaf_at at) (leaves_at behind) (subst AreApart (sym whole) all_apart)
+  others = apart_behind (leaves_of_jobs done) (leaf_at at) (leaves_at behind) (subst AreOfOtherLeaves (sym whole) all_apart)
 
   -- no job stands for the next leaf,
   pub next_free : map.get now.jobs (leaf_at at) ≡ None
@@ -158,8 +158,8 @@ some_len m k some = elim (map.len m) as (λ n. map.len m ≡ n → 0 < n) [
 
 -- so far the first of these commits have ended, and the others are at hand
 pub record EndsFirst (old now : Core) (ready : List Ready) (i : ℕ) : Type 0 where
-  pub rest : AllByRecursion (IsReadyAt now) (drop i ready)
-  pub apart : AreApart (leaves_of_writes (drop i ready))
+  pub rest : AllByRecursion (IsReadyWrite now) (drop i ready)
+  pub apart : AreOfOtherLeaves (leaves_of_writes (drop i ready))
   pub whole : CommitsWhole (state_of old) (state_of now)
   pub fewer : map.len (unclean now.caches) + i ≡ map.len (unclean old.caches)
   pub tree : KeepsTree old now
@@ -170,8 +170,8 @@ pub record EndsFirst (old now : Core) (ready : List Ready) (i : ℕ) : Type 0 wh
 pub ends_next : (old now new : Core) (ready : List Ready) (i : ℕ) (one : Ready) → i < length ready → one ≡ get_or ready i one → EndsFirst old now ready i → IsEnded (state_of now) (state_of new) one.encoded.job
     → CommitsWhole (state_of now) (state_of new) → KeepsTree now new → new.faults ≡ now.faults → IsSoundCore new → EndsFirst old new ready (i + 1)
 ends_next old now new ready i one within is so_far ended whole keeps_it same sound =
-    let all = subst (AllByRecursion (IsReadyAt now)) (rest_is ready i one within is) so_far.rest in
-    let apart = subst (λ rs. AreApart (leaves_of_writes rs)) (rest_is ready i one within is) so_far.apart in
+    let all = subst (AllByRecursion (IsReadyWrite now)) (rest_is ready i one within is) so_far.rest in
+    let apart = subst (λ rs. AreOfOtherLeaves (leaves_of_writes rs)) (rest_is ready i one within is) so_far.apart in
     let there : is_some (map.get (unclean now.caches) (leaf_of one.encoded.job)) ≡ true = ap is_some all.0.hand.beside in
     let less : map.len (unclean new.caches) ≡ map.len (unclean now.caches) - 1 =
     ap (λ (m : UnsavedLeaves). map.len m) (ended_are_clean (state_of now) (state_of new) one.encoded.job all.0.hand ended)
@@ -179,7 +179,7 @@ ends_next old now new ready i one within is so_far ended whole keeps_it same sou
     let some = some_len (unclean now.caches) (leaf_of one.encoded.job) there in
     let fewer = so_far.fewer in
     record {
-      rest = all_so (λ (r : Ready). leaf_of r.encoded.job) (λ q. q ≡ leaf_of one.encoded.job → ⊥) (IsReadyAt now) (IsReadyAt new) (λ r other it. record {
+      rest = all_so (λ (r : Ready). leaf_of r.encoded.job) (λ q. q ≡ leaf_of one.encoded.job → ⊥) (IsReadyWrite now) (IsReadyWrite new) (λ r other it. record {
         holds = may_hold_on now.caches new.caches keeps_it.caches r.rank (leaf_of r.encoded.job) it.holds;
         hand = others_stay_at_hand (state_of now) (state_of new) one.encoded.job r.encoded.job ended other all.0.hand it.hand;
       }) (drop (i + 1) ready) apart.0 all.1;
@@ -192,7 +192,7 @@ ends_next old now new ready i one within is so_far ended whole keeps_it same sou
     }
 
 -- jobs that were begun are those of their writes
-pub begun_ready : (core : Core) (begun : List Begun) → AllByRecursion (IsBegunAt core) begun → AllByRecursion (IsReadyAt core) (list_map ready_of begun)
+pub begun_ready : (core : Core) (begun : List Begun) → AllByRecursion (IsBegunAt core) begun → AllByRecursion (IsReadyWrite core) (list_map ready_of begun)
 begun_ready core [] all = tt
 begun_ready core (b ∷ begun) (one, all) = (one, begun_ready core begun all)
 

@@ -1,5 +1,5 @@
 -- What the beginning of a commit leaves, done or not.
-use Rattle.mdcache.proofs.Common.{AreCached, AreYoung, Base, Begins, BeginsWith, Bool, Bor, Cached, Came, Core, Dirfrag, Err, HasCached, IsAtEnd, IsBelowEnd, IsFreeFor, IsJobOf, IsLive, IsOf, IsSnap, IsSound, IsSoundCore, IsThat, IsThere, Job, Leaf, NoInodes, NoMemory, None, NoneEnds, Ok, Omap, Option, Refusal, Result, Rooms, Some, State, Unsaved, ap, at, cond, cond_both, counts_of, false, here, here_is, inl, inr, is_clean, is_some, job_for, object_of, option_copied, option_map, refl, rules, same_Some, shown, shown_at, state_of, stays, subst, sym, tied_show, true, unsaved_in, used_at, used_core, used_unclean, uses, with_job, with_job_in, ℕ, ◌+◌, ◌∙◌, ◌≡◌}
+use Rattle.mdcache.proofs.Common.{AllCachedIn, AreYoung, Base, Begins, BeginsUnsaved, Bool, Bor, Cached, Came, Core, Dirfrag, Err, HasCached, IsAtEnd, IsBelowEnd, IsFreeFor, IsJobOf, IsLive, IsOf, IsSnap, IsSound, IsSoundCore, IsThat, IsThere, Job, Leaf, NoInodes, NoMemory, None, NoneEnds, Ok, Omap, Option, Refusal, Result, Rooms, Some, State, Unsaved, ap, at, cond, cond_both, counts_of, false, here, here_is, inl, inr, is_clean, is_some, job_for, object_of, option_copied, option_map, refl, rules, same_Some, shown, shown_at, state_of, stays, subst, sym, tied_show, unsaved_in, used_at, used_core, used_unclean, uses, with_job, with_job_in, ℕ, ◌+◌, ◌∙◌, ◌≡◌}
 use Rattle.std.specs.FinMap as map
 use Rattle.mds_types.specs.Leaf.{leaf_of as leaf_at}
 use Rattle.dentry_cache.specs.Ties.{KeepsAt}
@@ -49,7 +49,7 @@ module _ (c view : Core) (is : view ≡ c) (sound : IsSoundCore c) (a : Dirfrag)
   pub begins_none : None ≡ told (unsaved_in (here view.caches a.rank.0 leaf)) → HasBegun c c a (Ok None)
   begins_none clean =
       let none_left = none_told (map.get s.unsaved leaf) (clean ∙ ap (λ (k : Core). told (unsaved_in (here k.caches a.rank.0 leaf))) is ∙ ap told (sym (unclean_here c.caches a.rank.0 leaf free))) in
-      record { begun = (live, none, subst (λ (o : Option Unsaved). BeginsWith s s leaf o None) (sym none_left) (refl, refl)); came = stays; sound = sound }
+      record { begun = (live, none, subst (λ (o : Option Unsaved). BeginsUnsaved s s leaf o None) (sym none_left) (refl, refl)); came = stays; sound = sound }
 
   module _ (base : Base) (generation : ℕ) (is_told : Some (base, generation) ≡ told (unsaved_in (here view.caches a.rank.0 leaf))) where
     its : (f : Cached) × (here c.caches a.rank.0 leaf ≡ Some f) × (is_clean f ≡ false) × (base ≡ f.base) × (generation ≡ f.generation)
@@ -82,7 +82,7 @@ module _ (c view : Core) (is : view ≡ c) (sound : IsSoundCore c) (a : Dirfrag)
       used_sound = record {
         sound = subst IsSound (sym used_state) sound.sound;
         begun = sound.begun;
-        cached = subst (λ (t : State). AreCached t (used_at c.caches a.rank.0 leaf)) (sym used_state) sound.cached;
+        cached = subst (λ (t : State). AllCachedIn t (used_at c.caches a.rank.0 leaf)) (sym used_state) sound.cached;
         none = none_used c.caches a.rank.0 leaf sound.none (used_at c.caches a.rank.0 leaf) (subst IsThere (sym its.1) tt) refl;
       }
 
@@ -120,7 +120,7 @@ module _ (c view : Core) (is : view ≡ c) (sound : IsSoundCore c) (a : Dirfrag)
 
         pub begun_is : (new : Core) → new ≡ begun → HasBegun c new a (Ok (Some job))
         begun_is new is_begun = subst (λ (k : Core). HasBegun c k a (Ok (Some job))) (sym is_begun) (record {
-          begun = (live, none, subst (λ (o : Option Unsaved). BeginsWith s (state_of begun) leaf o (Some job)) (sym found) (job_is, left, begun_state));
+          begun = (live, none, subst (λ (o : Option Unsaved). BeginsUnsaved s (state_of begun) leaf o (Some job)) (sym found) (job_is, left, begun_state));
           came = uses c.caches a.rank.0 leaf stays (refl, refl);
           sound = record {
             sound = subst IsSound (sym begun_state) (begun_sound s job u sound.sound (ap (map.get s.unsaved) one_leaf ∙ found) (ap (λ (j : Job). j.number) job_is)

@@ -1,5 +1,5 @@
 -- What is left by calls that change no name: of jobs, objects of no live leaf, and places.
-use Rattle.mdcache.proofs.Common.{AreCached, AreCaches, CacheMap, Core, Err, Ino, IsDropped, IsSound, IsSoundCore, Job, Jobs, KeepsNone, Keys, Leaf, List, None, Objects, Ok, OnErr, OnOk, Option, Purges, PurgesName, Refusal, Result, Rooms, Some, State, ap, clean_there, evicted, first_name, given_up, goes, held_given_up, is_known, last_passes, leaves_of, length, not, option_map, order, purged, refl, same_Some, shown_tree, state_of, subst, sym, tree_saved, tree_text, true, unclean, unclean_gone, victim, whole_given_up, with_tree_at, ℕ, ◌<◌, ◌∙◌, ◌≡◌}
+use Rattle.mdcache.proofs.Common.{AllCachedIn, AreCaches, CacheMap, Core, Err, Ino, IsDropped, IsSound, IsSoundCore, Job, Jobs, KeepsNone, Keys, Leaf, List, None, Objects, Ok, OnErr, OnOk, Option, Purges, PurgesName, Refusal, Result, Rooms, Some, State, ap, clean_there, evicted, first_name, given_up, goes, held_given_up, is_known, last_passes, leaves_of, length, not, option_map, order, purged, refl, same_Some, shown_tree, state_of, subst, sym, tree_saved, tree_text, true, unclean, unclean_gone, victim, whole_given_up, with_tree_at, ℕ, ◌<◌, ◌∙◌, ◌≡◌}
 use Rattle.std.specs.FinMap as map
 use Rattle.dentry_cache.specs.Cache.{stays}
 use Rattle.mdcache.proofs.ObjectLaws.{KeepsLeaves, purged_right, tree_saved_right}
@@ -34,7 +34,7 @@ module _ (old view : Core) (is : view ≡ old) (sound : IsSoundCore old) where
 
   changed_sound : (objects : Objects) (purge : Keys) (faults : ℕ) (room : Rooms) (t : State) → KeepsLeaves (state_of view) t → state_of (changed objects purge faults room) ≡ t → IsSoundCore (changed objects purge faults room)
   changed_sound objects purge faults room t keeps same =
-      record { sound = subst IsSound (sym same) keeps.sound; begun = now.begun; cached = subst (λ (s : State). AreCached s view.caches) (sym same) (keeps.cached view.caches now.cached); none = now.none }
+      record { sound = subst IsSound (sym same) keeps.sound; begun = now.begun; cached = subst (λ (s : State). AllCachedIn s view.caches) (sym same) (keeps.cached view.caches now.cached); none = now.none }
 
   -- an object that nothing owns is removed
   module _ (name : List ℕ) (objects : Objects) (purge : Keys) (faults : ℕ) (room : Rooms) (first : first_name view.purge ≡ Some name) (removed : objects ≡ map.remove view.objects name) (listed : purge ≡ map.remove view.purge name) where
@@ -72,7 +72,7 @@ module _ (old view : Core) (is : view ≡ old) (sound : IsSoundCore old) where
   module _ (r : ℕ) (caches : CacheMap) (there : r < length view.caches.used) (valid : AreCaches view.caches) where
     -- what isn't clean stays, and what is cached is sound still
     abbrev IsLess : CacheMap → Type 0
-    IsLess k = (unclean k ≡ unclean view.caches) × AreCached (state_of view) k × KeepsNone k
+    IsLess k = (unclean k ≡ unclean view.caches) × AllCachedIn (state_of view) k × KeepsNone k
 
     went : evicted view.caches r None ≡ Some caches → IsLess caches
     went gone = elim (victim view.caches r None) as (λ o. victim view.caches r None ≡ o → option_map (given_up view.caches r) o ≡ Some caches → IsLess caches) [
@@ -90,6 +90,6 @@ module _ (old view : Core) (is : view ≡ old) (sound : IsSoundCore old) where
     pub evict_done : (result : Result (Unit {0}) Refusal) → OnOk result (evicted view.caches r None ≡ Some caches) → OnErr result (caches ≡ view.caches) → (state_of (record view { caches = caches }) ≡ state_of old) × IsSoundCore (record view { caches = caches })
     evict_done (Ok done) gone left = (
       went_state gone ∙ ap state_of is,
-      record { sound = subst IsSound (sym (went_state gone)) now.sound; begun = now.begun; cached = subst (λ (s : State). AreCached s caches) (sym (went_state gone)) (went gone).1; none = (went gone).2 },
+      record { sound = subst IsSound (sym (went_state gone)) now.sound; begun = now.begun; cached = subst (λ (s : State). AllCachedIn s caches) (sym (went_state gone)) (went gone).1; none = (went gone).2 },
     )
     evict_done (Err reason) gone left = (ap (λ (k : CacheMap). state_of (record view { caches = k })) left ∙ ap state_of is, subst (λ (k : CacheMap). IsSoundCore (record view { caches = k })) (sym left) now)

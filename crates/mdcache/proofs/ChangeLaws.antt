@@ -1,5 +1,5 @@
 -- The four changes are right.
-use Rattle.mdcache.proofs.Common.{Alters, Change, ChangesAreRight, ChangesOnly, Contains, Counts, Covers, Dentry, DirPins, Fragment, HasLeaf, HasNumber, Homes, Ino, Inode, IsCounted, IsLeafAt, IsLive, IsNamed, IsRight, IsSound, IsStanding, IsTabled, IsUnsaved, IsUntouched, Job, KeepLeaves, Leaf, List, MayChange, MayCome, MayGo, None, NothingIn, Option, Shape, Some, Spot, State, StaysAsItIs, Tree, Unsaved, [], add, added_counted, added_tabled, adds, ap, arith, changed, cond, cond_both, counts_moved, dentry_at, directory_at, entry_stands, false, false_from_ne_true, fragments_of, home_at, is_dir_kind, is_directory, is_known, is_some, known_is, leaf_is, leaf_of, leaves, leaves_gone, leaves_kept, leaves_of, may_come, may_drop, may_relocate, may_replace, move, moved_counted, moved_tabled, moves, nat_cmp, noted, nothing_in, one_leaf, one_less, refl, remove, removed_counted, removed_tabled, removes, replaced_empty, rows_but, rules, same_Some, set, set_counted, set_tabled, sets, shape_of, shown_tree, stands_after_removal, subst, suc, sym, true, with_dir, with_directory, with_file, with_home, with_home_at, with_moved, without, without_cover, without_directory, without_home, without_row, zero, ℕ, ◌<◌, ◌^◌, ◌∙◌, ◌∷◌, ◌≡◌}
+use Rattle.mdcache.proofs.Common.{Alters, Change, ChangesAreRight, ChangesOnly, Contains, Counts, Covers, Dentry, DirPins, Fragment, HasLeaf, HasNumber, Homes, Ino, Inode, IsCounted, IsLeafAt, IsLive, IsNamed, IsRightChange, IsSound, IsStandingJob, IsTabled, IsUnsaved, IsUntouched, Job, KeepLeaves, Leaf, List, MayChange, MayCome, MayGo, None, NothingIn, Option, Shape, Some, Spot, State, StaysAsItIs, Tree, Unsaved, [], add, added_counted, added_tabled, adds, ap, arith, changed, cond_both, counts_moved, dentry_at, directory_at, entry_stands, false, false_from_ne_true, fragments_of, home_at, is_dir_kind, is_known, is_some, known_is, leaf_is, leaf_of, leaves, leaves_gone, leaves_kept, leaves_of, may_come, may_drop, may_relocate, may_replace, move, moved_counted, moved_tabled, moves, nat_cmp, noted_change, nothing_in, one_leaf, one_less, refl, remove, removed_counted, removed_tabled, removes, replaced_empty, rows_but, rules, same_Some, set, set_counted, set_tabled, sets, shape_of, shown_tree, stands_after_removal, subst, suc, sym, true, with_dir, with_directory, with_file, with_home, with_home_at, with_moved, without_gone_dir, without_cover, without_directory, without_home, without_row, zero, ℕ, ◌<◌, ◌^◌, ◌∙◌, ◌∷◌, ◌≡◌}
 use Rattle.std.specs.FinMap as map
 use Rattle.inode_table.specs.Dirs.{MayMove as MayRelocate}
 use Rattle.mdcache.proofs.NamedLaws.{HasSoundLeaves, named_leaves, named_tree, shows_beside, sound_leaves, with_at}
@@ -61,18 +61,18 @@ record IsAltered (change : Change) (old new : State) : Type 0 where
   frame : ChangesOnly (IsUntouched old new) (fragments_of old.covers change)
 
 -- and then all
-noted_right : (change : Change) (old new : State) (counts : Counts) (pins : DirPins) → IsAltered change old new → IsCounted (changed (shown_tree old) change) counts pins → IsRight change old (record new { counts = counts; pins = pins })
+noted_right : (change : Change) (old new : State) (counts : Counts) (pins : DirPins) → IsAltered change old new → IsCounted (changed (shown_tree old) change) counts pins → IsRightChange change old (record new { counts = counts; pins = pins })
 noted_right change old new counts pins altered counted =
     let its = altered.sound in
     let now : State = record new { counts = counts; pins = pins } in
     let counted_now : IsCounted (shown_tree new) counts pins = subst (λ (t : Tree). IsCounted t counts pins) (sym altered.tree) counted in
     let unsaved : (leaf : Leaf) (u : Unsaved) → map.get new.unsaved leaf ≡ Some u → IsUnsaved now leaf u = λ leaf u is. (let old = its.unsaved leaf u is in record { live = old.live; made = old.made; young = old.young }) in
-    let standing : (leaf : Leaf) (job : Job) → map.get new.jobs leaf ≡ Some job → IsStanding now leaf job = λ leaf job is.
+    let standing : (leaf : Leaf) (job : Job) → map.get new.jobs leaf ≡ Some job → IsStandingJob now leaf job = λ leaf job is.
     (let old = its.standing leaf job is in record { mine = old.mine; given = old.given; young = old.young; unsaved = old.unsaved; beside = old.beside; taken = old.taken }) in
     let frame : ChangesOnly (IsUntouched old now) (fragments_of old.covers change) = λ leaf none live. (let still = altered.frame leaf none live in record { live = still.live; names = still.names }) in
     search (rules, its.owned)
 
--- rows of directories without that of a directory that went
+-- rows of directories without_gone_dir that of a directory that went
 row_gone : {X : Type 0} (rows : map.FinMap nat_cmp X) (found : Option Inode) → rows_but rows (directory_at found) ≡ without_row rows found
 row_gone rows found = search rules
 
@@ -145,16 +145,16 @@ dir_left named dir sound may known nothing = record {
 none_left : (named : State) → HasSoundLeaves named → IsLeftSo named named None
 none_left named sound = record { leaves = sound; tree = refl; stays = λ leaf none live. record { live = live; names = refl } }
 
--- the table and the leaves of directories without what stood at a dentry
-tables_without : (s : State) (found : Option Inode) → ((without s (directory_at found)).homes ≡ without_home s.homes found) × ((without s (directory_at found)).covers ≡ without_cover s.covers found)
+-- the table and the leaves of directories without_gone_dir what stood at a dentry
+tables_without : (s : State) (found : Option Inode) → ((without_gone_dir s (directory_at found)).homes ≡ without_home s.homes found) × ((without_gone_dir s (directory_at found)).covers ≡ without_cover s.covers found)
 tables_without s found = search rules
 
 -- what stood at a dentry goes, whatever it was
 left_so : (named : State) (found : Option Inode) → HasSoundLeaves named
     → ((inode : Inode) → found ≡ Some inode → is_dir_kind inode.kind ≡ true → MayGo named.homes inode.ino.0 × (is_known named.homes inode.ino.0 ≡ true) × NothingIn (shown_tree named) inode.ino.0)
-    → IsLeftSo named (without named (directory_at found)) (directory_at found)
+    → IsLeftSo named (without_gone_dir named (directory_at found)) (directory_at found)
 left_so named None sound may = none_left named sound
-left_so named (Some inode) sound may = cond_both (is_dir_kind inode.kind) (Some inode.ino) None (λ g. IsLeftSo named (without named g) g)
+left_so named (Some inode) sound may = cond_both (is_dir_kind inode.kind) (Some inode.ino) None (λ g. IsLeftSo named (without_gone_dir named g) g)
     (λ kinded. let m = may inode refl kinded in dir_left named inode.ino sound m.0 m.1 m.2) (λ kinded. none_left named sound)
 
 -- an entry that stands for a directory is known
@@ -162,7 +162,7 @@ stands_known : (s : State) (dentry : Dentry) (inode : Inode) → IsSound s → m
 stands_known s dentry inode sound stands kinded = known_is (shown_tree s) s.homes sound.tabled inode.ino.0 ∙ entry_stands (shown_tree s) dentry inode stands kinded
 
 -- an entry went from a dentry, or came there in place of another, and what stood there goes after it
-gone_altered : (change : Change) (old before new : State) (tree : Tree) (homes : Homes) (dentry : Dentry) (gone : Option Ino) → gone ≡ directory_at (map.get (shown_tree old) dentry) → new ≡ without before gone → IsSound old → HasSoundLeaves before
+gone_altered : (change : Change) (old before new : State) (tree : Tree) (homes : Homes) (dentry : Dentry) (gone : Option Ino) → gone ≡ directory_at (map.get (shown_tree old) dentry) → new ≡ without_gone_dir before gone → IsSound old → HasSoundLeaves before
     → shown_tree before ≡ tree → before.homes ≡ homes → before.covers ≡ old.covers → changed (shown_tree old) change ≡ tree → IsTabled tree (without_home homes (map.get (shown_tree old) dentry))
     → ((inode : Inode) → map.get (shown_tree old) dentry ≡ Some inode → is_dir_kind inode.kind ≡ true → MayGo homes inode.ino.0 × (is_known before.homes inode.ino.0 ≡ true) × NothingIn tree inode.ino.0)
     → ((leaf : Leaf) → (Contains (fragments_of old.covers change) leaf → ⊥) → IsLive old.homes old.covers leaf → StaysAsItIs old before leaf × (Contains (leaves_gone old.covers gone) leaf → ⊥)) → IsAltered change old new
@@ -180,8 +180,8 @@ gone_altered change old before new tree homes dentry gone goes is sound leaves s
     found : Option Inode
     found = map.get (shown_tree old) dentry
 
-    now : new ≡ without before (directory_at found)
-    now = is ∙ ap (without before) goes
+    now : new ≡ without_gone_dir before (directory_at found)
+    now = is ∙ ap (without_gone_dir before) goes
 
     its : IsLeftSo before new gone
     its = subst (λ (g : Option Ino). IsLeftSo before new g) (sym goes) (subst (λ (t : State). IsLeftSo before t (directory_at found)) (sym now) (left_so before found leaves (λ inode stood kinded.
@@ -253,7 +253,7 @@ altered_by _ (set spot inode) old new sound fits may makes = set_altered spot in
 altered_by _ (remove spot went) old new sound fits may makes = remove_altered spot went old new sound may makes
 altered_by _ (move from to inode went) old new sound fits may makes = move_altered from to inode went old new sound may makes
 
--- so are the rows of counts and pins without those of what went
+-- so are the rows of counts and pins without_gone_dir those of what went
 rows_gone : (tree : Tree) (counts : Counts) (pins : DirPins) (found : Option Inode) (went : Option Ino) → went ≡ directory_at found → IsCounted tree (without_row counts found) (without_row pins found)
     → IsCounted tree (rows_but counts went) (rows_but pins went)
 rows_gone tree counts pins found went goes counted =
@@ -261,7 +261,7 @@ rows_gone tree counts pins found went goes counted =
     (subst (IsCounted tree (without_row counts found)) (sym (row_gone pins found)) counted))
 
 -- the counts and the pins that a change makes are those of the changed tree
-counted_by : (change : Change) → Shape change → (old new : State) → IsSound old → MayChange (shown_tree old) old.covers change → IsCounted (changed (shown_tree old) change) (noted old change new).counts (noted old change new).pins
+counted_by : (change : Change) → Shape change → (old new : State) → IsSound old → MayChange (shown_tree old) old.covers change → IsCounted (changed (shown_tree old) change) (noted_change old change new).counts (noted_change old change new).pins
 counted_by _ (add spot inode) old new sound may = added_counted (shown_tree old) old.homes sound.tabled old.counts old.pins sound.counted (dentry_at spot) inode may.takes
 counted_by _ (set spot inode) old new sound may = set_counted (shown_tree old) old.homes sound.tabled old.counts old.pins sound.counted (dentry_at spot) inode may.takes
 counted_by _ (remove spot went) old new sound may =
@@ -275,5 +275,5 @@ counted_by _ (move from to inode went) old new sound may =
 pub changes_are_right : ChangesAreRight
 changes_are_right change old new sound fits may makes =
     let shape = shape_of (shown_tree old) old.covers change may in
-    subst (IsRight change old) (sym makes.2)
-    (noted_right change old makes.0 (noted old change makes.0).counts (noted old change makes.0).pins (altered_by change shape old makes.0 sound fits may makes.1) (counted_by change shape old makes.0 sound may))
+    subst (IsRightChange change old) (sym makes.2)
+    (noted_right change old makes.0 (noted_change old change makes.0).counts (noted_change old change makes.0).pins (altered_by change shape old makes.0 sound fits may makes.1) (counted_by change shape old makes.0 sound may))

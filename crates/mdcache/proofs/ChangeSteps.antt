@@ -1,5 +1,5 @@
 -- What the steps of a change leave, one after the other.
-use Rattle.mdcache.proofs.Common.{AreCached, AreCaches, At, Bool, CacheMap, Cached, Came, Contains, Core, Counts, DirPins, Dirfrag, Fragment, Going, GoingLeaf, HasCached, HasLeaf, HasRoom, Home, Homes, Ino, Inode, IsCachedIn, IsFree, IsGoingOrNone, IsKeptFor, IsLive, IsNamed, IsThere, IsTied, KeepsNone, KeepsOnlyAt, Leaf, List, Mark, None, Option, Rank, Rooms, Some, State, UnsavedLeaves, [], ap, arith, at, at_rank, cond, cond_both, dir_going, edited_as, ended, ended_all, ended_at, ends, false, false_from_ne_true, get_given_up, get_left_home, get_with_frag, given_up, has, has_place, has_with_mark, here, here_is, here_put, here_with_frag, holder_there, is_some, leaf_is, leaf_of, leaves, leaves_going, leaves_in, leaves_of, length, list_any, made_frag, marked, named, none_given_up, object_of, one_leaf, or_whole, refl, removed, rows_but, rules, same_Some, state_of, stays, subst, suc, sym, texts_going, true, unclean, unclean_alike, unclean_given_up, unsaved_at, with_frag, with_objects, without, without_dir, without_leaves, zero, ℕ, ⊎_elim, ◌&&◌, ◌<◌, ◌==◌, ◌||◌, ◌∙◌, ◌∷◌, ◌≡◌, ◌≤◌}
+use Rattle.mdcache.proofs.Common.{AllCachedIn, AreCaches, At, Bool, CacheMap, Cached, Came, Contains, Core, Counts, DirPins, Dirfrag, Fragment, Going, GoingLeaf, HasCached, HasLeaf, HasRoom, Home, Homes, Ino, Inode, IsCachedIn, IsFree, IsGoingOrNone, IsKeptFor, IsLive, IsNamed, IsThere, IsTied, KeepsNone, KeepsOnlyAt, Leaf, List, Mark, None, Option, Rank, Rooms, Some, State, UnsavedLeaves, [], ap, arith, at, at_rank, cond, cond_both, dir_going, edited_as, ended, ended_all, ended_at, ends, false, false_from_ne_true, get_given_up, get_left_home, get_with_frag, given_up, has, has_place, has_with_mark, here, here_is, here_put, here_with_frag, holder_there, is_some, leaf_is, leaf_of, leaves, leaves_going, leaves_in, leaves_of, length, list_any, made_frag, marked, named, none_given_up, object_of, one_leaf, or_whole, refl, removed, rows_but, rules, same_Some, state_of, stays, subst, suc, sym, texts_going, true, unclean, unclean_alike, unclean_given_up, unsaved_at, with_frag, with_objects, without_gone_dir, without_dir, without_leaves, zero, ℕ, ⊎_elim, ◌&&◌, ◌<◌, ◌==◌, ◌||◌, ◌∙◌, ◌∷◌, ◌≡◌, ◌≤◌}
 use Rattle.std.specs.FinMap as map
 use Rattle.dentry_cache.specs.CacheMap.{with_mark}
 use Rattle.mdcache.specs.Core.{with_dir}
@@ -20,7 +20,7 @@ cached_there P o h = search rules
 
 -- cached fragments are sound in another state that has the objects, whatever was live, and gave out no fewer generations
 pub cached_on : (s t : State) (caches : CacheMap) → ((leaf : Leaf) → IsLive s.homes s.covers leaf → IsLive t.homes t.covers leaf) → t.objects ≡ s.objects → s.next_generation ≤ t.next_generation
-    → AreCached s caches → AreCached t caches
+    → AllCachedIn s caches → AllCachedIn t caches
 cached_on s t caches live objects more cached leaf a is =
     let was : IsCachedIn s leaf a.frag = cached leaf a is in
     record {
@@ -42,11 +42,11 @@ left_live_at s dir leaf live none = record {
 -- the caches came from those before, their fragments are sound, and a place that is kept is this one
 pub record HasMade (Uses Ends : ℕ → Leaf → Type 0) (kept : Option (Rank × Leaf)) (old new : Core) : Type 0 where
   pub came : Came Uses Ends old.caches new.caches
-  pub cached : AreCached (state_of new) new.caches
+  pub cached : AllCachedIn (state_of new) new.caches
   pub only : KeepsOnlyAt kept new.caches
 
 module _ (Uses Ends : ℕ → Leaf → Type 0) (kept : Option (Rank × Leaf)) (old : Core) where
-  pub made_first : AreCached (state_of old) old.caches → KeepsOnlyAt kept old.caches → HasMade Uses Ends kept old old
+  pub made_first : AllCachedIn (state_of old) old.caches → KeepsOnlyAt kept old.caches → HasMade Uses Ends kept old old
   made_first cached only = record { came = stays; cached = cached; only = only }
 
   module _ (c : Core) (before : HasMade Uses Ends kept old c) where
@@ -180,9 +180,9 @@ module _ (c : Core) (counts : Counts) (going : Option Going) (prepared : IsGoing
   abbrev pub left : Core
   left = without_dir (record c { counts = counts }) (dir_going going) (leaves_going going) (texts_going going) room
 
-  -- the state without the directory, but for the counts and the pins
+  -- the state without_gone_dir the directory, but for the counts and the pins
   abbrev without_by : Option Ino → State
-  without_by went = record (without (state_of c) went) { counts = rows_but counts went; pins = rows_but c.pins went }
+  without_by went = record (without_gone_dir (state_of c) went) { counts = rows_but counts went; pins = rows_but c.pins went }
 
   pub is_gone : state_of left ≡ without_by (dir_going going)
   is_gone = go going prepared
@@ -203,7 +203,7 @@ module _ (c : Core) (counts : Counts) (going : Option Going) (prepared : IsGoing
     pub made_gone : (KeepsNone c.caches → KeepsNone left.caches) → HasMade Uses Ends None old left
     made_gone stays_none = record {
       came = comes going named;
-      cached = subst (λ (s : State). AreCached s left.caches) (sym is_gone) (stay going prepared);
+      cached = subst (λ (s : State). AllCachedIn s left.caches) (sym is_gone) (stay going prepared);
       only = none_only None left.caches (stays_none (only_none c.caches before.only));
     }
       where
@@ -211,7 +211,7 @@ module _ (c : Core) (counts : Counts) (going : Option Going) (prepared : IsGoing
         comes None named = before.came
         comes (Some went) named = ends_came Uses Ends old.caches c.caches went.dir went.leaves.items (λ r leaf is. named r leaf (ap (λ (d : Ino). Some d) (sym is))) before.came
 
-        stay : (went : Option Going) → IsGoingOrNone c.covers went → AreCached (without_by (dir_going went)) (ended_all c.caches (leaves_going went))
+        stay : (went : Option Going) → IsGoingOrNone c.covers went → AllCachedIn (without_by (dir_going went)) (ended_all c.caches (leaves_going went))
         stay None prepared leaf a is = let cached : IsCachedIn (state_of c) leaf a.frag = before.cached leaf a is in record { live = cached.live; tied = cached.tied; made = cached.made }
         stay (Some went) prepared leaf a is =
             let was = still_held c.caches (leaves_in went.dir went.leaves.items) leaf a is in

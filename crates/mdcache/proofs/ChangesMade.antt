@@ -1,7 +1,7 @@
 -- What a change makes, once its steps are known.
-use Rattle.mdcache.proofs.Common.{AreCached, Bool, Cached, Came, Change, Core, Dirfrag, EndsWith, Going, HasCached, HasNumber, HasRoom, HasSpace, IfSome, Ino, Inode, IsChanged, IsGoingOrNone, IsKeptFor, IsNamedIn, IsRight, IsSound, IsSoundCore, IsThere, KeepsNone, KeepsOnlyAt, Leaf, List, Makes, MayChange, MayGo, MayMove, NewDirectory, None, NoneEnds, Option, Rank, ReadsCore, Rooms, Some, Spot, State, adds, ap, arith, cond, cond_both, count_of, counts_moved, dentry_at, dir_going, directory_at, false, first_leaf, here, home_at, inl, inr, is_dir_kind, is_some, leaf_of, leaves_going, length, made_frag, may_come, may_drop, may_relocate, may_replace, moves, named, one_less, one_more, pinned, refl, removes, root_fragment, rows_but, sets, shown_in, shown_tree, shows, state_of, subst, sym, text_of, texts_going, true, unclean_with, with_directory, with_entry, with_home, with_new, with_pin, without, without_dir, without_entry, ℕ, ◌-◌, ◌<◌, ◌==◌, ◌^◌, ◌∙◌, ◌≡◌}
+use Rattle.mdcache.proofs.Common.{AllCachedIn, Bool, Cached, Came, Change, Core, Dirfrag, EndsWith, Going, HasCached, HasNumber, HasRoom, HasSpace, IfSome, Ino, Inode, IsChangedBy, IsGoingOrNone, IsKeptFor, IsNamedIn, IsRightChange, IsSound, IsSoundCore, IsThere, KeepsNone, KeepsOnlyAt, Leaf, List, Makes, MayChange, MayGo, MayMove, NewDirectory, None, NoneEnds, Option, Rank, ReadsCore, Rooms, Some, Spot, State, adds, ap, arith, cond, cond_both, count_of, counts_moved, dentry_at, dir_going, directory_at, false, first_leaf, here, home_at, inl, inr, is_dir_kind, is_some, leaf_of, leaves_going, length, made_frag, may_come, may_drop, may_relocate, may_replace, moves, named, one_less, one_more, pinned, refl, removes, root_fragment, rows_but, sets, shown_in, shown_tree, shows, state_of, subst, sym, text_of, texts_going, true, unclean_with, with_directory, with_entry, with_home, with_new, with_pin, without_gone_dir, without_dir, without_entry, ℕ, ◌-◌, ◌<◌, ◌==◌, ◌^◌, ◌∙◌, ◌≡◌}
 use Rattle.std.specs.FinMap as map
-use Rattle.mdcache.specs.Core.{moved, with_dir}
+use Rattle.mdcache.specs.Core.{moved_entry, with_dir}
 use Rattle.mdcache.proofs.ChangeLaws.{changes_are_right}
 use Rattle.mdcache.proofs.CoreLaws.{dir_known, reads_state, shows_names}
 use Rattle.mdcache.proofs.ChangeSteps.{HasMade, cached_there, is_gone, is_named, kept_named, left, made_dir, made_first, made_gone, made_named, made_tables, room_left, roomy_there}
@@ -12,14 +12,14 @@ use Rattle.mdcache.proofs.NoneLaws.{none_only, only_none}
 -- all that the steps of a change leave
 pub record IsDone (change : Change) (old new : Core) : Type 0 where
   pub made : Makes change (state_of old) (state_of new)
-  pub right : IsRight change (state_of old) (state_of new)
+  pub right : IsRightChange change (state_of old) (state_of new)
   pub came : Came (IsNamedIn change) (EndsWith change) old.caches new.caches
   pub sound : IsSoundCore new
 
 done : (change : Change) (old new : Core) → IsSound (state_of old) → HasNumber change → MayChange (shown_in old) old.covers change → Makes change (state_of old) (state_of new)
     → HasMade (IsNamedIn change) (EndsWith change) None old new → 0 < new.next_generation → IsDone change old new
 done change old new sound number may made has begun =
-    let right : IsRight change (state_of old) (state_of new) = changes_are_right change (state_of old) (state_of new) sound number may made in
+    let right : IsRightChange change (state_of old) (state_of new) = changes_are_right change (state_of old) (state_of new) sound number may made in
     record {
       made = made;
       right = right;
@@ -34,12 +34,12 @@ not_new clash = cc
 -- ---- after reads
 
 -- what was read for a change before its steps changed nothing else
-pub after_reads : (change : Change) (old mid new : Core) → ReadsCore (IsNamedIn change) NoneEnds old mid → IsDone change mid new → IsChanged change old new
+pub after_reads : (change : Change) (old mid new : Core) → ReadsCore (IsNamedIn change) NoneEnds old mid → IsDone change mid new → IsChangedBy change old new
 after_reads change old mid new reads is =
     let same : state_of mid ≡ state_of old = reads_state (IsNamedIn change) NoneEnds old mid reads in
     record {
       made = subst (λ (s : State). Makes change s (state_of new)) same is.made;
-      right = subst (λ (s : State). IsRight change s (state_of new)) same is.right;
+      right = subst (λ (s : State). IsRightChange change s (state_of new)) same is.right;
       between = mid.caches;
       read = reads.caches;
       came = is.came;
@@ -62,10 +62,10 @@ set_listed c sound spot inode may kinded =
     ∙ ap is_some (sound.sound.tabled.holds.listed (dentry_at spot) may.takes.before may.takes.stands (sym (ap is_dir_kind may.takes.kind) ∙ kinded))
 
 -- before the first step
-first_made : (change : Change) (old : Core) → AreCached (state_of old) old.caches → KeepsNone old.caches → HasMade (IsNamedIn change) (EndsWith change) None old old
+first_made : (change : Change) (old : Core) → AllCachedIn (state_of old) old.caches → KeepsNone old.caches → HasMade (IsNamedIn change) (EndsWith change) None old old
 first_made change old cached none = made_first _ _ None old cached (none_only None old.caches none)
 
-module _ (old new : Core) (sound : IsSound (state_of old)) (begun : 0 < old.next_generation) (cached : AreCached (state_of old) old.caches) (spot : Spot) (room : HasRoom (here old.caches spot.at.rank.0 (leaf_of spot.at))) where
+module _ (old new : Core) (sound : IsSound (state_of old)) (begun : 0 < old.next_generation) (cached : AllCachedIn (state_of old) old.caches) (spot : Spot) (room : HasRoom (here old.caches spot.at.rank.0 (leaf_of spot.at))) where
   abbrev place : Dirfrag
   place = spot.at
 
@@ -134,7 +134,7 @@ module _ (old new : Core) (sound : IsSound (state_of old)) (begun : 0 < old.next
         let before = first_made change old cached none in
         let counts = one_less old.counts place.dir.0 in
         subst (IsDone change old) (sym is) (done change old (left erased counts going stands rooms) sound not_new may
-        (without (state_of erased) (dir_going going), (state_of erased, is_named _ _ None old old before place spot.name None there, refl), is_gone erased counts going stands rooms)
+        (without_gone_dir (state_of erased) (dir_going going), (state_of erased, is_named _ _ None old old before place spot.name None there, refl), is_gone erased counts going stands rooms)
         (made_gone erased counts going stands rooms _ _ old (λ r q is. is) (made_named _ _ None old old before place spot.name None there (refl, refl)) (λ was. subst (λ (k : Core). KeepsNone k.caches) is (stays_none none))) begun)
 
 -- ---- an entry moves
@@ -158,7 +158,7 @@ module _ (old new : Core) (sound : IsSoundCore old) (source target : Spot) (inod
 
   module _ (two : HasCached (here old.caches source.at.rank.0 (leaf_of source.at)) (λ (f : Cached). 1 < f.room)) (one : HasRoom (here old.caches target.at.rank.0 (leaf_of target.at))) (leaves_stand : IsGoingOrNone old.covers going) (rooms : Rooms) where
     pub entry_moved : (name : List ℕ) → name ≡ target.name
-        → new ≡ without_dir (moved old source.at source.name target.at target.name name inode) (dir_going going) (leaves_going going) (texts_going going) rooms → (KeepsNone old.caches → KeepsNone new.caches)
+        → new ≡ without_dir (moved_entry old source.at source.name target.at target.name name inode) (dir_going going) (leaves_going going) (texts_going going) rooms → (KeepsNone old.caches → KeepsNone new.caches)
         → IsDone change old new
     entry_moved name its is none =
         let left_name = named old source.at source.name None in
@@ -171,15 +171,15 @@ module _ (old new : Core) (sound : IsSoundCore old) (source target : Spot) (inod
         (λ leaf live. record { known = moved_known old.homes old.covers sound.sound.table (dentry_at target) inode (relocates (state_of old) sound.sound source target inode (dir_going going) may) leaf.0.0 ∙ live.known; stands = live.stands }) in
         let there_second = roomy_there _ (room_left old.caches source.at.rank.0 target.at.rank.0 (leaf_of source.at) (leaf_of target.at) source.name (record { version = old.next_version; inode = None }) two one) in
         let named = is_named _ _ None old housed housed_made target.at target.name (Some inode) there_second in
-        let now : new ≡ left came_name counts going leaves_stand rooms = is ∙ ap (λ (n : List ℕ). without_dir (moved old source.at source.name target.at target.name n inode) (dir_going going) (leaves_going going) (texts_going going) rooms) its in
+        let now : new ≡ left came_name counts going leaves_stand rooms = is ∙ ap (λ (n : List ℕ). without_dir (moved_entry old source.at source.name target.at target.name n inode) (dir_going going) (leaves_going going) (texts_going going) rooms) its in
         subst (IsDone change old) (sym now) (done change old (left came_name counts going leaves_stand rooms) sound.sound not_new may (
-          without (state_of came_name) (dir_going going),
+          without_gone_dir (state_of came_name) (dir_going going),
           (
             state_of left_name,
             is_named _ _ None old old before source.at source.name None there_first,
             (record (state_of came_name) { homes = old.homes }, record { before = named.before; stands = named.stands; left = λ i. record (named.left i) { homes = old.homes } }, refl),
           ),
-          is_gone came_name counts going leaves_stand rooms ∙ ap (λ (b : Bool). record (without (state_of came_name) (dir_going going)) {
+          is_gone came_name counts going leaves_stand rooms ∙ ap (λ (b : Bool). record (without_gone_dir (state_of came_name) (dir_going going)) {
             counts = rows_but (counts_moved old.counts source.at.dir.0 target.at.dir.0 b) (dir_going going);
             pins = rows_but old.pins (dir_going going);
           }) (stands_at_target one),

@@ -1,5 +1,5 @@
 -- The names of the objects of children, one by one.
-use Rattle.mdcache.proofs.Common.{Contains, Contains-append_left, Contains-push, Contains-push_cases, Fragment, Ino, List, NameChildren, [], ap, arith, below_or_it, child_of, each, inl, inr, refl, subst, sym, text_of, ℕ, ◌++◌, ◌+◌, ◌<◌, ◌^◌, ◌∙◌, ◌∷◌, ◌≡◌, ◌≤◌, ◌⊎◌}
+use Rattle.mdcache.proofs.Common.{Contains, Contains-append_left, Contains-push, Contains-push_cases, Fragment, Ino, List, NameChildren, [], ap, arith, below_or_it, child_of, inl, inr, subst, sym, text_of, ℕ, ◌++◌, ◌+◌, ◌<◌, ◌^◌, ◌∙◌, ◌∷◌, ◌≡◌, ◌≤◌, ◌⊎◌}
 
 -- these name the objects of the first children
 pub record NameFirst (dir : Ino) (frag : Fragment) (nb n : ℕ) (texts : List (List ℕ)) : Type 0 where

@@ -1,5 +1,5 @@
 -- Commits of whole fragments, one after the other.
-use Rattle.mdcache.proofs.Common.{Base, Bool, CommitsWhole, Ends, Err, HasSpelled, IsAsItWas, IsAtHand, IsEnded, IsLive, IsSound, IsWritten, Job, Jobs, LacksNumbers, Leaf, List, MayNotCommit, None, Ok, Refusal, Result, Some, State, Unsaved, UnsavedLeaves, ap, arith, cond, false, get_beside, inl, inr, len-empty, names_at, names_then, next_version, object_of, refl, rules, same_Some, shown_at, shown_over, subst, sym, text_of, true, ℕ, ⊎_elim, ◌+◌, ◌<◌, ◌∙◌, ◌≡◌, ◌⊎◌}
+use Rattle.mdcache.proofs.Common.{Base, Bool, CommitsWhole, EndsJobOf, Err, HasSpelled, IsAsItWas, IsAtHand, IsEnded, IsLive, IsSound, IsWritten, Job, Jobs, LacksNumbers, Leaf, List, MayNotCommit, None, Ok, Refusal, Result, Some, State, Unsaved, UnsavedLeaves, ap, arith, cond, false, get_beside, inl, inr, len-empty, names_at, names_then, next_version, object_of, refl, same_Some, shown_at, shown_over, subst, sym, text_of, true, ℕ, ⊎_elim, ◌+◌, ◌<◌, ◌∙◌, ◌≡◌, ◌⊎◌}
 use Rattle.std.specs.FinMap as map
 use Rattle.mds_types.proofs.LeafLaws.{get_left, get_removed, same_or_apart}
 use Rattle.objstore.specs.Objects.{written}
@@ -85,7 +85,7 @@ module _ (now new : State) (job : Job) (sound : IsSound now) (hand : IsAtHand no
   }
 
 -- done or not
-pub ends_whole : (now new : State) (before after : ℕ) (job : Job) → IsSound now → IsAtHand now job → (result : Result (Unit {0}) Refusal) → Ends now new before after job result → CommitsWhole now new
+pub ends_whole : (now new : State) (before after : ℕ) (job : Job) → IsSound now → IsAtHand now job → (result : Result (Unit {0}) Refusal) → EndsJobOf now new before after job result → CommitsWhole now new
 ends_whole now new before after job sound hand (Ok done) ended = ended_whole now new job sound hand ended
 ends_whole now new before after job sound hand (Err reason) refused = subst (CommitsWhole now) (sym refused.1) (given_up_whole now now _ _ refl)
 

@@ -82,22 +82,22 @@ pub use Rattle.inode_table.specs.Order.{trees_after}
 pub use Rattle.inode_table.specs.TreeChanges.{KeepLeaves, MayAdd, MayRemove, MaySet}
 pub use Rattle.inode_table.specs.TreeTable.{IsCounted, IsTabled, counts_moved, home_at, with_count, with_home, with_pin, without_cover, without_home, without_row}
 pub use Rattle.inode_table.specs.declared.dirs.Home.{Home}
-pub use Rattle.mdcache.specs.Batches.{AreApart, CommitsWhole, IsAsItWas, IsBegunAt, IsReadied, IsReadyAt, IsUncleanAt, IsWritten, MayNotBeginAll, MayNotBeginOne, MayNotCommit, NotAmong, leaves_at, leaves_of_jobs, leaves_of_writes, ready_of}
-pub use Rattle.mdcache.specs.CacheReads.{IsNewest, LacksPlacesIn}
-pub use Rattle.mdcache.specs.Changes.{Alters, IsAsItStands, IsNamed, Makes, PutsThen, TakesThen, dirtied, first_leaf, housed, just_made, noted, objects_of, with_directory, with_home_at, with_name, with_new, with_objects, without, without_directory, without_leaves}
-pub use Rattle.mdcache.specs.Changing.{ChangesTree, IsChanged}
-pub use Rattle.mdcache.specs.Commits.{Begins, BeginsWith, Drops, Ends, HasSpelled, IsAtEnd, IsDropped, IsEnded, MayNotBegin, committed, job_for, names_then, stored_with, with_job}
-pub use Rattle.mdcache.specs.Core.{AreCached, Core, IsCachedIn, IsJobOf, IsNoLess, IsSoundCore, LacksPlacesAt, MayFetch, ReadsCore, Rooms, made_frag, named, pinned, shown_in, shows, shows_in, state_of, used_core, with_entry, with_job_in, without_dir, without_entry, without_frags}
+pub use Rattle.mdcache.specs.Batches.{AreOfOtherLeaves, CommitsWhole, IsAsItWas, IsBegunAt, IsReadied, IsReadyWrite, IsUncleanAt, IsWritten, MayNotBeginAll, MayNotBeginOne, MayNotCommit, NotAmong, leaves_at, leaves_of_jobs, leaves_of_writes, ready_of}
+pub use Rattle.mdcache.specs.CacheReads.{IsNewestOf, LacksPlacesIn}
+pub use Rattle.mdcache.specs.Changes.{Alters, IsAsItStands, IsNamed, Makes, PutsThen, TakesThen, dirtied, first_leaf, housed, just_made, noted_change, object_texts_of, with_directory, with_home_at, with_name, with_new, with_objects, without_gone_dir, without_directory, without_leaves}
+pub use Rattle.mdcache.specs.Changing.{ChangesTree, IsChangedBy}
+pub use Rattle.mdcache.specs.Commits.{Begins, BeginsUnsaved, Drops, EndsJobOf, HasSpelled, IsAtEnd, IsDropped, IsEnded, MayNotBeginJob, committed, job_for, names_then, stored_with, with_job}
+pub use Rattle.mdcache.specs.Core.{AllCachedIn, Core, IsCachedIn, IsJobOf, IsNoLess, IsSoundCore, LacksPlacesAt, MayFetch, ReadsCore, Rooms, made_frag, named, pinned, shown_in, shows, shows_in, state_of, used_core, with_entry, with_job_in, without_dir, without_entry, without_frags}
 pub use Rattle.mdcache.specs.Flushed.{AreExact, ArePurged, BegunAreAtHand, BegunLeaveAtHand, EndedAreClean, FlushedIsCold, HasFragment, IsAtHand, IsFlushed, KeepsTree, OthersStayAtHand, PurgedAreExact, PurgedAreFlushed, StepsKeepTree}
 pub use Rattle.mdcache.specs.Frags.{KeepsState}
 pub use Rattle.mdcache.specs.Given.{GivenOverIsRight, HaveNoJobs, IsGivenOver}
 pub use Rattle.mdcache.specs.Going.{IsGoingOrNone, dir_going, leaves_going, leaves_in, rows_but, texts_going, texts_in}
 pub use Rattle.mdcache.specs.Joining.{HasJoined, IsAmong, IsAmongOr, name_joined}
-pub use Rattle.mdcache.specs.Made.{ChangesAreRight, HasNumber, IsRight, IsUntouched, StaysAsItIs}
-pub use Rattle.mdcache.specs.Mounted.{AreNumbers, IsMounted, IsNew, mounted}
-pub use Rattle.mdcache.specs.New.{cached_root, new_caches, new_root, new_state, root_leaf}
+pub use Rattle.mdcache.specs.Made.{ChangesAreRight, HasNumber, IsRightChange, IsUntouched, StaysAsItIs}
+pub use Rattle.mdcache.specs.Mounted.{AreNumbers, IsMounted, IsNewTree, mounted}
+pub use Rattle.mdcache.specs.New.{cached_root, new_caches, new_root, new_tree_state, root_leaf}
 pub use Rattle.mdcache.specs.Objects.{Purges, PurgesName, SavesTree, purged, tree_object, tree_saved, with_tree_at}
-pub use Rattle.mdcache.specs.Pages.{Gathered, IsBeyond, IsPageOf, Takes, gathered}
+pub use Rattle.mdcache.specs.Pages.{Gathered, IsBeyond, IsPageOf, TakesRow, rows_gathered}
 pub use Rattle.mdcache.specs.PurgeList.{Listed, first_name}
 pub use Rattle.mdcache.specs.Ranks.{EndsWith, IsNamedIn, KeepsOnlyAt, MayHold}
 pub use Rattle.mdcache.specs.Reads.{MayNotFind, has_none}
@@ -106,10 +106,10 @@ pub use Rattle.mdcache.specs.Regrouping.{IsJoined, IsMergeReady, IsSplitReady, e
 pub use Rattle.mdcache.specs.Regroups.{LacksCounts, MayNotRegroup}
 pub use Rattle.mdcache.specs.SavedTrees.{HasTree, HasTrees, IsAsBefore, SavesTrees}
 pub use Rattle.mdcache.specs.Shown.{directories, entries_in, entries_of, entries_under, names_of, shown_at, shown_tree}
-pub use Rattle.mdcache.specs.Sound.{AreYoung, IsOf, IsOwned, IsSound, IsStanding, IsUnsaved}
+pub use Rattle.mdcache.specs.Sound.{AreYoung, IsOf, IsOwned, IsSound, IsStandingJob, IsUnsaved}
 pub use Rattle.mdcache.specs.Splits.{Comes, HasUnsaved, IsConcerned, IsListedAnew, IsMergedInto, IsNewLeaf, IsRegrouped, IsSplitInto, MergesAreRight, NameChildren, SplitsAreRight, are_empty, regrouped, without_objects}
 pub use Rattle.mdcache.specs.SplitsAndMerges.{merged_leaves}
-pub use Rattle.mdcache.specs.StandingJobs.{Finds, IsNext, Jobs, NoneHasNumber, Standing, is_behind}
+pub use Rattle.mdcache.specs.StandingJobs.{Finds, IsNextJob, Jobs, NoneHasNumber, JobTable, is_behind}
 pub use Rattle.mdcache.specs.State.{IsLive, State, UnsavedLeaves, text_of, tree_text}
 pub use Rattle.mdcache.specs.declared.batches.Begun.{Begun}
 pub use Rattle.mdcache.specs.declared.batches.Ready.{Ready}

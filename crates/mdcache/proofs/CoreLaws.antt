@@ -1,5 +1,5 @@
 -- What reads and preparations leave of the tree over caches and a store, and what they find.
-use Rattle.mdcache.proofs.Common.{AreCached, At, Base, CacheMap, Cached, Came, Core, Counts, Covers, Dentry, DirPins, Dirfrag, Edits, Err, Fragment, Fresh, HasCached, Homes, IfErr, IfErr-weaker, IfOk, IfOk-weaker, Ino, Inode, IsButRoom, IsCachedIn, IsFree, IsLive, IsNoLess, IsPick, IsSaved, IsSound, IsSoundCore, IsThat, IsThere, IsTiedAt, KeepsNone, KeepsState, Keys, LacksPlacesIn, Leaf, List, Loads, MayFetch, MayHold, MayNotBeReady, MayNotFind, Names, None, NoneEnds, Objects, Ok, Omap, OnErr, OnOk, Option, Reads, ReadsCore, Refusal, Result, Rooms, Some, State, Stored, UnsavedLeaves, ap, arith, at, came_cap, came_ranks, edits_reads, faults_told, fetched_are_tied, get_unclean, hash_of, here, here_is, inl, inr, is_directory, is_known, is_some, it_stays, known_is, leaf_of, leaves_of, length, object_of, reads_came, reads_held, reads_then, reads_unclean, reads_weaker, refl, rules, shown, shown_at, shown_in, shows, shows_in, state_of, subst, suc, sym, true, unclean, unsaved_at, used_at, used_reads, zero, ℕ, ⊎_elim, ◌+◌, ◌<◌, ◌∙◌, ◌≡◌, ◌≤◌, ◌⊎◌}
+use Rattle.mdcache.proofs.Common.{AllCachedIn, At, Base, CacheMap, Cached, Came, Core, Counts, Covers, Dentry, DirPins, Dirfrag, Edits, Fragment, HasCached, Homes, IfErr, IfErr-weaker, IfOk, IfOk-weaker, Ino, Inode, IsButRoom, IsCachedIn, IsFree, IsLive, IsNoLess, IsPick, IsSaved, IsSound, IsSoundCore, IsThat, IsThere, IsTiedAt, KeepsNone, KeepsState, Keys, LacksPlacesIn, Leaf, List, Loads, MayFetch, MayHold, MayNotBeReady, MayNotFind, Names, None, NoneEnds, Objects, Omap, OnErr, OnOk, Option, Reads, ReadsCore, Refusal, Result, Rooms, Some, State, UnsavedLeaves, ap, arith, at, came_cap, came_ranks, edits_reads, faults_told, fetched_are_tied, get_unclean, hash_of, here, here_is, inl, inr, is_directory, is_known, is_some, it_stays, known_is, leaf_of, leaves_of, length, object_of, reads_came, reads_held, reads_then, reads_unclean, reads_weaker, refl, rules, shown, shown_at, shown_in, shows, shows_in, state_of, subst, sym, true, unclean, unsaved_at, used_at, used_reads, ℕ, ⊎_elim, ◌+◌, ◌<◌, ◌∙◌, ◌≡◌, ◌≤◌, ◌⊎◌}
 use Rattle.std.specs.FinMap as map
 use Rattle.mdcache.specs.Shown.{names_of}
 pub use Rattle.std.proofs.lemmas.Result.{on_ok_weaker as on_ok}
@@ -132,7 +132,7 @@ reads_core_wider Few Many FewEnd ManyEnd old new more more_end reads =
 -- ---- what a sound core tells
 
 -- a cached fragment shows the names of its leaf
-pub shows_so : (c : Core) → AreCached (state_of c) c.caches → (r : ℕ) (leaf : Leaf) (f : Cached) → here c.caches r leaf ≡ Some f → names_of (unclean c.caches) c.objects leaf ≡ shown f
+pub shows_so : (c : Core) → AllCachedIn (state_of c) c.caches → (r : ℕ) (leaf : Leaf) (f : Cached) → here c.caches r leaf ≡ Some f → names_of (unclean c.caches) c.objects leaf ≡ shown f
 unfolding names_of
 shows_so c cached r leaf f there =
     let held : map.get c.caches.held leaf ≡ Some (at r f) = here_is r (map.get c.caches.held leaf) f there in

@@ -1,5 +1,5 @@
 -- Refusals that are no fault of a store: a call that is refused so tells none.
-use Rattle.mdcache.proofs.Common.{BadSplit, Begins, Damaged, Err, Frozen, Homes, IfErr, InboxEmpty, InboxFull, Ino, Job, JobOutstanding, LacksCounts, Leaf, MayNotBeReady, MayNotBegin, MayNotRegroup, NoInodes, NoMemory, NoSuchFrag, NotAuthority, NotClean, NothingToEvict, Ok, Option, Pinned, Refusal, RefusesLeaves, Result, StaleJob, State, StoreFault, TooManyFrags, Trimmed, WrongExportState, ap, arith, faults_in, faults_told, inl, inr, refl, result_err, rules, subst, ℕ, ◌∙◌, ◌≡◌}
+use Rattle.mdcache.proofs.Common.{Begins, Homes, Ino, Job, Leaf, MayNotBeginJob, MayNotRegroup, Option, Refusal, RefusesLeaves, Result, State, StoreFault, faults_in, faults_told, refl, result_err, rules, ℕ, ◌≡◌}
 
 -- each refusal but one is no fault
 pub free : (reason : Refusal) → (reason ≡ StoreFault → ⊥) → faults_in reason ≡ 0
@@ -17,7 +17,7 @@ pub regroup_free : (Can : Type 0) (Refuses : Refusal → Type 0) → (Refuses St
 regroup_free Can Refuses never s dir count NoPlace n reason is = search (rules, free)
 
 -- no commit begins
-begin_free : (s : State) (leaf : Leaf) (reason : Refusal) → MayNotBegin s leaf reason → faults_in reason ≡ 0
+begin_free : (s : State) (leaf : Leaf) (reason : Refusal) → MayNotBeginJob s leaf reason → faults_in reason ≡ 0
 begin_free s leaf reason is = search (rules, free)
 
 pub begun_free : (old new : State) (leaf : Leaf) (result : Result (Option Job) Refusal) → Begins old new leaf result

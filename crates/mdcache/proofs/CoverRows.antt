@@ -1,5 +1,5 @@
 -- The rows of leaves: which directories have one, and what a change leaves of them.
-use Rattle.mdcache.proofs.Common.{Covers, Fragment, Homes, IsTable, List, None, Option, Some, ap, arith, inl, inr, is_known, is_some, leaves_of, length, or_whole, refl, rules, same_or_apart, true, ℕ, ◌<◌, ◌∙◌, ◌≡◌, ◌⊎◌}
+use Rattle.mdcache.proofs.Common.{Covers, Fragment, Homes, IsTable, List, ap, inl, inr, is_known, is_some, leaves_of, length, rules, same_or_apart, true, ℕ, ◌<◌, ◌∙◌, ◌≡◌, ◌⊎◌}
 use Rattle.std.specs.FinMap as map
 use Rattle.sorted_map.proofs.NatKeys.{get_beside, get_left, get_put}
 

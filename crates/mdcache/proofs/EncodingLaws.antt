@@ -1,5 +1,5 @@
 -- Writes that are made side by side: what the results are of each job, and what is collected of them.
-use Rattle.mdcache.proofs.Common.{AllZip, Begun, Contains, Err, IfErr, IfOk, IsReadied, IsSomeAnd, List, MatchOption, MatchResult, NoMemory, None, Ok, Ready, Refusal, Result, Some, Vec, [], length, list_map, ready_of, refl, rules, slice_get, slice_get_read, subst, sym, ◌∙◌, ◌∷◌, ◌≡◌}
+use Rattle.mdcache.proofs.Common.{AllZip, Begun, Contains, Err, IfErr, IfOk, IsReadied, IsSomeAnd, List, MatchOption, MatchResult, NoMemory, None, Ok, Ready, Refusal, Result, Some, Vec, [], length, list_map, ready_of, refl, rules, slice_get, slice_get_read, subst, sym, ◌∷◌, ◌≡◌}
 use Rattle.std.proofs.lemmas.Slice.Zip.{AllZip-right}
 
 abbrev Results : Type 0

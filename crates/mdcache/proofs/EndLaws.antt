@@ -1,5 +1,5 @@
 -- What the end of a commit keeps.
-use Rattle.mdcache.proofs.Common.{AreCached, AreYoung, At, Base, Bool, CacheMap, Cached, Commits, Core, Fresh, HasSpelled, IsCachedIn, IsCommitted, IsCounted, IsEnded, IsFree, IsFreeFor, IsLive, IsOf, IsSaved, IsSound, IsSoundCore, IsStanding, IsTabled, IsThere, IsTied, IsUnsaved, Job, Keeps, Leaf, Marks, Names, None, Omap, Option, Some, State, Stored, Unsaved, ap, arith, at, at_rank, committed, committed_are_tied, cond, cond_both, empty_of_len, eqb-true, false, get-unsettled, get_beside, get_put, get_unclean, get_with_frag, here_is, inl, is_clean, is_clean_over, is_same, is_settled, is_some, key_or_apart, leaf_is, leaf_itself, leaf_or_apart, names_at, names_then, next_version, none_entries, not, object_after, object_of, refl, rules, same_Some, same_leaf, shown, shown_at, shown_over, shown_tree, spells_what_it_shows, state_of, subst, sym, text_of, tied_show, true, unclean, unclean_with, unsaved_at, unsaved_here_at, unsaved_in, unsaved_of, unsettled, with_frag, with_marks, with_unsaved, ℕ, ⊎_elim, ◌<◌, ◌==◌, ◌∙◌, ◌≡◌}
+use Rattle.mdcache.proofs.Common.{AllCachedIn, AreYoung, At, Base, Bool, CacheMap, Cached, Commits, Core, Fresh, HasSpelled, IsCachedIn, IsCommitted, IsCounted, IsEnded, IsFree, IsFreeFor, IsLive, IsOf, IsSaved, IsSound, IsSoundCore, IsStandingJob, IsTabled, IsThere, IsTied, IsUnsaved, Job, Keeps, Leaf, Marks, Names, None, Omap, Option, Some, State, Stored, Unsaved, ap, arith, at, at_rank, committed, committed_are_tied, cond, cond_both, empty_of_len, eqb-true, false, get-unsettled, get_beside, get_put, get_unclean, get_with_frag, here_is, inl, is_clean, is_clean_over, is_same, is_settled, is_some, key_or_apart, leaf_is, leaf_itself, leaf_or_apart, names_at, names_then, next_version, none_entries, not, object_after, object_of, refl, rules, same_Some, same_leaf, shown, shown_at, shown_over, shown_tree, spells_what_it_shows, state_of, subst, sym, text_of, tied_show, true, unclean, unclean_with, unsaved_at, unsaved_here_at, unsaved_in, unsaved_of, unsettled, with_frag, with_marks, with_unsaved, ℕ, ⊎_elim, ◌<◌, ◌==◌, ◌∙◌, ◌≡◌}
 use Rattle.std.specs.FinMap as map
 use Rattle.mds_types.proofs.LeafLaws.{get_removed}
 use Rattle.objstore.specs.Objects.{written}
@@ -61,7 +61,7 @@ module _ (c : Core) (r : ℕ) (job : Job) (kept : IsSoundCore c) (stood : map.ge
   abbrev here : Omap
   here = object_after job.snapshot object
 
-  abbrev stands : IsStanding s leaf job
+  abbrev stands : IsStandingJob s leaf job
   stands = kept.sound.standing leaf job stood
 
   abbrev u : Unsaved
@@ -179,7 +179,7 @@ module _ (c : Core) (r : ℕ) (job : Job) (kept : IsSoundCore c) (stood : map.ge
     once = λ a b i j p q same. kept.sound.once a b i j (stood_before s leaf a i p) (stood_before s leaf b j q) same;
   }
 
-  pub ended_cached : AreCached t (with_frag c.caches r leaf now)
+  pub ended_cached : AllCachedIn t (with_frag c.caches r leaf now)
   ended_cached q a is = ⊎_elim (λ same.
       let now_is : at r now ≡ a = same_Some (at r now) a (sym (get_with_frag c.caches r leaf now q ∙ ap (λ (b : Bool). cond b (Some (at r now)) (map.get c.caches.held q)) (same_leaf q leaf same)) ∙ is) in
       let given = (kept.cached leaf (at r f) held).made in

@@ -1,5 +1,5 @@
 -- What the end of a commit leaves, done or refused.
-use Rattle.mdcache.proofs.Common.{AreCached, CacheMap, Cached, Came, Core, Edits, Ends, Err, IsCommitted, IsEnded, IsFreeFor, IsSound, IsSoundCore, IsThat, IsThere, Job, Jobs, KeepsNone, Leaf, MayRefuse, NoneEnds, Objects, Ok, Refusal, Result, Rooms, Some, State, WriteOp, ap, by_edits, edits_unclean, has, here, here_is, inr, is_some, leaf_text, refl, state_of, stays, subst, sym, unsaved_in, with_frag, write_of, written, ℕ, ◌∙◌, ◌≡◌}
+use Rattle.mdcache.proofs.Common.{AllCachedIn, CacheMap, Cached, Came, Core, Edits, EndsJobOf, Err, IsCommitted, IsEnded, IsFreeFor, IsSound, IsSoundCore, IsThat, IsThere, Job, Jobs, KeepsNone, Leaf, MayRefuse, NoneEnds, Objects, Ok, Refusal, Result, Rooms, Some, State, WriteOp, ap, by_edits, edits_unclean, has, here, here_is, inr, is_some, leaf_text, refl, state_of, stays, subst, sym, unsaved_in, with_frag, write_of, written, ℕ, ◌∙◌, ◌≡◌}
 use Rattle.std.specs.FinMap as map
 use Rattle.mdcache.specs.Commits.{leaf_of}
 use Rattle.mdcache.proofs.CoreLaws.{cached_but}
@@ -9,7 +9,7 @@ use Rattle.mdcache.proofs.PutLaws.{cached_with}
 
 -- what the end of a commit leaves, or its refusal
 pub record HasEnded (old new : Core) (r after : ℕ) (job : Job) (result : Result (Unit {0}) Refusal) : Type 0 where
-  pub ended : Ends (state_of old) (state_of new) old.faults after job result
+  pub ended : EndsJobOf (state_of old) (state_of new) old.faults after job result
   pub came : Came (IsThat r (leaf_of job)) NoneEnds old.caches new.caches
   pub sound : IsSoundCore new
 
@@ -53,7 +53,7 @@ module _ (old view : Core) (is : view ≡ old) (sound : IsSoundCore old) (r : �
       sound = record {
         sound = subst IsSound (sym left_view) now_sound.sound;
         begun = now_sound.begun;
-        cached = subst (λ (s : State). AreCached s caches) (sym left_view) (by_edits r leaf (λ (f then : Cached). then ≡ record f { places = then.places }) view.caches caches edits (AreCached (state_of view))
+        cached = subst (λ (s : State). AllCachedIn s caches) (sym left_view) (by_edits r leaf (λ (f then : Cached). then ≡ record f { places = then.places }) view.caches caches edits (AllCachedIn (state_of view))
             (λ f then seen change. cached_with (state_of view) view.caches r leaf then now_sound.cached (cached_but (state_of view) leaf f then (change ∙ (λ i. record f { room = sym (ap (λ (k : Cached). k.room) change) i; places = then.places }))
             (now_sound.cached leaf (record { rank = r; frag = f }) (here_is r (map.get view.caches.held leaf) f seen)))));
         none = (edited (λ (f then : Cached). then ≡ record f { places = then.places }) caches edits).1;
@@ -68,7 +68,7 @@ module _ (old view : Core) (is : view ≡ old) (sound : IsSoundCore old) (r : �
 
     -- it ended, and the state is sound then, with its caches
     abbrev IsDone : State → CacheMap → Type 0
-    IsDone s k = IsEnded (state_of view) s job × IsSound s × AreCached s k
+    IsDone s k = IsEnded (state_of view) s job × IsSound s × AllCachedIn s k
 
     done : IsDone (state_of (with_caches caches)) caches
     done = by_edits r leaf (IsCommitted job.snapshot) view.caches caches settled (λ (k : CacheMap). IsDone (state_of (with_caches k)) k) (λ f now seen change.

@@ -1,5 +1,5 @@
 -- A fetch of a leaf: what it leaves, and why it is refused.
-use Rattle.mdcache.proofs.Common.{AreCaches, Bool, CacheMap, Core, Dirfrag, Err, FetchesAt, Fragment, IfErr, IsAbsent, IsNewest, IsSaved, IsThere, KeepsNone, LacksPlacesIn, Leaf, List, Loads, MakesRoomAt, MayFetch, MayNotFetchAt, MayNotFind, None, NoneEnds, Objects, Ok, Omap, OnErr, OnOk, Option, Reads, ReadsCore, Refusal, Result, Some, StaysNamed, [], ap, arith, at, at_rank, cond, false, false_from_ne_true, faults_told, fetched_reads, first, get_or-set_same, get_unclean, get_with_frag, has_place, here, inl, inr, it_stays, leaf_is, leaf_of, length, object_of, one_leaf, order, ranks_roomy, refl, result_err, room_reads, roomy, roomy_stays, rules, slice_get, staying, subst, sym, true, unsaved_at, used_at, ℕ, ⊎_elim, ◌+◌, ◌<◌, ◌∙◌, ◌≡◌}
+use Rattle.mdcache.proofs.Common.{AreCaches, Bool, CacheMap, Core, Dirfrag, Err, FetchesAt, Fragment, IfErr, IsAbsent, IsNewestOf, IsSaved, IsThere, KeepsNone, LacksPlacesIn, Leaf, List, Loads, MakesRoomAt, MayFetch, MayNotFetchAt, MayNotFind, None, NoneEnds, Objects, Ok, Omap, OnErr, OnOk, Option, Reads, ReadsCore, Refusal, Result, Some, StaysNamed, [], ap, arith, at, at_rank, cond, false, false_from_ne_true, faults_told, fetched_reads, first, get_or-set_same, get_unclean, get_with_frag, has_place, here, inl, inr, it_stays, leaf_is, leaf_of, length, object_of, one_leaf, order, ranks_roomy, refl, result_err, room_reads, roomy, roomy_stays, rules, slice_get, staying, subst, sym, true, unsaved_at, used_at, ℕ, ⊎_elim, ◌+◌, ◌<◌, ◌∙◌, ◌≡◌}
 use Rattle.std.specs.FinMap as map
 use Rattle.mdcache.proofs.CoreLaws.{first_step, no_less_itself}
 use Rattle.mdcache.proofs.NoneLaws.{none_fetched, none_room}
@@ -10,19 +10,19 @@ not_damaged : (f : Fragment) (o : Option Omap) → IsSaved f o → Loads f o Non
 not_damaged f o saved loads = search rules
 
 -- what is used comes to the front of its rank's order
-pub newest_used : (c : CacheMap) (r : ℕ) (leaf : Leaf) → r < length c.used → IsNewest (used_at c r leaf) r leaf
+pub newest_used : (c : CacheMap) (r : ℕ) (leaf : Leaf) → r < length c.used → IsNewestOf (used_at c r leaf) r leaf
 newest_used c r leaf there = ap (λ (ls : List Leaf). slice_get ls 0) (get_or-set_same c.used r (first leaf (order c r)) [] there)
 
-newest_fetched : (c new : CacheMap) (r : ℕ) (leaf : Leaf) (stay : Option Leaf) (object : Option Omap) (b : Bool) → r < length c.used → FetchesAt r leaf stay object b c new → IsNewest new r leaf
-newest_fetched c new r leaf stay object true there is = subst (λ (k : CacheMap). IsNewest k r leaf) (sym is) (newest_used c r leaf there)
+newest_fetched : (c new : CacheMap) (r : ℕ) (leaf : Leaf) (stay : Option Leaf) (object : Option Omap) (b : Bool) → r < length c.used → FetchesAt r leaf stay object b c new → IsNewestOf new r leaf
+newest_fetched c new r leaf stay object true there is = subst (λ (k : CacheMap). IsNewestOf k r leaf) (sym is) (newest_used c r leaf there)
 newest_fetched c new r leaf stay object false there f =
-    subst (λ (k : CacheMap). IsNewest k r leaf) (sym f.5) (newest_used f.3 r leaf (subst (λ (n : ℕ). r < n) (sym (ranks_roomy c f.3 r stay f.4)) there))
+    subst (λ (k : CacheMap). IsNewestOf k r leaf) (sym f.5) (newest_used f.3 r leaf (subst (λ (n : ℕ). r < n) (sym (ranks_roomy c f.3 r stay f.4)) there))
 
 -- what a fetch leaves, and why it is refused
 pub record IsFetched (Uses : ℕ → Leaf → Type 0) (a : Dirfrag) (stay : Option Leaf) (result : Result (Unit {0}) Refusal) (old new : Core) : Type 0 where
   pub reads : ReadsCore Uses NoneEnds old new
   pub none : KeepsNone new.caches
-  pub newest : OnOk result (IsNewest new.caches a.rank.0 (leaf_of a))
+  pub newest : OnOk result (IsNewestOf new.caches a.rank.0 (leaf_of a))
   -- the one to stay is where it was, as it was
   pub stays : (r : ℕ) (one : Leaf) → stay ≡ Some one → IsThere (here old.caches r one) → here new.caches r one ≡ here old.caches r one
   pub refused : IfErr result (MayNotFind (LacksPlacesIn (1 + staying stay) old.caches a.rank.0) old.faults new.faults)

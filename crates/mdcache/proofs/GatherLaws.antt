@@ -1,5 +1,5 @@
--- The names that are gathered from all leaves of a directory are those that the shown tree lists.
-use Rattle.mdcache.proofs.Common.{Contains, Fragment, Gathered, Ino, Inode, IsPageOf, IsPick, IsSound, List, Names, None, Option, Row, Some, State, T, [], ap, arith, cond, dentry_of, entries_sorted, eq_by_cmp, exact_bytes, false, find-put, find-where_key, gathered, get-entries, hash_of, inl, inr, is_after, is_known, is_sorted-put, is_sorted-where_key, key_cmp, key_tied, leaves_of, left_of, names_after, names_are_listed, names_of, nat_list_cmp_total, none_either, not_found, option_or, put, puts, refl, right_of, rows_after, same_entries, shown_tree, some_pick, subst, suc, sym, tree_of_row, true, zero, ℕ, ⊎_elim, ◌∙◌, ◌∷◌, ◌≡◌, ◌⊎◌}
+-- The names that are rows_gathered from all leaves of a directory are those that the shown tree lists.
+use Rattle.mdcache.proofs.Common.{Contains, Fragment, Gathered, Ino, Inode, IsPageOf, IsPick, IsSound, List, Names, None, Option, Row, Some, State, T, [], ap, arith, cond, dentry_of, entries_sorted, eq_by_cmp, exact_bytes, false, find-put, find-where_key, rows_gathered, get-entries, hash_of, inl, inr, is_after, is_known, is_sorted-put, is_sorted-where_key, key_cmp, key_tied, leaves_of, left_of, names_after, names_are_listed, names_of, nat_list_cmp_total, none_either, not_found, option_or, put, puts, refl, right_of, rows_after, same_entries, shown_tree, some_pick, subst, suc, sym, tree_of_row, true, zero, ℕ, ⊎_elim, ◌∙◌, ◌∷◌, ◌≡◌, ◌⊎◌}
 use Rattle.std.specs.FinMap as map
 use Rattle.std.specs.FinMap.Entries.{find, is_sorted}
 use Rattle.fragtree.proofs.TreeLaws.{first as first_has, later as later_has}
@@ -31,7 +31,7 @@ module _ (names : Fragment → Names) (after : Option (List ℕ)) where
   abbrev rows : Fragment → List Row
   rows f = rows_after after (map.entries (names f))
 
-  gathered_sorted : (es : List Row) (fs : List Fragment) → T (is_sorted key_cmp es) → T (is_sorted key_cmp (gathered names after es fs))
+  gathered_sorted : (es : List Row) (fs : List Fragment) → T (is_sorted key_cmp es) → T (is_sorted key_cmp (rows_gathered names after es fs))
   gathered_sorted es [] sorted = sorted
   gathered_sorted es (f ∷ fs) sorted = gathered_sorted (puts key_cmp es (rows f)) fs (puts_sorted es (rows f) sorted)
 
@@ -55,7 +55,7 @@ module _ (names : Fragment → Names) (after : Option (List ℕ)) where
 
     -- what is found stays, and what one leaf has is found
     found : (es : List Row) (fs : List Fragment) → ((f : Fragment) → Contains fs f → Tells v (find key_cmp q (rows f))) → Tells v (find key_cmp q es)
-        → (find key_cmp q es ≡ v) ⊎ ((at : Fragment) × Contains fs at × (find key_cmp q (rows at) ≡ v)) → find key_cmp q (gathered names after es fs) ≡ v
+        → (find key_cmp q es ≡ v) ⊎ ((at : Fragment) × Contains fs at × (find key_cmp q (rows at) ≡ v)) → find key_cmp q (rows_gathered names after es fs) ≡ v
     found es [] each told (inl is) = is
     found es [] each told (inr (at, (k, within, there), is)) = absurd (omega (arith, within))
     found es (f ∷ fs) each told has = found (puts key_cmp es (rows f)) fs (λ g has. each g (later_has f g fs has)) (subst (Tells v) (sym (after_leaf es f)) (or_told _ _ (each f (first_has f fs)) told)) (now has)
@@ -76,12 +76,12 @@ leaf_taken after names left page new is takes =
 
 -- the names of the next leaf are taken in, and other leaves are left
 pub leaf_more : (names : Fragment → Names) (after : Option (List ℕ)) (f : Fragment) (fs rest all : List Fragment) (now whole : List Row) (page new : Gathered) (shown : Names) → shown ≡ names f → rest ≡ f ∷ fs → IsPageOf now page
-    → gathered names after now rest ≡ gathered names after whole all → ((w : List Row) → IsPageOf w page → IsPageOf (puts key_cmp w (rows_after after (map.entries shown))) new)
-    → (x : List Row) × IsPageOf x new × (gathered names after x fs ≡ gathered names after whole all)
+    → rows_gathered names after now rest ≡ rows_gathered names after whole all → ((w : List Row) → IsPageOf w page → IsPageOf (puts key_cmp w (rows_after after (map.entries shown))) new)
+    → (x : List Row) × IsPageOf x new × (rows_gathered names after x fs ≡ rows_gathered names after whole all)
 leaf_more names after f fs rest all now whole page new shown same steps is whole_is takes = (
   puts key_cmp now (rows_after after (map.entries (names f))),
   subst (λ (n : Names). IsPageOf (puts key_cmp now (rows_after after (map.entries n))) new) same (takes now is),
-  ap (gathered names after now) (sym steps) ∙ whole_is,
+  ap (rows_gathered names after now) (sym steps) ∙ whole_is,
 )
 
 -- ---- all leaves of a directory
@@ -106,7 +106,7 @@ module _ (s : State) (sound : IsSound s) (dir : Ino) (known : is_known s.homes d
         inr (ap (told q) (pick.alone g placed.stands placed.contains))
   ] refl
 
-  all_found : (q : List ℕ) → find key_cmp q (gathered names_in after [] leaves) ≡ find key_cmp q (names_after (shown_tree s) dir.0 after)
+  all_found : (q : List ℕ) → find key_cmp q (rows_gathered names_in after [] leaves) ≡ find key_cmp q (names_after (shown_tree s) dir.0 after)
   all_found q =
       let w = some_pick leaves (hash_of q) (tree_of_row s.homes s.covers sound.table dir.0) in
       found names_in after q (told q w.0) [] leaves (alone q w.0 w.1) (inl refl) (inr (w.0, w.1.stands, refl))
@@ -114,7 +114,7 @@ module _ (s : State) (sound : IsSound s) (dir : Ino) (known : is_known s.homes d
       ∙ ap (λ o. cond (is_after after q) o None) (sym (stands_at s (sound_leaves s sound) (dentry_of dir.0 q) w.0 known w.1))
       ∙ sym ((names_are_listed (shown_tree s) dir.0 after).exact q)
 
-  -- the names gathered from all leaves of a directory are those that the tree lists
-  pub gathers_listed : gathered names_in after [] leaves ≡ names_after (shown_tree s) dir.0 after
+  -- the names rows_gathered from all leaves of a directory are those that the tree lists
+  pub gathers_listed : rows_gathered names_in after [] leaves ≡ names_after (shown_tree s) dir.0 after
   gathers_listed =
-      same_entries key_cmp nat_list_cmp_total exact_bytes (gathered names_in after [] leaves) (names_after (shown_tree s) dir.0 after) (gathered_sorted names_in after [] leaves tt) (names_are_listed (shown_tree s) dir.0 after).rises all_found
+      same_entries key_cmp nat_list_cmp_total exact_bytes (rows_gathered names_in after [] leaves) (names_after (shown_tree s) dir.0 after) (gathered_sorted names_in after [] leaves tt) (names_are_listed (shown_tree s) dir.0 after).rises all_found

@@ -1,5 +1,5 @@
 -- A state once leaves were handed over: sound, and of the same tree.
-use Rattle.mdcache.proofs.Common.{AreCaches, AreCleanAt, AreHanded, AreUncleanAt, At, Base, CacheMap, Cached, Core, Err, Fresh, GivenOverIsRight, HandsOver, HaveNoJobs, HaveNoPlace, IfErr, IsCachedIn, IsCounted, IsFrom, IsGivenOver, IsSound, IsSoundCore, IsTabled, IsThere, IsTied, IsTiedAt, IsUnsaved, IsUntouched, IsWholeBut, Leaf, List, MayNotHandOver, Names, None, NoneEnds, Ok, Omap, OnErr, OnOk, Option, Refusal, Result, Some, State, Stored, Tree, Unsaved, UnsavedLeaves, [], all_from, all_of, ap, arith, by_keeping, cap_roomy, cond, cond_both, drop, false, false_from_ne_true, given_up, handed, handed_from, has_place, here, imported, inl, inr, kept_all, leaf_is, length, list_any, moved_all, moved_as, none_beside, object_of, option_map, ranks_handed, ranks_wants, refl, rules, same_Some, shown_at, shown_in, shown_tree, state_of, subst, sym, true, unclean, unclean_in, wants_from, whole_handed, whole_wants, without_all, ℕ, ⊎_elim, ◌+◌, ◌<◌, ◌∙◌, ◌∷◌, ◌≡◌, ◌≢◌, ◌⊎◌}
+use Rattle.mdcache.proofs.Common.{AreCaches, AreCleanAt, AreHanded, AreUncleanAt, At, CacheMap, Cached, Core, Err, GivenOverIsRight, HandsOver, HaveNoJobs, HaveNoPlace, IfErr, IsCachedIn, IsCounted, IsFrom, IsGivenOver, IsSound, IsSoundCore, IsTabled, IsThere, IsTied, IsUnsaved, IsUntouched, IsWholeBut, Leaf, List, MayNotHandOver, Names, None, NoneEnds, Ok, Omap, OnErr, OnOk, Option, Refusal, Result, Some, State, Tree, Unsaved, UnsavedLeaves, [], all_from, all_of, ap, arith, by_keeping, cap_roomy, cond, cond_both, drop, false, false_from_ne_true, given_up, handed, handed_from, has_place, here, imported, inl, inr, kept_all, leaf_is, length, list_any, moved_all, moved_as, none_beside, object_of, option_map, ranks_handed, ranks_wants, refl, rules, same_Some, shown_at, shown_in, shown_tree, state_of, subst, sym, true, unclean, unclean_in, wants_from, whole_handed, whole_wants, without_all, ℕ, ⊎_elim, ◌+◌, ◌<◌, ◌∙◌, ◌∷◌, ◌≡◌, ◌≢◌, ◌⊎◌}
 use Rattle.std.specs.FinMap as map
 use Rattle.mdcache.specs.Shown.{names_of}
 use Rattle.mdcache.proofs.TreeLaws.{tree_alike}

@@ -1,5 +1,5 @@
 -- A directory goes in which nothing is: nothing of it is left but names of objects to be removed, and the tree stays.
-use Rattle.mdcache.proofs.Common.{Bool, Contains, Fragment, HasLeaf, Home, Ino, IsLive, IsPick, Job, Keys, Leaf, List, MayGo, Names, None, NothingIn, Option, Some, State, [], ap, arith, cond, cond_both, dentry-exact, dentry-total, dropped_table, each, false, false_from_ne_true, first_or_later, get-remove, get_beside, get_put, hash_of, in_directory, inl, inr, is_apart, is_known, is_some, later, leaf-total, leaf_equivalence, leaf_is, leaf_itself, leaves, leaves_of, list_any, list_any-from_Contains, names_of, nat_list_cmp_total, objects_of, one_leaf, or_left, or_right, or_whole, refl, same_map, shown_tree, some_stays, subst, suc, sym, text_of, tied_leaf, tree_text, true, value_of, with_objects, without_directory, without_leaves, zero, ℕ, ⊎_elim, ◌==◌, ◌||◌, ◌∙◌, ◌∷◌, ◌≡◌}
+use Rattle.mdcache.proofs.Common.{Bool, Contains, Fragment, HasLeaf, Home, Ino, IsLive, IsPick, Job, Keys, Leaf, List, MayGo, Names, None, NothingIn, Option, Some, State, [], ap, arith, cond, cond_both, dentry-exact, dentry-total, dropped_table, each, false, false_from_ne_true, get-remove, get_beside, get_put, hash_of, in_directory, inl, inr, is_apart, is_known, is_some, later, leaf-total, leaf_equivalence, leaf_is, leaves, leaves_of, list_any, list_any-from_Contains, names_of, nat_list_cmp_total, object_texts_of, one_leaf, or_whole, refl, same_map, shown_tree, some_stays, subst, suc, sym, text_of, tied_leaf, tree_text, true, with_objects, without_directory, without_leaves, zero, ℕ, ⊎_elim, ◌==◌, ◌||◌, ◌∙◌, ◌∷◌, ◌≡◌}
 use Rattle.std.specs.FinMap as map
 use Rattle.sorted_map.proofs.NatKeys.{get_left as get_left_home, get_removed as get_removed_home, same_or_apart as same_number}
 use Rattle.dentry_cache.specs.Cache.{leaf_cmp}
@@ -125,7 +125,7 @@ module _ (s : State) (sound : HasSoundLeaves s) (dir : Ino) (may : MayGo s.homes
         (λ same. inr (inr (ap (λ (n : List ℕ). is_some (map.get left.purge n)) (d.2 ∙ ap (λ (n : ℕ). tree_text (record { 0 = n })) same)
         ∙ stays_listed (map.insert s.purge (tree_text dir) tt) (each text_of ls) (tree_text dir) (ap is_some (get_put s.purge (tree_text dir) tt)))))
         (λ apart. inr (inl (d.0, row_left s.covers dir.0 d.0.0 apart d.1, d.2))) (same_number d.0.0 dir.0))
-        (λ listed. inr (inr (stays_listed s.purge (objects_of s dir) name listed))) rest) (sound.owned name there);
+        (λ listed. inr (inr (stays_listed s.purge (object_texts_of s dir) name listed))) rest) (sound.owned name there);
     listed = λ leaf live.
         let b = live_back leaf live in
         beside_on (map.insert s.purge (tree_text dir) tt) dir (leaves_of s.covers dir.0) (text_of leaf) (λ f stands same. b.0 (ap (λ (l : Leaf). l.0.0) (one_text s.homes s.covers sound.table sound.numbered leaf (in_directory dir.0 f) b.1 (record { known = known; stands = stands }) same)))

@@ -1,7 +1,7 @@
 -- All jobs are given up.
 use Rattle.mdcache.proofs.KeptTree.{keeps_tree}
 use Rattle.mdcache.proofs.SoundLaws.{jobs_sound}
-use Rattle.mdcache.proofs.Common.{Core, IsSound, IsSoundCore, Jobs, KeepsNone, KeepsTree, None, Rooms, Some, State, ap, get-empty, shown_tree, state_of, subst, sym, ℕ, ◌<◌, ◌∙◌, ◌≡◌}
+use Rattle.mdcache.proofs.Common.{Core, IsSound, IsSoundCore, Jobs, KeepsTree, None, Rooms, Some, State, ap, get-empty, shown_tree, state_of, subst, sym, ℕ, ◌∙◌, ◌≡◌}
 use Rattle.std.specs.FinMap as map
 
 numbered_sound : (s : State) (n : ℕ) → IsSound s → IsSound (record s { jobs = map.empty; next_job = n })

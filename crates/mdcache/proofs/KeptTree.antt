@@ -1,5 +1,5 @@
 -- What each step of a flush keeps.
-use Rattle.mdcache.proofs.Common.{At, CacheMap, Came, Core, HasFragment, IsThere, Jobs, KeepsTree, Keys, Leaf, None, NoneEnds, Objects, Option, Some, State, StepsKeepTree, ap, at_rank, came_held, came_then, came_weaker, cond, cond_both, eq-eqb, eqb-true, refl, rules, shown_tree, state_of, subst, sym, ℕ, ⊎_elim, ◌==◌, ◌∙◌, ◌≡◌}
+use Rattle.mdcache.proofs.Common.{At, CacheMap, Came, Core, HasFragment, IsThere, Jobs, KeepsTree, Keys, Leaf, None, NoneEnds, Objects, Option, Some, StepsKeepTree, at_rank, came_held, came_then, came_weaker, cond, cond_both, eq-eqb, eqb-true, refl, rules, shown_tree, state_of, subst, sym, ℕ, ⊎_elim, ◌==◌, ◌≡◌}
 use Rattle.std.specs.FinMap as map
 use Rattle.dentry_cache.specs.Came.Came.{stays as it_stays}
 

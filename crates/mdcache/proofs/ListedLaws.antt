@@ -1,5 +1,5 @@
 -- The purge list, where a leaf was split and where leaves were merged.
-use Rattle.mdcache.proofs.Common.{Contains, Frag, Fragment, HasLeaf, Ino, IsChild, IsFragment, IsListedAnew, Keys, List, NameChildren, None, Some, [], ap, arith, child_is_fragment, child_of, each, get_beside, get_left, get_put, get_removed, in_directory, inl, inr, key_or_apart, refl, subst, suc, sym, text_of, texts_differ, with_objects, without_objects, zero, ℕ, ⊎_elim, ◌+◌, ◌<◌, ◌^◌, ◌∙◌, ◌∷◌, ◌≡◌, ◌≤◌}
+use Rattle.mdcache.proofs.Common.{Contains, Frag, Fragment, Ino, IsChild, IsFragment, IsListedAnew, Keys, List, NameChildren, None, Some, [], ap, arith, child_is_fragment, child_of, get_beside, get_left, get_put, get_removed, inl, inr, key_or_apart, refl, subst, suc, sym, text_of, texts_differ, without_objects, zero, ℕ, ⊎_elim, ◌+◌, ◌<◌, ◌^◌, ◌∙◌, ◌∷◌, ◌≡◌, ◌≤◌}
 use Rattle.std.specs.FinMap as map
 use Rattle.mdcache.proofs.SplitLaws.{only_one}
 

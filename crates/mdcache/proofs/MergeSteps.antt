@@ -1,8 +1,8 @@
 -- What a merge makes of the whole, once all was ready for it.
-use Rattle.mdcache.proofs.Common.{AreCached, At, Base, Bool, CacheMap, Came, CanMerge, Comes, Contains, Contains-from_any, Core, Dirfrag, Frag, Fragment, HasLeaf, HasUnsaved, Inode, IsAmongOr, IsConcerned, IsListedAnew, IsLive, IsMergeReady, IsMergedInto, IsNewLeaf, IsRegrouped, IsSound, IsSoundCore, IsTied, IsTree, KeepsNone, Keys, Leaf, List, Merge, None, NoneEnds, Option, ReadsCore, Some, State, Unsaved, ap, are_empty, arith, at, between, both_ways, cond, dentry_of, each, ending_at, false, false_from_ne_true, fresh_tied, get_left, get_removed, get_with_frag, has_none, hash_of, holds, in_directory, inl, inr, is_clean_over, is_known, leaf_is, leaf_itself, leaf_of, leaves_in, leaves_inside, leaves_of, list_all, list_any, marked_as, merged_in, merged_leaves, names_of, object_of, one_leaf, reads_came, reads_weaker, refl, same_Some, same_leaf, shown, shown_tree, state_of, subst, sym, text_of, texts_differ, tree_of_row, true, true_from_ne_false, unclean, unclean_with, unsaved_here_at, unsaved_of, value_of, with_frag, with_objects, without_leaves, ℕ, ⊎_elim, ◌+◌, ◌<◌, ◌∙◌, ◌≡◌}
+use Rattle.mdcache.proofs.Common.{AllCachedIn, At, Base, Bool, CacheMap, Came, CanMerge, Comes, Contains, Contains-from_any, Core, Dirfrag, Frag, Fragment, HasLeaf, HasUnsaved, Inode, IsAmongOr, IsConcerned, IsListedAnew, IsLive, IsMergeReady, IsMergedInto, IsNewLeaf, IsRegrouped, IsSound, IsSoundCore, IsTied, IsTree, KeepsNone, Keys, Leaf, List, Merge, None, NoneEnds, Option, ReadsCore, Some, State, Unsaved, ap, are_empty, arith, at, between, both_ways, cond, dentry_of, each, ending_at, false, false_from_ne_true, fresh_tied, get_left, get_removed, get_with_frag, has_none, hash_of, holds, in_directory, inl, inr, is_clean_over, is_known, leaf_is, leaf_itself, leaf_of, leaves_in, leaves_inside, leaves_of, list_all, list_any, marked_as, merged_in, merged_leaves, names_of, object_of, one_leaf, reads_came, reads_weaker, refl, same_Some, same_leaf, shown, shown_tree, state_of, subst, sym, text_of, texts_differ, tree_of_row, true, true_from_ne_false, unclean, unclean_with, unsaved_here_at, unsaved_of, value_of, with_frag, with_objects, without_leaves, ℕ, ⊎_elim, ◌+◌, ◌<◌, ◌∙◌, ◌≡◌}
 use Rattle.std.specs.FinMap as map
 use Rattle.dentry_cache.specs.Came.Came.{has as arrives}
-use Rattle.mdcache.specs.Splits.{KeepsTree}
+use Rattle.mdcache.specs.Splits.{KeepsShownTree}
 use Rattle.mdcache.proofs.ChangeSteps.{ends_came_so, still_held, unclean_ended}
 use Rattle.mdcache.proofs.CoreLaws.{reads_cached_so, reads_state}
 use Rattle.mdcache.proofs.GoneLaws.{among, beside_on, get_without, leaf_listed, one_of_those}
@@ -32,7 +32,7 @@ module _ (c : Core) (sound : IsSoundCore c) (a : Dirfrag) (known : is_known c.ho
 -- what a merge leaves of the whole
 pub record HasMerged (old new : Core) (a : Dirfrag) : Type 0 where
   pub merged : IsMergedInto (state_of old) (state_of new) a.dir a.frag
-  pub tree : KeepsTree (state_of old) (state_of new) a.dir (merged_leaves old a.dir a.frag)
+  pub tree : KeepsShownTree (state_of old) (state_of new) a.dir (merged_leaves old a.dir a.frag)
   pub came : Came (IsAmongOr a.rank.0 (ending_at old a) (leaf_of a)) (λ r q. Contains (ending_at old a) q) old.caches new.caches
   pub sound : IsSoundCore new
 
@@ -63,7 +63,7 @@ module _ (old mid : Core) (sound : IsSoundCore old) (a : Dirfrag) (merge : Merge
   still = subst (λ (u : State). IsSound u × (is_known u.homes a.dir.0 ≡ true) × CanMerge (leaves_of u.covers a.dir.0) a.frag) (sym was) (sound.sound, known, can)
 
   -- cached leaves are sound still
-  cached : AreCached s mid.caches
+  cached : AllCachedIn s mid.caches
   cached = reads_cached_so Uses NoneEnds old mid reads sound (ending_or_it old sound a known can mid.caches ready.kept.1)
 
   abbrev row : List Fragment

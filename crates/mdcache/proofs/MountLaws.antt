@@ -1,5 +1,5 @@
 -- What a walk finds that meets no faulty object is a sound tree, and the one that is shown.
-use Rattle.mdcache.proofs.Common.{AreCached, CacheMap, Core, Counts, Covers, DirPins, Err, Homes, IfOk, IsColdTree, IsCounted, IsLive, IsMounted, IsNew, IsOwned, IsReached, IsReachedObject, IsRecord, IsSaved, IsSound, IsSoundCore, IsTabled, IsWalked, KeepsNone, Keys, List, Names, None, Objects, Ok, Record, Result, SaysLeaves, Some, State, Tree, allowed, ap, arith, belongs, eqb-true, hash_of, in_empty, inl, inr, is_cold, is_dir_kind, is_known, is_some, leaves_of, mounted, no_caches, object_of, or_cases, pick_from_leaf, refl, rules, said_tree, shown_in, shown_tree, state_of, subst, sym, text_of, tree_of, true, unclean, value_of, walked_is_tabled, ℕ, ⊎_elim, ◌<◌, ◌==◌, ◌^◌, ◌∙◌, ◌≡◌, ◌⊎◌}
+use Rattle.mdcache.proofs.Common.{AllCachedIn, CacheMap, Core, Counts, Covers, DirPins, Homes, IfOk, IsColdTree, IsCounted, IsLive, IsMounted, IsNewTree, IsOwned, IsReached, IsReachedObject, IsRecord, IsSaved, IsSound, IsSoundCore, IsTabled, IsWalked, KeepsNone, Keys, List, Names, None, Objects, Record, Result, SaysLeaves, Some, State, Tree, allowed, ap, arith, belongs, eqb-true, hash_of, in_empty, inl, inr, is_cold, is_dir_kind, is_known, is_some, leaves_of, mounted, no_caches, object_of, or_cases, pick_from_leaf, refl, rules, said_tree, shown_in, shown_tree, state_of, subst, sym, text_of, tree_of, true, unclean, value_of, walked_is_tabled, ℕ, ⊎_elim, ◌<◌, ◌==◌, ◌^◌, ◌∙◌, ◌≡◌, ◌⊎◌}
 use Rattle.std.specs.FinMap as map
 use Rattle.mds_types.specs.Leaf.{Leaf, leaf_cmp}
 pub use Rattle.cold_store.specs.Rows.{IsIn}
@@ -79,7 +79,7 @@ module _ (limit : ℕ) (objects : Objects) (ranks places : ℕ) (tree : Tree) (c
   mounted_core = record {
     sound = subst IsSound (sym m.state) (is_sound limit objects tree c.homes c.covers c.counts c.pins c.purge m.walked m.counted);
     begun = let first : c.next_generation ≡ 1 = ap (λ (s : State). s.next_generation) m.state in omega (arith, first);
-    cached = subst (AreCached (state_of c)) (sym m.caches) (λ leaf a is. let clash : None ≡ Some a = sym (none_held ranks places leaf) ∙ is in absurd cc);
+    cached = subst (AllCachedIn (state_of c)) (sym m.caches) (λ leaf a is. let clash : None ≡ Some a = sym (none_held ranks places leaf) ∙ is in absurd cc);
     none = (subst KeepsNone (sym m.caches) (none_kept ranks places));
   }
 
@@ -90,7 +90,7 @@ module _ (limit : ℕ) (objects : Objects) (ranks places : ℕ) (tree : Tree) (c
   mounted_cold = subst (IsColdTree objects) (sym mounted_shows) (is_cold objects tree c.homes c.covers c.purge m.walked)
 
 -- a new tree shows nothing
-pub new_shows : (limit ranks places : ℕ) (tree : Tree) (c : Core) → IsNew limit ranks places tree c → shown_in c ≡ map.empty
+pub new_shows : (limit ranks places : ℕ) (tree : Tree) (c : Core) → IsNewTree limit ranks places tree c → shown_in c ≡ map.empty
 new_shows limit ranks places tree c made = ap shown_tree made.state ∙ new_tree limit
 
 -- what was put together of a walk's parts is such a tree

@@ -1,9 +1,9 @@
 -- A name of a leaf gets an inode, or is removed: all but the table of directories is sound as before, and the tree has the name so.
-use Rattle.mdcache.proofs.Common.{AreYoung, Bool, Dentry, Fragment, Fresh, Homes, Inode, IsAsItStands, IsCounted, IsLeafAt, IsLive, IsOwned, IsPick, IsSaved, IsSound, IsStanding, IsTable, IsTabled, IsUnsaved, Job, Keeps, Leaf, List, Mark, Marks, Names, None, Omap, Option, Some, State, Stored, Tree, Unsaved, ap, arith, cases_Bool, cond, dentry-exact, dentry-total, dirtied, false, false_from_ne_true, get-empty, get-insert, get_beside, get_put, hash_of, inl, inr, is_known, is_some, key_cmp, key_or_apart, leaf-total, leaf_is, leaf_itself, leaf_or_apart, leaves_of, marked_beside, marked_here, names_at, object_of, one_leaf, only_below, refl, rules, same_Some, same_leaf, same_map, shown_at, shown_over, shown_put, shown_tree, some_pick, subst, sym, text_of, tied_leaf, tree_of_row, true, with_mark, with_name, ℕ, ⊎_elim, ◌<◌, ◌^◌, ◌∙◌, ◌≡◌, ◌⊎◌}
+use Rattle.mdcache.proofs.Common.{AreYoung, Bool, Dentry, Fragment, Fresh, Homes, Inode, IsAsItStands, IsCounted, IsLeafAt, IsLive, IsOwned, IsPick, IsSaved, IsSound, IsStandingJob, IsTable, IsTabled, IsUnsaved, Job, Keeps, Leaf, List, Mark, Marks, Names, None, Omap, Option, Some, State, Stored, Tree, Unsaved, ap, arith, cond, dentry-exact, dentry-total, dirtied, false, false_from_ne_true, get-empty, get-insert, get_beside, get_put, hash_of, inl, inr, is_known, is_some, key_cmp, key_or_apart, leaf-total, leaf_is, leaf_itself, leaf_or_apart, leaves_of, marked_beside, marked_here, names_at, object_of, one_leaf, only_below, refl, rules, same_Some, same_leaf, same_map, shown_at, shown_over, shown_put, shown_tree, some_pick, subst, sym, text_of, tied_leaf, tree_of_row, true, with_mark, with_name, ℕ, ⊎_elim, ◌<◌, ◌^◌, ◌∙◌, ◌≡◌, ◌⊎◌}
 use Rattle.std.specs.FinMap as map
 use Rattle.mds_types.proofs.EntryLaws.{get_put as get_dentry, get_beside as get_other_dentry, get_removed, get_left as get_left_dentry, same_or_apart}
 use Rattle.dentry_cache.specs.Ties.{KeepsAt}
-use Rattle.mdcache.specs.Changes.{Counts}
+use Rattle.mdcache.specs.Changes.{IsCountedObject}
 use Rattle.mdcache.specs.Shown.{names_of}
 use Rattle.mdcache.proofs.ShownLaws.{found_at, found_nowhere}
 use Rattle.mdcache.proofs.SoundLaws.{names_alike}
@@ -17,7 +17,7 @@ pub record HasSoundLeaves (s : State) : Type 0 where
   pub saved : (leaf : Leaf) → IsLive s.homes s.covers leaf → map.get s.unsaved leaf ≡ None → IsSaved leaf.1 (object_of s.objects leaf.0 leaf.1)
   pub owned : (name : List ℕ) → is_some (map.get s.objects name) ≡ true → IsOwned s name
   pub listed : (leaf : Leaf) → IsLive s.homes s.covers leaf → map.get s.purge (text_of leaf) ≡ None
-  pub standing : (leaf : Leaf) (job : Job) → map.get s.jobs leaf ≡ Some job → IsStanding s leaf job
+  pub standing : (leaf : Leaf) (job : Job) → map.get s.jobs leaf ≡ Some job → IsStandingJob s leaf job
   pub once : (a b : Leaf) (i j : Job) → map.get s.jobs a ≡ Some i → map.get s.jobs b ≡ Some j → i.number ≡ j.number → a ≡ b
 
 pub sound_leaves : (s : State) → IsSound s → HasSoundLeaves s
@@ -60,7 +60,7 @@ get_elsewhere tree p o q apart = search (rules, get_left_dentry, get_other_dentr
 -- a fragment as it stands shows what its leaf shows
 as_it_shows : (o : Option Unsaved) (object : Option Omap) (next : ℕ) (u : Unsaved) → IsAsItStands o object next u → shown_over u.base (names_at object) u.dirty ≡ shown_at o object
 as_it_shows (Some v) object next u is = ap (λ (w : Unsaved). shown_over w.base (names_at object) w.dirty) is
-as_it_shows None object next u is = elim u.base as (λ b. Counts b object → shown_over b (names_at object) u.dirty ≡ names_at object) [ Fresh ↦ λ h. absurd h | Stored version ↦ λ h. only_below (names_at object) u.dirty is.1 ] is.0
+as_it_shows None object next u is = elim u.base as (λ b. IsCountedObject b object → shown_over b (names_at object) u.dirty ≡ names_at object) [ Fresh ↦ λ h. absurd h | Stored version ↦ λ h. only_below (names_at object) u.dirty is.1 ] is.0
 
 module _ (s : State) (sound : HasSoundLeaves s) (dentry : Dentry) (f : Fragment) (inode : Option Inode) (live : IsLive s.homes s.covers (dentry.dir, f)) (pick : IsLeafAt s.covers dentry f)
     (u : Unsaved) (stands : IsAsItStands (map.get s.unsaved (dentry.dir, f)) (object_of s.objects dentry.dir f) s.next_generation u) where
@@ -147,7 +147,7 @@ module _ (s : State) (sound : HasSoundLeaves s) (dentry : Dentry) (f : Fragment)
       new None is = tt
       new (Some then) is = λ same. absurd (omega (arith, young name then is, same))
 
-  standing_here : (job : Job) → IsStanding s leaf job → IsStanding t leaf job
+  standing_here : (job : Job) → IsStandingJob s leaf job → IsStandingJob t leaf job
   standing_here job old =
       let its : old.unsaved ≡ u = sym (subst (λ o. IsAsItStands o (object_of s.objects dentry.dir f) s.next_generation u) old.beside stands) in
       record {
@@ -165,8 +165,8 @@ module _ (s : State) (sound : HasSoundLeaves s) (dentry : Dentry) (f : Fragment)
         };
       }
 
-  standing_still : (q : Leaf) (job : Job) → IsStanding s q job → IsStanding t q job
-  standing_still q job old = ⊎_elim (λ same. subst (λ (l : Leaf). IsStanding t l job) (sym same) (standing_here job (subst (λ (l : Leaf). IsStanding s l job) same old)))
+  standing_still : (q : Leaf) (job : Job) → IsStandingJob s q job → IsStandingJob t q job
+  standing_still q job old = ⊎_elim (λ same. subst (λ (l : Leaf). IsStandingJob t l job) (sym same) (standing_here job (subst (λ (l : Leaf). IsStandingJob s l job) same old)))
       (λ apart. record { mine = old.mine; given = old.given; young = raised job.snapshot.names old.young; unsaved = old.unsaved; beside = unsaved_beside q apart ∙ old.beside; taken = old.taken }) (leaf_or_apart q leaf)
 
   pub named_leaves : HasSoundLeaves t
@@ -174,7 +174,7 @@ module _ (s : State) (sound : HasSoundLeaves s) (dentry : Dentry) (f : Fragment)
       let saved : (q : Leaf) → IsLive s.homes s.covers q → map.get t.unsaved q ≡ None → IsSaved q.1 (object_of s.objects q.0 q.1) = λ q is clean.
       (let apart = false_from_ne_true (leaf_is q leaf) (λ same. let clash : None ≡ Some v = sym clean ∙ ap (map.get t.unsaved) (one_leaf q leaf same) ∙ unsaved_here in cc) in
       sound.saved q is (sym (unsaved_beside q apart) ∙ clean)) in
-      let standing : (q : Leaf) (job : Job) → map.get s.jobs q ≡ Some job → IsStanding t q job = λ q job is. standing_still q job (sound.standing q job is) in
+      let standing : (q : Leaf) (job : Job) → map.get s.jobs q ≡ Some job → IsStandingJob t q job = λ q job is. standing_still q job (sound.standing q job is) in
       search (rules, placed_still, unsaved_still, sound.owned)
 
   -- the tree

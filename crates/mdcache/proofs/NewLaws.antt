@@ -1,5 +1,5 @@
 -- The state over an empty store is sound.
-use Rattle.mdcache.proofs.Common.{AreCached, Bool, Contains, Core, Covers, Homes, IsCounted, IsFree, IsLive, IsSound, IsSoundCore, IsTable, IsTabled, IsUnsaved, KeepsNone, Leaf, Mark, Names, None, Omap, Option, Some, State, Unsaved, UnsavedLeaves, [], ap, arith, cached_root, cond, cond_some, dentry-exact, dentry-total, dentry_cmp, directories, empty_tabled, entries_in, entries_of, entries_under, eqb-true, false, get-empty, get-from_entries, get-insert, get_unclean, is_known, is_some, key_cmp, leaf-total, leaf_is, leaf_itself, leaves_of, len-empty, list_any, nat_cmp, new_caches, new_root, new_state, no_caches, none_counted, none_entries, none_with_frag, object_of, one_leaf, or_cases, or_whole, refl, replicate, root_fragment, root_leaf, same_map, shown_at, shown_tree, state_of, subst, suc, sym, text_of, tied_leaf, true, unclean, unclean_with, unsaved_at, zero, ℕ, ⊎_elim, ◌++◌, ◌==◌, ◌||◌, ◌∙◌, ◌∷◌, ◌≡◌}
+use Rattle.mdcache.proofs.Common.{AllCachedIn, Bool, Contains, Core, Covers, Homes, IsCounted, IsFree, IsLive, IsSound, IsSoundCore, IsTable, IsTabled, IsUnsaved, KeepsNone, Leaf, Mark, Names, None, Omap, Option, Some, State, Unsaved, UnsavedLeaves, [], ap, arith, cached_root, cond, cond_some, dentry-exact, dentry-total, dentry_cmp, directories, empty_tabled, entries_in, entries_of, entries_under, eqb-true, false, get-empty, get-from_entries, get-insert, get_unclean, is_known, is_some, key_cmp, leaf-total, leaf_is, leaf_itself, leaves_of, len-empty, list_any, nat_cmp, new_caches, new_root, new_tree_state, no_caches, none_counted, none_entries, none_with_frag, object_of, one_leaf, or_cases, or_whole, refl, replicate, root_fragment, root_leaf, same_map, shown_at, shown_tree, state_of, subst, suc, sym, text_of, tied_leaf, true, unclean, unclean_with, unsaved_at, zero, ℕ, ⊎_elim, ◌++◌, ◌==◌, ◌||◌, ◌∙◌, ◌∷◌, ◌≡◌}
 use Rattle.std.specs.Prelude.{get_or, map as each}
 use Rattle.std.specs.FinMap as map
 use Rattle.dentry_cache.specs.Cache.{leaf_cmp}
@@ -48,48 +48,48 @@ no_table = record {
 
 -- where a directory may have so many entries
 module _ (limit : ℕ) where
-  its_unsaved : (q : Leaf) → map.get (new_state limit).unsaved q ≡ cond (leaf_is q root_leaf) (Some new_root) None
+  its_unsaved : (q : Leaf) → map.get (new_tree_state limit).unsaved q ≡ cond (leaf_is q root_leaf) (Some new_root) None
   its_unsaved q = get-insert leaf-total no_leaves root_leaf new_root q ∙ ap (λ (b : Bool). cond b (Some new_root) (map.get no_leaves q)) (tied_leaf q root_leaf) ∙ ap (cond (leaf_is q root_leaf) (Some new_root)) (get-empty _ q)
 
-  root_unsaved : map.get (new_state limit).unsaved root_leaf ≡ Some new_root
+  root_unsaved : map.get (new_tree_state limit).unsaved root_leaf ≡ Some new_root
   root_unsaved = its_unsaved root_leaf ∙ ap (λ (b : Bool). cond b (Some new_root) None) (leaf_itself root_leaf)
 
-  no_names : names_of (new_state limit).unsaved (new_state limit).objects root_leaf ≡ map.empty
+  no_names : names_of (new_tree_state limit).unsaved (new_tree_state limit).objects root_leaf ≡ map.empty
   unfolding names_of
-  no_names = ap (λ u. shown_at u (object_of (new_state limit).objects root_leaf.0 root_leaf.1)) root_unsaved ∙ nothing_patched map.empty map.empty (len-empty key_cmp Mark)
+  no_names = ap (λ u. shown_at u (object_of (new_tree_state limit).objects root_leaf.0 root_leaf.1)) root_unsaved ∙ nothing_patched map.empty map.empty (len-empty key_cmp Mark)
 
-  no_entries : entries_in (names_of (new_state limit).unsaved (new_state limit).objects) no_covers (directories no_homes) ≡ []
+  no_entries : entries_in (names_of (new_tree_state limit).unsaved (new_tree_state limit).objects) no_covers (directories no_homes) ≡ []
   no_entries =
-      let names = names_of (new_state limit).unsaved (new_state limit).objects in
+      let names = names_of (new_tree_state limit).unsaved (new_tree_state limit).objects in
       ap (λ ks. entries_in names no_covers (1 ∷ each (λ e. e.0) ks)) (none_entries no_homes refl)
       ∙ ap (λ fs. entries_under names 1 fs ++ []) (one_leaf_each 1)
       ∙ ap (λ (n : Names). (entries_of 1 (map.entries n) ++ []) ++ []) no_names
       ∙ ap (λ es. (entries_of 1 es ++ []) ++ []) (none_entries {R = key_cmp} map.empty refl)
 
-  pub new_tree : shown_tree (new_state limit) ≡ map.empty
+  pub new_tree : shown_tree (new_tree_state limit) ≡ map.empty
   unfolding tree_of
   new_tree = ap (λ es. map.from_entries es) no_entries ∙ same_map dentry-total dentry-exact (map.from_entries []) map.empty (λ q. get-from_entries dentry-total [] q ∙ sym (get-empty dentry_cmp q))
 
-  unsaved_root : (leaf : Leaf) (u : Unsaved) → map.get (new_state limit).unsaved leaf ≡ Some u → IsUnsaved (new_state limit) leaf u
+  unsaved_root : (leaf : Leaf) (u : Unsaved) → map.get (new_tree_state limit).unsaved leaf ≡ Some u → IsUnsaved (new_tree_state limit) leaf u
   unsaved_root leaf u is =
       let its = cond_some (leaf_is leaf root_leaf) new_root u (sym (its_unsaved leaf) ∙ is) in
-      subst (λ (v : Unsaved). IsUnsaved (new_state limit) leaf v) its.1 (subst (λ (l : Leaf). IsUnsaved (new_state limit) l new_root) (sym (one_leaf leaf root_leaf its.0)) (record {
+      subst (λ (v : Unsaved). IsUnsaved (new_tree_state limit) leaf v) its.1 (subst (λ (l : Leaf). IsUnsaved (new_tree_state limit) l new_root) (sym (one_leaf leaf root_leaf its.0)) (record {
         live = root_live;
         made = omega arith;
         young = λ name mark has. let clash : None ≡ Some mark = sym (get-empty key_cmp name) ∙ has in absurd cc;
       }))
 
-  pub new_sound : IsSound (new_state limit)
+  pub new_sound : IsSound (new_tree_state limit)
   new_sound = record {
     table = no_table;
     numbered = λ d known. omega (arith, root_known d known);
     tabled = subst (λ tree. IsTabled tree no_homes) (sym new_tree) empty_tabled;
     counted = subst (λ tree. IsCounted tree (map.insert map.empty 1 0) map.empty) (sym new_tree) none_counted;
     placed = λ leaf name inode live has.
-        let clash : None ≡ Some inode = sym (ap (λ (n : Names). map.get n name) (ap (names_of (new_state limit).unsaved (new_state limit).objects) (live_root leaf live) ∙ no_names) ∙ get-empty key_cmp name) ∙ has in
+        let clash : None ≡ Some inode = sym (ap (λ (n : Names). map.get n name) (ap (names_of (new_tree_state limit).unsaved (new_tree_state limit).objects) (live_root leaf live) ∙ no_names) ∙ get-empty key_cmp name) ∙ has in
         absurd cc;
     unsaved = unsaved_root;
-    saved = λ leaf live clean. let clash : None ≡ Some new_root = sym clean ∙ ap (map.get (new_state limit).unsaved) (live_root leaf live) ∙ root_unsaved in absurd cc;
+    saved = λ leaf live clean. let clash : None ≡ Some new_root = sym clean ∙ ap (map.get (new_tree_state limit).unsaved) (live_root leaf live) ∙ root_unsaved in absurd cc;
     owned = λ name has. let clash : false ≡ true = ap (λ (o : Option Omap). is_some o) (sym (get-empty key_cmp name)) ∙ has in absurd cc;
     listed = λ leaf live. get-empty key_cmp (text_of leaf);
     standing = λ leaf job is. let clash : None ≡ Some job = sym (get-empty leaf_cmp leaf) ∙ is in absurd cc;
@@ -119,18 +119,18 @@ module _ (ranks places : ℕ) where
 
 -- a core that is so in each part
 pub new_core : (ranks places : ℕ) (m : Core) → m.homes ≡ map.empty → m.covers ≡ map.empty → m.counts ≡ map.insert map.empty 1 0 → m.pins ≡ map.empty → m.caches ≡ new_caches ranks places → m.objects ≡ map.empty
-    → m.jobs ≡ map.empty → m.purge ≡ map.empty → m.next_job ≡ 1 → m.next_generation ≡ 2 → m.next_version ≡ 1 → (state_of m ≡ new_state m.limit) × IsSoundCore m
+    → m.jobs ≡ map.empty → m.purge ≡ map.empty → m.next_job ≡ 1 → m.next_generation ≡ 2 → m.next_version ≡ 1 → (state_of m ≡ new_tree_state m.limit) × IsSoundCore m
 new_core ranks places m homes covers counts pins caches objects jobs purge job generation version = (
   is,
   record {
     sound = subst IsSound (sym is) (new_sound m.limit);
     begun = omega (arith, generation);
-    cached = subst (λ (s : State). AreCached s m.caches) (sym is) (subst (AreCached (new_state m.limit)) (sym caches)
-        (cached_with (new_state m.limit) (no_caches ranks places) 0 root_leaf cached_root (λ q a is. let clash : None ≡ Some a = sym (none_held ranks places q) ∙ is in absurd cc) (record { live = root_live; tied = tt; made = omega arith })));
+    cached = subst (λ (s : State). AllCachedIn s m.caches) (sym is) (subst (AllCachedIn (new_tree_state m.limit)) (sym caches)
+        (cached_with (new_tree_state m.limit) (no_caches ranks places) 0 root_leaf cached_root (λ q a is. let clash : None ≡ Some a = sym (none_held ranks places q) ∙ is in absurd cc) (record { live = root_live; tied = tt; made = omega arith })));
     none = subst KeepsNone (sym caches) (new_none ranks places);
   },
 )
   where
-    is : state_of m ≡ new_state m.limit
+    is : state_of m ≡ new_tree_state m.limit
     is = (λ i. record { limit = m.limit; homes = homes i; covers = covers i; counts = counts i; pins = pins i; unsaved = unclean (caches i); objects = objects i; jobs = jobs i; purge = purge i; next_job = job i; next_generation = generation i; next_version = version i })
-        ∙ (λ i. record (new_state m.limit) { unsaved = (unclean_with (no_caches ranks places) 0 root_leaf cached_root ∙ ap (λ (u : UnsavedLeaves). map.insert u root_leaf new_root) (none_unclean ranks places)) i })
+        ∙ (λ i. record (new_tree_state m.limit) { unsaved = (unclean_with (no_caches ranks places) 0 root_leaf cached_root ∙ ap (λ (u : UnsavedLeaves). map.insert u root_leaf new_root) (none_unclean ranks places)) i })

@@ -1,5 +1,5 @@
 -- The first leaf behind another for which a job stands, by the rows behind it.
-use Rattle.mdcache.proofs.Common.{Bool, IsNext, IsSome, Job, Jobs, List, None, Option, Some, T, [], ap, below_all, cond, cond_both, entries_sorted, eq_by_cmp, false, find, find-where_key, get-entries, inl, inr, is_behind, is_eq, is_some, is_sorted, is_sorted-where_key, leaf-exact, leaf_cmp, left_of, refl, right_of, subst, sym, tie, tied_itself, true, where_key, ◌∙◌, ◌∷◌, ◌≡◌, ◌⊎◌}
+use Rattle.mdcache.proofs.Common.{Bool, IsNextJob, IsSome, Job, Jobs, List, None, Option, Some, T, [], ap, below_all, cond, cond_both, entries_sorted, eq_by_cmp, false, find, find-where_key, get-entries, inl, inr, is_behind, is_eq, is_some, is_sorted, is_sorted-where_key, leaf-exact, leaf_cmp, left_of, refl, right_of, subst, sym, tie, tied_itself, true, where_key, ◌∙◌, ◌∷◌, ◌≡◌, ◌⊎◌}
 use Rattle.std.specs.declared.cmp.Ordering.TheVariants.{Less}
 use Rattle.std.specs.FinMap as map
 use Rattle.sorted_map.proofs.PlaceLaws.{less as less_of}
@@ -27,7 +27,7 @@ module _ (jobs : Jobs) (after : Option Leaf) where
   there : (rows : List (Leaf × Job)) → HasThose rows → (leaf : Leaf) → is_behind after leaf ≡ true → map.get jobs leaf ≡ find leaf_cmp leaf rows
   there rows has leaf on = sym (has leaf ∙ ap (λ (b : Bool). cond b (map.get jobs leaf) None) on)
 
-  first_is : (rows : List (Leaf × Job)) → T (is_sorted leaf_cmp rows) → HasThose rows → IsNext jobs after (leaf_of_first rows)
+  first_is : (rows : List (Leaf × Job)) → T (is_sorted leaf_cmp rows) → HasThose rows → IsNextJob jobs after (leaf_of_first rows)
   first_is [] sorted has = λ leaf on. there [] has leaf on
   first_is (e ∷ rows) sorted has =
       let itself : find leaf_cmp e.0 (e ∷ rows) ≡ Some e.1 = ap (λ r. cond (is_eq r) (Some e.1) (find leaf_cmp e.0 rows)) (tied_itself leaf-total e.0) in
@@ -38,7 +38,7 @@ module _ (jobs : Jobs) (after : Option Leaf) where
             (λ tied is. inl (leaf-exact leaf e.0 (tie _ tied))) (λ apart is. inr (greater e.0 rows leaf (left_of _ _ sorted) is)) (ap is_some (sym (there (e ∷ rows) has leaf on)) ∙ some),
       )
 
-  pub next_is : (rows : List (Leaf × Job)) → rows ≡ where_key leaf_cmp (is_behind after) (map.entries jobs) → IsNext jobs after (leaf_of_first rows)
+  pub next_is : (rows : List (Leaf × Job)) → rows ≡ where_key leaf_cmp (is_behind after) (map.entries jobs) → IsNextJob jobs after (leaf_of_first rows)
   next_is rows is = first_is rows
       (subst (λ (l : List (Leaf × Job)). T (is_sorted leaf_cmp l)) (sym is) (is_sorted-where_key leaf_cmp (is_behind after) (map.entries jobs) (entries_sorted jobs)))
       (λ leaf. ap (find leaf_cmp leaf) is

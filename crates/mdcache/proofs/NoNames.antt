@@ -1,5 +1,5 @@
 -- Names that are none, and fragments of which all pass a test, or one fails.
-use Rattle.mdcache.proofs.Common.{Bool, Fragment, HasLeaf, Inode, List, Names, None, Option, Some, [], and_parts, ap, arith, cond, false, find, get-entries, has_none, is_some, key_cmp, key_itself, later, len-entries, length, list_all, nat_tests, refl, rules, suc, sym, true, zero, ℕ, ◌&&◌, ◌∙◌, ◌∷◌, ◌≡◌}
+use Rattle.mdcache.proofs.Common.{Bool, Fragment, HasLeaf, Inode, List, Names, None, Option, Some, [], and_parts, ap, arith, cond, false, find, get-entries, has_none, key_cmp, key_itself, later, len-entries, length, list_all, nat_tests, refl, rules, suc, sym, true, zero, ℕ, ◌&&◌, ◌∙◌, ◌∷◌, ◌≡◌}
 use Rattle.std.specs.FinMap as map
 
 -- what can have no value is none

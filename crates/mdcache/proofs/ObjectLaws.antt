@@ -1,5 +1,5 @@
 -- A purge and a commit of a directory's tree change no object of a live leaf.
-use Rattle.mdcache.proofs.Common.{AreCached, Bool, CacheMap, Fragment, Ino, IsLive, IsOwned, IsSound, Keys, Leaf, List, None, Objects, Omap, Option, PairMap, Some, State, WriteOp, [], ap, applied-by-parts, cond, cond_both, empty_omap, eq_by_cmp, exact_bytes, false, find, first_name, get-empty, get-entries, get-without_keys, get_beside, get_left, get_put, get_removed, inl, inr, is_known, is_some, key_cmp, key_itself, key_or_apart, leaves_of, length, ltb-true, nat_list_cmp_total, nat_lt, object_of, option_map, overlaid-empty, purged, refl, rules, same_Some, same_map, shown_tree, slice_get, subst, sym, text_of, tree_object, tree_saved, tree_text, true, unwrap_or, with_tree_at, without_keys, ℕ, ⊎_elim, ◌<◌, ◌∙◌, ◌∷◌, ◌≡◌}
+use Rattle.mdcache.proofs.Common.{AllCachedIn, Bool, CacheMap, Fragment, Ino, IsLive, IsOwned, IsSound, Keys, Leaf, List, None, Objects, Omap, Option, PairMap, Some, State, WriteOp, [], ap, applied-by-parts, cond, cond_both, empty_omap, eq_by_cmp, exact_bytes, false, find, first_name, get-empty, get-entries, get-without_keys, get_beside, get_left, get_put, get_removed, inl, inr, is_known, is_some, key_cmp, key_itself, key_or_apart, leaves_of, length, ltb-true, nat_list_cmp_total, nat_lt, object_of, option_map, overlaid-empty, purged, refl, rules, same_Some, same_map, shown_tree, slice_get, subst, sym, text_of, tree_object, tree_saved, tree_text, true, unwrap_or, with_tree_at, without_keys, ℕ, ⊎_elim, ◌<◌, ◌∙◌, ◌∷◌, ◌≡◌}
 use Rattle.std.specs.FinMap as map
 use Rattle.objstore.specs.Objects.{written}
 use Rattle.mdcache.proofs.CoverRows.{several_in_row}
@@ -21,7 +21,7 @@ pub record KeepsLeaves (old new : State) : Type 0 where
   pub objects : (leaf : Leaf) → IsLive old.homes old.covers leaf → object_of new.objects leaf.0 leaf.1 ≡ object_of old.objects leaf.0 leaf.1
   pub tree : shown_tree new ≡ shown_tree old
   pub sound : IsSound new
-  pub cached : (caches : CacheMap) → AreCached old caches → AreCached new caches
+  pub cached : (caches : CacheMap) → AllCachedIn old caches → AllCachedIn new caches
 
 module _ (s : State) (name : List ℕ) (objects : Objects) (sound : IsSound s) (beside : (q : List ℕ) → (q ≡ name → ⊥) → map.get objects q ≡ map.get s.objects q)
     (not_live : (leaf : Leaf) → IsLive s.homes s.covers leaf → text_of leaf ≡ name → ⊥) where

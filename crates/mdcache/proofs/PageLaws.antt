@@ -1,5 +1,5 @@
 -- What a page gathers, name by name.
-use Rattle.mdcache.proofs.Common.{Bool, Equal, Gathered, Greater, Inode, IsAt, IsBeyond, IsGap, IsPageOf, IsTotalOrder, Less, List, Ordering, Row, T, Takes, [], ap, arith, below_all, by_order, cond, drop, false, get_or, insert, is_lt, is_sorted-put, key_cmp, left_of, length, length-insert, length-set, length-take, less, nat_list_cmp_total, nat_tests, or_right, put, put_at, put_gap, puts, refl, right_of, rules, subst, suc, sym, take, take-append-drop, take_all, true, turned, zero, ℕ, ◌||◌, ◌∙◌, ◌∷◌, ◌≡◌, ◌≤◌}
+use Rattle.mdcache.proofs.Common.{Bool, Equal, Gathered, Greater, Inode, IsAt, IsBeyond, IsGap, IsPageOf, IsTotalOrder, Less, List, Ordering, Row, T, TakesRow, [], ap, arith, below_all, by_order, cond, drop, false, get_or, insert, is_lt, is_sorted-put, key_cmp, left_of, length, length-insert, length-set, length-take, less, nat_list_cmp_total, nat_tests, put, put_at, put_gap, puts, refl, right_of, rules, subst, suc, sym, take, take-append-drop, take_all, true, turned, zero, ℕ, ◌||◌, ◌∙◌, ◌∷◌, ◌≡◌, ◌≤◌}
 use Rattle.std.proofs.Common.{set, nat_lt}
 use Rattle.std.specs.FinMap.Entries.{is_sorted}
 use Rattle.sorted_map.proofs.HomeLaws.{sorted_front}
@@ -63,7 +63,7 @@ module _ {K V : Type 0} {R : K → K → Ordering} (o : IsTotalOrder R) where
 -- ---- pages
 
 -- a page that takes in a name is the page of all names with it
-pub taken_in : (whole : List Row) (row : Row) (old new : Gathered) → Takes row old new → IsPageOf whole old → IsPageOf (put key_cmp row.0 row.1 whole) new
+pub taken_in : (whole : List Row) (row : Row) (old new : Gathered) → TakesRow row old new → IsPageOf whole old → IsPageOf (put key_cmp row.0 row.1 whole) new
 taken_in whole row old new takes page = record {
   rows = takes.rows ∙ ap (λ xs. take old.most (put key_cmp row.0 row.1 xs)) page.rows ∙ take_put key_cmp old.most row.0 row.1 whole ∙ ap (λ n. take n (put key_cmp row.0 row.1 whole)) (sym takes.most);
   more = takes.more ∙ (λ i. page.more i || nat_lt old.most (length (put key_cmp row.0 row.1 (page.rows i)))) ∙ more_put key_cmp old.most row.0 row.1 whole ∙ ap (λ n. nat_lt n (length (put key_cmp row.0 row.1 whole))) (sym takes.most);
@@ -83,7 +83,7 @@ left_out (row ∷ rest) whole name page beyond below is =
     })
 
 -- the next of a leaf's names is taken in, and the others are left
-pub next_taken : (row : Row) (names rest now names' whole : List Row) (old new : Gathered) → names ≡ row ∷ rest → Takes row old new → IsPageOf now old → puts key_cmp now names ≡ puts key_cmp whole names' → T (is_sorted key_cmp names)
+pub next_taken : (row : Row) (names rest now names' whole : List Row) (old new : Gathered) → names ≡ row ∷ rest → TakesRow row old new → IsPageOf now old → puts key_cmp now names ≡ puts key_cmp whole names' → T (is_sorted key_cmp names)
     → (x : List Row) × IsPageOf x new × (puts key_cmp x rest ≡ puts key_cmp whole names') × T (is_sorted key_cmp rest)
 next_taken row names rest now names' whole old new is takes page same sorted = (
   put key_cmp row.0 row.1 now,
@@ -93,7 +93,7 @@ next_taken row names rest now names' whole old new is takes page same sorted = (
 )
 
 -- the leaf is left, and its other names with it
-pub leaf_left : (row : Row) (names rest now names' whole : List Row) (old new : Gathered) → names ≡ row ∷ rest → Takes row old new → IsBeyond row.0 new → IsPageOf now old → puts key_cmp now names ≡ puts key_cmp whole names' → T (is_sorted key_cmp names)
+pub leaf_left : (row : Row) (names rest now names' whole : List Row) (old new : Gathered) → names ≡ row ∷ rest → TakesRow row old new → IsBeyond row.0 new → IsPageOf now old → puts key_cmp now names ≡ puts key_cmp whole names' → T (is_sorted key_cmp names)
     → IsPageOf (puts key_cmp whole names') new
 leaf_left row names rest now names' whole old new is takes beyond page same sorted =
     subst (λ xs. IsPageOf xs new) (ap (puts key_cmp now) (sym is) ∙ same)
@@ -115,11 +115,11 @@ module _ (name : List ℕ) (inode : Inode) (rows : List Row) (more : Bool) (most
 
   -- the page takes the name in, with these rows, and keeps what it keeps of them
   abbrev TakesWith : List Row → Bool → Type 0
-  TakesWith new more' = Takes (name, inode) page (record { rows = new; more = more'; most = most }) × AreKept new most
+  TakesWith new more' = TakesRow (name, inode) page (record { rows = new; more = more'; most = most }) × AreKept new most
 
   takes_by : (new : List Row) (gone : Bool) → new ≡ take most with_row → nat_lt most (length with_row) ≡ gone → TakesWith new (cond gone true more)
   takes_by new gone is over = (
-    subst (λ (p : Gathered). Takes (name, inode) p (record { rows = new; more = cond gone true more; most = most })) view (record { most = refl; rows = is; more = marked more gone ∙ ap (λ b. more || b) (sym over) }),
+    subst (λ (p : Gathered). TakesRow (name, inode) p (record { rows = new; more = cond gone true more; most = most })) view (record { most = refl; rows = is; more = marked more gone ∙ ap (λ b. more || b) (sym over) }),
     subst (λ xs. AreKept xs most) (sym is) (sorted_taken key_cmp most with_row (is_sorted-put key_cmp nat_list_cmp_total name inode rows kept.0), omega (arith, length-take most with_row)),
   )
 

@@ -1,5 +1,5 @@
 -- What a change that may be made tells of its leaves and inodes.
-use Rattle.mdcache.proofs.Common.{At, CacheMap, Core, Dentry, Fragment, HasTarget, IfSome, Ino, Inode, IsLeafAt, IsLive, IsRankNumber, IsRecordable, IsSoundCore, IsThat, LacksPlacesAt, Leaf, MayAdd, MaySet, None, Option, Rank, Some, Tree, ap, arith, false, first_leaf, hash_of, inl, inr, is_directory, is_known, names_of, no_pin, refl, shown_in, state_of, subst, sym, true, unclean, ℕ, ◌∙◌, ◌≡◌, ◌≤◌, ◌⊎◌}
+use Rattle.mdcache.proofs.Common.{At, CacheMap, Core, Dentry, Fragment, HasTarget, IfSome, Ino, Inode, IsLeafAt, IsLive, IsRankNumber, IsRecordable, IsSoundCore, IsThat, LacksPlacesAt, Leaf, MayAdd, MaySet, None, Option, Rank, Some, Tree, ap, arith, false, first_leaf, hash_of, inl, inr, is_directory, is_known, names_of, no_pin, shown_in, state_of, subst, sym, true, unclean, ℕ, ◌∙◌, ◌≡◌, ◌≤◌, ◌⊎◌}
 use Rattle.std.specs.FinMap as map
 use Rattle.mdcache.proofs.CoreLaws.{pick_live}
 use Rattle.mdcache.proofs.NamedLaws.{sound_leaves, stands_at}

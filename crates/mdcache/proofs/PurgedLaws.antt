@@ -1,5 +1,5 @@
 -- Purges one after the other.
-use Rattle.mdcache.proofs.Common.{ArePurged, Keys, List, None, Ok, PurgesName, Some, State, [], ap, arith, cond, empty_of_len, false, first_name, get_left, get_removed, inl, inr, is_some, len-entries, len-remove, length, ltb-false, ltb-true, nat_list_cmp_total, nat_lt, option_map, refl, rules, shown_tree, slice_get, subst, sym, true, ℕ, ⊎_elim, ◌-◌, ◌<◌, ◌∙◌, ◌∷◌, ◌≡◌}
+use Rattle.mdcache.proofs.Common.{ArePurged, Keys, List, None, Ok, PurgesName, Some, State, [], ap, arith, cond, empty_of_len, false, first_name, get_left, get_removed, inl, inr, is_some, len-entries, len-remove, length, ltb-false, ltb-true, nat_list_cmp_total, nat_lt, option_map, refl, shown_tree, slice_get, subst, sym, true, ℕ, ⊎_elim, ◌-◌, ◌<◌, ◌∙◌, ◌∷◌, ◌≡◌}
 use Rattle.std.specs.FinMap as map
 use Rattle.dirfrag_codec.proofs.ByteKeys.{same_or_apart}
 use Rattle.mdcache.proofs.ObjectLaws.{first_stands}

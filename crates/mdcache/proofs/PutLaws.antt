@@ -1,7 +1,7 @@
 -- What a change of one name leaves.
-use Rattle.mdcache.proofs.Common.{AreCached, At, Base, Bool, CacheMap, Cached, Core, Dirfrag, Fresh, Inode, IsAsItStands, IsCachedIn, IsFree, IsFreeFor, IsNamed, IsThere, IsTied, IsTiedAt, KeepsOnlyAt, Leaf, List, Mark, Marks, None, Omap, Option, Rank, Some, State, Stored, Unsaved, ap, at, at_rank, changed_are_tied, cond, cond_both, dirtied, edited_as, empty_of_len, eqb-true, false, false_from_ne_true, get-empty, get_put, get_unclean, get_with_frag, here, here_beside, here_is, here_put, inl, inr, is_clean, is_clean_over, key_cmp, leaf_is, leaf_of, leaf_or_apart, marked, named, now_unclean, object_of, one_leaf, placed_used, refl, rules, same_Some, state_of, subst, sym, true, true_from_ne_false, unclean, unsaved_at, unsaved_of, with_frag, with_unsaved, ℕ, ⊎_elim, ◌+◌, ◌<◌, ◌==◌, ◌∙◌, ◌≡◌, ◌⊎◌}
+use Rattle.mdcache.proofs.Common.{AllCachedIn, At, Base, Bool, CacheMap, Cached, Core, Dirfrag, Fresh, Inode, IsAsItStands, IsCachedIn, IsFree, IsFreeFor, IsNamed, IsThere, IsTied, IsTiedAt, KeepsOnlyAt, Leaf, List, Mark, Marks, None, Omap, Option, Rank, Some, State, Stored, Unsaved, ap, at, at_rank, changed_are_tied, cond, cond_both, dirtied, edited_as, empty_of_len, eqb-true, false, false_from_ne_true, get-empty, get_put, get_unclean, get_with_frag, here, here_beside, here_is, here_put, inl, inr, is_clean, is_clean_over, key_cmp, leaf_is, leaf_of, leaf_or_apart, marked, named, now_unclean, object_of, one_leaf, placed_used, refl, same_Some, state_of, subst, sym, true, true_from_ne_false, unclean, unsaved_at, unsaved_of, with_frag, with_unsaved, ℕ, ⊎_elim, ◌+◌, ◌<◌, ◌==◌, ◌∙◌, ◌≡◌, ◌⊎◌}
 use Rattle.std.specs.FinMap as map
-use Rattle.mdcache.specs.Changes.{Counts}
+use Rattle.mdcache.specs.Changes.{IsCountedObject}
 
 -- ---- one fragment
 
@@ -17,7 +17,7 @@ marked_unclean (Stored version) dirty name mark = false_from_ne_true _ (λ none.
     cc)
 
 -- of a clean fragment the object counts, and no name is dirty
-clean_counts : (base : Base) (f : Cached) (object : Option Omap) → is_clean_over base f.dirty ≡ true → IsTiedAt base f object → Counts base object × (f.dirty ≡ map.empty)
+clean_counts : (base : Base) (f : Cached) (object : Option Omap) → is_clean_over base f.dirty ≡ true → IsTiedAt base f object → IsCountedObject base object × (f.dirty ≡ map.empty)
 clean_counts Fresh f object clean tie = let clash : false ≡ true = clean in cc
 clean_counts (Stored version) f None clean tie = absurd tie
 clean_counts (Stored version) f (Some object) clean tie = (tie.0, none_dirty f.dirty clean)
@@ -33,7 +33,7 @@ as_it_stands f object next tie given =
 -- ---- a fragment comes to a place, or in place of another
 
 -- each cached fragment is sound once one is, which comes
-pub cached_with : (s : State) (c : CacheMap) (r : ℕ) (leaf : Leaf) (f : Cached) → AreCached s c → IsCachedIn s leaf f → AreCached s (with_frag c r leaf f)
+pub cached_with : (s : State) (c : CacheMap) (r : ℕ) (leaf : Leaf) (f : Cached) → AllCachedIn s c → IsCachedIn s leaf f → AllCachedIn s (with_frag c r leaf f)
 cached_with s c r leaf f cached mine q a is = cond_both (leaf_is q leaf) (Some (at r f)) (map.get c.held q) (λ o. o ≡ Some a → IsCachedIn s q a.frag)
     (λ one h. subst (λ (l : Leaf). IsCachedIn s l a.frag) (sym (one_leaf q leaf one)) (subst (IsCachedIn s leaf) (ap (λ (x : At). x.frag) (same_Some (at r f) a h)) mine)) (λ apart h. cached q a h) (sym (get_with_frag c r leaf f q) ∙ is)
 
@@ -58,7 +58,7 @@ with_only kept c r leaf f free its only s q placed = ⊎_elim (λ was. on (leaf_
 
 -- ---- one name changed
 
-module _ (c : Core) (a : Dirfrag) (name : List ℕ) (inode : Option Inode) (f : Cached) (there : here c.caches a.rank.0 (leaf_of a) ≡ Some f) (cached : AreCached (state_of c) c.caches) where
+module _ (c : Core) (a : Dirfrag) (name : List ℕ) (inode : Option Inode) (f : Cached) (there : here c.caches a.rank.0 (leaf_of a) ≡ Some f) (cached : AllCachedIn (state_of c) c.caches) where
   abbrev pub mark : Mark
   mark = record { version = c.next_version; inode = inode }
 
@@ -87,8 +87,8 @@ module _ (c : Core) (a : Dirfrag) (name : List ℕ) (inode : Option Inode) (f : 
   pub marked_is : new.caches ≡ with_frag c.caches a.rank.0 (leaf_of a) (marked f name mark)
   marked_is = ap (edited_as c.caches a.rank.0 (leaf_of a) (λ (g : Cached). marked g name mark)) there
 
-  pub put_cached : AreCached (state_of c) new.caches
-  put_cached = subst (AreCached (state_of c)) (sym marked_is) (cached_with (state_of c) c.caches a.rank.0 (leaf_of a) (marked f name mark) cached (record {
+  pub put_cached : AllCachedIn (state_of c) new.caches
+  put_cached = subst (AllCachedIn (state_of c)) (sym marked_is) (cached_with (state_of c) c.caches a.rank.0 (leaf_of a) (marked f name mark) cached (record {
     live = mine.live;
     tied = changed_are_tied f (object_of c.objects a.dir a.frag) name mark mine.tied;
     made = mine.made;

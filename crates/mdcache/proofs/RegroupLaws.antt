@@ -1,9 +1,9 @@
 -- A directory gets another cover: the state is sound then, and shows the same tree.
-use Rattle.mdcache.proofs.Common.{AreCached, AreYoung, At, Base, Bool, CacheMap, Comes, Contains, Fragment, Fresh, HasLeaf, HasUnsaved, Holds, Ino, Inode, IsConcerned, IsCounted, IsLive, IsNewLeaf, IsOwned, IsRegrouped, IsSound, IsTable, IsTabled, IsTied, IsUnsaved, Job, Leaf, List, Mark, Marks, Names, None, Option, Some, State, Stored, Tree, Unsaved, [], ap, are_empty, arith, cond, cond_both, dentry-exact, dentry-total, dentry_of, each, false, false_from_ne_true, first_or_later, get-empty, get-patched, has_none, hash_of, holds, holds_contains, in_directory, inl, inode_or, inr, is_known, is_same, is_some, key_cmp, key_or_apart, later, leaf_is, leaves_of, list_any, marked_as, names_at, object_of, one_leaf, one_or_other, or_cases, or_whole, pick_from_leaf, refl, regrouped, rules, same_Some, same_map, set_table, shown_at, shown_over, shown_tree, span, subst, suc, sym, text_of, tree_of_row, true, zero, ℕ, ⊎_elim, ◌%◌, ◌+◌, ◌/◌, ◌<◌, ◌^◌, ◌∙◌, ◌∷◌, ◌≡◌, ◌⊎◌}
+use Rattle.mdcache.proofs.Common.{AllCachedIn, AreYoung, At, Base, Bool, CacheMap, Comes, Fragment, Fresh, HasLeaf, HasUnsaved, Holds, Ino, Inode, IsConcerned, IsCounted, IsLive, IsNewLeaf, IsOwned, IsRegrouped, IsSound, IsTable, IsTabled, IsTied, IsUnsaved, Job, Leaf, List, Mark, Marks, Names, None, Option, Some, State, Stored, Tree, Unsaved, [], ap, are_empty, arith, cond, cond_both, dentry-exact, dentry-total, dentry_of, each, false, false_from_ne_true, first_or_later, get-empty, get-patched, has_none, hash_of, holds, holds_contains, in_directory, inl, inode_or, inr, is_known, is_same, is_some, key_cmp, key_or_apart, later, leaf_is, leaves_of, list_any, marked_as, names_at, object_of, one_or_other, or_whole, pick_from_leaf, refl, regrouped, rules, same_Some, same_map, set_table, shown_at, shown_over, shown_tree, span, subst, sym, text_of, tree_of_row, true, zero, ℕ, ⊎_elim, ◌%◌, ◌+◌, ◌/◌, ◌<◌, ◌^◌, ◌∙◌, ◌∷◌, ◌≡◌, ◌⊎◌}
 use Rattle.std.specs.FinMap as map
 use Rattle.sorted_map.proofs.NatKeys.{get_beside as get_other_cover, get_put as get_cover, same_or_apart as same_number}
 use Rattle.mdcache.specs.Shown.{names_of}
-use Rattle.mdcache.specs.Splits.{KeepsTree}
+use Rattle.mdcache.specs.Splits.{KeepsShownTree}
 use Rattle.mdcache.proofs.CoverRows.{row_stays}
 use Rattle.mdcache.proofs.GoneLaws.{among, get_without, one_of_those}
 use Rattle.mdcache.proofs.NamedLaws.{HasSoundLeaves, known_or_not, pick_at, sound_again, sound_leaves, stands_at, stands_nowhere}
@@ -214,8 +214,8 @@ module _ (s : State) (sound : IsSound s) (dir : Ino) (gone cover : List Fragment
       (live_which (q.dir, p.0) (record { known = known; stands = p.1.stands })))
       (λ none. stands_nowhere n leaves_now q none ∙ sym (stands_nowhere s (sound_leaves s sound) q none)) (known_or_not s.homes q.dir.0))
 
-  pub regroup_right : KeepsTree s t dir gone
-  regroup_right = subst (λ (u : State). KeepsTree s u dir gone) (sym r.left) (record {
+  pub regroup_right : KeepsShownTree s t dir gone
+  regroup_right = subst (λ (u : State). KeepsShownTree s u dir gone) (sym r.left) (record {
     sound = sound_again n leaves_now (subst (λ (tree : Tree). IsTabled tree s.homes) (sym tree_now) sound.tabled) (subst (λ (tree : Tree). IsCounted tree s.counts s.pins) (sym tree_now) sound.counted);
     tree = tree_now;
     frame = λ leaf none live.
@@ -224,9 +224,9 @@ module _ (s : State) (sound : IsSound s) (dir : Ino) (gone cover : List Fragment
   })
 
   -- so are its caches, where fragments of leaves that came are tied and have one of the new numbers, and those of leaves that aren't concerned are as they were
-  pub regroup_cached : (old new : CacheMap) → AreCached s old → ((q : Leaf) → q.0.0 ≡ dir.0 → HasLeaf gone q.1 → (b : At) → map.get new.held q ≡ Some b → ⊥)
+  pub regroup_cached : (old new : CacheMap) → AllCachedIn s old → ((q : Leaf) → q.0.0 ≡ dir.0 → HasLeaf gone q.1 → (b : At) → map.get new.held q ≡ Some b → ⊥)
       → ((q : Leaf) → q.0.0 ≡ dir.0 → Comes row cover q.1 → (b : At) → map.get new.held q ≡ Some b → IsTied b.frag (object_of s.objects q.0 q.1) × (b.frag.generation < s.next_generation + count))
-      → ((q : Leaf) → Apart q → (b : At) → map.get new.held q ≡ Some b → map.get old.held q ≡ Some b) → AreCached t new
-  regroup_cached old new cached ended fresh others = subst (λ (u : State). AreCached u new) (sym r.left) (λ q b is. ⊎_elim (λ end. absurd (ended q end.0 end.1 b is)) (⊎_elim
+      → ((q : Leaf) → Apart q → (b : At) → map.get new.held q ≡ Some b → map.get old.held q ≡ Some b) → AllCachedIn t new
+  regroup_cached old new cached ended fresh others = subst (λ (u : State). AllCachedIn u new) (sym r.left) (λ q b is. ⊎_elim (λ end. absurd (ended q end.0 end.1 b is)) (⊎_elim
       (λ came. let its = fresh q came.0 came.1 b is in record { live = came_live q came.0 came.1.0; tied = its.0; made = its.1 })
       (λ apart. let was = cached q b (others q apart b is) in let given = was.made in record { live = apart_live q apart was.live; tied = was.tied; made = omega (arith, given) })) (which q))

@@ -1,5 +1,5 @@
 -- What is made ready for a split or a merge: first room and names are planned, then the place that was kept is given up, then leaves are read.
-use Rattle.mdcache.proofs.Common.{AreAbsent, AreCaches, AreKept, CacheMap, Cached, Core, Dirfrag, Fragment, HasCached, Ino, IsButPlaces, IsChildAt, IsDistinct, IsFamilyAt, IsNoLess, IsThat, IsThere, IsWhole, KeepsNone, LacksPlacesIn, Leaf, MayNotFind, MayNotKeepAll, None, NoneEnds, Option, Reads, ReadsCore, ReadsFamily, Refusal, Some, StaysAt, ap, arith, at_rank, child_of, false, has_place, here, inl, inr, it_stays, kept_at, leaf_is, leaf_itself, leaf_of, length, no_child, none_kept_at, order, placed_given_up, readies_whole, reads_placed, reads_then, reads_weaker, refl, refused_whole, rules, subst, suc, sym, true, unclean_at, unclean_of, without_children, zero, ℕ, ⊎_elim, ◌+◌, ◌<◌, ◌^◌, ◌∙◌, ◌≡◌, ◌≤◌, ◌⊎◌}
+use Rattle.mdcache.proofs.Common.{AreAbsent, AreCaches, AreKept, CacheMap, Cached, Core, Dirfrag, Fragment, HasCached, Ino, IsButPlaces, IsChildAt, IsDistinct, IsFamilyAt, IsNoLess, IsThat, IsThere, IsWhole, KeepsNone, LacksPlacesIn, Leaf, MayNotFind, MayNotKeepAll, None, NoneEnds, Option, Reads, ReadsCore, ReadsFamily, Refusal, StaysAt, ap, arith, at_rank, child_of, false, has_place, here, inl, inr, it_stays, kept_at, leaf_is, leaf_itself, leaf_of, length, no_child, none_kept_at, order, placed_given_up, readies_whole, reads_placed, reads_then, reads_weaker, refl, refused_whole, rules, subst, suc, sym, true, unclean_at, unclean_of, without_children, zero, ℕ, ⊎_elim, ◌+◌, ◌<◌, ◌^◌, ◌∙◌, ◌≡◌, ◌≤◌, ◌⊎◌}
 use Rattle.std.specs.FinMap as map
 use Rattle.dentry_cache.proofs.ChildLaws.{AreDropped, are_dropped}
 use Rattle.mdcache.proofs.CoreLaws.{first_step, next_step, no_less_itself, not_found_before, reads_core_wider, still_absent, there_after}

@@ -1,5 +1,5 @@
 -- The trees of directories are saved, one after the other.
-use Rattle.mdcache.proofs.Common.{Covers, Err, HasTree, HasTrees, Ino, IsAsBefore, IsSound, List, MayRefuse, None, Ok, Option, Refusal, SavesTree, SavesTrees, Some, State, [], ap, arith, eq_by_cmp, eqb-true, false, first_has_tree, first_tree_known, get-empty, get_left, get_removed, inl, inr, is_some, leaves_of, length, list_any, nat_cmp, next_tree_after, or_cases, refl, rules, same_or_apart, shown_tree, slice_get, subst, sym, texts_differ, tree_saved, tree_text, trees_after, true, unsigned_tied, ℕ, ⊎_elim, ◌<◌, ◌^◌, ◌∙◌, ◌∷◌, ◌≡◌, ◌⊎◌}
+use Rattle.mdcache.proofs.Common.{Covers, Err, HasTree, HasTrees, Ino, IsAsBefore, IsSound, List, MayRefuse, None, Ok, Option, Refusal, SavesTree, SavesTrees, Some, State, [], ap, arith, eq_by_cmp, eqb-true, false, first_has_tree, first_tree_known, get-empty, get_left, get_removed, inl, inr, is_some, leaves_of, length, list_any, nat_cmp, next_tree_after, or_cases, refl, same_or_apart, shown_tree, slice_get, subst, sym, texts_differ, tree_saved, tree_text, trees_after, true, unsigned_tied, ℕ, ⊎_elim, ◌<◌, ◌^◌, ◌∙◌, ◌∷◌, ◌≡◌, ◌⊎◌}
 use Rattle.std.specs.FinMap as map
 use Rattle.mds_types.specs.declared.object_names.ObjName.TheVariants.{Tree}
 use Rattle.mdcache.proofs.CoverRows.{known_by_row}

@@ -1,5 +1,5 @@
 -- What keeps a state sound.
-use Rattle.mdcache.proofs.Common.{AreCached, AreYoung, Bool, CacheMap, IsCounted, IsLive, IsOf, IsOwned, IsSaved, IsSound, IsStanding, IsTabled, IsTied, IsUnsaved, Job, Jobs, Keys, Leaf, List, Names, None, Objects, Some, State, Unsaved, ap, arith, cond, cond_both, get-insert, get-remove, inl, inr, is_some, leaf-total, leaf_is, object_of, one_leaf, refl, rules, same_Some, shown_at, shown_tree, subst, sym, text_of, tied_leaf, true, with_job, ℕ, ⊎_elim, ◌∙◌, ◌≡◌, ◌⊎◌}
+use Rattle.mdcache.proofs.Common.{AllCachedIn, AreYoung, Bool, CacheMap, IsCounted, IsLive, IsOf, IsOwned, IsSaved, IsSound, IsStandingJob, IsTabled, IsTied, IsUnsaved, Job, Jobs, Keys, Leaf, List, Names, None, Objects, Some, State, Unsaved, ap, arith, cond, cond_both, get-insert, get-remove, inl, inr, is_some, leaf-total, leaf_is, object_of, one_leaf, refl, rules, same_Some, shown_at, shown_tree, subst, sym, text_of, tied_leaf, true, with_job, ℕ, ⊎_elim, ◌∙◌, ◌≡◌, ◌⊎◌}
 use Rattle.std.specs.FinMap as map
 use Rattle.mdcache.specs.Commits.{leaf_of}
 use Rattle.mdcache.specs.Shown.{names_of}
@@ -42,7 +42,7 @@ module _ (s : State) (objects : Objects) (purge : Keys) (sound : IsSound s) wher
       once = sound.once;
     }
 
-    pub other_objects_kept : (caches : CacheMap) → AreCached s caches → AreCached now caches
+    pub other_objects_kept : (caches : CacheMap) → AllCachedIn s caches → AllCachedIn now caches
     other_objects_kept caches old leaf a there =
         let was = old leaf a there in
         record { live = was.live; tied = subst (IsTied a.frag) (sym (same leaf was.live)) was.tied; made = was.made }
@@ -57,7 +57,7 @@ pub stood_before : (s : State) (leaf q : Leaf) (job : Job) → map.get (map.remo
 stood_before s leaf q job is = cond_both (leaf_is q leaf) None (map.get s.jobs q) (λ o. o ≡ Some job → map.get s.jobs q ≡ Some job) (λ gone h. let clash : None ≡ Some job = h in absurd cc) (λ stays h. h) (sym (get_ended s leaf q) ∙ is)
 
 -- all is sound with other jobs that stand, and whose numbers are one each
-pub jobs_sound : (s : State) (jobs : Jobs) (next : ℕ) → IsSound s → ((q : Leaf) (i : Job) → map.get jobs q ≡ Some i → IsStanding (record s { jobs = jobs; next_job = next }) q i)
+pub jobs_sound : (s : State) (jobs : Jobs) (next : ℕ) → IsSound s → ((q : Leaf) (i : Job) → map.get jobs q ≡ Some i → IsStandingJob (record s { jobs = jobs; next_job = next }) q i)
     → ((a b : Leaf) (i j : Job) → map.get jobs a ≡ Some i → map.get jobs b ≡ Some j → i.number ≡ j.number → a ≡ b) → IsSound (record s { jobs = jobs; next_job = next })
 jobs_sound s jobs next sound standing once =
     let unsaved : (q : Leaf) (u : Unsaved) → map.get s.unsaved q ≡ Some u → IsUnsaved (record s { jobs = jobs; next_job = next }) q u = λ q u is. (let old = sound.unsaved q u is in record { live = old.live; made = old.made; young = old.young }) in
@@ -77,10 +77,10 @@ module _ (s : State) (job : Job) (u : Unsaved) (sound : IsSound s) (beside : map
   begun_or_before q i is = cond_both (leaf_is q (leaf_of job)) (Some job) (map.get s.jobs q) (λ o. o ≡ Some i → ((q ≡ leaf_of job) × (job ≡ i)) ⊎ (map.get s.jobs q ≡ Some i))
       (λ same h. inl (one_leaf q (leaf_of job) same, same_Some job i h)) (λ apart h. inr h) (sym (get-insert leaf-total s.jobs (leaf_of job) job q ∙ ap (λ (b : Bool). cond b (Some job) (map.get s.jobs q)) (tied_leaf q (leaf_of job))) ∙ is)
 
-  all_stand : (q : Leaf) (i : Job) → map.get begun.jobs q ≡ Some i → IsStanding begun q i
+  all_stand : (q : Leaf) (i : Job) → map.get begun.jobs q ≡ Some i → IsStandingJob begun q i
   all_stand q i is = ⊎_elim
-      (λ same. subst (λ (j : Job). IsStanding begun q j) same.1
-      (subst (λ (l : Leaf). IsStanding begun l job) (sym same.0) (record { mine = refl; given = omega (arith, number); young = young; unsaved = u; beside = beside; taken = taken })))
+      (λ same. subst (λ (j : Job). IsStandingJob begun q j) same.1
+      (subst (λ (l : Leaf). IsStandingJob begun l job) (sym same.0) (record { mine = refl; given = omega (arith, number); young = young; unsaved = u; beside = beside; taken = taken })))
       (λ before. let old = sound.standing q i before in record { mine = old.mine; given = omega (arith, old.given); young = old.young; unsaved = old.unsaved; beside = old.beside; taken = old.taken }) (begun_or_before q i is)
 
   below : (q : Leaf) (i : Job) → map.get s.jobs q ≡ Some i → i.number ≡ job.number → ⊥

@@ -1,5 +1,5 @@
 -- Splits and merges are right: each of them gives a directory another cover.
-use Rattle.mdcache.proofs.Common.{All-contains, All-contains_itself, All-filter, Bool, Fragment, HasLeaf, IsMerge, IsSplit, List, MergesAreRight, SplitsAreRight, [], ap, arith, cases_Bool, cond, false, filter_passes, first_or_later, inl, inr, later, leaves_inside, leaves_of, lies_inside, nat_tests, one_or_other, rules, subst, suc, sym, true, zero, ℕ, ⊎_elim, ◌+◌, ◌^◌, ◌∙◌, ◌∷◌, ◌≡◌, ◌≤◌}
+use Rattle.mdcache.proofs.Common.{All-contains, All-contains_itself, All-filter, Bool, Fragment, HasLeaf, IsMerge, IsSplit, List, MergesAreRight, SplitsAreRight, [], ap, arith, cases_Bool, cond, false, filter_passes, first_or_later, inl, inr, later, leaves_inside, leaves_of, lies_inside, nat_tests, one_or_other, rules, subst, sym, true, zero, ℕ, ⊎_elim, ◌+◌, ◌^◌, ◌∙◌, ◌∷◌, ◌≡◌, ◌≤◌}
 use Rattle.mdcache.proofs.RegroupLaws.{Replaces, regroup_right}
 
 -- ---- a split

@@ -1,9 +1,9 @@
 -- What a split makes of the whole, once all was ready for it.
-use Rattle.mdcache.proofs.Common.{AreCached, At, Bool, Cached, Came, CanSplit, Comes, Core, Dirfrag, Fragment, Fresh, HasCached, HasLeaf, HasUnsaved, Ino, Inode, IsChild, IsChildAt, IsConcerned, IsDistinct, IsFamilyAt, IsFreeFor, IsListedAnew, IsNewLeaf, IsNoChild, IsReadyToSplit, IsRegrouped, IsSound, IsSoundCore, IsSplit, IsSplitInto, IsSplitReady, IsTied, IsTree, IsWhole, Leaf, List, MayHold, Names, None, Option, Part, ReadsCore, Some, Split, SplitsAt, SplitsInto, State, Unsaved, [], ap, are_empty, arith, at, between, child_of, cond, dentry_of, each, false, fresh_tied, get-names_in, has_none, hash_of, here, here_free, holds, holds_contains, inl, inr, is_known, is_some, leaf_is, leaf_of, leaf_or_apart, leaves_of, length, marked_as, mul-le-mul_right, names_in, names_of, object_of, one_of_hash, one_or_other, order, pick_after_split, reads_came, refl, rules, same_Some, shown, shown_tree, span, span-split, span_pos, split_beside, split_came, split_child, split_gone, split_in, split_unclean_beside, split_unclean_child, split_unclean_gone, split_whole, state_of, string_bytes, subst, sym, tree_of_row, true, unclean, without_objects, zero, ℕ, ⊎_elim, ◌*◌, ◌+◌, ◌<◌, ◌^◌, ◌∙◌, ◌∷◌, ◌≡◌, ◌≤◌, ◌⊎◌}
+use Rattle.mdcache.proofs.Common.{AllCachedIn, At, Bool, Cached, Came, CanSplit, Comes, Core, Dirfrag, Fragment, Fresh, HasCached, HasLeaf, HasUnsaved, Ino, Inode, IsChild, IsChildAt, IsConcerned, IsDistinct, IsFamilyAt, IsFreeFor, IsListedAnew, IsNewLeaf, IsNoChild, IsReadyToSplit, IsRegrouped, IsSound, IsSoundCore, IsSplit, IsSplitInto, IsSplitReady, IsTied, IsTree, IsWhole, Leaf, List, MayHold, Names, None, Option, Part, ReadsCore, Some, Split, SplitsAt, SplitsInto, State, Unsaved, [], ap, are_empty, arith, at, between, child_of, cond, dentry_of, each, false, fresh_tied, get-names_in, has_none, hash_of, here, here_free, holds, holds_contains, inl, inr, is_known, is_some, leaf_is, leaf_of, leaf_or_apart, leaves_of, length, marked_as, mul-le-mul_right, names_in, names_of, object_of, one_of_hash, one_or_other, order, pick_after_split, reads_came, refl, rules, same_Some, shown, shown_tree, span, span-split, span_pos, split_beside, split_came, split_child, split_gone, split_in, split_unclean_beside, split_unclean_child, split_unclean_gone, split_whole, state_of, string_bytes, subst, sym, tree_of_row, true, unclean, without_objects, zero, ℕ, ⊎_elim, ◌*◌, ◌+◌, ◌<◌, ◌^◌, ◌∙◌, ◌∷◌, ◌≡◌, ◌≤◌, ◌⊎◌}
 use Rattle.std.proofs.Math.Bool.{and-true}
 use Rattle.std.specs.List.{slice_index_or}
 use Rattle.std.specs.FinMap as map
-use Rattle.mdcache.specs.Splits.{KeepsTree}
+use Rattle.mdcache.specs.Splits.{KeepsShownTree}
 use Rattle.mdcache.proofs.ChangeSteps.{cached_there, its}
 use Rattle.mdcache.proofs.CoreLaws.{reads_cached_so, reads_state, shows_so, there_after}
 use Rattle.mdcache.proofs.JoinSteps.{cached_nowhere, family_live}
@@ -42,7 +42,7 @@ holds_alike b x y same = search rules
 -- what a split leaves of the whole
 pub record HasSplit (old new : Core) (a : Dirfrag) (nb : ℕ) : Type 0 where
   pub split : IsSplitInto (state_of old) (state_of new) a.dir a.frag nb
-  pub tree : KeepsTree (state_of old) (state_of new) a.dir (a.frag ∷ [])
+  pub tree : KeepsShownTree (state_of old) (state_of new) a.dir (a.frag ∷ [])
   pub came : Came (IsFamilyAt a.rank.0 a.dir a.frag nb) (IsFamilyAt a.rank.0 a.dir a.frag nb) old.caches new.caches
   pub sound : IsSoundCore new
 
@@ -75,7 +75,7 @@ module _ (old mid : Core) (sound : IsSoundCore old) (a : Dirfrag) (nb : ℕ) (sp
   still = subst (λ (u : State). IsSound u × (is_known u.homes a.dir.0 ≡ true) × CanSplit (leaves_of u.covers a.dir.0) a.frag nb) (sym was) (sound.sound, known, can)
 
   -- cached leaves are sound still
-  cached : AreCached s mid.caches
+  cached : AllCachedIn s mid.caches
   cached = reads_cached_so Family Family old mid reads sound (family_live old a nb known can mid.caches (λ i below. (ready.kept i below).1))
 
   abbrev row : List Fragment

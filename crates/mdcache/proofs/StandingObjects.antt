@@ -1,5 +1,5 @@
 -- No call touches the object of a fragment while a job stands for it.
-use Rattle.mdcache.proofs.Common.{BeginsWith, Bool, Change, Drops, Ends, Err, Fragment, Ino, Inode, IsRegrouped, IsSound, Job, Leaf, List, Makes, None, Ok, Option, PurgesName, PutsThen, Refusal, Result, SavesTree, Some, Spot, State, TakesThen, Unsaved, ap, cond, dentry_at, false, first_name, get_beside, housed, inl, inr, is_dir_kind, object_of, refl, rules, sym, text_of, true, with_directory, with_home_at, with_new, without, ℕ, ◌∙◌, ◌≡◌}
+use Rattle.mdcache.proofs.Common.{BeginsUnsaved, Bool, Change, Drops, EndsJobOf, Err, Fragment, Ino, Inode, IsRegrouped, IsSound, Job, Leaf, List, Makes, None, Ok, Option, PurgesName, PutsThen, Refusal, Result, SavesTree, Some, Spot, State, TakesThen, Unsaved, ap, first_name, get_beside, housed, inl, inr, object_of, rules, sym, text_of, without_gone_dir, ℕ, ◌∙◌, ◌≡◌}
 use Rattle.std.specs.FinMap as map
 use Rattle.mds_types.proofs.LeafLaws.{get_removed, same_or_apart}
 use Rattle.objstore.specs.Objects.{written}
@@ -17,12 +17,12 @@ same_state old new same = ap (λ (s : State). s.objects) same
 
 -- ---- a change of the tree touches no object
 
-without_objects : (s : State) (went : Option Ino) → (without s went).objects ≡ s.objects
+without_objects : (s : State) (went : Option Ino) → (without_gone_dir s went).objects ≡ s.objects
 without_objects s went = search rules
 
 -- whatever entry it takes and puts
 altered_objects : (takes : Option Spot) (puts : Option (Spot × Inode)) (comes : Bool) (gone : Option Ino) (old new : State)
-    → TakesThen old takes (λ left. PutsThen left puts (λ named. new ≡ without (housed named takes puts comes) gone)) → ObjectsStay old new
+    → TakesThen old takes (λ left. PutsThen left puts (λ named. new ≡ without_gone_dir (housed named takes puts comes) gone)) → ObjectsStay old new
 altered_objects takes puts comes gone old new is = search (rules, without_objects)
 
 pub made_objects : (change : Change) (old new : State) → Makes change old new → ObjectsStay old new
@@ -35,7 +35,7 @@ regrouped_objects old new dir gone cover count did = ap (λ (s : State). s.objec
 -- ---- commits, tree objects and the purge list
 
 module _ (old new : State) where
-  pub begun_objects : (unsaved : Option Unsaved) (leaf : Leaf) (job : Option Job) → BeginsWith old new leaf unsaved job → ObjectsStay old new
+  pub begun_objects : (unsaved : Option Unsaved) (leaf : Leaf) (job : Option Job) → BeginsUnsaved old new leaf unsaved job → ObjectsStay old new
   begun_objects unsaved leaf job h = search rules
 
   pub dropped_objects : (number : ℕ) (result : Result (Unit {0}) Refusal) → Drops old new number result → ObjectsStay old new
@@ -47,7 +47,7 @@ module _ (old new : State) where
     live = let standing = sound.standing leaf job stood in (sound.unsaved leaf standing.unsaved standing.beside).live
 
     -- another job's commit writes another object, and its own ends it
-    pub ended_object : (stands : map.get new.jobs leaf ≡ Some job) (before after : ℕ) (other : Job) (result : Result (Unit {0}) Refusal) → Ends old new before after other result → object_of new.objects leaf.0 leaf.1 ≡ object_of old.objects leaf.0 leaf.1
+    pub ended_object : (stands : map.get new.jobs leaf ≡ Some job) (before after : ℕ) (other : Job) (result : Result (Unit {0}) Refusal) → EndsJobOf old new before after other result → object_of new.objects leaf.0 leaf.1 ≡ object_of old.objects leaf.0 leaf.1
     unfolding written
     ended_object stands before after other (Err reason) h = ap (λ (s : State). object_of s.objects leaf.0 leaf.1) h.1
     ended_object stands before after other (Ok done) h = ap (λ (s : State). object_of s.objects leaf.0 leaf.1) h.left ∙ elim (same_or_apart leaf (leaf_of other)) [

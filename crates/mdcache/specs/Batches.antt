@@ -8,7 +8,7 @@ use Rattle.mds_types.specs.declared.refusals.Refusal.{Refusal}
 use Rattle.mds_types.specs.declared.refusals.Refusal.TheVariants.{NoInodes, NoMemory}
 use Rattle.dentry_cache.specs.Cache.{Leaf, Unsaved}
 use Rattle.dentry_cache.specs.CacheMap.{CacheMap, unclean}
-use Rattle.mdcache.specs.Commits.{HasSpelled, LacksNumber, leaf_of as job_leaf}
+use Rattle.mdcache.specs.Commits.{HasSpelled, LacksJobNumber, leaf_of as job_leaf}
 use Rattle.mdcache.specs.Core.{Core, state_of}
 use Rattle.mdcache.specs.Flushed.{IsAtHand}
 use Rattle.mdcache.specs.Ranks.{MayHold}
@@ -31,9 +31,9 @@ pub record IsUncleanAt (caches : CacheMap) (at : Dirfrag) : Type 0 where
 abbrev pub NotAmong : Leaf → List Leaf → Type 0
 NotAmong leaf leaves = AllByRecursion (λ (q : Leaf). q ≡ leaf → ⊥) leaves
 
-abbrev pub AreApart : List Leaf → Type 0
-AreApart [] = Unit {0}
-AreApart (leaf ∷ leaves) = NotAmong leaf leaves × AreApart leaves
+abbrev pub AreOfOtherLeaves : List Leaf → Type 0
+AreOfOtherLeaves [] = Unit {0}
+AreOfOtherLeaves (leaf ∷ leaves) = NotAmong leaf leaves × AreOfOtherLeaves leaves
 
 -- where fragments lie, and whose jobs were begun
 abbrev pub leaves_at : List Dirfrag → List Leaf
@@ -59,12 +59,12 @@ abbrev pub leaves_of_writes : List Ready → List Leaf
 leaves_of_writes ready = list_map (λ (r : Ready). job_leaf r.encoded.job) ready
 
 -- so it is with the job of a write
-abbrev pub IsReadyAt : Core → Ready → Type 0
-IsReadyAt core r = IsBegunAt core (record { rank = r.rank; job = r.encoded.job })
+abbrev pub IsReadyWrite : Core → Ready → Type 0
+IsReadyWrite core r = IsBegunAt core (record { rank = r.rank; job = r.encoded.job })
 
 -- no number is left for a job of a leaf that isn't clean, or none for the version that its commit would write
 abbrev pub LacksNumberFor : State → Leaf → Type 0
-LacksNumberFor s leaf = (u : Unsaved) × (map.get s.unsaved leaf ≡ Some u) × LacksNumber s u
+LacksNumberFor s leaf = (u : Unsaved) × (map.get s.unsaved leaf ≡ Some u) × LacksJobNumber s u
 
 -- why no commit of a leaf begins that isn't clean and for which no job stands
 abbrev pub MayNotBeginOne : State → Leaf → Refusal → Type 0

@@ -9,5 +9,5 @@ abbrev pub LacksPlacesIn : ℕ → CacheMap → ℕ → Type 0
 LacksPlacesIn count c r = c.cap < finmap.len (unclean_of c r) + count
 
 -- a leaf is the most recently used of a rank
-abbrev pub IsNewest : CacheMap → ℕ → Leaf → Type 0
-IsNewest c r leaf = slice_get (order c r) 0 ≡ Some leaf
+abbrev pub IsNewestOf : CacheMap → ℕ → Leaf → Type 0
+IsNewestOf c r leaf = slice_get (order c r) 0 ≡ Some leaf

@@ -26,14 +26,14 @@ use Rattle.mdcache.specs.State.{State, text_of, tree_text}
 -- ---- one name
 
 -- an object that counts, at this version
-abbrev pub Counts : Base → Option Omap → Type 0
-Counts Fresh object = ⊥
-Counts (Stored version) object = HasSpelled object version (names_at object)
+abbrev pub IsCountedObject : Base → Option Omap → Type 0
+IsCountedObject Fresh object = ⊥
+IsCountedObject (Stored version) object = HasSpelled object version (names_at object)
 
 -- a fragment as it stands: what isn't clean of it; of a clean one no name is dirty, and its object counts
 abbrev pub IsAsItStands : Option Unsaved → Option Omap → ℕ → Unsaved → Type 0
 IsAsItStands (Some u) object next now = now ≡ u
-IsAsItStands None object next now = Counts now.base object × (now.dirty ≡ map.empty) × (now.generation < next)
+IsAsItStands None object next now = IsCountedObject now.base object × (now.dirty ≡ map.empty) × (now.generation < next)
 
 -- a fragment in which a name is dirty at a version
 abbrev pub dirtied : Unsaved → List ℕ → ℕ → Option Inode → Unsaved
@@ -79,7 +79,7 @@ with_directory s dentry dir = record s {
 abbrev pub with_new : State → Dentry → Inode → State
 with_new s dentry inode = cond (is_dir_kind inode.kind) (with_directory s dentry inode.ino) s
 
--- what is kept of leaves, without some
+-- what is kept of leaves, without_gone_dir some
 abbrev pub without_leaves : {X : Type 0} → map.FinMap leaf_cmp X → List Leaf → map.FinMap leaf_cmp X
 without_leaves kept [] = kept
 without_leaves kept (leaf ∷ leaves) = without_leaves (map.remove kept leaf) leaves
@@ -90,8 +90,8 @@ with_objects names [] = names
 with_objects names (name ∷ more) = with_objects (map.insert names name tt) more
 
 -- the names of the objects of a directory: that of its tree, and those of its leaves
-abbrev pub objects_of : State → Ino → List (List ℕ)
-objects_of s dir = tree_text dir ∷ each text_of (leaves s.covers dir.0)
+abbrev pub object_texts_of : State → Ino → List (List ℕ)
+object_texts_of s dir = tree_text dir ∷ each text_of (leaves s.covers dir.0)
 
 -- a directory that goes has no home and no leaves; nothing of them is unsaved, no job stands for them, and all its
 -- objects are to be removed
@@ -101,13 +101,13 @@ without_directory s dir = record s {
   covers = map.remove s.covers dir.0;
   unsaved = without_leaves s.unsaved (leaves s.covers dir.0);
   jobs = without_leaves s.jobs (leaves s.covers dir.0);
-  purge = with_objects s.purge (objects_of s dir);
+  purge = with_objects s.purge (object_texts_of s dir);
 }
 
 -- so it is with what went, if that is a directory
-abbrev pub without : State → Option Ino → State
-without s None = s
-without s (Some dir) = without_directory s dir
+abbrev pub without_gone_dir : State → Option Ino → State
+without_gone_dir s None = s
+without_gone_dir s (Some dir) = without_directory s dir
 
 -- an inode that moved has its home there, if it is a directory
 abbrev pub with_home_at : State → Dentry → Inode → State
@@ -138,8 +138,8 @@ stood_at tree (Some put) = is_some (map.get tree (dentry_at put.0))
 
 -- what a change leaves, with the counts and the pins that it makes of those before; those of a directory that goes go
 -- with it
-abbrev pub noted : State → Change → State → State
-noted old change s = record s {
+abbrev pub noted_change : State → Change → State → State
+noted_change old change s = record s {
   counts =
       rows_but (counts_by old.counts
       (stood_at (shown_tree old) change.puts) change.takes change.puts change.comes) change.gone;
@@ -171,8 +171,8 @@ housed s (Some spot) (Some put) comes = with_home_at s (dentry_at put.0) put.1
 abbrev pub Alters : Change → State → State → Type 0
 Alters change old new =
     TakesThen old change.takes (λ left. PutsThen left change.puts
-    (λ named. new ≡ without (housed named change.takes change.puts change.comes) change.gone))
+    (λ named. new ≡ without_gone_dir (housed named change.takes change.puts change.comes) change.gone))
 
 -- so it is, and with that the counts and the pins
 abbrev pub Makes : Change → State → State → Type 0
-Makes change old new = (altered : State) × Alters change old altered × (new ≡ noted old change altered)
+Makes change old new = (altered : State) × Alters change old altered × (new ≡ noted_change old change altered)

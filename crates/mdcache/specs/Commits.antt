@@ -49,30 +49,30 @@ with_job s job = record s { jobs = map.insert s.jobs (leaf_of job) job; next_job
 abbrev pub IsAtEnd : ℕ → Base → Type 0
 IsAtEnd number base = (number ≡ 2 ^ 64 - 1) ⊎ (IsBelowEnd base → ⊥)
 
-abbrev pub LacksNumber : State → Unsaved → Type 0
-LacksNumber s u = IsAtEnd s.next_job u.base
+abbrev pub LacksJobNumber : State → Unsaved → Type 0
+LacksJobNumber s u = IsAtEnd s.next_job u.base
 
 -- a clean fragment gives nothing; of any other the job of its snapshot stands then
-abbrev pub BeginsWith : (old new : State) → Leaf → Option Unsaved → Option Job → Type 0
-BeginsWith old new leaf None job = (job ≡ None) × (new ≡ old)
-BeginsWith old new leaf (Some u) None = ⊥
-BeginsWith old new leaf (Some u) (Some job) =
-    (job ≡ job_for old leaf u) × (LacksNumber old u → ⊥) × (new ≡ with_job old job)
+abbrev pub BeginsUnsaved : (old new : State) → Leaf → Option Unsaved → Option Job → Type 0
+BeginsUnsaved old new leaf None job = (job ≡ None) × (new ≡ old)
+BeginsUnsaved old new leaf (Some u) None = ⊥
+BeginsUnsaved old new leaf (Some u) (Some job) =
+    (job ≡ job_for old leaf u) × (LacksJobNumber old u → ⊥) × (new ≡ with_job old job)
 
 -- why no commit of a leaf begins: there is no such leaf; a job stands for it; a number is lacking for a fragment that
 -- isn't clean; want of memory, where none of these
-abbrev pub MayNotBegin : State → Leaf → Refusal → Type 0
-MayNotBegin s leaf reason =
+abbrev pub MayNotBeginJob : State → Leaf → Refusal → Type 0
+MayNotBeginJob s leaf reason =
     ((reason ≡ NoSuchFrag) × (IsLive s.homes s.covers leaf → ⊥))
     ⊎ ((reason ≡ JobOutstanding) × IsLive s.homes s.covers leaf × (is_some (map.get s.jobs leaf) ≡ true))
     ⊎ (IsLive s.homes s.covers leaf × (map.get s.jobs leaf ≡ None) × (u : Unsaved) × (map.get s.unsaved leaf ≡ Some u)
-    × (((reason ≡ NoInodes) × LacksNumber s u) ⊎ ((reason ≡ NoMemory) × (LacksNumber s u → ⊥))))
+    × (((reason ≡ NoInodes) × LacksJobNumber s u) ⊎ ((reason ≡ NoMemory) × (LacksJobNumber s u → ⊥))))
 
 abbrev pub Begins : (old new : State) → Leaf → Result (Option Job) Refusal → Type 0
 Begins old new leaf (Ok job) =
     IsLive old.homes old.covers leaf × (map.get old.jobs leaf ≡ None)
-    × BeginsWith old new leaf (map.get old.unsaved leaf) job
-Begins old new leaf (Err reason) = MayNotBegin old leaf reason × (new ≡ old)
+    × BeginsUnsaved old new leaf (map.get old.unsaved leaf) job
+Begins old new leaf (Err reason) = MayNotBeginJob old leaf reason × (new ≡ old)
 
 -- ---- a commit ends
 
@@ -115,9 +115,9 @@ pub record IsEnded (old new : State) (job : Job) : Type 0 where
 
 -- it is refused StaleJob exactly where no job of this number, fragment, generation and snapshot stands, and otherwise
 -- as the store refuses
-abbrev pub Ends : (old new : State) → (before after : ℕ) → Job → Result (Unit {0}) Refusal → Type 0
-Ends old new before after job (Ok done) = IsEnded old new job
-Ends old new before after job (Err reason) =
+abbrev pub EndsJobOf : (old new : State) → (before after : ℕ) → Job → Result (Unit {0}) Refusal → Type 0
+EndsJobOf old new before after job (Ok done) = IsEnded old new job
+EndsJobOf old new before after job (Err reason) =
     (((reason ≡ StaleJob) × (map.get old.jobs (leaf_of job) ≡ Some job → ⊥))
     ⊎ ((map.get old.jobs (leaf_of job) ≡ Some job) × MayRefuse before after reason)) × (new ≡ old)
 

@@ -89,14 +89,14 @@ pub record IsCachedIn (s : State) (leaf : Leaf) (f : Cached) : Type 0 where
   pub made : f.generation < s.next_generation
 
 -- so it is with each
-abbrev pub AreCached : State → CacheMap → Type 0
-AreCached s caches = (leaf : Leaf) (a : At) → map.get caches.held leaf ≡ Some a → IsCachedIn s leaf a.frag
+abbrev pub AllCachedIn : State → CacheMap → Type 0
+AllCachedIn s caches = (leaf : Leaf) (a : At) → map.get caches.held leaf ≡ Some a → IsCachedIn s leaf a.frag
 
 -- the state is sound, and so is each cached fragment; no place is kept
 pub record IsSoundCore (c : Core) : Type 0 where
   pub sound : IsSound (state_of c)
   pub begun : 0 < c.next_generation
-  pub cached : AreCached (state_of c) c.caches
+  pub cached : AllCachedIn (state_of c) c.caches
   pub none : KeepsNone c.caches
 
 -- no less room than before
@@ -163,10 +163,10 @@ with_dir p a home object room = record p {
   room = room;
 }
 
--- an inode moved from one name to another, where something was shown or nothing, and has its home there, if it is a
+-- an inode moved_entry from one name to another, where something was shown or nothing, and has its home there, if it is a
 -- directory
-abbrev pub moved : Core → Dirfrag → List ℕ → Dirfrag → List ℕ → List ℕ → Inode → Core
-moved c from source to target name inode =
+abbrev pub moved_entry : Core → Dirfrag → List ℕ → Dirfrag → List ℕ → List ℕ → Inode → Core
+moved_entry c from source to target name inode =
     named (record (named c from source None) {
       homes =
           with_home c.homes (record { dir = to.dir; name = name }) inode;

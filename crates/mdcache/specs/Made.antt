@@ -20,7 +20,7 @@ IsUntouched old new leaf = IsLive old.homes old.covers leaf → StaysAsItIs old 
 
 -- the state is sound, the shown tree is the changed one, each directory that stands has the leaves that it had, and a
 -- leaf that is none of those that change stays as it is
-pub record IsRight (change : Change) (old new : State) : Type 0 where
+pub record IsRightChange (change : Change) (old new : State) : Type 0 where
   pub sound : IsSound new
   pub tree : shown_tree new ≡ changed (shown_tree old) change
   pub leaves : KeepLeaves (shown_tree new) old.covers new.covers
@@ -34,4 +34,4 @@ HasNumber change = IsNumbered (λ n. n < 2 ^ 64) change
 abbrev pub ChangesAreRight : Type 0
 ChangesAreRight =
     (change : Change) (old new : State) → IsSound old → HasNumber change → MayChange (shown_tree old) old.covers change
-    → Makes change old new → IsRight change old new
+    → Makes change old new → IsRightChange change old new

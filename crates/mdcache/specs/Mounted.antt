@@ -13,7 +13,7 @@ pub use Rattle.cold_store.specs.ColdTree.{IsColdTree, IsFaulty}
 pub use Rattle.cold_store.specs.Numbers.{IsNext, IsOfRank}
 pub use Rattle.cold_store.specs.Walked.{IsWalked, MayFail}
 use Rattle.mdcache.specs.Core.{Core, state_of}
-use Rattle.mdcache.specs.New.{new_caches, new_state}
+use Rattle.mdcache.specs.New.{new_caches, new_tree_state}
 use Rattle.mdcache.specs.State.{State}
 
 -- the directories that a store has, with the leaves of each, its count and its pin, some of its objects to be removed,
@@ -43,15 +43,15 @@ pub record IsMounted (limit : ℕ) (objects : Objects) (ranks places : ℕ) (tre
   pub caches : c.caches ≡ no_caches ranks places
 
 -- the tree over a store that has no object, as `format` makes it
-pub record IsNew (limit ranks places : ℕ) (tree : Tree) (c : Core) : Type 0 where
+pub record IsNewTree (limit ranks places : ℕ) (tree : Tree) (c : Core) : Type 0 where
   pub none : tree ≡ map.empty
-  pub state : state_of c ≡ new_state limit
+  pub state : state_of c ≡ new_tree_state limit
   pub caches : c.caches ≡ new_caches ranks places
 
 -- a store with no object is mounted as a new one; any other as a walk finds it
 abbrev pub Mounts : ℕ → Objects → (ranks places : ℕ) → Tree → Core → Type 0
 Mounts limit objects ranks places tree c =
-    ((objects ≡ map.empty) × IsNew limit ranks places tree c)
+    ((objects ≡ map.empty) × IsNewTree limit ranks places tree c)
     ⊎ ((objects ≡ map.empty → ⊥) × IsMounted limit objects ranks places tree c)
 
 -- for each of so many ranks the number that it hands out next beside a tree

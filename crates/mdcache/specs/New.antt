@@ -27,8 +27,8 @@ abbrev pub new_caches : ℕ → ℕ → CacheMap
 new_caches ranks places = with_frag (no_caches ranks places) 0 root_leaf cached_root
 
 -- the root directory alone, with no entry, and nothing begun, where a directory may have so many entries
-abbrev pub new_state : ℕ → State
-new_state limit = record {
+abbrev pub new_tree_state : ℕ → State
+new_tree_state limit = record {
   limit = limit;
   homes = map.empty;
   covers = map.empty;

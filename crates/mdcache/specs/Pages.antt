@@ -1,4 +1,4 @@
--- A page of a directory, gathered from its leaves one after the other.
+-- A page of a directory, rows_gathered from its leaves one after the other.
 use Rattle.std.specs.Prelude.{◌≡◌, ℕ, Bool, ◌||◌, true, List, [], ◌∷◌, Option, length, nat_lt, take}
 use Rattle.std.specs.FinMap as map
 use Rattle.std.specs.FinMap.Entries.{put}
@@ -8,7 +8,7 @@ use Rattle.sorted_map.specs.Places.{IsGap, puts}
 use Rattle.dirfrag_codec.specs.FragmentObject.{Names}
 use Rattle.cached_frag.specs.Rows.{Row, rows_after}
 
--- what was gathered: the first names so far with their inodes, at most so many, and whether there were more
+-- what was rows_gathered: the first names so far with their inodes, at most so many, and whether there were more
 pub record Gathered : Type 0 where
   pub rows : List Row
   pub more : Bool
@@ -20,7 +20,7 @@ pub record IsPageOf (whole : List Row) (page : Gathered) : Type 0 where
   pub more : page.more ≡ nat_lt page.most (length whole)
 
 -- one name is taken in
-pub record Takes (row : Row) (old new : Gathered) : Type 0 where
+pub record TakesRow (row : Row) (old new : Gathered) : Type 0 where
   pub most : new.most ≡ old.most
   pub rows : new.rows ≡ take old.most (put key_cmp row.0 row.1 old.rows)
   pub more : new.more ≡ (old.more || nat_lt old.most (length (put key_cmp row.0 row.1 old.rows)))
@@ -32,7 +32,7 @@ pub record IsBeyond (name : List ℕ) (page : Gathered) : Type 0 where
   pub more : page.more ≡ true
 
 -- names greater than `after` of some leaves put to others in order
-abbrev pub gathered : (Fragment → Names) → Option (List ℕ) → List Row → List Fragment → List Row
-gathered names after rows [] = rows
-gathered names after rows (f ∷ leaves) =
-    gathered names after (puts key_cmp rows (rows_after after (map.entries (names f)))) leaves
+abbrev pub rows_gathered : (Fragment → Names) → Option (List ℕ) → List Row → List Fragment → List Row
+rows_gathered names after rows [] = rows
+rows_gathered names after rows (f ∷ leaves) =
+    rows_gathered names after (puts key_cmp rows (rows_after after (map.entries (names f)))) leaves

@@ -39,7 +39,7 @@ pub record IsOf (job : Job) (u : Unsaved) (object : Option Omap) : Type 0 where
   pub counted : job.snapshot.counts ≡ counts_of (shown_over job.snapshot.base (names_at object) job.snapshot.names)
 
 -- a job that stands is of its leaf, which isn't clean; its number and the versions of its names were given out
-pub record IsStanding (s : State) (leaf : Leaf) (job : Job) : Type 0 where
+pub record IsStandingJob (s : State) (leaf : Leaf) (job : Job) : Type 0 where
   pub mine : (job.ino, job.frag) ≡ leaf
   pub given : job.number < s.next_job
   pub young : AreYoung job.snapshot.names s.next_version
@@ -78,6 +78,6 @@ pub record IsSound (s : State) : Type 0 where
   -- no object of a live leaf is to be removed
   pub listed : (leaf : Leaf) → IsLive s.homes s.covers leaf → map.get s.purge (text_of leaf) ≡ None
   -- each job is of a fragment that isn't clean, and no two have one number
-  pub standing : (leaf : Leaf) (job : Job) → map.get s.jobs leaf ≡ Some job → IsStanding s leaf job
+  pub standing : (leaf : Leaf) (job : Job) → map.get s.jobs leaf ≡ Some job → IsStandingJob s leaf job
   pub once : (a b : Leaf) (i j : Job) → map.get s.jobs a ≡ Some i → map.get s.jobs b ≡ Some j → i.number ≡ j.number
       → a ≡ b

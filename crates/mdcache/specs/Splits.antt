@@ -120,7 +120,7 @@ pub record IsMergedInto (old new : State) (dir : Ino) (frag : Fragment) : Type 0
 
 -- the state is sound, the tree that is shown is the same, and each leaf that didn't end stands, and shows what it
 -- showed
-pub record KeepsTree (old new : State) (dir : Ino) (gone : List Fragment) : Type 0 where
+pub record KeepsShownTree (old new : State) (dir : Ino) (gone : List Fragment) : Type 0 where
   pub sound : IsSound new
   pub tree : shown_tree new ≡ shown_tree old
   pub frame : ChangesOnly (IsUntouched old new) (each (in_directory dir.0) gone)
@@ -129,9 +129,9 @@ pub record KeepsTree (old new : State) (dir : Ino) (gone : List Fragment) : Type
 abbrev pub SplitsAreRight : Type 0
 SplitsAreRight =
     (old new : State) (dir : Ino) (frag : Fragment) (nb : ℕ) → IsSound old → IsSplitInto old new dir frag nb
-    → KeepsTree old new dir (frag ∷ [])
+    → KeepsShownTree old new dir (frag ∷ [])
 
 abbrev pub MergesAreRight : Type 0
 MergesAreRight =
     (old new : State) (dir : Ino) (frag : Fragment) → IsSound old → IsMergedInto old new dir frag
-    → KeepsTree old new dir (leaves_inside frag (leaves_of old.covers dir.0))
+    → KeepsShownTree old new dir (leaves_inside frag (leaves_of old.covers dir.0))

@@ -6,7 +6,7 @@ use Rattle.mds_types.specs.Frag.{Fragment}
 use Rattle.fragtree.specs.FragTree.{CanMerge, CanSplit, RefusesMerge, RefusesSplit, leaves_inside}
 use Rattle.inode_table.specs.Dirs.{leaves_of}
 use Rattle.mdcache.specs.Regroups.{MayNotRegroup}
-use Rattle.mdcache.specs.Splits.{IsMergedInto, IsSplitInto, KeepsTree}
+use Rattle.mdcache.specs.Splits.{IsMergedInto, IsSplitInto, KeepsShownTree}
 use Rattle.mdcache.specs.Core.{Core, state_of}
 
 -- nothing was done, but that clean fragments came or went
@@ -20,10 +20,10 @@ MayNotSplit NoPlace old new dir frag nb reason =
     MayNotRegroup (CanSplit (leaves_of old.covers dir.0) frag nb) (RefusesSplit (leaves_of old.covers dir.0) frag nb)
     (state_of old) dir (2 ^ nb) NoPlace old.faults new.faults reason
 
-abbrev pub SplitsLeaf : (NoPlace : Type 0) → (old new : Core) → Ino → Fragment → ℕ → Result (Unit {0}) Refusal → Type 0
-SplitsLeaf NoPlace old new dir frag nb (Ok done) =
-    IsSplitInto (state_of old) (state_of new) dir frag nb × KeepsTree (state_of old) (state_of new) dir (frag ∷ [])
-SplitsLeaf NoPlace old new dir frag nb (Err reason) = MayNotSplit NoPlace old new dir frag nb reason × IsUndone old new
+abbrev pub SplitsFrag : (NoPlace : Type 0) → (old new : Core) → Ino → Fragment → ℕ → Result (Unit {0}) Refusal → Type 0
+SplitsFrag NoPlace old new dir frag nb (Ok done) =
+    IsSplitInto (state_of old) (state_of new) dir frag nb × KeepsShownTree (state_of old) (state_of new) dir (frag ∷ [])
+SplitsFrag NoPlace old new dir frag nb (Err reason) = MayNotSplit NoPlace old new dir frag nb reason × IsUndone old new
 
 -- the leaves that a merge at a fragment ends
 abbrev pub merged_leaves : Core → Ino → Fragment → List Fragment
@@ -35,8 +35,8 @@ MayNotMerge NoPlace old new dir frag reason =
     MayNotRegroup (CanMerge (leaves_of old.covers dir.0) frag) (RefusesMerge (leaves_of old.covers dir.0) frag)
     (state_of old) dir 1 NoPlace old.faults new.faults reason
 
-abbrev pub MergesLeaves : (NoPlace : Type 0) → (old new : Core) → Ino → Fragment → Result (Unit {0}) Refusal → Type 0
-MergesLeaves NoPlace old new dir frag (Ok done) =
+abbrev pub MergesFrags : (NoPlace : Type 0) → (old new : Core) → Ino → Fragment → Result (Unit {0}) Refusal → Type 0
+MergesFrags NoPlace old new dir frag (Ok done) =
     IsMergedInto (state_of old) (state_of new) dir frag
-    × KeepsTree (state_of old) (state_of new) dir (merged_leaves old dir frag)
-MergesLeaves NoPlace old new dir frag (Err reason) = MayNotMerge NoPlace old new dir frag reason × IsUndone old new
+    × KeepsShownTree (state_of old) (state_of new) dir (merged_leaves old dir frag)
+MergesFrags NoPlace old new dir frag (Err reason) = MayNotMerge NoPlace old new dir frag reason × IsUndone old new

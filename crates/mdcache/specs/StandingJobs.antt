@@ -11,7 +11,7 @@ abbrev pub Jobs : Type 0
 Jobs = map.FinMap leaf_cmp Job
 
 -- the jobs, and how many more fit with no growth
-pub record Standing : Type 0 where
+pub record JobTable : Type 0 where
   pub jobs : Jobs
   pub room : ℕ
 
@@ -30,9 +30,9 @@ is_behind None leaf = true
 is_behind (Some other) leaf = is_lt (leaf_cmp other leaf)
 
 -- the least leaf behind another for which a job stands; none, where none stands for a leaf behind it
-abbrev pub IsNext : Jobs → Option Leaf → Option Leaf → Type 0
-IsNext jobs after None = (leaf : Leaf) → is_behind after leaf ≡ true → map.get jobs leaf ≡ None
-IsNext jobs after (Some next) =
+abbrev pub IsNextJob : Jobs → Option Leaf → Option Leaf → Type 0
+IsNextJob jobs after None = (leaf : Leaf) → is_behind after leaf ≡ true → map.get jobs leaf ≡ None
+IsNextJob jobs after (Some next) =
     (is_behind after next ≡ true) × IsSome (map.get jobs next)
     × ((leaf : Leaf) → is_behind after leaf ≡ true → IsSome (map.get jobs leaf) → (leaf ≡ next)
     ⊎ (leaf_cmp next leaf ≡ Less))

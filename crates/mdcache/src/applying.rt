@@ -13,7 +13,7 @@ ghost use Rattle.dentry_cache.specs.CacheSplits.{IsKeptFor};
 ghost use Rattle.inode_table.specs.Dirs.{MayCome, MayGo, MayMove, count_of, is_known};
 ghost use Rattle.inode_table.specs.TreeTable.{with_home};
 ghost use Rattle.mdcache.specs.Changes.{first_leaf};
-ghost use Rattle.mdcache.specs.Core.{moved, named, pinned, shows, with_dir, with_entry, without_dir, without_entry};
+ghost use Rattle.mdcache.specs.Core.{moved_entry, named, pinned, shows, with_dir, with_entry, without_dir, without_entry};
 ghost use Rattle.mdcache.specs.Going.{count_going, dir_going, leaves_going, texts_going};
 ghost use Rattle.mdcache.specs.PurgeList.{IsGiven};
 ghost use Rattle.mdcache.specs.State.{text_of};
@@ -125,7 +125,7 @@ impl<S: Store + Drop> MdCache<S> {
             (λ dir. MayGo (with_home self.old.homes (record { dir = to.at.dir; name = moving.name }) inode) dir.0) }
         requires purge { count_going moving.going ≤ self.old.room.purge }
         ensures none { KeepsNone self.old.caches → KeepsNone self.new.caches }
-        ensures moved { self.new ≡ without_dir (moved self.old from.at from.name to.at to.name moving.name inode)
+        ensures moved { self.new ≡ without_dir (moved_entry self.old from.at from.name to.at to.name moving.name inode)
             (dir_going moving.going) (leaves_going moving.going) (texts_going moving.going) self.new.room }
     {
         let MovingEntry { name, going } = moving;

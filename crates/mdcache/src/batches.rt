@@ -7,7 +7,7 @@ ghost use Rattle.objstore.specs.Objects.{MayRefuse, faults_told};
 ghost use Rattle.mds_types.specs.Leaf.{leaf_of};
 ghost use Rattle.mds_types.specs.declared.refusals.Refusal.TheVariants.{NoMemory};
 ghost use Rattle.dentry_cache.specs.CacheMap.{unclean};
-ghost use Rattle.mdcache.specs.Batches.{AreApart, CommitsWhole, IsBegunAt, IsReadied, IsReadyAt, IsUncleanAt, MayNotBeginAll};
+ghost use Rattle.mdcache.specs.Batches.{AreOfOtherLeaves, CommitsWhole, IsBegunAt, IsReadied, IsReadyWrite, IsUncleanAt, MayNotBeginAll};
 ghost use Rattle.mdcache.specs.Batches.{MayNotBeginOne, MayNotCommit, leaves_at, leaves_of_jobs, leaves_of_writes, ready_of};
 ghost use Rattle.mdcache.specs.Commits.{Begins, IsEnded, leaf_of as job_leaf};
 ghost use Rattle.mdcache.specs.Core.{IsSoundCore, state_of};
@@ -113,7 +113,7 @@ impl<S: Store + Drop> MdCache<S> {
     fn next_batch(&self, alloc: Global) -> Result<Vec<Dirfrag>, Refusal>
         requires { length self.now.caches.used ≤ 256 }
         ensures unclean { IfOk result (λ leaves. AllByRecursion (IsUncleanAt self.now.caches) leaves.items) }
-        ensures apart { IfOk result (λ leaves. AreApart (leaves_at leaves.items)) }
+        ensures apart { IfOk result (λ leaves. AreOfOtherLeaves (leaves_at leaves.items)) }
         ensures few { IfOk result (λ leaves. length leaves.items ≤ 256) }
         ensures none { IfOk result (λ leaves. leaves.items ≡ [] → unclean self.now.caches ≡ map.empty) }
         ensures refused { IfErr result (λ reason. reason ≡ NoMemory) }
@@ -134,7 +134,7 @@ impl<S: Store + Drop> MdCache<S> {
     ) -> Result<(), Refusal>
         requires sound { IsSoundCore self.old }
         requires none { self.old.jobs ≡ map.empty }
-        requires apart { AreApart (leaves_at leaves.now) }
+        requires apart { AreOfOtherLeaves (leaves_at leaves.now) }
         requires unclean { AllByRecursion (IsUncleanAt self.old.caches) leaves.now }
         ensures whole { CommitsWhole (state_of self.old) (state_of self.new) }
         ensures jobs { self.new.jobs ≡ map.empty }
@@ -182,7 +182,7 @@ impl<S: Store + Drop> MdCache<S> {
     ) -> Result<(), Refusal>
         requires sound { IsSoundCore self.old }
         requires none { self.old.jobs ≡ map.empty }
-        requires apart { AreApart (leaves_at leaves.now) }
+        requires apart { AreOfOtherLeaves (leaves_at leaves.now) }
         requires unclean { AllByRecursion (IsUncleanAt self.old.caches) leaves.now }
         ensures whole { CommitsWhole (state_of self.old) (state_of self.new) }
         ensures fewer { OnOk result
@@ -215,7 +215,7 @@ impl<S: Store + Drop> MdCache<S> {
     ) -> Result<Vec<Begun>, Refusal>
         requires sound { IsSoundCore self.old }
         requires none { self.old.jobs ≡ map.empty }
-        requires apart { AreApart (leaves_at leaves.now) }
+        requires apart { AreOfOtherLeaves (leaves_at leaves.now) }
         requires unclean { AllByRecursion (IsUncleanAt self.old.caches) leaves.now }
         ensures begun { IfOk result (λ begun. AllByRecursion (IsBegunAt self.new) begun.items) }
         ensures leaves { IfOk result (λ begun. leaves_of_jobs begun.items ≡ leaves_at leaves.now) }
@@ -244,8 +244,8 @@ impl<S: Store + Drop> MdCache<S> {
     // each write.
     pub(crate) fn end_each(&mut self, alloc: Global, ready: &[Ready]) -> Result<(), Refusal>
         requires sound { IsSoundCore self.old }
-        requires begun { AllByRecursion (IsReadyAt self.old) ready.now }
-        requires apart { AreApart (leaves_of_writes ready.now) }
+        requires begun { AllByRecursion (IsReadyWrite self.old) ready.now }
+        requires apart { AreOfOtherLeaves (leaves_of_writes ready.now) }
         ensures whole { CommitsWhole (state_of self.old) (state_of self.new) }
         ensures fewer { OnOk result
             (map.len (unclean self.new.caches) + length ready.now ≡ map.len (unclean self.old.caches)) }

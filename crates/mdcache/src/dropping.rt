@@ -3,7 +3,7 @@ ghost use Rattle.std.specs.Prelude.{◌≡◌};
 ghost use Rattle.std.specs.FinMap as map;
 ghost use Rattle.mdcache.specs.Commits.{Drops};
 ghost use Rattle.mdcache.specs.Core.{IsSoundCore, state_of};
-ghost use Rattle.mdcache.specs.StandingJobs.{IsNext};
+ghost use Rattle.mdcache.specs.StandingJobs.{IsNextJob};
 
 use crate::mdcache::MdCache;
 use mds_types::{Frag, Ino, Refusal};
@@ -32,7 +32,7 @@ impl<S: Store + Drop> MdCache<S> {
 
     /// The first leaf behind another for which a job stands; behind none, the first of all. Takes no memory.
     pub fn next_job_leaf(&self, after: Option<(Ino, Frag)>) -> Option<(Ino, Frag)>
-        ensures { IsNext self.now.jobs after result }
+        ensures { IsNextJob self.now.jobs after result }
     {
         self.jobs.next(after)
     }

@@ -4,7 +4,7 @@ ghost use Rattle.std.specs.Result.{result_err};
 ghost use Rattle.std.specs.FinMap as map;
 ghost use Rattle.objstore.specs.Objects.{faults_told};
 ghost use Rattle.dentry_cache.specs.Came.{Came, IsThat, NoneEnds};
-ghost use Rattle.mdcache.specs.Commits.{Ends, leaf_of};
+ghost use Rattle.mdcache.specs.Commits.{EndsJobOf, leaf_of};
 ghost use Rattle.mdcache.specs.Core.{IsSoundCore, state_of};
 ghost use Rattle.mdcache.specs.Ranks.{MayHold};
 
@@ -24,7 +24,7 @@ impl<S: Store + Drop> MdCache<S> {
     pub fn end(&mut self, alloc: Global, rank: Rank, encoded: &Encoded) -> Result<(), Refusal>
         requires sound { IsSoundCore self.old }
         requires holds { MayHold self.old.caches rank (leaf_of encoded.now.job) }
-        ensures ended { Ends (state_of self.old)
+        ensures ended { EndsJobOf (state_of self.old)
             (state_of self.new) self.old.faults self.new.faults encoded.now.job result }
         ensures came { Came (IsThat rank.0 (leaf_of encoded.now.job)) NoneEnds self.old.caches self.new.caches }
         ensures counted { self.new.faults ≡ self.old.faults + faults_told (result_err result) }

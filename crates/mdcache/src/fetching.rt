@@ -9,7 +9,7 @@ ghost use Rattle.dentry_cache.specs.Cache.{HasCached, IsThere};
 ghost use Rattle.dentry_cache.specs.CacheCalls.{KeepsNone};
 ghost use Rattle.dentry_cache.specs.CacheMap.{AreCaches, here};
 ghost use Rattle.dentry_cache.specs.Came.{IsThat, NoneEnds};
-ghost use Rattle.mdcache.specs.CacheReads.{IsNewest, LacksPlacesIn};
+ghost use Rattle.mdcache.specs.CacheReads.{IsNewestOf, LacksPlacesIn};
 ghost use Rattle.mdcache.specs.Core.{MayFetch, ReadsCore};
 ghost use Rattle.mdcache.specs.Reads.{MayNotFind};
 
@@ -28,7 +28,7 @@ impl<S: Store + Drop> MdCache<S> {
         requires may { MayFetch self.old at.now }
         requires none { KeepsNone self.old.caches }
         ensures there { OnOk result (IsThere (here self.new.caches at.now.rank.0 (leaf_of at.now))) }
-        ensures newest { OnOk result (IsNewest self.new.caches at.now.rank.0 (leaf_of at.now)) }
+        ensures newest { OnOk result (IsNewestOf self.new.caches at.now.rank.0 (leaf_of at.now)) }
         ensures reads { ReadsCore (IsThat at.now.rank.0 (leaf_of at.now)) NoneEnds self.old self.new }
         ensures none { KeepsNone self.new.caches }
         ensures refused { IfErr result
@@ -78,7 +78,7 @@ impl<S: Store + Drop> MdCache<S> {
         ensures found { IfOk result
             (λ found. HasCached (here self.new.caches at.now.rank.0 (leaf_of at.now))
             (λ (f : Cached). found ≡ map.get (shown f) name.now)) }
-        ensures newest { OnOk result (IsNewest self.new.caches at.now.rank.0 (leaf_of at.now)) }
+        ensures newest { OnOk result (IsNewestOf self.new.caches at.now.rank.0 (leaf_of at.now)) }
         ensures reads { ReadsCore (IsThat at.now.rank.0 (leaf_of at.now)) NoneEnds self.old self.new }
         ensures none { KeepsNone self.new.caches }
         ensures refused { IfErr result

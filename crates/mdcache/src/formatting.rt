@@ -6,7 +6,7 @@ ghost use Rattle.mds_types.specs.declared.refusals.Refusal.TheVariants.{NoMemory
 ghost use Rattle.objstore.specs.Objects.{MayRefuse, faults_in, faults_told};
 ghost use Rattle.dentry_cache.specs.CacheMap.{order, with_frag};
 ghost use Rattle.mdcache.specs.Core.{IsSoundCore, state_of};
-ghost use Rattle.mdcache.specs.New.{MayNotFormat, cached_root, new_caches, new_state, root_leaf};
+ghost use Rattle.mdcache.specs.New.{MayNotFormat, cached_root, new_caches, new_tree_state, root_leaf};
 
 use crate::counters::Counters;
 use crate::mdcache::MdCache;
@@ -36,7 +36,7 @@ impl<S: Store + Drop> MdCache<S> {
         requires few { 512 ≤ places }
         requires many { places ≤ 65536 }
         ensures empty { OnOk result (S.objects store ≡ map.empty) }
-        ensures state { IfOk result (λ m. state_of m ≡ new_state limit) }
+        ensures state { IfOk result (λ m. state_of m ≡ new_tree_state limit) }
         ensures caches { IfOk result (λ m. m.caches ≡ new_caches ranks places) }
         ensures sound { IfOk result IsSoundCore }
         ensures refused { IfErr result
@@ -69,7 +69,7 @@ impl<S: Store + Drop> MdCache<S> {
         requires few { 512 ≤ places }
         requires many { places ≤ 65536 }
         requires empty { S.objects store ≡ map.empty }
-        ensures state { IfOk result (λ m. state_of m ≡ new_state limit) }
+        ensures state { IfOk result (λ m. state_of m ≡ new_tree_state limit) }
         ensures caches { IfOk result (λ m. m.caches ≡ new_caches ranks places) }
         ensures sound { IfOk result IsSoundCore }
         ensures left { IfErr result (λ back. back ≡ store) }

@@ -16,8 +16,8 @@ ghost use Rattle.mdcache.specs.Joining.{IsAmongOr};
 ghost use Rattle.mdcache.specs.Ranks.{KeepsOnlyAt, MayHold};
 ghost use Rattle.mdcache.specs.Reads.{MayNotFind};
 ghost use Rattle.mdcache.specs.Regrouping.{IsMergeReady, ending_at, merged_in};
-ghost use Rattle.mdcache.specs.Splits.{IsMergedInto, KeepsTree};
-ghost use Rattle.mdcache.specs.SplitsAndMerges.{IsUndone, MergesLeaves, merged_leaves};
+ghost use Rattle.mdcache.specs.Splits.{IsMergedInto, KeepsShownTree};
+ghost use Rattle.mdcache.specs.SplitsAndMerges.{IsUndone, MergesFrags, merged_leaves};
 
 use crate::mdcache::MdCache;
 use crate::merge_plan::MergePlan;
@@ -63,7 +63,7 @@ impl<S: Store + Drop> MdCache<S> {
         requires holds { (q : Leaf) → Contains (ending_at self.old at.now) q → MayHold self.old.caches at.now.rank q }
         requires known { is_known self.old.homes at.now.dir.0 ≡ true }
         requires can { CanMerge (leaves_of self.old.covers at.now.dir.0) at.now.frag }
-        ensures merged { MergesLeaves
+        ensures merged { MergesFrags
             (LacksPlacesAt 1 self.old at.now.rank) self.old self.new at.now.dir at.now.frag result }
         ensures came { Came (IsAmongOr at.now.rank.0 (ending_at self.old at.now) (leaf_of at.now))
             (λ r q. Contains (ending_at self.old at.now) q) self.old.caches self.new.caches }
@@ -87,7 +87,7 @@ impl<S: Store + Drop> MdCache<S> {
         requires version { self.old.next_version < 2 ^ 64 - 1 }
         ensures merged { OnOk result (IsMergedInto (state_of self.old) (state_of self.new) at.now.dir at.now.frag) }
         ensures tree { OnOk result
-            (KeepsTree (state_of self.old) (state_of self.new) at.now.dir
+            (KeepsShownTree (state_of self.old) (state_of self.new) at.now.dir
             (merged_leaves self.old at.now.dir at.now.frag)) }
         ensures undone { OnErr result (IsUndone self.old self.new) }
         ensures came { Came (IsAmongOr at.now.rank.0 (ending_at self.old at.now) (leaf_of at.now))

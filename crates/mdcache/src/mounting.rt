@@ -11,7 +11,7 @@ ghost use Rattle.inode_table.specs.TreeTable.{IsCounted};
 ghost use Rattle.cold_store.specs.ColdTree.{IsColdTree};
 ghost use Rattle.cold_store.specs.Walked.{IsWalked};
 ghost use Rattle.mdcache.specs.Core.{IsSoundCore, shown_in, state_of};
-ghost use Rattle.mdcache.specs.Mounted.{AreNumbers, IsMounted, IsNew, MayNotMount, Mounts, mounted};
+ghost use Rattle.mdcache.specs.Mounted.{AreNumbers, IsMounted, IsNewTree, MayNotMount, Mounts, mounted};
 
 use crate::counters::Counters;
 use crate::formatting::has_objects;
@@ -108,7 +108,7 @@ impl<S: Store + Drop> MdCache<S> {
         requires few { 512 ≤ places }
         requires many { places ≤ 65536 }
         requires empty { S.objects store ≡ map.empty }
-        ensures made { IfOk result (λ m. IsNew limit ranks places (contents dentry_cmp m.1.entries) m.0) }
+        ensures made { IfOk result (λ m. IsNewTree limit ranks places (contents dentry_cmp m.1.entries) m.0) }
         ensures numbers { IfOk result (λ m. AreNumbers (contents dentry_cmp m.1.entries) ranks m.1.numbers.items) }
         ensures sound { IfOk result (λ m. IsSoundCore m.0) }
         ensures faults { IfOk result (λ m. m.0.faults ≡ S.faults store) }

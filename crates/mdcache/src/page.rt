@@ -5,7 +5,7 @@ ghost use Rattle.std.specs.FinMap.{is_sorted};
 ghost use Rattle.objstore.specs.Omap.{key_cmp};
 ghost use Rattle.sorted_map.specs.Places.{IsPlace, puts};
 ghost use Rattle.cached_frag.specs.Rows.{Row, rows_left};
-ghost use Rattle.mdcache.specs.Pages.{IsBeyond, IsPageOf, Takes};
+ghost use Rattle.mdcache.specs.Pages.{IsBeyond, IsPageOf, TakesRow};
 
 use cached_frag::Rows;
 use mds_types::{Inode, Listing, Name, PageSize};
@@ -73,7 +73,7 @@ impl Page {
 
     // Takes in a name, and tells whether a greater one may be in the page too.
     fn take_row(&mut self, name: &Name, inode: &Inode) -> Result<bool, AllocError>
-        ensures takes { IfOk result (λ _. Takes (name.now, inode.now) self.old self.new) }
+        ensures takes { IfOk result (λ _. TakesRow (name.now, inode.now) self.old self.new) }
         ensures beyond { IfOk result (λ fits. fits ≡ false → IsBeyond name.now self.new) }
         ensures most { self.new.most ≡ self.old.most }
     {

@@ -9,7 +9,7 @@ ghost use Rattle.namehash.specs.Rjenkins.{hash_of};
 ghost use Rattle.objstore.specs.Objects.{faults_told};
 ghost use Rattle.dentry_cache.specs.Came.{IsThat, NoneEnds};
 ghost use Rattle.inode_table.specs.Dirs.{leaves_of};
-ghost use Rattle.mdcache.specs.CacheReads.{IsNewest};
+ghost use Rattle.mdcache.specs.CacheReads.{IsNewestOf};
 ghost use Rattle.mdcache.specs.Core.{IsSoundCore, LacksPlacesAt, ReadsCore, shown_in};
 ghost use Rattle.mdcache.specs.Ranks.{MayHold};
 ghost use Rattle.mdcache.specs.Reads.{MayNotFind};
@@ -54,7 +54,7 @@ impl<S: Store + Drop> MdCache<S> {
         requires leaf { IsPick (leaves_of self.old.covers at.now.dir.0) (hash_of name.now) at.now.frag }
         ensures found { IfOk result
             (λ found. found ≡ map.get (shown_in self.old) (record { dir = at.now.dir; name = name.now })) }
-        ensures newest { OnOk result (IsNewest self.new.caches at.now.rank.0 (leaf_of at.now)) }
+        ensures newest { OnOk result (IsNewestOf self.new.caches at.now.rank.0 (leaf_of at.now)) }
         ensures reads { ReadsCore (IsThat at.now.rank.0 (leaf_of at.now)) NoneEnds self.old self.new }
         ensures sound { IsSoundCore self.new }
         ensures counted { self.new.faults ≡ self.old.faults + faults_told (result_err result) }

@@ -13,7 +13,7 @@ ghost use Rattle.dentry_cache.specs.Came.{IsThat, NoneEnds};
 ghost use Rattle.inode_table.specs.Dirs.{is_known};
 ghost use Rattle.namespace_ops.specs.Changes.{dentry_at};
 ghost use Rattle.mdcache.specs.Changes.{first_leaf};
-ghost use Rattle.mdcache.specs.Core.{AreCached, IsSoundCore, LacksPlacesAt, ReadsCore, state_of};
+ghost use Rattle.mdcache.specs.Core.{AllCachedIn, IsSoundCore, LacksPlacesAt, ReadsCore, state_of};
 ghost use Rattle.mdcache.specs.Frags.{IsDirectoryReady, IsForMove, IsForRemoval, IsNameReady};
 ghost use Rattle.mdcache.specs.Going.{IsGoing};
 ghost use Rattle.mdcache.specs.PurgeList.{IsGiven};
@@ -77,7 +77,7 @@ impl<S: Store + Drop> MdCache<S> {
         ensures ready { OnOk result (IsNameReady self.new spot.now.at.rank (leaf_of spot.now.at)) }
         ensures place { IfOk result (IsDirectoryReady self.new spot.now.at.rank (dentry_at spot.now) dir) }
         ensures only { OnOk result (KeepsOnlyAt (Some (spot.now.at.rank, first_leaf dir)) self.new.caches) }
-        ensures cached { OnOk result (AreCached (state_of self.new) self.new.caches) }
+        ensures cached { OnOk result (AllCachedIn (state_of self.new) self.new.caches) }
         ensures reads { ReadsCore (λ r q. IsThat spot.now.at.rank.0 (leaf_of spot.now.at) r q
             ⊎ IsThat spot.now.at.rank.0 (first_leaf dir) r q) NoneEnds self.old self.new }
         ensures sound { OnErr result (IsSoundCore self.new) }

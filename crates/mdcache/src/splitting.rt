@@ -22,8 +22,8 @@ ghost use Rattle.mdcache.specs.Core.{IsSoundCore, LacksPlacesAt, MayFetch, Reads
 ghost use Rattle.mdcache.specs.Ranks.{MayHold};
 ghost use Rattle.mdcache.specs.Reads.{MayNotFind, has_none};
 ghost use Rattle.mdcache.specs.Regrouping.{IsSplitReady, split_in};
-ghost use Rattle.mdcache.specs.Splits.{IsSplitInto, KeepsTree, without_objects};
-ghost use Rattle.mdcache.specs.SplitsAndMerges.{IsUndone, SplitsLeaf};
+ghost use Rattle.mdcache.specs.Splits.{IsSplitInto, KeepsShownTree, without_objects};
+ghost use Rattle.mdcache.specs.SplitsAndMerges.{IsUndone, SplitsFrag};
 
 use crate::emptiness::is_cached_empty;
 use crate::mdcache::MdCache;
@@ -56,7 +56,7 @@ impl<S: Store + Drop> MdCache<S> {
         requires holds { MayHold self.old.caches at.now.rank (leaf_of at.now) }
         requires known { is_known self.old.homes at.now.dir.0 ≡ true }
         requires can { CanSplit (leaves_of self.old.covers at.now.dir.0) at.now.frag nb }
-        ensures split { SplitsLeaf
+        ensures split { SplitsFrag
             (LacksPlacesAt (2 ^ nb + 1) self.old at.now.rank) self.old self.new at.now.dir at.now.frag nb result }
         ensures came { Came (IsFamilyAt at.now.rank.0 at.now.dir at.now.frag nb)
             (IsFamilyAt at.now.rank.0 at.now.dir at.now.frag nb) self.old.caches self.new.caches }
@@ -78,7 +78,7 @@ impl<S: Store + Drop> MdCache<S> {
         requires generations { self.old.next_generation + 2 ^ nb < 2 ^ 64 }
         requires version { self.old.next_version < 2 ^ 64 - 1 }
         ensures split { OnOk result (IsSplitInto (state_of self.old) (state_of self.new) at.now.dir at.now.frag nb) }
-        ensures tree { OnOk result (KeepsTree (state_of self.old) (state_of self.new) at.now.dir (at.now.frag ∷ [])) }
+        ensures tree { OnOk result (KeepsShownTree (state_of self.old) (state_of self.new) at.now.dir (at.now.frag ∷ [])) }
         ensures undone { OnErr result (IsUndone self.old self.new) }
         ensures came { Came (IsFamilyAt at.now.rank.0 at.now.dir at.now.frag nb)
             (IsFamilyAt at.now.rank.0 at.now.dir at.now.frag nb) self.old.caches self.new.caches }

@@ -4,7 +4,7 @@ ghost use Rattle.std.specs.FinMap as map;
 ghost use Rattle.std.specs.FinMap.Entries.{where_key};
 ghost use Rattle.sorted_map.specs.SortedMap.{contents};
 ghost use Rattle.mds_types.specs.Leaf.{leaf_cmp};
-ghost use Rattle.mdcache.specs.StandingJobs.{Finds, IsNext, is_behind};
+ghost use Rattle.mdcache.specs.StandingJobs.{Finds, IsNextJob, is_behind};
 
 use cached_frag::Job;
 use mds_types::{Frag, Ino};
@@ -23,9 +23,9 @@ impl Model for StandingJobs {
     ghost use Rattle.std.specs.FinMap as map;
     ghost use Rattle.sorted_map.specs.SortedMap.{contents};
     ghost use Rattle.mds_types.specs.Leaf.{leaf_cmp};
-    ghost use Rattle.mdcache.specs.StandingJobs.{Standing};
+    ghost use Rattle.mdcache.specs.StandingJobs.{JobTable};
 
-    ghost Value = { Standing };
+    ghost Value = { JobTable };
 
     ghost coded = { Prim.hlevel (codes, map.code) };
 
@@ -65,7 +65,7 @@ impl StandingJobs {
 
     /// The first leaf behind another for which a job stands; behind none, the first of all. Takes no memory.
     pub fn next(&self, after: Option<(Ino, Frag)>) -> Option<(Ino, Frag)>
-        ensures { IsNext self.now.jobs after result }
+        ensures { IsNextJob self.now.jobs after result }
     {
         first_after(&self.jobs, after)
     }
@@ -117,7 +117,7 @@ fn first_after(
     jobs: &SortedMap<(Ino, Frag), Job>,
     after: Option<(Ino, Frag)>,
 ) -> Option<(Ino, Frag)>
-    ensures { IsNext (contents leaf_cmp jobs.now) after result }
+    ensures { IsNextJob (contents leaf_cmp jobs.now) after result }
 {
     Some(rest_after(jobs, after).next()?.0)
 }

@@ -1,5 +1,5 @@
 -- The fragments of a checked change are the operation's changed fragments, and each is named once.
-use Rattle.namespace_ops.proofs.Common.{AreApart, Bool, Carries, Change, Changes, Checked, Checks, Contains, Covers, Dentry, Dirfrag, Err, Fragment, IfOk, IfSome, Ino, Inode, IsChangeIn, IsChecked, IsCovered, IsLeafAt, IsMoveTo, IsRemovalAt, IsSpot, IsUnlinkAt, Leaf, List, Lists, Looks, Makes, Moves, NamesOnce, None, Ok, Op, Option, PutsAt, Refusal, Removes, Result, Sets, Shape, Some, Spot, Takes, TakesAt, TakesBy, Tree, Unlinks, [], ap, arith, changed_fragments, cond, dentry_at, dentry_cmp, directory_at, directory_gone, entries_there, eq_by_cmp, errno_of_any_number, false, fragment_of, fragments_of, has_entries, in_directory, is_dir_kind, is_errno, is_idle, leaf_of, leaf_put, leaf_taken, leaves, leaves_at, leaves_gone, leaves_of, named_once, other_put, refl, replace_errno, reply_by, same_leaf, shape, stays, stays_in, step, subst, sym, touched, touched_in, true, unless_same, ℕ, ⊎_elim, ◌&&◌, ◌++◌, ◌||◌, ◌∙◌, ◌∷◌, ◌≡◌}
+use Rattle.namespace_ops.proofs.Common.{AreApart, Bool, Carries, Change, Changes, Checked, Checks, Contains, Covers, Dentry, Dirfrag, Err, Fragment, IfOk, IfSome, Ino, Inode, IsChangeIn, IsChecked, IsCovered, IsLeafAt, IsMoveTo, IsRemovalAt, IsSpot, IsUnlinkAt, Leaf, List, Lists, Looks, Makes, Moves, NamesOnce, None, Ok, Op, Option, PutsAt, Refusal, Removes, Result, Sets, Shape, Some, Spot, Takes, LosesName, TakesBy, Tree, Unlinks, [], ap, arith, changed_fragments, cond, dentry_at, dentry_cmp, directory_at, directory_gone, entries_there, eq_by_cmp, errno_of_any_number, false, fragment_of, fragments_of, has_entries, in_directory, is_dir_kind, is_errno, is_idle, leaf_of, leaf_put, leaf_taken, leaves, leaves_at, leaves_gone, leaves_of, named_once, other_put, refl, replace_errno, reply_by, same_leaf, shape, stays, stays_in, step, subst, sym, touched, touched_in, true, unless_same, ℕ, ⊎_elim, ◌&&◌, ◌++◌, ◌||◌, ◌∙◌, ◌∷◌, ◌≡◌}
 use Rattle.std.specs.FinMap as map
 use Rattle.namespace_ops.proofs.CheckedParts.{checks_on}
 use Rattle.namespace_ops.proofs.PickLaws.{picked}
@@ -20,7 +20,7 @@ gone_leaves covers (Some inode) gone is = ap (leaves_gone covers) is ∙ go (is_
     go false = refl
 
 module _ (tree : Tree) (covers : Covers) where
-  taken_leaf : (dentry : Dentry) (takes : Option Spot) → TakesAt dentry takes → IfSome takes (IsSpot covers) → leaf_taken takes ≡ fragment_of covers dentry ∷ []
+  taken_leaf : (dentry : Dentry) (takes : Option Spot) → LosesName dentry takes → IfSome takes (IsSpot covers) → leaf_taken takes ≡ fragment_of covers dentry ∷ []
   taken_leaf dentry None at_dentry spots = absurd at_dentry
   taken_leaf dentry (Some spot) at_dentry spots = ap (λ l. l ∷ []) (leaf_at covers dentry spot at_dentry spots)
 
@@ -29,11 +29,11 @@ module _ (tree : Tree) (covers : Covers) where
   put_leaf dentry Is (Some put) at_dentry spots = ap (λ l. l ∷ []) (leaf_at covers dentry put.0 at_dentry.0 spots)
 
   -- the directory that goes stood at the dentry that is taken, or, where that is put, at the other
-  gone_taken : (dentry : Dentry) (takes : Option Spot) (puts : Option (Spot × Inode)) → TakesAt dentry takes → puts ≡ None → directory_gone tree takes puts ≡ directory_at (map.get tree dentry)
+  gone_taken : (dentry : Dentry) (takes : Option Spot) (puts : Option (Spot × Inode)) → LosesName dentry takes → puts ≡ None → directory_gone tree takes puts ≡ directory_at (map.get tree dentry)
   gone_taken dentry None puts at_dentry none = absurd at_dentry
   gone_taken dentry (Some spot) puts at_dentry none = ap (directory_gone tree (Some spot)) none ∙ ap (λ d. directory_at (map.get tree d)) at_dentry
 
-  gone_put : (here there : Dentry) (Is : Inode → Type 0) (takes : Option Spot) (puts : Option (Spot × Inode)) → TakesAt here takes → PutsAt there Is puts → directory_gone tree takes puts ≡ directory_at (map.get tree there)
+  gone_put : (here there : Dentry) (Is : Inode → Type 0) (takes : Option Spot) (puts : Option (Spot × Inode)) → LosesName here takes → PutsAt there Is puts → directory_gone tree takes puts ≡ directory_at (map.get tree there)
   gone_put here there Is None puts at_here at_there = absurd at_here
   gone_put here there Is (Some spot) None at_here at_there = absurd at_there
   gone_put here there Is (Some spot) (Some put) at_here at_there = ap (λ d. directory_at (map.get tree d)) at_there.0
@@ -70,7 +70,7 @@ module _ (tree : Tree) (covers : Covers) where
   move_apart : (here there : Dentry) (change : Change) → IsMoveTo here there change → Takes tree change → eq_by_cmp dentry_cmp here there ≡ false
   move_apart here there change is = go change.takes change.puts change.comes is.takes is.puts
     where
-      go : (takes : Option Spot) (puts : Option (Spot × Inode)) (comes : Bool) → TakesAt here takes → PutsAt there (λ (inode : Inode). Unit {0}) puts → TakesBy tree takes puts comes → eq_by_cmp dentry_cmp here there ≡ false
+      go : (takes : Option Spot) (puts : Option (Spot × Inode)) (comes : Bool) → LosesName here takes → PutsAt there (λ (inode : Inode). Unit {0}) puts → TakesBy tree takes puts comes → eq_by_cmp dentry_cmp here there ≡ false
       go None puts comes at_here at_there may = absurd at_here
       go (Some spot) None comes at_here at_there may = absurd at_there
       go (Some spot) (Some put) true at_here at_there may = absurd may

@@ -44,9 +44,9 @@ abbrev pub moves : Spot → Spot → Inode → Option Ino → Change
 moves from to inode went = record { takes = Some from; puts = Some (to, inode); comes = false; gone = went }
 
 -- the name that loses its inode is this dentry
-abbrev pub TakesAt : Dentry → Option Spot → Type 0
-TakesAt dentry None = ⊥
-TakesAt dentry (Some spot) = dentry_at spot ≡ dentry
+abbrev pub LosesName : Dentry → Option Spot → Type 0
+LosesName dentry None = ⊥
+LosesName dentry (Some spot) = dentry_at spot ≡ dentry
 
 -- the name that gets an inode is this dentry, and the inode is such a one
 abbrev pub PutsAt : Dentry → (Inode → Type 0) → Option (Spot × Inode) → Type 0
@@ -69,7 +69,7 @@ pub record IsSetAt (dentry : Dentry) (change : Change) : Type 0 where
 
 -- the entry at this dentry goes
 pub record IsRemovalAt (dentry : Dentry) (change : Change) : Type 0 where
-  pub takes : TakesAt dentry change.takes
+  pub takes : LosesName dentry change.takes
   pub puts : change.puts ≡ None
   pub comes : change.comes ≡ false
 
@@ -80,7 +80,7 @@ pub record IsUnlinkAt (dentry : Dentry) (change : Change) : Type 0 where
 
 -- the entry at one dentry moves to the other
 pub record IsMoveTo (here there : Dentry) (change : Change) : Type 0 where
-  pub takes : TakesAt here change.takes
+  pub takes : LosesName here change.takes
   pub puts : PutsAt there (λ (inode : Inode). Unit {0}) change.puts
   pub comes : change.comes ≡ false
 

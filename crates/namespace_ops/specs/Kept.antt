@@ -9,7 +9,7 @@ use Rattle.namehash.specs.Rjenkins.{hash_of}
 use Rattle.inode_table.specs.Dirs.{Covers, leaves_of}
 
 -- reads and refusals keep the tree, the leaves of each directory, and what the fragments keep beside them
-pub record KeepsAll (old new : Tree) (covers now : Covers) (Follows : Type 0) : Type 0 where
+pub record ReadsOnly (old new : Tree) (covers now : Covers) (Follows : Type 0) : Type 0 where
   pub tree : new ≡ old
   pub leaves : now ≡ covers
   pub follows : Follows

@@ -7,7 +7,7 @@ ghost use Rattle.std.specs.FinMap as map;
 ghost use Rattle.mds_types.specs.Step.{alteration_errno, altered_at, with_attributes};
 ghost use Rattle.mds_types.specs.Step.{altered as inode_altered, pin_errno as errno_of_pin, size_errno as errno_of_size};
 ghost use Rattle.namespace_ops.specs.declared.plans.Spot.{Spot as Place};
-ghost use Rattle.namespace_ops.specs.Kept.{KeepsAll};
+ghost use Rattle.namespace_ops.specs.Kept.{ReadsOnly};
 ghost use Rattle.namespace_ops.specs.Changes.{IsChangeOf, Reads, dentry_at, sets as sets_to};
 ghost use Rattle.namespace_ops.specs.Checked.{Checks};
 ghost use Rattle.namespace_ops.specs.Places.{LiesAt};
@@ -39,7 +39,7 @@ pub fn alter<F: Frags>(
     ensures checked { (n : ℕ)
         → IfOk result (Checks (F.content frags.old) (F.covers frags.old) (F.Holds frags.old) op.now n
         (altered_at (F.content frags.old) dentry.now alteration.now (map.get (F.content frags.old) dentry.now))) }
-    ensures kept { KeepsAll (F.content frags.old) (F.content frags.new) (F.covers frags.old) (F.covers frags.new)
+    ensures kept { ReadsOnly (F.content frags.old) (F.content frags.new) (F.covers frags.old) (F.covers frags.new)
         (F.Follows frags.old frags.new op.now (result_err result)) }
     ensures err { IfErr result (Refuses (F.MayRefuse frags.old frags.new op.now)) }
     ensures numbers { IfErr result (λ reason. reason ≢ NoInodes) }

@@ -5,7 +5,7 @@ ghost use Rattle.mds_types.specs.declared.operations.Op.{Op as Operation};
 ghost use Rattle.mds_types.specs.declared.refusals.Refusal.TheVariants.{NoInodes, NoMemory};
 ghost use Rattle.mds_types.specs.Leaf.{leaf_of};
 ghost use Rattle.mds_types.specs.Step.{step};
-ghost use Rattle.namespace_ops.specs.Kept.{KeepsAll};
+ghost use Rattle.namespace_ops.specs.Kept.{ReadsOnly};
 ghost use Rattle.namespace_ops.specs.Changes.{in_directory, leaf_taken, leaves_gone, named_once, other_put, unless_same};
 ghost use Rattle.namespace_ops.specs.ChangedFragments.{IsCovered, NamesOnce, changed_fragments};
 ghost use Rattle.namespace_ops.specs.Checked.{Checks};
@@ -35,7 +35,7 @@ pub fn changes<F: Frags>(
     requires { AreLocated (F.content frags.old) (F.covers frags.old) (F.Holds frags.old) op.now places }
     ensures changed { IfOk result
         (λ list. NamesOnce (changed_fragments limit (F.covers frags.old) (F.content frags.old) op.now) list.items) }
-    ensures kept { KeepsAll (F.content frags.old) (F.content frags.new) (F.covers frags.old) (F.covers frags.new)
+    ensures kept { ReadsOnly (F.content frags.old) (F.content frags.new) (F.covers frags.old) (F.covers frags.new)
         (F.Follows frags.old frags.new op.now (result_err result)) }
     ensures err { IfErr result (Refuses (F.MayRefuse frags.old frags.new op.now)) }
     ensures numbers { IfErr result (λ reason. reason ≢ NoInodes) }

@@ -3,7 +3,7 @@ ghost use Rattle.std.specs.Prelude.{◌≡◌, ◌≢◌, ℕ, IfOk, IfErr};
 ghost use Rattle.std.specs.Result.{result_err};
 ghost use Rattle.mds_types.specs.declared.refusals.Refusal.TheVariants.{NoInodes};
 ghost use Rattle.mds_types.specs.Step.{step};
-ghost use Rattle.namespace_ops.specs.Kept.{KeepsAll};
+ghost use Rattle.namespace_ops.specs.Kept.{ReadsOnly};
 ghost use Rattle.namespace_ops.specs.Checked.{Checks};
 ghost use Rattle.namespace_ops.specs.Places.{AreLocated};
 ghost use Rattle.namespace_ops.specs.Reasons.{Refuses};
@@ -36,7 +36,7 @@ pub fn check<F: Frags>(
     ensures checked { IfOk result
         (Checks (F.content frags.old) (F.covers frags.old) (F.Holds frags.old) op.now number.0
         (step limit (F.content frags.old) op.now number.0)) }
-    ensures kept { KeepsAll (F.content frags.old) (F.content frags.new) (F.covers frags.old) (F.covers frags.new)
+    ensures kept { ReadsOnly (F.content frags.old) (F.content frags.new) (F.covers frags.old) (F.covers frags.new)
         (F.Follows frags.old frags.new op.now (result_err result)) }
     ensures err { IfErr result (Refuses (F.MayRefuse frags.old frags.new op.now)) }
     ensures numbers { IfErr result (λ reason. reason ≢ NoInodes) }

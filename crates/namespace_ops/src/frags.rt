@@ -15,7 +15,7 @@ ghost use Rattle.mds_types.specs.Step.{names_after};
 ghost use Rattle.inode_table.specs.TreeChanges.{KeepLeaves};
 ghost use Rattle.namespace_ops.specs.declared.plans.Change.{Change as Alteration};
 ghost use Rattle.mds_types.specs.Leaf.{Leaf};
-ghost use Rattle.namespace_ops.specs.Kept.{KeepsAll, ChangesOnly};
+ghost use Rattle.namespace_ops.specs.Kept.{ReadsOnly, ChangesOnly};
 ghost use Rattle.namespace_ops.specs.Changes.{IsChangeOf, IsNumbered, LieHeld, MayChange, Reads, changed, fragments_of};
 ghost use Rattle.namespace_ops.specs.Places.{LiesAt, Locates};
 ghost use Rattle.namespace_ops.specs.Reasons.{IsOfFragments};
@@ -83,7 +83,7 @@ pub trait Frags {
         requires reads { Reads (content self.old) op.now dentry.now.dir.0 }
         requires at { LiesAt (content self.old) (covers self.old) (Holds self.old) dentry.now at.now }
         ensures found { IfOk result (λ found. found ≡ map.get (content self.old) dentry.now) }
-        ensures kept { KeepsAll (content self.old) (content self.new) (covers self.old) (covers self.new)
+        ensures kept { ReadsOnly (content self.old) (content self.new) (covers self.old) (covers self.new)
             (Follows self.old self.new op.now (result_err result)) }
         ensures err { IfErr result (MayRefuse self.old self.new op.now) }
         ensures numbers { IfErr result (λ reason. reason ≢ NoInodes) };
@@ -102,7 +102,7 @@ pub trait Frags {
             (λ page. page.0 ≡ take max (names_after (content self.old) dir.0 (option_copied after.entry))) }
         ensures more { IfOk result
             (λ page. page.1 ≡ nat_lt max (length (names_after (content self.old) dir.0 (option_copied after.entry)))) }
-        ensures kept { KeepsAll (content self.old) (content self.new) (covers self.old) (covers self.new)
+        ensures kept { ReadsOnly (content self.old) (content self.new) (covers self.old) (covers self.new)
             (Follows self.old self.new op.now (result_err result)) }
         ensures err { IfErr result (MayRefuse self.old self.new op.now) }
         ensures numbers { IfErr result (λ reason. reason ≢ NoInodes) };
@@ -111,7 +111,7 @@ pub trait Frags {
     fn is_empty(&mut self, op: &Op, dir: Ino) -> Result<bool, Refusal>
         requires reads { Reads (content self.old) op.now dir.0 }
         ensures found { IfOk result (λ empty. empty ≡ not (has_entries (content self.old) dir.0)) }
-        ensures kept { KeepsAll (content self.old) (content self.new) (covers self.old) (covers self.new)
+        ensures kept { ReadsOnly (content self.old) (content self.new) (covers self.old) (covers self.new)
             (Follows self.old self.new op.now (result_err result)) }
         ensures err { IfErr result (MayRefuse self.old self.new op.now) }
         ensures numbers { IfErr result (λ reason. reason ≢ NoInodes) };
@@ -131,7 +131,7 @@ pub trait Frags {
         ensures frame { OnOk result
             (ChangesOnly (Unchanged self.old self.new) (fragments_of (covers self.old) change)) }
         ensures kept { OnErr result
-            (KeepsAll (content self.old) (content self.new) (covers self.old) (covers self.new)
+            (ReadsOnly (content self.old) (content self.new) (covers self.old) (covers self.new)
             (Follows self.old self.new op.now (result_err result))) }
         ensures err { IfErr result (MayRefuse self.old self.new op.now) };
 

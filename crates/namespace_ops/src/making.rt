@@ -8,7 +8,7 @@ ghost use Rattle.std.specs.FinMap as map;
 ghost use Rattle.mds_types.specs.Shape.{link_mode};
 ghost use Rattle.mds_types.specs.Step.{made, new_inode, new_size};
 ghost use Rattle.namespace_ops.specs.declared.plans.Spot.{Spot as Place};
-ghost use Rattle.namespace_ops.specs.Kept.{KeepsAll};
+ghost use Rattle.namespace_ops.specs.Kept.{ReadsOnly};
 ghost use Rattle.namespace_ops.specs.Changes.{IsChangeOf, Reads, adds, dentry_at};
 ghost use Rattle.namespace_ops.specs.Checked.{Checks};
 ghost use Rattle.namespace_ops.specs.Places.{IsLocatedAt};
@@ -83,7 +83,7 @@ pub fn make<F: Frags>(
     ensures checked { let inode = new_inode new.ino.0 new.kind new.mode new.birth in IfOk result
         (Checks (F.content frags.old) (F.covers frags.old) (F.Holds frags.old) op.now new.ino.0
         (made limit (F.content frags.old) dentry.now inode (map.get (F.content frags.old) dentry.now))) }
-    ensures kept { KeepsAll (F.content frags.old) (F.content frags.new) (F.covers frags.old) (F.covers frags.new)
+    ensures kept { ReadsOnly (F.content frags.old) (F.content frags.new) (F.covers frags.old) (F.covers frags.new)
         (F.Follows frags.old frags.new op.now (result_err result)) }
     ensures err { IfErr result (Refuses (F.MayRefuse frags.old frags.new op.now)) }
     ensures numbers { IfErr result (λ reason. reason ≢ NoInodes) }

@@ -7,7 +7,7 @@ ghost use Rattle.std.specs.Option.{option_copied};
 ghost use Rattle.std.specs.FinMap as map;
 ghost use Rattle.mds_types.specs.Shape.{target_of};
 ghost use Rattle.mds_types.specs.Step.{looked, page, names_after};
-ghost use Rattle.namespace_ops.specs.Kept.{KeepsAll};
+ghost use Rattle.namespace_ops.specs.Kept.{ReadsOnly};
 ghost use Rattle.namespace_ops.specs.Changes.{Reads, stays};
 ghost use Rattle.namespace_ops.specs.Checked.{Checks};
 ghost use Rattle.namespace_ops.specs.Places.{LiesAt};
@@ -32,7 +32,7 @@ pub fn lookup<F: Frags>(
     ensures checked { (n : ℕ)
         → IfOk result (Checks (F.content frags.old) (F.covers frags.old) (F.Holds frags.old) op.now n
         (looked (F.content frags.old) Entry (map.get (F.content frags.old) dentry.now))) }
-    ensures kept { KeepsAll (F.content frags.old) (F.content frags.new) (F.covers frags.old) (F.covers frags.new)
+    ensures kept { ReadsOnly (F.content frags.old) (F.content frags.new) (F.covers frags.old) (F.covers frags.new)
         (F.Follows frags.old frags.new op.now (result_err result)) }
     ensures err { IfErr result (Refuses (F.MayRefuse frags.old frags.new op.now)) }
     ensures numbers { IfErr result (λ reason. reason ≢ NoInodes) }
@@ -58,7 +58,7 @@ pub fn read_dir<F: Frags>(
     ensures checked { (n : ℕ)
         → IfOk result (Checks (F.content frags.old) (F.covers frags.old) (F.Holds frags.old) op.now n
         (page (F.content frags.old) max (names_after (F.content frags.old) dir.0 (option_copied after.entry)))) }
-    ensures kept { KeepsAll (F.content frags.old) (F.content frags.new) (F.covers frags.old) (F.covers frags.new)
+    ensures kept { ReadsOnly (F.content frags.old) (F.content frags.new) (F.covers frags.old) (F.covers frags.new)
         (F.Follows frags.old frags.new op.now (result_err result)) }
     ensures err { IfErr result (Refuses (F.MayRefuse frags.old frags.new op.now)) }
     ensures numbers { IfErr result (λ reason. reason ≢ NoInodes) }
@@ -81,7 +81,7 @@ pub fn read_link<F: Frags>(
     ensures checked { (n : ℕ)
         → IfOk result (Checks (F.content frags.old) (F.covers frags.old) (F.Holds frags.old) op.now n
         (looked (F.content frags.old) (λ inode. target_of inode.kind) (map.get (F.content frags.old) dentry.now))) }
-    ensures kept { KeepsAll (F.content frags.old) (F.content frags.new) (F.covers frags.old) (F.covers frags.new)
+    ensures kept { ReadsOnly (F.content frags.old) (F.content frags.new) (F.covers frags.old) (F.covers frags.new)
         (F.Follows frags.old frags.new op.now (result_err result)) }
     ensures err { IfErr result (Refuses (F.MayRefuse frags.old frags.new op.now)) }
     ensures numbers { IfErr result (λ reason. reason ≢ NoInodes) }

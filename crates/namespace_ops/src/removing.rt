@@ -9,7 +9,7 @@ ghost use Rattle.std.specs.FinMap as map;
 ghost use Rattle.mds_types.specs.Step.{unlinked, dir_removed};
 ghost use Rattle.mds_types.specs.Step.{removal_errno as errno_of_removal};
 ghost use Rattle.namespace_ops.specs.declared.plans.Spot.{Spot as Place};
-ghost use Rattle.namespace_ops.specs.Kept.{KeepsAll};
+ghost use Rattle.namespace_ops.specs.Kept.{ReadsOnly};
 ghost use Rattle.namespace_ops.specs.Changes.{IsChangeOf, Reads, dentry_at, removes as takes_away};
 ghost use Rattle.namespace_ops.specs.Checked.{Checks};
 ghost use Rattle.namespace_ops.specs.Places.{LiesAt};
@@ -33,7 +33,7 @@ pub fn unlink<F: Frags>(
     ensures checked { (n : ℕ)
         → IfOk result (Checks (F.content frags.old) (F.covers frags.old) (F.Holds frags.old) op.now n
         (unlinked (F.content frags.old) dentry.now (map.get (F.content frags.old) dentry.now))) }
-    ensures kept { KeepsAll (F.content frags.old) (F.content frags.new) (F.covers frags.old) (F.covers frags.new)
+    ensures kept { ReadsOnly (F.content frags.old) (F.content frags.new) (F.covers frags.old) (F.covers frags.new)
         (F.Follows frags.old frags.new op.now (result_err result)) }
     ensures err { IfErr result (Refuses (F.MayRefuse frags.old frags.new op.now)) }
     ensures numbers { IfErr result (λ reason. reason ≢ NoInodes) }
@@ -70,7 +70,7 @@ pub fn remove_dir<F: Frags>(
     ensures checked { (n : ℕ)
         → IfOk result (Checks (F.content frags.old) (F.covers frags.old) (F.Holds frags.old) op.now n
         (dir_removed (F.content frags.old) dentry.now (map.get (F.content frags.old) dentry.now))) }
-    ensures kept { KeepsAll (F.content frags.old) (F.content frags.new) (F.covers frags.old) (F.covers frags.new)
+    ensures kept { ReadsOnly (F.content frags.old) (F.content frags.new) (F.covers frags.old) (F.covers frags.new)
         (F.Follows frags.old frags.new op.now (result_err result)) }
     ensures err { IfErr result (Refuses (F.MayRefuse frags.old frags.new op.now)) }
     ensures numbers { IfErr result (λ reason. reason ≢ NoInodes) }
@@ -94,7 +94,7 @@ pub fn remove_dir<F: Frags>(
 fn removal_errno<F: Frags>(frags: &mut F, op: &Op, inode: &Inode) -> Result<Option<u16>, Refusal>
     requires reads { inode.now.kind ≡ Dir → Reads (F.content frags.old) op.now inode.now.ino.0 }
     ensures found { IfOk result (λ errno. errno ≡ errno_of_removal (F.content frags.old) inode.now) }
-    ensures kept { KeepsAll (F.content frags.old) (F.content frags.new) (F.covers frags.old) (F.covers frags.new)
+    ensures kept { ReadsOnly (F.content frags.old) (F.content frags.new) (F.covers frags.old) (F.covers frags.new)
         (F.Follows frags.old frags.new op.now (result_err result)) }
     ensures err { IfErr result (F.MayRefuse frags.old frags.new op.now) }
     ensures numbers { IfErr result (λ reason. reason ≢ NoInodes) }

@@ -12,7 +12,7 @@ ghost use Rattle.mds_types.specs.Tree.{dentry_cmp, is_directory};
 ghost use Rattle.mds_types.specs.Step.{renamed};
 ghost use Rattle.mds_types.specs.Step.{leads_to as leads_below, replace_errno as errno_of_replacing};
 ghost use Rattle.namespace_ops.specs.declared.plans.Spot.{Spot as Place};
-ghost use Rattle.namespace_ops.specs.Kept.{KeepsAll};
+ghost use Rattle.namespace_ops.specs.Kept.{ReadsOnly};
 ghost use Rattle.namespace_ops.specs.Changes.{IsChangeOf, Reads, dentry_at, directory_at, moves as moves_to, stays};
 ghost use Rattle.namespace_ops.specs.Checked.{Checks};
 ghost use Rattle.namespace_ops.specs.Places.{IsLocatedAt};
@@ -48,7 +48,7 @@ pub fn rename<F: Frags>(
     ensures checked { (n : ℕ) → let tree = F.content frags.old in IfOk result
         (Checks tree (F.covers frags.old) (F.Holds frags.old) op.now n
         (renamed limit tree from.now to.now (map.get tree from.now) (map.get tree to.now))) }
-    ensures kept { KeepsAll (F.content frags.old) (F.content frags.new) (F.covers frags.old) (F.covers frags.new)
+    ensures kept { ReadsOnly (F.content frags.old) (F.content frags.new) (F.covers frags.old) (F.covers frags.new)
         (F.Follows frags.old frags.new op.now (result_err result)) }
     ensures err { IfErr result (Refuses (F.MayRefuse frags.old frags.new op.now)) }
     ensures numbers { IfErr result (λ reason. reason ≢ NoInodes) }
@@ -115,7 +115,7 @@ fn replace_errno<F: Frags>(
         → Reads (F.content frags.old) op.now gone.ino.0 }
     ensures found { IfOk result
         (λ errno. errno ≡ errno_of_replacing (F.content frags.old) inode.now (option_copied replaced.entry)) }
-    ensures kept { KeepsAll (F.content frags.old) (F.content frags.new) (F.covers frags.old) (F.covers frags.new)
+    ensures kept { ReadsOnly (F.content frags.old) (F.content frags.new) (F.covers frags.old) (F.covers frags.new)
         (F.Follows frags.old frags.new op.now (result_err result)) }
     ensures err { IfErr result (F.MayRefuse frags.old frags.new op.now) }
     ensures numbers { IfErr result (λ reason. reason ≢ NoInodes) }

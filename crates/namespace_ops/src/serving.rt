@@ -6,7 +6,7 @@ ghost use Rattle.mds_types.specs.Leaf.{Leaf};
 ghost use Rattle.mds_types.specs.Step.{step, number_or};
 ghost use Rattle.mds_types.specs.Tree.{IsWellFormed};
 ghost use Rattle.inode_table.specs.TreeChanges.{KeepLeaves};
-ghost use Rattle.namespace_ops.specs.Kept.{ChangesOnly, KeepsAll, OthersShowTheSame};
+ghost use Rattle.namespace_ops.specs.Kept.{ChangesOnly, ReadsOnly, OthersShowTheSame};
 ghost use Rattle.namespace_ops.specs.ChangedFragments.{changed_fragments};
 ghost use Rattle.namespace_ops.specs.Changes.{IsOffered};
 ghost use Rattle.namespace_ops.specs.Checked.{IsChecked};
@@ -48,7 +48,7 @@ pub fn serve_op<F: Frags>(
         (F.covers frags.old) (F.covers frags.new)
         (changed_fragments limit (F.covers frags.old) (F.content frags.old) op.now) }
     ensures kept { OnErr result
-        (KeepsAll (F.content frags.old) (F.content frags.new) (F.covers frags.old) (F.covers frags.new)
+        (ReadsOnly (F.content frags.old) (F.content frags.new) (F.covers frags.old) (F.covers frags.new)
         (F.Follows frags.old frags.new op.now (result_err result))) }
 {
     let places = locate(frags, Rank(0), op);
@@ -84,7 +84,7 @@ fn make_change<F: Frags>(
         → OthersShowTheSame (F.content frags.old) (F.content frags.new) (F.covers frags.old) (F.covers frags.new)
         (changed_fragments limit (F.covers frags.old) (F.content frags.old) op.now)) }
     ensures kept { OnErr result
-        (KeepsAll (F.content frags.old) (F.content frags.new) (F.covers frags.old) (F.covers frags.new)
+        (ReadsOnly (F.content frags.old) (F.content frags.new) (F.covers frags.old) (F.covers frags.new)
         (F.Follows frags.old frags.new op.now (result_err result))) }
 {
     if let Err(refusal) = change.number(number) {

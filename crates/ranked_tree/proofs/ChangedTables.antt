@@ -1,12 +1,12 @@
 -- What a change of the tree makes of the directory table.
-use Rattle.ranked_tree.proofs.Common.{Bool, Covers, Homes, Ino, Inode, Makes, Option, Spot, State, adds, ap, cond, dentry_at, false, home_at, is_dir_kind, moves, removes, rows_but, rules, sets, true, with_directory, with_home, with_home_at, without, ◌∙◌, ◌≡◌}
+use Rattle.ranked_tree.proofs.Common.{Bool, Covers, Homes, Ino, Inode, Makes, Option, Spot, State, adds, ap, cond, dentry_at, false, home_at, is_dir_kind, moves, removes, rows_but, rules, sets, true, with_directory, with_home, with_home_at, without_gone_dir, ◌∙◌, ◌≡◌}
 use Rattle.std.specs.FinMap as map
 
 -- the tables of a state are these
 abbrev pub TablesAre : State → Homes → Covers → Type 0
 TablesAre s homes covers = (s.homes ≡ homes) × (s.covers ≡ covers)
 
-tables_without : (s : State) (went : Option Ino) → TablesAre (without s went) (rows_but s.homes went) (rows_but s.covers went)
+tables_without : (s : State) (went : Option Ino) → TablesAre (without_gone_dir s went) (rows_but s.homes went) (rows_but s.covers went)
 tables_without s went = search rules
 
 tables_of : (a b : State) → a ≡ b → TablesAre a b.homes b.covers
@@ -33,7 +33,7 @@ module _ (old new : State) where
   added_tables spot inode kinded makes = let its = housed spot inode false kinded makes in (its.0 ∙ ap (λ (s : State). s.homes) makes.1.1.left, its.1 ∙ ap (λ (s : State). s.covers) makes.1.1.left)
 
   pub removed_tables : (spot : Spot) (went : Option Ino) → Makes (removes spot went) old new → TablesAre new (rows_but old.homes went) (rows_but old.covers went)
-  removed_tables spot went makes = on new _ _ _ makes.2 (on makes.0 (without makes.1.0 went) _ _ makes.1.2 (
+  removed_tables spot went makes = on new _ _ _ makes.2 (on makes.0 (without_gone_dir makes.1.0 went) _ _ makes.1.2 (
     (tables_without makes.1.0 went).0 ∙ ap (λ (s : State). rows_but s.homes went) makes.1.1.left,
     (tables_without makes.1.0 went).1 ∙ ap (λ (s : State). rows_but s.covers went) makes.1.1.left,
   ))
@@ -41,7 +41,7 @@ module _ (old new : State) where
   pub moved_tables : (source target : Spot) (inode : Inode) (went : Option Ino) → Makes (moves source target inode went) old new → TablesAre new (rows_but (with_home old.homes (dentry_at target) inode) went) (rows_but old.covers went)
   moved_tables source target inode went (altered, (left, is_left, (named, is_named, is)), noted_is) =
       let before = on named _ _ _ is_named.left (tables_of left _ is_left.left) in
-      on new _ _ _ noted_is (on altered (without (with_home_at named (dentry_at target) inode) went) _ _ is (
+      on new _ _ _ noted_is (on altered (without_gone_dir (with_home_at named (dentry_at target) inode) went) _ _ is (
         (tables_without (with_home_at named (dentry_at target) inode) went).0 ∙ ap (λ (h : Homes). rows_but (with_home h (dentry_at target) inode) went) before.0,
         (tables_without (with_home_at named (dentry_at target) inode) went).1 ∙ ap (λ (c : Covers). rows_but c went) before.1,
       ))

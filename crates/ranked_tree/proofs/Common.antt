@@ -69,20 +69,20 @@ pub use Rattle.mdcache.proofs.NewLaws.{live_root, new_none, no_covers, no_homes,
 pub use Rattle.mdcache.proofs.NoNames.{all_pass, no_name, none_unless, some_fails, some_name}
 pub use Rattle.mdcache.proofs.SplitLaws.{has_inside}
 pub use Rattle.mdcache.proofs.UncleanOf.{few_lack, get_unclean_of}
-pub use Rattle.mdcache.specs.Changes.{Alters, Makes, first_leaf, with_directory, with_home_at, without, without_leaves}
-pub use Rattle.mdcache.specs.Changing.{IsChanged}
-pub use Rattle.mdcache.specs.Commits.{Begins, BeginsWith, Drops, Ends}
+pub use Rattle.mdcache.specs.Changes.{Alters, Makes, first_leaf, with_directory, with_home_at, without_gone_dir, without_leaves}
+pub use Rattle.mdcache.specs.Changing.{IsChangedBy}
+pub use Rattle.mdcache.specs.Commits.{Begins, BeginsUnsaved, Drops, EndsJobOf}
 pub use Rattle.mdcache.specs.Core.{Core, IsSoundCore, LacksPlacesAt, ReadsCore, shown_in, state_of}
 pub use Rattle.mdcache.specs.Flushed.{HasFragment}
 pub use Rattle.mdcache.specs.Frags.{KeepsState, LacksBy, LacksForIn, LacksPlacesBy, LacksPlacesOf, LacksToMake, dir_moving}
 pub use Rattle.mdcache.specs.Given.{HaveNoJobs, IsGivenOver}
 pub use Rattle.mdcache.specs.Going.{rows_but}
 pub use Rattle.mdcache.specs.Joining.{IsAmongOr}
-pub use Rattle.mdcache.specs.Made.{IsRight}
+pub use Rattle.mdcache.specs.Made.{IsRightChange}
 pub use Rattle.mdcache.specs.Mounted.{Mounts}
-pub use Rattle.mdcache.specs.New.{cached_root, new_caches, new_state, root_leaf}
+pub use Rattle.mdcache.specs.New.{cached_root, new_caches, new_tree_state, root_leaf}
 pub use Rattle.mdcache.specs.Objects.{PurgesName, SavesTree}
-pub use Rattle.mdcache.specs.Pages.{IsPageOf, gathered}
+pub use Rattle.mdcache.specs.Pages.{IsPageOf, rows_gathered}
 pub use Rattle.mdcache.specs.PurgeList.{first_name}
 pub use Rattle.mdcache.specs.Ranks.{AreOneRank, EndsWith, IsNamedIn, MayHold, MayHoldEach}
 pub use Rattle.mdcache.specs.Reads.{MayNotFind, has_none}
@@ -92,8 +92,8 @@ pub use Rattle.mdcache.specs.Regroups.{LacksCounts, MayNotRegroup}
 pub use Rattle.mdcache.specs.Shown.{names_of, shown_tree}
 pub use Rattle.mdcache.specs.Sound.{IsSound}
 pub use Rattle.mdcache.specs.Splits.{IsMergedInto, IsRegrouped, IsSplitInto}
-pub use Rattle.mdcache.specs.SplitsAndMerges.{MergesLeaves, SplitsLeaf}
-pub use Rattle.mdcache.specs.StandingJobs.{IsNext, Jobs, is_behind}
+pub use Rattle.mdcache.specs.SplitsAndMerges.{MergesFrags, SplitsFrag}
+pub use Rattle.mdcache.specs.StandingJobs.{IsNextJob, Jobs, is_behind}
 pub use Rattle.mdcache.specs.State.{State}
 pub use Rattle.mds_types.proofs.DirectoryLaws.{entries_there, entry_stands}
 pub use Rattle.mds_types.proofs.LeafLaws.{get_beside, get_left, get_put, get_removed, leaf-exact, leaf-total, same_or_apart}
@@ -115,8 +115,8 @@ pub use Rattle.namehash.specs.Rjenkins.{hash_of}
 pub use Rattle.namespace_ops.proofs.Members.{first, later}
 pub use Rattle.namespace_ops.proofs.Shapes.{Shape, shape_of}
 pub use Rattle.namespace_ops.proofs.Shapes.Shape.{add, move, remove, set}
-pub use Rattle.namespace_ops.specs.Changes.{Concerns, ConcernsIn, IsChangeIn, IsChangeOf, IsSpot, MayChange, PutsAt, TakesAt, adds, changed, dentry_at, directory_at, fragments_of, in_directory, leaves, leaves_gone, moves, removes, sets, taken}
-pub use Rattle.namespace_ops.specs.Kept.{KeepsAll}
+pub use Rattle.namespace_ops.specs.Changes.{Concerns, ConcernsIn, IsChangeIn, IsChangeOf, IsSpot, MayChange, PutsAt, LosesName, adds, changed, dentry_at, directory_at, fragments_of, in_directory, leaves, leaves_gone, moves, removes, sets, taken}
+pub use Rattle.namespace_ops.specs.Kept.{ReadsOnly}
 pub use Rattle.namespace_ops.specs.Places.{IsAt}
 pub use Rattle.namespace_ops.specs.declared.plans.Change.{Change}
 pub use Rattle.namespace_ops.specs.declared.plans.Spot.{Spot}
@@ -125,7 +125,7 @@ pub use Rattle.objstore.specs.Omap.{Omap, key_cmp}
 pub use Rattle.ranked_tree.specs.Changing.{ChangesHeld, FollowsChange, IsChangedHeld}
 pub use Rattle.ranked_tree.specs.Exported.{AreThawed, EndsInside, EndsRegion, IsDivided, IsFrozenIn, StandSoundly, held_in}
 pub use Rattle.ranked_tree.specs.Held.{AreHeld, AreHeldAt, AsksFor, CameAt, IsFamilyOf, IsGone, IsMergedHere, IsOwned, LacksPlacesAsked, LacksPlacesDir, LacksPlacesFor, LacksPlacesInside, NamesBy, NamesDir, ReadsDir, ReadsFor, UsedAt, UsesAt}
-pub use Rattle.ranked_tree.specs.Importing.{ComeToImporter, HandsRegion, Imports, IsRenewed, IsSpelledBy, MayNotImport, Takes, imported_unsaved}
+pub use Rattle.ranked_tree.specs.Importing.{ComeToImporter, HandsRegion, Imports, IsRenewed, IsSpelledBy, MayNotImport, TakesRegion, imported_unsaved}
 pub use Rattle.ranked_tree.specs.Mounted.{AreTopRoots}
 pub use Rattle.ranked_tree.specs.Ranked.{IsFrozenLeaf, KeepsRanked, MayRefuse, Ranked, held_roots, new_roots}
 pub use Rattle.ranked_tree.specs.Sending.{IsInRegionOf, RefusesSend, Sends, SpellsPrepared, SpellsRegion}

@@ -1,5 +1,5 @@
 -- The jobs of a region end, leaf by leaf.
-use Rattle.ranked_tree.proofs.Common.{Bool, Covers, EndsInside, Homes, IsNext, Job, Jobs, Leaf, List, MatchOption, NearestRoot, None, Option, Roots, Some, State, [], ap, arith, cases_Bool, cond, cond_both, eq_by_cmp, false, false≢true, find, get-entries, get_left, get_removed, inl, inr, is_behind, is_lt, is_some, leaf-exact, leaf-total, leaf_cmp, less_is, none-some, none_unless, one_root, refl, rules, same_or_apart, subst, suc, sym, tie, tied_itself, true, true≢false, value_of, ℕ, ⊎_elim, ◌+◌, ◌<◌, ◌∙◌, ◌∷◌, ◌≡◌, ◌≢◌, ◌≤◌, ◌⊎◌}
+use Rattle.ranked_tree.proofs.Common.{Bool, Covers, EndsInside, Homes, IsNextJob, Job, Jobs, Leaf, List, MatchOption, NearestRoot, None, Option, Roots, Some, State, [], ap, arith, cases_Bool, cond, cond_both, eq_by_cmp, false, false≢true, find, get-entries, get_left, get_removed, inl, inr, is_behind, is_lt, is_some, leaf-exact, leaf-total, leaf_cmp, less_is, none-some, none_unless, one_root, refl, rules, same_or_apart, subst, suc, sym, tie, tied_itself, true, true≢false, value_of, ℕ, ⊎_elim, ◌+◌, ◌<◌, ◌∙◌, ◌∷◌, ◌≡◌, ◌≢◌, ◌≤◌, ◌⊎◌}
 use Rattle.std.specs.FinMap as map
 use Rattle.ranked_tree.proofs.StandLaws.{FewerJobs, found_left}
 
@@ -57,7 +57,7 @@ module _ (roots : Roots) (root : Leaf) where
     pub fewer : FewerJobs old now
     pub left : now ≡ record old { jobs = now.jobs }
 
-  module _ (old now : State) (last : Option Leaf) (next : Leaf) (so_far : HaveEnded old now last) (first : IsNext now.jobs last (Some next)) where
+  module _ (old now : State) (last : Option Leaf) (next : Leaf) (so_far : HaveEnded old now last) (first : IsNextJob now.jobs last (Some next)) where
     pub fewer_left : count_behind (Some next) old.jobs < count_behind last old.jobs
     fewer_left =
         let stands = value_of _ first.1 in

@@ -1,5 +1,5 @@
 -- What calls for an operation keep, and why they are refused, in the words of the operation.
-use Rattle.ranked_tree.proofs.Common.{Bool, Change, ChangesHeld, Concerns, Core, Dirfrag, Err, FollowsChange, HoldsAt, IfErr, IfErr-weaker, Ino, IsAt, IsChangeIn, IsChangeOf, IsLive, IsPick, IsSound, KeepsAll, KeepsRanked, KeepsState, LacksBy, LacksForIn, LacksNumbers, LacksPlacesAsked, LacksPlacesDir, LacksToMake, MayNotFind, MayRefuse, Moves, NamesDir, Ok, OnErr, Op, Option, Ranked, ReadsDir, Refusal, Regions, Removes, Result, Sets, Unlinks, ap, false, held_in, held_roots, inl, inr, is_dir_kind, is_directory, leaf_of, leaves_of, refl, result_err, shape, shown_tree, state_of, subst, sym, true, ℕ, ⊎_elim, ◌∙◌, ◌≡◌, State}
+use Rattle.ranked_tree.proofs.Common.{Bool, Change, ChangesHeld, Concerns, Core, Dirfrag, Err, FollowsChange, HoldsAt, IfErr, IfErr-weaker, Ino, IsAt, IsChangeIn, IsChangeOf, IsLive, IsPick, IsSound, ReadsOnly, KeepsRanked, KeepsState, LacksBy, LacksForIn, LacksNumbers, LacksPlacesAsked, LacksPlacesDir, LacksToMake, MayNotFind, MayRefuse, Moves, NamesDir, Ok, OnErr, Op, Option, Ranked, ReadsDir, Refusal, Regions, Removes, Result, Sets, Unlinks, ap, false, held_in, held_roots, inl, inr, is_dir_kind, is_directory, leaf_of, leaves_of, refl, result_err, shape, shown_tree, state_of, subst, sym, true, ℕ, ⊎_elim, ◌∙◌, ◌≡◌, State}
 use Rattle.mds_types.specs.Shape.{Shape, Makes}
 use Rattle.ranked_tree.proofs.HolderLaws.{pick_live}
 use Rattle.ranked_tree.proofs.AskLaws.{asked}
@@ -12,8 +12,8 @@ over tree regions = record { tree = tree; subtrees = regions.roots; exports = re
 module _ (tree new : Core) (regions : Regions) (now : Ranked) (is : over tree regions ≡ now) (op : Op) where
   -- reads of a directory that the operation concerns
   pub keeps_dir : (dir : Ino) (told : Option Refusal) → Concerns (shown_tree (state_of now.tree)) op dir.0 → KeepsState tree new told → ReadsDir (held_in regions) dir tree new
-      → KeepsAll (shown_tree (state_of now.tree)) (shown_tree (state_of new)) now.tree.covers new.covers (KeepsRanked now (over new regions) op told)
-  keeps_dir dir told concerns kept reads = subst (λ (n : Ranked). KeepsAll (shown_tree (state_of n.tree)) (shown_tree (state_of new)) n.tree.covers new.covers (KeepsRanked n (over new regions) op told)) is (record {
+      → ReadsOnly (shown_tree (state_of now.tree)) (shown_tree (state_of new)) now.tree.covers new.covers (KeepsRanked now (over new regions) op told)
+  keeps_dir dir told concerns kept reads = subst (λ (n : Ranked). ReadsOnly (shown_tree (state_of n.tree)) (shown_tree (state_of new)) n.tree.covers new.covers (KeepsRanked n (over new regions) op told)) is (record {
     tree = ap (λ (s : State). shown_tree s) kept.state;
     leaves = ap (λ (s : State). s.covers) kept.state;
     follows = record {
@@ -53,7 +53,7 @@ numbers_lack s _ change of lacks = absurd of
 module _ (old new : Ranked) (op : Op) (change : Change) (of : IsChangeOf op change) where
   -- where it wasn't, leaves of directories that the operation concerns were read
   pub where_refused : (result : Result (Unit {0}) Refusal) → ChangesHeld (held_roots old) change old.tree new.tree result → FollowsChange change (state_of old.tree) old.subtrees new.subtrees result → new.exports ≡ old.exports
-      → OnErr result (KeepsAll (shown_tree (state_of old.tree)) (shown_tree (state_of new.tree)) old.tree.covers new.tree.covers (KeepsRanked old new op (result_err result)))
+      → OnErr result (ReadsOnly (shown_tree (state_of old.tree)) (shown_tree (state_of new.tree)) old.tree.covers new.tree.covers (KeepsRanked old new op (result_err result)))
   where_refused (Ok done) is roots exports = tt
   where_refused (Err reason) is roots exports = record {
     tree = ap (λ (s : State). shown_tree s) is.0.state;

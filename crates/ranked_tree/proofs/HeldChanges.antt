@@ -1,5 +1,5 @@
 -- What a change of the tree leaves: each cached fragment is at its leaf's authority then; what it makes of the caches.
-use Rattle.ranked_tree.proofs.Common.{AreHeld, AreHeldAt, AsksFor, Came, Change, Core, Covers, EndsWith, Fragment, HasLeaf, Home, Homes, IfSome, Ino, Inode, IsChanged, IsChangedHeld, IsGone, IsLive, IsNamedIn, IsOwned, IsPick, IsSome, IsSound, IsSoundCore, IsTable, IsThat, KeepsAuthorities, Leaf, List, Makes, MayChange, MayCome, MayGo, NamesDir, None, NoneEnds, Option, Rank, Roots, Rules, Shape, Some, Spot, State, [], adds, ap, came_then, came_weaker, dentry_at, dir_or_not, false, first_leaf, hash_of, home_at, inherited, inl, inr, is_dir_kind, is_known, is_some, known_is, leaf_of, leaves_of, may_come, may_go, move, none-some, none_unless, only_leaf, or_whole, reads_came, reads_weaker, refl, remove, replaces, root_fragment, rows_but, same_Some, shape_of, shown_in, shown_tree, state_of, still_known, subst, sym, true, with_home, ℕ, ⊎_elim, ◌==◌, ◌||◌, ◌∙◌, ◌∷◌, ◌≡◌, ◌⊎◌}
+use Rattle.ranked_tree.proofs.Common.{AreHeld, AreHeldAt, AsksFor, Came, Change, Core, Covers, EndsWith, Fragment, HasLeaf, Home, Homes, IfSome, Ino, Inode, IsChangedBy, IsChangedHeld, IsGone, IsLive, IsNamedIn, IsOwned, IsPick, IsSome, IsSound, IsSoundCore, IsTable, IsThat, KeepsAuthorities, Leaf, List, Makes, MayChange, MayCome, MayGo, NamesDir, None, NoneEnds, Option, Rank, Roots, Rules, Shape, Some, Spot, State, [], adds, ap, came_then, came_weaker, dentry_at, dir_or_not, false, first_leaf, hash_of, home_at, inherited, inl, inr, is_dir_kind, is_known, is_some, known_is, leaf_of, leaves_of, may_come, may_go, move, none-some, none_unless, only_leaf, or_whole, reads_came, reads_weaker, refl, remove, replaces, root_fragment, rows_but, same_Some, shape_of, shown_in, shown_tree, state_of, still_known, subst, sym, true, with_home, ℕ, ⊎_elim, ◌==◌, ◌||◌, ◌∙◌, ◌∷◌, ◌≡◌, ◌⊎◌}
 use Rattle.std.specs.FinMap as map
 use Rattle.sorted_map.proofs.NatKeys as nat
 use Rattle.ranked_tree.proofs.ChangedTables.{added_tables, grown_tables, moved_tables, removed_tables}
@@ -81,14 +81,14 @@ gone_unknown _ (move source target inode went) old new sound may makes dir is =
 gone_unknown _ _ old new sound may makes dir is = absurd (none-some dir is)
 
 -- what a change that was made makes of the caches, with its reads
-pub whole_came : (change : Change) (old new : Core) → IsChanged change old new → Came (IsNamedIn change) (EndsWith change) old.caches new.caches
+pub whole_came : (change : Change) (old new : Core) → IsChangedBy change old new → Came (IsNamedIn change) (EndsWith change) old.caches new.caches
 whole_came change old new is =
     came_then (IsNamedIn change) (EndsWith change) old.caches is.between new.caches
     (came_weaker (IsNamedIn change) NoneEnds (IsNamedIn change) (EndsWith change) (λ r q uses. uses) (λ r q none. absurd none) old.caches is.between (reads_came (IsNamedIn change) NoneEnds old.objects old.caches is.between is.read)) is.came
 
 -- a change that was made names leaves of directories, each at its rank, and those of the directory that went
 pub changed_held : (old new : Core) (roots : Roots) (change : Change) → IsSound (state_of old) → IsSound (state_of new) → MayChange (shown_tree (state_of old)) old.covers change → AreHeldAt (state_of old) roots change
-    → IsChanged change old new → IsChangedHeld roots change old new
+    → IsChangedBy change old new → IsChangedHeld roots change old new
 changed_held old new roots change sound now may holders is = record {
   made = is.made;
   right = is.right;

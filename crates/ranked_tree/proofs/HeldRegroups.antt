@@ -1,5 +1,5 @@
 -- What splits and merges leave: each cached fragment is at its leaf's authority then.
-use Rattle.ranked_tree.proofs.Common.{AllHave, AreHeld, CacheMap, Came, CameAt, CanMerge, CanSplit, Contains, Core, FitsSplit, Fragment, GivesToChildren, HasLeaf, Ino, IsAmongOr, IsFamilyAt, IsFamilyOf, IsFragment, IsLive, IsMergedHere, IsOwned, IsSoundCore, KeepsAuthorities, Leaf, MayNotRegroup, MergesLeaves, Rank, Refusal, RefusesMerge, RefusesSplit, Roots, Rules, SplitsLeaf, TakesOver, UsedAt, and_from, ap, arith, came_weaker, child_is_new, child_of, ending_at, eq-eqb, from_mapped, has_inside, in_directory, inl, inr, is_inside, is_known, leaves, leaves_inside, leaves_of, lies_inside, merged_is_new, not_found_weaker, range_from_inside, refl, rules, some_inside, state_of, subst, sym, tree_of_row, ⊎_elim, State}
+use Rattle.ranked_tree.proofs.Common.{AllHave, AreHeld, CacheMap, Came, CameAt, CanMerge, CanSplit, Contains, Core, FitsSplit, Fragment, GivesToChildren, HasLeaf, Ino, IsAmongOr, IsFamilyAt, IsFamilyOf, IsFragment, IsLive, IsMergedHere, IsOwned, IsSoundCore, KeepsAuthorities, Leaf, MayNotRegroup, MergesFrags, Rank, Refusal, RefusesMerge, RefusesSplit, Roots, Rules, SplitsFrag, TakesOver, UsedAt, and_from, ap, arith, came_weaker, child_is_new, child_of, ending_at, eq-eqb, from_mapped, has_inside, in_directory, inl, inr, is_inside, is_known, leaves, leaves_inside, leaves_of, lies_inside, merged_is_new, not_found_weaker, range_from_inside, refl, rules, some_inside, state_of, subst, sym, tree_of_row, ⊎_elim, State}
 use Rattle.std.specs.Prelude.{◌≡◌, ◌<◌, ◌==◌, ◌^◌, ℕ, true, map as each, length, List, Result, Ok, Err}
 use Rattle.ranked_tree.proofs.HeldLaws.{HaveCaches, held_since, owned_came}
 
@@ -11,12 +11,12 @@ regroup_on Can Refuses s dir count NoPlace Fewer before after reason less =
     ⊎_elim (λ unknown. inl unknown) (⊎_elim (λ refused. inr (inl refused))
     (λ may. inr (inr (may.0, may.1, ⊎_elim (λ number. inl number) (λ has. inr (has.0, not_found_weaker NoPlace Fewer before after reason less has.1)) may.2))))
 
-pub split_on : (NoPlace Fewer : Type 0) (old new : Core) (dir : Ino) (frag : Fragment) (nb : ℕ) (result : Result (Unit {0}) Refusal) → (NoPlace → Fewer) → SplitsLeaf NoPlace old new dir frag nb result → SplitsLeaf Fewer old new dir frag nb result
+pub split_on : (NoPlace Fewer : Type 0) (old new : Core) (dir : Ino) (frag : Fragment) (nb : ℕ) (result : Result (Unit {0}) Refusal) → (NoPlace → Fewer) → SplitsFrag NoPlace old new dir frag nb result → SplitsFrag Fewer old new dir frag nb result
 split_on NoPlace Fewer old new dir frag nb (Ok done) less split = split
 split_on NoPlace Fewer old new dir frag nb (Err reason) less (because, undone) =
     (regroup_on (CanSplit (leaves_of old.covers dir.0) frag nb) (RefusesSplit (leaves_of old.covers dir.0) frag nb) (state_of old) dir (2 ^ nb) NoPlace Fewer old.faults new.faults reason less because, undone)
 
-pub merge_on : (NoPlace Fewer : Type 0) (old new : Core) (dir : Ino) (frag : Fragment) (result : Result (Unit {0}) Refusal) → (NoPlace → Fewer) → MergesLeaves NoPlace old new dir frag result → MergesLeaves Fewer old new dir frag result
+pub merge_on : (NoPlace Fewer : Type 0) (old new : Core) (dir : Ino) (frag : Fragment) (result : Result (Unit {0}) Refusal) → (NoPlace → Fewer) → MergesFrags NoPlace old new dir frag result → MergesFrags Fewer old new dir frag result
 merge_on NoPlace Fewer old new dir frag (Ok done) less merged = merged
 merge_on NoPlace Fewer old new dir frag (Err reason) less (because, undone) =
     (regroup_on (CanMerge (leaves_of old.covers dir.0) frag) (RefusesMerge (leaves_of old.covers dir.0) frag) (state_of old) dir 1 NoPlace Fewer old.faults new.faults reason less because, undone)

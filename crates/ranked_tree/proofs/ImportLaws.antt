@@ -1,5 +1,5 @@
 -- What Import makes of a tree that is divided among ranks: the importer of a sent region holds it, and has what isn't clean of it.
-use Rattle.ranked_tree.proofs.Common.{AreAtTheirRank, AreCachedOf, AreCaches, AreCleanAt, ArePlaced, AreUncleanAt, At, Bool, CacheMap, Cached, ComeToImporter, ComesTo, Core, Covers, Dirfrag, Err, Export, HandsOver, HandsRegion, HandsRegionOver, HasHolder, HasTooMany, HaveNoJobs, Homes, IfErr, IfErr-weaker, Imported, Imports, IsDistinct, IsDivided, IsExportOf, IsGivenOver, IsHere, IsIn, IsInRegionOf, IsRenewed, IsSoundCore, IsSpelled, IsSpelledBy, KeepsOutside, LacksPlacesAt, Leaf, List, MatchOption, MayNotHandOver, MayNotImport, NearestRoot, None, Ok, OnErr, OnOk, Option, Rank, Refusal, RegionLeaves, Regions, Result, Sent, SentFrag, Some, Spelled, SpellsExport, SpellsRegion, StandSoundly, Standing, StandingExport, State, Subtrees, Takes, UncleanLeaves, Unsaved, [], all_left_at, all_so, and_parts, ap, arith, at, at_rank, cases_Bool, clean_in, cond, cond_both, each_passes, eq_by_cmp, export_bytes, false, false≢true, few_lack, find, get-entries, handed_where, hands_over, held_in, here, here_of, holder_is, how_many, imported_unsaved, inl, inr, is_base_of, is_clean, is_frag_before, is_fragment, is_freezing, is_imported, is_name_before, is_same, is_sendable, is_sent_frag, is_sent_name, leaf_cmp, leaf_is, left_by, length, list_all, list_any, moved_all, nat_lt, nat_tests, near_to, none-some, none_unless, not, one_authority, one_export, one_root, one_value, option_map, order, passing_picked, picked_distinct, picked_passes, refl, rise, rules, same_Some, same_or_apart, sent_of, state_of, subst, sym, true, unclean, unclean_in, valid_so, wants_from, ℕ, ⊎_elim, ◌&&◌, ◌==◌, ◌^◌, ◌∙◌, ◌∷◌, ◌≡◌, ◌≤◌, ◌⊎◌}
+use Rattle.ranked_tree.proofs.Common.{AreAtTheirRank, AreCachedOf, AreCaches, AreCleanAt, ArePlaced, AreUncleanAt, At, Bool, CacheMap, Cached, ComeToImporter, ComesTo, Core, Covers, Dirfrag, Err, Export, HandsOver, HandsRegion, HandsRegionOver, HasHolder, HasTooMany, HaveNoJobs, Homes, IfErr, IfErr-weaker, Imported, Imports, IsDistinct, IsDivided, IsExportOf, IsGivenOver, IsHere, IsIn, IsInRegionOf, IsRenewed, IsSoundCore, IsSpelled, IsSpelledBy, KeepsOutside, LacksPlacesAt, Leaf, List, MatchOption, MayNotHandOver, MayNotImport, NearestRoot, None, Ok, OnErr, OnOk, Option, Rank, Refusal, RegionLeaves, Regions, Result, Sent, SentFrag, Some, Spelled, SpellsExport, SpellsRegion, StandSoundly, Standing, StandingExport, State, Subtrees, TakesRegion, UncleanLeaves, Unsaved, [], all_left_at, all_so, and_parts, ap, arith, at, at_rank, cases_Bool, clean_in, cond, cond_both, each_passes, eq_by_cmp, export_bytes, false, false≢true, few_lack, find, get-entries, handed_where, hands_over, held_in, here, here_of, holder_is, how_many, imported_unsaved, inl, inr, is_base_of, is_clean, is_frag_before, is_fragment, is_freezing, is_imported, is_name_before, is_same, is_sendable, is_sent_frag, is_sent_name, leaf_cmp, leaf_is, left_by, length, list_all, list_any, moved_all, nat_lt, nat_tests, near_to, none-some, none_unless, not, one_authority, one_export, one_root, one_value, option_map, order, passing_picked, picked_distinct, picked_passes, refl, rise, rules, same_Some, same_or_apart, sent_of, state_of, subst, sym, true, unclean, unclean_in, valid_so, wants_from, ℕ, ⊎_elim, ◌&&◌, ◌==◌, ◌^◌, ◌∙◌, ◌∷◌, ◌≡◌, ◌≤◌, ◌⊎◌}
 use Rattle.std.specs.FinMap as map
 use Rattle.std.proofs.Common.{◌≢◌, is_some, map as list_map}
 use Rattle.ranked_tree.proofs.HeldLaws.{held_after}
@@ -161,7 +161,7 @@ module _ (core : Core) (regions : Regions) (root : Leaf) (export : StandingExpor
 module _ (core new : Core) (regions : Regions) (divided : IsDivided core regions) (root : Leaf) (export : StandingExport) (stands : map.get regions.exports root ≡ Some export) (sent : export.state ≡ Sent) (apart : export.exporter.0 ≢ export.importer.0)
     (bytes : List ℕ) (leaves : RegionLeaves) (cached : AreCachedOf (IsInRegionOf (state_of core) regions.roots.roots root) core.caches export.exporter.0 leaves) (valid : AreCaches core.caches)
     (spelled : IsSpelledBy (state_of core) regions.roots.roots root export bytes (length leaves.unclean)) where
-  pub took : (result : Result (Unit {0}) Refusal) → OnOk result (HandsOver export.exporter.0 export.importer.0 leaves.unclean leaves.clean core.caches new.caches) → OnOk result (IsGivenOver leaves.unclean (state_of core) (state_of new)) → OnOk result (Takes core new regions root export bytes)
+  pub took : (result : Result (Unit {0}) Refusal) → OnOk result (HandsOver export.exporter.0 export.importer.0 leaves.unclean leaves.clean core.caches new.caches) → OnOk result (IsGivenOver leaves.unclean (state_of core) (state_of new)) → OnOk result (TakesRegion core new regions root export bytes)
   took (Err reason) h g = tt
   took (Ok done) h g = record {
     region = spelled.0;
@@ -191,7 +191,7 @@ module _ (core new : Core) (regions : Regions) (divided : IsDivided core regions
 -- ---- Import
 
 module _ (old new : Core) (regions : Regions) (later : Standing) (root : Leaf) (export : StandingExport) (divided : IsDivided old regions) (stands : map.get regions.exports root ≡ Some export) (step : ComesTo regions.exports later root Sent Imported)
-    (bytes : List ℕ) (takes : Takes old new regions root export bytes) where
+    (bytes : List ℕ) (takes : TakesRegion old new regions root export bytes) where
   this : step.export ≡ export
   this = one_value _ step.export export step.stood stands
 

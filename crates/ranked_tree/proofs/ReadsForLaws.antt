@@ -1,5 +1,5 @@
 -- What reads of a directory's leaves make of the caches, one after the other.
-use Rattle.ranked_tree.proofs.Common.{AreHeldAt, AsksFor, Change, Concerns, ConcernsIn, Core, Dentry, Inode, IsChangeIn, IsNamedIn, IsSound, KeepsRanked, KeepsState, Leaf, MayChange, Moves, NamesBy, NamesDir, None, NoneEnds, Op, Option, PutsAt, Ranked, Reads, ReadsFor, Refusal, Removes, Roots, Sets, Some, Spot, State, TakesAt, Tree, Unlinks, ap, dentry_at, false, held_roots, inl, inr, is_known, keeps_on, may_come, reads_then, reads_weaker, rules, shape_of, shown_tree, state_of, subst, sym, ℕ, ⊎_elim, ◌∙◌, ◌≡◌}
+use Rattle.ranked_tree.proofs.Common.{AreHeldAt, AsksFor, Change, Concerns, ConcernsIn, Core, Dentry, Inode, IsChangeIn, IsNamedIn, IsSound, KeepsRanked, KeepsState, Leaf, MayChange, Moves, NamesBy, NamesDir, None, NoneEnds, Op, Option, PutsAt, Ranked, Reads, ReadsFor, Refusal, Removes, Roots, Sets, Some, Spot, State, LosesName, Tree, Unlinks, ap, dentry_at, false, held_roots, inl, inr, is_known, keeps_on, may_come, reads_then, reads_weaker, rules, shape_of, shown_tree, state_of, subst, sym, ℕ, ⊎_elim, ◌∙◌, ◌≡◌}
 use Rattle.mds_types.specs.Shape.{Shape as OpShape, Makes}
 use Rattle.ranked_tree.proofs.AskLaws.{held_still}
 use Rattle.ranked_tree.proofs.HolderLaws.{is_unknown, named_by}
@@ -41,10 +41,10 @@ module _ (P : Option Spot → Option (Spot × Inode) → Type 0) where
   pub by_put : (dentry : Dentry) (Is : Inode → Type 0) (takes : Option Spot) (puts : Option (Spot × Inode)) → takes ≡ None → PutsAt dentry Is puts → ((put : Spot × Inode) → dentry_at put.0 ≡ dentry → Is put.1 → P None (Some put)) → P takes puts
   by_put dentry Is takes puts none at so = search rules
 
-  pub by_taken : (dentry : Dentry) (takes : Option Spot) (puts : Option (Spot × Inode)) → TakesAt dentry takes → puts ≡ None → ((spot : Spot) → dentry_at spot ≡ dentry → P (Some spot) None) → P takes puts
+  pub by_taken : (dentry : Dentry) (takes : Option Spot) (puts : Option (Spot × Inode)) → LosesName dentry takes → puts ≡ None → ((spot : Spot) → dentry_at spot ≡ dentry → P (Some spot) None) → P takes puts
   by_taken dentry takes puts at none so = search rules
 
-  pub by_move : (here there : Dentry) (Is : Inode → Type 0) (takes : Option Spot) (puts : Option (Spot × Inode)) → TakesAt here takes → PutsAt there Is puts
+  pub by_move : (here there : Dentry) (Is : Inode → Type 0) (takes : Option Spot) (puts : Option (Spot × Inode)) → LosesName here takes → PutsAt there Is puts
       → ((spot : Spot) (put : Spot × Inode) → dentry_at spot ≡ here → dentry_at put.0 ≡ there → P (Some spot) (Some put)) → P takes puts
   by_move here there Is takes puts at to so = search rules
 

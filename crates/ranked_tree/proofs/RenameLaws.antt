@@ -1,5 +1,5 @@
 -- What a directory's move needs of the roots: it keeps its leaves, and the rank that they inherit is known at both its dentries.
-use Rattle.ranked_tree.proofs.Common.{Bool, Change, Covers, Home, Homes, IfSome, Ino, Inode, IsInheritedAt, IsLostRank, IsRight, IsSettled, IsSound, IsSpot, MatchBool, MatchOption, MayChange, MayMove, None, Option, Rank, Roots, Rules, SettleMoving, Shape, Some, Spot, State, Tree, add, changed, cond, cond_both, dentry_at, dir_moving, directory_at, entry_stands, false, home_at, is_dir_kind, is_directory, leaf_of, leaves_of, move, moves, refl, relocates, remove, rules, same_Some, set, shown_tree, subst, sym, taken, true, ◌≡◌, ◌≢◌}
+use Rattle.ranked_tree.proofs.Common.{Bool, Change, Covers, Home, Homes, IfSome, Ino, Inode, IsInheritedAt, IsLostRank, IsRightChange, IsSettled, IsSound, IsSpot, MatchBool, MatchOption, MayChange, MayMove, None, Option, Rank, Roots, Rules, SettleMoving, Shape, Some, Spot, State, Tree, add, changed, cond, cond_both, dentry_at, dir_moving, directory_at, entry_stands, false, home_at, is_dir_kind, is_directory, leaf_of, leaves_of, move, moves, refl, relocates, remove, rules, same_Some, set, shown_tree, subst, sym, taken, true, ◌≡◌, ◌≢◌}
 use Rattle.std.specs.FinMap as map
 use Rattle.mds_types.proofs.EntryLaws.{get_put}
 
@@ -35,7 +35,7 @@ module _ (s : State) (sound : IsSound s) (roots : Roots) where
       at (Some rank) (that, apart) kinded = subst (λ (r : Rank). IsLostRank roots s.homes s.covers inode.ino.0 (home_at (dentry_at target)) (Some r)) (sym that) (home_at (dentry_at source), other, stood kinded, before, after, apart)
 
 -- a directory that moved has the leaves that it had
-pub leaves_stay : (old new : State) (change : Change) → Shape change → IsRight change old new → IfSome (dir_moving change) (λ (dir : Ino). leaves_of old.covers dir.0 ≡ leaves_of new.covers dir.0)
+pub leaves_stay : (old new : State) (change : Change) → Shape change → IsRightChange change old new → IfSome (dir_moving change) (λ (dir : Ino). leaves_of old.covers dir.0 ≡ leaves_of new.covers dir.0)
 leaves_stay old new _ (move source target inode went) is =
     cond_both (is_dir_kind inode.kind) (Some inode.ino) None (λ o. IfSome o (λ (dir : Ino). leaves_of old.covers dir.0 ≡ leaves_of new.covers dir.0))
     (λ kinded.
@@ -55,7 +55,7 @@ Settles d now before after lost = (homes : Homes) (covers : Covers) (home : Home
 
 -- and its roots are settled
 module _ (old new : State) (sound : IsSound old) (before after : Roots) (lost : Option Rank) where
-  pub settles : (change : Change) → Shape change → MayChange (shown_tree old) old.covers change → IsRight change old new
+  pub settles : (change : Change) → Shape change → MayChange (shown_tree old) old.covers change → IsRightChange change old new
       → ((put : Spot × Inode) → change.puts ≡ Some put → IfSome (dir_moving change) (λ (dir : Ino). IsLostRank before old.homes old.covers dir.0 (home_at (dentry_at put.0)) lost))
       → Settles (dir_moving change) new.covers before after lost → SettleMoving change old before after
   settles _ (add spot inode) able done is its = its old.homes old.covers (home_at (dentry_at spot))

@@ -1,5 +1,5 @@
 -- What is kept of the exports that stand: by what changes neither directories nor roots, and by what changes no frozen leaf.
-use Rattle.ranked_tree.proofs.Common.{AllHave, Alters, AreFrozenRegionsKept, AreRoots, AreThawed, Begins, BeginsWith, CacheMap, CameAt, Change, Core, Covers, Drops, Ends, Err, Fragment, HasAuthority, Homes, Ino, IsDivided, IsFrozen, IsFrozenIn, IsLive, IsOwned, IsSound, IsSoundCore, Job, Jobs, KeepsAuthorities, KeepsHolders, Leaf, List, Makes, NearestRoot, NoNewRank, None, Ok, Option, Rank, Refusal, Regions, Result, Roots, Shape, Some, StandSoundly, Standing, StandingExport, Subtrees, Unsaved, UsedAt, add, ap, came_weaker, cond_both, dentry_at, get-empty, get_beside, get_holding, get_left, get_removed, get_without, held_in, holder_is, holder_or, holding, imported_freezes, is_dir_kind, is_imported, keep_frozen, keep_holders, leaf-exact, leaf-total, leaf_cmp, leaf_is, length, list_any, move, none-some, option_map, refl, region_holder, remove, rules, same_Some, same_map, same_or_apart, set, state_of, subst, sym, unclean, with_directory, without, without_leaves, ℕ, ⊎_elim, ◌<◌, ◌∙◌, ◌≡◌, State}
+use Rattle.ranked_tree.proofs.Common.{AllHave, Alters, AreFrozenRegionsKept, AreRoots, AreThawed, Begins, BeginsUnsaved, CacheMap, CameAt, Change, Core, Covers, Drops, EndsJobOf, Err, Fragment, HasAuthority, Homes, Ino, IsDivided, IsFrozen, IsFrozenIn, IsLive, IsOwned, IsSound, IsSoundCore, Job, Jobs, KeepsAuthorities, KeepsHolders, Leaf, List, Makes, NearestRoot, NoNewRank, None, Ok, Option, Rank, Refusal, Regions, Result, Roots, Shape, Some, StandSoundly, Standing, StandingExport, Subtrees, Unsaved, UsedAt, add, ap, came_weaker, cond_both, dentry_at, get-empty, get_beside, get_holding, get_left, get_removed, get_without, held_in, holder_is, holder_or, holding, imported_freezes, is_dir_kind, is_imported, keep_frozen, keep_holders, leaf-exact, leaf-total, leaf_cmp, leaf_is, length, list_any, move, none-some, option_map, refl, region_holder, remove, rules, same_Some, same_map, same_or_apart, set, state_of, subst, sym, unclean, with_directory, without_gone_dir, without_leaves, ℕ, ⊎_elim, ◌<◌, ◌∙◌, ◌≡◌, State}
 use Rattle.std.specs.FinMap as map
 use Rattle.mdcache.specs.Commits.{leaf_of}
 use Rattle.ranked_tree.proofs.HeldLaws.{held_after}
@@ -22,7 +22,7 @@ pub found_left : {X : Type 0} (m : map.FinMap leaf_cmp X) (k q : Leaf) (x : X) �
 found_left {X} m k q x is =
     ⊎_elim (λ same. absurd (none-some x (sym (get_removed m k) ∙ ap (map.get (map.remove m k)) (sym same) ∙ is))) (λ apart. sym (get_left m k q apart) ∙ is) (same_or_apart q k)
 
-jobs_kept : (s : State) (went : Option Ino) → FewerJobs s (without s went)
+jobs_kept : (s : State) (went : Option Ino) → FewerJobs s (without_gone_dir s went)
 jobs_kept s went leaf job is = search (rules, jobs_without)
 
 -- a change begins none
@@ -146,7 +146,7 @@ module _ (old new : Core) (regions : Regions) (divided : IsDivided old regions) 
   begun_jobs (Err reason) h leaf job is frozen = same_jobs (state_of old) (state_of new) (ap (λ (s : State). s.jobs) h.1) leaf job is
   begun_jobs (Ok begun) h leaf job is frozen = go (map.get (unclean old.caches) at) begun h.2
     where
-      go : (u : Option Unsaved) (made : Option Job) → BeginsWith (state_of old) (state_of new) at u made → map.get old.jobs leaf ≡ Some job
+      go : (u : Option Unsaved) (made : Option Job) → BeginsUnsaved (state_of old) (state_of new) at u made → map.get old.jobs leaf ≡ Some job
       go None made b = same_jobs (state_of old) (state_of new) (ap (λ (s : State). s.jobs) b.1) leaf job is
       go (Some u) None b = absurd b
       go (Some u) (Some made) b =
@@ -165,7 +165,7 @@ no_jobs old new none leaf job is = absurd (none-some job (sym (get-empty leaf_cm
 
 -- other calls about commits end jobs at most
 module _ (old new : State) where
-  pub jobs_ended : (before after : ℕ) (job : Job) (result : Result (Unit {0}) Refusal) → Ends old new before after job result → FewerJobs old new
+  pub jobs_ended : (before after : ℕ) (job : Job) (result : Result (Unit {0}) Refusal) → EndsJobOf old new before after job result → FewerJobs old new
   jobs_ended before after job result h = search (rules, found_left)
 
   pub jobs_dropped : (number : ℕ) (result : Result (Unit {0}) Refusal) → Drops old new number result → FewerJobs old new

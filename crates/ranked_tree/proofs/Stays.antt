@@ -1,5 +1,5 @@
 -- What the calls about commits and objects leave of the tables: directories and leaves stay, and so do the roots.
-use Rattle.ranked_tree.proofs.Common.{Begins, BeginsWith, Drops, Ends, Ino, IsLive, IsSound, Job, Leaf, List, Option, PurgesName, Refusal, Result, SavesTree, Some, State, Unsaved, ap, rules, ℕ, ◌≡◌}
+use Rattle.ranked_tree.proofs.Common.{Begins, BeginsUnsaved, Drops, EndsJobOf, Ino, IsLive, IsSound, Job, Leaf, List, Option, PurgesName, Refusal, Result, SavesTree, Some, State, Unsaved, ap, rules, ℕ, ◌≡◌}
 use Rattle.std.specs.FinMap as map
 
 -- directories and leaves stay
@@ -17,14 +17,14 @@ pub same_tables : (old new : State) → new ≡ old → TablesStay old new
 same_tables old new same = (ap (λ (s : State). s.homes) same, ap (λ (s : State). s.covers) same)
 
 module _ (old new : State) where
-  pub begun : (unsaved : Option Unsaved) (leaf : Leaf) (job : Option Job) → BeginsWith old new leaf unsaved job → TablesStay old new
+  pub begun : (unsaved : Option Unsaved) (leaf : Leaf) (job : Option Job) → BeginsUnsaved old new leaf unsaved job → TablesStay old new
   begun unsaved leaf job h = search rules
 
   -- a commit of a leaf begins, or is refused
   pub begun_stays : (leaf : Leaf) (result : Result (Option Job) Refusal) → Begins old new leaf result → TablesStay old new
   begun_stays leaf result h = search (rules, begun)
 
-  pub ended : (before after : ℕ) (job : Job) (result : Result (Unit {0}) Refusal) → Ends old new before after job result → TablesStay old new
+  pub ended : (before after : ℕ) (job : Job) (result : Result (Unit {0}) Refusal) → EndsJobOf old new before after job result → TablesStay old new
   ended before after job result h = search rules
 
   pub dropped : (number : ℕ) (result : Result (Unit {0}) Refusal) → Drops old new number result → TablesStay old new

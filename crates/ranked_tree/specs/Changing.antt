@@ -12,7 +12,7 @@ use Rattle.subtree_map.specs.Changes.{Subtrees}
 use Rattle.mdcache.specs.Changes.{Makes}
 use Rattle.mdcache.specs.Core.{Core, state_of}
 use Rattle.mdcache.specs.Frags.{KeepsState, LacksToMake}
-use Rattle.mdcache.specs.Made.{IsRight}
+use Rattle.mdcache.specs.Made.{IsRightChange}
 use Rattle.mdcache.specs.Ready.{MayNotBeReady}
 use Rattle.mdcache.specs.Shown.{shown_tree}
 use Rattle.mdcache.specs.State.{State as TreeState}
@@ -24,7 +24,7 @@ use Rattle.ranked_tree.specs.Subtrees.{FollowChange, LoseDirectory}
 -- that went ended
 pub record IsChangedHeld (roots : Roots) (change : Change) (old new : Core) : Type 0 where
   pub made : Makes change (state_of old) (state_of new)
-  pub right : IsRight change (state_of old) (state_of new)
+  pub right : IsRightChange change (state_of old) (state_of new)
   pub between : CacheMap
   pub read : Reads (AsksFor (state_of old) roots (NamesDir change)) NoneEnds old.objects old.caches between
   pub came : Came (AsksFor (state_of old) roots (NamesDir change))

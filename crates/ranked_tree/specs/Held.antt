@@ -18,7 +18,7 @@ use Rattle.dentry_cache.specs.Came.{Came, NoneEnds}
 use Rattle.dentry_cache.specs.Reads.{Reads}
 use Rattle.subtree_map.specs.Authority.{Leaf, Roots}
 use Rattle.subtree_map.specs.Changes.{is_inside}
-use Rattle.mdcache.specs.CacheReads.{IsNewest}
+use Rattle.mdcache.specs.CacheReads.{IsNewestOf}
 use Rattle.mdcache.specs.Core.{Core, IsSoundCore, LacksPlacesAt, state_of}
 use Rattle.mdcache.specs.State.{State as TreeState}
 use Rattle.ranked_tree.specs.Subtrees.{AreRoots, HoldsAt, Rules}
@@ -71,7 +71,7 @@ ReadsDir roots dir old new = ReadsFor roots (λ (d : ℕ). d ≡ dir.0) old new
 
 -- a leaf is the most recently used of the rank that holds it
 abbrev pub IsNewestHeld : TreeState → Roots → CacheMap → Leaf → Type 0
-IsNewestHeld tree roots caches leaf = (rank : Rank) × Rules tree roots leaf rank × IsNewest caches rank.0 leaf
+IsNewestHeld tree roots caches leaf = (rank : Rank) × Rules tree roots leaf rank × IsNewestOf caches rank.0 leaf
 
 -- ---- what a change makes of the caches
 

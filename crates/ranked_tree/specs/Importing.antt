@@ -89,7 +89,7 @@ LeavesCaches exports root old new reason =
 -- ---- words of this crate's own contracts
 
 -- the region of a sent export was taken
-pub record Takes (old new : Core) (regions : Regions) (root : Leaf) (export : StandingExport)
+pub record TakesRegion (old new : Core) (regions : Regions) (root : Leaf) (export : StandingExport)
     (bytes : List ℕ) : Type 0 where
   pub region : SpellsRegion (state_of old) regions.roots.roots root export bytes
   pub renewed : IsRenewed (IsInRegionOf (state_of old) regions.roots.roots root) (state_of old) (state_of new)

@@ -7,7 +7,7 @@ ghost use Rattle.std.specs.Result.{result_err};
 ghost use Rattle.mds_types.specs.declared.refusals.Refusal.TheVariants.{NothingToEvict};
 ghost use Rattle.dentry_cache.specs.CacheMap.{evicted};
 ghost use Rattle.mdcache.specs.Core.{state_of};
-ghost use Rattle.mdcache.specs.Commits.{Begins, Drops, Ends, leaf_of as job_leaf};
+ghost use Rattle.mdcache.specs.Commits.{Begins, Drops, EndsJobOf, leaf_of as job_leaf};
 ghost use Rattle.mdcache.specs.Frags.{KeepsState};
 ghost use Rattle.mdcache.specs.Objects.{Purges, SavesTree};
 ghost use Rattle.ranked_tree.specs.Subtrees.{HoldsAt, Rules};
@@ -44,7 +44,7 @@ impl<S: Store + Drop> RankedTree<S> {
 
     /// Ends a commit, as `MdCache::end` does and refuses.
     pub fn end(&mut self, alloc: Global, encoded: &Encoded) -> Result<(), Refusal>
-        ensures ended { Ends (state_of self.old.tree)
+        ensures ended { EndsJobOf (state_of self.old.tree)
             (state_of self.new.tree) self.old.tree.faults self.new.tree.faults encoded.now.job result }
         ensures came { UsesAt (Rules (state_of self.old.tree) (held_roots self.old) (job_leaf encoded.now.job))
             (job_leaf encoded.now.job) self.old.tree.caches self.new.tree.caches }
@@ -142,7 +142,7 @@ fn end<S: Store + Drop>(
     encoded: &Encoded,
 ) -> Result<(), Refusal>
     requires divided { IsDivided tree.old regions.now }
-    ensures ended { Ends (state_of tree.old)
+    ensures ended { EndsJobOf (state_of tree.old)
         (state_of tree.new) tree.old.faults tree.new.faults encoded.now.job result }
     ensures came { UsesAt (Rules (state_of tree.old) (held_in regions.now) (job_leaf encoded.now.job))
         (job_leaf encoded.now.job) tree.old.caches tree.new.caches }

@@ -3,7 +3,7 @@ ghost use Rattle.std.specs.Prelude.{◌≡◌, ◌+◌, ◌<◌, ◌≤◌, OnOk
 ghost use Rattle.std.specs.FinMap as map;
 ghost use Rattle.objstore.specs.Objects.{faults_in};
 ghost use Rattle.mdcache.specs.Core.{state_of};
-ghost use Rattle.mdcache.specs.New.{MayNotFormat, new_caches, new_state};
+ghost use Rattle.mdcache.specs.New.{MayNotFormat, new_caches, new_tree_state};
 ghost use Rattle.ranked_tree.specs.Ranked.{new_roots};
 
 use crate::ranked_tree::RankedTree;
@@ -28,7 +28,7 @@ impl<S: Store + Drop> RankedTree<S> {
         requires few { 512 ≤ places }
         requires many { places ≤ 65536 }
         ensures empty { OnOk result (S.objects store ≡ map.empty) }
-        ensures state { IfOk result (λ t. state_of t.tree ≡ new_state limit) }
+        ensures state { IfOk result (λ t. state_of t.tree ≡ new_tree_state limit) }
         ensures roots { IfOk result (λ t. t.subtrees.roots ≡ new_roots) }
         ensures exports { IfOk result (λ t. t.exports ≡ map.empty) }
         ensures caches { IfOk result (λ t. t.tree.caches ≡ new_caches ranks places) }

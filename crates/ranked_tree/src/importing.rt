@@ -9,7 +9,7 @@ ghost use Rattle.export_steps.specs.declared.exports.ExportState.TheVariants as 
 ghost use Rattle.export_steps.specs.Standing.{IsBetweenRanks};
 ghost use Rattle.mdcache.specs.Core.{IsSoundCore, LacksPlacesAt, shown_in, state_of};
 ghost use Rattle.ranked_tree.specs.Exported.{IsDivided};
-ghost use Rattle.ranked_tree.specs.Importing.{Imports, IsSpelledBy, IsWrong, KeepsRegion, LeavesCaches, MayNotImport, RefusesImport, Takes};
+ghost use Rattle.ranked_tree.specs.Importing.{Imports, IsSpelledBy, IsWrong, KeepsRegion, LeavesCaches, MayNotImport, RefusesImport, TakesRegion};
 ghost use Rattle.ranked_tree.specs.Ranked.{held_roots};
 ghost use Rattle.ranked_tree.specs.Sending.{IsInRegionOf};
 ghost use Rattle.ranked_tree.specs.Subtrees.{KeepsOutside};
@@ -90,7 +90,7 @@ fn take_region<S: Store + Drop>(
     requires stands { map.get regions.now.exports root.now ≡ Some export }
     requires sent { export.state ≡ state.Sent }
     requires ranks { IsBetweenRanks export }
-    ensures taken { OnOk result (Takes tree.old tree.new regions.now root.now export bytes.now) }
+    ensures taken { OnOk result (TakesRegion tree.old tree.new regions.now root.now export bytes.now) }
     ensures refused { IfErr result
         (MayNotImport (λ count rank. LacksPlacesAt count tree.old rank)
         (state_of tree.old) regions.now.roots.roots root.now export bytes.now) }

@@ -12,7 +12,7 @@ ghost use Rattle.cached_frag.specs.Rows.{Row, rows_after};
 ghost use Rattle.inode_table.specs.Dirs.{IsLive, is_known, leaves_of};
 ghost use Rattle.dentry_cache.specs.CacheMap.{unclean};
 ghost use Rattle.mdcache.specs.Frags.{KeepsState};
-ghost use Rattle.mdcache.specs.Pages.{IsPageOf, gathered};
+ghost use Rattle.mdcache.specs.Pages.{IsPageOf, rows_gathered};
 ghost use Rattle.mdcache.specs.Core.{state_of};
 ghost use Rattle.mdcache.specs.Reads.{MayNotFind};
 ghost use Rattle.mdcache.specs.Shown.{names_of, shown_tree};
@@ -72,7 +72,7 @@ fn gather_leaves<S: Store + Drop>(
     requires known { is_known tree.old.homes dir.0 ≡ true }
     requires owned { IsOwned tree.old (held_in regions.now) }
     ensures page { (whole : List Row) → IsPageOf whole page.old
-        → OnOk result (IsPageOf (gathered (λ (f : Fragment). names_of (unclean tree.old.caches) tree.old.objects
+        → OnOk result (IsPageOf (rows_gathered (λ (f : Fragment). names_of (unclean tree.old.caches) tree.old.objects
         (dir, f)) (option_copied after.entry) whole (leaves_of tree.old.covers dir.0)) page.new) }
     ensures most { page.new.most ≡ page.old.most }
     ensures kept { KeepsState tree.old tree.new (result_err result) }

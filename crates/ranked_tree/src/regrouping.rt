@@ -11,7 +11,7 @@ ghost use Rattle.subtree_map.specs.Authority.{Leaf};
 ghost use Rattle.subtree_map.specs.Changes.{HaveOneAuthority, IsRootMerge, IsRootSplit, is_inside};
 ghost use Rattle.mdcache.specs.Core.{IsSoundCore, state_of};
 ghost use Rattle.mdcache.specs.Ranks.{MayHold};
-ghost use Rattle.mdcache.specs.SplitsAndMerges.{MayNotMerge, MayNotSplit, MergesLeaves, SplitsLeaf};
+ghost use Rattle.mdcache.specs.SplitsAndMerges.{MayNotMerge, MayNotSplit, MergesFrags, SplitsFrag};
 ghost use Rattle.ranked_tree.specs.Exported.{AreThawed, IsDivided, IsFrozenIn, held_in};
 ghost use Rattle.ranked_tree.specs.Held.{CameAt, IsFamilyOf, IsMergedHere, IsOwned, LacksPlacesFor, LacksPlacesInside};
 ghost use Rattle.ranked_tree.specs.Ranked.{IsFrozenLeaf, held_roots};
@@ -37,7 +37,7 @@ impl<S: Store + Drop> RankedTree<S> {
         requires can { CanSplit (leaves_of self.old.tree.covers at.now.dir.0) at.now.frag bits }
         requires held { HoldsAt (state_of self.old.tree) (held_roots self.old) at.now }
         requires thawed { IsFrozenLeaf self.old (leaf_of at.now) → ⊥ }
-        ensures split { SplitsLeaf
+        ensures split { SplitsFrag
             (LacksPlacesFor (2 ^ bits + 1) self.old.tree self.old.subtrees.roots
             (leaf_of at.now)) self.old.tree self.new.tree at.now.dir at.now.frag bits result }
         ensures came { CameAt (Rules (state_of self.old.tree) self.old.subtrees.roots (leaf_of at.now))
@@ -68,7 +68,7 @@ impl<S: Store + Drop> RankedTree<S> {
         requires one { HaveOneAuthority self.old.subtrees.roots self.old.tree.homes self.old.tree.covers dir.0 frag }
         requires thawed { AreThawed self.old.exports self.old.subtrees.roots self.old.tree.homes
             self.old.tree.covers dir frag }
-        ensures merged { MergesLeaves
+        ensures merged { MergesFrags
             (LacksPlacesInside 1 self.old.tree self.old.subtrees.roots dir frag) self.old.tree
             self.new.tree dir frag result }
         ensures came { CameAt (AllHave self.old.tree.homes self.old.tree.covers self.old.subtrees.roots dir frag)
@@ -104,7 +104,7 @@ fn split_with_roots<S: Store + Drop>(
     requires can { CanSplit (leaves_of tree.old.covers at.now.dir.0) at.now.frag bits }
     requires held { HoldsAt (state_of tree.old) (held_in regions.old) at.now }
     requires thawed { IsFrozenIn (state_of tree.old) regions.old (leaf_of at.now) → ⊥ }
-    ensures split { SplitsLeaf
+    ensures split { SplitsFrag
         (LacksPlacesFor (2 ^ bits + 1) tree.old regions.old.roots.roots
         (leaf_of at.now)) tree.old tree.new at.now.dir at.now.frag bits result }
     ensures came { CameAt (Rules (state_of tree.old) regions.old.roots.roots (leaf_of at.now))
@@ -148,7 +148,7 @@ fn merge_with_roots<S: Store + Drop>(
     requires can { CanMerge (leaves_of tree.old.covers dir.0) frag }
     requires one { HaveOneAuthority regions.old.roots.roots tree.old.homes tree.old.covers dir.0 frag }
     requires thawed { AreThawed regions.old.exports regions.old.roots.roots tree.old.homes tree.old.covers dir frag }
-    ensures merged { MergesLeaves
+    ensures merged { MergesFrags
         (LacksPlacesInside 1 tree.old regions.old.roots.roots dir frag) tree.old tree.new dir frag result }
     ensures came { CameAt (AllHave tree.old.homes tree.old.covers regions.old.roots.roots dir frag)
         (IsMergedHere tree.old.covers dir frag) tree.old.caches tree.new.caches }
@@ -187,7 +187,7 @@ fn split_held<S: Store + Drop>(
     requires owned { IsOwned tree.old (held_in regions.now) }
     requires held { HoldsAt (state_of tree.old) (held_in regions.now) at.now }
     requires thawed { IsFrozenIn (state_of tree.old) regions.now (leaf_of at.now) → ⊥ }
-    ensures split { SplitsLeaf
+    ensures split { SplitsFrag
         (LacksPlacesFor (2 ^ bits + 1) tree.old regions.now.roots.roots
         (leaf_of at.now)) tree.old tree.new at.now.dir at.now.frag bits result }
     ensures count { length tree.new.caches.used ≡ length tree.old.caches.used }
@@ -213,7 +213,7 @@ fn merge_held<S: Store + Drop>(
     requires one { HaveOneAuthority regions.now.roots.roots tree.old.homes tree.old.covers dir.0 frag }
     requires owned { IsOwned tree.old (held_in regions.now) }
     requires thawed { AreThawed regions.now.exports regions.now.roots.roots tree.old.homes tree.old.covers dir frag }
-    ensures merged { MergesLeaves
+    ensures merged { MergesFrags
         (LacksPlacesInside 1 tree.old regions.now.roots.roots dir frag) tree.old tree.new dir frag result }
     ensures count { length tree.new.caches.used ≡ length tree.old.caches.used }
     ensures cap { tree.new.caches.cap ≡ tree.old.caches.cap }

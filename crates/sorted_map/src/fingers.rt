@@ -5,42 +5,48 @@ ghost use Rattle.sorted_map.specs.SortedMap.{contents};
 
 use crate::keys::{ExactOrd, Probe};
 use crate::map::{SortedMap, Store};
+use std::cell::Cell;
 
-/// Where a key is in a large map, or would go. It is a hint: a call that it is given tries this place first, at one
-/// comparison or two, and searches where the key isn't there. So no answer depends on it, and it may be that of another
-/// key, of a map that has changed since, or of another map.
+/// Where the two keys of a large map are, or would go, that were sought last. It is a hint: a call that it is given tries
+/// these places first, at a comparison or two each, and searches where the key isn't there. So no answer depends on it,
+/// and it may be that of other keys, of a map that has changed since, or of another map.
 #[derive(Clone, Copy, Debug)]
 pub struct Finger {
+    pub(crate) last: Spot,
+    pub(crate) before: Spot,
+}
+
+/// A place of one of the chunks.
+#[derive(Clone, Copy, Debug)]
+pub(crate) struct Spot {
     pub(crate) home: usize,
     pub(crate) at: usize,
 }
+
+/// A place of no chunk.
+pub(crate) const NOWHERE: Spot = Spot {
+    home: usize::MAX,
+    at: 0,
+};
 
 impl Finger {
     /// That of no key.
     pub fn none() -> Finger {
         Finger {
-            home: usize::MAX,
-            at: 0,
+            last: NOWHERE,
+            before: NOWHERE,
         }
     }
 }
 
 impl<K: ExactOrd, V> SortedMap<K, V> {
-    /// Where the key is, or would go. Takes logarithmic time in a large map; that of a small one tells nothing.
-    pub fn finger<Q: Probe<K>>(&self, q: &Q) -> Finger {
-        match &self.store {
-            Store::Flat(_) => Finger::none(),
-            Store::Chunked(chunked) => chunked.finger(q),
-        }
-    }
-
-    /// The value of the key, as `get` finds it.
-    pub fn get_near<Q: Probe<K>>(&self, near: &Finger, q: &Q) -> Option<&V>
+    /// The value of the key, as `get` finds it. In a large map the finger is where the key is then, or would go.
+    pub fn get_noting<Q: Probe<K>>(&self, near: &Cell<Finger>, q: &Q) -> Option<&V>
         ensures { option_copied result ≡ map.get (contents K.cmp self.now) (Q.key q.now) }
     {
         match &self.store {
             Store::Flat(flat) => flat.get(q),
-            Store::Chunked(chunked) => chunked.get_near(near, q),
+            Store::Chunked(chunked) => chunked.get_noting(near, q),
         }
     }
 }

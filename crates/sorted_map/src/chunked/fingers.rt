@@ -11,27 +11,26 @@ ghost use Rattle.sorted_map.specs.Places.{IsPlace};
 use crate::chunked::map::ChunkMap;
 use crate::chunked::places::spot_from_end;
 use crate::chunks::{Chunk, put_new, put_value};
-use crate::fingers::Finger;
+use crate::fingers::{Finger, Spot};
 use crate::keys::{ExactOrd, Probe};
+use std::cell::Cell;
 use std::cmp::Ordering;
 
 impl<K: ExactOrd, V> ChunkMap<K, V> {
-    /// Where the key is, or would go.
-    pub fn finger<Q: Probe<K>>(&self, q: &Q) -> Finger {
-        match spot_from_end(self.chunks.row(), q) {
-            (home, Ok(at)) => Finger { home, at },
-            (home, Err(at)) => Finger { home, at },
-        }
-    }
-
-    /// The value of the key.
-    pub fn get_near<Q: Probe<K>>(&self, near: &Finger, q: &Q) -> Option<&V>
+    /// The value of the key; the finger is where it is then, or would go.
+    pub fn get_noting<Q: Probe<K>>(&self, near: &Cell<Finger>, q: &Q) -> Option<&V>
         ensures { option_copied result ≡ map.get (contents K.cmp self.now) (Q.key q.now) }
     {
         let row = self.chunks.row();
-        match spot_near(row, near, q) {
-            (home, Ok(at)) => Some(&row[home].pairs()[at].1),
-            (_, Err(_)) => None,
+        match spot_from_end(row, q) {
+            (home, Ok(at)) => {
+                note(near, home, at);
+                Some(&row[home].pairs()[at].1)
+            }
+            (home, Err(at)) => {
+                note(near, home, at);
+                None
+            }
         }
     }
 }
@@ -54,6 +53,15 @@ impl<K: ExactOrd + Drop, V: Drop> ChunkMap<K, V> {
     }
 }
 
+// A key was sought, and found at this place.
+fn note(near: &Cell<Finger>, home: usize, at: usize) {
+    let before = near.get().last;
+    near.set(Finger {
+        last: Spot { home, at },
+        before,
+    });
+}
+
 // The chunk of the probe's key and its place there, or that where it would go, as `spot_from_end` finds them.
 fn spot_near<K: Ord, V, Q: Probe<K>>(
     chunks: &[Chunk<K, V>],
@@ -67,12 +75,32 @@ fn spot_near<K: Ord, V, Q: Probe<K>>(
     ensures within { IsSearchInRange result.1 (length (slice_index_or chunks.now result.0 [])) }
     ensures place { IsPlace K.cmp (Q.key q.now) (flat chunks.now) (place_in chunks.now result.0 result.1) }
 {
-    if near.home < chunks.len() {
-        if let Some(place) = place_near(chunks, near.home, near.at, q) {
-            return (near.home, place);
-        }
+    if let Some(place) = place_at(chunks, &near.last, q) {
+        return (near.last.home, place);
+    }
+    if let Some(place) = place_at(chunks, &near.before, q) {
+        return (near.before.home, place);
     }
     spot_from_end(chunks, q)
+}
+
+// The place of the probe's key in the chunk of a spot, if that is this one, or where it would go.
+fn place_at<K: Ord, V, Q: Probe<K>>(
+    chunks: &[Chunk<K, V>],
+    spot: &Spot,
+    q: &Q,
+) -> Option<Result<usize, usize>>
+    requires sorted { T (is_sorted K.cmp (flat chunks.now)) }
+    ensures home { IfSome result (λ place. spot.now.home < length chunks.now) }
+    ensures within { IfSome result (λ place. IsSearchInRange place
+        (length (slice_index_or chunks.now spot.now.home []))) }
+    ensures place { IfSome result (λ place. IsPlace K.cmp (Q.key q.now)
+        (flat chunks.now) (place_in chunks.now spot.now.home place)) }
+{
+    if spot.home >= chunks.len() {
+        return None;
+    }
+    place_near(chunks, spot.home, spot.at, q)
 }
 
 // The place of the probe's key in a chunk, if that is this one, or where it would go.

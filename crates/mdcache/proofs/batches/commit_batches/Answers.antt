@@ -1,5 +1,5 @@
 -- Each turn commits some leaves, or finds that all is clean.
-use Rattle.mdcache.proofs.Common.{HasFragment, MayNotCommit, NoneEnds, arith, came_ranks, cond, refl, rules, state_of, subst, sym, unclean, ℕ, ◌+◌, ◌<◌, ◌∙◌, ◌≤◌}
+use Rattle.mdcache.proofs.Common.{HasFragment, MayNotCommit, NoneEnds, came_ranks, cond, refl, rules, state_of, subst, sym, unclean, ℕ, ◌+◌, ◌<◌, ◌∙◌, ◌≤◌}
 use Rattle.std.specs.FinMap as map
 use Rattle.mdcache.proofs.CommittedLaws.{given_up_whole, lacked_before, turn_ends, whole_then}
 use Rattle.mdcache.proofs.KeptTree.{kept_itself, steps_keep_tree}

@@ -1,4 +1,4 @@
-use Rattle.namespace_ops.proofs.Common.{ChangesOnly, Contains, Err, IsWellFormed, KeepsAll, Leaf, List, None, Ok, OnErr, OnOk, OthersShowTheSame, Refusal, Reply, Result, ap, changed_fragments, leaves_of, result_err, subst, sym, ◌∙◌}
+use Rattle.namespace_ops.proofs.Common.{ChangesOnly, Contains, Err, IsWellFormed, ReadsOnly, Leaf, List, None, Ok, OnErr, OnOk, OthersShowTheSame, Refusal, Reply, Result, ap, changed_fragments, leaves_of, result_err, subst, sym, ◌∙◌}
 use Rattle.namespace_ops.proofs.OtherLeaves.{kept_others}
 use Rattle.namespace_ops.proofs.serving.serve_op.Goals as goal
 
@@ -12,7 +12,7 @@ pub returns-in-Changes-clause-frame : goal.returns-in-Changes-clause-frame
 returns-in-Changes-clause-frame g c leaf others = go c.make_change.result c.make_change.ensures.frame c.make_change.ensures.kept
   where
     go : (r : Result Reply Refusal) → OnOk r (ChangesOnly (g.F.Frags.Unchanged c.check.new.frags c.make_change.new.frags) (changed_fragments c.args.limit (g.F.Frags.covers c.check.new.frags) (g.F.Frags.content c.check.new.frags) c.args.op.now))
-        → OnErr r (KeepsAll (g.F.Frags.content c.check.new.frags) (g.F.Frags.content c.make_change.new.frags) (g.F.Frags.covers c.check.new.frags) (g.F.Frags.covers c.make_change.new.frags) (g.F.Frags.Follows c.check.new.frags c.make_change.new.frags c.args.op.now (result_err r))) → g.F.Frags.Unchanged c.args.frags.now c.make_change.new.frags leaf
+        → OnErr r (ReadsOnly (g.F.Frags.content c.check.new.frags) (g.F.Frags.content c.make_change.new.frags) (g.F.Frags.covers c.check.new.frags) (g.F.Frags.covers c.make_change.new.frags) (g.F.Frags.Follows c.check.new.frags c.make_change.new.frags c.args.op.now (result_err r))) → g.F.Frags.Unchanged c.args.frags.now c.make_change.new.frags leaf
     go (Ok reply) frame left =
         g.met.F.Frags.unchanged_on _ _ _ leaf (g.met.F.Frags.unchanged_by _ _ c.args.op.now leaf None c.in_ok-reply.ensures.kept.follows)
         (frame leaf (λ has. others (subst (λ (k : List Leaf). Contains k leaf) (λ i. changed_fragments c.args.limit (c.in_ok-reply.ensures.kept.leaves i) (c.in_ok-reply.ensures.kept.tree i) c.args.op.now) has)))
@@ -22,7 +22,7 @@ pub returns-in-Changes-clause-others : goal.returns-in-Changes-clause-others
 returns-in-Changes-clause-others g c whole = go c.make_change.result c.make_change.ensures.others c.make_change.ensures.kept
   where
     go : (r : Result Reply Refusal) → OnOk r (IsWellFormed (g.F.Frags.content c.check.new.frags) → OthersShowTheSame (g.F.Frags.content c.check.new.frags) (g.F.Frags.content c.make_change.new.frags) (g.F.Frags.covers c.check.new.frags) (g.F.Frags.covers c.make_change.new.frags) (changed_fragments c.args.limit (g.F.Frags.covers c.check.new.frags) (g.F.Frags.content c.check.new.frags) c.args.op.now))
-        → OnErr r (KeepsAll (g.F.Frags.content c.check.new.frags) (g.F.Frags.content c.make_change.new.frags) (g.F.Frags.covers c.check.new.frags) (g.F.Frags.covers c.make_change.new.frags) (g.F.Frags.Follows c.check.new.frags c.make_change.new.frags c.args.op.now (result_err r)))
+        → OnErr r (ReadsOnly (g.F.Frags.content c.check.new.frags) (g.F.Frags.content c.make_change.new.frags) (g.F.Frags.covers c.check.new.frags) (g.F.Frags.covers c.make_change.new.frags) (g.F.Frags.Follows c.check.new.frags c.make_change.new.frags c.args.op.now (result_err r)))
         → OthersShowTheSame (g.F.Frags.content c.args.frags.now) (g.F.Frags.content c.make_change.new.frags) (g.F.Frags.covers c.args.frags.now) (g.F.Frags.covers c.make_change.new.frags) (changed_fragments c.args.limit (g.F.Frags.covers c.args.frags.now) (g.F.Frags.content c.args.frags.now) c.args.op.now)
     go (Ok reply) others left =
         subst (λ t. OthersShowTheSame t (g.F.Frags.content c.make_change.new.frags) (g.F.Frags.covers c.args.frags.now) (g.F.Frags.covers c.make_change.new.frags) (changed_fragments c.args.limit (g.F.Frags.covers c.args.frags.now) t c.args.op.now)) c.in_ok-reply.ensures.kept.tree

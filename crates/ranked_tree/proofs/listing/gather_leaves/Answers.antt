@@ -1,4 +1,4 @@
-use Rattle.ranked_tree.proofs.Common.{Covers, Fragment, HasLeaf, List, None, ap, gathered, held_in, keeps_itself, keeps_on, leaf_more, leaves_of, names_of, option_copied, refl, subst, unclean, ℕ, ◌∙◌, ◌≡◌, State, reads_none}
+use Rattle.ranked_tree.proofs.Common.{Covers, Fragment, HasLeaf, List, None, ap, rows_gathered, held_in, keeps_itself, keeps_on, leaf_more, leaves_of, names_of, option_copied, refl, subst, unclean, ℕ, ◌∙◌, ◌≡◌, State, reads_none}
 use Rattle.ranked_tree.proofs.WalkLaws.{first_within, rest_within}
 use Rattle.ranked_tree.proofs.AskLaws.{live_still}
 use Rattle.ranked_tree.proofs.ReadsForLaws.{reads_on}
@@ -37,7 +37,7 @@ loop-frag-init g c =
       owned = c.requires.owned;
       within = λ f has. subst (λ (fs : List Fragment). HasLeaf fs f) same has;
       most = refl;
-      page = λ whole is. (whole, is, ap (λ (fs : List Fragment). gathered (λ (f : Fragment). names_of (unclean c.args.tree.now.caches) c.args.tree.now.objects (c.args.dir, f)) (option_copied c.args.after) whole fs) same);
+      page = λ whole is. (whole, is, ap (λ (fs : List Fragment). rows_gathered (λ (f : Fragment). names_of (unclean c.args.tree.now.caches) c.args.tree.now.objects (c.args.dir, f)) (option_copied c.args.after) whole fs) same);
     }
 
 pub returns-in_err-leaves-clause-reads : goal.returns-in_err-leaves-clause-reads

@@ -1,4 +1,4 @@
-use Rattle.ranked_tree.proofs.Common.{AllHave, CameAt, CanMerge, Err, HaveOneAuthority, IsMergedHere, IsRootMerge, LacksPlacesInside, MergesLeaves, RefusesMerge, Roots, faults_in, held_in, leaves_of, refl, regroup_free, rules, state_of, stays, subst, sym, ◌∙◌, ◌≡◌}
+use Rattle.ranked_tree.proofs.Common.{AllHave, CameAt, CanMerge, Err, HaveOneAuthority, IsMergedHere, IsRootMerge, LacksPlacesInside, MergesFrags, RefusesMerge, Roots, faults_in, held_in, leaves_of, refl, regroup_free, rules, state_of, stays, subst, sym, ◌∙◌, ◌≡◌}
 use Rattle.ranked_tree.proofs.DividedLaws.{merge_divided}
 use Rattle.ranked_tree.proofs.HeldRegroups.{regroup_on, unmerged_owned}
 use Rattle.ranked_tree.proofs.Kept.{keeps_same}
@@ -26,7 +26,7 @@ returns-in-Err-merge_held g c =
     let came = subst (λ (r : Roots). CameAt (AllHave c.args.tree.now.homes c.args.tree.now.covers r c.args.dir c.args.frag) (IsMergedHere c.args.tree.now.covers c.args.dir c.args.frag) c.args.tree.now.caches c.merge_held.new.tree.caches) same its.came in
     let owned = unmerged_owned c.args.tree.now c.merge_held.new.tree (held_in c.args.regions.now) (held_in c.args.regions.now) c.requires.divided.owned its.count its.sound c.args.dir c.args.frag c.requires.known c.requires.can
     (came_by (AllHave c.args.tree.now.homes c.args.tree.now.covers c.args.regions.now.roots.roots c.args.dir c.args.frag) _ (IsMergedHere c.args.tree.now.covers c.args.dir c.args.frag) _ _ (all_held c.args.regions.now.exports c.args.regions.now.roots.roots c.args.tree.now.homes c.args.tree.now.covers c.args.dir c.args.frag c.requires.thawed) came) its.merged.1 in
-    let refused = subst (λ (r : Roots). MergesLeaves (LacksPlacesInside 1 c.args.tree.now r c.args.dir c.args.frag) c.args.tree.now c.merge_held.new.tree c.args.dir c.args.frag (Err c.in-Err-merge_held.refusal)) same its.merged in
+    let refused = subst (λ (r : Roots). MergesFrags (LacksPlacesInside 1 c.args.tree.now r c.args.dir c.args.frag) c.args.tree.now c.merge_held.new.tree c.args.dir c.args.frag (Err c.in-Err-merge_held.refusal)) same its.merged in
     let kept = keeps_same (state_of c.args.tree.now) (state_of c.merge_held.new.tree) c.args.regions.now.roots.roots c.reserve_merge.new.roots.roots c.args.regions.now.exports c.args.regions.now.exports its.merged.1 same refl c.requires.divided.stand.valid in
     let divided = undone c.args.tree.now c.merge_held.new.tree c.args.regions.now c.reserve_merge.new.roots c.requires.divided owned its.merged.1 its.count same c.reserve_merge.ensures.promises in
     search (rules, its, refused, came, same, kept, divided)

@@ -1,4 +1,4 @@
-use Rattle.ranked_tree.proofs.Common.{CameAt, CanSplit, Err, IsFamilyOf, IsRootSplit, LacksPlacesFor, RefusesSplit, Roots, Rules, SplitsLeaf, faults_in, held_in, leaf_of, leaves_of, refl, regroup_free, rules, state_of, stays, subst, ◌+◌, ◌^◌, ◌∙◌, ◌≡◌}
+use Rattle.ranked_tree.proofs.Common.{CameAt, CanSplit, Err, IsFamilyOf, IsRootSplit, LacksPlacesFor, RefusesSplit, Roots, Rules, SplitsFrag, faults_in, held_in, leaf_of, leaves_of, refl, regroup_free, rules, state_of, stays, subst, ◌+◌, ◌^◌, ◌∙◌, ◌≡◌}
 use Rattle.ranked_tree.proofs.DividedLaws.{split_divided}
 use Rattle.ranked_tree.proofs.HeldRegroups.{regroup_on, unsplit_owned}
 use Rattle.ranked_tree.proofs.Kept.{keeps_same}
@@ -23,7 +23,7 @@ returns-in-Err-split_held g c =
     let came = subst (λ (r : Roots). CameAt (Rules (state_of c.args.tree.now) r (leaf_of c.args.at.now)) (IsFamilyOf c.args.at.now.dir c.args.at.now.frag c.args.bits) c.args.tree.now.caches c.split_held.new.tree.caches) same its.came in
     let owned = unsplit_owned c.args.tree.now c.split_held.new.tree (held_in c.args.regions.now) (held_in c.args.regions.now) c.requires.divided.owned its.count its.sound c.args.at.now.dir c.args.at.now.frag c.args.bits (record { known = c.requires.known; stands = c.requires.can.stands })
     (came_by (Rules (state_of c.args.tree.now) c.args.regions.now.roots.roots (leaf_of c.args.at.now)) _ (IsFamilyOf c.args.at.now.dir c.args.at.now.frag c.args.bits) _ _ (λ rank. thawed_held c.args.regions.now.exports c.args.regions.now.roots.roots c.args.tree.now.homes c.args.tree.now.covers (leaf_of c.args.at.now) rank c.requires.thawed) came) its.split.1 c.requires.can.fits in
-    let refused = subst (λ (r : Roots). SplitsLeaf (LacksPlacesFor (2 ^ c.args.bits + 1) c.args.tree.now r (leaf_of c.args.at.now)) c.args.tree.now c.split_held.new.tree c.args.at.now.dir c.args.at.now.frag c.args.bits (Err c.in-Err-split_held.refusal)) same its.split in
+    let refused = subst (λ (r : Roots). SplitsFrag (LacksPlacesFor (2 ^ c.args.bits + 1) c.args.tree.now r (leaf_of c.args.at.now)) c.args.tree.now c.split_held.new.tree c.args.at.now.dir c.args.at.now.frag c.args.bits (Err c.in-Err-split_held.refusal)) same its.split in
     let kept = keeps_same (state_of c.args.tree.now) (state_of c.split_held.new.tree) c.args.regions.now.roots.roots c.reserve_split.new.roots.roots c.args.regions.now.exports c.args.regions.now.exports its.split.1 same refl c.requires.divided.stand.valid in
     let divided = undone c.args.tree.now c.split_held.new.tree c.args.regions.now c.reserve_split.new.roots c.requires.divided owned its.split.1 its.count same c.reserve_split.ensures.promises in
     search (rules, its, refused, came, same, kept, divided)

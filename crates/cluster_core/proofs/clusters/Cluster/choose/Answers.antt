@@ -1,5 +1,5 @@
 -- Each event does what its function does, and leaves each leaf its authority.
-use Rattle.cluster_core.proofs.Common.{AdministersTree, BeginsCommit, CacheMap, EvictsOne, ImportsExport, List, ap, keeps_same, length, nat_lt, nothing, subst, sym, ℕ, ◌∙◌}
+use Rattle.cluster_core.proofs.Common.{AdministersTree, BeginsCommit, CacheMap, EvictsOne, ImportsExport, List, ap, keeps_same, length, nat_lt, told_nothing, subst, sym, ℕ, ◌∙◌}
 use Rattle.cluster_core.proofs.Exported.{few_ranks, holders_stay, roots_stay, valid_still}
 use Rattle.cluster_core.proofs.Stays.{at_rank_keeps, begun_keeps, dropped_keeps, ended_keeps, evicted_keeps, purged_keeps, saved_keeps}
 use Rattle.cluster_core.proofs.clusters.Cluster.choose.Goals as goal
@@ -41,7 +41,7 @@ returns-in-Purge g c =
 
 pub returns-in-Evict : goal.returns-in-Evict
 returns-in-Evict g c =
-    let kept = at_rank_keeps c.args.self.now c.evict.new.self c.args.history.now.items c.args.history.now.items (nat_lt c.in-Evict.rank.0 (length c.args.self.now.state.inboxes)) c.evict.result {done = AdministersTree c.args.self.now.state c.evict.new.self.state c.args.history.now.items c.args.history.now.items nothing (EvictsOne c.args.self.now c.evict.new.self c.in-Evict.rank) c.evict.result} c.requires.1.subtrees (λ h. evicted_keeps c.args.self.now c.evict.new.self c.args.history.now.items c.args.history.now.items c.in-Evict.rank c.evict.result c.requires.1.subtrees h) (c.evict.ensures.evicted c.args.history.now.items) in
+    let kept = at_rank_keeps c.args.self.now c.evict.new.self c.args.history.now.items c.args.history.now.items (nat_lt c.in-Evict.rank.0 (length c.args.self.now.state.inboxes)) c.evict.result {done = AdministersTree c.args.self.now.state c.evict.new.self.state c.args.history.now.items c.args.history.now.items told_nothing (EvictsOne c.args.self.now c.evict.new.self c.in-Evict.rank) c.evict.result} c.requires.1.subtrees (λ h. evicted_keeps c.args.self.now c.evict.new.self c.args.history.now.items c.args.history.now.items c.in-Evict.rank c.evict.result c.requires.1.subtrees h) (c.evict.ensures.evicted c.args.history.now.items) in
     record { stepped = rw c.in-Evict.is (record { does = c.evict.ensures.evicted _; authorities = kept.authorities; holders = kept.holders; ranks = c.evict.ensures.count; capacity = c.evict.ensures.cap; counted = c.evict.ensures.counted }); valid = kept.valid }
 
 pub evict-requires : goal.evict-requires

@@ -1,5 +1,5 @@
 -- Each turn begins a commit of the first leaf that is left.
-use Rattle.mdcache.proofs.Common.{AllByRecursion, IsBegunAt, Jobs, Leaf, State, ap, arith, get-empty, leaf_cmp, leaf_of, leaves_at, leaves_of_jobs, refl, rules, state_of, subst, sym, ◌++◌, ◌∙◌}
+use Rattle.mdcache.proofs.Common.{AllByRecursion, IsBegunAt, Jobs, Leaf, State, ap, get-empty, leaf_cmp, leaf_of, leaves_at, leaves_of_jobs, rules, state_of, subst, sym, ◌++◌, ◌∙◌}
 use Rattle.std.specs.FinMap as map
 use Rattle.mdcache.proofs.BatchLaws.{begin_lacks, begins_next, next_free}
 use Rattle.mdcache.proofs.KeptTree.{kept_itself, steps_keep_tree}

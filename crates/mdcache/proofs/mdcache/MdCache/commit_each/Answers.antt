@@ -1,5 +1,5 @@
 -- The jobs of all leaves begin, are encoded, and end.
-use Rattle.mdcache.proofs.Common.{AllByRecursion, AreApart, IsReadyAt, ap, leaves_of_writes, state_of, subst, sym, ◌∙◌}
+use Rattle.mdcache.proofs.Common.{AllByRecursion, AreOfOtherLeaves, IsReadyWrite, ap, leaves_of_writes, state_of, subst, sym, ◌∙◌}
 use Rattle.mdcache.proofs.BatchLaws.{begun_ready, leaves_ready}
 use Rattle.mdcache.proofs.CommittedLaws.{given_up_whole, whole_then}
 use Rattle.mdcache.proofs.KeptTree.{steps_keep_tree}
@@ -7,11 +7,11 @@ use Rattle.mdcache.proofs.mdcache.MdCache.commit_each.Goals as goal
 
 pub end_each-ended-requires-clause-begun : goal.end_each-ended-requires-clause-begun
 end_each-ended-requires-clause-begun g c =
-    subst (AllByRecursion (IsReadyAt c.begin_each.new.self)) (sym (c.as_slice.ensures.value ∙ c.in-Ok-encode_each.ensures.encoded)) (begun_ready c.begin_each.new.self c.in-Ok.begun.items c.in-Ok.ensures.begun)
+    subst (AllByRecursion (IsReadyWrite c.begin_each.new.self)) (sym (c.as_slice.ensures.value ∙ c.in-Ok-encode_each.ensures.encoded)) (begun_ready c.begin_each.new.self c.in-Ok.begun.items c.in-Ok.ensures.begun)
 
 pub end_each-ended-requires-clause-apart : goal.end_each-ended-requires-clause-apart
 end_each-ended-requires-clause-apart g c =
-    subst AreApart (sym (ap leaves_of_writes (c.as_slice.ensures.value ∙ c.in-Ok-encode_each.ensures.encoded) ∙ leaves_ready c.in-Ok.begun.items ∙ c.in-Ok.ensures.leaves)) c.requires.apart
+    subst AreOfOtherLeaves (sym (ap leaves_of_writes (c.as_slice.ensures.value ∙ c.in-Ok-encode_each.ensures.encoded) ∙ leaves_ready c.in-Ok.begun.items ∙ c.in-Ok.ensures.leaves)) c.requires.apart
 
 pub returns-clause-whole : goal.returns-clause-whole
 returns-clause-whole g c =

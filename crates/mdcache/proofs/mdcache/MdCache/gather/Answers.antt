@@ -1,6 +1,6 @@
 use Rattle.std.specs.FinMap as map
 use Rattle.mdcache.proofs.Common.{IsPageOf, IsThat, Names, here, key_cmp, leaf_of, option_copied, puts, rows_after}
-use Rattle.mdcache.proofs.CoreLaws.{cached_so, may_fetch, read_names, read_sound, on_ok, that_live}
+use Rattle.mdcache.proofs.CoreLaws.{cached_so, read_names, read_sound, on_ok, that_live}
 use Rattle.mdcache.proofs.mdcache.MdCache.gather.Goals as goal
 
 pub returns-clause-page : goal.returns-clause-page

@@ -1,5 +1,5 @@
 use Rattle.mdcache.proofs.Common.{IsThat, Names, has_none, ◌≡◌}
-use Rattle.mdcache.proofs.CoreLaws.{may_fetch, read_names, read_sound, if_ok, that_live}
+use Rattle.mdcache.proofs.CoreLaws.{read_names, read_sound, if_ok, that_live}
 use Rattle.mdcache.proofs.mdcache.MdCache.is_leaf_empty.Goals as goal
 
 pub returns-clause-found : goal.returns-clause-found

@@ -1,5 +1,5 @@
-use Rattle.mdcache.proofs.Common.{Core, IsThat, NoneEnds, leaf_of, length, subst, sym, ◌<◌}
-use Rattle.mdcache.proofs.CoreLaws.{reads_sound, that_live, there_after}
+use Rattle.mdcache.proofs.Common.{IsThat, NoneEnds, leaf_of}
+use Rattle.mdcache.proofs.CoreLaws.{reads_sound, that_live}
 use Rattle.mdcache.proofs.JoinSteps.{join_told}
 use Rattle.mdcache.proofs.mdcache.MdCache.join_leaf.Goals as goal
 

@@ -1,5 +1,5 @@
 use Rattle.mdcache.proofs.Common.{Core, NoneEnds, ap, child_of, rules, state_of, ◌+◌, ◌^◌}
-use Rattle.mdcache.proofs.CoreLaws.{grown_may, grown_refused, grown_sound, reads_core_on, reads_sound_so, reads_state, still_absent}
+use Rattle.mdcache.proofs.CoreLaws.{grown_refused, grown_sound, reads_core_on, reads_sound_so, reads_state, still_absent}
 use Rattle.mdcache.proofs.JoinSteps.{family_live}
 use Rattle.mdcache.proofs.RegroupReady.{room_reads}
 use Rattle.mdcache.proofs.SplitSteps.{no_child_cached}

@@ -1,5 +1,5 @@
 use Rattle.mdcache.proofs.Common.{IsThat, NoneEnds, arith, leaf_of, rules, ◌<◌}
-use Rattle.mdcache.proofs.CoreLaws.{if_err, may_fetch, not_ready, read_sound, reads_itself, that_live}
+use Rattle.mdcache.proofs.CoreLaws.{if_err, not_ready, read_sound, reads_itself, that_live}
 use Rattle.mdcache.proofs.mdcache.MdCache.ready_name.Goals as goal
 
 pub returns-in-Err-clause-reads : goal.returns-in-Err-clause-reads

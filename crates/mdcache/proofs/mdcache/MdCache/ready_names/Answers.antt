@@ -1,5 +1,5 @@
-use Rattle.mdcache.proofs.Common.{Cached, Core, Edits, IsThat, KeepsNone, NoneEnds, leaf_of, length, refl, rules, subst, sym, ◌<◌, ◌≤◌}
-use Rattle.mdcache.proofs.CoreLaws.{room_step, there_after}
+use Rattle.mdcache.proofs.Common.{Cached, Core, Edits, IsThat, KeepsNone, NoneEnds, leaf_of, refl, rules, subst, sym, ◌≤◌}
+use Rattle.mdcache.proofs.CoreLaws.{room_step}
 use Rattle.mdcache.proofs.NoneLaws.{none_edits}
 use Rattle.mdcache.proofs.RoomLaws.{has_rooms, other_room}
 use Rattle.mdcache.proofs.mdcache.MdCache.ready_names.Goals as goal

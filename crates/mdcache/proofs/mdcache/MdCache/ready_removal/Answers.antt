@@ -1,5 +1,5 @@
 use Rattle.mdcache.proofs.Common.{Core, IsThat, Leaf, NoneEnds, ap, arith, leaf_of, rules, ℕ, ◌<◌}
-use Rattle.mdcache.proofs.CoreLaws.{grown_may, grown_refused, grown_sound, not_ready, purge_grown, reads_core_on, reads_itself, reads_sound, that_live}
+use Rattle.mdcache.proofs.CoreLaws.{grown_refused, grown_sound, not_ready, purge_grown, reads_core_on, reads_itself, reads_sound, that_live}
 use Rattle.mdcache.proofs.mdcache.MdCache.ready_removal.Goals as goal
 
 pub returns-in-Err-clause-reads : goal.returns-in-Err-clause-reads
