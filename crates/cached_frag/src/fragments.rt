@@ -1,5 +1,5 @@
 //! `CachedFrag`, what a contract sees of it, and the calls that read it or make room.
-ghost use Rattle.std.specs.Prelude.{◌≡◌, ◌≤◌, ◌<◌, ◌+◌, ◌^◌, ℕ, List, IsOk, IfSome, OnOk, OnErr, option_copied};
+ghost use Rattle.std.specs.Prelude.{◌≡◌, ◌≤◌, ◌<◌, ◌+◌, ◌^◌, ℕ, List, IsOk, IfSome, OnOk, OnErr, is_some, option_copied};
 ghost use Rattle.std.specs.FinMap as map;
 ghost use Rattle.objstore.specs.Omap.{key_cmp};
 ghost use Rattle.sorted_map.specs.SortedMap.{contents};
@@ -123,6 +123,13 @@ impl CachedFrag {
         shown_in(&self.clean, &self.dirty, &self.near, name)
     }
 
+    /// Whether a name is there: takes a comparison or two where it was sought last, else logarithmic time.
+    pub fn shows(&self, name: &Name) -> bool
+        ensures { result ≡ is_some (map.get (shown self.now) name.now) }
+    {
+        shows_in(&self.clean, &self.dirty, &self.near.get(), name)
+    }
+
     /// A record allows what each of its names stands for: a law of the type, so nothing is done.
     pub fn has_records(&self)
         ensures { (name : List ℕ) → IfSome (map.get (shown self.now) name) HasRecord }
@@ -189,6 +196,22 @@ pub(crate) fn shown_in<'a>(
     match dirty.get_noting(near, name) {
         Some(mark) => mark.inode.as_ref(),
         None => clean.get(name),
+    }
+}
+
+// Whether a name is there, by the mark that it has or else by what it was.
+fn shows_in(
+    clean: &SortedMap<Name, Inode>,
+    dirty: &SortedMap<Name, Mark>,
+    near: &Finger,
+    name: &Name,
+) -> bool
+    ensures { result ≡ is_some (inode_or (map.get (contents key_cmp dirty.now) name.now)
+        (map.get (contents key_cmp clean.now) name.now)) }
+{
+    match dirty.get_near(near, name) {
+        Some(mark) => mark.inode.is_some(),
+        None => clean.get(name).is_some(),
     }
 }
 

@@ -171,7 +171,7 @@ pub(crate) fn shows(caches: &Caches, at: &Dirfrag, name: &Name) -> bool
     ensures { result ≡ shows_in (here caches.now at.now.rank.0 (leaf_of at.now)) name.now }
 {
     match caches.get(*at) {
-        Some(fragment) => fragment.look(name).is_some(),
+        Some(fragment) => fragment.shows(name),
         None => false,
     }
 }

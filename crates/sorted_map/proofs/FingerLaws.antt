@@ -1,5 +1,5 @@
 -- A place that was tried is the key's, or where it would go.
-use Rattle.sorted_map.proofs.Common.{Equal, Greater, IsAt, IsGap, IsTotalOrder, Less, List, Ordering, T, [], arith, drop, flat, get_or, is_sorted, length, length-append, start, subst, suc, sym, zero, ℕ, ◌+◌, ◌-◌, ◌<◌, ◌∷◌, ◌≡◌, ◌≤◌}
+use Rattle.sorted_map.proofs.Common.{Equal, Greater, IsAt, IsGap, IsTotalOrder, Less, List, Ordering, T, [], arith, drop, flat, get_or, is_sorted, length, length-append, start, subst, suc, sym, zero, ℕ, ◌+◌, ◌-◌, ◌<◌, ◌∷◌, ◌≡◌}
 use Rattle.std.specs.Cmp.{tied_back}
 use Rattle.sorted_map.proofs.Bools.{left_of, right_of}
 use Rattle.sorted_map.proofs.FlatLaws.{flat_get}

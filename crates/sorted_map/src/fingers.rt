@@ -49,6 +49,16 @@ impl<K: ExactOrd, V> SortedMap<K, V> {
             Store::Chunked(chunked) => chunked.get_noting(near, q),
         }
     }
+
+    /// The value of the key, as `get` finds it. The finger stays.
+    pub fn get_near<Q: Probe<K>>(&self, near: &Finger, q: &Q) -> Option<&V>
+        ensures { option_copied result ≡ map.get (contents K.cmp self.now) (Q.key q.now) }
+    {
+        match &self.store {
+            Store::Flat(flat) => flat.get(q),
+            Store::Chunked(chunked) => chunked.get_near(near, q),
+        }
+    }
 }
 
 impl<K: ExactOrd + Drop, V: Drop> SortedMap<K, V> {

@@ -33,6 +33,17 @@ impl<K: ExactOrd, V> ChunkMap<K, V> {
             }
         }
     }
+
+    /// The value of the key.
+    pub fn get_near<Q: Probe<K>>(&self, near: &Finger, q: &Q) -> Option<&V>
+        ensures { option_copied result ≡ map.get (contents K.cmp self.now) (Q.key q.now) }
+    {
+        let row = self.chunks.row();
+        match spot_near(row, near, q) {
+            (home, Ok(at)) => Some(&row[home].pairs()[at].1),
+            (_, Err(_)) => None,
+        }
+    }
 }
 
 impl<K: ExactOrd + Drop, V: Drop> ChunkMap<K, V> {
