@@ -14,7 +14,6 @@ before_taking P old mid rank request out h =
 pub record IsOutcome (limit : ℕ) (tree : Tree) (covers : Covers) (op : Op) (outcome : Outcome) (numbers : Supply) (change : Option Change) (prepared : Prepared) : Type 0 where
   pub replied : prepared.reply ≡ outcome.reply
   pub copied : prepared.answer ≡ outcome.reply
-  pub kept : prepared.kept ≡ outcome.reply
   pub took : prepared.number ≡ cond outcome.takes (offer numbers) None
   pub numbered : offer numbers ≡ None → outcome.takes ≡ false
   pub drawn : prepared.numbers ≡ after_taking numbers prepared.number
@@ -30,7 +29,6 @@ pub outcome_of_change : (limit : ℕ) (tree : Tree) (covers : Covers) (Holds : D
 outcome_of_change limit tree covers Holds op numbers change prepared checked is = record {
   replied = is.replied ∙ sym checked.replied;
   copied = is.copied ∙ sym checked.replied;
-  kept = is.kept ∙ sym checked.replied;
   took = is.took ∙ ap (λ (b : Bool). cond b (offer numbers) None) (sym checked.number);
   numbered = λ none. checked.number ∙ is.given none;
   drawn = is.drawn;
@@ -137,7 +135,7 @@ module _ (f : TreeState) (roots : Roots) (exports : Standing) (numbers : List Su
           (ended : pins_now ≡ without_gone (without_request pins request) prepared.went)
           (appended : now ≡ middle ++ record { client = request.client; tid = request.tid; oldest = request.oldest; op = request.op; number = prepared.number; reply = prepared.reply } ∷ [])
           (drawn : numbers_after ≡ set numbers_now rank.0 prepared.numbers)
-          (noted_now : sessions_now ≡ trimmed (noted between request.client request.tid request.oldest (length middle) prepared.kept) request.client)
+          (noted_now : sessions_now ≡ trimmed (noted between request.client request.tid request.oldest (length middle)) request.client)
           (answered : answer ≡ Reply request.client request.tid (length middle) true prepared.answer) where
         abbrev entry : Option Ino → Replied → Entry
         entry number reply = record { client = request.client; tid = request.tid; oldest = request.oldest; op = request.op; number = number; reply = reply }
@@ -150,9 +148,8 @@ module _ (f : TreeState) (roots : Roots) (exports : Standing) (numbers : List Su
         ses : sessions_now ≡ with_entry sessions (length past) (entry_of old rank request)
         ses =
             noted_now
-            ∙ ap (λ t. trimmed (noted t request.client request.tid request.oldest (length middle) prepared.kept) request.client) known
-            ∙ ap (λ m. trimmed (noted sessions request.client request.tid request.oldest (length m) prepared.kept) request.client) past_is
-            ∙ ap (λ r. trimmed (noted sessions request.client request.tid request.oldest (length past) r) request.client) is.kept
+            ∙ ap (λ t. trimmed (noted t request.client request.tid request.oldest (length middle)) request.client) known
+            ∙ ap (λ m. trimmed (noted sessions request.client request.tid request.oldest (length m)) request.client) past_is
 
         pub served_new : ServesInbox old (state_of h roots_now exports_now numbers_after mid pins_now sessions_now) past now MayRefuse rank (Ok answer) (request ∷ rest)
         served_new = inl (record {
@@ -194,13 +191,12 @@ module _ (f : TreeState) (roots : Roots) (exports : Standing) (numbers : List Su
 
         -- nothing changes, and no number is taken
         abbrev readily : Prepared
-        readily = record { reply = said; answer = said; kept = said; number = None; numbers = supply_of old rank; went = None }
+        readily = record { reply = said; answer = said; number = None; numbers = supply_of old rank; went = None }
 
         outcome_so : IsOutcome f.limit (shown_tree f) f.covers request.op (outcome_with f (supply_of old rank) request.op) (supply_of old rank) None readily
         outcome_so = record {
           replied = sym (ap (λ (o : Outcome). o.reply) outcome_is);
           copied = sym (ap (λ (o : Outcome). o.reply) outcome_is);
-          kept = sym (ap (λ (o : Outcome). o.reply) outcome_is);
           took = sym (ap (λ (o : Outcome). cond o.takes (offer (supply_of old rank)) None) outcome_is);
           numbered = λ none. ap (λ (o : Outcome). o.takes) outcome_is;
           drawn = refl;

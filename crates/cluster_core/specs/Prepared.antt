@@ -20,11 +20,10 @@ use Rattle.cluster_core.specs.Serve.{CarryLeaves}
 use Rattle.cluster_core.specs.declared.applying.Prepared.{Prepared}
 
 -- what stands beside the tree once a change is made, offered the next number of a supply: the number that it takes, its
--- reply three times, and the directory that goes
+-- reply twice, and the directory that goes
 pub record IsPrepared (change : Change) (numbers : Supply) (prepared : Prepared) : Type 0 where
   pub replied : prepared.reply ≡ reply_of change
   pub copied : prepared.answer ≡ reply_of change
-  pub kept : prepared.kept ≡ reply_of change
   pub took : prepared.number ≡ cond change.comes (offer numbers) None
   pub given : offer numbers ≡ None → change.comes ≡ false
   pub drawn : prepared.numbers ≡ after_taking numbers prepared.number

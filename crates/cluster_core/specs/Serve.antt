@@ -57,7 +57,7 @@ entry_of state rank request = record {
 
 -- the sessions with the reply of an entry at this place; what its client's mark leaves behind is forgotten
 abbrev pub with_entry : Table → ℕ → Entry → Table
-with_entry sessions place e = trimmed (noted sessions e.client e.tid e.oldest place e.reply) e.client
+with_entry sessions place e = trimmed (noted sessions e.client e.tid e.oldest place) e.client
 
 -- each directory that stands has the leaves that it had before, and one that came the leaf `*`
 abbrev pub CarryLeaves : (before tree : Tree) → (old new : Covers) → Type 0
@@ -251,7 +251,7 @@ pub record IsReplied (old new : Inboxes) (before after : List Pin) (known sessio
     reply = said;
   } ∷ []
   pub noted : sessions ≡ trimmed (noted known request.client request.tid request.oldest
-      (length past) said) request.client
+      (length past)) request.client
 
 -- for want of memory it was put back
 pub record IsPutBack (old new : Inboxes) (before after : List Pin) (known sessions : Table) (past now : List Entry)

@@ -39,10 +39,6 @@ pub(crate) fn answer(
     let Ok(told) = reply.try_clone() else {
         return put_back(waiting, asked, reply);
     };
-    let Ok(kept) = reply.try_clone() else {
-        drop(told);
-        return put_back(waiting, asked, reply);
-    };
     let place = history.len();
     let Asked {
         request,
@@ -56,7 +52,7 @@ pub(crate) fn answer(
         op,
     } = request;
     waiting.pins.end_pair(client, tid);
-    let session = given.sessions.keep(session, tid, oldest, place, kept);
+    let session = given.sessions.keep(session, tid, oldest, place);
     given.sessions.trim(session);
     history.push_reserved(Entry {
         client,

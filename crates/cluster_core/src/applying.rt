@@ -41,8 +41,6 @@ pub struct Prepared {
     reply: Reply,
     /// The reply once more, for the client.
     answer: Reply,
-    /// And once more, for the sessions.
-    kept: Reply,
     /// The number that a new inode took.
     number: Option<Ino>,
     /// The rank's numbers afterwards.
@@ -140,16 +138,10 @@ fn prepare(
         drop(reply);
         return Err(Refusal::NoMemory);
     };
-    let Ok(kept) = reply.try_clone() else {
-        drop(answer);
-        drop(reply);
-        return Err(Refusal::NoMemory);
-    };
     let numbers = supply_after(asked.supply, number);
     Ok(Prepared {
         reply,
         answer,
-        kept,
         number,
         numbers,
         went: change.gone,
@@ -182,7 +174,7 @@ pub(crate) fn commit(
     ensures drawn { given.new.numbers.items ≡ set given.old.numbers.items asked.rank.0 prepared.numbers }
     ensures known { table given.new.sessions ≡ trimmed
         (noted (table given.old.sessions) asked.request.client asked.request.tid asked.request.oldest
-        (length history.old.items) prepared.kept) asked.request.client }
+        (length history.old.items)) asked.request.client }
     ensures answer { result ≡ Answer.Reply asked.request.client asked.request.tid
         (length history.old.items) true prepared.answer }
 {
@@ -202,7 +194,6 @@ pub(crate) fn commit(
     let Prepared {
         reply,
         answer,
-        kept,
         number,
         numbers,
         went,
@@ -210,7 +201,7 @@ pub(crate) fn commit(
     pins.end_pair(client, tid);
     forget_gone(pins, went);
     given.numbers[usize::from(rank.0)] = numbers;
-    let session = given.sessions.keep(session, tid, oldest, place, kept);
+    let session = given.sessions.keep(session, tid, oldest, place);
     given.sessions.trim(session);
     history.push_reserved(Entry {
         client,

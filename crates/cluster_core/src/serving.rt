@@ -70,7 +70,7 @@ pub(crate) fn serve_front<S: Store + Drop>(
     };
     match given
         .sessions
-        .seen(request.client, request.tid, request.oldest)
+        .seen(history, request.client, request.tid, request.oldest)
     {
         Seen::Trimmed => {
             end_request(&mut waiting.pins, request);

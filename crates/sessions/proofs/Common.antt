@@ -1,11 +1,9 @@
 -- Names of other crates, and of this one's definitions, as the proofs of this crate take them.
-pub use Rattle.mds_types.specs.History.{is_pair, mark}
+pub use Rattle.mds_types.specs.History.{IsPairAt, is_pair, mark}
 pub use Rattle.mds_types.specs.declared.entries.Entry.{Entry}
-pub use Rattle.mds_types.specs.declared.replies.Reply.{Reply}
 pub use Rattle.sessions.specs.Rooms.{AreIndexed, Held, Session, no_session, row_at, rows}
-pub use Rattle.sessions.specs.Seen.{IsSeen, SeesInRow, SeesInTable}
-pub use Rattle.sessions.specs.Table.{IsKeptFor, IsReplyAt, IsTableOf, Row, Table, kept_in, no_row, noted, noted_row, row_in, row_or_none, trimmed, trimmed_found, trimmed_row}
-pub use Rattle.sessions.specs.declared.clients.KeptReply.{KeptReply}
+pub use Rattle.sessions.specs.Seen.{IsReplyAt, IsSeen, SeesInRow}
+pub use Rattle.sessions.specs.Table.{IsKeptFor, IsTableOf, Row, Table, kept_in, no_row, noted, noted_row, row_in, row_or_none, trimmed, trimmed_found, trimmed_row}
 pub use Rattle.sessions.specs.declared.clients.Seen.{Seen}
 pub use Rattle.sessions.specs.declared.clients.Seen.TheVariants.{Kept, New, Trimmed}
 pub use Rattle.sorted_map.specs.SortedMap.{contents, is_from}

@@ -1,5 +1,5 @@
 -- What the table without its rooms says of the sessions with them.
-use Rattle.sessions.proofs.Common.{AreIndexed, Bool, List, None, Option, Reply, Row, Session, Some, T, [], ap, ap₂, arith, below_all, cond, entries_sorted, eq-eqb, eq_by_cmp, eqb-true, false, false≢true, find, get-empty, get-entries, get-from_sorted, get-insert, get_or, get_or-append_seam, get_or-set_at, get_or-set_other, get_or_append_left, get_or_default, is_lt, is_sorted, length, length-append, length-set, nat_cmp, nat_cmp-IsAntisymmetric, nat_cmp_total, no_row, no_session, none-some, noted, noted_row, option_map, refl, row_at, row_in, row_or_none, same_Some, same_map, set, subst, sym, trimmed, trimmed_found, trimmed_row, true, unsigned_tied, ℕ, ◌&&◌, ◌++◌, ◌<◌, ◌==◌, ◌∙◌, ◌∷◌, ◌≡◌, ◌≢◌}
+use Rattle.sessions.proofs.Common.{AreIndexed, Bool, List, None, Option, Row, Session, Some, T, [], ap, ap₂, arith, below_all, cond, entries_sorted, eq-eqb, eq_by_cmp, eqb-true, false, false≢true, find, get-empty, get-entries, get-from_sorted, get-insert, get_or, get_or-append_seam, get_or-set_at, get_or-set_other, get_or_append_left, get_or_default, is_lt, is_sorted, length, length-append, nat_cmp, nat_cmp-IsAntisymmetric, nat_cmp_total, no_row, no_session, none-some, noted, noted_row, option_map, refl, row_at, row_in, row_or_none, same_Some, same_map, set, subst, sym, trimmed, trimmed_found, trimmed_row, true, unsigned_tied, ℕ, ◌&&◌, ◌++◌, ◌<◌, ◌==◌, ◌∙◌, ◌∷◌, ◌≡◌, ◌≢◌}
 use Rattle.std.proofs.Common.{map as list_map}
 use Rattle.std.specs.FinMap as map
 use Rattle.sessions.specs.Rooms.{rows}
@@ -98,10 +98,10 @@ module _ (m : map.FinMap nat_cmp ℕ) (ss : List Session) (client : ℕ) where
         go (Some j) = ap Some (at j (j == i) refl)
 
     -- with one more reply, and without the replies below its mark
-    pub noted_known : (s : Session) → s ≡ get_or ss i s → (tid oldest place : ℕ) (reply : Reply) → w.row ≡ noted_row s.row tid oldest place reply
-        → rows m (set ss i w) ≡ noted (rows m ss) client tid oldest place reply
-    noted_known s found tid oldest place reply is =
-        written ∙ ap (map.insert (rows m ss) client) (is ∙ ap (λ row. noted_row row tid oldest place reply) (read s found ∙ sym (row_known i its)))
+    pub noted_known : (s : Session) → s ≡ get_or ss i s → (tid oldest place : ℕ) → w.row ≡ noted_row s.row tid oldest place
+        → rows m (set ss i w) ≡ noted (rows m ss) client tid oldest place
+    noted_known s found tid oldest place is =
+        written ∙ ap (map.insert (rows m ss) client) (is ∙ ap (λ row. noted_row row tid oldest place) (read s found ∙ sym (row_known i its)))
 
     pub trimmed_known : (s : Session) → s ≡ get_or ss i s → w.row ≡ trimmed_row s.row → rows m (set ss i w) ≡ trimmed (rows m ss) client
     trimmed_known s found less =
@@ -145,7 +145,7 @@ module _ (m : map.FinMap nat_cmp ℕ) (ss : List Session) (client : ℕ) where
         go q false None is = refl
         go q false (Some j) is = ap (λ (s : Session). Some s.row) (get_or_append_left ss (w ∷ []) no_session j (h.in_range q j is))
 
-    pub noted_first : (fresh : Row) (tid oldest place : ℕ) (reply : Reply) → map.get m client ≡ None → fresh ≡ no_row → w.row ≡ noted_row fresh tid oldest place reply
-        → rows (map.insert m client (length ss)) (ss ++ w ∷ []) ≡ noted (rows m ss) client tid oldest place reply
-    noted_first fresh tid oldest place reply is none more =
-        rows_more ∙ ap (map.insert (rows m ss) client) (more ∙ ap (λ row. noted_row row tid oldest place reply) (none ∙ sym (row_unknown is)))
+    pub noted_first : (fresh : Row) (tid oldest place : ℕ) → map.get m client ≡ None → fresh ≡ no_row → w.row ≡ noted_row fresh tid oldest place
+        → rows (map.insert m client (length ss)) (ss ++ w ∷ []) ≡ noted (rows m ss) client tid oldest place
+    noted_first fresh tid oldest place is none more =
+        rows_more ∙ ap (map.insert (rows m ss) client) (more ∙ ap (λ row. noted_row row tid oldest place) (none ∙ sym (row_unknown is)))

@@ -1,5 +1,5 @@
 -- Laws of the table: that of no requests, that with one more, and what it tells.
-use Rattle.sessions.proofs.Common.{Bool, Entry, Equal, Greater, IsKeptFor, IsReplyAt, IsSeen, IsTableOf, Kept, KeptReply, Less, List, New, None, Option, Ordering, Reply, Row, Seen, SeesInTable, Some, Table, Trimmed, [], ap, arith, cond, eq-eqb, eq_by_cmp, eqb-true, false, false≢true, get-empty, get-insert, get-retain_keys, get_or-append_seam, get_or_append_left, inl, inr, is_from, is_le, is_pair, kept_in, le_from_is_le, length, length-append, list_any-append, mark, max, nat_cmp, nat_cmp-IsAntisymmetric, nat_cmp_total, nat_eq_equiv, noted, noted_row, or-false, ranked, refl, row_in, row_or_none, subst, sym, trimmed, trimmed_found, trimmed_row, true, unsigned_tied, ℕ, ⊎_elim, ◌&&◌, ◌++◌, ◌<◌, ◌==◌, ◌||◌, ◌∙◌, ◌∷◌, ◌≡◌, ◌≤◌}
+use Rattle.sessions.proofs.Common.{Bool, Entry, Equal, Greater, IsKeptFor, IsSeen, IsTableOf, Kept, Less, List, New, None, Option, Ordering, Row, Seen, SeesInRow, IsPairAt, Some, Table, Trimmed, [], ap, arith, cond, eq-eqb, eq_by_cmp, eqb-true, false, false≢true, get-empty, get-insert, get-retain_keys, get_or-append_seam, get_or_append_left, inl, inr, is_from, is_le, is_pair, kept_in, le_from_is_le, length, length-append, list_any-append, mark, max, nat_cmp, nat_cmp-IsAntisymmetric, nat_cmp_total, nat_eq_equiv, noted, noted_row, or-false, ranked, refl, row_in, row_or_none, subst, sym, trimmed, trimmed_found, trimmed_row, true, unsigned_tied, ℕ, ⊎_elim, ◌&&◌, ◌++◌, ◌<◌, ◌==◌, ◌||◌, ◌∙◌, ◌∷◌, ◌≡◌, ◌≤◌}
 use Rattle.std.specs.FinMap as map
 
 is_from_le : {a b : ℕ} → a ≤ b → is_le (nat_cmp a b) ≡ true
@@ -34,20 +34,24 @@ table-none = record {
 }
 
 -- what the table tells is what the history tells
-pub sees : (history : List Entry) (table : Table) (client tid oldest : ℕ) (seen : Seen) → IsTableOf history table → SeesInTable table client tid oldest seen → IsSeen history client tid oldest seen
+pub sees : (history : List Entry) (table : Table) (client tid oldest : ℕ) (seen : Seen) → IsTableOf history table → SeesInRow history (row_in table client) tid oldest seen → IsSeen history client tid oldest seen
 sees history table client tid oldest Trimmed h s = ⊎_elim (λ below. inl (subst (λ m. tid < m) (h.marks client) below)) inr s
-sees history table client tid oldest (Kept place reply) h (marked, own, is) =
+sees history table client tid oldest (Kept place reply) h (marked, own, is, same) =
     let kept = subst (IsKeptFor history client tid) is (h.replies client tid) in
-    (record { marked = kept.0; own = own; at = kept.1.at }, kept.1.same)
+    (record { marked = kept.0; own = own; at = kept.1 }, same)
 sees history table client tid oldest (New at) h (marked, own, is) =
     let above = subst (λ m. m ≤ tid) (h.marks client) marked in
     record { marked = above; own = own; absent = subst (IsKeptFor history client tid) is (h.replies client tid) above }
 
+-- what is kept stands in the history
+pub kept_within : (history : List Entry) (table : Table) (client tid place : ℕ) → IsTableOf history table → map.get (row_in table client).kept tid ≡ Some place → place < length history
+kept_within history table client tid place h is = let kept = subst (IsKeptFor history client tid) is (h.replies client tid) in kept.1.in_range
+
 -- a client's row once a request was applied
-row_after : (table : Table) (client tid oldest place : ℕ) (reply : Reply) (q : ℕ) →
-    row_in (trimmed (noted table client tid oldest place reply) client) q ≡ cond (q == client) (trimmed_row (noted_row (row_in table client) tid oldest place reply)) (row_in table q)
-row_after table client tid oldest place reply q =
-    let row = noted_row (row_in table client) tid oldest place reply in
+row_after : (table : Table) (client tid oldest place q : ℕ) →
+    row_in (trimmed (noted table client tid oldest place) client) q ≡ cond (q == client) (trimmed_row (noted_row (row_in table client) tid oldest place)) (row_in table q)
+row_after table client tid oldest place q =
+    let row = noted_row (row_in table client) tid oldest place in
     let there = get-insert nat_cmp_total table client row client ∙ ap (λ b. cond b (Some row) (map.get table client)) (unsigned_tied client client ∙ eq-eqb client client refl) in
     ap (λ o. row_in (trimmed_found (map.insert table client row) client o) q) there
     ∙ ap row_or_none (get-insert nat_cmp_total (map.insert table client row) client (trimmed_row row) q
@@ -59,56 +63,47 @@ row_after table client tid oldest place reply q =
     go row true = refl
     go row false = refl
 
--- a reply stays that of its place
-still_there : (past : List Entry) (e : Entry) (client tid : ℕ) (kept : KeptReply) → IsReplyAt past client tid kept → IsReplyAt (past ++ e ∷ []) client tid kept
-still_there past e client tid kept h = record {
-  at = record {
-    in_range = omega (arith, length-append past (e ∷ []), h.at.in_range);
-    pair = λ d. rw (get_or_append_left past (e ∷ []) d kept.place h.at.in_range) (h.at.pair d);
-  };
-  same = λ d. h.same d ∙ ap (λ (x : Entry). x.reply) (sym (get_or_append_left past (e ∷ []) d kept.place h.at.in_range));
+-- a pair stays at its place
+still_there : (past : List Entry) (e : Entry) (client tid place : ℕ) → IsPairAt past client tid place → IsPairAt (past ++ e ∷ []) client tid place
+still_there past e client tid place h = record {
+  in_range = omega (arith, length-append past (e ∷ []), h.in_range);
+  pair = λ d. rw (get_or_append_left past (e ∷ []) d place h.in_range) (h.pair d);
 }
 
 -- what is kept for another pair than the entry's
 others_kept : (past : List Entry) (e : Entry) (client tid : ℕ) → is_pair client tid e ≡ false → mark past client ≤ mark (past ++ e ∷ []) client
-    → (mark past client ≤ tid → mark (past ++ e ∷ []) client ≤ tid) → (o : Option KeptReply) → IsKeptFor past client tid o → IsKeptFor (past ++ e ∷ []) client tid o
-others_kept past e client tid other rises stays (Some kept) (marked, h) = (stays marked, still_there past e client tid kept h)
+    → (mark past client ≤ tid → mark (past ++ e ∷ []) client ≤ tid) → (o : Option ℕ) → IsKeptFor past client tid o → IsKeptFor (past ++ e ∷ []) client tid o
+others_kept past e client tid other rises stays (Some place) (marked, h) = (stays marked, still_there past e client tid place h)
 others_kept past e client tid other rises stays None absent =
     λ marked. list_any-append (is_pair client tid) past (e ∷ []) ∙ ap (λ b. b || (is_pair client tid e || false)) (absent (omega arith)) ∙ or-false (is_pair client tid e) ∙ other
 
 -- what is kept for the entry's own client
 own_kept : (past : List Entry) (e : Entry) (tid : ℕ) → (row : Row) → row.mark ≡ mark past e.client → ((t : ℕ) → IsKeptFor past e.client t (map.get row.kept t))
-    → IsKeptFor (past ++ e ∷ []) e.client tid (map.get (trimmed_row (noted_row row e.tid e.oldest (length past) e.reply)).kept tid)
+    → IsKeptFor (past ++ e ∷ []) e.client tid (map.get (trimmed_row (noted_row row e.tid e.oldest (length past))).kept tid)
 own_kept past e tid row is h =
     subst (IsKeptFor (past ++ e ∷ []) e.client tid) (sym kept) (go (is_le (nat_cmp risen tid)) refl (tid == e.tid) refl)
   where
     risen : ℕ
     risen = max row.mark e.oldest
 
-    new : KeptReply
-    new = record { place = length past; reply = e.reply }
-
     marked : mark (past ++ e ∷ []) e.client ≡ risen
     marked = mark-push past e e.client ∙ ap (λ b. cond b (max (mark past e.client) e.oldest) (mark past e.client)) (eq-eqb e.client e.client refl) ∙ ap (λ m. max m e.oldest) (sym is)
 
-    kept : map.get (trimmed_row (noted_row row e.tid e.oldest (length past) e.reply)).kept tid ≡ cond (is_le (nat_cmp risen tid)) (cond (tid == e.tid) (Some new) (map.get row.kept tid)) None
+    kept : map.get (trimmed_row (noted_row row e.tid e.oldest (length past))).kept tid ≡ cond (is_le (nat_cmp risen tid)) (cond (tid == e.tid) (Some (length past)) (map.get row.kept tid)) None
     kept =
-        get-retain_keys (map.insert row.kept e.tid new) (is_from nat_cmp risen) tid (λ x t. ap (is_from nat_cmp risen) (sym (nat_cmp-IsAntisymmetric tid x t)))
-        ∙ ap (λ o. cond (is_le (nat_cmp risen tid)) o None) (get-insert nat_cmp_total row.kept e.tid new tid ∙ ap (λ b. cond b (Some new) (map.get row.kept tid)) (unsigned_tied tid e.tid))
+        get-retain_keys (map.insert row.kept e.tid (length past)) (is_from nat_cmp risen) tid (λ x t. ap (is_from nat_cmp risen) (sym (nat_cmp-IsAntisymmetric tid x t)))
+        ∙ ap (λ o. cond (is_le (nat_cmp risen tid)) o None) (get-insert nat_cmp_total row.kept e.tid (length past) tid ∙ ap (λ b. cond b (Some (length past)) (map.get row.kept tid)) (unsigned_tied tid e.tid))
 
-    at_end : tid ≡ e.tid → IsReplyAt (past ++ e ∷ []) e.client tid new
+    at_end : tid ≡ e.tid → IsPairAt (past ++ e ∷ []) e.client tid (length past)
     at_end same = record {
-      at = record {
-        in_range = omega (arith, length-append past (e ∷ []));
-        pair = λ d. rw (get_or-append_seam past e [] d, eq-eqb e.client e.client refl) (eq-eqb e.tid tid (sym same));
-      };
-      same = λ d. ap (λ (x : Entry). x.reply) (sym (get_or-append_seam past e [] d));
+      in_range = omega (arith, length-append past (e ∷ []));
+      pair = λ d. rw (get_or-append_seam past e [] d, eq-eqb e.client e.client refl) (eq-eqb e.tid tid (sym same));
     }
 
     other : (tid == e.tid) ≡ false → is_pair e.client tid e ≡ false
     other apart = ap (λ b. b && (e.tid == tid)) (eq-eqb e.client e.client refl) ∙ nat_eq_equiv.symm e.tid tid ∙ apart
 
-    go : (b : Bool) → is_le (nat_cmp risen tid) ≡ b → (c : Bool) → (tid == e.tid) ≡ c → IsKeptFor (past ++ e ∷ []) e.client tid (cond b (cond c (Some new) (map.get row.kept tid)) None)
+    go : (b : Bool) → is_le (nat_cmp risen tid) ≡ b → (c : Bool) → (tid == e.tid) ≡ c → IsKeptFor (past ++ e ∷ []) e.client tid (cond b (cond c (Some (length past)) (map.get row.kept tid)) None)
     go true above true same = let low = le_from_is_le risen tid above in (subst (λ m. m ≤ tid) (sym marked) low, at_end (eqb-true tid e.tid same))
     go true above false apart =
         let low = le_from_is_le risen tid above in
@@ -117,20 +112,20 @@ own_kept past e tid row is h =
 
 -- once an applied request is noted and its client trimmed, the table is that of the history with its entry
 pub table-push : (past : List Entry) (table : Table) (e : Entry) → IsTableOf past table
-    → IsTableOf (past ++ e ∷ []) (trimmed (noted table e.client e.tid e.oldest (length past) e.reply) e.client)
+    → IsTableOf (past ++ e ∷ []) (trimmed (noted table e.client e.tid e.oldest (length past)) e.client)
 table-push past table e h = record { marks = marks; replies = replies }
   where
     row : Row
     row = row_in table e.client
 
     after : Row
-    after = trimmed_row (noted_row row e.tid e.oldest (length past) e.reply)
+    after = trimmed_row (noted_row row e.tid e.oldest (length past))
 
     now : ℕ → Row
-    now q = row_in (trimmed (noted table e.client e.tid e.oldest (length past) e.reply) e.client) q
+    now q = row_in (trimmed (noted table e.client e.tid e.oldest (length past)) e.client) q
 
     is : (q : ℕ) → now q ≡ cond (q == e.client) after (row_in table q)
-    is q = row_after table e.client e.tid e.oldest (length past) e.reply q
+    is q = row_after table e.client e.tid e.oldest (length past) q
 
     unmarked : (q : ℕ) → (q == e.client) ≡ false → mark (past ++ e ∷ []) q ≡ mark past q
     unmarked q apart = mark-push past e q ∙ ap (λ b. cond b (max (mark past q) e.oldest) (mark past q)) (nat_eq_equiv.symm e.client q ∙ apart)

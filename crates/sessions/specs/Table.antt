@@ -1,18 +1,16 @@
 -- The session table, without a word of memory, and what it says of a history.
 use Rattle.std.specs.Prelude.{◌≡◌, ℕ, ◌≤◌, max, false, List, Option, Some, None}
-use Rattle.std.specs.List.{list_any, slice_index_or}
+use Rattle.std.specs.List.{list_any}
 use Rattle.std.specs.Ordering.{nat_cmp}
 use Rattle.std.specs.FinMap as map
 use Rattle.sorted_map.specs.SortedMap.{is_from}
-use Rattle.mds_types.specs.declared.replies.Reply.{Reply}
 use Rattle.mds_types.specs.declared.entries.Entry.{Entry}
 use Rattle.mds_types.specs.History.{mark, is_pair, IsPairAt}
-use Rattle.sessions.specs.declared.clients.KeptReply.{KeptReply}
 
--- what is known of a client: its mark, and the replies that are kept, by transaction number
+-- what is known of a client: its mark, and the places of the entries whose replies are kept, by transaction number
 pub record Row : Type 0 where
   pub mark : ℕ
-  pub kept : map.FinMap nat_cmp KeptReply
+  pub kept : map.FinMap nat_cmp ℕ
 
 -- the rows by client
 abbrev pub Table : Type 0
@@ -36,24 +34,20 @@ abbrev pub mark_in : Table → ℕ → ℕ
 mark_in table client = (row_in table client).mark
 
 -- and what is kept for its transaction number
-abbrev pub kept_in : Table → ℕ → ℕ → Option KeptReply
+abbrev pub kept_in : Table → ℕ → ℕ → Option ℕ
 kept_in table client tid = map.get (row_in table client).kept tid
 
 -- a row with one more reply: the mark rises to the request's oldest
-abbrev pub noted_row : Row → ℕ → ℕ → ℕ → Reply → Row
-noted_row row tid oldest place reply = record {
-  mark = max row.mark oldest;
-  kept = map.insert row.kept tid (record { place = place; reply = reply });
-}
+abbrev pub noted_row : Row → ℕ → ℕ → ℕ → Row
+noted_row row tid oldest place = record { mark = max row.mark oldest; kept = map.insert row.kept tid place }
 
 -- a row without the replies below its mark
 abbrev pub trimmed_row : Row → Row
 trimmed_row row = record { mark = row.mark; kept = map.retain_keys row.kept (is_from nat_cmp row.mark) }
 
 -- the table with one more reply to a client
-abbrev pub noted : Table → ℕ → ℕ → ℕ → ℕ → Reply → Table
-noted table client tid oldest place reply =
-    map.insert table client (noted_row (row_in table client) tid oldest place reply)
+abbrev pub noted : Table → ℕ → ℕ → ℕ → ℕ → Table
+noted table client tid oldest place = map.insert table client (noted_row (row_in table client) tid oldest place)
 
 -- the table with the row that was found trimmed
 abbrev pub trimmed_found : Table → ℕ → Option Row → Table
@@ -64,18 +58,13 @@ trimmed_found table client (Some row) = map.insert table client (trimmed_row row
 abbrev pub trimmed : Table → ℕ → Table
 trimmed table client = trimmed_found table client (map.get table client)
 
--- the reply of the entry where the pair of client and transaction number stands
-pub record IsReplyAt (history : List Entry) (client tid : ℕ) (kept : KeptReply) : Type 0 where
-  pub at : IsPairAt history client tid kept.place
-  pub same : (e : Entry) → kept.reply ≡ (slice_index_or history kept.place e).reply
-
--- what is kept for a pair: the reply of its entry if it stands in the history and isn't below the mark, and else
+-- what is kept for a pair: the place of its entry if it stands in the history and isn't below the mark, and else
 -- nothing
-abbrev pub IsKeptFor : List Entry → ℕ → ℕ → Option KeptReply → Type 0
-IsKeptFor history client tid (Some kept) = (mark history client ≤ tid) × IsReplyAt history client tid kept
+abbrev pub IsKeptFor : List Entry → ℕ → ℕ → Option ℕ → Type 0
+IsKeptFor history client tid (Some place) = (mark history client ≤ tid) × IsPairAt history client tid place
 IsKeptFor history client tid None = mark history client ≤ tid → list_any (is_pair client tid) history ≡ false
 
--- the table is that of the history: each client's mark, and the replies at or above it
+-- the table is that of the history: each client's mark, and where the replies at or above it are
 pub record IsTableOf (history : List Entry) (table : Table) : Type 0 where
   pub marks : (client : ℕ) → mark_in table client ≡ mark history client
   pub replies : (client tid : ℕ) → IsKeptFor history client tid (kept_in table client tid)

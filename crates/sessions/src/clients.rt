@@ -1,11 +1,12 @@
 //! What is kept for one client.
-ghost use Rattle.std.specs.Prelude.{◌≡◌, ◌<◌, IsOk, OnOk};
+ghost use Rattle.std.specs.Prelude.{◌≡◌, ◌<◌, ℕ, Some, length, IsOk, OnOk};
+ghost use Rattle.std.specs.FinMap as map;
 ghost use Rattle.sessions.specs.Table.{no_row, noted_row, trimmed_row};
 ghost use Rattle.sessions.specs.Seen.{SeesInRow};
 ghost use Rattle.sessions.specs.Rooms.{Held as Table, IsSessionAt, TellsSession};
 
 use crate::found::SessionAt;
-use mds_types::Reply;
+use mds_types::{Entry, Reply};
 use sorted_map::SortedMap;
 use std::alloc::{AllocError, Global};
 use std::marker::Model;
@@ -21,18 +22,11 @@ pub enum Seen<'a> {
     Trimmed,
 }
 
-/// A reply that was given, and the place of its entry in the history.
-#[derive(Debug, Drop)]
-pub(crate) struct KeptReply {
-    place: usize,
-    reply: Reply,
-}
-
-/// A client's mark, and the replies that are kept for its transaction numbers.
+/// A client's mark, and where in the history the replies are that are kept for its transaction numbers.
 #[derive(Debug, Drop)]
 pub(crate) struct Client {
     mark: u64,
-    kept: SortedMap<u64, KeptReply>,
+    kept: SortedMap<u64, usize>,
 }
 
 impl Model for Client {
@@ -69,13 +63,13 @@ impl Client {
         self.kept.reserve(1)
     }
 
-    /// Keeps a reply, for which there is room.
-    pub(crate) fn keep(&mut self, tid: u64, oldest: u64, place: usize, reply: Reply)
+    /// Keeps the reply of the entry at a place, for which there is room.
+    pub(crate) fn keep(&mut self, tid: u64, oldest: u64, place: usize)
         requires { 0 < self.old.room }
-        ensures { self.new.row ≡ noted_row self.old.row tid oldest place reply }
+        ensures { self.new.row ≡ noted_row self.old.row tid oldest place }
     {
         self.mark = self.mark.max(oldest);
-        let _ = self.kept.insert(tid, KeptReply { place, reply });
+        let _ = self.kept.insert(tid, place);
     }
 
     /// Forgets the replies below the mark.
@@ -85,16 +79,23 @@ impl Client {
         self.kept.remove_below(&self.mark);
     }
 
-    /// What a request of the client, whose session is there, is to the applied ones.
-    pub(crate) fn seen(&self, at: SessionAt, tid: u64, oldest: u64) -> Seen<'_>
-        ensures standing { SeesInRow self.now.row tid oldest result }
+    /// What a request of the client, whose session is there, is to the applied ones, which are the history's.
+    pub(crate) fn seen<'a>(
+        &self,
+        history: &'a [Entry],
+        at: SessionAt,
+        tid: u64,
+        oldest: u64,
+    ) -> Seen<'a>
+        requires { (place : ℕ) → map.get self.now.row.kept tid ≡ Some place → place < length history.now }
+        ensures standing { SeesInRow history.entry.now self.now.row tid oldest result }
         ensures session { (held : Table) → IsSessionAt held at → TellsSession held at.client result }
     {
         if tid < self.mark || tid < oldest {
             return Seen::Trimmed;
         }
         match self.kept.get(&tid) {
-            Some(kept) => Seen::Kept(kept.place, &kept.reply),
+            Some(place) => Seen::Kept(*place, &history[*place].reply),
             None => Seen::New(at),
         }
     }

@@ -8,5 +8,5 @@ ghost use Rattle.sessions.specs.Table.{IsTableOf, Table, noted, trimmed};
 pub fn table_follows_history()
     ensures { (history : List Applied) (table : Table) (entry : Applied) → IsTableOf history table
         → IsTableOf (history ++ entry ∷ [])
-        (trimmed (noted table entry.client entry.tid entry.oldest (length history) entry.reply) entry.client) }
+        (trimmed (noted table entry.client entry.tid entry.oldest (length history)) entry.client) }
 {}

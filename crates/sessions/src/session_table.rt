@@ -3,20 +3,19 @@ ghost use Rattle.std.specs.Prelude.{◌≡◌, ◌<◌, ◌++◌, ◌∷◌, [],
 ghost use Rattle.std.specs.Ordering.{nat_cmp};
 ghost use Rattle.std.specs.FinMap as map;
 ghost use Rattle.sorted_map.specs.SortedMap.{contents};
-ghost use Rattle.mds_types.specs.declared.entries.Entry.{Entry};
 ghost use Rattle.sessions.specs.Table.{no_row, noted, trimmed, IsTableOf};
 ghost use Rattle.sessions.specs.Rooms.{Held, IsReady, IsSessionAt, TellsSession, table};
-ghost use Rattle.sessions.specs.Seen.{SeesInTable, IsSeen};
+ghost use Rattle.sessions.specs.Seen.{IsSeen};
 
 use crate::clients::{Client, Seen};
 use crate::found::SessionAt;
-use mds_types::{Refusal, Reply};
+use mds_types::{Entry, Refusal};
 use sorted_map::SortedMap;
 use std::alloc::{AllocError, Global};
 use std::fmt;
 use std::marker::Model;
 
-/// What is known of every client: its mark, and its kept replies at or above it.
+/// What is known of every client: its mark, and where in the history its kept replies are, those at or above it.
 #[derive(Drop)]
 pub struct Sessions {
     /// Where each client's session is, which it keeps for ever.
@@ -59,17 +58,16 @@ impl Sessions {
         }
     }
 
-    /// What a request of the client is to the applied ones, and of a new one where the client's session is. Takes no
-    /// memory, and two look-ups by binary search.
-    pub fn seen(&self, client: u64, tid: u64, oldest: u64) -> Seen<'_>
-        ensures standing { SeesInTable (table self.now) client tid oldest result }
-        ensures history { (history : List Entry) → IsTableOf history (table self.now)
-            → IsSeen history client tid oldest result }
+    /// What a request of the client is to the history, whose table this is, and of a new one where the client's session
+    /// is. Takes no memory, and two look-ups by binary search.
+    pub fn seen<'a>(&self, history: &'a [Entry], client: u64, tid: u64, oldest: u64) -> Seen<'a>
+        requires { IsTableOf history.now (table self.now) }
+        ensures seen { IsSeen history.entry.now client tid oldest result }
         ensures session { TellsSession self.now client result }
     {
         let at = self.find(client);
         match at.session {
-            Some(i) => self.sessions[i].seen(at, tid, oldest),
+            Some(i) => self.sessions[i].seen(history, at, tid, oldest),
             None if tid < oldest => Seen::Trimmed,
             None => Seen::New(at),
         }
@@ -111,30 +109,23 @@ impl Sessions {
 
     /// Keeps the reply to a request that was applied at this place of the history, for which room was made, and tells
     /// where the client's session is then. It can't fail. The client's mark rises to the request's `oldest`.
-    pub fn keep(
-        &mut self,
-        at: SessionAt,
-        tid: u64,
-        oldest: u64,
-        place: usize,
-        reply: Reply,
-    ) -> SessionAt
+    pub fn keep(&mut self, at: SessionAt, tid: u64, oldest: u64, place: usize) -> SessionAt
         requires there { IsSessionAt self.old at }
         requires ready { IsReady self.old at.client }
-        ensures kept { table self.new ≡ noted (table self.old) at.client tid oldest place reply }
+        ensures kept { table self.new ≡ noted (table self.old) at.client tid oldest place }
         ensures named { result.client ≡ at.client }
         ensures session { IsSessionAt self.new result }
     {
         match at.session {
             Some(i) => {
-                self.sessions[i].keep(tid, oldest, place, reply);
+                self.sessions[i].keep(tid, oldest, place);
                 at
             }
             None => {
                 let Some(mut fresh) = self.spare.take() else {
                     unreachable!()
                 };
-                fresh.keep(tid, oldest, place, reply);
+                fresh.keep(tid, oldest, place);
                 let i = self.sessions.len();
                 self.sessions.push_reserved(fresh);
                 add(&mut self.indices, at.client, i);

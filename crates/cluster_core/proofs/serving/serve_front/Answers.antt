@@ -36,4 +36,4 @@ returns-then-not-is_same-clause-served g c =
     (before_taking (λ (o : Inboxes) (w : List Request). ServesInbox (state_of f r e numbers o pins sessions) (state_of f r e numbers c.forward.new.inboxes pins sessions) past past (MayRefuse c.args.tree.now c.args.tree.now) rank c.forward.result w)
     c.args.waiting.now.inboxes c.take.new.self rank c.in-Some.request c.in-Some.ensures.out
     (goes_on f r e numbers c.take.new.self pins sessions past rank (MayRefuse c.args.tree.now c.args.tree.now) c.in-Some.request c.forward.new.inboxes master c.forward.result
-    (c.in-New.ensures.history past c.requires.known) c.locate_master-places.ensures.master other c.forward.ensures.forwards))
+    c.in-New.ensures.seen c.locate_master-places.ensures.master other c.forward.ensures.forwards))
