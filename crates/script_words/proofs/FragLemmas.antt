@@ -1,5 +1,5 @@
 -- Digits in base two, as the bits of a fragment.
-use Rattle.script_words.proofs.Common.{Fragment, IsFragment, List, None, Option, Some, SomeIff, [], ap, are_digits, arith, digit_of, fragment_of_digits, le-leb, length, mul-le-mul_right, mul-lt-mul_of_pos_right, mul-mod_left, pow-add, pow-le-pow_right, pow-suc, pow_pos, span, subst, sym, true, value_of, ℕ, ◌*◌, ◌+◌, ◌-◌, ◌<◌, ◌^◌, ◌∙◌, ◌∷◌, ◌≡◌, ◌≤◌}
+use Rattle.script_words.proofs.Common.{Bool, false, refl, Fragment, IsFragment, List, None, Option, Some, SomeIff, [], ap, are_digits, arith, digit_of, fragment_of_digits, le-leb, length, mul-le-mul_right, mul-lt-mul_of_pos_right, mul-mod_left, pow-add, pow-le-pow_right, pow-suc, pow_pos, span, subst, sym, true, value_of, ℕ, ◌*◌, ◌+◌, ◌-◌, ◌<◌, ◌^◌, ◌∙◌, ◌∷◌, ◌≡◌, ◌≤◌}
 use Rattle.script_words.proofs.NumberLemmas.{value_from, digits_below}
 
 -- n, carried on over binary digits, stays below n + 1 carried on over as many zeros
@@ -46,3 +46,11 @@ fragment_found word value None few digits same given =
     absurd (given (subst (λ v. IsFragment (record { bits = length word; value = v })) (sym same) (digits_are_fragment word few digits)))
 fragment_found word value (Some frag) few digits same given =
     rw (le-leb (length word) 24 few, digits) (ap Some given.1 ∙ ap (λ v. Some (record { bits = length word; value = v })) same)
+
+-- what stands for no number isn't made of such digits
+pub none_found : (word : List ℕ) → length word ≤ 24 → ((are_digits 2 word ≡ true) × (value_of 2 word < 2 ^ 64) → ⊥) → None ≡ fragment_of_digits word
+none_found word few none = go (are_digits 2 word) refl
+  where
+    go : (b : Bool) → are_digits 2 word ≡ b → None ≡ fragment_of_digits word
+    go true digits = absurd (none (digits, value_of-fits word few digits))
+    go false digits = rw (le-leb (length word) 24 few, digits) refl

@@ -1,5 +1,5 @@
 -- Digits from the left.
-use Rattle.script_words.proofs.Common.{IfSome, List, None, Option, Some, SomeIff, [], add-one, and_parts, ap, are_digits, arith, digit_of, drop, drop-cons, fold, get_or, le-leb, length, lt-ltb, ltb, ltb-true, mul-le-mul_left, octal_mode_of, true, value_of, ℕ, ◌*◌, ◌+◌, ◌<◌, ◌∙◌, ◌∷◌, ◌≡◌, ◌≢◌, ◌≤◌}
+use Rattle.script_words.proofs.Common.{Bool, false, refl, sym, IfSome, List, None, Option, Some, SomeIff, [], add-one, and_parts, ap, are_digits, arith, digit_of, drop, drop-cons, fold, get_or, le-leb, length, lt-ltb, ltb, ltb-true, mul-le-mul_left, octal_mode_of, true, value_of, ℕ, ◌*◌, ◌+◌, ◌<◌, ◌∙◌, ◌∷◌, ◌≡◌, ◌≢◌, ◌≤◌}
 
 -- n, carried on over more digits
 abbrev pub value_from : ℕ → ℕ → List ℕ → ℕ
@@ -52,9 +52,20 @@ octal_small (a ∷ b ∷ c ∷ d ∷ []) few digits =
 octal_small (a ∷ b ∷ c ∷ d ∷ e ∷ word) few digits = absurd (omega arith)
 
 -- the number that octal digits stand for is the mode's, if there are one to four
-pub octal_given : (word : List ℕ) (found : Option ℕ) → length word ≢ 0 → length word ≤ 4 → are_digits 8 word ≡ true
-    → SomeIff found (value_of 8 word < 18446744073709551616) (value_of 8 word) → (found ≡ octal_mode_of word) × IfSome found (λ n. n ≤ 4095)
-octal_given word None some few digits given = absurd (given (omega (arith, octal_small word few digits)))
-octal_given word (Some n) some few digits given =
-    let small = octal_small word few digits in
-    (rw (lt-ltb 0 (length word) (omega arith), le-leb (length word) 4 few, digits) (ap Some given.1), omega (arith, given.1))
+pub octal_given : (word : List ℕ) (found : Option ℕ) → length word ≢ 0 → length word ≤ 4
+    → SomeIff found ((are_digits 8 word ≡ true) × (value_of 8 word < 18446744073709551616)) (value_of 8 word) → (found ≡ octal_mode_of word) × IfSome found (λ n. n ≤ 4095)
+octal_given word None some few given = (go (are_digits 8 word) refl, tt)
+  where
+    go : (b : Bool) → are_digits 8 word ≡ b → None ≡ octal_mode_of word
+    go true digits = absurd (given (digits, omega (arith, octal_small word few digits)))
+    go false digits = rw (lt-ltb 0 (length word) (omega arith), le-leb (length word) 4 few, digits) refl
+octal_given word (Some n) some few given =
+    let small = octal_small word few given.0.0 in
+    (rw (lt-ltb 0 (length word) (omega arith), le-leb (length word) 4 few, given.0.0) (ap Some given.1), omega (arith, given.1))
+
+-- the bytes that are left decide whether all are digits
+pub not_digits : (base i : ℕ) (word : List ℕ) → i < length word → base ≤ digit_of (get_or word i 0) → are_digits base word ≡ are_digits base (drop i word) → are_digits base word ≡ true → ⊥
+not_digits base i word within over same digits =
+    let next : drop i word ≡ get_or word i 0 ∷ drop (i + 1) word = rw add-one (drop-cons word i 0 within) in
+    let p = digits_below base (get_or word i 0) (drop (i + 1) word) (ap (are_digits base) (sym next) ∙ sym same ∙ digits) in
+    omega (arith, p.0)

@@ -5,7 +5,7 @@ ghost use Rattle.script_words.specs.Reading.{Reads};
 ghost use Rattle.script_words.specs.Fragments.{frag_of, fragment_of_digits, split_bits_of};
 
 use crate::faults::{NOT_COMMAND, ReadError};
-use crate::numbers::{are_digits, number, value};
+use crate::numbers::{number, value};
 use mds_types::Frag;
 
 // The most digits of a fragment.
@@ -29,11 +29,13 @@ pub fn frag(word: &[u8]) -> Result<Frag, ReadError>
 fn frag_from(digits: &[u8]) -> Option<Frag>
     ensures { result ≡ fragment_of_digits digits.now }
 {
-    if digits.len() > FRAG_DIGITS || !are_digits(digits, 2) {
+    if digits.len() > FRAG_DIGITS {
         return None;
     }
     let bits = digits.len() as u8;
-    let number = value(digits, 2)?;
+    let Some(number) = value(digits, 2) else {
+        return None;
+    };
     Frag::new(justified(number, bits), bits)
 }
 

@@ -1,5 +1,5 @@
 //! Numbers in words.
-ghost use Rattle.std.specs.Prelude.{◌≡◌, ◌<◌, ◌≤◌, ◌+◌, ◌*◌, ◌^◌, IfSome, SomeIff};
+ghost use Rattle.std.specs.Prelude.{◌≡◌, ◌<◌, ◌≤◌, ◌+◌, ◌*◌, ◌^◌, true, IfSome, SomeIff};
 ghost use Rattle.script_words.specs.Numbers.{digit_of, are_digits, value_of, is_shortest, number_of, octal_mode_of};
 
 // The most digits of a mode.
@@ -22,7 +22,7 @@ pub fn number(word: &[u8], base: u8) -> Option<u64>
     requires { 1 ≤ base }
     ensures { result ≡ number_of base word.now }
 {
-    if !is_shortest(word) || !are_digits(word, base) {
+    if !is_shortest(word) {
         return None;
     }
     value(word, base)
@@ -33,7 +33,7 @@ pub fn octal_mode(word: &[u8]) -> Option<u64>
     ensures value { result ≡ octal_mode_of word.now }
     ensures small { IfSome result (λ n. n ≤ 4095) }
 {
-    if word.is_empty() || word.len() > MODE_DIGITS || !are_digits(word, 8) {
+    if word.is_empty() || word.len() > MODE_DIGITS {
         return None;
     }
     value(word, 8)
@@ -50,21 +50,19 @@ fn is_shortest(word: &[u8]) -> bool
     }
 }
 
-/// Whether each byte is a digit of the base.
-pub fn are_digits(word: &[u8], base: u8) -> bool
-    ensures { result ≡ are_digits base word.now }
-{
-    word.iter().all(|byte| digit(*byte) < base)
-}
-
-/// What the digits stand for, if it fits 64 bits.
+/// What the bytes stand for, if each is a digit of the base and it fits 64 bits.
 pub fn value(word: &[u8], base: u8) -> Option<u64>
     requires { 1 ≤ base }
-    ensures { SomeIff result (value_of base word.now < 2 ^ 64) (value_of base word.now) }
+    ensures { SomeIff result ((are_digits base word.now ≡ true) × (value_of base word.now < 2 ^ 64))
+        (value_of base word.now) }
 {
     let mut n: u64 = 0;
     for byte in word {
-        let Some(more) = carried(n, base, *byte) else {
+        let next = digit(*byte);
+        if next >= base {
+            return None;
+        }
+        let Some(more) = carried(n, base, next) else {
             return None;
         };
         n = more;
@@ -73,9 +71,9 @@ pub fn value(word: &[u8], base: u8) -> Option<u64>
 }
 
 // The number with one more digit, if it fits 64 bits.
-fn carried(n: u64, base: u8, byte: u8) -> Option<u64>
-    ensures { SomeIff result (n * base + digit_of byte < 2 ^ 64) (n * base + digit_of byte) }
+fn carried(n: u64, base: u8, next: u8) -> Option<u64>
+    ensures { SomeIff result (n * base + next < 2 ^ 64) (n * base + next) }
 {
     let product = n.checked_mul(u64::from(base))?;
-    product.checked_add(u64::from(digit(byte)))
+    product.checked_add(u64::from(next))
 }

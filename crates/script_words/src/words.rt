@@ -60,5 +60,18 @@ pub fn is_comment(line: &[u8]) -> bool
 pub fn is_printable(line: &[u8]) -> bool
     ensures { result ≡ list_all is_printable line.now }
 {
-    line.iter().all(|byte| 0x20 <= *byte && *byte <= 0x7e)
+    // no byte ends the loop, so the compiler takes many at a time
+    let mut all = true;
+    for i in 0..line.len() {
+        all = all & is_shown(line[i]);
+    }
+    all
+}
+
+// Whether a byte is a printable character of ASCII or a space.
+#[inline(always)]
+fn is_shown(byte: u8) -> bool
+    ensures { result ≡ is_printable byte }
+{
+    0x20 <= byte && byte <= 0x7e
 }

@@ -4,5 +4,5 @@ use Rattle.script_words.proofs.numbers.octal_mode.Goals as goal
 
 pub returns : goal.returns
 returns c =
-    let given = octal_given c.args.word.now c.value.result (eqb-false (length c.args.word.now) 0 (sym c.is_empty.ensures ∙ c.if-is_empty.false)) c.if-word-gt-MODE_DIGITS.false (sym c.are_digits.ensures ∙ c.if-not-are_digits.false) c.value.ensures in
+    let given = octal_given c.args.word.now c.value.result (eqb-false (length c.args.word.now) 0 (sym c.is_empty.ensures ∙ c.if-is_empty.false)) c.if-word-gt-MODE_DIGITS.false c.value.ensures in
     record { value = given.0; small = given.1 }
