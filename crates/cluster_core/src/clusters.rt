@@ -170,6 +170,7 @@ impl<S: Store + Drop> Cluster<S> {
     }
 
     // A request comes in, and waits at the back of the rank's inbox.
+    #[inline(always)]
     fn arrive(&mut self, rank: Rank, request: Request) -> Result<Answer, Refusal>
         ensures arrived { (past : List Applied) → AtRank self.old self.new past past rank result
             (ArrivesAt self.old.state self.new.state past past rank request result × AsksNone self.old self.new) }

@@ -49,6 +49,7 @@ impl Inbox {
     }
 
     /// Puts a request at the back, where there is room.
+    #[inline(always)]
     pub fn put(&mut self, request: Request)
         requires { length self.old < 1024 }
         ensures { self.new ≡ self.old ++ request ∷ [] }
@@ -64,6 +65,7 @@ impl Inbox {
     }
 
     /// Takes the request at the front out. There is room for one more then.
+    #[inline(always)]
     pub fn take(&mut self) -> Option<Request>
         ensures taken { Takes self.old self.new result }
         ensures room { IfSome result (λ request. length self.new < 1024) }

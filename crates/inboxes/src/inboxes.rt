@@ -9,7 +9,8 @@ use mds_types::{Rank, Refusal, Request};
 use std::alloc::{AllocError, Global};
 use std::marker::Model;
 
-/// For each rank the requests that wait there. A call at a rank that isn't there is refused, or finds nothing.
+/// For each rank the requests that wait there. A call at a rank that isn't there is refused, or finds nothing. The calls
+/// that each request goes through are put into their callers, so that it is moved once.
 #[derive(Debug, Drop)]
 pub struct Inboxes {
     inboxes: Vec<Inbox>,
@@ -44,6 +45,7 @@ impl Inboxes {
 
     /// Puts a request at the back of a rank's inbox: refused `NotAuthority` where there is no such rank, `InboxFull`
     /// where as many as may are waiting.
+    #[inline(always)]
     pub fn arrive(&mut self, rank: Rank, request: Request) -> Result<(), Refusal>
         ensures { Arrives self.old self.new rank request result }
     {
@@ -63,6 +65,7 @@ impl Inboxes {
     }
 
     /// Takes the request at the front of a rank's inbox out. It can be put back there.
+    #[inline(always)]
     pub fn take(&mut self, rank: Rank) -> Option<Request>
         ensures taken { TakesAt self.old self.new rank result (waiting_at self.old rank) }
         ensures out { IfSome result (λ request. IsOut self.old self.new rank request) }
@@ -80,6 +83,7 @@ impl Inboxes {
     }
 
     /// Puts a request at the back of the inbox of a rank that is there, where there is room.
+    #[inline(always)]
     pub fn put(&mut self, rank: Rank, request: Request)
         requires there { rank.0 < length self.old }
         requires room { length (waiting_at self.old rank) < 1024 }
