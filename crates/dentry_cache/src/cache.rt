@@ -113,9 +113,9 @@ impl Cache {
         }
     }
 
-    // The place of a leaf, if it is the most recently used: of the calls of one operation most ask for that one, and no
-    // key is hashed for it.
-    fn newest(&self, dir: Ino, frag: Frag) -> Option<&Place>
+    /// The place of a leaf, if it is the most recently used: of the calls of one operation most ask for that one, and no
+    /// key is hashed for it.
+    pub(crate) fn newest(&self, dir: Ino, frag: Frag) -> Option<&Place>
         ensures { IfSome result (λ place. IsNewest (dir, frag) place.now self.now.entries) }
     {
         match self.places.peek_mru() {

@@ -56,7 +56,7 @@ impl Cache {
         ensures ready { HasCached (cached self.old.entries (dir, frag))
             (λ (f : Cached). changes ≤ f.room) → IsOk result }
     {
-        // mostly the room is there, and then no key of the newest leaf is hashed
+        // mostly the leaf is the newest and the room is there, and then no key is hashed
         if self.has_room(dir, frag, changes) {
             let _ = self.touch(dir, frag);
             return Ok(());
@@ -67,13 +67,13 @@ impl Cache {
         place.frag.reserve(changes)
     }
 
-    // Whether a fragment has room for so many changes of names.
+    // Whether a fragment is the most recently used, with room for so many changes of names.
     fn has_room(&self, dir: Ino, frag: Frag, changes: usize) -> bool
         ensures { result ≡ true → HasCached (cached self.now.entries (dir, frag)) (λ (f : Cached). changes ≤ f.room) }
     {
-        match self.get(dir, frag) {
-            Some(fragment) => changes <= fragment.room(),
-            None => false,
+        match self.newest(dir, frag) {
+            Some(place) if !place.kept => changes <= place.frag.room(),
+            _ => false,
         }
     }
 }
