@@ -1,4 +1,4 @@
-use Rattle.cluster_core.proofs.Common.{Err, Inboxes, List, Ranked, Request, ServesInbox, Trimmed, UsesFront, held_roots, rules, state_of, subst, sym, table, waiting_at, ◌≢◌}
+use Rattle.cluster_core.proofs.Common.{Entry, Err, Inboxes, IsNew, List, Ranked, Request, ServesInbox, Trimmed, UsesFront, held_roots, rules, state_of, subst, sym, table, waiting_at, ◌≢◌}
 use Rattle.mdcache.specs.Core.{state_of as tree_state}
 use Rattle.ranked_tree.specs.Ranked.{MayRefuse}
 use Rattle.cluster_core.proofs.Served.{before_taking, goes_on}
@@ -36,4 +36,4 @@ returns-then-not-is_same-clause-served g c =
     (before_taking (λ (o : Inboxes) (w : List Request). ServesInbox (state_of f r e numbers o pins sessions) (state_of f r e numbers c.forward.new.inboxes pins sessions) past past (MayRefuse c.args.tree.now c.args.tree.now) rank c.forward.result w)
     c.args.waiting.now.inboxes c.take.new.self rank c.in-Some.request c.in-Some.ensures.out
     (goes_on f r e numbers c.take.new.self pins sessions past rank (MayRefuse c.args.tree.now c.args.tree.now) c.in-Some.request c.forward.new.inboxes master c.forward.result
-    c.in-New.ensures.seen c.locate_master-places.ensures.master other c.forward.ensures.forwards))
+    (subst (λ (h : List Entry). IsNew h c.in-Some.request.client c.in-Some.request.tid c.in-Some.request.oldest) c.deref.ensures.value c.in-New.ensures.seen) c.locate_master-places.ensures.master other c.forward.ensures.forwards))
