@@ -31,6 +31,7 @@ pub mod PartsLaws
 pub mod PlaceLaws
 pub mod ReadsLaws
 pub mod RoomLaws
+pub mod SlotLaws
 pub mod SplitLaws
 pub mod SplitShows
 pub mod StandingLaws

@@ -1,0 +1,130 @@
+//! `PlaceLru`: the places of a cache in the order of their use. Each stands in a slot, and the order keeps the slot's
+//! number alone, so the most recently used one is found, and lent for a change, with no key hashed.
+ghost use Rattle.std.specs.Prelude.{◌≡◌, [], length, slice_get, is_some, IfOk, option_map, option_copied};
+ghost use Rattle.std.specs.Option.{option_copied_mut};
+ghost use Rattle.std.specs.Borrow.{sem};
+ghost use Rattle.std.specs.NonZero.{non_zero_usize_get};
+ghost use Rattle.std.specs.Map.{lookup};
+ghost use Rattle.std.specs.Map.Iter.{deref_pair};
+ghost use Rattle.lru.specs.LruCache.{lru_cache, promoted};
+ghost use Rattle.dentry_cache.specs.Cache.{leaf_is};
+ghost use Rattle.dentry_cache.specs.Places.{IsCache};
+
+use crate::cache::Place;
+use lru::LruCache;
+use mds_types::{Frag, Ino};
+use std::alloc::{AllocError, Global};
+use std::marker::Model;
+use std::num::NonZeroUsize;
+
+/// A leaf's place, where it stands.
+#[derive(Debug, Drop)]
+pub(crate) struct Slot {
+    leaf: (Ino, Frag),
+    place: Place,
+}
+
+/// The places of leaves, in the order of their use.
+#[derive(Drop)]
+pub(crate) struct PlaceLru {
+    // the slot of each leaf's place
+    order: LruCache<(Ino, Frag), usize>,
+    slots: Vec<Slot>,
+}
+
+impl Model for PlaceLru {
+    ghost use Rattle.std.specs.Coded.{codes};
+    ghost use Rattle.std.specs.FinMap as map;
+    ghost use Rattle.dentry_cache.specs.Cache.{Held};
+    ghost use Rattle.dentry_cache.specs.Slots.{AreSlotted, placed_by};
+
+    ghost Value = { Held };
+
+    ghost coded = { Prim.hlevel (codes, map.code) };
+
+    ghost view = { λ p. placed_by p.order p.slots.items };
+
+    ghost invariant = { λ p. AreSlotted p.slots.items p.order.entries };
+}
+
+impl PlaceLru {
+    ghost use Rattle.dentry_cache.specs.SlotLends.{lends_place};
+
+    /// No place, of at most so many. Takes little memory.
+    pub(crate) fn new(alloc: Global, cap: NonZeroUsize) -> Result<PlaceLru, AllocError>
+        ensures { IfOk result (λ p. p ≡ lru_cache [] (non_zero_usize_get cap)) }
+    {
+        Ok(PlaceLru {
+            order: LruCache::sparse(alloc, cap)?,
+            slots: Vec::new(alloc),
+        })
+    }
+
+    /// How many there may be.
+    pub(crate) fn cap(&self) -> NonZeroUsize
+        ensures { non_zero_usize_get result ≡ self.now.cap }
+    {
+        self.order.cap()
+    }
+
+    /// How many there are. No leaf has two of them.
+    pub(crate) fn len(&self) -> usize
+        ensures len { result ≡ length self.now.entries }
+        ensures valid { IsCache self.now }
+    {
+        self.order.len()
+    }
+
+    /// A leaf's place.
+    pub(crate) fn peek(&self, leaf: &(Ino, Frag)) -> Option<&Place>
+        ensures { option_copied result ≡ lookup (leaf_is leaf.now) self.now.entries }
+    {
+        match self.order.peek(leaf) {
+            Some(slot) => Some(&self.slots[*slot].place),
+            None => None,
+        }
+    }
+
+    /// Makes a leaf's place the most recently used, and tells whether it has one.
+    pub(crate) fn promote(&mut self, leaf: &(Ino, Frag)) -> bool
+        ensures value { result ≡ is_some (lookup (leaf_is leaf.now) self.old.entries) }
+        ensures entries { self.new ≡ lru_cache (promoted (leaf_is leaf.now) self.old.entries) self.old.cap }
+    {
+        self.order.promote(leaf)
+    }
+
+    /// The most recently used place, and whose it is.
+    pub(crate) fn peek_mru(&self) -> Option<(&(Ino, Frag), &Place)>
+        ensures { option_map deref_pair result ≡ slice_get self.now.entries 0 }
+    {
+        match self.order.peek_mru() {
+            Some((leaf, slot)) => Some((leaf, &self.slots[*slot].place)),
+            None => None,
+        }
+    }
+
+    /// A leaf's place, to write to. The order of use stays.
+    pub(crate) fn peek_mut(&mut self, leaf: &(Ino, Frag)) -> Option<&mut Place>
+        ensures* writes_back { sem 𝓛 (lends_place self.entry (leaf_is leaf.now) self.old.entries result) }
+        ensures value { option_copied_mut result ≡ lookup (leaf_is leaf.now) self.old.entries }
+    {
+        let slot = match self.order.peek(leaf) {
+            Some(slot) => *slot,
+            None => return None,
+        };
+        Some(&mut self.slots[slot].place)
+    }
+
+    /// A leaf's place, to write to, which is the most recently used then.
+    pub(crate) fn get_mut(&mut self, leaf: &(Ino, Frag)) -> Option<&mut Place>
+        ensures* writes_back { sem 𝓛 (lends_place self.entry
+            (leaf_is leaf.now) (promoted (leaf_is leaf.now) self.old.entries) result) }
+        ensures value { option_copied_mut result ≡ lookup (leaf_is leaf.now) self.old.entries }
+    {
+        let slot = match self.order.get(leaf) {
+            Some(slot) => *slot,
+            None => return None,
+        };
+        Some(&mut self.slots[slot].place)
+    }
+}
