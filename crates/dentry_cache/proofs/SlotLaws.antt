@@ -1,15 +1,18 @@
 -- Laws of places that stand in slots.
-use Rattle.std.proofs.Common.{Bool, List, arith, slice_get, None, Option, Some, [], ap, cond, false, get_or, is_some, length, option_map, refl, subst, sym, true, ℕ, ◌+◌, ◌<◌, ◌∙◌, ◌∷◌, ◌≡◌}
+use Rattle.std.proofs.Common.{Bool, List, arith, slice_get, None, Option, Some, [], ap, cond, false, ap₂, eq-eqb, eqb-true, get_or, is_some, length, set, option_map, refl, subst, sym, true, ℕ, ◌+◌, ◌<◌, ◌==◌, ◌∙◌, ◌≢◌, ◌∷◌, ◌≡◌}
 use Rattle.std.specs.Option.{option_map_or}
-use Rattle.std.specs.Map.{keys_of, lookup, lookup_entry, remove_entry}
+use Rattle.std.specs.List.{AllByRecursion, IsDistinct}
+use Rattle.std.specs.Map.{keys_of, lookup, lookup_entry, remove_entry, set_value}
 use Rattle.lru.specs.LruCache.{promoted}
 use Rattle.dentry_cache.specs.Cache.{Leaf, Places, leaf_is}
 use Rattle.dentry_cache.specs.Slots.{AreSlotted, placed, slot_at}
 use Rattle.dentry_cache.specs.declared.cache.Place.{Place}
 use Rattle.dentry_cache.specs.declared.place_lru.Slot.{Slot}
-use Rattle.std.proofs.lemmas.List.{get_or_default}
+use Rattle.std.proofs.lemmas.Bool.{false≢true}
+use Rattle.std.proofs.lemmas.Grind.{get_or-set_at}
+use Rattle.std.proofs.lemmas.List.{get_or-set_other, get_or_default, length-set}
 use Rattle.std.proofs.lemmas.Option.{none-some}
-use Rattle.dentry_cache.proofs.LeafLaws.{leaf_itself}
+use Rattle.dentry_cache.proofs.LeafLaws.{flips, leaf_itself, one_leaf}
 use Rattle.dentry_cache.proofs.UsedLaws.{all_promoted}
 
 module _ (slots : List Slot) where
@@ -88,3 +91,72 @@ module _ (slots : List Slot) where
   first_within (e ∷ entries) leaf i are is =
       let same : (leaf, i) ≡ e = cc in
       subst (λ (x : Leaf × ℕ). x.1 < length slots) (sym same) (are.within e.0 e.1 (ap (λ b. cond b (Some e.1) (lookup (leaf_is e.0) entries)) (leaf_itself e.0)))
+
+  -- what is found for a leaf is no key's that all differ from
+  apart_from : (key leaf : Leaf) (es : List (Leaf × ℕ)) (i : ℕ) → AllByRecursion (λ y. leaf_is key y ≡ false) (keys_of es) → lookup (leaf_is leaf) es ≡ Some i → leaf_is key leaf ≡ false
+  apart_from key leaf [] i none is = absurd (none-some i is)
+  apart_from key leaf (x ∷ es) i none is = go (apart_from key leaf es i none.1) (leaf_is leaf x.0) refl is
+    where
+      go : (lookup (leaf_is leaf) es ≡ Some i → leaf_is key leaf ≡ false) → (b : Bool) → leaf_is leaf x.0 ≡ b → cond b (Some x.1) (lookup (leaf_is leaf) es) ≡ Some i → leaf_is key leaf ≡ false
+      go rest true same is = subst (λ (l : Leaf). leaf_is key l ≡ false) (sym (one_leaf leaf x.0 same)) none.0
+      go rest false other is = rest is
+
+  -- each slot is that of the leaf that it was given for, where no leaf stands twice
+  pub owned_each : (entries : List (Leaf × ℕ)) → IsDistinct leaf_is (keys_of entries) → ((leaf : Leaf) (i : ℕ) → lookup (leaf_is leaf) entries ≡ Some i → (slot_at slots i).leaf ≡ leaf)
+      → AllByRecursion (λ e. (slot_at slots e.1).leaf ≡ e.0) entries
+  unfolding IsDistinct
+  owned_each [] distinct owned = tt
+  owned_each (e ∷ entries) distinct owned = (
+    owned e.0 e.1 (ap (λ b. cond b (Some e.1) (lookup (leaf_is e.0) entries)) (leaf_itself e.0)),
+    owned_each entries distinct.1 (λ leaf i is. owned leaf i (ap (λ b. cond b (Some e.1) (lookup (leaf_is leaf) entries)) (flips leaf e.0 ∙ apart_from e.0 leaf entries i distinct.0 is) ∙ is)),
+  )
+
+  -- the slots with another place in one of them
+  abbrev pub with_place : ℕ → Place → List Slot
+  with_place i w = set slots i (record { leaf = (slot_at slots i).leaf; place = w })
+
+  pub place_there : (i : ℕ) (w : Place) → i < length slots → (slot_at (with_place i w) i).place ≡ w
+  place_there i w within = ap (λ (s : Slot). s.place) (get_or-set_at slots i i _ _ refl within)
+
+  pub place_beside : (i j : ℕ) (w : Place) → j ≢ i → slot_at (with_place i w) j ≡ slot_at slots j
+  place_beside i j w other = get_or-set_other slots i j _ _ other
+
+  pub leaves_stay : (i j : ℕ) (w : Place) → i < length slots → (slot_at (with_place i w) j).leaf ≡ (slot_at slots j).leaf
+  leaves_stay i j w within = go (j == i) refl
+    where
+      go : (b : Bool) → (j == i) ≡ b → (slot_at (with_place i w) j).leaf ≡ (slot_at slots j).leaf
+      go true same = ap (λ (s : Slot). s.leaf) (get_or-set_at slots i j _ _ (eqb-true j i same) within) ∙ ap (λ n. (slot_at slots n).leaf) (sym (eqb-true j i same))
+      go false other = ap (λ (s : Slot). s.leaf) (place_beside i j w (λ e. false≢true (sym other ∙ eq-eqb j i e)))
+
+  untouched : (leaf key : Leaf) (i : ℕ) (w : Place) (es : List (Leaf × ℕ)) → (slot_at slots i).leaf ≡ leaf → leaf ≡ key → AllByRecursion (λ y. leaf_is key y ≡ false) (keys_of es)
+      → AllByRecursion (λ x. (slot_at slots x.1).leaf ≡ x.0) es → placed (with_place i w) es ≡ placed slots es
+  untouched leaf key i w [] its same apart mine = refl
+  untouched leaf key i w (x ∷ es) its same apart mine =
+      let other : x.1 ≢ i = λ at. false≢true (sym apart.0 ∙ ap (leaf_is key) (sym mine.0 ∙ ap (λ n. (slot_at slots n).leaf) at ∙ its ∙ same) ∙ leaf_itself key) in
+      ap₂ (λ (p : Place) (l : Places). (x.0, p) ∷ l) (ap (λ (t : Slot). t.place) (place_beside i x.1 w other)) (untouched leaf key i w es its same apart.1 mine.1)
+
+  -- a place that is written is that of its leaf alone
+  pub written : (leaf : Leaf) (i : ℕ) (w : Place) (entries : List (Leaf × ℕ)) → i < length slots → (slot_at slots i).leaf ≡ leaf → IsDistinct leaf_is (keys_of entries)
+      → AllByRecursion (λ e. (slot_at slots e.1).leaf ≡ e.0) entries → lookup (leaf_is leaf) entries ≡ Some i
+      → placed (with_place i w) entries ≡ set_value (leaf_is leaf) (placed slots entries) w
+  unfolding IsDistinct
+  written leaf i w [] within its distinct owned found = refl
+  written leaf i w (e ∷ entries) within its distinct owned found = go (written leaf i w entries within its distinct.1 owned.1) (leaf_is leaf e.0) refl found
+    where
+      go : (lookup (leaf_is leaf) entries ≡ Some i → placed (with_place i w) entries ≡ set_value (leaf_is leaf) (placed slots entries) w) → (b : Bool) → leaf_is leaf e.0 ≡ b
+          → cond b (Some e.1) (lookup (leaf_is leaf) entries) ≡ Some i
+          → (e.0, (slot_at (with_place i w) e.1).place) ∷ placed (with_place i w) entries ≡ cond b ((e.0, w) ∷ placed slots entries) ((e.0, place_in e.1) ∷ set_value (leaf_is leaf) (placed slots entries) w)
+      go rest true same is =
+          let at : e.1 ≡ i = cc in
+          ap₂ (λ (p : Place) (l : Places). (e.0, p) ∷ l) (ap (λ n. (slot_at (with_place i w) n).place) at ∙ place_there i w within) (untouched leaf e.0 i w entries its (one_leaf leaf e.0 same) distinct.0 owned.1)
+      go rest false other is =
+          let beside : e.1 ≢ i = λ at. false≢true (sym other ∙ ap (leaf_is leaf) (sym owned.0 ∙ ap (λ n. (slot_at slots n).leaf) at ∙ its) ∙ leaf_itself leaf) in
+          ap₂ (λ (p : Place) (l : Places). (e.0, p) ∷ l) (ap (λ (t : Slot). t.place) (place_beside i e.1 w beside)) (rest is)
+
+  -- and each leaf keeps its slot
+  pub slotted_written : (i : ℕ) (w : Place) (entries : List (Leaf × ℕ)) → i < length slots → AreSlotted slots entries → AreSlotted (with_place i w) entries
+  slotted_written i w entries within are = record {
+    within = λ q j is. subst (λ n. j < n) (sym (length-set slots i _)) (are.within q j is);
+    owned = λ q j is. leaves_stay i j w within ∙ are.owned q j is;
+    taken = λ j less. subst (λ (l : Leaf). lookup (leaf_is l) entries ≡ Some j) (sym (leaves_stay i j w within)) (are.taken j (subst (λ n. j < n) (length-set slots i _) less));
+  }

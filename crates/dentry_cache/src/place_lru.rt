@@ -112,6 +112,8 @@ impl PlaceLru {
             Some(slot) => *slot,
             None => return None,
         };
+        // The contract of `len` is what says here that no leaf has two places.
+        let _ = self.order.len();
         Some(&mut self.slots[slot].place)
     }
 
@@ -125,6 +127,8 @@ impl PlaceLru {
             Some(slot) => *slot,
             None => return None,
         };
+        // The contract of `len` is what says here that no leaf has two places.
+        let _ = self.order.len();
         Some(&mut self.slots[slot].place)
     }
 }
