@@ -160,3 +160,18 @@ module _ (slots : List Slot) where
     owned = λ q j is. leaves_stay i j w within ∙ are.owned q j is;
     taken = λ j less. subst (λ (l : Leaf). lookup (leaf_is l) entries ≡ Some j) (sym (leaves_stay i j w within)) (are.taken j (subst (λ n. j < n) (length-set slots i _) less));
   }
+
+  -- so is the first
+  pub first_written : (leaf : Leaf) (i : ℕ) (w : Place) (entries : List (Leaf × ℕ)) → IsDistinct leaf_is (keys_of entries) → AreSlotted slots entries → Some (leaf, i) ≡ slice_get entries 0
+      → placed (with_place i w) entries ≡ set_value (λ _. true) (placed slots entries) w
+  first_written leaf i w [] distinct are is = refl
+  first_written leaf i w (e ∷ entries) distinct are is =
+      let same : (leaf, i) ≡ e = cc in
+      let its : lookup (leaf_is e.0) (e ∷ entries) ≡ Some e.1 = ap (λ b. cond b (Some e.1) (lookup (leaf_is e.0) entries)) (leaf_itself e.0) in
+      ap (λ (x : Leaf × ℕ). placed (with_place x.1 w) (e ∷ entries)) same
+      ∙ written e.0 e.1 w (e ∷ entries) (are.within e.0 e.1 its) (are.owned e.0 e.1 its) distinct (owned_each (e ∷ entries) distinct are.owned) its
+      ∙ ap (λ b. cond b ((e.0, w) ∷ placed slots entries) ((e.0, place_in e.1) ∷ set_value (leaf_is e.0) (placed slots entries) w)) (leaf_itself e.0)
+
+  pub head_place : (entries : List (Leaf × ℕ)) → option_map (λ e. place_in e.1) (slice_get entries 0) ≡ option_map (λ e. e.1) (slice_get (placed slots entries) 0)
+  head_place [] = refl
+  head_place (e ∷ entries) = refl

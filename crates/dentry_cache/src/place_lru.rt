@@ -1,6 +1,6 @@
 //! `PlaceLru`: the places of a cache in the order of their use. Each stands in a slot, and the order keeps the slot's
 //! number alone, so the most recently used one is found, and lent for a change, with no key hashed.
-ghost use Rattle.std.specs.Prelude.{◌≡◌, [], length, slice_get, is_some, IfOk, option_map, option_copied};
+ghost use Rattle.std.specs.Prelude.{◌≡◌, true, [], length, slice_get, is_some, IfOk, option_map, option_copied};
 ghost use Rattle.std.specs.Option.{option_copied_mut};
 ghost use Rattle.std.specs.Borrow.{sem};
 ghost use Rattle.std.specs.NonZero.{non_zero_usize_get};
@@ -117,14 +117,13 @@ impl PlaceLru {
         Some(&mut self.slots[slot].place)
     }
 
-    /// A leaf's place, to write to, which is the most recently used then.
-    pub(crate) fn get_mut(&mut self, leaf: &(Ino, Frag)) -> Option<&mut Place>
-        ensures* writes_back { sem 𝓛 (lends_place self.entry
-            (leaf_is leaf.now) (promoted (leaf_is leaf.now) self.old.entries) result) }
-        ensures value { option_copied_mut result ≡ lookup (leaf_is leaf.now) self.old.entries }
+    /// The most recently used place, to write to.
+    pub(crate) fn newest_mut(&mut self) -> Option<&mut Place>
+        ensures* writes_back { sem 𝓛 (lends_place self.entry (λ _. true) self.old.entries result) }
+        ensures value { option_copied_mut result ≡ option_map (λ e. e.1) (slice_get self.old.entries 0) }
     {
-        let slot = match self.order.get(leaf) {
-            Some(slot) => *slot,
+        let slot = match self.order.peek_mru() {
+            Some((_, slot)) => *slot,
             None => return None,
         };
         // The contract of `len` is what says here that no leaf has two places.
