@@ -8,7 +8,7 @@ use Rattle.std.proofs.lemmas.List.{length-append, take_all}
 use Rattle.std.proofs.lemmas.Option.{same_Some}
 use Rattle.std.proofs.lemmas.Map.{NonePasses, lookup-none, none_passes_from_lookup}
 use Rattle.lru.proofs.Splits.{all_both, all_left, all_right}
-use Rattle.lru.specs.LruCache.{lru_cache, promoted, put_entries}
+use Rattle.lru.specs.LruCache.{LruCache, lru_cache, promoted, put_entries}
 use Rattle.mds_types.specs.Frag.{Fragment}
 use Rattle.mds_types.specs.declared.refusals.Refusal.{Refusal}
 use Rattle.mds_types.specs.declared.refusals.Refusal.TheVariants.{NoMemory, NothingToEvict}
@@ -141,12 +141,12 @@ pub same_cap : (stay : Option Leaf) (old mid : Held) → MakesRoom stay old mid 
 same_cap stay old mid (inl same) = ap (λ (h : Held). h.cap) same.1
 same_cap stay old mid (inr gone) = ap (λ (h : Held). h.cap) gone.1.2
 
-pub placed : (leaf : Leaf) (place : Place) (old mid new : Held) → mid ≡ old → lookup (leaf_is leaf) old.entries ≡ None → length old.entries < old.cap → new ≡ lru_cache (put_entries leaf_is mid leaf place) mid.cap
-    → new ≡ lru_cache ((leaf, place) ∷ old.entries) old.cap
-placed leaf place old mid new same none room is =
-    is ∙ ap (λ (h : Held). lru_cache (put_entries leaf_is h leaf place) h.cap) same
-    ∙ ap (λ (o : Option (Leaf × Place)). lru_cache (option_map_or (λ e. (e.0, place) ∷ remove_entry (leaf_is leaf) old.entries) o ((leaf, place) ∷ take (old.cap - 1) old.entries)) old.cap) (no_entry leaf old.entries none)
-    ∙ ap (λ (es : Places). lru_cache ((leaf, place) ∷ es) old.cap) (take_all (old.cap - 1) old.entries (omega (arith, room)))
+pub placed : {X : Type 0} (leaf : Leaf) (place : X) (old mid new : LruCache Leaf X) → mid ≡ old → lookup (leaf_is leaf) old.entries ≡ None → length old.entries < old.cap
+    → new ≡ lru_cache (put_entries leaf_is mid leaf place) mid.cap → new ≡ lru_cache ((leaf, place) ∷ old.entries) old.cap
+placed {X} leaf place old mid new same none room is =
+    is ∙ ap (λ (h : LruCache Leaf X). lru_cache (put_entries leaf_is h leaf place) h.cap) same
+    ∙ ap (λ (o : Option (Leaf × X)). lru_cache (option_map_or (λ e. (e.0, place) ∷ remove_entry (leaf_is leaf) old.entries) o ((leaf, place) ∷ take (old.cap - 1) old.entries)) old.cap) (no_entry leaf old.entries none)
+    ∙ ap (λ (es : List (Leaf × X)). lru_cache ((leaf, place) ∷ es) old.cap) (take_all (old.cap - 1) old.entries (omega (arith, room)))
 
 pub takes : (stay : Option Leaf) (leaf : Leaf) (place : Place) (old mid new : Held) → MakesRoom stay old mid → new ≡ lru_cache ((leaf, place) ∷ mid.entries) mid.cap → TakesPlace stay leaf place old new
 takes stay leaf place old mid new room is = (mid, room, is ∙ ap (λ (n : ℕ). lru_cache ((leaf, place) ∷ mid.entries) n) (same_cap stay old mid room))

@@ -11,12 +11,12 @@ abbrev pub slot_at : List Slot → ℕ → Slot
 slot_at slots i = get_or slots i (record { leaf = (record { 0 = 0 }, root_fragment); place = kept_place })
 
 -- the places of leaves whose slots these are
-abbrev pub placed : List Slot → List (Leaf × ℕ) → Places
-placed slots entries = map (λ e. (e.0, (slot_at slots e.1).place)) entries
+abbrev pub places_in : List Slot → List (Leaf × ℕ) → Places
+places_in slots entries = map (λ e. (e.0, (slot_at slots e.1).place)) entries
 
 -- the order of use, with the places
 abbrev pub placed_by : LruCache Leaf ℕ → List Slot → Held
-placed_by order slots = lru_cache (placed slots order.entries) order.cap
+placed_by order slots = lru_cache (places_in slots order.entries) order.cap
 
 -- each leaf has a slot of its own, and each slot is a leaf's
 pub record AreSlotted (slots : List Slot) (entries : List (Leaf × ℕ)) : Type 0 where

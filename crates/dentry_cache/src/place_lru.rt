@@ -1,6 +1,6 @@
 //! `PlaceLru`: the places of a cache in the order of their use. Each stands in a slot, and the order keeps the slot's
 //! number alone, so the most recently used one is found, and lent for a change, with no key hashed.
-ghost use Rattle.std.specs.Prelude.{◌≡◌, true, [], length, slice_get, is_some, IfOk, option_map, option_copied};
+ghost use Rattle.std.specs.Prelude.{◌≡◌, ◌<◌, ◌∷◌, true, None, [], OnErr, OnOk, length, slice_get, is_some, IfOk, option_map, option_copied};
 ghost use Rattle.std.specs.Option.{option_copied_mut};
 ghost use Rattle.std.specs.Borrow.{sem};
 ghost use Rattle.std.specs.NonZero.{non_zero_usize_get};
@@ -115,6 +115,26 @@ impl PlaceLru {
         // The contract of `len` is what says here that no leaf has two places.
         let _ = self.order.len();
         Some(&mut self.slots[slot].place)
+    }
+
+    /// Gives a leaf that has none a place, where one more may be, as the most recently used. An error says that memory
+    /// ran out, and nothing has changed.
+    pub(crate) fn put(&mut self, leaf: &(Ino, Frag), place: Place) -> Result<(), AllocError>
+        requires absent { lookup (leaf_is leaf.now) self.old.entries ≡ None }
+        requires room { length self.old.entries < self.old.cap }
+        ensures put { OnOk result (self.new ≡ lru_cache ((leaf.now, place) ∷ self.old.entries) self.old.cap) }
+        ensures err { OnErr result (self.new ≡ self.old) }
+    {
+        // The contract of `len` is what says here that no leaf has two places.
+        let _ = self.order.len();
+        self.slots.reserve(1)?;
+        match self.order.put(*leaf, self.slots.len()) {
+            Ok(_) => {
+                self.slots.push_reserved(Slot { leaf: *leaf, place });
+                Ok(())
+            }
+            Err(_) => Err(AllocError),
+        }
     }
 
     /// The most recently used place, to write to.

@@ -3,7 +3,7 @@ use Rattle.std.specs.Map.Iter.{deref_pair}
 use Rattle.lru.specs.LruCache.{lru_cache}
 use Rattle.sorted_map.proofs.ContentLaws.{same_loan}
 use Rattle.dentry_cache.specs.Cache.{Leaf, Places}
-use Rattle.dentry_cache.specs.Slots.{placed}
+use Rattle.dentry_cache.specs.Slots.{places_in}
 use Rattle.dentry_cache.specs.declared.cache.Place.{Place}
 use Rattle.dentry_cache.specs.declared.place_lru.Slot.{Slot}
 use Rattle.dentry_cache.proofs.SlotLaws.{first_within, first_written, head_place, place_in, read, slotted_written, with_place}
@@ -40,7 +40,7 @@ returns c =
     let its = read slots i c.index_mut.result.now within c.index_mut.ensures.value in
     rw (← c.self.view_is) (
       same_loan _ _ _ (λ w.
-      ap (λ (s : Slot). lru_cache (placed (set slots i (record { leaf = s.leaf; place = w })) entries) c.self.inside.order.cap) its
+      ap (λ (s : Slot). lru_cache (places_in (set slots i (record { leaf = s.leaf; place = w })) entries) c.self.inside.order.cap) its
       ∙ ap (λ (l : Places). lru_cache l c.self.inside.order.cap) (first_written slots c.in-Some.field-0-0.now i w entries c.len.ensures.valid.0 c.self.invariant first)),
       record { writes_back = tt; value = ap (λ (s : Slot). Some s.place) its ∙ ap (option_map (λ e. place_in slots e.1)) first ∙ head_place slots entries },
     )

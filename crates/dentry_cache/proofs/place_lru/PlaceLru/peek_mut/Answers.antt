@@ -4,7 +4,7 @@ use Rattle.std.specs.Map.{lookup}
 use Rattle.lru.specs.LruCache.{lru_cache}
 use Rattle.sorted_map.proofs.ContentLaws.{same_loan}
 use Rattle.dentry_cache.specs.Cache.{Places, leaf_is}
-use Rattle.dentry_cache.specs.Slots.{placed}
+use Rattle.dentry_cache.specs.Slots.{places_in}
 use Rattle.dentry_cache.specs.declared.place_lru.Slot.{Slot}
 use Rattle.dentry_cache.proofs.SlotLaws.{owned_each, place_in, placed_there, read, slotted_written, written}
 use Rattle.dentry_cache.proofs.place_lru.PlaceLru.peek_mut.Goals as goal
@@ -41,7 +41,7 @@ returns c =
     let distinct = c.len.ensures.valid.0 in
     rw (← c.self.view_is) (
       same_loan _ _ _ (λ w.
-      ap (λ (s : Slot). lru_cache (placed (set slots i (record { leaf = s.leaf; place = w })) entries) c.self.inside.order.cap) mine
+      ap (λ (s : Slot). lru_cache (places_in (set slots i (record { leaf = s.leaf; place = w })) entries) c.self.inside.order.cap) mine
       ∙ ap (λ (l : Places). lru_cache l c.self.inside.order.cap) (written slots c.args.leaf.now i w entries within (c.self.invariant.owned _ _ its) distinct (owned_each slots entries distinct c.self.invariant.owned) its)),
       record { writes_back = tt; value = ap (λ (s : Slot). Some s.place) mine ∙ ap (option_map (place_in slots)) (sym its) ∙ sym (placed_there slots (leaf_is c.args.leaf.now) entries) },
     )
