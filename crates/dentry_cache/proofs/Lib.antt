@@ -29,6 +29,7 @@ pub mod PairLaws
 pub mod PartLaws
 pub mod PartsLaws
 pub mod PlaceLaws
+pub mod PoppedSlots
 pub mod ReadsLaws
 pub mod RoomLaws
 pub mod SlotLaws

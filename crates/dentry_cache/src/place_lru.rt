@@ -1,14 +1,15 @@
 //! `PlaceLru`: the places of a cache in the order of their use. Each stands in a slot, and the order keeps the slot's
 //! number alone, so the most recently used one is found, and lent for a change, with no key hashed.
-ghost use Rattle.std.specs.Prelude.{◌≡◌, ◌<◌, ◌∷◌, true, None, [], OnErr, OnOk, length, slice_get, is_some, IfOk, option_map, option_copied};
+ghost use Rattle.std.specs.Prelude.{◌≡◌, ◌<◌, ◌≤◌, ◌∷◌, true, None, [], OnErr, OnOk, length, slice_get, is_some, IfOk, option_map, option_copied};
 ghost use Rattle.std.specs.Option.{option_copied_mut};
 ghost use Rattle.std.specs.Borrow.{sem};
 ghost use Rattle.std.specs.NonZero.{non_zero_usize_get};
-ghost use Rattle.std.specs.Map.{lookup};
+ghost use Rattle.std.specs.Map.{lookup, remove_entry, set_value};
 ghost use Rattle.std.specs.Map.Iter.{deref_pair};
 ghost use Rattle.lru.specs.LruCache.{lru_cache, promoted};
 ghost use Rattle.dentry_cache.specs.Cache.{leaf_is};
 ghost use Rattle.dentry_cache.specs.Places.{IsCache};
+ghost use Rattle.dentry_cache.specs.Slots.{slot_at};
 
 use crate::cache::Place;
 use lru::LruCache;
@@ -137,6 +138,22 @@ impl PlaceLru {
         }
     }
 
+    /// Takes a leaf's place out. The others keep their order of use.
+    pub(crate) fn pop(&mut self, leaf: &(Ino, Frag)) -> Option<Place>
+        ensures value { result ≡ lookup (leaf_is leaf.now) self.old.entries }
+        ensures entries { self.new ≡ lru_cache (remove_entry (leaf_is leaf.now) self.old.entries) self.old.cap }
+    {
+        // The contract of `len` is what says here that no leaf has two places.
+        let _ = self.order.len();
+        let Some(number) = self.order.pop(leaf) else {
+            return None;
+        };
+        let _ = self.order.len();
+        let slot = self.slots.swap_remove(number);
+        renumber(&mut self.order, &self.slots, number);
+        Some(slot.place)
+    }
+
     /// The most recently used place, to write to.
     pub(crate) fn newest_mut(&mut self) -> Option<&mut Place>
         ensures* writes_back { sem 𝓛 (lends_place self.entry (λ _. true) self.old.entries result) }
@@ -149,5 +166,20 @@ impl PlaceLru {
         // The contract of `len` is what says here that no leaf has two places.
         let _ = self.order.len();
         Some(&mut self.slots[slot].place)
+    }
+}
+
+// The slot of this number is that of another leaf now, if there is one: the leaf has the number then.
+fn renumber(order: &mut LruCache<(Ino, Frag), usize>, slots: &[Slot], number: usize)
+    ensures past { length slots.now ≤ number → order.new ≡ order.old }
+    ensures moved { number < length slots.now → order.new ≡ lru_cache
+        (set_value (leaf_is (slot_at slots.now number).leaf) order.old.entries number) order.old.cap }
+{
+    if number >= slots.len() {
+        return;
+    }
+    let leaf = slots[number].leaf;
+    if let Some(at) = order.peek_mut(&leaf) {
+        *at = number;
     }
 }
