@@ -235,3 +235,12 @@ module _ (slots : List Slot) where
       → places_in (slots ++ s ∷ []) ((s.leaf, length slots) ∷ entries) ≡ (s.leaf, s.place) ∷ places_in slots entries
   more_places s entries within =
       ap₂ (λ (t : Slot) (l : Places). (s.leaf, t.place) ∷ l) (get_or-append_seam slots s [] _) (grown s entries within)
+
+  -- the last
+  pub last_placed : (es : List (Leaf × ℕ)) (e : Leaf × ℕ) → places_in slots (es ++ e ∷ []) ≡ places_in slots es ++ (e.0, place_in e.1) ∷ []
+  last_placed [] e = refl
+  last_placed (x ∷ es) e = ap (λ (l : Places). (x.0, place_in x.1) ∷ l) (last_placed es e)
+
+  pub last_within : (es : List (Leaf × ℕ)) (e : Leaf × ℕ) → AllByRecursion (λ x. x.1 < length slots) (es ++ e ∷ []) → e.1 < length slots
+  last_within [] e all = all.0
+  last_within (x ∷ es) e all = last_within es e all.1

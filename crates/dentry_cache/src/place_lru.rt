@@ -12,6 +12,7 @@ ghost use Rattle.dentry_cache.specs.Places.{IsCache};
 ghost use Rattle.dentry_cache.specs.Slots.{slot_at};
 
 use crate::cache::Place;
+use crate::place_iters::PlaceIter;
 use lru::LruCache;
 use mds_types::{Frag, Ino};
 use std::alloc::{AllocError, Global};
@@ -21,8 +22,8 @@ use std::num::NonZeroUsize;
 /// A leaf's place, where it stands.
 #[derive(Debug, Drop)]
 pub(crate) struct Slot {
-    leaf: (Ino, Frag),
-    place: Place,
+    pub(crate) leaf: (Ino, Frag),
+    pub(crate) place: Place,
 }
 
 /// The places of leaves, in the order of their use.
@@ -116,6 +117,18 @@ impl PlaceLru {
         // The contract of `len` is what says here that no leaf has two places.
         let _ = self.order.len();
         Some(&mut self.slots[slot].place)
+    }
+
+    /// The places, the most recently used first.
+    pub(crate) fn iter(&self) -> PlaceIter<'_>
+        ensures { result ≡ self.now.entries }
+    {
+        // The contract of `len` is what says here that no leaf has two places.
+        let _ = self.order.len();
+        PlaceIter {
+            rest: self.order.iter(),
+            slots: &self.slots,
+        }
     }
 
     /// Gives a leaf that has none a place, where one more may be, as the most recently used. An error says that memory

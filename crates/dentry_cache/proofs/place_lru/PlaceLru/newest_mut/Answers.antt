@@ -12,10 +12,13 @@ use Rattle.dentry_cache.proofs.place_lru.PlaceLru.newest_mut.Goals as goal
 pub returns-in-None : goal.returns-in-None
 returns-in-None c =
     let slots = c.self.inside.slots.items in
-    rw (← c.self.view_is) (refl, record {
-      writes_back = tt;
-      value = ap (λ o. option_map (λ e. place_in slots e.1) (option_map deref_pair o)) (sym c.in-None.is) ∙ ap (option_map (λ e. place_in slots e.1)) c.peek_mru.ensures ∙ head_place slots c.self.inside.order.entries;
-    })
+    rw (← c.self.view_is) (
+      refl,
+      record {
+        writes_back = tt;
+        value = ap (λ o. option_map (λ e. place_in slots e.1) (option_map deref_pair o)) (sym c.in-None.is) ∙ ap (option_map (λ e. place_in slots e.1)) c.peek_mru.ensures ∙ head_place slots c.self.inside.order.entries;
+      },
+    )
 
 pub index_mut-requires : goal.index_mut-requires
 index_mut-requires c =
@@ -40,7 +43,7 @@ returns c =
     let its = read slots i c.index_mut.result.now within c.index_mut.ensures.value in
     rw (← c.self.view_is) (
       same_loan _ _ _ (λ w.
-      ap (λ (s : Slot). lru_cache (places_in (set slots i (record { leaf = s.leaf; place = w })) entries) c.self.inside.order.cap) its
-      ∙ ap (λ (l : Places). lru_cache l c.self.inside.order.cap) (first_written slots c.in-Some.field-0-0.now i w entries c.len.ensures.valid.0 c.self.invariant first)),
+          ap (λ (s : Slot). lru_cache (places_in (set slots i (record { leaf = s.leaf; place = w })) entries) c.self.inside.order.cap) its
+          ∙ ap (λ (l : Places). lru_cache l c.self.inside.order.cap) (first_written slots c.in-Some.field-0-0.now i w entries c.len.ensures.valid.0 c.self.invariant first)),
       record { writes_back = tt; value = ap (λ (s : Slot). Some s.place) its ∙ ap (option_map (λ e. place_in slots e.1)) first ∙ head_place slots entries },
     )

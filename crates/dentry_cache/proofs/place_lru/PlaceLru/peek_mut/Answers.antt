@@ -12,10 +12,13 @@ use Rattle.dentry_cache.proofs.place_lru.PlaceLru.peek_mut.Goals as goal
 pub returns-in-None : goal.returns-in-None
 returns-in-None c =
     let slots = c.self.inside.slots.items in
-    rw (← c.self.view_is) (refl, record {
-      writes_back = tt;
-      value = ap (λ o. option_map (place_in slots) (option_copied o)) (sym c.in-None.is) ∙ ap (option_map (place_in slots)) c.peek.ensures ∙ sym (placed_there slots (leaf_is c.args.leaf.now) c.self.inside.order.entries);
-    })
+    rw (← c.self.view_is) (
+      refl,
+      record {
+        writes_back = tt;
+        value = ap (λ o. option_map (place_in slots) (option_copied o)) (sym c.in-None.is) ∙ ap (option_map (place_in slots)) c.peek.ensures ∙ sym (placed_there slots (leaf_is c.args.leaf.now) c.self.inside.order.entries);
+      },
+    )
 
 pub index_mut-requires : goal.index_mut-requires
 index_mut-requires c =
@@ -41,7 +44,7 @@ returns c =
     let distinct = c.len.ensures.valid.0 in
     rw (← c.self.view_is) (
       same_loan _ _ _ (λ w.
-      ap (λ (s : Slot). lru_cache (places_in (set slots i (record { leaf = s.leaf; place = w })) entries) c.self.inside.order.cap) mine
-      ∙ ap (λ (l : Places). lru_cache l c.self.inside.order.cap) (written slots c.args.leaf.now i w entries within (c.self.invariant.owned _ _ its) distinct (owned_each slots entries distinct c.self.invariant.owned) its)),
+          ap (λ (s : Slot). lru_cache (places_in (set slots i (record { leaf = s.leaf; place = w })) entries) c.self.inside.order.cap) mine
+          ∙ ap (λ (l : Places). lru_cache l c.self.inside.order.cap) (written slots c.args.leaf.now i w entries within (c.self.invariant.owned _ _ its) distinct (owned_each slots entries distinct c.self.invariant.owned) its)),
       record { writes_back = tt; value = ap (λ (s : Slot). Some s.place) mine ∙ ap (option_map (place_in slots)) (sym its) ∙ sym (placed_there slots (leaf_is c.args.leaf.now) entries) },
     )
