@@ -14,7 +14,7 @@ use Rattle.std.proofs.lemmas.List.{get_or-set_other, get_or_append_left, get_or_
 use Rattle.std.proofs.Math.Seq.{get_or-append_seam}
 use Rattle.std.proofs.lemmas.Option.{none-some}
 use Rattle.dentry_cache.proofs.LeafLaws.{flips, leaf_itself, one_leaf}
-use Rattle.dentry_cache.proofs.UsedLaws.{all_promoted}
+use Rattle.dentry_cache.proofs.UsedLaws.{all_promoted, promoted_is}
 
 module _ (slots : List Slot) where
   -- the place that stands in a slot
@@ -244,3 +244,31 @@ module _ (slots : List Slot) where
   pub last_within : (es : List (Leaf × ℕ)) (e : Leaf × ℕ) → AllByRecursion (λ x. x.1 < length slots) (es ++ e ∷ []) → e.1 < length slots
   last_within [] e all = all.0
   last_within (x ∷ es) e all = last_within es e all.1
+
+-- ---- the first place
+
+-- the first one is first already
+pub first_promoted : (leaf : Leaf) (place : Place) (es : Places) → Some (leaf, place) ≡ slice_get es 0 → promoted (leaf_is leaf) es ≡ es
+first_promoted leaf place [] is = absurd (none-some _ (sym is))
+first_promoted leaf place (e ∷ es) is =
+    let same : leaf ≡ e.0 = cc in
+    let mine : leaf_is leaf e.0 ≡ true = ap (leaf_is leaf) (sym same) ∙ leaf_itself leaf in
+    ap (λ (b : Bool). option_map_or (λ x. x ∷ cond b es (e ∷ remove_entry (leaf_is leaf) es)) (cond b (Some e) (lookup_entry (leaf_is leaf) es)) (e ∷ es)) mine
+
+pub first_found : (leaf : Leaf) (place : Place) (es : Places) → Some (leaf, place) ≡ slice_get es 0 → lookup (leaf_is leaf) es ≡ Some place
+first_found leaf place [] is = absurd (none-some _ (sym is))
+first_found leaf place (e ∷ es) is =
+    let same : leaf ≡ e.0 = cc in
+    let its : place ≡ e.1 = cc in
+    ap (λ (b : Bool). cond b (Some e.1) (lookup (leaf_is leaf) es)) (ap (leaf_is leaf) (sym same) ∙ leaf_itself leaf) ∙ ap (λ (p : Place). Some p) (sym its)
+
+-- a leaf that was brought to the front is the first
+pub set_in_front : (leaf : Leaf) (place w : Place) (es : Places) → lookup (leaf_is leaf) es ≡ Some place
+    → set_value (λ _. true) (promoted (leaf_is leaf) es) w ≡ set_value (leaf_is leaf) (promoted (leaf_is leaf) es) w
+set_in_front leaf place w es is =
+    ap (λ (l : Places). set_value (λ _. true) l w) (promoted_is leaf place es is)
+    ∙ ap (λ (b : Bool). cond b ((leaf, w) ∷ remove_entry (leaf_is leaf) es) ((leaf, place) ∷ set_value (leaf_is leaf) (remove_entry (leaf_is leaf) es) w)) (sym (leaf_itself leaf))
+    ∙ ap (λ (l : Places). set_value (leaf_is leaf) l w) (sym (promoted_is leaf place es is))
+
+pub value_in_front : (leaf : Leaf) (place : Place) (es : Places) → lookup (leaf_is leaf) es ≡ Some place → option_map (λ e. e.1) (slice_get (promoted (leaf_is leaf) es) 0) ≡ Some place
+value_in_front leaf place es is = ap (λ (l : Places). option_map (λ e. e.1) (slice_get l 0)) (promoted_is leaf place es is)

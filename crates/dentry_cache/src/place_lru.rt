@@ -131,6 +131,19 @@ impl PlaceLru {
         }
     }
 
+    /// Makes a leaf's place the most recently used, and tells whether it has one. Where it is already, no key is hashed.
+    pub(crate) fn touch(&mut self, leaf: &(Ino, Frag)) -> bool
+        ensures value { result ≡ is_some (lookup (leaf_is leaf.now) self.old.entries) }
+        ensures entries { self.new ≡ lru_cache (promoted (leaf_is leaf.now) self.old.entries) self.old.cap }
+    {
+        if let Some((newest, _)) = self.peek_mru() {
+            if newest == leaf {
+                return true;
+            }
+        }
+        self.promote(leaf)
+    }
+
     /// Gives a leaf that has none a place, where one more may be, as the most recently used. An error says that memory
     /// ran out, and nothing has changed.
     pub(crate) fn put(&mut self, leaf: &(Ino, Frag), place: Place) -> Result<(), AllocError>
