@@ -3,8 +3,8 @@ use Rattle.std.proofs.Common.{Bool, List, arith, slice_get, None, Option, Some, 
 use Rattle.std.specs.Option.{option_map_or}
 use Rattle.std.specs.List.{AllByRecursion, IsDistinct}
 use Rattle.std.specs.Map.{keys_of, lookup, lookup_entry, remove_entry, set_value}
-use Rattle.lru.specs.LruCache.{promoted}
-use Rattle.dentry_cache.specs.Cache.{Leaf, Places, leaf_is}
+use Rattle.lru.specs.LruCache.{lru_cache, promoted}
+use Rattle.dentry_cache.specs.Cache.{Held, Leaf, Places, leaf_is}
 use Rattle.dentry_cache.specs.Slots.{AreSlotted, places_in, slot_at}
 use Rattle.dentry_cache.specs.declared.cache.Place.{Place}
 use Rattle.dentry_cache.specs.declared.place_lru.Slot.{Slot}
@@ -272,3 +272,7 @@ set_in_front leaf place w es is =
 
 pub value_in_front : (leaf : Leaf) (place : Place) (es : Places) → lookup (leaf_is leaf) es ≡ Some place → option_map (λ e. e.1) (slice_get (promoted (leaf_is leaf) es) 0) ≡ Some place
 value_in_front leaf place es is = ap (λ (l : Places). option_map (λ e. e.1) (slice_get l 0)) (promoted_is leaf place es is)
+
+-- a place that came, said of the cache that is seen
+pub put_over : (leaf : Leaf) (place : Place) (old mid new : Held) → mid ≡ old → new ≡ lru_cache ((leaf, place) ∷ mid.entries) mid.cap → new ≡ lru_cache ((leaf, place) ∷ old.entries) old.cap
+put_over leaf place old mid new same is = is ∙ ap (λ (h : Held). lru_cache ((leaf, place) ∷ h.entries) h.cap) same

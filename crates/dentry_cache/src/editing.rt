@@ -18,7 +18,8 @@ impl Cache {
             (λ (f now : Cached). now ≡ marked f name (record { version = version; inode = Some inode }))
             (dir, frag) self.old self.new }
     {
-        let Some(place) = self.places.get_mut(&(dir, frag)) else {
+        let _ = self.places.touch(&(dir, frag));
+        let Some(place) = self.places.newest_mut() else {
             return;
         };
         let was = place.size();
@@ -35,7 +36,8 @@ impl Cache {
             (λ (f now : Cached). now ≡ marked f name (record { version = version; inode = None }))
             (dir, frag) self.old self.new }
     {
-        let Some(place) = self.places.get_mut(&(dir, frag)) else {
+        let _ = self.places.touch(&(dir, frag));
+        let Some(place) = self.places.newest_mut() else {
             return;
         };
         let was = place.size();
@@ -61,7 +63,8 @@ impl Cache {
             let _ = self.touch(dir, frag);
             return Ok(());
         }
-        let Some(place) = self.places.get_mut(&(dir, frag)) else {
+        let _ = self.places.touch(&(dir, frag));
+        let Some(place) = self.places.newest_mut() else {
             return Ok(());
         };
         place.frag.reserve(changes)
