@@ -4,7 +4,8 @@ use Rattle.std.specs.Option.{option_map_or}
 use Rattle.std.specs.List.{AllByRecursion, IsDistinct}
 use Rattle.std.specs.Map.{keys_of, lookup, lookup_entry, remove_entry, set_value}
 use Rattle.lru.specs.LruCache.{lru_cache, promoted}
-use Rattle.dentry_cache.specs.Cache.{Held, Leaf, Places, leaf_is}
+use Rattle.dentry_cache.specs.Cache.{HasCached, HasRoom, Held, Leaf, Places, fragment_in, leaf_is}
+use Rattle.cached_frag.specs.Cached.{Cached}
 use Rattle.dentry_cache.specs.Slots.{AreSlotted, places_in, slot_at}
 use Rattle.dentry_cache.specs.declared.cache.Place.{Place}
 use Rattle.dentry_cache.specs.declared.place_lru.Slot.{Slot}
@@ -276,3 +277,35 @@ value_in_front leaf place es is = ap (λ (l : Places). option_map (λ e. e.1) (s
 -- a place that came, said of the cache that is seen
 pub put_over : (leaf : Leaf) (place : Place) (old mid new : Held) → mid ≡ old → new ≡ lru_cache ((leaf, place) ∷ mid.entries) mid.cap → new ≡ lru_cache ((leaf, place) ∷ old.entries) old.cap
 put_over leaf place old mid new same is = is ∙ ap (λ (h : Held). lru_cache ((leaf, place) ∷ h.entries) h.cap) same
+
+-- what is read of the first place, once a leaf was brought to the front
+pub in_front : (leaf : Leaf) (old mid : Held) (there : Bool) (value : Option Place) → there ≡ is_some (lookup (leaf_is leaf) old.entries) → there ≡ true → mid ≡ lru_cache (promoted (leaf_is leaf) old.entries) old.cap
+    → value ≡ option_map (λ e. e.1) (slice_get mid.entries 0) → value ≡ lookup (leaf_is leaf) old.entries
+in_front leaf old mid there value told is now read = go (lookup (leaf_is leaf) old.entries) refl
+  where
+    go : (o : Option Place) → lookup (leaf_is leaf) old.entries ≡ o → value ≡ lookup (leaf_is leaf) old.entries
+    go None none = absurd (false≢true (sym (told ∙ ap is_some none) ∙ is))
+    go (Some place) some = read ∙ ap (λ (h : Held). option_map (λ e. e.1) (slice_get h.entries 0)) now ∙ value_in_front leaf place old.entries some ∙ sym some
+
+-- and what is written to it is written to that leaf's
+pub written_front : (leaf : Leaf) (old mid : Held) (place w : Place) → mid ≡ lru_cache (promoted (leaf_is leaf) old.entries) old.cap → Some place ≡ lookup (leaf_is leaf) old.entries
+    → lru_cache (set_value (λ _. true) mid.entries w) mid.cap ≡ lru_cache (set_value (leaf_is leaf) (promoted (leaf_is leaf) old.entries) w) old.cap
+written_front leaf old mid place w now is =
+    ap (λ (h : Held). lru_cache (set_value (λ _. true) h.entries w) h.cap) now ∙ ap (λ (l : Places). lru_cache l old.cap) (set_in_front leaf place w old.entries (sym is))
+
+pub never_gone : (leaf : Leaf) (old : Held) (there : Bool) → there ≡ is_some (lookup (leaf_is leaf) old.entries) → there ≡ true → None ≡ lookup (leaf_is leaf) old.entries → ⊥
+never_gone leaf old there told is none = false≢true (ap is_some none ∙ sym told ∙ is)
+
+pub room_in : (place : Place) → HasRoom (fragment_in (Some place)) → 0 < place.frag.room
+room_in place = go place.kept
+  where
+    go : (b : Bool) → HasRoom (cond b None (Some place.frag)) → 0 < place.frag.room
+    go true room = absurd room
+    go false room = room
+
+pub cached_in : (place : Place) (Holds : Cached → Type 0) → HasCached (fragment_in (Some place)) Holds → Holds place.frag
+cached_in place Holds = go place.kept
+  where
+    go : (b : Bool) → HasCached (cond b None (Some place.frag)) Holds → Holds place.frag
+    go true has = absurd has
+    go false has = has

@@ -18,9 +18,11 @@ impl Cache {
             (λ (f now : Cached). now ≡ marked f name (record { version = version; inode = Some inode }))
             (dir, frag) self.old self.new }
     {
-        let _ = self.places.touch(&(dir, frag));
-        let Some(place) = self.places.newest_mut() else {
+        if !self.places.touch(&(dir, frag)) {
             return;
+        }
+        let Some(place) = self.places.newest_mut() else {
+            unreachable!()
         };
         let was = place.size();
         place.frag.put(name, inode, version);
@@ -36,9 +38,11 @@ impl Cache {
             (λ (f now : Cached). now ≡ marked f name (record { version = version; inode = None }))
             (dir, frag) self.old self.new }
     {
-        let _ = self.places.touch(&(dir, frag));
-        let Some(place) = self.places.newest_mut() else {
+        if !self.places.touch(&(dir, frag)) {
             return;
+        }
+        let Some(place) = self.places.newest_mut() else {
+            unreachable!()
         };
         let was = place.size();
         place.frag.erase(name, version);
@@ -63,9 +67,11 @@ impl Cache {
             let _ = self.touch(dir, frag);
             return Ok(());
         }
-        let _ = self.places.touch(&(dir, frag));
-        let Some(place) = self.places.newest_mut() else {
+        if !self.places.touch(&(dir, frag)) {
             return Ok(());
+        }
+        let Some(place) = self.places.newest_mut() else {
+            unreachable!()
         };
         place.frag.reserve(changes)
     }

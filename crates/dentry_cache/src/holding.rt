@@ -55,7 +55,9 @@ impl Cache {
         ensures { self.new ≡ used_as (dir, frag) (held fragment) self.old }
     {
         let now = Some(fragment.len());
-        let _ = self.places.touch(&(dir, frag));
+        if !self.places.touch(&(dir, frag)) {
+            unreachable!()
+        }
         let Some(place) = self.places.newest_mut() else {
             unreachable!()
         };
