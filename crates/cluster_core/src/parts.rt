@@ -31,7 +31,7 @@ impl Waiting {
     }
 }
 
-/// What was given out: of each rank's inode numbers those that are left, and for each client the replies that it got.
+/// What was given out: of each rank's inode numbers those that are left, and for each client where its replies are.
 #[derive(Drop)]
 pub(crate) struct Given {
     pub(crate) numbers: Vec<Numbers>,

@@ -1,5 +1,5 @@
 -- What is cached once a place is taken, used, filled or given up.
-use Rattle.std.proofs.Common.{◌≡◌, Bool, true, false, cond, [], ◌∷◌, ◌++◌, Option, Some, None, refl, sym, ap, subst, ◌∙◌}
+use Rattle.std.proofs.Common.{List, ◌≡◌, Bool, true, false, cond, [], ◌∷◌, ◌++◌, Option, Some, None, refl, sym, ap, subst, ◌∙◌}
 use Rattle.std.specs.List.{IsDistinct}
 use Rattle.std.specs.Map.{keys_of, lookup, remove_entry}
 use Rattle.std.specs.FinMap as finmap
@@ -35,7 +35,7 @@ apart_later leaf place later before distinct =
 one_class : (leaf x y : Leaf) → leaf_is leaf x ≡ true → leaf_is leaf y ≡ leaf_is x y
 one_class leaf x y same = ap (λ (a : Leaf). leaf_is a y) (one_leaf leaf x same)
 
-pub after_removal : (leaf q : Leaf) (places : Places) → IsDistinct leaf_is (keys_of places) → lookup (leaf_is q) (remove_entry (leaf_is leaf) places) ≡ cond (leaf_is leaf q) None (lookup (leaf_is q) places)
+pub after_removal : {X : Type 0} (leaf q : Leaf) (places : List (Leaf × X)) → IsDistinct leaf_is (keys_of places) → lookup (leaf_is q) (remove_entry (leaf_is leaf) places) ≡ cond (leaf_is leaf q) None (lookup (leaf_is q) places)
 after_removal leaf q places distinct = lookup-remove_entry leaf_equivalence (leaf_is leaf) (one_class leaf) q places distinct
 
 -- ---- the oldest goes

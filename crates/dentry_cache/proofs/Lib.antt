@@ -29,8 +29,10 @@ pub mod PairLaws
 pub mod PartLaws
 pub mod PartsLaws
 pub mod PlaceLaws
+pub mod PoppedSlots
 pub mod ReadsLaws
 pub mod RoomLaws
+pub mod SlotLaws
 pub mod SplitLaws
 pub mod SplitShows
 pub mod StandingLaws

@@ -1,5 +1,5 @@
 -- What is in each place once one of them is used, taken or given up.
-use Rattle.std.proofs.Common.{◌≡◌, ℕ, ◌+◌, ◌-◌, ◌<◌, ◌≤◌, Bool, true, false, cond, inl, inr, [], ◌∷◌, ◌++◌, length, take, Option, Some, None, refl, sym, ap, subst, ◌∙◌, arith}
+use Rattle.std.proofs.Common.{◌≡◌, ℕ, ◌+◌, ◌-◌, ◌<◌, ◌≤◌, Bool, true, false, cond, inl, inr, [], ◌∷◌, ◌++◌, List, length, take, Option, Some, None, refl, sym, ap, subst, ◌∙◌, arith}
 use Rattle.std.specs.Prelude.{Result, Ok, Err, IfErr, OnOk, OnErr, is_some, slice_get, ◌==◌}
 use Rattle.std.specs.Option.{option_map_or}
 use Rattle.std.specs.Map.{lookup, lookup_entry, remove_entry, set_value}
@@ -8,7 +8,7 @@ use Rattle.std.proofs.lemmas.List.{length-append, take_all}
 use Rattle.std.proofs.lemmas.Option.{same_Some}
 use Rattle.std.proofs.lemmas.Map.{NonePasses, lookup-none, none_passes_from_lookup}
 use Rattle.lru.proofs.Splits.{all_both, all_left, all_right}
-use Rattle.lru.specs.LruCache.{lru_cache, promoted, put_entries}
+use Rattle.lru.specs.LruCache.{LruCache, lru_cache, promoted, put_entries}
 use Rattle.mds_types.specs.Frag.{Fragment}
 use Rattle.mds_types.specs.declared.refusals.Refusal.{Refusal}
 use Rattle.mds_types.specs.declared.refusals.Refusal.TheVariants.{NoMemory, NothingToEvict}
@@ -23,7 +23,7 @@ use Rattle.dentry_cache.proofs.LeafLaws.{flips, leaf_itself, one_leaf}
 
 -- ---- look-ups
 
-pub entry_of_lookup : (leaf : Leaf) (places : Places) (place : Place) → lookup (leaf_is leaf) places ≡ Some place → lookup_entry (leaf_is leaf) places ≡ Some (leaf, place)
+pub entry_of_lookup : {X : Type 0} (leaf : Leaf) (places : List (Leaf × X)) (place : X) → lookup (leaf_is leaf) places ≡ Some place → lookup_entry (leaf_is leaf) places ≡ Some (leaf, place)
 entry_of_lookup leaf [] place is = cc
 entry_of_lookup leaf (e ∷ es) place is = go (entry_of_lookup leaf es place) (leaf_is leaf e.0) refl is
   where
@@ -35,7 +35,7 @@ entry_of_lookup leaf (e ∷ es) place is = go (entry_of_lookup leaf es place) (l
         λ i. Some (key i, value i)
     go rest false same is = rest is
 
-no_entry : (leaf : Leaf) (places : Places) → lookup (leaf_is leaf) places ≡ None → lookup_entry (leaf_is leaf) places ≡ None
+no_entry : {X : Type 0} (leaf : Leaf) (places : List (Leaf × X)) → lookup (leaf_is leaf) places ≡ None → lookup_entry (leaf_is leaf) places ≡ None
 no_entry leaf [] is = refl
 no_entry leaf (e ∷ es) is = go (no_entry leaf es) (leaf_is leaf e.0) is
   where
@@ -43,7 +43,7 @@ no_entry leaf (e ∷ es) is = go (no_entry leaf es) (leaf_is leaf e.0) is
     go rest true is = cc
     go rest false is = rest is
 
-pub beside_removal : (leaf q : Leaf) (places : Places) → leaf_is leaf q ≡ false → lookup (leaf_is q) (remove_entry (leaf_is leaf) places) ≡ lookup (leaf_is q) places
+pub beside_removal : {X : Type 0} (leaf q : Leaf) (places : List (Leaf × X)) → leaf_is leaf q ≡ false → lookup (leaf_is q) (remove_entry (leaf_is leaf) places) ≡ lookup (leaf_is q) places
 beside_removal leaf q [] apart = refl
 beside_removal leaf q (e ∷ es) apart = go (beside_removal leaf q es apart) (leaf_is leaf e.0) refl
   where
@@ -63,19 +63,30 @@ after_use leaf q place old = go (leaf_is leaf q) refl
     go true is = ap (λ (b : Bool). cond b (Some place) (lookup (leaf_is q) (remove_entry (leaf_is leaf) old.entries))) (flips q leaf ∙ is)
     go false is = ap (λ (b : Bool). cond b (Some place) (lookup (leaf_is q) (remove_entry (leaf_is leaf) old.entries))) (flips q leaf ∙ is) ∙ beside_removal leaf q old.entries is
 
-pub promoted_is : (leaf : Leaf) (place : Place) (places : Places) → lookup (leaf_is leaf) places ≡ Some place → promoted (leaf_is leaf) places ≡ (leaf, place) ∷ remove_entry (leaf_is leaf) places
-promoted_is leaf place places is = ap (λ (o : Option (Leaf × Place)). option_map_or (λ e. e ∷ remove_entry (leaf_is leaf) places) o places) (entry_of_lookup leaf places place is)
+pub promoted_is : {X : Type 0} (leaf : Leaf) (place : X) (places : List (Leaf × X)) → lookup (leaf_is leaf) places ≡ Some place → promoted (leaf_is leaf) places ≡ (leaf, place) ∷ remove_entry (leaf_is leaf) places
+promoted_is {X} leaf place places is = ap (λ (o : Option (Leaf × X)). option_map_or (λ e. e ∷ remove_entry (leaf_is leaf) places) o places) (entry_of_lookup leaf places place is)
 
-pub not_promoted : (leaf : Leaf) (places : Places) → lookup (leaf_is leaf) places ≡ None → promoted (leaf_is leaf) places ≡ places
-not_promoted leaf places is = ap (λ (o : Option (Leaf × Place)). option_map_or (λ e. e ∷ remove_entry (leaf_is leaf) places) o places) (no_entry leaf places is)
+pub not_promoted : {X : Type 0} (leaf : Leaf) (places : List (Leaf × X)) → lookup (leaf_is leaf) places ≡ None → promoted (leaf_is leaf) places ≡ places
+not_promoted {X} leaf places is = ap (λ (o : Option (Leaf × X)). option_map_or (λ e. e ∷ remove_entry (leaf_is leaf) places) o places) (no_entry leaf places is)
 
 -- a place is there whether it is brought to the front or not
-pub found_promoted : (leaf : Leaf) (places : Places) → lookup (leaf_is leaf) (promoted (leaf_is leaf) places) ≡ lookup (leaf_is leaf) places
-found_promoted leaf places = go (lookup (leaf_is leaf) places) refl
+pub found_promoted : {X : Type 0} (leaf : Leaf) (places : List (Leaf × X)) → lookup (leaf_is leaf) (promoted (leaf_is leaf) places) ≡ lookup (leaf_is leaf) places
+found_promoted {X} leaf places = go (lookup (leaf_is leaf) places) refl
   where
-    go : (o : Option Place) → lookup (leaf_is leaf) places ≡ o → lookup (leaf_is leaf) (promoted (leaf_is leaf) places) ≡ lookup (leaf_is leaf) places
+    go : (o : Option X) → lookup (leaf_is leaf) places ≡ o → lookup (leaf_is leaf) (promoted (leaf_is leaf) places) ≡ lookup (leaf_is leaf) places
     go (Some place) is = ap (lookup (leaf_is leaf)) (promoted_is leaf place places is) ∙ ap (λ (b : Bool). cond b (Some place) (lookup (leaf_is leaf) (remove_entry (leaf_is leaf) places))) (leaf_itself leaf) ∙ sym is
     go None is = ap (lookup (leaf_is leaf)) (not_promoted leaf places is)
+
+-- every leaf's place is found as before
+pub all_promoted : {X : Type 0} (leaf q : Leaf) (places : List (Leaf × X)) → lookup (leaf_is q) (promoted (leaf_is leaf) places) ≡ lookup (leaf_is q) places
+all_promoted {X} leaf q places = go (leaf_is leaf q) refl (lookup (leaf_is leaf) places) refl
+  where
+    go : (b : Bool) → leaf_is leaf q ≡ b → (o : Option X) → lookup (leaf_is leaf) places ≡ o → lookup (leaf_is q) (promoted (leaf_is leaf) places) ≡ lookup (leaf_is q) places
+    go true same o is = subst (λ (l : Leaf). lookup (leaf_is l) (promoted (leaf_is leaf) places) ≡ lookup (leaf_is l) places) (one_leaf leaf q same) (found_promoted leaf places)
+    go false apart None is = ap (lookup (leaf_is q)) (not_promoted leaf places is)
+    go false apart (Some place) is =
+        ap (lookup (leaf_is q)) (promoted_is leaf place places is) ∙ ap (λ (b : Bool). cond b (Some place) (lookup (leaf_is q) (remove_entry (leaf_is leaf) places))) (flips q leaf ∙ apart)
+        ∙ beside_removal leaf q places apart
 
 pub is_used : (leaf : Leaf) (old mid new : Held) (there : Bool) → mid ≡ old → there ≡ is_some (lookup (leaf_is leaf) mid.entries) → new ≡ lru_cache (promoted (leaf_is leaf) mid.entries) mid.cap
     → IsUsed (lookup (leaf_is leaf) old.entries) leaf old new there
@@ -130,12 +141,12 @@ pub same_cap : (stay : Option Leaf) (old mid : Held) → MakesRoom stay old mid 
 same_cap stay old mid (inl same) = ap (λ (h : Held). h.cap) same.1
 same_cap stay old mid (inr gone) = ap (λ (h : Held). h.cap) gone.1.2
 
-pub placed : (leaf : Leaf) (place : Place) (old mid new : Held) → mid ≡ old → lookup (leaf_is leaf) old.entries ≡ None → length old.entries < old.cap → new ≡ lru_cache (put_entries leaf_is mid leaf place) mid.cap
-    → new ≡ lru_cache ((leaf, place) ∷ old.entries) old.cap
-placed leaf place old mid new same none room is =
-    is ∙ ap (λ (h : Held). lru_cache (put_entries leaf_is h leaf place) h.cap) same
-    ∙ ap (λ (o : Option (Leaf × Place)). lru_cache (option_map_or (λ e. (e.0, place) ∷ remove_entry (leaf_is leaf) old.entries) o ((leaf, place) ∷ take (old.cap - 1) old.entries)) old.cap) (no_entry leaf old.entries none)
-    ∙ ap (λ (es : Places). lru_cache ((leaf, place) ∷ es) old.cap) (take_all (old.cap - 1) old.entries (omega (arith, room)))
+pub placed : {X : Type 0} (leaf : Leaf) (place : X) (old mid new : LruCache Leaf X) → mid ≡ old → lookup (leaf_is leaf) old.entries ≡ None → length old.entries < old.cap
+    → new ≡ lru_cache (put_entries leaf_is mid leaf place) mid.cap → new ≡ lru_cache ((leaf, place) ∷ old.entries) old.cap
+placed {X} leaf place old mid new same none room is =
+    is ∙ ap (λ (h : LruCache Leaf X). lru_cache (put_entries leaf_is h leaf place) h.cap) same
+    ∙ ap (λ (o : Option (Leaf × X)). lru_cache (option_map_or (λ e. (e.0, place) ∷ remove_entry (leaf_is leaf) old.entries) o ((leaf, place) ∷ take (old.cap - 1) old.entries)) old.cap) (no_entry leaf old.entries none)
+    ∙ ap (λ (es : List (Leaf × X)). lru_cache ((leaf, place) ∷ es) old.cap) (take_all (old.cap - 1) old.entries (omega (arith, room)))
 
 pub takes : (stay : Option Leaf) (leaf : Leaf) (place : Place) (old mid new : Held) → MakesRoom stay old mid → new ≡ lru_cache ((leaf, place) ∷ mid.entries) mid.cap → TakesPlace stay leaf place old new
 takes stay leaf place old mid new room is = (mid, room, is ∙ ap (λ (n : ℕ). lru_cache ((leaf, place) ∷ mid.entries) n) (same_cap stay old mid room))

@@ -16,6 +16,8 @@ pub mod Parting
 pub mod Places
 pub mod PlacesByUse
 pub mod Reads
+pub mod SlotLends
+pub mod Slots
 pub mod Standing
 pub mod Ties
 pub mod Unclean

@@ -6,8 +6,8 @@ ghost use Rattle.dentry_cache.specs.Cache.{IsNewest, IsUsed, cached, leaf_is};
 ghost use Rattle.dentry_cache.specs.Places.{IsCache};
 
 use crate::candidates::Candidates;
+use crate::place_lru::PlaceLru;
 use cached_frag::CachedFrag;
-use lru::LruCache;
 use mds_types::{Frag, Ino};
 use std::alloc::{AllocError, Global};
 use std::marker::Model;
@@ -25,7 +25,7 @@ pub struct Place {
 /// Cached fragments, in the order of their use.
 #[derive(Drop)]
 pub struct Cache {
-    pub(crate) places: LruCache<(Ino, Frag), Place>,
+    pub(crate) places: PlaceLru,
     // what its rank would split or merge by the sizes of these
     pub(crate) candidates: Candidates,
 }
@@ -54,7 +54,7 @@ impl Cache {
     {
         match NonZeroUsize::new(places) {
             Some(cap) => Ok(Cache {
-                places: LruCache::sparse(alloc, cap)?,
+                places: PlaceLru::new(alloc, cap)?,
                 candidates: Candidates::new(alloc),
             }),
             None => unreachable!(),
@@ -80,10 +80,7 @@ impl Cache {
     pub fn touch(&mut self, dir: Ino, frag: Frag) -> bool
         ensures { IsUsed (lookup (leaf_is (dir, frag)) self.old.entries) (dir, frag) self.old self.new result }
     {
-        if self.newest(dir, frag).is_some() {
-            return true;
-        }
-        self.places.promote(&(dir, frag))
+        self.places.touch(&(dir, frag))
     }
 
     /// Whether a leaf has a place, be there a fragment in it or not.
@@ -113,9 +110,9 @@ impl Cache {
         }
     }
 
-    // The place of a leaf, if it is the most recently used: of the calls of one operation most ask for that one, and no
-    // key is hashed for it.
-    fn newest(&self, dir: Ino, frag: Frag) -> Option<&Place>
+    /// The place of a leaf, if it is the most recently used: of the calls of one operation most ask for that one, and no
+    /// key is hashed for it.
+    pub(crate) fn newest(&self, dir: Ino, frag: Frag) -> Option<&Place>
         ensures { IfSome result (λ place. IsNewest (dir, frag) place.now self.now.entries) }
     {
         match self.places.peek_mru() {

@@ -9,7 +9,7 @@ ghost use Rattle.dentry_cache.specs.CandidateSets.{AreCandidates, AreTold, HasRo
 use crate::cache::Place;
 use crate::dividing::span;
 use crate::leaf_set::LeafSet;
-use lru::LruCache;
+use crate::place_lru::PlaceLru;
 use mds_types::{Frag, Ino};
 use std::alloc::{AllocError, Global};
 
@@ -70,7 +70,7 @@ impl Candidates {
     /// siblings while it has few entries.
     pub(crate) fn resize(
         &mut self,
-        places: &LruCache<(Ino, Frag), Place>,
+        places: &PlaceLru,
         leaf: &(Ino, Frag),
         was: Option<usize>,
         now: Option<usize>,
@@ -103,7 +103,7 @@ fn keep_large(large: &mut LeafSet, leaf: &(Ino, Frag), was: Option<usize>, now: 
 }
 
 // The fragment that has a leaf as one of its eight children is among the small ones if these are few now.
-fn keep_small(small: &mut LeafSet, places: &LruCache<(Ino, Frag), Place>, leaf: &(Ino, Frag))
+fn keep_small(small: &mut LeafSet, places: &PlaceLru, leaf: &(Ino, Frag))
     requires rise { Rise small.old.leaves.items }
     requires room { (q : Leaf) → IsFragment q.1 → q.1.bits + 3 ≤ 24 → are_few (sizes_of places.now.entries) q ≡ true
         → is_in q small.old.leaves.items ≡ false → length small.old.leaves.items < vec_capacity small.old.leaves }
@@ -168,7 +168,7 @@ fn whole_of(frag: Frag) -> Option<Frag>
 }
 
 // Whether a fragment's eight children are all there, with few entries together.
-fn are_few(places: &LruCache<(Ino, Frag), Place>, whole: &(Ino, Frag)) -> bool
+fn are_few(places: &PlaceLru, whole: &(Ino, Frag)) -> bool
     requires { whole.now.1.bits + 3 ≤ 24 }
     ensures { result ≡ are_few (sizes_of places.now.entries) whole.now }
 {
@@ -199,7 +199,7 @@ fn child_at(frag: Frag, i: u32) -> Frag
 }
 
 // The number of entries of a leaf's fragment, if it is there.
-fn size_at(places: &LruCache<(Ino, Frag), Place>, leaf: &(Ino, Frag)) -> Option<usize>
+fn size_at(places: &PlaceLru, leaf: &(Ino, Frag)) -> Option<usize>
     ensures { result ≡ sizes_of places.now.entries leaf.now }
 {
     match places.peek(leaf) {

@@ -18,8 +18,11 @@ impl Cache {
             (λ (f now : Cached). now ≡ marked f name (record { version = version; inode = Some inode }))
             (dir, frag) self.old self.new }
     {
-        let Some(place) = self.places.get_mut(&(dir, frag)) else {
+        if !self.places.touch(&(dir, frag)) {
             return;
+        }
+        let Some(place) = self.places.newest_mut() else {
+            unreachable!()
         };
         let was = place.size();
         place.frag.put(name, inode, version);
@@ -35,8 +38,11 @@ impl Cache {
             (λ (f now : Cached). now ≡ marked f name (record { version = version; inode = None }))
             (dir, frag) self.old self.new }
     {
-        let Some(place) = self.places.get_mut(&(dir, frag)) else {
+        if !self.places.touch(&(dir, frag)) {
             return;
+        }
+        let Some(place) = self.places.newest_mut() else {
+            unreachable!()
         };
         let was = place.size();
         place.frag.erase(name, version);
@@ -56,24 +62,27 @@ impl Cache {
         ensures ready { HasCached (cached self.old.entries (dir, frag))
             (λ (f : Cached). changes ≤ f.room) → IsOk result }
     {
-        // mostly the room is there, and then no key of the newest leaf is hashed
+        // mostly the leaf is the newest and the room is there, and then no key is hashed
         if self.has_room(dir, frag, changes) {
             let _ = self.touch(dir, frag);
             return Ok(());
         }
-        let Some(place) = self.places.get_mut(&(dir, frag)) else {
+        if !self.places.touch(&(dir, frag)) {
             return Ok(());
+        }
+        let Some(place) = self.places.newest_mut() else {
+            unreachable!()
         };
         place.frag.reserve(changes)
     }
 
-    // Whether a fragment has room for so many changes of names.
+    // Whether a fragment is the most recently used, with room for so many changes of names.
     fn has_room(&self, dir: Ino, frag: Frag, changes: usize) -> bool
         ensures { result ≡ true → HasCached (cached self.now.entries (dir, frag)) (λ (f : Cached). changes ≤ f.room) }
     {
-        match self.get(dir, frag) {
-            Some(fragment) => changes <= fragment.room(),
-            None => false,
+        match self.newest(dir, frag) {
+            Some(place) if !place.kept => changes <= place.frag.room(),
+            _ => false,
         }
     }
 }

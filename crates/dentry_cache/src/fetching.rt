@@ -92,8 +92,8 @@ impl Cache {
         let count = self.places.len() + 1;
         self.candidates.reserve(count)?;
         let now = place.size();
-        match self.places.put((dir, frag), place) {
-            Ok(_) => {
+        match self.places.put(&(dir, frag), place) {
+            Ok(()) => {
                 self.candidates
                     .resize(&self.places, &(dir, frag), None, now);
                 Ok(())

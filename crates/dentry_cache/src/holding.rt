@@ -55,7 +55,10 @@ impl Cache {
         ensures { self.new ≡ used_as (dir, frag) (held fragment) self.old }
     {
         let now = Some(fragment.len());
-        let Some(place) = self.places.get_mut(&(dir, frag)) else {
+        if !self.places.touch(&(dir, frag)) {
+            unreachable!()
+        }
+        let Some(place) = self.places.newest_mut() else {
             unreachable!()
         };
         place.frag = fragment;

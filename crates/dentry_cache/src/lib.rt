@@ -20,6 +20,8 @@ mod holding;
 pub mod laws;
 mod leaf_set;
 mod parts;
+mod place_iters;
+mod place_lru;
 mod reading;
 mod splitting;
 mod unclean;

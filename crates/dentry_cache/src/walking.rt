@@ -6,15 +6,15 @@ ghost use Rattle.dentry_cache.specs.PlacesByUse.{in_place, places_at};
 
 use crate::cache::{Cache, Place};
 use crate::caches::Caches;
+use crate::place_iters::PlaceIter;
 use cached_frag::CachedFrag;
-use lru::Iter;
 use mds_types::{Frag, Ino, Rank};
 use std::marker::Model;
 
 /// The places of a rank that a walk over them has not come to, the most recently used first.
 #[derive(Drop)]
 pub struct PlacesByUse<'a> {
-    rest: Iter<'a, (Ino, Frag), Place>,
+    rest: PlaceIter<'a>,
 }
 
 impl<'a> Model for PlacesByUse<'a> {

@@ -6,4 +6,4 @@ use Rattle.sorted_map.specs.declared.map.Store.TheVariants.{Flat, Chunked}
 module _ {K V : Type 0} where
   abbrev pub shown_by : Store K V → Shown K V
   shown_by (Flat m) = m
-  shown_by (Chunked m) = m
+  shown_by (Chunked m) = m.value

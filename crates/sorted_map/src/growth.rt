@@ -58,6 +58,7 @@ impl<K: ExactOrd + Drop, V: Drop> SortedMap<K, V> {
         let total = in_all(self.len(), additional)?;
         let mut chunked = ChunkMap::new(alloc);
         chunked.reserve(total)?;
+        let chunked = Box::new(alloc, chunked)?;
         let fresh = SortedMap {
             store: Store::Chunked(chunked),
         };

@@ -10,11 +10,12 @@ use crate::keys::{ExactOrd, Probe};
 use std::alloc::{AllocError, Global};
 use std::marker::Model;
 
-/// Where a map keeps its pairs: in one vector while they are few, in chunks of bounded length where they are many.
+/// Where a map keeps its pairs: in one vector while they are few, in chunks of bounded length where they are many. Most
+/// maps are small, so the chunks stand in a box, and a map takes little more than its vector.
 #[derive(Debug, Drop)]
 pub(crate) enum Store<K: ExactOrd, V> {
     Flat(FlatMap<K, V>),
-    Chunked(ChunkMap<K, V>),
+    Chunked(Box<ChunkMap<K, V>>),
 }
 
 /// An ordered map, kept as a vector in the order of its keys, or as vectors of bounded length where it is large.

@@ -67,7 +67,7 @@ impl<K: ExactOrd + Drop, V: Drop> IntoIterator for SortedMap<K, V> {
         let _ = self.len();
         match self.store {
             Store::Flat(flat) => flat.into_iter(),
-            Store::Chunked(chunked) => chunked.into_iter(),
+            Store::Chunked(chunked) => Box::into_inner(chunked).into_iter(),
         }
     }
 }

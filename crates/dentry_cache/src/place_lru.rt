@@ -1,0 +1,211 @@
+//! `PlaceLru`: the places of a cache in the order of their use. Each stands in a slot, and the order keeps the slot's
+//! number alone, so the most recently used one is found, and lent for a change, with no key hashed.
+ghost use Rattle.std.specs.Prelude.{◌≡◌, ◌<◌, ◌≤◌, ◌∷◌, true, None, [], OnErr, OnOk, length, slice_get, is_some, IfOk, option_map, option_copied};
+ghost use Rattle.std.specs.Option.{option_copied_mut};
+ghost use Rattle.std.specs.Borrow.{sem};
+ghost use Rattle.std.specs.NonZero.{non_zero_usize_get};
+ghost use Rattle.std.specs.Map.{lookup, remove_entry, set_value};
+ghost use Rattle.std.specs.Map.Iter.{deref_pair};
+ghost use Rattle.lru.specs.LruCache.{lru_cache, promoted};
+ghost use Rattle.dentry_cache.specs.Cache.{leaf_is};
+ghost use Rattle.dentry_cache.specs.Places.{IsCache};
+ghost use Rattle.dentry_cache.specs.Slots.{slot_at};
+
+use crate::cache::Place;
+use crate::place_iters::PlaceIter;
+use lru::LruCache;
+use mds_types::{Frag, Ino};
+use std::alloc::{AllocError, Global};
+use std::marker::Model;
+use std::num::NonZeroUsize;
+
+/// A leaf's place, where it stands.
+#[derive(Debug, Drop)]
+pub(crate) struct Slot {
+    pub(crate) leaf: (Ino, Frag),
+    pub(crate) place: Place,
+}
+
+/// The places of leaves, in the order of their use.
+#[derive(Drop)]
+pub(crate) struct PlaceLru {
+    // the slot of each leaf's place
+    order: LruCache<(Ino, Frag), usize>,
+    slots: Vec<Slot>,
+}
+
+impl Model for PlaceLru {
+    ghost use Rattle.std.specs.Coded.{codes};
+    ghost use Rattle.std.specs.FinMap as map;
+    ghost use Rattle.dentry_cache.specs.Cache.{Held};
+    ghost use Rattle.dentry_cache.specs.Slots.{AreSlotted, placed_by};
+
+    ghost Value = { Held };
+
+    ghost coded = { Prim.hlevel (codes, map.code) };
+
+    ghost view = { λ p. placed_by p.order p.slots.items };
+
+    ghost invariant = { λ p. AreSlotted p.slots.items p.order.entries };
+}
+
+impl PlaceLru {
+    ghost use Rattle.dentry_cache.specs.SlotLends.{lends_place};
+
+    /// No place, of at most so many. Takes little memory.
+    pub(crate) fn new(alloc: Global, cap: NonZeroUsize) -> Result<PlaceLru, AllocError>
+        ensures { IfOk result (λ p. p ≡ lru_cache [] (non_zero_usize_get cap)) }
+    {
+        Ok(PlaceLru {
+            order: LruCache::sparse(alloc, cap)?,
+            slots: Vec::new(alloc),
+        })
+    }
+
+    /// How many there may be.
+    pub(crate) fn cap(&self) -> NonZeroUsize
+        ensures { non_zero_usize_get result ≡ self.now.cap }
+    {
+        self.order.cap()
+    }
+
+    /// How many there are. No leaf has two of them.
+    pub(crate) fn len(&self) -> usize
+        ensures len { result ≡ length self.now.entries }
+        ensures valid { IsCache self.now }
+    {
+        self.order.len()
+    }
+
+    /// A leaf's place.
+    pub(crate) fn peek(&self, leaf: &(Ino, Frag)) -> Option<&Place>
+        ensures { option_copied result ≡ lookup (leaf_is leaf.now) self.now.entries }
+    {
+        match self.order.peek(leaf) {
+            Some(slot) => Some(&self.slots[*slot].place),
+            None => None,
+        }
+    }
+
+    /// Makes a leaf's place the most recently used, and tells whether it has one.
+    pub(crate) fn promote(&mut self, leaf: &(Ino, Frag)) -> bool
+        ensures value { result ≡ is_some (lookup (leaf_is leaf.now) self.old.entries) }
+        ensures entries { self.new ≡ lru_cache (promoted (leaf_is leaf.now) self.old.entries) self.old.cap }
+    {
+        self.order.promote(leaf)
+    }
+
+    /// The most recently used place, and whose it is.
+    pub(crate) fn peek_mru(&self) -> Option<(&(Ino, Frag), &Place)>
+        ensures { option_map deref_pair result ≡ slice_get self.now.entries 0 }
+    {
+        match self.order.peek_mru() {
+            Some((leaf, slot)) => Some((leaf, &self.slots[*slot].place)),
+            None => None,
+        }
+    }
+
+    /// A leaf's place, to write to. The order of use stays.
+    pub(crate) fn peek_mut(&mut self, leaf: &(Ino, Frag)) -> Option<&mut Place>
+        ensures* writes_back { sem 𝓛 (lends_place self.entry (leaf_is leaf.now) self.old.entries result) }
+        ensures value { option_copied_mut result ≡ lookup (leaf_is leaf.now) self.old.entries }
+    {
+        let slot = match self.order.peek(leaf) {
+            Some(slot) => *slot,
+            None => return None,
+        };
+        // The contract of `len` is what says here that no leaf has two places.
+        let _ = self.order.len();
+        Some(&mut self.slots[slot].place)
+    }
+
+    /// The places, the most recently used first.
+    pub(crate) fn iter(&self) -> PlaceIter<'_>
+        ensures { result ≡ self.now.entries }
+    {
+        // The contract of `len` is what says here that no leaf has two places.
+        let _ = self.order.len();
+        PlaceIter {
+            rest: self.order.iter(),
+            slots: &self.slots,
+        }
+    }
+
+    /// Makes a leaf's place the most recently used, and tells whether it has one. Where it is already, no key is hashed.
+    pub(crate) fn touch(&mut self, leaf: &(Ino, Frag)) -> bool
+        ensures value { result ≡ is_some (lookup (leaf_is leaf.now) self.old.entries) }
+        ensures entries { self.new ≡ lru_cache (promoted (leaf_is leaf.now) self.old.entries) self.old.cap }
+    {
+        if let Some((newest, _)) = self.peek_mru() {
+            if newest == leaf {
+                return true;
+            }
+        }
+        self.promote(leaf)
+    }
+
+    /// Gives a leaf that has none a place, where one more may be, as the most recently used. An error says that memory
+    /// ran out, and nothing has changed.
+    pub(crate) fn put(&mut self, leaf: &(Ino, Frag), place: Place) -> Result<(), AllocError>
+        requires absent { lookup (leaf_is leaf.now) self.old.entries ≡ None }
+        requires room { length self.old.entries < self.old.cap }
+        ensures put { OnOk result (self.new ≡ lru_cache ((leaf.now, place) ∷ self.old.entries) self.old.cap) }
+        ensures err { OnErr result (self.new ≡ self.old) }
+    {
+        // The contract of `len` is what says here that no leaf has two places.
+        let _ = self.order.len();
+        self.slots.reserve(1)?;
+        match self.order.put(*leaf, self.slots.len()) {
+            Ok(_) => {
+                self.slots.push_reserved(Slot { leaf: *leaf, place });
+                Ok(())
+            }
+            Err(_) => Err(AllocError),
+        }
+    }
+
+    /// Takes a leaf's place out. The others keep their order of use.
+    pub(crate) fn pop(&mut self, leaf: &(Ino, Frag)) -> Option<Place>
+        ensures value { result ≡ lookup (leaf_is leaf.now) self.old.entries }
+        ensures entries { self.new ≡ lru_cache (remove_entry (leaf_is leaf.now) self.old.entries) self.old.cap }
+    {
+        // The contract of `len` is what says here that no leaf has two places.
+        let _ = self.order.len();
+        let Some(number) = self.order.pop(leaf) else {
+            return None;
+        };
+        let _ = self.order.len();
+        let slot = self.slots.swap_remove(number);
+        renumber(&mut self.order, &self.slots, number);
+        Some(slot.place)
+    }
+
+    /// The most recently used place, to write to.
+    pub(crate) fn newest_mut(&mut self) -> Option<&mut Place>
+        ensures* writes_back { sem 𝓛 (lends_place self.entry (λ _. true) self.old.entries result) }
+        ensures value { option_copied_mut result ≡ option_map (λ e. e.1) (slice_get self.old.entries 0) }
+    {
+        let slot = match self.order.peek_mru() {
+            Some((_, slot)) => *slot,
+            None => return None,
+        };
+        // The contract of `len` is what says here that no leaf has two places.
+        let _ = self.order.len();
+        Some(&mut self.slots[slot].place)
+    }
+}
+
+// The slot of this number is that of another leaf now, if there is one: the leaf has the number then.
+fn renumber(order: &mut LruCache<(Ino, Frag), usize>, slots: &[Slot], number: usize)
+    ensures past { length slots.now ≤ number → order.new ≡ order.old }
+    ensures moved { number < length slots.now → order.new ≡ lru_cache
+        (set_value (leaf_is (slot_at slots.now number).leaf) order.old.entries number) order.old.cap }
+{
+    if number >= slots.len() {
+        return;
+    }
+    let leaf = slots[number].leaf;
+    if let Some(at) = order.peek_mut(&leaf) {
+        *at = number;
+    }
+}
