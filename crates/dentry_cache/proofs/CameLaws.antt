@@ -9,7 +9,7 @@ use Rattle.cached_frag.specs.declared.marks.Mark.{Mark}
 use Rattle.cached_frag.specs.Cached.{Cached, marked}
 use Rattle.dentry_cache.specs.Cache.{Leaf, leaf_cmp, unsaved_in, with_unsaved}
 use Rattle.dentry_cache.specs.CacheCalls.{Edits, IsEdited}
-use Rattle.dentry_cache.specs.CacheMap.{At, CacheMap, at_rank, edited_as, given_up, here, order, removed, roomy, victim, unclean, unsaved_at, used_at, with_mark}
+use Rattle.dentry_cache.specs.CacheMap.{At, CacheMap, at_rank, edited_as, given_up, here, order, removed, roomy, victim, unclean, unsaved_at, used_at, rewritten, with_frag, with_mark}
 use Rattle.dentry_cache.specs.Came.{Came}
 use Rattle.dentry_cache.specs.Came.Came.{has}
 use Rattle.dentry_cache.proofs.UncleanLaws.{unclean_alike, unclean_same, unclean_with}
@@ -65,4 +65,5 @@ edits_unclean old new r leaf Change same e = go (here old r leaf) refl e
 -- a name that is dirty now
 pub marked_unclean : (old new : CacheMap) (r : ℕ) (leaf : Leaf) (name : List ℕ) (mark : Mark) (f : Cached) → here old r leaf ≡ Some f → new ≡ with_mark old r leaf name mark
     → unclean new ≡ with_unsaved (unclean old) leaf (unsaved_in (Some (marked f name mark)))
-marked_unclean old new r leaf name mark f seen is = ap unclean (is ∙ ap (edited_as old r leaf (λ (g : Cached). marked g name mark)) seen) ∙ unclean_with old r leaf (marked f name mark)
+marked_unclean old new r leaf name mark f seen is = ap unclean (is ∙ ap (edited_as old r leaf (λ (g : Cached). marked g name mark)) seen)
+    ∙ unclean_alike (rewritten old r leaf (marked f name mark)) (with_frag old r leaf (marked f name mark)) (λ q. refl) ∙ unclean_with old r leaf (marked f name mark)

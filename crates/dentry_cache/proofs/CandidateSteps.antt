@@ -5,7 +5,7 @@ use Rattle.mds_types.specs.Leaf.{Leaf}
 use Rattle.dentry_cache.proofs.CandidateLaws.{beside, large_from, large_now, large_to, none_changes, small_from, small_to}
 use Rattle.dentry_cache.proofs.CacheLaws.{after_removal}
 use Rattle.dentry_cache.proofs.LeafSetLaws.{next_as}
-use Rattle.dentry_cache.proofs.UsedLaws.{after_use, found_promoted, not_promoted, promoted_is}
+use Rattle.dentry_cache.proofs.UsedLaws.{after_use, not_promoted, promoted_is}
 
 -- ---- the sets alone
 
@@ -156,17 +156,6 @@ told_promoted leaf old c told = go (lookup (leaf_is leaf) old.entries) refl
         here : (q : Leaf) (b : Bool) → leaf_is leaf q ≡ b → cond (leaf_is leaf q) (Some place) (lookup (leaf_is q) old.entries) ≡ lookup (leaf_is q) old.entries
         here q true same = ap (λ b. cond b (Some place) (lookup (leaf_is q) old.entries)) same ∙ sym is ∙ ap (λ (l : Leaf). lookup (leaf_is l) old.entries) (one_leaf leaf q same)
         here q false apart = ap (λ b. cond b (Some place) (lookup (leaf_is q) old.entries)) apart
-
--- a fragment that is brought to the front and changed by the same call
-pub resized_used : (leaf : Leaf) (old : Held) (place now : Place) (c : Candidates) → AreTold old.entries c → Some place ≡ lookup (leaf_is leaf) old.entries
-    → MayResize leaf (size_in (fragment_in (Some place))) (size_in (fragment_in (Some now))) (set_value (leaf_is leaf) (promoted (leaf_is leaf) old.entries) now) c
-resized_used leaf old place now c told is =
-    resized_value leaf (promoted (leaf_is leaf) old.entries) place now c (told_promoted leaf old c told) (is ∙ sym (found_promoted leaf old.entries))
-
-pub told_used : (leaf : Leaf) (old : Held) (place now : Place) (c : Candidates) → AreTold old.entries c → Some place ≡ lookup (leaf_is leaf) old.entries → size_in (fragment_in (Some now)) ≡ size_in (fragment_in (Some place))
-    → AreTold (set_value (leaf_is leaf) (promoted (leaf_is leaf) old.entries) now) c
-told_used leaf old place now c told is same =
-    told_value leaf (promoted (leaf_is leaf) old.entries) place now c (told_promoted leaf old c told) (is ∙ sym (found_promoted leaf old.entries)) same
 
 -- a kept place is filled
 pub resized_filled : (leaf : Leaf) (was place : Place) (old : Held) (c : Candidates) → AreTold old.entries c → lookup (leaf_is leaf) old.entries ≡ Some was

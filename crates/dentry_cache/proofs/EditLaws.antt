@@ -1,8 +1,7 @@
 -- A fragment that is changed in its place.
-use Rattle.dentry_cache.proofs.Common.{Bool, Cached, HasCached, HasRoom, Held, IsChanged, IsThere, IsUsed, Leaf, None, Option, Place, Some, ap, cached, cond, false, fragment_in, held, leaf_is, lookup, lru_cache, refl, remove_entry, set_value, subst, sym, true, used_as, ◌<◌, ◌∙◌, ◌∷◌, ◌≡◌}
-use Rattle.lru.specs.LruCache.{promoted}
+use Rattle.dentry_cache.proofs.Common.{Bool, Cached, HasCached, HasRoom, Held, IsChanged, IsThere, IsUsed, IsWritten, Leaf, None, Option, Place, Some, ap, cached, cond, false, fragment_in, held, is_some, leaf_is, lookup, lru_cache, refl, remove_entry, set_value, subst, sym, true, used_as, ◌<◌, ◌∙◌, ◌∷◌, ◌≡◌}
 use Rattle.dentry_cache.proofs.LeafLaws.{leaf_itself}
-use Rattle.dentry_cache.proofs.UsedLaws.{found_promoted, is_used}
+use Rattle.dentry_cache.proofs.OneCache.{cached_set}
 
 -- a fragment that is there stands in its place
 held_as : (o : Option Place) (f : Cached) → fragment_in o ≡ Some f → o ≡ Some (held f)
@@ -48,13 +47,31 @@ module _ (leaf : Leaf) (old touched mid : Held) (there : Bool) (touch : IsUsed (
       (now, subst (λ (p : Place). Change p.frag now) one change, here)
   changed Change None place now is h at change = absurd h
 
--- so is one that is brought to the front by the same call
-pub used_changed : (leaf : Leaf) (old mid : Held) → mid ≡ old → (Change : Cached → Cached → Type 0) (o : Option Cached) (place : Place) (now : Cached) → cached old.entries leaf ≡ o → IsThere o
-    → Some place ≡ lookup (leaf_is leaf) mid.entries → Change place.frag now
-    → IsChanged o Change leaf old (lru_cache (set_value (leaf_is leaf) (promoted (leaf_is leaf) mid.entries) (record { frag = now; kept = place.kept })) mid.cap)
-used_changed leaf old mid same Change o place now is there at change =
-    let touched = lru_cache (promoted (leaf_is leaf) mid.entries) mid.cap in
-    changed leaf old touched touched _ (is_used leaf old mid touched _ same refl refl) refl Change o place now is there (at ∙ sym (found_promoted leaf mid.entries)) change
+-- so is one that is changed where it stands
+pub written : (leaf : Leaf) (old mid : Held) → mid ≡ old → (Change : Cached → Cached → Type 0) (o : Option Cached) (place : Place) (now : Cached) → cached old.entries leaf ≡ o → IsThere o
+    → Some place ≡ lookup (leaf_is leaf) mid.entries → Change place.frag now → IsWritten o Change leaf old (lru_cache (set_value (leaf_is leaf) mid.entries (record { frag = now; kept = place.kept })) mid.cap)
+written leaf old mid same Change (Some f) place now is there at change =
+    let e : Some place ≡ Some (held f) = at ∙ ap (λ (h : Held). lookup (leaf_is leaf) h.entries) same ∙ held_as (lookup (leaf_is leaf) old.entries) f is in
+    let one : place ≡ held f = cc in (
+      now,
+      subst (λ (p : Place). Change p.frag now) one change,
+      ap (λ (h : Held). lru_cache (set_value (leaf_is leaf) h.entries (record { frag = now; kept = place.kept })) h.cap) same
+          ∙ ap (λ (p : Place). lru_cache (set_value (leaf_is leaf) old.entries (record { frag = now; kept = p.kept })) old.cap) one,
+    )
+written leaf old mid same Change None place now is there at change = absurd there
+
+-- what is cached then
+pub cached_written : (leaf : Leaf) (f now : Cached) (old new : Held) → cached old.entries leaf ≡ Some f → new ≡ lru_cache (set_value (leaf_is leaf) old.entries (held now)) old.cap → cached new.entries leaf ≡ Some now
+cached_written leaf f now old new seen is =
+    ap (λ (h : Held). cached h.entries leaf) is ∙ cached_set leaf leaf (held now) old (ap is_some (held_as (lookup (leaf_is leaf) old.entries) f seen)) ∙ ap (λ (b : Bool). cond b (Some now) (cached old.entries leaf)) (leaf_itself leaf)
+
+pub written_now : (Change : Cached → Cached → Type 0) (P : Cached → Type 0) (leaf : Leaf) (old new : Held) → ((f now : Cached) → cached old.entries leaf ≡ Some f → Change f now → P now) → IsWritten (cached old.entries leaf) Change leaf old new
+    → HasCached (cached new.entries leaf) P
+written_now Change P leaf old new so c = go (cached old.entries leaf) refl c
+  where
+    go : (o : Option Cached) → cached old.entries leaf ≡ o → IsWritten o Change leaf old new → HasCached (cached new.entries leaf) P
+    go None seen c = absurd c
+    go (Some f) seen c = subst (λ (o : Option Cached). HasCached o P) (sym (cached_written leaf f c.0 old new seen c.2)) (so f c.0 seen c.1)
 
 pub there_with_room : (o : Option Cached) → HasRoom o → IsThere o
 there_with_room (Some f) room = tt
@@ -68,26 +85,23 @@ only_used leaf old new there touch h = go (cached old.entries leaf) refl h
     go (Some f) is h = (f, refl, mid_is leaf old new new there touch refl f is)
     go None is h = absurd h
 
--- and so is one for which a change has nothing to do
-pub nothing_to_do : (leaf : Leaf) (old new : Held) (o : Option Cached) (P : Cached → Type 0) (Change : Cached → Cached → Type 0) → ((f : Cached) → P f → Change f f) → HasCached o P → IsChanged o (λ (f now : Cached). now ≡ f) leaf old new → IsChanged o Change leaf old new
-nothing_to_do leaf old new (Some f) P Change change has (now, same, is) = (now, subst (Change f) (sym same) (change f has), is)
-nothing_to_do leaf old new None P Change change has read = absurd has
-
 -- ---- two changes, one after the other
-
-again : (leaf : Leaf) (one two : Place) (old : Held) → used_as leaf two (used_as leaf one old) ≡ used_as leaf two old
-again leaf one two old = ap (λ (b : Bool). lru_cache ((leaf, two) ∷ cond b (remove_entry (leaf_is leaf) old.entries) ((leaf, one) ∷ remove_entry (leaf_is leaf) (remove_entry (leaf_is leaf) old.entries))) old.cap) (leaf_itself leaf)
 
 cached_now : (leaf : Leaf) (f : Cached) (old new : Held) → new ≡ used_as leaf (held f) old → cached new.entries leaf ≡ Some f
 cached_now leaf f old new is =
     ap (λ (h : Held). cached h.entries leaf) is ∙ ap (λ (b : Bool). fragment_in (cond b (Some (held f)) (lookup (leaf_is leaf) (remove_entry (leaf_is leaf) old.entries)))) (leaf_itself leaf)
 
-pub changed_twice : (First Then Both : Cached → Cached → Type 0) (leaf : Leaf) (old mid new : Held) (o : Option Cached) → ((f m now : Cached) → First f m → Then m now → Both f now) → IsChanged o First leaf old mid
-    → IsChanged (cached mid.entries leaf) Then leaf mid new → IsChanged o Both leaf old new
-changed_twice First Then Both leaf old mid new None join c d = absurd c
-changed_twice First Then Both leaf old mid new (Some f) join c d =
-    let e : IsChanged (Some c.0) Then leaf mid new = subst (λ (p : Option Cached). IsChanged p Then leaf mid new) (cached_now leaf c.0 old mid c.2) d in
-    (e.0, join f c.0 e.0 c.1 e.1, e.2 ∙ ap (used_as leaf (held e.0)) c.2 ∙ again leaf (held c.0) (held e.0) old)
+-- it was brought to the front, or changed so, and then changed where it stands
+pub changed_written : (First Then Both : Cached → Cached → Type 0) (leaf : Leaf) (old mid new : Held) (o : Option Cached) → ((f m now : Cached) → First f m → Then m now → Both f now) → IsChanged o First leaf old mid
+    → IsWritten (cached mid.entries leaf) Then leaf mid new → IsChanged o Both leaf old new
+changed_written First Then Both leaf old mid new None join c d = absurd c
+changed_written First Then Both leaf old mid new (Some f) join c d =
+    let e : IsWritten (Some c.0) Then leaf mid new = subst (λ (p : Option Cached). IsWritten p Then leaf mid new) (cached_now leaf c.0 old mid c.2) d in (
+      e.0,
+      join f c.0 e.0 c.1 e.1,
+      e.2 ∙ ap (λ (h : Held). lru_cache (set_value (leaf_is leaf) h.entries (held e.0)) h.cap) c.2
+          ∙ ap (λ (b : Bool). lru_cache (cond b ((leaf, held e.0) ∷ remove_entry (leaf_is leaf) old.entries) ((leaf, held c.0) ∷ set_value (leaf_is leaf) (remove_entry (leaf_is leaf) old.entries) (held e.0))) old.cap) (leaf_itself leaf),
+    )
 
 pub changed_so : (First Then : Cached → Cached → Type 0) (leaf : Leaf) (old new : Held) (o : Option Cached) → ((f now : Cached) → First f now → Then f now) → IsChanged o First leaf old new → IsChanged o Then leaf old new
 changed_so First Then leaf old new None so c = absurd c

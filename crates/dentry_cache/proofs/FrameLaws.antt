@@ -5,9 +5,9 @@ use Rattle.std.specs.FinMap.{get-remove}
 use Rattle.std.proofs.lemmas.Option.{same_Some}
 use Rattle.cached_frag.specs.Cached.{Cached}
 use Rattle.dentry_cache.specs.Cache.{Leaf, leaf_is, stays}
-use Rattle.dentry_cache.specs.CacheMap.{At, CacheMap, at, first, given_up, goes, here, order, removed, roomy, unsaved_at, victim}
+use Rattle.dentry_cache.specs.CacheMap.{At, CacheMap, at, first, given_up, goes, here, order, removed, roomy, unsaved_at, victim, with_frag}
 use Rattle.dentry_cache.specs.Came.{Came, StaysNamed}
-use Rattle.dentry_cache.specs.Came.Came.{stays as it_stays, uses, has, room, ends}
+use Rattle.dentry_cache.specs.Came.Came.{stays as it_stays, uses, has, alters, room, ends}
 use Rattle.dentry_cache.proofs.StepLaws.{cap_roomy, get_with_frag, held_given_up, held_roomy, ranks_given_up, ranks_roomy, ranks_used, ranks_with_frag}
 use Rattle.dentry_cache.proofs.UncleanLaws.{clean_there, last_passes}
 use Rattle.dentry_cache.proofs.LeafLaws.{leaf-total, one_leaf, tied_leaf}
@@ -40,6 +40,7 @@ module _ (Uses Ends : ℕ → Leaf → Type 0) (old : CacheMap) where
   came_ranks _ it_stays = refl
   came_ranks _ (uses mid r leaf before named) = ranks_used mid r leaf ∙ came_ranks mid before
   came_ranks _ (has mid r leaf f before named) = ranks_with_frag mid r leaf f ∙ came_ranks mid before
+  came_ranks _ (alters mid r leaf f now before named seen) = came_ranks mid before
   came_ranks _ (room mid new r leaf stay before named none kept is) = ranks_roomy mid new r stay is ∙ came_ranks mid before
   came_ranks _ (ends mid r leaf before named) = ranks_given_up mid r leaf ∙ came_ranks mid before
 
@@ -48,18 +49,25 @@ module _ (Uses Ends : ℕ → Leaf → Type 0) (old : CacheMap) where
   came_cap _ it_stays = refl
   came_cap _ (uses mid r leaf before named) = came_cap mid before
   came_cap _ (has mid r leaf f before named) = came_cap mid before
+  came_cap _ (alters mid r leaf f now before named seen) = came_cap mid before
   came_cap _ (room mid new r leaf stay before named none kept is) = cap_roomy mid new r stay is ∙ came_cap mid before
   came_cap _ (ends mid r leaf before named) = came_cap mid before
+
+  -- where a rank was given a fragment
+  given : (mid : CacheMap) (r : ℕ) (leaf : Leaf) (f : Cached) → Uses r leaf → (q : Leaf) (a : At) → (finmap.get mid.held q ≡ Some a → (finmap.get old.held q ≡ Some a) ⊎ Uses a.rank q) → finmap.get (with_frag mid r leaf f).held q ≡ Some a
+      → (finmap.get old.held q ≡ Some a) ⊎ Uses a.rank q
+  given mid r leaf f named q a rest is = go (leaf_is q leaf) refl (sym (get_with_frag mid r leaf f q) ∙ is)
+    where
+      go : (b : Bool) → leaf_is q leaf ≡ b → cond b (Some (at r f)) (finmap.get mid.held q) ≡ Some a → (finmap.get old.held q ≡ Some a) ⊎ Uses a.rank q
+      go true one is = inr (subst (λ (k : ℕ). Uses k q) (ap (λ (x : At). x.rank) (same_Some (at r f) a is)) (subst (Uses r) (sym (one_leaf q leaf one)) named))
+      go false one is = rest is
 
   -- each fragment was there, as it is, or its leaf is used at its rank
   pub came_held : (new : CacheMap) → Came Uses Ends old new → (q : Leaf) (a : At) → finmap.get new.held q ≡ Some a → (finmap.get old.held q ≡ Some a) ⊎ Uses a.rank q
   came_held _ it_stays q a is = inl is
   came_held _ (uses mid r leaf before named) q a is = came_held mid before q a is
-  came_held _ (has mid r leaf f before named) q a is = go (λ was. came_held mid before q a was) (leaf_is q leaf) refl (sym (get_with_frag mid r leaf f q) ∙ is)
-    where
-      go : (finmap.get mid.held q ≡ Some a → (finmap.get old.held q ≡ Some a) ⊎ Uses a.rank q) → (b : Bool) → leaf_is q leaf ≡ b → cond b (Some (at r f)) (finmap.get mid.held q) ≡ Some a → (finmap.get old.held q ≡ Some a) ⊎ Uses a.rank q
-      go rest true one is = inr (subst (λ (k : ℕ). Uses k q) (ap (λ (x : At). x.rank) (same_Some (at r f) a is)) (subst (Uses r) (sym (one_leaf q leaf one)) named))
-      go rest false one is = rest is
+  came_held _ (has mid r leaf f before named) q a is = given mid r leaf f named q a (λ was. came_held mid before q a was) is
+  came_held _ (alters mid r leaf f now before named seen) q a is = given mid r leaf now named q a (λ was. came_held mid before q a was) is
   came_held _ (room mid new r leaf stay before named none kept is) q a there = came_held mid before q a (held_roomy mid new r stay q a is there)
   came_held _ (ends mid r leaf before named) q a is = came_held mid before q a (held_given_up mid r leaf q a is)
 
@@ -68,6 +76,7 @@ pub came_then : (Uses Ends : ℕ → Leaf → Type 0) (old mid new : CacheMap) �
 came_then Uses Ends old mid _ first it_stays = first
 came_then Uses Ends old mid _ first (uses next r leaf before named) = uses next r leaf (came_then Uses Ends old mid next first before) named
 came_then Uses Ends old mid _ first (has next r leaf f before named) = has next r leaf f (came_then Uses Ends old mid next first before) named
+came_then Uses Ends old mid _ first (alters next r leaf f now before named seen) = alters next r leaf f now (came_then Uses Ends old mid next first before) named seen
 came_then Uses Ends old mid _ first (room next new r leaf stay before named none kept is) = room next new r leaf stay (came_then Uses Ends old mid next first before) named none kept is
 came_then Uses Ends old mid _ first (ends next r leaf before named) = ends next r leaf (came_then Uses Ends old mid next first before) named
 
@@ -81,5 +90,6 @@ module _ (Uses Ends More Other : ℕ → Leaf → Type 0) (used : (r : ℕ) (lea
   came_weaker _ it_stays = it_stays
   came_weaker _ (uses mid r leaf before named) = uses mid r leaf (came_weaker mid before) (used r leaf named)
   came_weaker _ (has mid r leaf f before named) = has mid r leaf f (came_weaker mid before) (used r leaf named)
+  came_weaker _ (alters mid r leaf f now before named seen) = alters mid r leaf f now (came_weaker mid before) (used r leaf named) seen
   came_weaker _ (room mid new r leaf stay before named none kept is) = room mid new r leaf stay (came_weaker mid before) (used r leaf named) none (staying_named Uses More used stay kept) is
   came_weaker _ (ends mid r leaf before named) = ends mid r leaf (came_weaker mid before) (ended r leaf named)

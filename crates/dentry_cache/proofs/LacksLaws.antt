@@ -6,7 +6,7 @@ use Rattle.objstore.specs.Objects.{Objects}
 use Rattle.cached_frag.specs.Cached.{Cached}
 use Rattle.dentry_cache.specs.Cache.{IsThere, Leaf, leaf_is}
 use Rattle.dentry_cache.specs.CacheCalls.{IsWhole, LacksAt, kept_at, unclean_at}
-use Rattle.dentry_cache.specs.CacheMap.{AreCaches, CacheMap, first, given_up, has_place, here, less, order, roomy, used_at, with_frag}
+use Rattle.dentry_cache.specs.CacheMap.{AreCaches, CacheMap, first, given_up, has_place, here, less, order, rewritten, roomy, used_at, with_frag}
 use Rattle.dentry_cache.specs.Reads.{Reads}
 use Rattle.dentry_cache.specs.Reads.Reads.{stays as it_stays, uses, grows, loads, room, frees}
 use Rattle.dentry_cache.proofs.CountLaws.{full_counts, staying}
@@ -14,7 +14,7 @@ use Rattle.dentry_cache.proofs.KeptLaws.{first_distinct, less_distinct}
 use Rattle.dentry_cache.proofs.FrameLaws.{came_ranks}
 use Rattle.dentry_cache.proofs.ReadsLaws.{reads_came}
 use Rattle.dentry_cache.proofs.StepLaws.{any_less, by_room, here_given_up, here_with_frag, set_either}
-use Rattle.dentry_cache.proofs.LeafLaws.{leaf_itself}
+use Rattle.dentry_cache.proofs.LeafLaws.{leaf_itself, one_leaf}
 
 -- ---- what holds between the steps
 
@@ -71,6 +71,18 @@ placed_by_frag c r leaf f there p = record {
     go s q true one (inr apart) some = let clash : false ≡ true = ap (λ (b : Bool). is_some (cond b (Some f) None)) (sym (is_apart r s apart)) ∙ some in absurd cc
     go s q false one either some = still_used c r leaf s q (p.placed s q some)
 
+-- a fragment that is there is another where it stands
+pub placed_rewritten : (c : CacheMap) (r : ℕ) (leaf : Leaf) (f now : Cached) → here c r leaf ≡ Some f → IsPlaced c → IsPlaced (rewritten c r leaf now)
+placed_rewritten c r leaf f now seen p = record {
+  placed = λ s q some. go s q (leaf_is q leaf) refl (same_or_apart r s) (ap (λ (o : Option Cached). is_some o) (sym (here_with_frag c r leaf now s q)) ∙ some);
+  distinct = p.distinct;
+}
+  where
+    go : (s : ℕ) (q : Leaf) (b : Bool) → leaf_is q leaf ≡ b → (r ≡ s) ⊎ (r ≡ s → ⊥) → is_some (cond b (cond (r == s) (Some now) None) (here c s q)) ≡ true → has_place c s q ≡ true
+    go s q true one (inl same) some = p.placed s q (ap (λ (k : ℕ). is_some (here c k q)) (sym same) ∙ ap (λ (l : Leaf). is_some (here c r l)) (one_leaf q leaf one) ∙ ap (λ (o : Option Cached). is_some o) seen)
+    go s q true one (inr apart) some = let clash : false ≡ true = ap (λ (b : Bool). is_some (cond b (Some now) None)) (sym (is_apart r s apart)) ∙ some in absurd cc
+    go s q false one either some = p.placed s q some
+
 pub placed_by_end : (c : CacheMap) (r : ℕ) (leaf : Leaf) → IsPlaced c → IsPlaced (given_up c r leaf)
 placed_by_end c r leaf p = record {
   placed = λ s q some. go s q (leaf_is q leaf) refl (same_or_apart r s) (ap (λ (o : Option Cached). is_some o) (sym (here_given_up c r leaf s q)) ∙ some);
@@ -99,7 +111,7 @@ module _ (Uses Ends : ℕ → Leaf → Type 0) (objects : Objects) (old : CacheM
   pub reads_placed : (new : CacheMap) → Reads Uses Ends objects old new → IsPlaced new
   reads_placed _ it_stays = caches_placed old valid
   reads_placed _ (uses mid r leaf before named) = placed_by_use mid r leaf (reads_placed mid before)
-  reads_placed _ (grows mid r leaf f now before named seen same) = placed_by_frag mid r leaf now (there_mid mid before r leaf named) (reads_placed mid before)
+  reads_placed _ (grows mid r leaf f now before named seen same) = placed_rewritten mid r leaf f now seen (reads_placed mid before)
   reads_placed _ (loads mid r leaf f before named none spelt) = placed_by_frag mid r leaf f (there_mid mid before r leaf named) (reads_placed mid before)
   reads_placed _ (room mid new r leaf stay before named none kept is) = by_room mid new r stay is IsPlaced (reads_placed mid before) (λ v passes. placed_by_end mid r v (reads_placed mid before))
   reads_placed _ (frees mid r leaf before named none) = placed_by_end mid r leaf (reads_placed mid before)

@@ -1,7 +1,7 @@
 -- What a call at one rank makes of the caches of all.
 use Rattle.std.proofs.Common.{◌≡◌, ℕ, zero, suc, ◌<◌, ◌≤◌, ◌⊎◌, inl, inr, Bool, true, false, cond, ◌||◌, List, [], ◌∷◌, set, get_or, length, nat_lt, is_some, option_map, Option, Some, None, Result, Ok, Err, OnOk, OnErr, refl, sym, ap, subst, ◌∙◌, set-set, get_or-set_same, length-set, arith, filter, ◌+◌}
 use Rattle.std.specs.List.{IsDistinct, list_any}
-use Rattle.std.specs.Map.{keys_of, lookup, remove_entry}
+use Rattle.std.specs.Map.{keys_of, lookup, remove_entry, set_value}
 use Rattle.lru.specs.LruCache.{lru_cache}
 use Rattle.std.specs.Ordering.{eq_by_cmp}
 use Rattle.std.specs.FinMap as finmap
@@ -15,12 +15,12 @@ use Rattle.mds_types.specs.declared.refusals.Refusal.TheVariants.{NoMemory, Stor
 use Rattle.objstore.specs.Omap.{Omap}
 use Rattle.cached_frag.specs.Cached.{Cached}
 use Rattle.dentry_cache.specs.declared.cache.Place.{Place}
-use Rattle.dentry_cache.specs.Cache.{Evicts, HasRoom, Held, IsChanged, IsFull, IsThere, Leaf, MakesRoom, MayMakeRoom, NoneGoes, Places, TakesPlace, cached, fragment_in, held, is_kept, kept_place, leaf_cmp, leaf_is, may_go, used_as, without}
-use Rattle.dentry_cache.specs.CacheMap.{AreAtOneRank, AreCaches, At, CacheMap, IsFree, IsFreeFor, at_rank, cache_map, edited, evicted, given_up, has_place, here, no_cache, order, orders, removed, roomy, used_at, victim, with_frag}
+use Rattle.dentry_cache.specs.Cache.{Evicts, HasRoom, Held, IsChanged, IsFull, IsThere, IsWritten, Leaf, MakesRoom, MayMakeRoom, NoneGoes, Places, TakesPlace, cached, fragment_in, held, is_kept, kept_place, leaf_cmp, leaf_is, may_go, used_as, without}
+use Rattle.dentry_cache.specs.CacheMap.{AreAtOneRank, AreCaches, At, CacheMap, IsFree, IsFreeFor, at_rank, cache_map, edited, evicted, given_up, has_place, here, no_cache, order, orders, removed, rewritten, roomy, used_at, victim, with_frag}
 use Rattle.dentry_cache.specs.Places.{IsCache}
-use Rattle.dentry_cache.specs.CacheCalls.{CanKeep, CanNotKeep, Edits, FetchesAt, IsAbsent, IsEdited, IsRefusedAt, IsWhole, KeepsAt, MakesRoomAt, MayNotFetchAt, MayNotKeepAt, going_at}
+use Rattle.dentry_cache.specs.CacheCalls.{CanKeep, CanNotKeep, Edits, FetchesAt, IsAbsent, IsEdited, IsRefusedAt, IsRewritten, IsWhole, KeepsAt, MakesRoomAt, MayNotFetchAt, MayNotKeepAt, Rewrites, going_at}
 use Rattle.dentry_cache.specs.Fetches.{IsFetched, IsNotFetched, IsRefusedIn, MayNotFetch}
-use Rattle.dentry_cache.proofs.MapLaws.{cached_placed, changed_so, each_at, evicted_so, frag_so, get_held, given_up_so, going_so, here_free, none_evicted, none_roomy, order_is, roomy_so, used_so}
+use Rattle.dentry_cache.proofs.MapLaws.{cached_placed, changed_so, each_at, evicted_so, frag_so, get_held, given_up_so, going_so, here_free, none_evicted, none_roomy, order_is, rewritten_so, roomy_so, used_so}
 use Rattle.dentry_cache.proofs.OneCache.{HasRoomFor, none_distinct, room_then, changed, changed_by, dropped, evicts_by, full_by, makes_room_by, none_by, room_made}
 use Rattle.dentry_cache.proofs.StepLaws.{here_put}
 use Rattle.dentry_cache.proofs.UsedLaws.{same_cap, still_absent}
@@ -196,6 +196,11 @@ module _ (cs : List Held) (cap r : ℕ) (old : CacheMap) (view : cache_map cs ca
       frag_now leaf f is room free =
           subst (λ (o : CacheMap). IsFreeFor o r leaf → (new ≡ with_frag o r leaf f) × Now) view (frag_so cs cap r sound there now leaf (held f) (is ∙ ap (used_as leaf (held f)) x_is) (subst (HasRoomFor leaf) x_is room) f refl) free
 
+      pub rewritten_now : (leaf : Leaf) (f : Cached) → now ≡ lru_cache (set_value (leaf_is leaf) x.entries (held f)) x.cap → is_some (lookup (leaf_is leaf) x.entries) ≡ true → IsFreeFor old r leaf → (new ≡ rewritten old r leaf f) × Now
+      rewritten_now leaf f is some free =
+          subst (λ (o : CacheMap). IsFreeFor o r leaf → (new ≡ rewritten o r leaf f) × Now) view
+          (rewritten_so cs cap r sound there now leaf f (is ∙ ap (λ (h : Held). lru_cache (set_value (leaf_is leaf) h.entries (held f)) h.cap) x_is) (subst (λ (h : Held). is_some (lookup (leaf_is leaf) h.entries) ≡ true) x_is some)) free
+
       pub given_up_now : (leaf : Leaf) → now ≡ without leaf x → (new ≡ given_up old r leaf) × Now
       given_up_now leaf is =
           subst (λ (o : CacheMap). (new ≡ given_up o r leaf) × Now) view (given_up_so cs cap r sound there now leaf (is ∙ ap (without leaf) x_is))
@@ -225,7 +230,16 @@ module _ (cs : List Held) (cap r : ℕ) (old : CacheMap) (view : cache_map cs ca
               let up = frag_now leaf c.0 c.2 (has_room leaf (ap (λ (o : Option Cached). is_some o) (cached_is leaf ∙ seen))) (here_free r (finmap.get old.held leaf) (ap (λ (o : Option Cached). is_some o) seen)) in
               ((c.0, c.1, up.0), up.1)
 
-      pub changed_now : (leaf : Leaf) (g : Cached → Cached) → IsThere (here old r leaf) → IsChanged (cached x.entries leaf) (λ (f then : Cached). then ≡ g f) leaf x now → (new ≡ edited old r leaf g) × Now
+      pub rewrites_now : (leaf : Leaf) (Change : Cached → Cached → Type 0) → IsWritten (cached x.entries leaf) Change leaf x now → Rewrites Change r leaf old new × Now
+      rewrites_now leaf Change c = go (here old r leaf) refl (subst (λ (o : Option Cached). IsWritten o Change leaf x now) (cached_is leaf) c)
+        where
+          go : (o : Option Cached) → here old r leaf ≡ o → IsWritten o Change leaf x now → IsRewritten Change r leaf o old new × Now
+          go None seen c = absurd c
+          go (Some f) seen c =
+              let up = rewritten_now leaf c.0 c.2 (cached_placed leaf x.entries (ap (λ (o : Option Cached). is_some o) (cached_is leaf ∙ seen))) (here_free r (finmap.get old.held leaf) (ap (λ (o : Option Cached). is_some o) seen)) in
+              ((c.0, c.1, up.0), up.1)
+
+      pub changed_now : (leaf : Leaf) (g : Cached → Cached) → IsThere (here old r leaf) → IsWritten (cached x.entries leaf) (λ (f then : Cached). then ≡ g f) leaf x now → (new ≡ edited old r leaf g) × Now
       changed_now leaf g is c =
           subst (λ (o : CacheMap). is_some (here o r leaf) ≡ true → (new ≡ edited o r leaf g) × Now) view
           (λ some. changed_so cs cap r sound there now leaf g some (changed_by (cached x.entries leaf) g leaf x now c ∙ ap (λ (h : Held). changed leaf g (cached h.entries leaf) h) x_is)) (there_some leaf is)

@@ -1,7 +1,9 @@
 -- What is seen of the caches of all ranks once one rank has another cache.
 use Rattle.std.proofs.Common.{◌≡◌, ◌≢◌, ℕ, zero, suc, ◌+◌, ◌<◌, Bool, true, false, cond, not, ◌&&◌, ◌||◌, ◌⊎◌, inl, inr, List, [], ◌∷◌, set, get_or, length, nat_lt, is_some, option_map, Option, Some, None, refl, sym, ap, subst, ◌∙◌, arith, get_or-set_same, get_or-set_other, length-set, filter}
 use Rattle.std.specs.List.{AllByRecursion, IsDistinct, list_any}
-use Rattle.std.specs.Map.{keys_of, lookup, remove_entry}
+use Rattle.std.specs.Map.{keys_of, lookup, remove_entry, set_value}
+use Rattle.lru.specs.LruCache.{lru_cache}
+use Rattle.std.proofs.lemmas.Map.{keys-set_value}
 use Rattle.std.specs.FinMap as finmap
 use Rattle.std.specs.FinMap.{get-empty, get-insert, get-remove, same_map}
 use Rattle.std.proofs.lemmas.List.{get_or-map, map-set, set-get_or}
@@ -13,8 +15,8 @@ use Rattle.cached_frag.specs.Cached.{Cached, is_clean}
 use Rattle.dentry_cache.specs.declared.cache.Place.{Place}
 use Rattle.dentry_cache.specs.Cache.{Held, Leaf, Places, cached, fragment_in, held, leaf_cmp, leaf_is, may_go, stays, used_as, without}
 use Rattle.dentry_cache.specs.CacheCalls.{going_at}
-use Rattle.dentry_cache.specs.CacheMap.{AreAtOneRank, At, CacheMap, IsFree, IsFreeFor, at, at_rank, cache_map, clean_in, edited, edited_as, evicted, first, flat, found, frag_at, given_up, goes, held_of, here, last_by, less, no_cache, or_later, or_this, order, orders, removed, roomy, tabulate, used_at, victim, with_frag, with_some}
-use Rattle.dentry_cache.proofs.OneCache.{HasRoomFor, cached_used, cached_without, changed, dropped, room_made, used_valid, without_valid}
+use Rattle.dentry_cache.specs.CacheMap.{AreAtOneRank, At, CacheMap, IsFree, IsFreeFor, at, at_rank, cache_map, clean_in, edited, edited_as, evicted, first, flat, found, frag_at, given_up, goes, held_of, here, last_by, less, no_cache, or_later, or_this, order, orders, removed, rewritten, roomy, tabulate, used_at, victim, with_frag, with_some}
+use Rattle.dentry_cache.proofs.OneCache.{HasRoomFor, cached_set, cached_used, cached_without, changed, dropped, room_made, set_valid, used_valid, without_valid}
 use Rattle.dentry_cache.specs.Places.{IsCache}
 use Rattle.dentry_cache.proofs.LeafLaws.{flips, leaf-exact, leaf-total, leaf_itself, one_leaf, tied_leaf}
 
@@ -185,6 +187,24 @@ module _ (cs : List Held) (cap r : ℕ) (sound : AreAtOneRank cap cs) (there : r
     first_then leaf place is =
         orders_then (first leaf (order seen r)) (ap (λ (h : Held). keys_of h.entries) is ∙ ap (λ (ks : List Leaf). leaf ∷ ks) (keys_removed leaf was.entries ∙ ap (less leaf) (sym order_is)))
 
+    -- the rank has this fragment of a leaf now
+    has_frag : (leaf : Leaf) (f : Cached) → IsCache now → now.cap ≡ was.cap → ((q : Leaf) → cached now.entries q ≡ cond (leaf_is q leaf) (Some f) (at_rank r (finmap.get (held_of cs) q))) → IsFreeFor seen r leaf
+        → (held_of then ≡ finmap.insert (held_of cs) leaf (at r f)) × AreAtOneRank cap then
+    has_frag leaf f fits size mine_now free =
+        raised (finmap.insert (held_of cs) leaf (at r f)) fits size (λ q. mine_now q ∙ mine q (leaf_is q leaf) ∙ sym (ap (at_rank r) (got q))) (λ b q apart. other b q apart (leaf_is q leaf) refl ∙ sym (ap (at_rank b) (got q)))
+      where
+        got : (q : Leaf) → finmap.get (finmap.insert (held_of cs) leaf (at r f)) q ≡ cond (leaf_is q leaf) (Some (at r f)) (finmap.get (held_of cs) q)
+        got q = get-insert leaf-total (held_of cs) leaf (at r f) q ∙ ap (λ b. cond b (Some (at r f)) (finmap.get (held_of cs) q)) (tied_leaf q leaf)
+
+        mine : (q : Leaf) (b : Bool) → cond b (Some f) (at_rank r (finmap.get (held_of cs) q)) ≡ at_rank r (cond b (Some (at r f)) (finmap.get (held_of cs) q))
+        mine q true = sym (ap (λ t. cond t (Some f) None) (is_same r r refl))
+        mine q false = refl
+
+        other : (b : ℕ) (q : Leaf) → b ≢ r → (t : Bool) → leaf_is q leaf ≡ t → frag_at cs b q ≡ at_rank b (cond t (Some (at r f)) (finmap.get (held_of cs) q))
+        other b q apart true one =
+            each_at b q ∙ ap (λ (l : Leaf). at_rank b (finmap.get (held_of cs) l)) (one_leaf q leaf one) ∙ at_other r b (finmap.get (held_of cs) leaf) free apart ∙ sym (at_other r b (Some (at r f)) refl apart)
+        other b q apart false one = each_at b q
+
     module _ (leaf : Leaf) (place : Place) (is : now ≡ used_as leaf place was) (room : HasRoomFor leaf was) where
       fits_now : IsCache now
       fits_now = subst IsCache (sym is) (used_valid leaf place was (sound.valid r there) room)
@@ -203,20 +223,21 @@ module _ (cs : List Held) (cap r : ℕ) (sound : AreAtOneRank cap cs) (there : r
 
       -- the place has this fragment now
       pub frag_so : (f : Cached) → place ≡ held f → IsFreeFor seen r leaf → (cache_map then cap ≡ with_frag seen r leaf f) × AreAtOneRank cap then
-      frag_so f has free = let up = raised (finmap.insert (held_of cs) leaf (at r f)) fits_now (ap (λ (h : Held). h.cap) is) (λ q. mine_now q ∙ mine q (leaf_is q leaf) ∙ sym (ap (at_rank r) (got q))) (λ b q apart. other b q apart (leaf_is q leaf) refl ∙ sym (ap (at_rank b) (got q))) in
+      frag_so f has free =
+          let up = has_frag leaf f fits_now (ap (λ (h : Held). h.cap) is) (λ q. mine_now q ∙ ap (λ (p : Place). cond (leaf_is q leaf) (fragment_in (Some p)) (at_rank r (finmap.get (held_of cs) q))) has) free in
           ((λ i. record { held = up.0 i; used = first_then leaf place is i; cap = cap }), up.1)
-        where
-          got : (q : Leaf) → finmap.get (finmap.insert (held_of cs) leaf (at r f)) q ≡ cond (leaf_is q leaf) (Some (at r f)) (finmap.get (held_of cs) q)
-          got q = get-insert leaf-total (held_of cs) leaf (at r f) q ∙ ap (λ b. cond b (Some (at r f)) (finmap.get (held_of cs) q)) (tied_leaf q leaf)
 
-          mine : (q : Leaf) (b : Bool) → cond b (fragment_in (Some place)) (at_rank r (finmap.get (held_of cs) q)) ≡ at_rank r (cond b (Some (at r f)) (finmap.get (held_of cs) q))
-          mine q true = ap (λ (p : Place). fragment_in (Some p)) has ∙ sym (ap (λ t. cond t (Some f) None) (is_same r r refl))
-          mine q false = refl
-
-          other : (b : ℕ) (q : Leaf) → b ≢ r → (t : Bool) → leaf_is q leaf ≡ t → frag_at cs b q ≡ at_rank b (cond t (Some (at r f)) (finmap.get (held_of cs) q))
-          other b q apart true one =
-              each_at b q ∙ ap (λ (l : Leaf). at_rank b (finmap.get (held_of cs) l)) (one_leaf q leaf one) ∙ at_other r b (finmap.get (held_of cs) leaf) free apart ∙ sym (at_other r b (Some (at r f)) refl apart)
-          other b q apart false one = each_at b q
+    -- a place has this fragment now, where it stands
+    pub rewritten_so : (leaf : Leaf) (f : Cached) → now ≡ lru_cache (set_value (leaf_is leaf) was.entries (held f)) was.cap → is_some (lookup (leaf_is leaf) was.entries) ≡ true → IsFreeFor seen r leaf
+        → (cache_map then cap ≡ rewritten seen r leaf f) × AreAtOneRank cap then
+    rewritten_so leaf f is some free =
+        let up = has_frag leaf f (subst IsCache (sym is) (set_valid leaf (held f) was (sound.valid r there))) (ap (λ (h : Held). h.cap) is)
+        (λ q. ap (λ (h : Held). cached h.entries q) is ∙ cached_set leaf q (held f) was some ∙ ap (cond (leaf_is q leaf) (Some f)) (each_at r q)) free in
+        ((λ i. record { held = up.0 i; used = same_order i; cap = cap }), up.1)
+      where
+        same_order : orders then ≡ orders cs
+        same_order =
+            orders_then (keys_of was.entries) (ap (λ (h : Held). keys_of h.entries) is ∙ keys-set_value (leaf_is leaf) was.entries (held f)) ∙ ap (set (orders cs) r) (sym order_is) ∙ set-get_or (orders cs) r []
 
     -- the place is given up
     pub given_up_so : (leaf : Leaf) → now ≡ without leaf was → (cache_map then cap ≡ given_up seen r leaf) × AreAtOneRank cap then
@@ -260,7 +281,7 @@ module _ (cs : List Held) (cap r : ℕ) (sound : AreAtOneRank cap cs) (there : r
         go : (o : Option Cached) → here seen r leaf ≡ o → is_some o ≡ true → (cache_map then cap ≡ edited_as seen r leaf g o) × AreAtOneRank cap then
         go None at some = let clash : false ≡ true = some in absurd cc
         go (Some f) at some =
-            frag_so leaf (held (g f)) (is ∙ ap (λ (o : Option Cached). changed leaf g o was) (each_at r leaf ∙ at)) (inl (cached_placed leaf was.entries (ap (λ (o : Option Cached). is_some o) (each_at r leaf ∙ at)))) (g f) refl (here_free r (finmap.get (held_of cs) leaf) (ap (λ (o : Option Cached). is_some o) at))
+            rewritten_so leaf (g f) (is ∙ ap (λ (o : Option Cached). changed leaf g o was) (each_at r leaf ∙ at)) (cached_placed leaf was.entries (ap (λ (o : Option Cached). is_some o) (each_at r leaf ∙ at))) (here_free r (finmap.get (held_of cs) leaf) (ap (λ (o : Option Cached). is_some o) at))
 
 -- ---- the least recently used that may go
 

@@ -2,22 +2,22 @@
 use Rattle.std.proofs.Common.{◌≡◌, ◌<◌, ◌≤◌, ◌⊎◌, inl, inr, suc, Bool, true, false, cond, List, [], ◌∷◌, ◌++◌, is_some, length, nat_lt, option_map, Option, Some, None, refl, sym, ap, subst, ◌∙◌, arith}
 use Rattle.std.proofs.lemmas.Bool.Decides.{nat_tests}
 use Rattle.std.specs.List.{AllByRecursion, IsDistinct}
-use Rattle.std.specs.Map.{keys_of, lookup, remove_entry}
-use Rattle.std.proofs.lemmas.Map.{NonePasses, none_passes_from_lookup}
+use Rattle.std.specs.Map.{keys_of, lookup, remove_entry, set_value}
+use Rattle.std.proofs.lemmas.Map.{NonePasses, keys-set_value, length-set_value, lookup-set_value, none_passes_from_lookup}
 use Rattle.std.proofs.lemmas.Map.Keys.{IsDistinct-cons, IsDistinct-head, IsDistinct-tail}
 use Rattle.lru.specs.LruCache.{lru_cache}
 use Rattle.cached_frag.specs.Cached.{Cached}
 use Rattle.dentry_cache.specs.declared.cache.Place.{Place}
-use Rattle.dentry_cache.specs.Cache.{Evicts, Held, IsChanged, IsFull, Leaf, MakesRoom, NoneGoes, Places, cached, fragment_in, held, leaf_is, may_go, used_as, without}
+use Rattle.dentry_cache.specs.Cache.{Evicts, Held, IsFull, IsWritten, Leaf, MakesRoom, NoneGoes, Places, cached, fragment_in, held, leaf_is, may_go, used_as, without}
 use Rattle.dentry_cache.specs.CacheMap.{last_by, or_this}
 use Rattle.dentry_cache.proofs.CacheLaws.{after_removal, apart_later, remove_cut}
 use Rattle.dentry_cache.proofs.UsedLaws.{after_use, freed}
 use Rattle.dentry_cache.specs.Places.{IsCache}
-use Rattle.dentry_cache.proofs.LeafLaws.{flips, leaf_itself}
+use Rattle.dentry_cache.proofs.LeafLaws.{flips, leaf_equivalence, leaf_itself, one_leaf}
 
--- its fragment was changed so, and is the most recently used
+-- its fragment was changed so, where it stands
 abbrev pub changed : Leaf → (Cached → Cached) → Option Cached → Held → Held
-changed leaf g (Some f) old = used_as leaf (held (g f)) old
+changed leaf g (Some f) old = lru_cache (set_value (leaf_is leaf) old.entries (held (g f))) old.cap
 changed leaf g None old = old
 
 -- the least recently used that may go is gone
@@ -51,6 +51,11 @@ cached_without leaf q old distinct =
     go true = refl
     go false = refl
 
+pub cached_set : (leaf q : Leaf) (place : Place) (old : Held) → is_some (lookup (leaf_is leaf) old.entries) ≡ true → cached (set_value (leaf_is leaf) old.entries place) q ≡ cond (leaf_is q leaf) (fragment_in (Some place)) (cached old.entries q)
+cached_set leaf q place old some =
+    ap (λ (o : Option Place). fragment_in o) (lookup-set_value leaf_equivalence (leaf_is leaf) (λ x y same. ap (λ (a : Leaf). leaf_is a y) (one_leaf leaf x same)) q place old.entries some)
+    ∙ picked (leaf_is leaf q) place (lookup (leaf_is q) old.entries) ∙ ap (λ (b : Bool). cond b (fragment_in (Some place)) (cached old.entries q)) (flips leaf q)
+
 pub last_append : {A : Type 0} (test : A → Bool) (xs : List A) (ys : List A) → last_by test (xs ++ ys) ≡ or_this (last_by test ys) (last_by test xs)
 last_append test [] ys = or_none (last_by test ys)
   where
@@ -65,9 +70,9 @@ last_append test (x ∷ xs) ys = ap (λ o. or_this o (cond (test x) (Some x) Non
 
 -- ---- what they are as functions
 
-pub changed_by : (o : Option Cached) (g : Cached → Cached) (leaf : Leaf) (old new : Held) → IsChanged o (λ (f now : Cached). now ≡ g f) leaf old new → new ≡ changed leaf g o old
+pub changed_by : (o : Option Cached) (g : Cached → Cached) (leaf : Leaf) (old new : Held) → IsWritten o (λ (f now : Cached). now ≡ g f) leaf old new → new ≡ changed leaf g o old
 changed_by None g leaf old new c = absurd c
-changed_by (Some f) g leaf old new c = c.2 ∙ ap (λ (now : Cached). used_as leaf (held now) old) c.1
+changed_by (Some f) g leaf old new c = c.2 ∙ ap (λ (now : Cached). lru_cache (set_value (leaf_is leaf) old.entries (held now)) old.cap) c.1
 
 pub none_by : (stay : Option Leaf) (es : Places) → NoneGoes stay es → last_by (may_go stay) es ≡ None
 none_by stay [] none = refl
@@ -153,6 +158,12 @@ without_valid leaf old valid =
     let few = valid.fits in
     let fewer = removed_fewer leaf old.entries in
     record { distinct = distinct_removed leaf old.entries valid.distinct; fits = omega (arith, few, fewer) }
+
+pub set_valid : (leaf : Leaf) (place : Place) (old : Held) → IsCache old → IsCache (lru_cache (set_value (leaf_is leaf) old.entries place) old.cap)
+set_valid leaf place old valid =
+    let few = valid.fits in
+    let same : length (set_value (leaf_is leaf) old.entries place) ≡ length old.entries = length-set_value (leaf_is leaf) old.entries place in
+    record { distinct = subst (IsDistinct leaf_is) (sym (keys-set_value (leaf_is leaf) old.entries place)) valid.distinct; fits = omega (arith, few, same) }
 
 pub used_valid : (leaf : Leaf) (place : Place) (old : Held) → IsCache old → HasRoomFor leaf old → IsCache (used_as leaf place old)
 used_valid leaf place old valid room = record {

@@ -1,17 +1,17 @@
 -- A split at a rank: what is made ready for it, and what it leaves.
-use Rattle.dentry_cache.proofs.Common.{AreAbsent, AreApart, AreChildren, AreFillable, AreKept, Bool, CacheMap, Cached, Edits, Fragment, HasCached, Ino, IsButPlaces, IsChildAt, IsEdited, IsFamilyAt, IsKeptFor, Leaf, List, Names, None, Objects, Option, Part, Reads, Some, SplitsAt, [], ap, arith, child_of, cond, false, given_up, has_place, here, inl, inr, is_same, leaf_is, length, refl, shown, slice_index_or, subst, suc, sym, true, with_frag, with_parts, ℕ, ◌&&◌, ◌+◌, ◌<◌, ◌==◌, ◌^◌, ◌∙◌, ◌∷◌, ◌≡◌, ◌≤◌, ◌⊎◌}
+use Rattle.dentry_cache.proofs.Common.{AreAbsent, AreApart, AreChildren, AreFillable, AreKept, Bool, CacheMap, Cached, Fragment, HasCached, Ino, IsButPlaces, IsChildAt, IsFamilyAt, IsKeptFor, IsRewritten, Leaf, List, Names, None, Objects, Option, Part, Reads, Rewrites, Some, SplitsAt, [], ap, arith, child_of, cond, false, given_up, has_place, here, inl, is_same, leaf_is, length, refl, rewritten, shown, slice_index_or, subst, suc, sym, true, with_frag, with_parts, ℕ, ◌&&◌, ◌+◌, ◌<◌, ◌==◌, ◌^◌, ◌∙◌, ◌∷◌, ◌≡◌, ◌≤◌}
 use Rattle.std.specs.FinMap as finmap
 use Rattle.dentry_cache.specs.Reads.Reads.{stays as it_stays}
 use Rattle.dentry_cache.proofs.LacksLaws.{still_left}
 use Rattle.dentry_cache.proofs.NameParts.{no_child, one_child}
-use Rattle.dentry_cache.proofs.ReadsLaws.{edits_reads, places_changed}
+use Rattle.dentry_cache.proofs.ReadsLaws.{places_changed, rewrites_reads}
 use Rattle.dentry_cache.proofs.SplitShows.{apart_from}
-use Rattle.dentry_cache.proofs.StepLaws.{by_edits, get_beside, get_with_frag, has_with_frag, here_put, placed_used}
-use Rattle.dentry_cache.proofs.LeafLaws.{flips, leaf_itself}
+use Rattle.dentry_cache.proofs.StepLaws.{by_rewrites, get_beside, get_with_frag, has_with_frag, here_put}
+use Rattle.dentry_cache.proofs.LeafLaws.{flips}
 
 -- ---- the fragment is ready
 
-module _ (r : ℕ) (dir : Ino) (frag : Fragment) (bits : ℕ) (some : 1 ≤ bits) (old mid : CacheMap) (e : Edits IsButPlaces r (dir, frag) old mid) where
+module _ (r : ℕ) (dir : Ino) (frag : Fragment) (bits : ℕ) (some : 1 ≤ bits) (old mid : CacheMap) (e : Rewrites IsButPlaces r (dir, frag) old mid) where
   abbrev one : Leaf
   one = (dir, frag)
 
@@ -19,36 +19,28 @@ module _ (r : ℕ) (dir : Ino) (frag : Fragment) (bits : ℕ) (some : 1 ≤ bits
   child i = (dir, child_of frag i bits)
 
   -- how a statement of the caches before and after is proved
-  by_edit : (P : CacheMap → Type 0) → ((f now : Cached) → here old r (dir, frag) ≡ Some f → IsButPlaces f now → P (with_frag old r (dir, frag) now)) → P mid
-  by_edit P so = by_edits r (dir, frag) IsButPlaces old mid e P so
+  by_edit : (P : CacheMap → Type 0) → ((f now : Cached) → here old r (dir, frag) ≡ Some f → IsButPlaces f now → P (rewritten old r (dir, frag) now)) → P mid
+  by_edit P so = by_rewrites r (dir, frag) IsButPlaces old mid e P so
 
   -- no child has a place yet
   pub ready_absent : AreAbsent old r dir frag bits → AreAbsent mid r dir frag bits
   ready_absent absent i among = by_edit (λ (k : CacheMap). (has_place k r (dir, child_of frag i bits) ≡ false) × (finmap.get k.held (dir, child_of frag i bits) ≡ None)) (λ f now seen same. (
-    none now (has_place (with_frag old r (dir, frag) now) r (dir, child_of frag i bits)) refl,
+    (absent i among).0,
     get_with_frag old r (dir, frag) now (dir, child_of frag i bits) ∙ ap (λ b. cond b (Some (record { rank = r; frag = now })) (finmap.get old.held (dir, child_of frag i bits))) apart ∙ (absent i among).1,
   ))
     where
       apart : leaf_is (dir, child_of frag i bits) (dir, frag) ≡ false
       apart = flips (dir, child_of frag i bits) (dir, frag) ∙ no_child dir frag bits i some
 
-      none : (now : Cached) (b : Bool) → has_place (with_frag old r (dir, frag) now) r (dir, child_of frag i bits) ≡ b → b ≡ false
-      none now false is = refl
-      none now true is = go (placed_used old r (dir, frag) r (dir, child_of frag i bits) is)
-        where
-          go : (has_place old r (child i) ≡ true) ⊎ ((r ≡ r) × (child i ≡ one)) → true ≡ false
-          go (inl was) = sym was ∙ (absent i among).0
-          go (inr same) = sym (leaf_itself (child i)) ∙ ap (leaf_is (child i)) same.1 ∙ apart
-
   pub ready_stays : (now : Option Cached) → now ≡ here mid r (dir, frag) → HasCached (here old r (dir, frag)) (λ (f : Cached). HasCached now (IsButPlaces f))
   ready_stays now is = subst (λ (o : Option Cached). HasCached (here old r (dir, frag)) (λ (f : Cached). HasCached o (IsButPlaces f))) (sym is) (go (here old r (dir, frag)) e)
     where
-      go : (o : Option Cached) → IsEdited IsButPlaces r (dir, frag) o old mid → HasCached o (λ (f : Cached). HasCached (here mid r (dir, frag)) (IsButPlaces f))
+      go : (o : Option Cached) → IsRewritten IsButPlaces r (dir, frag) o old mid → HasCached o (λ (f : Cached). HasCached (here mid r (dir, frag)) (IsButPlaces f))
       go None e = absurd e
       go (Some f) e = subst (λ (o : Option Cached). HasCached o (IsButPlaces f)) (sym (ap (λ (k : CacheMap). here k r (dir, frag)) e.2 ∙ here_put old r (dir, frag) e.0)) e.1
 
   pub ready_reads : (objects : Objects) → Reads (IsFamilyAt r dir frag bits) (IsChildAt r dir frag bits) objects old mid
-  ready_reads objects = edits_reads (IsFamilyAt r dir frag bits) (IsChildAt r dir frag bits) objects old old mid r (dir, frag) IsButPlaces places_changed it_stays (inl (refl, refl)) e
+  ready_reads objects = rewrites_reads (IsFamilyAt r dir frag bits) (IsChildAt r dir frag bits) objects old old mid r (dir, frag) IsButPlaces places_changed it_stays (inl (refl, refl)) e
 
 -- ---- the children come in
 

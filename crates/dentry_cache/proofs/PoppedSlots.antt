@@ -1,18 +1,17 @@
 -- Laws of places in slots, of which one was taken out: the last slot has its number then.
-use Rattle.std.proofs.Common.{Bool, List, ◌≤◌, None, Option, Some, [], ap, ap₂, arith, cond, eq-eqb, eqb-true, false, get_or, is_some, length, refl, set, subst, sym, take, true, ℕ, ◌+◌, ◌-◌, ◌<◌, ◌==◌, ◌∙◌, ◌∷◌, ◌≡◌, ◌≢◌}
+use Rattle.std.proofs.Common.{Bool, List, ◌≤◌, None, Option, Some, [], ap, ap₂, arith, cond, eq-eqb, eqb-true, false, get_or, is_some, length, refl, set, subst, sym, true, ℕ, ◌-◌, ◌<◌, ◌==◌, ◌∙◌, ◌∷◌, ◌≡◌, ◌≢◌}
 use Rattle.std.specs.List.{AllByRecursion, IsDistinct, swap_remove}
 use Rattle.std.specs.Map.{keys_of, lookup, remove_entry, set_value}
 use Rattle.std.proofs.lemmas.Bool.{eqb-false, false≢true}
 use Rattle.std.proofs.lemmas.Grind.{get_or-set_at}
 use Rattle.std.proofs.lemmas.List.{get_or-set_other, get_or-take, get_or_default, length-set, length-take}
-use Rattle.std.proofs.lemmas.Option.{none-some, same_Some}
+use Rattle.std.proofs.lemmas.Option.{none-some}
 use Rattle.std.proofs.lemmas.Map.{lookup-set_value}
 use Rattle.lru.specs.LruCache.{LruCache, lru_cache}
 use Rattle.dentry_cache.specs.Cache.{Leaf, Places, leaf_is}
 use Rattle.dentry_cache.specs.Slots.{AreSlotted, placed_by, places_in, slot_at}
-use Rattle.dentry_cache.specs.declared.cache.Place.{Place}
 use Rattle.dentry_cache.specs.declared.place_lru.Slot.{Slot}
-use Rattle.dentry_cache.proofs.LeafLaws.{flips, leaf_equivalence, leaf_itself, one_leaf}
+use Rattle.dentry_cache.proofs.LeafLaws.{leaf_equivalence, leaf_itself, one_leaf}
 use Rattle.dentry_cache.proofs.CacheLaws.{after_removal}
 use Rattle.dentry_cache.proofs.SlotLaws.{each_found}
 

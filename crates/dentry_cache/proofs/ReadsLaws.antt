@@ -5,10 +5,10 @@ use Rattle.std.proofs.lemmas.Option.{same_Some}
 use Rattle.objstore.specs.Objects.{Objects}
 use Rattle.cached_frag.specs.Cached.{Cached}
 use Rattle.dentry_cache.specs.Cache.{Leaf, leaf_is, unsaved_in}
-use Rattle.dentry_cache.specs.CacheCalls.{Edits, FetchesAt, IsEdited, KeepsAt, MakesRoomAt}
-use Rattle.dentry_cache.specs.CacheMap.{At, CacheMap, at, at_rank, has_place, here, unclean, unsaved_at, used_at}
+use Rattle.dentry_cache.specs.CacheCalls.{FetchesAt, IsRewritten, KeepsAt, MakesRoomAt, Rewrites}
+use Rattle.dentry_cache.specs.CacheMap.{At, CacheMap, at, at_rank, has_place, here, rewritten, unclean, unsaved_at, used_at, with_frag}
 use Rattle.dentry_cache.specs.Came.{Came, StaysNamed}
-use Rattle.dentry_cache.specs.Came.Came.{stays as came_stays, uses as came_uses, has as came_has, room as came_room, ends as came_ends}
+use Rattle.dentry_cache.specs.Came.Came.{stays as came_stays, uses as came_uses, has as came_has, alters as came_alters, room as came_room, ends as came_ends}
 use Rattle.dentry_cache.specs.Loading.{object_of}
 use Rattle.dentry_cache.specs.Reads.{IsButRoom, IsReadOf, Reads}
 use Rattle.dentry_cache.specs.Reads.Reads.{stays as it_stays, uses, grows, loads, room, frees}
@@ -62,11 +62,11 @@ module _ (Uses Ends : ℕ → Leaf → Type 0) (objects : Objects) (start : Cach
   used_reads old new r leaf reads named is = subst (Reads Uses Ends objects start) (sym is) (uses old r leaf reads named)
 
   -- a fragment gets other room
-  pub edits_reads : (old new : CacheMap) (r : ℕ) (leaf : Leaf) (Change : Cached → Cached → Type 0) → ((f now : Cached) → Change f now → IsButRoom f now) → Reads Uses Ends objects start old → Uses r leaf → Edits Change r leaf old new
+  pub rewrites_reads : (old new : CacheMap) (r : ℕ) (leaf : Leaf) (Change : Cached → Cached → Type 0) → ((f now : Cached) → Change f now → IsButRoom f now) → Reads Uses Ends objects start old → Uses r leaf → Rewrites Change r leaf old new
       → Reads Uses Ends objects start new
-  edits_reads old new r leaf Change same reads named e = go (here old r leaf) refl e
+  rewrites_reads old new r leaf Change same reads named e = go (here old r leaf) refl e
     where
-      go : (o : Option Cached) → here old r leaf ≡ o → IsEdited Change r leaf o old new → Reads Uses Ends objects start new
+      go : (o : Option Cached) → here old r leaf ≡ o → IsRewritten Change r leaf o old new → Reads Uses Ends objects start new
       go None seen e = absurd e
       go (Some f) seen e = subst (Reads Uses Ends objects start) (sym e.2) (grows old r leaf f e.0 reads named seen (same f e.0 e.1))
 
@@ -94,7 +94,7 @@ module _ (Uses Ends : ℕ → Leaf → Type 0) (objects : Objects) (old : CacheM
   pub reads_came : (new : CacheMap) → Reads Uses Ends objects old new → Came Uses Ends old new
   reads_came _ it_stays = came_stays
   reads_came _ (uses mid r leaf before named) = came_uses mid r leaf (reads_came mid before) named
-  reads_came _ (grows mid r leaf f now before named seen same) = came_has mid r leaf now (reads_came mid before) named
+  reads_came _ (grows mid r leaf f now before named seen same) = came_alters mid r leaf f now (reads_came mid before) named seen
   reads_came _ (loads mid r leaf f before named none spelt) = came_has mid r leaf f (reads_came mid before) named
   reads_came _ (room mid new r leaf stay before named none kept is) = came_room mid new r leaf stay (reads_came mid before) named none kept is
   reads_came _ (frees mid r leaf before named none) = came_ends mid r leaf (reads_came mid before) named
@@ -104,7 +104,8 @@ module _ (Uses Ends : ℕ → Leaf → Type 0) (objects : Objects) (old : CacheM
   reads_unclean _ it_stays = refl
   reads_unclean _ (uses mid r leaf before named) = unclean_alike (used_at mid r leaf) mid (λ q. refl) ∙ reads_unclean mid before
   reads_unclean _ (grows mid r leaf f now before named seen same) =
-      unclean_same mid r leaf now (ap unsaved_at (here_is r (finmap.get mid.held leaf) f seen) ∙ sym (room_unsaved f now same)) ∙ reads_unclean mid before
+      unclean_alike (rewritten mid r leaf now) (with_frag mid r leaf now) (λ q. refl)
+      ∙ unclean_same mid r leaf now (ap unsaved_at (here_is r (finmap.get mid.held leaf) f seen) ∙ sym (room_unsaved f now same)) ∙ reads_unclean mid before
   reads_unclean _ (loads mid r leaf f before named none spelt) =
       unclean_same mid r leaf f (ap unsaved_at none ∙ sym (loaded_clean leaf.1 (object_of objects leaf.0 leaf.1) f spelt)) ∙ reads_unclean mid before
   reads_unclean _ (room mid new r leaf stay before named none kept is) = unclean_roomy mid new r stay is ∙ reads_unclean mid before

@@ -7,13 +7,13 @@ use Rattle.mds_types.specs.declared.refusals.Refusal.{Refusal}
 use Rattle.mds_types.specs.declared.refusals.Refusal.TheVariants.{NoMemory, NothingToEvict}
 use Rattle.cached_frag.specs.Cached.{Cached, is_clean}
 use Rattle.dentry_cache.specs.Cache.{Leaf, leaf_is, stays}
-use Rattle.dentry_cache.specs.CacheCalls.{CanKeep, CanNotKeep, Edits, IsRefusedAt, MayNotKeepAt, going_at, kept_at, unclean_at, unclean_in}
-use Rattle.dentry_cache.specs.CacheMap.{AreCaches, CacheMap, at_rank, clean_in, first, given_up, goes, here, last_by, less, or_this, order, roomy, used_at, victim, with_frag}
+use Rattle.dentry_cache.specs.CacheCalls.{CanKeep, CanNotKeep, IsRefusedAt, MayNotKeepAt, Rewrites, going_at, kept_at, unclean_at, unclean_in}
+use Rattle.dentry_cache.specs.CacheMap.{AreCaches, CacheMap, at_rank, clean_in, first, given_up, goes, here, last_by, less, or_this, order, rewritten, roomy, used_at, victim}
 use Rattle.dentry_cache.specs.CacheSplits.{IsButPlaces}
 use Rattle.dentry_cache.proofs.CountLaws.{none_last, none_passes, stays_once}
 use Rattle.dentry_cache.proofs.KeptLaws.{less_apart, order_given_up, order_used, same_filter}
 use Rattle.dentry_cache.proofs.LeafLaws.{flips, leaf_itself, one_leaf}
-use Rattle.dentry_cache.proofs.StepLaws.{by_edits, get_beside, here_with_frag}
+use Rattle.dentry_cache.proofs.StepLaws.{by_rewrites, get_beside, here_with_frag}
 
 -- ---- lists of leaves
 
@@ -163,20 +163,15 @@ pub refused_room : (r : ℕ) (stay : Option Leaf) (old new : CacheMap) (reason :
 refused_room r stay old new reason memory (inl none) = let clash : NoMemory ≡ NothingToEvict = sym memory ∙ none.0 in absurd cc
 refused_room r stay old new reason memory (inr after) = after.1
 
--- the fragment that stays has other room, and is the most recently used
-pub edit_can : (r : ℕ) (leaf : Leaf) (old mid : CacheMap) → r < length old.used → AreCaches old → Edits IsButPlaces r leaf old mid → (count : ℕ) → CanKeep count old r (Some leaf) → CanKeep count mid r (Some leaf)
-edit_can r leaf old mid there valid e count can = by_edits r leaf IsButPlaces old mid e (λ (k : CacheMap). CanKeep count k r (Some leaf)) so
+-- the fragment that stays has other room
+pub edit_can : (r : ℕ) (leaf : Leaf) (old mid : CacheMap) → Rewrites IsButPlaces r leaf old mid → (count : ℕ) → CanKeep count old r (Some leaf) → CanKeep count mid r (Some leaf)
+edit_can r leaf old mid e count can = by_rewrites r leaf IsButPlaces old mid e (λ (k : CacheMap). CanKeep count k r (Some leaf)) (λ f now seen same. so now)
   where
-    so : (f now : Cached) → here old r leaf ≡ Some f → IsButPlaces f now → CanKeep count (with_frag old r leaf now) r (Some leaf)
-    so f now seen same =
-        let fewer : suc (length (less leaf (order old r))) ≤ length (order old r) = one_less leaf (order old r) (valid.placed r leaf (ap (λ (o : Option Cached). is_some o) seen)) in
-        let size : length (order (with_frag old r leaf now) r) ≡ suc (length (less leaf (order old r))) = ap (λ (xs : List Leaf). length xs) (order_used old r there leaf) in
-        let alike : going_at (with_frag old r leaf now) r (Some leaf) ≡ filter (goes old r (Some leaf)) (first leaf (order old r)) =
-        ap (filter (goes (with_frag old r leaf now) r (Some leaf))) (order_used old r there leaf) ∙ same_filter (goes (with_frag old r leaf now) r (Some leaf)) (goes old r (Some leaf)) (first leaf (order old r)) (each (first leaf (order old r))) in
-        let going : length (going_at (with_frag old r leaf now) r (Some leaf)) ≡ length (filter (goes old r (Some leaf)) (first leaf (order old r))) = ap (λ (xs : List Leaf). length xs) alike in
-        let front : length (filter (goes old r (Some leaf)) (first leaf (order old r))) ≡ one_if (goes old r (Some leaf) leaf) + length (filter (goes old r (Some leaf)) (less leaf (order old r))) = passing (goes old r (Some leaf)) leaf (less leaf (order old r)) in
-        let left : length (going_at old r (Some leaf)) ≤ one_if (goes old r (Some leaf) leaf) + length (filter (goes old r (Some leaf)) (less leaf (order old r))) = filter_left (goes old r (Some leaf)) leaf (order old r) in
-        omega (arith, fewer, size, going, front, left, can)
+    so : (now : Cached) → CanKeep count (rewritten old r leaf now) r (Some leaf)
+    so now =
+        let alike : length (going_at (rewritten old r leaf now) r (Some leaf)) ≡ length (going_at old r (Some leaf)) =
+        ap (λ (xs : List Leaf). length xs) (same_filter (goes (rewritten old r leaf now) r (Some leaf)) (goes old r (Some leaf)) (order old r) (each (order old r))) in
+        omega (arith, alike, can)
       where
         none_goes : (a b : Bool) → (a && not true) ≡ (b && not true)
         none_goes true true = refl
@@ -190,7 +185,7 @@ edit_can r leaf old mid there valid e count can = by_edits r leaf IsButPlaces ol
             let it : leaf_is leaf x ≡ true = flips leaf x ∙ one in
             ap (λ (b : Bool). clean_in (cond (r == r) (Some now) None) && not b) it ∙ none_goes (clean_in (cond (r == r) (Some now) None)) (clean_in (here old r x)) ∙ ap (λ (b : Bool). clean_in (here old r x) && not b) (sym it)
 
-        each : (xs : List Leaf) → AllByRecursion (λ (x : Leaf). goes (with_frag old r leaf now) r (Some leaf) x ≡ goes old r (Some leaf) x) xs
+        each : (xs : List Leaf) → AllByRecursion (λ (x : Leaf). goes (rewritten old r leaf now) r (Some leaf) x ≡ goes old r (Some leaf) x) xs
         each [] = tt
         each (x ∷ xs) = (ap (λ (o : Option Cached). clean_in o && not (leaf_is leaf x)) (here_with_frag old r leaf now r x) ∙ on x (leaf_is x leaf) refl, each xs)
 

@@ -15,7 +15,7 @@ use Rattle.std.proofs.lemmas.List.{get_or-set_other, get_or_append_left, get_or_
 use Rattle.std.proofs.Math.Seq.{get_or-append_seam}
 use Rattle.std.proofs.lemmas.Option.{none-some}
 use Rattle.dentry_cache.proofs.LeafLaws.{flips, leaf_itself, one_leaf}
-use Rattle.dentry_cache.proofs.UsedLaws.{all_promoted, promoted_is}
+use Rattle.dentry_cache.proofs.UsedLaws.{all_promoted}
 
 module _ (slots : List Slot) where
   -- the place that stands in a slot
@@ -82,11 +82,6 @@ module _ (slots : List Slot) where
   -- the slot that was read there
   pub read : (i : ℕ) (s : Slot) → i < length slots → s ≡ get_or slots i s → s ≡ slot_at slots i
   read i s within is = is ∙ get_or_default slots i s _ within
-
-  -- the first
-  pub first_placed : (entries : List (Leaf × ℕ)) → slice_get (places_in slots entries) 0 ≡ option_map (λ e. (e.0, place_in e.1)) (slice_get entries 0)
-  first_placed [] = refl
-  first_placed (e ∷ entries) = refl
 
   pub first_within : (entries : List (Leaf × ℕ)) (leaf : Leaf) (i : ℕ) → AreSlotted slots entries → Some (leaf, i) ≡ slice_get entries 0 → i < length slots
   first_within [] leaf i are is = absurd (none-some _ (sym is))
@@ -167,21 +162,6 @@ module _ (slots : List Slot) where
     taken = λ j less. subst (λ (l : Leaf). lookup (leaf_is l) entries ≡ Some j) (sym (leaves_stay i j w within)) (are.taken j (subst (λ n. j < n) (length-set slots i _) less));
   }
 
-  -- so is the first
-  pub first_written : (leaf : Leaf) (i : ℕ) (w : Place) (entries : List (Leaf × ℕ)) → IsDistinct leaf_is (keys_of entries) → AreSlotted slots entries → Some (leaf, i) ≡ slice_get entries 0
-      → places_in (with_place i w) entries ≡ set_value (λ _. true) (places_in slots entries) w
-  first_written leaf i w [] distinct are is = refl
-  first_written leaf i w (e ∷ entries) distinct are is =
-      let same : (leaf, i) ≡ e = cc in
-      let its : lookup (leaf_is e.0) (e ∷ entries) ≡ Some e.1 = ap (λ b. cond b (Some e.1) (lookup (leaf_is e.0) entries)) (leaf_itself e.0) in
-      ap (λ (x : Leaf × ℕ). places_in (with_place x.1 w) (e ∷ entries)) same
-      ∙ written e.0 e.1 w (e ∷ entries) (are.within e.0 e.1 its) (are.owned e.0 e.1 its) distinct (owned_each (e ∷ entries) distinct are.owned) its
-      ∙ ap (λ b. cond b ((e.0, w) ∷ places_in slots entries) ((e.0, place_in e.1) ∷ set_value (leaf_is e.0) (places_in slots entries) w)) (leaf_itself e.0)
-
-  pub head_place : (entries : List (Leaf × ℕ)) → option_map (λ e. place_in e.1) (slice_get entries 0) ≡ option_map (λ e. e.1) (slice_get (places_in slots entries) 0)
-  head_place [] = refl
-  head_place (e ∷ entries) = refl
-
   -- one slot more leaves the others
   pub grown : (s : Slot) (entries : List (Leaf × ℕ)) → AllByRecursion (λ e. e.1 < length slots) entries → places_in (slots ++ s ∷ []) entries ≡ places_in slots entries
   grown s [] within = refl
@@ -249,49 +229,23 @@ module _ (slots : List Slot) where
 -- ---- the first place
 
 -- the first one is first already
-pub first_promoted : (leaf : Leaf) (place : Place) (es : Places) → Some (leaf, place) ≡ slice_get es 0 → promoted (leaf_is leaf) es ≡ es
-first_promoted leaf place [] is = absurd (none-some _ (sym is))
-first_promoted leaf place (e ∷ es) is =
+pub first_promoted : (leaf : Leaf) (slot : ℕ) (es : List (Leaf × ℕ)) → Some (leaf, slot) ≡ slice_get es 0 → promoted (leaf_is leaf) es ≡ es
+first_promoted leaf slot [] is = absurd (none-some _ (sym is))
+first_promoted leaf slot (e ∷ es) is =
     let same : leaf ≡ e.0 = cc in
     let mine : leaf_is leaf e.0 ≡ true = ap (leaf_is leaf) (sym same) ∙ leaf_itself leaf in
     ap (λ (b : Bool). option_map_or (λ x. x ∷ cond b es (e ∷ remove_entry (leaf_is leaf) es)) (cond b (Some e) (lookup_entry (leaf_is leaf) es)) (e ∷ es)) mine
 
-pub first_found : (leaf : Leaf) (place : Place) (es : Places) → Some (leaf, place) ≡ slice_get es 0 → lookup (leaf_is leaf) es ≡ Some place
-first_found leaf place [] is = absurd (none-some _ (sym is))
-first_found leaf place (e ∷ es) is =
+pub first_found : (leaf : Leaf) (slot : ℕ) (es : List (Leaf × ℕ)) → Some (leaf, slot) ≡ slice_get es 0 → lookup (leaf_is leaf) es ≡ Some slot
+first_found leaf slot [] is = absurd (none-some _ (sym is))
+first_found leaf slot (e ∷ es) is =
     let same : leaf ≡ e.0 = cc in
-    let its : place ≡ e.1 = cc in
-    ap (λ (b : Bool). cond b (Some e.1) (lookup (leaf_is leaf) es)) (ap (leaf_is leaf) (sym same) ∙ leaf_itself leaf) ∙ ap (λ (p : Place). Some p) (sym its)
-
--- a leaf that was brought to the front is the first
-pub set_in_front : (leaf : Leaf) (place w : Place) (es : Places) → lookup (leaf_is leaf) es ≡ Some place
-    → set_value (λ _. true) (promoted (leaf_is leaf) es) w ≡ set_value (leaf_is leaf) (promoted (leaf_is leaf) es) w
-set_in_front leaf place w es is =
-    ap (λ (l : Places). set_value (λ _. true) l w) (promoted_is leaf place es is)
-    ∙ ap (λ (b : Bool). cond b ((leaf, w) ∷ remove_entry (leaf_is leaf) es) ((leaf, place) ∷ set_value (leaf_is leaf) (remove_entry (leaf_is leaf) es) w)) (sym (leaf_itself leaf))
-    ∙ ap (λ (l : Places). set_value (leaf_is leaf) l w) (sym (promoted_is leaf place es is))
-
-pub value_in_front : (leaf : Leaf) (place : Place) (es : Places) → lookup (leaf_is leaf) es ≡ Some place → option_map (λ e. e.1) (slice_get (promoted (leaf_is leaf) es) 0) ≡ Some place
-value_in_front leaf place es is = ap (λ (l : Places). option_map (λ e. e.1) (slice_get l 0)) (promoted_is leaf place es is)
+    let its : slot ≡ e.1 = cc in
+    ap (λ (b : Bool). cond b (Some e.1) (lookup (leaf_is leaf) es)) (ap (leaf_is leaf) (sym same) ∙ leaf_itself leaf) ∙ ap (λ (n : ℕ). Some n) (sym its)
 
 -- a place that came, said of the cache that is seen
 pub put_over : (leaf : Leaf) (place : Place) (old mid new : Held) → mid ≡ old → new ≡ lru_cache ((leaf, place) ∷ mid.entries) mid.cap → new ≡ lru_cache ((leaf, place) ∷ old.entries) old.cap
 put_over leaf place old mid new same is = is ∙ ap (λ (h : Held). lru_cache ((leaf, place) ∷ h.entries) h.cap) same
-
--- what is read of the first place, once a leaf was brought to the front
-pub in_front : (leaf : Leaf) (old mid : Held) (there : Bool) (value : Option Place) → there ≡ is_some (lookup (leaf_is leaf) old.entries) → there ≡ true → mid ≡ lru_cache (promoted (leaf_is leaf) old.entries) old.cap
-    → value ≡ option_map (λ e. e.1) (slice_get mid.entries 0) → value ≡ lookup (leaf_is leaf) old.entries
-in_front leaf old mid there value told is now read = go (lookup (leaf_is leaf) old.entries) refl
-  where
-    go : (o : Option Place) → lookup (leaf_is leaf) old.entries ≡ o → value ≡ lookup (leaf_is leaf) old.entries
-    go None none = absurd (false≢true (sym (told ∙ ap is_some none) ∙ is))
-    go (Some place) some = read ∙ ap (λ (h : Held). option_map (λ e. e.1) (slice_get h.entries 0)) now ∙ value_in_front leaf place old.entries some ∙ sym some
-
--- and what is written to it is written to that leaf's
-pub written_front : (leaf : Leaf) (old mid : Held) (place w : Place) → mid ≡ lru_cache (promoted (leaf_is leaf) old.entries) old.cap → Some place ≡ lookup (leaf_is leaf) old.entries
-    → lru_cache (set_value (λ _. true) mid.entries w) mid.cap ≡ lru_cache (set_value (leaf_is leaf) (promoted (leaf_is leaf) old.entries) w) old.cap
-written_front leaf old mid place w now is =
-    ap (λ (h : Held). lru_cache (set_value (λ _. true) h.entries w) h.cap) now ∙ ap (λ (l : Places). lru_cache l old.cap) (set_in_front leaf place w old.entries (sym is))
 
 pub never_gone : (leaf : Leaf) (old : Held) (there : Bool) → there ≡ is_some (lookup (leaf_is leaf) old.entries) → there ≡ true → None ≡ lookup (leaf_is leaf) old.entries → ⊥
 never_gone leaf old there told is none = false≢true (ap is_some none ∙ sym told ∙ is)

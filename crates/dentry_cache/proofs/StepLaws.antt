@@ -8,11 +8,10 @@ use Rattle.std.proofs.lemmas.Option.{same_Some}
 use Rattle.std.proofs.lemmas.Map.Keys.{IsDistinct-head, IsDistinct-tail}
 use Rattle.std.specs.List.{AllByRecursion}
 use Rattle.sorted_map.proofs.NatKeys.{is_apart, is_same, same_or_apart}
-use Rattle.cached_frag.specs.declared.marks.Mark.{Mark}
-use Rattle.cached_frag.specs.Cached.{Cached, marked}
+use Rattle.cached_frag.specs.Cached.{Cached}
 use Rattle.dentry_cache.specs.Cache.{Leaf, leaf_is}
-use Rattle.dentry_cache.specs.CacheCalls.{Edits, IsEdited}
-use Rattle.dentry_cache.specs.CacheMap.{At, CacheMap, IsFree, IsFreeFor, at, at_rank, edited_as, first, given_up, goes, has_place, here, less, order, removed, roomy, used_at, victim, with_frag, with_mark}
+use Rattle.dentry_cache.specs.CacheCalls.{Edits, IsEdited, IsRewritten, Rewrites}
+use Rattle.dentry_cache.specs.CacheMap.{At, CacheMap, IsFree, IsFreeFor, at, at_rank, first, given_up, goes, has_place, here, less, order, removed, rewritten, roomy, used_at, victim, with_frag}
 use Rattle.dentry_cache.proofs.UncleanLaws.{last_passes}
 use Rattle.dentry_cache.proofs.LeafLaws.{leaf-total, leaf_itself, one_leaf, tied_leaf}
 
@@ -254,11 +253,6 @@ has_given_up c r leaf s q there distinct = go (same_or_apart r s)
         ap (list_any (leaf_is q)) (get_or-set_other c.used r s (less leaf (order c r)) [] (λ (e : s ≡ r). apart (sym e)))
         ∙ ap (λ (b : Bool). cond (b && leaf_is q leaf) false (has_place c s q)) (sym (is_apart r s apart))
 
-pub has_with_mark : (c : CacheMap) (r : ℕ) (leaf : Leaf) (name : List ℕ) (mark : Mark) (f : Cached) (s : ℕ) (q : Leaf) → r < length c.used → here c r leaf ≡ Some f
-    → has_place (with_mark c r leaf name mark) s q ≡ cond ((r == s) && leaf_is q leaf) true (has_place c s q)
-has_with_mark c r leaf name mark f s q there seen =
-    ap (λ (o : Option Cached). has_place (edited_as c r leaf (λ (g : Cached). marked g name mark) o) s q) seen ∙ has_with_frag c r leaf (marked f name mark) s q there
-
 -- ---- a fragment that was changed in some way
 
 -- how a statement of the caches before and after is proved
@@ -267,5 +261,14 @@ pub by_edits : (r : ℕ) (leaf : Leaf) (Change : Cached → Cached → Type 0) (
 by_edits r leaf Change old new e P so = go (here old r leaf) refl e
   where
     go : (o : Option Cached) → here old r leaf ≡ o → IsEdited Change r leaf o old new → P new
+    go None seen e = absurd e
+    go (Some f) seen e = subst P (sym e.2) (so f e.0 seen e.1)
+
+-- and where it stands
+pub by_rewrites : (r : ℕ) (leaf : Leaf) (Change : Cached → Cached → Type 0) (old new : CacheMap) → Rewrites Change r leaf old new → (P : CacheMap → Type 0)
+    → ((f now : Cached) → here old r leaf ≡ Some f → Change f now → P (rewritten old r leaf now)) → P new
+by_rewrites r leaf Change old new e P so = go (here old r leaf) refl e
+  where
+    go : (o : Option Cached) → here old r leaf ≡ o → IsRewritten Change r leaf o old new → P new
     go None seen e = absurd e
     go (Some f) seen e = subst P (sym e.2) (so f e.0 seen e.1)

@@ -17,7 +17,7 @@ use Rattle.cached_frag.specs.declared.marks.Mark.{Mark}
 use Rattle.cached_frag.specs.Cached.{Cached, is_clean}
 use Rattle.dentry_cache.specs.Loading.{Loads}
 use Rattle.dentry_cache.specs.declared.cache.Place.{Place}
-use Rattle.dentry_cache.specs.Cache.{Evicts, Held, IsNewest, IsUsed, Leaf, MakesRoom, MayMakeRoom, Places, TakesPlace, fragment_in, held, is_kept, leaf_is, unsaved_in, used_as}
+use Rattle.dentry_cache.specs.Cache.{Evicts, Held, IsUsed, Leaf, MakesRoom, MayMakeRoom, Places, TakesPlace, fragment_in, held, is_kept, leaf_is, unsaved_in, used_as}
 use Rattle.dentry_cache.specs.Fetches.{IsFetched, IsNotFetched, IsRefusedIn}
 use Rattle.dentry_cache.proofs.LeafLaws.{flips, leaf_itself, one_leaf}
 
@@ -101,11 +101,6 @@ is_used leaf old mid new there same told is = go (lookup (leaf_is leaf) old.entr
     go : (o : Option Place) → lookup (leaf_is leaf) old.entries ≡ o → IsUsed o leaf old new there
     go (Some place) found = (said ∙ ap (λ (o : Option Place). is_some o) found, now ∙ ap (λ (es : Places). lru_cache es old.cap) (promoted_is leaf place old.entries found))
     go None found = (said ∙ ap (λ (o : Option Place). is_some o) found, now ∙ ap (λ (es : Places). lru_cache es old.cap) (not_promoted leaf old.entries found))
-
--- the most recently used place is the first
-pub newest_from : (leaf one : Leaf) (place : Place) (places : Places) → leaf_is leaf one ≡ true → Some (one, place) ≡ slice_get places 0 → IsNewest leaf place places
-newest_from leaf one place [] same is = absurd cc
-newest_from leaf one place (e ∷ es) same is = (es, ap (λ (x : Leaf × Place). x ∷ es) (sym (same_Some (one, place) e is) ∙ ap (λ (l : Leaf). (l, place)) (sym (one_leaf leaf one same))))
 
 pub was_absent : (leaf : Leaf) (old new : Held) (there : Bool) (o : Option Place) → IsUsed o leaf old new there → there ≡ false → o ≡ None
 was_absent leaf old new there (Some place) u is = let clash : true ≡ false = sym u.0 ∙ is in cc

@@ -11,8 +11,8 @@ use Rattle.objstore.specs.Omap.{Omap}
 use Rattle.cached_frag.specs.declared.marks.Mark.{Mark}
 use Rattle.cached_frag.specs.Cached.{Cached, marked}
 use Rattle.dentry_cache.specs.Cache.{IsThere, Leaf, leaf_is}
-use Rattle.dentry_cache.specs.CacheCalls.{Edits, FetchesAt, IsWhole, KeepsNone, MakesRoomAt}
-use Rattle.dentry_cache.specs.CacheMap.{AreCaches, At, CacheMap, IsFree, IsFreeFor, at_rank, edited_as, given_up, has_place, here, order, roomy, used_at, with_frag, with_mark}
+use Rattle.dentry_cache.specs.CacheCalls.{Edits, FetchesAt, IsWhole, KeepsNone, MakesRoomAt, Rewrites}
+use Rattle.dentry_cache.specs.CacheMap.{AreCaches, At, CacheMap, IsFree, IsFreeFor, at_rank, edited_as, given_up, has_place, here, order, rewritten, roomy, used_at, with_frag, with_mark}
 use Rattle.dentry_cache.specs.CacheSplits.{AreAbsent, IsChildAt, IsFamilyAt}
 use Rattle.dentry_cache.specs.Reads.{Reads}
 use Rattle.dentry_cache.specs.Reads.Reads.{stays as it_stays, uses, grows, loads, room, frees}
@@ -21,7 +21,7 @@ use Rattle.dentry_cache.proofs.LacksLaws.{reads_placed, there_mid}
 use Rattle.dentry_cache.proofs.MapCalls.{free_roomy}
 use Rattle.dentry_cache.proofs.MapLaws.{here_free}
 use Rattle.dentry_cache.proofs.ReadsLaws.{reads_came}
-use Rattle.dentry_cache.proofs.StepLaws.{by_edits, by_room, has_given_up, here_given_up, here_put, here_with_frag, placed_given_up, placed_used}
+use Rattle.dentry_cache.proofs.StepLaws.{by_edits, by_rewrites, by_room, has_given_up, here_given_up, here_put, here_with_frag, placed_given_up, placed_used}
 use Rattle.dentry_cache.proofs.LeafLaws.{leaf_or_apart, one_leaf, same_leaf}
 
 -- a leaf that is used, and is there
@@ -31,6 +31,15 @@ whole_used c r leaf s q there whole placed = go (placed_used c r leaf s q placed
     go : (has_place c s q ≡ true) ⊎ ((s ≡ r) × (q ≡ leaf)) → IsThere (here c s q)
     go (inl before) = whole before
     go (inr one) = subst (λ (k : ℕ). IsThere (here c k q)) (sym one.0) (subst (λ (l : Leaf). IsThere (here c r l)) (sym one.1) there)
+
+-- a fragment is at one rank
+at_one_rank : (o : Option At) (r s : ℕ) (f : Cached) → at_rank r o ≡ Some f → IsThere (at_rank s o) → r ≡ s
+at_one_rank None r s f seen is = absurd is
+at_one_rank (Some a) r s f seen is = by (same_or_apart a.rank s)
+  where
+    by : (a.rank ≡ s) ⊎ (a.rank ≡ s → ⊥) → r ≡ s
+    by (inl same) = sym (here_free r (Some a) (ap (λ (o : Option Cached). is_some o) seen)) ∙ same
+    by (inr apart) = absurd (subst IsThere (ap (λ b. cond b (Some a.frag) None) (is_apart a.rank s apart)) is)
 
 pub whole_with_frag : (c : CacheMap) (r : ℕ) (leaf : Leaf) (f : Cached) (s : ℕ) (q : Leaf) → IsFreeFor c r leaf → IsWhole c s q → IsWhole (with_frag c r leaf f) s q
 whole_with_frag c r leaf f s q free whole placed = go (placed_used c r leaf s q placed)
@@ -67,6 +76,16 @@ whole_given_up c r leaf s q there distinct whole placed =
 pub whole_roomy : (c mid : CacheMap) (r : ℕ) (stay : Option Leaf) (s : ℕ) (q : Leaf) → r < length c.used → IsDistinct leaf_is (order c r) → roomy c r stay ≡ Some mid → IsWhole c s q → IsWhole mid s q
 whole_roomy c mid r stay s q there distinct made whole = by_room c mid r stay made (λ (k : CacheMap). IsWhole k s q) whole (λ v passes. whole_given_up c r v s q there distinct whole)
 
+-- a fragment that is there is another where it stands
+pub whole_rewritten : (c : CacheMap) (r : ℕ) (leaf : Leaf) (f now : Cached) (s : ℕ) (q : Leaf) → here c r leaf ≡ Some f → IsWhole c s q → IsWhole (rewritten c r leaf now) s q
+whole_rewritten c r leaf f now s q seen whole placed = subst IsThere (sym (here_with_frag c r leaf now s q)) (still (leaf_is q leaf) refl (whole placed))
+  where
+    still : (b : Bool) → leaf_is q leaf ≡ b → IsThere (here c s q) → IsThere (cond b (cond (r == s) (Some now) None) (here c s q))
+    still true one is =
+        let same : r ≡ s = at_one_rank (finmap.get c.held leaf) r s f seen (subst (λ (l : Leaf). IsThere (here c s l)) (one_leaf q leaf one) is) in
+        subst (λ (b : Bool). IsThere (cond b (Some now) None)) (sym (is_same r s same)) tt
+    still false one is = is
+
 -- ---- no place is kept
 
 pub none_used : (c new : CacheMap) (r : ℕ) (leaf : Leaf) → IsThere (here c r leaf) → KeepsNone c → new ≡ used_at c r leaf → KeepsNone new
@@ -79,12 +98,15 @@ pub none_edits : (old new : CacheMap) (r : ℕ) (leaf : Leaf) (Change : Cached �
 none_edits old new r leaf Change none e =
     by_edits r leaf Change old new e KeepsNone (λ f now seen change s q. whole_with_frag old r leaf now s q (here_free r (finmap.get old.held leaf) (ap (λ (o : Option Cached). is_some o) seen)) (none s q))
 
+pub none_rewrites : (old new : CacheMap) (r : ℕ) (leaf : Leaf) (Change : Cached → Cached → Type 0) → KeepsNone old → Rewrites Change r leaf old new → KeepsNone new
+none_rewrites old new r leaf Change none e = by_rewrites r leaf Change old new e KeepsNone (λ f now seen change s q. whole_rewritten old r leaf f now s q seen (none s q))
+
 pub none_with_mark : (c new : CacheMap) (r : ℕ) (leaf : Leaf) (name : List ℕ) (mark : Mark) → KeepsNone c → new ≡ with_mark c r leaf name mark → KeepsNone new
 none_with_mark c new r leaf name mark none is = subst KeepsNone (sym is) (go (here c r leaf) refl)
   where
     go : (o : Option Cached) → here c r leaf ≡ o → KeepsNone (edited_as c r leaf (λ (f : Cached). marked f name mark) o)
     go None seen s q = none s q
-    go (Some f) seen s q = whole_with_frag c r leaf (marked f name mark) s q (here_free r (finmap.get c.held leaf) (ap (λ (o : Option Cached). is_some o) seen)) (none s q)
+    go (Some f) seen s q = whole_rewritten c r leaf f (marked f name mark) s q seen (none s q)
 
 pub none_given_up : (c new : CacheMap) (r : ℕ) (leaf : Leaf) → r < length c.used → AreCaches c → KeepsNone c → new ≡ given_up c r leaf → KeepsNone new
 none_given_up c new r leaf there valid none is = subst KeepsNone (sym is) (λ s q. whole_given_up c r leaf s q there (valid.distinct r) (none s q))
@@ -128,7 +150,7 @@ module _ (Uses Ends : ℕ → Leaf → Type 0) (objects : Objects) (old : CacheM
       go (inl rank) (inr apart) was = then_whole mid (used_at mid r leaf) s q (beside (λ both. let clash : true ≡ false = sym (same_leaf q leaf both.1) ∙ apart in absurd cc)) was
       go (inr other) either was = then_whole mid (used_at mid r leaf) s q (beside (λ both. other both.0)) was
   reads_whole _ (grows mid r leaf f now before named seen same) s q =
-      then_whole mid (with_frag mid r leaf now) s q (whole_with_frag mid r leaf now s q (here_free r (finmap.get mid.held leaf) (ap (λ (o : Option Cached). is_some o) seen))) (reads_whole mid before s q)
+      then_whole mid (rewritten mid r leaf now) s q (whole_rewritten mid r leaf f now s q seen) (reads_whole mid before s q)
   reads_whole _ (loads mid r leaf f before named none spelt) s q = then_whole mid (with_frag mid r leaf f) s q (whole_with_frag mid r leaf f s q (subst (IsFree r) (sym none) tt)) (reads_whole mid before s q)
   reads_whole _ (room mid new r leaf stay before named none kept is) s q =
       then_whole mid new s q

@@ -1,7 +1,7 @@
 -- What a contract sees of a cache: its places, the most recently used first.
 use Rattle.std.specs.Prelude.{◌≡◌, ℕ, ◌<◌, ◌≤◌, ◌⊎◌, Bool, true, false, cond, not, ◌&&◌, List, [], ◌∷◌, ◌++◌, length, Option, Some, None}
 use Rattle.std.specs.List.{AllByRecursion}
-use Rattle.std.specs.Map.{lookup, remove_entry}
+use Rattle.std.specs.Map.{lookup, remove_entry, set_value}
 use Rattle.std.specs.FinMap as finmap
 use Rattle.lru.specs.LruCache.{LruCache, lru_cache}
 pub use Rattle.mds_types.specs.Leaf.{Leaf, leaf_cmp, leaf_is}
@@ -129,14 +129,16 @@ abbrev pub IsChanged : Option Cached → (Cached → Cached → Type 0) → Leaf
 IsChanged None Change leaf old new = ⊥
 IsChanged (Some f) Change leaf old new = (now : Cached) × Change f now × (new ≡ used_as leaf (held now) old)
 
+-- the fragment of a leaf was changed so, where it stands; the order of use and the other places are as they were
+abbrev pub IsWritten : Option Cached → (Cached → Cached → Type 0) → Leaf → Held → Held → Type 0
+IsWritten None Change leaf old new = ⊥
+IsWritten (Some f) Change leaf old new =
+    (now : Cached) × Change f now × (new ≡ lru_cache (set_value (leaf_is leaf) old.entries (held now)) old.cap)
+
 -- the place of a leaf is the most recently used; a leaf that has none changes nothing
 abbrev pub IsUsed : Option Place → Leaf → Held → Held → Bool → Type 0
 IsUsed (Some place) leaf old new there = (there ≡ true) × (new ≡ used_as leaf place old)
 IsUsed None leaf old new there = (there ≡ false) × (new ≡ old)
-
--- a leaf's place is the most recently used
-abbrev pub IsNewest : Leaf → Place → Places → Type 0
-IsNewest leaf place places = (rest : Places) × (places ≡ (leaf, place) ∷ rest)
 
 -- ---- what isn't clean
 

@@ -7,7 +7,7 @@ use Rattle.objstore.specs.Omap.{Omap}
 use Rattle.cached_frag.specs.Cached.{Cached, is_clean}
 use Rattle.std.specs.FinMap as finmap
 use Rattle.dentry_cache.specs.Cache.{IsThere, Leaf}
-use Rattle.dentry_cache.specs.CacheMap.{CacheMap, goes, has_place, here, order, roomy, used_at, with_frag}
+use Rattle.dentry_cache.specs.CacheMap.{CacheMap, goes, has_place, here, order, rewritten, roomy, used_at, with_frag}
 use Rattle.dentry_cache.specs.Loading.{Loads}
 
 -- the fragment of a leaf at a rank is another, which this relates to it, and is the most recently used
@@ -17,6 +17,14 @@ IsEdited Change r leaf (Some f) old new = (now : Cached) × Change f now × (new
 
 abbrev pub Edits : (Cached → Cached → Type 0) → ℕ → Leaf → (old new : CacheMap) → Type 0
 Edits Change r leaf old new = IsEdited Change r leaf (here old r leaf) old new
+
+-- the same, but the order of use stays
+abbrev pub IsRewritten : (Cached → Cached → Type 0) → ℕ → Leaf → Option Cached → (old new : CacheMap) → Type 0
+IsRewritten Change r leaf None old new = ⊥
+IsRewritten Change r leaf (Some f) old new = (now : Cached) × Change f now × (new ≡ rewritten old r leaf now)
+
+abbrev pub Rewrites : (Cached → Cached → Type 0) → ℕ → Leaf → (old new : CacheMap) → Type 0
+Rewrites Change r leaf old new = IsRewritten Change r leaf (here old r leaf) old new
 
 -- no place is kept at a rank for a fragment of this leaf that will be made: where it has a place, its fragment is in it
 abbrev pub IsWhole : CacheMap → ℕ → Leaf → Type 0

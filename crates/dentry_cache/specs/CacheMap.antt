@@ -63,7 +63,7 @@ less leaf (x ∷ xs) = cond (leaf_is leaf x) xs (x ∷ less leaf xs)
 abbrev pub first : Leaf → List Leaf → List Leaf
 first leaf xs = leaf ∷ less leaf xs
 
--- ---- the three steps
+-- ---- the four steps
 
 -- a leaf's place at a rank is the most recently used
 abbrev pub used_at : CacheMap → ℕ → Leaf → CacheMap
@@ -73,6 +73,10 @@ used_at c r leaf = record c { used = set c.used r (first leaf (order c r)) }
 abbrev pub with_frag : CacheMap → ℕ → Leaf → Cached → CacheMap
 with_frag c r leaf f =
     record { held = finmap.insert c.held leaf (at r f); used = set c.used r (first leaf (order c r)); cap = c.cap }
+
+-- a rank's fragment of a leaf is this one now; the order of use stays
+abbrev pub rewritten : CacheMap → ℕ → Leaf → Cached → CacheMap
+rewritten c r leaf f = record c { held = finmap.insert c.held leaf (at r f) }
 
 abbrev pub removed : finmap.FinMap leaf_cmp At → Leaf → Option Cached → finmap.FinMap leaf_cmp At
 removed m leaf (Some f) = finmap.remove m leaf
@@ -85,9 +89,9 @@ given_up c r leaf =
 
 -- ---- what calls make of them
 
--- the fragment of a leaf at a rank was changed so, and is the most recently used
+-- the fragment of a leaf at a rank was changed so
 abbrev pub edited_as : CacheMap → ℕ → Leaf → (Cached → Cached) → Option Cached → CacheMap
-edited_as c r leaf g (Some f) = with_frag c r leaf (g f)
+edited_as c r leaf g (Some f) = rewritten c r leaf (g f)
 edited_as c r leaf g None = c
 
 abbrev pub edited : CacheMap → ℕ → Leaf → (Cached → Cached) → CacheMap

@@ -9,7 +9,7 @@ use Rattle.mds_types.specs.declared.refusals.Refusal.{Refusal}
 use Rattle.mds_types.specs.declared.refusals.Refusal.TheVariants.{NoMemory, NothingToEvict}
 use Rattle.dentry_cache.specs.declared.parts.Part.{Part}
 use Rattle.dentry_cache.specs.Cache.{HasCached, Leaf, Unsaved, leaf_cmp, unsaved_in, with_unsaved}
-use Rattle.dentry_cache.specs.CacheCalls.{CanKeep, CanNotKeep, Edits, IsAbsent, KeepsAt, kept_at, unclean_at}
+use Rattle.dentry_cache.specs.CacheCalls.{CanKeep, CanNotKeep, IsAbsent, KeepsAt, Rewrites, kept_at, unclean_at}
 use Rattle.dentry_cache.specs.CacheMap.{CacheMap, given_up, has_place, here, roomy, with_frag}
 use Rattle.dentry_cache.specs.Divided.{AreChildren, AreReady}
 use Rattle.dentry_cache.specs.Parting.{AreApart}
@@ -67,7 +67,7 @@ KeepsAll r dir frag bits old new = KeepsChildren r dir frag bits (2 ^ bits) old 
 -- kept for each of these
 abbrev pub ReadiesAt : ℕ → Ino → Fragment → ℕ → (old new : CacheMap) → Type 0
 ReadiesAt r dir frag bits old new =
-    (mid : CacheMap) × Edits IsButPlaces r (dir, frag) old mid × KeepsAll r dir frag bits mid new
+    (mid : CacheMap) × Rewrites IsButPlaces r (dir, frag) old mid × KeepsAll r dir frag bits mid new
 
 -- no name changed, none but the fragment and its children were used, and places of children at most were given up
 abbrev pub ReadsFamily : ℕ → Ino → Fragment → ℕ → (old new : CacheMap) → Type 0
@@ -91,7 +91,7 @@ WantsChild r dir frag bits old new =
 -- it came so, or before any place was taken; the fragment is the most recently used
 abbrev pub WantsAt : ℕ → Ino → Fragment → ℕ → (old new : CacheMap) → Type 0
 WantsAt r dir frag bits old new =
-    (mid : CacheMap) × Edits IsButPlaces r (dir, frag) old mid × ((new ≡ mid) ⊎ WantsChild r dir frag bits mid new)
+    (mid : CacheMap) × Rewrites IsButPlaces r (dir, frag) old mid × ((new ≡ mid) ⊎ WantsChild r dir frag bits mid new)
 
 -- why nothing was made ready, and what that leaves: where fewer places of the rank are free or can become so than there
 -- will be children, beside that of the fragment, all as it was; where as many are it was want of memory

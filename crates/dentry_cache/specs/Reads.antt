@@ -3,7 +3,7 @@ use Rattle.std.specs.Prelude.{◌≡◌, ◌⊎◌, ℕ, false, Option, Some, No
 use Rattle.std.specs.FinMap as finmap
 use Rattle.objstore.specs.Objects.{Objects}
 use Rattle.cached_frag.specs.Cached.{Cached}
-use Rattle.dentry_cache.specs.CacheMap.{At, CacheMap, at, given_up, has_place, here, roomy, used_at, with_frag}
+use Rattle.dentry_cache.specs.CacheMap.{At, CacheMap, at, given_up, has_place, here, rewritten, roomy, used_at, with_frag}
 use Rattle.dentry_cache.specs.Came.{StaysNamed}
 use Rattle.dentry_cache.specs.Loading.{Loads, object_of}
 use Rattle.dentry_cache.specs.Cache.{Leaf}
@@ -21,7 +21,7 @@ pub data Reads (Uses Ends : ℕ → Leaf → Type 0) (objects : Objects) (old : 
       → Reads Uses Ends objects old (used_at mid r leaf)
   grows : (mid : CacheMap) (r : ℕ) (leaf : Leaf) (f now : Cached)
       → Reads Uses Ends objects old mid → Uses r leaf → here mid r leaf ≡ Some f → IsButRoom f now
-      → Reads Uses Ends objects old (with_frag mid r leaf now)
+      → Reads Uses Ends objects old (rewritten mid r leaf now)
   loads : (mid : CacheMap) (r : ℕ) (leaf : Leaf) (f : Cached)
       → Reads Uses Ends objects old mid → Uses r leaf → finmap.get mid.held leaf ≡ None
       → Loads leaf.1 (object_of objects leaf.0 leaf.1) (Some f)

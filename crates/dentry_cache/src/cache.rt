@@ -1,8 +1,8 @@
 //! `Cache`, what a contract sees of it, and the calls that read it.
-ghost use Rattle.std.specs.Prelude.{◌≡◌, ◌≤◌, [], length, is_some, IfOk, IfSome, option_copied};
+ghost use Rattle.std.specs.Prelude.{◌≡◌, ◌≤◌, [], length, is_some, IfOk, option_copied};
 ghost use Rattle.std.specs.Map.{lookup};
 ghost use Rattle.lru.specs.LruCache.{lru_cache};
-ghost use Rattle.dentry_cache.specs.Cache.{IsNewest, IsUsed, cached, leaf_is};
+ghost use Rattle.dentry_cache.specs.Cache.{IsUsed, cached, leaf_is};
 ghost use Rattle.dentry_cache.specs.Places.{IsCache};
 
 use crate::candidates::Candidates;
@@ -104,20 +104,6 @@ impl Cache {
     fn find(&self, dir: Ino, frag: Frag) -> Option<&Place>
         ensures { option_copied result ≡ lookup (leaf_is (dir, frag)) self.now.entries }
     {
-        match self.newest(dir, frag) {
-            Some(place) => Some(place),
-            None => self.places.peek(&(dir, frag)),
-        }
-    }
-
-    /// The place of a leaf, if it is the most recently used: of the calls of one operation most ask for that one, and no
-    /// key is hashed for it.
-    pub(crate) fn newest(&self, dir: Ino, frag: Frag) -> Option<&Place>
-        ensures { IfSome result (λ place. IsNewest (dir, frag) place.now self.now.entries) }
-    {
-        match self.places.peek_mru() {
-            Some((leaf, place)) if &(dir, frag) == leaf => Some(place),
-            _ => None,
-        }
+        self.places.peek(&(dir, frag))
     }
 }

@@ -12,7 +12,7 @@ ghost use Rattle.cached_frag.specs.Moving.{TakesIn};
 ghost use Rattle.mds_types.specs.declared.refusals.Refusal.TheVariants.{NothingToEvict};
 ghost use Rattle.mds_types.specs.Leaf.{leaf_of};
 ghost use Rattle.dentry_cache.specs.Cache.{HasCached, HasRoom, IsThere};
-ghost use Rattle.dentry_cache.specs.CacheCalls.{Edits, FetchesAt, IsAbsent, IsRefusedAt, IsWhole, KeepsAt, MakesRoomAt, MayNotFetchAt, MayNotKeepAt};
+ghost use Rattle.dentry_cache.specs.CacheCalls.{Edits, FetchesAt, IsAbsent, IsRefusedAt, IsWhole, KeepsAt, MakesRoomAt, MayNotFetchAt, MayNotKeepAt, Rewrites};
 ghost use Rattle.dentry_cache.specs.CacheMap.{AreCaches, IsFreeFor, evicted, frag_of, given_up, has_place, here, no_caches, order, used_at, with_frag, with_mark};
 ghost use Rattle.dentry_cache.specs.CacheSplits.{IsButPlaces, IsReadyAt};
 ghost use Rattle.dentry_cache.specs.Divided.{AreNumbered};
@@ -96,7 +96,7 @@ impl Caches {
     }
 
     /// Gives a name of a fragment this inode, whether it was there or not. The name is dirty then, at this version.
-    /// Takes no memory.
+    /// The order of use stays. Takes no memory.
     pub fn put(&mut self, at: Dirfrag, name: Name, inode: Inode, version: u64)
         requires there { at.rank.0 < length self.old.used }
         requires recordable { IsRecordable inode }
@@ -107,8 +107,8 @@ impl Caches {
         self.caches[at.rank.0 as usize].put(at.dir, at.frag, name, inode, version);
     }
 
-    /// Removes a name of a fragment, whether it was there or not. The name is dirty then, at this version. Takes no
-    /// memory.
+    /// Removes a name of a fragment, whether it was there or not. The name is dirty then, at this version. The order of
+    /// use stays. Takes no memory.
     pub fn erase(&mut self, at: Dirfrag, name: Name, version: u64)
         requires there { at.rank.0 < length self.old.used }
         requires room { HasRoom (here self.old at.rank.0 (leaf_of at)) }
@@ -118,14 +118,14 @@ impl Caches {
         self.caches[at.rank.0 as usize].erase(at.dir, at.frag, name, version);
     }
 
-    /// Makes room for so many changes of names of a fragment.
+    /// Makes room for so many changes of names of a fragment. The order of use stays.
     pub fn reserve(&mut self, at: Dirfrag, changes: usize) -> Result<(), AllocError>
         requires there { at.rank.0 < length self.old.used }
         requires cached { IsThere (here self.old at.rank.0 (leaf_of at)) }
-        ensures same { Edits (λ (f now : Cached). (now ≡ record f { room = now.room })
+        ensures same { Rewrites (λ (f now : Cached). (now ≡ record f { room = now.room })
             × (f.room ≤ now.room)) at.rank.0 (leaf_of at) self.old self.new }
         ensures room { OnOk result
-            (Edits (λ (f now : Cached). changes ≤ now.room) at.rank.0 (leaf_of at) self.old self.new) }
+            (Rewrites (λ (f now : Cached). changes ≤ now.room) at.rank.0 (leaf_of at) self.old self.new) }
         ensures ready { HasCached (here self.old at.rank.0 (leaf_of at))
             (λ (f : Cached). changes ≤ f.room) → IsOk result }
     {
@@ -287,7 +287,7 @@ impl Caches {
         requires deep { at.now.frag.bits + bits ≤ 24 }
         requires numbers { generation + 2 ^ bits ≤ 2 ^ 64 }
         requires cached { IsThere (here self.old at.now.rank.0 (leaf_of at.now)) }
-        ensures same { Edits IsButPlaces at.now.rank.0 (leaf_of at.now) self.old self.new }
+        ensures same { Rewrites IsButPlaces at.now.rank.0 (leaf_of at.now) self.old self.new }
         ensures ready { IfOk result (IsReadyAt at.now.rank.0 at.now.dir at.now.frag bits self.new) }
         ensures numbered { IfOk result (λ parts. AreNumbered generation parts) }
         ensures before { AreCaches self.old }

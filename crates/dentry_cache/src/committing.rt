@@ -5,7 +5,7 @@ ghost use Rattle.objstore.specs.Objects.{MayRefuse, faults_told, written};
 ghost use Rattle.std.specs.Result.{result_err};
 ghost use Rattle.cached_frag.specs.Snap.{IsBelowEnd, IsSnap};
 ghost use Rattle.cached_frag.specs.Cached.{Cached};
-ghost use Rattle.dentry_cache.specs.Cache.{HasCached, IsChanged, IsThere, cached};
+ghost use Rattle.dentry_cache.specs.Cache.{HasCached, IsChanged, IsThere, IsWritten, cached};
 ghost use Rattle.dentry_cache.specs.Commits.{IsSettled, IsCommitted, MayNotBegin, Takes, leaf_text};
 
 use crate::cache::Cache;
@@ -64,6 +64,7 @@ impl Cache {
         let job = encoded.job();
         let names = job.snapshot.names();
         let version = job.snapshot.base().next_version();
+        let _ = self.touch(job.ino, job.frag);
         let ready = self.reserve_settled(job.ino, job.frag, names.len());
         if ready.is_err() {
             return Err(Refusal::NoMemory);
@@ -75,7 +76,7 @@ impl Cache {
         Ok(())
     }
 
-    // Makes room for so many names of a fragment to become clean.
+    // Makes room for so many names of a fragment to become clean. The order of use stays.
     pub(crate) fn reserve_settled(
         &mut self,
         dir: Ino,
@@ -83,27 +84,25 @@ impl Cache {
         names: usize,
     ) -> Result<(), AllocError>
         requires { IsThere (cached self.old.entries (dir, frag)) }
-        ensures same { IsChanged (cached self.old.entries (dir, frag))
+        ensures same { IsWritten (cached self.old.entries (dir, frag))
             (λ (f now : Cached). now ≡ record f { places = now.places }) (dir, frag) self.old self.new }
         ensures room { OnOk result
             (HasCached (cached self.new.entries (dir, frag)) (λ (f : Cached). names ≤ f.places)) }
         ensures ready { HasCached (cached self.old.entries (dir, frag))
             (λ (f : Cached). names ≤ f.places) → IsOk result }
     {
-        let _ = self.touch(dir, frag);
         let Some(place) = self.places.peek_mut(&(dir, frag)) else {
             return Ok(());
         };
         place.frag.reserve_settled(names)
     }
 
-    // Makes the names of a snapshot clean that haven't changed since.
+    // Makes the names of a snapshot clean that haven't changed since. The order of use stays.
     fn settle(&mut self, dir: Ino, frag: Frag, names: &DirtyNames, version: u64)
         requires { HasCached (cached self.old.entries (dir, frag)) (λ (f : Cached). map.len names.now ≤ f.places) }
-        ensures { IsChanged (cached self.old.entries (dir, frag))
+        ensures { IsWritten (cached self.old.entries (dir, frag))
             (IsSettled names.now version) (dir, frag) self.old self.new }
     {
-        let _ = self.touch(dir, frag);
         let Some(place) = self.places.peek_mut(&(dir, frag)) else {
             return;
         };

@@ -1,8 +1,9 @@
-//! Names of cached fragments, changed. Each use makes its fragment the most recently used.
+//! Names of cached fragments, changed where the fragments stand. What an operation changes it has looked for, which was
+//! the use: so a change leaves the order of use alone.
 ghost use Rattle.std.specs.Prelude.{◌≡◌, ◌≤◌, true, IsOk, Some, None, OnOk, OnErr};
 ghost use Rattle.dirfrag_codec.specs.EntryRecord.{IsRecordable};
 ghost use Rattle.cached_frag.specs.Cached.{Cached, marked};
-ghost use Rattle.dentry_cache.specs.Cache.{HasCached, HasRoom, IsChanged, IsThere, cached};
+ghost use Rattle.dentry_cache.specs.Cache.{HasCached, HasRoom, IsWritten, IsThere, cached};
 
 use crate::cache::Cache;
 use mds_types::{Frag, Ino, Inode, Name};
@@ -14,15 +15,12 @@ impl Cache {
     pub fn put(&mut self, dir: Ino, frag: Frag, name: Name, inode: Inode, version: u64)
         requires recordable { IsRecordable inode }
         requires room { HasRoom (cached self.old.entries (dir, frag)) }
-        ensures { IsChanged (cached self.old.entries (dir, frag))
+        ensures { IsWritten (cached self.old.entries (dir, frag))
             (λ (f now : Cached). now ≡ marked f name (record { version = version; inode = Some inode }))
             (dir, frag) self.old self.new }
     {
-        if !self.places.touch(&(dir, frag)) {
+        let Some(place) = self.places.peek_mut(&(dir, frag)) else {
             return;
-        }
-        let Some(place) = self.places.newest_mut() else {
-            unreachable!()
         };
         let was = place.size();
         place.frag.put(name, inode, version);
@@ -34,15 +32,12 @@ impl Cache {
     /// memory.
     pub fn erase(&mut self, dir: Ino, frag: Frag, name: Name, version: u64)
         requires { HasRoom (cached self.old.entries (dir, frag)) }
-        ensures { IsChanged (cached self.old.entries (dir, frag))
+        ensures { IsWritten (cached self.old.entries (dir, frag))
             (λ (f now : Cached). now ≡ marked f name (record { version = version; inode = None }))
             (dir, frag) self.old self.new }
     {
-        if !self.places.touch(&(dir, frag)) {
+        let Some(place) = self.places.peek_mut(&(dir, frag)) else {
             return;
-        }
-        let Some(place) = self.places.newest_mut() else {
-            unreachable!()
         };
         let was = place.size();
         place.frag.erase(name, version);
@@ -53,36 +48,18 @@ impl Cache {
     /// Makes room for so many changes of names of a fragment.
     pub fn reserve(&mut self, dir: Ino, frag: Frag, changes: usize) -> Result<(), AllocError>
         requires { IsThere (cached self.old.entries (dir, frag)) }
-        ensures same { IsChanged (cached self.old.entries (dir, frag))
+        ensures same { IsWritten (cached self.old.entries (dir, frag))
             (λ (f now : Cached). (now ≡ record f { room = now.room })
             × (f.room ≤ now.room)) (dir, frag) self.old self.new }
         ensures room { OnOk result
-            (IsChanged (cached self.old.entries (dir, frag)) (λ (f now : Cached). changes ≤ now.room)
+            (IsWritten (cached self.old.entries (dir, frag)) (λ (f now : Cached). changes ≤ now.room)
             (dir, frag) self.old self.new) }
         ensures ready { HasCached (cached self.old.entries (dir, frag))
             (λ (f : Cached). changes ≤ f.room) → IsOk result }
     {
-        // mostly the leaf is the newest and the room is there, and then no key is hashed
-        if self.has_room(dir, frag, changes) {
-            let _ = self.touch(dir, frag);
+        let Some(place) = self.places.peek_mut(&(dir, frag)) else {
             return Ok(());
-        }
-        if !self.places.touch(&(dir, frag)) {
-            return Ok(());
-        }
-        let Some(place) = self.places.newest_mut() else {
-            unreachable!()
         };
         place.frag.reserve(changes)
-    }
-
-    // Whether a fragment is the most recently used, with room for so many changes of names.
-    fn has_room(&self, dir: Ino, frag: Frag, changes: usize) -> bool
-        ensures { result ≡ true → HasCached (cached self.now.entries (dir, frag)) (λ (f : Cached). changes ≤ f.room) }
-    {
-        match self.newest(dir, frag) {
-            Some(place) if !place.kept => changes <= place.frag.room(),
-            _ => false,
-        }
     }
 }

@@ -58,7 +58,7 @@ impl Cache {
         if !self.places.touch(&(dir, frag)) {
             unreachable!()
         }
-        let Some(place) = self.places.newest_mut() else {
+        let Some(place) = self.places.peek_mut(&(dir, frag)) else {
             unreachable!()
         };
         place.frag = fragment;

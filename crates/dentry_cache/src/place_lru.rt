@@ -1,5 +1,5 @@
 //! `PlaceLru`: the places of a cache in the order of their use. Each stands in a slot, and the order keeps the slot's
-//! number alone, so the most recently used one is found, and lent for a change, with no key hashed.
+//! number alone, so a place that was found is found again, and lent for a change, with no key hashed.
 ghost use Rattle.std.specs.Prelude.{◌≡◌, ◌<◌, ◌≤◌, ◌∷◌, true, None, [], OnErr, OnOk, length, slice_get, is_some, IfOk, option_map, option_copied};
 ghost use Rattle.std.specs.Option.{option_copied_mut};
 ghost use Rattle.std.specs.Borrow.{sem};
@@ -9,13 +9,14 @@ ghost use Rattle.std.specs.Map.Iter.{deref_pair};
 ghost use Rattle.lru.specs.LruCache.{lru_cache, promoted};
 ghost use Rattle.dentry_cache.specs.Cache.{leaf_is};
 ghost use Rattle.dentry_cache.specs.Places.{IsCache};
-ghost use Rattle.dentry_cache.specs.Slots.{slot_at};
+ghost use Rattle.dentry_cache.specs.Slots.{AreSlotted, slot_at};
 
 use crate::cache::Place;
 use crate::place_iters::PlaceIter;
 use lru::LruCache;
 use mds_types::{Frag, Ino};
 use std::alloc::{AllocError, Global};
+use std::cell::Cell;
 use std::marker::Model;
 use std::num::NonZeroUsize;
 
@@ -32,6 +33,15 @@ pub(crate) struct PlaceLru {
     // the slot of each leaf's place
     order: LruCache<(Ino, Frag), usize>,
     slots: Vec<Slot>,
+    // where those are that were found last
+    near: Cell<Near>,
+}
+
+/// The slots of the two places that were found last: one operation asks for them again.
+#[derive(Clone, Copy, Debug)]
+struct Near {
+    last: usize,
+    before: usize,
 }
 
 impl Model for PlaceLru {
@@ -59,6 +69,7 @@ impl PlaceLru {
         Ok(PlaceLru {
             order: LruCache::sparse(alloc, cap)?,
             slots: Vec::new(alloc),
+            near: Cell::new(Near { last: 0, before: 0 }),
         })
     }
 
@@ -81,8 +92,8 @@ impl PlaceLru {
     pub(crate) fn peek(&self, leaf: &(Ino, Frag)) -> Option<&Place>
         ensures { option_copied result ≡ lookup (leaf_is leaf.now) self.now.entries }
     {
-        match self.order.peek(leaf) {
-            Some(slot) => Some(&self.slots[*slot].place),
+        match slot_of(&self.order, &self.slots, &self.near, leaf) {
+            Some(slot) => Some(&self.slots[slot].place),
             None => None,
         }
     }
@@ -95,23 +106,13 @@ impl PlaceLru {
         self.order.promote(leaf)
     }
 
-    /// The most recently used place, and whose it is.
-    pub(crate) fn peek_mru(&self) -> Option<(&(Ino, Frag), &Place)>
-        ensures { option_map deref_pair result ≡ slice_get self.now.entries 0 }
-    {
-        match self.order.peek_mru() {
-            Some((leaf, slot)) => Some((leaf, &self.slots[*slot].place)),
-            None => None,
-        }
-    }
-
     /// A leaf's place, to write to. The order of use stays.
     pub(crate) fn peek_mut(&mut self, leaf: &(Ino, Frag)) -> Option<&mut Place>
         ensures* writes_back { sem 𝓛 (lends_place self.entry (leaf_is leaf.now) self.old.entries result) }
         ensures value { option_copied_mut result ≡ lookup (leaf_is leaf.now) self.old.entries }
     {
-        let slot = match self.order.peek(leaf) {
-            Some(slot) => *slot,
+        let slot = match slot_of(&self.order, &self.slots, &self.near, leaf) {
+            Some(slot) => slot,
             None => return None,
         };
         // The contract of `len` is what says here that no leaf has two places.
@@ -136,12 +137,21 @@ impl PlaceLru {
         ensures value { result ≡ is_some (lookup (leaf_is leaf.now) self.old.entries) }
         ensures entries { self.new ≡ lru_cache (promoted (leaf_is leaf.now) self.old.entries) self.old.cap }
     {
-        if let Some((newest, _)) = self.peek_mru() {
+        if let Some((newest, _)) = self.order.peek_mru() {
             if newest == leaf {
                 return true;
             }
         }
-        self.promote(leaf)
+        let there = self.promote(leaf);
+        self.note_newest();
+        there
+    }
+
+    // The most recently used place was found.
+    fn note_newest(&self) {
+        if let Some((_, slot)) = self.order.peek_mru() {
+            note(&self.near, *slot);
+        }
     }
 
     /// Gives a leaf that has none a place, where one more may be, as the most recently used. An error says that memory
@@ -155,9 +165,11 @@ impl PlaceLru {
         // The contract of `len` is what says here that no leaf has two places.
         let _ = self.order.len();
         self.slots.reserve(1)?;
-        match self.order.put(*leaf, self.slots.len()) {
+        let number = self.slots.len();
+        match self.order.put(*leaf, number) {
             Ok(_) => {
                 self.slots.push_reserved(Slot { leaf: *leaf, place });
+                note(&self.near, number);
                 Ok(())
             }
             Err(_) => Err(AllocError),
@@ -179,20 +191,48 @@ impl PlaceLru {
         renumber(&mut self.order, &self.slots, number);
         Some(slot.place)
     }
+}
 
-    /// The most recently used place, to write to.
-    pub(crate) fn newest_mut(&mut self) -> Option<&mut Place>
-        ensures* writes_back { sem 𝓛 (lends_place self.entry (λ _. true) self.old.entries result) }
-        ensures value { option_copied_mut result ≡ option_map (λ e. e.1) (slice_get self.old.entries 0) }
-    {
-        let slot = match self.order.peek_mru() {
-            Some((_, slot)) => *slot,
-            None => return None,
-        };
-        // The contract of `len` is what says here that no leaf has two places.
-        let _ = self.order.len();
-        Some(&mut self.slots[slot].place)
+// The slot of a leaf's place. Mostly it is one of the two that were found last, and then no key is hashed.
+fn slot_of(
+    order: &LruCache<(Ino, Frag), usize>,
+    slots: &[Slot],
+    near: &Cell<Near>,
+    leaf: &(Ino, Frag),
+) -> Option<usize>
+    requires { AreSlotted slots.now order.now.entries }
+    ensures { result ≡ lookup (leaf_is leaf.now) order.now.entries }
+{
+    let Near { last, before } = near.get();
+    if stands_in(slots, last, leaf) {
+        return Some(last);
     }
+    if stands_in(slots, before, leaf) {
+        return Some(before);
+    }
+    match order.peek(leaf) {
+        Some(slot) => {
+            note(near, *slot);
+            Some(*slot)
+        }
+        None => None,
+    }
+}
+
+// Whether there is a slot of this number, and a leaf's place stands in it.
+fn stands_in(slots: &[Slot], number: usize, leaf: &(Ino, Frag)) -> bool
+    ensures { result ≡ true → (number < length slots.now) × ((slot_at slots.now number).leaf ≡ leaf.now) }
+{
+    number < slots.len() && &slots[number].leaf == leaf
+}
+
+// The place in a slot was found.
+fn note(near: &Cell<Near>, number: usize) {
+    let before = near.get().last;
+    near.set(Near {
+        last: number,
+        before,
+    });
 }
 
 // The slot of this number is that of another leaf now, if there is one: the leaf has the number then.

@@ -2,7 +2,7 @@
 ghost use Rattle.std.specs.Prelude.{◌≡◌, ◌+◌, ◌≤◌, ◌^◌, IfOk, OnOk};
 ghost use Rattle.std.specs.FinMap as map;
 ghost use Rattle.cached_frag.specs.Cached.{Cached, shown};
-ghost use Rattle.dentry_cache.specs.Cache.{HasCached, IsChanged, IsThere, cached};
+ghost use Rattle.dentry_cache.specs.Cache.{HasCached, IsWritten, IsThere, cached};
 ghost use Rattle.dentry_cache.specs.Divided.{AreNumbered, AreReady};
 
 use crate::cache::Cache;
@@ -24,7 +24,7 @@ impl Cache {
         requires bits { frag.bits + nb ≤ 24 }
         requires numbers { generation + 2 ^ nb ≤ 2 ^ 64 }
         requires there { IsThere (cached self.old.entries (dir, frag)) }
-        ensures same { IsChanged (cached self.old.entries (dir, frag))
+        ensures same { IsWritten (cached self.old.entries (dir, frag))
             (λ (f now : Cached). now ≡ record f { places = now.places }) (dir, frag) self.old self.new }
         ensures ready { IfOk result
             (λ parts. HasCached (cached self.new.entries (dir, frag))
@@ -41,7 +41,7 @@ impl Cache {
     // Makes a fragment ready to give its names away (`CachedFrag::into_names`). Takes memory for its dirty names.
     fn ready_names(&mut self, dir: Ino, frag: Frag) -> Result<(), AllocError>
         requires { IsThere (cached self.old.entries (dir, frag)) }
-        ensures same { IsChanged (cached self.old.entries (dir, frag))
+        ensures same { IsWritten (cached self.old.entries (dir, frag))
             (λ (f now : Cached). now ≡ record f { places = now.places }) (dir, frag) self.old self.new }
         ensures ready { OnOk result
             (HasCached (cached self.new.entries (dir, frag)) (λ (f : Cached). map.len f.dirty ≤ f.places)) }

@@ -42,4 +42,4 @@ pub returns-then-not-can_keep-clause-reads : goal.returns-then-not-can_keep-clau
 returns-then-not-can_keep-clause-reads c objects = it_stays
 
 pub keep_children-requires-clause-can : goal.keep_children-requires-clause-can
-keep_children-requires-clause-can c = edit_can c.args.at.rank.0 (c.args.at.dir, c.args.at.frag) c.args.self.now c.ready_parts.new.self c.requires.there c.ready_parts.ensures.before c.ready_parts.ensures.same (2 ^ c.args.bits) (c.can_keep.ensures.can c.if-not-can_keep.false)
+keep_children-requires-clause-can c = edit_can c.args.at.rank.0 (c.args.at.dir, c.args.at.frag) c.args.self.now c.ready_parts.new.self c.ready_parts.ensures.same (2 ^ c.args.bits) (c.can_keep.ensures.can c.if-not-can_keep.false)

@@ -1,4 +1,4 @@
-use Rattle.std.proofs.Common.{List, None, Some, ap, length, refl, subst, sym, [], ◌++◌, ◌<◌, ◌∙◌, ◌∷◌, ◌≡◌, ℕ}
+use Rattle.std.proofs.Common.{List, ap, length, subst, sym, [], ◌++◌, ◌<◌, ◌∙◌, ◌∷◌, ℕ}
 use Rattle.std.specs.List.{AllByRecursion}
 use Rattle.std.specs.Map.Iter.{TakesLast, deref_pair}
 use Rattle.dentry_cache.specs.Cache.{Leaf}

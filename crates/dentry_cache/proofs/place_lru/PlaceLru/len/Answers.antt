@@ -1,6 +1,6 @@
-use Rattle.std.proofs.Common.{List, ap, length, subst, sym, ◌∙◌, ◌≤◌}
+use Rattle.std.proofs.Common.{List, subst, sym, ◌∙◌, ◌≤◌}
 use Rattle.std.specs.List.{IsDistinct}
-use Rattle.dentry_cache.specs.Cache.{Held, Leaf, leaf_is}
+use Rattle.dentry_cache.specs.Cache.{Leaf, leaf_is}
 use Rattle.dentry_cache.specs.Places.{IsCache}
 use Rattle.dentry_cache.proofs.SlotLaws.{placed_count, placed_keys}
 use Rattle.dentry_cache.proofs.place_lru.PlaceLru.len.Goals as goal

@@ -1,6 +1,6 @@
-use Rattle.std.proofs.Common.{List, None, Some, ap, length, option_map, refl, subst, sym, ◌<◌, ◌∙◌, ◌≡◌, ◌≤◌, ℕ}
+use Rattle.std.proofs.Common.{List, None, Some, ap, length, option_map, subst, sym, ◌<◌, ◌∙◌, ◌≡◌, ◌≤◌, ℕ}
 use Rattle.std.specs.List.{IsDistinct, swap_remove}
-use Rattle.std.specs.Map.{keys_of, lookup, remove_entry, set_value}
+use Rattle.std.specs.Map.{keys_of, lookup, set_value}
 use Rattle.lru.specs.LruCache.{LruCache, lru_cache}
 use Rattle.dentry_cache.specs.Cache.{Leaf, Places, leaf_is}
 use Rattle.dentry_cache.specs.Slots.{AreSlotted, placed_by, slot_at}

@@ -1,8 +1,8 @@
-use Rattle.std.proofs.Common.{Option, ap, is_some, option_map, subst, sym, ◌∙◌, ◌≡◌, ℕ}
+use Rattle.std.proofs.Common.{ap, is_some, subst, sym, ◌∙◌, ℕ}
 use Rattle.std.specs.Map.{lookup}
 use Rattle.lru.specs.LruCache.{LruCache, lru_cache}
 use Rattle.dentry_cache.specs.Cache.{Leaf, Places, leaf_is}
-use Rattle.dentry_cache.specs.Slots.{AreSlotted, places_in, placed_by}
+use Rattle.dentry_cache.specs.Slots.{AreSlotted, placed_by}
 use Rattle.dentry_cache.proofs.SlotLaws.{is_placed, placed_promoted, placed_there, slotted_promoted}
 use Rattle.dentry_cache.proofs.place_lru.PlaceLru.promote.Goals as goal
 

@@ -15,7 +15,7 @@ invariant_of-self-in-Ok c =
     let s : Slot = record { leaf = c.args.leaf.now; place = c.args.place } in
     let none : lookup (leaf_is c.args.leaf.now) order.entries ≡ None = no_slot slots _ order.entries (subst (λ (h : Held). lookup (leaf_is c.args.leaf.now) h.entries ≡ None) (sym c.self.view_is) c.requires.absent) in
     let room : length order.entries < order.cap = subst (λ n. n < order.cap) (placed_count slots order.entries) (subst (λ (h : Held). length h.entries < h.cap) (sym c.self.view_is) c.requires.room) in
-    let number : c.len-2.result ≡ length slots = c.len-2.ensures ∙ c.reserve.new.self.ok.0 ∙ ap length c.reserve.ensures.items in
+    let number : c.len-number.result ≡ length slots = c.len-number.ensures ∙ c.reserve.new.self.ok.0 ∙ ap length c.reserve.ensures.items in
     let new : c.put.new.self ≡ lru_cache ((c.args.leaf.now, length slots) ∷ order.entries) order.cap = placed c.args.leaf.now (length slots) order order c.put.new.self refl none room
     (subst (λ n. c.put.new.self ≡ lru_cache (put_entries leaf_is order c.args.leaf.now n) order.cap) number c.in-Ok.ensures.entries) in
     let items : c.push_reserved.new.self.items ≡ slots ++ s ∷ [] = c.push_reserved.ensures.items ∙ ap (λ (l : List Slot). l ++ s ∷ []) c.reserve.ensures.items in
@@ -29,7 +29,7 @@ returns-in-Ok-clause-put c =
     let s : Slot = record { leaf = c.args.leaf.now; place = c.args.place } in
     let none : lookup (leaf_is c.args.leaf.now) order.entries ≡ None = no_slot slots _ order.entries (subst (λ (h : Held). lookup (leaf_is c.args.leaf.now) h.entries ≡ None) (sym c.self.view_is) c.requires.absent) in
     let room : length order.entries < order.cap = subst (λ n. n < order.cap) (placed_count slots order.entries) (subst (λ (h : Held). length h.entries < h.cap) (sym c.self.view_is) c.requires.room) in
-    let number : c.len-2.result ≡ length slots = c.len-2.ensures ∙ c.reserve.new.self.ok.0 ∙ ap length c.reserve.ensures.items in
+    let number : c.len-number.result ≡ length slots = c.len-number.ensures ∙ c.reserve.new.self.ok.0 ∙ ap length c.reserve.ensures.items in
     let new : c.put.new.self ≡ lru_cache ((c.args.leaf.now, length slots) ∷ order.entries) order.cap = placed c.args.leaf.now (length slots) order order c.put.new.self refl none room
     (subst (λ n. c.put.new.self ≡ lru_cache (put_entries leaf_is order c.args.leaf.now n) order.cap) number c.in-Ok.ensures.entries) in
     let items : c.push_reserved.new.self.items ≡ slots ++ s ∷ [] = c.push_reserved.ensures.items ∙ ap (λ (l : List Slot). l ++ s ∷ []) c.reserve.ensures.items in
