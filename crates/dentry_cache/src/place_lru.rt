@@ -137,8 +137,9 @@ impl PlaceLru {
         ensures value { result ≡ is_some (lookup (leaf_is leaf.now) self.old.entries) }
         ensures entries { self.new ≡ lru_cache (promoted (leaf_is leaf.now) self.old.entries) self.old.cap }
     {
-        if let Some((newest, _)) = self.order.peek_mru() {
+        if let Some((newest, slot)) = self.order.peek_mru() {
             if newest == leaf {
+                note(&self.near, *slot);
                 return true;
             }
         }
@@ -169,7 +170,6 @@ impl PlaceLru {
         match self.order.put(*leaf, number) {
             Ok(_) => {
                 self.slots.push_reserved(Slot { leaf: *leaf, place });
-                note(&self.near, number);
                 Ok(())
             }
             Err(_) => Err(AllocError),
@@ -229,10 +229,12 @@ fn stands_in(slots: &[Slot], number: usize, leaf: &(Ino, Frag)) -> bool
 // The place in a slot was found.
 fn note(near: &Cell<Near>, number: usize) {
     let before = near.get().last;
-    near.set(Near {
-        last: number,
-        before,
-    });
+    if before != number {
+        near.set(Near {
+            last: number,
+            before,
+        });
+    }
 }
 
 // The slot of this number is that of another leaf now, if there is one: the leaf has the number then.

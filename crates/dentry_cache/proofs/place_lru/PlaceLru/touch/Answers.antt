@@ -11,13 +11,13 @@ returns-then-eq-clause-value c =
     let slots = c.self.inside.slots.items in
     let entries = c.self.inside.order.entries in
     let same : c.in-Some.newest.now ≡ c.args.leaf.now = search rules in
-    let first : Some (c.args.leaf.now, c.in-Some.field-0-1.now) ≡ slice_get entries 0 = ap (λ (l : Leaf). Some (l, c.in-Some.field-0-1.now)) (sym same) ∙ ap (option_map deref_pair) (sym c.in-Some.is) ∙ c.peek_mru.ensures in
-    rw (← c.self.view_is) (ap is_some (sym (placed_there slots (leaf_is c.args.leaf.now) entries ∙ ap (option_map (place_in slots)) (first_found c.args.leaf.now c.in-Some.field-0-1.now entries first))))
+    let first : Some (c.args.leaf.now, c.in-Some.slot.now) ≡ slice_get entries 0 = ap (λ (l : Leaf). Some (l, c.in-Some.slot.now)) (sym same) ∙ ap (option_map deref_pair) (sym c.in-Some.is) ∙ c.peek_mru.ensures in
+    rw (← c.self.view_is) (ap is_some (sym (placed_there slots (leaf_is c.args.leaf.now) entries ∙ ap (option_map (place_in slots)) (first_found c.args.leaf.now c.in-Some.slot.now entries first))))
 
 pub returns-then-eq-clause-entries : goal.returns-then-eq-clause-entries
 returns-then-eq-clause-entries c =
     let slots = c.self.inside.slots.items in
     let entries = c.self.inside.order.entries in
     let same : c.in-Some.newest.now ≡ c.args.leaf.now = search rules in
-    let first : Some (c.args.leaf.now, c.in-Some.field-0-1.now) ≡ slice_get entries 0 = ap (λ (l : Leaf). Some (l, c.in-Some.field-0-1.now)) (sym same) ∙ ap (option_map deref_pair) (sym c.in-Some.is) ∙ c.peek_mru.ensures in
-    rw (← c.self.view_is) (ap (λ (l : Places). lru_cache l c.self.inside.order.cap) (sym (placed_promoted slots (leaf_is c.args.leaf.now) entries ∙ ap (places_in slots) (first_promoted c.args.leaf.now c.in-Some.field-0-1.now entries first))))
+    let first : Some (c.args.leaf.now, c.in-Some.slot.now) ≡ slice_get entries 0 = ap (λ (l : Leaf). Some (l, c.in-Some.slot.now)) (sym same) ∙ ap (option_map deref_pair) (sym c.in-Some.is) ∙ c.peek_mru.ensures in
+    rw (← c.self.view_is) (ap (λ (l : Places). lru_cache l c.self.inside.order.cap) (sym (placed_promoted slots (leaf_is c.args.leaf.now) entries ∙ ap (places_in slots) (first_promoted c.args.leaf.now c.in-Some.slot.now entries first))))
