@@ -1,6 +1,6 @@
 //! `Caches`: a contract sees one map of the fragments that are there, each with its rank, and each rank's leaves by
 //! use.
-ghost use Rattle.std.specs.Prelude.{◌≡◌, ◌<◌, ◌≤◌, ◌+◌, ◌^◌, true, false, Some, None, [], length, replicate, IsOk, OnOk, OnErr, IfOk, IfErr, option_copied};
+ghost use Rattle.std.specs.Prelude.{◌≡◌, ◌<◌, ◌≤◌, ◌+◌, ◌^◌, true, false, Some, None, [], length, replicate, IsOk, is_some, OnOk, OnErr, IfOk, IfErr, option_copied};
 ghost use Rattle.std.specs.FinMap as map;
 ghost use Rattle.std.specs.Result.{result_err};
 ghost use Rattle.lru.specs.LruCache.{lru_cache};
@@ -81,6 +81,17 @@ impl Caches {
         ensures { option_copied result ≡ here self.now at.rank.0 (leaf_of at) }
     {
         self.caches[at.rank.0 as usize].get(at.dir, at.frag)
+    }
+
+    /// Whether the fragment of a leaf is there at its rank. The order of use stays.
+    pub fn is_cached(&self, at: Dirfrag) -> bool
+        requires { at.rank.0 < length self.now.used }
+        ensures there { result ≡ is_some (here self.now at.rank.0 (leaf_of at)) }
+        ensures valid { AreCaches self.now }
+    {
+        self.caches[at.rank.0 as usize]
+            .get(at.dir, at.frag)
+            .is_some()
     }
 
     /// The inode that a name of a fragment stands for, if it is there. Takes memory for a link's target alone.
