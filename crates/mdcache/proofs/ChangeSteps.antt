@@ -1,5 +1,5 @@
 -- What the steps of a change leave, one after the other.
-use Rattle.mdcache.proofs.Common.{AllCachedIn, AreCaches, At, Bool, CacheMap, Cached, Came, Contains, Core, Counts, DirPins, Dirfrag, Fragment, Going, GoingLeaf, HasCached, HasLeaf, HasRoom, Home, Homes, Ino, Inode, IsCachedIn, IsFree, IsGoingOrNone, IsKeptFor, IsLive, IsNamed, IsThere, IsTied, KeepsNone, KeepsOnlyAt, Leaf, List, Mark, None, Option, Rank, Rooms, Some, State, UnsavedLeaves, [], ap, arith, at, at_rank, cond, cond_both, dir_going, edited_as, ended, ended_all, ended_at, ends, false, false_from_ne_true, get_given_up, get_left_home, get_with_frag, given_up, has, has_place, has_with_mark, here, here_is, here_put, here_with_frag, holder_there, is_some, leaf_is, leaf_of, leaves, leaves_going, leaves_in, leaves_of, length, list_any, made_frag, marked, named, none_given_up, object_of, one_leaf, or_whole, refl, removed, rows_but, rules, same_Some, state_of, stays, subst, suc, sym, texts_going, true, unclean, unclean_alike, unclean_given_up, unsaved_at, with_frag, with_objects, without_gone_dir, without_dir, without_leaves, zero, ℕ, ⊎_elim, ◌&&◌, ◌<◌, ◌==◌, ◌||◌, ◌∙◌, ◌∷◌, ◌≡◌, ◌≤◌}
+use Rattle.mdcache.proofs.Common.{AllCachedIn, AreCaches, At, Bool, CacheMap, Cached, Came, Contains, Core, Counts, DirPins, Dirfrag, Fragment, Going, GoingLeaf, HasCached, HasLeaf, HasRoom, Home, Homes, Ino, Inode, IsCachedIn, IsFree, IsGoingOrNone, IsKeptFor, IsLive, IsNamed, IsThere, IsTied, KeepsNone, KeepsOnlyAt, Leaf, List, Mark, None, Option, Rank, Rooms, Some, State, UnsavedLeaves, [], alters, ap, arith, at, at_rank, cond, cond_both, dir_going, edited_as, ended, ended_all, ended_at, ends, false, false_from_ne_true, get_given_up, get_left_home, get_with_frag, given_up, has, has_place, here, here_is, here_put, here_with_frag, holder_there, is_some, leaf_is, leaf_of, leaves, leaves_going, leaves_in, leaves_of, length, list_any, made_frag, marked, named, none_given_up, object_of, one_leaf, or_whole, refl, removed, rows_but, rules, same_Some, state_of, stays, subst, suc, sym, texts_going, true, unclean, unclean_alike, unclean_given_up, unsaved_at, with_frag, with_objects, without_dir, without_gone_dir, without_leaves, zero, ℕ, ⊎_elim, ◌&&◌, ◌<◌, ◌==◌, ◌||◌, ◌∙◌, ◌∷◌, ◌≡◌, ◌≤◌}
 use Rattle.std.specs.FinMap as map
 use Rattle.dentry_cache.specs.CacheMap.{with_mark}
 use Rattle.mdcache.specs.Core.{with_dir}
@@ -61,7 +61,7 @@ module _ (Uses Ends : ℕ → Leaf → Type 0) (kept : Option (Rank × Leaf)) (o
       pub made_named : Uses a.rank.0 (leaf_of a) → HasMade Uses Ends kept old (named c a name inode)
       made_named uses = record {
         came = subst (Came Uses Ends old.caches) (sym (marked_is c a name inode w.0 w.1 before.cached))
-            (has c.caches a.rank.0 (leaf_of a) (marked w.0 name (mark c a name inode w.0 w.1 before.cached)) before.came uses);
+            (alters c.caches a.rank.0 (leaf_of a) w.0 (marked w.0 name (mark c a name inode w.0 w.1 before.cached)) before.came uses w.1);
         cached = cached_on (state_of c) (state_of (named c a name inode)) (named c a name inode).caches (λ leaf live. live) refl (omega arith) (put_cached c a name inode w.0 w.1 before.cached);
         only = put_only c a name inode w.0 w.1 before.cached kept before.only;
       }
@@ -88,8 +88,7 @@ module _ (c : Core) (a : Dirfrag) (name : List ℕ) (inode : Option Inode) (ther
 
   pub kept_named : IsKeptFor (named c a name inode).caches a.rank.0 first
   kept_named = (
-    has_with_mark c.caches a.rank.0 (leaf_of a) name its_mark g.0 a.rank.0 first rank g.1
-        ∙ cond_both ((a.rank.0 == a.rank.0) && leaf_is first (leaf_of a)) true (has_place c.caches a.rank.0 first) (λ b. b ≡ true) (λ its. refl) (λ other. kept.0),
+    ap (λ (o : Option Cached). has_place (edited_as c.caches a.rank.0 (leaf_of a) (λ (f : Cached). marked f name its_mark) o) a.rank.0 first) g.1 ∙ kept.0,
     ap (λ (k : CacheMap). map.get k.held first) (ap (edited_as c.caches a.rank.0 (leaf_of a) (λ (f : Cached). marked f name its_mark)) g.1) ∙ get_with_frag c.caches a.rank.0 (leaf_of a) (marked g.0 name its_mark) first
         ∙ ap (λ (b : Bool). cond b (Some (at a.rank.0 (marked g.0 name its_mark))) (map.get c.caches.held first))
         (false_from_ne_true _ (λ one. let clash : None ≡ Some (at a.rank.0 g.0) = sym kept.1 ∙ ap (map.get c.caches.held) (one_leaf first (leaf_of a) one) ∙ held in cc)) ∙ kept.1,

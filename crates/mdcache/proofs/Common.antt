@@ -33,21 +33,21 @@ pub use Rattle.dentry_cache.proofs.LoadLaws.{holds_contains}
 pub use Rattle.dentry_cache.proofs.MapLaws.{get_tabulate, here_free}
 pub use Rattle.dentry_cache.proofs.MoveLaws.{none_beside}
 pub use Rattle.dentry_cache.proofs.NameParts.{get-names_in, no_child, none_either}
-pub use Rattle.dentry_cache.proofs.ReadsLaws.{edits_reads, fetched_reads, here_is, keeps_reads, reads_came, reads_held, reads_then, reads_unclean, reads_weaker, room_changed, room_reads, room_unsaved, used_reads}
+pub use Rattle.dentry_cache.proofs.ReadsLaws.{fetched_reads, here_is, keeps_reads, reads_came, reads_held, reads_then, reads_unclean, reads_weaker, rewrites_reads, room_changed, room_reads, room_unsaved, used_reads}
 pub use Rattle.dentry_cache.proofs.SplitLaws.{split_beside, split_came, split_child, split_gone, split_unclean_beside, split_unclean_child, split_unclean_gone, split_whole}
 pub use Rattle.dentry_cache.proofs.SplitShows.{below_or_it, fresh_tied}
-pub use Rattle.dentry_cache.proofs.StepLaws.{by_edits, cap_roomy, get_given_up, get_with_frag, has_used, has_with_mark, held_given_up, here_beside, here_put, here_with_frag, placed_given_up, placed_used, ranks_roomy}
+pub use Rattle.dentry_cache.proofs.StepLaws.{by_edits, by_rewrites, cap_roomy, get_given_up, get_with_frag, has_used, held_given_up, here_beside, here_put, here_with_frag, placed_given_up, placed_used, ranks_roomy}
 pub use Rattle.dentry_cache.proofs.TieLaws.{changed_are_tied, committed_are_tied, fetched_are_tied, tied_show}
 pub use Rattle.dentry_cache.proofs.UncleanLaws.{any_tied, clean_there, get_unclean, last_passes, unclean_alike, unclean_given_up, unclean_gone, unclean_with}
 pub use Rattle.dentry_cache.proofs.UncleanPlaces.{few_taken}
 pub use Rattle.dentry_cache.proofs.UsedLaws.{loaded_clean}
-pub use Rattle.dentry_cache.proofs.WholeLaws.{none_given_up, none_with_frag, none_with_mark, readies_whole, refused_whole, whole_given_up, whole_roomy, whole_used, whole_with_frag}
+pub use Rattle.dentry_cache.proofs.WholeLaws.{none_given_up, none_rewrites, none_with_frag, none_with_mark, readies_whole, refused_whole, whole_given_up, whole_rewritten, whole_roomy, whole_used, whole_with_frag}
 pub use Rattle.dentry_cache.specs.Cache.{HasCached, HasRoom, IsThere, Leaf, Unsaved, leaf_is, unsaved_in, unsaved_of, with_unsaved}
-pub use Rattle.dentry_cache.specs.CacheCalls.{CanNotKeep, Edits, FetchesAt, IsAbsent, IsEdited, IsWhole, KeepsAt, KeepsNone, MakesRoomAt, MayNotFetchAt, MayNotKeepAt, going_at, kept_at, unclean_at, unclean_in}
-pub use Rattle.dentry_cache.specs.CacheMap.{AreCaches, At, CacheMap, IsFree, IsFreeFor, at, at_rank, clean_in, edited_as, evicted, first, given_up, goes, has_place, here, no_caches, order, removed, roomy, unclean, unclean_of, unsaved_at, used_at, victim, with_frag}
+pub use Rattle.dentry_cache.specs.CacheCalls.{CanNotKeep, Edits, FetchesAt, IsAbsent, IsEdited, IsWhole, KeepsAt, KeepsNone, MakesRoomAt, MayNotFetchAt, MayNotKeepAt, Rewrites, going_at, kept_at, unclean_at, unclean_in}
+pub use Rattle.dentry_cache.specs.CacheMap.{AreCaches, At, CacheMap, IsFree, IsFreeFor, at, at_rank, clean_in, edited_as, evicted, first, given_up, goes, has_place, here, no_caches, order, removed, rewritten, roomy, unclean, unclean_of, unsaved_at, used_at, victim, with_frag}
 pub use Rattle.dentry_cache.specs.CacheSplits.{AreAbsent, AreKept, IsButPlaces, IsChildAt, IsFamilyAt, IsKeptFor, IsReadyToSplit, MayNotKeepAll, ReadsFamily, SplitsAt, SplitsInto, StaysAt, without_children}
 pub use Rattle.dentry_cache.specs.Came.{Came, IsThat, NoneEnds, StaysNamed}
-pub use Rattle.dentry_cache.specs.Came.Came.{ends, has, stays, uses}
+pub use Rattle.dentry_cache.specs.Came.Came.{alters, ends, has, stays, uses}
 pub use Rattle.dentry_cache.specs.Commits.{IsCommitted, leaf_text}
 pub use Rattle.dentry_cache.specs.Divided.{IsNoChild, names_in}
 pub use Rattle.dentry_cache.specs.Ended.{ended, ended_all, ended_at}

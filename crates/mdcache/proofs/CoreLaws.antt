@@ -1,5 +1,5 @@
 -- What reads and preparations leave of the tree over caches and a store, and what they find.
-use Rattle.mdcache.proofs.Common.{AllCachedIn, At, Base, CacheMap, Cached, Came, Core, Counts, Covers, Dentry, DirPins, Dirfrag, Edits, Fragment, HasCached, Homes, IfErr, IfErr-weaker, IfOk, IfOk-weaker, Ino, Inode, IsButRoom, IsCachedIn, IsFree, IsLive, IsNoLess, IsPick, IsSaved, IsSound, IsSoundCore, IsThat, IsThere, IsTiedAt, KeepsNone, KeepsState, Keys, LacksPlacesIn, Leaf, List, Loads, MayFetch, MayHold, MayNotBeReady, MayNotFind, Names, None, NoneEnds, Objects, Omap, OnErr, OnOk, Option, Reads, ReadsCore, Refusal, Result, Rooms, Some, State, UnsavedLeaves, ap, arith, at, came_cap, came_ranks, edits_reads, faults_told, fetched_are_tied, get_unclean, hash_of, here, here_is, inl, inr, is_directory, is_known, is_some, it_stays, known_is, leaf_of, leaves_of, length, object_of, reads_came, reads_held, reads_then, reads_unclean, reads_weaker, refl, rules, shown, shown_at, shown_in, shows, shows_in, state_of, subst, sym, true, unclean, unsaved_at, used_at, used_reads, ℕ, ⊎_elim, ◌+◌, ◌<◌, ◌∙◌, ◌≡◌, ◌≤◌, ◌⊎◌}
+use Rattle.mdcache.proofs.Common.{AllCachedIn, At, Base, CacheMap, Cached, Came, Core, Counts, Covers, Dentry, DirPins, Dirfrag, Rewrites, Fragment, HasCached, Homes, IfErr, IfErr-weaker, IfOk, IfOk-weaker, Ino, Inode, IsButRoom, IsCachedIn, IsFree, IsLive, IsNoLess, IsPick, IsSaved, IsSound, IsSoundCore, IsThat, IsThere, IsTiedAt, KeepsNone, KeepsState, Keys, LacksPlacesIn, Leaf, List, Loads, MayFetch, MayHold, MayNotBeReady, MayNotFind, Names, None, NoneEnds, Objects, Omap, OnErr, OnOk, Option, Reads, ReadsCore, Refusal, Result, Rooms, Some, State, UnsavedLeaves, ap, arith, at, came_cap, came_ranks, rewrites_reads, faults_told, fetched_are_tied, get_unclean, hash_of, here, here_is, inl, inr, is_directory, is_known, is_some, it_stays, known_is, leaf_of, leaves_of, length, object_of, reads_came, reads_held, reads_then, reads_unclean, reads_weaker, refl, rules, shown, shown_at, shown_in, shows, shows_in, state_of, subst, sym, true, unclean, unsaved_at, used_at, used_reads, ℕ, ⊎_elim, ◌+◌, ◌<◌, ◌∙◌, ◌≡◌, ◌≤◌, ◌⊎◌}
 use Rattle.std.specs.FinMap as map
 use Rattle.mdcache.specs.Shown.{names_of}
 pub use Rattle.std.proofs.lemmas.Result.{on_ok_weaker as on_ok}
@@ -119,9 +119,9 @@ module _ (Uses Ends : ℕ → Leaf → Type 0) (old mid view : Core) (is : view 
   use_step used = next_step Uses Ends old view (record view { caches = caches' }) (no_less_itself view.room) refl mid before is
       (used_reads Uses Ends view.objects view.caches view.caches caches' r leaf it_stays named used)
 
-  pub room_step : (Change : Cached → Cached → Type 0) → ((f now : Cached) → Change f now → IsButRoom f now) → Edits Change r leaf view.caches caches' → ReadsCore Uses Ends old (record view { caches = caches' })
+  pub room_step : (Change : Cached → Cached → Type 0) → ((f now : Cached) → Change f now → IsButRoom f now) → Rewrites Change r leaf view.caches caches' → ReadsCore Uses Ends old (record view { caches = caches' })
   room_step Change but edits = next_step Uses Ends old view (record view { caches = caches' }) (no_less_itself view.room) refl mid before is
-      (edits_reads Uses Ends view.objects view.caches view.caches caches' r leaf Change but it_stays named edits)
+      (rewrites_reads Uses Ends view.objects view.caches view.caches caches' r leaf Change but it_stays named edits)
 
 -- for more leaves
 pub reads_core_wider : (Few Many FewEnd ManyEnd : ℕ → Leaf → Type 0) (old new : Core) → ((r : ℕ) (q : Leaf) → Few r q → Many r q) → ((r : ℕ) (q : Leaf) → FewEnd r q → ManyEnd r q)

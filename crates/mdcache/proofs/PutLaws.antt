@@ -1,5 +1,5 @@
 -- What a change of one name leaves.
-use Rattle.mdcache.proofs.Common.{AllCachedIn, At, Base, Bool, CacheMap, Cached, Core, Dirfrag, Fresh, Inode, IsAsItStands, IsCachedIn, IsFree, IsFreeFor, IsNamed, IsThere, IsTied, IsTiedAt, KeepsOnlyAt, Leaf, List, Mark, Marks, None, Omap, Option, Rank, Some, State, Stored, Unsaved, ap, at, at_rank, changed_are_tied, cond, cond_both, dirtied, edited_as, empty_of_len, eqb-true, false, false_from_ne_true, get-empty, get_put, get_unclean, get_with_frag, here, here_beside, here_is, here_put, inl, inr, is_clean, is_clean_over, key_cmp, leaf_is, leaf_of, leaf_or_apart, marked, named, now_unclean, object_of, one_leaf, placed_used, refl, same_Some, state_of, subst, sym, true, true_from_ne_false, unclean, unsaved_at, unsaved_of, with_frag, with_unsaved, ℕ, ⊎_elim, ◌+◌, ◌<◌, ◌==◌, ◌∙◌, ◌≡◌, ◌⊎◌}
+use Rattle.mdcache.proofs.Common.{AllCachedIn, At, Base, Bool, CacheMap, Cached, Core, Dirfrag, Fresh, Inode, IsAsItStands, IsCachedIn, IsFree, IsFreeFor, IsNamed, IsThere, IsTied, IsTiedAt, KeepsOnlyAt, Leaf, List, Mark, Marks, None, Omap, Option, Rank, Some, State, Stored, Unsaved, ap, at, at_rank, changed_are_tied, cond, cond_both, dirtied, edited_as, empty_of_len, eqb-true, false, false_from_ne_true, get-empty, get_put, get_unclean, get_with_frag, here, here_beside, here_is, here_put, inl, inr, is_clean, is_clean_over, key_cmp, leaf_is, leaf_of, leaf_or_apart, marked, named, now_unclean, object_of, one_leaf, placed_used, refl, rewritten, same_Some, state_of, subst, sym, true, true_from_ne_false, unclean, unsaved_at, unsaved_of, whole_rewritten, with_frag, with_unsaved, ℕ, ⊎_elim, ◌+◌, ◌<◌, ◌==◌, ◌∙◌, ◌≡◌, ◌⊎◌}
 use Rattle.std.specs.FinMap as map
 use Rattle.mdcache.specs.Changes.{IsCountedObject}
 
@@ -58,6 +58,15 @@ with_only kept c r leaf f free its only s q placed = ⊎_elim (λ was. on (leaf_
 
 -- ---- one name changed
 
+-- a fragment that is there is another where it stands
+pub rewritten_only : (kept : Option (Rank × Leaf)) (c : CacheMap) (r : ℕ) (leaf : Leaf) (f now : Cached) → here c r leaf ≡ Some f → KeepsOnlyAt kept c → KeepsOnlyAt kept (rewritten c r leaf now)
+rewritten_only kept c r leaf f now seen only s q placed = ⊎_elim (λ there. inl (whole_rewritten c r leaf f now s q seen (λ p. there) placed)) (λ none. inr (absent none.0, none.1)) (only s q placed)
+  where
+    absent : map.get c.held q ≡ None → map.get (rewritten c r leaf now).held q ≡ None
+    absent none =
+        get_with_frag c r leaf now q ∙ ap (λ (b : Bool). cond b (Some (at r now)) (map.get c.held q))
+        (false_from_ne_true _ (λ one. let clash : None ≡ Some (at r f) = sym none ∙ ap (map.get c.held) (one_leaf q leaf one) ∙ here_is r (map.get c.held leaf) f seen in cc)) ∙ none
+
 module _ (c : Core) (a : Dirfrag) (name : List ℕ) (inode : Option Inode) (f : Cached) (there : here c.caches a.rank.0 (leaf_of a) ≡ Some f) (cached : AllCachedIn (state_of c) c.caches) where
   abbrev pub mark : Mark
   mark = record { version = c.next_version; inode = inode }
@@ -84,7 +93,7 @@ module _ (c : Core) (a : Dirfrag) (name : List ℕ) (inode : Option Inode) (f : 
     left = λ i. record (state_of c) { unsaved = unclean_now i; next_version = c.next_version + 1 };
   }
 
-  pub marked_is : new.caches ≡ with_frag c.caches a.rank.0 (leaf_of a) (marked f name mark)
+  pub marked_is : new.caches ≡ rewritten c.caches a.rank.0 (leaf_of a) (marked f name mark)
   marked_is = ap (edited_as c.caches a.rank.0 (leaf_of a) (λ (g : Cached). marked g name mark)) there
 
   pub put_cached : AllCachedIn (state_of c) new.caches
@@ -95,5 +104,4 @@ module _ (c : Core) (a : Dirfrag) (name : List ℕ) (inode : Option Inode) (f : 
   }))
 
   pub put_only : (kept : Option (Rank × Leaf)) → KeepsOnlyAt kept c.caches → KeepsOnlyAt kept new.caches
-  put_only kept only = subst (KeepsOnlyAt kept) (sym marked_is)
-      (with_only kept c.caches a.rank.0 (leaf_of a) (marked f name mark) (subst (IsFree a.rank.0) (sym held) refl) (λ s none own. let clash : None ≡ Some (at a.rank.0 f) = sym none ∙ held in absurd cc) only)
+  put_only kept only = subst (KeepsOnlyAt kept) (sym marked_is) (rewritten_only kept c.caches a.rank.0 (leaf_of a) f (marked f name mark) there only)

@@ -39,6 +39,25 @@ impl<S: Store + Drop> MdCache<S> {
         self.caches.fetch(alloc, &mut self.store, *at, None)
     }
 
+    /// Makes sure that a leaf is cached at its rank, as `fetch` does, but one that is there stays where it is in the order
+    /// of use: the operation looked into it before, and that was its use.
+    pub(crate) fn bring(&mut self, alloc: Global, at: &Dirfrag) -> Result<(), Refusal>
+        requires may { MayFetch self.old at.now }
+        requires none { KeepsNone self.old.caches }
+        ensures there { OnOk result (IsThere (here self.new.caches at.now.rank.0 (leaf_of at.now))) }
+        ensures reads { ReadsCore (IsThat at.now.rank.0 (leaf_of at.now)) NoneEnds self.old self.new }
+        ensures none { KeepsNone self.new.caches }
+        ensures refused { IfErr result
+            (MayNotFind (LacksPlacesIn 1 self.old.caches at.now.rank.0) self.old.faults self.new.faults) }
+        ensures counted { self.new.faults ≡ self.old.faults + faults_told (result_err result) }
+        ensures valid { AreCaches self.old.caches }
+    {
+        if self.caches.is_cached(*at) {
+            return Ok(());
+        }
+        self.fetch(alloc, at)
+    }
+
     /// As `fetch`, beside another leaf that is cached, at the same rank or not, and stays as it is.
     pub(crate) fn fetch_beside(
         &mut self,
@@ -61,6 +80,32 @@ impl<S: Store + Drop> MdCache<S> {
     {
         let stay = Some((first.dir, first.frag));
         self.caches.fetch(alloc, &mut self.store, *at, stay)
+    }
+
+    /// As `bring`, beside another leaf that is cached, at the same rank or not, and stays as it is.
+    pub(crate) fn bring_beside(
+        &mut self,
+        alloc: Global,
+        at: &Dirfrag,
+        first: &Dirfrag,
+    ) -> Result<(), Refusal>
+        requires may { MayFetch self.old at.now }
+        requires none { KeepsNone self.old.caches }
+        requires first { IsThere (here self.old.caches first.now.rank.0 (leaf_of first.now)) }
+        ensures there { OnOk result (IsThere (here self.new.caches at.now.rank.0 (leaf_of at.now))) }
+        ensures stays { here self.new.caches first.now.rank.0
+            (leaf_of first.now) ≡ here self.old.caches first.now.rank.0 (leaf_of first.now) }
+        ensures reads { ReadsCore (λ r q. IsThat first.now.rank.0 (leaf_of first.now) r q
+            ⊎ IsThat at.now.rank.0 (leaf_of at.now) r q) NoneEnds self.old self.new }
+        ensures none { KeepsNone self.new.caches }
+        ensures refused { IfErr result
+            (MayNotFind (LacksPlacesIn 2 self.old.caches at.now.rank.0) self.old.faults self.new.faults) }
+        ensures counted { self.new.faults ≡ self.old.faults + faults_told (result_err result) }
+    {
+        if self.caches.is_cached(*at) {
+            return Ok(());
+        }
+        self.fetch_beside(alloc, at, first)
     }
 
     /// The inode that a name of a leaf stands for, if it is there; the leaf is fetched. Takes memory for a leaf that is

@@ -21,8 +21,8 @@ use objstore::Store;
 use std::alloc::Global;
 
 impl<S: Store + Drop> MdCache<S> {
-    /// Makes sure that a leaf is cached at its rank and has room for so many changes, and makes it the most recently
-    /// used there. Takes memory for a leaf that is read, and for the room.
+    /// Makes sure that a leaf is cached at its rank and has room for so many changes (`bring`). Takes memory for a leaf
+    /// that is read, and for the room.
     ///
     /// Refused as `fetch` is.
     pub(crate) fn ready_names(
@@ -41,7 +41,7 @@ impl<S: Store + Drop> MdCache<S> {
             (MayNotFind (LacksPlacesIn 1 self.old.caches at.now.rank.0) self.old.faults self.new.faults) }
         ensures counted { self.new.faults ≡ self.old.faults + faults_told (result_err result) }
     {
-        if let Err(refusal) = self.fetch(alloc, at) {
+        if let Err(refusal) = self.bring(alloc, at) {
             return Err(refusal);
         }
         self.caches.reserve(*at, changes)?;
@@ -95,7 +95,7 @@ impl<S: Store + Drop> MdCache<S> {
             (MayNotFind (LacksPlacesIn 2 self.old.caches at.now.rank.0) self.old.faults self.new.faults) }
         ensures counted { self.new.faults ≡ self.old.faults + faults_told (result_err result) }
     {
-        if let Err(refusal) = self.fetch_beside(alloc, at, first) {
+        if let Err(refusal) = self.bring_beside(alloc, at, first) {
             return Err(refusal);
         }
         self.caches.reserve(*at, 1)?;

@@ -133,7 +133,7 @@ impl<S: Store + Drop> MdCache<S> {
         }
     }
 
-    // Fetches a leaf, and keeps a place for each of its children, which have room for its names and the next
+    // Makes sure that a leaf is cached, and keeps a place for each of its children, which have room for its names and the next
     // generations.
     fn ready_children(&mut self, alloc: Global, at: &Dirfrag, nb: u8) -> Result<Parts, Refusal>
         requires may { MayFetch self.old at.now }
@@ -159,7 +159,7 @@ impl<S: Store + Drop> MdCache<S> {
             (MayNotFind (LacksPlacesIn (2 ^ nb + 1) self.old.caches at.now.rank.0) self.old.faults self.new.faults) }
         ensures counted { self.new.faults ≡ self.old.faults + faults_told (result_err result) }
     {
-        if let Err(refusal) = self.fetch(alloc, at) {
+        if let Err(refusal) = self.bring(alloc, at) {
             return Err(refusal);
         }
         self.caches
