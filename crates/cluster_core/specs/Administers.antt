@@ -63,17 +63,6 @@ HoldsInside state rank dir f = AllHave state.tree.homes state.tree.covers state.
 abbrev pub UsesLeaf : (old new : Core) → Leaf → Type 0
 UsesLeaf old new leaf = UsesAt (IsHolder old.state leaf) leaf old.caches new.caches
 
--- a leaf and its children were used at most, and ended, at its authority
-abbrev pub UsesFamily : (old new : Core) → Leaf → ℕ → Type 0
-UsesFamily old new leaf nb = CameAt (IsAuthority old.state leaf) (IsFamilyOf leaf.0 leaf.1 nb) old.caches new.caches
-
--- so the leaves of a directory that lie properly inside a fragment, and the one that it would be, at the rank that is
--- the authority of all
-abbrev pub UsesInside : (old new : Core) → Ino → Fragment → Type 0
-UsesInside old new dir f =
-    CameAt (λ (rank : Rank). HoldsInside old.state rank dir f)
-    (IsMergedHere old.state.tree.covers dir f) old.caches new.caches
-
 -- no leaf was asked for
 abbrev pub AsksNone : (old new : Core) → Type 0
 AsksNone old new = new.caches ≡ old.caches
@@ -141,15 +130,19 @@ MergesLeaves old new rank dir f (Err reason) =
     (LacksPlacesAt 1 old rank) old.faults new.faults why)
     reason
 
+-- so a split; of the caches the leaf and its children were used at most, and ended, at its authority
 abbrev pub Splits : (old new : Core) → (past now : List Entry) → Rank → Ino → Fragment → ℕ → Result Answer Refusal
     → Type 0
 Splits old new past now rank dir f nb result =
     Administers old.state new.state past now told_nothing (SplitsLeaf old new rank dir f nb) result
-    × UsesFamily old new (dir, f) nb
+    × CameAt (IsAuthority old.state (dir, f)) (IsFamilyOf dir f nb) old.caches new.caches
 
+-- so a merge; of the caches the leaves properly inside and the one that they would be, at the authority of all
 abbrev pub Merges : (old new : Core) → (past now : List Entry) → Rank → Ino → Fragment → Result Answer Refusal → Type 0
 Merges old new past now rank dir f result =
-    Administers old.state new.state past now told_nothing (MergesLeaves old new rank dir f) result × UsesInside old new dir f
+    Administers old.state new.state past now told_nothing (MergesLeaves old new rank dir f) result
+    × CameAt (λ (rank : Rank). HoldsInside old.state rank dir f)
+    (IsMergedHere old.state.tree.covers dir f) old.caches new.caches
 
 -- the leaves of a directory by value; refused NoSuchFrag exactly where there is no such directory, and else for want of
 -- memory
