@@ -14,37 +14,26 @@ use mds_types::{Entry, Refusal, Reply, Request};
 use sessions::SessionAt;
 use std::alloc::{AllocError, Global};
 
-/// Answers a new request, which was taken out at its master, with the reply that was found, and notes it in the history
-/// and in its client's session. Refused `NoMemory`: the request is put back.
+/// Answers the new request at the front of its master's inbox with the reply that was found, and notes it in the
+/// history and in its client's session. Refused `NoMemory`: the request waits on.
 #[inline(always)]
 pub(crate) fn answer(
     alloc: Global,
     waiting: &mut Waiting,
     given: &mut Given,
     history: &mut Vec<Entry>,
-    asked: Asked,
+    asked: &Asked,
     reply: Reply,
 ) -> Result<Answer, Refusal>
-    requires session { IsSessionOf given.old.sessions asked.request.client asked.session }
-    requires back { HasRoomAt waiting.old.inboxes asked.rank }
-    ensures replies { Replies waiting.old.inboxes waiting.new.inboxes waiting.old.pins waiting.new.pins
-        (table given.old.sessions) (table given.new.sessions) history.old.items history.new.items asked.rank
-        asked.request reply result }
-    ensures numbers { given.new.numbers.items ≡ given.old.numbers.items }
-    ensures counted { faults_told (result_err result) ≡ 0 }
 {
-    if make_room(alloc, given, history, &asked.session).is_err() {
-        return put_back(waiting, asked, reply);
-    }
-    let Ok(told) = reply.try_clone() else {
-        return put_back(waiting, asked, reply);
+    let Ok(told) = told_of(alloc, given, history, &asked.session, &reply) else {
+        drop(reply);
+        return Err(Refusal::NoMemory);
+    };
+    let Some(request) = waiting.inboxes.take(asked.rank) else {
+        unreachable!()
     };
     let place = history.len();
-    let Asked {
-        request,
-        session,
-        ..
-    } = asked;
     let Request {
         client,
         tid,
@@ -52,7 +41,7 @@ pub(crate) fn answer(
         op,
     } = request;
     waiting.pins.end_pair(client, tid);
-    let session = given.sessions.keep(session, tid, oldest, place);
+    let session = given.sessions.keep(asked.session, tid, oldest, place);
     given.sessions.trim(session);
     history.push_reserved(Entry {
         client,
@@ -69,6 +58,20 @@ pub(crate) fn answer(
         first: true,
         reply: told,
     })
+}
+
+// A copy of a reply, for its client, and room for the entry that has the reply.
+#[inline(always)]
+fn told_of(
+    alloc: Global,
+    given: &mut Given,
+    history: &mut Vec<Entry>,
+    session: &SessionAt,
+    reply: &Reply,
+) -> Result<Reply, AllocError>
+{
+    make_room(alloc, given, history, session)?;
+    reply.try_clone()
 }
 
 /// Makes room for an entry in the history, and for a reply in a client's session.
@@ -91,17 +94,4 @@ pub(crate) fn make_room(
         Ok(()) => Ok(()),
         Err(_) => Err(AllocError),
     }
-}
-
-// A request for whose answer there is no memory goes back to the front of its inbox.
-#[inline(never)]
-fn put_back(waiting: &mut Waiting, asked: Asked, reply: Reply) -> Result<Answer, Refusal>
-    requires { HasRoomAt waiting.old.inboxes asked.rank }
-    ensures inboxes { waiting.new.inboxes ≡ with_first waiting.old.inboxes asked.rank asked.request }
-    ensures pins { waiting.new.pins ≡ waiting.old.pins }
-    ensures refused { result ≡ Err Refusal.NoMemory }
-{
-    drop(reply);
-    waiting.inboxes.put_back(asked.rank, asked.request);
-    Err(Refusal::NoMemory)
 }

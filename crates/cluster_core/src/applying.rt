@@ -25,10 +25,11 @@ ghost use Rattle.cluster_core.specs.Serve.{without_gone};
 
 use crate::answering::make_room;
 use crate::events::Answer;
-use crate::parts::{Asked, Given};
+use crate::parts::{Asked, Given, Waiting};
+use crate::serving::end_front;
 use inboxes::Pins;
 use inode_table::Numbers;
-use mds_types::{Entry, Ino, Refusal, Reply, Request};
+use mds_types::{Entry, Ino, Rank, Refusal, Reply, Request};
 use namespace_ops::Change;
 use objstore::Store;
 use ranked_tree::RankedTree;
@@ -49,59 +50,43 @@ pub struct Prepared {
     went: Option<Ino>,
 }
 
-/// Makes the change of a request, with the subtree roots, once all is there that its entry in the history and its reply
-/// take.
+/// Makes the change of the request at the front of its master's inbox, with the subtree roots, once all is there that
+/// its entry in the history and its reply take, and notes it.
 #[inline(never)]
-pub(crate) fn make_change<S: Store + Drop>(
+pub(crate) fn apply<S: Store + Drop>(
     alloc: Global,
     tree: &mut RankedTree<S>,
+    waiting: &mut Waiting,
     given: &mut Given,
     history: &mut Vec<Entry>,
     asked: &Asked,
     change: Change,
-) -> Result<Prepared, Refusal>
-    requires session { IsSessionOf given.old.sessions asked.now.request.client asked.now.session }
-    requires offered { IsOffered (shown_tree (tree_state tree.old.tree))
-        (λ n. IsRankNumber n) (offer asked.now.supply) }
-    requires checked { IsChecked (shown_tree (tree_state tree.old.tree)) tree.old.tree.covers
-        (HoldsAt (tree_state tree.old.tree) (held_roots tree.old)) asked.now.request.op
-        (number_or (offer asked.now.supply))
-        (step asked.now.limit (shown_tree (tree_state tree.old.tree)) asked.now.request.op
-        (number_or (offer asked.now.supply))) change }
-    requires touch { (leaf : Leaf)
-        → Contains (changed_fragments asked.now.limit tree.old.tree.covers (shown_tree (tree_state tree.old.tree))
-        asked.now.request.op) leaf → IsFrozenLeaf tree.old leaf → ⊥ }
-    ensures made { MatchResult result (MakesRequest tree.old tree.new change asked.now.supply)
-        (RefusesChange tree.old tree.new asked.now.request.op
-        (step asked.now.limit (shown_tree (tree_state tree.old.tree)) asked.now.request.op
-        (number_or (offer asked.now.supply))) (offer asked.now.supply)) }
-    ensures kept { KeepsRoots (tree_state tree.old.tree)
-        (tree_state tree.new.tree) tree.old.subtrees.roots tree.new.subtrees.roots tree.old.exports tree.new.exports }
-    ensures count { length tree.new.tree.caches.used ≡ length tree.old.tree.caches.used }
-    ensures cap { tree.new.tree.caches.cap ≡ tree.old.tree.caches.cap }
-    ensures counted { tree.new.tree.faults ≡ tree.old.tree.faults + faults_told (result_err result) }
-    ensures room { OnOk result (vec_len history.new < vec_capacity history.new) }
-    ensures reserved { OnOk result (IsReady given.new.sessions asked.now.request.client) }
-    ensures session { IsSessionOf given.new.sessions asked.now.request.client asked.now.session }
-    ensures numbers { given.new.numbers.items ≡ given.old.numbers.items }
-    ensures past { history.new.items ≡ history.old.items }
-    ensures known { table given.new.sessions ≡ table given.old.sessions }
+) -> Result<Answer, Refusal>
 {
-    tree.is_sound();
     let prepared = match prepare(alloc, given, history, asked, &change) {
         Ok(prepared) => prepared,
         Err(refusal) => {
             drop(change);
-            return Err(refusal);
+            return refuse(waiting, asked.rank, refusal);
         }
     };
     match tree.make_change(change) {
-        Ok(()) => Ok(prepared),
+        Ok(()) => Ok(commit(waiting, given, history, asked, prepared)),
         Err(refusal) => {
             drop(prepared);
-            Err(refusal)
+            refuse(waiting, asked.rank, refusal)
         }
     }
+}
+
+// A request for which there is no number leaves its inbox; any other waits on.
+#[inline(never)]
+fn refuse(waiting: &mut Waiting, rank: Rank, refusal: Refusal) -> Result<Answer, Refusal>
+{
+    if refusal.number() == Refusal::NoInodes.number() {
+        end_front(waiting, rank);
+    }
+    Err(refusal)
 }
 
 // Makes what stands beside the tree once this change of a request is made, and room for its entry in the history and
@@ -113,15 +98,6 @@ fn prepare(
     asked: &Asked,
     change: &Change,
 ) -> Result<Prepared, Refusal>
-    requires { IsSessionOf given.old.sessions asked.now.request.client asked.now.session }
-    ensures prepared { IfOk result (IsPrepared change.now asked.now.supply) }
-    ensures room { OnOk result (vec_len history.new < vec_capacity history.new) }
-    ensures reserved { OnOk result (IsReady given.new.sessions asked.now.request.client) }
-    ensures session { IsSessionOf given.new.sessions asked.now.request.client asked.now.session }
-    ensures numbers { given.new.numbers.items ≡ given.old.numbers.items }
-    ensures past { history.new.items ≡ history.old.items }
-    ensures known { table given.new.sessions ≡ table given.old.sessions }
-    ensures refused { IfErr result (WhyUnprepared change.now (offer asked.now.supply)) }
 {
     if make_room(alloc, given, history, &asked.session).is_err() {
         return Err(Refusal::NoMemory);
@@ -149,42 +125,19 @@ fn prepare(
 }
 
 /// Applies a request beside the tree, where its change was made. It can't fail.
-#[inline(never)]
-pub(crate) fn commit(
-    pins: &mut Pins,
+#[inline(always)]
+fn commit(
+    waiting: &mut Waiting,
     given: &mut Given,
     history: &mut Vec<Entry>,
-    asked: Asked,
+    asked: &Asked,
     prepared: Prepared,
 ) -> Answer
-    requires session { IsSessionOf given.old.sessions asked.request.client asked.session }
-    requires room { vec_len history.old < vec_capacity history.old }
-    requires reserved { IsReady given.old.sessions asked.request.client }
-    requires there { asked.rank.0 < length given.old.numbers.items }
-    ensures pins { pins.new ≡ without_gone
-        (left_without (is_for asked.request.client asked.request.tid) pins.old) prepared.went }
-    ensures appended { history.new.items ≡ history.old.items ++ record {
-      client = asked.request.client;
-      tid = asked.request.tid;
-      oldest = asked.request.oldest;
-      op = asked.request.op;
-      number = prepared.number;
-      reply = prepared.reply;
-    } ∷ [] }
-    ensures drawn { given.new.numbers.items ≡ set given.old.numbers.items asked.rank.0 prepared.numbers }
-    ensures known { table given.new.sessions ≡ trimmed
-        (noted (table given.old.sessions) asked.request.client asked.request.tid asked.request.oldest
-        (length history.old.items)) asked.request.client }
-    ensures answer { result ≡ Answer.Reply asked.request.client asked.request.tid
-        (length history.old.items) true prepared.answer }
 {
+    let Some(request) = waiting.inboxes.take(asked.rank) else {
+        unreachable!()
+    };
     let place = history.len();
-    let Asked {
-        rank,
-        request,
-        session,
-        ..
-    } = asked;
     let Request {
         client,
         tid,
@@ -198,10 +151,10 @@ pub(crate) fn commit(
         numbers,
         went,
     } = prepared;
-    pins.end_pair(client, tid);
-    forget_gone(pins, went);
-    given.numbers[usize::from(rank.0)] = numbers;
-    let session = given.sessions.keep(session, tid, oldest, place);
+    waiting.pins.end_pair(client, tid);
+    forget_gone(&mut waiting.pins, went);
+    given.numbers[usize::from(asked.rank.0)] = numbers;
+    let session = given.sessions.keep(asked.session, tid, oldest, place);
     given.sessions.trim(session);
     history.push_reserved(Entry {
         client,

@@ -6,8 +6,7 @@ ghost use Rattle.cluster_core.specs.State.{no_supply};
 
 use inboxes::{Inboxes, Pins};
 use inode_table::Numbers;
-use mds_types::{Limit, Rank, Request};
-use namespace_ops::Places;
+use mds_types::{Limit, Rank};
 use sessions::{SessionAt, Sessions};
 use std::alloc::{AllocError, Global};
 
@@ -66,7 +65,5 @@ pub(crate) struct Asked {
     pub(crate) rank: Rank,
     pub(crate) limit: Limit,
     pub(crate) supply: Numbers,
-    pub(crate) request: Request,
     pub(crate) session: SessionAt,
-    pub(crate) places: Places,
 }
