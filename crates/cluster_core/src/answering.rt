@@ -24,8 +24,7 @@ pub(crate) fn answer(
     history: &mut Vec<Entry>,
     asked: &Asked,
     reply: Reply,
-) -> Result<Answer, Refusal>
-{
+) -> Result<Answer, Refusal> {
     let Ok(told) = told_of(alloc, given, history, &asked.session, &reply) else {
         drop(reply);
         return Err(Refusal::NoMemory);
@@ -68,8 +67,7 @@ fn told_of(
     history: &mut Vec<Entry>,
     session: &SessionAt,
     reply: &Reply,
-) -> Result<Reply, AllocError>
-{
+) -> Result<Reply, AllocError> {
     make_room(alloc, given, history, session)?;
     reply.try_clone()
 }

@@ -61,8 +61,7 @@ pub(crate) fn apply<S: Store + Drop>(
     history: &mut Vec<Entry>,
     asked: &Asked,
     change: Change,
-) -> Result<Answer, Refusal>
-{
+) -> Result<Answer, Refusal> {
     let prepared = match prepare(alloc, given, history, asked, &change) {
         Ok(prepared) => prepared,
         Err(refusal) => {
@@ -81,8 +80,7 @@ pub(crate) fn apply<S: Store + Drop>(
 
 // A request for which there is no number leaves its inbox; any other waits on.
 #[inline(never)]
-fn refuse(waiting: &mut Waiting, rank: Rank, refusal: Refusal) -> Result<Answer, Refusal>
-{
+fn refuse(waiting: &mut Waiting, rank: Rank, refusal: Refusal) -> Result<Answer, Refusal> {
     if refusal.number() == Refusal::NoInodes.number() {
         end_front(waiting, rank);
     }
@@ -97,8 +95,7 @@ fn prepare(
     history: &mut Vec<Entry>,
     asked: &Asked,
     change: &Change,
-) -> Result<Prepared, Refusal>
-{
+) -> Result<Prepared, Refusal> {
     if make_room(alloc, given, history, &asked.session).is_err() {
         return Err(Refusal::NoMemory);
     }
@@ -132,8 +129,7 @@ fn commit(
     history: &mut Vec<Entry>,
     asked: &Asked,
     prepared: Prepared,
-) -> Answer
-{
+) -> Answer {
     let Some(request) = waiting.inboxes.take(asked.rank) else {
         unreachable!()
     };

@@ -43,8 +43,7 @@ pub(crate) fn serve_front<S: Store + Drop>(
     given: &mut Given,
     history: &mut Vec<Entry>,
     rank: Rank,
-) -> Result<Answer, Refusal>
-{
+) -> Result<Answer, Refusal> {
     let Some(request) = waiting.inboxes.front(rank) else {
         return Err(Refusal::InboxEmpty)
     };
@@ -83,20 +82,12 @@ fn serve_new<S: Store + Drop>(
     history: &mut Vec<Entry>,
     asked: &Asked,
     places: Places,
-) -> Result<Answer, Refusal>
-{
+) -> Result<Answer, Refusal> {
     let Some(request) = waiting.inboxes.front(asked.rank) else {
         return Err(Refusal::InboxEmpty)
     };
     let number = asked.supply.peek().unwrap_or(Ino(0));
-    let checked = match check(
-        alloc,
-        tree,
-        asked.limit,
-        &request.op,
-        places,
-        number,
-    ) {
+    let checked = match check(alloc, tree, asked.limit, &request.op, places, number) {
         Ok(checked) => checked,
         Err(refusal) => return Err(refusal),
     };
@@ -113,8 +104,7 @@ fn serve_new<S: Store + Drop>(
 
 // The request at the front of a rank's inbox leaves it, and its grants end.
 #[inline(never)]
-pub(crate) fn end_front(waiting: &mut Waiting, rank: Rank)
-{
+pub(crate) fn end_front(waiting: &mut Waiting, rank: Rank) {
     if let Some(request) = waiting.inboxes.take(rank) {
         waiting.pins.end_pair(request.client, request.tid);
         drop(request);
@@ -128,8 +118,7 @@ fn answer_again(
     rank: Rank,
     place: usize,
     reply: &Reply,
-) -> Result<Answer, Refusal>
-{
+) -> Result<Answer, Refusal> {
     let Ok(reply) = reply.try_clone() else {
         return Err(Refusal::NoMemory);
     };
@@ -151,8 +140,7 @@ fn answer_again(
 
 // The request at the front of a rank's inbox goes to the back of its master's.
 #[inline(never)]
-fn forward(inboxes: &mut Inboxes, rank: Rank, master: Rank) -> Result<Answer, Refusal>
-{
+fn forward(inboxes: &mut Inboxes, rank: Rank, master: Rank) -> Result<Answer, Refusal> {
     match inboxes.forward(rank, master) {
         Ok(()) => Ok(Answer::Forwarded(master)),
         Err(refusal) => Err(refusal),

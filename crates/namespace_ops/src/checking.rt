@@ -10,13 +10,13 @@ ghost use Rattle.namespace_ops.specs.Reasons.{Refuses};
 
 use crate::altering::alter;
 use crate::frags::Frags;
-use crate::locating::Places;
+use crate::locating::{Located, Places};
 use crate::making::{New, make};
 use crate::plans::Checked;
 use crate::reading::{lookup, read_dir, read_link};
 use crate::removing::{remove_dir, unlink};
 use crate::renaming::rename;
-use mds_types::{Alteration, ESTALE, Ino, Limit, Op, Refusal, Reply};
+use mds_types::{Alteration, Dirfrag, ESTALE, Ino, Limit, Op, Refusal, Reply};
 use std::alloc::Global;
 
 /// Checks an operation whose names lie there, where a directory may have `limit` entries: finds the reply, or the one
@@ -49,43 +49,81 @@ pub fn check<F: Frags>(
         Op::Lookup(dentry) => lookup(frags, op, dentry, &at.at),
         Op::Readdir { dir, after, max } => read_dir(alloc, frags, op, *dir, after.as_ref(), *max),
         Op::Readlink(dentry) => read_link(frags, op, dentry, &at.at),
-        Op::Create {
-            dentry,
-            mode,
-            birth,
-        } => {
-            let new = New::file(number, *mode, *birth);
-            make(frags, limit, op, dentry, &at, new)
+        Op::Create { .. } | Op::Mkdir { .. } | Op::Symlink { .. } => {
+            make_of(frags, limit, op, &at, number)
         }
-        Op::Mkdir {
-            dentry,
-            mode,
-            birth,
-        } => {
-            let new = New::directory(number, *mode, *birth);
-            make(frags, limit, op, dentry, &at, new)
-        }
-        Op::Symlink {
-            dentry,
-            target,
-            birth,
-        } => {
-            let new = New::link(number, target.try_clone()?, *birth);
-            make(frags, limit, op, dentry, &at, new)
-        }
-        Op::Setattr { dentry, attributes } => {
-            let alteration = Alteration::Attributed(*attributes);
-            alter(frags, op, dentry, &at.at, &alteration)
-        }
-        Op::SetPin { dentry, pin } => {
-            let alteration = Alteration::Pinned(*pin);
-            alter(frags, op, dentry, &at.at, &alteration)
-        }
+        Op::Setattr { .. } | Op::SetPin { .. } => alter_of(frags, op, &at.at),
         Op::Unlink(dentry) => unlink(frags, op, dentry, &at.at),
         Op::Rmdir(dentry) => remove_dir(frags, op, dentry, &at.at),
         Op::Rename { from, to } => match source {
             Some(source) => rename(frags, limit, op, from, to, &(source, at)),
             None => Ok(Checked::Answers(Reply::Errno(ESTALE))),
         },
+    }
+}
+
+// The check of an operation that makes an inode.
+#[inline(never)]
+fn make_of<F: Frags>(
+    frags: &mut F,
+    limit: Limit,
+    op: &Op,
+    at: &Located,
+    number: Ino,
+) -> Result<Checked, Refusal> {
+    match op {
+        Op::Create {
+            dentry,
+            mode,
+            birth,
+        } => make(
+            frags,
+            limit,
+            op,
+            dentry,
+            at,
+            New::file(number, *mode, *birth),
+        ),
+        Op::Mkdir {
+            dentry,
+            mode,
+            birth,
+        } => make(
+            frags,
+            limit,
+            op,
+            dentry,
+            at,
+            New::directory(number, *mode, *birth),
+        ),
+        Op::Symlink {
+            dentry,
+            target,
+            birth,
+        } => make(
+            frags,
+            limit,
+            op,
+            dentry,
+            at,
+            New::link(number, target.try_clone()?, *birth),
+        ),
+        _ => Ok(Checked::Answers(Reply::Errno(ESTALE))),
+    }
+}
+
+// The check of an operation that changes attributes.
+#[inline(never)]
+fn alter_of<F: Frags>(frags: &mut F, op: &Op, at: &Dirfrag) -> Result<Checked, Refusal> {
+    match op {
+        Op::Setattr { dentry, attributes } => {
+            let alteration = Alteration::Attributed(*attributes);
+            alter(frags, op, dentry, at, &alteration)
+        }
+        Op::SetPin { dentry, pin } => {
+            let alteration = Alteration::Pinned(*pin);
+            alter(frags, op, dentry, at, &alteration)
+        }
+        _ => Ok(Checked::Answers(Reply::Errno(ESTALE))),
     }
 }

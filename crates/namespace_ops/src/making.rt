@@ -67,7 +67,7 @@ impl New {
 }
 
 /// A new inode at a dentry that has to be free, in a directory that may take a further entry.
-#[inline(never)]
+#[inline(always)]
 pub fn make<F: Frags>(
     frags: &mut F,
     limit: Limit,
