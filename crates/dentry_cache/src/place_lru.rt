@@ -99,8 +99,8 @@ impl PlaceLru {
         }
     }
 
-    /// Makes a leaf's place the most recently used, and tells whether it has one.
-    pub(crate) fn promote(&mut self, leaf: &(Ino, Frag)) -> bool
+    // Makes a leaf's place the most recently used, and tells whether it has one.
+    fn promote(&mut self, leaf: &(Ino, Frag)) -> bool
         ensures value { result ≡ is_some (lookup (leaf_is leaf.now) self.old.entries) }
         ensures entries { self.new ≡ lru_cache (promoted (leaf_is leaf.now) self.old.entries) self.old.cap }
     {
