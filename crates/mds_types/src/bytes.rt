@@ -8,16 +8,17 @@ ghost use Rattle.std.specs.Ordering.{nat_cmp, as_partial_cmp};
 ghost use Rattle.std.specs.Prelude.{◌≡◌, ◌==◌, [], IfOk};
 
 use crate::byte_order::compare;
+use smallvec::SmallVec;
 use sorted_map::ExactOrd;
 use std::alloc::{AllocError, Global};
 use std::cmp::Ordering;
 use std::marker::Model;
 
 /// Any bytes, in the order in which memory compares: a name, a key, a value, the header of an object. Seen by contents,
-/// never by its capacity.
+/// never by its capacity. As many as 16 stand in the value itself, with no memory of their own: so most names do.
 #[derive(Clone, Debug, Drop)]
 pub struct Bytes {
-    bytes: Vec<u8>,
+    bytes: SmallVec<u8, 16>,
 }
 
 impl Model for Bytes {
@@ -34,7 +35,7 @@ impl Bytes {
         ensures { result ≡ [] }
     {
         Bytes {
-            bytes: Vec::new(alloc),
+            bytes: SmallVec::new(alloc),
         }
     }
 
@@ -42,7 +43,9 @@ impl Bytes {
     pub fn from_vec(bytes: Vec<u8>) -> Bytes
         ensures { result ≡ bytes.items }
     {
-        Bytes { bytes }
+        Bytes {
+            bytes: SmallVec::from_vec(bytes),
+        }
     }
 
     /// A copy of these bytes. Takes memory for them.
@@ -50,7 +53,7 @@ impl Bytes {
         ensures { IfOk result (λ copy. copy ≡ bytes.now) }
     {
         Ok(Bytes {
-            bytes: Vec::from_slice(alloc, bytes)?,
+            bytes: SmallVec::from_slice(alloc, bytes)?,
         })
     }
 
@@ -58,7 +61,7 @@ impl Bytes {
     pub fn as_slice(&self) -> &[u8]
         ensures { result.now ≡ self.now }
     {
-        &self.bytes
+        self.bytes.as_slice()
     }
 
     /// Forgets the bytes.
@@ -72,7 +75,7 @@ impl Bytes {
     pub fn try_clone(&self) -> Result<Bytes, AllocError>
         ensures { IfOk result (λ copy. copy ≡ self.now) }
     {
-        self.clone()
+        Bytes::from_slice(*self.bytes.allocator(), self.as_slice())
     }
 }
 
@@ -110,7 +113,7 @@ impl Ord for Bytes {
     ghost matches_eq = { Prim.search (comparing, rules) };
 
     fn cmp(&self, other: &Bytes) -> Ordering {
-        compare(&self.bytes, &other.bytes)
+        compare(self.as_slice(), other.as_slice())
     }
 }
 
