@@ -9,10 +9,11 @@ abbrev pub StaysNamed : (Uses : ℕ → Leaf → Type 0) → Option Leaf → Typ
 StaysNamed Uses None = Unit {0}
 StaysNamed Uses (Some one) = (r : ℕ) × Uses r one
 
--- these caches came from others by uses of leaves that are named, each of which comes to the front of its rank's order;
--- by changes of fragments of such leaves, where they stand or as they come to the front; by places that became free for a named leaf that had none, where the least recently used of the rank's
--- clean fragments went if all were taken; and by ends of leaves that are named as ending. So a leaf that isn't named is
--- left where it is, or was clean and the least recently used
+-- these caches came from others by uses of leaves that are named, each of which comes to the front of its rank's
+-- order; by changes of fragments of such leaves, where they stand or as they come to the front; by places that
+-- became free for a named leaf that had none, where the least recently used of the rank's clean fragments went if
+-- all were taken; and by ends of leaves that are named as ending. So a leaf that isn't named is left where it is, or
+-- was clean and the least recently used
 pub data Came (Uses Ends : ℕ → Leaf → Type 0) (old : CacheMap) : CacheMap → Type 0 where
   stays : Came Uses Ends old old
   uses : (mid : CacheMap) (r : ℕ) (leaf : Leaf) → Came Uses Ends old mid → Uses r leaf

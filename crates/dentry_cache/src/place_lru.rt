@@ -89,6 +89,7 @@ impl PlaceLru {
     }
 
     /// A leaf's place.
+    #[inline(always)]
     pub(crate) fn peek(&self, leaf: &(Ino, Frag)) -> Option<&Place>
         ensures { option_copied result ≡ lookup (leaf_is leaf.now) self.now.entries }
     {
@@ -98,8 +99,8 @@ impl PlaceLru {
         }
     }
 
-    /// Makes a leaf's place the most recently used, and tells whether it has one.
-    pub(crate) fn promote(&mut self, leaf: &(Ino, Frag)) -> bool
+    // Makes a leaf's place the most recently used, and tells whether it has one.
+    fn promote(&mut self, leaf: &(Ino, Frag)) -> bool
         ensures value { result ≡ is_some (lookup (leaf_is leaf.now) self.old.entries) }
         ensures entries { self.new ≡ lru_cache (promoted (leaf_is leaf.now) self.old.entries) self.old.cap }
     {
@@ -107,6 +108,7 @@ impl PlaceLru {
     }
 
     /// A leaf's place, to write to. The order of use stays.
+    #[inline(always)]
     pub(crate) fn peek_mut(&mut self, leaf: &(Ino, Frag)) -> Option<&mut Place>
         ensures* writes_back { sem 𝓛 (lends_place self.entry (leaf_is leaf.now) self.old.entries result) }
         ensures value { option_copied_mut result ≡ lookup (leaf_is leaf.now) self.old.entries }
@@ -133,6 +135,7 @@ impl PlaceLru {
     }
 
     /// Makes a leaf's place the most recently used, and tells whether it has one. Where it is already, no key is hashed.
+    #[inline(always)]
     pub(crate) fn touch(&mut self, leaf: &(Ino, Frag)) -> bool
         ensures value { result ≡ is_some (lookup (leaf_is leaf.now) self.old.entries) }
         ensures entries { self.new ≡ lru_cache (promoted (leaf_is leaf.now) self.old.entries) self.old.cap }
@@ -143,6 +146,15 @@ impl PlaceLru {
                 return true;
             }
         }
+        self.bring(leaf)
+    }
+
+    // Makes a leaf's place the most recently used, and tells whether it has one.
+    #[inline(never)]
+    fn bring(&mut self, leaf: &(Ino, Frag)) -> bool
+        ensures value { result ≡ is_some (lookup (leaf_is leaf.now) self.old.entries) }
+        ensures entries { self.new ≡ lru_cache (promoted (leaf_is leaf.now) self.old.entries) self.old.cap }
+    {
         let there = self.promote(leaf);
         self.note_newest();
         there
@@ -194,6 +206,7 @@ impl PlaceLru {
 }
 
 // The slot of a leaf's place. Mostly it is one of the two that were found last, and then no key is hashed.
+#[inline(always)]
 fn slot_of(
     order: &LruCache<(Ino, Frag), usize>,
     slots: &[Slot],
@@ -203,10 +216,25 @@ fn slot_of(
     requires { AreSlotted slots.now order.now.entries }
     ensures { result ≡ lookup (leaf_is leaf.now) order.now.entries }
 {
-    let Near { last, before } = near.get();
+    let last = near.get().last;
     if stands_in(slots, last, leaf) {
         return Some(last);
     }
+    slot_beside(order, slots, near, leaf)
+}
+
+// The same, where it isn't that of the place that was found last.
+#[inline(never)]
+fn slot_beside(
+    order: &LruCache<(Ino, Frag), usize>,
+    slots: &[Slot],
+    near: &Cell<Near>,
+    leaf: &(Ino, Frag),
+) -> Option<usize>
+    requires { AreSlotted slots.now order.now.entries }
+    ensures { result ≡ lookup (leaf_is leaf.now) order.now.entries }
+{
+    let before = near.get().before;
     if stands_in(slots, before, leaf) {
         return Some(before);
     }
@@ -220,6 +248,7 @@ fn slot_of(
 }
 
 // Whether there is a slot of this number, and a leaf's place stands in it.
+#[inline(always)]
 fn stands_in(slots: &[Slot], number: usize, leaf: &(Ino, Frag)) -> bool
     ensures { result ≡ true → (number < length slots.now) × ((slot_at slots.now number).leaf ≡ leaf.now) }
 {

@@ -11,8 +11,9 @@ ghost use Rattle.inode_table.specs.Dirs.{IsAbove, IsLeafAt, IsLive, IsTable, May
 
 use fragtree::FragTree;
 use mds_types::{Frag, Ino, Name, Rank, Refusal};
-use sorted_map::SortedMap;
+use sorted_map::{Finger, SortedMap};
 use std::alloc::{AllocError, Global};
+use std::cell::Cell;
 use std::marker::Model;
 
 /// Where a directory stands: its parent, and its name there.
@@ -56,6 +57,8 @@ pub struct Dirs {
     root: Option<FragTree>,
     in_root: u64,
     pub(crate) below: SortedMap<u64, Directory>,
+    // where the two rows were in which a name was located last: a change of one of them finds it again there
+    near: Cell<Finger>,
 }
 
 impl Model for Dirs {
@@ -94,6 +97,7 @@ impl Dirs {
             root: None,
             in_root: 0,
             below: SortedMap::new(alloc),
+            near: Cell::new(Finger::none()),
         }
     }
 
@@ -112,7 +116,7 @@ impl Dirs {
         if dir == Ino::ROOT {
             return None;
         }
-        Some(&self.below.get(&dir.0)?.home)
+        Some(&self.below.get_near(&self.near.get(), &dir.0)?.home)
     }
 
     /// Whether this is the number of a directory: the root, or one that was adopted.
@@ -170,7 +174,7 @@ impl Dirs {
                 leaves,
             });
         }
-        let row = self.below.get(&dir.0)?;
+        let row = self.below.get_noting(&self.near, &dir.0)?;
         let leaves = row.leaves.as_ref();
         Some(LeafAt {
             frag: picked(leaves, hash),
@@ -346,7 +350,8 @@ impl Dirs {
             self.in_root += 1;
             return;
         }
-        let Some(row) = self.below.get_mut(&dir.0) else {
+        let near = self.near.get();
+        let Some(row) = self.below.get_mut_near(&near, &dir.0) else {
             unreachable!()
         };
         row.entries += 1;
@@ -361,7 +366,8 @@ impl Dirs {
             self.in_root = self.in_root.saturating_sub(1);
             return;
         }
-        let Some(row) = self.below.get_mut(&dir.0) else {
+        let near = self.near.get();
+        let Some(row) = self.below.get_mut_near(&near, &dir.0) else {
             unreachable!()
         };
         row.entries = row.entries.saturating_sub(1);
@@ -372,7 +378,8 @@ impl Dirs {
         requires { is_some (map.get self.old.homes dir.0) ≡ true }
         ensures { self.new ≡ record self.old { pins = pinned_at self.old.pins dir.0 pin } }
     {
-        let Some(row) = self.below.get_mut(&dir.0) else {
+        let near = self.near.get();
+        let Some(row) = self.below.get_mut_near(&near, &dir.0) else {
             unreachable!()
         };
         row.pin = pin;
@@ -410,7 +417,8 @@ impl Dirs {
         ensures room { self.new.room ≡ self.old.room }
         ensures valid { IsTable self.new.homes self.new.trees }
     {
-        let Some(row) = self.below.get_mut(&dir.0) else {
+        let near = self.near.get();
+        let Some(row) = self.below.get_mut_near(&near, &dir.0) else {
             unreachable!()
         };
         row.home = home;

@@ -1,5 +1,5 @@
 -- Commits of whole fragments, one after the other.
-use Rattle.mdcache.proofs.Common.{Base, Bool, CommitsWhole, EndsJobOf, Err, HasSpelled, IsAsItWas, IsAtHand, IsEnded, IsLive, IsSound, IsWritten, Job, Jobs, LacksNumbers, Leaf, List, MayNotCommit, None, Ok, Refusal, Result, Some, State, Unsaved, UnsavedLeaves, ap, arith, cond, false, get_beside, inl, inr, len-empty, names_at, names_then, next_version, object_of, refl, same_Some, shown_at, shown_over, subst, sym, text_of, true, ℕ, ⊎_elim, ◌+◌, ◌<◌, ◌∙◌, ◌≡◌, ◌⊎◌}
+use Rattle.mdcache.proofs.Common.{Base, Bool, CommitsWhole, EndsJobOf, Err, HasSpelled, IsAsItWas, IsAtHand, IsEnded, IsLive, IsSound, IsSavedNow, Job, Jobs, LacksNumbers, Leaf, List, MayNotCommit, None, Ok, Refusal, Result, Some, State, Unsaved, UnsavedLeaves, ap, arith, cond, false, get_beside, inl, inr, len-empty, names_at, names_then, next_version, object_of, refl, same_Some, shown_at, shown_over, subst, sym, text_of, true, ℕ, ⊎_elim, ◌+◌, ◌<◌, ◌∙◌, ◌≡◌, ◌⊎◌}
 use Rattle.std.specs.FinMap as map
 use Rattle.mds_types.proofs.LeafLaws.{get_left, get_removed, same_or_apart}
 use Rattle.objstore.specs.Objects.{written}
@@ -16,7 +16,7 @@ given_up_whole old new jobs n left = subst (CommitsWhole old) (sym left) (record
 
 -- commits after others
 module _ (old mid new : State) (first : CommitsWhole old mid) (second : CommitsWhole mid new) where
-  each_of : (leaf : Leaf) → IsAsItWas old mid leaf ⊎ IsWritten old mid leaf → IsAsItWas mid new leaf ⊎ IsWritten mid new leaf → IsAsItWas old new leaf ⊎ IsWritten old new leaf
+  each_of : (leaf : Leaf) → IsAsItWas old mid leaf ⊎ IsSavedNow old mid leaf → IsAsItWas mid new leaf ⊎ IsSavedNow mid new leaf → IsAsItWas old new leaf ⊎ IsSavedNow old new leaf
   each_of leaf (inl a) (inl b) = inl (b.0 ∙ a.0, b.1 ∙ a.1)
   each_of leaf (inl a) (inr w) = inr (record {
     unsaved = w.unsaved;
@@ -71,7 +71,7 @@ module _ (now new : State) (job : Job) (sound : IsSound now) (hand : IsAtHand no
   ended_whole = record {
     left = subst (λ (k : State). k ≡ record now { unsaved = k.unsaved; objects = k.objects; jobs = k.jobs; next_job = k.next_job }) (sym ended.left) refl;
     tree = ended.tree;
-    each = λ q it_lives. ⊎_elim (λ same. inr (subst (IsWritten now new) (sym same) (record {
+    each = λ q it_lives. ⊎_elim (λ same. inr (subst (IsSavedNow now new) (sym same) (record {
       unsaved = hand.unsaved;
       was = hand.beside;
       clean = ap (λ m. map.get m leaf) removed ∙ get_removed now.unsaved leaf;

@@ -82,7 +82,7 @@ pub use Rattle.inode_table.specs.Order.{trees_after}
 pub use Rattle.inode_table.specs.TreeChanges.{KeepLeaves, MayAdd, MayRemove, MaySet}
 pub use Rattle.inode_table.specs.TreeTable.{IsCounted, IsTabled, counts_moved, home_at, with_count, with_home, with_pin, without_cover, without_home, without_row}
 pub use Rattle.inode_table.specs.declared.dirs.Home.{Home}
-pub use Rattle.mdcache.specs.Batches.{AreOfOtherLeaves, CommitsWhole, IsAsItWas, IsBegunAt, IsReadied, IsReadyWrite, IsUncleanAt, IsWritten, MayNotBeginAll, MayNotBeginOne, MayNotCommit, NotAmong, leaves_at, leaves_of_jobs, leaves_of_writes, ready_of}
+pub use Rattle.mdcache.specs.Batches.{AreOfOtherLeaves, CommitsWhole, IsAsItWas, IsBegunAt, IsReadied, IsReadyWrite, IsUncleanAt, IsSavedNow, MayNotBeginAll, MayNotBeginOne, MayNotCommit, NotAmong, leaves_at, leaves_of_jobs, leaves_of_writes, ready_of}
 pub use Rattle.mdcache.specs.CacheReads.{IsNewestOf, LacksPlacesIn}
 pub use Rattle.mdcache.specs.Changes.{Alters, IsAsItStands, IsNamed, Makes, PutsThen, TakesThen, dirtied, first_leaf, housed, just_made, noted_change, object_texts_of, with_directory, with_home_at, with_name, with_new, with_objects, without_gone_dir, without_directory, without_leaves}
 pub use Rattle.mdcache.specs.Changing.{ChangesTree, IsChangedBy}

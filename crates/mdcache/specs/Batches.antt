@@ -93,7 +93,7 @@ IsAsItWas old new leaf =
     × (object_of new.objects leaf.0 leaf.1 ≡ object_of old.objects leaf.0 leaf.1)
 
 -- a leaf that wasn't clean is: its object spells what it showed, one version higher
-pub record IsWritten (old new : State) (leaf : Leaf) : Type 0 where
+pub record IsSavedNow (old new : State) (leaf : Leaf) : Type 0 where
   pub unsaved : Unsaved
   pub was : map.get old.unsaved leaf ≡ Some unsaved
   pub clean : map.get new.unsaved leaf ≡ None
@@ -105,6 +105,6 @@ pub record IsWritten (old new : State) (leaf : Leaf) : Type 0 where
 pub record CommitsWhole (old new : State) : Type 0 where
   pub left : new ≡ record old { unsaved = new.unsaved; objects = new.objects; jobs = new.jobs; next_job = new.next_job }
   pub tree : shown_tree new ≡ shown_tree old
-  pub each : (leaf : Leaf) → IsLive old.homes old.covers leaf → IsAsItWas old new leaf ⊎ IsWritten old new leaf
+  pub each : (leaf : Leaf) → IsLive old.homes old.covers leaf → IsAsItWas old new leaf ⊎ IsSavedNow old new leaf
   pub others : (name : List ℕ) → ((leaf : Leaf) → IsLive old.homes old.covers leaf → name ≡ text_of leaf → ⊥)
       → map.get new.objects name ≡ map.get old.objects name

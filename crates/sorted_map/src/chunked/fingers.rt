@@ -74,7 +74,7 @@ fn note(near: &Cell<Finger>, home: usize, at: usize) {
 }
 
 // The chunk of the probe's key and its place there, or that where it would go, as `spot_from_end` finds them.
-fn spot_near<K: Ord, V, Q: Probe<K>>(
+pub(crate) fn spot_near<K: Ord, V, Q: Probe<K>>(
     chunks: &[Chunk<K, V>],
     near: &Finger,
     q: &Q,

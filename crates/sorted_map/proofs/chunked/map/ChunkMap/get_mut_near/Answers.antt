@@ -5,7 +5,7 @@ use Rattle.sorted_map.proofs.ChunkLaws.{one_of}
 use Rattle.sorted_map.proofs.ContentLaws.{put_in_place, same_loan, value_at, got_gap}
 use Rattle.sorted_map.proofs.FlatLaws.{flat_get, some_at, some_set, value_flat, value_length}
 use Rattle.sorted_map.proofs.RoomLaws.{same_load}
-use Rattle.sorted_map.proofs.chunked.map.ChunkMap.get_mut.Goals as goal
+use Rattle.sorted_map.proofs.chunked.map.ChunkMap.get_mut_near.Goals as goal
 
 -- a value that is written is inserted
 written : {K V : Type 0} {R : K → K → Ordering} (o : IsTotalOrder R) (k : K) (w : V) (cs : List (List (K × V))) (i at : ℕ) → T (is_sorted R (flat cs)) → IsAt R k (flat cs) (start cs i + at) → i < length cs → at < length (get_or cs i [])
@@ -18,9 +18,9 @@ written {R = R} o k w cs i at s place lt within =
 pub invariant_of-self-lent : goal.invariant_of-self-lent
 invariant_of-self-lent g c = λ w.
     let cs = c.self.inside.chunks.lists in
-    let home = c.spot.result.0 in
+    let home = c.spot_near.result.0 in
     let at = c.in_default-Ok.at in
-    let found = rw (c.in_default-Ok.is-1, c.row.ensures.row) at c.spot.ensures in
+    let found = rw (c.in_default-Ok.is-1, c.row.ensures.row) at c.spot_near.ensures in
     let len = value_length (get_or cs home []) at w in (
       (put_in_place g.met.K.Ord.total (g.Q.Probe.key c.args.q.now) w (flat cs) _ _ c.self.invariant.0 found.place (λ d. value_flat cs home at d w found.found found.within)).0,
       some_set cs home _ c.self.invariant.1 (omega (arith, len, some_at cs home found.found c.self.invariant.1)),
@@ -29,9 +29,9 @@ invariant_of-self-lent g c = λ w.
 pub returns-in_default-Ok : goal.returns-in_default-Ok
 returns-in_default-Ok g c =
     let cs = c.self.inside.chunks.lists in
-    let home = c.spot.result.0 in
+    let home = c.spot_near.result.0 in
     let at = c.in_default-Ok.at in
-    let found = rw (c.in_default-Ok.is-1, c.row.ensures.row) at c.spot.ensures in
+    let found = rw (c.in_default-Ok.is-1, c.row.ensures.row) at c.spot_near.ensures in
     let key = g.Q.Probe.key c.args.q.now in
     let d = one_of (get_or cs home []) at found.within in
     let value = c.value_mut.ensures.value d ∙ ap (λ x. x.1) (sym (flat_get cs home at d found.within)) in
@@ -45,5 +45,5 @@ returns-in_default-Ok g c =
 
 pub returns-in_default-Err : goal.returns-in_default-Err
 returns-in_default-Err g c =
-    let place = rw (c.in_default-Err.is-1, c.row.ensures.row) at c.spot.ensures.place in
+    let place = rw (c.in_default-Err.is-1, c.row.ensures.row) at c.spot_near.ensures.place in
     rw (← c.self.view_is) (refl, record { writes_back = tt; value = got_gap _ _ c.self.invariant.0 _ _ place })
