@@ -1,28 +1,19 @@
 -- Where a leaf's fragment is, among the ranks.
-use Rattle.std.proofs.Common.{◌≡◌, ◌⊎◌, inl, inr, ℕ, zero, suc, ◌+◌, ◌<◌, Bool, true, false, cond, is_some, length, List, [], ◌∷◌, Option, Some, None, refl, sym, ap, ◌∙◌, arith}
+use Rattle.std.proofs.Common.{◌||◌, set, subst, ◌≡◌, ◌⊎◌, inl, inr, ℕ, zero, suc, ◌+◌, ◌<◌, Bool, true, false, cond, is_some, length, List, [], ◌∷◌, Option, Some, None, refl, sym, ap, ◌∙◌, arith}
 use Rattle.std.specs.Borrow.{Bor}
 use Rattle.std.specs.Prelude.{◌==◌, get_or}
 use Rattle.std.specs.Option.{option_copied, option_map}
 use Rattle.std.specs.FinMap as finmap
 use Rattle.std.specs.List.{list_any}
 use Rattle.std.proofs.lemmas.Bool.{eqb-true}
+use Rattle.std.proofs.lemmas.List.{set-get_or}
 use Rattle.sorted_map.proofs.NatKeys.{is_same}
-use Rattle.dentry_cache.specs.CacheMap.{AreCaches, At, CacheMap, at_rank, here}
+use Rattle.cached_frag.specs.Cached.{Cached}
+use Rattle.dentry_cache.specs.CacheCalls.{IsWhole}
+use Rattle.dentry_cache.specs.CacheMap.{AreCaches, At, CacheMap, at_rank, given_up, has_place, here, less, order, removed}
+use Rattle.dentry_cache.specs.Ended.{ended, ended_at}
 use Rattle.dentry_cache.proofs.SplitShows.{below_or_it}
-use Rattle.dentry_cache.specs.Cache.{Leaf, leaf_is}
-
-pub copied_some : {A : Type 0} (o : Option (Bor A)) → is_some (option_copied o) ≡ is_some o
-copied_some None = refl
-copied_some (Some x) = refl
-
--- a rank that has it is the one that the map tells
-pub rank_found : (r : ℕ) (o : Option At) → is_some (at_rank r o) ≡ true → Some r ≡ option_map (λ (a : At). a.rank) o
-rank_found r None some = let clash : false ≡ true = some in absurd cc
-rank_found r (Some a) some = go (a.rank == r) refl some
-  where
-    go : (b : Bool) → (a.rank == r) ≡ b → is_some (cond b (Some a.frag) None) ≡ true → Some r ≡ Some a.rank
-    go true same h = ap (λ (n : ℕ). Some n) (sym (eqb-true a.rank r same))
-    go false apart h = let clash : false ≡ true = h in absurd cc
+use Rattle.dentry_cache.specs.Cache.{IsThere, Leaf, leaf_is}
 
 -- a rank at which a leaf has a place is there
 pub rank_there : (used : List (List Leaf)) (r : ℕ) (leaf : Leaf) → list_any (leaf_is leaf) (get_or used r []) ≡ true → r < length used
@@ -52,3 +43,32 @@ looked_on c leaf n before none r below = go (below_or_it r n below)
     go : (r < n) ⊎ (r ≡ n) → is_some (here c r leaf) ≡ false
     go (inl less) = before r less
     go (inr same) = ap (λ (k : ℕ). is_some (here c k leaf)) same ∙ none
+
+-- where none has it, all stays
+pub none_ends : (c : CacheMap) (leaf : Leaf) → AreCaches c → ((r : ℕ) → r < length c.used → is_some (here c r leaf) ≡ false) → c ≡ ended c leaf
+none_ends c leaf valid none = sym (ap (ended_at c leaf) (none_has c leaf valid none))
+
+-- a leaf that isn't among them is in none's way
+pub less_absent : (leaf : Leaf) (xs : List Leaf) → list_any (leaf_is leaf) xs ≡ false → less leaf xs ≡ xs
+less_absent leaf [] none = refl
+less_absent leaf (x ∷ xs) none = go (less_absent leaf xs) (leaf_is leaf x) none
+  where
+    go : (list_any (leaf_is leaf) xs ≡ false → less leaf xs ≡ xs) → (b : Bool) → (b || list_any (leaf_is leaf) xs) ≡ false → cond b xs (x ∷ less leaf xs) ≡ x ∷ xs
+    go rest true clash = absurd cc
+    go rest false later = ap (λ (ys : List Leaf). x ∷ ys) (rest later)
+
+-- a rank that has nothing of it gives nothing up
+pub given_up_none : (c : CacheMap) (leaf : Leaf) (r : ℕ) → IsWhole c r leaf → is_some (here c r leaf) ≡ false → given_up c r leaf ≡ c
+given_up_none c leaf r whole none =
+    let empty = gone (here c r leaf) none in
+    ap (λ (o : Option Cached). record { held = removed c.held leaf o; used = set c.used r (less leaf (order c r)); cap = c.cap }) empty
+    ∙ ap (λ (xs : List Leaf). record { held = c.held; used = set c.used r xs; cap = c.cap }) (less_absent leaf (order c r) (unplaced (has_place c r leaf) (λ placed. subst IsThere empty (whole placed))))
+    ∙ ap (λ (us : List (List Leaf)). record { held = c.held; used = us; cap = c.cap }) (set-get_or c.used r [])
+  where
+    gone : (o : Option Cached) → is_some o ≡ false → o ≡ None
+    gone None is = refl
+    gone (Some f) is = absurd cc
+
+    unplaced : (b : Bool) → (b ≡ true → ⊥) → b ≡ false
+    unplaced true clash = absurd (clash refl)
+    unplaced false clash = refl

@@ -96,7 +96,8 @@ impl<S: Store + Drop> MdCache<S> {
         requires known { is_known self.old.homes spot.at.dir.0 ≡ true }
         requires may { IfSome (dir_going going) (λ dir. MayGo self.old.homes dir.0) }
         requires purge { count_going going ≤ self.old.room.purge }
-        ensures none { KeepsNone self.old.caches → KeepsNone self.new.caches }
+        requires none { KeepsNone self.old.caches }
+        ensures none { KeepsNone self.new.caches }
         ensures gone { self.new ≡ without_dir (without_entry (named self.old spot.at spot.name None) spot.at.dir)
             (dir_going going) (leaves_going going) (texts_going going) self.new.room }
     {
@@ -124,7 +125,8 @@ impl<S: Store + Drop> MdCache<S> {
         requires may { IfSome (dir_going moving.going)
             (λ dir. MayGo (with_home self.old.homes (record { dir = to.at.dir; name = moving.name }) inode) dir.0) }
         requires purge { count_going moving.going ≤ self.old.room.purge }
-        ensures none { KeepsNone self.old.caches → KeepsNone self.new.caches }
+        requires none { KeepsNone self.old.caches }
+        ensures none { KeepsNone self.new.caches }
         ensures moved { self.new ≡ without_dir (moved_entry self.old from.at from.name to.at to.name moving.name inode)
             (dir_going moving.going) (leaves_going moving.going) (texts_going moving.going) self.new.room }
     {

@@ -122,14 +122,15 @@ impl<S: Store + Drop> MdCache<S> {
     }
 
     /// A directory goes that is no one's parent and not the root, or none: its home, its leaves with all that is cached
-    /// of them at any rank and the jobs that stand for them. The names of its objects, for which there is room, are on
-    /// the purge list then. Takes no memory.
+    /// of them at any rank and the jobs that stand for them. No place is kept. The names of its objects, for which there
+    /// is room, are on the purge list then. Takes no memory.
     pub(crate) fn remove_dir(&mut self, going: Option<Going>)
         requires may { IfSome (dir_going going) (λ dir. MayGo self.old.homes dir.0) }
         requires room { count_going going ≤ self.old.room.purge }
+        requires none { KeepsNone self.old.caches }
         ensures gone { self.new ≡ without_dir self.old (dir_going going)
             (leaves_going going) (texts_going going) self.new.room }
-        ensures none { KeepsNone self.old.caches → KeepsNone self.new.caches }
+        ensures none { KeepsNone self.new.caches }
     {
         if let Some(going) = going {
             self.dirs.drop(going.dir);
@@ -138,13 +139,14 @@ impl<S: Store + Drop> MdCache<S> {
         }
     }
 
-    /// These leaves of a directory end: their places at any rank, their jobs, and the names of their objects are on the
-    /// purge list, which has room for them. Takes no memory.
+    /// These leaves of a directory end, and no place is kept: their places at any rank, their jobs, and the names of their
+    /// objects are on the purge list, which has room for them. Takes no memory.
     pub(crate) fn end_leaves(&mut self, dir: Ino, leaves: Vec<GoingLeaf>)
-        requires { length leaves.items ≤ self.old.room.purge }
+        requires room { length leaves.items ≤ self.old.room.purge }
+        requires none { KeepsNone self.old.caches }
         ensures ended { self.new ≡ without_frags self.old (leaves_in dir leaves.items)
             (texts_in leaves.items) self.new.room }
-        ensures none { KeepsNone self.old.caches → KeepsNone self.new.caches }
+        ensures none { KeepsNone self.new.caches }
     {
         for part in leaves {
             self.end_leaf(dir, part);
@@ -153,11 +155,12 @@ impl<S: Store + Drop> MdCache<S> {
 
     // So it is with one of them.
     fn end_leaf(&mut self, dir: Ino, part: GoingLeaf)
-        requires { 0 < self.old.room.purge }
+        requires room { 0 < self.old.room.purge }
+        requires none { KeepsNone self.old.caches }
         ensures ended { self.new ≡ without_frags self.old ((dir, part.frag) ∷ [])
             (string_bytes part.object ∷ []) self.new.room }
         ensures room { self.old.room.purge ≤ self.new.room.purge + 1 }
-        ensures none { KeepsNone self.old.caches → KeepsNone self.new.caches }
+        ensures none { KeepsNone self.new.caches }
     {
         self.caches.end(dir, part.frag);
         self.jobs.end(dir, part.frag);

@@ -22,14 +22,20 @@ by_greater x y Less h l = let e : x < y = h in absurd (omega arith)
 by_greater x y Equal h l = let e : x ≡ y = h in absurd (omega arith)
 by_greater x y Greater h l = refl
 
-less : {x y : ℕ} → x < y → nat_cmp x y ≡ Less
+pub less : {x y : ℕ} → x < y → nat_cmp x y ≡ Less
 less {x} {y} = by_less x y _ (ranks x y)
 
-equal : {x y : ℕ} → x ≡ y → nat_cmp x y ≡ Equal
+pub equal : {x y : ℕ} → x ≡ y → nat_cmp x y ≡ Equal
 equal {x} {y} = by_equal x y _ (ranks x y)
 
-greater : {x y : ℕ} → y < x → nat_cmp x y ≡ Greater
+pub greater : {x y : ℕ} → y < x → nat_cmp x y ≡ Greater
 greater {x} {y} = by_greater x y _ (ranks x y)
+
+-- one more of each
+pub longer : (m n : ℕ) (r : Ordering) → MatchOrdering r (m < n) (m ≡ n) (n < m) → r ≡ nat_cmp (suc m) (suc n)
+longer m n Less l = let e : m < n = l in sym (less {x = suc m} {y = suc n} (omega arith))
+longer m n Equal l = let e : m ≡ n = l in sym (equal {x = suc m} {y = suc n} (omega arith))
+longer m n Greater l = let e : n < m = l in sym (greater {x = suc m} {y = suc n} (omega arith))
 
 -- ---- the order of bytes
 
@@ -50,11 +56,6 @@ by_lengths (x ∷ xs) (y ∷ ys) h =
     ap (λ r. ordering_then r (slice_cmp nat_cmp xs ys)) (equal {x = x} {y = y} (h 0 (omega arith)))
     ∙ by_lengths xs ys (λ k l. h (suc k) (omega arith))
     ∙ longer (length xs) (length ys) (nat_cmp (length xs) (length ys)) (ranks (length xs) (length ys))
-  where
-    longer : (m n : ℕ) (r : Ordering) → MatchOrdering r (m < n) (m ≡ n) (n < m) → r ≡ nat_cmp (suc m) (suc n)
-    longer m n Less l = let e : m < n = l in sym (less {x = suc m} {y = suc n} (omega arith))
-    longer m n Equal l = let e : m ≡ n = l in sym (equal {x = suc m} {y = suc n} (omega arith))
-    longer m n Greater l = let e : n < m = l in sym (greater {x = suc m} {y = suc n} (omega arith))
 
 -- ---- bytes as a number
 

@@ -17,6 +17,7 @@ pub mod NumberLaws
 pub mod ObjectTextBytes
 pub mod ObjectTextLaws
 pub mod OrderLaws
+pub mod PaddedLaws
 pub mod RemovedLaws
 pub mod StepLaws
 pub mod TreeLaws

@@ -2,6 +2,7 @@ pub mod ByteOrder
 pub mod Frag
 pub mod History
 pub mod InodeLaws
+pub mod KeptBytes
 pub mod Leaf
 pub mod Name
 pub mod NameFault
@@ -10,6 +11,7 @@ pub mod OrderLaws
 pub mod Outcomes
 pub mod Refusal
 pub mod Shape
+pub mod ShortBytes
 pub mod Step
 pub mod TargetFault
 pub mod Tree

@@ -24,10 +24,10 @@ pub(crate) fn compare(a: &[u8], b: &[u8]) -> Ordering
     a.cmp(b)
 }
 
-// Two numbers that were read from the first bytes, of which both have so many. Two words, which may overlap, are at
-// most sixteen bytes.
+/// Two numbers that were read from the first bytes, of which both have so many. Two words, which may overlap, are at
+/// most sixteen bytes.
 #[inline(always)]
-fn fronts(a: &[u8], b: &[u8], both: usize) -> (u64, u64)
+pub(crate) fn fronts(a: &[u8], b: &[u8], both: usize) -> (u64, u64)
     requires some { 4 ≤ both }
     requires first { both ≤ length a.now }
     requires second { both ≤ length b.now }

@@ -8,24 +8,33 @@ ghost use Rattle.std.specs.Ordering.{nat_cmp, as_partial_cmp};
 ghost use Rattle.std.specs.Prelude.{◌≡◌, ◌==◌, [], IfOk};
 
 use crate::byte_order::compare;
+use crate::short_bytes::Short;
 use sorted_map::ExactOrd;
 use std::alloc::{AllocError, Global};
 use std::cmp::Ordering;
 use std::marker::Model;
 
 /// Any bytes, in the order in which memory compares: a name, a key, a value, the header of an object. Seen by contents,
-/// never by its capacity.
+/// never by where they stand: up to 16 bytes, as most names have, take no memory of their own.
 #[derive(Clone, Debug, Drop)]
 pub struct Bytes {
-    bytes: Vec<u8>,
+    kept: Kept,
+}
+
+// Where bytes stand: few in the value itself, more in memory of their own.
+#[derive(Clone, Debug, Drop)]
+enum Kept {
+    Short(Short),
+    Long(Vec<u8>),
 }
 
 impl Model for Bytes {
     ghost use Rattle.std.specs.Prelude.{List, ℕ};
+    ghost use Rattle.mds_types.specs.KeptBytes.{bytes_in};
 
     ghost Value = { List ℕ };
 
-    ghost view = { λ b. b.bytes.items };
+    ghost view = { λ b. bytes_in b.kept };
 }
 
 impl Bytes {
@@ -34,7 +43,7 @@ impl Bytes {
         ensures { result ≡ [] }
     {
         Bytes {
-            bytes: Vec::new(alloc),
+            kept: Kept::Long(Vec::new(alloc)),
         }
     }
 
@@ -42,33 +51,42 @@ impl Bytes {
     pub fn from_vec(bytes: Vec<u8>) -> Bytes
         ensures { result ≡ bytes.items }
     {
-        Bytes { bytes }
+        let kept = match Short::of(&bytes) {
+            Some(short) => Kept::Short(short),
+            None => Kept::Long(bytes),
+        };
+        Bytes { kept }
     }
 
-    /// A copy of these bytes. Takes memory for them.
+    /// A copy of these bytes. More than 16 take memory.
     pub fn from_slice(alloc: Global, bytes: &[u8]) -> Result<Bytes, AllocError>
         ensures { IfOk result (λ copy. copy ≡ bytes.now) }
     {
-        Ok(Bytes {
-            bytes: Vec::from_slice(alloc, bytes)?,
-        })
+        let kept = match Short::of(bytes) {
+            Some(short) => Kept::Short(short),
+            None => Kept::Long(Vec::from_slice(alloc, bytes)?),
+        };
+        Ok(Bytes { kept })
     }
 
     /// The bytes.
     pub fn as_slice(&self) -> &[u8]
         ensures { result.now ≡ self.now }
     {
-        &self.bytes
+        match &self.kept {
+            Kept::Short(short) => short.as_slice(),
+            Kept::Long(bytes) => bytes,
+        }
     }
 
     /// Forgets the bytes.
     pub fn clear(&mut self)
         ensures { self.new ≡ [] }
     {
-        self.bytes.clear();
+        self.kept = Kept::Short(Short::empty());
     }
 
-    /// A copy. Takes memory for the bytes.
+    /// A copy. More than 16 bytes take memory.
     pub fn try_clone(&self) -> Result<Bytes, AllocError>
         ensures { IfOk result (λ copy. copy ≡ self.now) }
     {
@@ -82,7 +100,7 @@ impl PartialEq for Bytes {
     ghost laws = { Prim.search (comparing, rules) };
 
     fn eq(&self, other: &Bytes) -> bool {
-        self.bytes.as_slice() == other.bytes.as_slice()
+        self.as_slice() == other.as_slice()
     }
 }
 
@@ -110,7 +128,10 @@ impl Ord for Bytes {
     ghost matches_eq = { Prim.search (comparing, rules) };
 
     fn cmp(&self, other: &Bytes) -> Ordering {
-        compare(&self.bytes, &other.bytes)
+        match (&self.kept, &other.kept) {
+            (Kept::Short(short), Kept::Short(with)) => short.compare(with),
+            _ => compare(self.as_slice(), other.as_slice()),
+        }
     }
 }
 

@@ -25,6 +25,7 @@ mod page_sizes;
 mod refusals;
 mod replies;
 mod requests;
+mod short_bytes;
 mod targets;
 mod texts;
 

@@ -68,14 +68,12 @@ impl Name {
     }
 
     /// The name that these bytes are, or why they are none. Takes no memory.
-    pub fn from_vec(bytes: Vec<u8>) -> Result<Name, NameFault>
-        ensures made { NameFromBytes bytes.items result }
-        ensures err { IfErr result (IsFaultOf bytes.items) }
+    pub fn from_text(text: Bytes) -> Result<Name, NameFault>
+        ensures made { NameFromBytes text result }
+        ensures err { IfErr result (IsFaultOf text) }
     {
-        check(&bytes)?;
-        Ok(Name {
-            text: Bytes::from_vec(bytes),
-        })
+        check(text.as_slice())?;
+        Ok(Name { text })
     }
 
     /// The bytes of the name.

@@ -116,7 +116,7 @@ fn symlink(alloc: Global, args: &[u8]) -> Result<Op, ReadError>
     let birth = given_birth(rest)?;
     let (bytes, to_bytes) = two_texts(alloc, word, to)?;
     let name = name(bytes)?;
-    let target = target(alloc, &to_bytes)?;
+    let target = target(alloc, to_bytes.as_slice())?;
     Ok(Op::Symlink {
         dentry: Dentry { dir, name },
         target,

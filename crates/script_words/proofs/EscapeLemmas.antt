@@ -1,5 +1,5 @@
 -- Reading escapes from the left.
-use Rattle.script_words.proofs.Common.{List, None, Option, Some, [], ap, append-nil, arith, cond, eqb, false, hex_byte_of, is_some, length, ne_eqb, onto, refl, sym, ℕ, ◌++◌, ◌<◌, ◌∙◌, ◌∷◌, ◌≡◌, ◌≢◌}
+use Rattle.script_words.proofs.Common.{and_parts, list_all, not, true, ◌==◌, List, None, Option, Some, [], ap, append-nil, arith, cond, eqb, false, hex_byte_of, is_some, length, ne_eqb, onto, refl, sym, ℕ, ◌++◌, ◌<◌, ◌∙◌, ◌∷◌, ◌≡◌, ◌≢◌}
 use Rattle.script_words.specs.Escapes.{bytes_of}
 
 -- bytes before those of the rest, where the rest stands for any
@@ -22,6 +22,17 @@ bytes_of-plain byte rest word e plain = ap bytes_of e ∙ at rest (ne_eqb byte 3
     at [] plain = ap (λ b. onto (cond b None (Some byte)) (Some [])) plain
     at (a ∷ []) plain = ap (λ b. onto (cond b None (Some byte)) (bytes_of (a ∷ []))) plain
     at (a ∷ b ∷ word) plain = ap (λ t. cond t (onto (hex_byte_of a b) (bytes_of word)) (onto (Some byte) (bytes_of (a ∷ b ∷ word)))) plain
+
+-- a word without a `%` stands for itself
+pub bytes_of-itself : (word : List ℕ) → list_all (λ byte. not (byte == 37)) word ≡ true → Some word ≡ bytes_of word
+unfolding bytes_of
+bytes_of-itself [] all = refl
+bytes_of-itself (byte ∷ rest) all =
+    let parts = and_parts (not (byte == 37)) (list_all (λ b. not (b == 37)) rest) all in
+    ap (onto (Some byte)) (bytes_of-itself rest parts.1) ∙ sym (bytes_of-plain byte rest (byte ∷ rest) refl (λ same. apart same parts.0))
+  where
+    apart : byte ≡ 37 → not (byte == 37) ≡ true → ⊥
+    apart same ne = let clash : false ≡ true = sym (ap (λ n. not (n == 37)) same) ∙ ne in absurd cc
 
 -- `%` and two bytes
 pub bytes_of-escape : (byte high low : ℕ) (rest rest2 rest3 word : List ℕ) → word ≡ byte ∷ rest → byte ≡ 37 → rest ≡ high ∷ rest2 → rest2 ≡ low ∷ rest3

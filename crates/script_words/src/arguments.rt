@@ -1,5 +1,5 @@
 //! The words after a command's first.
-ghost use Rattle.std.specs.Prelude.{◌≡◌, OnErr, false, option_map};
+ghost use Rattle.std.specs.Prelude.{◌≡◌, OnErr, false};
 ghost use Rattle.script_words.specs.Reading.{Gives, Reads};
 ghost use Rattle.script_words.specs.Arguments.{ino_of, rank_of, pin_of, client_of, decimal_of, id_of, mode_of, page_size_of, text_of, two_texts_of, after_text_of, name_of, after_name_of, target_of, is_dash};
 
@@ -7,7 +7,8 @@ use crate::escapes::{is_escaped, unescaped};
 use crate::faults::{Fault, NOT_COMMAND, ReadError};
 use crate::numbers::{number, octal_mode};
 use mds_types::{
-    EINVAL, ENAMETOOLONG, ENOENT, Ino, Mode, Name, NameFault, PageSize, Rank, Target, TargetFault,
+    Bytes, EINVAL, ENAMETOOLONG, ENOENT, Ino, Mode, Name, NameFault, PageSize, Rank, Target,
+    TargetFault,
 };
 use std::alloc::Global;
 
@@ -110,8 +111,8 @@ pub fn page_size(word: &[u8]) -> Result<PageSize, ReadError>
 
 /// NAME and TARGET: the bytes that the word stands for.
 #[tactic(auto, unfolding(crate::specs::Arguments::text_of))]
-pub fn text(alloc: Global, word: &[u8]) -> Result<Vec<u8>, ReadError>
-    ensures { Gives (λ bytes. bytes.items) result (text_of word.now) }
+pub fn text(alloc: Global, word: &[u8]) -> Result<Bytes, ReadError>
+    ensures { Gives (λ bytes. bytes) result (text_of word.now) }
 {
     match unescaped(alloc, word)? {
         Some(bytes) => Ok(bytes),
@@ -121,8 +122,8 @@ pub fn text(alloc: Global, word: &[u8]) -> Result<Vec<u8>, ReadError>
 
 /// NAME and TARGET, or two names: the bytes that both words stand for.
 #[tactic(auto, unfolding(crate::specs::Arguments::two_texts_of))]
-pub fn two_texts(alloc: Global, word: &[u8], other: &[u8]) -> Result<(Vec<u8>, Vec<u8>), ReadError>
-    ensures { Gives (λ both. (both.0.items, both.1.items)) result (two_texts_of word.now other.now) }
+pub fn two_texts(alloc: Global, word: &[u8], other: &[u8]) -> Result<(Bytes, Bytes), ReadError>
+    ensures { Gives (λ both. both) result (two_texts_of word.now other.now) }
 {
     match text(alloc, word) {
         Ok(bytes) => Ok((bytes, text(alloc, other)?)),
@@ -138,8 +139,8 @@ pub fn two_texts(alloc: Global, word: &[u8], other: &[u8]) -> Result<(Vec<u8>, V
 
 /// AFTER: none for `-` alone, else the bytes that the word stands for.
 #[tactic(auto, unfolding(crate::specs::Arguments::after_text_of))]
-pub fn after_text(alloc: Global, word: &[u8]) -> Result<Option<Vec<u8>>, ReadError>
-    ensures bytes { Gives (option_map (λ bytes. bytes.items)) result (after_text_of word.now) }
+pub fn after_text(alloc: Global, word: &[u8]) -> Result<Option<Bytes>, ReadError>
+    ensures bytes { Gives (λ bytes. bytes) result (after_text_of word.now) }
     ensures dash { OnErr result (is_dash word.now ≡ false) }
 {
     if is_dash(word) {
@@ -160,10 +161,10 @@ fn is_dash(word: &[u8]) -> bool
 
 /// The name that these bytes are, or the error number of bytes that are none.
 #[tactic(auto, unfolding(crate::specs::Arguments::name_of))]
-pub fn name(bytes: Vec<u8>) -> Result<Name, ReadError>
-    ensures { Reads (λ name. name) result (name_of bytes.items) }
+pub fn name(bytes: Bytes) -> Result<Name, ReadError>
+    ensures { Reads (λ name. name) result (name_of bytes) }
 {
-    match Name::from_vec(bytes) {
+    match Name::from_text(bytes) {
         Ok(name) => Ok(name),
         Err(NameFault::Invalid) => Err(ReadError::Fault(Fault::BadWord(EINVAL))),
         Err(NameFault::TooLong) => Err(ReadError::Fault(Fault::BadWord(ENAMETOOLONG))),
@@ -174,8 +175,8 @@ pub fn name(bytes: Vec<u8>) -> Result<Name, ReadError>
 
 /// The name after which a listing begins, where there are bytes for one.
 #[tactic(auto, unfolding(crate::specs::Arguments::after_name_of))]
-pub fn after_name(bytes: Option<Vec<u8>>) -> Result<Option<Name>, ReadError>
-    ensures { Reads (λ name. name) result (after_name_of (option_map (λ v. v.items) bytes)) }
+pub fn after_name(bytes: Option<Bytes>) -> Result<Option<Name>, ReadError>
+    ensures { Reads (λ name. name) result (after_name_of bytes) }
 {
     match bytes {
         None => Ok(None),

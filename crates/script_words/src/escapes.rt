@@ -1,15 +1,17 @@
 //! Bytes that a word writes as `%` and two hexadecimal digits.
-ghost use Rattle.std.specs.Prelude.{◌≡◌, ◌<◌, length, true, IfOk, IfSome, IfNone, OnErr, Some, None, is_some, option_map};
+ghost use Rattle.std.specs.Prelude.{◌≡◌, ◌==◌, ◌<◌, length, not, true, IfOk, IfSome, IfNone, OnErr, Some, None, is_some};
+ghost use Rattle.std.specs.List.{list_all};
 ghost use Rattle.script_words.specs.Escapes.{bytes_of, onto, hex_byte_of, hex_digit_of};
 
 use crate::numbers::digit;
+use mds_types::Bytes;
 use std::alloc::{AllocError, Global};
 
 /// The bytes that a word stands for; none where a `%` is not followed by two hexadecimal digits. Takes memory for the
 /// bytes; where it is wanting, the word is read once more with nothing kept, so there is an error only for a word that
 /// stands for some.
-pub fn unescaped(alloc: Global, word: &[u8]) -> Result<Option<Vec<u8>>, AllocError>
-    ensures bytes { IfOk result (λ bytes. option_map (λ v. v.items) bytes ≡ bytes_of word.now) }
+pub fn unescaped(alloc: Global, word: &[u8]) -> Result<Option<Bytes>, AllocError>
+    ensures bytes { IfOk result (λ bytes. bytes ≡ bytes_of word.now) }
     ensures memory { OnErr result (is_some (bytes_of word.now) ≡ true) }
 {
     match kept_bytes(alloc, word) {
@@ -35,9 +37,13 @@ pub fn is_escaped(word: &[u8]) -> bool
 }
 
 // The bytes that a word stands for, in memory of their own.
-fn kept_bytes(alloc: Global, word: &[u8]) -> Result<Option<Vec<u8>>, AllocError>
-    ensures { IfOk result (λ bytes. option_map (λ v. v.items) bytes ≡ bytes_of word.now) }
+fn kept_bytes(alloc: Global, word: &[u8]) -> Result<Option<Bytes>, AllocError>
+    ensures { IfOk result (λ bytes. bytes ≡ bytes_of word.now) }
 {
+    // mostly there is no escape, and then the bytes are taken together
+    if is_plain(word) {
+        return Ok(Some(Bytes::from_slice(alloc, word)?));
+    }
     let mut bytes = Vec::with_capacity(alloc, word.len())?;
     let mut rest = word;
     while let Some((byte, after)) = next_byte(rest) {
@@ -45,10 +51,17 @@ fn kept_bytes(alloc: Global, word: &[u8]) -> Result<Option<Vec<u8>>, AllocError>
         rest = after;
     }
     if rest.is_empty() {
-        Ok(Some(bytes))
+        Ok(Some(Bytes::from_vec(bytes)))
     } else {
         Ok(None)
     }
+}
+
+// Whether each byte of a word stands for itself: none is a `%`.
+fn is_plain(word: &[u8]) -> bool
+    ensures { result ≡ list_all (λ byte. not (byte == 37)) word.now }
+{
+    word.iter().all(|byte| *byte != b'%')
 }
 
 // The first byte that a word stands for, and what follows it; none at the end and at a `%` that is no escape.

@@ -1,6 +1,11 @@
-use Rattle.script_words.proofs.Common.{bytes_of, eqb-true, length, sym, ◌∙◌}
-use Rattle.script_words.proofs.EscapeLemmas.{before-nothing}
+use Rattle.script_words.proofs.Common.{Some, ap, bytes_of, eqb-true, length, sym, ◌∙◌}
+use Rattle.script_words.proofs.EscapeLemmas.{before-nothing, bytes_of-itself}
 use Rattle.script_words.proofs.escapes.kept_bytes.Goals as goal
+
+pub returns-then-is_plain : goal.returns-then-is_plain
+returns-then-is_plain c =
+    ap (λ bytes. Some bytes) c.in_ok-from_slice.ensures.items
+    ∙ bytes_of-itself c.args.word.now (sym c.is_plain.ensures ∙ c.if-is_plain.true)
 
 pub returns-then-is_empty : goal.returns-then-is_empty
 returns-then-is_empty c =

@@ -13,7 +13,7 @@ loop-part-preserved g c =
           ap (λ (k : Core). without_frags k (leaves_in c.args.dir rest) (texts_in rest) room) c.end_leaf.ensures.ended
           ∙ sym (ap (λ (parts : List GoingLeaf). without_frags c.loop-part.self (leaves_in c.args.dir parts) (texts_in parts) room) steps) ∙ inv.ended room;
       room = omega (arith, inv.room, longer, c.end_leaf.ensures.room);
-      none = λ none. c.end_leaf.ensures.none (inv.none none);
+      none = c.end_leaf.ensures.none;
     }
 
 pub returns-clause-ended : goal.returns-clause-ended

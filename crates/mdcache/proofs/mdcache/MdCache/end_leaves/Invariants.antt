@@ -7,5 +7,5 @@ invariant-loop-part g l = record {
   count : into_iter_len l.part-iterator ≡ length (into_iter_items l.part-iterator);
   ended : (room : Rooms) → without_frags l.self (leaves_in l.dir (into_iter_items l.part-iterator)) (texts_in (into_iter_items l.part-iterator)) room ≡ without_frags l.fn.self (leaves_in l.dir l.fn.leaves.items) (texts_in l.fn.leaves.items) room;
   room : length (into_iter_items l.part-iterator) ≤ l.self.room.purge;
-  none : KeepsNone l.fn.self.caches → KeepsNone l.self.caches;
+  none : KeepsNone l.self.caches;
 }

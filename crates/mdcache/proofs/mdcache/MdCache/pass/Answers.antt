@@ -8,9 +8,9 @@ put-requires-clause-room g c = subst (λ (k : Core). HasRoom (here k.caches c.ar
     (subst (λ (k : Core). HasRoom (here k.caches c.args.to.at.rank.0 (leaf_of c.args.to.at))) (sym c.erase.ensures)
     (room_left c.args.self.now.caches c.args.from.at.rank.0 c.args.to.at.rank.0 (leaf_of c.args.from.at) (leaf_of c.args.to.at) c.args.from.name (record { version = c.args.self.now.next_version; inode = None }) c.requires.source c.requires.target)))
 
-pub returns-clause-none : goal.returns-clause-none
-returns-clause-none g c none = c.remove_dir.ensures.none
-    (none_with_mark c.relocate.new.self.caches c.put.new.self.caches c.args.to.at.rank.0 (leaf_of c.args.to.at) c.args.to.name (record { version = c.relocate.new.self.next_version; inode = Some c.args.inode })
+pub remove_dir-requires-clause-none : goal.remove_dir-requires-clause-none
+remove_dir-requires-clause-none g c =
+    none_with_mark c.relocate.new.self.caches c.put.new.self.caches c.args.to.at.rank.0 (leaf_of c.args.to.at) c.args.to.name (record { version = c.relocate.new.self.next_version; inode = Some c.args.inode })
     (subst KeepsNone (sym (ap (λ (k : Core). k.caches) c.relocate.ensures ∙ ap (λ (k : Core). k.caches) c.entry_moves.ensures))
-    (none_with_mark c.args.self.now.caches c.erase.new.self.caches c.args.from.at.rank.0 (leaf_of c.args.from.at) c.args.from.name (record { version = c.args.self.now.next_version; inode = None }) none (ap (λ (k : Core). k.caches) c.erase.ensures)))
-    (ap (λ (k : Core). k.caches) c.put.ensures))
+    (none_with_mark c.args.self.now.caches c.erase.new.self.caches c.args.from.at.rank.0 (leaf_of c.args.from.at) c.args.from.name (record { version = c.args.self.now.next_version; inode = None }) c.requires.none (ap (λ (k : Core). k.caches) c.erase.ensures)))
+    (ap (λ (k : Core). k.caches) c.put.ensures)

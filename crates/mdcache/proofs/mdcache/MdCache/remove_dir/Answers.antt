@@ -1,5 +1,5 @@
 use Rattle.mdcache.proofs.Common.{Core, KeepsNone, subst, sym}
 use Rattle.mdcache.proofs.mdcache.MdCache.remove_dir.Goals as goal
 
-pub returns-in-Some-clause-none : goal.returns-in-Some-clause-none
-returns-in-Some-clause-none g c none = c.end_leaves.ensures.none (subst (λ (k : Core). KeepsNone k.caches) (sym c.self.view_is) none)
+pub end_leaves-requires-clause-none : goal.end_leaves-requires-clause-none
+end_leaves-requires-clause-none g c = subst (λ (k : Core). KeepsNone k.caches) (sym c.self.view_is) c.requires.none

@@ -1,0 +1,71 @@
+//! Few bytes, which stand in the value itself.
+ghost use Rattle.std.specs.Prelude.{◌≡◌, ◌<◌, length, [], IfSome, IfNone};
+ghost use Rattle.std.specs.Cmp.Lexicographic.{slice_cmp};
+ghost use Rattle.std.specs.Ordering.{nat_cmp};
+
+use crate::byte_order::fronts;
+use std::cmp::Ordering;
+use std::marker::Model;
+
+/// At most 16 bytes, with zeros behind them, so that they compare as two numbers.
+#[derive(Clone, Debug, Drop)]
+pub(crate) struct Short {
+    len: usize,
+    bytes: [u8; 16],
+}
+
+impl Model for Short {
+    ghost use Rattle.std.specs.Prelude.{List, ℕ, take};
+    ghost use Rattle.mds_types.specs.ShortBytes.{IsPadded};
+
+    ghost Value = { List ℕ };
+
+    ghost view = { λ s. take s.len s.bytes };
+
+    ghost invariant = { λ s. IsPadded s.len s.bytes };
+}
+
+impl Short {
+    /// No bytes.
+    pub(crate) fn empty() -> Short
+        ensures { result ≡ [] }
+    {
+        Short {
+            len: 0,
+            bytes: [0; 16],
+        }
+    }
+
+    /// These bytes, where they are few enough.
+    pub(crate) fn of(bytes: &[u8]) -> Option<Short>
+        ensures { IfSome result (λ short. short ≡ bytes.now) }
+    {
+        let len = bytes.len();
+        if len > 16 {
+            return None;
+        }
+        let mut kept = [0; 16];
+        kept[..len].copy_from_slice(bytes);
+        Some(Short { len, bytes: kept })
+    }
+
+    /// The bytes.
+    #[inline(always)]
+    pub(crate) fn as_slice(&self) -> &[u8]
+        ensures { result.now ≡ self.now }
+    {
+        &self.bytes[..self.len]
+    }
+
+    /// How they compare, as memory does.
+    #[inline(always)]
+    pub(crate) fn compare(&self, other: &Short) -> Ordering
+        ensures { result ≡ slice_cmp nat_cmp self.now other.now }
+    {
+        let (x, y) = fronts(&self.bytes, &other.bytes, 16);
+        if x != y {
+            return x.cmp(&y);
+        }
+        self.len.cmp(&other.len)
+    }
+}
