@@ -16,13 +16,13 @@ use std::marker::Model;
 
 /// Any bytes, in the order in which memory compares: a name, a key, a value, the header of an object. Seen by contents,
 /// never by where they stand: up to 16 bytes, as most names have, take no memory of their own.
-#[derive(Clone, Debug, Drop)]
+#[derive(Debug, Drop)]
 pub struct Bytes {
     kept: Kept,
 }
 
 // Where bytes stand: few in the value itself, more in memory of their own.
-#[derive(Clone, Debug, Drop)]
+#[derive(Debug, Drop)]
 enum Kept {
     Short(Short),
     Long(Vec<u8>),
@@ -90,7 +90,20 @@ impl Bytes {
     pub fn try_clone(&self) -> Result<Bytes, AllocError>
         ensures { IfOk result (λ copy. copy ≡ self.now) }
     {
-        self.clone()
+        let kept = match &self.kept {
+            Kept::Short(short) => Kept::Short(short.copy()),
+            Kept::Long(bytes) => Kept::Long(bytes.clone()?),
+        };
+        Ok(Bytes { kept })
+    }
+}
+
+impl Clone for Bytes {
+    ghost is_clone = { λ bytes copy. copy ≡ bytes };
+
+    /// As `try_clone`.
+    fn clone(&self) -> Result<Bytes, AllocError> {
+        self.try_clone()
     }
 }
 

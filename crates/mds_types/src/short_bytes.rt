@@ -8,7 +8,7 @@ use std::cmp::Ordering;
 use std::marker::Model;
 
 /// At most 16 bytes, with zeros behind them, so that they compare as two numbers.
-#[derive(Clone, Debug, Drop)]
+#[derive(Debug, Drop)]
 pub(crate) struct Short {
     len: usize,
     bytes: [u8; 16],
@@ -47,6 +47,17 @@ impl Short {
         let mut kept = [0; 16];
         kept[..len].copy_from_slice(bytes);
         Some(Short { len, bytes: kept })
+    }
+
+    /// A copy.
+    #[inline(always)]
+    pub(crate) fn copy(&self) -> Short
+        ensures { result ≡ self.now }
+    {
+        Short {
+            len: self.len,
+            bytes: self.bytes,
+        }
     }
 
     /// The bytes.
