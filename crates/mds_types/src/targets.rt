@@ -1,6 +1,9 @@
 //! The target of a symbolic link.
+ghost use Rattle.std.proofs.Common.{rules};
+ghost use Rattle.std.specs.Cmp.Lexicographic.{pointwise};
+ghost use Rattle.std.specs.Cmp.Rules.{comparing};
 ghost use Rattle.std.specs.List.{list_all};
-ghost use Rattle.std.specs.Prelude.{◌≡◌, IfOk};
+ghost use Rattle.std.specs.Prelude.{◌≡◌, ◌==◌, IfOk};
 ghost use Rattle.mds_types.specs.Name.{IsTarget, fits_target};
 ghost use Rattle.mds_types.specs.TargetFault.{TargetFromBytes, target_errno};
 
@@ -10,22 +13,21 @@ use std::alloc::{AllocError, Global};
 use std::marker::Model;
 
 /// What a symbolic link points to: 1 to 4095 bytes, none of them zero.
-#[derive(Clone, Debug, Drop, PartialEq, Eq)]
+#[derive(Debug, Drop)]
 pub struct Target {
-    text: Bytes,
+    // few inodes have one, so it takes little room in them
+    text: Box<Bytes>,
 }
 
 impl Model for Target {
-    ghost use Rattle.std.specs.Prelude.{List, ℕ};
+    ghost use Rattle.std.specs.Prelude.{List, ℕ, box_value};
     ghost use Rattle.mds_types.specs.Name.{IsTarget};
 
     ghost Value = { List ℕ };
 
-    ghost view = { λ t. t.text };
+    ghost view = { λ t. box_value t.text };
 
-    ghost inverse = { λ bytes. record { text = bytes } };
-
-    ghost invariant = { λ t. IsTarget t.text };
+    ghost invariant = { λ t. IsTarget (box_value t.text) };
 }
 
 /// Why bytes are no target, or could not be made one.
@@ -72,9 +74,12 @@ impl Target {
         if !has_no_zero(bytes) {
             return Err(TargetFault::Invalid);
         }
-        match Bytes::from_slice(alloc, bytes) {
+        let Ok(text) = Bytes::from_slice(alloc, bytes) else {
+            return Err(TargetFault::NoMemory);
+        };
+        match Box::new(alloc, text) {
             Ok(text) => Ok(Target { text }),
-            Err(AllocError) => Err(TargetFault::NoMemory),
+            Err(_) => Err(TargetFault::NoMemory),
         }
     }
 
@@ -90,8 +95,33 @@ impl Target {
     pub fn try_clone(&self) -> Result<Target, AllocError>
         ensures { IfOk result (λ copy. copy ≡ self.now) }
     {
-        self.clone()
+        Ok(Target {
+            text: self.text.clone()?,
+        })
     }
+}
+
+impl Clone for Target {
+    ghost is_clone = { λ target copy. copy ≡ target };
+
+    /// As `try_clone`.
+    fn clone(&self) -> Result<Target, AllocError> {
+        self.try_clone()
+    }
+}
+
+impl PartialEq for Target {
+    ghost eq = { pointwise ◌==◌ };
+
+    ghost laws = { Prim.search (comparing, rules) };
+
+    fn eq(&self, other: &Target) -> bool {
+        self.as_bytes() == other.as_bytes()
+    }
+}
+
+impl Eq for Target {
+    ghost laws = { Prim.search (comparing, rules) };
 }
 
 // Whether every byte may stand in a target.
