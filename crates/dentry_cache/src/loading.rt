@@ -177,7 +177,10 @@ fn end_of(more: bool, mut pairs: Vec<(Bytes, Bytes)>) -> PageEnd
         return PageEnd::Last;
     }
     match pairs.pop() {
-        Some(pair) => PageEnd::More(pair.0),
+        Some((key, value)) => {
+            drop(value);
+            PageEnd::More(key)
+        }
         None => PageEnd::Last,
     }
 }
