@@ -80,13 +80,13 @@ impl KeptBytes {
         requires { 0 < self.old.room }
         ensures { self.new.bytes ≡ map.insert self.old.bytes (ino, frag) bytes }
     {
-        let _ = self.bytes.insert((ino, frag), bytes);
+        drop(self.bytes.insert((ino, frag), bytes));
     }
 
     /// Keeps the bytes of a root no longer. Takes no memory.
     pub fn forget(&mut self, ino: Ino, frag: Frag)
         ensures { self.new.bytes ≡ map.remove self.old.bytes (ino, frag) }
     {
-        let _ = self.bytes.remove(&(ino, frag));
+        drop(self.bytes.remove(&(ino, frag)));
     }
 }

@@ -96,8 +96,8 @@ pub fn move_entry(
     ensures tabled { IsTabled (contents dentry_cmp entries.new) dirs.new.homes }
     ensures leaves { KeepLeaves (contents dentry_cmp entries.new) dirs.old.trees dirs.new.trees }
 {
-    let _ = entries.remove(from);
+    drop(entries.remove(from));
     relocate_dir(dirs, spare, &to, &inode);
     drop_dir(dirs, entries.get(&to));
-    let _ = entries.insert(to, inode);
+    drop(entries.insert(to, inode));
 }

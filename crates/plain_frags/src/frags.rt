@@ -289,16 +289,15 @@ impl PlainFrags {
             (None, Some((spot, inode))) => {
                 put_entry(entries, dirs, spare, spot.into_dentry(), inode, comes);
             }
-            (Some(spot), None) => remove_entry(entries, dirs, &spot.into_dentry()),
+            (Some(spot), None) => {
+                let dentry = spot.into_dentry();
+                remove_entry(entries, dirs, &dentry);
+                drop(dentry);
+            }
             (Some(from), Some((to, inode))) => {
-                move_entry(
-                    entries,
-                    dirs,
-                    spare,
-                    &from.into_dentry(),
-                    to.into_dentry(),
-                    inode,
-                );
+                let from = from.into_dentry();
+                move_entry(entries, dirs, spare, &from, to.into_dentry(), inode);
+                drop(from);
             }
             (None, None) => {}
         }
