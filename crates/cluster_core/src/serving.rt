@@ -168,6 +168,7 @@ fn end_request(pins: &mut Pins, request: Request)
     ensures { pins.new ≡ without_request pins.old request }
 {
     pins.end_pair(request.client, request.tid);
+    drop(request);
 }
 
 // Answers a request, which was taken out at a rank, with the reply of its entry at this place.
