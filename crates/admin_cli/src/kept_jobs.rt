@@ -48,7 +48,7 @@ impl KeptJobs {
     pub fn forget(&mut self, number: u64)
         ensures { self.new ≡ map.remove self.old number }
     {
-        drop(self.jobs.remove(&number));
+        let _ = self.jobs.remove(&number);
     }
 
     /// Keeps a job. Takes memory for it.
@@ -57,7 +57,7 @@ impl KeptJobs {
         ensures same { OnErr result (self.new ≡ self.old) }
     {
         self.jobs.reserve(1)?;
-        drop(self.jobs.insert(job.number, job));
+        let _ = self.jobs.insert(job.number, job);
         Ok(())
     }
 }
