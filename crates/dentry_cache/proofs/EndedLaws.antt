@@ -1,11 +1,8 @@
 -- Where a leaf's fragment is, among the ranks.
 use Rattle.std.proofs.Common.{◌||◌, set, subst, ◌≡◌, ◌⊎◌, inl, inr, ℕ, zero, suc, ◌+◌, ◌<◌, Bool, true, false, cond, is_some, length, List, [], ◌∷◌, Option, Some, None, refl, sym, ap, ◌∙◌, arith}
-use Rattle.std.specs.Borrow.{Bor}
-use Rattle.std.specs.Prelude.{◌==◌, get_or}
-use Rattle.std.specs.Option.{option_copied, option_map}
+use Rattle.std.specs.Prelude.{get_or}
 use Rattle.std.specs.FinMap as finmap
 use Rattle.std.specs.List.{list_any}
-use Rattle.std.proofs.lemmas.Bool.{eqb-true}
 use Rattle.std.proofs.lemmas.List.{set-get_or}
 use Rattle.sorted_map.proofs.NatKeys.{is_same}
 use Rattle.cached_frag.specs.Cached.{Cached}

@@ -128,14 +128,14 @@ module _ (old new : Core) (sound : IsSound (state_of old)) (begun : 0 < old.next
     abbrev erased : Core
     erased = named old place spot.name None
 
-    pub removal_done : new ≡ without_dir (without_entry erased place.dir) (dir_going going) (leaves_going going) (texts_going going) rooms → (KeepsNone old.caches → KeepsNone new.caches) → IsDone (removes spot (dir_going going)) old new
-    removal_done is stays_none =
+    pub removal_done : new ≡ without_dir (without_entry erased place.dir) (dir_going going) (leaves_going going) (texts_going going) rooms → KeepsNone new.caches → IsDone (removes spot (dir_going going)) old new
+    removal_done is keeps =
         let change = removes spot (dir_going going) in
         let before = first_made change old cached none in
         let counts = one_less old.counts place.dir.0 in
         subst (IsDone change old) (sym is) (done change old (left erased counts going stands rooms) sound not_new may
         (without_gone_dir (state_of erased) (dir_going going), (state_of erased, is_named _ _ None old old before place spot.name None there, refl), is_gone erased counts going stands rooms)
-        (made_gone erased counts going stands rooms _ _ old (λ r q is. is) (made_named _ _ None old old before place spot.name None there (refl, refl)) (λ was. subst (λ (k : Core). KeepsNone k.caches) is (stays_none none))) begun)
+        (made_gone erased counts going stands rooms _ _ old (λ r q is. is) (made_named _ _ None old old before place spot.name None there (refl, refl)) (λ was. subst (λ (k : Core). KeepsNone k.caches) is keeps)) begun)
 
 -- ---- an entry moves
 
@@ -158,9 +158,9 @@ module _ (old new : Core) (sound : IsSoundCore old) (source target : Spot) (inod
 
   module _ (two : HasCached (here old.caches source.at.rank.0 (leaf_of source.at)) (λ (f : Cached). 1 < f.room)) (one : HasRoom (here old.caches target.at.rank.0 (leaf_of target.at))) (leaves_stand : IsGoingOrNone old.covers going) (rooms : Rooms) where
     pub entry_moved : (name : List ℕ) → name ≡ target.name
-        → new ≡ without_dir (moved_entry old source.at source.name target.at target.name name inode) (dir_going going) (leaves_going going) (texts_going going) rooms → (KeepsNone old.caches → KeepsNone new.caches)
+        → new ≡ without_dir (moved_entry old source.at source.name target.at target.name name inode) (dir_going going) (leaves_going going) (texts_going going) rooms → KeepsNone new.caches
         → IsDone change old new
-    entry_moved name its is none =
+    entry_moved name its is keeps =
         let left_name = named old source.at source.name None in
         let housed = record left_name { homes = with_home old.homes (dentry_at target) inode } in
         let came_name = named housed target.at target.name (Some inode) in
@@ -185,4 +185,4 @@ module _ (old new : Core) (sound : IsSoundCore old) (source target : Spot) (inod
           }) (stands_at_target one),
         )
         (made_gone came_name counts going leaves_stand rooms _ _ old (λ r q is. is) (made_named _ _ None old housed housed_made target.at target.name (Some inode) there_second (inr (refl, refl)))
-        (λ was. subst (λ (k : Core). KeepsNone k.caches) now (none sound.none))) sound.begun)
+        (λ was. subst (λ (k : Core). KeepsNone k.caches) now keeps)) sound.begun)

@@ -122,8 +122,8 @@ impl<S: Store + Drop> MdCache<S> {
     }
 
     /// A directory goes that is no one's parent and not the root, or none: its home, its leaves with all that is cached
-    /// of them at any rank and the jobs that stand for them. No place is kept. The names of its objects, for which there
-    /// is room, are on the purge list then. Takes no memory.
+    /// of them at any rank and the jobs that stand for them, where no place is kept. The names of its objects, for which
+    /// there is room, are on the purge list then. Takes no memory.
     pub(crate) fn remove_dir(&mut self, going: Option<Going>)
         requires may { IfSome (dir_going going) (λ dir. MayGo self.old.homes dir.0) }
         requires room { count_going going ≤ self.old.room.purge }
@@ -139,8 +139,8 @@ impl<S: Store + Drop> MdCache<S> {
         }
     }
 
-    /// These leaves of a directory end, and no place is kept: their places at any rank, their jobs, and the names of their
-    /// objects are on the purge list, which has room for them. Takes no memory.
+    /// These leaves of a directory end, where no place is kept: their places at any rank, their jobs, and the names of
+    /// their objects are on the purge list, which has room for them. Takes no memory.
     pub(crate) fn end_leaves(&mut self, dir: Ino, leaves: Vec<GoingLeaf>)
         requires room { length leaves.items ≤ self.old.room.purge }
         requires none { KeepsNone self.old.caches }

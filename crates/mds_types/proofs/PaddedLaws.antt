@@ -31,28 +31,27 @@ alike : (zs : List ℕ) → slice_cmp nat_cmp zs zs ≡ Equal
 alike zs = by_lengths zs zs (λ k l. refl) ∙ equal {x = length zs} {y = length zs} refl
 
 -- nothing is less than zeros of its length, nor are they greater
-module _ where
-  least : (n : ℕ) (bs : List ℕ) → length bs ≡ n → slice_cmp nat_cmp (zeros n) bs ≡ Greater → ⊥
-  least zero [] e h = absurd cc
-  least zero (b ∷ bs) e h = absurd (omega (arith, e))
-  least (suc n) [] e h = absurd (omega (arith, e))
-  least (suc n) (b ∷ bs) e h = go (least n bs (omega (arith, e))) (nat_cmp 0 b) (ranks 0 b) h
-    where
-      go : (slice_cmp nat_cmp (zeros n) bs ≡ Greater → ⊥) → (r : Ordering) → MatchOrdering r (0 < b) (0 ≡ b) (b < 0) → ordering_then r (slice_cmp nat_cmp (zeros n) bs) ≡ Greater → ⊥
-      go rest Less l h = absurd cc
-      go rest Equal l h = rest h
-      go rest Greater l h = let below : b < 0 = l in absurd (omega (arith, below))
+least : (n : ℕ) (bs : List ℕ) → length bs ≡ n → slice_cmp nat_cmp (zeros n) bs ≡ Greater → ⊥
+least zero [] e h = absurd cc
+least zero (b ∷ bs) e h = absurd (omega (arith, e))
+least (suc n) [] e h = absurd (omega (arith, e))
+least (suc n) (b ∷ bs) e h = go (least n bs (omega (arith, e))) (nat_cmp 0 b) (ranks 0 b) h
+  where
+    go : (slice_cmp nat_cmp (zeros n) bs ≡ Greater → ⊥) → (r : Ordering) → MatchOrdering r (0 < b) (0 ≡ b) (b < 0) → ordering_then r (slice_cmp nat_cmp (zeros n) bs) ≡ Greater → ⊥
+    go rest Less l h = absurd cc
+    go rest Equal l h = rest h
+    go rest Greater l h = let below : b < 0 = l in absurd (omega (arith, below))
 
-  greatest : (n : ℕ) (bs : List ℕ) → length bs ≡ n → slice_cmp nat_cmp bs (zeros n) ≡ Less → ⊥
-  greatest zero [] e h = absurd cc
-  greatest zero (b ∷ bs) e h = absurd (omega (arith, e))
-  greatest (suc n) [] e h = absurd (omega (arith, e))
-  greatest (suc n) (b ∷ bs) e h = go (greatest n bs (omega (arith, e))) (nat_cmp b 0) (ranks b 0) h
-    where
-      go : (slice_cmp nat_cmp bs (zeros n) ≡ Less → ⊥) → (r : Ordering) → MatchOrdering r (b < 0) (b ≡ 0) (0 < b) → ordering_then r (slice_cmp nat_cmp bs (zeros n)) ≡ Less → ⊥
-      go rest Less l h = let below : b < 0 = l in absurd (omega (arith, below))
-      go rest Equal l h = rest h
-      go rest Greater l h = absurd cc
+greatest : (n : ℕ) (bs : List ℕ) → length bs ≡ n → slice_cmp nat_cmp bs (zeros n) ≡ Less → ⊥
+greatest zero [] e h = absurd cc
+greatest zero (b ∷ bs) e h = absurd (omega (arith, e))
+greatest (suc n) [] e h = absurd (omega (arith, e))
+greatest (suc n) (b ∷ bs) e h = go (greatest n bs (omega (arith, e))) (nat_cmp b 0) (ranks b 0) h
+  where
+    go : (slice_cmp nat_cmp bs (zeros n) ≡ Less → ⊥) → (r : Ordering) → MatchOrdering r (b < 0) (b ≡ 0) (0 < b) → ordering_then r (slice_cmp nat_cmp bs (zeros n)) ≡ Less → ⊥
+    go rest Less l h = let below : b < 0 = l in absurd (omega (arith, below))
+    go rest Equal l h = rest h
+    go rest Greater l h = absurd cc
 
 -- bytes with zeros behind them, to one length
 padded : (xs ys : List ℕ) (p q : ℕ) → length xs + p ≡ length ys + q

@@ -1,8 +1,8 @@
 pub mod ByteOrder
+pub mod BytesForm
 pub mod Frag
 pub mod History
 pub mod InodeLaws
-pub mod KeptBytes
 pub mod Leaf
 pub mod Name
 pub mod NameFault

@@ -5,7 +5,7 @@ ghost use Rattle.std.specs.Cmp.{partial_order_from_own_ties};
 ghost use Rattle.std.specs.Cmp.Lexicographic.{pointwise, slice_cmp};
 ghost use Rattle.std.specs.Cmp.Rules.{comparing};
 ghost use Rattle.std.specs.Ordering.{nat_cmp, as_partial_cmp};
-ghost use Rattle.std.specs.Prelude.{◌≡◌, ◌==◌, [], IfOk};
+ghost use Rattle.std.specs.Prelude.{◌≡◌, ◌==◌, ◌<◌, length, [], IfOk, OnErr};
 
 use crate::byte_order::compare;
 use crate::short_bytes::Short;
@@ -18,23 +18,23 @@ use std::marker::Model;
 /// never by where they stand: up to 16 bytes, as most names have, take no memory of their own.
 #[derive(Debug, Drop)]
 pub struct Bytes {
-    kept: Kept,
+    form: Form,
 }
 
 // Where bytes stand: few in the value itself, more in memory of their own.
 #[derive(Debug, Drop)]
-enum Kept {
+enum Form {
     Short(Short),
     Long(Vec<u8>),
 }
 
 impl Model for Bytes {
     ghost use Rattle.std.specs.Prelude.{List, ℕ};
-    ghost use Rattle.mds_types.specs.KeptBytes.{bytes_in};
+    ghost use Rattle.mds_types.specs.BytesForm.{bytes_in};
 
     ghost Value = { List ℕ };
 
-    ghost view = { λ b. bytes_in b.kept };
+    ghost view = { λ b. bytes_in b.form };
 }
 
 impl Bytes {
@@ -43,7 +43,7 @@ impl Bytes {
         ensures { result ≡ [] }
     {
         Bytes {
-            kept: Kept::Long(Vec::new(alloc)),
+            form: Form::Long(Vec::new(alloc)),
         }
     }
 
@@ -51,31 +51,32 @@ impl Bytes {
     pub fn from_vec(bytes: Vec<u8>) -> Bytes
         ensures { result ≡ bytes.items }
     {
-        let kept = match Short::of(&bytes) {
-            Some(short) => Kept::Short(short),
-            None => Kept::Long(bytes),
+        let form = match Short::of(&bytes) {
+            Some(short) => Form::Short(short),
+            None => Form::Long(bytes),
         };
-        Bytes { kept }
+        Bytes { form }
     }
 
-    /// A copy of these bytes. More than 16 take memory.
+    /// A copy of these bytes. More than 16 take memory, and only then may it be wanting.
     pub fn from_slice(alloc: Global, bytes: &[u8]) -> Result<Bytes, AllocError>
-        ensures { IfOk result (λ copy. copy ≡ bytes.now) }
+        ensures copy { IfOk result (λ copy. copy ≡ bytes.now) }
+        ensures err { OnErr result (16 < length bytes.now) }
     {
-        let kept = match Short::of(bytes) {
-            Some(short) => Kept::Short(short),
-            None => Kept::Long(Vec::from_slice(alloc, bytes)?),
+        let form = match Short::of(bytes) {
+            Some(short) => Form::Short(short),
+            None => Form::Long(Vec::from_slice(alloc, bytes)?),
         };
-        Ok(Bytes { kept })
+        Ok(Bytes { form })
     }
 
     /// The bytes.
     pub fn as_slice(&self) -> &[u8]
         ensures { result.now ≡ self.now }
     {
-        match &self.kept {
-            Kept::Short(short) => short.as_slice(),
-            Kept::Long(bytes) => bytes,
+        match &self.form {
+            Form::Short(short) => short.as_slice(),
+            Form::Long(bytes) => bytes,
         }
     }
 
@@ -83,18 +84,18 @@ impl Bytes {
     pub fn clear(&mut self)
         ensures { self.new ≡ [] }
     {
-        self.kept = Kept::Short(Short::empty());
+        self.form = Form::Short(Short::empty());
     }
 
     /// A copy. More than 16 bytes take memory.
     pub fn try_clone(&self) -> Result<Bytes, AllocError>
         ensures { IfOk result (λ copy. copy ≡ self.now) }
     {
-        let kept = match &self.kept {
-            Kept::Short(short) => Kept::Short(short.copy()),
-            Kept::Long(bytes) => Kept::Long(bytes.clone()?),
+        let form = match &self.form {
+            Form::Short(short) => Form::Short(short.copy()),
+            Form::Long(bytes) => Form::Long(bytes.clone()?),
         };
-        Ok(Bytes { kept })
+        Ok(Bytes { form })
     }
 }
 
@@ -141,8 +142,8 @@ impl Ord for Bytes {
     ghost matches_eq = { Prim.search (comparing, rules) };
 
     fn cmp(&self, other: &Bytes) -> Ordering {
-        match (&self.kept, &other.kept) {
-            (Kept::Short(short), Kept::Short(with)) => short.compare(with),
+        match (&self.form, &other.form) {
+            (Form::Short(short), Form::Short(with)) => short.compare(with),
             _ => compare(self.as_slice(), other.as_slice()),
         }
     }

@@ -38,7 +38,8 @@ impl Short {
 
     /// These bytes, where they are few enough.
     pub(crate) fn of(bytes: &[u8]) -> Option<Short>
-        ensures { IfSome result (λ short. short ≡ bytes.now) }
+        ensures few { IfSome result (λ short. short ≡ bytes.now) }
+        ensures many { IfNone result (16 < length bytes.now) }
     {
         let len = bytes.len();
         if len > 16 {

@@ -36,7 +36,7 @@ pub fn is_escaped(word: &[u8]) -> bool
     rest.is_empty()
 }
 
-// The bytes that a word stands for, in memory of their own.
+// The bytes that a word stands for.
 fn kept_bytes(alloc: Global, word: &[u8]) -> Result<Option<Bytes>, AllocError>
     ensures { IfOk result (λ bytes. bytes ≡ bytes_of word.now) }
 {

@@ -1,4 +1,4 @@
-use Rattle.dentry_cache.proofs.Common.{CacheMap, ap, arith, false, given_up, here, is_some, length, rules, subst, sym, ℕ, ◌<◌, ◌∙◌, ◌≡◌}
+use Rattle.dentry_cache.proofs.Common.{CacheMap, ap, arith, false, given_up, here, is_some, length, rules, sym, ◌∙◌, ◌≡◌}
 use Rattle.dentry_cache.proofs.EndedLaws.{given_up_none, looked_on, none_ends}
 use Rattle.dentry_cache.proofs.MapCalls.{all_caches, ranks_are}
 use Rattle.dentry_cache.proofs.caches.Caches.end.Goals as goal

@@ -48,7 +48,7 @@ returns-in-Ok g c =
     let ready = c.in-Ok.ensures in
     let may = subst (λ (d : Option Ino). MayChange (shown_in now) now.covers (moves c.args.from c.args.to c.args.inode d)) (sym ready.moving.1.0) (may_still _ _ _ _ reads c.requires.may) in
     let done = subst (λ (d : Option Ino). IsDone (moves c.args.from c.args.to c.args.inode d) now c.pass.new.self) ready.moving.1.0
-    (entry_moved now c.pass.new.self ready.sound c.args.from c.args.to c.args.inode c.in-Ok.moving.going may ready.source ready.target ready.moving.1.1 c.pass.new.self.room c.in-Ok.moving.name ready.moving.0 c.pass.ensures.moved (λ _. c.pass.ensures.none)) in
+    (entry_moved now c.pass.new.self ready.sound c.args.from c.args.to c.args.inode c.in-Ok.moving.going may ready.source ready.target ready.moving.1.1 c.pass.new.self.room c.in-Ok.moving.name ready.moving.0 c.pass.ensures.moved c.pass.ensures.none) in
     record { changed = after_reads _ _ _ _ reads done; sound = done.sound; counted = ap (λ (k : Core). k.faults) c.pass.ensures.moved ∙ ready.counted }
 
 pub returns-in-Err-clause-changed : goal.returns-in-Err-clause-changed

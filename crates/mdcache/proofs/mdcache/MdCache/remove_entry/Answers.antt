@@ -32,7 +32,7 @@ returns-in-Ok g c =
     let s = ready.sound in
     let may = subst (λ (d : Option Ino). MayChange (shown_in now) now.covers (removes c.args.spot d)) (sym ready.going.0) (may_still _ _ _ _ reads c.requires.may) in
     let done = subst (λ (d : Option Ino). IsDone (removes c.args.spot d) now c.leave.new.self) ready.going.0
-    (removal_done now c.leave.new.self s.sound s.begun s.cached c.args.spot ready.ready.room c.in-Ok.going s.none ready.going.1 may c.leave.new.self.room c.leave.ensures.gone (λ _. c.leave.ensures.none)) in
+    (removal_done now c.leave.new.self s.sound s.begun s.cached c.args.spot ready.ready.room c.in-Ok.going s.none ready.going.1 may c.leave.new.self.room c.leave.ensures.gone c.leave.ensures.none) in
     record { changed = after_reads _ _ _ _ reads done; sound = done.sound; counted = ap (λ (k : Core). k.faults) c.leave.ensures.gone ∙ ready.counted }
 
 pub returns-in-Err-clause-changed : goal.returns-in-Err-clause-changed
