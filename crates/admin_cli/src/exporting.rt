@@ -88,7 +88,7 @@ impl Admin {
         ensures err { OnErr result (CopiesNoBytes self.old self.new ino frag) }
         ensures count { self.new.operations ≡ self.old.operations }
     {
-        let bytes = self.sent.copy_of(alloc, ino, frag)?;
+        let bytes = self.sent.copy_of(ino, frag)?;
         let imported = self.step_book(alloc, Event::Import { ino, frag, bytes });
         if is_done(&imported) {
             self.sent.forget(ino, frag);

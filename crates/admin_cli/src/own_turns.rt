@@ -19,7 +19,7 @@ impl Admin {
         ensures err { OnErr result (LacksForTurn self.old self.new rank) }
         ensures count { self.new.operations ≡ self.old.operations }
     {
-        match self.book.propose(alloc, rank) {
+        match self.book.propose(rank) {
             Ok(Some(event)) => self.own_step(alloc, event),
             Ok(None) => Ok(OutputLine::Idle),
             Err(refusal) => Ok(OutputLine::Refused(refusal)),

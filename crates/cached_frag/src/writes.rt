@@ -60,7 +60,7 @@ fn header_after(alloc: Global, snapshot: &Snapshot) -> Result<Bytes, AllocError>
         files: counts.files,
         dirs: counts.dirs,
     };
-    Ok(Bytes::from_vec(encode_header(alloc, &header)?))
+    Bytes::from_vec(alloc, encode_header(alloc, &header)?)
 }
 
 // The records of the present names under their keys.
@@ -82,8 +82,8 @@ fn put_record(alloc: Global, set: &mut Pairs, name: &Name, mark: &Mark) -> Resul
 {
     match &mark.inode {
         Some(inode) => {
-            let record = encode_entry(alloc, inode)?;
-            set.put(key_of(alloc, name)?, Bytes::from_vec(record))
+            let record = Bytes::from_vec(alloc, encode_entry(alloc, inode)?)?;
+            set.put(key_of(alloc, name)?, record)
         }
         None => Ok(()),
     }

@@ -13,12 +13,10 @@ use inboxes::Pins;
 use mds_types::{Bytes, Frag, Ino, Rank};
 use objstore::Store;
 use ranked_tree::RankedTree;
-use std::alloc::Global;
 
 /// The next step of the first of a rank's exports that has one, in the order of their roots. An Import is proposed with
 /// no bytes.
 pub fn next_of_exports<S: Store + Drop>(
-    alloc: Global,
     tree: &RankedTree<S>,
     grants: &Pins,
     rank: Rank,
@@ -27,7 +25,7 @@ pub fn next_of_exports<S: Store + Drop>(
 {
     let mut after = None;
     while let Some(found) = tree.exports().next_of(rank, after) {
-        let next = next_step(alloc, tree, grants, rank, found.0, found.1.state);
+        let next = next_step(tree, grants, rank, found.0, found.1.state);
         if next.is_some() {
             return next;
         }
@@ -38,7 +36,6 @@ pub fn next_of_exports<S: Store + Drop>(
 
 // The next step of an export of the rank's by its state, if it has one.
 fn next_step<S: Store + Drop>(
-    alloc: Global,
     tree: &RankedTree<S>,
     grants: &Pins,
     rank: Rank,
@@ -57,7 +54,7 @@ fn next_step<S: Store + Drop>(
         ExportState::Sent => Some(Event::Import {
             ino,
             frag,
-            bytes: Bytes::empty(alloc),
+            bytes: Bytes::empty(),
         }),
         ExportState::Imported => Some(Event::Finish { ino, frag }),
     }

@@ -55,13 +55,13 @@ impl KeptBytes {
     }
 
     /// A copy of the bytes that are kept under a root, or no bytes where none are. Takes memory for kept ones alone.
-    pub fn copy_of(&self, alloc: Global, ino: Ino, frag: Frag) -> Result<Bytes, AllocError>
+    pub fn copy_of(&self, ino: Ino, frag: Frag) -> Result<Bytes, AllocError>
         ensures copied { IfOk result (λ copy. copy ≡ bytes_for self.now (ino, frag)) }
         ensures err { OnErr result (IsSome (map.get self.now.bytes (ino, frag))) }
     {
         match self.get(ino, frag) {
             Some(bytes) => bytes.try_clone(),
-            None => Ok(Bytes::empty(alloc)),
+            None => Ok(Bytes::empty()),
         }
     }
 

@@ -14,14 +14,13 @@ use inboxes::Pins;
 use mds_types::{Rank, Refusal};
 use objstore::Store;
 use ranked_tree::RankedTree;
-use std::alloc::Global;
 
 impl<S: Store + Drop> Cluster<S> {
     // The rank's own next step, if it has one. `is_settled` says that nothing of the rank's is known to be pinned to
     // another, so that it isn't looked for.
     //
     // Refused `NotAuthority` exactly where there is no such rank.
-    fn propose(&self, alloc: Global, rank: Rank, is_settled: bool) -> Result<Option<Event>, Refusal>
+    fn propose(&self, rank: Rank, is_settled: bool) -> Result<Option<Event>, Refusal>
         requires settled { is_settled ≡ true → HasSettled self.now.state rank }
         requires numbers { length self.now.state.inboxes ≡ length self.now.state.numbers }
         requires caches { length self.now.caches.used ≡ length self.now.state.numbers }
@@ -31,14 +30,7 @@ impl<S: Store + Drop> Cluster<S> {
             return Err(Refusal::NotAuthority);
         }
         let ranks = self.waiting.inboxes.ranks();
-        Ok(proposal(
-            alloc,
-            &self.tree,
-            &self.waiting.pins,
-            ranks,
-            rank,
-            is_settled,
-        ))
+        Ok(proposal(&self.tree, &self.waiting.pins, ranks, rank, is_settled))
     }
 }
 
@@ -48,12 +40,12 @@ impl<S: Store + Drop> Book<S> {
     /// together, and the start of an export of what is pinned to another rank; each at the least leaf. Nothing changes.
     ///
     /// Refused `NotAuthority` exactly where there is no such rank.
-    pub fn propose(&mut self, alloc: Global, rank: Rank) -> Result<Option<Event>, Refusal>
+    pub fn propose(&mut self, rank: Rank) -> Result<Option<Event>, Refusal>
         ensures same { self.new ≡ self.old }
         ensures proposed { Proposes self.old.core rank result }
     {
         let is_settled = self.settled.knows(rank);
-        let proposed = self.cluster.propose(alloc, rank, is_settled);
+        let proposed = self.cluster.propose(rank, is_settled);
         if is_nothing(&proposed) {
             self.note_settled(rank);
         }
@@ -84,7 +76,6 @@ fn is_nothing(proposed: &Result<Option<Event>, Refusal>) -> bool
 
 // The first step that applies, of the four kinds in their order.
 fn proposal<S: Store + Drop>(
-    alloc: Global,
     tree: &RankedTree<S>,
     grants: &Pins,
     ranks: usize,
@@ -95,7 +86,7 @@ fn proposal<S: Store + Drop>(
     requires settled { is_settled ≡ true → WouldNot (sight_of tree.now grants.now ranks rank) OfPin }
     ensures { IsProposal (sight_of tree.now grants.now ranks rank) result }
 {
-    let going_on = next_of_exports(alloc, tree, grants, rank);
+    let going_on = next_of_exports(tree, grants, rank);
     if going_on.is_some() {
         return going_on;
     }

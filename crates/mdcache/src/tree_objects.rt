@@ -104,6 +104,6 @@ fn write_tree<S: Store>(
 {
     let mut op = WriteOp::new(alloc);
     op.clear = true;
-    op.header = Some(Bytes::from_vec(header));
+    op.header = Some(Bytes::from_vec(alloc, header)?);
     store.apply(alloc, name, &op)
 }

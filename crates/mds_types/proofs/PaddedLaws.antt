@@ -70,12 +70,12 @@ padded (x ∷ xs) (y ∷ ys) p q e =
     ∙ then_then (nat_cmp x y) (slice_cmp nat_cmp (xs ++ zeros p) (ys ++ zeros q)) (nat_cmp (length xs) (length ys))
     ∙ ap (ordering_then (ordering_then (nat_cmp x y) (slice_cmp nat_cmp (xs ++ zeros p) (ys ++ zeros q)))) (longer (length xs) (length ys) (nat_cmp (length xs) (length ys)) (ranks (length xs) (length ys)))
 
--- so it is with sixteen bytes of which some count
-module _ (a b : List ℕ) (n m : ℕ) (first : IsPadded n a) (second : IsPadded m b) (wide : length a ≡ 16) (broad : length b ≡ 16) where
+-- so it is with 22 bytes of which some count
+module _ (a b : List ℕ) (n m : ℕ) (first : IsPadded n a) (second : IsPadded m b) (wide : length a ≡ 22) (broad : length b ≡ 22) where
   whole : slice_cmp nat_cmp (take n a) (take m b) ≡ ordering_then (slice_cmp nat_cmp a b) (nat_cmp n m)
   whole =
-      padded (take n a) (take m b) (16 - n) (16 - m) (omega (arith, front, back, first.few, second.few))
-      ∙ ap (λ (xs : List ℕ). ordering_then (slice_cmp nat_cmp xs (take m b ++ zeros (16 - m))) (nat_cmp (length (take n a)) (length (take m b)))) (ap (λ zs. take n a ++ zs) (sym first.zeros) ∙ take-append-drop n a)
+      padded (take n a) (take m b) (22 - n) (22 - m) (omega (arith, front, back, first.few, second.few))
+      ∙ ap (λ (xs : List ℕ). ordering_then (slice_cmp nat_cmp xs (take m b ++ zeros (22 - m))) (nat_cmp (length (take n a)) (length (take m b)))) (ap (λ zs. take n a ++ zs) (sym first.zeros) ∙ take-append-drop n a)
       ∙ ap (λ (ys : List ℕ). ordering_then (slice_cmp nat_cmp a ys) (nat_cmp (length (take n a)) (length (take m b)))) (ap (λ zs. take m b ++ zs) (sym second.zeros) ∙ take-append-drop m b)
       ∙ ap (λ k. ordering_then (slice_cmp nat_cmp a b) (nat_cmp k (length (take m b)))) front
       ∙ ap (λ k. ordering_then (slice_cmp nat_cmp a b) (nat_cmp n k)) back
@@ -98,6 +98,6 @@ module _ (a b : List ℕ) (n m : ℕ) (first : IsPadded n a) (second : IsPadded 
       decided Greater l = refl
 
   -- and where all are alike, how many count
-  pub by_counts : Alike a b 16 → nat_cmp n m ≡ slice_cmp nat_cmp (take n a) (take m b)
+  pub by_counts : Alike a b 22 → nat_cmp n m ≡ slice_cmp nat_cmp (take n a) (take m b)
   by_counts alike =
       sym (whole ∙ ap (λ r. ordering_then r (nat_cmp n m)) (by_lengths a b (λ k l. alike k (omega (arith, wide, broad, l))) ∙ equal {x = length a} {y = length b} (wide ∙ sym broad)))

@@ -17,17 +17,17 @@ inode_decides a b =
     let pins = option_decides rank.ghosts.eq ranks a.pin b.pin in
     let all =
     Decides-and _ _ (Decides-eqb a.ino.0 b.ino.0)
-    (Decides-and _ _ kinds (Decides-and _ _ (Decides-eqb a.mode b.mode) (Decides-and _ _ (Decides-eqb a.size b.size)
-    (Decides-and _ _ (Decides-eqb a.mtime b.mtime)
-    (Decides-and _ _ (Decides-eqb a.uid b.uid) (Decides-and _ _ (Decides-eqb a.gid b.gid) pins)))))) in (
+    (Decides-and _ _ kinds (Decides-and _ _ (Decides-eqb a.size b.size) (Decides-and _ _ (Decides-eqb a.mtime b.mtime)
+    (Decides-and _ _ (Decides-eqb a.uid b.uid)
+    (Decides-and _ _ (Decides-eqb a.gid b.gid) (Decides-and _ _ (Decides-eqb a.mode b.mode) pins)))))) in (
       λ t. let w = all.0 t in λ i. record {
         ino = record { 0 = w.0 i };
         kind = w.1.0 i;
-        mode = w.1.1.0 i;
-        size = w.1.1.1.0 i;
-        mtime = w.1.1.1.1.0 i;
-        uid = w.1.1.1.1.1.0 i;
-        gid = w.1.1.1.1.1.1.0 i;
+        size = w.1.1.0 i;
+        mtime = w.1.1.1.0 i;
+        uid = w.1.1.1.1.0 i;
+        gid = w.1.1.1.1.1.0 i;
+        mode = w.1.1.1.1.1.1.0 i;
         pin = w.1.1.1.1.1.1.1 i;
       },
       λ (s : a ≡ b). all.1 (Prim.search rules),

@@ -1,7 +1,7 @@
 -- Few bytes, which stand in the value itself.
 use Rattle.std.specs.Prelude.{◌≡◌, ℕ, ◌-◌, ◌≤◌, List, drop, replicate}
 
--- so many of sixteen bytes count, and the others are zeros
+-- so many of 22 bytes count, and the others are zeros
 pub record IsPadded (len : ℕ) (bytes : List ℕ) : Type 0 where
-  pub few : len ≤ 16
-  pub zeros : drop len bytes ≡ replicate (16 - len) 0
+  pub few : len ≤ 22
+  pub zeros : drop len bytes ≡ replicate (22 - len) 0

@@ -50,6 +50,21 @@ pub(crate) fn fronts(a: &[u8], b: &[u8], both: usize) -> (u64, u64)
     }
 }
 
+/// Two numbers that were read from 22 bytes of each, in at most three words, of which the last two overlap.
+#[inline(always)]
+pub(crate) fn words_of_short(a: &[u8], b: &[u8]) -> (u64, u64)
+    requires first { length a.now ≡ 22 }
+    requires second { length b.now ≡ 22 }
+    ensures { Settles a.now b.now 22 result.0 result.1 }
+{
+    let (x, y) = fronts(a, b, 16);
+    if x != y {
+        (x, y)
+    } else {
+        (eight(a, 14), eight(b, 14))
+    }
+}
+
 // Four bytes from a place on, as a number.
 #[inline(always)]
 fn four(s: &[u8], i: usize) -> u64

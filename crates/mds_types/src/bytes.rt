@@ -15,17 +15,17 @@ use std::cmp::Ordering;
 use std::marker::Model;
 
 /// Any bytes, in the order in which memory compares: a name, a key, a value, the header of an object. Seen by contents,
-/// never by where they stand: up to 16 bytes, as most names have, take no memory of their own.
+/// never by where they stand: up to 22 bytes, as most names have, take no memory of their own.
 #[derive(Debug, Drop)]
 pub struct Bytes {
     form: Form,
 }
 
-// Where bytes stand: few in the value itself, more in memory of their own.
+// Where bytes stand: few in the value itself, more in memory of their own, boxed, so that few don't take as much room.
 #[derive(Debug, Drop)]
 enum Form {
     Short(Short),
-    Long(Vec<u8>),
+    Long(Box<Vec<u8>>),
 }
 
 impl Model for Bytes {
@@ -38,36 +38,42 @@ impl Model for Bytes {
 }
 
 impl Bytes {
-    /// No bytes. Takes no memory.
-    pub fn empty(alloc: Global) -> Bytes
+    /// No bytes.
+    pub fn empty() -> Bytes
         ensures { result ≡ [] }
     {
         Bytes {
-            form: Form::Long(Vec::new(alloc)),
+            form: Form::Short(Short::empty()),
         }
     }
 
-    /// These bytes. Takes no memory.
-    pub fn from_vec(bytes: Vec<u8>) -> Bytes
-        ensures { result ≡ bytes.items }
+    /// These bytes. More than 22 take memory for a box, and only then may it be wanting.
+    pub fn from_vec(alloc: Global, bytes: Vec<u8>) -> Result<Bytes, AllocError>
+        ensures made { IfOk result (λ made. made ≡ bytes.items) }
+        ensures err { OnErr result (22 < length bytes.items) }
     {
-        let form = match Short::of(&bytes) {
-            Some(short) => Form::Short(short),
-            None => Form::Long(bytes),
-        };
-        Bytes { form }
+        match Short::of(&bytes) {
+            Some(short) => {
+                drop(bytes);
+                Ok(Bytes {
+                    form: Form::Short(short),
+                })
+            }
+            None => boxed(alloc, bytes),
+        }
     }
 
-    /// A copy of these bytes. More than 16 take memory, and only then may it be wanting.
+    /// A copy of these bytes. More than 22 take memory, and only then may it be wanting.
     pub fn from_slice(alloc: Global, bytes: &[u8]) -> Result<Bytes, AllocError>
         ensures copy { IfOk result (λ copy. copy ≡ bytes.now) }
-        ensures err { OnErr result (16 < length bytes.now) }
+        ensures err { OnErr result (22 < length bytes.now) }
     {
-        let form = match Short::of(bytes) {
-            Some(short) => Form::Short(short),
-            None => Form::Long(Vec::from_slice(alloc, bytes)?),
-        };
-        Ok(Bytes { form })
+        match Short::of(bytes) {
+            Some(short) => Ok(Bytes {
+                form: Form::Short(short),
+            }),
+            None => boxed(alloc, Vec::from_slice(alloc, bytes)?),
+        }
     }
 
     /// The bytes.
@@ -76,7 +82,7 @@ impl Bytes {
     {
         match &self.form {
             Form::Short(short) => short.as_slice(),
-            Form::Long(bytes) => bytes,
+            Form::Long(bytes) => bytes.as_slice(),
         }
     }
 
@@ -87,7 +93,7 @@ impl Bytes {
         self.form = Form::Short(Short::empty());
     }
 
-    /// A copy. More than 16 bytes take memory.
+    /// A copy. More than 22 bytes take memory.
     pub fn try_clone(&self) -> Result<Bytes, AllocError>
         ensures { IfOk result (λ copy. copy ≡ self.now) }
     {
@@ -96,6 +102,18 @@ impl Bytes {
             Form::Long(bytes) => Form::Long(bytes.clone()?),
         };
         Ok(Bytes { form })
+    }
+}
+
+// These bytes in a box.
+fn boxed(alloc: Global, bytes: Vec<u8>) -> Result<Bytes, AllocError>
+    ensures { IfOk result (λ made. made ≡ bytes.items) }
+{
+    match Box::new(alloc, bytes) {
+        Ok(bytes) => Ok(Bytes {
+            form: Form::Long(bytes),
+        }),
+        Err(_) => Err(AllocError),
     }
 }
 

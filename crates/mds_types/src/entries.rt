@@ -7,7 +7,7 @@ use crate::replies::Reply;
 use std::alloc::AllocError;
 
 /// A request that was applied, with its reply and the inode number that it took, if it made an inode.
-#[derive(Debug, Drop, PartialEq, Eq)]
+#[derive(Debug, Drop)]
 pub struct Entry {
     pub client: u64,
     pub tid: u64,

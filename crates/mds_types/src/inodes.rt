@@ -16,11 +16,12 @@ pub enum Kind {
 }
 
 /// An inode. A directory has size 0, and a link the size of its target.
+//
+// Fields lie as they are listed, so narrow ones stand together.
 #[derive(Clone, Debug, Drop, PartialEq, Eq)]
 pub struct Inode {
     pub ino: Ino,
     pub kind: Kind,
-    pub mode: Mode,
     /// Bytes of the file's data, as clients report them.
     pub size: u64,
     /// The time of the last change, in the clients' unit.
@@ -29,6 +30,7 @@ pub struct Inode {
     pub uid: u32,
     /// The group.
     pub gid: u32,
+    pub mode: Mode,
     /// The rank that an administrator pins a directory to; nothing else has one.
     pub pin: Option<Rank>,
 }

@@ -56,7 +56,7 @@ impl Name {
     /// The most bytes that a name has.
     pub const MAX_LEN: usize = 255;
 
-    /// The name that these bytes are, or why they are none. More than 16 bytes take memory.
+    /// The name that these bytes are, or why they are none. More than 22 bytes take memory.
     pub fn from_bytes(alloc: Global, bytes: &[u8]) -> Result<Name, NameFault>
         ensures { NameFromBytes bytes.now result }
     {
@@ -84,7 +84,7 @@ impl Name {
         self.text.as_slice()
     }
 
-    /// A copy. More than 16 bytes take memory.
+    /// A copy. More than 22 bytes take memory.
     pub fn try_clone(&self) -> Result<Name, AllocError>
         ensures { IfOk result (λ copy. copy ≡ self.now) }
     {

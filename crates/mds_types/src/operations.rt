@@ -4,16 +4,17 @@ ghost use Rattle.std.specs.Option.{option_copied};
 
 use crate::dentries::Dentry;
 use crate::ids::{Ino, Rank};
-use crate::inodes::{Attributes, Birth};
+use crate::inodes::Birth;
 use crate::modes::Mode;
 use crate::names::Name;
+use crate::packed_attributes::PackedAttributes;
 use crate::page_sizes::PageSize;
 use crate::targets::Target;
 use std::alloc::AllocError;
 
 /// An operation on the tree. Each works in a directory, that of its dentry but for a `Readdir`; a rename leads to
 /// another one.
-#[derive(Debug, Drop, PartialEq, Eq)]
+#[derive(Debug, Drop)]
 pub enum Op {
     /// The inode at a dentry.
     Lookup(Dentry),
@@ -46,7 +47,7 @@ pub enum Op {
     /// Gives the inode at a dentry these attributes; what is not given stays. A size can be given to a file alone.
     Setattr {
         dentry: Dentry,
-        attributes: Attributes,
+        attributes: PackedAttributes,
     },
     /// Pins the directory at a dentry to a rank, or takes its pin away.
     SetPin {
@@ -164,7 +165,7 @@ impl Op {
             } => copy_of_symlink(dentry, target, birth),
             Op::Setattr { dentry, attributes } => Ok(Op::Setattr {
                 dentry: dentry.try_clone()?,
-                attributes: *attributes,
+                attributes: attributes.copy(),
             }),
             Op::SetPin { dentry, pin } => Ok(Op::SetPin {
                 dentry: dentry.try_clone()?,

@@ -6,7 +6,7 @@ use std::alloc::AllocError;
 
 /// An operation with its client and transaction number. A client that heard no reply sends the same pair of numbers
 /// again, perhaps to another rank; `oldest` is its least transaction number that still waits for a reply.
-#[derive(Debug, Drop, PartialEq, Eq)]
+#[derive(Debug, Drop)]
 pub struct Request {
     pub client: u64,
     pub tid: u64,

@@ -3,15 +3,16 @@ ghost use Rattle.std.specs.Prelude.{◌≡◌, ◌<◌, length, [], IfSome, IfNo
 ghost use Rattle.std.specs.Cmp.Lexicographic.{slice_cmp};
 ghost use Rattle.std.specs.Ordering.{nat_cmp};
 
-use crate::byte_order::fronts;
+use crate::byte_order::words_of_short;
 use std::cmp::Ordering;
 use std::marker::Model;
 
-/// At most 16 bytes, with zeros behind them, so that they compare as two numbers.
+/// At most 22 bytes, with zeros behind them, so that they compare as numbers. With their length, and the tag of an enum
+/// before it, they take as much room as three words of the machine.
 #[derive(Debug, Drop)]
 pub(crate) struct Short {
-    len: usize,
-    bytes: [u8; 16],
+    len: u8,
+    bytes: [u8; 22],
 }
 
 impl Model for Short {
@@ -32,22 +33,25 @@ impl Short {
     {
         Short {
             len: 0,
-            bytes: [0; 16],
+            bytes: [0; 22],
         }
     }
 
     /// These bytes, where they are few enough.
     pub(crate) fn of(bytes: &[u8]) -> Option<Short>
         ensures few { IfSome result (λ short. short ≡ bytes.now) }
-        ensures many { IfNone result (16 < length bytes.now) }
+        ensures many { IfNone result (22 < length bytes.now) }
     {
         let len = bytes.len();
-        if len > 16 {
+        if len > 22 {
             return None;
         }
-        let mut kept = [0; 16];
+        let mut kept = [0; 22];
         kept[..len].copy_from_slice(bytes);
-        Some(Short { len, bytes: kept })
+        Some(Short {
+            len: len as u8,
+            bytes: kept,
+        })
     }
 
     /// A copy.
@@ -66,7 +70,7 @@ impl Short {
     pub(crate) fn as_slice(&self) -> &[u8]
         ensures { result.now ≡ self.now }
     {
-        &self.bytes[..self.len]
+        &self.bytes[..usize::from(self.len)]
     }
 
     /// How they compare, as memory does.
@@ -74,7 +78,7 @@ impl Short {
     pub(crate) fn compare(&self, other: &Short) -> Ordering
         ensures { result ≡ slice_cmp nat_cmp self.now other.now }
     {
-        let (x, y) = fronts(&self.bytes, &other.bytes, 16);
+        let (x, y) = words_of_short(&self.bytes, &other.bytes);
         if x != y {
             return x.cmp(&y);
         }

@@ -74,7 +74,7 @@ pub fn check<F: Frags>(
             make(frags, limit, op, dentry, &at, new)
         }
         Op::Setattr { dentry, attributes } => {
-            let alteration = Alteration::Attributed(*attributes);
+            let alteration = Alteration::Attributed(attributes.get());
             alter(frags, op, dentry, &at.at, &alteration)
         }
         Op::SetPin { dentry, pin } => {

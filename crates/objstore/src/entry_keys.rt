@@ -16,7 +16,7 @@ pub fn key_of(alloc: Global, name: &Name) -> Result<Bytes, AllocError>
     let mut key = Vec::with_capacity(alloc, name.len() + HEAD.len())?;
     key.extend_from_slice(name)?;
     key.extend_from_slice(HEAD)?;
-    Ok(Bytes::from_vec(key))
+    Bytes::from_vec(alloc, key)
 }
 
 /// The name whose key this is; none, where it is no name's key. Takes memory for the name: none for another key.

@@ -39,7 +39,7 @@ impl Object {
         ensures { result ≡ empty_omap }
     {
         Object {
-            header: Bytes::empty(alloc),
+            header: Bytes::empty(),
             pairs: Pairs::new(alloc),
         }
     }

@@ -28,7 +28,7 @@ impl<S: Store + Drop, L: Handed> Desk<S, L> {
     /// thread keeps; one whose bytes aren't kept there is passed over. The history stays.
     #[tactic(auto, using(cluster_core::proofs::OwnLaws::proposal_stays))]
     pub(crate) fn own(&mut self, alloc: Global, own: &mut OwnTurns) -> Result<(), Refusal> {
-        let Some(event) = self.book.propose(alloc, own.rank)? else {
+        let Some(event) = self.book.propose(own.rank)? else {
             return Ok(());
         };
         match event {
@@ -75,7 +75,7 @@ impl<S: Store + Drop, L: Handed> Desk<S, L> {
         if !kept.has(ino, frag) {
             return Ok(());
         }
-        let Ok(bytes) = kept.copy_of(alloc, ino, frag) else {
+        let Ok(bytes) = kept.copy_of(ino, frag) else {
             return Err(Refusal::NoMemory);
         };
         let imported = self

@@ -41,7 +41,7 @@ impl WordList {
     {
         let mut words = Vec::with_capacity(alloc, texts.len())?;
         for text in texts {
-            words.push(Bytes::from_vec(text.into_bytes()))?;
+            words.push(Bytes::from_vec(alloc, text.into_bytes())?)?;
         }
         Ok(WordList { words })
     }

@@ -5,12 +5,12 @@ ghost use Rattle.script_words.specs.Reading.{Reads};
 ghost use Rattle.script_words.specs.Arguments.{mode_of, decimal_of, id_of};
 ghost use Rattle.script_text.specs.Attributes.{attributes_of, birth_of, if_given, keyed};
 
-use mds_types::{Attributes, Birth, Mode};
+use mds_types::{Attributes, Birth, Mode, PackedAttributes};
 use script_words::{ReadError, decimal, first, id, is_text, mode, next_word, none};
 
 /// `[mode MODE] [size N] [mtime N] [uid N] [gid N]`: in this order, and at least one of them.
 #[tactic(auto, unfolding(crate::specs::Attributes::attributes_of))]
-pub fn given_attributes(words: &[u8]) -> Result<Attributes, ReadError>
+pub fn given_attributes(words: &[u8]) -> Result<PackedAttributes, ReadError>
     ensures { Reads (λ given. given) result (attributes_of (words_of words.now)) }
 {
     first(words)?;
@@ -25,13 +25,13 @@ pub fn given_attributes(words: &[u8]) -> Result<Attributes, ReadError>
     let mtime = number_given(mtime)?;
     let uid = id_given(uid)?;
     let gid = id_given(gid)?;
-    Ok(Attributes {
+    Ok(PackedAttributes::of(&Attributes {
         mode,
         size,
         mtime,
         uid,
         gid,
-    })
+    }))
 }
 
 /// `[uid N] [gid N]`: in this order, and 0 where it isn't given. What is made has mtime 0.

@@ -14,7 +14,7 @@ use script_words::{NOT_COMMAND, ReadError, client, decimal, first, is_text, next
 use std::alloc::Global;
 
 /// What a line of the script asks for.
-#[derive(Debug, Drop, PartialEq, Eq)]
+#[derive(Debug, Drop)]
 pub enum Command {
     /// An operation alone: it arrives at rank 0 as client 0, and is served there.
     Operation(Op),

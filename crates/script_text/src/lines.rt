@@ -7,7 +7,7 @@ use script_words::{Fault, ReadError, is_comment, is_printable, next_word};
 use std::alloc::{AllocError, Global};
 
 /// What a line of the script is.
-#[derive(Debug, Drop, PartialEq, Eq)]
+#[derive(Debug, Drop)]
 pub enum Line {
     /// Empty, spaces or a comment: it prints nothing.
     Nothing,

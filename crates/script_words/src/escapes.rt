@@ -51,7 +51,7 @@ fn kept_bytes(alloc: Global, word: &[u8]) -> Result<Option<Bytes>, AllocError>
         rest = after;
     }
     if rest.is_empty() {
-        Ok(Some(Bytes::from_vec(bytes)))
+        Ok(Some(Bytes::from_vec(alloc, bytes)?))
     } else {
         Ok(None)
     }

@@ -73,7 +73,7 @@ fn path(alloc: Global, dir: &Name, name: &Name) -> Option<Bytes> {
     bytes.extend_from_slice(dir.as_bytes()).ok()?;
     bytes.push(b'/').ok()?;
     bytes.extend_from_slice(name.as_bytes()).ok()?;
-    Some(Bytes::from_vec(bytes))
+    Bytes::from_vec(alloc, bytes).ok()
 }
 
 // The names in a directory with their inodes. One page has them all: it holds 1024, and no directory of a run has more
