@@ -4,11 +4,11 @@ use Rattle.script_words.proofs.escapes.kept_bytes.Goals as goal
 
 pub returns-then-is_plain : goal.returns-then-is_plain
 returns-then-is_plain c =
-    ap (λ bytes. Some bytes) c.in_ok-from_slice.ensures
+    ap (λ bytes. Some bytes) c.in_ok-from_slice.ensures.copy
     ∙ bytes_of-itself c.args.word.now (sym c.is_plain.ensures ∙ c.if-is_plain.true)
 
-pub returns-then-is_empty : goal.returns-then-is_empty
-returns-then-is_empty c =
-    ap (λ bytes. Some bytes) c.from_vec.ensures
+pub returns-in_ok-from_vec : goal.returns-in_ok-from_vec
+returns-in_ok-from_vec c =
+    ap (λ bytes. Some bytes) c.in_ok-from_vec.ensures.made
     ∙ before-nothing c.loop-byte.bytes.items c.loop-byte.rest.now (bytes_of c.args.word.now) c.loop-byte.invariant
     (eqb-true (length c.loop-byte.rest.now) 0 (sym c.is_empty.ensures ∙ c.if-is_empty.true))
