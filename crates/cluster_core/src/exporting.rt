@@ -95,7 +95,7 @@ impl<S: Store + Drop> Cluster<S> {
         ensures counted { self.new.faults ≡ self.old.faults + faults_told (result_err result) }
     {
         let bytes = self.tree.send(alloc, ino, frag)?;
-        Ok(Answer::Sent(Bytes::from_vec(alloc, bytes)?))
+        Ok(Answer::Sent(bytes))
     }
 
     // What was sent of a region goes to its importer, which holds the region from then on.

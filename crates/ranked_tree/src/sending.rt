@@ -1,5 +1,6 @@
 //! Send: what isn't clean of the region of a prepared export is handed out as bytes.
-ghost use Rattle.std.specs.Prelude.{◌≡◌, IfErr, IfOk, OnErr};
+ghost use Rattle.std.specs.Prelude.{◌≡◌, IfErr, IfOk, IsTrue, OnErr};
+ghost use Rattle.export_bytes.specs.Export.{SpellsExport, is_sendable};
 ghost use Rattle.mdcache.specs.Core.{state_of};
 ghost use Rattle.ranked_tree.specs.Exported.{IsDivided};
 ghost use Rattle.ranked_tree.specs.Ranked.{held_roots};
@@ -7,13 +8,13 @@ ghost use Rattle.ranked_tree.specs.Sending.{RefusesSend, Sends, SpellsPrepared};
 
 use crate::ranked_tree::RankedTree;
 use crate::regions::Regions;
-use export_bytes::encode_export;
+use export_bytes::{Export, encode_export};
 use export_regions::export_of;
 use export_steps::ExportState;
 use mdcache::MdCache;
-use mds_types::{Dirfrag, Frag, Ino, Refusal};
+use mds_types::{Bytes, Dirfrag, Frag, Ino, Refusal};
 use objstore::Store;
-use std::alloc::Global;
+use std::alloc::{AllocError, Global};
 
 impl<S: Store + Drop> RankedTree<S> {
     /// Send: the bytes of each fragment of a region that isn't clean are handed out, and its export goes from prepared
@@ -22,8 +23,8 @@ impl<S: Store + Drop> RankedTree<S> {
     ///
     /// # Errors In this order: `WrongExportState` where no prepared export of this root stands, `TooManyFrags` where a
     /// fragment of the region has more than 2^32 - 1 dirty names, `NoMemory`; then all is left as it was.
-    pub fn send(&mut self, alloc: Global, dir: Ino, frag: Frag) -> Result<Vec<u8>, Refusal>
-        ensures sent { IfOk result (λ bytes. Sends self.old self.new (dir, frag) bytes.items) }
+    pub fn send(&mut self, alloc: Global, dir: Ino, frag: Frag) -> Result<Bytes, Refusal>
+        ensures sent { IfOk result (λ bytes. Sends self.old self.new (dir, frag) bytes) }
         ensures refused { IfErr result
             (RefusesSend (state_of self.old.tree) self.old.subtrees.roots self.old.exports (dir, frag)) }
         ensures left { OnErr result (self.new.exports ≡ self.old.exports) }
@@ -46,11 +47,11 @@ fn region_bytes<S: Store + Drop>(
     regions: &Regions,
     dir: Ino,
     frag: Frag,
-) -> Result<Vec<u8>, Refusal>
+) -> Result<Bytes, Refusal>
     requires divided { IsDivided tree.now regions.now }
     ensures sent { IfOk result
         (λ bytes. SpellsPrepared (state_of tree.now) regions.now.roots.roots regions.now.exports
-        (dir, frag) bytes.items) }
+        (dir, frag) bytes) }
     ensures refused { IfErr result
         (RefusesSend (state_of tree.now) regions.now.roots.roots regions.now.exports (dir, frag)) }
 {
@@ -64,5 +65,13 @@ fn region_bytes<S: Store + Drop>(
     };
     let (caches, dirs) = (tree.caches(), tree.dirs());
     let sent = export_of(alloc, caches, &regions.roots, dirs, root, export.importer)?;
-    Ok(encode_export(alloc, &sent)?)
+    Ok(encoded(alloc, &sent)?)
+}
+
+// The bytes of what is sent.
+fn encoded(alloc: Global, sent: &Export) -> Result<Bytes, AllocError>
+    requires { IsTrue (is_sendable sent.now) }
+    ensures { IfOk result (λ bytes. SpellsExport bytes sent.now) }
+{
+    Bytes::from_vec(alloc, encode_export(alloc, sent)?)
 }

@@ -4,5 +4,5 @@ use Rattle.mdcache.proofs.tree_objects.write_tree.Goals as goal
 
 pub returns-clause-written : goal.returns-clause-written
 returns-clause-written g c =
-    on_ok_weaker c.apply.result (λ done. done ∙ (λ i. written (g.S.Store.objects c.args.store.now) c.args.name.now (record { clear = true; header = Some (c.from_vec.ensures i); set = (c.new-op.ensures i).set; remove = (c.new-op.ensures i).remove }))
+    on_ok_weaker c.apply.result (λ done. done ∙ (λ i. written (g.S.Store.objects c.args.store.now) c.args.name.now (record { clear = true; header = Some (c.in_ok-from_vec.ensures.made i); set = (c.new-op.ensures i).set; remove = (c.new-op.ensures i).remove }))
     ∙ tree_written (g.S.Store.objects c.args.store.now) c.args.name.now c.args.header.items) c.apply.ensures.done

@@ -15,13 +15,13 @@ returns-in_err-sent-clause-refused g c =
     refuses (RefusesSend (state_of c.args.tree.now) c.args.regions.now.roots.roots c.args.regions.now.exports (c.args.dir, c.args.frag)) c.from_residual.result c.in_err-sent.field-0.0 c.from_residual.ensures.1
     (refused_so c.args.tree.now c.args.regions.now (c.args.dir, c.args.frag) c.in-Some.export _ _ _ c.caches-caches.ensures c.dirs-dirs.ensures.homes c.dirs-dirs.ensures.trees c.in-Some.ensures.export.0 c.in-Some.ensures.export.1 c.in_err-sent.field-0.0 c.in_err-sent.ensures.refused)
 
-pub returns-in_err-encode_export-clause-refused : goal.returns-in_err-encode_export-clause-refused
-returns-in_err-encode_export-clause-refused g c =
-    refuses (RefusesSend (state_of c.args.tree.now) c.args.regions.now.roots.roots c.args.regions.now.exports (c.args.dir, c.args.frag)) c.from_residual-in_err-encode_export.result NoMemory
-    c.from_residual-in_err-encode_export.ensures.1
+pub returns-in_err-encoded-clause-refused : goal.returns-in_err-encoded-clause-refused
+returns-in_err-encoded-clause-refused g c =
+    refuses (RefusesSend (state_of c.args.tree.now) c.args.regions.now.roots.roots c.args.regions.now.exports (c.args.dir, c.args.frag)) c.from_residual-in_err-encoded.result NoMemory
+    c.from_residual-in_err-encoded.ensures.1
     (refused_so c.args.tree.now c.args.regions.now (c.args.dir, c.args.frag) c.in-Some.export _ _ _ c.caches-caches.ensures c.dirs-dirs.ensures.homes c.dirs-dirs.ensures.trees c.in-Some.ensures.export.0 c.in-Some.ensures.export.1 NoMemory (inr (refl, c.in_ok-sent.ensures.counted)))
 
 pub returns-clause-sent : goal.returns-clause-sent
 returns-clause-sent g c =
     sent_so c.args.tree.now c.args.regions.now (c.args.dir, c.args.frag) c.in-Some.export _ _ _ c.caches-caches.ensures c.dirs-dirs.ensures.homes c.dirs-dirs.ensures.trees c.in-Some.ensures.export.0 c.in-Some.ensures.export.1
-    c.in_ok-encode_export.field-0.items c.in_ok-sent.sent c.in_ok-encode_export.ensures c.in_ok-sent.ensures.sent
+    c.in_ok-encoded.field-0 c.in_ok-sent.sent c.in_ok-encoded.ensures c.in_ok-sent.ensures.sent
