@@ -15,7 +15,7 @@ pub returns-in-Readlink-clause-checked : goal.returns-in-Readlink-clause-checked
 returns-in-Readlink-clause-checked g c = step_at _ _ _ _ (Readlink c.in-Readlink.dentry) c.in-Readlink.is c.args.limit c.args.number.0 _ c.args.places c.in-Some.at c.requires c.in-Some.is refl (c.read_link.ensures.checked c.args.number.0)
 
 pub returns-in-Setattr-clause-checked : goal.returns-in-Setattr-clause-checked
-returns-in-Setattr-clause-checked g c = step_at _ _ _ _ (Setattr c.in-Setattr.dentry c.in-Setattr.attributes) c.in-Setattr.is c.args.limit c.args.number.0 _ c.args.places c.in-Some.at c.requires c.in-Some.is refl (c.alter.ensures.checked c.args.number.0)
+returns-in-Setattr-clause-checked g c = step_at _ _ _ _ (Setattr c.in-Setattr.dentry c.in-Setattr.attributes) c.in-Setattr.is c.args.limit c.args.number.0 _ c.args.places c.in-Some.at c.requires c.in-Some.is refl (rw (← c.get.ensures) (c.alter.ensures.checked c.args.number.0))
 
 pub returns-in-SetPin-clause-checked : goal.returns-in-SetPin-clause-checked
 returns-in-SetPin-clause-checked g c = step_at _ _ _ _ (SetPin c.in-SetPin.dentry c.in-SetPin.pin) c.in-SetPin.is c.args.limit c.args.number.0 _ c.args.places c.in-Some.at c.requires c.in-Some.is refl (c.alter-in-SetPin.ensures.checked c.args.number.0)
