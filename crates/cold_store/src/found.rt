@@ -9,8 +9,7 @@ ghost use Rattle.inode_table.specs.Dirs.{is_known};
 ghost use Rattle.inode_table.specs.TreeTable.{IsCounted};
 ghost use Rattle.cold_store.specs.Rows.{IsReady, is_met, queued, start, with_entry};
 
-use fragtree::FragTree;
-use inode_table::{Dirs, adopt_dir};
+use inode_table::{BoxedTree, Dirs, adopt_dir};
 use mds_types::{Dentry, Ino, Inode, Name, Refusal};
 use sorted_map::SortedMap;
 use std::alloc::{AllocError, Global};
@@ -104,7 +103,7 @@ impl Found {
     }
 
     /// Gives a directory that was found these leaves.
-    pub fn set_tree(&mut self, dir: Ino, tree: FragTree)
+    pub fn set_tree(&mut self, dir: Ino, tree: BoxedTree)
         requires { is_known self.old.shape.homes dir.0 ≡ true }
         ensures shape { self.new.shape ≡ self.old.shape }
         ensures covers { self.new.covers ≡ map.insert self.old.covers dir.0 tree }

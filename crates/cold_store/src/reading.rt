@@ -1,5 +1,5 @@
 //! A directory of a store, read: its tree object, then its leaves by value, of each the names in order.
-ghost use Rattle.std.specs.Prelude.{◌≡◌, ◌==◌, ◌+◌, length, not, true, false, IfOk, IfErr, OnOk};
+ghost use Rattle.std.specs.Prelude.{◌≡◌, ◌==◌, ◌+◌, length, not, true, false, IfOk, IfErr, OnErr, OnOk};
 ghost use Rattle.std.specs.FinMap as map;
 ghost use Rattle.std.specs.Result.{result_err};
 ghost use Rattle.sorted_map.specs.SortedMap.{contents};
@@ -16,6 +16,7 @@ use crate::found::Found;
 use dentry_cache::load;
 use dirfrag_codec::decode_tree;
 use fragtree::FragTree;
+use inode_table::BoxedTree;
 use mds_types::{Frag, Ino, Inode, Name, ObjName, Refusal};
 use objstore::{Page, Store};
 use sorted_map::SortedMap;
@@ -44,7 +45,7 @@ pub fn take_dir<S: Store>(
 {
     let tree = read_tree(alloc, store, dir)?;
     let leaves = leaves_of(alloc, &tree)?;
-    keep_tree(found, dir, tree);
+    keep_tree(alloc, found, dir, tree)?;
     take_leaves(alloc, store, found, dir, &leaves)
 }
 
@@ -100,14 +101,21 @@ fn leaves_of(alloc: Global, tree: &Option<FragTree>) -> Result<Vec<Frag>, AllocE
 }
 
 // Gives a directory the leaves of its tree object, if that is there.
-fn keep_tree(found: &mut Found, dir: Ino, tree: Option<FragTree>)
+fn keep_tree(
+    alloc: Global,
+    found: &mut Found,
+    dir: Ino,
+    tree: Option<FragTree>,
+) -> Result<(), AllocError>
     requires { is_known found.old.shape.homes dir.0 ≡ true }
     ensures shape { found.new.shape ≡ found.old.shape }
-    ensures covers { found.new.covers ≡ with_cover found.old.covers dir tree }
+    ensures covers { OnOk result (found.new.covers ≡ with_cover found.old.covers dir tree) }
+    ensures left { OnErr result (found.new ≡ found.old) }
 {
     if let Some(tree) = tree {
-        found.set_tree(dir, tree);
+        found.set_tree(dir, BoxedTree::new(alloc, tree)?);
     }
+    Ok(())
 }
 
 // Adds the entries of leaves of a directory.

@@ -9,6 +9,7 @@ ghost use Rattle.mds_types.specs.declared.ids.Ino.{Ino};
 ghost use Rattle.inode_table.specs.Order.{dirs_after, trees_after};
 ghost use Rattle.inode_table.specs.Dirs.{IsAbove, IsLeafAt, IsLive, IsTable, MayCome, MayGo, MayMove, RefusesLeaves, count_of, is_known, leaves_of, one_less, one_more, or_whole, pinned_at};
 
+use crate::boxed_tree::BoxedTree;
 use fragtree::FragTree;
 use mds_types::{Frag, Ino, Name, Rank, Refusal};
 use sorted_map::{Finger, SortedMap};
@@ -38,7 +39,7 @@ pub struct LeafAt<'a> {
 #[derive(Debug, Drop)]
 pub(crate) struct Directory {
     home: Home,
-    leaves: Option<FragTree>,
+    leaves: Option<BoxedTree>,
     entries: u64,
     pub(crate) pin: Option<Rank>,
 }
@@ -54,7 +55,7 @@ pub(crate) struct Directory {
 /// leaf `*`, and takes no memory for it.
 #[derive(Debug, Drop)]
 pub struct Dirs {
-    root: Option<FragTree>,
+    root: Option<BoxedTree>,
     in_root: u64,
     pub(crate) below: SortedMap<u64, Directory>,
     // where the two rows were in which a name was located last: a change of one of them finds it again there
@@ -166,7 +167,7 @@ impl Dirs {
         ensures leaves { IfSome result (λ at. or_whole (option_copied at.leaves) ≡ leaves_of self.now.trees dir.0) }
     {
         if dir == Ino::ROOT {
-            let leaves = self.root.as_ref();
+            let leaves = tree_of(&self.root);
             return Some(LeafAt {
                 frag: picked(leaves, hash),
                 home: None,
@@ -175,7 +176,7 @@ impl Dirs {
             });
         }
         let row = self.below.get_noting(&self.near, &dir.0)?;
-        let leaves = row.leaves.as_ref();
+        let leaves = tree_of(&row.leaves);
         Some(LeafAt {
             frag: picked(leaves, hash),
             home: Some(&row.home),
@@ -298,7 +299,7 @@ impl Dirs {
     }
 
     /// Gives a directory these leaves. Takes no memory.
-    pub fn set_tree(&mut self, dir: Ino, tree: FragTree)
+    pub fn set_tree(&mut self, dir: Ino, tree: BoxedTree)
         requires known { is_known self.old.homes dir.0 ≡ true }
         ensures trees { self.new.trees ≡ map.insert self.old.trees dir.0 tree }
         ensures homes { self.new.homes ≡ self.old.homes }
@@ -306,8 +307,8 @@ impl Dirs {
         ensures pins { self.new.pins ≡ self.old.pins }
         ensures room { self.new.room ≡ self.old.room }
     {
-        // of a tree that is asked for its length its leaves are known to cover every hash
-        let _ = tree.len();
+        // of a tree that is lent its leaves are known to cover every hash
+        let _ = tree.as_tree();
         if dir == Ino::ROOT {
             self.root = Some(tree);
             return;
@@ -460,10 +461,17 @@ impl Dirs {
         ensures valid { IsTable self.now.homes self.now.trees }
     {
         if dir == Ino::ROOT {
-            return self.root.as_ref();
+            return tree_of(&self.root);
         }
-        self.below.get(&dir.0)?.leaves.as_ref()
+        tree_of(&self.below.get(&dir.0)?.leaves)
     }
+}
+
+// Leaves that were set, lent.
+fn tree_of(leaves: &Option<BoxedTree>) -> Option<&FragTree>
+    ensures { option_copied result ≡ leaves.now }
+{
+    Some(leaves.as_ref()?.as_tree())
 }
 
 // The leaf that a hash picks of leaves that were set, and of the one leaf `*` where none were.
@@ -507,7 +515,7 @@ fn check_split_of_whole(frag: Frag, bits: u8) -> Result<(), Refusal>
 // Splits one of leaves that were set, or the one leaf `*` where none were.
 fn split_in(
     alloc: Global,
-    leaves: &mut Option<FragTree>,
+    leaves: &mut Option<BoxedTree>,
     frag: Frag,
     bits: u8,
 ) -> Result<(), Refusal>
@@ -521,7 +529,7 @@ fn split_in(
     if let Some(tree) = leaves {
         return tree.split(frag, bits);
     }
-    let mut tree = FragTree::whole(alloc);
+    let mut tree = BoxedTree::new(alloc, FragTree::whole(alloc))?;
     match tree.split(frag, bits) {
         Ok(()) => {
             *leaves = Some(tree);

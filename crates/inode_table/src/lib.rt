@@ -1,12 +1,14 @@
 //! Inode numbers and the directory table: which numbers each rank hands out, and where each directory stands.
 #![tactic(auto)]
 
+mod boxed_tree;
 mod counting;
 mod dirs;
 mod next_pinned;
 mod numbers;
 mod table_changes;
 
+pub use boxed_tree::BoxedTree;
 pub use counting::count_entries;
 pub use dirs::{Dirs, Home, LeafAt};
 pub use numbers::Numbers;

@@ -13,7 +13,7 @@ use crate::going::{GoingLeaf, part_of};
 use crate::mdcache::MdCache;
 use crate::regrouping::object_name;
 use fragtree::FragTree;
-use inode_table::Dirs;
+use inode_table::{BoxedTree, Dirs};
 use mds_types::{Dirfrag, Frag, Ino, Refusal};
 use objstore::Store;
 use std::alloc::{AllocError, Global};
@@ -23,7 +23,7 @@ use std::alloc::{AllocError, Global};
 #[derive(Drop)]
 pub struct MergePlan {
     pub leaves: Vec<GoingLeaf>,
-    pub cover: FragTree,
+    pub cover: BoxedTree,
     pub object: String,
 }
 
@@ -53,17 +53,18 @@ impl<S: Store + Drop> MdCache<S> {
 }
 
 // The leaves of a directory once some of them are merged.
-fn merge_cover(alloc: Global, dirs: &Dirs, at: &Dirfrag) -> Result<FragTree, Refusal>
+fn merge_cover(alloc: Global, dirs: &Dirs, at: &Dirfrag) -> Result<BoxedTree, Refusal>
     requires { CanMerge (leaves_of dirs.now.trees at.now.dir.0) at.now.frag }
     ensures merged { IfOk result (λ cover. IsMerge (leaves_of dirs.now.trees at.now.dir.0) cover at.now.frag) }
     ensures whole { IfOk result (λ cover. IsTree cover) }
     ensures refused { IfErr result (λ reason. reason ≡ NoMemory) }
 {
     let mut cover = dirs.tree(alloc, at.dir)?;
-    match cover.merge(at.frag) {
-        Ok(()) => Ok(cover),
-        Err(refusal) => Err(refusal),
+    if let Err(refusal) = cover.merge(at.frag) {
+        drop(cover);
+        return Err(refusal);
     }
+    Ok(BoxedTree::new(alloc, cover)?)
 }
 
 // The leaves of a directory that lie properly inside a fragment, each with the name of its object.

@@ -31,7 +31,7 @@ pub returns-clause-covers : goal.returns-clause-covers
 returns-clause-covers g c =
     let objects = g.S.Store.objects c.args.store.now in
     ok_always c.take_leaves.result
-    (c.take_leaves.ensures.covers ∙ c.keep_tree.ensures.covers ∙ ap (with_cover c.args.found.now.covers c.args.dir) (good_cover (tree_of objects c.args.dir) c.in_ok-tree.tree c.in_ok-tree.ensures.good))
+    (c.take_leaves.ensures.covers ∙ c.in_ok-keep_tree.ensures.covers ∙ ap (with_cover c.args.found.now.covers c.args.dir) (good_cover (tree_of objects c.args.dir) c.in_ok-tree.tree c.in_ok-tree.ensures.good))
 
 pub returns-clause-refused : goal.returns-clause-refused
 returns-clause-refused g c =

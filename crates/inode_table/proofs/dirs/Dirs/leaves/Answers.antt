@@ -5,7 +5,7 @@ use Rattle.inode_table.proofs.RowLaws.{get_leaves, leaves_at_root}
 use Rattle.inode_table.proofs.dirs.Dirs.leaves.Goals as goal
 
 pub returns-then-eq-clause-set : goal.returns-then-eq-clause-set
-returns-then-eq-clause-set c = rw (← c.self.view_is) (c.as_ref.ensures.value ∙ sym (leaves_at_root c.self.inside.root _ c.args.dir.0 (are_same _ _ c.if-eq.ensures) c.self.invariant.rooted.rootless))
+returns-then-eq-clause-set c = rw (← c.self.view_is) (c.tree_of.ensures ∙ sym (leaves_at_root c.self.inside.root _ c.args.dir.0 (are_same _ _ c.if-eq.ensures) c.self.invariant.rooted.rootless))
 
 pub returns-in_err-get-clause-set : goal.returns-in_err-get-clause-set
 returns-in_err-get-clause-set c =
@@ -14,5 +14,5 @@ returns-in_err-get-clause-set c =
 
 pub returns-clause-set : goal.returns-clause-set
 returns-clause-set c =
-    rw (← c.self.view_is) (c.as_ref-2.ensures.value
+    rw (← c.self.view_is) (c.tree_of-2.ensures
     ∙ sym (get_leaves c.self.inside.root _ c.args.dir.0 (are_apart _ _ c.if-eq.ensures) ∙ ap leaves_in (sym c.get.ensures ∙ ap option_copied c.in_ok-get.was)))

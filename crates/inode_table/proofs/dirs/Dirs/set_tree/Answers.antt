@@ -7,10 +7,10 @@ use Rattle.inode_table.proofs.dirs.Dirs.set_tree.Goals as goal
 
 -- of the root
 pub invariant_of-self : goal.invariant_of-self
-invariant_of-self c = (root_other_leaves _ _ _ _ _ c.self.view_is c.self.invariant c.args.dir.0 (are_same _ _ c.if-eq.ensures) _ c.args.tree refl c.requires.known c.len.ensures.valid).table
+invariant_of-self c = (root_other_leaves _ _ _ _ _ c.self.view_is c.self.invariant c.args.dir.0 (are_same _ _ c.if-eq.ensures) _ c.args.tree refl c.requires.known c.as_tree.ensures.valid).table
 
 pub returns-then-eq-clause-trees : goal.returns-then-eq-clause-trees
-returns-then-eq-clause-trees c = ap (λ (t : Table). t.trees) (root_other_leaves _ _ _ _ _ c.self.view_is c.self.invariant c.args.dir.0 (are_same _ _ c.if-eq.ensures) _ c.args.tree refl c.requires.known c.len.ensures.valid).is
+returns-then-eq-clause-trees c = ap (λ (t : Table). t.trees) (root_other_leaves _ _ _ _ _ c.self.view_is c.self.invariant c.args.dir.0 (are_same _ _ c.if-eq.ensures) _ c.args.tree refl c.requires.known c.as_tree.ensures.valid).is
 
 -- of another directory
 pub unreachable-requires : goal.unreachable-requires
@@ -19,7 +19,7 @@ unreachable-requires c =
 
 pub returns : goal.returns
 returns c =
-    let set = (other_leaves _ _ _ _ _ c.self.view_is c.self.invariant c.args.dir.0 c.in-Some.row.now c.in-Some.ensures.value (Some c.args.tree) c.args.tree (are_apart _ _ c.if-eq.ensures) refl c.requires.known c.len.ensures.valid).is in
+    let set = (other_leaves _ _ _ _ _ c.self.view_is c.self.invariant c.args.dir.0 c.in-Some.row.now c.in-Some.ensures.value (Some c.args.tree) c.args.tree (are_apart _ _ c.if-eq.ensures) refl c.requires.known c.as_tree.ensures.valid).is in
     record {
       trees = ap (λ (t : Table). t.trees) set;
       homes = ap (λ (t : Table). t.homes) set;
@@ -29,4 +29,4 @@ returns c =
     }
 
 pub invariant_of-self-2 : goal.invariant_of-self-2
-invariant_of-self-2 c = (other_leaves _ _ _ _ _ c.self.view_is c.self.invariant c.args.dir.0 c.in-Some.row.now c.in-Some.ensures.value (Some c.args.tree) c.args.tree (are_apart _ _ c.if-eq.ensures) refl c.requires.known c.len.ensures.valid).table
+invariant_of-self-2 c = (other_leaves _ _ _ _ _ c.self.view_is c.self.invariant c.args.dir.0 c.in-Some.row.now c.in-Some.ensures.value (Some c.args.tree) c.args.tree (are_apart _ _ c.if-eq.ensures) refl c.requires.known c.as_tree.ensures.valid).table
