@@ -192,7 +192,7 @@ impl Dirs {
         if dir == Ino::ROOT {
             return self.in_root;
         }
-        match self.below.get(&dir.0) {
+        match self.below.get_noting(&self.near, &dir.0) {
             Some(row) => row.entries,
             None => 0,
         }
@@ -463,7 +463,7 @@ impl Dirs {
         if dir == Ino::ROOT {
             return tree_of(&self.root);
         }
-        tree_of(&self.below.get(&dir.0)?.leaves)
+        tree_of(&self.below.get_near(&self.near.get(), &dir.0)?.leaves)
     }
 }
 
