@@ -9,7 +9,7 @@ invariant_of-self g c =
 
 pub returns-clause-sent : goal.returns-clause-sent
 returns-clause-sent g c =
-    rw (← c.self.view_is) (sends c.self.inside.tree c.self.inside.regions.roots c.self.inside.regions.exports c.send.new.self (c.args.dir, c.args.frag) c.in_ok-bytes.field-0 c.in_ok-bytes.ensures.sent c.in-Ok.ensures.outcome)
+    rw (← c.self.view_is) (sends c.self.inside.tree c.self.inside.regions.roots c.self.inside.regions.exports c.send.new.self (c.args.dir, c.args.frag) c.in_ok-bytes.bytes c.in_ok-bytes.ensures.sent c.in-Ok.ensures.outcome)
 
 pub returns-clause-holders : goal.returns-clause-holders
 returns-clause-holders g c = rw (← c.self.view_is) (send_still 0 _ _ c.self.inside.regions.roots c.self.inside.regions.roots _ c.send.result c.send.ensures.outcome).holds
