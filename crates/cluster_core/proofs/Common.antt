@@ -2,6 +2,7 @@
 pub use Rattle.cached_frag.specs.Cached.{Cached}
 pub use Rattle.cached_frag.specs.declared.jobs.Job.{Job}
 pub use Rattle.cluster_core.specs.Administers.{Administers, AdministersTree, BeginsAt, BeginsCommit, EvictsOne, HoldsInside, IsAnyPinned, IsUnseen, Merges, MergesLeaves, Splits, SplitsLeaf, told_nothing, told_job}
+pub use Rattle.cluster_core.specs.Asked.{IsAsked, IsSessionOf, MayApply}
 pub use Rattle.cluster_core.specs.Commits.{JobsKeepObjects, JobsTakeWhatIsShown}
 pub use Rattle.cluster_core.specs.Exporting.{CancelsAt, Exports, FinishesIn, FreezesIn, HasPinnedUnder, ImportsExport, IsUnseenStep, KeepsTreeAndRoots, PrepsIn, SendsExport, StartsIn}
 pub use Rattle.cluster_core.specs.Flush.{KeepsCore}
@@ -11,15 +12,15 @@ pub use Rattle.cluster_core.specs.Master.{AreMastersThere, IsFrozenAt, IsHolder,
 pub use Rattle.cluster_core.specs.Mounted.{MountsCore}
 pub use Rattle.cluster_core.specs.Offer.{after_taking}
 pub use Rattle.cluster_core.specs.Pins.{HasPin, inherited, own}
-pub use Rattle.cluster_core.specs.Prepared.{IsPrepared, IsUnready, RefusesChange, WhyUnprepared, outcome_with}
+pub use Rattle.cluster_core.specs.Prepared.{IsPrepared, WhyUnprepared}
 pub use Rattle.cluster_core.specs.Proposal.{IsAwayTo, IsFirstAway, IsFirstKindOf, IsFirstStep, IsIdle, IsLarge, IsLeast, IsNextStep, IsOfPinned, IsOwnStep, IsProposable, IsProposal, IsRootAt, Kind, OfExport, OfLarge, OfPin, OfSmall, Proposes, Sight, Would, WouldNot, kinds, lesser_candidate, sight, sight_of}
 pub use Rattle.cluster_core.specs.Runs.{AddsAtServe, AddsTo, IsOfHistory, IsRun, Records, Runs, StandsInHistory, StepsBook}
-pub use Rattle.cluster_core.specs.Serve.{CarryLeaves, FollowPlanned, ForwardsTo, IsApplied, IsForwarded, IsLeft, IsRepeated, IsTakenOut, MakesPlanned, Replies, ServesInbox, ServesRequest, entry_of, number_of, outcome_of, went_with, with_entry, without_gone, without_request}
+pub use Rattle.cluster_core.specs.Serve.{AppliesRequest, AtFront, CarryLeaves, FollowPlanned, ForwardsTo, HasLeft, IsApplied, IsForwarded, IsLeft, IsNoted, IsRepeated, IsTakenOut, LeavesRefused, MakesPlanned, RefusesRequest, Repeats, Replies, ServesInbox, ServesRequest, entry_of, number_of, outcome_of, went_with, with_entry, without_gone, without_request}
 pub use Rattle.cluster_core.specs.Settled.{AreSettled, IsAway, IsCalm, IsCalmIn, IsCalmOp, HasSettled, KeepsSettled}
 pub use Rattle.cluster_core.specs.Sound.{AreCached, AreExported, AreRanks, AreSupplied, IsFresh, IsSoundWith, IsSound, IsSoundBook, IsSupplied}
 pub use Rattle.cluster_core.specs.State.{Core, BookState, State, core_of, new_state, no_supply, shown, state_of, supply_of, whole_supplies}
 pub use Rattle.cluster_core.specs.Steps.{ArrivesAt, Does, TreeMayRefuse, Steps}
-pub use Rattle.cluster_core.specs.Uses.{Asks, ChangesOp, ReadsOp, UsesFront, UsesRequest}
+pub use Rattle.cluster_core.specs.Uses.{Asks, ChangesOp, ReadsOp, UsesApplied, UsesFront, UsesRequest}
 pub use Rattle.cluster_core.specs.declared.applying.Prepared.{Prepared}
 pub use Rattle.cluster_core.specs.declared.events.Answer.{Answer}
 pub use Rattle.cluster_core.specs.declared.events.Answer.TheVariants.{Deferred, Forwarded, Nothing, Reply, Sent}
@@ -45,8 +46,8 @@ pub use Rattle.fragtree.proofs.Ranges.{Contains-from_range, ends_low, range_from
 pub use Rattle.fragtree.proofs.Tilings.{between}
 pub use Rattle.fragtree.proofs.TreeLaws.{pick_from_leaf}
 pub use Rattle.fragtree.specs.FragTree.{CanMerge, CanSplit, HasLeaf, IsChild, IsPick, IsTree, RefusesMerge, RefusesSplit, leaves_inside, lies_inside}
-pub use Rattle.inboxes.proofs.OutLaws.{goes_behind, out_again, waits_elsewhere, waits_first}
-pub use Rattle.inboxes.specs.Inboxes.{Arrives, Inboxes, IsOut, first_waiting, waiting_at, with_first, with_last, with_waiting}
+pub use Rattle.inboxes.specs.Inbox.{rotated}
+pub use Rattle.inboxes.specs.Inboxes.{Arrives, Inboxes, TakesAt, first_waiting, waiting_at, with_last, with_waiting}
 pub use Rattle.inboxes.specs.Pins.{is_on, is_pin}
 pub use Rattle.inboxes.specs.declared.pins.Pin.{Pin}
 pub use Rattle.inode_table.proofs.Chains.{climbed, nearer}
@@ -84,7 +85,7 @@ pub use Rattle.mds_types.proofs.StepLaws.{errno_of_any_number, unused}
 pub use Rattle.mds_types.proofs.TreeLaws.{entries-empty}
 pub use Rattle.mds_types.proofs.UsedLaws.{numbers_used}
 pub use Rattle.mds_types.specs.Frag.{Fragment, IsFragment, child_of, frag_cmp, root_fragment, span}
-pub use Rattle.mds_types.specs.History.{IsLawful, IsNew, IsUsed, after}
+pub use Rattle.mds_types.specs.History.{IsKeptAt, IsLawful, IsNew, IsTrimmed, IsUsed, after}
 pub use Rattle.mds_types.specs.InodeLaws.{inode_decides}
 pub use Rattle.mds_types.specs.Leaf.{Leaf, leaf_cmp, leaf_of}
 pub use Rattle.mds_types.specs.Outcomes.{is_errno}
@@ -113,7 +114,7 @@ pub use Rattle.namespace_ops.specs.Changes.{Carries, Concerns, IsChangeIn, IsCha
 pub use Rattle.namespace_ops.specs.Checked.{Checks, IsChecked}
 pub use Rattle.namespace_ops.specs.Kept.{ChangesOnly}
 pub use Rattle.namespace_ops.specs.Picks.{pick_of}
-pub use Rattle.namespace_ops.specs.Places.{IsAt, Locates, hash_at, main_hash}
+pub use Rattle.namespace_ops.specs.Places.{AreLocated, IsAt, Locates, hash_at, main_hash}
 pub use Rattle.namespace_ops.specs.Planned.{IsOneOf, after_plan}
 pub use Rattle.namespace_ops.specs.Reasons.{IsOfFragments}
 pub use Rattle.namespace_ops.specs.Served.{LacksNumber}

@@ -11,6 +11,7 @@ pub mod FirstLaws
 pub mod FlushedBook
 pub mod FragmentLaws
 pub mod FreezeLaws
+pub mod FrontLaws
 pub mod GrantLaws
 pub mod HeldLaws
 pub mod Idle

@@ -1,9 +1,21 @@
 -- What was found and why a request isn't made ready, said of the tree before its checks or after them.
-use Rattle.cluster_core.proofs.Common.{Bool, Change, Checked, Checks, Dirfrag, HoldsAt, Ino, IsChecked, IsUnready, KeepsRanked, LacksNumber, List, MatchBool, MayTouchAllIn, MustWaitIn, NoMemory, None, Op, Option, Outcome, Pin, Rank, Ranked, Refusal, RefusesChange, Roots, Some, Standing, Supply, WhyUnprepared, ap, faults_in, held_roots, held_still, inl, inr, keeps_itself, keeps_refused, number_or, offer, ranked_later, refl, shown_tree, step, subst, sym, ℕ, ◌∙◌, ◌≡◌, ◌⊎◌}
+use Rattle.cluster_core.proofs.Common.{Bool, Change, Checked, Checks, Dirfrag, Entry, Err, HoldsAt, Ino, IsAsked, IsChangeOf, IsChecked, KeepsRanked, LacksNumber, List, MatchBool, MayTouchAllIn, MustWaitIn, NoMemory, None, Op, Option, Outcome, Pin, Rank, Ranked, Refusal, Request, Roots, Some, Standing, Supply, WhyUnprepared, ap, because, faults_in, held_roots, held_still, inl, inr, keeps_itself, keeps_refused, refl, shown_tree, step, subst, sym, where_refused, ℕ, ◌∙◌, ◌≡◌, ◌⊎◌}
 use Rattle.dentry_cache.specs.Reads.Reads.{stays}
+use Rattle.sessions.specs.Rooms.{Held}
+use Rattle.cluster_core.specs.declared.parts.Asked.{Asked}
 use Rattle.mdcache.specs.Core.{state_of as tree_state}
 use Rattle.mdcache.specs.State.{State}
+use Rattle.ranked_tree.specs.Changing.{ChangesHeld, FollowsChange}
 use Rattle.ranked_tree.specs.Ranked.{MayRefuse}
+
+-- why a change isn't made: a number lacks, or memory, or as the tree refuses it
+abbrev pub WhyUnmade : (MayRefuse : Refusal → Type 0) → Outcome → Option Ino → Refusal → Type 0
+WhyUnmade MayRefuse outcome offered reason = LacksNumber outcome offered reason ⊎ ((reason ≡ NoMemory) ⊎ MayRefuse reason)
+
+-- so leaves for the operation were read at most
+pub record RefusesChange (old new : Ranked) (op : Op) (outcome : Outcome) (offered : Option Ino) (reason : Refusal) : Type 0 where
+  pub kept : KeepsRanked old new op (Some reason)
+  pub because : WhyUnmade (MayRefuse old new op) outcome offered reason
 
 -- nothing was prepared: nothing was read, and a number lacks, or memory
 pub unprepared : (old : Ranked) (op : Op) (change : Change) (n : ℕ) (outcome : Outcome) (offered : Option Ino) (Holds : Dirfrag → Type 0) (reason : Refusal) → IsChecked (shown_tree (tree_state old.tree)) old.tree.covers Holds op n outcome change → WhyUnprepared change offered reason
@@ -21,21 +33,18 @@ unprepared old op change n outcome offered Holds reason checked why = record { k
     told (inl memory) = inr (inl memory)
     told (inr lacks) = inl (record { named = lacks.0; absent = lacks.1; taken = checked.number ∙ lacks.2 })
 
-pub still_refused : (old mid new : Ranked) (op : Op) (Touch : Type 0) (limit : ℕ) (supply : Supply) (reason : Refusal) → KeepsRanked old mid op None → limit ≡ old.tree.limit → Touch
-    → RefusesChange mid new op (step limit (shown_tree (tree_state mid.tree)) op (number_or (offer supply))) (offer supply) reason
-    → IsUnready Touch (MayRefuse old new op) (step old.tree.limit (shown_tree (tree_state old.tree)) op (number_or (offer supply))) (offer supply) reason
-still_refused old mid new op Touch limit supply reason kept is touch refused = go refused.because
-  where
-    go : LacksNumber (step limit (shown_tree (tree_state mid.tree)) op (number_or (offer supply))) (offer supply) reason ⊎ ((reason ≡ NoMemory) ⊎ MayRefuse mid new op reason)
-        → IsUnready Touch (MayRefuse old new op) (step old.tree.limit (shown_tree (tree_state old.tree)) op (number_or (offer supply))) (offer supply) reason
-    go (inl lacks) =
-        inr (inr (
-          touch,
-          inl (subst (λ (l : ℕ). LacksNumber (step l (shown_tree (tree_state old.tree)) op (number_or (offer supply))) (offer supply) reason) is
-              (subst (λ (s : State). LacksNumber (step limit (shown_tree s) op (number_or (offer supply))) (offer supply) reason) kept.tree.state lacks)),
-        ))
-    go (inr (inl memory)) = inl memory
-    go (inr (inr may)) = inr (inr (touch, inr (ranked_later old mid new op reason kept may)))
+-- it wasn't made
+pub unmade : (old new : Ranked) (op : Op) (change : Change) → IsChangeOf op change → (reason : Refusal) (outcome : Outcome) (offered : Option Ino) → ChangesHeld (held_roots old) change old.tree new.tree (Err reason) → FollowsChange change (tree_state old.tree) old.subtrees new.subtrees (Err reason) → new.exports ≡ old.exports
+    → RefusesChange old new op outcome offered reason
+unmade old new op change one reason outcome offered changed followed stand = record {
+  kept = (where_refused old new op change one (Err reason) changed followed stand).follows;
+  because = inr (inr (because old new op change one (Err reason) changed));
+}
+
+-- what was found of a request at its master is still so after reads
+pub asked_later : (f g : State) (roots now : Roots) (numbers : List Supply) (sessions : Held) (past : List Entry) (asked : Asked) (request : Request) → g ≡ f → now ≡ roots → IsAsked f roots numbers sessions past asked request → IsAsked g now numbers sessions past asked request
+asked_later f g roots now numbers sessions past asked request follows rooted h =
+    subst (λ (s : State). IsAsked s now numbers sessions past asked request) (sym follows) (subst (λ (r : Roots). IsAsked f r numbers sessions past asked request) (sym rooted) h)
 
 -- the checks find the same after reads
 pub checked_later : (old mid : Ranked) (op : Op) (limit later n m : ℕ) (found : Checked) → KeepsRanked old mid op None → limit ≡ later → n ≡ m

@@ -1,12 +1,15 @@
 -- What serving and granting make of the caches, from what their parts did.
-use Rattle.cluster_core.proofs.Common.{Answer, Asks, AsksFor, CacheMap, Came, Change, ChangesOp, Deferred, Entry, Err, Forwarded, InboxFull, Inboxes, Ino, IsChangeOf, IsChangedHeld, IsGone, IsOfFragments, IsUnready, List, NamesDir, None, NoneEnds, Nothing, Ok, Op, Option, Outcome, Pin, Rank, ReadsOp, Refusal, Replies, Reply, Request, Result, Roots, Sent, Some, Table, Trimmed, UsesFront, UsesRequest, [], came_weaker, change_concerns, false, inl, inr, length, reads_then, reads_weaker, refl, same_Some, shape, shown_tree, slice_get, subst, sym, true, ℕ, ◌∷◌, ◌≡◌, ◌⊎◌}
+use Rattle.cluster_core.proofs.Common.{Answer, AppliesRequest, Asks, AsksFor, CacheMap, Came, Change, ChangesOp, Concerns, Deferred, Entry, Err, Forwarded, InboxFull, Inboxes, Ino, IsChangeOf, IsChangedHeld, IsGone, IsOfFragments, LacksPlacesAsked, List, NamesDir, NoMemory, NoneEnds, Nothing, Ok, Op, Option, Outcome, Pin, Rank, Ranked, ReadsOp, Refusal, Replies, Reply, Request, Result, Roots, Sent, Some, State, Table, Trimmed, UsesApplied, UsesFront, UsesRequest, [], came_weaker, change_concerns, false, held_roots, inl, inr, length, reads_then, reads_weaker, refl, refused_so, shape, shown_tree, slice_get, subst, sym, true, ℕ, ◌∷◌, ◌≡◌, ◌⊎◌}
 use Rattle.mds_types.specs.declared.replies.Reply.{Reply as Replied}
 use Rattle.dentry_cache.specs.Cache.{Leaf}
 use Rattle.dentry_cache.specs.Came.Came.{stays as nothing_came}
 use Rattle.dentry_cache.specs.Reads.Reads.{stays as nothing_read}
 use Rattle.mdcache.specs.Core.{Core as TreeCore, state_of as tree_state}
 use Rattle.mdcache.specs.State.{State as TreeState}
+use Rattle.ranked_tree.specs.Ranked.{MayRefuse}
 use Rattle.cluster_core.specs.declared.events.Answer.TheVariants.{Job}
+use Rattle.cluster_core.proofs.FrontLaws.{at_front}
+use Rattle.cluster_core.proofs.MadeReady.{RefusesChange, WhyUnmade}
 
 module _ (tree new : TreeState) (roots : Roots) where
   -- nothing was read
@@ -25,9 +28,8 @@ module _ (tree new : TreeState) (roots : Roots) where
   same_caches caches result (request ∷ rest) = same_request request.op caches result
 
   -- what holds of the request at the front
-  pub at_front : (before after : CacheMap) (result : Result Answer Refusal) (front : Request) (waiting : List Request) → Some front ≡ slice_get waiting 0 → UsesRequest tree new roots front.op before after result → UsesFront tree new roots before after result waiting
-  at_front before after result front [] is uses = let clash : Some front ≡ None = is in absurd cc
-  at_front before after result front (request ∷ rest) is uses = subst (λ (r : Request). UsesRequest tree new roots r.op before after result) (same_Some front request is) uses
+  pub front_uses : (before after : CacheMap) (result : Result Answer Refusal) (front : Request) (waiting : List Request) → Some front ≡ slice_get waiting 0 → UsesRequest tree new roots front.op before after result → UsesFront tree new roots before after result waiting
+  front_uses before after result front waiting is uses = at_front (λ (w : List Request). UsesFront tree new roots before after result w) front waiting is (λ rest. uses)
 
   -- a request that was applied
   pub applied_uses : (op : Op) (before after : CacheMap) (answer : Answer) (client tid place : ℕ) (reply : Replied) → answer ≡ Reply client tid place true reply → ChangesOp tree new roots op before after → UsesRequest tree new roots op before after (Ok answer)
@@ -42,33 +44,53 @@ module _ (tree new : TreeState) (roots : Roots) where
       late (inr is) = absurd (subst IsOfFragments is of)
 
   -- a request that changes nothing
-  pub replied_uses : (op : Op) (before after : CacheMap) (inboxes now : Inboxes) (pins pins_now : List Pin) (known sessions : Table) (past past_now : List Entry) (rank : Rank) (request : Request) (said : Replied) (result : Result Answer Refusal)
-      → Replies inboxes now pins pins_now known sessions past past_now rank request said result → ReadsOp tree roots op before after → UsesRequest tree new roots op before after result
-  replied_uses op before after inboxes now pins pins_now known sessions past past_now rank request said (Ok answer) h reads =
+  pub replied_uses : (op : Op) (before after : CacheMap) (inboxes now : Inboxes) (pins pins_now : List Pin) (known sessions : Table) (past past_now : List Entry) (rank : Rank) (said : Replied) (result : Result Answer Refusal) (request : Request) (rest : List Request)
+      → Replies inboxes now pins pins_now known sessions past past_now rank said result request rest → ReadsOp tree roots op before after → UsesRequest tree new roots op before after result
+  replied_uses op before after inboxes now pins pins_now known sessions past past_now rank said (Ok answer) request rest h reads =
       applied_uses op before after answer request.client request.tid (length past) said h.answered (after, reads, nothing_came)
-  replied_uses op before after inboxes now pins pins_now known sessions past past_now rank request said (Err reason) h reads = unready_uses op before after reason (subst IsOfFragments (sym h.named) tt) reads
+  replied_uses op before after inboxes now pins pins_now known sessions past past_now rank said (Err reason) request rest h reads = unready_uses op before after reason (subst IsOfFragments (sym h.named) tt) reads
 
 -- a request isn't made ready for a reason of the tree
-pub unready_of : (Touch : Type 0) (MayRefuse : Refusal → Type 0) → ((reason : Refusal) → MayRefuse reason → IsOfFragments reason) → (outcome : Outcome) (offered : Option Ino) (reason : Refusal) → IsUnready Touch MayRefuse outcome offered reason → IsOfFragments reason
-unready_of Touch MayRefuse so outcome offered reason (inl memory) = subst IsOfFragments (sym memory) tt
-unready_of Touch MayRefuse so outcome offered reason (inr (inl may)) = so reason may.1
-unready_of Touch MayRefuse so outcome offered reason (inr (inr (touch, inl lacks))) = subst IsOfFragments (sym lacks.named) tt
-unready_of Touch MayRefuse so outcome offered reason (inr (inr (touch, inr may))) = so reason may
+pub unmade_of : (MayRefuse : Refusal → Type 0) → ((reason : Refusal) → MayRefuse reason → IsOfFragments reason) → (outcome : Outcome) (offered : Option Ino) (reason : Refusal) → WhyUnmade MayRefuse outcome offered reason → IsOfFragments reason
+unmade_of MayRefuse so outcome offered reason (inl lacks) = subst IsOfFragments (sym lacks.named) tt
+unmade_of MayRefuse so outcome offered reason (inr (inl memory)) = subst IsOfFragments (sym memory) tt
+unmade_of MayRefuse so outcome offered reason (inr (inr may)) = so reason may
 
--- a change of an operation, made after reads for it, uses what that asks for
-pub changed_uses : (old mid new : TreeCore) (roots between : Roots) (op : Op) (change : Change) → tree_state mid ≡ tree_state old → between ≡ roots → IsChangeOf op change → ReadsOp (tree_state old) roots op old.caches mid.caches → IsChangedHeld between change mid new
-    → ChangesOp (tree_state old) (tree_state new) roots op old.caches new.caches
-changed_uses old mid new roots between op change same rooted one reads is = (
+pub early_of : (old new : Ranked) (op : Op) (reason : Refusal) → (reason ≡ NoMemory) ⊎ MayRefuse old new op reason → IsOfFragments reason
+early_of old new op reason (inl memory) = subst IsOfFragments (sym memory) tt
+early_of old new op reason (inr may) = refused_so (LacksPlacesAsked 2 old.tree (held_roots old) (Concerns (shown_tree (tree_state old.tree)) op)) old.tree new.tree op reason may
+
+-- so it uses what was read at most
+pub refused_uses : (old new : Ranked) (op : Op) (outcome : Outcome) (offered : Option Ino) (reason : Refusal) → RefusesChange old new op outcome offered reason
+    → UsesApplied (tree_state old.tree) (tree_state new.tree) (held_roots old) op old.tree.caches new.tree.caches (Err reason)
+refused_uses old new op outcome offered reason refused = (refused.kept.reads, unmade_of (MayRefuse old new op) (λ r may. early_of old new op r (inr may)) outcome offered reason refused.because)
+
+-- a change of an operation uses what that asks for
+pub changed_uses : (old new : TreeCore) (roots : Roots) (op : Op) (change : Change) → IsChangeOf op change → IsChangedHeld roots change old new → ChangesOp (tree_state old) (tree_state new) roots op old.caches new.caches
+changed_uses old new roots op change one is = (
   is.between,
-  reads_then (Asks (tree_state old) roots op) NoneEnds old.objects old.caches mid.caches is.between reads
-      (subst (λ (s : TreeState). ReadsOp s roots op mid.caches is.between) same
-      (subst (λ (r : Roots). ReadsOp (tree_state mid) r op mid.caches is.between) rooted
-      (reads_weaker (AsksFor (tree_state mid) between (NamesDir change)) NoneEnds (Asks (tree_state mid) between op) NoneEnds asks (λ r q none. none) mid.objects mid.caches is.between is.read))),
-  subst (λ (s : TreeState). Came (Asks s roots op) (IsGone (shown_tree (tree_state new))) is.between new.caches) same
-      (subst (λ (r : Roots). Came (Asks (tree_state mid) r op) (IsGone (shown_tree (tree_state new))) is.between new.caches) rooted
-      (came_weaker (AsksFor (tree_state mid) between (NamesDir change)) (IsGone (shown_tree (tree_state new))) (Asks (tree_state mid) between op) (IsGone (shown_tree (tree_state new))) asks (λ r q gone. gone) is.between new.caches is.came)),
+  reads_weaker (AsksFor (tree_state old) roots (NamesDir change)) NoneEnds (Asks (tree_state old) roots op) NoneEnds asks (λ r q none. none) old.objects old.caches is.between is.read,
+  came_weaker (AsksFor (tree_state old) roots (NamesDir change)) (IsGone (shown_tree (tree_state new))) (Asks (tree_state old) roots op) (IsGone (shown_tree (tree_state new))) asks (λ r q gone. gone) is.between new.caches is.came,
 )
   where
-    asks : (r : ℕ) (q : Leaf) → AsksFor (tree_state mid) between (NamesDir change) r q → Asks (tree_state mid) between op r q
-    asks r q (inl held) = inl (change_concerns (shown_tree (tree_state mid)) (shape op) change one q.0.0 held.0, held.1)
+    asks : (r : ℕ) (q : Leaf) → AsksFor (tree_state old) roots (NamesDir change) r q → Asks (tree_state old) roots op r q
+    asks r q (inl held) = inl (change_concerns (shown_tree (tree_state old)) (shape op) change one q.0.0 held.0, held.1)
     asks r q (inr comes) = inr comes
+
+-- what applying a request makes of the caches after reads for it, said of what was before them
+module _ (before mid new : TreeState) (roots between : Roots) (op : Op) (caches middle after : CacheMap) (same : mid ≡ before) (rooted : between ≡ roots) (reads : ReadsOp before roots op caches middle) where
+  reads_on : (next : CacheMap) → ReadsOp mid between op middle next → ReadsOp before roots op caches next
+  reads_on next more =
+      reads_then (Asks before roots op) NoneEnds before.objects caches middle next reads
+      (subst (λ (s : TreeState). ReadsOp s roots op middle next) same (subst (λ (r : Roots). ReadsOp mid r op middle next) rooted more))
+
+  came_on : (next : CacheMap) → Came (Asks mid between op) (IsGone (shown_tree new)) next after → Came (Asks before roots op) (IsGone (shown_tree new)) next after
+  came_on next came =
+      subst (λ (s : TreeState). Came (Asks s roots op) (IsGone (shown_tree new)) next after) same
+      (subst (λ (r : Roots). Came (Asks mid r op) (IsGone (shown_tree new)) next after) rooted came)
+
+  pub applied_later : (old now : State) (past past_now : List Entry) (MayRefuse : Op → Refusal → Type 0) (rank : Rank) (result : Result Answer Refusal) (request : Request) (rest : List Request)
+      → AppliesRequest old now past past_now MayRefuse rank result request rest → UsesApplied mid new between op middle after result → UsesRequest before new roots op caches after result
+  applied_later old now past past_now MayRefuse rank (Ok answer) request rest h uses =
+      applied_uses before new roots op caches after answer _ _ _ _ h.answered (uses.0, reads_on uses.0 uses.1, came_on uses.0 uses.2)
+  applied_later old now past past_now MayRefuse rank (Err reason) request rest h uses = unready_uses before new roots op caches after reason uses.1 (reads_on after uses.0)

@@ -1,20 +1,22 @@
 -- What was found of a new request at its master. Only this crate's own contracts use these words.
-use Rattle.std.specs.Prelude.{◌≡◌, ℕ, ◌<◌, List, length, get_or}
+use Rattle.std.specs.Prelude.{◌≡◌, ℕ, List, get_or}
 use Rattle.mds_types.specs.declared.entries.Entry.{Entry}
+use Rattle.mds_types.specs.declared.requests.Request.{Request}
 use Rattle.mds_types.specs.History.{IsNew}
+use Rattle.mds_types.specs.Step.{number_or, step}
 use Rattle.export_steps.specs.Holder.{holding}
 use Rattle.export_steps.specs.Standing.{Standing}
-use Rattle.inboxes.specs.Inboxes.{Inboxes, waiting_at}
-use Rattle.inode_table.specs.Numbers.{Supply}
-use Rattle.mds_types.specs.declared.ids.Rank.{Rank}
-use Rattle.namespace_ops.specs.Places.{AreLocated}
+use Rattle.inboxes.specs.declared.pins.Pin.{Pin}
+use Rattle.inode_table.specs.Numbers.{Supply, offer}
+use Rattle.namespace_ops.specs.Checked.{IsChecked}
+use Rattle.namespace_ops.specs.declared.plans.Change.{Change}
 use Rattle.sessions.specs.Rooms.{Held, IsSessionAt}
 use Rattle.sessions.specs.declared.found.SessionAt.{SessionAt}
 use Rattle.subtree_map.specs.Authority.{Roots}
 use Rattle.mdcache.specs.Shown.{shown_tree}
 use Rattle.mdcache.specs.State.{State as TreeState}
 use Rattle.ranked_tree.specs.Subtrees.{HoldsAt}
-use Rattle.cluster_core.specs.Master.{IsMasterIn}
+use Rattle.cluster_core.specs.Master.{IsMasterIn, MayTouchAllIn}
 use Rattle.cluster_core.specs.State.{no_supply}
 use Rattle.cluster_core.specs.declared.parts.Asked.{Asked}
 
@@ -23,19 +25,21 @@ pub record IsSessionOf (sessions : Held) (client : ℕ) (at : SessionAt) : Type 
   pub named : at.client ≡ client
   pub found : IsSessionAt sessions at
 
--- the request is new, the rank is its master, and its names lie there; a directory may have so many entries, the rank
--- has these numbers left, and the client's session is there
-pub record IsAsked (tree : TreeState) (roots : Roots) (exports : Standing) (numbers : List Supply) (sessions : Held)
-    (past : List Entry) (asked : Asked) : Type 0 where
-  pub is_new : IsNew past asked.request.client asked.request.tid asked.request.oldest
-  pub master : IsMasterIn tree roots asked.rank asked.request.op asked.rank
-  pub located : AreLocated (shown_tree tree) tree.covers
-      (HoldsAt tree (holding exports roots)) asked.request.op asked.places
+-- a request is new, the rank is its master, a directory may have so many entries, the rank has these numbers left, and
+-- the client's session is there
+pub record IsAsked (tree : TreeState) (roots : Roots) (numbers : List Supply) (sessions : Held) (past : List Entry)
+    (asked : Asked) (request : Request) : Type 0 where
+  pub is_new : IsNew past request.client request.tid request.oldest
+  pub master : IsMasterIn tree roots asked.rank request.op asked.rank
   pub limit : asked.limit ≡ tree.limit
   pub left : asked.supply ≡ get_or numbers asked.rank.0 no_supply
-  pub session : IsSessionOf sessions asked.request.client asked.session
+  pub session : IsSessionOf sessions request.client asked.session
 
--- a request that was taken out at a rank can be put back there
-pub record HasRoomAt (inboxes : Inboxes) (rank : Rank) : Type 0 where
-  pub there : rank.0 < length inboxes
-  pub room : length (waiting_at inboxes rank) < 1024
+-- such a request may be applied with this change, which the checks found: the rank may change all that it would
+pub record MayApply (tree : TreeState) (roots : Roots) (exports : Standing) (pins : List Pin) (numbers : List Supply)
+    (sessions : Held) (past : List Entry) (asked : Asked) (change : Change) (request : Request) : Type 0 where
+  pub is_asked : IsAsked tree roots numbers sessions past asked request
+  pub checked : IsChecked (shown_tree tree) tree.covers (HoldsAt tree (holding exports roots)) request.op
+      (number_or (offer asked.supply))
+      (step asked.limit (shown_tree tree) request.op (number_or (offer asked.supply))) change
+  pub may : MayTouchAllIn tree roots exports pins asked.rank request.client request.tid request.op

@@ -15,7 +15,7 @@ use Rattle.mds_types.specs.Tree.{Tree, is_directory}
 use Rattle.mds_types.specs.History.{IsTrimmed, IsKeptAt, IsNew}
 use Rattle.inode_table.specs.Dirs.{Covers, leaves_of}
 use Rattle.inboxes.specs.declared.pins.Pin.{Pin}
-use Rattle.inboxes.specs.Inboxes.{Inboxes, waiting_at, with_first, with_last, with_waiting}
+use Rattle.inboxes.specs.Inboxes.{Inboxes, waiting_at, with_last, with_waiting}
 use Rattle.inboxes.specs.Pins.{is_for, is_in, left_without}
 use Rattle.inode_table.specs.Numbers.{offer}
 use Rattle.subtree_map.specs.Authority.{Roots}
@@ -225,53 +225,81 @@ ServesInbox old new past now MayRefuse rank result (request ∷ rest) =
 
 -- ---- words of this crate's own contracts
 
--- a request that was taken out is answered again with the reply that it got at this place; for want of memory it is put
--- back
-abbrev pub Repeats : (old new : Inboxes) → (before after : List Pin) → Rank → Request → ℕ → Replied
-    → Result Answer Refusal → Type 0
-Repeats old new before after rank request at said (Ok answer) =
-    (answer ≡ Reply request.client request.tid at false said) × (new ≡ old) × (after ≡ without_request before request)
-Repeats old new before after rank request at said (Err reason) =
-    (reason ≡ NoMemory) × (new ≡ with_first old rank request) × (after ≡ before)
+-- this holds of the request at the front of an inbox, and of those behind it
+abbrev pub AtFront : (Holds : Request → List Request → Type 0) → List Request → Type 0
+AtFront Holds [] = ⊥
+AtFront Holds (request ∷ rest) = Holds request rest
 
--- a new request that changes nothing was answered with this reply: one entry more, which its client's session keeps,
--- and its grants end
-pub record IsReplied (old new : Inboxes) (before after : List Pin) (known sessions : Table) (past now : List Entry)
-    (request : Request) (said : Replied) (answer : Answer) : Type 0 where
-  pub answered : answer ≡ Reply request.client request.tid (length past) true said
-  pub inboxes : new ≡ old
-  pub pins : after ≡ without_request before request
+-- a request has left the front of a rank's inbox, those behind it wait there on, and its grants have ended
+pub record HasLeft (old new : Inboxes) (before after : List Pin) (rank : Rank) (request : Request)
+    (rest : List Request) : Type 0 where
+  pub inboxes : new ≡ with_waiting old rank rest
+  pub ended : after ≡ without_request before request
+
+-- a request at the front that is refused waits on; but one for which there is no number leaves
+abbrev pub LeavesRefused : (old new : Inboxes) → (before after : List Pin) → Rank → Refusal → Request → List Request
+    → Type 0
+LeavesRefused old new before after rank reason request rest =
+    ((reason ≡ NoInodes) × HasLeft old new before after rank request rest)
+    ⊎ ((reason ≢ NoInodes) × (new ≡ old) × (after ≡ before))
+
+-- a request at the front is answered again with the reply that it got at this place; for want of memory it waits on
+abbrev pub Repeats : (old new : Inboxes) → (before after : List Pin) → Rank → ℕ → Replied → Result Answer Refusal
+    → Request → List Request → Type 0
+Repeats old new before after rank at said (Ok answer) request rest =
+    (answer ≡ Reply request.client request.tid at false said) × HasLeft old new before after rank request rest
+Repeats old new before after rank at said (Err reason) request rest =
+    (reason ≡ NoMemory) × (new ≡ old) × (after ≡ before)
+
+-- a new request at the front was answered with this reply, told once more to its client: it has left, with its grants
+-- and those on a directory that went; there is one entry more, which its client's session keeps
+pub record IsNoted (old new : Inboxes) (before after : List Pin) (known sessions : Table) (past now : List Entry)
+    (rank : Rank) (number : Option Ino) (went : Option Ino) (said told : Replied) (request : Request)
+    (rest : List Request) (answer : Answer) : Type 0 where
+  pub answered : answer ≡ Reply request.client request.tid (length past) true told
+  pub inboxes : new ≡ with_waiting old rank rest
+  pub pins : after ≡ without_gone (without_request before request) went
   pub appended : now ≡ past ++ record {
     client = request.client;
     tid = request.tid;
     oldest = request.oldest;
-    op =
-        request.op;
-    number = None;
+    op = request.op;
+    number = number;
     reply = said;
   } ∷ []
   pub noted : sessions ≡ trimmed (noted known request.client request.tid request.oldest
       (length past)) request.client
 
--- for want of memory it was put back
-pub record IsPutBack (old new : Inboxes) (before after : List Pin) (known sessions : Table) (past now : List Entry)
-    (rank : Rank) (request : Request) (reason : Refusal) : Type 0 where
+-- for want of memory it waits on
+pub record IsUnnoted (old new : Inboxes) (before after : List Pin) (known sessions : Table) (past now : List Entry)
+    (reason : Refusal) : Type 0 where
   pub named : reason ≡ NoMemory
-  pub inboxes : new ≡ with_first old rank request
+  pub inboxes : new ≡ old
   pub pins : after ≡ before
   pub same : now ≡ past
   pub known_still : sessions ≡ known
 
+-- a new request at the front that changes nothing is answered with this reply
 abbrev pub Replies : (old new : Inboxes) → (before after : List Pin) → (known sessions : Table)
-    → (past now : List Entry) → Rank → Request → Replied → Result Answer Refusal → Type 0
-Replies old new before after known sessions past now rank request said (Ok answer) =
-    IsReplied old new before after known sessions past now request said answer
-Replies old new before after known sessions past now rank request said (Err reason) =
-    IsPutBack old new before after known sessions past now rank request reason
+    → (past now : List Entry) → Rank → Replied → Result Answer Refusal → Request → List Request → Type 0
+Replies old new before after known sessions past now rank said (Ok answer) request rest =
+    IsNoted old new before after known sessions past now rank None None said said request rest answer
+Replies old new before after known sessions past now rank said (Err reason) request rest =
+    IsUnnoted old new before after known sessions past now reason
 
--- a request that was taken out goes to the back of another inbox; where that is full it is put back
-abbrev pub ForwardsTo : (old new : Inboxes) → (rank master : Rank) → Request → Result Answer Refusal → Type 0
-ForwardsTo old new rank master request (Ok answer) =
-    (answer ≡ Forwarded master) × (length (waiting_at old master) < 1024) × (new ≡ with_last old master request)
-ForwardsTo old new rank master request (Err reason) =
-    (reason ≡ InboxFull) × (length (waiting_at old master) ≡ 1024) × (new ≡ with_first old rank request)
+-- a request at the front goes to the back of another inbox; where that is full it waits on
+abbrev pub ForwardsTo : (old new : Inboxes) → (rank master : Rank) → Result Answer Refusal → Request → List Request
+    → Type 0
+ForwardsTo old new rank master (Ok answer) request rest =
+    (answer ≡ Forwarded master) × (length (waiting_at old master) < 1024)
+    × (new ≡ with_last (with_waiting old rank rest) master request)
+ForwardsTo old new rank master (Err reason) request rest =
+    (reason ≡ InboxFull) × (length (waiting_at old master) ≡ 1024) × (new ≡ old)
+
+-- a new request at the front of its master's inbox, which may change all that it would, is applied, or refused
+abbrev pub AppliesRequest : (old new : State) → (past now : List Entry) → (MayRefuse : Op → Refusal → Type 0) → Rank
+    → Result Answer Refusal → Request → List Request → Type 0
+AppliesRequest old new past now MayRefuse rank (Ok answer) request rest =
+    IsApplied old new past now rank request rest answer
+AppliesRequest old new past now MayRefuse rank (Err reason) request rest =
+    RefusesRequest old new past now MayRefuse rank request rest reason

@@ -9,6 +9,7 @@ use Rattle.dentry_cache.specs.CacheMap.{CacheMap}
 use Rattle.dentry_cache.specs.Came.{Came, NoneEnds}
 use Rattle.dentry_cache.specs.Reads.{Reads}
 use Rattle.namespace_ops.specs.Changes.{Concerns}
+use Rattle.namespace_ops.specs.Reasons.{IsOfFragments}
 use Rattle.subtree_map.specs.Authority.{Roots}
 use Rattle.mdcache.specs.Shown.{shown_tree}
 use Rattle.mdcache.specs.State.{State as TreeState}
@@ -45,6 +46,12 @@ UsesRequest tree new roots op before after (Ok (Job job)) = after ≡ before
 UsesRequest tree new roots op before after (Ok (Sent bytes)) = after ≡ before
 UsesRequest tree new roots op before after (Err reason) =
     ReadsOp tree roots op before after × ((reason ≡ Trimmed) ⊎ (reason ≡ InboxFull) → after ≡ before)
+
+-- what applying a request that is new and at its master makes of them
+abbrev pub UsesApplied : (tree new : TreeState) → Roots → Op → (before after : CacheMap) → Result Answer Refusal
+    → Type 0
+UsesApplied tree new roots op before after (Ok answer) = ChangesOp tree new roots op before after
+UsesApplied tree new roots op before after (Err reason) = ReadsOp tree roots op before after × IsOfFragments reason
 
 -- that at the front; where none waits, nothing
 abbrev pub UsesFront : (tree new : TreeState) → Roots → (before after : CacheMap) → Result Answer Refusal → List Request

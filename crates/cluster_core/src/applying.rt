@@ -1,34 +1,30 @@
 //! Applying a request: everything that may be refused comes first, its change the last of it, and then what stands
 //! beside the tree.
-ghost use Rattle.std.specs.Prelude.{◌≡◌, ◌<◌, ◌+◌, ◌++◌, ◌∷◌, [], true, length, set, vec_len, vec_capacity, IfErr, IfOk, IsSome, MatchResult, OnOk};
-ghost use Rattle.std.specs.List.{Contains};
+ghost use Rattle.std.specs.Prelude.{◌≡◌, ◌<◌, ◌+◌, Err, length, set, vec_len, vec_capacity, IfErr, IfOk, IsSome, OnOk};
 ghost use Rattle.std.specs.Result.{result_err};
-ghost use Rattle.mds_types.specs.Leaf.{Leaf};
-ghost use Rattle.mds_types.specs.Step.{step, number_or};
 ghost use Rattle.objstore.specs.Objects.{faults_told};
 ghost use Rattle.dirfrag_codec.specs.EntryRecord.{IsRankNumber};
+ghost use Rattle.inboxes.specs.Inboxes.{waiting_at};
 ghost use Rattle.inode_table.specs.Numbers.{offer};
-ghost use Rattle.inboxes.specs.Pins.{is_for, left_without};
-ghost use Rattle.namespace_ops.specs.ChangedFragments.{changed_fragments};
 ghost use Rattle.namespace_ops.specs.Changes.{IsOffered};
-ghost use Rattle.namespace_ops.specs.Checked.{IsChecked};
-ghost use Rattle.sessions.specs.Table.{noted, trimmed};
-ghost use Rattle.sessions.specs.Rooms.{IsReady, table};
+ghost use Rattle.sessions.specs.Rooms.{IsReady, IsSessionAt, table};
 ghost use Rattle.mdcache.specs.Core.{state_of as tree_state};
 ghost use Rattle.mdcache.specs.Shown.{shown_tree};
-ghost use Rattle.ranked_tree.specs.Ranked.{IsFrozenLeaf, held_roots};
-ghost use Rattle.ranked_tree.specs.Subtrees.{HoldsAt, KeepsRoots};
-ghost use Rattle.cluster_core.specs.Asked.{IsSessionOf};
+ghost use Rattle.ranked_tree.specs.Ranked.{held_roots, MayRefuse};
+ghost use Rattle.ranked_tree.specs.Subtrees.{KeepsRoots};
+ghost use Rattle.cluster_core.specs.Asked.{IsSessionOf, MayApply};
 ghost use Rattle.cluster_core.specs.Offer.{after_taking};
-ghost use Rattle.cluster_core.specs.Prepared.{IsPrepared, MakesRequest, RefusesChange, WhyUnprepared};
-ghost use Rattle.cluster_core.specs.Serve.{without_gone};
+ghost use Rattle.cluster_core.specs.Prepared.{IsPrepared, WhyUnprepared};
+ghost use Rattle.cluster_core.specs.Serve.{AppliesRequest, AtFront, IsNoted, LeavesRefused, without_gone};
+ghost use Rattle.cluster_core.specs.State.{state_of};
+ghost use Rattle.cluster_core.specs.Uses.{UsesApplied};
 
 use crate::answering::make_room;
 use crate::events::Answer;
-use crate::parts::{Asked, Given};
+use crate::parts::{Asked, Given, Waiting};
 use inboxes::Pins;
 use inode_table::Numbers;
-use mds_types::{Entry, Ino, Refusal, Reply, Request};
+use mds_types::{Entry, Ino, Rank, Refusal, Reply, Request};
 use namespace_ops::Change;
 use objstore::Store;
 use ranked_tree::RankedTree;
@@ -49,58 +45,74 @@ pub struct Prepared {
     went: Option<Ino>,
 }
 
-/// Makes the change of a request, with the subtree roots, once all is there that its entry in the history and its reply
-/// take.
+/// Applies the new request at the front of its master's inbox, which may change all that it would: makes its change,
+/// with the subtree roots, once all is there that its entry in the history and its reply take, and notes it.
 #[inline(never)]
-pub(crate) fn make_change<S: Store + Drop>(
+pub(crate) fn apply<S: Store + Drop>(
     alloc: Global,
     tree: &mut RankedTree<S>,
+    waiting: &mut Waiting,
     given: &mut Given,
     history: &mut Vec<Entry>,
     asked: &Asked,
     change: Change,
-) -> Result<Prepared, Refusal>
-    requires session { IsSessionOf given.old.sessions asked.now.request.client asked.now.session }
+) -> Result<Answer, Refusal>
+    requires may { AtFront
+        (λ request rest. MayApply (tree_state tree.old.tree) tree.old.subtrees.roots tree.old.exports waiting.old.pins
+        given.old.numbers.items given.old.sessions history.old.items asked.now change request)
+        (waiting_at waiting.old.inboxes asked.now.rank) }
     requires offered { IsOffered (shown_tree (tree_state tree.old.tree))
         (λ n. IsRankNumber n) (offer asked.now.supply) }
-    requires checked { IsChecked (shown_tree (tree_state tree.old.tree)) tree.old.tree.covers
-        (HoldsAt (tree_state tree.old.tree) (held_roots tree.old)) asked.now.request.op
-        (number_or (offer asked.now.supply))
-        (step asked.now.limit (shown_tree (tree_state tree.old.tree)) asked.now.request.op
-        (number_or (offer asked.now.supply))) change }
-    requires touch { (leaf : Leaf)
-        → Contains (changed_fragments asked.now.limit tree.old.tree.covers (shown_tree (tree_state tree.old.tree))
-        asked.now.request.op) leaf → IsFrozenLeaf tree.old leaf → ⊥ }
-    ensures made { MatchResult result (MakesRequest tree.old tree.new change asked.now.supply)
-        (RefusesChange tree.old tree.new asked.now.request.op
-        (step asked.now.limit (shown_tree (tree_state tree.old.tree)) asked.now.request.op
-        (number_or (offer asked.now.supply))) (offer asked.now.supply)) }
+    requires there { asked.now.rank.0 < length given.old.numbers.items }
+    ensures applied { AtFront
+        (AppliesRequest
+        (state_of (tree_state tree.old.tree) tree.old.subtrees.roots tree.old.exports given.old.numbers.items
+        waiting.old.inboxes waiting.old.pins (table given.old.sessions))
+        (state_of (tree_state tree.new.tree) tree.new.subtrees.roots tree.new.exports given.new.numbers.items
+        waiting.new.inboxes waiting.new.pins (table given.new.sessions)) history.old.items history.new.items
+        (MayRefuse tree.old tree.new) asked.now.rank result) (waiting_at waiting.old.inboxes asked.now.rank) }
+    ensures uses { AtFront
+        (λ request rest. UsesApplied (tree_state tree.old.tree) (tree_state tree.new.tree) (held_roots tree.old)
+        request.op tree.old.tree.caches tree.new.tree.caches result)
+        (waiting_at waiting.old.inboxes asked.now.rank) }
     ensures kept { KeepsRoots (tree_state tree.old.tree)
         (tree_state tree.new.tree) tree.old.subtrees.roots tree.new.subtrees.roots tree.old.exports tree.new.exports }
     ensures count { length tree.new.tree.caches.used ≡ length tree.old.tree.caches.used }
     ensures cap { tree.new.tree.caches.cap ≡ tree.old.tree.caches.cap }
     ensures counted { tree.new.tree.faults ≡ tree.old.tree.faults + faults_told (result_err result) }
-    ensures room { OnOk result (vec_len history.new < vec_capacity history.new) }
-    ensures reserved { OnOk result (IsReady given.new.sessions asked.now.request.client) }
-    ensures session { IsSessionOf given.new.sessions asked.now.request.client asked.now.session }
-    ensures numbers { given.new.numbers.items ≡ given.old.numbers.items }
-    ensures past { history.new.items ≡ history.old.items }
-    ensures known { table given.new.sessions ≡ table given.old.sessions }
 {
     tree.is_sound();
     let prepared = match prepare(alloc, given, history, asked, &change) {
         Ok(prepared) => prepared,
         Err(refusal) => {
             drop(change);
-            return Err(refusal);
+            return refuse(waiting, asked.rank, refusal);
         }
     };
     match tree.make_change(change) {
-        Ok(()) => Ok(prepared),
+        Ok(()) => Ok(commit(waiting, given, history, asked, prepared)),
         Err(refusal) => {
             drop(prepared);
-            Err(refusal)
+            refuse(waiting, asked.rank, refusal)
         }
+    }
+}
+
+// The request at the front of a rank's inbox is refused: one for which there is no number leaves, any other waits on.
+#[inline(never)]
+fn refuse(waiting: &mut Waiting, rank: Rank, refusal: Refusal) -> Result<Answer, Refusal>
+    requires waits { 0 < length (waiting_at waiting.old.inboxes rank) }
+    ensures leaves { AtFront
+        (LeavesRefused waiting.old.inboxes waiting.new.inboxes waiting.old.pins waiting.new.pins rank refusal)
+        (waiting_at waiting.old.inboxes rank) }
+    ensures refused { result ≡ Err refusal }
+{
+    match refusal {
+        Refusal::NoInodes => {
+            waiting.end_front(rank);
+            Err(Refusal::NoInodes)
+        }
+        other => Err(other),
     }
 }
 
@@ -113,11 +125,11 @@ fn prepare(
     asked: &Asked,
     change: &Change,
 ) -> Result<Prepared, Refusal>
-    requires { IsSessionOf given.old.sessions asked.now.request.client asked.now.session }
+    requires { IsSessionAt given.old.sessions asked.now.session }
     ensures prepared { IfOk result (IsPrepared change.now asked.now.supply) }
     ensures room { OnOk result (vec_len history.new < vec_capacity history.new) }
-    ensures reserved { OnOk result (IsReady given.new.sessions asked.now.request.client) }
-    ensures session { IsSessionOf given.new.sessions asked.now.request.client asked.now.session }
+    ensures reserved { OnOk result (IsReady given.new.sessions asked.now.session.client) }
+    ensures session { IsSessionAt given.new.sessions asked.now.session }
     ensures numbers { given.new.numbers.items ≡ given.old.numbers.items }
     ensures past { history.new.items ≡ history.old.items }
     ensures known { table given.new.sessions ≡ table given.old.sessions }
@@ -148,43 +160,32 @@ fn prepare(
     })
 }
 
-/// Applies a request beside the tree, where its change was made. It can't fail.
-#[inline(never)]
-pub(crate) fn commit(
-    pins: &mut Pins,
+// Notes the request at the front of its master's inbox, whose change was made. It can't fail.
+#[inline(always)]
+fn commit(
+    waiting: &mut Waiting,
     given: &mut Given,
     history: &mut Vec<Entry>,
-    asked: Asked,
+    asked: &Asked,
     prepared: Prepared,
 ) -> Answer
-    requires session { IsSessionOf given.old.sessions asked.request.client asked.session }
+    requires session { AtFront
+        (λ request rest. IsSessionOf given.old.sessions request.client asked.now.session)
+        (waiting_at waiting.old.inboxes asked.now.rank) }
     requires room { vec_len history.old < vec_capacity history.old }
-    requires reserved { IsReady given.old.sessions asked.request.client }
-    requires there { asked.rank.0 < length given.old.numbers.items }
-    ensures pins { pins.new ≡ without_gone
-        (left_without (is_for asked.request.client asked.request.tid) pins.old) prepared.went }
-    ensures appended { history.new.items ≡ history.old.items ++ record {
-      client = asked.request.client;
-      tid = asked.request.tid;
-      oldest = asked.request.oldest;
-      op = asked.request.op;
-      number = prepared.number;
-      reply = prepared.reply;
-    } ∷ [] }
-    ensures drawn { given.new.numbers.items ≡ set given.old.numbers.items asked.rank.0 prepared.numbers }
-    ensures known { table given.new.sessions ≡ trimmed
-        (noted (table given.old.sessions) asked.request.client asked.request.tid asked.request.oldest
-        (length history.old.items)) asked.request.client }
-    ensures answer { result ≡ Answer.Reply asked.request.client asked.request.tid
-        (length history.old.items) true prepared.answer }
+    requires reserved { IsReady given.old.sessions asked.now.session.client }
+    requires there { asked.now.rank.0 < length given.old.numbers.items }
+    ensures noted { AtFront
+        (λ request rest. IsNoted waiting.old.inboxes waiting.new.inboxes waiting.old.pins waiting.new.pins
+        (table given.old.sessions) (table given.new.sessions) history.old.items history.new.items asked.now.rank
+        prepared.number prepared.went prepared.reply prepared.answer request rest result)
+        (waiting_at waiting.old.inboxes asked.now.rank) }
+    ensures drawn { given.new.numbers.items ≡ set given.old.numbers.items asked.now.rank.0 prepared.numbers }
 {
+    let Some(request) = waiting.inboxes.take(asked.rank) else {
+        unreachable!()
+    };
     let place = history.len();
-    let Asked {
-        rank,
-        request,
-        session,
-        ..
-    } = asked;
     let Request {
         client,
         tid,
@@ -198,10 +199,10 @@ pub(crate) fn commit(
         numbers,
         went,
     } = prepared;
-    pins.end_pair(client, tid);
-    forget_gone(pins, went);
-    given.numbers[usize::from(rank.0)] = numbers;
-    let session = given.sessions.keep(session, tid, oldest, place);
+    waiting.pins.end_pair(client, tid);
+    forget_gone(&mut waiting.pins, went);
+    given.numbers[usize::from(asked.rank.0)] = numbers;
+    let session = given.sessions.keep(asked.session, tid, oldest, place);
     given.sessions.trim(session);
     history.push_reserved(Entry {
         client,

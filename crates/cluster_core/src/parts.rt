@@ -1,13 +1,14 @@
 //! What a cluster has beside its tree.
 ghost use Rattle.std.specs.Prelude.{◌≡◌, ◌<◌, [], length, get_or, replicate, IfOk};
+ghost use Rattle.inboxes.specs.Inboxes.{waiting_at};
+ghost use Rattle.cluster_core.specs.Serve.{AtFront, HasLeft};
 ghost use Rattle.std.specs.FinMap as map;
 ghost use Rattle.sessions.specs.Rooms.{table};
 ghost use Rattle.cluster_core.specs.State.{no_supply};
 
 use inboxes::{Inboxes, Pins};
 use inode_table::Numbers;
-use mds_types::{Limit, Rank, Request};
-use namespace_ops::Places;
+use mds_types::{Limit, Rank};
 use sessions::{SessionAt, Sessions};
 use std::alloc::{AllocError, Global};
 
@@ -28,6 +29,20 @@ impl Waiting {
             inboxes: Inboxes::new(alloc, ranks)?,
             pins: Pins::new(alloc),
         })
+    }
+
+    /// The request at the front of a rank's inbox, where one waits, leaves it, and its grants end.
+    #[inline(never)]
+    pub(crate) fn end_front(&mut self, rank: Rank)
+        requires waits { 0 < length (waiting_at self.old.inboxes rank) }
+        ensures left { AtFront (HasLeft self.old.inboxes self.new.inboxes self.old.pins self.new.pins rank)
+            (waiting_at self.old.inboxes rank) }
+    {
+        let Some(request) = self.inboxes.take(rank) else {
+            unreachable!()
+        };
+        self.pins.end_pair(request.client, request.tid);
+        drop(request);
     }
 }
 
@@ -59,14 +74,12 @@ impl Given {
     }
 }
 
-/// A new request at its master, taken out of the master's inbox, with what was found of it: how many entries a
-/// directory may have, the numbers that the master has left, where its client's session is, and where its names lie.
+/// What was found of the new request at the front of its master's inbox: how many entries a directory may have, the
+/// numbers that the master has left, and where the client's session is.
 #[derive(Drop)]
 pub(crate) struct Asked {
     pub(crate) rank: Rank,
     pub(crate) limit: Limit,
     pub(crate) supply: Numbers,
-    pub(crate) request: Request,
     pub(crate) session: SessionAt,
-    pub(crate) places: Places,
 }

@@ -1,13 +1,51 @@
-use Rattle.cluster_core.proofs.Common.{Entry, Err, Inboxes, IsNew, List, Ranked, Request, ServesInbox, Trimmed, UsesFront, held_roots, rules, state_of, subst, sym, table, waiting_at, ◌≢◌}
+use Rattle.cluster_core.proofs.Common.{AtFront, Entry, Err, ForwardsTo, HasLeft, IsKeptAt, IsNew, IsTrimmed, List, Ranked, Repeats, Request, ServesInbox, Trimmed, UsesFront, held_roots, rules, slice_index_or, state_of, subst, sym, table, waiting_at, ◌≡◌, ◌≢◌}
 use Rattle.mdcache.specs.Core.{state_of as tree_state}
 use Rattle.ranked_tree.specs.Ranked.{MayRefuse}
-use Rattle.cluster_core.proofs.Served.{before_taking, goes_on}
+use Rattle.cluster_core.proofs.FrontLaws.{at_front}
+use Rattle.cluster_core.proofs.Served.{again, ended, goes_on}
 use Rattle.cluster_core.proofs.UsesLaws.{same_caches}
 use Rattle.cluster_core.proofs.serving.serve_front.Goals as goal
+
+-- a request that is trimmed leaves
+pub returns-in-Trimmed-clause-served : goal.returns-in-Trimmed-clause-served
+returns-in-Trimmed-clause-served g c =
+    let f = tree_state c.args.tree.now.tree in
+    let r = c.args.tree.now.subtrees.roots in
+    let e = c.args.tree.now.exports in
+    let numbers = c.args.given.now.numbers.items in
+    let inboxes = c.args.waiting.now.inboxes in
+    let pins = c.args.waiting.now.pins in
+    let sessions = table c.args.given.now.sessions in
+    let past = c.args.history.now.items in
+    let rank = c.args.rank in
+    let q = c.in-Some.request.now in
+    at_front (λ (l : List Request). AtFront (HasLeft inboxes c.end_front.new.self.inboxes pins c.end_front.new.self.pins rank) l → ServesInbox (state_of f r e numbers inboxes pins sessions) (state_of f r e numbers c.end_front.new.self.inboxes c.end_front.new.self.pins sessions) past past (MayRefuse c.args.tree.now c.args.tree.now) rank (Err Trimmed) l)
+    q (waiting_at inboxes rank) c.in-Some.ensures
+    (λ rest h. ended f r e numbers inboxes pins sessions past rank (MayRefuse c.args.tree.now c.args.tree.now) q rest c.end_front.new.self.inboxes c.end_front.new.self.pins
+    (subst (λ (h : List Entry). IsTrimmed h q.client q.tid q.oldest) c.deref.ensures.value c.in-Trimmed.ensures.seen) h) c.end_front.ensures.left
 
 pub returns-in-Trimmed-clause-uses : goal.returns-in-Trimmed-clause-uses
 returns-in-Trimmed-clause-uses g c =
     same_caches (tree_state c.args.tree.now.tree) (tree_state c.args.tree.now.tree) (held_roots c.args.tree.now) c.args.tree.now.tree.caches (Err Trimmed) (waiting_at c.args.waiting.now.inboxes c.args.rank)
+
+-- one that is kept is answered again
+pub returns-in-Kept-clause-served : goal.returns-in-Kept-clause-served
+returns-in-Kept-clause-served g c =
+    let f = tree_state c.args.tree.now.tree in
+    let r = c.args.tree.now.subtrees.roots in
+    let e = c.args.tree.now.exports in
+    let numbers = c.args.given.now.numbers.items in
+    let inboxes = c.args.waiting.now.inboxes in
+    let pins = c.args.waiting.now.pins in
+    let sessions = table c.args.given.now.sessions in
+    let past = c.args.history.now.items in
+    let rank = c.args.rank in
+    let q = c.in-Some.request.now in
+    at_front (λ (l : List Request). AtFront (Repeats inboxes c.answer_again.new.waiting.inboxes pins c.answer_again.new.waiting.pins rank c.in-Kept.place c.in-Kept.reply.now c.answer_again.result) l → ServesInbox (state_of f r e numbers inboxes pins sessions) (state_of f r e numbers c.answer_again.new.waiting.inboxes c.answer_again.new.waiting.pins sessions) past past (MayRefuse c.args.tree.now c.args.tree.now) rank c.answer_again.result l)
+    q (waiting_at inboxes rank) c.in-Some.ensures
+    (λ rest h. again f r e numbers inboxes pins sessions past rank (MayRefuse c.args.tree.now c.args.tree.now) q rest c.answer_again.new.waiting.inboxes c.answer_again.new.waiting.pins c.in-Kept.place c.in-Kept.reply.now c.answer_again.result
+    (subst (λ (h : List Entry). IsKeptAt h q.client q.tid q.oldest c.in-Kept.place) c.deref.ensures.value c.in-Kept.ensures.seen.0)
+    (subst (λ (h : List Entry). (e : Entry) → c.in-Kept.reply.now ≡ (slice_index_or h c.in-Kept.place e).reply) c.deref.ensures.value c.in-Kept.ensures.seen.1) h) c.answer_again.ensures.repeats
 
 pub returns-in-Kept-clause-uses : goal.returns-in-Kept-clause-uses
 returns-in-Kept-clause-uses g c =
@@ -25,15 +63,17 @@ returns-then-not-is_same-clause-served g c =
     let r = c.args.tree.now.subtrees.roots in
     let e = c.args.tree.now.exports in
     let numbers = c.args.given.now.numbers.items in
+    let inboxes = c.args.waiting.now.inboxes in
     let pins = c.args.waiting.now.pins in
     let sessions = table c.args.given.now.sessions in
     let past = c.args.history.now.items in
     let rank = c.args.rank in
+    let q = c.in-Some.request.now in
     let master = c.locate_master-places.result.1 in
     let other : master ≢ rank = search rules in
-    subst (λ (t : Ranked). ServesInbox (state_of f r e numbers c.args.waiting.now.inboxes pins sessions) (state_of (tree_state t.tree) t.subtrees.roots t.exports numbers c.forward.new.inboxes pins sessions)
-    past past (MayRefuse c.args.tree.now t) rank c.forward.result (waiting_at c.args.waiting.now.inboxes rank)) (sym c.correct_hint.ensures)
-    (before_taking (λ (o : Inboxes) (w : List Request). ServesInbox (state_of f r e numbers o pins sessions) (state_of f r e numbers c.forward.new.inboxes pins sessions) past past (MayRefuse c.args.tree.now c.args.tree.now) rank c.forward.result w)
-    c.args.waiting.now.inboxes c.take.new.self rank c.in-Some.request c.in-Some.ensures.out
-    (goes_on f r e numbers c.take.new.self pins sessions past rank (MayRefuse c.args.tree.now c.args.tree.now) c.in-Some.request c.forward.new.inboxes master c.forward.result
-    (subst (λ (h : List Entry). IsNew h c.in-Some.request.client c.in-Some.request.tid c.in-Some.request.oldest) c.deref.ensures.value c.in-New.ensures.seen) c.locate_master-places.ensures.master other c.forward.ensures.forwards))
+    subst (λ (t : Ranked). ServesInbox (state_of f r e numbers inboxes pins sessions) (state_of (tree_state t.tree) t.subtrees.roots t.exports numbers c.forward.new.inboxes pins sessions)
+    past past (MayRefuse c.args.tree.now t) rank c.forward.result (waiting_at inboxes rank)) (sym c.correct_hint.ensures)
+    (at_front (λ (l : List Request). AtFront (ForwardsTo inboxes c.forward.new.inboxes rank master c.forward.result) l → ServesInbox (state_of f r e numbers inboxes pins sessions) (state_of f r e numbers c.forward.new.inboxes pins sessions) past past (MayRefuse c.args.tree.now c.args.tree.now) rank c.forward.result l)
+    q (waiting_at inboxes rank) c.in-Some.ensures
+    (λ rest h. goes_on f r e numbers inboxes pins sessions past rank (MayRefuse c.args.tree.now c.args.tree.now) q rest c.forward.new.inboxes master c.forward.result
+    (subst (λ (h : List Entry). IsNew h q.client q.tid q.oldest) c.deref.ensures.value c.in-New.ensures.seen) c.locate_master-places.ensures.master other h) c.forward.ensures.forwards)
