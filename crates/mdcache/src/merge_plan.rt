@@ -52,7 +52,7 @@ impl<S: Store + Drop> MdCache<S> {
     }
 }
 
-// The leaves of a directory once some of them are merged.
+// The leaves of a directory once some of them are merged, ready for the table.
 fn merge_cover(alloc: Global, dirs: &Dirs, at: &Dirfrag) -> Result<BoxedTree, Refusal>
     requires { CanMerge (leaves_of dirs.now.trees at.now.dir.0) at.now.frag }
     ensures merged { IfOk result (λ cover. IsMerge (leaves_of dirs.now.trees at.now.dir.0) cover at.now.frag) }
