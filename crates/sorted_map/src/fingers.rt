@@ -16,16 +16,16 @@ pub struct Finger {
     pub(crate) before: Spot,
 }
 
-/// A place of one of the chunks.
+/// A place of one of the chunks, in little room; of one beyond 32 bits it is none.
 #[derive(Clone, Copy, Debug)]
 pub(crate) struct Spot {
-    pub(crate) home: usize,
-    pub(crate) at: usize,
+    pub(crate) home: u32,
+    pub(crate) at: u32,
 }
 
 /// A place of no chunk.
 pub(crate) const NOWHERE: Spot = Spot {
-    home: usize::MAX,
+    home: u32::MAX,
     at: 0,
 };
 

@@ -68,7 +68,10 @@ impl<K: ExactOrd + Drop, V: Drop> ChunkMap<K, V> {
 fn note(near: &Cell<Finger>, home: usize, at: usize) {
     let before = near.get().last;
     near.set(Finger {
-        last: Spot { home, at },
+        last: Spot {
+            home: u32::try_from(home).unwrap_or(u32::MAX),
+            at: u32::try_from(at).unwrap_or(u32::MAX),
+        },
         before,
     });
 }
@@ -87,10 +90,10 @@ pub(crate) fn spot_near<K: Ord, V, Q: Probe<K>>(
     ensures place { IsPlace K.cmp (Q.key q.now) (flat chunks.now) (place_in chunks.now result.0 result.1) }
 {
     if let Some(place) = place_at(chunks, &near.last, q) {
-        return (near.last.home, place);
+        return (near.last.home as usize, place);
     }
     if let Some(place) = place_at(chunks, &near.before, q) {
-        return (near.before.home, place);
+        return (near.before.home as usize, place);
     }
     spot_from_end(chunks, q)
 }
@@ -108,10 +111,10 @@ fn place_at<K: Ord, V, Q: Probe<K>>(
     ensures place { IfSome result (λ place. IsPlace K.cmp (Q.key q.now)
         (flat chunks.now) (place_in chunks.now spot.now.home place)) }
 {
-    if spot.home >= chunks.len() {
+    if spot.home as usize >= chunks.len() {
         return None;
     }
-    place_near(chunks, spot.home, spot.at, q)
+    place_near(chunks, spot.home as usize, spot.at as usize, q)
 }
 
 // The place of the probe's key in a chunk, if that is this one, or where it would go.
