@@ -1,6 +1,6 @@
 -- Names of other crates, and of this one's definitions, as the proofs of this crate take them.
 pub use Rattle.inboxes.specs.Inbox.{Takes}
-pub use Rattle.inboxes.specs.Inboxes.{Inboxes, IsOut, first_waiting, waiting_at, with_first, with_last, with_waiting}
+pub use Rattle.inboxes.specs.Inboxes.{Inboxes, first_waiting, waiting_at, with_last, with_waiting}
 pub use Rattle.inboxes.specs.Pins.{is_for, is_in, is_on}
 pub use Rattle.mds_types.specs.declared.ids.Rank.{Rank}
 pub use Rattle.mds_types.specs.declared.requests.Request.{Request}

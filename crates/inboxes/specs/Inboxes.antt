@@ -22,10 +22,6 @@ with_waiting inboxes rank waiting = set inboxes rank.0 waiting
 abbrev pub with_last : Inboxes → Rank → Request → Inboxes
 with_last inboxes rank request = with_waiting inboxes rank (waiting_at inboxes rank ++ request ∷ [])
 
--- with a request at its front
-abbrev pub with_first : Inboxes → Rank → Request → Inboxes
-with_first inboxes rank request = with_waiting inboxes rank (request ∷ waiting_at inboxes rank)
-
 -- an inbox takes no more: there is no such rank, or 1024 requests wait there
 abbrev pub TakesNoMore : Inboxes → Rank → Refusal → Type 0
 TakesNoMore inboxes rank reason =
@@ -42,12 +38,6 @@ Arrives old new rank request (Err reason) = TakesNoMore old rank reason × (new 
 abbrev pub TakesAt : (old new : Inboxes) → Rank → Option Request → List Request → Type 0
 TakesAt old new rank result [] = (result ≡ None) × (new ≡ old)
 TakesAt old new rank result (request ∷ rest) = (result ≡ Some request) × (new ≡ with_waiting old rank rest)
-
--- a request was taken from the front of a rank's inbox, where there is room for it: put back there, all is as it was
-pub record IsOut (old new : Inboxes) (rank : Rank) (request : Request) : Type 0 where
-  pub there : rank.0 < length new
-  pub room : length (waiting_at new rank) < 1024
-  pub back : with_first new rank request ≡ old
 
 -- the front of one rank's inbox goes to the back of another's, or of its own
 abbrev pub ForwardsOne : (old new : Inboxes) → (from to : Rank) → Request → List Request → Result (Unit {0}) Refusal

@@ -1,5 +1,5 @@
 -- The pins: which fragment may be changed by another rank than its own, and for which request.
-use Rattle.std.specs.Prelude.{◌≡◌, ◌==◌, ◌&&◌, if◌then◌else◌, ◌++◌, ◌∷◌, [], ℕ, Bool, not, List}
+use Rattle.std.specs.Prelude.{◌==◌, ◌&&◌, if◌then◌else◌, ◌++◌, ◌∷◌, [], ℕ, Bool, not, List}
 use Rattle.std.specs.List.{filter, list_any}
 use Rattle.mds_types.specs.declared.ids.Ino.{Ino}
 use Rattle.mds_types.specs.Frag.{Fragment}

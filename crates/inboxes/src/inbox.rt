@@ -1,5 +1,5 @@
 //! The requests that wait at one rank.
-ghost use Rattle.std.specs.Prelude.{◌≡◌, ◌<◌, ◌≤◌, ◌++◌, ◌∷◌, [], length, nat_lt, slice_get, IfOk, IfSome};
+ghost use Rattle.std.specs.Prelude.{◌≡◌, ◌<◌, ◌≤◌, ◌++◌, ◌∷◌, [], length, nat_lt, slice_get, IfOk};
 ghost use Rattle.std.specs.Option.{option_copied};
 ghost use Rattle.inboxes.specs.Inbox.{Takes, first_of, rotated};
 
@@ -64,21 +64,12 @@ impl Inbox {
         self.waiting.front()
     }
 
-    /// Takes the request at the front out. There is room for one more then.
+    /// Takes the request at the front out.
     #[inline(always)]
     pub fn take(&mut self) -> Option<Request>
-        ensures taken { Takes self.old self.new result }
-        ensures room { IfSome result (λ request. length self.new < 1024) }
+        ensures { Takes self.old self.new result }
     {
         self.waiting.pop_front()
-    }
-
-    /// Puts a request at the front, where there is room.
-    pub fn put_back(&mut self, request: Request)
-        requires { length self.old < 1024 }
-        ensures { self.new ≡ request ∷ self.old }
-    {
-        self.waiting.push_front_reserved(request);
     }
 
     /// Puts the request at the front behind all others.

@@ -1,8 +1,8 @@
 //! The inboxes of all ranks.
-ghost use Rattle.std.specs.Prelude.{◌≡◌, ◌<◌, [], length, replicate, slice_get, IfOk, IfSome, OnOk, IfErr};
+ghost use Rattle.std.specs.Prelude.{◌≡◌, ◌<◌, [], length, replicate, slice_get, IfOk, OnOk, IfErr};
 ghost use Rattle.std.specs.Option.{option_copied};
 ghost use Rattle.inboxes.specs.Inbox.{rotated};
-ghost use Rattle.inboxes.specs.Inboxes.{Arrives, Forwards, IsOut, TakesAt, TakesNoMore, first_waiting, waiting_at, with_first, with_last, with_waiting};
+ghost use Rattle.inboxes.specs.Inboxes.{Arrives, Forwards, TakesAt, TakesNoMore, first_waiting, waiting_at, with_last, with_waiting};
 
 use crate::inbox::Inbox;
 use mds_types::{Rank, Refusal, Request};
@@ -64,22 +64,12 @@ impl Inboxes {
         self.inboxes.get(usize::from(rank.0))?.front()
     }
 
-    /// Takes the request at the front of a rank's inbox out. It can be put back there.
+    /// Takes the request at the front of a rank's inbox out.
     #[inline(always)]
     pub fn take(&mut self, rank: Rank) -> Option<Request>
-        ensures taken { TakesAt self.old self.new rank result (waiting_at self.old rank) }
-        ensures out { IfSome result (λ request. IsOut self.old self.new rank request) }
+        ensures { TakesAt self.old self.new rank result (waiting_at self.old rank) }
     {
         self.inboxes.get_mut(usize::from(rank.0))?.take()
-    }
-
-    /// Puts a request at the front of a rank's inbox, where there is room, as one that was taken out there.
-    pub fn put_back(&mut self, rank: Rank, request: Request)
-        requires there { rank.0 < length self.old }
-        requires room { length (waiting_at self.old rank) < 1024 }
-        ensures { self.new ≡ with_first self.old rank request }
-    {
-        self.inboxes[usize::from(rank.0)].put_back(request);
     }
 
     /// Puts a request at the back of the inbox of a rank that is there, where there is room.

@@ -1,5 +1,5 @@
 -- What applying made of the parts, said of the cluster's state.
-use Rattle.cluster_core.proofs.Common.{AppliesRequest, AtFront, Contains, Err, HoldsAt, IsNoted, IsRankNumber, IsSessionOf, Leaf, LeavesRefused, List, MayApply, Ok, Request, Some, Supply, UsesApplied, because, changed_fragments, fragments_are, held_roots, may_change, number_or, numbered_so, offer, refl, shown_tree, state_of, step, subst, sym, table, waiting_at, ℕ}
+use Rattle.cluster_core.proofs.Common.{AppliesRequest, AtFront, Contains, Err, HoldsAt, IsNoted, IsRankNumber, IsSessionOf, Leaf, LeavesRefused, List, MayApply, Ok, Request, Some, Supply, UsesApplied, changed_fragments, fragments_are, held_roots, may_change, number_or, numbered_so, offer, refl, shown_tree, state_of, step, subst, sym, table, waiting_at, ℕ}
 use Rattle.mdcache.specs.Core.{state_of as tree_state}
 use Rattle.ranked_tree.specs.Ranked.{MayRefuse}
 use Rattle.cluster_core.proofs.Carried.{carried}

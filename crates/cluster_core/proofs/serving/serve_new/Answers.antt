@@ -1,5 +1,5 @@
 -- What serving made of the parts, said of the cluster's state.
-use Rattle.cluster_core.proofs.Common.{AppliesRequest, AreLocated, AtFront, Bool, Checked, Checks, Deferred, Err, HoldsAt, IsAsked, IsSessionOf, List, MatchBool, MayApply, MayTouchAllIn, MustWaitIn, None, Ok, Replies, Request, ServesInbox, Some, UsesApplied, UsesFront, ap, held_roots, held_still, number_or, offer, ranked_later, refl, rotated, rules, shown_tree, state_of, step, subst, sym, table, waiting_at, with_waiting, ◌∙◌, ◌≡◌}
+use Rattle.cluster_core.proofs.Common.{AppliesRequest, AreLocated, AtFront, Bool, Checked, Checks, Deferred, Err, HoldsAt, IsAsked, IsSessionOf, List, MatchBool, MayApply, MayTouchAllIn, MustWaitIn, None, Ok, Replies, Request, ServesInbox, UsesApplied, UsesFront, ap, held_roots, held_still, number_or, offer, ranked_later, refl, rotated, rules, shown_tree, state_of, step, subst, sym, table, waiting_at, with_waiting, ◌∙◌, ◌≡◌}
 use Rattle.mdcache.specs.Core.{state_of as tree_state}
 use Rattle.mdcache.specs.State.{State as TreeState}
 use Rattle.ranked_tree.specs.Ranked.{MayRefuse}

@@ -1,4 +1,4 @@
-use Rattle.inboxes.proofs.Common.{filter_same, is_for, is_on, not, rules}
+use Rattle.inboxes.proofs.Common.{filter_same, is_for, not, rules}
 use Rattle.inboxes.proofs.pins.Pins.end_pair.Goals as goal
 
 pub returns : goal.returns

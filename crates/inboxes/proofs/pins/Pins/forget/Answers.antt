@@ -1,4 +1,4 @@
-use Rattle.inboxes.proofs.Common.{filter_same, is_for, is_on, not, rules}
+use Rattle.inboxes.proofs.Common.{filter_same, is_on, not, rules}
 use Rattle.inboxes.proofs.pins.Pins.forget.Goals as goal
 
 pub returns : goal.returns
