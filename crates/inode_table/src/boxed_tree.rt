@@ -8,7 +8,8 @@ use mds_types::{Frag, Refusal};
 use std::alloc::{AllocError, Global};
 use std::marker::Model;
 
-/// Leaves that a directory was given, ready for the table, which takes no memory then.
+/// The leaves of a directory in a box, as the directory table keeps those that were ever set: made ready before, so that
+/// the table takes no memory for them. Contracts see the leaves alone.
 #[derive(Debug, Drop)]
 pub struct BoxedTree {
     // few directories have leaves of their own, so they take little room in a row

@@ -10,6 +10,7 @@ ghost use Rattle.inode_table.specs.Order.{dirs_after, trees_after};
 ghost use Rattle.inode_table.specs.Dirs.{IsAbove, IsLeafAt, IsLive, IsTable, MayCome, MayGo, MayMove, RefusesLeaves, count_of, is_known, leaves_of, one_less, one_more, or_whole, pinned_at};
 
 use crate::boxed_tree::BoxedTree;
+use crate::set_leaves::{check_split_of, picked, split_in, tree_of};
 use fragtree::FragTree;
 use mds_types::{Frag, Ino, Name, Rank, Refusal};
 use sorted_map::{Finger, SortedMap};
@@ -464,80 +465,5 @@ impl Dirs {
             return tree_of(&self.root);
         }
         tree_of(&self.below.get_near(&self.near.get(), &dir.0)?.leaves)
-    }
-}
-
-// Leaves that were set, lent.
-fn tree_of(leaves: &Option<BoxedTree>) -> Option<&FragTree>
-    ensures { option_copied result ≡ leaves.now }
-{
-    Some(leaves.as_ref()?.as_tree())
-}
-
-// The leaf that a hash picks of leaves that were set, and of the one leaf `*` where none were.
-fn picked(leaves: Option<&FragTree>, hash: u32) -> Frag
-    ensures { IsPick (or_whole (option_copied leaves.entry)) hash result }
-{
-    match leaves {
-        Some(tree) => tree.pick(hash),
-        None => Frag::ROOT,
-    }
-}
-
-// Whether a fragment of leaves that were set, and of the one leaf `*` where none were, can be split by so many bits.
-// Refused as the split is where it can't be. Takes no memory.
-fn check_split_of(leaves: Option<&FragTree>, frag: Frag, bits: u8) -> Result<(), Refusal>
-    ensures ok { OnOk result (CanSplit (or_whole (option_copied leaves.entry)) frag bits) }
-    ensures err { IfErr result (RefusesSplit (or_whole (option_copied leaves.entry)) frag bits) }
-    ensures memory { IfErr result (λ reason. reason ≢ NoMemory) }
-{
-    match leaves {
-        Some(tree) => tree.check_split(frag, bits),
-        None => check_split_of_whole(frag, bits),
-    }
-}
-
-// Whether the one leaf `*` can be split at a fragment by so many bits.
-fn check_split_of_whole(frag: Frag, bits: u8) -> Result<(), Refusal>
-    ensures ok { OnOk result (CanSplit (root_fragment ∷ []) frag bits) }
-    ensures err { IfErr result (RefusesSplit (root_fragment ∷ []) frag bits) }
-    ensures memory { IfErr result (λ reason. reason ≢ NoMemory) }
-{
-    if frag != Frag::ROOT {
-        return Err(Refusal::NoSuchFrag);
-    }
-    if bits < 1 || bits > FragTree::MAX_SPLIT_BITS {
-        return Err(Refusal::BadSplit);
-    }
-    Ok(())
-}
-
-// Splits one of leaves that were set, or the one leaf `*` where none were.
-fn split_in(
-    alloc: Global,
-    leaves: &mut Option<BoxedTree>,
-    frag: Frag,
-    bits: u8,
-) -> Result<(), Refusal>
-    requires { CanSplit (or_whole leaves.old) frag bits }
-    ensures split { OnOk result (IsSplit (or_whole leaves.old) (or_whole leaves.new) frag bits) }
-    ensures set { OnOk result (leaves.new ≡ Some (or_whole leaves.new)) }
-    ensures whole { OnOk result (IsTree (or_whole leaves.new)) }
-    ensures left { OnErr result (leaves.new ≡ leaves.old) }
-    ensures refused { IfErr result (λ reason. reason ≡ NoMemory) }
-{
-    if let Some(tree) = leaves {
-        return tree.split(frag, bits);
-    }
-    let mut tree = BoxedTree::new(alloc, FragTree::whole(alloc))?;
-    match tree.split(frag, bits) {
-        Ok(()) => {
-            *leaves = Some(tree);
-            Ok(())
-        }
-        Err(refusal) => {
-            drop(tree);
-            Err(refusal)
-        }
     }
 }

@@ -6,6 +6,7 @@ mod counting;
 mod dirs;
 mod next_pinned;
 mod numbers;
+mod set_leaves;
 mod table_changes;
 
 pub use boxed_tree::BoxedTree;
