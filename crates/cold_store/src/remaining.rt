@@ -69,7 +69,7 @@ fn next_names<S: Store>(
 {
     let page = store.names_page(alloc, text_of(after), PAGE)?;
     let last = last_of(alloc, page.more(), page.names())?;
-    put_names(names, page.into_names())?;
+    put_names(alloc, names, page.into_names())?;
     Ok(last)
 }
 
@@ -97,23 +97,27 @@ fn last_of(alloc: Global, more: bool, names: &[String]) -> Result<Option<Text>, 
 }
 
 // Adds all of these names.
-fn put_names(names: &mut SortedMap<Text, ()>, page: Vec<String>) -> Result<(), AllocError>
+fn put_names(
+    alloc: Global,
+    names: &mut SortedMap<Text, ()>,
+    page: Vec<String>,
+) -> Result<(), AllocError>
     ensures { OnOk result
         (contents key_cmp names.new ≡ with_keys (contents key_cmp names.old) (each string_bytes page.items)) }
 {
     for name in page {
-        put_name(names, name)?;
+        put_name(alloc, names, name.as_str())?;
     }
     Ok(())
 }
 
 // Adds a name.
-fn put_name(names: &mut SortedMap<Text, ()>, name: String) -> Result<(), AllocError>
+fn put_name(alloc: Global, names: &mut SortedMap<Text, ()>, name: &str) -> Result<(), AllocError>
     ensures { OnOk result
-        (contents key_cmp names.new ≡ map.insert (contents key_cmp names.old) (string_bytes name) tt) }
+        (contents key_cmp names.new ≡ map.insert (contents key_cmp names.old) name.now tt) }
 {
     names.reserve(1)?;
-    let _ = names.insert(Text::from_string(name), ());
+    let _ = names.insert(Text::copy_of(alloc, name)?, ());
     Ok(())
 }
 

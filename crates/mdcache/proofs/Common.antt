@@ -183,7 +183,7 @@ pub use Rattle.std.specs.FinMap.Entries.{below_all, by_order, find-put, find-whe
 pub use Rattle.std.specs.List.{AllByRecursion, AllZip, Contains, IsDistinct, list_all, list_any, take-map}
 pub use Rattle.std.specs.Option.{option_copied, option_map, option_or, unwrap_or}
 pub use Rattle.std.specs.Ordering.{eq_by_cmp, is_eq, nat_cmp, ordering_reverse}
-pub use Rattle.std.specs.Prelude.{IfErr, IfOk, IfSome, IsSome, IsSomeAnd, IsTrue, MatchOption, MatchResult, OnErr, OnOk, Result, is_some, map as each, nat_lt, replicate, slice_get, string_bytes, ◌==◌, ◌↔◌}
+pub use Rattle.std.specs.Prelude.{IfErr, IfOk, IfSome, IsSome, IsSomeAnd, IsTrue, MatchOption, MatchResult, OnErr, OnOk, Result, is_some, map as each, nat_lt, replicate, slice_get, ◌==◌, ◌↔◌}
 pub use Rattle.std.specs.Result.{result_err}
 pub use Rattle.std.specs.Vec.Iter.{into_iter_items, into_iter_len}
 pub use Rattle.std.specs.declared.vec.Vec.{Vec}

@@ -1,5 +1,5 @@
 -- What a split makes of the whole, once all was ready for it.
-use Rattle.mdcache.proofs.Common.{AllCachedIn, At, Bool, Cached, Came, CanSplit, Comes, Core, Dirfrag, Fragment, Fresh, HasCached, HasLeaf, HasUnsaved, Ino, Inode, IsChild, IsChildAt, IsConcerned, IsDistinct, IsFamilyAt, IsFreeFor, IsListedAnew, IsNewLeaf, IsNoChild, IsReadyToSplit, IsRegrouped, IsSound, IsSoundCore, IsSplit, IsSplitInto, IsSplitReady, IsTied, IsTree, IsWhole, Leaf, List, MayHold, Names, None, Option, Part, ReadsCore, Some, Split, SplitsAt, SplitsInto, State, Unsaved, [], ap, are_empty, arith, at, between, child_of, cond, dentry_of, each, false, fresh_tied, get-names_in, has_none, hash_of, here, here_free, holds, holds_contains, inl, inr, is_known, is_some, leaf_is, leaf_of, leaf_or_apart, leaves_of, length, marked_as, mul-le-mul_right, names_in, names_of, object_of, one_of_hash, one_or_other, order, pick_after_split, reads_came, refl, rules, same_Some, shown, shown_tree, span, span-split, span_pos, split_beside, split_came, split_child, split_gone, split_in, split_unclean_beside, split_unclean_child, split_unclean_gone, split_whole, state_of, string_bytes, subst, sym, tree_of_row, true, unclean, without_objects, zero, ℕ, ⊎_elim, ◌*◌, ◌+◌, ◌<◌, ◌^◌, ◌∙◌, ◌∷◌, ◌≡◌, ◌≤◌, ◌⊎◌}
+use Rattle.mdcache.proofs.Common.{AllCachedIn, At, Bool, Cached, Came, CanSplit, Comes, Core, Dirfrag, Fragment, Fresh, HasCached, HasLeaf, HasUnsaved, Ino, Inode, IsChild, IsChildAt, IsConcerned, IsDistinct, IsFamilyAt, IsFreeFor, IsListedAnew, IsNewLeaf, IsNoChild, IsReadyToSplit, IsRegrouped, IsSound, IsSoundCore, IsSplit, IsSplitInto, IsSplitReady, IsTied, IsTree, IsWhole, Leaf, List, MayHold, Names, None, Option, Part, ReadsCore, Some, Split, SplitsAt, SplitsInto, State, Unsaved, [], ap, are_empty, arith, at, between, child_of, cond, dentry_of, each, false, fresh_tied, get-names_in, has_none, hash_of, here, here_free, holds, holds_contains, inl, inr, is_known, is_some, leaf_is, leaf_of, leaf_or_apart, leaves_of, length, marked_as, mul-le-mul_right, names_in, names_of, object_of, one_of_hash, one_or_other, order, pick_after_split, reads_came, refl, rules, same_Some, shown, shown_tree, span, span-split, span_pos, split_beside, split_came, split_child, split_gone, split_in, split_unclean_beside, split_unclean_child, split_unclean_gone, split_whole, state_of, subst, sym, tree_of_row, true, unclean, without_objects, zero, ℕ, ⊎_elim, ◌*◌, ◌+◌, ◌<◌, ◌^◌, ◌∙◌, ◌∷◌, ◌≡◌, ◌≤◌, ◌⊎◌}
 use Rattle.std.proofs.Math.Bool.{and-true}
 use Rattle.std.specs.List.{slice_index_or}
 use Rattle.std.specs.FinMap as map
@@ -169,8 +169,8 @@ module _ (old mid : Core) (sound : IsSoundCore old) (a : Dirfrag) (nb : ℕ) (sp
     ended = λ g has. subst (λ (h : Fragment). map.get (unclean new.caches) (a.dir, h) ≡ None) (only_one a.frag g has)
         (split_unclean_gone a.rank.0 a.dir a.frag nb split.parts mid.next_version mid.caches new.caches f can.fits.some count done free);
     others = λ q apart. split_unclean_beside a.rank.0 a.dir a.frag nb split.parts mid.next_version mid.caches new.caches f can.fits.some count done q (beside q apart).0 (beside q apart).1;
-    listed = subst (λ (o : List ℕ). IsListedAnew s.purge (without_objects (map.insert s.purge o tt) (each string_bytes split.plan.children.items)) a.dir (a.frag ∷ []) (Comes row cover)) (sym ready.planned.object)
-        (listed_anew s.purge a.dir a.frag nb (each string_bytes split.plan.children.items) (Comes row cover) (still.0.numbered a.dir.0 still.1) (between 0 16777216 row a.frag tree.tiles still.2.stands).0 can.fits.some still.2.fits.in_all
+    listed = subst (λ (o : List ℕ). IsListedAnew s.purge (without_objects (map.insert s.purge o tt) split.plan.children.items) a.dir (a.frag ∷ []) (Comes row cover)) (sym ready.planned.object)
+        (listed_anew s.purge a.dir a.frag nb split.plan.children.items (Comes row cover) (still.0.numbered a.dir.0 still.1) (between 0 16777216 row a.frag tree.tiles still.2.stands).0 can.fits.some still.2.fits.in_all
         ready.planned.children (is_child row cover a.frag nb divided) (child_comes row cover a.frag nb tree still.2 divided));
   }
 

@@ -1,6 +1,6 @@
 -- The tree over caches and a store as operations see it: what reads keep, why a call is refused, and what a change
 -- takes.
-use Rattle.std.specs.Prelude.{◌≡◌, ◌⊎◌, ℕ, ◌+◌, ◌-◌, ◌<◌, ◌≤◌, ◌^◌, Bool, true, false, List, Option, Some, None, length, option_map, string_bytes}
+use Rattle.std.specs.Prelude.{◌≡◌, ◌⊎◌, ℕ, ◌+◌, ◌-◌, ◌<◌, ◌≤◌, ◌^◌, Bool, true, false, List, Option, Some, None, length, option_map}
 use Rattle.mds_types.specs.declared.dentries.Dentry.{Dentry}
 use Rattle.mds_types.specs.declared.ids.Ino.{Ino}
 use Rattle.mds_types.specs.declared.ids.Rank.{Rank}
@@ -98,7 +98,7 @@ pub record IsDirectoryReady (core : Core) (rank : Rank) (dentry : Dentry) (dir :
   pub home : 0 < core.room.dirs
   pub generation : core.next_generation < 2 ^ 64 - 1
   pub name : made.name ≡ dentry.name
-  pub object : IsGiven core.purge (text_of (first_leaf dir)) (option_map string_bytes made.object)
+  pub object : IsGiven core.purge (text_of (first_leaf dir)) made.object
 
 -- what an entry takes that goes: the names of the objects, where it is a directory, for which the purge list has room
 abbrev pub IsForRemoval : Covers → ℕ → Option Ino → Option Going → Type 0

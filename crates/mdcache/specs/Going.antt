@@ -1,5 +1,5 @@
 -- What is prepared before a directory goes: the names of its objects, as texts.
-use Rattle.std.specs.Prelude.{◌≡◌, ℕ, ◌+◌, List, [], ◌∷◌, length, map as each, string_bytes, Option, Some, None}
+use Rattle.std.specs.Prelude.{◌≡◌, ℕ, ◌+◌, List, [], ◌∷◌, length, map as each, Option, Some, None}
 use Rattle.std.specs.Ordering.{nat_cmp}
 use Rattle.std.specs.FinMap as map
 use Rattle.mds_types.specs.declared.ids.Ino.{Ino}
@@ -16,13 +16,13 @@ leaves_in dir parts = each (λ (part : GoingLeaf). (dir, part.frag)) parts
 
 -- the names of their objects
 abbrev pub texts_in : List GoingLeaf → List (List ℕ)
-texts_in parts = each (λ (part : GoingLeaf). string_bytes part.object) parts
+texts_in parts = each (λ (part : GoingLeaf). part.object) parts
 
 -- these are all leaves of the directory, each with the name of its object, and the name of its tree's object
 pub record IsGoing (covers : Covers) (going : Going) : Type 0 where
   pub parts : leaves_in going.dir going.leaves.items ≡ leaves covers going.dir.0
   pub texts : texts_in going.leaves.items ≡ each text_of (leaves covers going.dir.0)
-  pub tree : string_bytes going.tree ≡ tree_text going.dir
+  pub tree : going.tree ≡ tree_text going.dir
 
 -- ---- where a directory goes or none
 
@@ -43,7 +43,7 @@ leaves_going (Some going) = leaves_in going.dir going.leaves.items
 -- the names of its objects
 abbrev pub texts_going : Option Going → List (List ℕ)
 texts_going None = []
-texts_going (Some going) = string_bytes going.tree ∷ texts_in going.leaves.items
+texts_going (Some going) = going.tree ∷ texts_in going.leaves.items
 
 -- how many names that are
 abbrev pub count_going : Option Going → ℕ

@@ -1,5 +1,5 @@
 -- What is made ready for a split and for a merge of a directory's leaves, and what they make of the whole.
-use Rattle.std.specs.Prelude.{◌≡◌, ℕ, ◌+◌, ◌<◌, ◌≤◌, ◌^◌, Bool, cond, List, map as each, length, None, string_bytes}
+use Rattle.std.specs.Prelude.{◌≡◌, ℕ, ◌+◌, ◌<◌, ◌≤◌, ◌^◌, Bool, cond, List, map as each, length, None}
 use Rattle.std.specs.FinMap as map
 use Rattle.mds_types.specs.Frag.{Fragment}
 use Rattle.mds_types.specs.Leaf.{leaf_of}
@@ -29,8 +29,8 @@ use Rattle.mdcache.specs.State.{text_of}
 
 -- the name of the leaf's object, with room on the purge list, and those of its children's objects
 pub record IsSplitPlanned (p : Core) (a : Dirfrag) (nb : ℕ) (plan : SplitPlan) : Type 0 where
-  pub object : string_bytes plan.object ≡ text_of (leaf_of a)
-  pub children : NameChildren a.dir a.frag nb (each string_bytes plan.children.items)
+  pub object : plan.object ≡ text_of (leaf_of a)
+  pub children : NameChildren a.dir a.frag nb plan.children.items
   pub list : 0 < p.room.purge
 
 -- beside that the children, with room for their names and a place for each, by their generations in order
@@ -48,7 +48,7 @@ split_in p a nb plan cover empty caches room = record p {
   covers = map.insert p.covers a.dir.0 cover;
   caches = caches;
   jobs = map.remove p.jobs (leaf_of a);
-  purge = without_objects (map.insert p.purge (string_bytes plan.object) tt) (each string_bytes plan.children.items);
+  purge = without_objects (map.insert p.purge plan.object tt) plan.children.items;
   next_generation = p.next_generation + 2 ^ nb;
   next_version = p.next_version + cond empty 0 1;
   room = room;
@@ -68,7 +68,7 @@ pub record IsMergePlanned (p : Core) (a : Dirfrag) (plan : MergePlan) : Type 0 w
   pub list : length plan.leaves.items ≤ p.room.purge
   pub cover : IsMerge (leaves_of p.covers a.dir.0) plan.cover a.frag
   pub whole : IsTree plan.cover
-  pub object : string_bytes plan.object ≡ text_of (leaf_of a)
+  pub object : plan.object ≡ text_of (leaf_of a)
 
 -- a fragment of the next generation, for which no object counts, has the names of these leaves, dirty at the next
 -- version
@@ -96,7 +96,7 @@ merged_in p a plan joined room =
     (texts_in plan.leaves.items) room in
     record left {
       covers = map.insert p.covers a.dir.0 plan.cover;
-      purge = map.remove left.purge (string_bytes plan.object);
+      purge = map.remove left.purge plan.object;
       next_generation = p.next_generation + 1;
       next_version = p.next_version + cond (has_none (shown joined)) 0 1;
     }

@@ -1,5 +1,5 @@
 //! The steps of a change for which all is ready. None takes memory, and none can fail.
-ghost use Rattle.std.specs.Prelude.{◌≡◌, ◌==◌, ◌+◌, ◌-◌, ◌<◌, ◌^◌, true, false, is_some, Some, None, IfSome, length, option_map, string_bytes, ◌≤◌};
+ghost use Rattle.std.specs.Prelude.{◌≡◌, ◌==◌, ◌+◌, ◌-◌, ◌<◌, ◌^◌, true, false, is_some, Some, None, IfSome, length, option_map, ◌≤◌};
 ghost use Rattle.std.specs.FinMap as map;
 ghost use Rattle.mds_types.specs.Frag.{root_fragment};
 ghost use Rattle.mds_types.specs.Leaf.{leaf_of};
@@ -68,7 +68,7 @@ impl<S: Store + Drop> MdCache<S> {
         requires place { IsKeptFor self.old.caches spot.at.rank.0 (first_leaf inode.ino) }
         requires generation { self.old.next_generation < 2 ^ 64 - 1 }
         requires object { IsGiven self.old.purge (text_of (first_leaf inode.ino))
-            (option_map string_bytes made.object) }
+            made.object }
         ensures { self.new ≡ with_dir (with_entry (named self.old spot.at spot.name (Some inode)) spot.at.dir)
             (record { dir = inode.ino; frag = root_fragment; rank = spot.at.rank })
             (record { parent = spot.at.dir; name = made.name }) (text_of (first_leaf inode.ino)) self.new.room }

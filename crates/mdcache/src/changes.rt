@@ -1,5 +1,5 @@
 //! Changes of names and of the counts that go with them, and directories that come, move and go.
-ghost use Rattle.std.specs.Prelude.{◌≡◌, ◌==◌, ◌+◌, ◌-◌, ◌<◌, ◌≤◌, ◌^◌, is_some, true, false, None, Some, IfSome, length, option_map, string_bytes, [], ◌∷◌};
+ghost use Rattle.std.specs.Prelude.{◌≡◌, ◌==◌, ◌+◌, ◌-◌, ◌<◌, ◌≤◌, ◌^◌, is_some, true, false, None, Some, IfSome, length, option_map, [], ◌∷◌};
 ghost use Rattle.std.specs.FinMap as map;
 ghost use Rattle.mds_types.specs.Tree.{is_dir_kind};
 ghost use Rattle.mds_types.specs.Leaf.{leaf_of};
@@ -19,7 +19,7 @@ use crate::mdcache::MdCache;
 use cached_frag::CachedFrag;
 use dentry_cache::Caches;
 use inode_table::{Home, count_move};
-use mds_types::{Dirfrag, Ino, Inode, Name};
+use mds_types::{Dirfrag, Ino, Inode, Name, Text};
 use objstore::Store;
 use std::alloc::Global;
 
@@ -87,20 +87,14 @@ impl<S: Store + Drop> MdCache<S> {
 
     /// A directory comes, with its one leaf, for which a place is kept. The leaf's object, whose name is given unless
     /// the purge list is empty, isn't to be removed then. Takes no memory.
-    pub(crate) fn add_dir(
-        &mut self,
-        alloc: Global,
-        at: Dirfrag,
-        home: Home,
-        object: &Option<String>,
-    )
+    pub(crate) fn add_dir(&mut self, alloc: Global, at: Dirfrag, home: Home, object: &Option<Text>)
         requires room { 0 < self.old.room.dirs }
         requires may { MayCome self.old.homes at.dir.0 home }
         requires there { at.rank.0 < length self.old.caches.used }
         requires place { has_place self.old.caches at.rank.0 (leaf_of at) ≡ true }
         requires absent { map.get self.old.caches.held (leaf_of at) ≡ None }
         requires number { self.old.next_generation < 2 ^ 64 - 1 }
-        requires object { IsGiven self.old.purge (text_of (leaf_of at)) (option_map string_bytes object.now) }
+        requires object { IsGiven self.old.purge (text_of (leaf_of at)) object.now }
         ensures { self.new ≡ with_dir self.old at home (text_of (leaf_of at)) self.new.room }
     {
         self.dirs.adopt(at.dir, home);
@@ -158,7 +152,7 @@ impl<S: Store + Drop> MdCache<S> {
         requires room { 0 < self.old.room.purge }
         requires none { KeepsNone self.old.caches }
         ensures ended { self.new ≡ without_frags self.old ((dir, part.frag) ∷ [])
-            (string_bytes part.object ∷ []) self.new.room }
+            (part.object ∷ []) self.new.room }
         ensures room { self.old.room.purge ≤ self.new.room.purge + 1 }
         ensures none { KeepsNone self.new.caches }
     {

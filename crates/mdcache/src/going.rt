@@ -1,5 +1,5 @@
 //! A directory that goes: the names of its objects.
-ghost use Rattle.std.specs.Prelude.{◌≡◌, string_bytes, map as each, IfOk};
+ghost use Rattle.std.specs.Prelude.{◌≡◌, map as each, IfOk};
 ghost use Rattle.inode_table.specs.Dirs.{leaves_of};
 ghost use Rattle.namespace_ops.specs.Changes.{in_directory};
 ghost use Rattle.mdcache.specs.Going.{IsGoing, leaves_in, texts_in};
@@ -7,21 +7,21 @@ ghost use Rattle.mdcache.specs.State.{text_of, tree_text};
 
 use fragtree::FragTree;
 use inode_table::Dirs;
-use mds_types::{Frag, Ino, ObjName};
+use mds_types::{Frag, Ino, ObjName, Text};
 use std::alloc::{AllocError, Global};
 
 /// A leaf of a directory that goes, and the name of its object.
 #[derive(Debug, Drop)]
 pub struct GoingLeaf {
     pub frag: Frag,
-    pub object: String,
+    pub object: Text,
 }
 
 /// A directory that goes: the name of its tree's object, and its leaves with the names of theirs.
 #[derive(Debug, Drop)]
 pub struct Going {
     pub dir: Ino,
-    pub tree: String,
+    pub tree: Text,
     pub leaves: Vec<GoingLeaf>,
 }
 
@@ -41,8 +41,8 @@ pub fn going_of(alloc: Global, dirs: &Dirs, dir: Ino) -> Result<Going, AllocErro
 }
 
 // The name of the object of a directory's tree.
-fn tree_name(alloc: Global, dir: Ino) -> Result<String, AllocError>
-    ensures { IfOk result (λ name. string_bytes name ≡ tree_text dir) }
+fn tree_name(alloc: Global, dir: Ino) -> Result<Text, AllocError>
+    ensures { IfOk result (λ name. name ≡ tree_text dir) }
 {
     ObjName::Tree(dir).to_text(alloc)
 }
@@ -75,7 +75,7 @@ fn parts_of(alloc: Global, dir: Ino, tree: &FragTree) -> Result<Vec<GoingLeaf>, 
 /// A leaf with the name of its object.
 pub(crate) fn part_of(alloc: Global, dir: Ino, frag: Frag) -> Result<GoingLeaf, AllocError>
     ensures leaf { IfOk result (λ part. part.frag ≡ frag) }
-    ensures text { IfOk result (λ part. string_bytes part.object ≡ text_of (dir, frag)) }
+    ensures text { IfOk result (λ part. part.object ≡ text_of (dir, frag)) }
 {
     let object = ObjName::Frag(dir, frag).to_text(alloc)?;
     Ok(GoingLeaf { frag, object })

@@ -1,5 +1,5 @@
 //! What a merge needs beside the caches: the leaves that end, the leaves after it, and the names of objects.
-ghost use Rattle.std.specs.Prelude.{◌≡◌, ◌≤◌, ◌<◌, ◌++◌, ◌∷◌, [], map as each, string_bytes, length, OnOk, IfOk, IfErr};
+ghost use Rattle.std.specs.Prelude.{◌≡◌, ◌≤◌, ◌<◌, ◌++◌, ◌∷◌, [], map as each, length, OnOk, IfOk, IfErr};
 ghost use Rattle.mds_types.specs.declared.refusals.Refusal.TheVariants.{NoMemory};
 ghost use Rattle.fragtree.specs.FragTree.{CanMerge, IsMerge, IsTree, leaves_inside, lies_inside};
 ghost use Rattle.inode_table.specs.Dirs.{leaves_of};
@@ -14,7 +14,7 @@ use crate::mdcache::MdCache;
 use crate::regrouping::object_name;
 use fragtree::FragTree;
 use inode_table::{BoxedTree, Dirs};
-use mds_types::{Dirfrag, Frag, Ino, Refusal};
+use mds_types::{Dirfrag, Frag, Ino, Refusal, Text};
 use objstore::Store;
 use std::alloc::{AllocError, Global};
 
@@ -24,7 +24,7 @@ use std::alloc::{AllocError, Global};
 pub struct MergePlan {
     pub leaves: Vec<GoingLeaf>,
     pub cover: BoxedTree,
-    pub object: String,
+    pub object: Text,
 }
 
 impl<S: Store + Drop> MdCache<S> {
@@ -52,7 +52,7 @@ impl<S: Store + Drop> MdCache<S> {
     }
 }
 
-// The leaves of a directory once some of them are merged.
+// The leaves of a directory once some of them are merged, ready for the table.
 fn merge_cover(alloc: Global, dirs: &Dirs, at: &Dirfrag) -> Result<BoxedTree, Refusal>
     requires { CanMerge (leaves_of dirs.now.trees at.now.dir.0) at.now.frag }
     ensures merged { IfOk result (λ cover. IsMerge (leaves_of dirs.now.trees at.now.dir.0) cover at.now.frag) }

@@ -161,7 +161,7 @@ impl<S: Store + Drop> MdCache<S> {
         self.dirs.set_tree(at.dir, cover);
         self.caches.fill(*at, joined);
         self.end_leaves(at.dir, leaves);
-        self.purge.remove(object.as_str());
+        self.purge.remove(&object);
         take_counts(&mut self.next, 1, empty);
     }
 }

@@ -1,5 +1,5 @@
 //! `PurgeList`, what a contract sees of it, and its calls.
-ghost use Rattle.std.specs.Prelude.{◌≡◌, ◌≤◌, ◌<◌, ◌+◌, ◌↔◌, ℕ, List, string_bytes, IsOk, IsTrue, OnOk, OnErr, IfSome, IfNone, option_copied, option_map};
+ghost use Rattle.std.specs.Prelude.{◌≡◌, ◌≤◌, ◌<◌, ◌+◌, ◌↔◌, ℕ, List, IsOk, IsTrue, OnOk, OnErr, IfSome, IfNone, option_copied, option_map};
 ghost use Rattle.std.specs.FinMap as map;
 ghost use Rattle.sorted_map.specs.SortedMap.{contents};
 ghost use Rattle.objstore.specs.Omap.{key_cmp};
@@ -97,31 +97,31 @@ impl PurgeList {
     }
 
     /// Puts a name on the list, for which there is room; one that is on it stays. Takes no memory.
-    pub fn put(&mut self, name: String)
+    pub fn put(&mut self, name: Text)
         requires { 0 < self.old.room }
-        ensures put { self.new.names ≡ map.insert self.old.names (string_bytes name) tt }
+        ensures put { self.new.names ≡ map.insert self.old.names name tt }
         ensures room { self.old.room ≤ self.new.room + 1 }
     {
-        let _ = self.names.insert(Text::from_string(name), ());
+        let _ = self.names.insert(name, ());
     }
 
     /// Takes a name off the list; one that isn't on it changes nothing. Takes no memory.
-    pub fn remove(&mut self, name: &str)
+    pub fn remove(&mut self, name: &Text)
         ensures removed { self.new.names ≡ map.remove self.old.names name.now }
         ensures room { self.old.room ≤ self.new.room }
     {
-        let _ = self.names.remove(&TextRef { text: name });
+        let _ = self.names.remove(name);
     }
 
     /// Takes the name of an object off the list that isn't to be removed, given unless the list is empty. Takes no
     /// memory.
-    pub(crate) fn spare(&mut self, object: &Option<String>)
-        ensures spared { (name : List ℕ) → IsGiven self.old.names name (option_map string_bytes object.now)
+    pub(crate) fn spare(&mut self, object: &Option<Text>)
+        ensures spared { (name : List ℕ) → IsGiven self.old.names name object.now
             → self.new.names ≡ map.remove self.old.names name }
         ensures room { self.old.room ≤ self.new.room }
     {
         match object {
-            Some(name) => self.remove(name.as_str()),
+            Some(name) => self.remove(name),
             None => {}
         }
     }

@@ -1,5 +1,5 @@
 //! What each kind of change needs is made ready: numbers, leaves, places and room.
-ghost use Rattle.std.specs.Prelude.{◌≡◌, ◌⊎◌, ◌+◌, ◌-◌, ◌<◌, ◌≤◌, ◌^◌, ℕ, List, true, false, Some, None, option_map, string_bytes, length, OnErr, OnOk, IfOk, IfErr, IfSome};
+ghost use Rattle.std.specs.Prelude.{◌≡◌, ◌⊎◌, ◌+◌, ◌-◌, ◌<◌, ◌≤◌, ◌^◌, ℕ, List, true, false, Some, None, option_map, length, OnErr, OnOk, IfOk, IfErr, IfSome};
 ghost use Rattle.std.specs.Result.{result_err};
 ghost use Rattle.std.specs.FinMap as map;
 ghost use Rattle.mds_types.specs.declared.refusals.Refusal.TheVariants.{NoInodes, NoMemory};
@@ -28,7 +28,7 @@ use crate::prepared::{MovingEntry, NewDirectory};
 use crate::purge_list::PurgeList;
 use dentry_cache::Caches;
 use inode_table::Dirs;
-use mds_types::{Dirfrag, Frag, Ino, Name, ObjName, Refusal};
+use mds_types::{Dirfrag, Frag, Ino, Name, ObjName, Refusal, Text};
 use namespace_ops::Spot;
 use objstore::Store;
 use std::alloc::{AllocError, Global};
@@ -245,7 +245,7 @@ fn new_directory(
 ) -> Result<NewDirectory, Refusal>
     ensures name { IfOk result (λ made. made.name ≡ name.now) }
     ensures object { IfOk result (λ made. IsGiven purge.now.names (text_of (first_leaf dir))
-        (option_map string_bytes made.object)) }
+        made.object) }
     ensures err { IfErr result (λ reason. reason ≡ NoMemory) }
 {
     let name = name.try_clone()?;
@@ -254,9 +254,9 @@ fn new_directory(
 }
 
 // The name of the object of a directory's leaf `*`; an empty purge list doesn't need it.
-fn first_object(alloc: Global, purge: &PurgeList, dir: Ino) -> Result<Option<String>, AllocError>
+fn first_object(alloc: Global, purge: &PurgeList, dir: Ino) -> Result<Option<Text>, AllocError>
     ensures { IfOk result (λ object. IsGiven purge.now.names (text_of (first_leaf dir))
-        (option_map string_bytes object)) }
+        object) }
 {
     if purge.is_empty() {
         return Ok(None);

@@ -1,5 +1,5 @@
 //! What splits and merges share: the numbers that they take, and the names of objects.
-ghost use Rattle.std.specs.Prelude.{◌≡◌, ◌⊎◌, ◌+◌, ◌-◌, ◌<◌, ◌≤◌, ◌^◌, cond, string_bytes, IfOk, OnOk, IfErr};
+ghost use Rattle.std.specs.Prelude.{◌≡◌, ◌⊎◌, ◌+◌, ◌-◌, ◌<◌, ◌≤◌, ◌^◌, cond, IfOk, OnOk, IfErr};
 ghost use Rattle.mds_types.specs.declared.refusals.Refusal.TheVariants.{NoInodes};
 ghost use Rattle.mdcache.specs.Core.{state_of};
 ghost use Rattle.mdcache.specs.Ready.{LacksNumbers};
@@ -8,7 +8,7 @@ ghost use Rattle.mdcache.specs.State.{text_of};
 
 use crate::counters::Counters;
 use crate::mdcache::MdCache;
-use mds_types::{Frag, Ino, ObjName, Refusal};
+use mds_types::{Frag, Ino, ObjName, Refusal, Text};
 use objstore::Store;
 use std::alloc::{AllocError, Global};
 
@@ -59,8 +59,8 @@ pub(crate) fn child_count(nb: u8) -> u32
 }
 
 /// The name of a leaf's object.
-pub(crate) fn object_name(alloc: Global, dir: Ino, frag: Frag) -> Result<String, AllocError>
-    ensures { IfOk result (λ name. string_bytes name ≡ text_of (dir, frag)) }
+pub(crate) fn object_name(alloc: Global, dir: Ino, frag: Frag) -> Result<Text, AllocError>
+    ensures { IfOk result (λ name. name ≡ text_of (dir, frag)) }
 {
     ObjName::Frag(dir, frag).to_text(alloc)
 }

@@ -1,5 +1,5 @@
 //! What a split needs beside the caches: the names of objects.
-ghost use Rattle.std.specs.Prelude.{◌≡◌, ◌+◌, ◌≤◌, ◌<◌, ◌^◌, map as each, string_bytes, OnOk, IfOk, IfErr};
+ghost use Rattle.std.specs.Prelude.{◌≡◌, ◌+◌, ◌≤◌, ◌<◌, ◌^◌, map as each, OnOk, IfOk, IfErr};
 ghost use Rattle.mds_types.specs.declared.refusals.Refusal.TheVariants.{NoMemory};
 ghost use Rattle.fragtree.specs.FragTree.{CanSplit};
 ghost use Rattle.inode_table.specs.Dirs.{leaves_of};
@@ -9,15 +9,15 @@ ghost use Rattle.mdcache.specs.Splits.{NameChildren};
 
 use crate::mdcache::MdCache;
 use crate::regrouping::{child_count, object_name};
-use mds_types::{Dirfrag, Frag, Ino, Refusal};
+use mds_types::{Dirfrag, Frag, Ino, Refusal, Text};
 use objstore::Store;
 use std::alloc::{AllocError, Global};
 
 /// The names of the objects of a leaf that splits, and of its children.
 #[derive(Drop)]
 pub struct SplitPlan {
-    pub object: String,
-    pub children: Vec<String>,
+    pub object: Text,
+    pub children: Vec<Text>,
 }
 
 impl<S: Store + Drop> MdCache<S> {
@@ -43,10 +43,10 @@ impl<S: Store + Drop> MdCache<S> {
 }
 
 // The names of the objects of the children of a fragment.
-fn child_names(alloc: Global, dir: Ino, frag: Frag, nb: u8) -> Result<Vec<String>, AllocError>
+fn child_names(alloc: Global, dir: Ino, frag: Frag, nb: u8) -> Result<Vec<Text>, AllocError>
     requires few { nb ≤ 8 }
     requires bits { frag.bits + nb ≤ 24 }
-    ensures { IfOk result (λ names. NameChildren dir frag nb (each string_bytes names.items)) }
+    ensures { IfOk result (λ names. NameChildren dir frag nb names.items) }
 {
     let mut names = Vec::new(alloc);
     for i in 0..child_count(nb) {

@@ -1,6 +1,6 @@
 //! A leaf of a directory is split: all is made ready for it first, and then it is done. The leaves of the directory are
 //! set as the last thing that may be refused; what was made ready is given up then.
-ghost use Rattle.std.specs.Prelude.{◌≡◌, ◌⊎◌, ◌+◌, ◌-◌, ◌≤◌, ◌<◌, ◌^◌, ◌∷◌, [], ℕ, Bool, true, None, length, map as each, string_bytes, OnOk, OnErr, IfOk, IfErr};
+ghost use Rattle.std.specs.Prelude.{◌≡◌, ◌⊎◌, ◌+◌, ◌-◌, ◌≤◌, ◌<◌, ◌^◌, ◌∷◌, [], ℕ, Bool, true, None, length, map as each, OnOk, OnErr, IfOk, IfErr};
 ghost use Rattle.std.specs.Result.{result_err};
 ghost use Rattle.std.specs.FinMap as map;
 ghost use Rattle.std.specs.List.{IsDistinct};
@@ -31,7 +31,7 @@ use crate::purge_list::PurgeList;
 use crate::regrouping::{child_count, take_counts};
 use crate::split_plan::SplitPlan;
 use dentry_cache::Parts;
-use mds_types::{Dirfrag, Refusal};
+use mds_types::{Dirfrag, Refusal, Text};
 use objstore::Store;
 use std::alloc::Global;
 
@@ -217,10 +217,10 @@ impl<S: Store + Drop> MdCache<S> {
 }
 
 // Takes these names off the list.
-fn unlist(purge: &mut PurgeList, names: &Vec<String>)
-    ensures { purge.new.names ≡ without_objects purge.old.names (each string_bytes names.now.items) }
+fn unlist(purge: &mut PurgeList, names: &Vec<Text>)
+    ensures { purge.new.names ≡ without_objects purge.old.names names.now.items }
 {
     for name in names {
-        purge.remove(name.as_str());
+        purge.remove(name);
     }
 }

@@ -31,7 +31,7 @@ impl<S: Store + Drop> MdCache<S> {
         if let Err(refusal) = save_tree(alloc, &self.dirs, &mut self.store, dir, text.as_str()) {
             return Err(refusal);
         }
-        self.purge.remove(text.as_str());
+        self.purge.remove(&text);
         Ok(())
     }
 }

@@ -5,7 +5,7 @@ ghost use Rattle.std.specs.Cmp.{partial_order_from_own_ties};
 ghost use Rattle.std.specs.Cmp.Lexicographic.{pointwise, slice_cmp};
 ghost use Rattle.std.specs.Cmp.Rules.{comparing};
 ghost use Rattle.std.specs.Ordering.{nat_cmp, as_partial_cmp};
-ghost use Rattle.std.specs.Prelude.{◌≡◌, ◌==◌, ◌<◌, length, [], IfOk, OnErr};
+ghost use Rattle.std.specs.Prelude.{◌≡◌, ◌==◌, ◌<◌, length, [], IfOk, OnErr, box_value};
 
 use crate::byte_order::compare;
 use crate::short_bytes::Short;
@@ -94,18 +94,31 @@ impl Bytes {
     }
 
     /// A copy. More than 22 bytes take memory.
+    #[inline(always)]
     pub fn try_clone(&self) -> Result<Bytes, AllocError>
         ensures { IfOk result (λ copy. copy ≡ self.now) }
     {
-        let form = match &self.form {
-            Form::Short(short) => Form::Short(short.copy()),
-            Form::Long(bytes) => Form::Long(bytes.clone()?),
-        };
-        Ok(Bytes { form })
+        match &self.form {
+            Form::Short(short) => Ok(Bytes {
+                form: Form::Short(short.copy()),
+            }),
+            Form::Long(bytes) => copied(bytes),
+        }
     }
 }
 
+// A copy of what stands in a box.
+#[inline(never)]
+fn copied(bytes: &Box<Vec<u8>>) -> Result<Bytes, AllocError>
+    ensures { IfOk result (λ copy. copy ≡ (box_value bytes.now).items) }
+{
+    Ok(Bytes {
+        form: Form::Long(bytes.clone()?),
+    })
+}
+
 // These bytes in a box.
+#[inline(never)]
 fn boxed(alloc: Global, bytes: Vec<u8>) -> Result<Bytes, AllocError>
     ensures { IfOk result (λ made. made ≡ bytes.items) }
 {

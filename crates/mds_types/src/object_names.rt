@@ -1,11 +1,12 @@
 //! The names of objects in the store.
-ghost use Rattle.std.specs.Prelude.{◌≡◌, IfOk, IsUtf8, Some, string_bytes};
+ghost use Rattle.std.specs.Prelude.{◌≡◌, IfOk, Some};
 ghost use Rattle.mds_types.specs.ObjectText.{TextsDiffer, object_text};
 ghost use Rattle.mds_types.specs.declared.object_names.ObjName.TheVariants as name;
 
 use crate::digits::write_digits_in;
 use crate::frags::Frag;
 use crate::ids::Ino;
+use crate::texts::Text;
 use std::alloc::{AllocError, Global};
 use std::fmt;
 
@@ -43,8 +44,8 @@ impl fmt::Display for ObjName {
 
 impl ObjName {
     /// The name as text, put together by hand. Takes memory for it.
-    pub fn to_text(self, alloc: Global) -> Result<String, AllocError>
-        ensures { IfOk result (λ text. string_bytes text ≡ object_text self) }
+    pub fn to_text(self, alloc: Global) -> Result<Text, AllocError>
+        ensures { IfOk result (λ text. text ≡ object_text self) }
     {
         match self {
             ObjName::Frag(ino, frag) => frag_text(alloc, ino.0, frag),
@@ -59,32 +60,21 @@ impl ObjName {
 }
 
 // The text of a fragment's object.
-fn frag_text(alloc: Global, ino: u64, frag: Frag) -> Result<String, AllocError>
-    ensures { IfOk result (λ text. string_bytes text ≡ object_text (name.Frag (record { 0 = ino }) frag)) }
+fn frag_text(alloc: Global, ino: u64, frag: Frag) -> Result<Text, AllocError>
+    ensures { IfOk result (λ text. text ≡ object_text (name.Frag (record { 0 = ino }) frag)) }
 {
     let mut bytes = [b'0'; END];
     let _ = write_digits_in(16, u64::from(frag.word()), &mut bytes, END);
     bytes[DOT] = b'.';
     let start = write_digits_in(16, ino, &mut bytes, DOT);
-    text_of(alloc, &bytes[start..])
+    Text::of_bytes(alloc, &bytes[start..])
 }
 
 // The text of the object of a fragment tree.
-fn tree_text(alloc: Global, ino: u64) -> Result<String, AllocError>
-    ensures { IfOk result (λ text. string_bytes text ≡ object_text (name.Tree (record { 0 = ino }))) }
+fn tree_text(alloc: Global, ino: u64) -> Result<Text, AllocError>
+    ensures { IfOk result (λ text. text ≡ object_text (name.Tree (record { 0 = ino }))) }
 {
     let mut bytes = *b"0000000000000000.fragtree";
     let start = write_digits_in(16, ino, &mut bytes, DOT);
-    text_of(alloc, &bytes[start..])
-}
-
-// A copy of a text.
-fn text_of(alloc: Global, bytes: &[u8]) -> Result<String, AllocError>
-    requires { IsUtf8 bytes.now }
-    ensures { IfOk result (λ text. string_bytes text ≡ bytes.now) }
-{
-    match str::from_utf8(bytes) {
-        Ok(text) => String::from_str(alloc, text),
-        Err(_) => unreachable!(),
-    }
+    Text::of_bytes(alloc, &bytes[start..])
 }

@@ -5,49 +5,57 @@ ghost use Rattle.std.specs.Cmp.{partial_order_from_own_ties};
 ghost use Rattle.std.specs.Cmp.Lexicographic.{pointwise, slice_cmp};
 ghost use Rattle.std.specs.Cmp.Rules.{comparing};
 ghost use Rattle.std.specs.Ordering.{nat_cmp, as_partial_cmp};
-ghost use Rattle.std.specs.Prelude.{◌≡◌, ◌==◌, string_bytes, IfOk};
+ghost use Rattle.std.specs.Prelude.{◌≡◌, ◌==◌, IfOk, IsUtf8};
 
+use crate::byte_order::compare;
+use crate::bytes::Bytes;
 use sorted_map::{ExactOrd, Probe};
 use std::alloc::{AllocError, Global};
 use std::cmp::Ordering;
 use std::marker::Model;
 
-/// A text, seen as its bytes and ordered by them.
+/// A text, seen as its bytes and ordered by them. Up to 22 bytes take no memory of their own.
 #[derive(Debug, Drop)]
 pub struct Text {
-    text: String,
+    bytes: Bytes,
 }
 
 impl Model for Text {
-    ghost use Rattle.std.specs.Prelude.{List, ℕ, string_bytes};
+    ghost use Rattle.std.specs.Prelude.{List, ℕ, IsUtf8};
 
     ghost Value = { List ℕ };
 
-    ghost view = { λ t. string_bytes t.text };
+    ghost view = { λ t. t.bytes };
+
+    ghost invariant = { λ t. IsUtf8 t.bytes };
 }
 
 impl Text {
-    /// This text. Takes no memory.
-    pub fn from_string(text: String) -> Text
-        ensures { result ≡ string_bytes text }
-    {
-        Text { text }
-    }
-
-    /// A copy of this text. Takes memory for it.
+    /// A copy of this text. More than 22 bytes take memory.
     pub fn copy_of(alloc: Global, text: &str) -> Result<Text, AllocError>
         ensures { IfOk result (λ copy. copy ≡ text.now) }
     {
+        Text::of_bytes(alloc, text.as_bytes())
+    }
+
+    // The text that these bytes are. More than 22 take memory.
+    pub(crate) fn of_bytes(alloc: Global, bytes: &[u8]) -> Result<Text, AllocError>
+        requires { IsUtf8 bytes.now }
+        ensures { IfOk result (λ text. text ≡ bytes.now) }
+    {
         Ok(Text {
-            text: String::from_str(alloc, text)?,
+            bytes: Bytes::from_slice(alloc, bytes)?,
         })
     }
 
-    /// The text.
+    /// The text. Its bytes are looked at once more.
     pub fn as_str(&self) -> &str
         ensures { result.now ≡ self.now }
     {
-        self.text.as_str()
+        match str::from_utf8(self.bytes.as_slice()) {
+            Ok(text) => text,
+            Err(_) => unreachable!(),
+        }
     }
 }
 
@@ -56,7 +64,7 @@ impl Clone for Text {
 
     fn clone(&self) -> Result<Text, AllocError> {
         Ok(Text {
-            text: self.text.clone()?,
+            bytes: self.bytes.try_clone()?,
         })
     }
 }
@@ -67,7 +75,7 @@ impl PartialEq for Text {
     ghost laws = { Prim.search (comparing, rules) };
 
     fn eq(&self, other: &Text) -> bool {
-        self.text.as_bytes() == other.text.as_bytes()
+        self.bytes == other.bytes
     }
 }
 
@@ -95,7 +103,7 @@ impl Ord for Text {
     ghost matches_eq = { Prim.search (comparing, rules) };
 
     fn cmp(&self, other: &Text) -> Ordering {
-        self.as_str().cmp(other.as_str())
+        self.bytes.cmp(&other.bytes)
     }
 }
 
@@ -114,6 +122,6 @@ impl<'a> Probe<Text> for TextRef<'a> {
     ghost key = { λ p. p.text.now };
 
     fn order(&self, other: &Text) -> Ordering {
-        self.text.cmp(other.as_str())
+        compare(self.text.as_bytes(), other.bytes.as_slice())
     }
 }

@@ -1,4 +1,4 @@
-use Rattle.mdcache.proofs.Common.{Fragment, GoingLeaf, [], ap, in_directory, leaves_in, leaves_inside, string_bytes, sym, text_of, texts_in, ◌++◌, ◌∙◌, ◌∷◌}
+use Rattle.mdcache.proofs.Common.{Fragment, GoingLeaf, [], ap, in_directory, leaves_in, leaves_inside, sym, text_of, texts_in, ◌++◌, ◌∙◌, ◌∷◌}
 use Rattle.std.proofs.lemmas.Simd.{map-map}
 use Rattle.mdcache.proofs.JoinLaws.{inside_none, inside_one}
 use Rattle.mdcache.proofs.merge_plan.push_inside.Goals as goal
@@ -18,6 +18,6 @@ returns-clause-leaves c =
 
 pub returns-clause-texts : goal.returns-clause-texts
 returns-clause-texts c =
-    inside_one (λ (part : GoingLeaf). string_bytes part.object) (λ (f : Fragment). text_of (in_directory c.args.dir.0 f)) c.args.frag c.args.leaf c.args.parts.now.items c.push.new.self.items c.in_ok-part_of.field-0 (sym c.is_inside.ensures ∙ c.if-not-is_inside.false) c.in_ok-push.ensures.items
+    inside_one (λ (part : GoingLeaf). part.object) (λ (f : Fragment). text_of (in_directory c.args.dir.0 f)) c.args.frag c.args.leaf c.args.parts.now.items c.push.new.self.items c.in_ok-part_of.field-0 (sym c.is_inside.ensures ∙ c.if-not-is_inside.false) c.in_ok-push.ensures.items
     c.in_ok-part_of.ensures.text
     ∙ ap (λ l. texts_in c.args.parts.now.items ++ l) (sym (map-map text_of (in_directory c.args.dir.0) (leaves_inside c.args.frag (c.args.leaf ∷ []))))

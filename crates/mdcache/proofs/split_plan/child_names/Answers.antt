@@ -1,15 +1,15 @@
-use Rattle.mdcache.proofs.Common.{Fragment, ap, arith, each, map_push, string_bytes, subst, sym, text_of, ◌+◌, ◌∙◌}
+use Rattle.mdcache.proofs.Common.{Fragment, ap, arith, subst, sym, text_of, ◌+◌, ◌∙◌}
 use Rattle.mdcache.proofs.ChildNames.{NameFirst, all_named, more_named, none_named}
 use Rattle.mdcache.proofs.split_plan.child_names.Goals as goal
 
 pub loop-i-init : goal.loop-i-init
-loop-i-init c = subst (λ items. NameFirst c.args.dir c.args.frag c.args.nb 0 (each string_bytes items)) (sym c.new-names.ensures.items) (none_named c.args.dir c.args.frag c.args.nb)
+loop-i-init c = subst (λ items. NameFirst c.args.dir c.args.frag c.args.nb 0 items) (sym c.new-names.ensures.items) (none_named c.args.dir c.args.frag c.args.nb)
 
 pub loop-i-preserved : goal.loop-i-preserved
 loop-i-preserved c =
-    subst (NameFirst c.args.dir c.args.frag c.args.nb (c.loop-i.i + 1)) (sym (ap (each string_bytes) c.in_ok-push.ensures.items ∙ map_push string_bytes c.loop-i.names.items c.in_ok-object_name.field-0))
-    (more_named c.args.dir c.args.frag c.args.nb c.loop-i.i (each string_bytes c.loop-i.names.items) (string_bytes c.in_ok-object_name.field-0) c.in-Some.ensures.0.1 c.loop-i.invariant
+    subst (NameFirst c.args.dir c.args.frag c.args.nb (c.loop-i.i + 1)) (sym c.in_ok-push.ensures.items)
+    (more_named c.args.dir c.args.frag c.args.nb c.loop-i.i c.loop-i.names.items c.in_ok-object_name.field-0 c.in-Some.ensures.0.1 c.loop-i.invariant
     (c.in_ok-object_name.ensures ∙ ap (λ (f : Fragment). text_of (c.args.dir, f)) c.in-Some.ensures.1))
 
 pub returns : goal.returns
-returns c = all_named c.args.dir c.args.frag c.args.nb c.loop-i.i (each string_bytes c.loop-i.names.items) (omega (arith, c.loop-i-test.false, c.child_count-i-end.ensures)) c.loop-i.invariant
+returns c = all_named c.args.dir c.args.frag c.args.nb c.loop-i.i c.loop-i.names.items (omega (arith, c.loop-i-test.false, c.child_count-i-end.ensures)) c.loop-i.invariant

@@ -1,6 +1,6 @@
 use Rattle.mdcache.proofs.Common.{drop, without_objects, ◌≡◌}
-use Rattle.std.proofs.Common.{map as each, string_bytes}
+use Rattle.std.proofs.Common.{map as each}
 use Rattle.mdcache.proofs.splitting.unlist.Given as goal
 
 abbrev pub invariant-loop-name : goal.invariant-loop-name
-invariant-loop-name l = without_objects l.purge.names (each string_bytes (drop l.name-index l.name-items)) ≡ without_objects l.initial.purge.names (each string_bytes l.name-items)
+invariant-loop-name l = without_objects l.purge.names (drop l.name-index l.name-items) ≡ without_objects l.initial.purge.names l.name-items

@@ -1,4 +1,4 @@
-use Rattle.std.proofs.Common.{ap, arith, false, subst, sym, IfOk, IsUtf8, string_bytes, ◌++◌, ◌∙◌, ◌∷◌, ◌≡◌}
+use Rattle.std.proofs.Common.{ap, arith, false, subst, sym, IfOk, IsUtf8, ℕ, List, ◌++◌, ◌∙◌, ◌∷◌, ◌≡◌}
 use Rattle.std.specs.Fmt.{digits}
 use Rattle.mds_types.specs.ObjectText.{word_text}
 use Rattle.mds_types.proofs.ObjectTextBytes.{frag_spelt, frag_utf8, hex_few, word_few}
@@ -10,8 +10,8 @@ write_digits_in-requires-clause-room c = let few = word_few c.from.result (omega
 pub write_digits_in-start-requires-clause-room : goal.write_digits_in-start-requires-clause-room
 write_digits_in-start-requires-clause-room c = hex_few c.args.ino (omega (arith, c.ranges.ino))
 
-pub text_of-requires : goal.text_of-requires
-text_of-requires c =
+pub of_bytes-requires : goal.of_bytes-requires
+of_bytes-requires c =
     let word = c.write_digits_in.ensures in
     let spelt = frag_spelt c.args.ino c.from.result (omega (arith, c.from.ensures, c.word.type_inv)) c.write_digits_in.new.bytes c.write_digits_in-start.new.bytes c.write_digits_in-start.result c.write_digits_in.result
     (omega (arith, c.write_digits_in.auto.bytes)) (omega (arith, c.write_digits_in-start.auto.bytes)) word.start word.before word.written c.write_digits_in-start.ensures.written in
@@ -23,4 +23,4 @@ returns c =
     let is = c.from.ensures ∙ c.word.ensures in
     let spelt = frag_spelt c.args.ino c.from.result (omega (arith, c.from.ensures, c.word.type_inv)) c.write_digits_in.new.bytes c.write_digits_in-start.new.bytes c.write_digits_in-start.result c.write_digits_in.result
     (omega (arith, c.write_digits_in.auto.bytes)) (omega (arith, c.write_digits_in-start.auto.bytes)) word.start word.before word.written c.write_digits_in-start.ensures.written in
-    subst (λ l. IfOk c.text_of.result (λ text. string_bytes text ≡ l)) (spelt ∙ ap (λ w. digits 16 false c.args.ino ++ 46 ∷ word_text w) is) c.text_of.ensures
+    subst (λ (l : List ℕ). IfOk c.of_bytes.result (λ (text : List ℕ). text ≡ l)) (spelt ∙ ap (λ w. digits 16 false c.args.ino ++ 46 ∷ word_text w) is) c.of_bytes.ensures

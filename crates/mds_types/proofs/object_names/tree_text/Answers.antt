@@ -6,7 +6,7 @@ use Rattle.mds_types.proofs.object_names.tree_text.Goals as goal
 pub write_digits_in-start-requires-clause-room : goal.write_digits_in-start-requires-clause-room
 write_digits_in-start-requires-clause-room c = hex_few c.args.ino (omega (arith, c.ranges.ino))
 
-pub text_of-requires : goal.text_of-requires
-text_of-requires c =
+pub of_bytes-requires : goal.of_bytes-requires
+of_bytes-requires c =
     let spelt = cut c.write_digits_in-start.new.bytes _ c.write_digits_in-start.result (omega (arith, c.write_digits_in-start.auto.bytes)) c.write_digits_in-start.ensures.written in
     subst IsUtf8 (sym spelt) (IsUtf8-append _ _ (hex_utf8 c.args.ino (omega (arith, c.ranges.ino))) tree_utf8)

@@ -1,4 +1,4 @@
-use Rattle.mdcache.proofs.Common.{Core, IsThat, Leaf, NoneEnds, Table, ap, arith, first_leaf, leaf_of, option_map, rules, string_bytes, subst, sym, text_of, ℕ, ⊎_elim, ◌<◌, ◌⊎◌}
+use Rattle.mdcache.proofs.Common.{Core, IsThat, Leaf, NoneEnds, Table, ap, arith, first_leaf, leaf_of, option_map, rules, subst, sym, text_of, ℕ, ⊎_elim, ◌<◌, ◌⊎◌}
 use Rattle.mdcache.specs.PurgeList.{IsGiven}
 use Rattle.mdcache.proofs.CoreLaws.{dirs_grown, grown_refused, grown_sound, grows_by, not_ready, on_err_so, reads_cached_so, reads_core_on, reads_itself, reads_sound_so, still_absent}
 use Rattle.mdcache.proofs.PrepareLaws.{first_live_so, first_nowhere}
@@ -43,7 +43,7 @@ returns-in-Ok g c =
         home = search rules;
         generation = search rules;
         name = c.in_ok-made.ensures.name;
-        object = subst (λ (k : Core). IsGiven k.purge (text_of (first_leaf c.args.dir)) (option_map string_bytes c.in_ok-made.made.object)) (sym c.ready_first.ensures.reads.beside) c.in_ok-made.ensures.object;
+        object = subst (λ (k : Core). IsGiven k.purge (text_of (first_leaf c.args.dir)) c.in_ok-made.made.object) (sym c.ready_first.ensures.reads.beside) c.in_ok-made.ensures.object;
       };
       only = search rules;
       cached = cached;

@@ -1,4 +1,4 @@
-use Rattle.std.proofs.Common.{List, None, Option, ap, option_map, refl, string_bytes, subst, sym, ◌∙◌, ◌≡◌, ℕ}
+use Rattle.std.proofs.Common.{List, None, Option, ap, refl, subst, sym, ◌∙◌, ◌≡◌, ℕ}
 use Rattle.std.proofs.lemmas.Bool.{cond_both}
 use Rattle.std.specs.Cmp.Lexicographic.{nat_list_cmp_total}
 use Rattle.std.specs.Ordering.{eq_by_cmp}
@@ -15,4 +15,4 @@ nothing_off names name empty = one_map names (map.remove names name) (λ q.
     none ∙ sym (get-remove nat_list_cmp_total names name q ∙ cond_both (eq_by_cmp key_cmp q name) None (map.get names q) (λ o. o ≡ None) (λ off. refl) (λ on. none)))
 
 pub returns-in-None-clause-spared : goal.returns-in-None-clause-spared
-returns-in-None-clause-spared c name given = nothing_off c.args.self.now.names name (subst (λ (o : Option (List ℕ)). IsGiven c.args.self.now.names name o) (ap (option_map string_bytes) c.in-None.is) given)
+returns-in-None-clause-spared c name given = nothing_off c.args.self.now.names name (subst (λ (o : Option (List ℕ)). IsGiven c.args.self.now.names name o) c.in-None.is given)
