@@ -8,8 +8,10 @@ use Rattle.script_words.specs.declared.faults.Fault.{Fault}
 use Rattle.script_words.specs.declared.faults.Fault.TheVariants.{NotCommand}
 use Rattle.script_words.specs.Words.{is_text}
 use Rattle.script_words.specs.Reading.{◌>>=◌, first, two, three, four}
-use Rattle.script_words.specs.Arguments.{ino_of, mode_of, pin_of, page_size_of, text_of, two_texts_of, after_text_of, name_of, after_name_of, target_of}
+use Rattle.script_words.specs.Arguments.{ino_of, mode_of, pin_of, page_size_of, two_texts_of, after_of, name_of, target_of, word_name_of}
 use Rattle.script_text.specs.Attributes.{attributes_of, birth_of}
+use Rattle.script_text.specs.declared.operations.DentryVerb.{DentryVerb}
+use Rattle.script_text.specs.declared.operations.DentryVerb.TheVariants as verbs
 
 -- In each form below that of all its words comes before the rules of names and targets; of two words outside those
 -- rules the first decides.
@@ -19,8 +21,7 @@ unfoldable pub dentry_of : List (List ℕ) → Result Dentry Fault
 dentry_of args = do
   words ← two args
   dir ← ino_of words.0
-  bytes ← text_of words.1
-  name ← name_of bytes
+  name ← word_name_of words.1
   Ok (record { dir = dir; name = name })
 
 -- `INO NAME MODE [uid N] [gid N]`: a dentry, and what is made there
@@ -32,8 +33,7 @@ made_of args = do
   ino ← ino_of dir.0
   bits ← mode_of mode.0
   birth ← birth_of mode.1
-  bytes ← text_of name.0
-  name ← name_of bytes
+  name ← word_name_of name.0
   Ok (record { dir = ino; name = name }, bits, birth)
 
 -- `INO AFTER MAX`
@@ -42,8 +42,7 @@ readdir_of args = do
   words ← three args
   dir ← ino_of words.0
   max ← page_size_of words.2
-  bytes ← after_text_of words.1
-  after ← after_name_of bytes
+  after ← after_of words.1
   Ok (Readdir dir after max)
 
 -- `INO NAME TARGET [uid N] [gid N]`
@@ -66,8 +65,7 @@ setattr_of args = do
   name ← first dir.1
   ino ← ino_of dir.0
   given ← attributes_of name.1
-  bytes ← text_of name.0
-  name ← name_of bytes
+  name ← word_name_of name.0
   Ok (Setattr (record { dir = ino; name = name }) given)
 
 -- `INO NAME RANK`, or `-1` in place of RANK
@@ -76,8 +74,7 @@ setpin_of args = do
   words ← three args
   dir ← ino_of words.0
   pin ← pin_of words.2
-  bytes ← text_of words.1
-  name ← name_of bytes
+  name ← word_name_of words.1
   Ok (SetPin (record { dir = dir; name = name }) pin)
 
 -- `INO NAME INO NAME`, from the first dentry to the second
@@ -105,3 +102,23 @@ operation_of verb args =
     (if is_text verb (codes "unlink") then (dentry_of args >>= λ dentry. Ok (Unlink dentry)) else
     (if is_text verb (codes "rmdir") then (dentry_of args >>= λ dentry. Ok (Rmdir dentry)) else
     (if is_text verb (codes "rename") then rename_of args else Err NotCommand))))))))))
+
+-- ---- parts of it, for the functions that read them
+
+-- what a verb with nothing but a dentry behind it asks for
+abbrev pub asks_for : DentryVerb → Dentry → Op
+asks_for verbs.Lookup dentry = Lookup dentry
+asks_for verbs.Readlink dentry = Readlink dentry
+asks_for verbs.Unlink dentry = Unlink dentry
+asks_for verbs.Rmdir dentry = Rmdir dentry
+
+-- `INO NAME` behind such a verb
+abbrev pub on_dentry_of : DentryVerb → List (List ℕ) → Result Op Fault
+on_dentry_of verb args = dentry_of args >>= λ dentry. Ok (asks_for verb dentry)
+
+-- a file, or a directory
+abbrev pub create_of : List (List ℕ) → Result Op Fault
+create_of args = made_of args >>= λ made. Ok (Create made.0 made.1 made.2)
+
+abbrev pub mkdir_of : List (List ℕ) → Result Op Fault
+mkdir_of args = made_of args >>= λ made. Ok (Mkdir made.0 made.1 made.2)

@@ -1,6 +1,8 @@
 -- What each line of a script asks for.
 use Rattle.std.specs.Prelude.{ℕ, if◌then◌else◌, List, [], ◌∷◌, codes, Result, Ok, Err}
 use Rattle.std.specs.List.{list_all}
+use Rattle.mds_types.specs.declared.operations.Op.{Op}
+use Rattle.mds_types.specs.declared.ids.Rank.{Rank}
 use Rattle.script_text.specs.declared.commands.Command.{Command}
 use Rattle.script_text.specs.declared.commands.Command.TheVariants.{Operation, Request, Serve, Own, History, Export, Store}
 use Rattle.script_text.specs.declared.lines.Line.{Line}
@@ -8,7 +10,7 @@ use Rattle.script_text.specs.declared.lines.Line.TheVariants as line
 use Rattle.script_words.specs.declared.faults.Fault.{Fault}
 use Rattle.script_words.specs.declared.faults.Fault.TheVariants.{NotCommand, BadWord}
 use Rattle.script_words.specs.Words.{words_of, is_text, is_printable, is_comment}
-use Rattle.script_words.specs.Reading.{◌>>=◌, first, one}
+use Rattle.script_words.specs.Reading.{◌>>=◌, first, none, one}
 use Rattle.script_words.specs.Arguments.{rank_of, client_of, decimal_of}
 use Rattle.script_text.specs.Operations.{operation_of}
 use Rattle.script_text.specs.Authorities.{grant_of, get_of, authority_of}
@@ -17,19 +19,12 @@ use Rattle.script_text.specs.Exports.{export_of}
 use Rattle.script_text.specs.StoreCommands.{is_store_verb, store_command_of}
 use Rattle.script_text.specs.Texts.{HoldsText}
 
--- `serve RANK`
-unfoldable pub serve_of : List (List ℕ) → Result Command Fault
-serve_of args = do
+-- `RANK`, and what is asked of it
+unfoldable pub at_rank_of : (Rank → Command) → List (List ℕ) → Result Command Fault
+at_rank_of command args = do
   word ← one args
   rank ← rank_of word
-  Ok (Serve rank)
-
--- `own RANK`
-unfoldable pub own_of : List (List ℕ) → Result Command Fault
-own_of args = do
-  word ← one args
-  rank ← rank_of word
-  Ok (Own rank)
+  Ok (command rank)
 
 -- `req RANK CLIENT TID OLDEST OP`
 unfoldable pub req_of : List (List ℕ) → Result Command Fault
@@ -46,25 +41,30 @@ req_of args = do
   op ← operation_of verb.0 verb.1
   Ok (Request rank (record { client = client; tid = tid; oldest = oldest; op = op }))
 
--- `history`, with no word after it
-abbrev pub history_of : List (List ℕ) → Result Command Fault
-history_of [] = Ok History
-history_of (word ∷ words) = Err NotCommand
-
--- a command, by its first word and the words after it
-unfoldable pub command_of : List ℕ → List (List ℕ) → Result Command Fault
-command_of verb args =
-    if is_text verb (codes "serve") then serve_of args else
-    (if is_text verb (codes "own") then own_of args else
+-- a command that is no operation, by its first word and the words after it
+unfoldable pub other_of : List ℕ → List (List ℕ) → Result Command Fault
+other_of verb args =
+    if is_text verb (codes "serve") then at_rank_of Serve args else
+    (if is_text verb (codes "own") then at_rank_of Own args else
     (if is_text verb (codes "req") then req_of args else
-    (if is_text verb (codes "history") then history_of args else
+    (if is_text verb (codes "history") then (none args >>= λ end. Ok History) else
     (if is_text verb (codes "dirfrag") then dirfrag_of args else
     (if is_text verb (codes "grant") then grant_of args else
     (if is_text verb (codes "get") then get_of args else
     (if is_text verb (codes "authority") then authority_of args else
     (if is_text verb (codes "export") then (export_of args >>= λ command. Ok (Export command)) else
     (if is_store_verb verb then (store_command_of verb args >>= λ command. Ok (Store command)) else
-    (operation_of verb args >>= λ op. Ok (Operation op)))))))))))
+    Err NotCommand)))))))))
+
+-- an operation alone; or the other command, where the words are none
+abbrev pub operation_or : Result Op Fault → Result Command Fault → Result Command Fault
+operation_or (Ok op) other = Ok (Operation op)
+operation_or (Err NotCommand) other = other
+operation_or (Err (BadWord errno)) other = Err (BadWord errno)
+
+-- a command: an operation alone, or another; no verb begins both
+unfoldable pub command_of : List ℕ → List (List ℕ) → Result Command Fault
+command_of verb args = operation_or (operation_of verb args) (other_of verb args)
 
 -- the line of a command, or of its fault
 abbrev pub line_from : Result Command Fault → Line
@@ -82,6 +82,13 @@ unfoldable pub line_of : List ℕ → Line
 line_of bytes =
     if is_comment bytes then line.Nothing else
     (if list_all is_printable bytes then line_of_words (words_of bytes) else line.NotCommand)
+
+-- the operation alone that a line asks for, if it asks for one
+unfoldable pub operation_line_of : List ℕ → Result Op Fault
+operation_line_of bytes =
+    if is_comment bytes then Err NotCommand else
+    (if list_all is_printable bytes then (first (words_of bytes) >>= λ words. operation_of words.0 words.1) else
+    Err NotCommand)
 
 -- a line of a command that holds text, or of one with a name or a target outside its rules
 abbrev pub HasLineText : Line → Type 0

@@ -1,7 +1,8 @@
 //! Commands, by their first word.
 ghost use Rattle.script_words.specs.Words.{words_of};
 ghost use Rattle.script_words.specs.Reading.{Reads};
-ghost use Rattle.script_text.specs.Script.{command_of, history_of, own_of, req_of, serve_of};
+ghost use Rattle.script_text.specs.Script.{at_rank_of, command_of, other_of, req_of};
+ghost use Rattle.script_text.specs.declared.commands.Command.TheVariants.{Own, Serve};
 ghost use Rattle.script_text.specs.Texts.{GivesText, HoldsText};
 
 use crate::authorities::{authority, get, grant};
@@ -10,7 +11,9 @@ use crate::exports::{ExportCommand, read_export};
 use crate::operations::read_operation;
 use crate::store_commands::{StoreCommand, is_store_verb, read_store_command};
 use mds_types::{Frag, Ino, Op, Rank, Request};
-use script_words::{NOT_COMMAND, ReadError, client, decimal, first, is_text, next_word, one, rank};
+use script_words::{
+    Fault, NOT_COMMAND, ReadError, client, decimal, first, is_text, none, one, rank,
+};
 use std::alloc::Global;
 
 /// What a line of the script asks for.
@@ -65,6 +68,22 @@ pub enum Command {
 pub fn read_command(alloc: Global, verb: &[u8], args: &[u8]) -> Result<Command, ReadError>
     ensures { GivesText HoldsText result (command_of verb.now (words_of args.now)) }
 {
+    match read_operation(alloc, verb, args) {
+        Ok(op) => Ok(Command::Operation(op)),
+        Err(ReadError::Fault(Fault::NotCommand)) => read_other(alloc, verb, args),
+        Err(ReadError::Fault(Fault::BadWord(errno))) => {
+            Err(ReadError::Fault(Fault::BadWord(errno)))
+        }
+        Err(ReadError::NoMemory) => Err(ReadError::NoMemory),
+    }
+}
+
+// The command of this first word, which is no operation.
+#[inline(never)]
+#[tactic(auto, unfolding(crate::specs::Script::other_of))]
+fn read_other(alloc: Global, verb: &[u8], args: &[u8]) -> Result<Command, ReadError>
+    ensures { GivesText HoldsText result (other_of verb.now (words_of args.now)) }
+{
     if is_text(verb, b"serve") {
         return serve(args);
     }
@@ -75,7 +94,8 @@ pub fn read_command(alloc: Global, verb: &[u8], args: &[u8]) -> Result<Command, 
         return req(alloc, args);
     }
     if is_text(verb, b"history") {
-        return history(args);
+        none(args)?;
+        return Ok(Command::History);
     }
     if is_text(verb, b"dirfrag") {
         return dirfrag(args);
@@ -95,22 +115,22 @@ pub fn read_command(alloc: Global, verb: &[u8], args: &[u8]) -> Result<Command, 
     if is_store_verb(verb) {
         return Ok(Command::Store(read_store_command(alloc, verb, args)?));
     }
-    Ok(Command::Operation(read_operation(alloc, verb, args)?))
+    Err(NOT_COMMAND)
 }
 
 // `serve RANK`
-#[tactic(auto, unfolding(crate::specs::Script::serve_of))]
+#[tactic(auto, unfolding(crate::specs::Script::at_rank_of))]
 fn serve(args: &[u8]) -> Result<Command, ReadError>
-    ensures { Reads (λ command. command) result (serve_of (words_of args.now)) }
+    ensures { Reads (λ command. command) result (at_rank_of Serve (words_of args.now)) }
 {
     let word = one(args)?;
     Ok(Command::Serve(rank(word)?))
 }
 
 // `own RANK`
-#[tactic(auto, unfolding(crate::specs::Script::own_of))]
+#[tactic(auto, unfolding(crate::specs::Script::at_rank_of))]
 fn own(args: &[u8]) -> Result<Command, ReadError>
-    ensures { Reads (λ command. command) result (own_of (words_of args.now)) }
+    ensures { Reads (λ command. command) result (at_rank_of Own (words_of args.now)) }
 {
     let word = one(args)?;
     Ok(Command::Own(rank(word)?))
@@ -140,14 +160,4 @@ fn req(alloc: Global, args: &[u8]) -> Result<Command, ReadError>
             op,
         },
     ))
-}
-
-// `history`
-fn history(args: &[u8]) -> Result<Command, ReadError>
-    ensures { Reads (λ command. command) result (history_of (words_of args.now)) }
-{
-    match next_word(args) {
-        None => Ok(Command::History),
-        Some(_) => Err(NOT_COMMAND),
-    }
 }

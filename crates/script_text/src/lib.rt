@@ -14,7 +14,8 @@ mod store_commands;
 
 pub use commands::Command;
 pub use exports::{ExportCommand, read_export};
-pub use lines::{Line, read_line};
+pub use lines::{Line, read_line, read_operation_line};
 pub use reading::buffer::{LineBuffer, MAX_LINE_LEN};
 pub use reading::input::{LineFault, NextLine, has_line, next_line};
+pub use script_words::ReadError;
 pub use store_commands::{StoreCommand, read_store_command};

@@ -1,46 +1,37 @@
 //! Operations, by the words after the first.
 ghost use Rattle.script_words.specs.Words.{words_of};
 ghost use Rattle.script_words.specs.Reading.{Gives};
-ghost use Rattle.script_text.specs.Operations.{dentry_of, made_of, readdir_of, symlink_of, setattr_of, setpin_of, rename_of, operation_of};
+ghost use Rattle.script_text.specs.Operations.{create_of, made_of, mkdir_of, on_dentry_of, readdir_of, symlink_of, setattr_of, setpin_of, rename_of, operation_of};
 ghost use Rattle.script_text.specs.Texts.{GivesText, HoldsName};
 
 use crate::attributes::{given_attributes, given_birth};
 use mds_types::{Birth, Dentry, Mode, Op};
 use script_words::{
-    NOT_COMMAND, ReadError, after_name, after_text, first, four, ino, is_text, mode, name,
-    page_size, pin, target, text, three, two, two_texts,
+    NOT_COMMAND, ReadError, after, first, four, ino, is_text, mode, name, page_size, pin, target,
+    three, two, two_texts, word_name,
 };
 use std::alloc::Global;
 
 /// The operation of this first word, with the arguments in these words.
+#[inline(always)]
 #[tactic(auto, unfolding(crate::specs::Operations::operation_of))]
 pub fn read_operation(alloc: Global, verb: &[u8], args: &[u8]) -> Result<Op, ReadError>
     ensures { GivesText HoldsName result (operation_of verb.now (words_of args.now)) }
 {
     if is_text(verb, b"lookup") {
-        return Ok(Op::Lookup(dentry(alloc, args)?));
+        return on_dentry(alloc, DentryVerb::Lookup, args);
     }
     if is_text(verb, b"readdir") {
         return readdir(alloc, args);
     }
     if is_text(verb, b"create") {
-        let (dentry, mode, birth) = made(alloc, args)?;
-        return Ok(Op::Create {
-            dentry,
-            mode,
-            birth,
-        });
+        return create(alloc, args);
     }
     if is_text(verb, b"mkdir") {
-        let (dentry, mode, birth) = made(alloc, args)?;
-        return Ok(Op::Mkdir {
-            dentry,
-            mode,
-            birth,
-        });
+        return mkdir(alloc, args);
     }
     if is_text(verb, b"readlink") {
-        return Ok(Op::Readlink(dentry(alloc, args)?));
+        return on_dentry(alloc, DentryVerb::Readlink, args);
     }
     if is_text(verb, b"symlink") {
         return symlink(alloc, args);
@@ -52,10 +43,10 @@ pub fn read_operation(alloc: Global, verb: &[u8], args: &[u8]) -> Result<Op, Rea
         return setpin(alloc, args);
     }
     if is_text(verb, b"unlink") {
-        return Ok(Op::Unlink(dentry(alloc, args)?));
+        return on_dentry(alloc, DentryVerb::Unlink, args);
     }
     if is_text(verb, b"rmdir") {
-        return Ok(Op::Rmdir(dentry(alloc, args)?));
+        return on_dentry(alloc, DentryVerb::Rmdir, args);
     }
     if is_text(verb, b"rename") {
         return rename(alloc, args);
@@ -63,19 +54,63 @@ pub fn read_operation(alloc: Global, verb: &[u8], args: &[u8]) -> Result<Op, Rea
     Err(NOT_COMMAND)
 }
 
-// `INO NAME`: a dentry.
+// A verb with nothing but a dentry behind it.
+#[derive(Clone, Copy, Debug)]
+enum DentryVerb {
+    Lookup,
+    Readlink,
+    Unlink,
+    Rmdir,
+}
+
+// `INO NAME` behind such a verb. This and the others below are functions of their own, each with room for what it makes
+// alone; an operation is put together in one place of each, since each hand that it goes through copies it.
+#[inline(never)]
 #[tactic(auto, unfolding(crate::specs::Operations::dentry_of))]
-fn dentry(alloc: Global, args: &[u8]) -> Result<Dentry, ReadError>
-    ensures { Gives (λ dentry. dentry) result (dentry_of (words_of args.now)) }
+fn on_dentry(alloc: Global, verb: DentryVerb, args: &[u8]) -> Result<Op, ReadError>
+    ensures { GivesText HoldsName result (on_dentry_of verb (words_of args.now)) }
 {
     let (dir, word) = two(args)?;
     let dir = ino(dir)?;
-    let bytes = text(alloc, word)?;
-    let name = name(bytes)?;
-    Ok(Dentry { dir, name })
+    match word_name(alloc, word) {
+        Ok(name) => match verb {
+            DentryVerb::Lookup => return Ok(Op::Lookup(Dentry { dir, name })),
+            DentryVerb::Readlink => return Ok(Op::Readlink(Dentry { dir, name })),
+            DentryVerb::Unlink => return Ok(Op::Unlink(Dentry { dir, name })),
+            DentryVerb::Rmdir => return Ok(Op::Rmdir(Dentry { dir, name })),
+        },
+        Err(error) => Err(error),
+    }
+}
+
+// `create INO NAME MODE [uid N] [gid N]`
+#[inline(never)]
+fn create(alloc: Global, args: &[u8]) -> Result<Op, ReadError>
+    ensures { GivesText HoldsName result (create_of (words_of args.now)) }
+{
+    let (dentry, mode, birth) = made(alloc, args)?;
+    Ok(Op::Create {
+        dentry,
+        mode,
+        birth,
+    })
+}
+
+// `mkdir INO NAME MODE [uid N] [gid N]`
+#[inline(never)]
+fn mkdir(alloc: Global, args: &[u8]) -> Result<Op, ReadError>
+    ensures { GivesText HoldsName result (mkdir_of (words_of args.now)) }
+{
+    let (dentry, mode, birth) = made(alloc, args)?;
+    Ok(Op::Mkdir {
+        dentry,
+        mode,
+        birth,
+    })
 }
 
 // `INO NAME MODE [uid N] [gid N]`: a dentry, and what is made there.
+#[inline(always)]
 #[tactic(auto, unfolding(crate::specs::Operations::made_of))]
 fn made(alloc: Global, args: &[u8]) -> Result<(Dentry, Mode, Birth), ReadError>
     ensures { Gives (λ made. made) result (made_of (words_of args.now)) }
@@ -86,8 +121,7 @@ fn made(alloc: Global, args: &[u8]) -> Result<(Dentry, Mode, Birth), ReadError>
     let dir = ino(dir)?;
     let mode = mode(digits)?;
     let birth = given_birth(rest)?;
-    let bytes = text(alloc, word)?;
-    let name = name(bytes)?;
+    let name = word_name(alloc, word)?;
     Ok((Dentry { dir, name }, mode, birth))
 }
 
@@ -96,11 +130,10 @@ fn made(alloc: Global, args: &[u8]) -> Result<(Dentry, Mode, Birth), ReadError>
 fn readdir(alloc: Global, args: &[u8]) -> Result<Op, ReadError>
     ensures { GivesText HoldsName result (readdir_of (words_of args.now)) }
 {
-    let (dir, after, max) = three(args)?;
+    let (dir, word, max) = three(args)?;
     let dir = ino(dir)?;
     let max = page_size(max)?;
-    let bytes = after_text(alloc, after)?;
-    let after = after_name(bytes)?;
+    let after = after(alloc, word)?;
     Ok(Op::Readdir { dir, after, max })
 }
 
@@ -133,8 +166,7 @@ fn setattr(alloc: Global, args: &[u8]) -> Result<Op, ReadError>
     let (word, rest) = first(rest)?;
     let dir = ino(dir)?;
     let attributes = given_attributes(rest)?;
-    let bytes = text(alloc, word)?;
-    let name = name(bytes)?;
+    let name = word_name(alloc, word)?;
     Ok(Op::Setattr {
         dentry: Dentry { dir, name },
         attributes,
@@ -149,8 +181,7 @@ fn setpin(alloc: Global, args: &[u8]) -> Result<Op, ReadError>
     let (dir, word, pinned) = three(args)?;
     let dir = ino(dir)?;
     let pin = pin(pinned)?;
-    let bytes = text(alloc, word)?;
-    let name = name(bytes)?;
+    let name = word_name(alloc, word)?;
     Ok(Op::SetPin {
         dentry: Dentry { dir, name },
         pin,

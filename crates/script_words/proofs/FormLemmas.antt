@@ -1,7 +1,8 @@
 -- Which words have a command's form.
-use Rattle.script_words.proofs.Common.{BadWord, Bool, Err, Fails, Fault, HasForm, List, None, NotCommand, Ok, Option, ReadError, Result, Some, ap, bytes_of, cond, false, fits_target, is_plain_name, is_some, length, list_all, nat_lt, refl, true, wanted, ℕ, ◌==◌, ◌>>=◌, ◌≡◌}
+use Rattle.script_words.proofs.Common.{BadWord, Bool, Err, Fails, Fault, HasForm, List, None, NotCommand, Ok, Option, ReadError, Result, Some, ap, bytes_of, cond, false, fits_target, is_plain_name, is_some, length, list_all, nat_lt, not, refl, true, wanted, ℕ, ◌==◌, ◌>>=◌, ◌≡◌}
 use Rattle.script_words.specs.declared.faults.ReadError.TheVariants as errors
-use Rattle.script_words.specs.Arguments.{name_of, target_of, text_of, two_texts_of}
+use Rattle.script_words.specs.Arguments.{name_of, target_of, text_of, two_texts_of, word_name_of}
+use Rattle.script_words.proofs.EscapeLemmas.{bytes_of-itself}
 
 -- what has a form, and what follows it has one
 pub form_on : {A B : Type 0} (read : Result A Fault) (next : A → Result B Fault) → HasForm read → ((x : A) → HasForm (next x)) → HasForm (read >>= next)
@@ -61,3 +62,14 @@ form_of_two word other one two = form_on (text_of word) (λ bytes. (text_of othe
 pub fails_on : {A B : Type 0} (error : ReadError) (read : Result A Fault) (next : A → Result B Fault) → Fails error read → ((x : A) → HasForm (next x)) → Fails error (read >>= next)
 fails_on errors.NoMemory read next form others = form_on read next form others
 fails_on (errors.Fault fault) read next is others = ap (λ r. r >>= next) is
+
+-- a word without a `%` stands for its own bytes
+pub name_by_itself : (word : List ℕ) → list_all (λ byte. not (byte == 37)) word ≡ true → name_of word ≡ word_name_of word
+unfolding word_name_of text_of
+name_by_itself word plain = ap (λ (bytes : Option (List ℕ)). wanted bytes >>= name_of) (bytes_of-itself word plain)
+
+-- a word that stands for bytes is one of a name, or of bytes outside its rules
+pub name_fails_on : (error : ReadError) (word : List ℕ) → Fails error (text_of word) → Fails error (word_name_of word)
+unfolding word_name_of
+name_fails_on errors.NoMemory word form = form_on (text_of word) name_of form form_of_name
+name_fails_on (errors.Fault fault) word is = ap (λ (read : Result (List ℕ) Fault). read >>= name_of) is

@@ -65,10 +65,6 @@ is_dash [] = false
 is_dash (byte ∷ []) = byte == 45
 is_dash (byte ∷ next ∷ bytes) = false
 
--- AFTER: none for `-` alone, else the bytes that the word stands for
-unfoldable pub after_text_of : List ℕ → Result (Option (List ℕ)) Fault
-after_text_of word = if is_dash word then Ok None else (text_of word >>= λ bytes. Ok (Some bytes))
-
 -- bytes that are a name: at least one, none zero or `/`, and neither `.` nor `..`
 abbrev pub is_plain_name : List ℕ → Bool
 is_plain_name bytes = nat_lt 0 (length bytes) && list_all fits_name bytes && not (is_dots bytes)
@@ -78,10 +74,13 @@ unfoldable pub name_of : List ℕ → Result (List ℕ) Fault
 name_of bytes =
     if nat_lt 255 (length bytes) then Err (BadWord 36) else (if is_plain_name bytes then Ok bytes else Err (BadWord 22))
 
--- the name after which a listing begins follows the same rules
-unfoldable pub after_name_of : Option (List ℕ) → Result (Option (List ℕ)) Fault
-after_name_of None = Ok None
-after_name_of (Some bytes) = name_of bytes >>= λ name. Ok (Some name)
+-- NAME: the name that the word stands for
+unfoldable pub word_name_of : List ℕ → Result (List ℕ) Fault
+word_name_of word = text_of word >>= name_of
+
+-- AFTER: none for `-` alone, else the name that the word stands for
+unfoldable pub after_of : List ℕ → Result (Option (List ℕ)) Fault
+after_of word = if is_dash word then Ok None else (word_name_of word >>= λ name. Ok (Some name))
 
 -- a target, or the errno of bytes that are none: too long before all else, then empty, then with a zero byte
 unfoldable pub target_of : List ℕ → Result (List ℕ) Fault

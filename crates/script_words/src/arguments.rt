@@ -1,9 +1,9 @@
 //! The words after a command's first.
 ghost use Rattle.std.specs.Prelude.{◌≡◌, OnErr, false};
 ghost use Rattle.script_words.specs.Reading.{Gives, Reads};
-ghost use Rattle.script_words.specs.Arguments.{ino_of, rank_of, pin_of, client_of, decimal_of, id_of, mode_of, page_size_of, text_of, two_texts_of, after_text_of, name_of, after_name_of, target_of, is_dash};
+ghost use Rattle.script_words.specs.Arguments.{ino_of, rank_of, pin_of, client_of, decimal_of, id_of, mode_of, page_size_of, text_of, two_texts_of, after_of, name_of, target_of, is_dash, word_name_of};
 
-use crate::escapes::{is_escaped, unescaped};
+use crate::escapes::{is_escaped, is_plain, unescaped};
 use crate::faults::{Fault, NOT_COMMAND, ReadError};
 use crate::numbers::{number, octal_mode};
 use mds_types::{
@@ -137,18 +137,6 @@ pub fn two_texts(alloc: Global, word: &[u8], other: &[u8]) -> Result<(Bytes, Byt
     }
 }
 
-/// AFTER: none for `-` alone, else the bytes that the word stands for.
-#[tactic(auto, unfolding(crate::specs::Arguments::after_text_of))]
-pub fn after_text(alloc: Global, word: &[u8]) -> Result<Option<Bytes>, ReadError>
-    ensures bytes { Gives (λ bytes. bytes) result (after_text_of word.now) }
-    ensures dash { OnErr result (is_dash word.now ≡ false) }
-{
-    if is_dash(word) {
-        return Ok(None);
-    }
-    Ok(Some(text(alloc, word)?))
-}
-
 // Whether the word is `-`.
 fn is_dash(word: &[u8]) -> bool
     ensures { result ≡ is_dash word.now }
@@ -159,6 +147,12 @@ fn is_dash(word: &[u8]) -> bool
     }
 }
 
+// Bytes that are no name,
+const BAD_NAME: ReadError = ReadError::Fault(Fault::BadWord(EINVAL));
+
+// and more than a name has.
+const LONG_NAME: ReadError = ReadError::Fault(Fault::BadWord(ENAMETOOLONG));
+
 /// The name that these bytes are, or the error number of bytes that are none.
 #[tactic(auto, unfolding(crate::specs::Arguments::name_of))]
 pub fn name(bytes: Bytes) -> Result<Name, ReadError>
@@ -166,21 +160,64 @@ pub fn name(bytes: Bytes) -> Result<Name, ReadError>
 {
     match Name::from_text(bytes) {
         Ok(name) => Ok(name),
-        Err(NameFault::Invalid) => Err(ReadError::Fault(Fault::BadWord(EINVAL))),
-        Err(NameFault::TooLong) => Err(ReadError::Fault(Fault::BadWord(ENAMETOOLONG))),
+        Err(NameFault::Invalid) => Err(BAD_NAME),
+        Err(NameFault::TooLong) => Err(LONG_NAME),
         // (bytes that are there take no memory)
         Err(NameFault::NoMemory) => unreachable!(),
     }
 }
 
-/// The name after which a listing begins, where there are bytes for one.
-#[tactic(auto, unfolding(crate::specs::Arguments::after_name_of))]
-pub fn after_name(bytes: Option<Bytes>) -> Result<Option<Name>, ReadError>
-    ensures { Reads (λ name. name) result (after_name_of bytes) }
+/// NAME: the name that the word stands for, or the error number of bytes that are none.
+#[inline(always)]
+#[tactic(auto, unfolding(crate::specs::Arguments::word_name_of))]
+pub fn word_name(alloc: Global, word: &[u8]) -> Result<Name, ReadError>
+    ensures { Gives (λ name. name) result (word_name_of word.now) }
 {
-    match bytes {
-        None => Ok(None),
-        Some(bytes) => Ok(Some(name(bytes)?)),
+    // mostly there is no escape, and then the name is made of the word itself, and moved less often
+    if is_plain(word) {
+        return plain_name(alloc, word);
+    }
+    escaped_name(alloc, word)
+}
+
+// The same, where there may be an escape.
+#[inline(never)]
+#[tactic(auto, unfolding(crate::specs::Arguments::word_name_of))]
+fn escaped_name(alloc: Global, word: &[u8]) -> Result<Name, ReadError>
+    ensures { Gives (λ name. name) result (word_name_of word.now) }
+{
+    match text(alloc, word) {
+        Ok(bytes) => name(bytes),
+        Err(error) => Err(error),
+    }
+}
+
+// The name that these bytes are, or the error number of bytes that are none.
+#[inline(always)]
+#[tactic(auto, unfolding(crate::specs::Arguments::name_of))]
+fn plain_name(alloc: Global, bytes: &[u8]) -> Result<Name, ReadError>
+    ensures { Gives (λ name. name) result (name_of bytes.now) }
+{
+    match Name::from_bytes(alloc, bytes) {
+        Ok(name) => Ok(name),
+        Err(NameFault::Invalid) => Err(BAD_NAME),
+        Err(NameFault::TooLong) => Err(LONG_NAME),
+        Err(NameFault::NoMemory) => Err(ReadError::NoMemory),
+    }
+}
+
+/// AFTER: none for `-` alone, else the name that the word stands for.
+#[tactic(auto, unfolding(crate::specs::Arguments::after_of))]
+pub fn after(alloc: Global, word: &[u8]) -> Result<Option<Name>, ReadError>
+    ensures name { Gives (λ name. name) result (after_of word.now) }
+    ensures dash { OnErr result (is_dash word.now ≡ false) }
+{
+    if is_dash(word) {
+        return Ok(None);
+    }
+    match word_name(alloc, word) {
+        Ok(name) => Ok(Some(name)),
+        Err(error) => Err(error),
     }
 }
 

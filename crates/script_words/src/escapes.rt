@@ -57,8 +57,8 @@ fn kept_bytes(alloc: Global, word: &[u8]) -> Result<Option<Bytes>, AllocError>
     }
 }
 
-// Whether each byte of a word stands for itself: none is a `%`.
-fn is_plain(word: &[u8]) -> bool
+/// Whether each byte of a word stands for itself: none is a `%`.
+pub(crate) fn is_plain(word: &[u8]) -> bool
     ensures { result ≡ list_all (λ byte. not (byte == 37)) word.now }
 {
     word.iter().all(|byte| *byte != b'%')

@@ -12,8 +12,8 @@ mod numbers;
 mod words;
 
 pub use arguments::{
-    after_name, after_text, client, decimal, id, ino, mode, name, page_size, pin, rank, target,
-    text, two_texts,
+    after, client, decimal, id, ino, mode, name, page_size, pin, rank, target, text, two_texts,
+    word_name,
 };
 pub use counts::{first, four, none, one, three, two};
 pub use faults::{Fault, NOT_COMMAND, ReadError};

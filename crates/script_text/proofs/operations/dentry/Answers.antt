@@ -1,9 +1,0 @@
-use Rattle.script_text.specs.Operations.{dentry_of}
-use Rattle.script_text.proofs.FormLemmas.{gives_fault, name_fails}
-use Rattle.script_text.proofs.operations.dentry.Goals as goal
-
-pub returns-in_err-bytes : goal.returns-in_err-bytes
-unfolding dentry_of
-returns-in_err-bytes c =
-    let from = c.from_residual-in_err-bytes.ensures in
-    gives_fault _ c.from_residual-in_err-bytes.result c.in_err-bytes.field-0.0 _ from.0 from.1 (rw (c.in_ok-dir.ensures, c.in_ok-dir-2.ensures) (name_fails _ _ _ c.in_err-bytes.ensures))
