@@ -1,5 +1,5 @@
+pub mod Apart
 pub mod Committed
 pub mod Common
-pub mod Operated
 pub mod PathLines
 pub mod Progress

@@ -53,14 +53,20 @@ pub record PrintsOwn (waiting : Waiting) (line : ℕ) (printed : OutputLine) (be
   pub flushed : Appends before middle waiting.bytes.items
   pub prints : Prints middle after printed (Err kind)
 
+-- all that waits was written, and a line's text behind it
+abbrev pub PrintsApart : (old new : Waiting) → (line : ℕ) → OutputLine → (before after : Option (List ℕ))
+    → Result (Unit {0}) ScriptFault → Type 0
+PrintsApart old new line printed before after (Ok done) =
+    IsEmpty new × Appends before after (old.bytes.items ++ text_of printed)
+PrintsApart old new line printed before after (Err fault) =
+    IsEmpty new × (Breaks old before after fault ⊎ PrintsOwn old line printed before after fault)
+
 -- a line's text was put behind what waits; or all was written, where there was no memory to let it wait
 abbrev pub PrintsOutput : (old new : Waiting) → (line : ℕ) → OutputLine → (before after : Option (List ℕ))
     → Result (Unit {0}) ScriptFault → Type 0
 PrintsOutput old new line printed before after (Ok done) =
-    (PutsLine old new line printed × (after ≡ before))
-    ⊎ (IsEmpty new × Appends before after (old.bytes.items ++ text_of printed))
-PrintsOutput old new line printed before after (Err fault) =
-    IsEmpty new × (Breaks old before after fault ⊎ PrintsOwn old line printed before after fault)
+    (PutsLine old new line printed × (after ≡ before)) ⊎ PrintsApart old new line printed before after (Ok done)
+PrintsOutput old new line printed before after (Err fault) = PrintsApart old new line printed before after (Err fault)
 
 -- what a line of the script prints, if it prints anything
 abbrev pub PrintsAny : (old new : Waiting) → (line : ℕ) → Option OutputLine → (before after : Option (List ℕ))

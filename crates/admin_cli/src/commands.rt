@@ -62,7 +62,7 @@ impl Admin {
         match command {
             Command::Store(command) => self.execute_store(rt, alloc, command),
             Command::Export(command) => self.execute_export(alloc, command),
-            Command::Operation(op) => Ok(self.operate(alloc, op)),
+            Command::Operation(op) => Ok(shown_line(self.operate(alloc, op))),
             Command::Request(rank, request) => Ok(self.arrive(alloc, rank, request)),
             Command::Serve(rank) => Ok(self.serve(alloc, rank)),
             Command::Own(rank) => self.own_turn(alloc, rank),
@@ -82,15 +82,15 @@ impl Admin {
     }
 
     /// An operation alone arrives at rank 0 as client 0, with the number of such lines so far as its transaction number
-    /// and its oldest, and is served there. This and the next four are functions of their own: else each line would
-    /// clear the room for all that any of them needs.
+    /// and its oldest, and is served there, unless it was refused. This and the next four are functions of their own:
+    /// else each line would clear the room for all that any of them needs.
     #[inline(never)]
-    pub fn operate(&mut self, alloc: Global, op: Op) -> OutputLine
+    pub fn operate(&mut self, alloc: Global, op: Op) -> Result<Answer, Refusal>
         requires { self.old.operations + 1 < 2 ^ 64 }
         ensures count { self.new.operations ≡ self.old.operations + 1 }
         ensures jobs { self.new.jobs ≡ self.old.jobs }
         ensures sent { self.new.sent ≡ self.old.sent }
-        ensures operated { OperatesLine self.old.book self.new.book self.new.operations op result }
+        ensures operated { OperatesLine self.old.book self.new.book self.new.operations op (line_of result) }
     {
         self.operations += 1;
         let tid = self.operations;
@@ -100,17 +100,17 @@ impl Admin {
             oldest: tid,
             op,
         };
-        let arrived = self.step_book(
-            alloc,
-            Event::Arrive {
-                rank: Rank(0),
-                request,
-            },
-        );
-        if let Err(refusal) = arrived {
-            return OutputLine::Refused(refusal);
+        let arrive = Event::Arrive {
+            rank: Rank(0),
+            request,
+        };
+        match self.step_book(alloc, arrive) {
+            Ok(waits) => {
+                drop(waits);
+                self.step_book(alloc, Event::Serve { rank: Rank(0) })
+            }
+            Err(refusal) => Err(refusal),
         }
-        self.step(alloc, Event::Serve { rank: Rank(0) })
     }
 
     // A request comes in at a rank.

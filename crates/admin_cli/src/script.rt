@@ -2,18 +2,23 @@
 ghost use Rattle.std.specs.Prelude.{◌≡◌, ◌+◌, ◌<◌, ◌≤◌, ◌^◌, length, IfSome};
 ghost use Rattle.std.specs.FinMap as map;
 ghost use Rattle.cluster_core.specs.SentBytes.{none_sent};
+ghost use Rattle.script_text.specs.declared.commands.Command.TheVariants.{Operation};
+ghost use Rattle.script_text.specs.declared.lines.Line.TheVariants as asked;
 ghost use Rattle.admin_cli.specs.Scripts.{IsFormatted, RunsInput, RunsNew};
 ghost use Rattle.admin_cli.specs.OneLine.{AnswersLine, DoesBytes, HasReaderFailed, Prints, RunsOrNot};
-ghost use Rattle.admin_cli.specs.Waiting.{IsEmpty, PrintsCame, PrintsOf, PrintsOutput, RunsWaiting};
+ghost use Rattle.admin_cli.specs.Waiting.{IsEmpty, PrintsApart, PrintsCame, PrintsOf, PrintsOutput, RunsWaiting};
 
-use crate::commands::Admin;
+use crate::commands::{Admin, shown_line};
 use crate::faults::{FaultKind, ScriptFault};
 use crate::waiting::Waiting;
 use cluster_core::{Book, format};
-use mds_types::Limit;
+use mds_types::{Limit, Op};
 use objstore::MemStore;
 use script_output::{OutputFault, OutputLine, write_line};
-use script_text::{Command, Line, LineBuffer, LineFault, NextLine, has_line, next_line, read_line};
+use script_text::{
+    Line, LineBuffer, LineFault, NextLine, ReadError, has_line, next_line, read_line,
+    read_operation_line,
+};
 use std::alloc::{AllocError, Global};
 use std::io::{BufRead, BufReader, Read, Write};
 use std::thread::Threads;
@@ -177,6 +182,55 @@ fn run_line<W: Write>(
     ensures runs { PrintsOf (DoesBytes admin.old admin.new bytes.now) waiting.old waiting.new line
         (W.contents writer.old) (W.contents writer.new) result }
 {
+    match read_operation_line(rt.alloc(), bytes) {
+        Ok(op) => do_operation(rt.alloc(), line, op, admin, waiting, writer),
+        Err(ReadError::Fault(_)) => run_other(rt, line, bytes, admin, waiting, writer),
+        Err(ReadError::NoMemory) => Err(at(line, FaultKind::OutOfMemory)),
+    }
+}
+
+// Makes an operation alone, as most lines ask for, and puts what it prints behind what waits.
+#[inline(always)]
+fn do_operation<W: Write>(
+    alloc: Global,
+    line: u64,
+    op: Op,
+    admin: &mut Admin,
+    waiting: &mut Waiting,
+    writer: &mut W,
+) -> Result<(), ScriptFault>
+    requires { admin.old.operations + 1 < 2 ^ 64 }
+    ensures count { admin.new.operations ≤ admin.old.operations + 1 }
+    ensures prints { PrintsOf (AnswersLine admin.old admin.new (asked.Command (Operation op))) waiting.old waiting.new line
+        (W.contents writer.old) (W.contents writer.new) result }
+{
+    let came = admin.operate(alloc, op);
+    if waiting.put_step(alloc, line, &came).is_ok() {
+        drop(came);
+        return Ok(());
+    }
+    let shown = shown_line(came);
+    let printed = print_apart(alloc, line, &shown, waiting, writer);
+    drop(shown);
+    printed
+}
+
+// Runs a line that asks for no operation alone.
+#[inline(never)]
+fn run_other<W: Write>(
+    rt: &(impl AllocGlobal + Threads + Sync),
+    line: u64,
+    bytes: &[u8],
+    admin: &mut Admin,
+    waiting: &mut Waiting,
+    writer: &mut W,
+) -> Result<(), ScriptFault>
+    requires room { admin.old.operations + 1 < 2 ^ 64 }
+    requires short { length bytes.now ≤ 16384 }
+    ensures count { admin.new.operations ≤ admin.old.operations + 1 }
+    ensures runs { PrintsOf (DoesBytes admin.old admin.new bytes.now) waiting.old waiting.new line
+        (W.contents writer.old) (W.contents writer.new) result }
+{
     let Ok(found) = read_line(rt.alloc(), bytes) else {
         return Err(at(line, FaultKind::OutOfMemory));
     };
@@ -201,23 +255,17 @@ fn do_line<W: Write>(
         Line::Nothing => Ok(()),
         Line::NotCommand => Err(at(line, FaultKind::NotCommand)),
         Line::BadWord(errno) => {
-            print(rt.alloc(), line, &OutputLine::Errno(errno), waiting, writer)
+            let shown = OutputLine::Errno(errno);
+            let printed = print(rt.alloc(), line, &shown, waiting, writer);
+            drop(shown);
+            printed
         }
-        // what a command came to is printed where it stands: each hand that a line goes through copies it
-        Line::Command(command) => match command {
-            Command::Operation(op) => {
-                let came = admin.operate(rt.alloc(), op);
-                let printed = print(rt.alloc(), line, &came, waiting, writer);
-                drop(came);
-                printed
-            }
-            other => {
-                let came = admin.execute(rt, other);
-                let printed = print_came(rt.alloc(), line, &came, waiting, writer);
-                drop(came);
-                printed
-            }
-        },
+        Line::Command(command) => {
+            let came = admin.execute(rt, command);
+            let printed = print_came(rt.alloc(), line, &came, waiting, writer);
+            drop(came);
+            printed
+        }
     }
 }
 
@@ -260,6 +308,21 @@ fn print<W: Write>(
     if waiting.put(alloc, line, printed).is_ok() {
         return Ok(());
     }
+    print_apart(alloc, line, printed, waiting, writer)
+}
+
+// Writes all that waits, and then what a line prints.
+#[inline(never)]
+fn print_apart<W: Write>(
+    alloc: Global,
+    line: u64,
+    printed: &OutputLine,
+    waiting: &mut Waiting,
+    writer: &mut W,
+) -> Result<(), ScriptFault>
+    ensures { PrintsApart waiting.old waiting.new line printed.now
+        (W.contents writer.old) (W.contents writer.new) result }
+{
     waiting.flush(writer)?;
     match write_own(alloc, writer, printed) {
         Ok(()) => Ok(()),

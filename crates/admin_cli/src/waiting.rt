@@ -1,9 +1,13 @@
 //! What a script prints, before it is written.
-ghost use Rattle.std.specs.Prelude.{◌≡◌, OnOk, OnErr, IfOk, []};
+ghost use Rattle.std.specs.Prelude.{◌≡◌, ◌<◌, ◌++◌, ◌∷◌, OnOk, OnErr, IfOk, [], length, vec_len, vec_capacity};
+ghost use Rattle.script_output.specs.Lines.{line_of_reply};
+ghost use Rattle.admin_cli.specs.StepLines.{shown_line};
 ghost use Rattle.admin_cli.specs.Waiting.{WritesOut, IsEmpty, MayFlush, PutsLine, line_at};
 
 use crate::faults::{FaultKind, ScriptFault};
-use script_output::{OutputLine, write_most_of};
+use cluster_core::Answer;
+use mds_types::{Refusal, Reply};
+use script_output::{Heading, OutputLine, push_reply_line, write_most_of};
 use std::alloc::{AllocError, Global};
 use std::io::Write;
 
@@ -49,9 +53,87 @@ impl Waiting {
     {
         self.marks.reserve(1)?;
         printed.push_to(alloc, &mut self.bytes)?;
+        self.mark(line);
+        Ok(())
+    }
+
+    /// Puts the line that shows what a step came to behind what waits, unless there is no memory for it. Most are replies,
+    /// and a reply is printed where it stands: each hand that it goes through copies it.
+    pub fn put_step(
+        &mut self,
+        alloc: Global,
+        line: u64,
+        came: &Result<Answer, Refusal>,
+    ) -> Result<(), AllocError>
+        ensures ok { OnOk result (PutsLine self.old self.new line (shown_line came.now)) }
+        ensures err { OnErr result ((self.new.bytes.items ≡ self.old.bytes.items)
+            × (self.new.marks.items ≡ self.old.marks.items)) }
+    {
+        match came {
+            Ok(
+                Answer::Reply {
+                    client,
+                    tid,
+                    place,
+                    first,
+                    reply,
+                },
+            ) => {
+                let heading = Heading {
+                    client: *client,
+                    tid: *tid,
+                    place: *place as u64,
+                    first: *first,
+                };
+                self.put_reply(line, &heading, reply)
+            }
+            Ok(Answer::Nothing) => self.put_own(alloc, line, OutputLine::Nothing),
+            Ok(Answer::Job(job)) => self.put_own(alloc, line, OutputLine::Job(job.number)),
+            Ok(Answer::Sent(bytes)) => {
+                self.put_own(alloc, line, OutputLine::Sent(bytes.as_slice().len() as u64))
+            }
+            Ok(Answer::Forwarded(rank)) => {
+                self.put_own(alloc, line, OutputLine::Forwarded(*rank))
+            }
+            Ok(Answer::Deferred) => self.put_own(alloc, line, OutputLine::Deferred),
+            Err(refusal) => self.put_own(alloc, line, OutputLine::Refused(*refusal)),
+        }
+    }
+
+    // Puts the line of a reply behind what waits.
+    fn put_reply(&mut self, line: u64, heading: &Heading, reply: &Reply) -> Result<(), AllocError>
+        ensures ok { OnOk result (PutsLine self.old self.new line (line_of_reply heading.now reply.now)) }
+        ensures err { OnErr result ((self.new.bytes.items ≡ self.old.bytes.items)
+            × (self.new.marks.items ≡ self.old.marks.items)) }
+    {
+        self.marks.reserve(1)?;
+        push_reply_line(&mut self.bytes, heading, reply)?;
+        self.mark(line);
+        Ok(())
+    }
+
+    // The text of this line ends here. There is room for one mark more.
+    #[inline(always)]
+    fn mark(&mut self, line: u64)
+        requires { vec_len self.old.marks < vec_capacity self.old.marks }
+        ensures bytes { self.new.bytes.items ≡ self.old.bytes.items }
+        ensures marks { self.new.marks.items ≡ self.old.marks.items
+            ++ record { line = line; end = length self.old.bytes.items } ∷ [] }
+    {
         let end = self.bytes.len();
         self.marks.push_reserved(Mark { line, end });
-        Ok(())
+    }
+
+    // Puts a line behind what waits that is needed no longer.
+    #[inline(never)]
+    fn put_own(&mut self, alloc: Global, line: u64, printed: OutputLine) -> Result<(), AllocError>
+        ensures ok { OnOk result (PutsLine self.old self.new line printed) }
+        ensures err { OnErr result ((self.new.bytes.items ≡ self.old.bytes.items)
+            × (self.new.marks.items ≡ self.old.marks.items)) }
+    {
+        let put = self.put(alloc, line, &printed);
+        drop(printed);
+        put
     }
 
     /// Writes what waits, unless further lines are at hand and it isn't enough yet.

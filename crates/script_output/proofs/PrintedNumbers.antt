@@ -1,5 +1,5 @@
 -- Numbers are read back from their digits.
-use Rattle.script_output.proofs.Common.{Bool, List, Some, [], ap, append-nil, append_assoc, are_digits, arith, cond, digit_glyph, digit_of, digits_onto, div-add-mod, div-eq_of_lt, div-lt_iff_lt-mul, eqb, eqb-false, eqb-true, false, fold, is_shortest, le-leb, length, length-append, lt-ltb, ltb, mod-eq_of_lt, mod-lt, mul-zero, nat_tests, ne_eqb, not, number_of, octal_mode_of, one-mul, pow-le-pow_left, pow-suc, pow-zero, refl, subst, suc, sym, true, value_of, zero, zero-div, ℕ, ◌%◌, ◌&&◌, ◌*◌, ◌++◌, ◌+◌, ◌/◌, ◌<◌, ◌^◌, ◌∙◌, ◌∷◌, ◌≡◌, ◌≢◌, ◌≤◌}
+use Rattle.script_output.proofs.Common.{Bool, List, Some, [], ap, append-nil, append_assoc, are_digits, arith, cond, digit_glyph, digit_of, digits_onto, div-add-mod, div-eq_of_lt, eqb, eqb-false, eqb-true, false, fold, is_shortest, le-leb, length, length-append, lt-ltb, ltb, mod-eq_of_lt, mod-lt, mul-zero, nat_tests, ne_eqb, not, number_of, octal_mode_of, refl, subst, suc, sym, true, value_of, zero, zero-div, ℕ, ◌%◌, ◌&&◌, ◌*◌, ◌++◌, ◌+◌, ◌/◌, ◌<◌, ◌^◌, ◌∙◌, ◌∷◌, ◌≡◌, ◌≢◌, ◌≤◌}
 use Rattle.mds_types.proofs.DigitLaws.{below_most, pow_once, shorter}
 use Rattle.std.specs.Fmt.{digits}
 

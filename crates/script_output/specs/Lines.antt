@@ -6,6 +6,8 @@ use Rattle.script_output.specs.declared.lines.OutputLine.TheVariants.{Reply, For
 use Rattle.script_output.specs.ObjectLines.{object_line_text}
 use Rattle.script_output.specs.OwnTurns.{own_text}
 use Rattle.script_output.specs.Texts.{reply_line, frags_text, subtrees_text, objects_text, refused_line, errno_text}
+use Rattle.mds_types.specs.declared.replies.Reply.{Reply as Replied}
+use Rattle.script_output.specs.declared.replies.Heading.{Heading}
 
 -- a reply's line, that of a request that went to another rank, that waits on, or that came in, of a step that answers
 -- nothing, of a flush, of a directory's leaves, of the subtree map, of a leaf's authority, of a commit that began, of
@@ -30,3 +32,7 @@ output_line (Own turn) = own_text turn
 output_line (History length) = codes "history " ++ decimal length
 output_line (Refused refusal) = refused_line refusal
 output_line (Errno errno) = errno_text errno
+
+-- the line of a reply with what stands before it
+abbrev pub line_of_reply : Heading → Replied → OutputLine
+line_of_reply heading reply = Reply heading.client heading.tid heading.place heading.first reply

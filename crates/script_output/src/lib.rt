@@ -21,6 +21,7 @@ pub use laws::{fragments_read_back, names_read_back, numbers_read_back};
 pub use lines::OutputLine;
 pub use object_lines::ObjectLine;
 pub use own_turns::{OwnResult, OwnStep, OwnTurn};
+pub use replies::{Heading, push_reply_line};
 pub use root_lists::{Root, RootList};
 pub use word_lists::WordList;
 pub use writing::{OutputFault, WriteFault, write_all_of, write_line, write_most_of};

@@ -100,7 +100,7 @@ impl OutputLine {
                     place: *place,
                     first: *first,
                 };
-                push_reply(out, heading, reply)
+                push_reply(out, &heading, reply)
             }
             OutputLine::Forwarded(Rank(rank)) => push_text(
                 out,

@@ -1,8 +1,9 @@
 //! The line of a reply. Most of what a script prints are such lines, so they are put together by hand.
-ghost use Rattle.std.specs.Prelude.{◌≡◌, ◌+◌, ◌≤◌, ◌++◌, codes, length};
+ghost use Rattle.std.specs.Prelude.{◌≡◌, ◌+◌, ◌≤◌, ◌++◌, codes, length, OnErr, OnOk};
 ghost use Rattle.std.specs.List.{flat_map};
 ghost use Rattle.script_output.specs.Texts.{entry_text, kind_text, listed_text, more_text, owner_text, pin_text};
 ghost use Rattle.script_output.specs.ReplyLines.{PushesHeaded, PushesReply, entries_front};
+ghost use Rattle.script_output.specs.Lines.{line_of_reply, output_line};
 ghost use Rattle.script_output.specs.Writing.{Pushes};
 
 use crate::escapes::push_escaped;
@@ -19,9 +20,29 @@ pub struct Heading {
     pub first: bool,
 }
 
+/// Puts the line of a reply with its LF at the end of a text, as `push_to` does that of an `OutputLine`. Where there is no
+/// memory for it, the text stays as it was.
+#[tactic(auto, unfolding(crate::specs::Lines::output_line))]
+pub fn push_reply_line(
+    out: &mut Vec<u8>,
+    heading: &Heading,
+    reply: &Reply,
+) -> Result<(), AllocError>
+    ensures ok { OnOk result (out.new.items ≡ out.old.items
+        ++ (output_line (line_of_reply heading.now reply.now) ++ codes "\n")) }
+    ensures err { OnErr result (out.new.items ≡ out.old.items) }
+{
+    let len = out.len();
+    let pushed = push_reply(out, heading, reply);
+    if pushed.is_err() {
+        out.truncate(len);
+    }
+    pushed
+}
+
 /// Puts the line of a reply at the end of a text, with its LF.
-pub fn push_reply(out: &mut Vec<u8>, heading: Heading, reply: &Reply) -> Result<(), AllocError>
-    ensures { PushesReply out.old.items out.new.items heading reply.now result }
+pub fn push_reply(out: &mut Vec<u8>, heading: &Heading, reply: &Reply) -> Result<(), AllocError>
+    ensures { PushesReply out.old.items out.new.items heading.now reply.now result }
 {
     match reply {
         Reply::Entry(inode) => push_entry(out, heading, inode),
@@ -33,8 +54,8 @@ pub fn push_reply(out: &mut Vec<u8>, heading: Heading, reply: &Reply) -> Result<
 }
 
 // `entry INO KIND MODE SIZE MTIME`, ` owner UID GID` and ` pin RANK`
-fn push_entry(out: &mut Vec<u8>, heading: Heading, inode: &Inode) -> Result<(), AllocError>
-    ensures { PushesReply out.old.items out.new.items heading (Reply.Entry inode.now) result }
+fn push_entry(out: &mut Vec<u8>, heading: &Heading, inode: &Inode) -> Result<(), AllocError>
+    ensures { PushesReply out.old.items out.new.items heading.now (Reply.Entry inode.now) result }
 {
     let mut end = TextEnd::new();
     end.put(b"\n");
@@ -105,11 +126,11 @@ fn put_kind(end: &mut TextEnd, kind: &Kind)
 // `entries K more` or `entries K end`, and then each entry
 fn push_entries(
     out: &mut Vec<u8>,
-    heading: Heading,
+    heading: &Heading,
     list: &Listing,
     more: bool,
 ) -> Result<(), AllocError>
-    ensures { PushesReply out.old.items out.new.items heading (Reply.Entries list.now more) result }
+    ensures { PushesReply out.old.items out.new.items heading.now (Reply.Entries list.now more) result }
 {
     push_entries_heading(out, heading, list.as_slice().len(), more)?;
     push_listing(out, list)?;
@@ -119,11 +140,11 @@ fn push_entries(
 // `entries K more` or `entries K end`, and what stands before it.
 fn push_entries_heading(
     out: &mut Vec<u8>,
-    heading: Heading,
+    heading: &Heading,
     count: usize,
     more: bool,
 ) -> Result<(), AllocError>
-    ensures { PushesHeaded out.old.items out.new.items heading (entries_front count more) result }
+    ensures { PushesHeaded out.old.items out.new.items heading.now (entries_front count more) result }
 {
     let mut end = TextEnd::new();
     put_more(&mut end, more);
@@ -169,8 +190,8 @@ fn push_listed(out: &mut Vec<u8>, entry: &(Name, Inode)) -> Result<(), AllocErro
 }
 
 // `target TARGET`
-fn push_target(out: &mut Vec<u8>, heading: Heading, target: &Target) -> Result<(), AllocError>
-    ensures { PushesReply out.old.items out.new.items heading (Reply.Target target.now) result }
+fn push_target(out: &mut Vec<u8>, heading: &Heading, target: &Target) -> Result<(), AllocError>
+    ensures { PushesReply out.old.items out.new.items heading.now (Reply.Target target.now) result }
 {
     let mut end = TextEnd::new();
     end.put(b"target ");
@@ -180,8 +201,8 @@ fn push_target(out: &mut Vec<u8>, heading: Heading, target: &Target) -> Result<(
 }
 
 // `done`
-fn push_done(out: &mut Vec<u8>, heading: Heading) -> Result<(), AllocError>
-    ensures { PushesReply out.old.items out.new.items heading Reply.Done result }
+fn push_done(out: &mut Vec<u8>, heading: &Heading) -> Result<(), AllocError>
+    ensures { PushesReply out.old.items out.new.items heading.now Reply.Done result }
 {
     let mut end = TextEnd::new();
     end.put(b"done\n");
@@ -189,8 +210,8 @@ fn push_done(out: &mut Vec<u8>, heading: Heading) -> Result<(), AllocError>
 }
 
 // `errno N`
-fn push_errno(out: &mut Vec<u8>, heading: Heading, errno: u16) -> Result<(), AllocError>
-    ensures { PushesReply out.old.items out.new.items heading (Reply.Errno errno) result }
+fn push_errno(out: &mut Vec<u8>, heading: &Heading, errno: u16) -> Result<(), AllocError>
+    ensures { PushesReply out.old.items out.new.items heading.now (Reply.Errno errno) result }
 {
     let mut end = TextEnd::new();
     end.put(b"\n");
@@ -200,9 +221,9 @@ fn push_errno(out: &mut Vec<u8>, heading: Heading, errno: u16) -> Result<(), All
 }
 
 // Puts what stands before a reply, and then the end of its line, at the end of a text.
-fn push_headed(out: &mut Vec<u8>, heading: Heading, end: &mut TextEnd) -> Result<(), AllocError>
+fn push_headed(out: &mut Vec<u8>, heading: &Heading, end: &mut TextEnd) -> Result<(), AllocError>
     requires { 75 + length end.old ≤ 256 }
-    ensures { PushesHeaded out.old.items out.new.items heading end.old result }
+    ensures { PushesHeaded out.old.items out.new.items heading.now end.old result }
 {
     if heading.first {
         end.put(b" new ");
