@@ -14,6 +14,7 @@ pub mod LeafLaws
 pub mod ListingLaws
 pub mod MovedLaws
 pub mod NumberLaws
+pub mod ObjectOrder
 pub mod ObjectTextBytes
 pub mod ObjectTextLaws
 pub mod OrderLaws

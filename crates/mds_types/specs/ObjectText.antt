@@ -1,6 +1,6 @@
 -- The texts that name objects, CephFS's form for the object of a fragment; that of a fragment tree is this project's
 -- own profile.
-use Rattle.std.specs.Prelude.{◌≡◌, ℕ, ◌-◌, ◌^◌, ◌<◌, false, List, ◌++◌, codes, length, replicate}
+use Rattle.std.specs.Prelude.{◌≡◌, ◌==◌, ℕ, ◌-◌, ◌^◌, ◌<◌, Bool, true, false, List, ◌++◌, codes, length, replicate}
 use Rattle.std.specs.Fmt.{digits}
 use Rattle.mds_types.specs.declared.object_names.ObjName.{ObjName}
 use Rattle.mds_types.specs.declared.object_names.ObjName.TheVariants.{Frag, Tree}
@@ -24,3 +24,17 @@ IsObjName (Tree ino) = ino.0 < 2 ^ 64
 -- no two objects have one text
 abbrev pub TextsDiffer : Type 0
 TextsDiffer = (a b : ObjName) → IsObjName a → IsObjName b → object_text a ≡ object_text b → a ≡ b
+
+-- the number of an object's directory
+abbrev pub number_of : ObjName → ℕ
+number_of (Frag ino frag) = ino.0
+number_of (Tree ino) = ino.0
+
+-- the object of a fragment tree, and that of a directory's whole fragment
+abbrev pub is_tree : ObjName → Bool
+is_tree (Frag ino frag) = false
+is_tree (Tree ino) = true
+
+abbrev pub is_whole : ObjName → Bool
+is_whole (Frag ino frag) = word_of frag == 0
+is_whole (Tree ino) = false

@@ -1,5 +1,5 @@
 //! The names of objects in the store.
-ghost use Rattle.std.specs.Prelude.{◌≡◌, IfOk, Some};
+ghost use Rattle.std.specs.Prelude.{◌≡◌, ◌≤◌, ◌-◌, IfOk, IsUtf8, Some, drop, take};
 ghost use Rattle.mds_types.specs.ObjectText.{TextsDiffer, object_text};
 ghost use Rattle.mds_types.specs.declared.object_names.ObjName.TheVariants as name;
 
@@ -47,10 +47,8 @@ impl ObjName {
     pub fn to_text(self, alloc: Global) -> Result<Text, AllocError>
         ensures { IfOk result (λ text. text ≡ object_text self) }
     {
-        match self {
-            ObjName::Frag(ino, frag) => frag_text(alloc, ino.0, frag),
-            ObjName::Tree(ino) => tree_text(alloc, ino.0),
-        }
+        let spelt = spell(self);
+        Text::of_bytes(alloc, &spelt.bytes[spelt.start..])
     }
 
     /// No two objects have one text: a law, the contract of a function that does nothing.
@@ -59,22 +57,47 @@ impl ObjName {
     {}
 }
 
-// The text of a fragment's object.
-fn frag_text(alloc: Global, ino: u64, frag: Frag) -> Result<Text, AllocError>
-    ensures { IfOk result (λ text. text ≡ object_text (name.Frag (record { 0 = ino }) frag)) }
+/// The text of an object's name, at the end of as many bytes as the longest has.
+#[derive(Drop)]
+pub(crate) struct Spelt {
+    pub(crate) bytes: [u8; END],
+    pub(crate) start: usize,
+}
+
+/// The text of an object's name, in no memory of its own.
+pub(crate) fn spell(object: ObjName) -> Spelt
+    ensures text { take (25 - result.start) (drop result.start result.bytes) ≡ object_text object }
+    ensures utf8 { IsUtf8 (take (25 - result.start) (drop result.start result.bytes)) }
+    ensures start { result.start ≤ 16 }
+{
+    match object {
+        ObjName::Frag(ino, frag) => frag_spelt(ino.0, frag),
+        ObjName::Tree(ino) => tree_spelt(ino.0),
+    }
+}
+
+// That of a fragment's object.
+fn frag_spelt(ino: u64, frag: Frag) -> Spelt
+    ensures text { take (25 - result.start) (drop result.start result.bytes)
+        ≡ object_text (name.Frag (record { 0 = ino }) frag) }
+    ensures utf8 { IsUtf8 (take (25 - result.start) (drop result.start result.bytes)) }
+    ensures start { result.start ≤ 16 }
 {
     let mut bytes = [b'0'; END];
     let _ = write_digits_in(16, u64::from(frag.word()), &mut bytes, END);
     bytes[DOT] = b'.';
     let start = write_digits_in(16, ino, &mut bytes, DOT);
-    Text::of_bytes(alloc, &bytes[start..])
+    Spelt { bytes, start }
 }
 
-// The text of the object of a fragment tree.
-fn tree_text(alloc: Global, ino: u64) -> Result<Text, AllocError>
-    ensures { IfOk result (λ text. text ≡ object_text (name.Tree (record { 0 = ino }))) }
+// That of the object of a fragment tree.
+fn tree_spelt(ino: u64) -> Spelt
+    ensures text { take (25 - result.start) (drop result.start result.bytes)
+        ≡ object_text (name.Tree (record { 0 = ino })) }
+    ensures utf8 { IsUtf8 (take (25 - result.start) (drop result.start result.bytes)) }
+    ensures start { result.start ≤ 16 }
 {
     let mut bytes = *b"0000000000000000.fragtree";
     let start = write_digits_in(16, ino, &mut bytes, DOT);
-    Text::of_bytes(alloc, &bytes[start..])
+    Spelt { bytes, start }
 }

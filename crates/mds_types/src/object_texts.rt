@@ -1,0 +1,178 @@
+//! `ObjText`: the text of an object's name, in as little room as its numbers take.
+ghost use Rattle.std.proofs.Common.{rules};
+ghost use Rattle.std.proofs.lemmas.Map.Lookups.{exact_bytes};
+ghost use Rattle.std.specs.Cmp.{partial_order_from_own_ties};
+ghost use Rattle.std.specs.Cmp.Lexicographic.{pointwise, slice_cmp};
+ghost use Rattle.std.specs.Cmp.Rules.{comparing};
+ghost use Rattle.std.specs.Ordering.{nat_cmp, as_partial_cmp};
+ghost use Rattle.std.specs.Prelude.{◌≡◌, ◌==◌, ◌≤◌, ◌<◌, IfOk, true};
+ghost use Rattle.mds_types.specs.ObjectText.{is_tree, is_whole, number_of, object_text};
+
+use crate::byte_order::compare;
+use crate::object_names::{ObjName, spell};
+use crate::texts::Text;
+use sorted_map::ExactOrd;
+use std::alloc::{AllocError, Global};
+use std::cmp::Ordering;
+use std::marker::Model;
+
+/// The text that names an object, seen as its bytes and ordered by them. What is kept are the numbers that it is made of;
+/// the text itself is made where it is asked for.
+#[derive(Debug, Drop)]
+pub struct ObjText {
+    object: ObjName,
+}
+
+impl Model for ObjText {
+    ghost use Rattle.std.specs.Prelude.{List, ℕ};
+    ghost use Rattle.mds_types.specs.ObjectText.{object_text};
+
+    ghost Value = { List ℕ };
+
+    ghost view = { λ t. object_text t.object };
+}
+
+impl ObjText {
+    /// The text of an object's name. Takes no memory.
+    pub fn of(object: ObjName) -> ObjText
+        ensures { result ≡ object_text object }
+    {
+        ObjText { object }
+    }
+
+    /// The text itself. More than 22 bytes take memory.
+    pub fn to_text(&self, alloc: Global) -> Result<Text, AllocError>
+        ensures { IfOk result (λ text. text ≡ self.now) }
+    {
+        self.object.to_text(alloc)
+    }
+}
+
+impl Clone for ObjText {
+    ghost is_clone = { λ old new. new ≡ old };
+
+    fn clone(&self) -> Result<ObjText, AllocError> {
+        Ok(ObjText {
+            object: self.object,
+        })
+    }
+}
+
+impl PartialEq for ObjText {
+    ghost eq = { pointwise ◌==◌ };
+
+    ghost laws = { Prim.search (comparing, rules) };
+
+    fn eq(&self, other: &ObjText) -> bool {
+        self.cmp(other) == Ordering::Equal
+    }
+}
+
+impl Eq for ObjText {
+    ghost laws = { Prim.search (comparing, rules) };
+}
+
+impl PartialOrd for ObjText {
+    ghost partial_cmp = { as_partial_cmp (slice_cmp nat_cmp) };
+
+    ghost laws = { partial_order_from_own_ties (Prim.search (comparing, rules)) (Prim.search (comparing, rules)) };
+
+    fn partial_cmp(&self, other: &ObjText) -> Option<Ordering> {
+        Some(self.cmp(other))
+    }
+}
+
+impl Ord for ObjText {
+    ghost cmp = { slice_cmp nat_cmp };
+
+    ghost total = { Prim.search (comparing, rules) };
+
+    ghost matches_partial_cmp = { Prim.search (comparing, rules) };
+
+    ghost matches_eq = { Prim.search (comparing, rules) };
+
+    fn cmp(&self, other: &ObjText) -> Ordering {
+        order(&self.object, &other.object)
+    }
+}
+
+impl ExactOrd for ObjText {
+    ghost exact = { exact_bytes };
+}
+
+// How the texts of two objects' names compare: mostly as the numbers of their directories.
+#[tactic(auto, using(crate::proofs::ObjectOrder::by_numbers_of))]
+fn order(x: &ObjName, y: &ObjName) -> Ordering
+    ensures { result ≡ slice_cmp nat_cmp (object_text x.now) (object_text y.now) }
+{
+    let (a, b) = (number(x), number(y));
+    if a == b {
+        return order_in_directory(x, y);
+    }
+    if has_eleven_digits(a) && has_eleven_digits(b) {
+        return a.cmp(&b);
+    }
+    order_of_bytes(x, y)
+}
+
+// Those of one directory: its whole fragment's stands before its tree's.
+#[tactic(auto, using(crate::proofs::ObjectOrder::same_trees, crate::proofs::ObjectOrder::whole_before_tree, crate::proofs::ObjectOrder::tree_behind_whole))]
+fn order_in_directory(x: &ObjName, y: &ObjName) -> Ordering
+    requires { number_of x.now ≡ number_of y.now }
+    ensures { result ≡ slice_cmp nat_cmp (object_text x.now) (object_text y.now) }
+{
+    if is_tree(x) && is_tree(y) {
+        return Ordering::Equal;
+    }
+    if is_whole(x) && is_tree(y) {
+        return Ordering::Less;
+    }
+    if is_tree(x) && is_whole(y) {
+        return Ordering::Greater;
+    }
+    order_of_bytes(x, y)
+}
+
+// How they compare, byte by byte.
+#[inline(never)]
+fn order_of_bytes(x: &ObjName, y: &ObjName) -> Ordering
+    ensures { result ≡ slice_cmp nat_cmp (object_text x.now) (object_text y.now) }
+{
+    let one = spell(*x);
+    let two = spell(*y);
+    compare(&one.bytes[one.start..], &two.bytes[two.start..])
+}
+
+// The number of an object's directory.
+fn number(object: &ObjName) -> u64
+    ensures { result ≡ number_of object.now }
+{
+    match object {
+        ObjName::Frag(ino, _) => ino.0,
+        ObjName::Tree(ino) => ino.0,
+    }
+}
+
+// Whether it is that of a fragment tree,
+fn is_tree(object: &ObjName) -> bool
+    ensures { result ≡ is_tree object.now }
+{
+    matches!(object, ObjName::Tree(_))
+}
+
+// or that of a directory's whole fragment.
+fn is_whole(object: &ObjName) -> bool
+    ensures { result ≡ is_whole object.now }
+{
+    match object {
+        ObjName::Frag(_, frag) => frag.word() == 0,
+        ObjName::Tree(_) => false,
+    }
+}
+
+// Whether a number has eleven digits in hexadecimal, as those of the first fifteen ranks have.
+fn has_eleven_digits(number: u64) -> bool
+    ensures { result ≡ true → (1099511627776 ≤ number) × (number < 17592186044416) }
+{
+    1_099_511_627_776 <= number && number < 17_592_186_044_416
+}
