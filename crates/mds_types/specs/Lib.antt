@@ -6,6 +6,7 @@ pub mod InodeLaws
 pub mod Leaf
 pub mod Name
 pub mod NameFault
+pub mod ObjectForm
 pub mod ObjectText
 pub mod OrderLaws
 pub mod Outcomes

@@ -16,20 +16,28 @@ use std::alloc::{AllocError, Global};
 use std::cmp::Ordering;
 use std::marker::Model;
 
-/// The text that names an object, seen as its bytes and ordered by them. What is kept are the numbers that it is made of;
-/// the text itself is made where it is asked for.
+/// A text that names an object of a store, seen as its bytes and ordered by them. Of the name of an object of this
+/// project's the numbers are kept that it is made of, and the text is made where it is asked for; a store may have other
+/// objects too.
 #[derive(Debug, Drop)]
 pub struct ObjText {
-    object: ObjName,
+    form: Form,
+}
+
+// What is kept of a text.
+#[derive(Debug, Drop)]
+enum Form {
+    Object(ObjName),
+    Other(Text),
 }
 
 impl Model for ObjText {
     ghost use Rattle.std.specs.Prelude.{List, ℕ};
-    ghost use Rattle.mds_types.specs.ObjectText.{object_text};
+    ghost use Rattle.mds_types.specs.ObjectForm.{text_in};
 
     ghost Value = { List ℕ };
 
-    ghost view = { λ t. object_text t.object };
+    ghost view = { λ t. text_in t.form };
 }
 
 impl ObjText {
@@ -37,14 +45,28 @@ impl ObjText {
     pub fn of(object: ObjName) -> ObjText
         ensures { result ≡ object_text object }
     {
-        ObjText { object }
+        ObjText {
+            form: Form::Object(object),
+        }
+    }
+
+    /// Any text.
+    pub fn other(text: Text) -> ObjText
+        ensures { result ≡ text }
+    {
+        ObjText {
+            form: Form::Other(text),
+        }
     }
 
     /// The text itself. More than 22 bytes take memory.
     pub fn to_text(&self, alloc: Global) -> Result<Text, AllocError>
         ensures { IfOk result (λ text. text ≡ self.now) }
     {
-        self.object.to_text(alloc)
+        match &self.form {
+            Form::Object(object) => object.to_text(alloc),
+            Form::Other(text) => text.clone(),
+        }
     }
 }
 
@@ -52,9 +74,10 @@ impl Clone for ObjText {
     ghost is_clone = { λ old new. new ≡ old };
 
     fn clone(&self) -> Result<ObjText, AllocError> {
-        Ok(ObjText {
-            object: self.object,
-        })
+        match &self.form {
+            Form::Object(object) => Ok(ObjText::of(*object)),
+            Form::Other(text) => Ok(ObjText::other(text.clone()?)),
+        }
     }
 }
 
@@ -64,7 +87,7 @@ impl PartialEq for ObjText {
     ghost laws = { Prim.search (comparing, rules) };
 
     fn eq(&self, other: &ObjText) -> bool {
-        self.cmp(other) == Ordering::Equal
+        self.cmp(other).is_eq()
     }
 }
 
@@ -92,7 +115,12 @@ impl Ord for ObjText {
     ghost matches_eq = { Prim.search (comparing, rules) };
 
     fn cmp(&self, other: &ObjText) -> Ordering {
-        order(&self.object, &other.object)
+        match (&self.form, &other.form) {
+            (Form::Object(x), Form::Object(y)) => order(x, y),
+            (Form::Object(x), Form::Other(y)) => order_to(x, y),
+            (Form::Other(x), Form::Object(y)) => order_from(x, y),
+            (Form::Other(x), Form::Other(y)) => x.cmp(y),
+        }
     }
 }
 
@@ -131,6 +159,24 @@ fn order_in_directory(x: &ObjName, y: &ObjName) -> Ordering
         return Ordering::Greater;
     }
     order_of_bytes(x, y)
+}
+
+// How the text of an object's name compares with another text.
+#[inline(never)]
+fn order_to(x: &ObjName, y: &Text) -> Ordering
+    ensures { result ≡ slice_cmp nat_cmp (object_text x.now) y.now }
+{
+    let one = spell(*x);
+    compare(&one.bytes[one.start..], y.as_bytes())
+}
+
+// How another text compares with that of an object's name.
+#[inline(never)]
+fn order_from(x: &Text, y: &ObjName) -> Ordering
+    ensures { result ≡ slice_cmp nat_cmp x.now (object_text y.now) }
+{
+    let two = spell(*y);
+    compare(x.as_bytes(), &two.bytes[two.start..])
 }
 
 // How they compare, byte by byte.

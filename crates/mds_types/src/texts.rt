@@ -48,6 +48,13 @@ impl Text {
         })
     }
 
+    /// The bytes of the text.
+    pub(crate) fn as_bytes(&self) -> &[u8]
+        ensures { result.now ≡ self.now }
+    {
+        self.bytes.as_slice()
+    }
+
     /// The text. Its bytes are looked at once more.
     pub fn as_str(&self) -> &str
         ensures { result.now ≡ self.now }
