@@ -10,7 +10,7 @@ ghost use Rattle.cold_store.specs.Left.{AreLeft, AreNamesOf, EndsNames, IsLastOf
 
 use crate::found::Found;
 use inode_table::Dirs;
-use mds_types::{Frag, Ino, ObjName, Refusal, Text, TextRef};
+use mds_types::{Frag, Ino, ObjName, Refusal, ObjText, Text, TextRef};
 use objstore::Store;
 use sorted_map::SortedMap;
 use std::alloc::{AllocError, Global};
@@ -23,7 +23,7 @@ pub fn list_left<S: Store>(
     alloc: Global,
     store: &mut S,
     found: &Found,
-) -> Result<SortedMap<Text, ()>, Refusal>
+) -> Result<SortedMap<ObjText, ()>, Refusal>
     ensures left { IfOk result
         (λ left. AreLeft (S.objects store.old) (texts_from found.now.covers found.now.shape.queue)
         (contents key_cmp left)) }
@@ -37,7 +37,7 @@ pub fn list_left<S: Store>(
 }
 
 // The names of all objects.
-fn all_names<S: Store>(alloc: Global, store: &mut S) -> Result<SortedMap<Text, ()>, Refusal>
+fn all_names<S: Store>(alloc: Global, store: &mut S) -> Result<SortedMap<ObjText, ()>, Refusal>
     ensures named { IfOk result (λ names. AreNamesOf (S.objects store.old) (contents key_cmp names)) }
     ensures refused { IfErr result (MayRefuse (S.faults store.old) (S.faults store.new)) }
     ensures same { S.objects store.new ≡ S.objects store.old }
@@ -57,7 +57,7 @@ fn all_names<S: Store>(alloc: Global, store: &mut S) -> Result<SortedMap<Text, (
 fn next_names<S: Store>(
     alloc: Global,
     store: &mut S,
-    names: &mut SortedMap<Text, ()>,
+    names: &mut SortedMap<ObjText, ()>,
     after: Option<&Text>,
 ) -> Result<Option<Text>, Refusal>
     ensures read { IfOk result
@@ -99,7 +99,7 @@ fn last_of(alloc: Global, more: bool, names: &[String]) -> Result<Option<Text>, 
 // Adds all of these names.
 fn put_names(
     alloc: Global,
-    names: &mut SortedMap<Text, ()>,
+    names: &mut SortedMap<ObjText, ()>,
     page: Vec<String>,
 ) -> Result<(), AllocError>
     ensures { OnOk result
@@ -112,19 +112,19 @@ fn put_names(
 }
 
 // Adds a name.
-fn put_name(alloc: Global, names: &mut SortedMap<Text, ()>, name: &str) -> Result<(), AllocError>
+fn put_name(alloc: Global, names: &mut SortedMap<ObjText, ()>, name: &str) -> Result<(), AllocError>
     ensures { OnOk result
         (contents key_cmp names.new ≡ map.insert (contents key_cmp names.old) name.now tt) }
 {
     names.reserve(1)?;
-    let _ = names.insert(Text::copy_of(alloc, name)?, ());
+    let _ = names.insert(ObjText::other(Text::copy_of(alloc, name)?), ());
     Ok(())
 }
 
 // Takes the names of the objects of these directories off.
 fn take_off(
     alloc: Global,
-    left: &mut SortedMap<Text, ()>,
+    left: &mut SortedMap<ObjText, ()>,
     dirs: &Dirs,
     queue: &[Ino],
 ) -> Result<(), AllocError>
@@ -140,7 +140,7 @@ fn take_off(
 // Takes the names of a directory's tree object and of the objects of its leaves off.
 fn take_off_dir(
     alloc: Global,
-    left: &mut SortedMap<Text, ()>,
+    left: &mut SortedMap<ObjText, ()>,
     dirs: &Dirs,
     dir: Ino,
 ) -> Result<(), AllocError>
@@ -155,7 +155,7 @@ fn take_off_dir(
 // Takes the names of the objects of leaves off.
 fn take_off_leaves(
     alloc: Global,
-    left: &mut SortedMap<Text, ()>,
+    left: &mut SortedMap<ObjText, ()>,
     dir: Ino,
     leaves: &[Frag],
 ) -> Result<(), AllocError>
@@ -171,7 +171,7 @@ fn take_off_leaves(
 // Takes the name of an object off.
 fn take_off_name(
     alloc: Global,
-    left: &mut SortedMap<Text, ()>,
+    left: &mut SortedMap<ObjText, ()>,
     name: ObjName,
 ) -> Result<(), AllocError>
     ensures { OnOk result (contents key_cmp left.new ≡ map.remove (contents key_cmp left.old) (object_text name)) }

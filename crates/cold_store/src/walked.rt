@@ -8,7 +8,7 @@ ghost use Rattle.cold_store.specs.Numbers.{IsNext, passed};
 
 use crate::found::Found;
 use inode_table::{Dirs, Numbers, count_entries};
-use mds_types::{Dentry, Inode, Rank, Text};
+use mds_types::{Dentry, Inode, Rank, ObjText};
 use sorted_map::SortedMap;
 
 /// What a walk found: all entries, where each directory stands, its leaves, how many entries it has and its pin, and
@@ -17,12 +17,12 @@ use sorted_map::SortedMap;
 pub struct Walked {
     pub entries: SortedMap<Dentry, Inode>,
     pub dirs: Dirs,
-    pub left: SortedMap<Text, ()>,
+    pub left: SortedMap<ObjText, ()>,
 }
 
 impl Walked {
     // What was found, and what is left. No entry is counted yet.
-    pub(crate) fn of(found: Found, left: SortedMap<Text, ()>) -> Walked
+    pub(crate) fn of(found: Found, left: SortedMap<ObjText, ()>) -> Walked
         ensures entries { contents dentry_cmp result.entries ≡ found.shape.tree }
         ensures homes { result.dirs.homes ≡ found.shape.homes }
         ensures trees { result.dirs.trees ≡ found.covers }

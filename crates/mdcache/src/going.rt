@@ -7,21 +7,21 @@ ghost use Rattle.mdcache.specs.State.{text_of, tree_text};
 
 use fragtree::FragTree;
 use inode_table::Dirs;
-use mds_types::{Frag, Ino, ObjName, Text};
+use mds_types::{Frag, Ino, ObjName, ObjText};
 use std::alloc::{AllocError, Global};
 
 /// A leaf of a directory that goes, and the name of its object.
 #[derive(Debug, Drop)]
 pub struct GoingLeaf {
     pub frag: Frag,
-    pub object: Text,
+    pub object: ObjText,
 }
 
 /// A directory that goes: the name of its tree's object, and its leaves with the names of theirs.
 #[derive(Debug, Drop)]
 pub struct Going {
     pub dir: Ino,
-    pub tree: Text,
+    pub tree: ObjText,
     pub leaves: Vec<GoingLeaf>,
 }
 
@@ -41,10 +41,10 @@ pub fn going_of(alloc: Global, dirs: &Dirs, dir: Ino) -> Result<Going, AllocErro
 }
 
 // The name of the object of a directory's tree.
-fn tree_name(alloc: Global, dir: Ino) -> Result<Text, AllocError>
+fn tree_name(alloc: Global, dir: Ino) -> Result<ObjText, AllocError>
     ensures { IfOk result (λ name. name ≡ tree_text dir) }
 {
-    ObjName::Tree(dir).to_text(alloc)
+    Ok(ObjText::of(ObjName::Tree(dir)))
 }
 
 // The leaves of a directory, each with the name of its object.
@@ -77,6 +77,6 @@ pub(crate) fn part_of(alloc: Global, dir: Ino, frag: Frag) -> Result<GoingLeaf, 
     ensures leaf { IfOk result (λ part. part.frag ≡ frag) }
     ensures text { IfOk result (λ part. part.object ≡ text_of (dir, frag)) }
 {
-    let object = ObjName::Frag(dir, frag).to_text(alloc)?;
+    let object = ObjText::of(ObjName::Frag(dir, frag));
     Ok(GoingLeaf { frag, object })
 }

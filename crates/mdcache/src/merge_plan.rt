@@ -14,7 +14,7 @@ use crate::mdcache::MdCache;
 use crate::regrouping::object_name;
 use fragtree::FragTree;
 use inode_table::{BoxedTree, Dirs};
-use mds_types::{Dirfrag, Frag, Ino, Refusal, Text};
+use mds_types::{Dirfrag, Frag, Ino, Refusal, ObjText};
 use objstore::Store;
 use std::alloc::{AllocError, Global};
 
@@ -24,7 +24,7 @@ use std::alloc::{AllocError, Global};
 pub struct MergePlan {
     pub leaves: Vec<GoingLeaf>,
     pub cover: BoxedTree,
-    pub object: Text,
+    pub object: ObjText,
 }
 
 impl<S: Store + Drop> MdCache<S> {

@@ -1,7 +1,7 @@
 //! What a change takes beside its spots and its inode, made before the first of its steps.
 
 use crate::going::Going;
-use mds_types::{Name, Text};
+use mds_types::{Name, ObjText};
 
 /// What a directory takes that comes, beside its dentry and its inode.
 #[derive(Debug, Drop)]
@@ -9,7 +9,7 @@ pub struct NewDirectory {
     /// Its name, once more.
     pub name: Name,
     /// The name of the object of its leaf `*`, unless the purge list is empty: there alone it has to be looked for.
-    pub object: Option<Text>,
+    pub object: Option<ObjText>,
 }
 
 /// What an entry that moves takes beside its two dentries and its inode.

@@ -5,7 +5,7 @@ ghost use Rattle.sorted_map.specs.SortedMap.{contents};
 ghost use Rattle.objstore.specs.Omap.{key_cmp};
 ghost use Rattle.mdcache.specs.PurgeList.{IsGiven, first_name};
 
-use mds_types::{Text, TextRef};
+use mds_types::{ObjText, TextRef};
 use sorted_map::SortedMap;
 use std::alloc::{AllocError, Global};
 use std::marker::Model;
@@ -13,7 +13,7 @@ use std::marker::Model;
 /// Names of objects that are to be removed, each once, in the order of their bytes.
 #[derive(Debug, Drop)]
 pub struct PurgeList {
-    names: SortedMap<Text, ()>,
+    names: SortedMap<ObjText, ()>,
 }
 
 impl Model for PurgeList {
@@ -41,7 +41,7 @@ impl PurgeList {
     }
 
     /// The list of these names. Takes no memory.
-    pub fn of(names: SortedMap<Text, ()>) -> PurgeList
+    pub fn of(names: SortedMap<ObjText, ()>) -> PurgeList
         ensures { result.names ≡ contents key_cmp names }
     {
         PurgeList { names }
@@ -76,11 +76,11 @@ impl PurgeList {
     }
 
     /// The first name that waits.
-    pub fn first(&self) -> Option<&str>
+    pub fn first(&self) -> Option<&ObjText>
         ensures { option_copied result ≡ first_name self.now.names }
     {
         match self.names.first() {
-            Some((name, _)) => Some(name.as_str()),
+            Some((name, _)) => Some(name),
             None => None,
         }
     }
@@ -97,7 +97,7 @@ impl PurgeList {
     }
 
     /// Puts a name on the list, for which there is room; one that is on it stays. Takes no memory.
-    pub fn put(&mut self, name: Text)
+    pub fn put(&mut self, name: ObjText)
         requires { 0 < self.old.room }
         ensures put { self.new.names ≡ map.insert self.old.names name tt }
         ensures room { self.old.room ≤ self.new.room + 1 }
@@ -106,7 +106,7 @@ impl PurgeList {
     }
 
     /// Takes a name off the list; one that isn't on it changes nothing. Takes no memory.
-    pub fn remove(&mut self, name: &Text)
+    pub fn remove(&mut self, name: &ObjText)
         ensures removed { self.new.names ≡ map.remove self.old.names name.now }
         ensures room { self.old.room ≤ self.new.room }
     {
@@ -115,7 +115,7 @@ impl PurgeList {
 
     /// Takes the name of an object off the list that isn't to be removed, given unless the list is empty. Takes no
     /// memory.
-    pub(crate) fn spare(&mut self, object: &Option<Text>)
+    pub(crate) fn spare(&mut self, object: &Option<ObjText>)
         ensures spared { (name : List ℕ) → IsGiven self.old.names name object.now
             → self.new.names ≡ map.remove self.old.names name }
         ensures room { self.old.room ≤ self.new.room }

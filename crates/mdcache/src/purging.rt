@@ -24,7 +24,10 @@ impl<S: Store + Drop> MdCache<S> {
         let Some(name) = self.purge.first() else {
             return Ok(());
         };
-        if let Err(refusal) = self.store.remove(name) {
+        let Ok(text) = name.to_text(self.alloc) else {
+            return Err(Refusal::NoMemory);
+        };
+        if let Err(refusal) = self.store.remove(text.as_str()) {
             return Err(refusal);
         }
         self.purge.remove_first();

@@ -28,7 +28,7 @@ use crate::prepared::{MovingEntry, NewDirectory};
 use crate::purge_list::PurgeList;
 use dentry_cache::Caches;
 use inode_table::Dirs;
-use mds_types::{Dirfrag, Frag, Ino, Name, ObjName, Refusal, Text};
+use mds_types::{Dirfrag, Frag, Ino, Name, ObjName, Refusal, ObjText};
 use namespace_ops::Spot;
 use objstore::Store;
 use std::alloc::{AllocError, Global};
@@ -254,14 +254,14 @@ fn new_directory(
 }
 
 // The name of the object of a directory's leaf `*`; an empty purge list doesn't need it.
-fn first_object(alloc: Global, purge: &PurgeList, dir: Ino) -> Result<Option<Text>, AllocError>
+fn first_object(alloc: Global, purge: &PurgeList, dir: Ino) -> Result<Option<ObjText>, AllocError>
     ensures { IfOk result (λ object. IsGiven purge.now.names (text_of (first_leaf dir))
         object) }
 {
     if purge.is_empty() {
         return Ok(None);
     }
-    Ok(Some(ObjName::Frag(dir, Frag::ROOT).to_text(alloc)?))
+    Ok(Some(ObjText::of(ObjName::Frag(dir, Frag::ROOT))))
 }
 
 /// A record allows what each name of a cached fragment stands for: a law of the type, so nothing is done.

@@ -8,7 +8,7 @@ ghost use Rattle.mdcache.specs.State.{text_of};
 
 use crate::counters::Counters;
 use crate::mdcache::MdCache;
-use mds_types::{Frag, Ino, ObjName, Refusal, Text};
+use mds_types::{Frag, Ino, ObjName, Refusal, ObjText};
 use objstore::Store;
 use std::alloc::{AllocError, Global};
 
@@ -59,8 +59,8 @@ pub(crate) fn child_count(nb: u8) -> u32
 }
 
 /// The name of a leaf's object.
-pub(crate) fn object_name(alloc: Global, dir: Ino, frag: Frag) -> Result<Text, AllocError>
+pub(crate) fn object_name(alloc: Global, dir: Ino, frag: Frag) -> Result<ObjText, AllocError>
     ensures { IfOk result (λ name. name ≡ text_of (dir, frag)) }
 {
-    ObjName::Frag(dir, frag).to_text(alloc)
+    Ok(ObjText::of(ObjName::Frag(dir, frag)))
 }

@@ -9,15 +9,15 @@ ghost use Rattle.mdcache.specs.Splits.{NameChildren};
 
 use crate::mdcache::MdCache;
 use crate::regrouping::{child_count, object_name};
-use mds_types::{Dirfrag, Frag, Ino, Refusal, Text};
+use mds_types::{Dirfrag, Frag, Ino, Refusal, ObjText};
 use objstore::Store;
 use std::alloc::{AllocError, Global};
 
 /// The names of the objects of a leaf that splits, and of its children.
 #[derive(Drop)]
 pub struct SplitPlan {
-    pub object: Text,
-    pub children: Vec<Text>,
+    pub object: ObjText,
+    pub children: Vec<ObjText>,
 }
 
 impl<S: Store + Drop> MdCache<S> {
@@ -43,7 +43,7 @@ impl<S: Store + Drop> MdCache<S> {
 }
 
 // The names of the objects of the children of a fragment.
-fn child_names(alloc: Global, dir: Ino, frag: Frag, nb: u8) -> Result<Vec<Text>, AllocError>
+fn child_names(alloc: Global, dir: Ino, frag: Frag, nb: u8) -> Result<Vec<ObjText>, AllocError>
     requires few { nb ≤ 8 }
     requires bits { frag.bits + nb ≤ 24 }
     ensures { IfOk result (λ names. NameChildren dir frag nb names.items) }

@@ -31,7 +31,7 @@ use crate::purge_list::PurgeList;
 use crate::regrouping::{child_count, take_counts};
 use crate::split_plan::SplitPlan;
 use dentry_cache::Parts;
-use mds_types::{Dirfrag, Refusal, Text};
+use mds_types::{Dirfrag, Refusal, ObjText};
 use objstore::Store;
 use std::alloc::Global;
 
@@ -217,7 +217,7 @@ impl<S: Store + Drop> MdCache<S> {
 }
 
 // Takes these names off the list.
-fn unlist(purge: &mut PurgeList, names: &Vec<Text>)
+fn unlist(purge: &mut PurgeList, names: &Vec<ObjText>)
     ensures { purge.new.names ≡ without_objects purge.old.names names.now.items }
 {
     for name in names {

@@ -7,7 +7,7 @@ ghost use Rattle.mdcache.specs.Core.{IsSoundCore, state_of};
 
 use crate::mdcache::MdCache;
 use crate::tree_objects::save_tree;
-use mds_types::{Ino, ObjName, Refusal};
+use mds_types::{Ino, ObjName, Refusal, ObjText};
 use objstore::Store;
 use std::alloc::Global;
 
@@ -31,7 +31,7 @@ impl<S: Store + Drop> MdCache<S> {
         if let Err(refusal) = save_tree(alloc, &self.dirs, &mut self.store, dir, text.as_str()) {
             return Err(refusal);
         }
-        self.purge.remove(&text);
+        self.purge.remove(&ObjText::of(ObjName::Tree(dir)));
         Ok(())
     }
 }

@@ -10,8 +10,8 @@ ghost use Rattle.mds_types.specs.ObjectText.{is_tree, is_whole, number_of, objec
 
 use crate::byte_order::compare;
 use crate::object_names::{ObjName, spell};
-use crate::texts::Text;
-use sorted_map::ExactOrd;
+use crate::texts::{Text, TextRef};
+use sorted_map::{ExactOrd, Probe};
 use std::alloc::{AllocError, Global};
 use std::cmp::Ordering;
 use std::marker::Model;
@@ -118,7 +118,7 @@ impl Ord for ObjText {
         match (&self.form, &other.form) {
             (Form::Object(x), Form::Object(y)) => order(x, y),
             (Form::Object(x), Form::Other(y)) => order_to(x, y),
-            (Form::Other(x), Form::Object(y)) => order_from(x, y),
+            (Form::Other(x), Form::Object(y)) => order_of(x.as_bytes(), y),
             (Form::Other(x), Form::Other(y)) => x.cmp(y),
         }
     }
@@ -172,11 +172,11 @@ fn order_to(x: &ObjName, y: &Text) -> Ordering
 
 // How another text compares with that of an object's name.
 #[inline(never)]
-fn order_from(x: &Text, y: &ObjName) -> Ordering
+fn order_of(x: &[u8], y: &ObjName) -> Ordering
     ensures { result ≡ slice_cmp nat_cmp x.now (object_text y.now) }
 {
     let two = spell(*y);
-    compare(x.as_bytes(), &two.bytes[two.start..])
+    compare(x, &two.bytes[two.start..])
 }
 
 // How they compare, byte by byte.
@@ -221,4 +221,15 @@ fn has_eleven_digits(number: u64) -> bool
     ensures { result ≡ true → (1099511627776 ≤ number) × (number < 17592186044416) }
 {
     1_099_511_627_776 <= number && number < 17_592_186_044_416
+}
+
+impl<'a> Probe<ObjText> for TextRef<'a> {
+    ghost key = { λ p. p.text.now };
+
+    fn order(&self, other: &ObjText) -> Ordering {
+        match &other.form {
+            Form::Object(object) => order_of(self.text.as_bytes(), object),
+            Form::Other(text) => compare(self.text.as_bytes(), text.as_bytes()),
+        }
+    }
 }
