@@ -10,7 +10,7 @@ ghost use Rattle.cold_store.specs.Left.{AreLeft, AreNamesOf, EndsNames, IsLastOf
 
 use crate::found::Found;
 use inode_table::Dirs;
-use mds_types::{Frag, Ino, ObjName, Refusal, ObjText, Text, TextRef};
+use mds_types::{Frag, Ino, ObjName, ObjText, Refusal, Text, TextRef};
 use objstore::Store;
 use sorted_map::SortedMap;
 use std::alloc::{AllocError, Global};

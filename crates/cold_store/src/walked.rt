@@ -8,7 +8,7 @@ ghost use Rattle.cold_store.specs.Numbers.{IsNext, passed};
 
 use crate::found::Found;
 use inode_table::{Dirs, Numbers, count_entries};
-use mds_types::{Dentry, Inode, Rank, ObjText};
+use mds_types::{Dentry, Inode, ObjText, Rank};
 use sorted_map::SortedMap;
 
 /// What a walk found: all entries, where each directory stands, its leaves, how many entries it has and its pin, and

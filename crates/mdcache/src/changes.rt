@@ -87,7 +87,13 @@ impl<S: Store + Drop> MdCache<S> {
 
     /// A directory comes, with its one leaf, for which a place is kept. The leaf's object, whose name is given unless
     /// the purge list is empty, isn't to be removed then. Takes no memory.
-    pub(crate) fn add_dir(&mut self, alloc: Global, at: Dirfrag, home: Home, object: &Option<ObjText>)
+    pub(crate) fn add_dir(
+        &mut self,
+        alloc: Global,
+        at: Dirfrag,
+        home: Home,
+        object: &Option<ObjText>,
+    )
         requires room { 0 < self.old.room.dirs }
         requires may { MayCome self.old.homes at.dir.0 home }
         requires there { at.rank.0 < length self.old.caches.used }

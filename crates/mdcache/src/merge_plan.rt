@@ -14,7 +14,7 @@ use crate::mdcache::MdCache;
 use crate::regrouping::object_name;
 use fragtree::FragTree;
 use inode_table::{BoxedTree, Dirs};
-use mds_types::{Dirfrag, Frag, Ino, Refusal, ObjText};
+use mds_types::{Dirfrag, Frag, Ino, ObjText, Refusal};
 use objstore::Store;
 use std::alloc::{AllocError, Global};
 

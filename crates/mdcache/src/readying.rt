@@ -28,7 +28,7 @@ use crate::prepared::{MovingEntry, NewDirectory};
 use crate::purge_list::PurgeList;
 use dentry_cache::Caches;
 use inode_table::Dirs;
-use mds_types::{Dirfrag, Frag, Ino, Name, ObjName, Refusal, ObjText};
+use mds_types::{Dirfrag, Frag, Ino, Name, ObjName, ObjText, Refusal};
 use namespace_ops::Spot;
 use objstore::Store;
 use std::alloc::{AllocError, Global};

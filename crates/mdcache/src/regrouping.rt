@@ -8,7 +8,7 @@ ghost use Rattle.mdcache.specs.State.{text_of};
 
 use crate::counters::Counters;
 use crate::mdcache::MdCache;
-use mds_types::{Frag, Ino, ObjName, Refusal, ObjText};
+use mds_types::{Frag, Ino, ObjName, ObjText, Refusal};
 use objstore::Store;
 use std::alloc::{AllocError, Global};
 

@@ -9,7 +9,7 @@ ghost use Rattle.mdcache.specs.Splits.{NameChildren};
 
 use crate::mdcache::MdCache;
 use crate::regrouping::{child_count, object_name};
-use mds_types::{Dirfrag, Frag, Ino, Refusal, ObjText};
+use mds_types::{Dirfrag, Frag, Ino, ObjText, Refusal};
 use objstore::Store;
 use std::alloc::{AllocError, Global};
 

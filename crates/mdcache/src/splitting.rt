@@ -31,7 +31,7 @@ use crate::purge_list::PurgeList;
 use crate::regrouping::{child_count, take_counts};
 use crate::split_plan::SplitPlan;
 use dentry_cache::Parts;
-use mds_types::{Dirfrag, Refusal, ObjText};
+use mds_types::{Dirfrag, ObjText, Refusal};
 use objstore::Store;
 use std::alloc::Global;
 

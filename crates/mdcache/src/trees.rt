@@ -7,7 +7,7 @@ ghost use Rattle.mdcache.specs.Core.{IsSoundCore, state_of};
 
 use crate::mdcache::MdCache;
 use crate::tree_objects::save_tree;
-use mds_types::{Ino, ObjName, Refusal, ObjText};
+use mds_types::{Ino, ObjName, ObjText, Refusal};
 use objstore::Store;
 use std::alloc::Global;
 

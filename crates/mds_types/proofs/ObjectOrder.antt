@@ -49,6 +49,7 @@ by_last a b = at (nat_cmp (a / 16) (b / 16)) (ranks (a / 16) (b / 16))
     last same Less l = less {x = a} {y = b} (omega arith) ∙ sym (less {x = a % 16} {y = b % 16} l)
     last same Equal l = equal {x = a} {y = b} (omega arith) ∙ sym (equal {x = a % 16} {y = b % 16} l)
     last same Greater l = greater {x = a} {y = b} (omega arith) ∙ sym (greater {x = a % 16} {y = b % 16} l)
+
     at : (q : Ordering) → MatchOrdering q (a / 16 < b / 16) (a / 16 ≡ b / 16) (b / 16 < a / 16) → nat_cmp a b ≡ ordering_then (nat_cmp (a / 16) (b / 16)) (nat_cmp (a % 16) (b % 16))
     at Less l = less {x = a} {y = b} (omega arith) ∙ sym (ap (λ r. ordering_then r (nat_cmp (a % 16) (b % 16))) (less {x = a / 16} {y = b / 16} l))
     at Equal l = last l (nat_cmp (a % 16) (b % 16)) (ranks (a % 16) (b % 16)) ∙ sym (ap (λ r. ordering_then r (nat_cmp (a % 16) (b % 16))) (equal {x = a / 16} {y = b / 16} l))
