@@ -58,7 +58,7 @@ unmade_of MayRefuse so outcome offered reason (inr (inr may)) = so reason may
 
 pub early_of : (old new : Ranked) (op : Op) (reason : Refusal) → (reason ≡ NoMemory) ⊎ MayRefuse old new op reason → IsOfFragments reason
 early_of old new op reason (inl memory) = subst IsOfFragments (sym memory) tt
-early_of old new op reason (inr may) = refused_so (LacksPlacesAsked 2 old.tree (held_roots old) (Concerns (shown_tree (tree_state old.tree)) op)) old.tree new.tree op reason may
+early_of old new op reason (inr may) = refused_so (LacksPlacesAsked 2 old.tree (held_roots old) (Concerns op)) old.tree new.tree op reason may
 
 -- so it uses what was read at most
 pub refused_uses : (old new : Ranked) (op : Op) (outcome : Outcome) (offered : Option Ino) (reason : Refusal) → RefusesChange old new op outcome offered reason

@@ -37,7 +37,7 @@ ArrivesAt old new past now rank request (Err reason) =
 -- concerns
 abbrev pub LacksPlaces : Core → Op → Type 0
 LacksPlaces core op =
-    (leaf : Leaf) × Concerns (shown core.state) op leaf.0.0
+    (leaf : Leaf) × Concerns op leaf.0.0
     × ((rank : Rank) × IsHolder core.state leaf rank × LacksPlacesAt 2 core rank)
 
 -- why the tree refuses an operation in a step: want of memory, a store whose count of faults rose in it, places that

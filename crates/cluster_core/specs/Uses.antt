@@ -20,7 +20,7 @@ use Rattle.ranked_tree.specs.Held.{AsksFor, IsGone}
 -- a leaf that an operation asks for at a rank: one of a directory that it concerns, at the rank that holds it, or the
 -- first leaf of a directory that comes
 abbrev pub Asks : TreeState → Roots → Op → ℕ → Leaf → Type 0
-Asks tree roots op = AsksFor tree roots (Concerns (shown_tree tree) op)
+Asks tree roots op = AsksFor tree roots (Concerns op)
 
 -- of the caches such leaves were read at most, each of which came to the front of its rank's order
 abbrev pub ReadsOp : TreeState → Roots → Op → (before after : CacheMap) → Type 0

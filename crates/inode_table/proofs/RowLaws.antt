@@ -93,6 +93,14 @@ pub get_leaves : (root : Option (List Fragment)) (rows : Rows) (d : ℕ) → (d 
 get_leaves None rows d other = get_below rows d
 get_leaves (Some leaves) rows d other = get_beside (covers_below rows) 1 leaves d other ∙ get_below rows d
 
+-- those of a row that was taken out
+pub row_left : (rows : Rows) (d : ℕ) → leaves_in (option_map (λ (r : ℕ × Directory). r.1) (option_map (λ v. (d, v)) (map.get rows d))) ≡ leaves_in (map.get rows d)
+row_left rows d = go (map.get rows d)
+  where
+    go : (o : Option Directory) → leaves_in (option_map (λ (r : ℕ × Directory). r.1) (option_map (λ v. (d, v)) o)) ≡ leaves_in o
+    go None = refl
+    go (Some row) = refl
+
 -- ---- what a map by number is once it changed twice, and a map from the numbers of rows to a part of each once a row did
 
 same : {X : Type 0} (a b : map.FinMap nat_cmp X) → ((q : ℕ) → map.get a q ≡ map.get b q) → a ≡ b

@@ -40,8 +40,8 @@ impl BoxedTree {
         })
     }
 
-    // The leaves, lent.
-    pub(crate) fn as_tree(&self) -> &FragTree
+    /// The leaves, lent.
+    pub fn as_tree(&self) -> &FragTree
         ensures tree { result.now ≡ self.now }
         ensures valid { IsTree self.now }
     {

@@ -1,5 +1,5 @@
 //! The directory table.
-ghost use Rattle.std.specs.Prelude.{◌≡◌, ◌≢◌, ◌+◌, ◌-◌, ◌<◌, ◌≤◌, ◌↔◌, ◌^◌, is_some, ◌∷◌, [], length, true, IsOk, IsSome, IsTrue, IfOk, OnOk, OnErr, IfErr, IfSome, MatchOption, false, slice_get};
+ghost use Rattle.std.specs.Prelude.{◌≡◌, ◌≢◌, ◌+◌, ◌-◌, ◌<◌, ◌≤◌, ◌↔◌, ◌^◌, is_some, ◌∷◌, [], length, true, IsOk, IsSome, IsTrue, IfOk, OnOk, OnErr, IfErr, IfSome, MatchOption, false, slice_get, ℕ};
 ghost use Rattle.std.specs.Option.{option_copied, option_map};
 ghost use Rattle.std.specs.FinMap as map;
 ghost use Rattle.mds_types.specs.declared.refusals.Refusal.TheVariants.{NoMemory};
@@ -7,6 +7,8 @@ ghost use Rattle.mds_types.specs.Frag.{root_fragment};
 ghost use Rattle.fragtree.specs.FragTree.{CanMerge, CanSplit, IsPick, IsSplit, IsTree, RefusesMerge, RefusesSplit};
 ghost use Rattle.mds_types.specs.declared.ids.Ino.{Ino};
 ghost use Rattle.inode_table.specs.Order.{dirs_after, trees_after};
+ghost use Rattle.inode_table.specs.Rows.{leaves_in};
+ghost use Rattle.inode_table.specs.declared.dirs.Directory.{Directory as Row};
 ghost use Rattle.inode_table.specs.Dirs.{IsAbove, IsLeafAt, IsLive, IsTable, MayCome, MayGo, MayMove, RefusesLeaves, count_of, is_known, leaves_of, one_less, one_more, or_whole, pinned_at};
 
 use crate::boxed_tree::BoxedTree;
@@ -426,10 +428,11 @@ impl Dirs {
         row.home = home;
     }
 
-    /// A directory goes that is no one's parent and not the root, and its leaves, its count and its pin with it. Takes
-    /// no memory.
-    pub fn drop(&mut self, dir: Ino)
+    /// A directory goes that is no one's parent and not the root, and its count and its pin with it. Its leaves are
+    /// given back, if they were ever set. Takes no memory.
+    pub fn drop(&mut self, dir: Ino) -> Option<BoxedTree>
         requires { MayGo self.old.homes dir.0 }
+        ensures leaves { result ≡ map.get self.old.trees dir.0 }
         ensures homes { self.new.homes ≡ map.remove self.old.homes dir.0 }
         ensures trees { self.new.trees ≡ map.remove self.old.trees dir.0 }
         ensures counts { self.new.counts ≡ map.remove self.old.counts dir.0 }
@@ -437,7 +440,8 @@ impl Dirs {
         ensures room { self.old.room ≤ self.new.room }
         ensures valid { IsTable self.new.homes self.new.trees }
     {
-        let _ = self.below.remove(&dir.0);
+        let near = self.near.get();
+        leaves_left(self.below.remove_near(&near, &dir.0))
     }
 
     /// Whether a directory is above another: a chain of one or more parents leads from `below` to `dir`. Takes no
@@ -466,4 +470,16 @@ impl Dirs {
         }
         tree_of(&self.below.get_near(&self.near.get(), &dir.0)?.leaves)
     }
+}
+
+// The leaves of a row that was taken out, if they were ever set.
+fn leaves_left(row: Option<(u64, Directory)>) -> Option<BoxedTree>
+    ensures { result ≡ leaves_in (option_map (λ (r : ℕ × Row). r.1) row) }
+{
+    let Some((_, row)) = row else {
+        return None;
+    };
+    let Directory { home, leaves, .. } = row;
+    drop(home);
+    leaves
 }

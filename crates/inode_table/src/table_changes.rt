@@ -81,7 +81,7 @@ pub fn drop_dir(dirs: &mut Dirs, inode: Option<&Inode>)
 {
     if let Some(inode) = inode {
         if inode.kind.is_dir() {
-            dirs.drop(inode.ino);
+            drop(dirs.drop(inode.ino));
         }
     }
 }

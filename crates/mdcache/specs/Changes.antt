@@ -19,7 +19,6 @@ use Rattle.namespace_ops.specs.Changes.{dentry_at, leaves}
 use Rattle.namespace_ops.specs.declared.plans.Change.{Change}
 use Rattle.namespace_ops.specs.declared.plans.Spot.{Spot}
 use Rattle.mdcache.specs.Commits.{HasSpelled}
-use Rattle.mdcache.specs.Going.{rows_but}
 use Rattle.mdcache.specs.Shown.{shown_tree}
 use Rattle.mdcache.specs.State.{State, text_of, tree_text}
 
@@ -103,6 +102,15 @@ without_directory s dir = record s {
   jobs = without_leaves s.jobs (leaves s.covers dir.0);
   purge = with_objects s.purge (object_texts_of s dir);
 }
+
+-- these leaves of a directory
+abbrev pub leaves_in : Ino → List Fragment → List Leaf
+leaves_in dir frags = each (in_directory dir.0) frags
+
+-- rows of directories, without that of one that goes
+abbrev pub rows_but : {X : Type 0} → map.FinMap nat_cmp X → Option Ino → map.FinMap nat_cmp X
+rows_but rows None = rows
+rows_but rows (Some dir) = map.remove rows dir.0
 
 -- so it is with what went, if that is a directory
 abbrev pub without_gone_dir : State → Option Ino → State

@@ -21,8 +21,7 @@ use Rattle.mds_types.specs.declared.dirfrags.Dirfrag.{Dirfrag}
 use Rattle.inode_table.specs.declared.dirs.Home.{Home}
 use Rattle.inode_table.specs.Dirs.{Counts, Covers, DirPins, Homes, one_less, one_more}
 use Rattle.inode_table.specs.TreeTable.{counts_moved, with_home, with_pin}
-use Rattle.mdcache.specs.Changes.{with_objects, without_leaves}
-use Rattle.mdcache.specs.Going.{rows_but}
+use Rattle.mdcache.specs.Changes.{object_texts_of, with_objects, without_leaves}
 use Rattle.dentry_cache.specs.Reads.{Reads}
 use Rattle.mdcache.specs.CacheReads.{LacksPlacesIn}
 use Rattle.mdcache.specs.Shown.{shown_tree}
@@ -153,12 +152,12 @@ abbrev pub shows : Core → Dirfrag → List ℕ → Bool
 shows p a name = shows_in (here p.caches a.rank.0 (leaf_of a)) name
 
 -- a directory came: it has its home, no entry, and a leaf just made at a rank, whose object isn't to be removed
-abbrev pub with_dir : Core → Dirfrag → Home → List ℕ → Rooms → Core
-with_dir p a home object room = record p {
+abbrev pub with_dir : Core → Dirfrag → Home → Rooms → Core
+with_dir p a home room = record p {
   homes = map.insert p.homes a.dir.0 home;
   counts = map.insert p.counts a.dir.0 0;
   caches = with_frag p.caches a.rank.0 (leaf_of a) (made_frag p.next_generation);
-  purge = map.remove p.purge object;
+  purge = map.remove p.purge (text_of (leaf_of a));
   next_generation = p.next_generation + 1;
   room = room;
 }
@@ -175,23 +174,24 @@ moved_entry c from source to target name inode =
     }) to target (Some inode)
 
 -- these leaves of a directory ended: their places and jobs are gone, and their objects are to be removed
-abbrev pub without_frags : Core → List Leaf → List (List ℕ) → Rooms → Core
-without_frags p leaves texts room = record p {
+abbrev pub without_frags : Core → List Leaf → Rooms → Core
+without_frags p leaves room = record p {
   caches = ended_all p.caches leaves;
   jobs = without_leaves p.jobs leaves;
-  purge = with_objects p.purge texts;
+  purge = with_objects p.purge (each text_of leaves);
   room = room;
 }
 
--- so did the directory itself
-abbrev pub without_dir : Core → Option Ino → List Leaf → List (List ℕ) → Rooms → Core
-without_dir p dir leaves texts room =
-    record (without_frags p leaves texts room) {
-      homes = rows_but p.homes dir;
-      covers = rows_but p.covers dir;
-      counts =
-          rows_but p.counts dir;
-      pins = rows_but p.pins dir;
+-- a directory went, or none: all its leaves ended, and the object of its tree is to be removed too
+abbrev pub without_dir : Core → Option Ino → Rooms → Core
+without_dir p None room = record p { room = room }
+without_dir p (Some dir) room =
+    record (without_frags p (leaves p.covers dir.0) room) {
+      homes = map.remove p.homes dir.0;
+      covers = map.remove p.covers dir.0;
+      counts = map.remove p.counts dir.0;
+      pins = map.remove p.pins dir.0;
+      purge = with_objects p.purge (object_texts_of (state_of p) dir);
     }
 
 -- a leaf was used

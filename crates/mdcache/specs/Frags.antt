@@ -18,13 +18,8 @@ use Rattle.inode_table.specs.Dirs.{Covers}
 use Rattle.namespace_ops.specs.Changes.{directory_at}
 use Rattle.namespace_ops.specs.declared.plans.Spot.{Spot}
 use Rattle.namespace_ops.specs.declared.plans.Change.{Change}
-use Rattle.mdcache.specs.declared.going.Going.{Going}
-use Rattle.mdcache.specs.declared.prepared.MovingEntry.{MovingEntry}
-use Rattle.mdcache.specs.declared.prepared.NewDirectory.{NewDirectory}
 use Rattle.mdcache.specs.Core.{Core, LacksPlacesAt, state_of}
 use Rattle.mdcache.specs.Changes.{first_leaf}
-use Rattle.mdcache.specs.Going.{IsGoingOrNone, count_going, dir_going}
-use Rattle.mdcache.specs.PurgeList.{IsGiven}
 use Rattle.mdcache.specs.Ready.{LacksNumbers}
 use Rattle.mdcache.specs.State.{State, text_of}
 
@@ -91,22 +86,16 @@ pub record IsNameReady (core : Core) (rank : Rank) (leaf : Leaf) : Type 0 where
   pub number : core.next_version < 2 ^ 64 - 1
 
 -- a place is kept at a rank for the leaf of a directory that comes, a generation is left for it, and there is room for
--- the directory, its name, and the name of its leaf's object, unless no object is to be removed
-pub record IsDirectoryReady (core : Core) (rank : Rank) (dentry : Dentry) (dir : Ino)
-    (made : NewDirectory) : Type 0 where
+-- the directory
+pub record IsDirectoryReady (core : Core) (rank : Rank) (dir : Ino) : Type 0 where
   pub place : IsKeptFor core.caches rank.0 (first_leaf dir)
   pub home : 0 < core.room.dirs
   pub generation : core.next_generation < 2 ^ 64 - 1
-  pub name : made.name ≡ dentry.name
-  pub object : IsGiven core.purge (text_of (first_leaf dir)) made.object
 
--- what an entry takes that goes: the names of the objects, where it is a directory, for which the purge list has room
-abbrev pub IsForRemoval : Covers → ℕ → Option Ino → Option Going → Type 0
-IsForRemoval covers room went going = (dir_going going ≡ went) × IsGoingOrNone covers going × (count_going going ≤ room)
-
--- what an entry takes that moves: its new name, and what what it replaces takes
-abbrev pub IsForMove : Covers → ℕ → List ℕ → Option Ino → MovingEntry → Type 0
-IsForMove covers room name went moving = (moving.name ≡ name) × IsForRemoval covers room went moving.going
+-- there is room on the purge list for the names of a directory's objects, if one goes
+abbrev pub HasListRoom : Covers → ℕ → Option Ino → Type 0
+HasListRoom covers room None = Unit {0}
+HasListRoom covers room (Some dir) = 1 + length (leaves_of covers dir.0) ≤ room
 
 -- the directory that a change moves, if it moves one
 abbrev pub dir_moved : Option Spot → Option (Spot × Inode) → Option Ino

@@ -7,7 +7,6 @@ pub mod Core
 pub mod Flushed
 pub mod Frags
 pub mod Given
-pub mod Going
 pub mod Joining
 pub mod Made
 pub mod Mounted

@@ -14,8 +14,3 @@ pub record Listed : Type 0 where
 -- the first name, if there is one
 abbrev pub first_name : Keys → Option (List ℕ)
 first_name names = option_map (λ (e : List ℕ × Unit {0}). e.0) (first_pair names)
-
--- the name of an object that may be on a list is given; no name needs to be where the list is empty
-abbrev pub IsGiven : Keys → List ℕ → Option (List ℕ) → Type 0
-IsGiven names text (Some given) = given ≡ text
-IsGiven names text None = names ≡ map.empty

@@ -18,7 +18,6 @@ use Rattle.mdcache.specs.declared.merge_plan.MergePlan.{MergePlan}
 use Rattle.mdcache.specs.declared.splitting.Split.{Split}
 use Rattle.mdcache.specs.declared.split_plan.SplitPlan.{SplitPlan}
 use Rattle.mdcache.specs.Core.{Core, Rooms, without_frags}
-use Rattle.mdcache.specs.Going.{leaves_in, texts_in}
 use Rattle.mdcache.specs.Joining.{name_joined}
 use Rattle.mdcache.specs.Reads.{has_none}
 use Rattle.mdcache.specs.Shown.{names_of}
@@ -60,15 +59,13 @@ split_in p a nb plan cover empty caches room = record p {
 abbrev pub ending_at : Core → Dirfrag → List Leaf
 ending_at p a = each (in_directory a.dir.0) (leaves_inside a.frag (leaves_of p.covers a.dir.0))
 
--- the leaves that end, with the names of their objects and room for these on the purge list; the directory's leaves
--- after the merge; and the name of the object of the fragment that comes
+-- the leaves that end, with room on the purge list for the names of their objects, and the directory's leaves after the
+-- merge
 pub record IsMergePlanned (p : Core) (a : Dirfrag) (plan : MergePlan) : Type 0 where
   pub leaves : leaves_in a.dir plan.leaves.items ≡ ending_at p a
-  pub texts : texts_in plan.leaves.items ≡ each text_of (ending_at p a)
   pub list : length plan.leaves.items ≤ p.room.purge
   pub cover : IsMerge (leaves_of p.covers a.dir.0) plan.cover a.frag
   pub whole : IsTree plan.cover
-  pub object : plan.object ≡ text_of (leaf_of a)
 
 -- a fragment of the next generation, for which no object counts, has the names of these leaves, dirty at the next
 -- version
@@ -92,11 +89,10 @@ merged_in p a plan joined room =
     without_frags (record p {
       caches =
           with_frag p.caches a.rank.0 (leaf_of a) joined;
-    }) (leaves_in a.dir plan.leaves.items)
-    (texts_in plan.leaves.items) room in
+    }) (leaves_in a.dir plan.leaves.items) room in
     record left {
       covers = map.insert p.covers a.dir.0 plan.cover;
-      purge = map.remove left.purge plan.object;
+      purge = map.remove left.purge (text_of (leaf_of a));
       next_generation = p.next_generation + 1;
       next_version = p.next_version + cond (has_none (shown joined)) 0 1;
     }

@@ -133,7 +133,7 @@ impl<S: Store + Drop> MdCache<S> {
         ensures none { KeepsNone self.new.caches }
     {
         if let Some(going) = going {
-            self.dirs.drop(going.dir);
+            drop(self.dirs.drop(going.dir));
             self.purge.put(going.tree);
             self.end_leaves(going.dir, going.leaves);
         }

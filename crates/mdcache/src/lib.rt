@@ -19,7 +19,6 @@ mod purge_list;
 mod standing_jobs;
 
 // reads
-mod emptiness;
 mod fetching;
 mod leaves;
 mod listing;

@@ -1,8 +1,8 @@
 //! Reads of the tree that is shown.
-ghost use Rattle.std.specs.Prelude.{◌≡◌, ◌+◌, true, IfOk, IfErr, OnOk};
+ghost use Rattle.std.specs.Prelude.{◌≡◌, ◌+◌, true, not, IfOk, IfErr, OnOk};
 ghost use Rattle.std.specs.Result.{result_err};
 ghost use Rattle.std.specs.FinMap as map;
-ghost use Rattle.mds_types.specs.Tree.{is_above, is_directory};
+ghost use Rattle.mds_types.specs.Tree.{has_entries, is_above, is_directory};
 ghost use Rattle.mds_types.specs.Leaf.{leaf_of};
 ghost use Rattle.fragtree.specs.FragTree.{IsPick};
 ghost use Rattle.namehash.specs.Rjenkins.{hash_of};
@@ -26,6 +26,15 @@ impl<S: Store + Drop> MdCache<S> {
         ensures { result ≡ is_directory (shown_in self.now) dir.0 }
     {
         self.dirs.contains(dir)
+    }
+
+    /// Whether nothing is in a directory, as its count tells: no leaf is fetched. Takes no memory, and one search of the
+    /// directory table.
+    pub fn is_dir_empty(&self, dir: Ino) -> bool
+        requires { IsSoundCore self.now }
+        ensures { result ≡ not (has_entries (shown_in self.now) dir.0) }
+    {
+        self.dirs.count(dir) == 0
     }
 
     /// Whether the directory `dir` is above the directory `below`. Takes no memory.

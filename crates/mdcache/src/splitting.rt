@@ -25,7 +25,6 @@ ghost use Rattle.mdcache.specs.Regrouping.{IsSplitReady, split_in};
 ghost use Rattle.mdcache.specs.Splits.{IsSplitInto, KeepsShownTree, without_objects};
 ghost use Rattle.mdcache.specs.SplitsAndMerges.{IsUndone, SplitsFrag};
 
-use crate::emptiness::is_cached_empty;
 use crate::mdcache::MdCache;
 use crate::purge_list::PurgeList;
 use crate::regrouping::{child_count, take_counts};
@@ -222,5 +221,17 @@ fn unlist(purge: &mut PurgeList, names: &Vec<ObjText>)
 {
     for name in names {
         purge.remove(name);
+    }
+}
+
+// Whether a cached fragment shows no name.
+fn is_cached_empty(caches: &Caches, at: &Dirfrag) -> bool
+    requires there { at.now.rank.0 < length caches.now.used }
+    requires cached { IsThere (here caches.now at.now.rank.0 (leaf_of at.now)) }
+    ensures { HasCached (here caches.now at.now.rank.0 (leaf_of at.now)) (λ (f : Cached). result ≡ has_none (shown f)) }
+{
+    match caches.get(*at) {
+        Some(fragment) => fragment.len() == 0,
+        None => true,
     }
 }

@@ -1,5 +1,5 @@
 -- How many entries a directory has once an entry came, was set or went.
-use Rattle.std.specs.Prelude.{◌≡◌, ℕ, ◌<◌, ◌+◌, ◌-◌, Bool, true, false, cond, List, [], ◌∷◌, length, Option, Some, None, is_some, refl}
+use Rattle.std.specs.Prelude.{◌≡◌, ℕ, ◌<◌, ◌+◌, ◌-◌, ◌==◌, Bool, true, false, not, cond, zero, suc, List, [], ◌∷◌, length, Option, Some, None, is_some, refl}
 use Rattle.std.proofs.Common.{sym, ap, ◌∙◌, arith}
 use Rattle.std.proofs.lemmas.Bool.{eqb-true}
 use Rattle.std.specs.declared.cmp.Ordering.TheVariants.{Equal}
@@ -8,10 +8,11 @@ use Rattle.std.specs.FinMap as map
 use Rattle.std.specs.FinMap.{find, get-empty, get-entries, get-insert, get-remove, get-retain_keys, len-empty, len-entries, len-insert, len-remove, same_map}
 use Rattle.mds_types.specs.declared.dentries.Dentry.{Dentry}
 use Rattle.mds_types.specs.declared.inodes.Inode.{Inode}
-use Rattle.mds_types.specs.Tree.{Tree, dentry_cmp, entries_in, is_in, NothingIn}
+use Rattle.mds_types.specs.Tree.{Tree, dentry_cmp, entries_in, has_entries, is_in, NothingIn}
 use Rattle.sorted_map.proofs.NatKeys.{is_same}
 use Rattle.mds_types.specs.OrderLaws.{dentry-exact}
 use Rattle.mds_types.proofs.OrderLaws.{dentry-total}
+use Rattle.mds_types.proofs.DirectoryLaws.{entry_in, nothing_in_empty}
 use Rattle.mds_types.proofs.EntryLaws.{dentry_tied}
 
 -- the test of a directory tells equal dentries alike
@@ -126,3 +127,17 @@ some_in tree p x stands = go (map.entries mine) (len-entries mine) (sym (get-ent
 -- the empty tree's directories have none
 pub none_in_empty : (d : ℕ) → entries_in map.empty d ≡ 0
 none_in_empty d = none_in map.empty d (λ q x stands same. let clash : None ≡ Some x = sym (get-empty dentry_cmp q) ∙ stands in cc)
+
+-- a directory has an entry exactly where its count isn't 0
+pub none_counted : (tree : Tree) (d : ℕ) → (entries_in tree d == 0) ≡ not (has_entries tree d)
+none_counted tree d = go (has_entries tree d) refl
+  where
+    no_zero : (n : ℕ) → 0 < n → (n == 0) ≡ false
+    no_zero zero more = cc
+    no_zero (suc n) more = refl
+
+    go : (b : Bool) → has_entries tree d ≡ b → (entries_in tree d == 0) ≡ not (has_entries tree d)
+    go true some =
+        let its = entry_in tree d some in
+        ap (λ n. n == 0) (ap (entries_in tree) (sym its.2)) ∙ no_zero (entries_in tree its.0.0.dir.0) (some_in tree its.0.0 its.0.1 its.1) ∙ ap not (sym some)
+    go false none = ap (λ n. n == 0) (none_in tree d (nothing_in_empty tree d none)) ∙ ap not (sym none)

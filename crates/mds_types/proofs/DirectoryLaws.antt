@@ -59,6 +59,13 @@ pub entries_there : (tree : Tree) (dentry : Dentry) (inode : Inode) → map.get 
 unfolding has_entries
 entries_there tree dentry inode stands = any_of tree (λ e. e.0.dir.0 == dentry.dir.0) dentry inode stands (is_same dentry.dir.0 dentry.dir.0 refl)
 
+-- and where it has some, one stands there
+pub entry_in : (tree : Tree) (d : ℕ) → has_entries tree d ≡ true → (e : Dentry × Inode) × (map.get tree e.0 ≡ Some e.1) × (e.0.dir.0 ≡ d)
+unfolding has_entries
+entry_in tree d some =
+    let w = any_found dentry-total (λ (e : Dentry × Inode). e.0.dir.0 == d) (map.entries tree) (map.entries_sorted tree) some in
+    (w.0, get-entries tree w.0.0 ∙ w.1, eqb-true w.0.0.dir.0 d w.2)
+
 -- nothing is in a directory that has no entries
 pub nothing_in_empty : (tree : Tree) (d : ℕ) → has_entries tree d ≡ false → NothingIn tree d
 nothing_in_empty tree d none q x stands same = let clash : true ≡ false = sym (entries_there tree q x stands) ∙ ap (has_entries tree) same ∙ none in cc

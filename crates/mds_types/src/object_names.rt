@@ -9,6 +9,7 @@ use crate::ids::Ino;
 use crate::texts::Text;
 use std::alloc::{AllocError, Global};
 use std::fmt;
+use std::marker::Model;
 
 // Where the number of an inode ends at the latest, which has sixteen digits at most,
 const DOT: usize = 16;
@@ -57,15 +58,62 @@ impl ObjName {
     {}
 }
 
-/// The text of an object's name, at the end of as many bytes as the longest has.
+/// The text of an object's name, spelt where it is asked for, in no memory of its own.
 #[derive(Drop)]
-pub(crate) struct Spelt {
-    pub(crate) bytes: [u8; END],
-    pub(crate) start: usize,
+pub struct Spelt {
+    ending: Ending,
 }
 
-/// The text of an object's name, in no memory of its own.
-pub(crate) fn spell(object: ObjName) -> Spelt
+// A text at the end of as many bytes as the longest has.
+#[derive(Drop)]
+struct Ending {
+    bytes: [u8; END],
+    start: usize,
+}
+
+impl Model for Spelt {
+    ghost use Rattle.std.specs.Prelude.{◌≤◌, ◌-◌, IsUtf8, List, drop, take, ℕ};
+
+    ghost Value = { List ℕ };
+
+    ghost view = { λ s. take (25 - s.ending.start) (drop s.ending.start s.ending.bytes) };
+
+    ghost invariant = { λ s. (s.ending.start ≤ 16)
+        × IsUtf8 (take (25 - s.ending.start) (drop s.ending.start s.ending.bytes)) };
+}
+
+impl Spelt {
+    /// The text of this name.
+    pub fn of(object: ObjName) -> Spelt
+        ensures { result ≡ object_text object }
+    {
+        Spelt {
+            ending: spell(object),
+        }
+    }
+
+    /// Its bytes.
+    pub(crate) fn as_bytes(&self) -> &[u8]
+        ensures { result.now ≡ self.now }
+    {
+        let ending = &self.ending;
+        &ending.bytes[ending.start..]
+    }
+
+    /// The text.
+    pub fn as_str(&self) -> &str
+        ensures { result.now ≡ self.now }
+    {
+        let ending = &self.ending;
+        match str::from_utf8(&ending.bytes[ending.start..]) {
+            Ok(text) => text,
+            Err(_) => unreachable!(),
+        }
+    }
+}
+
+// The text of an object's name.
+fn spell(object: ObjName) -> Ending
     ensures text { take (25 - result.start) (drop result.start result.bytes) ≡ object_text object }
     ensures utf8 { IsUtf8 (take (25 - result.start) (drop result.start result.bytes)) }
     ensures start { result.start ≤ 16 }
@@ -77,7 +125,7 @@ pub(crate) fn spell(object: ObjName) -> Spelt
 }
 
 // That of a fragment's object.
-fn frag_spelt(ino: u64, frag: Frag) -> Spelt
+fn frag_spelt(ino: u64, frag: Frag) -> Ending
     ensures text { take (25 - result.start) (drop result.start result.bytes)
         ≡ object_text (name.Frag (record { 0 = ino }) frag) }
     ensures utf8 { IsUtf8 (take (25 - result.start) (drop result.start result.bytes)) }
@@ -87,11 +135,11 @@ fn frag_spelt(ino: u64, frag: Frag) -> Spelt
     let _ = write_digits_in(16, u64::from(frag.word()), &mut bytes, END);
     bytes[DOT] = b'.';
     let start = write_digits_in(16, ino, &mut bytes, DOT);
-    Spelt { bytes, start }
+    Ending { bytes, start }
 }
 
 // That of the object of a fragment tree.
-fn tree_spelt(ino: u64) -> Spelt
+fn tree_spelt(ino: u64) -> Ending
     ensures text { take (25 - result.start) (drop result.start result.bytes)
         ≡ object_text (name.Tree (record { 0 = ino })) }
     ensures utf8 { IsUtf8 (take (25 - result.start) (drop result.start result.bytes)) }
@@ -99,5 +147,5 @@ fn tree_spelt(ino: u64) -> Spelt
 {
     let mut bytes = *b"0000000000000000.fragtree";
     let start = write_digits_in(16, ino, &mut bytes, DOT);
-    Spelt { bytes, start }
+    Ending { bytes, start }
 }

@@ -5,11 +5,12 @@ ghost use Rattle.std.specs.Cmp.{partial_order_from_own_ties};
 ghost use Rattle.std.specs.Cmp.Lexicographic.{pointwise, slice_cmp};
 ghost use Rattle.std.specs.Cmp.Rules.{comparing};
 ghost use Rattle.std.specs.Ordering.{nat_cmp, as_partial_cmp};
-ghost use Rattle.std.specs.Prelude.{◌≡◌, ◌==◌, ◌≤◌, ◌<◌, IfOk, true};
+ghost use Rattle.std.specs.Prelude.{◌≡◌, ◌==◌, ◌≤◌, ◌<◌, true};
+ghost use Rattle.mds_types.specs.ObjectForm.{text_lent};
 ghost use Rattle.mds_types.specs.ObjectText.{is_tree, is_whole, number_of, object_text};
 
 use crate::byte_order::compare;
-use crate::object_names::{ObjName, spell};
+use crate::object_names::{ObjName, Spelt};
 use crate::texts::{Text, TextRef};
 use sorted_map::{ExactOrd, Probe};
 use std::alloc::{AllocError, Global};
@@ -31,6 +32,13 @@ enum Form {
     Other(Text),
 }
 
+/// The text that an `ObjText` is: kept there, or spelt where it is asked for.
+#[derive(Drop)]
+pub enum LentText<'a> {
+    Kept(&'a Text),
+    Spelt(Spelt),
+}
+
 impl Model for ObjText {
     ghost use Rattle.std.specs.Prelude.{List, ℕ};
     ghost use Rattle.mds_types.specs.ObjectForm.{text_in};
@@ -38,6 +46,18 @@ impl Model for ObjText {
     ghost Value = { List ℕ };
 
     ghost view = { λ t. text_in t.form };
+}
+
+impl<'a> LentText<'a> {
+    /// The text.
+    pub fn as_str(&self) -> &str
+        ensures { result.now ≡ text_lent self.now }
+    {
+        match self {
+            LentText::Kept(text) => text.as_str(),
+            LentText::Spelt(text) => text.as_str(),
+        }
+    }
 }
 
 impl ObjText {
@@ -59,13 +79,13 @@ impl ObjText {
         }
     }
 
-    /// The text itself. More than 22 bytes take memory.
-    pub fn to_text(&self, alloc: Global) -> Result<Text, AllocError>
-        ensures { IfOk result (λ text. text ≡ self.now) }
+    /// The text itself. Takes no memory.
+    pub fn text(&self) -> LentText<'_>
+        ensures { text_lent result ≡ self.now }
     {
         match &self.form {
-            Form::Object(object) => object.to_text(alloc),
-            Form::Other(text) => text.clone(),
+            Form::Object(object) => LentText::Spelt(Spelt::of(*object)),
+            Form::Other(text) => LentText::Kept(text),
         }
     }
 }
@@ -166,8 +186,8 @@ fn order_in_directory(x: &ObjName, y: &ObjName) -> Ordering
 fn order_to(x: &ObjName, y: &Text) -> Ordering
     ensures { result ≡ slice_cmp nat_cmp (object_text x.now) y.now }
 {
-    let one = spell(*x);
-    compare(&one.bytes[one.start..], y.as_bytes())
+    let one = Spelt::of(*x);
+    compare(one.as_bytes(), y.as_bytes())
 }
 
 // How another text compares with that of an object's name.
@@ -175,8 +195,8 @@ fn order_to(x: &ObjName, y: &Text) -> Ordering
 fn order_of(x: &[u8], y: &ObjName) -> Ordering
     ensures { result ≡ slice_cmp nat_cmp x.now (object_text y.now) }
 {
-    let two = spell(*y);
-    compare(x, &two.bytes[two.start..])
+    let two = Spelt::of(*y);
+    compare(x, two.as_bytes())
 }
 
 // How they compare, byte by byte.
@@ -184,9 +204,9 @@ fn order_of(x: &[u8], y: &ObjName) -> Ordering
 fn order_of_bytes(x: &ObjName, y: &ObjName) -> Ordering
     ensures { result ≡ slice_cmp nat_cmp (object_text x.now) (object_text y.now) }
 {
-    let one = spell(*x);
-    let two = spell(*y);
-    compare(&one.bytes[one.start..], &two.bytes[two.start..])
+    let one = Spelt::of(*x);
+    let two = Spelt::of(*y);
+    compare(one.as_bytes(), two.as_bytes())
 }
 
 // The number of an object's directory.

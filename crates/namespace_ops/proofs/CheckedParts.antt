@@ -170,10 +170,6 @@ checks_from tree mid covers later Holds Held op n outcome here result same leave
         go (Ok (Answers reply)) h = h
         go (Ok (Changes change)) h = record { one_of = h.one_of; replied = h.replied; leads = h.leads; number = h.number; numbered = h.numbered; carries = h.carries; held = record { taken = taken_of change.takes h.held.taken; put = put_of change.puts h.held.put }; takes = h.takes }
 
--- a directory that an operation concerns by what stands at a dentry is read
-pub reads_inside : (tree : Tree) (op is : Op) (dentry : Dentry) (inode : Inode) → op ≡ is → Concerns tree is inode.ino.0 → map.get tree dentry ≡ Some inode → inode.kind ≡ Dir → Reads tree op inode.ino.0
-reads_inside tree op is dentry inode same concerns stands kind = (subst (λ (o : Op). Concerns tree o inode.ino.0) (sym same) concerns, entry_stands tree dentry inode stands (ap is_dir_kind kind))
-
 module _ (tree : Tree) (covers : Covers) (Holds : Dirfrag → Type 0) (op is : Op) (same : op ≡ is) where
   -- what was found of an operation whose directories stand, by which it is
   pub step_from : (limit n : ℕ) (result : Result Checked Refusal) → is_directory tree (directory_of is) ≡ true → is_directory tree (destination_of is) ≡ true → IfOk result (Checks tree covers Holds op n (done_in limit tree (shape is) n)) → IfOk result (Checks tree covers Holds op n (step limit tree op n))

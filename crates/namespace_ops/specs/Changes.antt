@@ -114,24 +114,22 @@ stays op = stays_in (shape op)
 abbrev pub is_idle : Op → Reply → Bool
 is_idle op reply = is_errno reply || stays op
 
--- it concerns the directory d: one that it names, or one that stands at the name of what it takes away or replaces
-abbrev pub ConcernsIn : Tree → Shape → ℕ → Type 0
-ConcernsIn tree (Looks dentry answer) d = d ≡ dentry.dir.0
-ConcernsIn tree (Lists dir after max) d = d ≡ dir
-ConcernsIn tree (Makes dentry kind mode birth) d = d ≡ dentry.dir.0
-ConcernsIn tree (Sets dentry alteration) d = d ≡ dentry.dir.0
-ConcernsIn tree (Unlinks dentry) d = d ≡ dentry.dir.0
-ConcernsIn tree (Removes dentry) d =
-    (d ≡ dentry.dir.0) ⊎ ((inode : Inode) × (map.get tree dentry ≡ Some inode) × (d ≡ inode.ino.0))
-ConcernsIn tree (Moves from to) d =
-    (d ≡ from.dir.0) ⊎ (d ≡ to.dir.0) ⊎ ((inode : Inode) × (map.get tree to ≡ Some inode) × (d ≡ inode.ino.0))
+-- it concerns the directory d: one that it names
+abbrev pub ConcernsIn : Shape → ℕ → Type 0
+ConcernsIn (Looks dentry answer) d = d ≡ dentry.dir.0
+ConcernsIn (Lists dir after max) d = d ≡ dir
+ConcernsIn (Makes dentry kind mode birth) d = d ≡ dentry.dir.0
+ConcernsIn (Sets dentry alteration) d = d ≡ dentry.dir.0
+ConcernsIn (Unlinks dentry) d = d ≡ dentry.dir.0
+ConcernsIn (Removes dentry) d = d ≡ dentry.dir.0
+ConcernsIn (Moves from to) d = (d ≡ from.dir.0) ⊎ (d ≡ to.dir.0)
 
-abbrev pub Concerns : Tree → Op → ℕ → Type 0
-Concerns tree op d = ConcernsIn tree (shape op) d
+abbrev pub Concerns : Op → ℕ → Type 0
+Concerns op d = ConcernsIn (shape op) d
 
 -- an operation reads the directory d: a directory that it concerns
 abbrev pub Reads : Tree → Op → ℕ → Type 0
-Reads tree op d = Concerns tree op d × (is_directory tree d ≡ true)
+Reads tree op d = Concerns op d × (is_directory tree d ≡ true)
 
 -- the inode that an operation answers: one that comes, or has other attributes; of one that is taken or moves none
 abbrev pub reply_by : Option Spot → Option (Spot × Inode) → Reply

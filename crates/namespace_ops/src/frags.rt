@@ -66,6 +66,10 @@ pub trait Frags {
         requires { is_directory (content self.now) below.0 ≡ true }
         ensures { result ≡ is_above (content self.now) dir.0 below.0 };
 
+    /// Whether nothing is in a directory. Takes no memory, and fetches nothing.
+    fn is_empty(&self, dir: Ino) -> bool
+        ensures { result ≡ not (has_entries (content self.now) dir.0) };
+
     /// Where a hash falls in a directory: the leaf that it picks, with the rank that holds it, and how many entries the
     /// directory has; nowhere exactly where there is no such directory. `rank` is asked first whether it holds the
     /// leaf. Takes no memory, and fetches nothing.
@@ -102,15 +106,6 @@ pub trait Frags {
             (λ page. page.0 ≡ take max (names_after (content self.old) dir.0 (option_copied after.entry))) }
         ensures more { IfOk result
             (λ page. page.1 ≡ nat_lt max (length (names_after (content self.old) dir.0 (option_copied after.entry)))) }
-        ensures kept { ReadsOnly (content self.old) (content self.new) (covers self.old) (covers self.new)
-            (Follows self.old self.new op.now (result_err result)) }
-        ensures err { IfErr result (MayRefuse self.old self.new op.now) }
-        ensures numbers { IfErr result (λ reason. reason ≢ NoInodes) };
-
-    /// Whether nothing is in a directory.
-    fn is_empty(&mut self, op: &Op, dir: Ino) -> Result<bool, Refusal>
-        requires reads { Reads (content self.old) op.now dir.0 }
-        ensures found { IfOk result (λ empty. empty ≡ not (has_entries (content self.old) dir.0)) }
         ensures kept { ReadsOnly (content self.old) (content self.new) (covers self.old) (covers self.new)
             (Follows self.old self.new op.now (result_err result)) }
         ensures err { IfErr result (MayRefuse self.old self.new op.now) }

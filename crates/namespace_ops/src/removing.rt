@@ -3,8 +3,6 @@ ghost use Rattle.std.specs.Prelude.{◌≡◌, ◌≢◌, ℕ, None, Some, Optio
 ghost use Rattle.std.specs.Result.{result_err};
 ghost use Rattle.mds_types.specs.declared.refusals.Refusal.TheVariants.{NoInodes};
 ghost use Rattle.mds_types.specs.declared.ids.Ino.{Ino as Number};
-ghost use Rattle.mds_types.specs.declared.inodes.Inode.{Inode as Node};
-ghost use Rattle.mds_types.specs.declared.inodes.Kind.TheVariants.{Dir};
 ghost use Rattle.std.specs.FinMap as map;
 ghost use Rattle.mds_types.specs.Step.{unlinked, dir_removed};
 ghost use Rattle.mds_types.specs.Step.{removal_errno as errno_of_removal};
@@ -62,8 +60,6 @@ pub fn remove_dir<F: Frags>(
     at: &Dirfrag,
 ) -> Result<Checked, Refusal>
     requires reads { Reads (F.content frags.old) op.now dentry.now.dir.0 }
-    requires inside { (inode : Node) → map.get (F.content frags.old) dentry.now ≡ Some inode → inode.kind ≡ Dir
-        → Reads (F.content frags.old) op.now inode.ino.0 }
     requires at { LiesAt (F.content frags.old) (F.covers frags.old) (F.Holds frags.old) dentry.now at.now }
     requires removes { (spot : Place) (gone : Option Number) → dentry_at spot ≡ dentry.now
         → IsChangeOf op.now (takes_away spot gone) }
@@ -78,7 +74,7 @@ pub fn remove_dir<F: Frags>(
     let Some(inode) = frags.look(op, dentry, at)? else {
         return Ok(Checked::Answers(Reply::Errno(ENOENT)))
     };
-    if let Some(errno) = removal_errno(frags, op, &inode)? {
+    if let Some(errno) = removal_errno(frags, &inode) {
         return Ok(Checked::Answers(Reply::Errno(errno)));
     }
     let spot = Spot::of(dentry, *at)?;
@@ -91,20 +87,15 @@ pub fn remove_dir<F: Frags>(
 }
 
 // The errno for an inode that is no directory, or a full one.
-fn removal_errno<F: Frags>(frags: &mut F, op: &Op, inode: &Inode) -> Result<Option<u16>, Refusal>
-    requires reads { inode.now.kind ≡ Dir → Reads (F.content frags.old) op.now inode.now.ino.0 }
-    ensures found { IfOk result (λ errno. errno ≡ errno_of_removal (F.content frags.old) inode.now) }
-    ensures kept { ReadsOnly (F.content frags.old) (F.content frags.new) (F.covers frags.old) (F.covers frags.new)
-        (F.Follows frags.old frags.new op.now (result_err result)) }
-    ensures err { IfErr result (F.MayRefuse frags.old frags.new op.now) }
-    ensures numbers { IfErr result (λ reason. reason ≢ NoInodes) }
+fn removal_errno<F: Frags>(frags: &F, inode: &Inode) -> Option<u16>
+    ensures { result ≡ errno_of_removal (F.content frags.now) inode.now }
 {
     if !inode.kind.is_dir() {
-        return Ok(Some(ENOTDIR));
+        return Some(ENOTDIR);
     }
-    if frags.is_empty(op, inode.ino)? {
-        Ok(None)
+    if frags.is_empty(inode.ino) {
+        None
     } else {
-        Ok(Some(ENOTEMPTY))
+        Some(ENOTEMPTY)
     }
 }

@@ -5,7 +5,6 @@ ghost use Rattle.mds_types.specs.declared.refusals.Refusal.TheVariants.{NoInodes
 ghost use Rattle.std.specs.FinMap as map;
 ghost use Rattle.mds_types.specs.declared.ids.Ino.{Ino as Number};
 ghost use Rattle.mds_types.specs.declared.inodes.Inode.{Inode as Node};
-ghost use Rattle.mds_types.specs.declared.inodes.Kind.TheVariants.{Dir};
 ghost use Rattle.std.specs.Option.{option_copied};
 ghost use Rattle.std.specs.Ordering.{eq_by_cmp};
 ghost use Rattle.mds_types.specs.Tree.{dentry_cmp, is_directory};
@@ -40,8 +39,6 @@ pub fn rename<F: Frags>(
     requires to { IsLocatedAt (F.content frags.old) (F.covers frags.old) (F.Holds frags.old) to.now at.now.1 }
     requires reads { Reads (F.content frags.old) op.now from.now.dir.0 }
     requires leads { Reads (F.content frags.old) op.now to.now.dir.0 }
-    requires inside { (inode : Node) → map.get (F.content frags.old) to.now ≡ Some inode → inode.kind ≡ Dir
-        → Reads (F.content frags.old) op.now inode.ino.0 }
     requires idle { stays op.now ≡ eq_by_cmp dentry_cmp from.now to.now }
     requires moves { (source target : Place) (inode : Node) (gone : Option Number) → dentry_at source ≡ from.now
         → dentry_at target ≡ to.now → IsChangeOf op.now (moves_to source target inode gone) }
@@ -63,7 +60,7 @@ pub fn rename<F: Frags>(
         return Ok(Checked::Answers(Reply::Errno(EINVAL)));
     }
     let replaced = frags.look(op, to, &at.1.at)?;
-    if let Some(errno) = replace_errno(frags, op, &inode, replaced.as_ref())? {
+    if let Some(errno) = replace_errno(frags, &inode, replaced.as_ref()) {
         return Ok(Checked::Answers(Reply::Errno(errno)));
     }
     if let Some(errno) = room_errno(limit, from, to, at.1.entries, replaced.as_ref()) {
@@ -105,34 +102,22 @@ fn leads_to<F: Frags>(frags: &F, inode: &Inode, dir: Ino) -> bool
 }
 
 // The errno for what stands at the target, if the inode may not replace it.
-fn replace_errno<F: Frags>(
-    frags: &mut F,
-    op: &Op,
-    inode: &Inode,
-    replaced: Option<&Inode>,
-) -> Result<Option<u16>, Refusal>
-    requires inside { (gone : Node) → option_copied replaced ≡ Some gone → gone.kind ≡ Dir
-        → Reads (F.content frags.old) op.now gone.ino.0 }
-    ensures found { IfOk result
-        (λ errno. errno ≡ errno_of_replacing (F.content frags.old) inode.now (option_copied replaced.entry)) }
-    ensures kept { ReadsOnly (F.content frags.old) (F.content frags.new) (F.covers frags.old) (F.covers frags.new)
-        (F.Follows frags.old frags.new op.now (result_err result)) }
-    ensures err { IfErr result (F.MayRefuse frags.old frags.new op.now) }
-    ensures numbers { IfErr result (λ reason. reason ≢ NoInodes) }
+fn replace_errno<F: Frags>(frags: &F, inode: &Inode, replaced: Option<&Inode>) -> Option<u16>
+    ensures { result ≡ errno_of_replacing (F.content frags.now) inode.now (option_copied replaced.entry) }
 {
     let Some(replaced) = replaced else {
-        return Ok(None)
+        return None;
     };
     match (inode.kind.is_dir(), replaced.kind.is_dir()) {
         (true, true) => {
-            if frags.is_empty(op, replaced.ino)? {
-                Ok(None)
+            if frags.is_empty(replaced.ino) {
+                None
             } else {
-                Ok(Some(ENOTEMPTY))
+                Some(ENOTEMPTY)
             }
         }
-        (true, false) => Ok(Some(ENOTDIR)),
-        (false, true) => Ok(Some(EISDIR)),
-        (false, false) => Ok(None),
+        (true, false) => Some(ENOTDIR),
+        (false, true) => Some(EISDIR),
+        (false, false) => None,
     }
 }

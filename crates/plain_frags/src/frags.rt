@@ -187,6 +187,10 @@ impl Frags for PlainFrags {
         self.dirs.is_above(dir, below)
     }
 
+    fn is_empty(&self, dir: Ino) -> bool {
+        nothing_in(&self.entries, dir)
+    }
+
     fn locate(&self, _rank: Rank, dir: Ino, hash: u32) -> Option<Located> {
         let Some(leaf) = self.dirs.leaf_at(dir, hash) else {
             return None;
@@ -222,10 +226,6 @@ impl Frags for PlainFrags {
         max: PageSize,
     ) -> Result<(Listing, bool), Refusal> {
         Ok(first_rows(alloc, rows_after(&self.entries, dir, after), dir, max)?)
-    }
-
-    fn is_empty(&mut self, _op: &Op, dir: Ino) -> Result<bool, Refusal> {
-        Ok(nothing_in(&self.entries, dir))
     }
 
     fn change(&mut self, _op: &Op, change: Change) -> Result<(), Refusal> {

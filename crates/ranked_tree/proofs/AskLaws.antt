@@ -39,7 +39,7 @@ held_still a b op told kept = ap (λ (r : Roots). holding b.exports r) kept.root
 -- ---- why an operation is refused
 
 -- where places lack at a leaf of a directory that it concerns
-pub asked : (old new : Ranked) (op : Op) (reason : Refusal) (Lacks : Type 0) → (Lacks → LacksPlacesAsked 1 old.tree (held_roots old) (Concerns (shown_tree (state_of old.tree)) op)) → MayNotFind Lacks old.tree.faults new.tree.faults reason → MayRefuse old new op reason
+pub asked : (old new : Ranked) (op : Op) (reason : Refusal) (Lacks : Type 0) → (Lacks → LacksPlacesAsked 1 old.tree (held_roots old) (Concerns op)) → MayNotFind Lacks old.tree.faults new.tree.faults reason → MayRefuse old new op reason
 asked old new op reason Lacks so (inl memory) = inl memory
 asked old new op reason Lacks so (inr (inl fault)) = inr (inl fault)
 asked old new op reason Lacks so (inr (inr (is, lacks))) = let (leaf, concerns, (rank, rules, few)) = so lacks in inr (inr (inl (is, (leaf, concerns, (rank, rules, omega (arith, few))))))
@@ -47,10 +47,10 @@ asked old new op reason Lacks so (inr (inr (is, lacks))) = let (leaf, concerns, 
 -- after reads for it that were not refused
 pub ranked_later : (a b c : Ranked) (op : Op) (reason : Refusal) → KeepsRanked a b op None → MayRefuse b c op reason → MayRefuse a c op reason
 ranked_later a b c op reason kept because =
-    refused_later (LacksPlacesAsked 2 b.tree (held_roots b) (Concerns (shown_tree (state_of b.tree)) op)) (LacksPlacesAsked 2 a.tree (held_roots a) (Concerns (shown_tree (state_of a.tree)) op)) a.tree b.tree c.tree op reason
+    refused_later (LacksPlacesAsked 2 b.tree (held_roots b) (Concerns op)) (LacksPlacesAsked 2 a.tree (held_roots a) (Concerns op)) a.tree b.tree c.tree op reason
     (λ all. let (leaf, concerns, lacks) = all in (
       leaf,
-      subst (λ (s : State). Concerns (shown_tree s) op leaf.0.0) kept.tree.state concerns,
+      concerns,
       lacks_still 2 a.tree b.tree (held_roots a) leaf kept.tree (subst (λ (r : Roots). LacksPlacesFor 2 b.tree r leaf) (held_still a b op None kept) lacks),
     )) kept.tree because
 

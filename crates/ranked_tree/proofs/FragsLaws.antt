@@ -11,7 +11,7 @@ over tree regions = record { tree = tree; subtrees = regions.roots; exports = re
 
 module _ (tree new : Core) (regions : Regions) (now : Ranked) (is : over tree regions ≡ now) (op : Op) where
   -- reads of a directory that the operation concerns
-  pub keeps_dir : (dir : Ino) (told : Option Refusal) → Concerns (shown_tree (state_of now.tree)) op dir.0 → KeepsState tree new told → ReadsDir (held_in regions) dir tree new
+  pub keeps_dir : (dir : Ino) (told : Option Refusal) → Concerns op dir.0 → KeepsState tree new told → ReadsDir (held_in regions) dir tree new
       → ReadsOnly (shown_tree (state_of now.tree)) (shown_tree (state_of new)) now.tree.covers new.covers (KeepsRanked now (over new regions) op told)
   keeps_dir dir told concerns kept reads = subst (λ (n : Ranked). ReadsOnly (shown_tree (state_of n.tree)) (shown_tree (state_of new)) n.tree.covers new.covers (KeepsRanked n (over new regions) op told)) is (record {
     tree = ap (λ (s : State). shown_tree s) kept.state;
@@ -20,21 +20,21 @@ module _ (tree new : Core) (regions : Regions) (now : Ranked) (is : over tree re
       tree = kept;
       roots = refl;
       exports = refl;
-      reads = reads_less (held_in regions) (λ (d : ℕ). d ≡ dir.0) (Concerns (shown_tree (state_of tree)) op) tree new
-          (λ d same. subst (λ (n : Ranked). Concerns (shown_tree (state_of n.tree)) op d) (sym is) (subst (λ (x : ℕ). Concerns (shown_tree (state_of now.tree)) op x) (sym same) concerns)) reads;
+      reads = reads_less (held_in regions) (λ (d : ℕ). d ≡ dir.0) (Concerns op) tree new
+          (λ d same. subst (λ (x : ℕ). Concerns op x) (sym same) concerns) reads;
     };
   })
 
   -- a look at their leaves was refused
-  pub looks_refused : {X : Type 0} (result : Result X Refusal) (Lacks : Type 0) → (Lacks → LacksPlacesAsked 1 tree (held_in regions) (Concerns (shown_tree (state_of now.tree)) op)) → IfErr result (MayNotFind Lacks tree.faults new.faults) → IfErr result (MayRefuse now (over new regions) op)
+  pub looks_refused : {X : Type 0} (result : Result X Refusal) (Lacks : Type 0) → (Lacks → LacksPlacesAsked 1 tree (held_in regions) (Concerns op)) → IfErr result (MayNotFind Lacks tree.faults new.faults) → IfErr result (MayRefuse now (over new regions) op)
   looks_refused {X} result Lacks so =
       IfErr-weaker result _ _ (λ reason because. subst (λ (n : Ranked). MayRefuse n (over new regions) op reason) is
-      (asked (over tree regions) (over new regions) op reason Lacks (subst (λ (n : Ranked). Lacks → LacksPlacesAsked 1 tree (held_in regions) (Concerns (shown_tree (state_of n.tree)) op)) (sym is) so) because))
+      (asked (over tree regions) (over new regions) op reason Lacks so because))
 
   -- at all leaves of one of them
-  pub walk_refused : {X : Type 0} (result : Result X Refusal) (dir : Ino) → Concerns (shown_tree (state_of now.tree)) op dir.0 → IfErr result (MayNotFind (LacksPlacesDir 1 tree (held_in regions) dir) tree.faults new.faults) → IfErr result (MayRefuse now (over new regions) op)
+  pub walk_refused : {X : Type 0} (result : Result X Refusal) (dir : Ino) → Concerns op dir.0 → IfErr result (MayNotFind (LacksPlacesDir 1 tree (held_in regions) dir) tree.faults new.faults) → IfErr result (MayRefuse now (over new regions) op)
   walk_refused {X} result dir concerns =
-      looks_refused result (LacksPlacesDir 1 tree (held_in regions) dir) (λ lacks. (lacks.0, subst (λ (d : ℕ). Concerns (shown_tree (state_of now.tree)) op d) (sym lacks.1) concerns, lacks.2))
+      looks_refused result (LacksPlacesDir 1 tree (held_in regions) dir) (λ lacks. (lacks.0, subst (λ (d : ℕ). Concerns op d) (sym lacks.1) concerns, lacks.2))
 
 -- the numbers that lack for a change lack for its operation
 numbers_lack : (s : State) (sort : Shape) (change : Change) → IsChangeIn sort change → LacksToMake change s → LacksForIn sort s
@@ -62,7 +62,7 @@ module _ (old new : Ranked) (op : Op) (change : Change) (of : IsChangeOf op chan
       tree = is.0;
       roots = roots.0;
       exports = exports;
-      reads = reads_less (held_roots old) (NamesDir change) (Concerns (shown_tree (state_of old.tree)) op) old.tree new.tree (λ d named. change_concerns (shown_tree (state_of old.tree)) (shape op) change of d named) is.1;
+      reads = reads_less (held_roots old) (NamesDir change) (Concerns op) old.tree new.tree (λ d named. change_concerns (shape op) change of d named) is.1;
     };
   }
 
@@ -73,7 +73,7 @@ module _ (old new : Ranked) (op : Op) (change : Change) (of : IsChangeOf op chan
   because (Err reason) (kept, reads, inr (inl (told, numbers))) = inr (inr (inr (told, numbers_lack (state_of old.tree) (shape op) change of numbers)))
   because (Err reason) (kept, reads, inr (inr (none, inl memory))) = inl memory
   because (Err reason) (kept, reads, inr (inr (none, inr (inl fault)))) = inr (inl fault)
-  because (Err reason) (kept, reads, inr (inr (none, inr (inr (told, (leaf, named, lacks)))))) = inr (inr (inl (told, (leaf, change_concerns (shown_tree (state_of old.tree)) (shape op) change of leaf.0.0 named, lacks))))
+  because (Err reason) (kept, reads, inr (inr (none, inr (inr (told, (leaf, named, lacks)))))) = inr (inr (inl (told, (leaf, change_concerns (shape op) change of leaf.0.0 named, lacks))))
 
 -- a leaf where a hash falls is live
 pub found_live : (tree : Core) (regions : Regions) (now : Ranked) → over tree regions ≡ now → IsSound (state_of tree) → (at : Dirfrag) → (dir hash : ℕ) × IsAt (shown_tree (state_of now.tree)) now.tree.covers (HoldsAt (state_of now.tree) (held_roots now)) dir hash at

@@ -22,8 +22,8 @@ keeps_ranked_on a b c op told first second = record {
   tree = keeps_on a.tree b.tree c.tree told first.tree second.tree;
   roots = second.roots ∙ first.roots;
   exports = second.exports ∙ first.exports;
-  reads = reads_on (held_roots a) (Concerns (shown_tree (state_of a.tree)) op) a.tree b.tree c.tree first.tree first.reads
-      (subst (λ (s : State). ReadsFor (held_roots a) (Concerns (shown_tree s) op) b.tree c.tree) first.tree.state (subst (λ (r : Roots). ReadsFor r (Concerns (shown_tree (state_of b.tree)) op) b.tree c.tree) (held_still a b op None first) second.reads));
+  reads = reads_on (held_roots a) (Concerns op) a.tree b.tree c.tree first.tree first.reads
+      (subst (λ (r : Roots). ReadsFor r (Concerns op) b.tree c.tree) (held_still a b op None first) second.reads);
 }
 
 -- the leaves that a change names lie in directories that it names, each at its rank, or it is that of a directory that comes
@@ -49,12 +49,12 @@ module _ (P : Option Spot → Option (Spot × Inode) → Type 0) where
   by_move here there Is takes puts at to so = search rules
 
 -- the directories of a change are those that its operation concerns
-pub change_concerns : (tree : Tree) (sort : OpShape) (change : Change) → IsChangeIn sort change → (d : ℕ) → NamesDir change d → ConcernsIn tree sort d
-change_concerns tree (Makes dentry kind mode birth) change of d = by_put (λ t p. NamesBy t p d → d ≡ dentry.dir.0) dentry _ change.takes change.puts of.takes of.puts (λ put at is named. named ∙ ap (λ (e : Dentry). e.dir.0) at)
-change_concerns tree (Sets dentry alteration) change of d = by_put (λ t p. NamesBy t p d → d ≡ dentry.dir.0) dentry _ change.takes change.puts of.takes of.puts (λ put at is named. named ∙ ap (λ (e : Dentry). e.dir.0) at)
-change_concerns tree (Unlinks dentry) change of d = by_taken (λ t p. NamesBy t p d → d ≡ dentry.dir.0) dentry change.takes change.puts of.removal.takes of.removal.puts (λ spot at named. named ∙ ap (λ (e : Dentry). e.dir.0) at)
-change_concerns tree (Removes dentry) change of d = by_taken (λ t p. NamesBy t p d → ConcernsIn tree (Removes dentry) d) dentry change.takes change.puts of.takes of.puts (λ spot at named. inl (named ∙ ap (λ (e : Dentry). e.dir.0) at))
-change_concerns tree (Moves from to) change of d =
-    by_move (λ t p. NamesBy t p d → ConcernsIn tree (Moves from to) d) from to _ change.takes change.puts of.takes of.puts
-    (λ spot put at there. ⊎_elim (λ named. inl (named ∙ ap (λ (e : Dentry). e.dir.0) at)) (λ named. inr (inl (named ∙ ap (λ (e : Dentry). e.dir.0) there))))
-change_concerns tree _ change of d = absurd of
+pub change_concerns : (sort : OpShape) (change : Change) → IsChangeIn sort change → (d : ℕ) → NamesDir change d → ConcernsIn sort d
+change_concerns (Makes dentry kind mode birth) change of d = by_put (λ t p. NamesBy t p d → d ≡ dentry.dir.0) dentry _ change.takes change.puts of.takes of.puts (λ put at is named. named ∙ ap (λ (e : Dentry). e.dir.0) at)
+change_concerns (Sets dentry alteration) change of d = by_put (λ t p. NamesBy t p d → d ≡ dentry.dir.0) dentry _ change.takes change.puts of.takes of.puts (λ put at is named. named ∙ ap (λ (e : Dentry). e.dir.0) at)
+change_concerns (Unlinks dentry) change of d = by_taken (λ t p. NamesBy t p d → d ≡ dentry.dir.0) dentry change.takes change.puts of.removal.takes of.removal.puts (λ spot at named. named ∙ ap (λ (e : Dentry). e.dir.0) at)
+change_concerns (Removes dentry) change of d = by_taken (λ t p. NamesBy t p d → d ≡ dentry.dir.0) dentry change.takes change.puts of.takes of.puts (λ spot at named. named ∙ ap (λ (e : Dentry). e.dir.0) at)
+change_concerns (Moves from to) change of d =
+    by_move (λ t p. NamesBy t p d → ConcernsIn (Moves from to) d) from to _ change.takes change.puts of.takes of.puts
+    (λ spot put at there. ⊎_elim (λ named. inl (named ∙ ap (λ (e : Dentry). e.dir.0) at)) (λ named. inr (named ∙ ap (λ (e : Dentry). e.dir.0) there)))
+change_concerns _ change of d = absurd of

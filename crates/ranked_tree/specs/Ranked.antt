@@ -36,7 +36,7 @@ pub record KeepsRanked (old new : Ranked) (op : Op) (told : Option Refusal) : Ty
   pub tree : KeepsState old.tree new.tree told
   pub roots : new.subtrees.roots ≡ old.subtrees.roots
   pub exports : new.exports ≡ old.exports
-  pub reads : ReadsFor (held_roots old) (Concerns (shown_tree (state_of old.tree)) op) old.tree new.tree
+  pub reads : ReadsFor (held_roots old) (Concerns op) old.tree new.tree
 
 -- a call for an operation is refused for want of memory, by a store whose count of faults rose, where fewer than two
 -- places are free, or can become so, at a rank that holds a leaf of a directory which the operation concerns, or where
@@ -44,7 +44,7 @@ pub record KeepsRanked (old new : Ranked) (op : Op) (told : Option Refusal) : Ty
 abbrev pub MayRefuse : (old new : Ranked) → Op → Refusal → Type 0
 MayRefuse old new op reason =
     MayRefuseIn (LacksPlacesAsked 2 old.tree (held_roots old)
-    (Concerns (shown_tree (state_of old.tree)) op)) old.tree new.tree op reason
+    (Concerns op)) old.tree new.tree op reason
 
 -- the one subtree root of a new tree: the root directory's leaf is rank 0's
 abbrev pub new_roots : Roots

@@ -13,7 +13,6 @@ ghost use Rattle.ranked_tree.specs.Exported.{held_in};
 ghost use Rattle.ranked_tree.specs.Subtrees.{HoldsAt};
 
 use crate::authorities::locate;
-use crate::emptiness::is_dir_empty;
 use crate::listing::list_dir;
 use crate::ranked_tree::RankedTree;
 use crate::regions::Regions;
@@ -68,9 +67,9 @@ impl<S: Store + Drop> Frags for RankedTree<S> {
       tree = keeps_on a.tree b.tree c.tree told p.tree q.tree;
       roots = q.roots ∙ p.roots;
       exports = q.exports ∙ p.exports;
-      reads = reads_then (AsksFor (state_of a.tree) (held_roots a) (Concerns (shown_tree (state_of a.tree)) op)) NoneEnds a.tree.objects a.tree.caches b.tree.caches c.tree.caches p.reads
-          (subst (λ (s : TreeState). Reads (AsksFor s (held_roots a) (Concerns (shown_tree s) op)) NoneEnds s.objects b.tree.caches c.tree.caches) p.tree.state
-          (subst (λ (r : Roots). ReadsFor r (Concerns (shown_tree (state_of b.tree)) op) b.tree c.tree) (ap (λ (r : Roots). holding b.exports r) p.roots ∙ ap (λ (e : Standing). holding e a.subtrees.roots) p.exports) q.reads));
+      reads = reads_then (AsksFor (state_of a.tree) (held_roots a) (Concerns op)) NoneEnds a.tree.objects a.tree.caches b.tree.caches c.tree.caches p.reads
+          (subst (λ (s : TreeState). Reads (AsksFor s (held_roots a) (Concerns op)) NoneEnds s.objects b.tree.caches c.tree.caches) p.tree.state
+          (subst (λ (r : Roots). ReadsFor r (Concerns op) b.tree c.tree) (ap (λ (r : Roots). holding b.exports r) p.roots ∙ ap (λ (e : Standing). holding e a.subtrees.roots) p.exports) q.reads));
     } };
 
     ghost held_on = { λ a b op told at kept. (
@@ -94,18 +93,18 @@ impl<S: Store + Drop> Frags for RankedTree<S> {
     ghost unchanged_on = { λ a b c leaf p q. untouched_on a.tree b.tree c.tree leaf p q };
 
     ghost refused_on = { λ a b c op reason kept because. refused_later
-        (LacksPlacesAsked 2 b.tree (held_roots b) (Concerns (shown_tree (state_of b.tree)) op))
-        (LacksPlacesAsked 2 a.tree (held_roots a) (Concerns (shown_tree (state_of a.tree)) op))
+        (LacksPlacesAsked 2 b.tree (held_roots b) (Concerns op))
+        (LacksPlacesAsked 2 a.tree (held_roots a) (Concerns op))
         a.tree b.tree c.tree op reason
         (λ lacks.
-        let now = subst (λ (r : Roots). LacksPlacesAsked 2 b.tree r (Concerns (shown_tree (state_of b.tree)) op)) (ap (λ (r : Roots). holding b.exports r) kept.roots ∙ ap (λ (e : Standing). holding e a.subtrees.roots) kept.exports) lacks in
-        let before = lacked_asked 2 (λ (s : TreeState) (d : ℕ). Concerns (shown_tree s) op d) (λ (s : TreeState) (leaf : Leaf) (rank : RankNumber). Rules s (held_roots a) leaf rank) a.tree b.tree kept.tree (now.0, now.1, now.2.0, now.2.1, now.2.2) in
+        let now = subst (λ (r : Roots). LacksPlacesAsked 2 b.tree r (Concerns op)) (ap (λ (r : Roots). holding b.exports r) kept.roots ∙ ap (λ (e : Standing). holding e a.subtrees.roots) kept.exports) lacks in
+        let before = lacked_asked 2 (λ (s : TreeState) (d : ℕ). Concerns op d) (λ (s : TreeState) (leaf : Leaf) (rank : RankNumber). Rules s (held_roots a) leaf rank) a.tree b.tree kept.tree (now.0, now.1, now.2.0, now.2.1, now.2.2) in
         (before.0, before.1, (before.2, before.3, before.4)))
         kept.tree because };
 
     ghost refused_for = { λ a b op reason because. refused_so
         (LacksPlacesAsked 2 a.tree (held_roots a)
-        (Concerns (shown_tree (state_of a.tree)) op)) a.tree b.tree op reason because };
+        (Concerns op)) a.tree b.tree op reason because };
 
     fn is_dir(&self, dir: Ino) -> bool {
         self.tree.is_dir(dir)
@@ -113,6 +112,10 @@ impl<S: Store + Drop> Frags for RankedTree<S> {
 
     fn is_above(&self, dir: Ino, below: Ino) -> bool {
         self.tree.is_above(dir, below)
+    }
+
+    fn is_empty(&self, dir: Ino) -> bool {
+        self.tree.is_dir_empty(dir)
     }
 
     fn locate(&self, rank: Rank, dir: Ino, hash: u32) -> Option<Located> {
@@ -136,10 +139,6 @@ impl<S: Store + Drop> Frags for RankedTree<S> {
         max: PageSize,
     ) -> Result<(Listing, bool), Refusal> {
         list_dir(alloc, &mut self.tree, &self.regions, dir, after, max)
-    }
-
-    fn is_empty(&mut self, _op: &Op, dir: Ino) -> Result<bool, Refusal> {
-        is_dir_empty(self.alloc, &mut self.tree, &self.regions, dir)
     }
 
     fn change(&mut self, _op: &Op, change: Change) -> Result<(), Refusal> {

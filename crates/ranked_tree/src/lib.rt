@@ -6,7 +6,6 @@
 mod authorities;
 mod changing;
 mod commits;
-mod emptiness;
 mod ending_jobs;
 mod exporting;
 mod finishing;

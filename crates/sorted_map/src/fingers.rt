@@ -1,5 +1,5 @@
 //! `Finger`: where a key was found, for the calls that look for it once more.
-ghost use Rattle.std.specs.Prelude.{◌≡◌, ◌-◌, ◌<◌, ◌≤◌, if◌then◌else◌, None, is_some, option_copied};
+ghost use Rattle.std.specs.Prelude.{◌≡◌, ◌-◌, ◌<◌, ◌≤◌, if◌then◌else◌, None, IfNone, is_some, option_copied, option_map};
 ghost use Rattle.std.specs.FinMap as map;
 ghost use Rattle.sorted_map.specs.SortedMap.{contents};
 
@@ -72,6 +72,19 @@ impl<K: ExactOrd + Drop, V: Drop> SortedMap<K, V> {
         match &mut self.store {
             Store::Flat(flat) => flat.insert(key, value),
             Store::Chunked(chunked) => chunked.insert_near(near, key, value),
+        }
+    }
+
+    /// Takes the key out, and returns it with its value, as `remove` does.
+    pub fn remove_near<Q: Probe<K>>(&mut self, near: &Finger, q: &Q) -> Option<(K, V)>
+        ensures value { result ≡ option_map (λ v. (Q.key q.now, v)) (map.get (contents K.cmp self.old) (Q.key q.now)) }
+        ensures removed { contents K.cmp self.new ≡ map.remove (contents K.cmp self.old) (Q.key q.now) }
+        ensures absent { IfNone result (self.new ≡ self.old) }
+        ensures room { self.old.room ≤ self.new.room }
+    {
+        match &mut self.store {
+            Store::Flat(flat) => flat.remove(q),
+            Store::Chunked(chunked) => chunked.remove_near(near, q),
         }
     }
 }

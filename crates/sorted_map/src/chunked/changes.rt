@@ -40,10 +40,7 @@ impl<K: ExactOrd + Drop, V: Drop> ChunkMap<K, V> {
         ensures absent { IfNone result (self.new ≡ self.old) }
         ensures room { self.old.room ≤ self.new.room }
     {
-        match spot(self.chunks.row(), q) {
-            (home, Ok(at)) => Some(take_out(&mut self.chunks, home, at)),
-            (_, Err(_)) => None,
-        }
+        self.remove_near(&Finger::none(), q)
     }
 
     /// Takes out the pair of the least key.

@@ -1,5 +1,5 @@
 //! The calls that look for a key where it was found before.
-ghost use Rattle.std.specs.Prelude.{◌≡◌, ◌-◌, ◌<◌, ◌≤◌, if◌then◌else◌, Some, None, T, IfSome, OnOk, [], length, slice_index_or, is_some, option_copied};
+ghost use Rattle.std.specs.Prelude.{◌≡◌, ◌-◌, ◌<◌, ◌≤◌, if◌then◌else◌, Some, None, T, IfSome, IfNone, OnOk, [], length, slice_index_or, is_some, option_copied, option_map};
 ghost use Rattle.std.specs.FinMap as map;
 ghost use Rattle.std.specs.FinMap.{is_sorted};
 ghost use Rattle.std.specs.List.Sorted.{IsSearchInRange};
@@ -10,7 +10,7 @@ ghost use Rattle.sorted_map.specs.Places.{IsPlace};
 
 use crate::chunked::map::ChunkMap;
 use crate::chunked::places::spot_from_end;
-use crate::chunks::{Chunk, put_new, put_value};
+use crate::chunks::{Chunk, put_new, put_value, take_out};
 use crate::fingers::{Finger, Spot};
 use crate::keys::{ExactOrd, Probe};
 use std::cell::Cell;
@@ -60,6 +60,19 @@ impl<K: ExactOrd + Drop, V: Drop> ChunkMap<K, V> {
                 put_new(&mut self.chunks, home, at, (key, value));
                 None
             }
+        }
+    }
+
+    /// Takes the key out, and returns it with its value.
+    pub fn remove_near<Q: Probe<K>>(&mut self, near: &Finger, q: &Q) -> Option<(K, V)>
+        ensures value { result ≡ option_map (λ v. (Q.key q.now, v)) (map.get (contents K.cmp self.old) (Q.key q.now)) }
+        ensures removed { contents K.cmp self.new ≡ map.remove (contents K.cmp self.old) (Q.key q.now) }
+        ensures absent { IfNone result (self.new ≡ self.old) }
+        ensures room { self.old.room ≤ self.new.room }
+    {
+        match spot_near(self.chunks.row(), near, q) {
+            (home, Ok(at)) => Some(take_out(&mut self.chunks, home, at)),
+            (_, Err(_)) => None,
         }
     }
 }

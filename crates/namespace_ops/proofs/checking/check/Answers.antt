@@ -1,12 +1,6 @@
-use Rattle.namespace_ops.proofs.Common.{Checks, IfOk, Lookup, Readdir, Readlink, Rename, Rmdir, SetPin, Setattr, Unlink, inr, names_after, page, refl, subst}
-use Rattle.namespace_ops.proofs.CheckedParts.{main_at, reads_inside, source_at, step_at, step_from}
+use Rattle.namespace_ops.proofs.Common.{Checks, IfOk, Lookup, Readdir, Readlink, Rename, Rmdir, SetPin, Setattr, Unlink, names_after, page, refl, subst}
+use Rattle.namespace_ops.proofs.CheckedParts.{main_at, source_at, step_at, step_from}
 use Rattle.namespace_ops.proofs.checking.check.Goals as goal
-
-pub remove_dir-requires-clause-inside : goal.remove_dir-requires-clause-inside
-remove_dir-requires-clause-inside g c inode stands kind = reads_inside _ _ (Rmdir c.in-Rmdir.dentry) c.in-Rmdir.dentry inode c.in-Rmdir.is (inr (inode, stands, refl)) stands kind
-
-pub rename-requires-clause-inside : goal.rename-requires-clause-inside
-rename-requires-clause-inside g c inode stands kind = reads_inside _ _ (Rename c.in-Rename.from c.in-Rename.to) c.in-Rename.to inode c.in-Rename.is (inr (inr (inode, stands, refl))) stands kind
 
 pub returns-in-Lookup-clause-checked : goal.returns-in-Lookup-clause-checked
 returns-in-Lookup-clause-checked g c = step_at _ _ _ _ (Lookup c.in-Lookup.dentry) c.in-Lookup.is c.args.limit c.args.number.0 _ c.args.places c.in-Some.at c.requires c.in-Some.is refl (c.lookup.ensures.checked c.args.number.0)
