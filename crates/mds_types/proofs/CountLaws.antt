@@ -1,7 +1,7 @@
 -- How many entries a directory has once an entry came, was set or went.
-use Rattle.std.specs.Prelude.{◌≡◌, ℕ, ◌<◌, ◌+◌, ◌-◌, ◌==◌, Bool, true, false, not, cond, zero, suc, List, [], ◌∷◌, length, Option, Some, None, is_some, refl}
+use Rattle.std.specs.Prelude.{◌≡◌, ℕ, ◌<◌, ◌+◌, ◌-◌, ◌==◌, Bool, true, false, not, cond, List, [], ◌∷◌, length, Option, Some, None, is_some, refl}
 use Rattle.std.proofs.Common.{sym, ap, ◌∙◌, arith}
-use Rattle.std.proofs.lemmas.Bool.{eqb-true}
+use Rattle.std.proofs.lemmas.Bool.{eqb-true, false_from_ne_true}
 use Rattle.std.specs.declared.cmp.Ordering.TheVariants.{Equal}
 use Rattle.std.specs.Ordering.{eq_by_cmp}
 use Rattle.std.specs.FinMap as map
@@ -133,8 +133,7 @@ pub none_counted : (tree : Tree) (d : ℕ) → (entries_in tree d == 0) ≡ not 
 none_counted tree d = go (has_entries tree d) refl
   where
     no_zero : (n : ℕ) → 0 < n → (n == 0) ≡ false
-    no_zero zero more = cc
-    no_zero (suc n) more = refl
+    no_zero n more = false_from_ne_true (n == 0) (λ is. omega (arith, eqb-true n 0 is, more))
 
     go : (b : Bool) → has_entries tree d ≡ b → (entries_in tree d == 0) ≡ not (has_entries tree d)
     go true some =

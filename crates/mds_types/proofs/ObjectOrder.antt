@@ -1,5 +1,5 @@
 -- How the texts that name objects compare, by the numbers that they are made of.
-use Rattle.std.proofs.Common.{Bool, List, Ordering, Less, Equal, Greater, [], ap, ap₂, arith, codes, cond, eqb, false, nat_cmp, refl, subst, suc, sym, true, zero, ℕ, ◌%◌, ◌*◌, ◌++◌, ◌+◌, ◌-◌, ◌/◌, ◌<◌, ◌==◌, ◌^◌, ◌∙◌, ◌∷◌, ◌≡◌, ◌≢◌, ◌≤◌}
+use Rattle.std.proofs.Common.{Bool, List, Ordering, Less, Equal, Greater, [], ap, ap₂, arith, codes, cond, false, nat_cmp, refl, subst, suc, sym, true, zero, ℕ, ◌%◌, ◌++◌, ◌/◌, ◌<◌, ◌==◌, ◌^◌, ◌∙◌, ◌∷◌, ◌≡◌, ◌≢◌, ◌≤◌}
 use Rattle.std.proofs.lemmas.Bool.{eq-eqb, eqb-true, ne_eqb}
 use Rattle.std.proofs.lemmas.Bool.Decides.{nat_tests}
 use Rattle.std.specs.Cmp.{ranks}

@@ -1,12 +1,11 @@
 -- The bytes of the texts that name objects.
-use Rattle.std.proofs.Common.{List, [], ap, ap₂, append-nil, arith, codes, drop, length, length-append, length-drop, refl, replicate, set, subst, suc, sym, take, take-append-drop, take_all, zero, ℕ, ◌++◌, ◌+◌, ◌-◌, ◌<◌, ◌^◌, ◌∙◌, ◌∷◌, ◌≡◌, ◌≤◌, false, drop-drop, IsUtf8, IsAscii}
+use Rattle.std.proofs.Common.{List, [], ap, ap₂, append-nil, arith, codes, drop, length, length-drop, refl, replicate, set, suc, sym, take, take-append-drop, take_all, zero, ℕ, ◌++◌, ◌+◌, ◌-◌, ◌<◌, ◌^◌, ◌∙◌, ◌∷◌, ◌≡◌, ◌≤◌, false, drop-drop, IsUtf8, IsAscii}
 use Rattle.std.proofs.lemmas.Bool.Decides.{nat_tests}
 use Rattle.std.proofs.lemmas.List.{drop-set, drop-take, take-replicate}
 use Rattle.std.proofs.lemmas.Str.{IsUtf8-append, IsUtf8-from_ascii}
 use Rattle.std.specs.Char.{digit_value}
 use Rattle.std.specs.Fmt.{digits}
 use Rattle.std.specs.Str.Parse.{AllDigits}
-use Rattle.mds_types.specs.Frag.{Fragment, IsFragment, word_of}
 use Rattle.mds_types.specs.ObjectText.{word_text}
 use Rattle.mds_types.proofs.DigitLaws.{few_digits}
 use Rattle.mds_types.proofs.ObjectTextLaws.{hex_digits, word_digits}

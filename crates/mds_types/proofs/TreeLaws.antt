@@ -12,7 +12,6 @@ use Rattle.mds_types.specs.declared.dentries.Dentry.{Dentry}
 use Rattle.mds_types.specs.declared.inodes.Inode.{Inode}
 use Rattle.mds_types.specs.Tree.{Tree, dentry_cmp, is_directory, is_entry_of_directory}
 use Rattle.mds_types.proofs.OrderLaws.{dentry-total}
-use Rattle.std.proofs.Math.Bool.{or-false}
 use Rattle.std.proofs.lemmas.List.{nil_from_length}
 
 or_swap : (a b c : Bool) → (a || (b || c)) ≡ (b || (a || c))

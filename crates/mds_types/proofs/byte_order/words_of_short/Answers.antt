@@ -1,4 +1,4 @@
-use Rattle.std.proofs.Common.{ℕ, ◌+◌, ◌-◌, arith}
+use Rattle.std.proofs.Common.{arith}
 use Rattle.mds_types.proofs.ByteOrderLaws.{at_once, word}
 use Rattle.mds_types.proofs.byte_order.words_of_short.Goals as goal
 
