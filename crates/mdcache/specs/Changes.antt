@@ -1,7 +1,8 @@
 -- What each change of the tree makes of the state.
 use Rattle.std.specs.Prelude.{◌≡◌, ℕ, ◌<◌, ◌+◌, Bool, true, false, cond, is_some, List, [], ◌∷◌, map as each, Option, Some, None}
+use Rattle.std.specs.Ordering.{nat_cmp}
 use Rattle.std.specs.FinMap as map
-use Rattle.mds_types.specs.Frag.{root_fragment}
+use Rattle.mds_types.specs.Frag.{Fragment, root_fragment}
 use Rattle.mds_types.specs.Leaf.{leaf_of}
 use Rattle.mds_types.specs.Tree.{Tree, is_dir_kind}
 use Rattle.mds_types.specs.declared.ids.Ino.{Ino}
@@ -15,7 +16,7 @@ use Rattle.dentry_cache.specs.Cache.{Leaf, Unsaved, leaf_cmp}
 use Rattle.dentry_cache.specs.Ties.{names_at}
 use Rattle.inode_table.specs.Dirs.{Counts as Entries, DirPins, one_less, one_more}
 use Rattle.inode_table.specs.TreeTable.{counts_moved, home_at, with_count, with_home, with_pin}
-use Rattle.namespace_ops.specs.Changes.{dentry_at, leaves}
+use Rattle.namespace_ops.specs.Changes.{dentry_at, in_directory, leaves}
 use Rattle.namespace_ops.specs.declared.plans.Change.{Change}
 use Rattle.namespace_ops.specs.declared.plans.Spot.{Spot}
 use Rattle.mdcache.specs.Commits.{HasSpelled}

@@ -1,5 +1,5 @@
 -- What a contract sees of the tree over caches and a store, and what small steps make of it.
-use Rattle.std.specs.Prelude.{◌≡◌, ℕ, ◌+◌, ◌<◌, ◌≤◌, Bool, false, is_some, length, List, Option, Some, None}
+use Rattle.std.specs.Prelude.{◌≡◌, ℕ, ◌+◌, ◌<◌, ◌≤◌, Bool, false, is_some, length, List, map as each, Option, Some, None}
 use Rattle.std.specs.FinMap as map
 use Rattle.mds_types.specs.declared.ids.Ino.{Ino}
 use Rattle.mds_types.specs.declared.ids.Rank.{Rank}
@@ -24,9 +24,10 @@ use Rattle.inode_table.specs.TreeTable.{counts_moved, with_home, with_pin}
 use Rattle.mdcache.specs.Changes.{object_texts_of, with_objects, without_leaves}
 use Rattle.dentry_cache.specs.Reads.{Reads}
 use Rattle.mdcache.specs.CacheReads.{LacksPlacesIn}
+use Rattle.namespace_ops.specs.Changes.{leaves}
 use Rattle.mdcache.specs.Shown.{shown_tree}
 use Rattle.mdcache.specs.Sound.{IsSound}
-use Rattle.mdcache.specs.State.{IsLive, State}
+use Rattle.mdcache.specs.State.{IsLive, State, text_of}
 use Rattle.mdcache.specs.StandingJobs.{Jobs}
 
 -- how many more directories, jobs, and names of objects to be removed fit with no growth

@@ -14,14 +14,14 @@ use Rattle.objstore.specs.Objects.{faults_told}
 use Rattle.dentry_cache.specs.Cache.{HasRoom, Leaf}
 use Rattle.dentry_cache.specs.CacheMap.{here, unclean_of}
 use Rattle.dentry_cache.specs.CacheSplits.{IsKeptFor}
-use Rattle.inode_table.specs.Dirs.{Covers}
+use Rattle.inode_table.specs.Dirs.{Covers, leaves_of}
 use Rattle.namespace_ops.specs.Changes.{directory_at}
 use Rattle.namespace_ops.specs.declared.plans.Spot.{Spot}
 use Rattle.namespace_ops.specs.declared.plans.Change.{Change}
 use Rattle.mdcache.specs.Core.{Core, LacksPlacesAt, state_of}
 use Rattle.mdcache.specs.Changes.{first_leaf}
 use Rattle.mdcache.specs.Ready.{LacksNumbers}
-use Rattle.mdcache.specs.State.{State, text_of}
+use Rattle.mdcache.specs.State.{State}
 
 -- ---- reads and refusals
 

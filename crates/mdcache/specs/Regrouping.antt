@@ -17,6 +17,7 @@ use Rattle.mdcache.specs.declared.merging.Merge.{Merge}
 use Rattle.mdcache.specs.declared.merge_plan.MergePlan.{MergePlan}
 use Rattle.mdcache.specs.declared.splitting.Split.{Split}
 use Rattle.mdcache.specs.declared.split_plan.SplitPlan.{SplitPlan}
+use Rattle.mdcache.specs.Changes.{leaves_in}
 use Rattle.mdcache.specs.Core.{Core, Rooms, without_frags}
 use Rattle.mdcache.specs.Joining.{name_joined}
 use Rattle.mdcache.specs.Reads.{has_none}

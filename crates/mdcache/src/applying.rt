@@ -14,16 +14,12 @@ ghost use Rattle.inode_table.specs.Dirs.{MayCome, MayGo, MayMove, count_of, is_k
 ghost use Rattle.inode_table.specs.TreeTable.{with_home};
 ghost use Rattle.mdcache.specs.Changes.{first_leaf};
 ghost use Rattle.mdcache.specs.Core.{moved_entry, named, pinned, shows, with_dir, with_entry, without_dir, without_entry};
-ghost use Rattle.mdcache.specs.Going.{count_going, dir_going, leaves_going, texts_going};
-ghost use Rattle.mdcache.specs.PurgeList.{IsGiven};
-ghost use Rattle.mdcache.specs.State.{text_of};
+ghost use Rattle.mdcache.specs.Frags.{HasListRoom};
 
 use crate::changes::shows;
-use crate::going::Going;
 use crate::mdcache::MdCache;
-use crate::prepared::{MovingEntry, NewDirectory};
 use inode_table::Home;
-use mds_types::{Dirfrag, Frag, Inode};
+use mds_types::{Dirfrag, Frag, Ino, Inode, Name};
 use namespace_ops::Spot;
 use objstore::Store;
 
@@ -56,7 +52,7 @@ impl<S: Store + Drop> MdCache<S> {
     }
 
     /// A new directory comes to a dentry: its name first, which is counted, then the directory with its leaf.
-    pub(crate) fn come_directory(&mut self, spot: Spot, inode: Inode, made: NewDirectory)
+    pub(crate) fn come_directory(&mut self, spot: Spot, inode: Inode, name: Name)
         requires there { spot.at.rank.0 < length self.old.caches.used }
         requires recordable { IsRecordable inode }
         requires room { HasRoom (here self.old.caches spot.at.rank.0 (leaf_of spot.at)) }
@@ -64,16 +60,13 @@ impl<S: Store + Drop> MdCache<S> {
         requires home { 0 < self.old.room.dirs }
         requires known { is_known self.old.homes spot.at.dir.0 ≡ true }
         requires few { count_of self.old.counts spot.at.dir.0 < 2 ^ 64 - 1 }
-        requires may { MayCome self.old.homes inode.ino.0 (record { parent = spot.at.dir; name = made.name }) }
+        requires may { MayCome self.old.homes inode.ino.0 (record { parent = spot.at.dir; name = name }) }
         requires place { IsKeptFor self.old.caches spot.at.rank.0 (first_leaf inode.ino) }
         requires generation { self.old.next_generation < 2 ^ 64 - 1 }
-        requires object { IsGiven self.old.purge (text_of (first_leaf inode.ino))
-            made.object }
         ensures { self.new ≡ with_dir (with_entry (named self.old spot.at spot.name (Some inode)) spot.at.dir)
             (record { dir = inode.ino; frag = root_fragment; rank = spot.at.rank })
-            (record { parent = spot.at.dir; name = made.name }) (text_of (first_leaf inode.ino)) self.new.room }
+            (record { parent = spot.at.dir; name = name }) self.new.room }
     {
-        let NewDirectory { name, object } = made;
         let first = Dirfrag {
             dir: inode.ino,
             frag: Frag::ROOT,
@@ -85,30 +78,30 @@ impl<S: Store + Drop> MdCache<S> {
         };
         self.put(spot.at, spot.name, inode);
         self.entry_comes(spot.at.dir);
-        self.add_dir(self.alloc, first, home, &object);
+        self.add_dir(self.alloc, first, home);
     }
 
     /// The name of a dentry is removed, and counted no longer, and the directory that stood there, if one did.
-    pub(crate) fn leave(&mut self, spot: Spot, going: Option<Going>)
+    pub(crate) fn leave(&mut self, spot: Spot, gone: Option<Ino>)
         requires there { spot.at.rank.0 < length self.old.caches.used }
         requires room { HasRoom (here self.old.caches spot.at.rank.0 (leaf_of spot.at)) }
         requires version { self.old.next_version < 2 ^ 64 - 1 }
         requires known { is_known self.old.homes spot.at.dir.0 ≡ true }
-        requires may { IfSome (dir_going going) (λ dir. MayGo self.old.homes dir.0) }
-        requires purge { count_going going ≤ self.old.room.purge }
+        requires may { IfSome gone (λ dir. MayGo self.old.homes dir.0) }
+        requires purge { HasListRoom self.old.covers self.old.room.purge gone }
         requires none { KeepsNone self.old.caches }
         ensures none { KeepsNone self.new.caches }
-        ensures gone { self.new ≡ without_dir (without_entry (named self.old spot.at spot.name None) spot.at.dir)
-            (dir_going going) (leaves_going going) (texts_going going) self.new.room }
+        ensures gone { self.new ≡ without_dir (without_entry (named self.old spot.at spot.name None) spot.at.dir) gone
+            self.new.room }
     {
         self.erase(spot.at, spot.name);
         self.entry_goes(spot.at.dir);
-        self.remove_dir(going);
+        self.remove_dir(gone);
     }
 
-    /// The name that is left is removed, then the inode comes to the other, and what stood there goes; entries are
-    /// counted by whether something did.
-    pub(crate) fn pass(&mut self, from: Spot, to: Spot, inode: Inode, moving: MovingEntry)
+    /// The name that is left is removed, then the inode comes to the other, whose name is given once more, and what stood
+    /// there goes; entries are counted by whether something did.
+    pub(crate) fn pass(&mut self, from: Spot, to: Spot, inode: Inode, name: Name, gone: Option<Ino>)
         requires first { from.at.rank.0 < length self.old.caches.used }
         requires second { to.at.rank.0 < length self.old.caches.used }
         requires recordable { IsRecordable inode }
@@ -121,16 +114,15 @@ impl<S: Store + Drop> MdCache<S> {
         requires few { shows self.old to.at to.name ≡ false → (from.at.dir.0 == to.at.dir.0) ≡ false
             → count_of self.old.counts to.at.dir.0 < 2 ^ 64 - 1 }
         requires home { is_dir_kind inode.kind ≡ true → MayMove self.old.homes inode.ino.0
-            (record { parent = to.at.dir; name = moving.name }) }
-        requires may { IfSome (dir_going moving.going)
-            (λ dir. MayGo (with_home self.old.homes (record { dir = to.at.dir; name = moving.name }) inode) dir.0) }
-        requires purge { count_going moving.going ≤ self.old.room.purge }
+            (record { parent = to.at.dir; name = name }) }
+        requires may { IfSome gone
+            (λ dir. MayGo (with_home self.old.homes (record { dir = to.at.dir; name = name }) inode) dir.0) }
+        requires purge { HasListRoom self.old.covers self.old.room.purge gone }
         requires none { KeepsNone self.old.caches }
         ensures none { KeepsNone self.new.caches }
-        ensures moved { self.new ≡ without_dir (moved_entry self.old from.at from.name to.at to.name moving.name inode)
-            (dir_going moving.going) (leaves_going moving.going) (texts_going moving.going) self.new.room }
+        ensures moved { self.new ≡ without_dir (moved_entry self.old from.at from.name to.at to.name name inode) gone
+            self.new.room }
     {
-        let MovingEntry { name, going } = moving;
         let stood = shows(&self.caches, &to.at, &to.name);
         self.erase(from.at, from.name);
         self.entry_moves(from.at.dir, to.at.dir, stood);
@@ -140,6 +132,6 @@ impl<S: Store + Drop> MdCache<S> {
         };
         self.relocate(&inode, home);
         self.put(to.at, to.name, inode);
-        self.remove_dir(going);
+        self.remove_dir(gone);
     }
 }

@@ -9,17 +9,17 @@ ghost use Rattle.dentry_cache.specs.CacheCalls.{KeepsNone};
 ghost use Rattle.dentry_cache.specs.CacheMap.{has_place, here};
 ghost use Rattle.inode_table.specs.Dirs.{MayCome, MayGo, MayMove, count_of, is_known};
 ghost use Rattle.inode_table.specs.TreeTable.{counts_moved, with_home};
-ghost use Rattle.mdcache.specs.Going.{count_going, dir_going, leaves_going, leaves_in, texts_going, texts_in};
+ghost use Rattle.mdcache.specs.Changes.{leaves_in};
 ghost use Rattle.mdcache.specs.Core.{named, pinned, shows_in, with_dir, with_entry, without_dir, without_entry, without_frags};
-ghost use Rattle.mdcache.specs.PurgeList.{IsGiven};
-ghost use Rattle.mdcache.specs.State.{text_of};
+ghost use Rattle.mdcache.specs.Frags.{HasListRoom};
 
-use crate::going::{Going, GoingLeaf};
 use crate::mdcache::MdCache;
+use crate::regrouping::object_name;
 use cached_frag::CachedFrag;
 use dentry_cache::Caches;
+use fragtree::FragTree;
 use inode_table::{Home, count_move};
-use mds_types::{Dirfrag, Ino, Inode, Name, ObjText};
+use mds_types::{Dirfrag, Frag, Ino, Inode, Name, ObjName, ObjText};
 use objstore::Store;
 use std::alloc::Global;
 
@@ -85,29 +85,22 @@ impl<S: Store + Drop> MdCache<S> {
         }
     }
 
-    /// A directory comes, with its one leaf, for which a place is kept. The leaf's object, whose name is given unless
-    /// the purge list is empty, isn't to be removed then. Takes no memory.
-    pub(crate) fn add_dir(
-        &mut self,
-        alloc: Global,
-        at: Dirfrag,
-        home: Home,
-        object: &Option<ObjText>,
-    )
+    /// A directory comes, with its one leaf, for which a place is kept. The leaf's object isn't to be removed then.
+    /// Takes no memory.
+    pub(crate) fn add_dir(&mut self, alloc: Global, at: Dirfrag, home: Home)
         requires room { 0 < self.old.room.dirs }
         requires may { MayCome self.old.homes at.dir.0 home }
         requires there { at.rank.0 < length self.old.caches.used }
         requires place { has_place self.old.caches at.rank.0 (leaf_of at) ≡ true }
         requires absent { map.get self.old.caches.held (leaf_of at) ≡ None }
         requires number { self.old.next_generation < 2 ^ 64 - 1 }
-        requires object { IsGiven self.old.purge (text_of (leaf_of at)) object.now }
-        ensures { self.new ≡ with_dir self.old at home (text_of (leaf_of at)) self.new.room }
+        ensures { self.new ≡ with_dir self.old at home self.new.room }
     {
         self.dirs.adopt(at.dir, home);
         self.caches
             .fill(at, CachedFrag::fresh(alloc, self.next.generation));
         self.next.generation += 1;
-        self.purge.spare(object);
+        self.purge.remove(&object_name(at.dir, at.frag));
     }
 
     /// An inode that came to a name of a directory has its home there, if it is a directory itself. Takes no memory.
@@ -124,47 +117,63 @@ impl<S: Store + Drop> MdCache<S> {
     /// A directory goes that is no one's parent and not the root, or none: its home, its leaves with all that is cached
     /// of them at any rank and the jobs that stand for them, where no place is kept. The names of its objects, for which
     /// there is room, are on the purge list then. Takes no memory.
-    pub(crate) fn remove_dir(&mut self, going: Option<Going>)
-        requires may { IfSome (dir_going going) (λ dir. MayGo self.old.homes dir.0) }
-        requires room { count_going going ≤ self.old.room.purge }
+    pub(crate) fn remove_dir(&mut self, gone: Option<Ino>)
+        requires may { IfSome gone (λ dir. MayGo self.old.homes dir.0) }
+        requires room { HasListRoom self.old.covers self.old.room.purge gone }
         requires none { KeepsNone self.old.caches }
-        ensures gone { self.new ≡ without_dir self.old (dir_going going)
-            (leaves_going going) (texts_going going) self.new.room }
+        ensures gone { self.new ≡ without_dir self.old gone self.new.room }
         ensures none { KeepsNone self.new.caches }
     {
-        if let Some(going) = going {
-            drop(self.dirs.drop(going.dir));
-            self.purge.put(going.tree);
-            self.end_leaves(going.dir, going.leaves);
+        let Some(dir) = gone else {
+            return;
+        };
+        let leaves = self.dirs.drop(dir);
+        self.purge.put(ObjText::of(ObjName::Tree(dir)));
+        match leaves {
+            Some(leaves) => {
+                self.end_tree(dir, leaves.as_tree());
+                drop(leaves);
+            }
+            None => self.end_leaf(dir, Frag::ROOT),
+        }
+    }
+
+    // All leaves of a directory end.
+    fn end_tree(&mut self, dir: Ino, leaves: &FragTree)
+        requires room { length leaves.now ≤ self.old.room.purge }
+        requires none { KeepsNone self.old.caches }
+        ensures ended { self.new ≡ without_frags self.old (leaves_in dir leaves.now) self.new.room }
+        ensures none { KeepsNone self.new.caches }
+    {
+        for leaf in leaves {
+            self.end_leaf(dir, leaf);
         }
     }
 
     /// These leaves of a directory end, where no place is kept: their places at any rank, their jobs, and the names of
     /// their objects are on the purge list, which has room for them. Takes no memory.
-    pub(crate) fn end_leaves(&mut self, dir: Ino, leaves: Vec<GoingLeaf>)
-        requires room { length leaves.items ≤ self.old.room.purge }
+    pub(crate) fn end_leaves(&mut self, dir: Ino, leaves: &[Frag])
+        requires room { length leaves.now ≤ self.old.room.purge }
         requires none { KeepsNone self.old.caches }
-        ensures ended { self.new ≡ without_frags self.old (leaves_in dir leaves.items)
-            (texts_in leaves.items) self.new.room }
+        ensures ended { self.new ≡ without_frags self.old (leaves_in dir leaves.now) self.new.room }
         ensures none { KeepsNone self.new.caches }
     {
-        for part in leaves {
-            self.end_leaf(dir, part);
+        for leaf in leaves {
+            self.end_leaf(dir, *leaf);
         }
     }
 
     // So it is with one of them.
-    fn end_leaf(&mut self, dir: Ino, part: GoingLeaf)
+    fn end_leaf(&mut self, dir: Ino, leaf: Frag)
         requires room { 0 < self.old.room.purge }
         requires none { KeepsNone self.old.caches }
-        ensures ended { self.new ≡ without_frags self.old ((dir, part.frag) ∷ [])
-            (part.object ∷ []) self.new.room }
+        ensures ended { self.new ≡ without_frags self.old ((dir, leaf) ∷ []) self.new.room }
         ensures room { self.old.room.purge ≤ self.new.room.purge + 1 }
         ensures none { KeepsNone self.new.caches }
     {
-        self.caches.end(dir, part.frag);
-        self.jobs.end(dir, part.frag);
-        self.purge.put(part.object);
+        self.caches.end(dir, leaf);
+        self.jobs.end(dir, leaf);
+        self.purge.put(object_name(dir, leaf));
     }
 }
 

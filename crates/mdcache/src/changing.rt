@@ -108,8 +108,8 @@ impl<S: Store + Drop> MdCache<S> {
     {
         has_parts(&inode);
         match self.ready_directory(alloc, &spot, inode.ino) {
-            Ok(made) => {
-                self.come_directory(spot, inode, made);
+            Ok(name) => {
+                self.come_directory(spot, inode, name);
                 Ok(())
             }
             Err(refusal) => {
@@ -153,8 +153,8 @@ impl<S: Store + Drop> MdCache<S> {
         ensures counted { self.new.faults ≡ self.old.faults + faults_told (result_err result) }
     {
         match self.ready_removal(alloc, &spot.at, gone) {
-            Ok(going) => {
-                self.leave(spot, going);
+            Ok(()) => {
+                self.leave(spot, gone);
                 Ok(())
             }
             Err(refusal) => {
@@ -181,9 +181,9 @@ impl<S: Store + Drop> MdCache<S> {
         ensures counted { self.new.faults ≡ self.old.faults + faults_told (result_err result) }
     {
         match self.ready_move(alloc, &from, &to, gone) {
-            Ok(moving) => {
+            Ok(name) => {
                 has_records(&self.caches, &from.at);
-                self.pass(from, to, inode, moving);
+                self.pass(from, to, inode, name, gone);
                 Ok(())
             }
             Err(refusal) => {

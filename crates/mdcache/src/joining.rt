@@ -12,7 +12,7 @@ ghost use Rattle.dentry_cache.specs.CacheSplits.{IsKeptFor};
 ghost use Rattle.dentry_cache.specs.Came.{IsThat, NoneEnds};
 ghost use Rattle.mdcache.specs.CacheReads.{LacksPlacesIn};
 ghost use Rattle.mdcache.specs.Core.{IsSoundCore, ReadsCore};
-ghost use Rattle.mdcache.specs.Going.{leaves_in};
+ghost use Rattle.mdcache.specs.Changes.{leaves_in};
 ghost use Rattle.mdcache.specs.Joining.{HasJoined, IsAmong, IsAmongOr};
 ghost use Rattle.mdcache.specs.Ranks.{KeepsOnlyAt, MayHold};
 ghost use Rattle.mdcache.specs.Reads.{MayNotFind};
@@ -20,10 +20,9 @@ ghost use Rattle.mdcache.specs.Regrouping.{IsJoined};
 ghost use Rattle.mdcache.specs.Shown.{names_of};
 ghost use Rattle.mdcache.specs.State.{IsLive};
 
-use crate::going::GoingLeaf;
 use crate::mdcache::MdCache;
 use cached_frag::CachedFrag;
-use mds_types::{Dirfrag, Refusal};
+use mds_types::{Dirfrag, Frag, Refusal};
 use objstore::Store;
 use std::alloc::Global;
 
@@ -38,7 +37,7 @@ impl<S: Store + Drop> MdCache<S> {
         &mut self,
         alloc: Global,
         at: &Dirfrag,
-        leaves: &[GoingLeaf],
+        leaves: &[Frag],
     ) -> Result<CachedFrag, Refusal>
         requires sound { IsSoundCore self.old }
         requires none { KeepsNone self.old.caches }
@@ -73,7 +72,7 @@ impl<S: Store + Drop> MdCache<S> {
         &mut self,
         alloc: Global,
         at: &Dirfrag,
-        leaves: &[GoingLeaf],
+        leaves: &[Frag],
         joined: &mut CachedFrag,
     ) -> Result<(), Refusal>
         requires sound { IsSoundCore self.old }
@@ -92,7 +91,7 @@ impl<S: Store + Drop> MdCache<S> {
         for part in leaves {
             let leaf = Dirfrag {
                 dir: at.dir,
-                frag: part.frag,
+                frag: *part,
                 rank: at.rank,
             };
             if let Err(refusal) = self.join_leaf(alloc, &leaf, joined) {

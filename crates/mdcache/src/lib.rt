@@ -29,8 +29,6 @@ mod reading;
 mod applying;
 mod changes;
 mod changing;
-mod going;
-mod prepared;
 mod readies;
 mod readying;
 
@@ -59,9 +57,7 @@ mod flush_laws;
 mod laws;
 
 pub use flush_laws::{flushed_is_cold, steps_keep_the_tree, whole_commits_leave_nothing};
-pub use going::{Going, GoingLeaf};
 pub use laws::{changes_are_right, merges_are_right, splits_are_right};
 pub use mdcache::MdCache;
 pub use mounting::Opening;
 pub use page::Page;
-pub use prepared::{MovingEntry, NewDirectory};

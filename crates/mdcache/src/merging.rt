@@ -21,7 +21,7 @@ ghost use Rattle.mdcache.specs.SplitsAndMerges.{IsUndone, MergesFrags, merged_le
 
 use crate::mdcache::MdCache;
 use crate::merge_plan::MergePlan;
-use crate::regrouping::take_counts;
+use crate::regrouping::{object_name, take_counts};
 use cached_frag::CachedFrag;
 use inode_table::Dirs;
 use mds_types::{Dirfrag, Frag, Ino, Refusal};
@@ -152,16 +152,13 @@ impl<S: Store + Drop> MdCache<S> {
         ensures none { KeepsNone self.new.caches }
     {
         let Merge { plan, joined } = merge;
-        let MergePlan {
-            leaves,
-            cover,
-            object,
-        } = plan;
+        let MergePlan { leaves, cover } = plan;
         let empty = joined.len() == 0;
         self.dirs.set_tree(at.dir, cover);
         self.caches.fill(*at, joined);
-        self.end_leaves(at.dir, leaves);
-        self.purge.remove(&object);
+        self.end_leaves(at.dir, &leaves);
+        drop(leaves);
+        self.purge.remove(&object_name(at.dir, at.frag));
         take_counts(&mut self.next, 1, empty);
     }
 }

@@ -3,7 +3,7 @@ ghost use Rattle.std.specs.Prelude.{◌≡◌, ◌≤◌, ◌<◌, ◌+◌, ◌�
 ghost use Rattle.std.specs.FinMap as map;
 ghost use Rattle.sorted_map.specs.SortedMap.{contents};
 ghost use Rattle.objstore.specs.Omap.{key_cmp};
-ghost use Rattle.mdcache.specs.PurgeList.{IsGiven, first_name};
+ghost use Rattle.mdcache.specs.PurgeList.{first_name};
 
 use mds_types::{ObjText, TextRef};
 use sorted_map::SortedMap;
@@ -111,19 +111,6 @@ impl PurgeList {
         ensures room { self.old.room ≤ self.new.room }
     {
         let _ = self.names.remove(name);
-    }
-
-    /// Takes the name of an object off the list that isn't to be removed, given unless the list is empty. Takes no
-    /// memory.
-    pub(crate) fn spare(&mut self, object: &Option<ObjText>)
-        ensures spared { (name : List ℕ) → IsGiven self.old.names name object.now
-            → self.new.names ≡ map.remove self.old.names name }
-        ensures room { self.old.room ≤ self.new.room }
-    {
-        match object {
-            Some(name) => self.remove(name),
-            None => {}
-        }
     }
 
     /// Takes the first name off the list; an empty list stays so. Takes no memory.

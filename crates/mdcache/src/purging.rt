@@ -24,9 +24,7 @@ impl<S: Store + Drop> MdCache<S> {
         let Some(name) = self.purge.first() else {
             return Ok(());
         };
-        let Ok(text) = name.to_text(self.alloc) else {
-            return Err(Refusal::NoMemory);
-        };
+        let text = name.text();
         if let Err(refusal) = self.store.remove(text.as_str()) {
             return Err(refusal);
         }

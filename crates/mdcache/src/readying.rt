@@ -11,27 +11,22 @@ ghost use Rattle.dentry_cache.specs.Cache.{HasCached, HasRoom, IsThere, Leaf};
 ghost use Rattle.dentry_cache.specs.CacheMap.{here, unclean};
 ghost use Rattle.dentry_cache.specs.Came.{IsThat, NoneEnds};
 ghost use Rattle.inode_table.specs.Dirs.{is_known};
-ghost use Rattle.namespace_ops.specs.Changes.{dentry_at};
 ghost use Rattle.mdcache.specs.Changes.{first_leaf};
 ghost use Rattle.mdcache.specs.Core.{AllCachedIn, IsSoundCore, LacksPlacesAt, ReadsCore, state_of};
-ghost use Rattle.mdcache.specs.Frags.{IsDirectoryReady, IsForMove, IsForRemoval, IsNameReady};
-ghost use Rattle.mdcache.specs.Going.{IsGoing};
-ghost use Rattle.mdcache.specs.PurgeList.{IsGiven};
+ghost use Rattle.mdcache.specs.Frags.{HasListRoom, IsDirectoryReady, IsNameReady};
 ghost use Rattle.mdcache.specs.Ranks.{KeepsOnlyAt, MayHold};
 ghost use Rattle.mdcache.specs.Ready.{LacksNumbers, MayNotBeReady};
 ghost use Rattle.mdcache.specs.Shown.{names_of};
-ghost use Rattle.mdcache.specs.State.{IsLive, text_of};
+ghost use Rattle.mdcache.specs.State.{IsLive};
 
-use crate::going::{Going, going_of};
 use crate::mdcache::MdCache;
-use crate::prepared::{MovingEntry, NewDirectory};
 use crate::purge_list::PurgeList;
 use dentry_cache::Caches;
 use inode_table::Dirs;
-use mds_types::{Dirfrag, Frag, Ino, Name, ObjName, ObjText, Refusal};
+use mds_types::{Dirfrag, Frag, Ino, Name, Refusal};
 use namespace_ops::Spot;
 use objstore::Store;
-use std::alloc::{AllocError, Global};
+use std::alloc::Global;
 
 impl<S: Store + Drop> MdCache<S> {
     /// Makes ready that a name of a leaf gets an inode or loses it: the leaf is fetched, where it isn't cached, and has
@@ -58,8 +53,8 @@ impl<S: Store + Drop> MdCache<S> {
     }
 
     /// Makes ready that a new directory of this number comes to a dentry: beside what its name needs a place is kept
-    /// for the directory's leaf `*`, at the rank that holds the dentry's leaf, and there is room for the directory.
-    /// Takes memory for all this.
+    /// for the directory's leaf `*`, at the rank that holds the dentry's leaf, and there is room for the directory. Gives
+    /// its name once more. Takes memory for all this.
     ///
     /// Refused `NoInodes` exactly where no version is left for the name, or no generation for the leaf; otherwise
     /// `NothingToEvict` where no place of the cache is free and no fragment but the dentry's can go, `StoreFault`, and
@@ -69,13 +64,14 @@ impl<S: Store + Drop> MdCache<S> {
         alloc: Global,
         spot: &Spot,
         dir: Ino,
-    ) -> Result<NewDirectory, Refusal>
+    ) -> Result<Name, Refusal>
         requires sound { IsSoundCore self.old }
         requires live { IsLive self.old.homes self.old.covers (leaf_of spot.now.at) }
         requires holds { MayHold self.old.caches spot.now.at.rank (leaf_of spot.now.at) }
         requires unused { is_known self.old.homes dir.0 ≡ false }
         ensures ready { OnOk result (IsNameReady self.new spot.now.at.rank (leaf_of spot.now.at)) }
-        ensures place { IfOk result (IsDirectoryReady self.new spot.now.at.rank (dentry_at spot.now) dir) }
+        ensures place { OnOk result (IsDirectoryReady self.new spot.now.at.rank dir) }
+        ensures named { IfOk result (λ name. name ≡ spot.now.name) }
         ensures only { OnOk result (KeepsOnlyAt (Some (spot.now.at.rank, first_leaf dir)) self.new.caches) }
         ensures cached { OnOk result (AllCachedIn (state_of self.new) self.new.caches) }
         ensures reads { ReadsCore (λ r q. IsThat spot.now.at.rank.0 (leaf_of spot.now.at) r q
@@ -95,16 +91,16 @@ impl<S: Store + Drop> MdCache<S> {
         if let Err(refusal) = self.dirs.reserve() {
             return Err(refusal);
         }
-        let made = new_directory(alloc, &self.purge, &spot.name, dir)?;
+        let name = spot.name.try_clone()?;
         let first = Dirfrag {
             dir,
             frag: Frag::ROOT,
             rank: spot.at.rank,
         };
         match self.ready_first(alloc, &spot.at, &first) {
-            Ok(()) => Ok(made),
+            Ok(()) => Ok(name),
             Err(refusal) => {
-                drop(made);
+                drop(name);
                 Err(refusal)
             }
         }
@@ -134,19 +130,19 @@ impl<S: Store + Drop> MdCache<S> {
         Ok(())
     }
 
-    /// Makes ready that the entry of a name goes. `gone` is its number, if it is a directory: the names of that one's
-    /// objects are kept, and the purge list has room for them. Otherwise as `ready_name`.
+    /// Makes ready that the entry of a name goes. `gone` is its number, if it is a directory: the purge list has room
+    /// for the names of that one's objects. Otherwise as `ready_name`.
     pub(crate) fn ready_removal(
         &mut self,
         alloc: Global,
         at: &Dirfrag,
         gone: Option<Ino>,
-    ) -> Result<Option<Going>, Refusal>
+    ) -> Result<(), Refusal>
         requires sound { IsSoundCore self.old }
         requires live { IsLive self.old.homes self.old.covers (leaf_of at.now) }
         requires holds { MayHold self.old.caches at.now.rank (leaf_of at.now) }
         ensures ready { OnOk result (IsNameReady self.new at.now.rank (leaf_of at.now)) }
-        ensures going { IfOk result (IsForRemoval self.new.covers self.new.room.purge gone) }
+        ensures list { OnOk result (HasListRoom self.new.covers self.new.room.purge gone) }
         ensures reads { ReadsCore (IsThat at.now.rank.0 (leaf_of at.now)) NoneEnds self.old self.new }
         ensures sound { IsSoundCore self.new }
         ensures counted { self.new.faults ≡ self.old.faults + faults_told (result_err result) }
@@ -157,20 +153,16 @@ impl<S: Store + Drop> MdCache<S> {
         if let Err(refusal) = check_left(self.next.version) {
             return Err(refusal);
         }
-        let going = ready_going(alloc, &self.dirs, &mut self.purge, gone)?;
-        match self.ready_names(alloc, at, 1) {
-            Ok(()) => Ok(going),
-            Err(refusal) => {
-                drop(going);
-                Err(refusal)
-            }
+        if let Err(refusal) = ready_list(&self.dirs, &mut self.purge, gone) {
+            return Err(refusal);
         }
+        self.ready_names(alloc, at, 1)
     }
 
     /// Makes ready that the inode of one name moves to another, in a leaf that may be the same: the first has room for
-    /// two changes then, and the second for one; a copy of the new name is kept. `gone` is the number of what is
-    /// replaced, if that is a directory: the names of its objects are kept, and the purge list has room for them. Takes
-    /// memory for leaves that are read, for the room, for the copy and for the names.
+    /// two changes then, and the second for one. Gives the new name once more. `gone` is the number of what is replaced,
+    /// if that is a directory: the purge list has room for the names of its objects. Takes memory for leaves that are
+    /// read, for the room, and for the copy.
     ///
     /// Refused `NoInodes` exactly where no two versions are left; otherwise `NothingToEvict` where no place of the
     /// cache is free and no fragment but the first can go, `StoreFault`, and `NoMemory`.
@@ -180,7 +172,7 @@ impl<S: Store + Drop> MdCache<S> {
         from: &Spot,
         to: &Spot,
         gone: Option<Ino>,
-    ) -> Result<MovingEntry, Refusal>
+    ) -> Result<Name, Refusal>
         requires sound { IsSoundCore self.old }
         requires from_live { IsLive self.old.homes self.old.covers (leaf_of from.now.at) }
         requires from_holds { MayHold self.old.caches from.now.at.rank (leaf_of from.now.at) }
@@ -191,7 +183,8 @@ impl<S: Store + Drop> MdCache<S> {
             (HasCached (here self.new.caches from.now.at.rank.0 (leaf_of from.now.at)) (λ (f : Cached). 1 < f.room)) }
         ensures target { OnOk result (HasRoom (here self.new.caches to.now.at.rank.0 (leaf_of to.now.at))) }
         ensures number { OnOk result (self.new.next_version < 2 ^ 64 - 2) }
-        ensures moving { IfOk result (IsForMove self.new.covers self.new.room.purge to.now.name gone) }
+        ensures named { IfOk result (λ name. name ≡ to.now.name) }
+        ensures list { OnOk result (HasListRoom self.new.covers self.new.room.purge gone) }
         ensures reads { ReadsCore (λ r q. IsThat from.now.at.rank.0 (leaf_of from.now.at) r q
             ⊎ IsThat to.now.at.rank.0 (leaf_of to.now.at) r q) NoneEnds self.old self.new }
         ensures sound { IsSoundCore self.new }
@@ -203,11 +196,14 @@ impl<S: Store + Drop> MdCache<S> {
         if let Err(refusal) = check_two_left(self.next.version) {
             return Err(refusal);
         }
-        let moving = moving_entry(alloc, &self.dirs, &mut self.purge, &to.name, gone)?;
+        if let Err(refusal) = ready_list(&self.dirs, &mut self.purge, gone) {
+            return Err(refusal);
+        }
+        let name = to.name.try_clone()?;
         match self.ready_pair(alloc, &from.at, &to.at) {
-            Ok(()) => Ok(moving),
+            Ok(()) => Ok(name),
             Err(refusal) => {
-                drop(moving);
+                drop(name);
                 Err(refusal)
             }
         }
@@ -236,34 +232,6 @@ fn check_two_left(next: u64) -> Result<(), Refusal>
     Ok(())
 }
 
-// What a directory of this number takes that comes.
-fn new_directory(
-    alloc: Global,
-    purge: &PurgeList,
-    name: &Name,
-    dir: Ino,
-) -> Result<NewDirectory, Refusal>
-    ensures name { IfOk result (λ made. made.name ≡ name.now) }
-    ensures object { IfOk result (λ made. IsGiven purge.now.names (text_of (first_leaf dir))
-        made.object) }
-    ensures err { IfErr result (λ reason. reason ≡ NoMemory) }
-{
-    let name = name.try_clone()?;
-    let object = first_object(alloc, purge, dir)?;
-    Ok(NewDirectory { name, object })
-}
-
-// The name of the object of a directory's leaf `*`; an empty purge list doesn't need it.
-fn first_object(alloc: Global, purge: &PurgeList, dir: Ino) -> Result<Option<ObjText>, AllocError>
-    ensures { IfOk result (λ object. IsGiven purge.now.names (text_of (first_leaf dir))
-        object) }
-{
-    if purge.is_empty() {
-        return Ok(None);
-    }
-    Ok(Some(ObjText::of(ObjName::Frag(dir, Frag::ROOT))))
-}
-
 /// A record allows what each name of a cached fragment stands for: a law of the type, so nothing is done.
 pub(crate) fn has_records(caches: &Caches, at: &Dirfrag)
     requires there { at.now.rank.0 < length caches.now.used }
@@ -276,64 +244,22 @@ pub(crate) fn has_records(caches: &Caches, at: &Dirfrag)
     }
 }
 
-// What an entry takes that moves: a copy of the name that it gets, and what goes, if a directory is replaced.
-fn moving_entry(
-    alloc: Global,
-    dirs: &Dirs,
-    purge: &mut PurgeList,
-    name: &Name,
-    gone: Option<Ino>,
-) -> Result<MovingEntry, Refusal>
-    ensures moving { IfOk result (IsForMove dirs.now.trees purge.new.room name.now gone) }
-    ensures same { purge.new.names ≡ purge.old.names }
-    ensures grows { purge.old.room ≤ purge.new.room }
-    ensures refused { IfErr result (λ reason. reason ≡ NoMemory) }
-{
-    let going = ready_going(alloc, dirs, purge, gone)?;
-    match name.try_clone() {
-        Ok(name) => Ok(MovingEntry { name, going }),
-        Err(_) => {
-            drop(going);
-            Err(Refusal::NoMemory)
-        }
-    }
-}
-
-// Where a directory goes: the names of its objects, for which there is room on the purge list then. Takes memory for
-// both. Refused for want of memory alone.
-fn ready_going(
-    alloc: Global,
-    dirs: &Dirs,
-    purge: &mut PurgeList,
-    gone: Option<Ino>,
-) -> Result<Option<Going>, Refusal>
-    ensures going { IfOk result (IsForRemoval dirs.now.trees purge.new.room gone) }
+// Where a directory goes there is room on the purge list for the names of its objects then. Takes memory for it, and is
+// refused for want of it alone.
+fn ready_list(dirs: &Dirs, purge: &mut PurgeList, gone: Option<Ino>) -> Result<(), Refusal>
+    ensures list { OnOk result (HasListRoom dirs.now.trees purge.new.room gone) }
     ensures same { purge.new.names ≡ purge.old.names }
     ensures grows { purge.old.room ≤ purge.new.room }
     ensures refused { IfErr result (λ reason. reason ≡ NoMemory) }
 {
     let Some(dir) = gone else {
-        return Ok(None);
+        return Ok(());
     };
-    match going_with_room(alloc, dirs, purge, dir) {
-        Ok(going) => Ok(Some(going)),
+    let Some(names) = dirs.leaf_count(dir).checked_add(1) else {
+        return Err(Refusal::NoMemory);
+    };
+    match purge.reserve(names) {
+        Ok(()) => Ok(()),
         Err(_) => Err(Refusal::NoMemory),
     }
-}
-
-// The names of the objects of a directory, for which there is room on the purge list then.
-fn going_with_room(
-    alloc: Global,
-    dirs: &Dirs,
-    purge: &mut PurgeList,
-    dir: Ino,
-) -> Result<Going, AllocError>
-    ensures going { IfOk result (λ going. (going.dir ≡ dir) × IsGoing dirs.now.trees going) }
-    ensures room { IfOk result (λ going. 1 + length going.leaves.items ≤ purge.new.room) }
-    ensures same { purge.new.names ≡ purge.old.names }
-    ensures grows { purge.old.room ≤ purge.new.room }
-{
-    let going = going_of(alloc, dirs, dir)?;
-    purge.reserve(going.leaves.len() + 1)?;
-    Ok(going)
 }

@@ -1,5 +1,5 @@
 //! What splits and merges share: the numbers that they take, and the names of objects.
-ghost use Rattle.std.specs.Prelude.{◌≡◌, ◌⊎◌, ◌+◌, ◌-◌, ◌<◌, ◌≤◌, ◌^◌, cond, IfOk, OnOk, IfErr};
+ghost use Rattle.std.specs.Prelude.{◌≡◌, ◌⊎◌, ◌+◌, ◌-◌, ◌<◌, ◌≤◌, ◌^◌, cond, OnOk, IfErr};
 ghost use Rattle.mds_types.specs.declared.refusals.Refusal.TheVariants.{NoInodes};
 ghost use Rattle.mdcache.specs.Core.{state_of};
 ghost use Rattle.mdcache.specs.Ready.{LacksNumbers};
@@ -10,7 +10,6 @@ use crate::counters::Counters;
 use crate::mdcache::MdCache;
 use mds_types::{Frag, Ino, ObjName, ObjText, Refusal};
 use objstore::Store;
-use std::alloc::{AllocError, Global};
 
 impl<S: Store + Drop> MdCache<S> {
     /// Whether numbers are left for so many fragments that come, and for their names: what `split` and `merge` ask
@@ -59,8 +58,8 @@ pub(crate) fn child_count(nb: u8) -> u32
 }
 
 /// The name of a leaf's object.
-pub(crate) fn object_name(alloc: Global, dir: Ino, frag: Frag) -> Result<ObjText, AllocError>
-    ensures { IfOk result (λ name. name ≡ text_of (dir, frag)) }
+pub(crate) fn object_name(dir: Ino, frag: Frag) -> ObjText
+    ensures { result ≡ text_of (dir, frag) }
 {
-    Ok(ObjText::of(ObjName::Frag(dir, frag)))
+    ObjText::of(ObjName::Frag(dir, frag))
 }

@@ -36,7 +36,7 @@ impl<S: Store + Drop> MdCache<S> {
         ensures refused { IfErr result (λ reason. reason ≡ NoMemory) }
     {
         self.purge.reserve(1)?;
-        let object = object_name(alloc, at.dir, at.frag)?;
+        let object = object_name(at.dir, at.frag);
         let children = child_names(alloc, at.dir, at.frag, nb)?;
         Ok(SplitPlan { object, children })
     }
@@ -53,7 +53,7 @@ fn child_names(alloc: Global, dir: Ino, frag: Frag, nb: u8) -> Result<Vec<ObjTex
         let Some(child) = frag.child(i, nb) else {
             unreachable!()
         };
-        names.push(object_name(alloc, dir, child)?)?;
+        names.push(object_name(dir, child))?;
     }
     Ok(names)
 }
