@@ -1,5 +1,5 @@
 -- What the steps of a change leave, one after the other.
-use Rattle.mdcache.proofs.Common.{AllCachedIn, AreCaches, At, Bool, CacheMap, Cached, Came, Contains, Core, Counts, DirPins, Dirfrag, Fragment, Going, GoingLeaf, HasCached, HasLeaf, HasRoom, Home, Homes, Ino, Inode, IsCachedIn, IsFree, IsGoingOrNone, IsKeptFor, IsLive, IsNamed, IsThere, IsTied, KeepsNone, KeepsOnlyAt, Leaf, List, Mark, None, Option, Rank, Rooms, Some, State, UnsavedLeaves, [], alters, ap, arith, at, at_rank, cond, cond_both, dir_going, edited_as, ended, ended_all, ended_at, ends, false, false_from_ne_true, get_given_up, get_left_home, get_with_frag, given_up, has, has_place, here, here_is, here_put, here_with_frag, holder_there, is_some, leaf_is, leaf_of, leaves, leaves_going, leaves_in, leaves_of, length, list_any, made_frag, marked, named, none_given_up, object_of, one_leaf, or_whole, refl, removed, rows_but, rules, same_Some, state_of, stays, subst, suc, sym, texts_going, true, unclean, unclean_alike, unclean_given_up, unsaved_at, with_frag, with_objects, without_dir, without_gone_dir, without_leaves, zero, ℕ, ⊎_elim, ◌<◌, ◌==◌, ◌||◌, ◌∙◌, ◌∷◌, ◌≡◌, ◌≤◌}
+use Rattle.mdcache.proofs.Common.{AllCachedIn, AreCaches, At, Bool, CacheMap, Cached, Came, Contains, Core, Counts, DirPins, Dirfrag, Fragment, HasCached, HasLeaf, HasRoom, Home, Homes, Ino, Inode, IsCachedIn, IsFree, IsKeptFor, IsLive, IsNamed, IsThere, IsTied, KeepsNone, KeepsOnlyAt, Leaf, List, Mark, None, Option, Rank, Rooms, Some, State, UnsavedLeaves, [], alters, ap, arith, at, at_rank, cond, cond_both, edited_as, ended, ended_all, ended_at, ends, false, false_from_ne_true, get_given_up, get_left_home, get_with_frag, given_up, has, has_place, here, here_is, here_put, here_with_frag, holder_there, is_some, leaf_is, leaf_of, leaves, leaves_in, leaves_of, length, list_any, made_frag, marked, named, none_given_up, object_of, one_leaf, or_whole, refl, removed, rows_but, rules, same_Some, state_of, stays, subst, suc, sym, true, unclean, unclean_alike, unclean_given_up, unsaved_at, with_frag, with_objects, without_dir, without_gone_dir, without_leaves, zero, ℕ, ⊎_elim, ◌<◌, ◌==◌, ◌||◌, ◌∙◌, ◌∷◌, ◌≡◌, ◌≤◌}
 use Rattle.std.specs.FinMap as map
 use Rattle.dentry_cache.specs.CacheMap.{with_mark}
 use Rattle.mdcache.specs.Core.{with_dir}
@@ -109,16 +109,16 @@ filled_none c a f only absent s q placed = ⊎_elim (λ is. is) (λ own. absurd 
 
 -- ---- a directory comes
 
-module _ (Uses Ends : ℕ → Leaf → Type 0) (old c : Core) (a : Dirfrag) (before : HasMade Uses Ends (Some (a.rank, leaf_of a)) old c) (absent : map.get c.caches.held (leaf_of a) ≡ None) (home : Home) (object : List ℕ) (room : Rooms)
+module _ (Uses Ends : ℕ → Leaf → Type 0) (old c : Core) (a : Dirfrag) (before : HasMade Uses Ends (Some (a.rank, leaf_of a)) old c) (absent : map.get c.caches.held (leaf_of a) ≡ None) (home : Home) (room : Rooms)
     (live : IsLive (map.insert c.homes a.dir.0 home) c.covers (leaf_of a)) (still : (leaf : Leaf) → IsLive c.homes c.covers leaf → IsLive (map.insert c.homes a.dir.0 home) c.covers leaf) where
-  pub made_dir : Uses a.rank.0 (leaf_of a) → HasMade Uses Ends None old (with_dir c a home object room)
+  pub made_dir : Uses a.rank.0 (leaf_of a) → HasMade Uses Ends None old (with_dir c a home room)
   made_dir uses =
       let fresh = made_frag c.next_generation in
-      let grown = state_of (with_dir c a home object room) in
+      let grown = state_of (with_dir c a home room) in
       record {
         came = has c.caches a.rank.0 (leaf_of a) fresh before.came uses;
         cached = cached_with grown c.caches a.rank.0 (leaf_of a) fresh (cached_on (state_of c) grown c.caches still refl (omega arith) before.cached) (record { live = live; tied = tt; made = omega arith });
-        only = none_only None (with_dir c a home object room).caches (filled_none c.caches a fresh before.only absent);
+        only = none_only None (with_dir c a home room).caches (filled_none c.caches a fresh before.only absent);
       }
 
 -- ---- leaves end
@@ -158,13 +158,13 @@ ends_came_so Uses Ends old c (leaf ∷ ls) named came = ends_came_so Uses Ends o
     (elim (map.get c.held leaf) as (λ o. Came Uses Ends old (ended_at c leaf o)) [ None ↦ came | Some a ↦ ends c a.rank leaf came (named a.rank leaf (zero, omega arith, refl)) ])
 
 -- so where all leaves of a directory are
-pub ends_came : (Uses Ends : ℕ → Leaf → Type 0) (old c : CacheMap) (dir : Ino) (parts : List GoingLeaf) → ((r : ℕ) (leaf : Leaf) → leaf.0 ≡ dir → Ends r leaf) → Came Uses Ends old c → Came Uses Ends old (ended_all c (leaves_in dir parts))
-ends_came Uses Ends old c dir parts named = ends_came_so Uses Ends old c (leaves_in dir parts) (λ r leaf has. named r leaf (its_dir parts leaf has))
+pub ends_came : (Uses Ends : ℕ → Leaf → Type 0) (old c : CacheMap) (dir : Ino) (frags : List Fragment) → ((r : ℕ) (leaf : Leaf) → leaf.0 ≡ dir → Ends r leaf) → Came Uses Ends old c → Came Uses Ends old (ended_all c (leaves_in dir frags))
+ends_came Uses Ends old c dir frags named = ends_came_so Uses Ends old c (leaves_in dir frags) (λ r leaf has. named r leaf (its_dir frags leaf has))
   where
-    its_dir : (parts : List GoingLeaf) (leaf : Leaf) → Contains (leaves_in dir parts) leaf → leaf.0 ≡ dir
+    its_dir : (fs : List Fragment) (leaf : Leaf) → Contains (leaves_in dir fs) leaf → leaf.0 ≡ dir
     its_dir [] leaf (k, within, is) = absurd (omega (arith, within))
-    its_dir (part ∷ parts) leaf (zero, within, is) = ap (λ (l : Leaf). l.0) (sym is)
-    its_dir (part ∷ parts) leaf (suc k, within, is) = its_dir parts leaf (k, omega (arith, within), is)
+    its_dir (f ∷ fs) leaf (zero, within, is) = ap (λ (l : Leaf). l.0) (sym is)
+    its_dir (f ∷ fs) leaf (suc k, within, is) = its_dir fs leaf (k, omega (arith, within), is)
 
 -- and no place is kept then, if none was
 pub none_ended : (c : CacheMap) (leaf : Leaf) → AreCaches c → KeepsNone c → KeepsNone (ended c leaf)
@@ -175,48 +175,43 @@ none_ended c leaf valid none = elim (map.get c.held leaf) as (λ o. map.get c.he
 
 -- ---- a directory goes, or none
 
-module _ (c : Core) (counts : Counts) (going : Option Going) (prepared : IsGoingOrNone c.covers going) (room : Rooms) where
+module _ (c : Core) (counts : Counts) (gone : Option Ino) (room : Rooms) where
   abbrev pub left : Core
-  left = without_dir (record c { counts = counts }) (dir_going going) (leaves_going going) (texts_going going) room
+  left = without_dir (record c { counts = counts }) gone room
 
   -- the state without_gone_dir the directory, but for the counts and the pins
   abbrev without_by : Option Ino → State
   without_by went = record (without_gone_dir (state_of c) went) { counts = rows_but counts went; pins = rows_but c.pins went }
 
-  pub is_gone : state_of left ≡ without_by (dir_going going)
-  is_gone = go going prepared
+  pub is_gone : state_of left ≡ without_by gone
+  is_gone = go gone
     where
-      go : (went : Option Going) → IsGoingOrNone c.covers went → state_of (without_dir (record c { counts = counts }) (dir_going went) (leaves_going went) (texts_going went) room) ≡ without_by (dir_going went)
-      go None prepared = refl
-      go (Some went) prepared = λ i. record (state_of c) {
-        homes = map.remove c.homes went.dir.0;
-        covers = map.remove c.covers went.dir.0;
-        counts = map.remove counts went.dir.0;
-        pins = map.remove c.pins went.dir.0;
-        unsaved = (unclean_ended c.caches (leaves_in went.dir went.leaves.items) ∙ ap (without_leaves (unclean c.caches)) prepared.parts) i;
-        jobs = ap (without_leaves c.jobs) prepared.parts i;
-        purge = with_objects (map.insert c.purge (prepared.tree i) tt) (prepared.texts i);
-      }
+      go : (went : Option Ino) → state_of (without_dir (record c { counts = counts }) went room) ≡ without_by went
+      go None = refl
+      go (Some dir) = ap (λ (u : UnsavedLeaves). record (without_by (Some dir)) { unsaved = u }) (unclean_ended c.caches (leaves c.covers dir.0))
 
-  module _ (Uses Ends : ℕ → Leaf → Type 0) (old : Core) (named : (r : ℕ) (leaf : Leaf) → dir_going going ≡ Some leaf.0 → Ends r leaf) (before : HasMade Uses Ends None old c) where
+  module _ (Uses Ends : ℕ → Leaf → Type 0) (old : Core) (named : (r : ℕ) (leaf : Leaf) → gone ≡ Some leaf.0 → Ends r leaf) (before : HasMade Uses Ends None old c) where
     pub made_gone : (KeepsNone c.caches → KeepsNone left.caches) → HasMade Uses Ends None old left
     made_gone stays_none = record {
-      came = comes going named;
-      cached = subst (λ (s : State). AllCachedIn s left.caches) (sym is_gone) (stay going prepared);
+      came = comes gone named;
+      cached = subst (λ (s : State). AllCachedIn s left.caches) (sym is_gone) (stay gone);
       only = none_only None left.caches (stays_none (only_none c.caches before.only));
     }
       where
-        comes : (went : Option Going) → ((r : ℕ) (leaf : Leaf) → dir_going went ≡ Some leaf.0 → Ends r leaf) → Came Uses Ends old.caches (ended_all c.caches (leaves_going went))
-        comes None named = before.came
-        comes (Some went) named = ends_came Uses Ends old.caches c.caches went.dir went.leaves.items (λ r leaf is. named r leaf (ap (λ (d : Ino). Some d) (sym is))) before.came
+        abbrev after : Option Ino → Core
+        after went = without_dir (record c { counts = counts }) went room
 
-        stay : (went : Option Going) → IsGoingOrNone c.covers went → AllCachedIn (without_by (dir_going went)) (ended_all c.caches (leaves_going went))
-        stay None prepared leaf a is = let cached : IsCachedIn (state_of c) leaf a.frag = before.cached leaf a is in record { live = cached.live; tied = cached.tied; made = cached.made }
-        stay (Some went) prepared leaf a is =
-            let was = still_held c.caches (leaves_in went.dir went.leaves.items) leaf a is in
+        comes : (went : Option Ino) → ((r : ℕ) (leaf : Leaf) → went ≡ Some leaf.0 → Ends r leaf) → Came Uses Ends old.caches (after went).caches
+        comes None named = before.came
+        comes (Some dir) named = ends_came Uses Ends old.caches c.caches dir (leaves_of c.covers dir.0) (λ r leaf is. named r leaf (ap (λ (d : Ino). Some d) (sym is))) before.came
+
+        stay : (went : Option Ino) → AllCachedIn (without_by went) (after went).caches
+        stay None leaf a is = let cached : IsCachedIn (state_of c) leaf a.frag = before.cached leaf a is in record { live = cached.live; tied = cached.tied; made = cached.made }
+        stay (Some dir) leaf a is =
+            let was = still_held c.caches (leaves c.covers dir.0) leaf a is in
             let cached : IsCachedIn (state_of c) leaf a.frag = before.cached leaf a was.1 in
             record {
-              live = left_live_at (state_of c) went.dir leaf cached.live (sym (ap (list_any (leaf_is leaf)) prepared.parts) ∙ was.0);
+              live = left_live_at (state_of c) dir leaf cached.live was.0;
               tied = cached.tied;
               made = cached.made;
             }

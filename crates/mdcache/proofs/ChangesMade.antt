@@ -1,5 +1,5 @@
 -- What a change makes, once its steps are known.
-use Rattle.mdcache.proofs.Common.{AllCachedIn, Bool, Cached, Came, Change, Core, Dirfrag, EndsWith, Going, HasCached, HasNumber, HasRoom, HasSpace, Ino, Inode, IsChangedBy, IsGoingOrNone, IsKeptFor, IsNamedIn, IsRightChange, IsSound, IsSoundCore, IsThere, KeepsNone, KeepsOnlyAt, Leaf, List, Makes, MayChange, NewDirectory, None, NoneEnds, Option, Rank, ReadsCore, Rooms, Some, Spot, State, adds, ap, arith, cond, count_of, counts_moved, dentry_at, dir_going, false, first_leaf, here, home_at, inl, inr, is_dir_kind, is_some, leaf_of, leaves_going, length, made_frag, may_come, moves, named, one_less, one_more, pinned, refl, removes, root_fragment, rows_but, sets, shown_in, shown_tree, shows, state_of, subst, sym, text_of, texts_going, true, unclean_with, with_directory, with_entry, with_home, with_new, with_pin, without_gone_dir, without_dir, without_entry, ℕ, ◌-◌, ◌<◌, ◌==◌, ◌^◌, ◌∙◌, ◌≡◌}
+use Rattle.mdcache.proofs.Common.{AllCachedIn, Bool, Cached, Came, Change, Core, Dirfrag, EndsWith, HasCached, HasNumber, HasRoom, HasSpace, Ino, Inode, IsChangedBy, IsKeptFor, IsNamedIn, IsRightChange, IsSound, IsSoundCore, IsThere, KeepsNone, KeepsOnlyAt, Leaf, List, Makes, MayChange, None, NoneEnds, Option, Rank, ReadsCore, Rooms, Some, Spot, State, adds, ap, arith, cond, count_of, counts_moved, dentry_at, false, first_leaf, here, home_at, inl, inr, is_dir_kind, is_some, leaf_of, length, made_frag, may_come, moves, named, one_less, one_more, pinned, refl, removes, root_fragment, rows_but, sets, shown_in, shown_tree, shows, state_of, subst, sym, text_of, true, unclean_with, with_directory, with_entry, with_home, with_new, with_pin, without_gone_dir, without_dir, without_entry, ℕ, ◌-◌, ◌<◌, ◌==◌, ◌^◌, ◌∙◌, ◌≡◌}
 use Rattle.std.specs.FinMap as map
 use Rattle.mdcache.specs.Core.{moved_entry, with_dir}
 use Rattle.mdcache.proofs.ChangeLaws.{changes_are_right}
@@ -103,20 +103,20 @@ module _ (old new : Core) (sound : IsSound (state_of old)) (begun : 0 < old.next
     -- a directory has its home, and its leaf, for which a place is kept
     module _ (only : KeepsOnlyAt kept old.caches) (kept_place : IsKeptFor old.caches spot.at.rank.0 (first_leaf inode.ino)) (kinded : is_dir_kind inode.kind ≡ true) (fits : inode.ino.0 < 2 ^ 64) (rank : spot.at.rank.0 < length old.caches.used)
         (may : MayChange (shown_in old) old.covers (adds spot inode)) (rooms : Rooms) where
-      pub directory_done : (made : NewDirectory) → made.name ≡ spot.name
-          → new ≡ with_dir (with_entry now place.dir) first (record { parent = spot.at.dir; name = made.name }) (text_of (first_leaf inode.ino)) rooms → IsDone (adds spot inode) old new
-      directory_done made name is =
+      pub directory_done : (name : List ℕ) → name ≡ spot.name
+          → new ≡ with_dir (with_entry now place.dir) first (record { parent = spot.at.dir; name = name }) rooms → IsDone (adds spot inode) old new
+      directory_done its name is =
           let leaves = sound_leaves (state_of old) sound in
           let come = may_come (shown_in old) old.homes (dentry_at spot) inode sound.tabled may.takes in
           let counts = one_more old.counts place.dir.0 in
           let before = made_first (IsNamedIn (adds spot inode)) (EndsWith (adds spot inode)) kept old cached only in
           let named = made_named _ _ kept old old before place spot.name (Some inode) there (inl (refl, refl)) in
           let grown = made_dir _ _ old (with_entry now place.dir) first (made_tables _ _ kept old now named old.homes counts old.pins (λ leaf live. live))
-          (kept_named old place spot.name (Some inode) there (first_leaf inode.ino) kept_place rank).1 (home_at (dentry_at spot)) (text_of (first_leaf inode.ino)) rooms
+          (kept_named old place spot.name (Some inode) there (first_leaf inode.ino) kept_place rank).1 (home_at (dentry_at spot)) rooms
           (first_live (state_of old) leaves (dentry_at spot) inode.ino come fits) (grown_live (state_of old) leaves (dentry_at spot) inode.ino come fits) (inr (refl, refl)) in
           let with_leaf : State = record (with_directory (state_of now) (dentry_at spot) inode.ino) { counts = map.insert counts inode.ino.0 0 } in
-          subst (IsDone (adds spot inode) old) (sym (is ∙ (λ i. with_dir (with_entry now place.dir) first (record { parent = spot.at.dir; name = name i }) (text_of (first_leaf inode.ino)) rooms)))
-          (done (adds spot inode) old (with_dir (with_entry now place.dir) first (home_at (dentry_at spot)) (text_of (first_leaf inode.ino)) rooms) sound (λ new. fits) may (
+          subst (IsDone (adds spot inode) old) (sym (is ∙ (λ i. with_dir (with_entry now place.dir) first (record { parent = spot.at.dir; name = name i }) rooms)))
+          (done (adds spot inode) old (with_dir (with_entry now place.dir) first (home_at (dentry_at spot)) rooms) sound (λ new. fits) may (
             with_new (state_of now) (dentry_at spot) inode,
             (state_of now, is_named _ _ kept old old before place spot.name (Some inode) there, refl),
             (λ i. record with_leaf { unsaved = unclean_with now.caches spot.at.rank.0 (first_leaf inode.ino) (made_frag now.next_generation) i })
@@ -124,24 +124,24 @@ module _ (old new : Core) (sound : IsSound (state_of old)) (begun : 0 < old.next
           ) grown (omega (arith, begun)))
 
   -- a name went, and the directory that stood there, if one did
-  module _ (going : Option Going) (none : KeepsNone old.caches) (stands : IsGoingOrNone old.covers going) (may : MayChange (shown_in old) old.covers (removes spot (dir_going going))) (rooms : Rooms) where
+  module _ (gone : Option Ino) (none : KeepsNone old.caches) (may : MayChange (shown_in old) old.covers (removes spot gone)) (rooms : Rooms) where
     abbrev erased : Core
     erased = named old place spot.name None
 
-    pub removal_done : new ≡ without_dir (without_entry erased place.dir) (dir_going going) (leaves_going going) (texts_going going) rooms → KeepsNone new.caches → IsDone (removes spot (dir_going going)) old new
+    pub removal_done : new ≡ without_dir (without_entry erased place.dir) gone rooms → KeepsNone new.caches → IsDone (removes spot gone) old new
     removal_done is keeps =
-        let change = removes spot (dir_going going) in
+        let change = removes spot gone in
         let before = first_made change old cached none in
         let counts = one_less old.counts place.dir.0 in
-        subst (IsDone change old) (sym is) (done change old (left erased counts going stands rooms) sound not_new may
-        (without_gone_dir (state_of erased) (dir_going going), (state_of erased, is_named _ _ None old old before place spot.name None there, refl), is_gone erased counts going stands rooms)
-        (made_gone erased counts going stands rooms _ _ old (λ r q is. is) (made_named _ _ None old old before place spot.name None there (refl, refl)) (λ was. subst (λ (k : Core). KeepsNone k.caches) is keeps)) begun)
+        subst (IsDone change old) (sym is) (done change old (left erased counts gone rooms) sound not_new may
+        (without_gone_dir (state_of erased) gone, (state_of erased, is_named _ _ None old old before place spot.name None there, refl), is_gone erased counts gone rooms)
+        (made_gone erased counts gone rooms _ _ old (λ r q is. is) (made_named _ _ None old old before place spot.name None there (refl, refl)) (λ was. subst (λ (k : Core). KeepsNone k.caches) is keeps)) begun)
 
 -- ---- an entry moves
 
-module _ (old new : Core) (sound : IsSoundCore old) (source target : Spot) (inode : Inode) (going : Option Going) (may : MayChange (shown_in old) old.covers (moves source target inode (dir_going going))) where
+module _ (old new : Core) (sound : IsSoundCore old) (source target : Spot) (inode : Inode) (gone : Option Ino) (may : MayChange (shown_in old) old.covers (moves source target inode gone)) where
   abbrev change : Change
-  change = moves source target inode (dir_going going)
+  change = moves source target inode gone
 
   -- its new name is shown where something stands there
   pub stands_at_target : HasRoom (here old.caches target.at.rank.0 (leaf_of target.at)) → shows old target.at target.name ≡ is_some (map.get (shown_in old) (dentry_at target))
@@ -156,9 +156,9 @@ module _ (old new : Core) (sound : IsSoundCore old) (source target : Spot) (inod
     | Some i ↦ λ is space. let clash : true ≡ false = is in absurd cc
   ] (sym (stands_at_target room) ∙ none) may.takes.spaced
 
-  module _ (two : HasCached (here old.caches source.at.rank.0 (leaf_of source.at)) (λ (f : Cached). 1 < f.room)) (one : HasRoom (here old.caches target.at.rank.0 (leaf_of target.at))) (leaves_stand : IsGoingOrNone old.covers going) (rooms : Rooms) where
+  module _ (two : HasCached (here old.caches source.at.rank.0 (leaf_of source.at)) (λ (f : Cached). 1 < f.room)) (one : HasRoom (here old.caches target.at.rank.0 (leaf_of target.at))) (rooms : Rooms) where
     pub entry_moved : (name : List ℕ) → name ≡ target.name
-        → new ≡ without_dir (moved_entry old source.at source.name target.at target.name name inode) (dir_going going) (leaves_going going) (texts_going going) rooms → KeepsNone new.caches
+        → new ≡ without_dir (moved_entry old source.at source.name target.at target.name name inode) gone rooms → KeepsNone new.caches
         → IsDone change old new
     entry_moved name its is keeps =
         let left_name = named old source.at source.name None in
@@ -168,21 +168,21 @@ module _ (old new : Core) (sound : IsSoundCore old) (source target : Spot) (inod
         let before = first_made change old sound.cached sound.none in
         let there_first = cached_there (λ (f : Cached). 1 < f.room) (here old.caches source.at.rank.0 (leaf_of source.at)) two in
         let housed_made = made_tables _ _ None old left_name (made_named _ _ None old old before source.at source.name None there_first (inl (refl, refl))) (with_home old.homes (dentry_at target) inode) old.counts old.pins
-        (λ leaf live. record { known = moved_known old.homes old.covers sound.sound.table (dentry_at target) inode (relocates (state_of old) sound.sound source target inode (dir_going going) may) leaf.0.0 ∙ live.known; stands = live.stands }) in
+        (λ leaf live. record { known = moved_known old.homes old.covers sound.sound.table (dentry_at target) inode (relocates (state_of old) sound.sound source target inode gone may) leaf.0.0 ∙ live.known; stands = live.stands }) in
         let there_second = roomy_there _ (room_left old.caches source.at.rank.0 target.at.rank.0 (leaf_of source.at) (leaf_of target.at) source.name (record { version = old.next_version; inode = None }) two one) in
         let named = is_named _ _ None old housed housed_made target.at target.name (Some inode) there_second in
-        let now : new ≡ left came_name counts going leaves_stand rooms = is ∙ ap (λ (n : List ℕ). without_dir (moved_entry old source.at source.name target.at target.name n inode) (dir_going going) (leaves_going going) (texts_going going) rooms) its in
-        subst (IsDone change old) (sym now) (done change old (left came_name counts going leaves_stand rooms) sound.sound not_new may (
-          without_gone_dir (state_of came_name) (dir_going going),
+        let now : new ≡ left came_name counts gone rooms = is ∙ ap (λ (n : List ℕ). without_dir (moved_entry old source.at source.name target.at target.name n inode) gone rooms) its in
+        subst (IsDone change old) (sym now) (done change old (left came_name counts gone rooms) sound.sound not_new may (
+          without_gone_dir (state_of came_name) gone,
           (
             state_of left_name,
             is_named _ _ None old old before source.at source.name None there_first,
             (record (state_of came_name) { homes = old.homes }, record { before = named.before; stands = named.stands; left = λ i. record (named.left i) { homes = old.homes } }, refl),
           ),
-          is_gone came_name counts going leaves_stand rooms ∙ ap (λ (b : Bool). record (without_gone_dir (state_of came_name) (dir_going going)) {
-            counts = rows_but (counts_moved old.counts source.at.dir.0 target.at.dir.0 b) (dir_going going);
-            pins = rows_but old.pins (dir_going going);
+          is_gone came_name counts gone rooms ∙ ap (λ (b : Bool). record (without_gone_dir (state_of came_name) gone) {
+            counts = rows_but (counts_moved old.counts source.at.dir.0 target.at.dir.0 b) gone;
+            pins = rows_but old.pins gone;
           }) (stands_at_target one),
         )
-        (made_gone came_name counts going leaves_stand rooms _ _ old (λ r q is. is) (made_named _ _ None old housed housed_made target.at target.name (Some inode) there_second (inr (refl, refl)))
+        (made_gone came_name counts gone rooms _ _ old (λ r q is. is) (made_named _ _ None old housed housed_made target.at target.name (Some inode) there_second (inr (refl, refl)))
         (λ was. subst (λ (k : Core). KeepsNone k.caches) now keeps)) sound.begun)

@@ -85,14 +85,13 @@ pub use Rattle.inode_table.specs.TreeTable.{IsCounted, IsTabled, counts_moved, h
 pub use Rattle.inode_table.specs.declared.dirs.Home.{Home}
 pub use Rattle.mdcache.specs.Batches.{AreOfOtherLeaves, CommitsWhole, IsAsItWas, IsBegunAt, IsReadied, IsReadyWrite, IsUncleanAt, IsSavedNow, MayNotBeginAll, MayNotBeginOne, MayNotCommit, NotAmong, leaves_at, leaves_of_jobs, leaves_of_writes, ready_of}
 pub use Rattle.mdcache.specs.CacheReads.{IsNewestOf, LacksPlacesIn}
-pub use Rattle.mdcache.specs.Changes.{Alters, IsAsItStands, IsNamed, Makes, PutsThen, TakesThen, dirtied, first_leaf, housed, just_made, noted_change, object_texts_of, with_directory, with_home_at, with_name, with_new, with_objects, without_gone_dir, without_directory, without_leaves}
+pub use Rattle.mdcache.specs.Changes.{Alters, IsAsItStands, IsNamed, Makes, PutsThen, TakesThen, dirtied, first_leaf, housed, just_made, leaves_in, noted_change, object_texts_of, rows_but, with_directory, with_home_at, with_name, with_new, with_objects, without_directory, without_gone_dir, without_leaves}
 pub use Rattle.mdcache.specs.Changing.{ChangesTree, IsChangedBy}
 pub use Rattle.mdcache.specs.Commits.{Begins, BeginsUnsaved, Drops, EndsJobOf, HasSpelled, IsAtEnd, IsDropped, IsEnded, MayNotBeginJob, committed, job_for, names_then, stored_with, with_job}
 pub use Rattle.mdcache.specs.Core.{AllCachedIn, Core, IsCachedIn, IsJobOf, IsNoLess, IsSoundCore, LacksPlacesAt, MayFetch, ReadsCore, Rooms, made_frag, named, pinned, shown_in, shows, shows_in, state_of, used_core, with_entry, with_job_in, without_dir, without_entry, without_frags}
 pub use Rattle.mdcache.specs.Flushed.{AreExact, ArePurged, BegunAreAtHand, BegunLeaveAtHand, EndedAreClean, FlushedIsCold, HasFragment, IsAtHand, IsFlushed, KeepsTree, OthersStayAtHand, PurgedAreExact, PurgedAreFlushed, StepsKeepTree}
 pub use Rattle.mdcache.specs.Frags.{KeepsState}
 pub use Rattle.mdcache.specs.Given.{GivenOverIsRight, HaveNoJobs, IsGivenOver}
-pub use Rattle.mdcache.specs.Going.{IsGoingOrNone, dir_going, leaves_going, leaves_in, rows_but, texts_going, texts_in}
 pub use Rattle.mdcache.specs.Joining.{HasJoined, IsAmong, IsAmongOr, name_joined}
 pub use Rattle.mdcache.specs.Made.{ChangesAreRight, HasNumber, IsRightChange, IsUntouched, StaysAsItIs}
 pub use Rattle.mdcache.specs.Mounted.{AreNumbers, IsMounted, IsNewTree, mounted}
@@ -114,10 +113,7 @@ pub use Rattle.mdcache.specs.StandingJobs.{Finds, IsNextJob, Jobs, NoneHasNumber
 pub use Rattle.mdcache.specs.State.{IsLive, State, UnsavedLeaves, text_of, tree_text}
 pub use Rattle.mdcache.specs.declared.batches.Begun.{Begun}
 pub use Rattle.mdcache.specs.declared.batches.Ready.{Ready}
-pub use Rattle.mdcache.specs.declared.going.Going.{Going}
-pub use Rattle.mdcache.specs.declared.going.GoingLeaf.{GoingLeaf}
 pub use Rattle.mdcache.specs.declared.merging.Merge.{Merge}
-pub use Rattle.mdcache.specs.declared.prepared.NewDirectory.{NewDirectory}
 pub use Rattle.mdcache.specs.declared.splitting.Split.{Split}
 pub use Rattle.mds_types.proofs.DirectoryLaws.{entry_stands}
 pub use Rattle.mds_types.proofs.EntryLaws.{stands_after_removal}

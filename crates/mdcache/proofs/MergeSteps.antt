@@ -75,6 +75,9 @@ module _ (old mid : Core) (sound : IsSoundCore old) (a : Dirfrag) (merge : Merge
   abbrev ending : List Leaf
   ending = each (in_directory a.dir.0) gone
 
+  ended_are : leaves_in a.dir merge.plan.leaves.items ≡ ending
+  ended_are = ap (leaves_in a.dir) ready.planned.leaves
+
   tree : IsTree row
   tree = tree_of_row s.homes s.covers still.0.table a.dir.0
 
@@ -142,7 +145,7 @@ module _ (old mid : Core) (sound : IsSoundCore old) (a : Dirfrag) (merge : Merge
 
   get_now : (q : Leaf) → map.get (unclean made.caches) q ≡ cond (list_any (leaf_is q) ending) None (cond (leaf_is q leaf) (Some beyond) (map.get (unclean mid.caches) q))
   get_now q =
-      ap (λ u. map.get u q) (unclean_ended filled (leaves_in a.dir merge.plan.leaves.items) ∙ ap (without_leaves (unclean filled)) ready.planned.leaves) ∙ get_without (unclean filled) ending q
+      ap (λ u. map.get u q) (unclean_ended filled (leaves_in a.dir merge.plan.leaves.items) ∙ ap (without_leaves (unclean filled)) ended_are) ∙ get_without (unclean filled) ending q
       ∙ ap (cond (list_any (leaf_is q) ending) None) (ap (λ u. map.get u q) (unclean_with mid.caches a.rank.0 leaf merge.joined) ∙ unsaved_here_at (unclean mid.caches) leaf q (unsaved_of merge.joined)
       ∙ ap (λ (b : Base). cond (leaf_is q leaf) (cond (is_clean_over b merge.joined.dirty) None (Some beyond)) (map.get (unclean mid.caches) q)) ready.joined.fresh)
 
@@ -170,14 +173,14 @@ module _ (old mid : Core) (sound : IsSoundCore old) (a : Dirfrag) (merge : Merge
     whole = ready.planned.whole;
     unsaved = unclean made.caches;
     purge = t.purge;
-    left = λ i. record t { jobs = without_leaves s.jobs (ready.planned.leaves i); next_version = s.next_version + cond (empty_is i) 0 1 };
+    left = λ i. record t { jobs = without_leaves s.jobs (ended_are i); next_version = s.next_version + cond (empty_is i) 0 1 };
     came = λ g came.
         let number = ready.joined.numbered in
         subst (λ (h : Fragment). HasUnsaved (map.get (unclean made.caches) (a.dir, h)) (IsNewLeaf s a.dir h 1)) (sym (is_it g came))
         (subst (λ (o : Option Unsaved). HasUnsaved o (IsNewLeaf s a.dir a.frag 1)) (sym (get_still leaf true (λ same. not_gone) (leaf_itself leaf))) (record { fresh = ready.joined.fresh; first = omega (arith, number); last = omega (arith, number); dirty = dirty_is }));
     ended = λ g has. get_now (a.dir, g) ∙ ap (λ (b : Bool). cond b None (cond (leaf_is (a.dir, g) leaf) (Some beyond) (map.get (unclean mid.caches) (a.dir, g)))) (among a.dir.0 (a.dir, g) gone refl has);
     others = λ q apart. get_still q false (λ same has. apart same (inl has)) (apart_it q apart);
-    listed = subst (λ (names : Keys). IsListedAnew s.purge names a.dir gone (Comes row merge.plan.cover)) (λ i. map.remove (with_objects s.purge (sym ready.planned.texts i)) (sym ready.planned.object i)) (record {
+    listed = subst (λ (names : Keys). IsListedAnew s.purge names a.dir gone (Comes row merge.plan.cover)) (λ i. map.remove (with_objects s.purge (each text_of (sym ended_are i))) (text_of (leaf_of a))) (record {
       ended = λ g has. get_left on (text_of (a.dir, a.frag)) (text_of (a.dir, g)) (λ same.
           let small = still.0.numbered a.dir.0 still.1 in
           let names : Frag a.dir g ≡ Frag a.dir a.frag = texts_differ (Frag a.dir g) (Frag a.dir a.frag) (small, (between 0 16777216 row g tree.tiles (has_inside a.frag g row has).0).0) (small, (between 0 16777216 merge.plan.cover a.frag ready.planned.whole.tiles comes.0).0) same in
@@ -214,13 +217,13 @@ module _ (old mid : Core) (sound : IsSoundCore old) (a : Dirfrag) (merge : Merge
     merged = merge_made;
     tree = merges_right (state_of old) (state_of new) a.dir a.frag sound.sound merge_made;
     came = subst (λ (k : Core). Came Uses Ends old.caches k.caches) (sym left)
-        (ends_came_so Uses Ends old.caches filled (leaves_in a.dir merge.plan.leaves.items) (λ n q among. subst (λ (ls : List Leaf). Contains ls q) (ready.planned.leaves ∙ ap (λ (u : State). each (in_directory a.dir.0) (leaves_inside a.frag (leaves_of u.covers a.dir.0))) was) among)
+        (ends_came_so Uses Ends old.caches filled (leaves_in a.dir merge.plan.leaves.items) (λ n q among. subst (λ (ls : List Leaf). Contains ls q) (ended_are ∙ ap (λ (u : State). each (in_directory a.dir.0) (leaves_inside a.frag (leaves_of u.covers a.dir.0))) was) among)
         (arrives mid.caches a.rank.0 leaf merge.joined (reads_came Uses Ends old.objects old.caches mid.caches (reads_weaker Uses NoneEnds Uses Ends (λ n q is. is) (λ n q no_end. absurd no_end) old.objects old.caches mid.caches reads.caches)) (inr (refl, refl))));
     sound = subst IsSoundCore (sym left) (record {
       sound = (merges_right s t a.dir a.frag still.0 is_merged).sound;
       begun = (let before : 0 < s.next_generation = subst (λ (u : State). 0 < u.next_generation) (sym was) sound.begun in omega (arith, before));
       cached = regroup_cached s still.0 a.dir gone merge.plan.cover 1 t is_regrouped cut mid.caches made.caches cached
-          (λ q same has b is. let clash : true ≡ false = sym (among a.dir.0 q gone same has) ∙ sym (ap (list_any (leaf_is q)) ready.planned.leaves) ∙ (still_held filled (leaves_in a.dir merge.plan.leaves.items) q b is).0 in cc)
+          (λ q same has b is. let clash : true ≡ false = sym (among a.dir.0 q gone same has) ∙ sym (ap (list_any (leaf_is q)) ended_are) ∙ (still_held filled (leaves_in a.dir merge.plan.leaves.items) q b is).0 in cc)
           (λ q same came b is.
           let number = ready.joined.numbered in
           subst (λ (k : At). IsTied k.frag (object_of s.objects q.0 q.1) × (k.frag.generation < s.next_generation + 1))

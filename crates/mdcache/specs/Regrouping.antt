@@ -63,7 +63,7 @@ ending_at p a = each (in_directory a.dir.0) (leaves_inside a.frag (leaves_of p.c
 -- the leaves that end, with room on the purge list for the names of their objects, and the directory's leaves after the
 -- merge
 pub record IsMergePlanned (p : Core) (a : Dirfrag) (plan : MergePlan) : Type 0 where
-  pub leaves : leaves_in a.dir plan.leaves.items ≡ ending_at p a
+  pub leaves : plan.leaves.items ≡ leaves_inside a.frag (leaves_of p.covers a.dir.0)
   pub list : length plan.leaves.items ≤ p.room.purge
   pub cover : IsMerge (leaves_of p.covers a.dir.0) plan.cover a.frag
   pub whole : IsTree plan.cover

@@ -156,7 +156,10 @@ impl<S: Store + Drop> MdCache<S> {
         if let Err(refusal) = ready_list(&self.dirs, &mut self.purge, gone) {
             return Err(refusal);
         }
-        self.ready_names(alloc, at, 1)
+        match self.ready_names(alloc, at, 1) {
+            Ok(()) => Ok(()),
+            Err(refusal) => Err(refusal),
+        }
     }
 
     /// Makes ready that the inode of one name moves to another, in a leaf that may be the same: the first has room for

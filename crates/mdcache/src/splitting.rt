@@ -29,7 +29,7 @@ use crate::mdcache::MdCache;
 use crate::purge_list::PurgeList;
 use crate::regrouping::{child_count, take_counts};
 use crate::split_plan::SplitPlan;
-use dentry_cache::Parts;
+use dentry_cache::{Caches, Parts};
 use mds_types::{Dirfrag, ObjText, Refusal};
 use objstore::Store;
 use std::alloc::Global;

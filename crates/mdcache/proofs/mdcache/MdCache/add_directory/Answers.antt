@@ -21,11 +21,10 @@ come_directory-requires g c =
       home = ready.place.home;
       known = known_is _ c.ready_directory.new.self.homes sound.tabled _ ∙ may.takes.parent;
       few = new_fits _ sound c.args.spot c.args.inode may;
-      may = subst (λ (name : List ℕ). MayCome c.ready_directory.new.self.homes c.args.inode.ino.0 (record { parent = c.args.spot.at.dir; name = name })) (sym ready.place.name)
+      may = subst (λ (name : List ℕ). MayCome c.ready_directory.new.self.homes c.args.inode.ino.0 (record { parent = c.args.spot.at.dir; name = name })) (sym ready.named)
           (may_come _ c.ready_directory.new.self.homes (dentry_at c.args.spot) c.args.inode sound.tabled may.takes);
       place = ready.place.place;
       generation = ready.place.generation;
-      object = ready.place.object;
     }
 
 pub returns-in-Ok : goal.returns-in-Ok
@@ -35,7 +34,7 @@ returns-in-Ok g c =
     let ready = c.in-Ok.ensures in
     let done = directory_done c.ready_directory.new.self c.come_directory.new.self (subst IsSound same c.requires.sound.sound) (subst (λ (s : State). 0 < s.next_generation) same c.requires.sound.begun) ready.cached
     c.args.spot ready.ready.room c.args.inode ready.only ready.place.place c.requires.directory c.has_parts.ensures.number (there_after _ _ _ _ _ reads c.requires.holds.put.there) (may_still _ _ _ _ reads c.requires.may)
-    c.come_directory.new.self.room c.in-Ok.made ready.place.name c.come_directory.ensures in
+    c.come_directory.new.self.room c.in-Ok.name ready.named c.come_directory.ensures in
     record { changed = after_reads _ _ _ _ reads done; sound = done.sound; counted = ap (λ (k : Core). k.faults) c.come_directory.ensures ∙ ready.counted }
 
 pub returns-in-Err-clause-changed : goal.returns-in-Err-clause-changed

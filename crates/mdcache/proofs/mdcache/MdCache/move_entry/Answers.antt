@@ -1,4 +1,4 @@
-use Rattle.mdcache.proofs.Common.{Cached, Core, HasCached, IfSome, Ino, Inode, IsRecordable, List, MayChange, MayGo, MayMove, Names, Option, ap, dentry_at, dir_going, here, leaf_of, length, moves, shown_in, state_of, subst, sym, with_home, ℕ, ◌<◌, ◌∙◌}
+use Rattle.mdcache.proofs.Common.{Cached, Core, HasCached, IfSome, Ino, Inode, IsRecordable, List, MayChange, MayGo, MayMove, Names, Option, ap, dentry_at, here, leaf_of, length, moves, shown_in, state_of, subst, sym, with_home, ℕ, ◌<◌, ◌∙◌}
 use Rattle.std.specs.FinMap as map
 use Rattle.cached_frag.specs.Cached.{shown as shown_of}
 use Rattle.mdcache.proofs.ChangeLaws.{entry_known}
@@ -20,7 +20,6 @@ pass-requires g c =
     let reads = c.ready_move.ensures.reads in
     let ready = c.in-Ok.ensures in
     let may = may_still _ (moves c.args.from c.args.to c.args.inode c.args.gone) _ _ reads c.requires.may in
-    let so = subst (λ (d : Option Ino). MayChange (shown_in now) now.covers (moves c.args.from c.args.to c.args.inode d)) (sym ready.moving.1.0) may in
     record {
       first = there_after _ _ _ _ _ reads c.requires.holds.taken.there;
       second = there_after _ _ _ _ _ reads c.requires.holds.put.there;
@@ -32,12 +31,12 @@ pass-requires g c =
       version = ready.number;
       from = entry_known (state_of now) (dentry_at c.args.from) c.args.inode ready.sound.sound may.takes.stands;
       to = dir_known now ready.sound _ may.takes.parent;
-      few = counts_fit now now ready.sound c.args.from c.args.to c.args.inode c.in-Ok.moving.going so ready.target;
-      home = λ kinded. subst (λ (name : List ℕ). MayMove now.homes c.args.inode.ino.0 (record { parent = c.args.to.at.dir; name = name })) (sym ready.moving.0)
-          (relocates (state_of now) ready.sound.sound c.args.from c.args.to c.args.inode (dir_going c.in-Ok.moving.going) so kinded);
-      may = subst (λ (name : List ℕ). IfSome (dir_going c.in-Ok.moving.going) (λ (dir : Ino). MayGo (with_home now.homes (record { dir = c.args.to.at.dir; name = name }) c.args.inode) dir.0)) (sym ready.moving.0)
-          (replaces (state_of now) ready.sound.sound c.args.from c.args.to c.args.inode (dir_going c.in-Ok.moving.going) so);
-      purge = ready.moving.1.2;
+      few = counts_fit now now ready.sound c.args.from c.args.to c.args.inode c.args.gone may ready.target;
+      home = λ kinded. subst (λ (name : List ℕ). MayMove now.homes c.args.inode.ino.0 (record { parent = c.args.to.at.dir; name = name })) (sym ready.named)
+          (relocates (state_of now) ready.sound.sound c.args.from c.args.to c.args.inode c.args.gone may kinded);
+      may = subst (λ (name : List ℕ). IfSome c.args.gone (λ (dir : Ino). MayGo (with_home now.homes (record { dir = c.args.to.at.dir; name = name }) c.args.inode) dir.0)) (sym ready.named)
+          (replaces (state_of now) ready.sound.sound c.args.from c.args.to c.args.inode c.args.gone may);
+      purge = ready.list;
       none = ready.sound.none;
     }
 
@@ -46,9 +45,8 @@ returns-in-Ok g c =
     let now = c.ready_move.new.self in
     let reads = c.ready_move.ensures.reads in
     let ready = c.in-Ok.ensures in
-    let may = subst (λ (d : Option Ino). MayChange (shown_in now) now.covers (moves c.args.from c.args.to c.args.inode d)) (sym ready.moving.1.0) (may_still _ _ _ _ reads c.requires.may) in
-    let done = subst (λ (d : Option Ino). IsDone (moves c.args.from c.args.to c.args.inode d) now c.pass.new.self) ready.moving.1.0
-    (entry_moved now c.pass.new.self ready.sound c.args.from c.args.to c.args.inode c.in-Ok.moving.going may ready.source ready.target ready.moving.1.1 c.pass.new.self.room c.in-Ok.moving.name ready.moving.0 c.pass.ensures.moved c.pass.ensures.none) in
+    let may = may_still _ (moves c.args.from c.args.to c.args.inode c.args.gone) _ _ reads c.requires.may in
+    let done = entry_moved now c.pass.new.self ready.sound c.args.from c.args.to c.args.inode c.args.gone may ready.source ready.target c.pass.new.self.room c.in-Ok.name ready.named c.pass.ensures.moved c.pass.ensures.none in
     record { changed = after_reads _ _ _ _ reads done; sound = done.sound; counted = ap (λ (k : Core). k.faults) c.pass.ensures.moved ∙ ready.counted }
 
 pub returns-in-Err-clause-changed : goal.returns-in-Err-clause-changed

@@ -16,7 +16,7 @@ pub join_names-requires : goal.join_names-requires
 join_names-requires g c =
     let room = room_reads c.args.self.now c.plan_merge.new.self c.plan_merge.ensures.left c.plan_merge.ensures.room in
     let sound = grown_sound c.args.self.now c.plan_merge.new.self room c.requires.sound (ap (λ (k : Core). k.caches) c.plan_merge.ensures.left) in
-    let ending = ap (leaves_in c.args.at.now.dir) c.deref.ensures.value ∙ c.in-Ok.ensures.planned.leaves ∙ ap (λ (k : Core). ending_at k c.args.at.now) c.plan_merge.ensures.left in
+    let ending = ap (leaves_in c.args.at.now.dir) c.deref.ensures.value ∙ ap (leaves_in c.args.at.now.dir) c.in-Ok.ensures.planned.leaves ∙ ap (λ (k : Core). ending_at k c.args.at.now) c.plan_merge.ensures.left in
     record {
       sound = sound;
       none = sound.none;
@@ -31,14 +31,14 @@ join_names-requires g c =
 
 pub returns-in-Ok-join_names-clause-reads : goal.returns-in-Ok-join_names-clause-reads
 returns-in-Ok-join_names-clause-reads g c =
-    let ending = ap (leaves_in c.args.at.now.dir) c.deref.ensures.value ∙ c.in-Ok.ensures.planned.leaves ∙ ap (λ (k : Core). ending_at k c.args.at.now) c.plan_merge.ensures.left in
+    let ending = ap (leaves_in c.args.at.now.dir) c.deref.ensures.value ∙ ap (leaves_in c.args.at.now.dir) c.in-Ok.ensures.planned.leaves ∙ ap (λ (k : Core). ending_at k c.args.at.now) c.plan_merge.ensures.left in
     reads_core_on _ _ c.args.self.now c.plan_merge.new.self c.join_names.new.self (room_reads c.args.self.now c.plan_merge.new.self c.plan_merge.ensures.left c.plan_merge.ensures.room _ _)
     (subst (λ (ls : List Leaf). ReadsCore (IsAmongOr c.args.at.now.rank.0 ls (leaf_of c.args.at.now)) NoneEnds c.plan_merge.new.self c.join_names.new.self) ending c.join_names.ensures.reads)
 
 pub returns-in-Err-join_names : goal.returns-in-Err-join_names
 returns-in-Err-join_names g c =
     let room = room_reads c.args.self.now c.plan_merge.new.self c.plan_merge.ensures.left c.plan_merge.ensures.room in
-    let ending = ap (leaves_in c.args.at.now.dir) c.deref.ensures.value ∙ c.in-Ok.ensures.planned.leaves ∙ ap (λ (k : Core). ending_at k c.args.at.now) c.plan_merge.ensures.left in
+    let ending = ap (leaves_in c.args.at.now.dir) c.deref.ensures.value ∙ ap (leaves_in c.args.at.now.dir) c.in-Ok.ensures.planned.leaves ∙ ap (λ (k : Core). ending_at k c.args.at.now) c.plan_merge.ensures.left in
     let reads = reads_core_on _ _ c.args.self.now c.plan_merge.new.self c.join_names.new.self (room _ _)
     (subst (λ (ls : List Leaf). ReadsCore (IsAmongOr c.args.at.now.rank.0 ls (leaf_of c.args.at.now)) NoneEnds c.plan_merge.new.self c.join_names.new.self) ending c.join_names.ensures.reads) in
     let sound = reads_sound_so _ _ c.args.self.now c.join_names.new.self reads c.requires.sound (ending_or_it c.args.self.now c.requires.sound c.args.at.now c.requires.known c.requires.can c.join_names.new.self.caches c.join_names.ensures.absent) c.in-Err-join_names.ensures.none in

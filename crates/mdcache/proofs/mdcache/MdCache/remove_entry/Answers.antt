@@ -1,6 +1,6 @@
-use Rattle.mdcache.proofs.Common.{Core, Ino, MayChange, Option, ap, dentry_at, removes, shown_in, state_of, subst, sym, ◌∙◌}
+use Rattle.mdcache.proofs.Common.{Core, ap, dentry_at, state_of, ◌∙◌}
 use Rattle.mdcache.proofs.ChangeLaws.{entry_known}
-use Rattle.mdcache.proofs.ChangesMade.{IsDone, after_reads, may_still, removal_done}
+use Rattle.mdcache.proofs.ChangesMade.{after_reads, may_still, removal_done}
 use Rattle.mdcache.proofs.HomeLaws.{may_go}
 use Rattle.mdcache.proofs.CoreLaws.{not_ready_wider, there_after}
 use Rattle.mdcache.proofs.PrepareLaws.{entry_live, one_or_two}
@@ -13,14 +13,14 @@ pub leave-requires : goal.leave-requires
 leave-requires g c =
     let now = c.ready_removal.new.self in
     let ready = c.in-Ok.ensures in
-    let may = subst (λ (d : Option Ino). MayChange (shown_in now) now.covers (removes c.args.spot d)) (sym ready.going.0) (may_still _ _ _ _ c.ready_removal.ensures.reads c.requires.may) in
+    let may = may_still _ _ _ _ c.ready_removal.ensures.reads c.requires.may in
     record {
       there = there_after _ _ _ _ _ c.ready_removal.ensures.reads c.requires.holds.taken.there;
       room = ready.ready.room;
       version = ready.ready.number;
       known = entry_known (state_of now) (dentry_at c.args.spot) may.takes.inode ready.sound.sound may.takes.stands;
       may = may_go (state_of now) c.args.spot _ ready.sound.sound may;
-      purge = ready.going.2;
+      purge = ready.list;
       none = ready.sound.none;
     }
 
@@ -30,9 +30,7 @@ returns-in-Ok g c =
     let reads = c.ready_removal.ensures.reads in
     let ready = c.in-Ok.ensures in
     let s = ready.sound in
-    let may = subst (λ (d : Option Ino). MayChange (shown_in now) now.covers (removes c.args.spot d)) (sym ready.going.0) (may_still _ _ _ _ reads c.requires.may) in
-    let done = subst (λ (d : Option Ino). IsDone (removes c.args.spot d) now c.leave.new.self) ready.going.0
-    (removal_done now c.leave.new.self s.sound s.begun s.cached c.args.spot ready.ready.room c.in-Ok.going s.none ready.going.1 may c.leave.new.self.room c.leave.ensures.gone c.leave.ensures.none) in
+    let done = removal_done now c.leave.new.self s.sound s.begun s.cached c.args.spot ready.ready.room c.args.gone s.none (may_still _ _ _ _ reads c.requires.may) c.leave.new.self.room c.leave.ensures.gone c.leave.ensures.none in
     record { changed = after_reads _ _ _ _ reads done; sound = done.sound; counted = ap (λ (k : Core). k.faults) c.leave.ensures.gone ∙ ready.counted }
 
 pub returns-in-Err-clause-changed : goal.returns-in-Err-clause-changed
