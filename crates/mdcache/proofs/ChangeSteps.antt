@@ -176,8 +176,11 @@ none_ended c leaf valid none = elim (map.get c.held leaf) as (λ o. map.get c.he
 -- ---- a directory goes, or none
 
 module _ (c : Core) (counts : Counts) (gone : Option Ino) (room : Rooms) where
+  abbrev after : Option Ino → Core
+  after went = without_dir (record c { counts = counts }) went room
+
   abbrev pub left : Core
-  left = without_dir (record c { counts = counts }) gone room
+  left = after gone
 
   -- the state without_gone_dir the directory, but for the counts and the pins
   abbrev without_by : Option Ino → State
@@ -186,7 +189,7 @@ module _ (c : Core) (counts : Counts) (gone : Option Ino) (room : Rooms) where
   pub is_gone : state_of left ≡ without_by gone
   is_gone = go gone
     where
-      go : (went : Option Ino) → state_of (without_dir (record c { counts = counts }) went room) ≡ without_by went
+      go : (went : Option Ino) → state_of (after went) ≡ without_by went
       go None = refl
       go (Some dir) = ap (λ (u : UnsavedLeaves). record (without_by (Some dir)) { unsaved = u }) (unclean_ended c.caches (leaves c.covers dir.0))
 
@@ -198,9 +201,6 @@ module _ (c : Core) (counts : Counts) (gone : Option Ino) (room : Rooms) where
       only = none_only None left.caches (stays_none (only_none c.caches before.only));
     }
       where
-        abbrev after : Option Ino → Core
-        after went = without_dir (record c { counts = counts }) went room
-
         comes : (went : Option Ino) → ((r : ℕ) (leaf : Leaf) → went ≡ Some leaf.0 → Ends r leaf) → Came Uses Ends old.caches (after went).caches
         comes None named = before.came
         comes (Some dir) named = ends_came Uses Ends old.caches c.caches dir (leaves_of c.covers dir.0) (λ r leaf is. named r leaf (ap (λ (d : Ino). Some d) (sym is))) before.came
