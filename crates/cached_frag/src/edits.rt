@@ -17,29 +17,30 @@ use mds_types::{Inode, Name};
 use sorted_map::{Finger, SortedMap};
 
 impl CachedFrag {
-    /// Gives a name this inode, whether it was there or not. The name is dirty then, at this version.
-    pub fn put(&mut self, name: Name, inode: Inode, version: u64)
+    /// Gives a name this inode, whether it was there or not. The name is dirty then, at this version. It is found at a
+    /// comparison or two where the finger is that of the name.
+    pub fn put(&mut self, near: &Finger, name: Name, inode: Inode, version: u64)
         requires recordable { IsRecordable inode }
         requires room { 0 < self.old.room }
         ensures marked { self.new ≡ marked self.old name (record { version = version; inode = Some inode }) }
         ensures shown { shown self.new ≡ map.insert (shown self.old) name inode }
     {
         let inode = Some(inode);
-        self.mark(name, Mark { version, inode });
+        self.mark(near, name, Mark { version, inode });
     }
 
-    /// Removes a name, whether it was there or not. The name is dirty then, at this version.
-    pub fn erase(&mut self, name: Name, version: u64)
+    /// Removes a name, whether it was there or not. The name is dirty then, at this version. It is found as by `put`.
+    pub fn erase(&mut self, near: &Finger, name: Name, version: u64)
         requires { 0 < self.old.room }
         ensures marked { self.new ≡ marked self.old name (record { version = version; inode = None }) }
         ensures shown { shown self.new ≡ map.remove (shown self.old) name }
     {
         let inode = None;
-        self.mark(name, Mark { version, inode });
+        self.mark(near, name, Mark { version, inode });
     }
 
     // Says what became of a name.
-    fn mark(&mut self, name: Name, mark: Mark)
+    fn mark(&mut self, near: &Finger, name: Name, mark: Mark)
         requires recordable { IfSome mark.inode IsRecordable }
         requires room { 0 < self.old.room }
         ensures marked { self.new ≡ marked self.old name mark }
@@ -48,8 +49,7 @@ impl CachedFrag {
         dirty_names_are_recorded(&name, &mark);
         let after = counted(mark.inode.as_ref());
         let below = counted(self.clean.get(&name));
-        let near = self.near.get();
-        let before = put_mark(&mut self.dirty, &near, name, mark, below);
+        let before = put_mark(&mut self.dirty, near, name, mark, below);
         self.counts = recounted(self.counts, before, after);
         self.room -= 1;
     }

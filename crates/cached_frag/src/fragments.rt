@@ -29,8 +29,6 @@ pub struct CachedFrag {
     pub(crate) counts: EntryCounts,
     // how many changes fit
     pub(crate) room: usize,
-    // where the two names were that were sought last among the dirty ones
-    pub(crate) near: Cell<Finger>,
 }
 
 impl Model for CachedFrag {
@@ -78,7 +76,6 @@ impl CachedFrag {
             dirty: SortedMap::new(alloc),
             counts: EntryCounts { files: 0, dirs: 0 },
             room: 0,
-            near: Cell::new(Finger::none()),
         }
     }
 
@@ -114,20 +111,20 @@ impl CachedFrag {
         !self.base.is_fresh() && self.dirty.len() == 0
     }
 
-    /// The inode that a name stands for, if it is there. Takes logarithmic time; where the name is changed next it is
-    /// found at a comparison or two.
-    pub fn look(&self, name: &Name) -> Option<&Inode>
+    /// The inode that a name stands for, if it is there. Takes logarithmic time. The finger is where the name is among
+    /// the dirty ones then, or would go: where it is changed next it is found there at a comparison or two.
+    pub fn look(&self, near: &Cell<Finger>, name: &Name) -> Option<&Inode>
         ensures found { option_copied result ≡ map.get (shown self.now) name.now }
         ensures recorded { IfSome (option_copied result) HasRecord }
     {
-        shown_in(&self.clean, &self.dirty, &self.near, name)
+        shown_in(&self.clean, &self.dirty, near, name)
     }
 
-    /// Whether a name is there: takes a comparison or two where it was sought last, else logarithmic time.
-    pub fn shows(&self, name: &Name) -> bool
+    /// Whether a name is there: takes a comparison or two where the finger is that of the name, else logarithmic time.
+    pub fn shows(&self, near: &Finger, name: &Name) -> bool
         ensures { result ≡ is_some (map.get (shown self.now) name.now) }
     {
-        shows_in(&self.clean, &self.dirty, &self.near.get(), name)
+        shows_in(&self.clean, &self.dirty, near, name)
     }
 
     /// A record allows what each of its names stands for: a law of the type, so nothing is done.

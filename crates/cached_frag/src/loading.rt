@@ -9,9 +9,8 @@ ghost use Rattle.cached_frag.specs.Cached.{AreEntries};
 use crate::bases::{Base, EntryCounts};
 use crate::fragments::CachedFrag;
 use mds_types::{Inode, Name};
-use sorted_map::{Finger, SortedMap};
+use sorted_map::SortedMap;
 use std::alloc::Global;
-use std::cell::Cell;
 
 impl CachedFrag {
     /// A fragment whose object spells these names at this commit version. Takes no memory.
@@ -34,7 +33,6 @@ impl CachedFrag {
             dirty: SortedMap::new(alloc),
             counts,
             room: 0,
-            near: Cell::new(Finger::none()),
         }
     }
 }

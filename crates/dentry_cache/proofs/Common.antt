@@ -10,7 +10,7 @@ pub use Rattle.cached_frag.specs.declared.bases.Base.{Base}
 pub use Rattle.cached_frag.specs.declared.bases.Base.TheVariants.{Fresh, Stored}
 pub use Rattle.cached_frag.specs.declared.jobs.Job.{Job}
 pub use Rattle.cached_frag.specs.declared.marks.Mark.{Mark}
-pub use Rattle.dentry_cache.specs.Cache.{HasCached, HasRoom, Held, IsChanged, IsThere, IsUsed, IsWritten, Leaf, NoneGoes, Places, cached, fragment_in, held, is_kept, leaf_cmp, leaf_is, may_go, used_as}
+pub use Rattle.dentry_cache.specs.Cache.{HasCached, HasRoom, Held, IsChanged, IsThere, IsUsed, IsWritten, Leaf, NoneGoes, Places, cached, fragment_in, held, is_kept, leaf_cmp, leaf_is, may_go, shows_in, used_as}
 pub use Rattle.dentry_cache.specs.CacheCalls.{Edits, IsAbsent, IsEdited, IsRefusedAt, IsRewritten, KeepsAt, MakesRoomAt, MayNotKeepAt, Rewrites, unclean_in}
 pub use Rattle.dentry_cache.specs.CacheMap.{AreAtOneRank, AreCaches, At, CacheMap, IsFreeFor, at_rank, cache_map, found, frag_at, given_up, has_place, held_of, here, less, no_cache, no_caches, order, orders, removed, rewritten, roomy, unclean, used_at, with_frag}
 pub use Rattle.dentry_cache.specs.CacheSplits.{AreAbsent, AreFillable, AreKept, IsButPlaces, IsChildAt, IsFamilyAt, IsKeptFor, IsReadyToSplit, KeepsChildren, ReadiesAt, SplitsAt, with_parts, with_unclean, without_children}

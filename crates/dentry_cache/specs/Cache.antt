@@ -1,5 +1,5 @@
 -- What a contract sees of a cache: its places, the most recently used first.
-use Rattle.std.specs.Prelude.{◌≡◌, ℕ, ◌<◌, ◌≤◌, ◌⊎◌, Bool, true, false, cond, not, ◌&&◌, List, [], ◌∷◌, ◌++◌, length, Option, Some, None}
+use Rattle.std.specs.Prelude.{◌≡◌, ℕ, ◌<◌, ◌≤◌, ◌⊎◌, Bool, true, false, cond, not, ◌&&◌, List, [], ◌∷◌, ◌++◌, length, Option, Some, None, is_some}
 use Rattle.std.specs.List.{AllByRecursion}
 use Rattle.std.specs.Map.{lookup, remove_entry, set_value}
 use Rattle.std.specs.FinMap as finmap
@@ -8,7 +8,7 @@ pub use Rattle.mds_types.specs.Leaf.{Leaf, leaf_cmp, leaf_is}
 use Rattle.cached_frag.specs.declared.bases.Base.{Base}
 use Rattle.cached_frag.specs.declared.bases.Base.TheVariants.{Fresh}
 use Rattle.cached_frag.specs.Marks.{Marks}
-use Rattle.cached_frag.specs.Cached.{Cached, is_clean}
+use Rattle.cached_frag.specs.Cached.{Cached, is_clean, shown}
 use Rattle.dentry_cache.specs.declared.cache.Place.{Place}
 
 -- the places, the most recently used first, and how many there may be
@@ -123,6 +123,11 @@ HasRoom (Some f) = 0 < f.room
 abbrev pub HasCached : Option Cached → (Cached → Type 0) → Type 0
 HasCached None P = ⊥
 HasCached (Some f) P = P f
+
+-- a fragment that is there shows a name
+abbrev pub shows_in : Option Cached → List ℕ → Bool
+shows_in None name = false
+shows_in (Some f) name = is_some (finmap.get (shown f) name)
 
 -- the fragment of a leaf was changed so, and is the most recently used; the other places are as they were
 abbrev pub IsChanged : Option Cached → (Cached → Cached → Type 0) → Leaf → Held → Held → Type 0

@@ -9,7 +9,9 @@ use crate::candidates::Candidates;
 use crate::place_lru::PlaceLru;
 use cached_frag::CachedFrag;
 use mds_types::{Frag, Ino};
+use sorted_map::Finger;
 use std::alloc::{AllocError, Global};
+use std::cell::Cell;
 use std::marker::Model;
 use std::num::NonZeroUsize;
 
@@ -28,6 +30,8 @@ pub struct Cache {
     pub(crate) places: PlaceLru,
     // what its rank would split or merge by the sizes of these
     pub(crate) candidates: Candidates,
+    // where the two names were that were sought last among the dirty ones of their fragments
+    pub(crate) near: Cell<Finger>,
 }
 
 impl Model for Cache {
@@ -56,6 +60,7 @@ impl Cache {
             Some(cap) => Ok(Cache {
                 places: PlaceLru::new(alloc, cap)?,
                 candidates: Candidates::new(alloc),
+                near: Cell::new(Finger::none()),
             }),
             None => unreachable!(),
         }

@@ -11,7 +11,7 @@ ghost use Rattle.cached_frag.specs.Cached.{Cached, shown};
 ghost use Rattle.cached_frag.specs.Moving.{TakesIn};
 ghost use Rattle.mds_types.specs.declared.refusals.Refusal.TheVariants.{NothingToEvict};
 ghost use Rattle.mds_types.specs.Leaf.{leaf_of};
-ghost use Rattle.dentry_cache.specs.Cache.{HasCached, HasRoom, IsThere};
+ghost use Rattle.dentry_cache.specs.Cache.{HasCached, HasRoom, IsThere, shows_in};
 ghost use Rattle.dentry_cache.specs.CacheCalls.{Edits, FetchesAt, IsAbsent, IsRefusedAt, IsWhole, KeepsAt, MakesRoomAt, MayNotFetchAt, MayNotKeepAt, Rewrites};
 ghost use Rattle.dentry_cache.specs.CacheMap.{AreCaches, IsFreeFor, evicted, frag_of, given_up, has_place, here, no_caches, order, used_at, with_frag, with_mark};
 ghost use Rattle.dentry_cache.specs.CacheSplits.{IsButPlaces, IsReadyAt};
@@ -104,6 +104,14 @@ impl Caches {
         ensures used { self.new ≡ used_at self.old at.rank.0 (leaf_of at) }
     {
         self.caches[at.rank.0 as usize].look(at.dir, at.frag, name)
+    }
+
+    /// Whether a leaf's fragment is there at its rank and shows a name. The order of use stays. Takes no memory.
+    pub fn shows(&self, at: Dirfrag, name: &Name) -> bool
+        requires { at.rank.0 < length self.now.used }
+        ensures { result ≡ shows_in (here self.now at.rank.0 (leaf_of at)) name.now }
+    {
+        self.caches[at.rank.0 as usize].shows(at.dir, at.frag, name)
     }
 
     /// Gives a name of a fragment this inode, whether it was there or not. The name is dirty then, at this version.

@@ -16,7 +16,7 @@ ghost use Rattle.dentry_cache.specs.Parting.{EachThen, Puts, is_place};
 use crate::parts::Part;
 use mds_types::{Frag, Inode, Name};
 use namehash::rjenkins;
-use sorted_map::SortedMap;
+use sorted_map::{Finger, SortedMap};
 
 /// The place, among the children of a fragment by so many bits, of the one that contains a name. A name of another
 /// fragment has none, or one behind all of them.
@@ -74,6 +74,8 @@ fn put_in(parts: &mut Vec<Part>, at: Option<usize>, name: Name, inode: Inode, ve
         return;
     };
     if at < parts.len() {
-        parts[at].fragment.put(name, inode, version);
+        parts[at]
+            .fragment
+            .put(&Finger::none(), name, inode, version);
     }
 }

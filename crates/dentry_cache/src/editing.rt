@@ -19,11 +19,12 @@ impl Cache {
             (λ (f now : Cached). now ≡ marked f name (record { version = version; inode = Some inode }))
             (dir, frag) self.old self.new }
     {
+        let near = self.near.get();
         let Some(place) = self.places.peek_mut(&(dir, frag)) else {
             return;
         };
         let was = place.size();
-        place.frag.put(name, inode, version);
+        place.frag.put(&near, name, inode, version);
         let now = place.size();
         self.candidates.resize(&self.places, &(dir, frag), was, now);
     }
@@ -36,11 +37,12 @@ impl Cache {
             (λ (f now : Cached). now ≡ marked f name (record { version = version; inode = None }))
             (dir, frag) self.old self.new }
     {
+        let near = self.near.get();
         let Some(place) = self.places.peek_mut(&(dir, frag)) else {
             return;
         };
         let was = place.size();
-        place.frag.erase(name, version);
+        place.frag.erase(&near, name, version);
         let now = place.size();
         self.candidates.resize(&self.places, &(dir, frag), was, now);
     }

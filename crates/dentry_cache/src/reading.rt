@@ -2,7 +2,7 @@
 ghost use Rattle.std.specs.Prelude.{◌≡◌, IfOk, option_copied};
 ghost use Rattle.std.specs.FinMap as map;
 ghost use Rattle.cached_frag.specs.Cached.{Cached, shown};
-ghost use Rattle.dentry_cache.specs.Cache.{HasCached, IsChanged, IsThere, cached};
+ghost use Rattle.dentry_cache.specs.Cache.{HasCached, IsChanged, IsThere, cached, shows_in};
 
 use crate::cache::Cache;
 use mds_types::{Frag, Ino, Inode, Name};
@@ -20,8 +20,18 @@ impl Cache {
     {
         let _ = self.touch(dir, frag);
         match self.get(dir, frag) {
-            Some(fragment) => copied(fragment.look(name)),
+            Some(fragment) => copied(fragment.look(&self.near, name)),
             None => Ok(None),
+        }
+    }
+
+    /// Whether a fragment that is there shows a name. The order of use stays.
+    pub fn shows(&self, dir: Ino, frag: Frag, name: &Name) -> bool
+        ensures { result ≡ shows_in (cached self.now.entries (dir, frag)) name.now }
+    {
+        match self.get(dir, frag) {
+            Some(fragment) => fragment.shows(&self.near.get(), name),
+            None => false,
         }
     }
 }

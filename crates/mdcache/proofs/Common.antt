@@ -42,7 +42,7 @@ pub use Rattle.dentry_cache.proofs.UncleanLaws.{any_tied, clean_there, get_uncle
 pub use Rattle.dentry_cache.proofs.UncleanPlaces.{few_taken}
 pub use Rattle.dentry_cache.proofs.UsedLaws.{loaded_clean}
 pub use Rattle.dentry_cache.proofs.WholeLaws.{none_given_up, none_rewrites, none_with_frag, none_with_mark, readies_whole, refused_whole, whole_given_up, whole_rewritten, whole_roomy, whole_used, whole_with_frag}
-pub use Rattle.dentry_cache.specs.Cache.{HasCached, HasRoom, IsThere, Leaf, Unsaved, leaf_is, unsaved_in, unsaved_of, with_unsaved}
+pub use Rattle.dentry_cache.specs.Cache.{HasCached, HasRoom, IsThere, Leaf, Unsaved, leaf_is, shows_in, unsaved_in, unsaved_of, with_unsaved}
 pub use Rattle.dentry_cache.specs.CacheCalls.{CanNotKeep, Edits, FetchesAt, IsAbsent, IsEdited, IsWhole, KeepsAt, KeepsNone, MakesRoomAt, MayNotFetchAt, MayNotKeepAt, Rewrites, going_at, kept_at, unclean_at, unclean_in}
 pub use Rattle.dentry_cache.specs.CacheMap.{AreCaches, At, CacheMap, IsFree, IsFreeFor, at, at_rank, clean_in, edited_as, evicted, first, given_up, goes, has_place, here, no_caches, order, removed, rewritten, roomy, unclean, unclean_of, unsaved_at, used_at, victim, with_frag}
 pub use Rattle.dentry_cache.specs.CacheSplits.{AreAbsent, AreKept, IsButPlaces, IsChildAt, IsFamilyAt, IsKeptFor, IsReadyToSplit, MayNotKeepAll, ReadsFamily, SplitsAt, SplitsInto, StaysAt, without_children}
@@ -88,7 +88,7 @@ pub use Rattle.mdcache.specs.CacheReads.{IsNewestOf, LacksPlacesIn}
 pub use Rattle.mdcache.specs.Changes.{Alters, IsAsItStands, IsNamed, Makes, PutsThen, TakesThen, dirtied, first_leaf, housed, just_made, leaves_in, noted_change, object_texts_of, rows_but, with_directory, with_home_at, with_name, with_new, with_objects, without_directory, without_gone_dir, without_leaves}
 pub use Rattle.mdcache.specs.Changing.{ChangesTree, IsChangedBy}
 pub use Rattle.mdcache.specs.Commits.{Begins, BeginsUnsaved, Drops, EndsJobOf, HasSpelled, IsAtEnd, IsDropped, IsEnded, MayNotBeginJob, committed, job_for, names_then, stored_with, with_job}
-pub use Rattle.mdcache.specs.Core.{AllCachedIn, Core, IsCachedIn, IsJobOf, IsNoLess, IsSoundCore, LacksPlacesAt, MayFetch, ReadsCore, Rooms, made_frag, named, pinned, shown_in, shows, shows_in, state_of, used_core, with_entry, with_job_in, without_dir, without_entry, without_frags}
+pub use Rattle.mdcache.specs.Core.{AllCachedIn, Core, IsCachedIn, IsJobOf, IsNoLess, IsSoundCore, LacksPlacesAt, MayFetch, ReadsCore, Rooms, made_frag, named, pinned, shown_in, shows, state_of, used_core, with_entry, with_job_in, without_dir, without_entry, without_frags}
 pub use Rattle.mdcache.specs.Flushed.{AreExact, ArePurged, BegunAreAtHand, BegunLeaveAtHand, EndedAreClean, FlushedIsCold, HasFragment, IsAtHand, IsFlushed, KeepsTree, OthersStayAtHand, PurgedAreExact, PurgedAreFlushed, StepsKeepTree}
 pub use Rattle.mdcache.specs.Frags.{KeepsState}
 pub use Rattle.mdcache.specs.Given.{GivenOverIsRight, HaveNoJobs, IsGivenOver}

@@ -11,7 +11,7 @@ use Rattle.objstore.specs.Objects.{Objects}
 use Rattle.cached_frag.specs.declared.bases.Base.TheVariants.{Fresh}
 use Rattle.cached_frag.specs.declared.jobs.Job.{Job}
 use Rattle.cached_frag.specs.Cached.{Cached, shown, snapshot_of}
-use Rattle.dentry_cache.specs.Cache.{Leaf}
+use Rattle.dentry_cache.specs.Cache.{Leaf, shows_in}
 use Rattle.dentry_cache.specs.CacheCalls.{KeepsNone}
 use Rattle.dentry_cache.specs.CacheMap.{At, CacheMap, IsFreeFor, here, unclean, used_at, with_frag, with_mark}
 use Rattle.dentry_cache.specs.Ended.{ended_all}
@@ -145,10 +145,6 @@ abbrev pub pinned : Core → Inode → Core
 pinned p inode = record p { pins = with_pin p.pins inode }
 
 -- a fragment that is there shows a name
-abbrev pub shows_in : Option Cached → List ℕ → Bool
-shows_in None name = false
-shows_in (Some f) name = is_some (map.get (shown f) name)
-
 abbrev pub shows : Core → Dirfrag → List ℕ → Bool
 shows p a name = shows_in (here p.caches a.rank.0 (leaf_of a)) name
 

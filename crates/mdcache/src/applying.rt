@@ -16,7 +16,6 @@ ghost use Rattle.mdcache.specs.Changes.{first_leaf};
 ghost use Rattle.mdcache.specs.Core.{moved_entry, named, pinned, shows, with_dir, with_entry, without_dir, without_entry};
 ghost use Rattle.mdcache.specs.Frags.{HasListRoom};
 
-use crate::changes::shows;
 use crate::mdcache::MdCache;
 use inode_table::Home;
 use mds_types::{Dirfrag, Frag, Ino, Inode, Name};
@@ -123,7 +122,7 @@ impl<S: Store + Drop> MdCache<S> {
         ensures moved { self.new ≡ without_dir (moved_entry self.old from.at from.name to.at to.name name inode) gone
             self.new.room }
     {
-        let stood = shows(&self.caches, &to.at, &to.name);
+        let stood = self.caches.shows(to.at, &to.name);
         self.erase(from.at, from.name);
         self.entry_moves(from.at.dir, to.at.dir, stood);
         let home = Home {

@@ -10,13 +10,12 @@ ghost use Rattle.dentry_cache.specs.CacheMap.{has_place, here};
 ghost use Rattle.inode_table.specs.Dirs.{MayCome, MayGo, MayMove, count_of, is_known};
 ghost use Rattle.inode_table.specs.TreeTable.{counts_moved, with_home};
 ghost use Rattle.mdcache.specs.Changes.{leaves_in};
-ghost use Rattle.mdcache.specs.Core.{named, pinned, shows_in, with_dir, with_entry, without_dir, without_entry, without_frags};
+ghost use Rattle.mdcache.specs.Core.{named, pinned, with_dir, with_entry, without_dir, without_entry, without_frags};
 ghost use Rattle.mdcache.specs.Frags.{HasListRoom};
 
 use crate::mdcache::MdCache;
 use crate::regrouping::object_name;
 use cached_frag::CachedFrag;
-use dentry_cache::Caches;
 use fragtree::FragTree;
 use inode_table::{Home, count_move};
 use mds_types::{Dirfrag, Frag, Ino, Inode, Name, ObjName, ObjText};
@@ -174,16 +173,5 @@ impl<S: Store + Drop> MdCache<S> {
         self.caches.end(dir, leaf);
         self.jobs.end(dir, leaf);
         self.purge.put(object_name(dir, leaf));
-    }
-}
-
-/// Whether a fragment that is there shows a name. Takes no memory, and no note of the use.
-pub(crate) fn shows(caches: &Caches, at: &Dirfrag, name: &Name) -> bool
-    requires { at.now.rank.0 < length caches.now.used }
-    ensures { result ≡ shows_in (here caches.now at.now.rank.0 (leaf_of at.now)) name.now }
-{
-    match caches.get(*at) {
-        Some(fragment) => fragment.shows(name),
-        None => false,
     }
 }
