@@ -1,9 +1,7 @@
 -- Names that go from one map to another, one after the other.
-use Rattle.std.proofs.Common.{◌≡◌, ℕ, ◌+◌, ◌-◌, ◌<◌, Bool, false, cond, ◌⊎◌, inl, inr, List, ◌∷◌, length, drop, Option, Some, None, refl, sym, ap, ◌∙◌, arith}
-use Rattle.std.specs.Prelude.{◌==◌}
+use Rattle.std.proofs.Common.{◌≡◌, ℕ, ◌+◌, ◌-◌, ◌<◌, Bool, cond, ◌⊎◌, inl, inr, List, ◌∷◌, length, drop, Option, Some, None, refl, sym, ap, ◌∙◌, arith}
 use Rattle.std.specs.FinMap as map
 use Rattle.std.specs.FinMap.{find, get-entries, len-entries}
-use Rattle.std.proofs.lemmas.Bool.{eq-eqb}
 use Rattle.sorted_map.specs.SortedMap.{first_pair}
 use Rattle.sorted_map.proofs.OverlayLaws.{popped, none_left}
 use Rattle.mds_types.specs.declared.inodes.Inode.{Inode}
@@ -11,11 +9,10 @@ use Rattle.objstore.specs.Omap.{key_cmp}
 use Rattle.dirfrag_codec.specs.FragmentObject.{Names}
 use Rattle.dirfrag_codec.proofs.ByteKeys.{get_beside, get_left, get_put, get_removed, key_itself, same_or_apart}
 use Rattle.cached_frag.specs.declared.marks.Mark.{Mark}
-use Rattle.cached_frag.specs.Marks.{Marks, patched, with_mark}
+use Rattle.cached_frag.specs.Marks.{with_mark}
 use Rattle.cached_frag.proofs.MarkLaws.{marked_beside, marked_here}
 use Rattle.cached_frag.specs.Cached.{AreEntries, Cached, IsEntry, marked, shown}
 use Rattle.cached_frag.specs.Moving.{marked_as, shown_as}
-use Rattle.cached_frag.proofs.SettledLaws.{taken_shown}
 use Rattle.cached_frag.proofs.ShownLaws.{shown_marked}
 
 -- ---- the first pair is taken out

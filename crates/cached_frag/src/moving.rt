@@ -11,7 +11,7 @@ use crate::fragments::CachedFrag;
 use crate::marks::Mark;
 use crate::settling::make_clean;
 use mds_types::{Inode, Name};
-use sorted_map::SortedMap;
+use sorted_map::{Finger, SortedMap};
 
 impl CachedFrag {
     /// The names that it shows, given away with their inodes. Takes no memory, where there is room for the dirty names
@@ -32,7 +32,7 @@ impl CachedFrag {
         ensures { Joins self.old self.new (contents key_cmp names) version }
     {
         while let Some(pair) = names.pop_first() {
-            self.put(pair.0, pair.1, version);
+            self.put(&Finger::none(), pair.0, pair.1, version);
         }
     }
 }
