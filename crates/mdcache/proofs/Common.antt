@@ -73,7 +73,7 @@ pub use Rattle.fragtree.proofs.TreeLaws.{first_or_later, later, merged_after_mer
 pub use Rattle.fragtree.specs.FragTree.{CanMerge, CanSplit, HasLeaf, IsChild, IsMerge, IsPick, IsSplit, IsTree, leaves_inside, lies_inside}
 pub use Rattle.inode_table.proofs.MoveLaws.{may_relocate, may_replace, moved_tabled, replaced_empty}
 pub use Rattle.inode_table.proofs.NotedLaws.{added_counted, moved_counted, none_counted, removed_counted, set_counted}
-pub use Rattle.mds_types.proofs.CountLaws.{none_counted}
+pub use Rattle.mds_types.proofs.CountLaws.{none_counted as told_none}
 pub use Rattle.inode_table.proofs.TableLaws.{above_is, added_tabled, dir_or_not, empty_tabled, known_is, leaves_kept, may_come, may_drop, no_pin, nothing_in, removed_tabled, set_tabled, with_dir, with_file}
 pub use Rattle.inode_table.proofs.Tables.{adopted_table, dropped_table, known_by, moved_table, set_table, still_known, tree_of_row}
 pub use Rattle.inode_table.proofs.TreeOrder.{all_trees, first_has_tree, first_tree_known, next_tree_after}

@@ -93,6 +93,11 @@ with_objects names (name ∷ more) = with_objects (map.insert names name tt) mor
 abbrev pub object_texts_of : State → Ino → List (List ℕ)
 object_texts_of s dir = tree_text dir ∷ each text_of (leaves s.covers dir.0)
 
+-- those of a directory that goes, if one does
+abbrev pub texts_gone : State → Option Ino → List (List ℕ)
+texts_gone s None = []
+texts_gone s (Some dir) = object_texts_of s dir
+
 -- a directory that goes has no home and no leaves; nothing of them is unsaved, no job stands for them, and all its
 -- objects are to be removed
 abbrev pub without_directory : State → Ino → State

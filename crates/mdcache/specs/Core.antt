@@ -21,10 +21,10 @@ use Rattle.mds_types.specs.declared.dirfrags.Dirfrag.{Dirfrag}
 use Rattle.inode_table.specs.declared.dirs.Home.{Home}
 use Rattle.inode_table.specs.Dirs.{Counts, Covers, DirPins, Homes, one_less, one_more}
 use Rattle.inode_table.specs.TreeTable.{counts_moved, with_home, with_pin}
-use Rattle.mdcache.specs.Changes.{object_texts_of, with_objects, without_leaves}
+use Rattle.mdcache.specs.Changes.{rows_but, texts_gone, with_objects, without_leaves}
 use Rattle.dentry_cache.specs.Reads.{Reads}
 use Rattle.mdcache.specs.CacheReads.{LacksPlacesIn}
-use Rattle.namespace_ops.specs.Changes.{leaves}
+use Rattle.namespace_ops.specs.Changes.{leaves_gone}
 use Rattle.mdcache.specs.Shown.{shown_tree}
 use Rattle.mdcache.specs.Sound.{IsSound}
 use Rattle.mdcache.specs.State.{IsLive, State, text_of}
@@ -181,15 +181,16 @@ without_frags p leaves room = record p {
 
 -- a directory went, or none: all its leaves ended, and the object of its tree is to be removed too
 abbrev pub without_dir : Core → Option Ino → Rooms → Core
-without_dir p None room = record p { room = room }
-without_dir p (Some dir) room =
-    record (without_frags p (leaves p.covers dir.0) room) {
-      homes = map.remove p.homes dir.0;
-      covers = map.remove p.covers dir.0;
-      counts = map.remove p.counts dir.0;
-      pins = map.remove p.pins dir.0;
-      purge = with_objects p.purge (object_texts_of (state_of p) dir);
-    }
+without_dir p gone room = record p {
+  homes = rows_but p.homes gone;
+  covers = rows_but p.covers gone;
+  counts = rows_but p.counts gone;
+  pins = rows_but p.pins gone;
+  caches = ended_all p.caches (leaves_gone p.covers gone);
+  jobs = without_leaves p.jobs (leaves_gone p.covers gone);
+  purge = with_objects p.purge (texts_gone (state_of p) gone);
+  room = room;
+}
 
 -- a leaf was used
 abbrev pub used_core : Core → Dirfrag → Rooms → Core

@@ -95,11 +95,12 @@ impl<S: Store + Drop> MdCache<S> {
         requires number { self.old.next_generation < 2 ^ 64 - 1 }
         ensures { self.new ≡ with_dir self.old at home self.new.room }
     {
+        let object = object_name(at.dir, at.frag);
         self.dirs.adopt(at.dir, home);
         self.caches
             .fill(at, CachedFrag::fresh(alloc, self.next.generation));
         self.next.generation += 1;
-        self.purge.remove(&object_name(at.dir, at.frag));
+        self.purge.remove(&object);
     }
 
     /// An inode that came to a name of a directory has its home there, if it is a directory itself. Takes no memory.

@@ -1,4 +1,5 @@
-use Rattle.mdcache.proofs.Common.{Core, Fragment, List, ap, arith, drop, leaves_in, length, suc, sym, without_frags, ◌+◌, ◌∙◌, ◌∷◌, ◌≡◌}
+use Rattle.mdcache.proofs.Common.{Core, Fragment, List, [], ap, arith, drop, leaves_in, length, suc, sym, without_frags, ◌+◌, ◌∙◌, ◌∷◌, ◌≡◌}
+use Rattle.std.proofs.lemmas.List.{drop_all}
 use Rattle.mdcache.proofs.JoinLaws.{next_of}
 use Rattle.mdcache.proofs.mdcache.MdCache.end_leaves.Goals as goal
 
@@ -19,3 +20,8 @@ loop-leaf-preserved g c =
       room = omega (arith, inv.room, ap (length {A = Fragment}) steps, c.end_leaf.ensures.room);
       none = c.end_leaf.ensures.none;
     }
+
+pub returns-clause-ended : goal.returns-clause-ended
+returns-clause-ended g c =
+    let none : drop c.loop-leaf.leaf-index c.args.leaves.now ≡ [] = drop_all c.loop-leaf.leaf-index c.args.leaves.now (omega (arith, c.loop-leaf-test.false)) in
+    sym (ap (λ (fs : List Fragment). without_frags c.loop-leaf.self (leaves_in c.args.dir fs) c.loop-leaf.self.room) none) ∙ c.loop-leaf.invariant.ended c.loop-leaf.self.room

@@ -15,3 +15,6 @@ loop-leaf-preserved g c =
       room = omega (arith, inv.room, ap (length {A = Fragment}) c.in-Some.ensures.steps, c.end_leaf.ensures.room);
       none = c.end_leaf.ensures.none;
     }
+
+pub returns-clause-ended : goal.returns-clause-ended
+returns-clause-ended g c = sym (ap (λ (fs : List Fragment). without_frags c.loop-leaf.self (leaves_in c.args.dir fs) c.loop-leaf.self.room) c.in-None.ensures.steps.0) ∙ c.loop-leaf.invariant.ended c.loop-leaf.self.room
