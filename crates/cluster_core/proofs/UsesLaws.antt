@@ -74,7 +74,7 @@ changed_uses old new roots op change one is = (
 )
   where
     asks : (r : ℕ) (q : Leaf) → AsksFor (tree_state old) roots (NamesDir change) r q → Asks (tree_state old) roots op r q
-    asks r q (inl held) = inl (change_concerns (shown_tree (tree_state old)) (shape op) change one q.0.0 held.0, held.1)
+    asks r q (inl held) = inl (change_concerns (shape op) change one q.0.0 held.0, held.1)
     asks r q (inr comes) = inr comes
 
 -- what applying a request makes of the caches after reads for it, said of what was before them

@@ -1,5 +1,5 @@
 -- What a change makes, once its steps are known.
-use Rattle.mdcache.proofs.Common.{AllCachedIn, Bool, Cached, Came, Change, Core, Dirfrag, EndsWith, HasCached, HasNumber, HasRoom, HasSpace, Ino, Inode, IsChangedBy, IsKeptFor, IsNamedIn, IsRightChange, IsSound, IsSoundCore, IsThere, KeepsNone, KeepsOnlyAt, Leaf, List, Makes, MayChange, None, NoneEnds, Option, Rank, ReadsCore, Rooms, Some, Spot, State, adds, ap, arith, cond, count_of, counts_moved, dentry_at, false, first_leaf, here, home_at, inl, inr, is_dir_kind, is_some, leaf_of, length, made_frag, may_come, moves, named, one_less, one_more, pinned, refl, removes, root_fragment, rows_but, sets, shown_in, shown_tree, shows, state_of, subst, sym, text_of, true, unclean_with, with_directory, with_entry, with_home, with_new, with_pin, without_gone_dir, without_dir, without_entry, ℕ, ◌-◌, ◌<◌, ◌==◌, ◌^◌, ◌∙◌, ◌≡◌}
+use Rattle.mdcache.proofs.Common.{AllCachedIn, Bool, Cached, Came, Change, Core, Dirfrag, EndsWith, HasCached, HasNumber, HasRoom, HasSpace, Ino, Inode, IsChangedBy, IsKeptFor, IsNamedIn, IsRightChange, IsSound, IsSoundCore, IsThere, KeepsNone, KeepsOnlyAt, Leaf, List, Makes, MayChange, None, NoneEnds, Option, Rank, ReadsCore, Rooms, Some, Spot, State, adds, ap, arith, cond, count_of, counts_moved, dentry_at, false, first_leaf, here, home_at, inl, inr, is_dir_kind, is_some, leaf_of, length, made_frag, may_come, moves, named, one_less, one_more, pinned, refl, removes, root_fragment, rows_but, sets, shown_in, shown_tree, shows, state_of, subst, sym, true, unclean_with, with_directory, with_entry, with_home, with_new, with_pin, without_gone_dir, without_dir, without_entry, ℕ, ◌-◌, ◌<◌, ◌==◌, ◌^◌, ◌∙◌, ◌≡◌}
 use Rattle.std.specs.FinMap as map
 use Rattle.mdcache.specs.Core.{moved_entry, with_dir}
 use Rattle.mdcache.proofs.ChangeLaws.{changes_are_right}

@@ -1,6 +1,6 @@
 -- The names of leaves, taken into a fragment one leaf after the other; and the leaves that end with a merge.
 use Rattle.mdcache.proofs.Common.{Bool, Cached, Contains, ContainsFragment, Fragment, HasJoined, HasLeaf, Ino, IsTrue, Leaf, List, Names, TakesIn, [], and_from, and_parts, ap, arith, both_ways, cond, drop, drop-cons, each, eq-eqb, eqb-true, false, filter-append, get_or, in_directory, later, leaves_in, leaves_inside, length, lies_inside, lt-ltb, marked_as, name_joined, nat_lt, refl, span, suc, sym, true, zero, ℕ, ◌++◌, ◌+◌, ◌/◌, ◌<◌, ◌==◌, ◌↔◌, ◌∙◌, ◌∷◌, ◌≡◌}
-use Rattle.std.proofs.lemmas.List.{append-nil, append_assoc, map-append}
+use Rattle.std.proofs.lemmas.List.{append-nil, append_assoc}
 use Rattle.std.specs.FinMap as map
 use Rattle.mdcache.proofs.GoneLaws.{contains_mapped}
 use Rattle.mdcache.proofs.SplitLaws.{has_inside, not_itself}

@@ -1,7 +1,6 @@
 -- What a contract sees of a purge list.
-use Rattle.std.specs.Prelude.{◌≡◌, ℕ, List, Option, Some, None}
+use Rattle.std.specs.Prelude.{ℕ, List, Option}
 use Rattle.std.specs.Option.{option_map}
-use Rattle.std.specs.FinMap as map
 use Rattle.objstore.specs.Omap.{Keys}
 use Rattle.sorted_map.specs.SortedMap.{first_pair}
 

@@ -10,7 +10,7 @@ ghost use Rattle.objstore.specs.Objects.{faults_told};
 ghost use Rattle.mds_types.specs.declared.refusals.Refusal.TheVariants.{NoMemory};
 ghost use Rattle.fragtree.specs.FragTree.{CanSplit, IsSplit, IsTree};
 ghost use Rattle.cached_frag.specs.Cached.{Cached, shown};
-ghost use Rattle.dentry_cache.specs.Cache.{HasCached, Leaf, leaf_is};
+ghost use Rattle.dentry_cache.specs.Cache.{HasCached, IsThere, Leaf, leaf_is};
 ghost use Rattle.dentry_cache.specs.CacheCalls.{IsWhole, KeepsNone};
 ghost use Rattle.dentry_cache.specs.CacheMap.{here, order};
 ghost use Rattle.dentry_cache.specs.CacheSplits.{AreKept, IsChildAt, IsFamilyAt, IsReadyAt, SplitsInto, without_children};

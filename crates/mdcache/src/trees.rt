@@ -7,7 +7,7 @@ ghost use Rattle.mdcache.specs.Core.{IsSoundCore, state_of};
 
 use crate::mdcache::MdCache;
 use crate::tree_objects::save_tree;
-use mds_types::{Ino, ObjName, ObjText, Refusal};
+use mds_types::{Ino, ObjName, ObjText, Refusal, Spelt};
 use objstore::Store;
 use std::alloc::Global;
 
@@ -27,11 +27,12 @@ impl<S: Store + Drop> MdCache<S> {
         if !self.dirs.contains(dir) {
             return Err(Refusal::NoSuchFrag);
         }
-        let text = ObjName::Tree(dir).to_text(alloc)?;
+        let text = Spelt::of(ObjName::Tree(dir));
         if let Err(refusal) = save_tree(alloc, &self.dirs, &mut self.store, dir, text.as_str()) {
             return Err(refusal);
         }
-        self.purge.remove(&ObjText::of(ObjName::Tree(dir)));
+        let listed = ObjText::of(ObjName::Tree(dir));
+        self.purge.remove(&listed);
         Ok(())
     }
 }

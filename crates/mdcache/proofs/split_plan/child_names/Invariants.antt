@@ -1,5 +1,4 @@
 -- The names are those of the objects of the children that were passed.
-use Rattle.mdcache.proofs.Common.{each}
 use Rattle.mdcache.proofs.ChildNames.{NameFirst}
 use Rattle.mdcache.proofs.split_plan.child_names.Given as goal
 

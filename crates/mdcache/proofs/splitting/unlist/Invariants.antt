@@ -1,5 +1,4 @@
 use Rattle.mdcache.proofs.Common.{drop, without_objects, ◌≡◌}
-use Rattle.std.proofs.Common.{map as each}
 use Rattle.mdcache.proofs.splitting.unlist.Given as goal
 
 abbrev pub invariant-loop-name : goal.invariant-loop-name

@@ -1,4 +1,4 @@
-use Rattle.mdcache.proofs.Common.{Core, Fragment, List, [], ap, arith, drop, leaves_in, length, suc, sym, without_frags, ◌+◌, ◌∙◌, ◌∷◌, ◌≡◌}
+use Rattle.mdcache.proofs.Common.{Core, Fragment, List, [], ap, arith, drop, leaves_in, length, sym, without_frags, ◌+◌, ◌∙◌, ◌∷◌, ◌≡◌}
 use Rattle.std.proofs.lemmas.List.{drop_all}
 use Rattle.mdcache.proofs.JoinLaws.{next_of}
 use Rattle.mdcache.proofs.mdcache.MdCache.end_leaves.Goals as goal

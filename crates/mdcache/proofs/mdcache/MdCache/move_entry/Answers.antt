@@ -1,8 +1,8 @@
-use Rattle.mdcache.proofs.Common.{Cached, Core, HasCached, IfSome, Ino, Inode, IsRecordable, List, MayChange, MayGo, MayMove, Names, Option, ap, dentry_at, here, leaf_of, length, moves, shown_in, state_of, subst, sym, with_home, ℕ, ◌<◌, ◌∙◌}
+use Rattle.mdcache.proofs.Common.{Cached, Core, HasCached, IfSome, Ino, Inode, IsRecordable, List, MayGo, MayMove, Names, Option, ap, dentry_at, here, leaf_of, length, moves, state_of, subst, sym, with_home, ℕ, ◌<◌, ◌∙◌}
 use Rattle.std.specs.FinMap as map
 use Rattle.cached_frag.specs.Cached.{shown as shown_of}
 use Rattle.mdcache.proofs.ChangeLaws.{entry_known}
-use Rattle.mdcache.proofs.ChangesMade.{IsDone, after_reads, counts_fit, entry_moved, may_still}
+use Rattle.mdcache.proofs.ChangesMade.{after_reads, counts_fit, entry_moved, may_still}
 use Rattle.mdcache.proofs.HomeLaws.{relocates, replaces}
 use Rattle.mdcache.proofs.CoreLaws.{dir_known, of_names, there_after}
 use Rattle.mdcache.proofs.PrepareLaws.{dir_live, entry_live, shows_entry}

@@ -1,4 +1,4 @@
-use Rattle.mdcache.proofs.Common.{Core, IsThat, Leaf, NoneEnds, Table, ap, arith, first_leaf, leaf_of, option_map, rules, ℕ, ⊎_elim, ◌<◌, ◌⊎◌}
+use Rattle.mdcache.proofs.Common.{Core, IsThat, Leaf, NoneEnds, Table, ap, arith, first_leaf, leaf_of, rules, ℕ, ⊎_elim, ◌<◌, ◌⊎◌}
 use Rattle.mdcache.proofs.CoreLaws.{dirs_grown, grown_refused, grown_sound, grows_by, not_ready, on_err_so, reads_cached_so, reads_core_on, reads_itself, reads_sound_so, still_absent}
 use Rattle.mdcache.proofs.PrepareLaws.{first_live_so, first_nowhere}
 use Rattle.mdcache.proofs.mdcache.MdCache.ready_directory.Goals as goal
