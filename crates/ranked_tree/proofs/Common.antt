@@ -69,14 +69,13 @@ pub use Rattle.mdcache.proofs.NewLaws.{live_root, new_none, no_covers, no_homes,
 pub use Rattle.mdcache.proofs.NoNames.{all_pass, no_name, none_unless, some_fails, some_name}
 pub use Rattle.mdcache.proofs.SplitLaws.{has_inside}
 pub use Rattle.mdcache.proofs.UncleanOf.{few_lack, get_unclean_of}
-pub use Rattle.mdcache.specs.Changes.{Alters, Makes, first_leaf, with_directory, with_home_at, without_gone_dir, without_leaves}
+pub use Rattle.mdcache.specs.Changes.{Alters, Makes, first_leaf, rows_but, with_directory, with_home_at, without_gone_dir, without_leaves}
 pub use Rattle.mdcache.specs.Changing.{IsChangedBy}
 pub use Rattle.mdcache.specs.Commits.{Begins, BeginsUnsaved, Drops, EndsJobOf}
 pub use Rattle.mdcache.specs.Core.{Core, IsSoundCore, LacksPlacesAt, ReadsCore, shown_in, state_of}
 pub use Rattle.mdcache.specs.Flushed.{HasFragment}
 pub use Rattle.mdcache.specs.Frags.{KeepsState, LacksBy, LacksForIn, LacksPlacesBy, LacksPlacesOf, LacksToMake, dir_moving}
 pub use Rattle.mdcache.specs.Given.{HaveNoJobs, IsGivenOver}
-pub use Rattle.mdcache.specs.Going.{rows_but}
 pub use Rattle.mdcache.specs.Joining.{IsAmongOr}
 pub use Rattle.mdcache.specs.Made.{IsRightChange}
 pub use Rattle.mdcache.specs.Mounted.{Mounts}

@@ -1,5 +1,5 @@
 -- What reads of a directory's leaves make of the caches, one after the other.
-use Rattle.ranked_tree.proofs.Common.{AreHeldAt, AsksFor, Change, Concerns, ConcernsIn, Core, Dentry, Inode, IsChangeIn, IsNamedIn, IsSound, KeepsRanked, KeepsState, Leaf, MayChange, Moves, NamesBy, NamesDir, None, NoneEnds, Op, Option, PutsAt, Ranked, Reads, ReadsFor, Refusal, Removes, Roots, Sets, Some, Spot, State, LosesName, Tree, Unlinks, ap, dentry_at, false, held_roots, inl, inr, is_known, keeps_on, may_come, reads_then, reads_weaker, rules, shape_of, shown_tree, state_of, subst, sym, ℕ, ⊎_elim, ◌∙◌, ◌≡◌}
+use Rattle.ranked_tree.proofs.Common.{AreHeldAt, AsksFor, Change, Concerns, ConcernsIn, Core, Dentry, Inode, IsChangeIn, IsNamedIn, IsSound, KeepsRanked, KeepsState, Leaf, MayChange, Moves, NamesBy, NamesDir, None, NoneEnds, Op, Option, PutsAt, Ranked, Reads, ReadsFor, Refusal, Removes, Roots, Sets, Some, Spot, State, LosesName, Unlinks, ap, dentry_at, false, held_roots, inl, inr, is_known, keeps_on, may_come, reads_then, reads_weaker, rules, shape_of, shown_tree, state_of, subst, sym, ℕ, ⊎_elim, ◌∙◌, ◌≡◌}
 use Rattle.mds_types.specs.Shape.{Shape as OpShape, Makes}
 use Rattle.ranked_tree.proofs.AskLaws.{held_still}
 use Rattle.ranked_tree.proofs.HolderLaws.{is_unknown, named_by}

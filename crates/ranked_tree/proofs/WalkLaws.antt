@@ -1,5 +1,5 @@
 -- What a walk over the leaves of a directory finds.
-use Rattle.ranked_tree.proofs.Common.{Bool, Contains, Fragment, HasLeaf, Ino, Inode, IsPick, IsSound, List, Names, None, Some, State, [], all_pass, ap, cond, dentry_of, entries_there, false, find, first_has, has_entries, has_none, hash_of, is_known, key_cmp, key_itself, later_has, leaves_of, list_all, names_after, names_are_listed, names_of, no_entries_listed, no_name, not, refl, shown_tree, some_fails, some_name, some_pick, sound_leaves, stands_at, subst, sym, tree_of_row, true, ℕ, ◌&&◌, ◌∙◌, ◌∷◌, ◌≡◌}
+use Rattle.ranked_tree.proofs.Common.{Contains, Fragment, HasLeaf, List, first_has, later_has, subst, sym, ◌∷◌, ◌≡◌}
 
 -- ---- leaf by leaf
 

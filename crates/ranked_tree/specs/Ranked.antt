@@ -8,10 +8,9 @@ use Rattle.export_steps.specs.Standing.{Standing}
 use Rattle.namespace_ops.specs.Changes.{Concerns}
 use Rattle.subtree_map.specs.Authority.{Leaf, Roots}
 use Rattle.subtree_map.specs.Changes.{Subtrees}
-use Rattle.mdcache.specs.Core.{Core, state_of}
+use Rattle.mdcache.specs.Core.{Core}
 use Rattle.mdcache.specs.Frags.{KeepsState, MayRefuse as MayRefuseIn}
 use Rattle.mdcache.specs.New.{root_leaf}
-use Rattle.mdcache.specs.Shown.{shown_tree}
 use Rattle.ranked_tree.specs.Held.{LacksPlacesAsked, ReadsFor}
 
 -- the tree over its caches and store, its subtree roots, and the exports that stand
