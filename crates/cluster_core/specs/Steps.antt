@@ -20,7 +20,7 @@ use Rattle.cluster_core.specs.Exporting.{CancelsExport, FinishesExport, FreezesE
 use Rattle.inboxes.specs.Inboxes.{first_waiting, waiting_at, with_last}
 use Rattle.cluster_core.specs.Grants.{GrantsWaiting}
 use Rattle.cluster_core.specs.Master.{IsHolder}
-use Rattle.cluster_core.specs.State.{Core, LacksPlacesAt, State, held_roots, shown}
+use Rattle.cluster_core.specs.State.{Core, LacksPlacesAt, State, held_roots}
 use Rattle.cluster_core.specs.Serve.{IsLeft, ServesInbox}
 use Rattle.cluster_core.specs.Uses.{UsesFront, UsesWaiting}
 use Rattle.ranked_tree.specs.Subtrees.{KeepsOutside}
