@@ -1,6 +1,6 @@
 //! `PlaceLru`: the places of a cache in the order of their use. Each stands in a slot, and the order keeps the slot's
 //! number alone, so a place that was found is found again, and lent for a change, with no key hashed.
-ghost use Rattle.std.specs.Prelude.{◌≡◌, ◌<◌, ◌≤◌, ◌∷◌, true, None, [], OnErr, OnOk, length, slice_get, is_some, IfOk, option_map, option_copied};
+ghost use Rattle.std.specs.Prelude.{◌≡◌, ◌<◌, ◌≤◌, ◌∷◌, true, None, [], OnErr, OnOk, length, slice_get, is_some, IfOk, IfSome, option_map, option_copied};
 ghost use Rattle.std.specs.Option.{option_copied_mut};
 ghost use Rattle.std.specs.Borrow.{sem};
 ghost use Rattle.std.specs.NonZero.{non_zero_usize_get};
@@ -205,7 +205,8 @@ impl PlaceLru {
     }
 }
 
-// The slot of a leaf's place. Mostly it is one of the two that were found last, and then no key is hashed.
+// The slot of a leaf's place. Mostly it is one of the two that were found last, or the one behind, and then no key is
+// hashed.
 #[inline(always)]
 fn slot_of(
     order: &LruCache<(Ino, Frag), usize>,
@@ -234,9 +235,9 @@ fn slot_beside(
     requires { AreSlotted slots.now order.now.entries }
     ensures { result ≡ lookup (leaf_is leaf.now) order.now.entries }
 {
-    let before = near.get().before;
-    if stands_in(slots, before, leaf) {
-        return Some(before);
+    if let Some(slot) = slot_near(slots, near.get(), leaf) {
+        note(near, slot);
+        return Some(slot);
     }
     match order.peek(leaf) {
         Some(slot) => {
@@ -245,6 +246,25 @@ fn slot_beside(
         }
         None => None,
     }
+}
+
+// The slot of a leaf's place, if it is that of the place that was found before the last one, or stands behind one of
+// these two: directories are often asked for in the order in which they came.
+fn slot_near(slots: &[Slot], seen: Near, leaf: &(Ino, Frag)) -> Option<usize>
+    ensures { IfSome result (λ i. (i < length slots.now) × ((slot_at slots.now i).leaf ≡ leaf.now)) }
+{
+    if stands_in(slots, seen.before, leaf) {
+        return Some(seen.before);
+    }
+    let behind = seen.before.wrapping_add(1);
+    if stands_in(slots, behind, leaf) {
+        return Some(behind);
+    }
+    let behind = seen.last.wrapping_add(1);
+    if stands_in(slots, behind, leaf) {
+        return Some(behind);
+    }
+    None
 }
 
 // Whether there is a slot of this number, and a leaf's place stands in it.

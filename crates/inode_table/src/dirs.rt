@@ -61,7 +61,7 @@ pub struct Dirs {
     root: Option<BoxedTree>,
     in_root: u64,
     pub(crate) below: SortedMap<u64, Directory>,
-    // where the two rows were in which a name was located last: a change of one of them finds it again there
+    // where the two rows were that were asked for last: a change of one of them finds it again there
     near: Cell<Finger>,
 }
 
@@ -178,7 +178,7 @@ impl Dirs {
                 leaves,
             });
         }
-        let row = self.below.get_noting(&self.near, &dir.0)?;
+        let row = self.below.get_near_noting(&self.near, &dir.0)?;
         let leaves = tree_of(&row.leaves);
         Some(LeafAt {
             frag: picked(leaves, hash),
@@ -195,7 +195,7 @@ impl Dirs {
         if dir == Ino::ROOT {
             return self.in_root;
         }
-        match self.below.get_noting(&self.near, &dir.0) {
+        match self.below.get_near_noting(&self.near, &dir.0) {
             Some(row) => row.entries,
             None => 0,
         }

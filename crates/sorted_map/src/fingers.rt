@@ -50,6 +50,16 @@ impl<K: ExactOrd, V> SortedMap<K, V> {
         }
     }
 
+    /// The same, but the places of the finger are tried first: for keys that cost little to compare, or come again at once.
+    pub fn get_near_noting<Q: Probe<K>>(&self, near: &Cell<Finger>, q: &Q) -> Option<&V>
+        ensures { option_copied result ≡ map.get (contents K.cmp self.now) (Q.key q.now) }
+    {
+        match &self.store {
+            Store::Flat(flat) => flat.get(q),
+            Store::Chunked(chunked) => chunked.get_near_noting(near, q),
+        }
+    }
+
     /// The value of the key, as `get` finds it. The finger stays.
     pub fn get_near<Q: Probe<K>>(&self, near: &Finger, q: &Q) -> Option<&V>
         ensures { option_copied result ≡ map.get (contents K.cmp self.now) (Q.key q.now) }
@@ -72,6 +82,19 @@ impl<K: ExactOrd + Drop, V: Drop> SortedMap<K, V> {
         match &mut self.store {
             Store::Flat(flat) => flat.insert(key, value),
             Store::Chunked(chunked) => chunked.insert_near(near, key, value),
+        }
+    }
+
+    /// The same. In a large map the finger is where the key was found then, or went.
+    pub fn insert_noting(&mut self, near: &Cell<Finger>, key: K, value: V) -> Option<V>
+        requires { map.get (contents K.cmp self.old) key ≡ None → 0 < self.old.room }
+        ensures value { result ≡ map.get (contents K.cmp self.old) key }
+        ensures inserted { contents K.cmp self.new ≡ map.insert (contents K.cmp self.old) key value }
+        ensures room { (if is_some result then self.old.room else self.old.room - 1) ≤ self.new.room }
+    {
+        match &mut self.store {
+            Store::Flat(flat) => flat.insert(key, value),
+            Store::Chunked(chunked) => chunked.insert_noting(near, key, value),
         }
     }
 

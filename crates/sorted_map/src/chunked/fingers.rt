@@ -34,15 +34,28 @@ impl<K: ExactOrd, V> ChunkMap<K, V> {
         }
     }
 
+    /// The same, but the places of the finger are tried first.
+    pub fn get_near_noting<Q: Probe<K>>(&self, near: &Cell<Finger>, q: &Q) -> Option<&V>
+        ensures { option_copied result ≡ map.get (contents K.cmp self.now) (Q.key q.now) }
+    {
+        let row = self.chunks.row();
+        match spot_near(row, &near.get(), q) {
+            (home, Ok(at)) => {
+                note(near, home, at);
+                Some(&row[home].pairs()[at].1)
+            }
+            (home, Err(at)) => {
+                note(near, home, at);
+                None
+            }
+        }
+    }
+
     /// The value of the key.
     pub fn get_near<Q: Probe<K>>(&self, near: &Finger, q: &Q) -> Option<&V>
         ensures { option_copied result ≡ map.get (contents K.cmp self.now) (Q.key q.now) }
     {
-        let row = self.chunks.row();
-        match spot_near(row, near, q) {
-            (home, Ok(at)) => Some(&row[home].pairs()[at].1),
-            (_, Err(_)) => None,
-        }
+        self.get_near_noting(&Cell::new(*near), q)
     }
 }
 
@@ -54,9 +67,23 @@ impl<K: ExactOrd + Drop, V: Drop> ChunkMap<K, V> {
         ensures inserted { contents K.cmp self.new ≡ map.insert (contents K.cmp self.old) key value }
         ensures room { (if is_some result then self.old.room else self.old.room - 1) ≤ self.new.room }
     {
-        match spot_near(self.chunks.row(), near, &key) {
-            (home, Ok(at)) => Some(put_value(&mut self.chunks, home, at, value)),
+        self.insert_noting(&Cell::new(*near), key, value)
+    }
+
+    /// The same; the finger is where the key was found then, or went.
+    pub fn insert_noting(&mut self, near: &Cell<Finger>, key: K, value: V) -> Option<V>
+        requires { map.get (contents K.cmp self.old) key ≡ None → 0 < self.old.room }
+        ensures value { result ≡ map.get (contents K.cmp self.old) key }
+        ensures inserted { contents K.cmp self.new ≡ map.insert (contents K.cmp self.old) key value }
+        ensures room { (if is_some result then self.old.room else self.old.room - 1) ≤ self.new.room }
+    {
+        match spot_near(self.chunks.row(), &near.get(), &key) {
+            (home, Ok(at)) => {
+                note(near, home, at);
+                Some(put_value(&mut self.chunks, home, at, value))
+            }
             (home, Err(at)) => {
+                note(near, home, at);
                 put_new(&mut self.chunks, home, at, (key, value));
                 None
             }
@@ -77,16 +104,16 @@ impl<K: ExactOrd + Drop, V: Drop> ChunkMap<K, V> {
     }
 }
 
-// A key was sought, and found at this place.
+// A key was sought, and found at this place. Where it was the last one already, the one before stays too.
 fn note(near: &Cell<Finger>, home: usize, at: usize) {
     let before = near.get().last;
-    near.set(Finger {
-        last: Spot {
-            home: u32::try_from(home).unwrap_or(u32::MAX),
-            at: u32::try_from(at).unwrap_or(u32::MAX),
-        },
-        before,
-    });
+    let last = Spot {
+        home: u32::try_from(home).unwrap_or(u32::MAX),
+        at: u32::try_from(at).unwrap_or(u32::MAX),
+    };
+    if last.home != before.home || last.at != before.at {
+        near.set(Finger { last, before });
+    }
 }
 
 // The chunk of the probe's key and its place there, or that where it would go, as `spot_from_end` finds them.

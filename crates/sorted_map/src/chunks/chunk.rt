@@ -16,7 +16,7 @@ pub const HALF: usize = 32;
 
 /// How many pairs the last chunk of a row gets before another one is opened behind it. The places that are left take
 /// those which come between later: with none left each of them would part a chunk, and move all the chunks behind it.
-pub(crate) const FILLED: usize = 56;
+pub(crate) const FILLED: usize = 58;
 
 /// Some pairs, at most 64, in the order in which they stand. Seen by the pairs alone.
 #[derive(Debug, Drop)]

@@ -9,8 +9,8 @@ returns-then-eq c = rw (← c.self.view_is) (sym (count_at_root c.self.inside.in
 
 pub returns-in-Some : goal.returns-in-Some
 returns-in-Some c =
-    rw (← c.self.view_is) (sym (count_at_row c.self.inside.in_root _ c.args.dir.0 (are_apart _ _ c.if-eq.ensures) ∙ ap (λ r. or_zero (count_in r)) (sym c.get_noting.ensures ∙ ap option_copied c.in-Some.is)))
+    rw (← c.self.view_is) (sym (count_at_row c.self.inside.in_root _ c.args.dir.0 (are_apart _ _ c.if-eq.ensures) ∙ ap (λ r. or_zero (count_in r)) (sym c.get_near_noting.ensures ∙ ap option_copied c.in-Some.is)))
 
 pub returns-in-None : goal.returns-in-None
 returns-in-None c =
-    rw (← c.self.view_is) (sym (count_at_row c.self.inside.in_root _ c.args.dir.0 (are_apart _ _ c.if-eq.ensures) ∙ ap (λ r. or_zero (count_in r)) (sym c.get_noting.ensures ∙ ap option_copied c.in-None.is)))
+    rw (← c.self.view_is) (sym (count_at_row c.self.inside.in_root _ c.args.dir.0 (are_apart _ _ c.if-eq.ensures) ∙ ap (λ r. or_zero (count_in r)) (sym c.get_near_noting.ensures ∙ ap option_copied c.in-None.is)))

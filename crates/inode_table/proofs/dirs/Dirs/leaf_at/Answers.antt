@@ -17,12 +17,12 @@ returns-then-eq c =
 
 pub returns-in_err-row-clause-at : goal.returns-in_err-row-clause-at
 returns-in_err-row-clause-at c =
-    rw (c.from_residual.ensures, ← c.self.view_is) (no_directory c.self.inside.root _ c.args.dir.0 (are_apart _ _ c.if-eq.ensures) (sym c.get_noting.ensures ∙ ap option_copied c.in_err-row.was))
+    rw (c.from_residual.ensures, ← c.self.view_is) (no_directory c.self.inside.root _ c.args.dir.0 (are_apart _ _ c.if-eq.ensures) (sym c.get_near_noting.ensures ∙ ap option_copied c.in_err-row.was))
 
 pub returns : goal.returns
 returns c =
     let apart = are_apart _ _ c.if-eq.ensures in
-    let found = sym c.get_noting.ensures ∙ ap option_copied c.in_ok-row.was in
+    let found = sym c.get_near_noting.ensures ∙ ap option_copied c.in_ok-row.was in
     rw (← c.self.view_is) (record {
       at = at_row c.self.inside.root _ c.args.dir.0 c.args.hash c.picked-2.result c.in_ok-row.row.now apart found (subst (λ o. IsPick (or_whole o) c.args.hash c.picked-2.result) c.tree_of-leaves-2.ensures c.picked-2.ensures);
       entries = sym (count_at_row c.self.inside.in_root _ c.args.dir.0 apart ∙ ap (λ r. or_zero (count_in r)) found);

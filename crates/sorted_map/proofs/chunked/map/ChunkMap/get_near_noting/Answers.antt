@@ -1,7 +1,7 @@
 use Rattle.sorted_map.proofs.Common.{Some, ap, ◌∙◌}
 use Rattle.sorted_map.proofs.FlatLaws.{there}
 use Rattle.sorted_map.proofs.ContentLaws.{value_at, got_gap}
-use Rattle.sorted_map.proofs.chunked.map.ChunkMap.get_near.Goals as goal
+use Rattle.sorted_map.proofs.chunked.map.ChunkMap.get_near_noting.Goals as goal
 
 pub returns-in_default-Ok : goal.returns-in_default-Ok
 returns-in_default-Ok g c =
