@@ -128,13 +128,18 @@ impl<S: Store + Drop> MdCache<S> {
             return;
         };
         let leaves = self.dirs.drop(dir);
-        self.purge.put(ObjText::of(ObjName::Tree(dir)));
+        let object = ObjText::of(ObjName::Tree(dir));
         match leaves {
             Some(leaves) => {
+                self.purge.put(object);
                 self.end_tree(dir, leaves.as_tree());
                 drop(leaves);
             }
-            None => self.end_leaf(dir, Frag::ROOT),
+            // in the order of their names, since one that is behind all others is put there at once
+            None => {
+                self.end_leaf(dir, Frag::ROOT);
+                self.purge.put(object);
+            }
         }
     }
 

@@ -6,17 +6,14 @@ ghost use Rattle.objstore.specs.Omap.{key_cmp};
 ghost use Rattle.mdcache.specs.PurgeList.{first_name};
 
 use mds_types::{ObjText, TextRef};
-use sorted_map::{Finger, SortedMap};
+use sorted_map::SortedMap;
 use std::alloc::{AllocError, Global};
-use std::cell::Cell;
 use std::marker::Model;
 
 /// Names of objects that are to be removed, each once, in the order of their bytes.
 #[derive(Debug, Drop)]
 pub struct PurgeList {
     names: SortedMap<ObjText, ()>,
-    // where the last name went: those of one directory stand side by side
-    near: Cell<Finger>,
 }
 
 impl Model for PurgeList {
@@ -40,7 +37,6 @@ impl PurgeList {
     {
         PurgeList {
             names: SortedMap::new(alloc),
-            near: Cell::new(Finger::none()),
         }
     }
 
@@ -48,10 +44,7 @@ impl PurgeList {
     pub fn of(names: SortedMap<ObjText, ()>) -> PurgeList
         ensures { result.names ≡ contents key_cmp names }
     {
-        PurgeList {
-            names,
-            near: Cell::new(Finger::none()),
-        }
+        PurgeList { names }
     }
 
     /// How many names wait.
@@ -109,7 +102,7 @@ impl PurgeList {
         ensures put { self.new.names ≡ map.insert self.old.names name tt }
         ensures room { self.old.room ≤ self.new.room + 1 }
     {
-        let _ = self.names.insert_noting(&self.near, name, ());
+        let _ = self.names.insert(name, ());
     }
 
     /// Takes a name off the list; one that isn't on it changes nothing. Takes no memory.

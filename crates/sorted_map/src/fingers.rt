@@ -85,19 +85,6 @@ impl<K: ExactOrd + Drop, V: Drop> SortedMap<K, V> {
         }
     }
 
-    /// The same. In a large map the finger is where the key was found then, or went.
-    pub fn insert_noting(&mut self, near: &Cell<Finger>, key: K, value: V) -> Option<V>
-        requires { map.get (contents K.cmp self.old) key ≡ None → 0 < self.old.room }
-        ensures value { result ≡ map.get (contents K.cmp self.old) key }
-        ensures inserted { contents K.cmp self.new ≡ map.insert (contents K.cmp self.old) key value }
-        ensures room { (if is_some result then self.old.room else self.old.room - 1) ≤ self.new.room }
-    {
-        match &mut self.store {
-            Store::Flat(flat) => flat.insert(key, value),
-            Store::Chunked(chunked) => chunked.insert_noting(near, key, value),
-        }
-    }
-
     /// Takes the key out, and returns it with its value, as `remove` does.
     pub fn remove_near<Q: Probe<K>>(&mut self, near: &Finger, q: &Q) -> Option<(K, V)>
         ensures value { result ≡ option_map (λ v. (Q.key q.now, v)) (map.get (contents K.cmp self.old) (Q.key q.now)) }

@@ -67,23 +67,9 @@ impl<K: ExactOrd + Drop, V: Drop> ChunkMap<K, V> {
         ensures inserted { contents K.cmp self.new ≡ map.insert (contents K.cmp self.old) key value }
         ensures room { (if is_some result then self.old.room else self.old.room - 1) ≤ self.new.room }
     {
-        self.insert_noting(&Cell::new(*near), key, value)
-    }
-
-    /// The same; the finger is where the key was found then, or went.
-    pub fn insert_noting(&mut self, near: &Cell<Finger>, key: K, value: V) -> Option<V>
-        requires { map.get (contents K.cmp self.old) key ≡ None → 0 < self.old.room }
-        ensures value { result ≡ map.get (contents K.cmp self.old) key }
-        ensures inserted { contents K.cmp self.new ≡ map.insert (contents K.cmp self.old) key value }
-        ensures room { (if is_some result then self.old.room else self.old.room - 1) ≤ self.new.room }
-    {
-        match spot_near(self.chunks.row(), &near.get(), &key) {
-            (home, Ok(at)) => {
-                note(near, home, at);
-                Some(put_value(&mut self.chunks, home, at, value))
-            }
+        match spot_near(self.chunks.row(), near, &key) {
+            (home, Ok(at)) => Some(put_value(&mut self.chunks, home, at, value)),
             (home, Err(at)) => {
-                note(near, home, at);
                 put_new(&mut self.chunks, home, at, (key, value));
                 None
             }

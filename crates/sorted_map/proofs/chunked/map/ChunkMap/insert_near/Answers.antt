@@ -1,6 +1,6 @@
 use Rattle.sorted_map.proofs.Common.{Some, ap, arith, room_in, sym, ◌<◌, ◌∙◌, ◌≡◌}
 use Rattle.sorted_map.proofs.ContentLaws.{put_in_place, put_in_gap, value_at, got_gap}
-use Rattle.sorted_map.proofs.chunked.map.ChunkMap.insert_noting.Goals as goal
+use Rattle.sorted_map.proofs.chunked.map.ChunkMap.insert_near.Goals as goal
 
 -- the key was there, and has its new value
 pub invariant_of-self : goal.invariant_of-self
