@@ -4,6 +4,7 @@ pub use Rattle.inode_table.specs.Dirs.{Counts, DirPins, Homes, IsAbove, IsTable,
 pub use Rattle.inode_table.specs.Order.{dirs_after, trees_after}
 pub use Rattle.inode_table.specs.Pinned.{IsAfter, IsFirstPinned, IsNextPinned}
 pub use Rattle.inode_table.specs.Rows.{Rows, counts_of, covers_of, homes_of, leaves_in, or_first, pin_in, pins_of}
+pub use Rattle.inode_table.specs.Settings.{LeavesAndPin}
 pub use Rattle.inode_table.specs.TreeTable.{IsCounted, IsTabled, with_pin}
 pub use Rattle.inode_table.specs.declared.dirs.Directory.{Directory}
 pub use Rattle.mds_types.proofs.CountLaws.{entries_go, none_in_empty, some_in}

@@ -49,11 +49,11 @@ no_pins = part_none pins_of pin_in get_pin refl
 
 module _ (rows : Rows) (d : ℕ) where
   -- a row is put with its pin; one that keeps its pin keeps all pins
-  pub pins_put : (row : Directory) (pin : Option Rank) → row.pin ≡ pin → pins_of (map.insert rows d row) ≡ pinned_at (pins_of rows) d pin
+  pub pins_put : (row : Directory) (pin : Option Rank) → row.settings.pin ≡ pin → pins_of (map.insert rows d row) ≡ pinned_at (pins_of rows) d pin
   pins_put row None has = part_cleared pins_of pin_in get_pin rows d row has
   pins_put row (Some rank) has = part_put pins_of pin_in get_pin rows d row rank has
 
-  pub pins_kept : (row : Directory) → row.pin ≡ pin_in (map.get rows d) → pins_of (map.insert rows d row) ≡ pins_of rows
+  pub pins_kept : (row : Directory) → row.settings.pin ≡ pin_in (map.get rows d) → pins_of (map.insert rows d row) ≡ pins_of rows
   pins_kept row kept = part_kept pins_of pin_in get_pin rows d row kept
 
   pub pins_left : pins_of (map.remove rows d) ≡ map.remove (pins_of rows) d

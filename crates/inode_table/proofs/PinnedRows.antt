@@ -34,7 +34,7 @@ module _ (all left rest : List (ℕ × Directory)) (row : ℕ × Directory) (is 
   rest_sorted = right_of _ _ here
 
   -- the first row, if it has a pin
-  pub first_here : is_some row.1.pin ≡ true → IsFirstPinned all (Some (record { 0 = row.0 }))
+  pub first_here : is_some row.1.settings.pin ≡ true → IsFirstPinned all (Some (record { 0 = row.0 }))
   first_here some = (
     ap is_some (sym (same row.0)) ∙ ap (λ r. is_some (pin_in (cond (is_eq r) (Some row.1) (find nat_cmp row.0 rest)))) (tied_itself nat_cmp_total row.0) ∙ some,
     λ d its. later d (eq_by_cmp nat_cmp d row.0) refl (ap is_some (same d) ∙ its),
@@ -45,7 +45,7 @@ module _ (all left rest : List (ℕ × Directory)) (row : ℕ × Directory) (is 
       later d false apart its = let more : row.0 < d = behind row.0 rest d (left_of _ _ here) (there (find nat_cmp d rest) its) in omega (arith, more)
 
   -- if it has none, it can be passed
-  pub rest_pins : is_some row.1.pin ≡ false → (d : ℕ) → pin_in (find nat_cmp d rest) ≡ pin_in (find nat_cmp d all)
+  pub rest_pins : is_some row.1.settings.pin ≡ false → (d : ℕ) → pin_in (find nat_cmp d rest) ≡ pin_in (find nat_cmp d all)
   rest_pins none d = go (eq_by_cmp nat_cmp d row.0) refl ∙ same d
     where
       no_pin : (o : Option Rank) → is_some o ≡ false → o ≡ None
@@ -53,7 +53,7 @@ module _ (all left rest : List (ℕ × Directory)) (row : ℕ × Directory) (is 
       no_pin (Some r) is = let clash : true ≡ false = is in cc
 
       go : (b : Bool) → eq_by_cmp nat_cmp d row.0 ≡ b → pin_in (find nat_cmp d rest) ≡ pin_in (cond b (Some row.1) (find nat_cmp d rest))
-      go true tied = ap pin_in (ap (λ k. find nat_cmp k rest) (nat_cmp-IsAntisymmetric d row.0 (tie _ tied)) ∙ not_found_below nat_cmp_total row.0 rest (left_of _ _ here)) ∙ sym (no_pin row.1.pin none)
+      go true tied = ap pin_in (ap (λ k. find nat_cmp k rest) (nat_cmp-IsAntisymmetric d row.0 (tie _ tied)) ∙ not_found_below nat_cmp_total row.0 rest (left_of _ _ here)) ∙ sym (no_pin row.1.settings.pin none)
       go false apart = refl
 
 -- ---- the rows behind a directory

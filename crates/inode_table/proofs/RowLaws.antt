@@ -168,12 +168,12 @@ module _ (rows : Rows) (d : ℕ) where
   homes_left = part_left homes_of home_in get_home rows d refl
 
   -- a row that keeps its leaves keeps all leaves
-  pub leaves_kept : (root : Option (List Fragment)) (row : Directory) → row.leaves ≡ leaves_in (map.get rows d) → covers_of root (map.insert rows d row) ≡ covers_of root rows
+  pub leaves_kept : (root : Option (List Fragment)) (row : Directory) → row.settings.leaves ≡ leaves_in (map.get rows d) → covers_of root (map.insert rows d row) ≡ covers_of root rows
   leaves_kept None row kept = part_kept covers_below leaves_in get_below rows d row kept
   leaves_kept (Some its) row kept = ap (λ m. map.insert m 1 its) (part_kept covers_below leaves_in get_below rows d row kept)
 
   -- a row gets other leaves
-  pub leaves_put : (root : Option (List Fragment)) (row : Directory) (leaves : List Fragment) → (d ≡ 1 → ⊥) → row.leaves ≡ Some leaves → covers_of root (map.insert rows d row) ≡ map.insert (covers_of root rows) d leaves
+  pub leaves_put : (root : Option (List Fragment)) (row : Directory) (leaves : List Fragment) → (d ≡ 1 → ⊥) → row.settings.leaves ≡ Some leaves → covers_of root (map.insert rows d row) ≡ map.insert (covers_of root rows) d leaves
   leaves_put None row leaves other has = part_put covers_below leaves_in get_below rows d row leaves has
   leaves_put (Some its) row leaves other has = ap (λ m. map.insert m 1 its) (part_put covers_below leaves_in get_below rows d row leaves has) ∙ put_both (covers_below rows) 1 its d leaves other
 
@@ -211,7 +211,7 @@ module _ (root : Option (List Fragment)) (rows : Rows) (d : ℕ) where
       home = sym (ap (map.get (homes_of rows)) top ∙ rootless);
     }
 
-    pub at_row : (row : Directory) → (d ≡ 1 → ⊥) → map.get rows d ≡ Some row → IsPick (or_whole row.leaves) hash leaf → IsLeafAt (homes_of rows) (covers_of root rows) d hash leaf (Some row.home)
+    pub at_row : (row : Directory) → (d ≡ 1 → ⊥) → map.get rows d ≡ Some row → IsPick (or_whole row.settings.leaves) hash leaf → IsLeafAt (homes_of rows) (covers_of root rows) d hash leaf (Some row.home)
     at_row row other is pick = record {
       known = sym (known_row other) ∙ ap is_some is;
       pick = subst (λ o. IsPick (or_whole o) hash leaf) (sym (get_leaves root rows d other ∙ ap leaves_in is)) pick;
@@ -222,5 +222,5 @@ module _ (root : Option (List Fragment)) (rows : Rows) (d : ℕ) where
   no_directory other none = sym (known_row other) ∙ ap is_some none
 
   -- a new row has the one leaf `*`
-  pub new_leaves : (row : Directory) → (d ≡ 1 → ⊥) → row.leaves ≡ None → leaves_of (covers_of root (map.insert rows d row)) d ≡ root_fragment ∷ []
+  pub new_leaves : (row : Directory) → (d ≡ 1 → ⊥) → row.settings.leaves ≡ None → leaves_of (covers_of root (map.insert rows d row)) d ≡ root_fragment ∷ []
   new_leaves row other none = ap or_whole (get_leaves root (map.insert rows d row) d other ∙ ap leaves_in (get_put rows d row) ∙ none)

@@ -1,5 +1,5 @@
 -- A table as it is seen once the row of a directory was written to, or what is kept of the root beside the rows.
-use Rattle.inode_table.proofs.Common.{Directory, Err, Fragment, IsSplit, IsTable, IsTree, List, None, Ok, OnErr, OnOk, Option, Rank, Refusal, Result, Rows, Some, Table, ap, contents, contents-entries, count_of, counts_of, covers_of, get_put, homes_of, is_known, leaves_in, leaves_of, nat_cmp, or_whole, or_zero, pin_in, pinned_at, pins_of, refl, shown, subst, subst₂, sym, true, ℕ, ◌∙◌, ◌≡◌}
+use Rattle.inode_table.proofs.Common.{Directory, Err, Fragment, IsSplit, IsTable, IsTree, LeavesAndPin, List, None, Ok, OnErr, OnOk, Option, Rank, Refusal, Result, Rows, Some, Table, ap, contents, contents-entries, count_of, counts_of, covers_of, get_put, homes_of, is_known, leaves_in, leaves_of, nat_cmp, or_whole, or_zero, pin_in, pinned_at, pins_of, refl, shown, subst, subst₂, sym, true, ℕ, ◌∙◌, ◌≡◌}
 use Rattle.std.specs.FinMap as map
 use Rattle.inode_table.specs.Dirs.{MayCome, MayGo, MayMove}
 use Rattle.inode_table.specs.declared.dirs.Home.{Home}
@@ -44,7 +44,7 @@ module _ (in_root : ℕ) (root : Option (List Fragment)) (room : ℕ) (rows : Ro
 
   -- another directory, with a row
   module _ (before : Directory) (stands : Some before ≡ map.get rows d) where
-    pub row_leaves : (d ≡ 1 → ⊥) → leaves_of old.trees d ≡ or_whole before.leaves
+    pub row_leaves : (d ≡ 1 → ⊥) → leaves_of old.trees d ≡ or_whole before.settings.leaves
     row_leaves apart = ap (λ (t : Table). leaves_of t.trees d) (sym view) ∙ ap or_whole (get_leaves root rows d apart ∙ ap leaves_in (sym stands))
 
     pub row_count : (d ≡ 1 → ⊥) → count_of old.counts d ≡ before.entries
@@ -65,17 +65,18 @@ module _ (in_root : ℕ) (root : Option (List Fragment)) (room : ℕ) (rows : Ro
         wrote row (λ t. record t { homes = map.insert t.homes d home }) (homes_put rows d row) (leaves_kept rows d root row (ap leaves_in stands)) (counts_kept in_root rows d row (ap count_in stands))
         (pins_kept rows d row (ap pin_in stands)) refl (moved_table old.homes old.trees d home old_sound may)
 
-    pub other_leaves : (now : Option (List Fragment)) (leaves : List Fragment) → (d ≡ 1 → ⊥) → now ≡ Some leaves → is_known old.homes d ≡ true → IsTree leaves
-        → Becomes (written (record before { leaves = now })) (record old { trees = map.insert old.trees d leaves })
+    pub other_leaves : (now : LeavesAndPin) (leaves : List Fragment) → (d ≡ 1 → ⊥) → now ≡ record before.settings { leaves = Some leaves } → is_known old.homes d ≡ true → IsTree leaves
+        → Becomes (written (record before { settings = now })) (record old { trees = map.insert old.trees d leaves })
     other_leaves now leaves apart set known tree =
-        let row : Directory = record before { leaves = now } in
-        wrote row (λ t. record t { trees = map.insert t.trees d leaves }) (homes_kept rows d row (ap home_in stands)) (leaves_put rows d root row leaves apart set) (counts_kept in_root rows d row (ap count_in stands))
-        (pins_kept rows d row (ap pin_in stands)) refl (set_table old.homes old.trees d leaves old_sound known tree)
+        let row : Directory = record before { settings = now } in
+        wrote row (λ t. record t { trees = map.insert t.trees d leaves }) (homes_kept rows d row (ap home_in stands)) (leaves_put rows d root row leaves apart (ap (λ (s : LeavesAndPin). s.leaves) set))
+        (counts_kept in_root rows d row (ap count_in stands)) (pins_kept rows d row (ap (λ (s : LeavesAndPin). s.pin) set ∙ ap pin_in stands)) refl (set_table old.homes old.trees d leaves old_sound known tree)
 
-    pub same_leaves : (now : Option (List Fragment)) → now ≡ before.leaves → Becomes (written (record before { leaves = now })) old
-    same_leaves now same =
-        let row : Directory = record before { leaves = now } in
-        wrote row (λ t. t) (homes_kept rows d row (ap home_in stands)) (leaves_kept rows d root row (same ∙ ap leaves_in stands)) (counts_kept in_root rows d row (ap count_in stands)) (pins_kept rows d row (ap pin_in stands)) refl old_sound
+    pub same_settings : (now : LeavesAndPin) → now ≡ before.settings → Becomes (written (record before { settings = now })) old
+    same_settings now same =
+        let row : Directory = record before { settings = now } in
+        wrote row (λ t. t) (homes_kept rows d row (ap home_in stands)) (leaves_kept rows d root row (ap (λ (s : LeavesAndPin). s.leaves) same ∙ ap leaves_in stands))
+        (counts_kept in_root rows d row (ap count_in stands)) (pins_kept rows d row (ap (λ (s : LeavesAndPin). s.pin) same ∙ ap pin_in stands)) refl old_sound
 
     pub other_count : (n : ℕ) (g : ℕ → ℕ) → (d ≡ 1 → ⊥) → n ≡ g before.entries → Becomes (written (record before { entries = n })) (record old { counts = map.insert old.counts d (g (count_of old.counts d)) })
     other_count n g apart is =
@@ -84,21 +85,21 @@ module _ (in_root : ℕ) (root : Option (List Fragment)) (room : ℕ) (rows : Ro
         wrote row (λ t. record t { counts = map.insert t.counts d (g (count_of t.counts d)) }) (homes_kept rows d row (ap home_in stands)) (leaves_kept rows d root row (ap leaves_in stands))
         (counts_put in_root rows d row _ apart (is ∙ ap g told)) (pins_kept rows d row (ap pin_in stands)) refl old_sound
 
-    pub other_pin : (pin : Option Rank) → Becomes (written (record before { pin = pin })) (record old { pins = pinned_at old.pins d pin })
-    other_pin pin =
-        let row : Directory = record before { pin = pin } in
-        wrote row (λ t. record t { pins = pinned_at t.pins d pin }) (homes_kept rows d row (ap home_in stands)) (leaves_kept rows d root row (ap leaves_in stands)) (counts_kept in_root rows d row (ap count_in stands))
-        (pins_put rows d row pin refl) refl old_sound
+    pub other_pin : (now : LeavesAndPin) (pin : Option Rank) → now ≡ record before.settings { pin = pin } → Becomes (written (record before { settings = now })) (record old { pins = pinned_at old.pins d pin })
+    other_pin now pin set =
+        let row : Directory = record before { settings = now } in
+        wrote row (λ t. record t { pins = pinned_at t.pins d pin }) (homes_kept rows d row (ap home_in stands)) (leaves_kept rows d root row (ap (λ (s : LeavesAndPin). s.leaves) set ∙ ap leaves_in stands))
+        (counts_kept in_root rows d row (ap count_in stands)) (pins_put rows d row pin (ap (λ (s : LeavesAndPin). s.pin) set)) refl old_sound
 
   -- a row comes, and one goes, seen with the room that was
-  pub comes : (now : Rows) (home : Home) → now ≡ map.insert rows d (record { home = home; leaves = None; entries = 0; pin = None }) → MayCome old.homes d home
+  pub comes : (now : Rows) (home : Home) (settings : LeavesAndPin) → settings ≡ record { leaves = None; pin = None } → now ≡ map.insert rows d (record { home = home; entries = 0; settings = settings }) → MayCome old.homes d home
       → Becomes (seen in_root root room now) (record old { homes = map.insert old.homes d home; counts = map.insert old.counts d 0 })
-  comes now home is may =
-      let row : Directory = record { home = home; leaves = None; entries = 0; pin = None } in
+  comes now home settings bare is may =
+      let row : Directory = record { home = home; entries = 0; settings = settings } in
       let none : None ≡ map.get rows d = sym (no_row rows d (ap (λ (t : Table). map.get t.homes d) view ∙ may.fresh)) in
       became _ _
       (ap (seen in_root root room) is
-      ∙ (λ i. record { homes = homes_put rows d row i; trees = leaves_kept rows d root row (ap leaves_in none) i; counts = counts_put in_root rows d row 0 may.other refl i; pins = pins_kept rows d row (ap pin_in none) i; room = room })
+      ∙ (λ i. record { homes = homes_put rows d row i; trees = leaves_kept rows d root row (ap (λ (s : LeavesAndPin). s.leaves) bare ∙ ap leaves_in none) i; counts = counts_put in_root rows d row 0 may.other refl i; pins = pins_kept rows d row (ap (λ (s : LeavesAndPin). s.pin) bare ∙ ap pin_in none) i; room = room })
       ∙ ap (λ (t : Table). record t { homes = map.insert t.homes d home; counts = map.insert t.counts d 0 }) view)
       (adopted_table old.homes old.trees d home old_sound may)
 
@@ -118,10 +119,10 @@ module _ (in_root : ℕ) (root : Option (List Fragment)) (room : ℕ) (rows : Ro
     pub left : OnErr result (now ≡ old)
     pub valid : IsTable now.homes now.trees
 
-  splits : (was leaves : Option (List Fragment)) (now : Table) (frag : Fragment) (bits : ℕ) (result : Result (Unit {0}) Refusal) → leaves_of old.trees d ≡ or_whole was
-      → (leaves ≡ Some (or_whole leaves) → IsTree (or_whole leaves) → Becomes now (record old { trees = map.insert old.trees d (or_whole leaves) })) → (leaves ≡ was → Becomes now old)
-      → OnOk result (IsSplit (or_whole was) (or_whole leaves) frag bits) → OnOk result (leaves ≡ Some (or_whole leaves)) → OnOk result (IsTree (or_whole leaves)) → OnErr result (leaves ≡ was) → Splits now frag bits result
-  splits was leaves now frag bits (Ok done) stood put keep split set whole left =
+  splits : (Set Same : Type 0) (was leaves : Option (List Fragment)) (now : Table) (frag : Fragment) (bits : ℕ) (result : Result (Unit {0}) Refusal) → leaves_of old.trees d ≡ or_whole was
+      → (Set → IsTree (or_whole leaves) → Becomes now (record old { trees = map.insert old.trees d (or_whole leaves) })) → (Same → Becomes now old)
+      → OnOk result (IsSplit (or_whole was) (or_whole leaves) frag bits) → OnOk result Set → OnOk result (IsTree (or_whole leaves)) → OnErr result Same → Splits now frag bits result
+  splits Set Same was leaves now frag bits (Ok done) stood put keep split set whole left =
       let new = put set whole in
       let here : leaves_of now.trees d ≡ or_whole leaves = ap (λ (t : Table). leaves_of t.trees d) new.is ∙ ap or_whole (get_put old.trees d (or_whole leaves)) in
       record {
@@ -130,16 +131,17 @@ module _ (in_root : ℕ) (root : Option (List Fragment)) (room : ℕ) (rows : Ro
         left = tt;
         valid = new.table;
       }
-  splits was leaves now frag bits (Err reason) stood put keep split set whole left = record { split = tt; others = tt; left = (keep left).is; valid = (keep left).table }
+  splits Set Same was leaves now frag bits (Err reason) stood put keep split set whole left = record { split = tt; others = tt; left = (keep left).is; valid = (keep left).table }
 
   pub root_splits : (leaves : Option (List Fragment)) (frag : Fragment) (bits : ℕ) (result : Result (Unit {0}) Refusal) → d ≡ 1 → is_known old.homes d ≡ true
       → OnOk result (IsSplit (or_whole root) (or_whole leaves) frag bits) → OnOk result (leaves ≡ Some (or_whole leaves)) → OnOk result (IsTree (or_whole leaves)) → OnErr result (leaves ≡ root)
       → Splits (seen in_root leaves room rows) frag bits result
   root_splits leaves frag bits result top known =
-      splits root leaves _ frag bits result (root_leaves top) (λ set tree. root_other_leaves top leaves _ set known tree) (λ same. became _ _ (ap (λ o. seen in_root o room rows) same ∙ view) old_sound)
+      splits (leaves ≡ Some (or_whole leaves)) (leaves ≡ root) root leaves _ frag bits result (root_leaves top) (λ set tree. root_other_leaves top leaves _ set known tree) (λ same. became _ _ (ap (λ o. seen in_root o room rows) same ∙ view) old_sound)
 
-  pub row_splits : (before : Directory) (stands : Some before ≡ map.get rows d) (leaves : Option (List Fragment)) (frag : Fragment) (bits : ℕ) (result : Result (Unit {0}) Refusal) → (d ≡ 1 → ⊥) → is_known old.homes d ≡ true
-      → OnOk result (IsSplit (or_whole before.leaves) (or_whole leaves) frag bits) → OnOk result (leaves ≡ Some (or_whole leaves)) → OnOk result (IsTree (or_whole leaves)) → OnErr result (leaves ≡ before.leaves)
-      → Splits (written before stands (record before { leaves = leaves })) frag bits result
-  row_splits before stands leaves frag bits result apart known =
-      splits before.leaves leaves _ frag bits result (row_leaves before stands apart) (λ set tree. other_leaves before stands leaves _ apart set known tree) (λ same. same_leaves before stands leaves same)
+  pub row_splits : (before : Directory) (stands : Some before ≡ map.get rows d) (now : LeavesAndPin) (frag : Fragment) (bits : ℕ) (result : Result (Unit {0}) Refusal) → (d ≡ 1 → ⊥) → is_known old.homes d ≡ true
+      → OnOk result (IsSplit (or_whole before.settings.leaves) (or_whole now.leaves) frag bits) → OnOk result (now ≡ record before.settings { leaves = Some (or_whole now.leaves) }) → OnOk result (IsTree (or_whole now.leaves))
+      → OnErr result (now ≡ before.settings) → Splits (written before stands (record before { settings = now })) frag bits result
+  row_splits before stands now frag bits result apart known =
+      splits (now ≡ record before.settings { leaves = Some (or_whole now.leaves) }) (now ≡ before.settings) before.settings.leaves now.leaves _ frag bits result (row_leaves before stands apart)
+      (λ set tree. other_leaves before stands now _ apart set known tree) (λ same. same_settings before stands now same)

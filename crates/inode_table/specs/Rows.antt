@@ -14,7 +14,7 @@ Rows = map.FinMap nat_cmp Directory
 -- the leaves of the row that was found, if they were set
 abbrev pub leaves_in : Option Directory → Option (List Fragment)
 leaves_in None = None
-leaves_in (Some row) = row.leaves
+leaves_in (Some row) = row.settings.leaves
 
 -- whether a directory below the root has leaves that were set
 abbrev pub has_leaves : Rows → ℕ → Bool
@@ -27,7 +27,7 @@ homes_of rows = map.from_sorted (map (λ e. (e.0, e.1.home)) (map.entries rows))
 -- the leaves that were set of directories below the root
 unfoldable pub covers_below : Rows → Covers
 covers_below rows =
-    map.from_sorted (map (λ e. (e.0, or_whole e.1.leaves)) (map.entries (map.retain_keys rows (has_leaves rows))))
+    map.from_sorted (map (λ e. (e.0, or_whole e.1.settings.leaves)) (map.entries (map.retain_keys rows (has_leaves rows))))
 
 -- and with those of the root, if they were set
 abbrev pub covers_of : Option (List Fragment) → Rows → Covers
@@ -45,7 +45,7 @@ counts_of root rows = map.insert (counts_below rows) 1 root
 -- the pin of the row that was found, if it has one
 abbrev pub pin_in : Option Directory → Option Rank
 pin_in None = None
-pin_in (Some row) = row.pin
+pin_in (Some row) = row.settings.pin
 
 -- whether a directory below the root has a pin
 abbrev pub has_pin : Rows → ℕ → Bool
@@ -58,4 +58,4 @@ or_first (Some rank) = rank
 
 -- the pins
 unfoldable pub pins_of : Rows → DirPins
-pins_of rows = map.from_sorted (map (λ e. (e.0, or_first e.1.pin)) (map.entries (map.retain_keys rows (has_pin rows))))
+pins_of rows = map.from_sorted (map (λ e. (e.0, or_first e.1.settings.pin)) (map.entries (map.retain_keys rows (has_pin rows))))

@@ -13,6 +13,7 @@ ghost use Rattle.inode_table.specs.Dirs.{IsAbove, IsLeafAt, IsLive, IsTable, May
 
 use crate::boxed_tree::BoxedTree;
 use crate::set_leaves::{check_split_of, picked, split_in, tree_of};
+use crate::settings::Settings;
 use fragtree::FragTree;
 use mds_types::{Frag, Ino, Name, Rank, Refusal};
 use sorted_map::{Finger, SortedMap};
@@ -37,14 +38,13 @@ pub struct LeafAt<'a> {
     pub leaves: Option<&'a FragTree>,
 }
 
-/// What the table keeps of a directory below the root: where it stands, its leaves if they were ever set, how many
-/// entries it has, and its pin.
+/// What the table keeps of a directory below the root: where it stands, how many entries it has, and what it was given:
+/// its leaves and its pin.
 #[derive(Debug, Drop)]
 pub(crate) struct Directory {
     home: Home,
-    leaves: Option<BoxedTree>,
     entries: u64,
-    pub(crate) pin: Option<Rank>,
+    pub(crate) settings: Settings,
 }
 
 /// For each directory its parent and its name there, its leaves, how many entries it has, and the rank that it is
@@ -179,7 +179,7 @@ impl Dirs {
             });
         }
         let row = self.below.get_near_noting(&self.near, &dir.0)?;
-        let leaves = tree_of(&row.leaves);
+        let leaves = row.settings.leaves();
         Some(LeafAt {
             frag: picked(leaves, hash),
             home: Some(&row.home),
@@ -206,7 +206,7 @@ impl Dirs {
     pub fn pin(&self, dir: Ino) -> Option<Rank>
         ensures { result ≡ map.get self.now.pins dir.0 }
     {
-        self.below.get(&dir.0)?.pin
+        self.below.get(&dir.0)?.settings.pin()
     }
 
     /// The first directory after one, or of all, in order: the root, then the others by number. None after the last.
@@ -319,7 +319,7 @@ impl Dirs {
         let Some(row) = self.below.get_mut(&dir.0) else {
             unreachable!()
         };
-        row.leaves = Some(tree);
+        row.settings.set_leaves(tree);
     }
 
     /// Splits a leaf of a directory that can be split by so many bits. Takes memory, and one search. Refused for want
@@ -341,7 +341,7 @@ impl Dirs {
         let Some(row) = self.below.get_mut(&dir.0) else {
             unreachable!()
         };
-        split_in(alloc, &mut row.leaves, frag, bits)
+        row.settings.split(alloc, frag, bits)
     }
 
     /// An entry comes to a directory. Takes no memory, and one search.
@@ -386,7 +386,7 @@ impl Dirs {
         let Some(row) = self.below.get_mut_near(&near, &dir.0) else {
             unreachable!()
         };
-        row.pin = pin;
+        row.settings.set_pin(pin);
     }
 
     /// A new directory with the one leaf `*`, no entry and no pin, for which there is room. Takes no memory.
@@ -403,9 +403,8 @@ impl Dirs {
     {
         let row = Directory {
             home,
-            leaves: None,
             entries: 0,
-            pin: None,
+            settings: Settings::none(),
         };
         let _ = self.below.insert(dir.0, row);
     }
@@ -468,7 +467,8 @@ impl Dirs {
         if dir == Ino::ROOT {
             return tree_of(&self.root);
         }
-        tree_of(&self.below.get_near(&self.near.get(), &dir.0)?.leaves)
+        let row = self.below.get_near(&self.near.get(), &dir.0)?;
+        row.settings.leaves()
     }
 }
 
@@ -479,7 +479,7 @@ fn leaves_left(row: Option<(u64, Directory)>) -> Option<BoxedTree>
     let Some((_, row)) = row else {
         return None;
     };
-    let Directory { home, leaves, .. } = row;
+    let Directory { home, settings, .. } = row;
     drop(home);
-    leaves
+    settings.into_leaves()
 }

@@ -7,6 +7,7 @@ mod dirs;
 mod next_pinned;
 mod numbers;
 mod set_leaves;
+mod settings;
 mod table_changes;
 
 pub use boxed_tree::BoxedTree;

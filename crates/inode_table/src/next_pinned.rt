@@ -28,7 +28,7 @@ fn first_pinned(rows: Iter<'_, u64, Directory>) -> Option<Ino>
 {
     let mut rows = rows;
     while let Some(row) = rows.next() {
-        if row.1.pin.is_some() {
+        if row.1.settings.pin().is_some() {
             return Some(Ino(row.0));
         }
     }

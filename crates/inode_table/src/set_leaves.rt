@@ -73,12 +73,20 @@ pub(crate) fn split_in(
     if let Some(tree) = leaves {
         return tree.split(frag, bits);
     }
+    *leaves = Some(split_whole(alloc, frag, bits)?);
+    Ok(())
+}
+
+/// The leaves that the one leaf `*` is split into, in a box. Refused for want of memory alone.
+pub(crate) fn split_whole(alloc: Global, frag: Frag, bits: u8) -> Result<BoxedTree, Refusal>
+    requires { CanSplit (root_fragment ∷ []) frag bits }
+    ensures split { IfOk result (λ tree. IsSplit (root_fragment ∷ []) tree frag bits) }
+    ensures whole { IfOk result (λ tree. IsTree tree) }
+    ensures refused { IfErr result (λ reason. reason ≡ NoMemory) }
+{
     let mut tree = BoxedTree::new(alloc, FragTree::whole(alloc))?;
     match tree.split(frag, bits) {
-        Ok(()) => {
-            *leaves = Some(tree);
-            Ok(())
-        }
+        Ok(()) => Ok(tree),
         Err(refusal) => {
             drop(tree);
             Err(refusal)

@@ -7,12 +7,12 @@ use Rattle.inode_table.proofs.dirs.Dirs.leaves.Goals as goal
 pub returns-then-eq-clause-set : goal.returns-then-eq-clause-set
 returns-then-eq-clause-set c = rw (← c.self.view_is) (c.tree_of.ensures ∙ sym (leaves_at_root c.self.inside.root _ c.args.dir.0 (are_same _ _ c.if-eq.ensures) c.self.invariant.rooted.rootless))
 
-pub returns-in_err-get_near-clause-set : goal.returns-in_err-get_near-clause-set
-returns-in_err-get_near-clause-set c =
+pub returns-in_err-row-clause-set : goal.returns-in_err-row-clause-set
+returns-in_err-row-clause-set c =
     rw (← c.self.view_is) (ap option_copied c.from_residual.ensures
-    ∙ sym (get_leaves c.self.inside.root _ c.args.dir.0 (are_apart _ _ c.if-eq.ensures) ∙ ap leaves_in (sym c.get_near.ensures ∙ ap option_copied c.in_err-get_near.was)))
+    ∙ sym (get_leaves c.self.inside.root _ c.args.dir.0 (are_apart _ _ c.if-eq.ensures) ∙ ap leaves_in (sym c.get_near.ensures ∙ ap option_copied c.in_err-row.was)))
 
 pub returns-clause-set : goal.returns-clause-set
 returns-clause-set c =
-    rw (← c.self.view_is) (c.tree_of-2.ensures
-    ∙ sym (get_leaves c.self.inside.root _ c.args.dir.0 (are_apart _ _ c.if-eq.ensures) ∙ ap leaves_in (sym c.get_near.ensures ∙ ap option_copied c.in_ok-get_near.was)))
+    rw (← c.self.view_is) (c.leaves.ensures
+    ∙ sym (get_leaves c.self.inside.root _ c.args.dir.0 (are_apart _ _ c.if-eq.ensures) ∙ ap leaves_in (sym c.get_near.ensures ∙ ap option_copied c.in_ok-row.was)))

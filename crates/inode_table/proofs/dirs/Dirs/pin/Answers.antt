@@ -7,4 +7,4 @@ pub returns-in_err-get : goal.returns-in_err-get
 returns-in_err-get c = rw (← c.self.view_is) (c.from_residual.ensures ∙ sym (get_pin _ _ ∙ ap pin_in (sym c.get.ensures ∙ ap option_copied c.in_err-get.was)))
 
 pub returns : goal.returns
-returns c = rw (← c.self.view_is) (sym (get_pin _ _ ∙ ap pin_in (sym c.get.ensures ∙ ap option_copied c.in_ok-get.was)))
+returns c = rw (← c.self.view_is) (c.pin.ensures ∙ sym (get_pin _ _ ∙ ap pin_in (sym c.get.ensures ∙ ap option_copied c.in_ok-get.was)))

@@ -1,5 +1,5 @@
 -- The leaves of a directory are those of a tree.
-use Rattle.inode_table.proofs.Common.{Some, Table, ap, refl, sym}
+use Rattle.inode_table.proofs.Common.{Table, ap, refl, sym}
 use Rattle.inode_table.proofs.Chains.{are_same, are_apart}
 use Rattle.inode_table.proofs.RowLaws.{has_known_row}
 use Rattle.inode_table.proofs.SeenRows.{other_leaves, root_other_leaves}
@@ -19,7 +19,7 @@ unreachable-requires c =
 
 pub returns : goal.returns
 returns c =
-    let set = (other_leaves _ _ _ _ _ c.self.view_is c.self.invariant c.args.dir.0 c.in-Some.row.now c.in-Some.ensures.value (Some c.args.tree) c.args.tree (are_apart _ _ c.if-eq.ensures) refl c.requires.known c.as_tree.ensures.valid).is in
+    let set = (other_leaves _ _ _ _ _ c.self.view_is c.self.invariant c.args.dir.0 c.in-Some.row.now c.in-Some.ensures.value _ c.args.tree (are_apart _ _ c.if-eq.ensures) c.set_leaves.ensures c.requires.known c.as_tree.ensures.valid).is in
     record {
       trees = ap (λ (t : Table). t.trees) set;
       homes = ap (λ (t : Table). t.homes) set;
@@ -29,4 +29,4 @@ returns c =
     }
 
 pub invariant_of-self-2 : goal.invariant_of-self-2
-invariant_of-self-2 c = (other_leaves _ _ _ _ _ c.self.view_is c.self.invariant c.args.dir.0 c.in-Some.row.now c.in-Some.ensures.value (Some c.args.tree) c.args.tree (are_apart _ _ c.if-eq.ensures) refl c.requires.known c.as_tree.ensures.valid).table
+invariant_of-self-2 c = (other_leaves _ _ _ _ _ c.self.view_is c.self.invariant c.args.dir.0 c.in-Some.row.now c.in-Some.ensures.value _ c.args.tree (are_apart _ _ c.if-eq.ensures) c.set_leaves.ensures c.requires.known c.as_tree.ensures.valid).table

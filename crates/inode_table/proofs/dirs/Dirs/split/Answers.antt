@@ -25,16 +25,16 @@ pub unreachable-requires : goal.unreachable-requires
 unreachable-requires c =
     has_known_row c.self.inside.root _ c.args.dir.0 (are_apart _ _ c.if-eq.ensures) (sym c.in_default.ensures.value) (rw (ap (λ (t : Table). t.homes) c.self.view_is) c.requires.known)
 
-pub split_in-requires-2 : goal.split_in-requires-2
-split_in-requires-2 c = subst (λ l. CanSplit l c.args.frag c.args.bits) (row_leaves _ _ _ _ _ c.self.view_is c.self.invariant c.args.dir.0 c.in-Some.row.now c.in-Some.ensures.value (are_apart _ _ c.if-eq.ensures)) c.requires.can
+pub split-requires : goal.split-requires
+split-requires c = subst (λ l. CanSplit l c.args.frag c.args.bits) (row_leaves _ _ _ _ _ c.self.view_is c.self.invariant c.args.dir.0 c.in-Some.row.now c.in-Some.ensures.value (are_apart _ _ c.if-eq.ensures)) c.requires.can
 
 pub invariant_of-self-2 : goal.invariant_of-self-2
 invariant_of-self-2 c =
-    (row_splits _ _ _ _ _ c.self.view_is c.self.invariant c.args.dir.0 c.in-Some.row.now c.in-Some.ensures.value c.split_in-2.new.leaves c.args.frag c.args.bits c.split_in-2.result (are_apart _ _ c.if-eq.ensures) c.requires.known
-    c.split_in-2.ensures.split c.split_in-2.ensures.set c.split_in-2.ensures.whole c.split_in-2.ensures.left).valid
+    (row_splits _ _ _ _ _ c.self.view_is c.self.invariant c.args.dir.0 c.in-Some.row.now c.in-Some.ensures.value c.split.new.self c.args.frag c.args.bits c.split.result (are_apart _ _ c.if-eq.ensures) c.requires.known
+    c.split.ensures.split c.split.ensures.set c.split.ensures.whole c.split.ensures.left).valid
 
 pub returns : goal.returns
 returns c =
-    let its = row_splits _ _ _ _ _ c.self.view_is c.self.invariant c.args.dir.0 c.in-Some.row.now c.in-Some.ensures.value c.split_in-2.new.leaves c.args.frag c.args.bits c.split_in-2.result (are_apart _ _ c.if-eq.ensures) c.requires.known
-    c.split_in-2.ensures.split c.split_in-2.ensures.set c.split_in-2.ensures.whole c.split_in-2.ensures.left in
-    record { split = its.split; others = its.others; left = its.left; refused = c.split_in-2.ensures.refused; valid = its.valid }
+    let its = row_splits _ _ _ _ _ c.self.view_is c.self.invariant c.args.dir.0 c.in-Some.row.now c.in-Some.ensures.value c.split.new.self c.args.frag c.args.bits c.split.result (are_apart _ _ c.if-eq.ensures) c.requires.known
+    c.split.ensures.split c.split.ensures.set c.split.ensures.whole c.split.ensures.left in
+    record { split = its.split; others = its.others; left = its.left; refused = c.split.ensures.refused; valid = its.valid }
