@@ -1,5 +1,5 @@
 -- What holds of a fragment that has neither names nor room for any.
-use Rattle.cached_frag.proofs.Common.{AreDirtyNames, Base, Cached, EntryCounts, Fresh, Inode, Joins, List, Mark, Marks, Names, None, Option, Row, Stored, [], ap, arith, cond, counts_of, false, get-empty, key_cmp, len-empty, len-entries, marked_as, nil_from_length, not, refl, rows_after, shown, shown_as, subst, sym, true, ℕ, ◌+◌, ◌∙◌, ◌≡◌, ◌≤◌}
+use Rattle.cached_frag.proofs.Common.{AreDirtyNames, Base, Cached, Fresh, Inode, Joins, List, Mark, Marks, Names, None, Option, Row, Stored, [], ap, arith, cond, counts_of, false, get-empty, key_cmp, len-empty, len-entries, marked_as, nil_from_length, not, refl, rows_after, shown, shown_as, subst, sym, true, ℕ, ◌∙◌, ◌≡◌, ◌≤◌}
 use Rattle.std.specs.Prelude.{IfSome, is_some, ◌==◌}
 use Rattle.std.specs.FinMap as map
 use Rattle.std.specs.FinMap.{empty_of_len}
