@@ -1,5 +1,5 @@
 -- What each fragment keeps, once it is made and once a name has changed.
-use Rattle.cached_frag.proofs.Common.{AreDirtyNames, AreEntries, Cached, EntryCounts, Fresh, IsBased, IsDirtyName, IsKept, List, Mark, Marks, Names, None, Option, Some, Stored, ap, arith, counted, counted_or, counts_of, get-empty, inode_or, key_cmp, marked, refl, shown, shown_over, subst, sym, with_mark, ℕ, ◌+◌, ◌-◌, ◌<◌, ◌^◌, ◌∙◌, ◌≡◌, ◌≤◌}
+use Rattle.cached_frag.proofs.Common.{AreDirtyNames, AreEntries, Base, Cached, EntryCounts, Fresh, IsBased, IsDirtyName, IsKept, List, Mark, Marks, Names, None, Option, Some, Stored, ap, arith, counted, counted_or, counts_of, get-empty, inode_or, key_cmp, marked, refl, shown, shown_over, subst, sym, with_mark, ℕ, ◌+◌, ◌-◌, ◌<◌, ◌^◌, ◌∙◌, ◌≡◌, ◌≤◌}
 use Rattle.std.specs.FinMap as map
 use Rattle.cached_frag.proofs.MarkLaws.{none_dirty, one_dirty}
 use Rattle.cached_frag.proofs.CountedLaws.{all_counted, dirs_marked, dirs_some, files_marked, files_some, nothing_counted}
@@ -10,14 +10,24 @@ no_entries names none name inode is =
     let clash : None ≡ Some inode = sym (get-empty key_cmp name) ∙ sym (ap (λ (n : Names). map.get n name) none) ∙ is in
     absurd cc
 
-pub kept_fresh : (generation : ℕ) (clean : Names) (dirty : Marks) (places free : ℕ) → clean ≡ map.empty → dirty ≡ map.empty
-    → IsKept (record { base = Fresh; generation = generation; clean = clean; dirty = dirty; room = 0; places = free }) (record { files = 0; dirs = 0 }) places
-kept_fresh generation clean dirty places free bare none =
+-- a fragment with no names and no room for any
+pub kept_bare : (base : Base) (generation : ℕ) (clean : Names) (dirty : Marks) (places free : ℕ) → clean ≡ map.empty → dirty ≡ map.empty
+    → IsKept (record { base = base; generation = generation; clean = clean; dirty = dirty; room = 0; places = free }) (record { files = 0; dirs = 0 }) places
+kept_bare Fresh generation clean dirty places free bare none =
     record {
       based = bare;
       entries = no_entries clean bare;
       dirty = none_dirty dirty none;
       counted = sym (ap counts_of (nothing_shown dirty none) ∙ nothing_counted);
+      few = omega arith;
+      reserved = omega arith;
+    }
+kept_bare (Stored version) generation clean dirty places free bare none =
+    record {
+      based = tt;
+      entries = no_entries clean bare;
+      dirty = none_dirty dirty none;
+      counted = sym (ap counts_of (only_below clean dirty none ∙ bare) ∙ nothing_counted);
       few = omega arith;
       reserved = omega arith;
     }

@@ -1,3 +1,4 @@
+pub mod BareLaws
 pub mod CommitLaws
 pub mod Common
 pub mod CopiedLaws

@@ -9,3 +9,4 @@ pub mod Rows
 pub mod SameMarks
 pub mod Settling
 pub mod Snap
+pub mod Stores

@@ -1,16 +1,11 @@
 //! Names that are copied from one fragment into another.
-ghost use Rattle.std.specs.Prelude.{◌≡◌, ◌≤◌, IfOk, OnOk, OnErr};
-ghost use Rattle.std.specs.FinMap as map;
+ghost use Rattle.std.specs.Prelude.{◌≡◌, IfOk, OnOk, OnErr};
 ghost use Rattle.objstore.specs.Omap.{key_cmp};
 ghost use Rattle.sorted_map.specs.SortedMap.{contents};
-ghost use Rattle.cached_frag.specs.Marks.{patched};
 ghost use Rattle.cached_frag.specs.Cached.{AreEntries, shown};
 ghost use Rattle.cached_frag.specs.Moving.{TakesIn};
 
-use crate::fragments::CachedFrag;
-use crate::marks::Mark;
-use crate::moving::all_shown;
-use crate::taking::copy_of;
+use crate::fragments::{CachedFrag, Store};
 use mds_types::{Inode, Name};
 use sorted_map::SortedMap;
 use std::alloc::AllocError;
@@ -21,7 +16,11 @@ impl CachedFrag {
         ensures names { IfOk result (λ names. contents key_cmp names ≡ shown self.now) }
         ensures entries { IfOk result (λ names. AreEntries (contents key_cmp names)) }
     {
-        copy_shown(&self.clean, &self.dirty)
+        match &self.store {
+            Store::Fresh { alloc, .. } => Ok(SortedMap::new(*alloc)),
+            Store::Stored { alloc, .. } => Ok(SortedMap::new(*alloc)),
+            Store::Named(named) => named.copy_names(),
+        }
     }
 
     /// Takes in a copy of each name that another fragment shows, dirty at this version; what the fragment showed of one
@@ -35,25 +34,4 @@ impl CachedFrag {
         self.join(names, version);
         Ok(())
     }
-}
-
-// A copy of the names of a base, once each of the dirty ones is what it became.
-fn copy_shown(
-    clean: &SortedMap<Name, Inode>,
-    dirty: &SortedMap<Name, Mark>,
-) -> Result<SortedMap<Name, Inode>, AllocError>
-    ensures { IfOk result
-        (λ names. contents key_cmp names ≡ patched (contents key_cmp clean.now) (contents key_cmp dirty.now)) }
-{
-    let mut names = copy_clean(clean)?;
-    names.reserve(dirty.len())?;
-    let dirty = copy_of(dirty)?;
-    Ok(all_shown(names, dirty))
-}
-
-// A copy of names with their inodes.
-fn copy_clean(names: &SortedMap<Name, Inode>) -> Result<SortedMap<Name, Inode>, AllocError>
-    ensures { IfOk result (λ copy. contents key_cmp copy ≡ contents key_cmp names.now) }
-{
-    names.clone()
 }

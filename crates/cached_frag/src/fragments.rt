@@ -1,66 +1,58 @@
 //! `CachedFrag`, what a contract sees of it, and the calls that read it or make room.
-ghost use Rattle.std.specs.Prelude.{◌≡◌, ◌≤◌, ◌<◌, ◌+◌, ◌^◌, ℕ, List, IsOk, IfSome, OnOk, OnErr, is_some, option_copied};
+ghost use Rattle.std.specs.Prelude.{◌≡◌, ◌≤◌, ℕ, List, IsOk, IfOk, IfSome, OnOk, OnErr, is_some, option_copied};
 ghost use Rattle.std.specs.FinMap as map;
-ghost use Rattle.objstore.specs.Omap.{key_cmp};
-ghost use Rattle.sorted_map.specs.SortedMap.{contents};
 ghost use Rattle.dirfrag_codec.specs.EntryRecord.{HasRecord};
 ghost use Rattle.cached_frag.specs.Snap.{counts_of};
-ghost use Rattle.cached_frag.specs.Marks.{inode_or};
-ghost use Rattle.cached_frag.specs.Cached.{imported, is_clean, shown};
+ghost use Rattle.cached_frag.specs.Cached.{is_clean, shown};
+ghost use Rattle.cached_frag.specs.Stores.{bare};
 
 use crate::bases::{Base, EntryCounts};
-use crate::marks::Mark;
+use crate::named::fragments::NamedFrag;
 use mds_types::{Inode, Name};
-use sorted_map::{Finger, SortedMap};
+use sorted_map::Finger;
 use std::alloc::{AllocError, Global};
 use std::cell::Cell;
 use std::marker::Model;
+use std::mem;
 
-/// A cached fragment: a whole one. It shows the names of its base, with the dirty names over them.
+/// Where a fragment is kept. Most have no names, and take three words then.
+#[derive(Debug, Drop)]
+pub(crate) enum Store {
+    /// A new one, which has neither names nor room for any.
+    Fresh {
+        alloc: Global,
+        generation: u64,
+    },
+    /// One whose object counts, which has neither names nor room for any.
+    Stored {
+        alloc: Global,
+        version: u64,
+        generation: u64,
+    },
+    /// Any other one.
+    Named(Box<NamedFrag>),
+}
+
+/// A cached fragment: a whole one. It shows the names of its base, with the dirty names over them. One that never had
+/// names or room for them takes three words.
 #[derive(Debug, Drop)]
 pub struct CachedFrag {
-    pub(crate) base: Base,
-    pub(crate) generation: u64,
-    // as they were fetched, but for what became clean since
-    pub(crate) clean: SortedMap<Name, Inode>,
-    // what changed since the last commit
-    pub(crate) dirty: SortedMap<Name, Mark>,
-    // of the names that are shown
-    pub(crate) counts: EntryCounts,
-    // how many changes fit
-    pub(crate) room: usize,
+    pub(crate) store: Store,
 }
+
+const _: () = prove!(size_of::<CachedFrag>() == 24);
 
 impl Model for CachedFrag {
     ghost use Rattle.std.specs.Coded.{codes};
     ghost use Rattle.std.specs.FinMap as map;
-    ghost use Rattle.objstore.specs.Omap.{key_cmp};
-    ghost use Rattle.sorted_map.specs.SortedMap.{contents};
     ghost use Rattle.cached_frag.specs.Cached.{Cached};
-    ghost use Rattle.cached_frag.specs.Kept.{IsKept};
+    ghost use Rattle.cached_frag.specs.Stores.{shown_by};
 
     ghost Value = { Cached };
 
     ghost coded = { Prim.hlevel (codes, map.code) };
 
-    ghost view = { λ f. record {
-      base = f.base;
-      generation = f.generation;
-      clean = contents key_cmp f.clean;
-      dirty = contents key_cmp f.dirty;
-      room = f.room;
-      places = f.clean.room;
-    } };
-
-    ghost invariant = { λ f. IsKept
-        (record {
-          base = f.base;
-          generation = f.generation;
-          clean = contents key_cmp f.clean;
-          dirty = contents key_cmp f.dirty;
-          room = f.room;
-          places = f.clean.room;
-        }) f.counts f.dirty.room };
+    ghost view = { λ f. shown_by f.store };
 }
 
 impl CachedFrag {
@@ -70,37 +62,30 @@ impl CachedFrag {
             { base = Base.Fresh; generation = generation; clean = map.empty; dirty = map.empty; room = 0; places = 0 } }
     {
         CachedFrag {
-            base: Base::Fresh,
-            generation,
-            clean: SortedMap::new(alloc),
-            dirty: SortedMap::new(alloc),
-            counts: EntryCounts { files: 0, dirs: 0 },
-            room: 0,
+            store: Store::Fresh { alloc, generation },
         }
     }
 
     /// What its object is to the fragment.
+    #[inline(always)]
     pub fn base(&self) -> Base
         ensures { result ≡ self.now.base }
     {
-        self.base
+        match &self.store {
+            Store::Fresh { .. } => Base::Fresh,
+            Store::Stored { version, .. } => Base::Stored(*version),
+            Store::Named(named) => named.base(),
+        }
     }
 
     /// Which of the fragments that had its name it is.
     pub fn generation(&self) -> u64
         ensures { result ≡ self.now.generation }
     {
-        self.generation
-    }
-
-    /// The same fragment, as a rank has it that took it over from another: of generation 0, so no commit that the other
-    /// began ends it. Takes no memory.
-    pub fn imported(self) -> CachedFrag
-        ensures { result ≡ imported self }
-    {
-        CachedFrag {
-            generation: 0,
-            ..self
+        match &self.store {
+            Store::Fresh { generation, .. } => *generation,
+            Store::Stored { generation, .. } => *generation,
+            Store::Named(named) => named.generation(),
         }
     }
 
@@ -108,61 +93,99 @@ impl CachedFrag {
     pub fn is_clean(&self) -> bool
         ensures { result ≡ is_clean self.now }
     {
-        !self.base.is_fresh() && self.dirty.len() == 0
+        match &self.store {
+            Store::Fresh { .. } => false,
+            Store::Stored { .. } => true,
+            Store::Named(named) => named.is_clean(),
+        }
     }
 
-    /// The inode that a name stands for, if it is there. Takes logarithmic time. The finger is where the name is among
-    /// the dirty ones then, or would go: where it is changed next it is found there at a comparison or two.
+    /// The inode that a name stands for, if it is there. Takes logarithmic time. Where the fragment has names or room
+    /// for them, the finger is where the name is among the dirty ones then, or would go: where it is changed next it is
+    /// found there at a comparison or two.
+    #[inline(always)]
     pub fn look(&self, near: &Cell<Finger>, name: &Name) -> Option<&Inode>
         ensures found { option_copied result ≡ map.get (shown self.now) name.now }
         ensures recorded { IfSome (option_copied result) HasRecord }
     {
-        shown_in(&self.clean, &self.dirty, near, name)
+        match &self.store {
+            Store::Fresh { .. } => None,
+            Store::Stored { .. } => None,
+            Store::Named(named) => named.look(near, name),
+        }
     }
 
     /// Whether a name is there: takes a comparison or two where the finger is that of the name, else logarithmic time.
+    #[inline(always)]
     pub fn shows(&self, near: &Finger, name: &Name) -> bool
         ensures { result ≡ is_some (map.get (shown self.now) name.now) }
     {
-        shows_in(&self.clean, &self.dirty, near, name)
+        match &self.store {
+            Store::Fresh { .. } => false,
+            Store::Stored { .. } => false,
+            Store::Named(named) => named.shows(near, name),
+        }
     }
 
     /// A record allows what each of its names stands for: a law of the type, so nothing is done.
     pub fn has_records(&self)
         ensures { (name : List ℕ) → IfSome (map.get (shown self.now) name) HasRecord }
     {
-        let _ = &self.clean;
+        match &self.store {
+            Store::Fresh { .. } => {}
+            Store::Stored { .. } => {}
+            Store::Named(named) => named.has_records(),
+        }
     }
 
     /// How many entries it shows.
+    #[inline(always)]
     pub fn counts(&self) -> EntryCounts
         ensures { result ≡ counts_of (shown self.now) }
     {
-        self.counts
+        match &self.store {
+            Store::Fresh { .. } => EntryCounts { files: 0, dirs: 0 },
+            Store::Stored { .. } => EntryCounts { files: 0, dirs: 0 },
+            Store::Named(named) => named.counts(),
+        }
     }
 
     /// How many names it shows.
     pub fn len(&self) -> usize
         ensures { result ≡ map.len (shown self.now) }
     {
-        (self.counts.files + self.counts.dirs) as usize
+        match &self.store {
+            Store::Fresh { .. } => 0,
+            Store::Stored { .. } => 0,
+            Store::Named(named) => named.len(),
+        }
     }
 
     /// How many changes of names fit before memory is needed.
+    #[inline(always)]
     pub fn room(&self) -> usize
         ensures { result ≡ self.now.room }
     {
-        self.room
+        match &self.store {
+            Store::Fresh { .. } => 0,
+            Store::Stored { .. } => 0,
+            Store::Named(named) => named.room(),
+        }
     }
 
     /// How many dirty names can become clean before memory is needed.
     pub fn places(&self) -> usize
         ensures { result ≡ self.now.places }
     {
-        self.clean.room()
+        match &self.store {
+            Store::Fresh { .. } => 0,
+            Store::Stored { .. } => 0,
+            Store::Named(named) => named.places(),
+        }
     }
 
     /// Makes room for so many changes of names. Where the room is there already nothing is done, and there is no error.
+    #[inline(always)]
     pub fn reserve(&mut self, changes: usize) -> Result<(), AllocError>
         ensures same { self.new ≡ record self.old { room = self.new.room } }
         ensures room { OnOk result (changes ≤ self.new.room) }
@@ -170,70 +193,71 @@ impl CachedFrag {
         ensures ready { changes ≤ self.old.room → IsOk result × (self.new ≡ self.old) }
         ensures err { OnErr result (self.new ≡ self.old) }
     {
-        if changes <= self.room {
+        match &mut self.store {
+            Store::Fresh { alloc, generation } => {
+                let (alloc, generation) = (*alloc, *generation);
+                self.open(alloc, Base::Fresh, generation, changes)
+            }
+            Store::Stored {
+                alloc,
+                version,
+                generation,
+            } => {
+                let (alloc, base, generation) = (*alloc, Base::Stored(*version), *generation);
+                self.open(alloc, base, generation, changes)
+            }
+            Store::Named(named) => named.reserve(changes),
+        }
+    }
+
+    // Makes room for so many changes in one without names, whose base and generation these are.
+    fn open(
+        &mut self,
+        alloc: Global,
+        base: Base,
+        generation: u64,
+        changes: usize,
+    ) -> Result<(), AllocError>
+        requires { self.old ≡ bare base generation }
+        ensures same { self.new ≡ record self.old { room = self.new.room } }
+        ensures room { OnOk result (changes ≤ self.new.room) }
+        ensures grows { self.old.room ≤ self.new.room }
+        ensures ready { changes ≤ self.old.room → IsOk result × (self.new ≡ self.old) }
+        ensures err { OnErr result (self.new ≡ self.old) }
+    {
+        if changes == 0 {
             return Ok(());
         }
-        fits(self.counts, changes)?;
-        self.dirty.reserve(changes)?;
-        self.room = room_of(self.counts, changes, self.dirty.room());
+        let opened = opened(alloc, base, generation, changes)?;
+        drop(mem::replace(self, opened));
         Ok(())
     }
 }
 
-// What became of a name, if it is dirty, and otherwise what it was.
-pub(crate) fn shown_in<'a>(
-    clean: &'a SortedMap<Name, Inode>,
-    dirty: &'a SortedMap<Name, Mark>,
-    near: &Cell<Finger>,
-    name: &Name,
-) -> Option<&'a Inode>
-    ensures { option_copied result ≡ inode_or (map.get (contents key_cmp dirty.entry.now) name.now)
-        (map.get (contents key_cmp clean.entry.now) name.now) }
+// One without names that has room for so many changes.
+fn opened(
+    alloc: Global,
+    base: Base,
+    generation: u64,
+    changes: usize,
+) -> Result<CachedFrag, AllocError>
+    ensures room { IfOk result (λ opened. changes ≤ opened.room) }
+    ensures bare { IfOk result (λ opened. opened ≡ record (bare base generation) { room = opened.room }) }
 {
-    match dirty.get_noting(near, name) {
-        Some(mark) => mark.inode.as_ref(),
-        None => clean.get(name),
+    let mut named = NamedFrag::bare(alloc, base, generation);
+    if let Err(refused) = named.reserve(changes) {
+        drop(named);
+        return Err(refused);
     }
+    kept_in(alloc, named)
 }
 
-// Whether a name is there, by the mark that it has or else by what it was.
-fn shows_in(
-    clean: &SortedMap<Name, Inode>,
-    dirty: &SortedMap<Name, Mark>,
-    near: &Finger,
-    name: &Name,
-) -> bool
-    ensures { result ≡ is_some (inode_or (map.get (contents key_cmp dirty.now) name.now)
-        (map.get (contents key_cmp clean.now) name.now)) }
+// The fragment with these names. Takes memory for its box.
+pub(crate) fn kept_in(alloc: Global, named: NamedFrag) -> Result<CachedFrag, AllocError>
+    ensures { IfOk result (λ fragment. fragment ≡ named) }
 {
-    match dirty.get_near(near, name) {
-        Some(mark) => mark.inode.is_some(),
-        None => clean.get(name).is_some(),
-    }
-}
-
-// How many changes fit, where so many do and there is room for others: all of these, so that the next ones ask for
-// none.
-fn room_of(counts: EntryCounts, changes: usize, room: usize) -> usize
-    requires few { counts.files + counts.dirs + changes < 2 ^ 64 }
-    requires within { changes ≤ room }
-    ensures few { counts.files + counts.dirs + result < 2 ^ 64 }
-    ensures within { result ≤ room }
-    ensures most { changes ≤ result }
-{
-    match fits(counts, room) {
-        Ok(()) => room,
-        Err(_) => changes,
-    }
-}
-
-// Whether the counts can hold so many entries more: there is never memory for so many that they can't.
-fn fits(counts: EntryCounts, changes: usize) -> Result<(), AllocError>
-    ensures ok { OnOk result (counts.files + counts.dirs + changes < 2 ^ 64) }
-    ensures err { OnErr result (2 ^ 64 ≤ counts.files + counts.dirs + changes) }
-{
-    match counts.files.checked_add(counts.dirs) {
-        Some(entries) if entries.checked_add(changes as u64).is_some() => Ok(()),
-        _ => Err(AllocError),
-    }
+    let named = Box::new(alloc, named)?;
+    Ok(CachedFrag {
+        store: Store::Named(named),
+    })
 }

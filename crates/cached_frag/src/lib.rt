@@ -15,6 +15,7 @@ pub mod laws;
 mod loading;
 mod marks;
 mod moving;
+mod named;
 mod rows;
 mod settling;
 mod snapshots;

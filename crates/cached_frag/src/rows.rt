@@ -7,7 +7,7 @@ ghost use Rattle.cached_frag.specs.Marks.{patched};
 ghost use Rattle.cached_frag.specs.Cached.{shown};
 ghost use Rattle.cached_frag.specs.Rows.{Row, Change, first_of, rows_after, rows_left, with_change};
 
-use crate::fragments::CachedFrag;
+use crate::fragments::{CachedFrag, Store};
 use crate::marks::Mark;
 use mds_types::{Inode, Listing, Name, PageSize};
 use sorted_map::{Iter, SortedMap};
@@ -70,6 +70,16 @@ impl<'a> Model for Rows<'a> {
 }
 
 impl<'a> Rows<'a> {
+    // No names.
+    fn none() -> Rows<'a>
+        ensures { rows_left result ≡ [] }
+    {
+        Rows {
+            clean: Peeked::new(Iter::of_pairs(&[])),
+            dirty: Peeked::new(Iter::of_pairs(&[])),
+        }
+    }
+
     /// Takes the next name, with its inode.
     pub fn next_row(&mut self) -> Option<(&'a Name, &'a Inode)>
         ensures { MatchOption result (rows_left self.old ≡ [])
@@ -135,7 +145,11 @@ impl CachedFrag {
     pub fn rows_after(&self, after: Option<&Name>) -> Rows<'_>
         ensures { rows_left result ≡ rows_after (option_copied after.entry) (map.entries (shown self.now)) }
     {
-        rows_of(&self.clean, &self.dirty, after)
+        match &self.store {
+            Store::Fresh { .. } => Rows::none(),
+            Store::Stored { .. } => Rows::none(),
+            Store::Named(named) => named.rows_after(after),
+        }
     }
 
     /// The first `max` names that it shows and that are greater than one, copied with their inodes, and whether more
@@ -157,7 +171,7 @@ impl CachedFrag {
 }
 
 // What the fragment of these names shows after one.
-fn rows_of<'a>(
+pub(crate) fn rows_of<'a>(
     clean: &'a SortedMap<Name, Inode>,
     dirty: &'a SortedMap<Name, Mark>,
     after: Option<&Name>,

@@ -72,7 +72,8 @@ fn load_object<S: Store>(
     let Some(names) = read_names(alloc, store, text, frag)? else {
         return Ok(None);
     };
-    Ok(counted(CachedFrag::stored(alloc, header.version, names), header))
+    let loaded = CachedFrag::stored(alloc, header.version, names)?;
+    Ok(counted(loaded, header))
 }
 
 // The fragment, if the header has its counts.

@@ -56,7 +56,7 @@ impl Cache {
         ensures { HasCached (cached self.now.entries (dir, frag)) (λ (f : Cached). result ≡ map.len f.dirty) }
     {
         match self.get(dir, frag) {
-            Some(fragment) => fragment.dirty().len(),
+            Some(fragment) => fragment.dirty_count(),
             None => 0,
         }
     }

@@ -47,7 +47,7 @@ fn is_too_long(fragment: Option<&CachedFrag>) -> bool
     ensures { result ≡ is_too_long (option_copied fragment.entry) }
 {
     match fragment {
-        Some(fragment) => fragment.dirty().len() > u32::MAX as usize,
+        Some(fragment) => fragment.dirty_count() > u32::MAX as usize,
         None => false,
     }
 }

@@ -2,9 +2,9 @@
 ghost use Rattle.std.specs.Prelude.{◌≡◌, ◌<◌, ◌≤◌, ◌+◌, ◌^◌, ◌&&◌, true, length, nat_lt, IfOk, option_copied};
 ghost use Rattle.std.specs.List.{list_all};
 ghost use Rattle.std.specs.FinMap as map;
-ghost use Rattle.objstore.specs.Omap.{key_cmp};
 ghost use Rattle.sorted_map.specs.SortedMap.{contents};
 ghost use Rattle.mds_types.specs.Leaf.{leaf_cmp};
+ghost use Rattle.cached_frag.specs.Marks.{AreDirtyNames};
 ghost use Rattle.dirfrag_codec.specs.Values.{is_fragment};
 ghost use Rattle.dentry_cache.specs.Cache.{HasCached};
 ghost use Rattle.dentry_cache.specs.CacheMap.{here};
@@ -102,7 +102,7 @@ fn copy_of(alloc: Global, leaf: &(Ino, Frag), fragment: &CachedFrag) -> Result<S
     knows_leaf(leaf.0, leaf.1);
     let base = fragment.base();
     knows_base(base);
-    let names = names_of(alloc, fragment.dirty())?;
+    let names = names_of(alloc, fragment)?;
     Ok(SentFrag {
         ino: leaf.0,
         frag: leaf.1,
@@ -135,14 +135,14 @@ fn knows_word(number: u64)
     let _ = number;
 }
 
-// The dirty names as they are sent.
-fn names_of(
-    alloc: Global,
-    dirty: &SortedMap<Name, Mark>,
-) -> Result<Vec<(Name, Option<Inode>)>, AllocError>
-    ensures { IfOk result (λ names. names.items ≡ sent_names (contents key_cmp dirty.now)) }
+// The dirty names of a fragment as they are sent.
+fn names_of(alloc: Global, fragment: &CachedFrag) -> Result<Vec<(Name, Option<Inode>)>, AllocError>
+    ensures sent { IfOk result (λ names. names.items ≡ sent_names fragment.now.dirty) }
+    ensures valid { AreDirtyNames fragment.now.dirty }
 {
-    let mut names: Vec<(Name, Option<Inode>)> = Vec::with_capacity(alloc, dirty.len())?;
+    let dirty = fragment.dirty_iter();
+    let count = fragment.dirty_count();
+    let mut names: Vec<(Name, Option<Inode>)> = Vec::with_capacity(alloc, count)?;
     for (name, mark) in dirty {
         names.push(sent_name(name, mark)?)?;
     }

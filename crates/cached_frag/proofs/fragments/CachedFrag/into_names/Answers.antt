@@ -1,11 +1,17 @@
-use Rattle.cached_frag.proofs.Common.{AreEntries, Cached, contents, key_cmp, rules, shown, subst, sym}
-use Rattle.cached_frag.proofs.ShownLaws.{shown_entries}
+use Rattle.cached_frag.proofs.Common.{ap, sym, ◌∙◌}
+use Rattle.cached_frag.specs.Stores.{shown_by}
+use Rattle.cached_frag.proofs.BareLaws.{given_away}
+use Rattle.cached_frag.proofs.KeptLaws.{no_entries}
 use Rattle.cached_frag.proofs.fragments.CachedFrag.into_names.Goals as goal
 
-pub returns-clause-names : goal.returns-clause-names
-returns-clause-names c = search rules
+pub returns-in-Fresh-clause-names : goal.returns-in-Fresh-clause-names
+returns-in-Fresh-clause-names c = given_away _ _ _ (sym (ap shown_by c.in-Fresh.is) ∙ c.self.view_is) _ c.new.ensures.empty
 
-pub returns-clause-entries : goal.returns-clause-entries
-returns-clause-entries c =
-    subst AreEntries (sym (returns-clause-names c))
-    (subst (λ (f : Cached). AreEntries (shown f)) c.self.view_is (shown_entries c.self.inside.base (contents key_cmp c.self.inside.clean) (contents key_cmp c.self.inside.dirty) c.self.invariant.based c.self.invariant.entries c.self.invariant.dirty))
+pub returns-in-Stored-clause-names : goal.returns-in-Stored-clause-names
+returns-in-Stored-clause-names c = given_away _ _ _ (sym (ap shown_by c.in-Stored.is) ∙ c.self.view_is) _ c.new-in-Stored.ensures.empty
+
+pub returns-in-Fresh-clause-entries : goal.returns-in-Fresh-clause-entries
+returns-in-Fresh-clause-entries c = no_entries _ c.new.ensures.empty
+
+pub returns-in-Stored-clause-entries : goal.returns-in-Stored-clause-entries
+returns-in-Stored-clause-entries c = no_entries _ c.new-in-Stored.ensures.empty

@@ -1,10 +1,10 @@
-use Rattle.cached_frag.proofs.Common.{sym, ◌∙◌}
-use Rattle.cached_frag.proofs.ShownLaws.{get-shown, recorded_shown, shown_entries}
+use Rattle.cached_frag.proofs.Common.{ap, sym, ◌∙◌}
+use Rattle.cached_frag.specs.Stores.{shown_by}
+use Rattle.cached_frag.proofs.BareLaws.{none_found}
 use Rattle.cached_frag.proofs.fragments.CachedFrag.look.Goals as goal
 
-pub returns-clause-found : goal.returns-clause-found
-returns-clause-found c = rw (← c.self.view_is) (c.shown_in.ensures ∙ sym (get-shown _ _ _ _ c.self.invariant.based))
+pub returns-in-Fresh-clause-found : goal.returns-in-Fresh-clause-found
+returns-in-Fresh-clause-found c = none_found _ _ _ (sym (ap shown_by c.in-Fresh.is) ∙ c.self.view_is) c.args.name.now
 
-pub returns-clause-recorded : goal.returns-clause-recorded
-returns-clause-recorded c =
-    recorded_shown _ _ _ (shown_entries _ _ _ c.self.invariant.based c.self.invariant.entries c.self.invariant.dirty) (c.shown_in.ensures ∙ sym (get-shown _ _ _ _ c.self.invariant.based))
+pub returns-in-Stored-clause-found : goal.returns-in-Stored-clause-found
+returns-in-Stored-clause-found c = none_found _ _ _ (sym (ap shown_by c.in-Stored.is) ∙ c.self.view_is) c.args.name.now

@@ -1,8 +1,10 @@
-use Rattle.std.specs.Prelude.{is_some}
 use Rattle.cached_frag.proofs.Common.{ap, sym, ◌∙◌}
-use Rattle.cached_frag.proofs.ShownLaws.{get-shown}
+use Rattle.cached_frag.specs.Stores.{shown_by}
+use Rattle.cached_frag.proofs.BareLaws.{none_there}
 use Rattle.cached_frag.proofs.fragments.CachedFrag.shows.Goals as goal
 
-pub returns : goal.returns
-returns c =
-    rw (← c.self.view_is) (c.shows_in.ensures ∙ sym (ap is_some (get-shown _ _ _ _ c.self.invariant.based)))
+pub returns-in-Fresh : goal.returns-in-Fresh
+returns-in-Fresh c = none_there _ _ _ (sym (ap shown_by c.in-Fresh.is) ∙ c.self.view_is) c.args.name.now
+
+pub returns-in-Stored : goal.returns-in-Stored
+returns-in-Stored c = none_there _ _ _ (sym (ap shown_by c.in-Stored.is) ∙ c.self.view_is) c.args.name.now
