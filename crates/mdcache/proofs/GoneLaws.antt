@@ -1,5 +1,5 @@
 -- A directory goes in which nothing is: nothing of it is left but names of objects to be removed, and the tree stays.
-use Rattle.mdcache.proofs.Common.{Bool, Contains, Fragment, HasLeaf, Home, Ino, IsLive, IsPick, Job, Keys, Leaf, List, MayGo, Names, None, NothingIn, Option, Some, State, [], ap, arith, cond, cond_both, dentry-exact, dentry-total, dropped_table, each, false, false_from_ne_true, get-remove, get_beside, get_put, hash_of, in_directory, inl, inr, is_apart, is_known, is_some, later, leaf-total, leaf_equivalence, leaf_is, leaves, leaves_of, list_any, list_any-from_Contains, names_of, nat_list_cmp_total, object_texts_of, one_leaf, or_whole, refl, same_map, shown_tree, some_stays, subst, suc, sym, text_of, tied_leaf, tree_text, true, with_objects, without_directory, without_leaves, zero, ℕ, ⊎_elim, ◌==◌, ◌||◌, ◌∙◌, ◌∷◌, ◌≡◌}
+use Rattle.mdcache.proofs.Common.{Bool, Contains, Fragment, HasLeaf, Home, Ino, IsLive, IsPick, Job, Keys, Leaf, List, MayGo, Names, None, NothingIn, Option, Some, State, [], ap, arith, cond, cond_both, dentry-exact, dentry-total, dropped_table, each, false, false_from_ne_true, get-remove, get_beside, get_put, hash_of, in_directory, inl, inr, is_apart, is_known, is_some, later, leaf-total, leaf_equivalence, leaf_is, leaves, leaves_of, list_any, list_any-from_Contains, names_of, nat_list_cmp_total, object_texts_of, one_leaf, or_whole, refl, same_map, shown_tree, some_stays, subst, suc, sym, text_of, tied_leaf, tree_text, true, with_objects, without_directory, without_leaves, zero, ℕ, ⊎_elim, ◌==◌, ◌||◌, ◌∙◌, ◌∷◌, ◌≡◌, get-insert, key_cmp, eq_by_cmp, exact_bytes}
 use Rattle.std.specs.FinMap as map
 use Rattle.sorted_map.proofs.NatKeys.{get_left as get_left_home, get_removed as get_removed_home, same_or_apart as same_number}
 use Rattle.dentry_cache.specs.Cache.{leaf_cmp}
@@ -56,7 +56,24 @@ leaf_listed names (l ∷ ls) q (zero, within, is) =
     ∙ stays_listed (map.insert names (text_of l) tt) (each text_of ls) (text_of l) (ap is_some (get_put names (text_of l) tt))
 leaf_listed names (l ∷ ls) q (suc k, within, is) = leaf_listed (map.insert names (text_of l) tt) ls q (k, omega (arith, within), is)
 
--- and any other is as it was
+-- two names go on a list in any order
+pub either_first : (names : Keys) (a b : List ℕ) → map.insert (map.insert names a tt) b tt ≡ map.insert (map.insert names b tt) a tt
+either_first names a b =
+    same_map nat_list_cmp_total exact_bytes (map.insert (map.insert names a tt) b tt) (map.insert (map.insert names b tt) a tt) (λ q.
+    put_twice a b q ∙ swapped (eq_by_cmp key_cmp q b) (eq_by_cmp key_cmp q a) (map.get names q) ∙ sym (put_twice b a q))
+  where
+    put_twice : (x y q : List ℕ) → map.get (map.insert (map.insert names x tt) y tt) q ≡ cond (eq_by_cmp key_cmp q y) (Some tt) (cond (eq_by_cmp key_cmp q x) (Some tt) (map.get names q))
+    put_twice x y q =
+        get-insert nat_list_cmp_total (map.insert names x tt) y tt q
+        ∙ ap (λ o. cond (eq_by_cmp key_cmp q y) (Some tt) o) (get-insert nat_list_cmp_total names x tt q)
+
+    swapped : (b c : Bool) (o : Option (Unit {0})) → cond b (Some tt) (cond c (Some tt) o) ≡ cond c (Some tt) (cond b (Some tt) o)
+    swapped true true o = refl
+    swapped true false o = refl
+    swapped false true o = refl
+    swapped false false o = refl
+
+-- any other is as it was
 pub beside_on : (names : Keys) (dir : Ino) (fs : List Fragment) (q : List ℕ) → ((f : Fragment) → HasLeaf fs f → q ≡ text_of (dir, f) → ⊥) → map.get (with_objects names (each text_of (each (in_directory dir.0) fs))) q ≡ map.get names q
 beside_on names dir [] q none = refl
 beside_on names dir (g ∷ fs) q none =

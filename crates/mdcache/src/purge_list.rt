@@ -14,9 +14,12 @@ use std::marker::Model;
 #[derive(Debug, Drop)]
 pub struct PurgeList {
     names: SortedMap<ObjText, ()>,
+    // how many of the map's places are counted as room: fewer than there are, where names went
+    room: usize,
 }
 
 impl Model for PurgeList {
+    ghost use Rattle.std.specs.Prelude.{◌≤◌};
     ghost use Rattle.std.specs.Coded.{codes};
     ghost use Rattle.std.specs.FinMap as map;
     ghost use Rattle.objstore.specs.Omap.{key_cmp};
@@ -27,7 +30,9 @@ impl Model for PurgeList {
 
     ghost coded = { Prim.hlevel (codes, map.code) };
 
-    ghost view = { λ l. record { names = contents key_cmp l.names; room = l.names.room } };
+    ghost view = { λ l. record { names = contents key_cmp l.names; room = l.room } };
+
+    ghost invariant = { λ l. l.room ≤ l.names.room };
 }
 
 impl PurgeList {
@@ -37,6 +42,7 @@ impl PurgeList {
     {
         PurgeList {
             names: SortedMap::new(alloc),
+            room: 0,
         }
     }
 
@@ -44,7 +50,7 @@ impl PurgeList {
     pub fn of(names: SortedMap<ObjText, ()>) -> PurgeList
         ensures { result.names ≡ contents key_cmp names }
     {
-        PurgeList { names }
+        PurgeList { names, room: 0 }
     }
 
     /// How many names wait.
@@ -65,7 +71,7 @@ impl PurgeList {
     pub fn room(&self) -> usize
         ensures { result ≡ self.now.room }
     {
-        self.names.room()
+        self.room
     }
 
     /// Whether a name waits. Takes logarithmic time.
@@ -93,7 +99,12 @@ impl PurgeList {
         ensures ready { names ≤ self.old.room → IsOk result × (self.new ≡ self.old) }
         ensures err { OnErr result (self.new ≡ self.old) }
     {
-        self.names.reserve(names)
+        if names <= self.room {
+            return Ok(());
+        }
+        self.names.reserve(names)?;
+        self.room = self.names.room();
+        Ok(())
     }
 
     /// Puts a name on the list, for which there is room; one that is on it stays. Takes no memory.
@@ -103,6 +114,7 @@ impl PurgeList {
         ensures room { self.old.room ≤ self.new.room + 1 }
     {
         let _ = self.names.insert(name, ());
+        self.room -= 1;
     }
 
     /// Takes a name off the list; one that isn't on it changes nothing. Takes no memory.
