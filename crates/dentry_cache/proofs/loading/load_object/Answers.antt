@@ -16,4 +16,4 @@ stored-requires g c = entries_read c.args.frag (map.get (g.S.Store.objects c.rea
 pub returns-clause-loaded : goal.returns-clause-loaded
 returns-clause-loaded g c =
     loaded_is c.args.frag _ (map.get (g.S.Store.objects c.read_header.new.store) c.args.text.now) c.in-Some-2.names c.in-Some.header _ c.counted.result (ap (λ (o : Objects). map.get o c.args.text.now) c.read_header.ensures.same)
-    (rw c.in-Some.is at c.in_ok-header.ensures.read) (rw c.in-Some-2.is at c.in_ok-names.ensures.read) c.stored.ensures c.counted.ensures
+    (rw c.in-Some.is at c.in_ok-header.ensures.read) (rw c.in-Some-2.is at c.in_ok-names.ensures.read) c.in_ok-loaded.ensures c.counted.ensures
