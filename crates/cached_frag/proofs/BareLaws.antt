@@ -7,7 +7,7 @@ use Rattle.dirfrag_codec.specs.EntryRecord.{HasRecord}
 use Rattle.dirfrag_codec.proofs.ByteKeys.{one_map}
 use Rattle.cached_frag.specs.Cached.{is_clean, is_settled, snapshot_of, unsettled}
 use Rattle.cached_frag.specs.Snap.{Snap}
-use Rattle.cached_frag.specs.Stores.{bare}
+use Rattle.cached_frag.specs.Stores.{nameless}
 use Rattle.cached_frag.proofs.CountedLaws.{nothing_counted}
 use Rattle.cached_frag.proofs.MarkLaws.{none_dirty}
 use Rattle.cached_frag.proofs.SettledLaws.{get-unsettled}
@@ -16,11 +16,11 @@ use Rattle.cached_frag.proofs.ShownLaws.{nothing_shown}
 no_pairs : {X : Type 0} → [] ≡ map.entries (map.empty {X = X} {R = key_cmp})
 no_pairs {X} = sym (nil_from_length _ (sym (len-entries (map.empty {X = X} {R = key_cmp})) ∙ len-empty key_cmp X))
 
-none_in : (base : Base) (generation : ℕ) → shown (bare base generation) ≡ map.empty
+none_in : (base : Base) (generation : ℕ) → shown (nameless base generation) ≡ map.empty
 none_in Fresh generation = nothing_shown map.empty refl
 none_in (Stored version) generation = nothing_shown map.empty refl
 
-module _ (base : Base) (generation : ℕ) (f : Cached) (is : bare base generation ≡ f) where
+module _ (base : Base) (generation : ℕ) (f : Cached) (is : nameless base generation ≡ f) where
   pub nothing : shown f ≡ map.empty
   nothing = sym (ap (λ (g : Cached). shown g) is) ∙ none_in base generation
 
@@ -82,5 +82,5 @@ module _ (base : Base) (generation : ℕ) (f : Cached) (is : bare base generatio
       sym (one_map _ _ (λ q. get-unsettled f.dirty snap q ∙ ap (λ (r : Option Mark). cond (not (is_settled r (map.get snap q))) r None) (nowhere q) ∙ sym (get-empty key_cmp q)))
 
 -- where its object counts it is clean
-pub all_clean : (version generation : ℕ) (f : Cached) → bare (Stored version) generation ≡ f → true ≡ is_clean f
+pub all_clean : (version generation : ℕ) (f : Cached) → nameless (Stored version) generation ≡ f → true ≡ is_clean f
 all_clean version generation f is = ap (λ (n : ℕ). n == 0) (sym (len-empty key_cmp Mark)) ∙ ap is_clean is

@@ -8,11 +8,11 @@ use Rattle.cached_frag.specs.declared.fragments.Store.TheVariants.{Fresh as Neve
 use Rattle.cached_frag.specs.Cached.{Cached}
 
 -- a fragment with neither names nor room for any
-abbrev pub bare : Base → ℕ → Cached
-bare base generation =
+abbrev pub nameless : Base → ℕ → Cached
+nameless base generation =
     record { base = base; generation = generation; clean = map.empty; dirty = map.empty; room = 0; places = 0 }
 
-abbrev pub shown_by : Store → Cached
-shown_by (NeverCommitted alloc generation) = bare Fresh generation
-shown_by (Committed alloc version generation) = bare (Stored version) generation
-shown_by (Named f) = f.value
+abbrev pub cached_by : Store → Cached
+cached_by (NeverCommitted alloc generation) = nameless Fresh generation
+cached_by (Committed alloc version generation) = nameless (Stored version) generation
+cached_by (Named f) = f.value

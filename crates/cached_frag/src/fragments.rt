@@ -4,7 +4,7 @@ ghost use Rattle.std.specs.FinMap as map;
 ghost use Rattle.dirfrag_codec.specs.EntryRecord.{HasRecord};
 ghost use Rattle.cached_frag.specs.Snap.{counts_of};
 ghost use Rattle.cached_frag.specs.Cached.{is_clean, shown};
-ghost use Rattle.cached_frag.specs.Stores.{bare};
+ghost use Rattle.cached_frag.specs.Stores.{nameless};
 
 use crate::bases::{Base, EntryCounts};
 use crate::named::fragments::NamedFrag;
@@ -46,13 +46,13 @@ impl Model for CachedFrag {
     ghost use Rattle.std.specs.Coded.{codes};
     ghost use Rattle.std.specs.FinMap as map;
     ghost use Rattle.cached_frag.specs.Cached.{Cached};
-    ghost use Rattle.cached_frag.specs.Stores.{shown_by};
+    ghost use Rattle.cached_frag.specs.Stores.{cached_by};
 
     ghost Value = { Cached };
 
     ghost coded = { Prim.hlevel (codes, map.code) };
 
-    ghost view = { λ f. shown_by f.store };
+    ghost view = { λ f. cached_by f.store };
 }
 
 impl CachedFrag {
@@ -218,7 +218,7 @@ impl CachedFrag {
         generation: u64,
         changes: usize,
     ) -> Result<(), AllocError>
-        requires { self.old ≡ bare base generation }
+        requires { self.old ≡ nameless base generation }
         ensures same { self.new ≡ record self.old { room = self.new.room } }
         ensures room { OnOk result (changes ≤ self.new.room) }
         ensures grows { self.old.room ≤ self.new.room }
@@ -242,7 +242,7 @@ fn opened(
     changes: usize,
 ) -> Result<CachedFrag, AllocError>
     ensures room { IfOk result (λ opened. changes ≤ opened.room) }
-    ensures bare { IfOk result (λ opened. opened ≡ record (bare base generation) { room = opened.room }) }
+    ensures bare { IfOk result (λ opened. opened ≡ record (nameless base generation) { room = opened.room }) }
 {
     let mut named = NamedFrag::bare(alloc, base, generation);
     if let Err(refused) = named.reserve(changes) {

@@ -2,7 +2,7 @@
 ghost use Rattle.std.specs.Prelude.{◌≡◌, ◌≤◌, IsOk, IfOk, OnOk, OnErr};
 ghost use Rattle.std.specs.FinMap as map;
 ghost use Rattle.cached_frag.specs.Cached.{shown, unsettled};
-ghost use Rattle.cached_frag.specs.Stores.{bare};
+ghost use Rattle.cached_frag.specs.Stores.{nameless};
 
 use crate::bases::Base;
 use crate::dirty_names::DirtyNames;
@@ -70,7 +70,7 @@ impl CachedFrag {
         generation: u64,
         names: usize,
     ) -> Result<(), AllocError>
-        requires { self.old ≡ bare base generation }
+        requires { self.old ≡ nameless base generation }
         ensures ok { OnOk result (names ≤ self.new.places) }
         ensures same { self.new ≡ record self.old { places = self.new.places } }
         ensures grows { self.old.places ≤ self.new.places }
@@ -94,7 +94,7 @@ fn with_places(
     names: usize,
 ) -> Result<CachedFrag, AllocError>
     ensures places { IfOk result (λ opened. names ≤ opened.places) }
-    ensures bare { IfOk result (λ opened. opened ≡ record (bare base generation) { places = opened.places }) }
+    ensures nameless { IfOk result (λ opened. opened ≡ record (nameless base generation) { places = opened.places }) }
 {
     let mut named = NamedFrag::bare(alloc, base, generation);
     if let Err(refused) = named.reserve_settled(names) {
