@@ -1,4 +1,4 @@
-use Rattle.export_regions.proofs.Common.{IsWord, ap, is_sent_frag, sent_names, subst, ◌∙◌}
+use Rattle.export_regions.proofs.Common.{IsWord, is_sent_frag, subst, ◌∙◌}
 use Rattle.export_regions.proofs.NameLaws.{frag_sendable}
 use Rattle.export_regions.proofs.gathering.copy_of.Goals as goal
 
