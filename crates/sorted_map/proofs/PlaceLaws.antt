@@ -8,6 +8,7 @@ use Rattle.std.specs.List.Sorted.{IsSearchInRange, IsBinarySearchResult, IsNonDe
 use Rattle.std.specs.FinMap.Entries.{find, put, where_key, is_sorted, below_all}
 use Rattle.sorted_map.proofs.Bools.{left_of, right_of, both_of, true_of, false_of}
 use Rattle.sorted_map.specs.SortedMap.{after, is_from}
+use Rattle.sorted_map.specs.Homes.{starts_above}
 use Rattle.sorted_map.specs.Places.{IsAt, IsGap, IsPlace}
 
 pub less : (r : Ordering) → T (is_lt r) → r ≡ Less
@@ -114,6 +115,11 @@ module _ {K V : Type 0} {R : K → K → Ordering} (o : IsTotalOrder R) where
       let next = get_or es i d in
       let below : R x.0 next.0 ≡ Less = below_at x.0 es i d (left_of _ _ s) (omega (arith, lt)) in
       (turned o x.0 k Less (o.trans x.0 next.0 k below (turned o k next.0 Greater above)), gap_behind k es i d (right_of _ _ s) (omega (arith, lt)) above rest)
+
+  -- a list that has a pair below a key doesn't start above it
+  pub starts_below : (k : K) (es : List (K × V)) (i : ℕ) → IsGap R k es (suc i) → starts_above R k es ≡ false
+  starts_below k [] i gap = refl
+  starts_below k (e ∷ es) i gap = ap is_lt gap.0
 
   -- a key that ties with one of a list
   pub at_tied : (k : K) (es : List (K × V)) (i : ℕ) (d : K × V) → T (is_sorted R es) → i < length es → R k (get_or es i d).0 ≡ Equal → IsGap R k (drop (suc i) es) zero → IsAt R k es i

@@ -4,8 +4,8 @@ ghost use Rattle.std.specs.FinMap as map;
 ghost use Rattle.sorted_map.specs.SortedMap.{contents, first_pair};
 
 use crate::chunked::map::ChunkMap;
-use crate::chunked::places::spot;
-use crate::chunks::{put_value, take_out};
+use crate::chunked::places::{spot, spot_behind};
+use crate::chunks::{put_new, put_value, take_out};
 use crate::fingers::Finger;
 use crate::keys::{ExactOrd, Probe};
 
@@ -17,6 +17,11 @@ impl<K: ExactOrd + Drop, V: Drop> ChunkMap<K, V> {
         ensures inserted { contents K.cmp self.new ≡ map.insert (contents K.cmp self.old) key value }
         ensures room { (if is_some result then self.old.room else self.old.room - 1) ≤ self.new.room }
     {
+        // keys often come in their order
+        if let Some((home, at)) = spot_behind(self.chunks.row(), &key) {
+            put_new(&mut self.chunks, home, at, (key, value));
+            return None;
+        }
         self.insert_near(&Finger::none(), key, value)
     }
 

@@ -1,9 +1,9 @@
 //! Where a key stands among pairs in chunks.
-ghost use Rattle.std.specs.Prelude.{◌≡◌, ◌<◌, [], T, OnOk, length, slice_index_or};
+ghost use Rattle.std.specs.Prelude.{◌≡◌, ◌<◌, ◌≤◌, ◌+◌, [], T, Err, IfSome, OnOk, length, slice_index_or};
 ghost use Rattle.std.specs.List.Sorted.{IsSearchInRange};
 ghost use Rattle.std.specs.FinMap.{is_sorted};
 ghost use Rattle.sorted_map.specs.Places.{IsPlace};
-ghost use Rattle.sorted_map.specs.Chunks.{flat, AllSome};
+ghost use Rattle.sorted_map.specs.Chunks.{flat, start, AllSome};
 ghost use Rattle.sorted_map.specs.Homes.{place_in, starts_above, IsHome};
 
 use crate::chunks::Chunk;
@@ -49,6 +49,30 @@ pub(crate) fn spot_from_end<K: Ord, V, Q: Probe<K>>(
         return spot(chunks, q);
     }
     (last, place_from_end(chunks[last].pairs(), q))
+}
+
+/// The last chunk and its end, where the probe's key is above all others: one comparison tells.
+pub(crate) fn spot_behind<K: Ord, V, Q: Probe<K>>(
+    chunks: &[Chunk<K, V>],
+    q: &Q,
+) -> Option<(usize, usize)>
+    requires sorted { T (is_sorted K.cmp (flat chunks.now)) }
+    requires some { AllSome chunks.now }
+    ensures home { IfSome result (λ s. s.0 < length chunks.now) }
+    ensures within { IfSome result (λ s. s.1 ≤ length (slice_index_or chunks.now s.0 [])) }
+    ensures place { IfSome result (λ s. IsPlace K.cmp (Q.key q.now) (flat chunks.now) (Err (start chunks.now s.0 + s.1))) }
+{
+    if chunks.is_empty() {
+        return None;
+    }
+    let home = chunks.len() - 1;
+    let pairs = chunks[home].pairs();
+    let at = pairs.len();
+    if at > 0 && q.order(&pairs[at - 1].0).is_gt() {
+        Some((home, at))
+    } else {
+        None
+    }
 }
 
 // The chunk where the probe's key stands or would go.
