@@ -18,6 +18,11 @@ pub const HALF: usize = 32;
 /// those which come between later: with none left each of them would part a chunk, and move all the chunks behind it.
 pub(crate) const FILLED: usize = 58;
 
+/// The most pairs that two neighbours have together where they are joined. The places that are left take those which come
+/// next: a chunk that is joined full would be parted by the first of them. And a chunk that empties beside one that was
+/// filled in order isn't joined with it, whose pairs would all move.
+pub(crate) const JOINED: usize = 56;
+
 /// Some pairs, at most 64, in the order in which they stand. Seen by the pairs alone.
 #[derive(Debug, Drop)]
 pub struct Chunk<K, V> {
@@ -98,6 +103,7 @@ impl<K, V> Chunk<K, V> {
 
 impl<K: Drop, V: Drop> Chunk<K, V> {
     /// Puts a pair in at a place. Those from there on move.
+    #[inline(always)]
     pub(crate) fn put_at(&mut self, at: usize, pair: (K, V))
         requires within { at ≤ length self.old }
         requires room { length self.old < 64 }

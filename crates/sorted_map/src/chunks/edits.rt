@@ -2,7 +2,7 @@
 ghost use Rattle.std.specs.Prelude.{◌≡◌, ◌+◌, ◌-◌, ◌<◌, ◌≤◌, ◌∷◌, [], length, slice_index_or, slice_set, insert, remove};
 ghost use Rattle.sorted_map.specs.Chunks.{flat, load, start, room_in, AllSome};
 
-use crate::chunks::chunk::{FILLED, HALF, MOST};
+use crate::chunks::chunk::{FILLED, HALF, JOINED, MOST};
 use crate::chunks::row::Chunks;
 
 /// Puts a pair in at a place of chunk `home`, for which there is room. Takes no memory, and at most one of the room.
@@ -29,6 +29,21 @@ pub fn put_new<K: Drop, V: Drop>(chunks: &mut Chunks<K, V>, home: usize, at: usi
         put_within(chunks, home, at, pair);
         return;
     }
+    put_parting(chunks, home, at, pair);
+}
+
+// Puts a pair into a full chunk, which is parted; a half that fits is joined with its neighbour.
+#[inline(never)]
+fn put_parting<K: Drop, V: Drop>(chunks: &mut Chunks<K, V>, home: usize, at: usize, pair: (K, V))
+    requires some { AllSome chunks.old.lists }
+    requires home { home < length chunks.old.lists }
+    requires within { at ≤ 64 }
+    requires full { length (slice_index_or chunks.old.lists home []) ≡ 64 }
+    requires room { 0 < room_in chunks.old }
+    ensures items { flat chunks.new.lists ≡ insert (flat chunks.old.lists) (start chunks.old.lists home + at) pair }
+    ensures some { AllSome chunks.new.lists }
+    ensures room { room_in chunks.old ≤ room_in chunks.new + 1 }
+{
     put_apart(chunks, home, at, pair);
     join(chunks, home + 1);
     if 0 < home {
@@ -37,6 +52,7 @@ pub fn put_new<K: Drop, V: Drop>(chunks: &mut Chunks<K, V>, home: usize, at: usi
 }
 
 // Puts the first pair in.
+#[inline(never)]
 fn put_first<K: Drop, V: Drop>(chunks: &mut Chunks<K, V>, pair: (K, V))
     requires none { length chunks.old.lists ≡ 0 }
     requires room { 0 < room_in chunks.old }
@@ -49,6 +65,7 @@ fn put_first<K: Drop, V: Drop>(chunks: &mut Chunks<K, V>, pair: (K, V))
 }
 
 // Puts a pair behind all others, in a chunk of its own. The last chunk is more than half full, and stays as it is.
+#[inline(never)]
 fn put_behind<K: Drop, V: Drop>(chunks: &mut Chunks<K, V>, home: usize, pair: (K, V))
     requires some { AllSome chunks.old.lists }
     requires last { home + 1 ≡ length chunks.old.lists }
@@ -66,6 +83,7 @@ fn put_behind<K: Drop, V: Drop>(chunks: &mut Chunks<K, V>, home: usize, pair: (K
 }
 
 // Puts a pair into a chunk that isn't full.
+#[inline(always)]
 fn put_within<K: Drop, V: Drop>(chunks: &mut Chunks<K, V>, home: usize, at: usize, pair: (K, V))
     requires some { AllSome chunks.old.lists }
     requires home { home < length chunks.old.lists }
@@ -131,7 +149,7 @@ pub fn take_out<K: Drop, V: Drop>(chunks: &mut Chunks<K, V>, home: usize, at: us
     pair
 }
 
-// Keeps a chunk as room if it is empty, or joins it with a neighbour if they fit into one.
+// Keeps a chunk as room if it is empty, or joins it with a neighbour if they fit into one, with places to spare.
 fn tidy<K: Drop, V: Drop>(chunks: &mut Chunks<K, V>, home: usize)
     requires home { home < length chunks.old.lists }
     requires others { AllSome (remove chunks.old.lists home) }
@@ -149,7 +167,8 @@ fn tidy<K: Drop, V: Drop>(chunks: &mut Chunks<K, V>, home: usize)
     }
 }
 
-// Joins a chunk with the next if they fit into one.
+// Joins a chunk with the next if they fit into one, with places to spare.
+#[inline(always)]
 fn join<K: Drop, V: Drop>(chunks: &mut Chunks<K, V>, home: usize)
     requires some { AllSome chunks.old.lists }
     ensures items { flat chunks.new.lists ≡ flat chunks.old.lists }
@@ -157,7 +176,7 @@ fn join<K: Drop, V: Drop>(chunks: &mut Chunks<K, V>, home: usize)
     ensures room { room_in chunks.old ≤ room_in chunks.new }
 {
     let row = chunks.row();
-    if home < row.len().saturating_sub(1) && row[home].len() + row[home + 1].len() <= MOST {
+    if home < row.len().saturating_sub(1) && row[home].len() + row[home + 1].len() <= JOINED {
         chunks.move_down(home);
     }
 }

@@ -188,6 +188,7 @@ impl<K: Drop, V: Drop> Chunks<K, V> {
     }
 
     /// Puts a pair in at a place of a chunk that isn't full.
+    #[inline(always)]
     pub(crate) fn put_at(&mut self, home: usize, at: usize, pair: (K, V))
         requires home { home < length self.old.lists }
         requires within { at ≤ length (slice_index_or self.old.lists home []) }
@@ -244,6 +245,7 @@ impl<K: Drop, V: Drop> Chunks<K, V> {
     }
 
     /// Moves the pairs of a chunk to the end of the one before it.
+    #[inline(never)]
     pub(crate) fn move_down(&mut self, home: usize)
         requires home { home + 1 < length self.old.lists }
         requires room { length (slice_index_or self.old.lists home [])

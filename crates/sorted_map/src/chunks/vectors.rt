@@ -4,6 +4,7 @@ ghost use Rattle.std.specs.Prelude.{◌≡◌, ◌+◌, ◌<◌, ◌≤◌, ◌+
 use std::mem;
 
 /// Puts an item in at a place, where there is room.
+#[inline(always)]
 pub fn put_at<T: Drop>(items: &mut Vec<T>, at: usize, item: T)
     requires within { at ≤ vec_len items.old }
     requires room { vec_len items.old < vec_capacity items.old }
@@ -16,6 +17,18 @@ pub fn put_at<T: Drop>(items: &mut Vec<T>, at: usize, item: T)
         items.push_reserved(item);
         return;
     }
+    put_between(items, at, item);
+}
+
+// Puts an item in before the one at a place.
+#[inline(never)]
+fn put_between<T: Drop>(items: &mut Vec<T>, at: usize, item: T)
+    requires within { at ≤ vec_len items.old }
+    requires room { vec_len items.old < vec_capacity items.old }
+    ensures items { items.new.items ≡ insert items.old.items at item }
+    ensures len { vec_len items.new ≡ vec_len items.old + 1 }
+    ensures capacity { vec_capacity items.new ≡ vec_capacity items.old }
+{
     let _ = items.insert(at, item);
 }
 
@@ -32,13 +45,17 @@ pub fn replaced<K, V>(pairs: &mut Vec<(K, V)>, at: usize, value: V) -> V
     mem::replace(&mut pair.1, value)
 }
 
-/// Drops so many items from the front.
+/// Drops so many items from the front: mostly it is one.
 pub fn drop_front<T: Drop>(items: &mut Vec<T>, count: usize)
     requires { count ≤ vec_len items.old }
     ensures items { items.new.items ≡ drop count items.old.items }
     ensures len { vec_len items.new + count ≡ vec_len items.old }
     ensures capacity { vec_capacity items.new ≡ vec_capacity items.old }
 {
+    if count == 1 {
+        drop(items.remove(0));
+        return;
+    }
     drop(items.drain(..count));
 }
 
