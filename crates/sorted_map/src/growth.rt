@@ -15,6 +15,7 @@ impl<K: ExactOrd + Drop, V: Drop> SortedMap<K, V> {
     /// Makes room for `additional` more keys, so that as many insertions cannot fail.
     ///
     /// An error says that memory ran out. Where the room is there already nothing is done, and there is no error.
+    #[inline(always)]
     pub fn reserve(&mut self, additional: usize) -> Result<(), AllocError>
         ensures ok { OnOk result (additional ≤ self.new.room) }
         ensures same { contents K.cmp self.new ≡ contents K.cmp self.old }
@@ -25,6 +26,18 @@ impl<K: ExactOrd + Drop, V: Drop> SortedMap<K, V> {
         if additional <= self.room() {
             return Ok(());
         }
+        self.grow(additional)
+    }
+
+    // Makes room for so many more keys, where there is less.
+    #[inline(never)]
+    fn grow(&mut self, additional: usize) -> Result<(), AllocError>
+        requires { self.old.room < additional }
+        ensures ok { OnOk result (additional ≤ self.new.room) }
+        ensures same { contents K.cmp self.new ≡ contents K.cmp self.old }
+        ensures grows { self.old.room ≤ self.new.room }
+        ensures err { OnErr result (self.new ≡ self.old) }
+    {
         match &mut self.store {
             Store::Flat(flat) => {
                 if additional <= MOST.saturating_sub(flat.len()) {

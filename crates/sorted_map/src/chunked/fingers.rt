@@ -107,6 +107,7 @@ fn note(near: &Cell<Finger>, home: usize, at: usize) {
 }
 
 // The chunk of the probe's key and its place there, or that where it would go, as `spot_from_end` finds them.
+#[inline(always)]
 pub(crate) fn spot_near<K: Ord, V, Q: Probe<K>>(
     chunks: &[Chunk<K, V>],
     near: &Finger,
@@ -122,6 +123,23 @@ pub(crate) fn spot_near<K: Ord, V, Q: Probe<K>>(
     if let Some(place) = place_at(chunks, &near.last, q) {
         return (near.last.home as usize, place);
     }
+    spot_beside(chunks, near, q)
+}
+
+// The same, where it isn't the one that was sought last.
+#[inline(never)]
+fn spot_beside<K: Ord, V, Q: Probe<K>>(
+    chunks: &[Chunk<K, V>],
+    near: &Finger,
+    q: &Q,
+) -> (usize, Result<usize, usize>)
+    requires sorted { T (is_sorted K.cmp (flat chunks.now)) }
+    requires some { AllSome chunks.now }
+    ensures found { OnOk result.1 (result.0 < length chunks.now) }
+    ensures home { 0 < length chunks.now → result.0 < length chunks.now }
+    ensures within { IsSearchInRange result.1 (length (slice_index_or chunks.now result.0 [])) }
+    ensures place { IsPlace K.cmp (Q.key q.now) (flat chunks.now) (place_in chunks.now result.0 result.1) }
+{
     if let Some(place) = place_at(chunks, &near.before, q) {
         return (near.before.home as usize, place);
     }
@@ -129,6 +147,7 @@ pub(crate) fn spot_near<K: Ord, V, Q: Probe<K>>(
 }
 
 // The place of the probe's key in the chunk of a spot, if that is this one, or where it would go.
+#[inline(always)]
 fn place_at<K: Ord, V, Q: Probe<K>>(
     chunks: &[Chunk<K, V>],
     spot: &Spot,
@@ -148,6 +167,7 @@ fn place_at<K: Ord, V, Q: Probe<K>>(
 }
 
 // The place of the probe's key in a chunk, if that is this one, or where it would go.
+#[inline(always)]
 fn place_near<K: Ord, V, Q: Probe<K>>(
     chunks: &[Chunk<K, V>],
     home: usize,
