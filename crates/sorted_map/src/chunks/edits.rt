@@ -6,6 +6,7 @@ use crate::chunks::chunk::{FILLED, HALF, JOINED, MOST};
 use crate::chunks::row::Chunks;
 
 /// Puts a pair in at a place of chunk `home`, for which there is room. Takes no memory, and at most one of the room.
+#[inline(always)]
 pub fn put_new<K: Drop, V: Drop>(chunks: &mut Chunks<K, V>, home: usize, at: usize, pair: (K, V))
     requires some { AllSome chunks.old.lists }
     requires home { 0 < length chunks.old.lists → home < length chunks.old.lists }
