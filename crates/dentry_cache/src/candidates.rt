@@ -68,6 +68,7 @@ impl Candidates {
     ///
     /// A leaf of fewer than 3 bits that stays large, or stays none, costs no search. Another one costs a look at its
     /// siblings while it has few entries.
+    #[inline(always)]
     pub(crate) fn resize(
         &mut self,
         places: &PlaceLru,
@@ -103,6 +104,7 @@ fn keep_large(large: &mut LeafSet, leaf: &(Ino, Frag), was: Option<usize>, now: 
 }
 
 // The fragment that has a leaf as one of its eight children is among the small ones if these are few now.
+#[inline(never)]
 fn keep_small(small: &mut LeafSet, places: &PlaceLru, leaf: &(Ino, Frag))
     requires rise { Rise small.old.leaves.items }
     requires room { (q : Leaf) → IsFragment q.1 → q.1.bits + 3 ≤ 24 → are_few (sizes_of places.now.entries) q ≡ true

@@ -47,6 +47,7 @@ impl LeafSet {
     }
 
     /// Puts a leaf in, or takes it out. A leaf that comes needs room.
+    #[inline(never)]
     pub(crate) fn set(&mut self, leaf: &(Ino, Frag), is: bool)
         requires rise { Rise self.old.leaves.items }
         requires room { is ≡ true → is_in leaf.now self.old.leaves.items ≡ false

@@ -92,6 +92,7 @@ impl PurgeList {
     }
 
     /// Makes room for so many names. Where the room is there already nothing is done, and there is no error.
+    #[inline(always)]
     pub fn reserve(&mut self, names: usize) -> Result<(), AllocError>
         ensures ok { OnOk result (names ≤ self.new.room) }
         ensures same { self.new.names ≡ self.old.names }

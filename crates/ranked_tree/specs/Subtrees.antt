@@ -31,6 +31,11 @@ Rules tree roots leaf rank = HasAuthority roots tree.homes tree.covers leaf rank
 abbrev pub HoldsAt : TreeState → Roots → Dirfrag → Type 0
 HoldsAt tree roots at = Rules tree roots (leaf_of at) at.rank
 
+-- no export stands, and no leaf of a directory is a root: none is frozen, and each has the authority of the leaf where the
+-- directory's name lies
+abbrev pub Inherits : Roots → Standing → Ino → Type 0
+Inherits roots exports dir = (exports ≡ map.empty) × ((leaf : Leaf) → leaf.0.0 ≡ dir.0 → map.get roots leaf ≡ None)
+
 -- each leaf of the root directory is a root, and only leaves are
 abbrev pub AreRoots : TreeState → Roots → Type 0
 AreRoots tree roots = IsSubtrees roots tree.homes tree.covers

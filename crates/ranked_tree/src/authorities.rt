@@ -11,7 +11,7 @@ ghost use Rattle.mdcache.specs.Shown.{shown_tree};
 ghost use Rattle.ranked_tree.specs.Exported.{IsAnyFrozen, IsFrozenIn, IsUnder, held_in};
 ghost use Rattle.ranked_tree.specs.Ranked.{IsFrozenLeaf, held_roots};
 ghost use Rattle.ranked_tree.specs.Held.{IsOwned};
-ghost use Rattle.ranked_tree.specs.Subtrees.{AllHave, AreRoots, HoldsAt, Rules};
+ghost use Rattle.ranked_tree.specs.Subtrees.{AllHave, AreRoots, HoldsAt, Inherits, Rules};
 
 use crate::inside::{all_have, some_frozen};
 use crate::ranked_tree::RankedTree;
@@ -91,6 +91,15 @@ impl<S: Store + Drop> RankedTree<S> {
         ensures { Rules (state_of self.now.tree) self.now.subtrees.roots (leaf_of at.now) result }
     {
         authority_at(&self.tree, &self.regions, at)
+    }
+
+    /// Whether no leaf of a directory can be frozen or have another authority than the leaf where the directory's name
+    /// lies: no export stands, and no rank knows of a subtree root in it. Takes no memory, and no search of the directory
+    /// table. It may be false of others too, whose leaves have to be asked one by one.
+    pub fn inherits(&self, dir: Ino) -> bool
+        ensures { result ≡ true → Inherits self.now.subtrees.roots self.now.exports dir }
+    {
+        inherits(&self.regions, dir)
     }
 
     /// Whether each leaf of a directory that lies properly inside a fragment has this rank as its authority. Takes no
@@ -249,6 +258,16 @@ fn is_frozen<S: Store + Drop>(tree: &MdCache<S>, regions: &Regions, dir: Ino, fr
     regions
         .exports
         .is_frozen(&regions.roots, tree.dirs(), dir, frag)
+}
+
+// Whether no export stands, and no rank knows of a root in a directory.
+fn inherits(regions: &Regions, dir: Ino) -> bool
+    ensures { result ≡ true → Inherits regions.now.roots.roots regions.now.exports dir }
+{
+    if regions.exports.len() != 0 {
+        return false;
+    }
+    !regions.roots.knows_of(dir)
 }
 
 // Whether a leaf of a directory that lies properly inside a fragment is frozen.

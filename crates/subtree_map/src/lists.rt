@@ -1,14 +1,15 @@
 //! `Lists`: for each rank a list of what it knows of leaves. A contract sees the roots, which are what all of them
 //! claim.
-ghost use Rattle.std.specs.Prelude.{◌^◌, ◌≡◌, ◌+◌, ◌<◌, ◌≤◌, None, Some, IsOk, IsSome, IfErr, IfOk, IfSome, OnErr, OnOk, is_some, length};
+ghost use Rattle.std.specs.Prelude.{◌^◌, ◌≡◌, ◌+◌, ◌<◌, ◌≤◌, false, None, Some, IsOk, IsSome, IfErr, IfOk, IfSome, OnErr, OnOk, is_some, length};
 ghost use Rattle.std.specs.FinMap as map;
+ghost use Rattle.mds_types.specs.Leaf.{Leaf};
 ghost use Rattle.mds_types.specs.declared.refusals.Refusal.TheVariants.{NoMemory};
 ghost use Rattle.subtree_map.specs.Changes.{AreGone};
 ghost use Rattle.subtree_map.specs.Lists.{AreEach, HasGrown, HasHints, HasSame, HaveNone, IsClaimed, home_of, is_after};
 ghost use Rattle.subtree_map.specs.Rows.{IsFirst};
 
 use crate::entries::{Known, News};
-use crate::list_changes::{correct, drop_each, hint_each, reserve_each};
+use crate::list_changes::{correct, drop_each, has_rows, hint_each, reserve_each};
 use crate::list_firsts::first_claim;
 use crate::list_learning::learn_all;
 use crate::list_rows::{Rows, claim_by, claim_in, home_of, promise_in, tell};
@@ -73,6 +74,13 @@ impl Lists {
         ensures { result ≡ is_some (map.get self.now.roots (dir, frag)) }
     {
         self.get(dir, frag).is_some()
+    }
+
+    /// Whether a list has a row of one of a directory's leaves: none of these is a root where none has.
+    pub(crate) fn knows_of(&self, dir: Ino) -> bool
+        ensures { result ≡ false → (leaf : Leaf) → leaf.0.0 ≡ dir.0 → map.get self.now.roots leaf ≡ None }
+    {
+        has_rows(&self.lists, dir)
     }
 
     /// The rank that a root is promised to.

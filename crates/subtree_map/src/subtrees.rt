@@ -1,6 +1,7 @@
 //! The subtree roots, and the calls that read and change single ones.
-ghost use Rattle.std.specs.Prelude.{◌≡◌, ◌+◌, ◌-◌, ◌<◌, ◌≤◌, if◌then◌else◌, is_some, None, IsOk, OnOk, OnErr, IsTrue, IfErr, IfOk};
+ghost use Rattle.std.specs.Prelude.{◌≡◌, ◌+◌, ◌-◌, ◌<◌, ◌≤◌, if◌then◌else◌, false, is_some, None, IsOk, OnOk, OnErr, IsTrue, IfErr, IfOk};
 ghost use Rattle.std.specs.FinMap as map;
+ghost use Rattle.mds_types.specs.Leaf.{Leaf};
 ghost use Rattle.mds_types.specs.declared.refusals.Refusal.TheVariants.{NoMemory};
 ghost use Rattle.inode_table.specs.Dirs.{Homes, Covers, IsLive};
 ghost use Rattle.subtree_map.specs.Authority.{IsSubtrees};
@@ -56,6 +57,14 @@ impl Subtrees {
         ensures { result ≡ map.get self.now.roots (dir, frag) }
     {
         self.lists.get_by(rank, dir, frag)
+    }
+
+    /// Whether some rank knows of a leaf of a directory: where none does none of them is a root. Where one is promised, or
+    /// a hint of one is left, none may be a root either. Takes no memory, and a search in the list of each rank.
+    pub fn knows_of(&self, dir: Ino) -> bool
+        ensures { result ≡ false → (leaf : Leaf) → leaf.0.0 ≡ dir.0 → map.get self.now.roots leaf ≡ None }
+    {
+        self.lists.knows_of(dir)
     }
 
     /// Whether a leaf is a root.
