@@ -7,7 +7,6 @@ ghost use Rattle.mds_types.specs.ByteOrder.{Settles, word_at};
 use std::cmp::Ordering;
 
 /// How bytes compare, as memory does. The first sixteen, which settle it for nearly all names, are compared as numbers.
-#[inline(never)]
 pub(crate) fn compare(a: &[u8], b: &[u8]) -> Ordering
     ensures { result ≡ slice_cmp nat_cmp a.now b.now }
 {

@@ -172,7 +172,6 @@ impl Ord for Bytes {
 
     ghost matches_eq = { Prim.search (comparing, rules) };
 
-    #[inline(always)]
     fn cmp(&self, other: &Bytes) -> Ordering {
         match (&self.form, &other.form) {
             (Form::Short(short), Form::Short(with)) => short.compare(with),
