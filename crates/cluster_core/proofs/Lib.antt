@@ -1,4 +1,5 @@
 pub mod AdminLaws
+pub mod AlongLaws
 pub mod Applied
 pub mod AwayLaws
 pub mod Carried

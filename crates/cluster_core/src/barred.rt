@@ -1,10 +1,11 @@
 //! Whether a rank that serves a request may not change what it would.
-ghost use Rattle.std.specs.Prelude.{◌≡◌, ◌↔◌, ◌⊎◌, true, IsTrue, MatchBool, IfSome};
+ghost use Rattle.std.specs.Prelude.{◌≡◌, ◌↔◌, ◌⊎◌, ℕ, List, true, IsTrue, MatchBool, IfSome};
 ghost use Rattle.std.specs.List.{list_any};
 ghost use Rattle.mds_types.specs.Leaf.{leaf_of};
 ghost use Rattle.mds_types.specs.Tree.{is_directory};
+ghost use Rattle.inboxes.specs.declared.pins.Pin.{Pin as Grant};
 ghost use Rattle.inboxes.specs.Pins.{is_pin};
-ghost use Rattle.namespace_ops.specs.Changes.{LieHeld, fragments_of, leaf_put, leaf_taken, leaves, leaves_gone};
+ghost use Rattle.namespace_ops.specs.Changes.{Carries, LieHeld, fragments_of, leaf_put, leaf_taken, leaves, leaves_gone};
 ghost use Rattle.mdcache.specs.Core.{state_of as tree_state};
 ghost use Rattle.mdcache.specs.Shown.{shown_tree};
 ghost use Rattle.ranked_tree.specs.Ranked.{held_roots};
@@ -50,6 +51,7 @@ fn lacks_one<S: Store + Drop>(
     change: &Change,
 ) -> bool
     requires held { LieHeld (HoldsAt (tree_state tree.now.tree) (held_roots tree.now)) change.now }
+    requires carries { Carries (shown_tree (tree_state tree.now.tree)) tree.now.tree.covers change.now }
     requires gone { IfSome change.now.gone (λ dir. is_directory (shown_tree (tree_state tree.now.tree)) dir.0 ≡ true) }
     ensures { MatchBool result
         (LacksOneOf (tree_state tree.now.tree) tree.now.subtrees.roots tree.now.exports pins.now rank request.now.client
@@ -63,7 +65,32 @@ fn lacks_one<S: Store + Drop>(
     if !may_put(tree, pins, rank, request, change) {
         return true;
     }
+    if goes_along(tree, rank, change) {
+        return false;
+    }
     lacks_gone(tree, pins, rank, request, change.gone)
+}
+
+// Whether the directory that goes surely has no leaf but those that its rank may change, with no look at them: they inherit
+// that one's authority where its name lies. It may be false of others, which `lacks_gone` looks at.
+fn goes_along<S: Store + Drop>(tree: &RankedTree<S>, rank: Rank, change: &Change) -> bool
+    requires held { LieHeld (HoldsAt (tree_state tree.now.tree) (held_roots tree.now)) change.now }
+    requires carries { Carries (shown_tree (tree_state tree.now.tree)) tree.now.tree.covers change.now }
+    ensures { result ≡ true → (pins : List Grant) (client tid : ℕ)
+        → MayTouchEach (tree_state tree.now.tree) tree.now.subtrees.roots tree.now.exports pins rank client tid
+        (leaves_gone tree.now.tree.covers change.now.gone) }
+{
+    let Some(dir) = change.gone else {
+        return false;
+    };
+    let Some(spot) = &change.takes else {
+        return false;
+    };
+    if change.puts.is_some() {
+        return false;
+    }
+    tree.is_sound();
+    spot.at.rank == rank && tree.inherits(dir)
 }
 
 // Whether the leaf of the name that loses its inode, if one does, may be changed.

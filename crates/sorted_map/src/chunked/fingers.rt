@@ -55,11 +55,7 @@ impl<K: ExactOrd, V> ChunkMap<K, V> {
     pub fn get_near<Q: Probe<K>>(&self, near: &Finger, q: &Q) -> Option<&V>
         ensures { option_copied result ≡ map.get (contents K.cmp self.now) (Q.key q.now) }
     {
-        let row = self.chunks.row();
-        match spot_near(row, near, q) {
-            (home, Ok(at)) => Some(&row[home].pairs()[at].1),
-            (_, Err(_)) => None,
-        }
+        self.get_near_noting(&Cell::new(*near), q)
     }
 }
 

@@ -10,6 +10,12 @@ lacks_one-requires-clause-gone g c =
     let found = subst (λ (k : Checked). Checks (shown_tree s) s.covers (HoldsAt s (held_roots c.args.tree.now)) c.args.request.now.op c.requires.0 (step s.limit (shown_tree s) c.args.request.now.op c.requires.0) k) c.in-Changes.is c.requires.1 in
     gone_stands (shown_tree s) s.covers c.in-Changes.change found.carries
 
+pub lacks_one-requires-clause-carries : goal.lacks_one-requires-clause-carries
+lacks_one-requires-clause-carries g c =
+    let s = (tree_state c.args.tree.now.tree) in
+    let found = subst (λ (k : Checked). Checks (shown_tree s) s.covers (HoldsAt s (held_roots c.args.tree.now)) c.args.request.now.op c.requires.0 (step s.limit (shown_tree s) c.args.request.now.op c.requires.0) k) c.in-Changes.is c.requires.1 in
+    found.carries
+
 pub returns-in-Changes : goal.returns-in-Changes
 returns-in-Changes g c =
     let s = (tree_state c.args.tree.now.tree) in

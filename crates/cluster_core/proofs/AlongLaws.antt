@@ -1,0 +1,40 @@
+-- A directory that goes has no leaf but those that a rank may change, where these inherit what the leaf of its name has.
+use Rattle.cluster_core.proofs.Common.{Bool, Dentry, Homes, Ino, Inode, IsFrozen, IsPick, HoldsAt, Leaf, List, MayTouchEach, MayTouchIn, None, Option, Pin, Rank, Roots, Rules, Some, Spot, Standing, Tree, ap, cond, dentry_at, directory_at, false, get-empty, holding, in_directory, inl, is_dir_kind, leaf_cmp, leaf_of, leaves_gone, leaves_of, not_none, refl, same_Some, subst, sym, thawed_rules, true, ℕ, ◌∙◌, ◌≡◌}
+use Rattle.std.specs.FinMap as map
+use Rattle.cluster_core.proofs.GrantLaws.{of_each}
+use Rattle.inode_table.specs.TreeTable.{HoldsHomes, home_at}
+use Rattle.mdcache.specs.State.{State as TreeState}
+use Rattle.namespace_ops.specs.Changes.{IsSpot}
+use Rattle.ranked_tree.specs.Subtrees.{Inherits}
+use Rattle.subtree_map.specs.Authority.{inherited as up}
+
+-- a directory that goes stands in the table where its name lies
+pub stands_at : (tree : Tree) (homes : Homes) → HoldsHomes tree homes → (dentry : Dentry) (dir : Ino) → Some dir ≡ directory_at (map.get tree dentry) → map.get homes dir.0 ≡ Some (home_at dentry)
+stands_at tree homes holds dentry dir goes = go (map.get tree dentry) refl goes
+  where
+    go : (found : Option Inode) → map.get tree dentry ≡ found → Some dir ≡ directory_at found → map.get homes dir.0 ≡ Some (home_at dentry)
+    go None is none = let clash : Some dir ≡ None = none in cc
+    go (Some inode) is some = kinded (is_dir_kind inode.kind) refl some
+      where
+        kinded : (b : Bool) → is_dir_kind inode.kind ≡ b → Some dir ≡ cond b (Some inode.ino) None → map.get homes dir.0 ≡ Some (home_at dentry)
+        kinded true kind one = subst (λ (d : Ino). map.get homes d.0 ≡ Some (home_at dentry)) (sym (same_Some _ _ one)) (holds.listed dentry inode is kind)
+        kinded false kind none = let clash : Some dir ≡ None = none in cc
+
+module _ (tree : TreeState) (roots : Roots) (exports : Standing) (pins : List Pin) (rank : Rank) (client tid : ℕ) where
+  pub along : (dir : Ino) (spot : Spot) → Inherits roots exports dir → map.get tree.homes dir.0 ≡ Some (home_at (dentry_at spot)) → IsSpot tree.covers spot → HoldsAt tree (holding exports roots) spot.at → spot.at.rank ≡ rank
+      → MayTouchEach tree roots exports pins rank client tid (leaves_gone tree.covers (Some dir))
+  along dir spot inherits home pick held same =
+      of_each dir.0 (MayTouchIn tree roots exports pins rank client tid) (leaves_of tree.covers dir.0) (λ g has. (
+        thawed (in_directory dir.0 g),
+        inl (record {
+          root = mine.root;
+          nearest = up (in_directory dir.0 g) (leaf_of spot.at) mine.root (home_at (dentry_at spot)) (inherits.1 (in_directory dir.0 g) refl) home (record { parent = refl; pick = pick }) mine.nearest;
+          ranked = mine.ranked;
+        }),
+      ))
+    where
+      thawed : (leaf : Leaf) → IsFrozen exports roots tree.homes tree.covers leaf → ⊥
+      thawed leaf frozen = not_none _ frozen.export (ap (λ (e : Standing). map.get e frozen.root) inherits.0 ∙ get-empty leaf_cmp frozen.root) frozen.stands
+
+      mine : Rules tree roots (leaf_of spot.at) rank
+      mine = subst (Rules tree roots (leaf_of spot.at)) same (thawed_rules exports roots tree.homes tree.covers (leaf_of spot.at) spot.at.rank (thawed (leaf_of spot.at)) held)
