@@ -30,21 +30,6 @@ pub fn put_new<K: Drop, V: Drop>(chunks: &mut Chunks<K, V>, home: usize, at: usi
         put_within(chunks, home, at, pair);
         return;
     }
-    put_parting(chunks, home, at, pair);
-}
-
-// Puts a pair into a full chunk, which is parted; a half that fits is joined with its neighbour.
-#[inline(never)]
-fn put_parting<K: Drop, V: Drop>(chunks: &mut Chunks<K, V>, home: usize, at: usize, pair: (K, V))
-    requires some { AllSome chunks.old.lists }
-    requires home { home < length chunks.old.lists }
-    requires within { at ≤ 64 }
-    requires full { length (slice_index_or chunks.old.lists home []) ≡ 64 }
-    requires room { 0 < room_in chunks.old }
-    ensures items { flat chunks.new.lists ≡ insert (flat chunks.old.lists) (start chunks.old.lists home + at) pair }
-    ensures some { AllSome chunks.new.lists }
-    ensures room { room_in chunks.old ≤ room_in chunks.new + 1 }
-{
     put_apart(chunks, home, at, pair);
     join(chunks, home + 1);
     if 0 < home {
@@ -100,6 +85,7 @@ fn put_within<K: Drop, V: Drop>(chunks: &mut Chunks<K, V>, home: usize, at: usiz
 }
 
 // Puts a pair into one of the halves of a full chunk.
+#[inline(never)]
 fn put_apart<K: Drop, V: Drop>(chunks: &mut Chunks<K, V>, home: usize, at: usize, pair: (K, V))
     requires some { AllSome chunks.old.lists }
     requires home { home < length chunks.old.lists }
