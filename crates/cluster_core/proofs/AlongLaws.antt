@@ -1,5 +1,5 @@
 -- A directory that goes has no leaf but those that a rank may change, where these inherit what the leaf of its name has.
-use Rattle.cluster_core.proofs.Common.{Bool, Dentry, Homes, Ino, Inode, IsFrozen, IsPick, HoldsAt, Leaf, List, MayTouchEach, MayTouchIn, None, Option, Pin, Rank, Roots, Rules, Some, Spot, Standing, Tree, ap, cond, dentry_at, directory_at, false, get-empty, holding, in_directory, inl, is_dir_kind, leaf_cmp, leaf_of, leaves_gone, leaves_of, not_none, refl, same_Some, subst, sym, thawed_rules, true, ℕ, ◌∙◌, ◌≡◌}
+use Rattle.cluster_core.proofs.Common.{Bool, Carries, Change, Covers, Dentry, Homes, Ino, Inode, IsFrozen, IsPick, HoldsAt, Leaf, List, MayTouchEach, MayTouchIn, None, Option, Pin, Rank, Roots, Rules, Some, Spot, Standing, Tree, ap, cond, dentry_at, directory_at, directory_gone, false, get-empty, holding, IfSome, in_directory, inl, is_dir_kind, is_some, leaf_cmp, leaf_of, leaves_gone, leaves_of, not_none, refl, same_Some, subst, sym, thawed_rules, true, ℕ, ◌∙◌, ◌≡◌}
 use Rattle.std.specs.FinMap as map
 use Rattle.cluster_core.proofs.GrantLaws.{of_each}
 use Rattle.inode_table.specs.TreeTable.{HoldsHomes, home_at}
@@ -19,6 +19,18 @@ stands_at tree homes holds dentry dir goes = go (map.get tree dentry) refl goes
         kinded : (b : Bool) → is_dir_kind inode.kind ≡ b → Some dir ≡ cond b (Some inode.ino) None → map.get homes dir.0 ≡ Some (home_at dentry)
         kinded true kind one = subst (λ (d : Ino). map.get homes d.0 ≡ Some (home_at dentry)) (sym (same_Some _ _ one)) (holds.listed dentry inode is kind)
         kinded false kind none = let clash : Some dir ≡ None = none in cc
+
+-- of a removal the directory goes that stands at its name, and the name's leaf is told
+pub removed_from : (tree : Tree) (covers : Covers) (change : Change) (spot : Spot) (dir : Ino) → Carries tree covers change → change.takes ≡ Some spot → is_some change.puts ≡ false → change.gone ≡ Some dir
+    → (Some dir ≡ directory_at (map.get tree (dentry_at spot))) × IsSpot covers spot
+removed_from tree covers change spot dir carries takes puts gone = (
+  sym gone ∙ carries.gone ∙ ap (λ (o : Option Spot). directory_gone tree o change.puts) takes ∙ ap (directory_gone tree (Some spot)) (none change.puts puts),
+  subst (λ (o : Option Spot). IfSome o (IsSpot covers)) takes carries.taken,
+)
+  where
+    none : (o : Option (Spot × Inode)) → is_some o ≡ false → o ≡ None
+    none None is = refl
+    none (Some put) is = let clash : true ≡ false = is in cc
 
 module _ (tree : TreeState) (roots : Roots) (exports : Standing) (pins : List Pin) (rank : Rank) (client tid : ℕ) where
   pub along : (dir : Ino) (spot : Spot) → Inherits roots exports dir → map.get tree.homes dir.0 ≡ Some (home_at (dentry_at spot)) → IsSpot tree.covers spot → HoldsAt tree (holding exports roots) spot.at → spot.at.rank ≡ rank
