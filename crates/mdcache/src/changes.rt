@@ -169,6 +169,7 @@ impl<S: Store + Drop> MdCache<S> {
     }
 
     // So it is with one of them.
+    #[inline(always)]
     fn end_leaf(&mut self, dir: Ino, leaf: Frag)
         requires room { 0 < self.old.room.purge }
         requires none { KeepsNone self.old.caches }

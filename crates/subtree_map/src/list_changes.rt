@@ -56,6 +56,7 @@ pub(crate) fn has_rows(lists: &[Rows], dir: Ino) -> bool
 }
 
 // The first row of a directory.
+#[inline(always)]
 fn first_row(rows: &Rows, dir: Ino) -> Option<(Ino, Frag)>
     ensures { MatchOption result ((leaf : Leaf) → leaf.0.0 ≡ dir.0 → entry_at rows.now leaf ≡ None)
         (λ leaf. (leaf.0.0 ≡ dir.0) × IsSome (entry_at rows.now leaf)) }
@@ -68,6 +69,7 @@ fn first_row(rows: &Rows, dir: Ino) -> Option<(Ino, Frag)>
 }
 
 // The first leaf of a list from a leaf on.
+#[inline(always)]
 fn first_from(rows: &Rows, dir: Ino, frag: Frag) -> Option<(Ino, Frag)>
     ensures { IsFirstRow (contents leaf_cmp rows.now) (is_from leaf_cmp (dir, frag)) result }
 {
