@@ -42,13 +42,15 @@ pub fn unlink<F: Frags>(
     if inode.kind.is_dir() {
         return Ok(Checked::Answers(Reply::Errno(EISDIR)));
     }
-    let spot = Spot::of(dentry, *at)?;
-    Ok(Checked::Changes(Change {
-        takes: Some(spot),
-        puts: None,
-        comes: false,
-        gone: None,
-    }))
+    match Spot::of(dentry, *at) {
+        Ok(spot) => Ok(Checked::Changes(Change {
+            takes: Some(spot),
+            puts: None,
+            comes: false,
+            gone: None,
+        })),
+        Err(_) => Err(Refusal::NoMemory),
+    }
 }
 
 /// Takes away a directory that has to be empty.
@@ -77,13 +79,15 @@ pub fn remove_dir<F: Frags>(
     if let Some(errno) = removal_errno(frags, &inode) {
         return Ok(Checked::Answers(Reply::Errno(errno)));
     }
-    let spot = Spot::of(dentry, *at)?;
-    Ok(Checked::Changes(Change {
-        takes: Some(spot),
-        puts: None,
-        comes: false,
-        gone: Some(inode.ino),
-    }))
+    match Spot::of(dentry, *at) {
+        Ok(spot) => Ok(Checked::Changes(Change {
+            takes: Some(spot),
+            puts: None,
+            comes: false,
+            gone: Some(inode.ino),
+        })),
+        Err(_) => Err(Refusal::NoMemory),
+    }
 }
 
 // The errno for an inode that is no directory, or a full one.
