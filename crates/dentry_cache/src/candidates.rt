@@ -104,7 +104,7 @@ fn keep_large(large: &mut LeafSet, leaf: &(Ino, Frag), was: Option<usize>, now: 
 }
 
 // The fragment that has a leaf as one of its eight children is among the small ones if these are few now.
-#[inline(never)]
+#[inline(always)]
 fn keep_small(small: &mut LeafSet, places: &PlaceLru, leaf: &(Ino, Frag))
     requires rise { Rise small.old.leaves.items }
     requires room { (q : Leaf) → IsFragment q.1 → q.1.bits + 3 ≤ 24 → are_few (sizes_of places.now.entries) q ≡ true
@@ -170,6 +170,7 @@ fn whole_of(frag: Frag) -> Option<Frag>
 }
 
 // Whether a fragment's eight children are all there, with few entries together.
+#[inline(never)]
 fn are_few(places: &PlaceLru, whole: &(Ino, Frag)) -> bool
     requires { whole.now.1.bits + 3 ≤ 24 }
     ensures { result ≡ are_few (sizes_of places.now.entries) whole.now }

@@ -75,6 +75,7 @@ impl Cache {
     }
 
     /// Takes a fragment out. A place that is kept is given up.
+    #[inline(always)]
     pub fn take(&mut self, dir: Ino, frag: Frag) -> Option<CachedFrag>
         ensures taken { result ≡ cached self.old.entries (dir, frag) }
         ensures without { self.new ≡ without (dir, frag) self.old }
@@ -86,6 +87,7 @@ impl Cache {
     }
 
     // Gives up a leaf's place, with what is in it.
+    #[inline(always)]
     pub(crate) fn give_up(&mut self, leaf: &(Ino, Frag)) -> Option<Place>
         ensures place { result ≡ lookup (leaf_is leaf.now) self.old.entries }
         ensures without { self.new ≡ without leaf.now self.old }
