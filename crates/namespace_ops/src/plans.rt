@@ -18,10 +18,8 @@ impl Spot {
     pub fn of(dentry: &Dentry, at: Dirfrag) -> Result<Spot, AllocError>
         ensures { IfOk result (λ spot. spot ≡ record { at = at; name = dentry.now.name }) }
     {
-        match dentry.name.try_clone() {
-            Ok(name) => Ok(Spot { at, name }),
-            Err(error) => Err(error),
-        }
+        let name = dentry.name.try_clone()?;
+        Ok(Spot { at, name })
     }
 
     /// The dentry, as it is kept where leaves and ranks don't matter.

@@ -42,15 +42,13 @@ pub fn unlink<F: Frags>(
     if inode.kind.is_dir() {
         return Ok(Checked::Answers(Reply::Errno(EISDIR)));
     }
-    match Spot::of(dentry, *at) {
-        Ok(spot) => Ok(Checked::Changes(Change {
-            takes: Some(spot),
-            puts: None,
-            comes: false,
-            gone: None,
-        })),
-        Err(_) => Err(Refusal::NoMemory),
-    }
+    let spot = Spot::of(dentry, *at)?;
+    Ok(Checked::Changes(Change {
+        takes: Some(spot),
+        puts: None,
+        comes: false,
+        gone: None,
+    }))
 }
 
 /// Takes away a directory that has to be empty.
@@ -79,15 +77,13 @@ pub fn remove_dir<F: Frags>(
     if let Some(errno) = removal_errno(frags, &inode) {
         return Ok(Checked::Answers(Reply::Errno(errno)));
     }
-    match Spot::of(dentry, *at) {
-        Ok(spot) => Ok(Checked::Changes(Change {
-            takes: Some(spot),
-            puts: None,
-            comes: false,
-            gone: Some(inode.ino),
-        })),
-        Err(_) => Err(Refusal::NoMemory),
-    }
+    let spot = Spot::of(dentry, *at)?;
+    Ok(Checked::Changes(Change {
+        takes: Some(spot),
+        puts: None,
+        comes: false,
+        gone: Some(inode.ino),
+    }))
 }
 
 // The errno for an inode that is no directory, or a full one.
