@@ -78,15 +78,33 @@ impl Waiting {
                     first,
                     reply,
                 },
-            ) => {
-                let heading = Heading {
-                    client: *client,
-                    tid: *tid,
-                    place: *place as u64,
-                    first: *first,
-                };
-                self.put_reply(line, &heading, reply)
-            }
+            ) => self.put_reply(line, &heading(*client, *tid, *place, *first), reply),
+            _ => self.put_any_step(alloc, line, came),
+        }
+    }
+
+    // The same, with room for all that a step may come to: a function of its own, else each line would clear that room.
+    #[inline(never)]
+    fn put_any_step(
+        &mut self,
+        alloc: Global,
+        line: u64,
+        came: &Result<Answer, Refusal>,
+    ) -> Result<(), AllocError>
+        ensures ok { OnOk result (PutsLine self.old self.new line (shown_line came.now)) }
+        ensures err { OnErr result ((self.new.bytes.items ≡ self.old.bytes.items)
+            × (self.new.marks.items ≡ self.old.marks.items)) }
+    {
+        match came {
+            Ok(
+                Answer::Reply {
+                    client,
+                    tid,
+                    place,
+                    first,
+                    reply,
+                },
+            ) => self.put_reply(line, &heading(*client, *tid, *place, *first), reply),
             Ok(Answer::Nothing) => self.put_own(alloc, line, OutputLine::Nothing),
             Ok(Answer::Job(job)) => self.put_own(alloc, line, OutputLine::Job(job.number)),
             Ok(Answer::Sent(bytes)) => {
@@ -181,4 +199,16 @@ fn line_at(marks: &[Mark], place: usize) -> u64
         }
     }
     0
+}
+
+// What stands before a reply on its line.
+fn heading(client: u64, tid: u64, place: usize, is_first: bool) -> Heading
+    ensures { result ≡ record { client = client; tid = tid; place = place; first = is_first } }
+{
+    Heading {
+        client,
+        tid,
+        place: place as u64,
+        first: is_first,
+    }
 }
