@@ -119,6 +119,7 @@ impl Waiting {
     }
 
     // Puts the line of a reply behind what waits.
+    #[inline(always)]
     fn put_reply(&mut self, line: u64, heading: &Heading, reply: &Reply) -> Result<(), AllocError>
         ensures ok { OnOk result (PutsLine self.old self.new line (line_of_reply heading.now reply.now)) }
         ensures err { OnErr result ((self.new.bytes.items ≡ self.old.bytes.items)
