@@ -1,4 +1,4 @@
-use Rattle.ranked_tree.proofs.Common.{empty_of_len, false, rules, ◌≡◌}
+use Rattle.ranked_tree.proofs.Common.{Leaf, empty_of_len, false, rules, true, ◌≡◌}
 use Rattle.std.specs.FinMap as map
 use Rattle.ranked_tree.proofs.authorities.inherits.Goals as goal
 
