@@ -2,4 +2,5 @@ pub mod Apart
 pub mod Committed
 pub mod Common
 pub mod PathLines
+pub mod PrintedLaws
 pub mod Progress

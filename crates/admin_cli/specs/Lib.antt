@@ -6,6 +6,7 @@ pub mod Jobs
 pub mod Loads
 pub mod OneLine
 pub mod OwnLines
+pub mod Printed
 pub mod Reports
 pub mod Scripts
 pub mod Settings

@@ -4,6 +4,7 @@ ghost use Rattle.std.specs.FinMap as map;
 ghost use Rattle.cluster_core.specs.SentBytes.{none_sent};
 ghost use Rattle.script_text.specs.declared.commands.Command.TheVariants.{Operation};
 ghost use Rattle.script_text.specs.declared.lines.Line.TheVariants as asked;
+ghost use Rattle.admin_cli.specs.Printed.{PrintsOneThread};
 ghost use Rattle.admin_cli.specs.Scripts.{IsFormatted, RunsInput, RunsNew};
 ghost use Rattle.admin_cli.specs.OneLine.{AnswersLine, DoesBytes, HasReaderFailed, Prints, RunsOrNot};
 ghost use Rattle.admin_cli.specs.Waiting.{IsEmpty, PrintsApart, PrintsCame, PrintsOf, PrintsOutput, RunsWaiting};
@@ -27,6 +28,9 @@ use std::thread::Threads;
 /// reader that is a command, one line is written with what became of it. A fault ends the script: what the lines before
 /// it printed has been written, and after a write fault a beginning of its own line, nothing else. It returns wherever
 /// its reader ends.
+///
+/// Of the lines that are written those that begin with `reply ` are the replies of one thread that serves one plain
+/// tree the requests that the script's lines make, one after the other.
 pub fn run_script<H: AllocGlobal + Threads + Sync, R: Read + Drop, W: Write>(
     rt: &H,
     reader: R,
@@ -39,7 +43,8 @@ pub fn run_script<H: AllocGlobal + Threads + Sync, R: Read + Drop, W: Write>(
     requires few { ranks ≤ 16 }
     requires least { 512 ≤ cache }
     requires most { cache ≤ 65536 }
-    ensures { RunsNew ranks cache limit (R.remaining reader) (W.contents writer.old) (W.contents writer.new) result }
+    ensures one_thread { PrintsOneThread limit (R.remaining reader) (W.contents writer.old) (W.contents writer.new) result }
+    ensures ran { RunsNew ranks cache limit (R.remaining reader) (W.contents writer.old) (W.contents writer.new) result }
 {
     let alloc = rt.alloc();
     match new_book(alloc, ranks, cache, limit) {

@@ -14,8 +14,9 @@ pub use Rattle.cluster_core.specs.Offer.{after_taking}
 pub use Rattle.cluster_core.specs.Pins.{HasPin, inherited, own}
 pub use Rattle.cluster_core.specs.Prepared.{IsPrepared, WhyUnprepared}
 pub use Rattle.cluster_core.specs.Proposal.{IsAwayTo, IsFirstAway, IsFirstKindOf, IsFirstStep, IsIdle, IsLarge, IsLeast, IsNextStep, IsOfPinned, IsOwnStep, IsProposable, IsProposal, IsRootAt, Kind, OfExport, OfLarge, OfPin, OfSmall, Proposes, Sight, Would, WouldNot, kinds, lesser_candidate, sight, sight_of}
-pub use Rattle.cluster_core.specs.Runs.{AddsAtServe, AddsTo, IsOfHistory, IsRun, Records, Runs, StandsInHistory, StepsBook}
-pub use Rattle.cluster_core.specs.Serve.{AppliesRequest, AtFront, CarryLeaves, FollowPlanned, ForwardsTo, HasLeft, IsApplied, IsForwarded, IsLeft, IsNoted, IsRepeated, IsTakenOut, LeavesRefused, MakesPlanned, RefusesRequest, Repeats, Replies, ServesInbox, ServesRequest, entry_of, number_of, outcome_of, went_with, with_entry, without_gone, without_request}
+pub use Rattle.cluster_core.specs.OneThread.{Agree, InOrder, IsAskedFor, IsHeld, IsOneThread, IsOneThreadThroughout, IsSent, NoneTwice, Stand, StandsInHistory, arrival, arrivals, first_places, receipt_of, receipts_of, waiting_in}
+pub use Rattle.cluster_core.specs.Runs.{AddsAtServe, AddsTo, IsOfHistory, IsRun, Records, Runs, StepsBook}
+pub use Rattle.cluster_core.specs.Serve.{AppliesRequest, AtFront, CarryLeaves, FollowPlanned, ForwardsTo, HasLeft, IsApplied, IsDeferred, IsForwarded, IsLeft, IsNoted, IsRepeated, IsTakenOut, LeavesRefused, MakesPlanned, RefusesRequest, Repeats, Replies, ServesInbox, ServesRequest, entry_of, number_of, outcome_of, went_with, with_entry, without_gone, without_request}
 pub use Rattle.cluster_core.specs.Settled.{AreSettled, IsAway, IsCalm, IsCalmIn, IsCalmOp, HasSettled, KeepsSettled}
 pub use Rattle.cluster_core.specs.Sound.{AreCached, AreExported, AreRanks, AreSupplied, IsFresh, IsSoundWith, IsSound, IsSoundBook, IsSupplied}
 pub use Rattle.cluster_core.specs.State.{Core, BookState, State, core_of, new_state, no_supply, shown, state_of, supply_of, whole_supplies}
@@ -26,6 +27,7 @@ pub use Rattle.cluster_core.specs.declared.events.Answer.{Answer}
 pub use Rattle.cluster_core.specs.declared.events.Answer.TheVariants.{Deferred, Forwarded, Nothing, Reply, Sent}
 pub use Rattle.cluster_core.specs.declared.events.Event.{Event}
 pub use Rattle.cluster_core.specs.declared.events.Event.TheVariants.{Arrive, Cancel, CommitBegin, CommitDrop, CommitEnd, CommitTree, Evict, Finish, Freeze, Grant, Import, Merge, Prep, Purge, Send, Serve, Split, Start}
+pub use Rattle.cluster_core.specs.declared.receipts.Receipt.{Receipt}
 pub use Rattle.dentry_cache.proofs.FrameLaws.{came_ranks, came_weaker}
 pub use Rattle.dentry_cache.proofs.ReadsLaws.{here_is, reads_then, reads_weaker}
 pub use Rattle.dentry_cache.proofs.UncleanLaws.{get_unclean}

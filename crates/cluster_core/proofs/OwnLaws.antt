@@ -1,5 +1,6 @@
 -- What a rank proposes is an own step of a rank, which adds nothing to the history.
-use Rattle.cluster_core.proofs.Common.{AddsAtServe, Answer, Arrive, Cancel, CommitBegin, CommitDrop, CommitEnd, CommitTree, Core, Entry, Event, Evict, ExportState, Finish, Freeze, Grant, Import, IsFirstKindOf, IsNextStep, IsOwnStep, Kind, Leaf, List, Merge, OfExport, OfLarge, OfPin, OfSmall, Ok, Prep, Proposes, Purge, Rank, Records, Refusal, Result, Send, Serve, Sight, Some, Split, Start, Would, [], inl, inr, kinds, sight, subst, sym, ◌∷◌, ◌≡◌}
+use Rattle.cluster_core.proofs.Common.{AddsAtServe, Answer, Arrive, Cancel, CommitBegin, CommitDrop, CommitEnd, CommitTree, Core, Entry, Event, Evict, ExportState, Finish, Freeze, Grant, Import, IsFirstKindOf, IsNextStep, IsOwnStep, Kind, Leaf, List, Merge, OfExport, OfLarge, OfPin, OfSmall, Ok, Prep, Proposes, Purge, Rank, Records, Refusal, Result, Send, Serve, Sight, Some, Split, Start, Would, [], inl, inr, kinds, sight, subst, sym, ◌∷◌, ◌≡◌, Request, arrival}
+use Rattle.std.specs.List.{AllByRecursion}
 use Rattle.export_steps.specs.declared.exports.ExportState.TheVariants as at
 
 own_next : (s : Sight) (root : Leaf) (state : ExportState) (event : Event) → IsNextStep s root state event → IsOwnStep event
@@ -48,3 +49,27 @@ stays (Cancel dir f) past now own same = same
 
 pub proposal_stays : (core : Core) (rank : Rank) (event : Event) (past now : List Entry) (result : Result Answer Refusal) → Proposes core rank (Ok (Some event)) → Records event past now result → now ≡ past
 proposal_stays core rank event past now result proposed recorded = stays event past now (own_step core rank event proposed) recorded.at_serve
+
+-- and brings no request
+brings : (P : Request → Type 0) (event : Event) → IsOwnStep event → AllByRecursion P (arrival event)
+brings P (Arrive rank request) own = absurd own
+brings P (Serve rank) own = tt
+brings P (Grant rank client tid) own = tt
+brings P (Split rank dir f bits) own = tt
+brings P (Merge rank dir f) own = tt
+brings P (CommitBegin rank dir f) own = tt
+brings P (CommitEnd encoded) own = tt
+brings P (CommitDrop job) own = tt
+brings P (CommitTree dir) own = tt
+brings P Purge own = tt
+brings P (Evict rank) own = tt
+brings P (Start from dir f to) own = tt
+brings P (Freeze dir f) own = tt
+brings P (Prep dir f) own = tt
+brings P (Send dir f) own = tt
+brings P (Import dir f bytes) own = tt
+brings P (Finish dir f) own = tt
+brings P (Cancel dir f) own = tt
+
+pub proposal_brings : (core : Core) (rank : Rank) (event : Event) (P : Request → Type 0) → Proposes core rank (Ok (Some event)) → AllByRecursion P (arrival event)
+proposal_brings core rank event P proposed = brings P event (own_step core rank event proposed)

@@ -152,7 +152,7 @@ step_of old new past now result (Finish dir f) h = export_done old.state new.sta
 step_of old new past now result (Cancel dir f) h = export_done old.state new.state past now old new refl refl (CancelsAt old.state new.state (dir, f)) result h
 
 -- what stands in a history stands in each that begins with it
-still_stands : (past now : List Entry) (client tid place : ℕ) (reply : Replied) → GoesOnFrom now past → StandsInHistory past client tid place reply → StandsInHistory now client tid place reply
+pub still_stands : (past now : List Entry) (client tid place : ℕ) (reply : Replied) → GoesOnFrom now past → StandsInHistory past client tid place reply → StandsInHistory now client tid place reply
 still_stands past now client tid place reply (rest, grown) h =
     let same : (e : Entry) → slice_index_or now place e ≡ slice_index_or past place e = λ e. rw grown (get_or_append_left past rest e place h.in_range) in
     record {

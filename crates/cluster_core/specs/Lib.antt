@@ -4,6 +4,7 @@ pub use Rattle.mds_types.specs.History
 pub use Rattle.inode_table.specs.Numbers
 pub mod Administers
 pub mod Asked
+pub mod Checks
 pub mod Commits
 pub mod Exporting
 pub mod Flush
@@ -12,6 +13,7 @@ pub mod Grants
 pub mod Master
 pub mod Mounted
 pub mod Offer
+pub mod OneThread
 pub mod Pins
 pub mod Prepared
 pub mod Proposal
@@ -22,4 +24,5 @@ pub mod Settled
 pub mod Sound
 pub mod State
 pub mod Steps
+pub mod Teeth
 pub mod Uses

@@ -1,13 +1,13 @@
 -- Whole runs: what a list of events does to a book.
-use Rattle.std.specs.Prelude.{◌≡◌, ℕ, ◌<◌, List, [], ◌∷◌, ◌++◌, length, MatchBool, Result, Ok, Err}
-use Rattle.std.specs.List.{slice_index_or, AllByRecursion}
+use Rattle.std.specs.Prelude.{◌≡◌, ℕ, List, [], ◌∷◌, ◌++◌, length, MatchBool, Result, Ok, Err}
+use Rattle.std.specs.List.{AllByRecursion}
 use Rattle.mds_types.specs.declared.entries.Entry.{Entry}
-use Rattle.mds_types.specs.declared.replies.Reply.{Reply as Replied}
 use Rattle.mds_types.specs.declared.refusals.Refusal.{Refusal}
 use Rattle.cluster_core.specs.declared.events.Answer.{Answer}
 use Rattle.cluster_core.specs.declared.events.Answer.TheVariants.{Deferred, Forwarded, Job, Nothing, Reply, Sent}
 use Rattle.cluster_core.specs.declared.events.Event.{Event}
 use Rattle.cluster_core.specs.declared.events.Event.TheVariants.{Arrive, Grant, Serve, Split, Merge, CommitBegin, CommitEnd, CommitDrop, CommitTree, Purge, Evict, Start, Freeze, Prep, Send, Import, Finish, Cancel}
+use Rattle.cluster_core.specs.OneThread.{StandsInHistory}
 use Rattle.cluster_core.specs.Sound.{IsSoundBook}
 use Rattle.cluster_core.specs.State.{BookState}
 use Rattle.cluster_core.specs.Steps.{Steps}
@@ -24,13 +24,6 @@ Runs start [] (result ∷ results) end = ⊥
 Runs start (event ∷ events) [] end = ⊥
 Runs start (event ∷ events) (result ∷ results) end =
     (next : BookState) × StepsBook start next result event × IsSoundBook next × Runs next events results end
-
--- the entry at a place is that of this client and transaction number, with this reply
-pub record StandsInHistory (history : List Entry) (client tid place : ℕ) (reply : Replied) : Type 0 where
-  pub in_range : place < length history
-  pub client_is : (e : Entry) → (slice_index_or history place e).client ≡ client
-  pub tid_is : (e : Entry) → (slice_index_or history place e).tid ≡ tid
-  pub reply_is : (e : Entry) → (slice_index_or history place e).reply ≡ reply
 
 -- a reply that was handed out is the history's
 abbrev pub IsOfHistory : List Entry → Result Answer Refusal → Type 0

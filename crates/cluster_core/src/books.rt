@@ -1,11 +1,14 @@
 //! The book: a cluster with the history of what it answered.
-ghost use Rattle.std.specs.Prelude.{◌≡◌, ◌+◌, ◌≤◌, [], IfOk, IfErr, OnOk};
+ghost use Rattle.std.specs.Prelude.{◌≡◌, ◌+◌, ◌≤◌, ◌++◌, [], length, Contains, IfOk, IfErr, OnOk};
+ghost use Rattle.std.specs.List.{AllByRecursion};
 ghost use Rattle.std.specs.FinMap as map;
+ghost use Rattle.mds_types.specs.History.{after};
 ghost use Rattle.objstore.specs.Objects.{faults_in};
 ghost use Rattle.mdcache.specs.New.{MayNotFormat, new_caches};
 ghost use Rattle.cluster_core.specs.Fragments.{LieAtHolder};
+ghost use Rattle.cluster_core.specs.OneThread.{InOrder, IsOneThread, arrival, receipt_of, waiting_in};
 ghost use Rattle.cluster_core.specs.Runs.{Records};
-ghost use Rattle.cluster_core.specs.State.{new_state};
+ghost use Rattle.cluster_core.specs.State.{new_state, shown};
 ghost use Rattle.cluster_core.specs.Steps.{Steps};
 ghost use Rattle.cluster_core.specs.Sound.{IsSoundBook};
 
@@ -83,9 +86,21 @@ impl<S: Store + Drop> Book<S> {
     #[inline(always)]
     /// One event, one atomic step: what it answers, or why it is refused. The opening tree stays. The history grows by
     /// one entry where a request is applied, and each reply that is handed out stands in it.
+    ///
+    /// What this is to whoever sends requests is the first part of the contract: one plain tree, served by one thread.
+    /// Then come what the fragments, caches and objects of all ranks mean together, which is that tree, and what each
+    /// event does to them.
     pub fn step(&mut self, alloc: Global, event: Event) -> Result<Answer, Refusal>
+        ensures one_thread { IsOneThread self.old.core.state.tree.limit self.old.opening self.old.history self.new.history
+            (waiting_in self.old.core.state.inboxes ++ arrival event) (receipt_of result) }
+        ensures in_order { InOrder (length self.old.history) (receipt_of result) (length self.new.history) }
+        ensures waits { AllByRecursion (Contains (waiting_in self.old.core.state.inboxes ++ arrival event))
+            (waiting_in self.new.core.state.inboxes) }
+        ensures shows { shown self.new.core.state
+            ≡ after self.old.core.state.tree.limit self.old.opening self.new.history }
         ensures stepped { Steps self.old.core self.new.core self.old.history self.new.history result event }
         ensures opening { self.new.opening ≡ self.old.opening }
+        ensures limit { self.new.core.state.tree.limit ≡ self.old.core.state.tree.limit }
         ensures sound { IsSoundBook self.new }
         ensures recorded { Records event self.old.history self.new.history result }
     {

@@ -64,6 +64,21 @@ impl<S: Store + Drop> Cluster<S> {
         }
     }
 
+    /// The store, handed back; all else is dropped.
+    pub(crate) fn into_store(self) -> S
+        ensures objects { S.objects result ≡ self.state.tree.objects }
+        ensures faults { S.faults result ≡ self.faults }
+    {
+        let Cluster {
+            tree,
+            waiting,
+            given,
+        } = self;
+        drop(waiting);
+        drop(given);
+        tree.into_store()
+    }
+
     // A cluster over a tree that was mounted, with what waits; and the tree that it opens with.
     fn of_mounted(
         alloc: Global,

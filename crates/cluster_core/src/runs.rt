@@ -1,6 +1,8 @@
 //! Whole runs of a book.
-ghost use Rattle.std.specs.Prelude.{◌≡◌, ◌+◌, ◌<◌, ◌≤◌, ◌++◌, ◌∷◌, [], vec_len, vec_capacity, MatchResult};
+ghost use Rattle.std.specs.Prelude.{◌≡◌, ◌+◌, ◌<◌, ◌≤◌, ◌++◌, ◌∷◌, [], length, vec_len, vec_capacity, Contains, IfOk, OnOk, MatchResult};
+ghost use Rattle.std.specs.List.{AllByRecursion};
 ghost use Rattle.cluster_core.specs.Sound.{IsSoundBook};
+ghost use Rattle.cluster_core.specs.OneThread.{InOrder, IsOneThread, IsOneThreadThroughout, arrivals, receipts_of, waiting_in};
 ghost use Rattle.cluster_core.specs.Runs.{IsRun};
 
 use crate::books::Book;
@@ -9,14 +11,24 @@ use mds_types::Refusal;
 use objstore::Store;
 use std::alloc::Global;
 
-/// Steps a book by each event of a list, one after the other, and answers a result for each. Each reply among them is
-/// the history's, which is legal from the opening tree. The list of results is reserved before the first event: an
-/// error says that this was refused, and that nothing was done.
+/// Steps a book by each event of a list, one after the other, and answers a result for each. The replies among them are
+/// those of one thread that serves one plain tree the requests that waited and those that arrive. The list of results
+/// is reserved before the first event: an error says that this was refused, and that nothing was done.
 pub fn run<S: Store + Drop>(
     alloc: Global,
     book: &mut Book<S>,
     events: Vec<Event>,
 ) -> Result<Vec<Result<Answer, Refusal>>, Refusal>
+    ensures one_thread { IfOk result (λ results. IsOneThread book.old.core.state.tree.limit book.old.opening book.old.history
+        book.new.history (waiting_in book.old.core.state.inboxes ++ arrivals events.items) (receipts_of results.items)) }
+    ensures in_order { IfOk result
+        (λ results. InOrder (length book.old.history) (receipts_of results.items) (length book.new.history)) }
+    ensures waits { OnOk result
+        (AllByRecursion (Contains (waiting_in book.old.core.state.inboxes ++ arrivals events.items))
+        (waiting_in book.new.core.state.inboxes)) }
+    ensures throughout { IfOk result (λ results.
+        IsOneThreadThroughout book.old.core.state.tree.limit book.old.opening book.old.history book.new.history
+        (waiting_in book.old.core.state.inboxes) events.items results.items) }
     ensures ran { MatchResult result (λ results. IsRun book.old events.items results.items book.new)
         (λ reason. (reason ≡ Refusal.NoMemory) × (book.new ≡ book.old)) }
     ensures sound { IsSoundBook book.new }

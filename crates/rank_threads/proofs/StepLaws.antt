@@ -29,7 +29,7 @@ pub counts_on : (event : Event) (past now : List Entry) (result : Result Answer 
 counts_on event past now result h = let w = goes_on past now result h.adds in ap length w.longer ∙ length-append past w.rest ∙ ap (λ n. length past + n) w.by
 
 -- what is begun with is no longer than the history
-begun_fits : (begun past : List Entry) → take (length begun) past ≡ begun → length begun ≤ length past
+pub begun_fits : (begun past : List Entry) → take (length begun) past ≡ begun → length begun ≤ length past
 begun_fits begun past was = let n : length (take (length begun) past) ≡ length begun = ap length was in omega (arith, length-take (length begun) past, n)
 
 -- what a history begins with, it still begins with

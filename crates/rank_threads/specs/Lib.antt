@@ -1,5 +1,5 @@
-pub mod Agreement
 pub mod Continued
 pub mod Faults
+pub mod Sent
 pub mod Standing
 pub mod Turns

@@ -1,8 +1,8 @@
 -- A receipt beside others, whose places were named before it.
 use Rattle.std.specs.Prelude.{◌≡◌, ◌≤◌, ℕ, Bool, true, false, List, cond, get_or, set}
 use Rattle.mds_types.specs.declared.entries.Entry.{Entry}
-use Rattle.rank_threads.specs.declared.receipts.Receipt.{Receipt}
-use Rattle.rank_threads.specs.Agreement.{IsHeld}
+use Rattle.cluster_core.specs.declared.receipts.Receipt.{Receipt}
+use Rattle.cluster_core.specs.OneThread.{IsHeld}
 
 -- a receipt stands beside others, whose first ones' places are named
 pub record Fits (history : List Entry) (from : ℕ) (named : List Bool) (r : Receipt) : Type 0 where

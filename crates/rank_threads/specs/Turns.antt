@@ -3,11 +3,11 @@ use Rattle.std.specs.Prelude.{◌≡◌, ◌+◌, ℕ, List, [], ◌∷◌, ◌+
 use Rattle.std.specs.Global.{Vec}
 use Rattle.mds_types.specs.declared.refusals.Refusal.{Refusal}
 use Rattle.cluster_core.specs.declared.events.Answer.{Answer}
-use Rattle.cluster_core.specs.declared.events.Answer.TheVariants.{Deferred, Forwarded, Job, Nothing, Reply, Sent}
+use Rattle.cluster_core.specs.declared.events.Answer.TheVariants.{Nothing}
+use Rattle.cluster_core.specs.declared.receipts.Receipt.{Receipt}
+use Rattle.cluster_core.specs.OneThread.{first_places, receipt_of, receipts_of}
 use Rattle.rank_threads.specs.declared.plans.Turn.{Turn}
 use Rattle.rank_threads.specs.declared.plans.Turn.TheVariants.{Step, Commit, Own}
-use Rattle.rank_threads.specs.declared.receipts.Receipt.{Receipt}
-use Rattle.rank_threads.specs.Agreement.{first_places}
 
 -- a commit's turn and a rank's own stand as Nothing or a refusal
 abbrev pub FitsTurn : Turn → Result Answer Refusal → Type 0
@@ -35,23 +35,7 @@ PlansAnswered (turns ∷ plans) (results ∷ more) = AreAnswered turns results �
 abbrev pub lists_of : {A : Type 0} → List (Vec A) → List (List A)
 lists_of vectors = map vec_items vectors
 
--- the receipt of a result, if it is a reply
-abbrev pub receipt_of : Result Answer Refusal → List Receipt
-receipt_of (Ok (Reply client tid place first reply)) =
-    record { client = client; tid = tid; place = place; first = first; reply = reply } ∷ []
-receipt_of (Ok Nothing) = []
-receipt_of (Ok (Job job)) = []
-receipt_of (Ok (Sent bytes)) = []
-receipt_of (Ok (Forwarded rank)) = []
-receipt_of (Ok Deferred) = []
-receipt_of (Err reason) = []
-
--- the receipts of the replies among results, in their order
-abbrev pub receipts_of : List (Result Answer Refusal) → List Receipt
-receipts_of [] = []
-receipts_of (result ∷ results) = receipt_of result ++ receipts_of results
-
--- those of all plans
+-- the receipts of the replies among the results of all plans
 abbrev pub receipts_of_all : List (List (Result Answer Refusal)) → List Receipt
 receipts_of_all [] = []
 receipts_of_all (results ∷ more) = receipts_of results ++ receipts_of_all more

@@ -1,10 +1,14 @@
 //! What lies under the lock.
-ghost use Rattle.std.specs.Prelude.{◌≡◌, ◌+◌, ◌<◌, ℕ, List, [], cond, length, take};
+ghost use Rattle.std.specs.Prelude.{◌≡◌, ◌+◌, ◌<◌, ℕ, List, [], Contains, cond, length, take};
+ghost use Rattle.std.specs.List.{AllByRecursion};
 ghost use Rattle.std.specs.Coded.{codes};
 ghost use Rattle.std.specs.FinMap as map;
 ghost use Rattle.mds_types.specs.declared.entries.Entry.{Entry as Applied};
+ghost use Rattle.mds_types.specs.declared.requests.Request.{Request as Asked};
 ghost use Rattle.mds_types.specs.Tree.{Tree};
+ghost use Rattle.cluster_core.specs.OneThread.{IsAskedFor, arrival, receipt_of};
 ghost use Rattle.rank_threads.specs.Continued.{Continues};
+ghost use Rattle.rank_threads.specs.Sent.{Serves};
 ghost use Rattle.rank_threads.specs.Turns.{first_in};
 
 use cached_frag::{Encoded, Job};
@@ -23,16 +27,26 @@ pub trait Handed: Ledger {
 
     /// The tree that its book opened with.
     ghost opened: { Tree };
+
+    /// How many entries a directory of that tree may have.
+    ghost limit: { ℕ };
+
+    /// The requests that waited in its book, and those that the turns of its plans bring.
+    ghost sent: { List Asked };
 }
 
 impl Handed for Brand {
     ghost begun = { [] };
 
     ghost opened = { map.empty };
+
+    ghost limit = { 0 };
+
+    ghost sent = { [] };
 }
 
 /// The book, with the total of all shares: as long as the history is. The history begins with the one that was handed
-/// in.
+/// in; what was applied since, and what waits, is of the requests that were sent.
 #[derive(Drop)]
 pub(crate) struct Desk<S: Store + Drop, L: Handed> {
     pub(crate) book: Book<S>,
@@ -40,10 +54,12 @@ pub(crate) struct Desk<S: Store + Drop, L: Handed> {
     ghost counted: { length book.history ≡ total.total },
     ghost begins: { take (length L.begun) book.history ≡ L.begun },
     ghost opens: { book.opening ≡ L.opened } by { Prim.hlevel (codes, map.code) },
+    ghost serves: { ∥ Serves L.limit L.sent L.begun book ∥₁ },
 }
 
 impl<S: Store + Drop, L: Handed> Desk<S, L> {
-    /// One step of the book. The share rises by one where the step adds an entry to the history.
+    /// One step of the book, of an event whose request, if it brings one, was sent. The share rises by one where the step
+    /// adds an entry to the history, and a reply that is handed out was asked for.
     #[tactic(auto, using(crate::proofs::StepLaws::still_begins, crate::proofs::StepLaws::counts_on))]
     pub(crate) fn step(
         &mut self,
@@ -51,9 +67,11 @@ impl<S: Store + Drop, L: Handed> Desk<S, L> {
         mine: &mut Share<L>,
         event: Event,
     ) -> Result<Answer, Refusal>
-        requires { 0 < mine.old.parts }
+        requires parts { 0 < mine.old.parts }
+        requires sent { ∥ AllByRecursion (Contains L.sent) (arrival event) ∥₁ }
         ensures parts { mine.new.parts ≡ mine.old.parts }
         ensures amount { mine.new.amount ≡ mine.old.amount + first_in result }
+        ensures asked_for { ∥ AllByRecursion (IsAskedFor L.sent) (receipt_of result) ∥₁ }
     {
         let Desk { book, total } = self;
         let answer = book.step(alloc, event);
@@ -102,11 +120,12 @@ impl<S: Store + Drop, L: Handed> Desk<S, L> {
     }
 
     /// The book, once all shares are gathered: its history has as many entries as they say.
-    #[tactic(auto, using(crate::proofs::StepLaws::continued))]
+    #[tactic(auto, using(crate::proofs::StepLaws::continued, crate::proofs::Found::kept_serves))]
     pub(crate) fn settle(self, all: &mut Share<L>) -> Book<S>
         requires { all.old.parts ≡ L.parts }
         ensures counted { length result.history ≡ all.old.amount }
         ensures continued { Continues L.opened L.begun result }
+        ensures serves { Serves L.limit L.sent L.begun result }
     {
         let Desk {
             book,

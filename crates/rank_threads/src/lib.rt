@@ -19,10 +19,10 @@ mod scopes;
 mod standing;
 mod workers;
 
+pub use cluster_core::Receipt;
 pub use commits::Commit;
 pub use gates::{Gate, OpenGate};
 pub use outcomes::{Outcome, RunError, RunFault};
 pub use plans::Turn;
-pub use receipts::Receipt;
 pub use running::run_cluster;
 pub use standing::audit;

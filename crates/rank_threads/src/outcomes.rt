@@ -3,8 +3,7 @@ ghost use Rattle.std.specs.Prelude.{◌≡◌};
 ghost use Rattle.rank_threads.specs.Faults.{run_fault_number};
 
 use crate::commits::Commit;
-use crate::receipts::Receipt;
-use cluster_core::{Answer, Book};
+use cluster_core::{Answer, Book, Receipt};
 use mds_types::Refusal;
 use objstore::Store;
 

@@ -1,5 +1,7 @@
 //! What a run needs, made before its first lock.
-ghost use Rattle.std.specs.Prelude.{◌≡◌, ◌+◌, ◌<◌, [], IfOk, map, vec_len};
+ghost use Rattle.std.specs.Prelude.{◌≡◌, ◌+◌, ◌<◌, [], Contains, IfOk, map, vec_len};
+ghost use Rattle.std.specs.List.{AllByRecursion};
+ghost use Rattle.rank_threads.specs.Sent.{EachIsSent, plan_arrivals};
 ghost use Rattle.rank_threads.specs.Turns.{lists_of};
 
 use crate::commits::Commit;
@@ -46,7 +48,8 @@ pub(crate) fn prepare<L: Handed>(
     workers: u8,
     share: Share<L>,
 ) -> Result<Needs<L>, AllocError>
-    requires { vec_len lists < share.parts }
+    requires parts { vec_len lists < share.parts }
+    requires sent { EachIsSent L.sent (lists_of lists.items) }
     ensures turns { IfOk result (λ r. map (λ p. p.turns.items) r.starts.plans.items ≡ lists_of lists.items) }
     ensures count { IfOk result (λ r. vec_len r.starts.plans ≡ vec_len lists) }
     ensures empty { IfOk result (λ r. (r.starts.handles.items ≡ []) × (r.answers.items ≡ [])) }
@@ -78,7 +81,8 @@ fn plans_of<L: Handed>(
     jobs: &Sender<Job>,
     all: &mut Share<L>,
 ) -> Result<Vec<Plan<L>>, AllocError>
-    requires { vec_len lists < all.old.parts }
+    requires parts { vec_len lists < all.old.parts }
+    requires sent { EachIsSent L.sent (lists_of lists.items) }
     ensures turns { IfOk result (λ plans. map (λ p. p.turns.items) plans.items ≡ lists_of lists.items) }
     ensures parts { IfOk result (λ plans. all.new.parts + vec_len lists ≡ all.old.parts) }
     ensures amount { IfOk result (λ plans. all.new.amount ≡ all.old.amount) }
@@ -103,6 +107,7 @@ fn plan_of<L: Handed>(
 ) -> Result<Plan<L>, AllocError>
     requires one { share.parts ≡ 1 }
     requires none { share.amount ≡ 0 }
+    requires sent { AllByRecursion (Contains L.sent) (plan_arrivals turns.items) }
     ensures { IfOk result (λ p. p.turns ≡ turns) }
 {
     let answers = Vec::with_capacity(alloc, turns.len())?;

@@ -1,5 +1,8 @@
 //! The threads of ranks.
-ghost use Rattle.std.specs.Prelude.{◌≡◌, ◌+◌, ◌<◌, ◌≤◌, ◌++◌, ◌∷◌, [], IfSome, vec_len, vec_capacity};
+ghost use Rattle.std.specs.Prelude.{◌≡◌, ◌+◌, ◌<◌, ◌≤◌, ◌++◌, ◌∷◌, [], Contains, IfSome, vec_len, vec_capacity};
+ghost use Rattle.std.specs.List.{AllByRecursion};
+ghost use Rattle.cluster_core.specs.OneThread.{IsAskedFor, receipt_of, receipts_of};
+ghost use Rattle.rank_threads.specs.Sent.{plan_arrivals, turn_arrival};
 ghost use Rattle.rank_threads.specs.Turns.{AreAnswered, FitsTurn, first_in, firsts};
 
 use crate::desks::{Desk, Handed};
@@ -21,7 +24,8 @@ use std::thread::{Promise, PromisedHandle, Scope, Threads};
 /// What a turn gave.
 pub(crate) type Answered = Result<Answer, Refusal>;
 
-/// What a rank's thread is handed: its turns, room for a result of each, an end of the channel of jobs, and its share.
+/// What a rank's thread is handed: its turns, of which each request was sent, room for a result of each, an end of the
+/// channel of jobs, and its share.
 #[derive(Drop)]
 pub(crate) struct Plan<L: Handed> {
     pub(crate) rank: Rank,
@@ -33,15 +37,18 @@ pub(crate) struct Plan<L: Handed> {
     pub(crate) ghost none_yet: { share.amount ≡ 0 },
     pub(crate) ghost empty: { answers.items ≡ [] },
     pub(crate) ghost room: { vec_len turns ≤ vec_capacity answers },
+    pub(crate) ghost sent: { ∥ AllByRecursion (Contains L.sent) (plan_arrivals turns.items) ∥₁ },
 }
 
-/// What a rank's thread hands back: a result for each turn, and its share, which counts the first replies among them.
+/// What a rank's thread hands back: a result for each turn, of which each reply was asked for, and its share, which
+/// counts the first replies among them.
 #[derive(Drop)]
 pub(crate) struct Work<L: Handed> {
     pub(crate) answers: Vec<Answered>,
     pub(crate) share: Share<L>,
     pub(crate) ghost one_part: { share.parts ≡ 1 },
     pub(crate) ghost counted: { share.amount ≡ firsts answers.items },
+    pub(crate) ghost asked_for: { ∥ AllByRecursion (IsAskedFor L.sent) (receipts_of answers.items) ∥₁ },
 }
 
 /// What a rank's thread has of its own while it works: the steps that its rank makes by itself, an end of the channel
@@ -87,7 +94,7 @@ where
 }
 
 // Works off a plan, and takes the lock anew for each turn.
-#[tactic(auto, using(crate::proofs::TurnLaws::answered_more, crate::proofs::TurnLaws::firsts_more))]
+#[tactic(auto, using(crate::proofs::TurnLaws::answered_more, crate::proofs::TurnLaws::firsts_more, crate::proofs::AskedLaws::first_brings, crate::proofs::AskedLaws::rest_brings, crate::proofs::AskedLaws::asked_more))]
 fn work_off<S: Store + Drop, L: Handed, G: Gate, R: Wait>(
     rt: &R,
     alloc: Global,
@@ -122,6 +129,7 @@ fn work_off<S: Store + Drop, L: Handed, G: Gate, R: Wait>(
 fn finished<L: Handed>(answers: Vec<Answered>, share: Share<L>) -> Work<L>
     requires one { share.parts ≡ 1 }
     requires counted { share.amount ≡ firsts answers.items }
+    requires asked_for { ∥ AllByRecursion (IsAskedFor L.sent) (receipts_of answers.items) ∥₁ }
     ensures { result.answers ≡ answers }
 {
     Work { answers, share }
@@ -146,10 +154,12 @@ fn take_turn<S: Store + Drop, L: Handed, G: Gate, R: Wait>(
     mine: &mut Mine<L>,
     turn: Turn,
 ) -> Answered
-    requires { mine.old.share.parts ≡ 1 }
+    requires parts { mine.old.share.parts ≡ 1 }
+    requires sent { ∥ AllByRecursion (Contains L.sent) (turn_arrival turn) ∥₁ }
     ensures parts { mine.new.share.parts ≡ 1 }
     ensures amount { mine.new.share.amount ≡ mine.old.share.amount + first_in result }
     ensures fits { FitsTurn turn result }
+    ensures asked_for { ∥ AllByRecursion (IsAskedFor L.sent) (receipt_of result) ∥₁ }
 {
     let rank = mine.own.rank;
     match turn {

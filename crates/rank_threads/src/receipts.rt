@@ -1,22 +1,11 @@
 //! Receipts of the replies that were handed out.
 ghost use Rattle.std.specs.Prelude.{◌≡◌, ◌++◌, IfOk, OnOk};
-ghost use Rattle.rank_threads.specs.Turns.{lists_of, receipt_of, receipts_of, receipts_of_all};
+ghost use Rattle.cluster_core.specs.OneThread.{receipt_of, receipts_of};
+ghost use Rattle.rank_threads.specs.Turns.{lists_of, receipts_of_all};
 
 use crate::ranks::Answered;
-use cluster_core::Answer;
-use mds_types::Reply;
+use cluster_core::{Answer, Receipt};
 use std::alloc::{AllocError, Global};
-
-/// A reply that was handed out: whom it answers, the place in the history that it names, and whether the request was
-/// applied then.
-#[derive(Debug, Drop, PartialEq, Eq)]
-pub struct Receipt {
-    pub client: u64,
-    pub tid: u64,
-    pub place: usize,
-    pub first: bool,
-    pub reply: Reply,
-}
 
 /// The receipts of the replies among all plans' results, in their order.
 #[tactic(auto, using(crate::proofs::TurnLaws::told_all))]

@@ -1,7 +1,9 @@
 //! A run of a book on many threads.
-ghost use Rattle.std.specs.Prelude.{◌≡◌, ◌+◌, ◌≤◌, IfOk, IfErr, length, vec_len};
-ghost use Rattle.rank_threads.specs.Agreement.{Agree, Stand};
+ghost use Rattle.std.specs.Prelude.{◌≡◌, ◌+◌, ◌≤◌, ◌++◌, Contains, IfOk, IfErr, length, vec_len};
+ghost use Rattle.std.specs.List.{AllByRecursion};
+ghost use Rattle.cluster_core.specs.OneThread.{Agree, IsAskedFor, IsOneThread, Stand, waiting_in};
 ghost use Rattle.rank_threads.specs.Continued.{Continues};
+ghost use Rattle.rank_threads.specs.Sent.{Serves, plans_arrivals};
 ghost use Rattle.rank_threads.specs.Turns.{PlansAnswered, firsts_of_all, lists_of, receipts_of_all};
 
 use crate::desks::{Desk, Handed};
@@ -10,10 +12,10 @@ use crate::outcomes::{Outcome, RunError, RunFault};
 use crate::plans::Turn;
 use crate::prepared::prepare;
 use crate::ranks::Answered;
-use crate::receipts::{Receipt, receipts_of_all};
+use crate::receipts::receipts_of_all;
 use crate::scopes::{Ran, run_all};
 use crate::standing::stand;
-use cluster_core::Book;
+use cluster_core::{Book, Receipt};
 use objstore::Store;
 use std::alloc::Global;
 use std::marker::Brand;
@@ -29,7 +31,8 @@ use std::thread::Threads;
 ///
 /// Whatever the schedule was, the book that comes back is a sound one with the opening tree of the book handed in, and
 /// its history begins with that book's. Where the run succeeds, each turn of each plan has a result, and the receipts,
-/// which are the replies among them, agree with the history from there on.
+/// which are the replies among them, are those of one thread that serves one plain tree the requests that waited and
+/// those that the plans bring.
 ///
 /// The run waits for its threads. It fails with `NoMemory` where memory was refused, `Spawn` where a thread can't be
 /// made, and `Strayed` where a reply that was handed out isn't the history's.
@@ -52,6 +55,11 @@ where
     ensures err { IfErr result (λ e. Continues book.opening book.history e.book) }
     ensures answered { IfOk result (λ o. PlansAnswered (lists_of plans.items) (lists_of o.answers.items)) }
     ensures told { IfOk result (λ o. o.receipts.items ≡ receipts_of_all (lists_of o.answers.items)) }
+    ensures one_thread { IfOk result (λ o. IsOneThread book.core.state.tree.limit book.opening book.history
+        o.book.history (waiting_in book.core.state.inboxes ++ plans_arrivals (lists_of plans.items)) o.receipts.items) }
+    ensures waits { IfOk result (λ o.
+        AllByRecursion (Contains (waiting_in book.core.state.inboxes ++ plans_arrivals (lists_of plans.items)))
+        (waiting_in o.book.core.state.inboxes)) }
     ensures agree { IfOk result (λ o. Agree o.book.history (length book.history) o.receipts.items) }
 {
     let blank = Blank::new(plans.len() as u64 + 1);
@@ -85,10 +93,17 @@ where
     requires each { blank.parts ≡ vec_len asked.plans + 1 }
     requires begun { L.begun ≡ book.history }
     requires opened { L.opened ≡ book.opening }
+    requires limit { L.limit ≡ book.core.state.tree.limit }
+    requires sent { L.sent ≡ waiting_in book.core.state.inboxes ++ plans_arrivals (lists_of asked.plans.items) }
     ensures ok { IfOk result (λ o. Continues book.opening book.history o.book) }
     ensures err { IfErr result (λ e. Continues book.opening book.history e.book) }
     ensures answered { IfOk result (λ o. PlansAnswered (lists_of asked.plans.items) (lists_of o.answers.items)) }
     ensures told { IfOk result (λ o. o.receipts.items ≡ receipts_of_all (lists_of o.answers.items)) }
+    ensures one_thread { IfOk result (λ o. IsOneThread book.core.state.tree.limit book.opening book.history
+        o.book.history (waiting_in book.core.state.inboxes ++ plans_arrivals (lists_of asked.plans.items)) o.receipts.items) }
+    ensures waits { IfOk result (λ o.
+        AllByRecursion (Contains (waiting_in book.core.state.inboxes ++ plans_arrivals (lists_of asked.plans.items)))
+        (waiting_in o.book.core.state.inboxes)) }
     ensures agree { IfOk result (λ o. Agree o.book.history (length book.history) o.receipts.items) }
 {
     let from = book.history().len();
@@ -115,7 +130,7 @@ where
 
 // What a run gave, once its threads have ended. Each receipt is looked up; how many are marked first is known by the
 // shares.
-#[tactic(auto, using(crate::proofs::TurnLaws::agree_of))]
+#[tactic(auto, using(crate::proofs::TurnLaws::agree_of, crate::proofs::AskedLaws::one_of, crate::proofs::Found::kept_asked))]
 fn settled<S: Store + Drop, L: Handed>(
     alloc: Global,
     desk: Desk<S, L>,
@@ -125,9 +140,13 @@ fn settled<S: Store + Drop, L: Handed>(
     requires parts { ran.all.parts ≡ L.parts }
     requires from { from ≡ length L.begun }
     requires amount { ran.all.amount ≡ length L.begun + firsts_of_all (lists_of ran.answers.items) }
+    requires asked_for { ∥ AllByRecursion (IsAskedFor L.sent) (receipts_of_all (lists_of ran.answers.items)) ∥₁ }
     ensures ok { IfOk result (λ o. Continues L.opened L.begun o.book) }
     ensures err { IfErr result (λ e. Continues L.opened L.begun e.book) }
     ensures told { IfOk result (λ o. o.receipts.items ≡ receipts_of_all (lists_of o.answers.items)) }
+    ensures one_thread { IfOk result (λ o.
+        IsOneThread L.limit L.opened L.begun o.book.history L.sent o.receipts.items) }
+    ensures waits { IfOk result (λ o. AllByRecursion (Contains L.sent) (waiting_in o.book.core.state.inboxes)) }
     ensures agree { IfOk result (λ o. Agree o.book.history (length L.begun) o.receipts.items) }
     ensures answers { IfOk result (λ o. o.answers ≡ ran.answers) }
 {

@@ -1,6 +1,8 @@
 //! The threads of a run, from their start to their ends.
 ghost use Rattle.std.specs.Prelude.{◌≡◌, ◌+◌, [], IfOk, IfSome, OnOk, map, vec_len};
-ghost use Rattle.rank_threads.specs.Turns.{PlansAnswered, firsts_of_all, lists_of};
+ghost use Rattle.std.specs.List.{AllByRecursion};
+ghost use Rattle.cluster_core.specs.OneThread.{IsAskedFor};
+ghost use Rattle.rank_threads.specs.Turns.{PlansAnswered, firsts_of_all, lists_of, receipts_of_all};
 
 use crate::commits::{Commit, end_all};
 use crate::desks::{Desk, Handed};
@@ -42,6 +44,8 @@ where
         PlansAnswered (map (λ p. p.turns.items) needs.starts.plans.items) (lists_of r.answers.items)) }
     ensures parts { IfOk result (λ r. r.all.parts ≡ needs.all.parts + vec_len needs.starts.plans) }
     ensures amount { IfOk result (λ r. r.all.amount ≡ needs.all.amount + firsts_of_all (lists_of r.answers.items)) }
+    ensures asked_for { IfOk result (λ r.
+        ∥ AllByRecursion (IsAskedFor L.sent) (receipts_of_all (lists_of r.answers.items)) ∥₁) }
 {
     thread::scope(
         thread::scope_env(),
@@ -51,7 +55,8 @@ where
             ensures { IfOk result (λ r.
                 PlansAnswered (map (λ p. p.turns.items) needs.starts.plans.items) (lists_of r.answers.items)
                 × (r.all.parts ≡ needs.all.parts + vec_len needs.starts.plans)
-                × (r.all.amount ≡ needs.all.amount + firsts_of_all (lists_of r.answers.items))) }
+                × (r.all.amount ≡ needs.all.amount + firsts_of_all (lists_of r.answers.items))
+                × ∥ AllByRecursion (IsAskedFor L.sent) (receipts_of_all (lists_of r.answers.items)) ∥₁) }
         { run_in(scope, rt, alloc, desk, gate, needs) },
     )
 }
@@ -75,6 +80,8 @@ where
         PlansAnswered (map (λ p. p.turns.items) needs.starts.plans.items) (lists_of r.answers.items)) }
     ensures parts { IfOk result (λ r. r.all.parts ≡ needs.all.parts + vec_len needs.starts.plans) }
     ensures amount { IfOk result (λ r. r.all.amount ≡ needs.all.amount + firsts_of_all (lists_of r.answers.items)) }
+    ensures asked_for { IfOk result (λ r.
+        ∥ AllByRecursion (IsAskedFor L.sent) (receipts_of_all (lists_of r.answers.items)) ∥₁) }
 {
     let Needs {
         starts,
@@ -142,6 +149,8 @@ fn gather<L: Handed, R: Threads>(
         PlansAnswered (map (λ h. h.promise.0.value.items) handles.items) (lists_of answers.new.items)) }
     ensures parts { OnOk result (all.new.parts ≡ all.old.parts + vec_len handles) }
     ensures amount { OnOk result (all.new.amount ≡ all.old.amount + firsts_of_all (lists_of answers.new.items)) }
+    ensures asked_for { OnOk result
+        (∥ AllByRecursion (IsAskedFor L.sent) (receipts_of_all (lists_of answers.new.items)) ∥₁) }
 {
     for handle in handles {
         let Work {

@@ -1,11 +1,10 @@
 //! Whether receipts agree with a history.
 ghost use Rattle.std.specs.Prelude.{◌≡◌, ◌↔◌, ◌<◌, IfOk, IfErr, IsTrue, false, get_or, length, vec_len};
-ghost use Rattle.rank_threads.specs.Agreement.{Agree, IsHeld, Stand, first_places};
+ghost use Rattle.cluster_core.specs.OneThread.{Agree, IsHeld, Stand, first_places};
 ghost use Rattle.rank_threads.specs.Standing.{Fits, marked};
 
-use crate::receipts::Receipt;
 use crate::replies::is_same;
-use cluster_core::Book;
+use cluster_core::{Book, Receipt};
 use mds_types::{Entry, Refusal};
 use objstore::Store;
 use std::alloc::{AllocError, Global};

@@ -66,6 +66,20 @@ impl<S: Store + Drop> RankedTree<S> {
             },
         }
     }
+
+    /// The store, handed back; all else is dropped.
+    pub fn into_store(self) -> S
+        ensures objects { S.objects result ≡ self.tree.objects }
+        ensures faults { S.faults result ≡ self.tree.faults }
+    {
+        let RankedTree {
+            tree,
+            regions,
+            alloc: _,
+        } = self;
+        drop(regions);
+        tree.into_store()
+    }
 }
 
 // The leaves of the root directory as the subtree roots, rank 0's, in the lists of so many ranks.

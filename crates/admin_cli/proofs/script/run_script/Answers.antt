@@ -1,5 +1,12 @@
+use Rattle.admin_cli.proofs.PrintedLaws.{prints_new, prints_nothing}
 use Rattle.admin_cli.proofs.Progress.{started}
 use Rattle.admin_cli.proofs.script.run_script.Goals as goal
 
-pub returns-in-Some : goal.returns-in-Some
-returns-in-Some g c = started _ _ _ _ _ _ _ c.in-Some.book c.in-Some.ensures c.run_book.ensures
+pub returns-in-Some-clause-ran : goal.returns-in-Some-clause-ran
+returns-in-Some-clause-ran g c = started _ _ _ _ _ _ _ c.in-Some.book c.in-Some.ensures c.run_book.ensures
+
+pub returns-in-Some-clause-one_thread : goal.returns-in-Some-clause-one_thread
+returns-in-Some-clause-one_thread g c = prints_new _ _ _ _ _ _ _ (returns-in-Some-clause-ran g c)
+
+pub returns-in_default-clause-one_thread : goal.returns-in_default-clause-one_thread
+returns-in_default-clause-one_thread g c = prints_nothing _ _ _ _

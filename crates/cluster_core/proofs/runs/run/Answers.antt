@@ -1,5 +1,6 @@
 -- The list of events is run from its front.
 use Rattle.cluster_core.proofs.Common.{arith, into_iter_items, sym, ◌∙◌}
+use Rattle.cluster_core.proofs.OneThreadLaws.{run_as_one, run_throughout}
 use Rattle.cluster_core.proofs.RunLaws.{run_more, run_all, run_of}
 use Rattle.cluster_core.proofs.runs.run.Goals as goal
 
@@ -16,6 +17,8 @@ loop-event-preserved g c =
       sound = c.step.ensures.sound;
     }
 
-pub returns-clause-ran : goal.returns-clause-ran
-returns-clause-ran g c =
-    run_of _ _ _ _ (run_all _ _ c.args.events.items _ _ c.loop-event.invariant.ran (omega (arith, c.loop-event.invariant.count, c.in_default.ensures.cases.0)))
+pub returns : goal.returns
+returns g c =
+    let ran = run_all _ _ c.args.events.items _ _ c.loop-event.invariant.ran (omega (arith, c.loop-event.invariant.count, c.in_default.ensures.cases.0)) in
+    let its = run_as_one _ _ c.args.events.items _ ran c.loop-event.invariant.sound in
+    record { one_thread = its.one; in_order = its.in_order; waits = its.waits; throughout = run_throughout _ _ c.args.events.items _ ran c.is_sound.ensures; ran = run_of _ _ _ _ ran; sound = c.loop-event.invariant.sound }

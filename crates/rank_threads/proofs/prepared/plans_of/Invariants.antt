@@ -1,4 +1,4 @@
-use Rattle.rank_threads.proofs.Common.{length, map, vec_items, ◌+◌, ◌≡◌}
+use Rattle.rank_threads.proofs.Common.{EachIsSent, into_iter_items, length, map, vec_items, ◌+◌, ◌≡◌}
 use Rattle.rank_threads.proofs.prepared.plans_of.Given as goal
 
 abbrev pub invariant-loop-turns : goal.invariant-loop-turns
@@ -6,4 +6,5 @@ invariant-loop-turns g l = record {
   turns : map (λ p. p.turns.items) l.plans.items ≡ map vec_items l.yielded;
   parts : l.all.parts + length l.yielded ≡ l.initial.all.parts;
   amount : l.all.amount ≡ l.initial.all.amount;
+  sent : EachIsSent g.L.Handed.sent (map vec_items (into_iter_items l.turns-iterator));
 }

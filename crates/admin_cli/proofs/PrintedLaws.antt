@@ -1,0 +1,521 @@
+-- What a script prints is what one thread tells.
+use Rattle.admin_cli.proofs.Common.{Admin, Answer, Appends, BookState, Command, EndsScript, Err, Event, Executes, FaultKind, Fragment, IfSome, Ino, IsFormatted, Keeps, List, MakesStep, None, Ok, Option, OutputLine, Rank, Refusal, Result, RunsInput, RunsLines, RunsNew, Some, StopsBefore, [], ap, append-nil, arith, inl, inr, length, refl, shown_line, subst, sym, text_of, ℕ, ◌++◌, ◌+◌, ◌∙◌, ◌∷◌, ◌≡◌}
+use Rattle.std.specs.Prelude.{◌⊎◌, filter, flat_map, map, replicate, suc, zero}
+use Rattle.std.specs.List.{AllByRecursion}
+use Rattle.std.specs.FinMap as finite
+use Rattle.std.proofs.lemmas.List.{map-append}
+use Rattle.std.proofs.lemmas.List.Concat.{flat_map-append}
+use Rattle.std.proofs.lemmas.List.Elements.{filter-append}
+use Rattle.mds_types.specs.declared.entries.Entry.{Entry}
+use Rattle.mds_types.specs.declared.operations.Op.{Op}
+use Rattle.mds_types.specs.declared.requests.Request.{Request}
+use Rattle.std.specs.Prelude.{Contains}
+use Rattle.cluster_core.specs.Flush.{Flushes, KeepsBook}
+use Rattle.cluster_core.specs.OneThread.{InOrder, IsOneThread, arrival, receipt_of}
+use Rattle.cluster_core.specs.SentBytes.{none_sent}
+use Rattle.cluster_core.specs.Sound.{IsSoundBook}
+use Rattle.cluster_core.specs.State.{State, new_state}
+use Rattle.cluster_core.specs.declared.events.Answer.TheVariants as answer
+use Rattle.cluster_core.specs.declared.events.Event.TheVariants as event
+use Rattle.cluster_core.specs.declared.receipts.Receipt.{Receipt}
+use Rattle.cluster_core.proofs.ListLaws.{all_append, all_back, all_front, each_right}
+use Rattle.mds_types.specs.Tree.{Tree}
+use Rattle.cluster_core.proofs.NoReplyLaws.{TellsNone, tells_none}
+use Rattle.cluster_core.proofs.OneThreadLaws.{Served, as_one, served_none, served_on, served_one, served_same}
+use Rattle.cluster_core.proofs.SentLaws.{AreAmong}
+use Rattle.script_text.specs.Script.{line_of}
+use Rattle.script_text.specs.Input.{lines_of}
+use Rattle.script_text.specs.declared.commands.Command.TheVariants as command
+use Rattle.script_text.specs.declared.exports.ExportCommand.{ExportCommand}
+use Rattle.script_text.specs.declared.exports.ExportCommand.TheVariants as export
+use Rattle.script_text.specs.declared.lines.Line.{Line}
+use Rattle.script_text.specs.declared.lines.Line.TheVariants as line
+use Rattle.script_text.specs.declared.store_commands.StoreCommand.{StoreCommand}
+use Rattle.script_text.specs.declared.store_commands.StoreCommand.TheVariants as store
+use Rattle.script_output.specs.Lines.{output_line}
+use Rattle.script_output.specs.declared.lines.OutputLine.TheVariants as out
+use Rattle.script_output.specs.declared.object_lines.ObjectLine.TheVariants as object
+use Rattle.admin_cli.specs.Execute.{OperatesAfter, OperatesLine}
+use Rattle.admin_cli.specs.ExportLines.{ExecutesExport}
+use Rattle.admin_cli.specs.OwnLines.{OwnLine}
+use Rattle.admin_cli.specs.Printed.{PrintsOneThread, counted_with, ended_line, is_reply, receipt_line, request_of, requests_of}
+use Rattle.admin_cli.specs.Scripts.{DoesLine}
+use Rattle.admin_cli.specs.StepLines.{DoesEvent, IsStep, arrived_line}
+use Rattle.admin_cli.specs.StoreLines.{BeginsJob, CommitsAfter, CommitsLine, EndsKept, ExecutesStore, begun_line, flushed_line}
+use Rattle.admin_cli.specs.declared.faults.ScriptFault.{ScriptFault}
+use Rattle.admin_cli.specs.declared.faults.FaultKind.TheVariants as fault
+use Rattle.cached_frag.specs.declared.jobs.Job.{Job as Begun}
+
+-- ---- lines
+
+-- the receipt of a line, if it is a reply's
+abbrev receipt_in : OutputLine → List Receipt
+receipt_in (out.Reply client tid place first reply) = record { client = client; tid = tid; place = place; first = first; reply = reply } ∷ []
+receipt_in other = []
+
+-- a line begins with `reply ` exactly where it is one
+line_replies : (line : OutputLine) → filter is_reply (output_line line ∷ []) ≡ map receipt_line (receipt_in line)
+unfolding output_line
+line_replies (out.Reply client tid place first reply) = refl
+line_replies (out.Forwarded rank) = refl
+line_replies out.Deferred = refl
+line_replies out.Queued = refl
+line_replies out.Nothing = refl
+line_replies out.Flushed = refl
+line_replies (out.Frags leaves) = refl
+line_replies (out.Subtrees roots) = refl
+line_replies (out.Authority rank) = refl
+line_replies (out.Job number) = refl
+line_replies (out.Sent length) = refl
+line_replies (out.Object (object.Frag version files dirs keys)) = refl
+line_replies (out.Object (object.Tree leaves)) = refl
+line_replies (out.Object object.Absent) = refl
+line_replies (out.Object object.Damaged) = refl
+line_replies (out.Objects names) = refl
+line_replies out.Idle = refl
+line_replies (out.Own turn) = refl
+line_replies (out.History length) = refl
+line_replies (out.Refused refusal) = refl
+line_replies (out.Errno errno) = refl
+
+-- the line that shows a step has its receipt
+shown_receipt : (result : Result Answer Refusal) → receipt_in (shown_line result) ≡ receipt_of result
+shown_receipt (Ok answer.Nothing) = refl
+shown_receipt (Ok (answer.Job job)) = refl
+shown_receipt (Ok (answer.Sent bytes)) = refl
+shown_receipt (Ok (answer.Reply client tid place first reply)) = refl
+shown_receipt (Ok (answer.Forwarded rank)) = refl
+shown_receipt (Ok answer.Deferred) = refl
+shown_receipt (Err refusal) = refl
+
+-- ---- one line of a script
+
+module _ (sent : List Request) where
+  -- what a line did, by what it printed
+  record DidLine (old new : Admin) (printed : OutputLine) : Type 0 where
+    sound : IsSoundBook new.book
+    served : Served old.book new.book sent (receipt_in printed)
+
+  abbrev IsReady : Admin → Type 0
+  IsReady admin = IsSoundBook admin.book × AreAmong sent admin.book.core.state.inboxes
+
+  as_told : (old new : Admin) (printed : OutputLine) (told : List Receipt) → receipt_in printed ≡ told → IsSoundBook new.book → Served old.book new.book sent told → DidLine old new printed
+  as_told old new printed told is sound served = record { sound = sound; served = subst (λ (rs : List Receipt). Served old.book new.book sent rs) (sym is) served }
+
+  -- a line that only reads
+  only_read : (old new : Admin) (printed : OutputLine) → IsReady old → new ≡ old → receipt_in printed ≡ [] → DidLine old new printed
+  only_read old new printed ready same none =
+      let books : new.book ≡ old.book = ap (λ (a : Admin). a.book) same in
+      as_told old new printed [] none (subst IsSoundBook (sym books) ready.0) (served_same sent old.book new.book books ready.1)
+
+  one_step : (old new : BookState) (result : Result Answer Refusal) (event : Event) → AreAmong sent old.core.state.inboxes → AllByRecursion (Contains sent) (arrival event) → IsStep old new result event → Served old new sent (receipt_of result)
+  one_step old new result event among has step = served_one sent old new result event step.stepped.stepped step.stepped.same_opening among has
+
+  -- a step whose line shows it
+  shows_step : (old new : Admin) (result : Result Answer Refusal) (event : Event) (printed : OutputLine) → IsReady old → AllByRecursion (Contains sent) (arrival event) → IsStep old.book new.book result event → printed ≡ shown_line result → DidLine old new printed
+  shows_step old new result event printed ready has step is =
+      as_told old new printed (receipt_of result) (ap receipt_in is ∙ shown_receipt result) step.sound (one_step old.book new.book result event ready.1 has step)
+
+  does_event : (old new : Admin) (event : Event) (printed : OutputLine) → IsReady old → AllByRecursion (Contains sent) (arrival event) → DoesEvent old new event printed → DidLine old new printed
+  does_event old new event printed ready has (_, _, _, steps) = shows_step old new steps.result event printed ready has steps.stepped steps.shown
+
+  -- a step of which no reply is told, whatever its line is
+  silent_step : (old new : Admin) (result : Result Answer Refusal) (event : Event) (printed : OutputLine) → IsReady old → AllByRecursion (Contains sent) (arrival event) → IsStep old.book new.book result event → receipt_of result ≡ [] → receipt_in printed ≡ [] → DidLine old new printed
+  silent_step old new result event printed ready has step none is =
+      as_told old new printed (receipt_of result) (is ∙ sym none) step.sound (one_step old.book new.book result event ready.1 has step)
+
+  is_silent : (old new : BookState) (result : Result Answer Refusal) (event : Event) → IsStep old new result event → TellsNone event result
+  is_silent old new result event step = tells_none old.core new.core old.history new.history result event step.stepped.stepped.does
+
+  -- an operation alone
+  operated_after : (old middle new : Admin) (arrived : Result Answer Refusal) (printed : OutputLine) → IsReady middle → OperatesAfter middle.book new.book arrived printed → DidLine middle new printed
+  operated_after old middle new (Ok answer) printed ready h = shows_step middle new h.result (event.Serve (record { 0 = 0 })) printed ready tt h.stepped h.shown
+  operated_after old middle new (Err refusal) printed ready (same, is) =
+      as_told middle new printed [] (ap receipt_in is) (subst IsSoundBook (sym same) ready.0) (served_same sent middle.book new.book same ready.1)
+
+  operates : (old new : Admin) (tid : ℕ) (op : Op) (printed : OutputLine) → IsReady old → Contains sent (record { client = 0; tid = tid; oldest = tid; op = op }) → OperatesLine old.book new.book tid op printed → DidLine old new printed
+  operates old new tid op printed ready has h =
+      let asked : Request = record { client = 0; tid = tid; oldest = tid; op = op } in
+      let arrives : Event = event.Arrive (record { 0 = 0 }) asked in
+      let none : receipt_of h.arrived ≡ [] = is_silent old.book h.middle h.arrived arrives h.stepped in
+      let first : Served old.book h.middle sent [] = subst (λ (rs : List Receipt). Served old.book h.middle sent rs) none (one_step old.book h.middle h.arrived arrives ready.1 (has, tt) h.stepped) in
+      let middle : Admin = record old { book = h.middle } in
+      let then = operated_after old middle new h.arrived printed (h.stepped.sound, first.waits) h.rest in
+      record { sound = then.sound; served = served_on sent old.book h.middle new.book [] (receipt_in printed) first then.served }
+
+  -- a request
+  queued : (result : Result Answer Refusal) → receipt_in (arrived_line result) ≡ []
+  queued (Ok answer) = refl
+  queued (Err refusal) = refl
+
+  -- a step whose line is no reply's, and of which none is told
+  silent_line : (old new : Admin) (result : Result Answer Refusal) (event : Event) (printed : OutputLine) → IsReady old → AllByRecursion (Contains sent) (arrival event) → ((r : Result Answer Refusal) → TellsNone event r → receipt_of r ≡ [])
+      → IsStep old.book new.book result event → receipt_in printed ≡ [] → DidLine old new printed
+  silent_line old new result event printed ready has none step is = silent_step old new result event printed ready has step (none result (is_silent old.book new.book result event step)) is
+
+  -- a rank's own turn
+  makes_one : (old new : Admin) (event : Event) (printed : OutputLine) → IsReady old → AllByRecursion (Contains sent) (arrival event) → ((r : Result Answer Refusal) → TellsNone event r → receipt_of r ≡ [])
+      → (shown : OutputLine) → DoesEvent old new event shown → receipt_in printed ≡ [] → DidLine old new printed
+  makes_one old new event printed ready has none shown (_, _, _, steps) is = silent_line old new steps.result event printed ready has none steps.stepped is
+
+  makes_step : (old new : Admin) (event : Event) (printed : OutputLine) → IsReady old → MakesStep old new event printed → DidLine old new printed
+  makes_step old new (event.Arrive rank request) printed ready h = absurd h
+  makes_step old new (event.Serve rank) printed ready h = absurd h
+  makes_step old new (event.Grant rank client tid) printed ready h = absurd h
+  makes_step old new (event.Split rank dir f bits) printed ready (shown, does, is) = makes_one old new (event.Split rank dir f bits) printed ready tt (λ r none. none) shown does (ap receipt_in is)
+  makes_step old new (event.Merge rank dir f) printed ready (shown, does, is) = makes_one old new (event.Merge rank dir f) printed ready tt (λ r none. none) shown does (ap receipt_in is)
+  makes_step old new (event.CommitBegin rank dir f) printed ready h = absurd h
+  makes_step old new (event.CommitEnd encoded) printed ready h = absurd h
+  makes_step old new (event.CommitDrop job) printed ready h = absurd h
+  makes_step old new (event.CommitTree dir) printed ready h = absurd h
+  makes_step old new event.Purge printed ready h = absurd h
+  makes_step old new (event.Evict rank) printed ready h = absurd h
+  makes_step old new (event.Start from dir f to) printed ready (shown, does, is) = makes_one old new (event.Start from dir f to) printed ready tt (λ r none. none) shown does (ap receipt_in is)
+  makes_step old new (event.Freeze dir f) printed ready (shown, does, is) = makes_one old new (event.Freeze dir f) printed ready tt (λ r none. none) shown does (ap receipt_in is)
+  makes_step old new (event.Prep dir f) printed ready (shown, does, is) = makes_one old new (event.Prep dir f) printed ready tt (λ r none. none) shown does (ap receipt_in is)
+  makes_step old new (event.Send dir f) printed ready (shown, does, is) = silent_line old new does.result (event.Send dir f) printed ready tt (λ r none. none) does.stepped (ap receipt_in is)
+  makes_step old new (event.Import dir f bytes) printed ready (shown, does, is) = silent_line old new does.result _ printed ready tt (λ r none. none) does.stepped (ap receipt_in is)
+  makes_step old new (event.Finish dir f) printed ready (shown, does, is) = makes_one old new (event.Finish dir f) printed ready tt (λ r none. none) shown does (ap receipt_in is)
+  makes_step old new (event.Cancel dir f) printed ready (shown, does, is) = makes_one old new (event.Cancel dir f) printed ready tt (λ r none. none) shown does (ap receipt_in is)
+
+  own_line : (old new : Admin) (found : Result (Option Event) Refusal) (printed : OutputLine) → IsReady old → OwnLine old new found printed → DidLine old new printed
+  own_line old new (Ok None) printed ready (same, is) = only_read old new printed ready same (ap receipt_in is)
+  own_line old new (Ok (Some event)) printed ready h = makes_step old new event printed ready h
+  own_line old new (Err refusal) printed ready (same, is) = only_read old new printed ready same (ap receipt_in is)
+
+  -- an export's command
+  executes_export : (old new : Admin) (command : ExportCommand) (printed : OutputLine) → IsReady old → ExecutesExport old new command printed → DidLine old new printed
+  executes_export old new (export.Dir from dir f to) printed ready h = does_event old new (event.Start from dir f to) printed ready tt h
+  executes_export old new (export.Freeze dir f) printed ready h = does_event old new (event.Freeze dir f) printed ready tt h
+  executes_export old new (export.Prep dir f) printed ready h = does_event old new (event.Prep dir f) printed ready tt h
+  executes_export old new (export.Send dir f) printed ready h = shows_step old new h.result (event.Send dir f) printed ready tt h.stepped h.shown
+  executes_export old new (export.Import dir f) printed ready h = shows_step old new h.result _ printed ready tt h.stepped h.shown
+  executes_export old new (export.Finish dir f) printed ready h = does_event old new (event.Finish dir f) printed ready tt h
+  executes_export old new (export.Cancel dir f) printed ready h = does_event old new (event.Cancel dir f) printed ready tt h
+
+  -- a command on the store
+  begun_silent : (number : Result (Option ℕ) Refusal) → receipt_in (begun_line number) ≡ []
+  begun_silent (Ok (Some number)) = refl
+  begun_silent (Ok None) = refl
+  begun_silent (Err refusal) = refl
+
+  begins_job : (old new : Admin) (rank : Rank) (dir : Ino) (f : Fragment) (number : Result (Option ℕ) Refusal) (printed : OutputLine) → IsReady old → BeginsJob old new rank dir f number → receipt_in printed ≡ [] → DidLine old new printed
+  begins_job old new rank dir f number printed ready h is = silent_line old new h.result (event.CommitBegin rank dir f) printed ready tt (λ r none. none) h.stepped is
+
+  ends_kept : (old new : Admin) (number : ℕ) (job : Option Begun) (printed : OutputLine) → IsReady old → EndsKept old new number job printed → DidLine old new printed
+  ends_kept old new number None printed ready (same, is) = only_read old new printed ready same (ap receipt_in is)
+  ends_kept old new number (Some job) printed ready (inl (same, is)) = only_read old new printed ready same (ap receipt_in is)
+  ends_kept old new number (Some job) printed ready (inr h) = shows_step old new h.result _ printed ready tt h.stepped h.shown
+
+  commits_after : (middle new : Admin) (number : Result (Option ℕ) Refusal) (printed : OutputLine) → IsReady middle → CommitsAfter middle new number printed → DidLine middle new printed
+  commits_after middle new (Ok (Some number)) printed ready h = ends_kept middle new number (finite.get middle.jobs number) printed ready h
+  commits_after middle new (Ok None) printed ready (same, is) = only_read middle new printed ready same (ap receipt_in is)
+  commits_after middle new (Err refusal) printed ready (same, is) = only_read middle new printed ready same (ap receipt_in is)
+
+  commits : (old new : Admin) (rank : Rank) (dir : Ino) (f : Fragment) (printed : OutputLine) → IsReady old → CommitsLine old new rank dir f printed → DidLine old new printed
+  commits old new rank dir f printed ready h =
+      let first = begins_job old h.middle rank dir f h.number (begun_line h.number) ready h.begun (begun_silent h.number) in
+      let none : Served old.book h.middle.book sent [] = subst (λ (rs : List Receipt). Served old.book h.middle.book sent rs) (begun_silent h.number) first.served in
+      let then = commits_after h.middle new h.number printed (first.sound, none.waits) h.rest in
+      record { sound = then.sound; served = served_on sent old.book h.middle.book new.book [] (receipt_in printed) none then.served }
+
+  flushed_none : (old new : BookState) → AreAmong sent old.core.state.inboxes → KeepsBook old new → Served old new sent []
+  flushed_none old new among kept =
+      served_none sent old new kept.opening (ap (λ (s : State). s.tree.limit) kept.core.left) (ap (λ (s : State). s.inboxes) kept.core.left) kept.history among
+
+  flushed : (old new : BookState) (result : Result (Unit {0}) Refusal) → AreAmong sent old.core.state.inboxes → Flushes old new result → Served old new sent []
+  flushed old new result among (inl hindered) = served_same sent old new hindered.left among
+  flushed old new result among (inr tried) = flushed_none old new among tried.kept
+
+  flush_silent : (result : Result (Unit {0}) Refusal) → receipt_in (flushed_line result) ≡ []
+  flush_silent (Ok done) = refl
+  flush_silent (Err refusal) = refl
+
+  executes_store : (old new : Admin) (command : StoreCommand) (printed : OutputLine) → IsReady old → ExecutesStore old new command printed → DidLine old new printed
+  executes_store old new (store.CommitBegin rank dir f) printed ready (number, h, is) = begins_job old new rank dir f number printed ready h (ap receipt_in is ∙ begun_silent number)
+  executes_store old new (store.CommitEnd number) printed ready h = ends_kept old new number (finite.get old.jobs number) printed ready h
+  executes_store old new (store.CommitDrop number) printed ready h = shows_step old new h.result (event.CommitDrop number) printed ready tt h.stepped h.shown
+  executes_store old new (store.Commit rank dir f) printed ready h = commits old new rank dir f printed ready h
+  executes_store old new (store.CommitTree dir) printed ready h = does_event old new (event.CommitTree dir) printed ready tt h
+  executes_store old new store.Purge printed ready h = does_event old new event.Purge printed ready tt h
+  executes_store old new store.Flush printed ready h =
+      as_told old new printed [] (ap receipt_in h.shown ∙ flush_silent h.result) h.flushed.sound (flushed old.book new.book h.result ready.1 h.flushed.outcome)
+  executes_store old new (store.Evict rank) printed ready h = does_event old new (event.Evict rank) printed ready tt h
+  executes_store old new (store.Object name) printed ready (same, inl (shown, line, is)) = only_read old new printed ready same (ap receipt_in is)
+  executes_store old new (store.Object name) printed ready (same, inr (is, takes)) = only_read old new printed ready same (ap receipt_in is)
+  executes_store old new store.Objects printed ready (same, inl is) = only_read old new printed ready same (ap receipt_in is)
+  executes_store old new store.Objects printed ready (same, inr is) = only_read old new printed ready same (ap receipt_in is)
+
+  -- a command
+  executes : (old new : Admin) (command : Command) (printed : OutputLine) → IsReady old → AllByRecursion (Contains sent) (request_of old.operations (line.Command command)) → Executes old new command printed → DidLine old new printed
+  executes old new (command.Operation op) printed ready has (count, jobs, bytes, h) =
+      operates old new (old.operations + 1) op printed ready has.0 (subst (λ (n : ℕ). OperatesLine old.book new.book n op printed) count h)
+  executes old new (command.Serve rank) printed ready has h = does_event old new (event.Serve rank) printed ready tt h
+  executes old new (command.Own rank) printed ready has h = own_line old new h.found printed ready h.done
+  executes old new (command.Request rank request) printed ready has (count, jobs, bytes, h) =
+      silent_line old new h.result (event.Arrive rank request) printed ready has (λ r none. none) h.stepped (ap receipt_in h.shown ∙ queued h.result)
+  executes old new command.History printed ready has (same, is) = only_read old new printed ready same (ap receipt_in is)
+  executes old new (command.Split rank dir f nb) printed ready has h = does_event old new (event.Split rank dir f nb) printed ready tt h
+  executes old new (command.Merge rank dir f) printed ready has h = does_event old new (event.Merge rank dir f) printed ready tt h
+  executes old new (command.Leaves dir) printed ready has (same, inl (leaves, listed, is)) = only_read old new printed ready same (ap receipt_in is)
+  executes old new (command.Leaves dir) printed ready has (same, inr (refusal, listed, is)) = only_read old new printed ready same (ap receipt_in is)
+  executes old new (command.Grant rank client tid) printed ready has h = does_event old new (event.Grant rank client tid) printed ready tt h
+  executes old new command.Subtrees printed ready has (same, is) = only_read old new printed ready same (ap receipt_in is)
+  executes old new (command.Authority dir f) printed ready has (same, inl (rank, told, is)) = only_read old new printed ready same (ap receipt_in is)
+  executes old new (command.Authority dir f) printed ready has (same, inr (refusal, told, is)) = only_read old new printed ready same (ap receipt_in is)
+  executes old new (command.Export command) printed ready has h = executes_export old new command printed ready h
+  executes old new (command.Store command) printed ready has h = executes_store old new command printed ready h
+
+  -- what lines did, and what they printed
+  record Did (old new : Admin) (text : List ℕ) : Type 0 where
+    sound : IsSoundBook new.book
+    told : List Receipt
+    printed : List (List ℕ)
+    whole : text ≡ flat_map ended_line printed
+    replies : filter is_reply printed ≡ map receipt_line told
+    served : Served old.book new.book sent told
+
+  did_none : (old new : Admin) (text : List ℕ) → IsReady old → new ≡ old → text ≡ [] → Did old new text
+  did_none old new text ready same none =
+      let books : new.book ≡ old.book = ap (λ (a : Admin). a.book) same in
+      record { sound = subst IsSoundBook (sym books) ready.0; told = []; printed = []; whole = none; replies = refl; served = served_same sent old.book new.book books ready.1 }
+
+  did_one : (old new : Admin) (text : List ℕ) (shown : OutputLine) → text ≡ text_of shown → DidLine old new shown → Did old new text
+  did_one old new text shown is did = record {
+    sound = did.sound;
+    told = receipt_in shown;
+    printed = output_line shown ∷ [];
+    whole = is ∙ sym (append-nil (text_of shown));
+    replies = line_replies shown;
+    served = did.served;
+  }
+
+  did_line : (old new : Admin) (found : Line) (text : List ℕ) → IsReady old → AllByRecursion (Contains sent) (request_of old.operations found) → DoesLine old new found text → Did old new text
+  did_line old new line.Nothing text ready has (same, none) = did_none old new text ready same none
+  did_line old new (line.Command command) text ready has (shown, did, is) = did_one old new text shown is (executes old new command shown ready has did)
+  did_line old new (line.BadWord errno) text ready has (same, is) = did_one old new text (out.Errno errno) is (only_read old new (out.Errno errno) ready same refl)
+  did_line old new line.NotCommand text ready has h = absurd h
+
+-- ---- how many operations alone were read
+
+no_more : (old new : Admin) → new ≡ old → new.operations ≡ old.operations
+no_more old new same = ap (λ (a : Admin). a.operations) same
+
+event_count : (old new : Admin) (event : Event) (printed : OutputLine) → DoesEvent old new event printed → new.operations ≡ old.operations
+event_count old new event printed (count, jobs, bytes, steps) = count
+
+kept_count : (old new : Admin) (number : ℕ) (job : Option Begun) (printed : OutputLine) → EndsKept old new number job printed → new.operations ≡ old.operations
+kept_count old new number None printed (same, is) = no_more old new same
+kept_count old new number (Some job) printed (inl (same, is)) = no_more old new same
+kept_count old new number (Some job) printed (inr h) = h.count
+
+after_count : (middle new : Admin) (number : Result (Option ℕ) Refusal) (printed : OutputLine) → CommitsAfter middle new number printed → new.operations ≡ middle.operations
+after_count middle new (Ok (Some number)) printed h = kept_count middle new number (finite.get middle.jobs number) printed h
+after_count middle new (Ok None) printed (same, is) = no_more middle new same
+after_count middle new (Err refusal) printed (same, is) = no_more middle new same
+
+store_count : (old new : Admin) (command : StoreCommand) (printed : OutputLine) → ExecutesStore old new command printed → new.operations ≡ old.operations
+store_count old new (store.CommitBegin rank dir f) printed (number, h, is) = h.count
+store_count old new (store.CommitEnd number) printed h = kept_count old new number (finite.get old.jobs number) printed h
+store_count old new (store.CommitDrop number) printed h = h.count
+store_count old new (store.Commit rank dir f) printed h = after_count h.middle new h.number printed h.rest ∙ h.begun.count
+store_count old new (store.CommitTree dir) printed h = event_count old new (event.CommitTree dir) printed h
+store_count old new store.Purge printed h = event_count old new event.Purge printed h
+store_count old new store.Flush printed h = h.count
+store_count old new (store.Evict rank) printed h = event_count old new (event.Evict rank) printed h
+store_count old new (store.Object name) printed (same, looks) = no_more old new same
+store_count old new store.Objects printed (same, lists) = no_more old new same
+
+export_count : (old new : Admin) (command : ExportCommand) (printed : OutputLine) → ExecutesExport old new command printed → new.operations ≡ old.operations
+export_count old new (export.Dir from dir f to) printed h = event_count old new (event.Start from dir f to) printed h
+export_count old new (export.Freeze dir f) printed h = event_count old new (event.Freeze dir f) printed h
+export_count old new (export.Prep dir f) printed h = event_count old new (event.Prep dir f) printed h
+export_count old new (export.Send dir f) printed h = h.count
+export_count old new (export.Import dir f) printed h = h.count
+export_count old new (export.Finish dir f) printed h = event_count old new (event.Finish dir f) printed h
+export_count old new (export.Cancel dir f) printed h = event_count old new (event.Cancel dir f) printed h
+
+step_count : (old new : Admin) (event : Event) (printed : OutputLine) → MakesStep old new event printed → new.operations ≡ old.operations
+step_count old new (event.Arrive rank request) printed h = absurd h
+step_count old new (event.Serve rank) printed h = absurd h
+step_count old new (event.Grant rank client tid) printed h = absurd h
+step_count old new (event.Split rank dir f bits) printed (shown, does, is) = does.0
+step_count old new (event.Merge rank dir f) printed (shown, does, is) = does.0
+step_count old new (event.CommitBegin rank dir f) printed h = absurd h
+step_count old new (event.CommitEnd encoded) printed h = absurd h
+step_count old new (event.CommitDrop job) printed h = absurd h
+step_count old new (event.CommitTree dir) printed h = absurd h
+step_count old new event.Purge printed h = absurd h
+step_count old new (event.Evict rank) printed h = absurd h
+step_count old new (event.Start from dir f to) printed (shown, does, is) = does.0
+step_count old new (event.Freeze dir f) printed (shown, does, is) = does.0
+step_count old new (event.Prep dir f) printed (shown, does, is) = does.0
+step_count old new (event.Send dir f) printed (shown, does, is) = does.count
+step_count old new (event.Import dir f bytes) printed (shown, does, is) = does.count
+step_count old new (event.Finish dir f) printed (shown, does, is) = does.0
+step_count old new (event.Cancel dir f) printed (shown, does, is) = does.0
+
+own_count : (old new : Admin) (found : Result (Option Event) Refusal) (printed : OutputLine) → OwnLine old new found printed → new.operations ≡ old.operations
+own_count old new (Ok None) printed (same, is) = no_more old new same
+own_count old new (Ok (Some event)) printed h = step_count old new event printed h
+own_count old new (Err refusal) printed (same, is) = no_more old new same
+
+command_count : (old new : Admin) (command : Command) (printed : OutputLine) → Executes old new command printed → new.operations ≡ counted_with old.operations (line.Command command)
+command_count old new (command.Operation op) printed (count, jobs, bytes, h) = count
+command_count old new (command.Serve rank) printed h = event_count old new (event.Serve rank) printed h
+command_count old new (command.Own rank) printed h = own_count old new h.found printed h.done
+command_count old new (command.Request rank request) printed (count, jobs, bytes, h) = count
+command_count old new command.History printed (same, is) = no_more old new same
+command_count old new (command.Split rank dir f nb) printed h = event_count old new (event.Split rank dir f nb) printed h
+command_count old new (command.Merge rank dir f) printed h = event_count old new (event.Merge rank dir f) printed h
+command_count old new (command.Leaves dir) printed (same, lists) = no_more old new same
+command_count old new (command.Grant rank client tid) printed h = event_count old new (event.Grant rank client tid) printed h
+command_count old new command.Subtrees printed (same, is) = no_more old new same
+command_count old new (command.Authority dir f) printed (same, tells) = no_more old new same
+command_count old new (command.Export command) printed h = export_count old new command printed h
+command_count old new (command.Store command) printed h = store_count old new command printed h
+
+line_count : (old new : Admin) (found : Line) (text : List ℕ) → DoesLine old new found text → new.operations ≡ counted_with old.operations found
+line_count old new line.Nothing text (same, none) = no_more old new same
+line_count old new (line.Command command) text (shown, did, is) = command_count old new command shown did
+line_count old new (line.BadWord errno) text (same, is) = no_more old new same
+line_count old new line.NotCommand text h = absurd h
+
+-- ---- lines of a script
+
+module _ (sent : List Request) where
+  did_on : (old middle new : Admin) (first rest : List ℕ) → Did sent old middle first → Did sent middle new rest → Did sent old new (first ++ rest)
+  did_on old middle new first rest h k = record {
+    sound = k.sound;
+    told = h.told ++ k.told;
+    printed = h.printed ++ k.printed;
+    whole = ap (λ (t : List ℕ). t ++ rest) h.whole ∙ ap (λ (t : List ℕ). flat_map ended_line h.printed ++ t) k.whole ∙ sym (flat_map-append ended_line h.printed k.printed);
+    replies = filter-append is_reply h.printed k.printed ∙ ap (λ (ls : List (List ℕ)). ls ++ filter is_reply k.printed) h.replies ∙ ap (λ (ls : List (List ℕ)). map receipt_line h.told ++ ls) k.replies ∙ sym (map-append receipt_line h.told k.told);
+    served = served_on sent old.book middle.book new.book h.told k.told h.served k.served;
+  }
+
+  did_lines : (old new : Admin) (lines : List (List ℕ)) (text : List ℕ) → IsReady sent old → AllByRecursion (Contains sent) (requests_of old.operations lines) → RunsLines old new lines text → Did sent old new text
+  did_lines old new [] text ready has (same, none) = did_none sent old new text ready same none
+  did_lines old new (bytes ∷ lines) text ready has (middle, first, rest, one, others, whole) =
+      let found = line_of bytes in
+      let rest_of = requests_of (counted_with old.operations found) lines in
+      let here = did_line sent old middle found first ready (all_front (Contains sent) (request_of old.operations found) rest_of has) one.does in
+      let left : AllByRecursion (Contains sent) rest_of = all_back (Contains sent) (request_of old.operations found) rest_of has in
+      let then = did_lines middle new lines rest (here.sound, here.served.waits) (subst (λ (n : ℕ). AllByRecursion (Contains sent) (requests_of n lines)) (sym (line_count old middle found first one.does)) left) others in
+      subst (λ (t : List ℕ). Did sent old new t) (sym whole) (did_on old middle new first rest here then)
+
+-- the lines before others make the requests that all make, first
+requests_front : (sent : List Request) (count : ℕ) (done left : List (List ℕ)) → AllByRecursion (Contains sent) (requests_of count (done ++ left)) → AllByRecursion (Contains sent) (requests_of count done)
+requests_front sent count [] left h = tt
+requests_front sent count (bytes ∷ done) left h =
+    let found = line_of bytes in
+    let here = request_of count found in
+    let next = counted_with count found in
+    all_append (Contains sent) here (requests_of next done) (all_front (Contains sent) here (requests_of next (done ++ left)) h)
+    (requests_front sent next done left (all_back (Contains sent) here (requests_of next (done ++ left)) h))
+
+-- ---- a whole script
+
+none_waits : (ranks : ℕ) (sent : List Request) → AreAmong sent (replicate ranks [])
+none_waits zero sent = tt
+none_waits (suc ranks) sent = (tt, none_waits ranks sent)
+
+broken_at : (old : Admin) (left : List (List ℕ)) (number : ℕ) (kind : FaultKind) (front : List ℕ) (result : Result (Unit {0}) ScriptFault) → result ≡ Err (record { line = number; kind = kind }) → StopsBefore old left kind front
+    → (front ≡ []) ⊎ ((n : ℕ) × (result ≡ Err (record { line = n; kind = fault.WriteFault })))
+broken_at old [] number fault.NotCommand front result is h = absurd h
+broken_at old (bytes ∷ left) number fault.NotCommand front result is h = inl h.1.2
+broken_at old left number fault.TooLong front result is h = inl h.1
+broken_at old left number fault.ReadFault front result is h = inl h
+broken_at old left number fault.WriteFault front result is h = inr (number, is)
+broken_at old [] number fault.OutOfMemory front result is h = absurd h
+broken_at old (bytes ∷ left) number fault.OutOfMemory front result is h = inl h.1.2
+
+broken_of : (old : Admin) (done : ℕ) (left : List (List ℕ)) (result : Result (Unit {0}) ScriptFault) (front : List ℕ) → EndsScript old done left result front
+    → (front ≡ []) ⊎ ((n : ℕ) × (result ≡ Err (record { line = n; kind = fault.WriteFault })))
+broken_of old done left (Ok all) front h = inl h.1
+broken_of old done left (Err stopped) front h = broken_at old left stopped.line stopped.kind front (Err stopped) refl h.1
+
+-- a script that ran from a new book
+prints_run : (ranks cache limit : ℕ) (known before after : Option (List ℕ)) (result : Result (Unit {0}) ScriptFault) (book : BookState) (admin : Admin) → IsFormatted ranks cache limit book → admin.book ≡ book → admin.operations ≡ 0
+    → RunsInput admin known before after result → PrintsOneThread limit known before after result
+prints_run ranks cache limit known before after result book admin formatted same none input =
+    let script = input.script in
+    let sent = requests_of 0 input.lines in
+    let start : BookState = admin.book in
+    let state : start.core.state ≡ new_state ranks limit = ap (λ (k : BookState). k.core.state) same ∙ formatted.state in
+    let opening : start.opening ≡ finite.empty = ap (λ (k : BookState). k.opening) same ∙ formatted.opening in
+    let history : start.history ≡ [] = ap (λ (k : BookState). k.history) same ∙ formatted.history in
+    let among : AreAmong sent start.core.state.inboxes = subst (λ (s : State). AreAmong sent s.inboxes) (sym state) (none_waits ranks sent) in
+    let ready : IsReady sent admin = (subst IsSoundBook (sym same) formatted.sound, among) in
+    let all : AllByRecursion (Contains sent) (requests_of 0 (script.done ++ script.left)) = subst (λ (ls : List (List ℕ)). AllByRecursion (Contains sent) (requests_of 0 ls)) script.whole (each_right [] sent) in
+    let asked : AllByRecursion (Contains sent) (requests_of admin.operations script.done) = subst (λ (n : ℕ). AllByRecursion (Contains sent) (requests_of n script.done)) (sym none) (requests_front sent 0 script.done script.left all) in
+    let did = did_lines sent admin script.new script.done script.text ready asked script.runs in
+    let its = as_one start script.new.book sent did.told did.sound did.served in
+    let limited : start.core.state.tree.limit ≡ limit = ap (λ (s : State). s.tree.limit) state in
+    record {
+      lines = input.lines;
+      read = input.read;
+      printed = did.printed;
+      front = script.front;
+      written = subst (λ (t : List ℕ). Appends before after (t ++ script.front)) did.whole script.written;
+      broken = broken_of script.new (length script.done) script.left result script.front script.ended;
+      told = did.told;
+      replies = did.replies;
+      history = script.new.book.history;
+      one =
+          subst (λ (n : ℕ). IsOneThread n finite.empty [] script.new.book.history sent did.told) limited
+          (subst (λ (t : Tree). IsOneThread start.core.state.tree.limit t [] script.new.book.history sent did.told) opening
+          (subst (λ (es : List Entry). IsOneThread start.core.state.tree.limit start.opening es script.new.book.history sent did.told) history its.one));
+      in_order = subst (λ (es : List Entry). InOrder (length es) did.told (length script.new.book.history)) history its.in_order;
+    }
+
+-- ---- one that didn't start
+
+lines_in : (known : Option (List ℕ)) → List (List ℕ)
+lines_in None = []
+lines_in (Some bytes) = lines_of bytes
+
+lines_read : (known : Option (List ℕ)) → IfSome known (λ bytes. lines_in known ≡ lines_of bytes)
+unfolding lines_in
+lines_read None = tt
+lines_read (Some bytes) = refl
+
+kept_appends : (before after : Option (List ℕ)) → Keeps before after → Appends before after []
+kept_appends None after h = tt
+kept_appends (Some xs) None h = absurd h
+kept_appends (Some xs) (Some ys) h = h ∙ sym (append-nil xs)
+
+prints_none : (limit : ℕ) (known before after : Option (List ℕ)) (result : Result (Unit {0}) ScriptFault) → Keeps before after → PrintsOneThread limit known before after result
+prints_none limit known before after result same = record {
+  lines = lines_in known;
+  read = lines_read known;
+  printed = [];
+  front = [];
+  written = kept_appends before after same;
+  broken = inl refl;
+  told = [];
+  replies = refl;
+  history = [];
+  one = record {
+    more = [];
+    grows = refl;
+    legal = λ k e below. absurd (omega (arith, below));
+    asked = tt;
+    asked_for = tt;
+    agree = record { stand = record { held = tt; newer = tt; apart = tt }; as_many = omega arith };
+  };
+  in_order = refl;
+}
+
+keeps_itself : (before : Option (List ℕ)) → Keeps before before
+keeps_itself None = tt
+keeps_itself (Some xs) = refl
+
+pub prints_nothing : (limit : ℕ) (known before : Option (List ℕ)) (result : Result (Unit {0}) ScriptFault) → PrintsOneThread limit known before before result
+prints_nothing limit known before result = prints_none limit known before before result (keeps_itself before)
+
+-- what a script from a new book prints is what one thread tells
+pub prints_new : (ranks cache limit : ℕ) (known before after : Option (List ℕ)) (result : Result (Unit {0}) ScriptFault) → RunsNew ranks cache limit known before after result → PrintsOneThread limit known before after result
+prints_new ranks cache limit known before after result (inl h) =
+    prints_run ranks cache limit known before after result h.book (record { book = h.book; operations = 0; jobs = finite.empty; sent = none_sent }) h.formatted refl refl h.runs
+prints_new ranks cache limit known before after result (inr h) = prints_none limit known before after result h.same

@@ -1,0 +1,64 @@
+-- What a script prints, in words of one plain tree served by one thread.
+use Rattle.std.specs.Prelude.{◌≡◌, ◌⊎◌, ◌+◌, ◌++◌, ◌∷◌, [], ℕ, nat_eq, Bool, List, filter, flat_map, length, map, codes, Option, IfSome, Result, Err}
+use Rattle.std.specs.List.{starts_with}
+use Rattle.std.specs.FinMap as finite
+use Rattle.std.specs.Io.KnownBytes.{Appends}
+use Rattle.mds_types.specs.declared.entries.Entry.{Entry}
+use Rattle.mds_types.specs.declared.requests.Request.{Request}
+use Rattle.cluster_core.specs.declared.receipts.Receipt.{Receipt}
+use Rattle.cluster_core.specs.OneThread.{InOrder, IsOneThread}
+use Rattle.script_text.specs.declared.commands.Command.TheVariants.{Operation, Request as Asks}
+use Rattle.script_text.specs.declared.lines.Line.{Line}
+use Rattle.script_text.specs.declared.lines.Line.TheVariants as line
+use Rattle.script_text.specs.Input.{lines_of}
+use Rattle.script_text.specs.Script.{line_of}
+use Rattle.script_output.specs.Texts.{reply_line}
+use Rattle.admin_cli.specs.declared.faults.ScriptFault.{ScriptFault}
+use Rattle.admin_cli.specs.declared.faults.FaultKind.TheVariants.{WriteFault}
+
+-- the request that a line makes, if it makes one, where so many operations alone were read before: an operation alone is
+-- client 0's, and its transaction number is how many there are with it
+abbrev pub request_of : ℕ → Line → List Request
+request_of count (line.Command (Operation op)) =
+    record { client = 0; tid = count + 1; oldest = count + 1; op = op } ∷ []
+request_of count (line.Command (Asks rank request)) = request ∷ []
+request_of count other = []
+
+-- how many operations alone were read with this line
+abbrev pub counted_with : ℕ → Line → ℕ
+counted_with count (line.Command (Operation op)) = count + 1
+counted_with count other = count
+
+-- the requests that lines make, where so many operations alone were read before
+abbrev pub requests_of : ℕ → List (List ℕ) → List Request
+requests_of count [] = []
+requests_of count (bytes ∷ lines) = request_of count (line_of bytes) ++ requests_of (counted_with count (line_of bytes)) lines
+
+-- the line of a reply
+abbrev pub receipt_line : Receipt → List ℕ
+receipt_line r = reply_line r.client r.tid r.place r.first r.reply
+
+-- a line begins as those of replies do, and none else
+abbrev pub is_reply : List ℕ → Bool
+is_reply text = starts_with nat_eq text (codes "reply ")
+
+-- a line with its LF
+abbrev pub ended_line : List ℕ → List ℕ
+ended_line text = text ++ codes "\n"
+
+-- what is written of a script of these lines, from a new book: whole lines, with a beginning of the next one at a write
+-- fault. Of those lines the ones that begin with `reply ` are, in their order, the replies of one thread that serves one
+-- plain tree, empty at first, the requests that the script's lines make
+pub record PrintsOneThread (limit : ℕ) (known before after : Option (List ℕ))
+    (result : Result (Unit {0}) ScriptFault) : Type 0 where
+  pub lines : List (List ℕ)
+  pub read : IfSome known (λ bytes. lines ≡ lines_of bytes)
+  pub printed : List (List ℕ)
+  pub front : List ℕ
+  pub written : Appends before after (flat_map ended_line printed ++ front)
+  pub broken : (front ≡ []) ⊎ ((number : ℕ) × (result ≡ Err (record { line = number; kind = WriteFault })))
+  pub told : List Receipt
+  pub replies : filter is_reply printed ≡ map receipt_line told
+  pub history : List Entry
+  pub one : IsOneThread limit finite.empty [] history (requests_of 0 lines) told
+  pub in_order : InOrder 0 told (length history)

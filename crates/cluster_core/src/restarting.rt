@@ -1,0 +1,73 @@
+//! A book that is closed, and opened again from its store alone.
+ghost use Rattle.std.specs.Prelude.{◌≡◌, ◌≤◌, [], IfOk};
+ghost use Rattle.mds_types.specs.History.{after};
+ghost use Rattle.cluster_core.specs.Sound.{IsSoundBook};
+ghost use Rattle.cluster_core.specs.State.{shown};
+
+use crate::books::Book;
+use crate::flushing::flush;
+use crate::mounting::mount;
+use mds_types::{Limit, Refusal};
+use objstore::Store;
+use std::alloc::Global;
+use std::thread::Threads;
+
+impl<S: Store + Drop> Book<S> {
+    /// The store, handed back; all else is dropped.
+    pub fn into_store(self) -> S
+        ensures objects { S.objects result ≡ self.core.state.tree.objects }
+        ensures faults { S.faults result ≡ self.core.faults }
+    {
+        let Book {
+            cluster,
+            history,
+            opening,
+            settled,
+        } = self;
+        drop(history);
+        drop(opening);
+        drop(settled);
+        cluster.into_store()
+    }
+}
+
+/// Why a book was not opened again.
+#[derive(Drop)]
+pub enum NotRestarted<S: Store + Drop> {
+    /// The flush was refused, as `flush` refuses.
+    Unflushed(Refusal, Book<S>),
+    /// The mount of the store that it left was refused, as `mount` refuses.
+    Unmounted(Refusal, S),
+}
+
+/// Flushes a book, drops all of it but its store, and mounts that: the book that comes back, of so many ranks, opens
+/// with the tree after the history of the one that was closed, whatever ranks and caches that had. What clients were
+/// told is known no more: a request that was applied before is a new one.
+pub fn restart<S: Store + Drop>(
+    rt: &(impl Threads + Sync),
+    alloc: Global,
+    book: Book<S>,
+    ranks: u8,
+    cache: u32,
+    limit: Limit,
+) -> Result<Book<S>, NotRestarted<S>>
+    requires some { 1 ≤ ranks }
+    requires ranked { ranks ≤ 16 }
+    requires least { 512 ≤ cache }
+    requires most { cache ≤ 65536 }
+    ensures opening { IfOk result
+        (λ next. next.opening ≡ after book.core.state.tree.limit book.opening book.history) }
+    ensures history { IfOk result (λ next. next.history ≡ []) }
+    ensures limit { IfOk result (λ next. next.core.state.tree.limit ≡ limit) }
+    ensures shows { IfOk result (λ next. shown next.core.state ≡ next.opening) }
+    ensures sound { IfOk result IsSoundBook }
+{
+    let mut closed = book;
+    if let Err(refusal) = flush(rt, alloc, &mut closed) {
+        return Err(NotRestarted::Unflushed(refusal, closed));
+    }
+    match mount(alloc, closed.into_store(), ranks, cache, limit) {
+        Ok(next) => Ok(next),
+        Err((refusal, store)) => Err(NotRestarted::Unmounted(refusal, store)),
+    }
+}
