@@ -14,6 +14,7 @@ pub mod FlushedBook
 pub mod FragmentLaws
 pub mod FreezeLaws
 pub mod FrontLaws
+pub mod GivenUpLaws
 pub mod GrantLaws
 pub mod HeldLaws
 pub mod Idle

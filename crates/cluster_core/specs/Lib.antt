@@ -9,6 +9,7 @@ pub mod Commits
 pub mod Exporting
 pub mod Flush
 pub mod Fragments
+pub mod GivenUp
 pub mod Grants
 pub mod Master
 pub mod Mounted

@@ -1,0 +1,14 @@
+pub mod AmongLaws
+pub mod AnswerLaws
+pub mod Common
+pub mod DrainLaws
+pub mod LoopLaws
+pub mod StrayLaws
+pub mod GrantLaws
+pub mod InboxLaws
+pub mod LiveLaws
+pub mod OnceLaws
+pub mod PinLaws
+pub mod ReachedLaws
+pub mod ServeLaws
+pub mod Transport

@@ -1,0 +1,56 @@
+use Rattle.asking.proofs.Common.{Goes, Replied, Waits, [], arith}
+use Rattle.asking.proofs.AnswerLaws.{front, goes_on, here, refused, replied, stays, there, told_so}
+use Rattle.asking.proofs.ReachedLaws.{reached_then}
+use Rattle.asking.proofs.asks.serve_first.Goals as goal
+
+pub serve-requires : goal.serve-requires
+serve-requires g c = let q = c.requires.0 in (q.request, [], front q c.args.book.now c.args.rank c.args.client c.args.tid c.requires.1)
+
+pub serve_there-requires : goal.serve_there-requires
+serve_there-requires g c =
+    let q = c.requires.0 in
+    let come = c.requires.1 in
+    let its = told_so q c.args.book.now c.args.rank c.args.client c.args.tid come c.serve.new.book c.in-Ok-Goes.field-0 (Goes c.in-Ok-Goes.master) c.in-Ok-Goes.field-0-is c.in-Ok-Goes.ensures.served in (
+      q,
+      goes_on q c.args.book.now c.args.rank c.args.client c.args.tid come c.serve.new.book c.in-Ok-Goes.master its.0 its.1 (omega (arith, c.in-Ok-Goes.ensures.counted)),
+      there q c.args.book.now c.args.rank c.args.client c.args.tid come c.serve.new.book c.in-Ok-Goes.master its.0,
+    )
+
+pub serve_granted-requires : goal.serve_granted-requires
+serve_granted-requires g c =
+    let q = c.requires.0 in
+    let come = c.requires.1 in
+    let its = told_so q c.args.book.now c.args.rank c.args.client c.args.tid come c.serve.new.book c.in-Ok-Waits.field-0 Waits c.in-Ok-Waits.field-0-is c.in-Ok-Waits.ensures.served in (
+      q,
+      stays q c.args.book.now c.args.rank c.args.client c.args.tid come c.serve.new.book its.0 its.1 (omega (arith, c.in-Ok-Waits.ensures.counted)),
+      here q c.args.book.now c.args.rank c.args.client c.args.tid come c.serve.new.book its.0,
+    )
+
+pub returns-in-Ok-Replied-clause-asked : goal.returns-in-Ok-Replied-clause-asked
+returns-in-Ok-Replied-clause-asked g c q come =
+    replied q c.args.book.now c.args.rank c.args.client c.args.tid come c.serve.new.book c.in-Ok-Replied.receipt
+    (told_so q c.args.book.now c.args.rank c.args.client c.args.tid come c.serve.new.book c.in-Ok-Replied.field-0 (Replied c.in-Ok-Replied.receipt) c.in-Ok-Replied.field-0-is c.in-Ok-Replied.ensures.served)
+
+pub returns-in-Ok-Goes-clause-asked : goal.returns-in-Ok-Goes-clause-asked
+returns-in-Ok-Goes-clause-asked g c q come =
+    let its = told_so q c.args.book.now c.args.rank c.args.client c.args.tid come c.serve.new.book c.in-Ok-Goes.field-0 (Goes c.in-Ok-Goes.master) c.in-Ok-Goes.field-0-is c.in-Ok-Goes.ensures.served in
+    c.serve_there.ensures.asked q
+    (goes_on q c.args.book.now c.args.rank c.args.client c.args.tid come c.serve.new.book c.in-Ok-Goes.master its.0 its.1 (omega (arith, c.in-Ok-Goes.ensures.counted)))
+    (there q c.args.book.now c.args.rank c.args.client c.args.tid come c.serve.new.book c.in-Ok-Goes.master its.0)
+
+pub returns-in-Ok-Waits-clause-asked : goal.returns-in-Ok-Waits-clause-asked
+returns-in-Ok-Waits-clause-asked g c q come =
+    let its = told_so q c.args.book.now c.args.rank c.args.client c.args.tid come c.serve.new.book c.in-Ok-Waits.field-0 Waits c.in-Ok-Waits.field-0-is c.in-Ok-Waits.ensures.served in
+    c.serve_granted.ensures.asked q
+    (stays q c.args.book.now c.args.rank c.args.client c.args.tid come c.serve.new.book its.0 its.1 (omega (arith, c.in-Ok-Waits.ensures.counted)))
+    (here q c.args.book.now c.args.rank c.args.client c.args.tid come c.serve.new.book its.0)
+
+pub returns-in-Err-clause-asked : goal.returns-in-Err-clause-asked
+returns-in-Err-clause-asked g c q come =
+    refused q c.args.book.now c.args.rank c.args.client c.args.tid come c.serve.new.book c.in-Err.refusal (c.in-Err.ensures.served q.request [] (front q c.args.book.now c.args.rank c.args.client c.args.tid come))
+
+pub returns-in-Ok-Goes-clause-reached : goal.returns-in-Ok-Goes-clause-reached
+returns-in-Ok-Goes-clause-reached g c = reached_then c.args.client c.args.tid _ _ c.args.book.now c.serve.new.book c.serve_there.new.book (c.in-Ok-Goes.ensures.reached c.args.client c.args.tid) c.serve_there.ensures.reached
+
+pub returns-in-Ok-Waits-clause-reached : goal.returns-in-Ok-Waits-clause-reached
+returns-in-Ok-Waits-clause-reached g c = reached_then c.args.client c.args.tid _ _ c.args.book.now c.serve.new.book c.serve_granted.new.book (c.in-Ok-Waits.ensures.reached c.args.client c.args.tid) c.serve_granted.ensures.reached

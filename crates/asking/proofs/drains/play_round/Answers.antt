@@ -1,0 +1,28 @@
+use Rattle.asking.proofs.Common.{Bool, Err, Ok, RoundEnds, State, ap, arith, subst, sym}
+use Rattle.asking.proofs.LoopLaws.{ended, exports_stand, gives, is_first, not_granted, refused, served_on}
+use Rattle.asking.proofs.drains.play_round.Goals as goal
+
+pub returns-in-Err-clause-ends : goal.returns-in-Err-clause-ends
+returns-in-Err-clause-ends g c =
+    not_granted c.args.book.now c.is_sound.ensures c.requires.few c.args.found c.requires.lowest c.grant_all.new.book.core c.in-Err.refusal (c.in-Err.ensures.granted c.requires.lowest.request (is_first c.args.book.now c.is_sound.ensures c.requires.few c.args.found c.requires.lowest))
+
+pub returns-in-Err-clause-exports : goal.returns-in-Err-clause-exports
+returns-in-Err-clause-exports g c = ap (λ (s : State). s.exports) (c.in-Err.ensures.granted c.requires.lowest.request (is_first c.args.book.now c.is_sound.ensures c.requires.few c.args.found c.requires.lowest)).0.left
+
+pub returns-in-Ok-clause-ends : goal.returns-in-Ok-clause-ends
+returns-in-Ok-clause-ends g c =
+    subst (λ (b : Bool). RoundEnds c.args.book.now.core c.step.new.self.core (Ok b)) (sym c.is_forwarded-moved.ensures)
+    (ended c.args.book.now.core c.step.new.self.core c.requires.lowest.request c.in-Ok.answer (gives c.args.book.now c.is_sound.ensures c.requires.few c.args.found c.requires.lowest c.grant_all.new.book c.step.new.self (Ok c.in-Ok.answer) (c.in_default.ensures.granted c.requires.lowest.request (is_first c.args.book.now c.is_sound.ensures c.requires.few c.args.found c.requires.lowest)) (omega (arith, c.in_default.ensures.counted)) c.in_default.ensures.history c.in-Ok.ensures.stepped))
+
+pub returns-in-Ok-clause-exports : goal.returns-in-Ok-clause-exports
+returns-in-Ok-clause-exports g c = exports_stand c.args.book.now c.is_sound.ensures c.requires.few c.args.found c.requires.lowest c.grant_all.new.book c.step.new.self (Ok c.in-Ok.answer) (c.in_default.ensures.granted c.requires.lowest.request (is_first c.args.book.now c.is_sound.ensures c.requires.few c.args.found c.requires.lowest)) (omega (arith, c.in_default.ensures.counted)) c.in_default.ensures.history c.in-Ok.ensures.stepped
+
+pub returns-in-Ok-clause-grows : goal.returns-in-Ok-clause-grows
+returns-in-Ok-clause-grows g c = served_on c.grant_all.new.book.core c.step.new.self.core c.args.book.now.history c.grant_all.new.book.history c.step.new.self.history c.args.found.rank (Ok c.in-Ok.answer) c.in_default.ensures.history c.in-Ok.ensures.stepped
+
+pub returns-in-Err-step-clause-ends : goal.returns-in-Err-step-clause-ends
+returns-in-Err-step-clause-ends g c =
+    refused c.args.book.now.core c.step.new.self.core c.requires.lowest.request c.in-Err-step.refusal c.unless_gone.result (gives c.args.book.now c.is_sound.ensures c.requires.few c.args.found c.requires.lowest c.grant_all.new.book c.step.new.self (Err c.in-Err-step.refusal) (c.in_default.ensures.granted c.requires.lowest.request (is_first c.args.book.now c.is_sound.ensures c.requires.few c.args.found c.requires.lowest)) (omega (arith, c.in_default.ensures.counted)) c.in_default.ensures.history c.in-Err-step.ensures.stepped) c.unless_gone.ensures
+
+pub returns-in-Err-step-clause-exports : goal.returns-in-Err-step-clause-exports
+returns-in-Err-step-clause-exports g c = exports_stand c.args.book.now c.is_sound.ensures c.requires.few c.args.found c.requires.lowest c.grant_all.new.book c.step.new.self (Err c.in-Err-step.refusal) (c.in_default.ensures.granted c.requires.lowest.request (is_first c.args.book.now c.is_sound.ensures c.requires.few c.args.found c.requires.lowest)) (omega (arith, c.in_default.ensures.counted)) c.in_default.ensures.history c.in-Err-step.ensures.stepped

@@ -1,0 +1,37 @@
+use Rattle.asking.proofs.Common.{Err, GrantsOf, subst, sym, NotAuthority, Ok, Refusal, Result, ◌≡◌, ◌≢◌}
+use Rattle.std.specs.Prelude.{MatchResult, Some}
+use Rattle.std.specs.Result.{result_err}
+use Rattle.asking.specs.Reached.{IsReached}
+use Rattle.asking.proofs.GrantLaws.{foreign, granted, not_granted}
+use Rattle.asking.proofs.Common.{Grant, refl}
+use Rattle.asking.proofs.ReachedLaws.{reached_by, reached_quietly}
+use Rattle.asking.proofs.grants.grant_own.Goals as goal
+
+pub returns-in-Ok-clause-granted : goal.returns-in-Ok-clause-granted
+returns-in-Ok-clause-granted g c request waits =
+    granted c.args.book.now.core c.step.new.self.core c.args.book.now.history c.step.new.self.history c.args.rank c.args.client c.args.tid request waits c.in-Ok.answer c.in-Ok.ensures.stepped
+
+pub returns-in-Err-clause-granted : goal.returns-in-Err-clause-granted
+returns-in-Err-clause-granted g c request waits = go c.unless_foreign.result c.unless_foreign.ensures
+  where
+    go : (result : Result (Unit {0}) Refusal) → MatchResult result (λ done. c.in-Err.refusal ≡ NotAuthority) (λ reason. (reason ≡ c.in-Err.refusal) × (c.in-Err.refusal ≢ NotAuthority)) → GrantsOf c.args.book.now.core c.step.new.self.core c.args.rank c.args.client c.args.tid request.op result
+    go (Ok done) is =
+        foreign c.args.book.now.core c.step.new.self.core c.args.book.now.history c.step.new.self.history c.args.rank c.args.client c.args.tid request waits c.args.book.now.opening c.is_sound.ensures c.in-Err.refusal is c.in-Err.ensures.stepped
+    go (Err reason) (is, other) =
+        subst (λ (r : Refusal). GrantsOf c.args.book.now.core c.step.new.self.core c.args.rank c.args.client c.args.tid request.op (Err r)) (sym is)
+        (not_granted c.args.book.now.core c.step.new.self.core c.args.book.now.history c.step.new.self.history c.args.rank c.args.client c.args.tid request waits c.in-Err.refusal other c.in-Err.ensures.stepped)
+
+pub returns-in-Ok-clause-reached : goal.returns-in-Ok-clause-reached
+returns-in-Ok-clause-reached g c =
+    reached_by c.args.client c.args.tid c.args.book.now c.step.new.self (Ok c.in-Ok.answer) (Grant c.args.rank c.args.client c.args.tid) (refl, refl) c.in-Ok.ensures.stepped c.in-Ok.ensures.opening c.in-Ok.ensures.sound
+
+pub returns-in-Err-clause-reached : goal.returns-in-Err-clause-reached
+returns-in-Err-clause-reached g c =
+    go c.unless_foreign.result c.unless_foreign.ensures
+  where
+    one : IsReached c.args.client c.args.tid (Some c.in-Err.refusal) c.args.book.now c.step.new.self
+    one = reached_by c.args.client c.args.tid c.args.book.now c.step.new.self (Err c.in-Err.refusal) (Grant c.args.rank c.args.client c.args.tid) (refl, refl) c.in-Err.ensures.stepped c.in-Err.ensures.opening c.in-Err.ensures.sound
+
+    go : (result : Result (Unit {0}) Refusal) → MatchResult result (λ done. c.in-Err.refusal ≡ NotAuthority) (λ reason. (reason ≡ c.in-Err.refusal) × (c.in-Err.refusal ≢ NotAuthority)) → IsReached c.args.client c.args.tid (result_err result) c.args.book.now c.step.new.self
+    go (Ok done) is = reached_quietly c.args.client c.args.tid (Some c.in-Err.refusal) c.args.book.now c.step.new.self one
+    go (Err reason) (is, other) = subst (λ (r : Refusal). IsReached c.args.client c.args.tid (Some r) c.args.book.now c.step.new.self) (sym is) one

@@ -1,0 +1,33 @@
+-- A request is asked where others wait: these are answered first.
+use Rattle.std.specs.Prelude.{◌≡◌, ◌⊎◌, Result, Ok, Err}
+use Rattle.mds_types.specs.declared.ids.Rank.{Rank}
+use Rattle.mds_types.specs.declared.refusals.Refusal.{Refusal}
+use Rattle.mds_types.specs.declared.requests.Request.{Request}
+use Rattle.cluster_core.specs.Runs.{GoesOnFrom}
+use Rattle.cluster_core.specs.Sound.{IsSoundBook}
+use Rattle.cluster_core.specs.State.{BookState}
+use Rattle.asking.specs.Ask.{Asks, NoneWaits}
+use Rattle.asking.specs.Drain.{IsStopped}
+use Rattle.cluster_core.specs.declared.receipts.Receipt.{Receipt}
+
+-- others were answered, and none waits
+pub record IsDrained (old mid : BookState) : Type 0 where
+  pub sound : IsSoundBook mid
+  pub grows : GoesOnFrom mid.history old.history
+  pub same_opening : mid.opening ≡ old.opening
+  pub none : NoneWaits mid.core.state.inboxes
+
+-- then the request was asked
+pub record AsksThen (old new : BookState) (rank : Rank) (request : Request) (result : Result Receipt Refusal) : Type 0 where
+  pub mid : BookState
+  pub drained : IsDrained old mid
+  pub asked : Asks mid.core new.core mid.history new.history rank request result
+
+-- or another is held up, and the request didn't come in
+pub record IsHeldUpBefore (old new : BookState) (reason : Refusal) : Type 0 where
+  pub stopped : IsStopped new.core reason
+  pub grows : GoesOnFrom new.history old.history
+
+abbrev pub AsksAmong : (old new : BookState) → Rank → Request → Result Receipt Refusal → Type 0
+AsksAmong old new rank request (Ok receipt) = AsksThen old new rank request (Ok receipt)
+AsksAmong old new rank request (Err reason) = AsksThen old new rank request (Err reason) ⊎ IsHeldUpBefore old new reason

@@ -1,0 +1,157 @@
+//! A request is asked, and gets its answer.
+ghost use Rattle.std.specs.Prelude.{◌≡◌, ◌≢◌, ◌+◌, ◌≤◌, IfOk, OnOk, Err};
+ghost use Rattle.std.specs.FinMap as map;
+ghost use Rattle.std.specs.Result.{result_err};
+ghost use Rattle.objstore.specs.Objects.{faults_told};
+ghost use Rattle.cluster_core.specs.OneThread.{StandsInHistory};
+ghost use Rattle.cluster_core.specs.Sound.{IsSoundBook};
+ghost use Rattle.asking.specs.Among.{AsksAmong};
+ghost use Rattle.asking.specs.Ask.{Answers, Asks, Comes, IsAtMaster, NoneWaits, Question};
+ghost use Rattle.asking.specs.Drain.{waiting_in_all};
+ghost use Rattle.asking.specs.Reached.{IsReached};
+
+use crate::drains::drain;
+use crate::grants::grant_all;
+use cluster_core::Receipt;
+use crate::serves::{Served, serve};
+use cluster_core::{Book, Event};
+use mds_types::{Rank, Refusal, Request};
+use objstore::Store;
+use std::alloc::Global;
+
+/// A request comes in at a rank of a book where nothing else waits, and is brought to its answer: it is served there,
+/// or at its master, once each rank has granted what it needs. Never is it told that the request was forwarded or
+/// deferred: it gets the reply that stands in the history.
+///
+/// Refused `NotAuthority` exactly where there is no such rank; `Trimmed` and `NoInodes` where serving it is, and it has
+/// left; `Frozen` where it would change a fragment that is frozen; for want of memory, by the store, and for want of
+/// places. After one of these four the request waits on, alone.
+pub fn ask<S: Store + Drop>(
+    alloc: Global,
+    book: &mut Book<S>,
+    rank: Rank,
+    request: Request,
+) -> Result<Receipt, Refusal>
+    requires { NoneWaits book.old.core.state.inboxes }
+    ensures asked { Asks book.old.core book.new.core book.old.history book.new.history rank request result }
+    ensures thawed { book.old.core.state.exports ≡ map.empty → result ≢ Err Refusal.Frozen }
+    ensures none { OnOk result (NoneWaits book.new.core.state.inboxes) }
+    ensures stands { IfOk result
+        (λ receipt. StandsInHistory book.new.history receipt.client receipt.tid receipt.place receipt.reply) }
+    ensures reached { IsReached request.client request.tid (result_err result) book.old book.new }
+    ensures opening { book.new.opening ≡ book.old.opening }
+    ensures sound { IsSoundBook book.new }
+    ensures counted { book.new.core.faults ≡ book.old.core.faults + faults_told (result_err result) }
+{
+    book.is_sound();
+    let (client, tid) = (request.client, request.tid);
+    match book.step(alloc, Event::Arrive { rank, request }) {
+        Ok(answer) => {
+            drop(answer);
+            serve_first(alloc, book, rank, client, tid)
+        }
+        Err(refusal) => Err(refusal),
+    }
+}
+
+// The request is served where it came in.
+fn serve_first<S: Store + Drop>(
+    alloc: Global,
+    book: &mut Book<S>,
+    rank: Rank,
+    client: u64,
+    tid: u64,
+) -> Result<Receipt, Refusal>
+    requires { (q : Question) × Comes q book.old rank client tid }
+    ensures asked { (q : Question) → Comes q book.old rank client tid → Answers q book.new result }
+    ensures stands { IfOk result
+        (λ receipt. StandsInHistory book.new.history receipt.client receipt.tid receipt.place receipt.reply) }
+    ensures reached { IsReached client tid (result_err result) book.old book.new }
+    ensures opening { book.new.opening ≡ book.old.opening }
+    ensures sound { IsSoundBook book.new }
+    ensures counted { book.new.core.faults ≡ book.old.core.faults + faults_told (result_err result) }
+{
+    match serve(alloc, book, rank) {
+        Ok(Served::Replied(receipt)) => Ok(receipt),
+        Ok(Served::Goes(master)) => serve_there(alloc, book, master, client, tid),
+        Ok(Served::Waits) => serve_granted(alloc, book, rank, client, tid),
+        Err(refusal) => Err(refusal),
+    }
+}
+
+// It is served at its master.
+fn serve_there<S: Store + Drop>(
+    alloc: Global,
+    book: &mut Book<S>,
+    rank: Rank,
+    client: u64,
+    tid: u64,
+) -> Result<Receipt, Refusal>
+    requires { (q : Question) × Comes q book.old rank client tid × IsAtMaster q rank }
+    ensures asked { (q : Question) → Comes q book.old rank client tid → IsAtMaster q rank → Answers q book.new result }
+    ensures stands { IfOk result
+        (λ receipt. StandsInHistory book.new.history receipt.client receipt.tid receipt.place receipt.reply) }
+    ensures reached { IsReached client tid (result_err result) book.old book.new }
+    ensures opening { book.new.opening ≡ book.old.opening }
+    ensures sound { IsSoundBook book.new }
+    ensures counted { book.new.core.faults ≡ book.old.core.faults + faults_told (result_err result) }
+{
+    match serve(alloc, book, rank) {
+        Ok(Served::Replied(receipt)) => Ok(receipt),
+        Ok(Served::Goes(_)) => unreachable!(),
+        Ok(Served::Waits) => serve_granted(alloc, book, rank, client, tid),
+        Err(refusal) => Err(refusal),
+    }
+}
+
+// It is served at its master, once each rank has granted what it needs.
+fn serve_granted<S: Store + Drop>(
+    alloc: Global,
+    book: &mut Book<S>,
+    rank: Rank,
+    client: u64,
+    tid: u64,
+) -> Result<Receipt, Refusal>
+    requires { (q : Question) × Comes q book.old rank client tid × IsAtMaster q rank }
+    ensures asked { (q : Question) → Comes q book.old rank client tid → IsAtMaster q rank → Answers q book.new result }
+    ensures stands { IfOk result
+        (λ receipt. StandsInHistory book.new.history receipt.client receipt.tid receipt.place receipt.reply) }
+    ensures reached { IsReached client tid (result_err result) book.old book.new }
+    ensures opening { book.new.opening ≡ book.old.opening }
+    ensures sound { IsSoundBook book.new }
+    ensures counted { book.new.core.faults ≡ book.old.core.faults + faults_told (result_err result) }
+{
+    if let Err(refusal) = grant_all(alloc, book, client, tid) {
+        return Err(refusal);
+    }
+    match serve(alloc, book, rank) {
+        Ok(Served::Replied(receipt)) => Ok(receipt),
+        Ok(Served::Goes(_)) => unreachable!(),
+        Ok(Served::Waits) => unreachable!(),
+        Err(refusal) => Err(refusal),
+    }
+}
+
+/// A request comes in at a rank of a book where others may wait, at most 1024 in all: these are answered first, then the
+/// request is asked. Where one of them is held up it isn't, and never came in.
+pub fn ask_among<S: Store + Drop>(
+    alloc: Global,
+    book: &mut Book<S>,
+    rank: Rank,
+    request: Request,
+) -> Result<Receipt, Refusal>
+    requires { waiting_in_all book.old.core.state.inboxes ≤ 1024 }
+    ensures asked { AsksAmong book.old book.new rank request result }
+    ensures thawed { book.old.core.state.exports ≡ map.empty → result ≢ Err Refusal.Frozen }
+    ensures stands { IfOk result
+        (λ receipt. StandsInHistory book.new.history receipt.client receipt.tid receipt.place receipt.reply) }
+    ensures few { waiting_in_all book.new.core.state.inboxes ≤ 1024 }
+    ensures opening { book.new.opening ≡ book.old.opening }
+    ensures sound { IsSoundBook book.new }
+{
+    if let Err(refusal) = drain(alloc, book) {
+        drop(request);
+        return Err(refusal);
+    }
+    ask(alloc, book, rank, request)
+}

@@ -1,0 +1,76 @@
+//! Grants of all ranks for one request.
+ghost use Rattle.std.specs.Prelude.{◌≡◌, ◌≢◌, ◌+◌, Some, MatchResult};
+ghost use Rattle.std.specs.Result.{result_err};
+ghost use Rattle.objstore.specs.Objects.{faults_told};
+ghost use Rattle.mds_types.specs.declared.requests.Request.{Request as Asked};
+ghost use Rattle.inboxes.specs.Inboxes.{first_waiting};
+ghost use Rattle.cluster_core.specs.Sound.{IsSoundBook};
+ghost use Rattle.asking.specs.GrantsAll.{GrantsEach, GrantsOf};
+ghost use Rattle.asking.specs.Reached.{IsReached};
+
+use cluster_core::{Book, Event};
+use mds_types::{Rank, Refusal};
+use objstore::Store;
+use std::alloc::Global;
+
+/// Each rank grants a request that waits somewhere all of its fragments that the request would change now: then none
+/// of them is frozen, and whatever rank serves the request may change them. Refused `Frozen` exactly where one of them
+/// is frozen, unless a fragment can't be read first; some grants may have been made then.
+#[tactic(auto, using(crate::proofs::ReachedLaws::reached_itself, crate::proofs::ReachedLaws::reached_then))]
+pub fn grant_all<S: Store + Drop>(
+    alloc: Global,
+    book: &mut Book<S>,
+    client: u64,
+    tid: u64,
+) -> Result<(), Refusal>
+    ensures granted { (request : Asked) → first_waiting client tid book.old.core.state.inboxes ≡ Some request
+        → GrantsEach book.old.core book.new.core client tid request.op result }
+    ensures reached { IsReached client tid (result_err result) book.old book.new }
+    ensures history { book.new.history ≡ book.old.history }
+    ensures opening { book.new.opening ≡ book.old.opening }
+    ensures sound { IsSoundBook book.new }
+    ensures counted { book.new.core.faults ≡ book.old.core.faults + faults_told (result_err result) }
+{
+    book.is_sound();
+    for rank in 0..16 {
+        grant_own(alloc, book, Rank(rank), client, tid)?;
+    }
+    Ok(())
+}
+
+// A rank grants a request that waits somewhere what is the rank's of what it would change, if anything is.
+fn grant_own<S: Store + Drop>(
+    alloc: Global,
+    book: &mut Book<S>,
+    rank: Rank,
+    client: u64,
+    tid: u64,
+) -> Result<(), Refusal>
+    ensures granted { (request : Asked) → first_waiting client tid book.old.core.state.inboxes ≡ Some request
+        → GrantsOf book.old.core book.new.core rank client tid request.op result }
+    ensures reached { IsReached client tid (result_err result) book.old book.new }
+    ensures history { book.new.history ≡ book.old.history }
+    ensures opening { book.new.opening ≡ book.old.opening }
+    ensures sound { IsSoundBook book.new }
+    ensures counted { book.new.core.faults ≡ book.old.core.faults + faults_told (result_err result) }
+{
+    book.is_sound();
+    match book.step(alloc, Event::Grant { rank, client, tid }) {
+        Ok(answer) => {
+            drop(answer);
+            Ok(())
+        }
+        Err(refusal) => unless_foreign(refusal),
+    }
+}
+
+// That nothing is the rank's is no refusal.
+fn unless_foreign(refusal: Refusal) -> Result<(), Refusal>
+    ensures { MatchResult result (λ done. refusal ≡ Refusal.NotAuthority)
+        (λ reason. (reason ≡ refusal) × (refusal ≢ Refusal.NotAuthority)) }
+{
+    match refusal {
+        Refusal::NotAuthority => Ok(()),
+        other => Err(other),
+    }
+}

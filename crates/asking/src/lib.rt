@@ -1,0 +1,15 @@
+//! One call, one answer: a request is brought to its answer by steps of a book alone, whatever rank holds what.
+#![tactic(auto)]
+
+mod asks;
+mod drains;
+mod grants;
+pub mod laws;
+mod serves;
+mod services;
+
+pub use asks::{ask, ask_among};
+pub use drains::drain;
+pub use grants::grant_all;
+pub use cluster_core::Receipt;
+pub use services::{Service, ask_once};

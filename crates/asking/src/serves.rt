@@ -1,0 +1,74 @@
+//! Serving the request at the front of a rank's inbox.
+ghost use Rattle.std.specs.Prelude.{◌≡◌, ◌+◌, ◌∷◌, ℕ, List, Ok, Err};
+ghost use Rattle.std.specs.Result.{result_err};
+ghost use Rattle.objstore.specs.Objects.{faults_told};
+ghost use Rattle.mds_types.specs.declared.requests.Request.{Request as Asked};
+ghost use Rattle.inboxes.specs.Inboxes.{waiting_at};
+ghost use Rattle.cluster_core.specs.Sound.{IsSoundBook};
+ghost use Rattle.asking.specs.Reached.{IsReached};
+ghost use Rattle.asking.specs.Serves.{StandsFor, IsOfServe, ServesTo, SomeWaits, told_of};
+
+use cluster_core::Receipt;
+use cluster_core::{Answer, Book, Event};
+use mds_types::{Rank, Refusal};
+use objstore::Store;
+use std::alloc::Global;
+
+/// What became of a request that was served.
+#[derive(Debug, Drop)]
+pub(crate) enum Served {
+    /// It has its reply.
+    Replied(Receipt),
+    /// It waits at its master now.
+    Goes(Rank),
+    /// It waits behind all others at its master, for a grant or for the end of an export.
+    Waits,
+}
+
+/// The request at the front of a rank's inbox is served, where one waits.
+pub(crate) fn serve<S: Store + Drop>(
+    alloc: Global,
+    book: &mut Book<S>,
+    rank: Rank,
+) -> Result<Served, Refusal>
+    requires { SomeWaits book.old.core.state.inboxes rank }
+    ensures served { (request : Asked) (rest : List Asked) → waiting_at book.old.core.state.inboxes rank ≡ request ∷ rest
+        → ServesTo book.old.core book.new.core book.old.history book.new.history rank request rest result }
+    ensures stands { StandsFor book.new.history result }
+    ensures reached { (client tid : ℕ) → IsReached client tid (result_err result) book.old book.new }
+    ensures opening { book.new.opening ≡ book.old.opening }
+    ensures sound { IsSoundBook book.new }
+    ensures counted { book.new.core.faults ≡ book.old.core.faults + faults_told (result_err result) }
+{
+    match book.step(alloc, Event::Serve { rank }) {
+        Ok(answer) => Ok(served_by(answer)),
+        Err(refusal) => Err(refusal),
+    }
+}
+
+// What the answer of a step that serves says of the request.
+fn served_by(answer: Answer) -> Served
+    requires { IsOfServe answer }
+    ensures { told_of result ≡ answer }
+{
+    match answer {
+        Answer::Reply {
+            client,
+            tid,
+            place,
+            first,
+            reply,
+        } => Served::Replied(Receipt {
+            client,
+            tid,
+            place,
+            first,
+            reply,
+        }),
+        Answer::Forwarded(master) => Served::Goes(master),
+        Answer::Deferred => Served::Waits,
+        Answer::Nothing => unreachable!(),
+        Answer::Job(_) => unreachable!(),
+        Answer::Sent(_) => unreachable!(),
+    }
+}

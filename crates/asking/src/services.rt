@@ -1,0 +1,95 @@
+//! A book to ask, and nothing else: whatever was asked, nothing is left waiting.
+ghost use Rattle.std.specs.Prelude.{◌≡◌, ◌≢◌, Err, IfOk, MatchResult};
+ghost use Rattle.std.specs.FinMap as map;
+ghost use Rattle.cluster_core.specs.OneThread.{StandsInHistory};
+ghost use Rattle.cluster_core.specs.Sound.{IsSoundBook};
+ghost use Rattle.asking.specs.Ask.{NoneWaits};
+ghost use Rattle.asking.specs.Drain.{waiting_in_all};
+ghost use Rattle.asking.specs.Once.{AsksOnce, Leaves};
+
+use crate::asks::ask;
+use crate::drains::lowest;
+use cluster_core::Receipt;
+use cluster_core::{Book, give_up};
+use mds_types::{Rank, Refusal, Request};
+use objstore::Store;
+use std::alloc::Global;
+
+/// A request comes in at a rank of a book where nothing else waits, and is brought to its answer; where that is refused it is
+/// given up, as if it had never come. Nothing waits afterwards, whatever came of it.
+///
+/// Refused `NotAuthority` exactly where there is no such rank; `Trimmed`, `NoInodes` where serving it is; `Frozen` where it
+/// would change a fragment that is frozen; for want of memory, by the store, and for want of places.
+pub fn ask_once<S: Store + Drop>(
+    alloc: Global,
+    book: &mut Book<S>,
+    rank: Rank,
+    request: Request,
+) -> Result<Receipt, Refusal>
+    requires { NoneWaits book.old.core.state.inboxes }
+    ensures asked { AsksOnce book.old.core book.new.core book.old.history book.new.history rank request result }
+    ensures thawed { book.old.core.state.exports ≡ map.empty → result ≢ Err Refusal.Frozen }
+    ensures none { NoneWaits book.new.core.state.inboxes }
+    ensures stands { IfOk result
+        (λ receipt. StandsInHistory book.new.history receipt.client receipt.tid receipt.place receipt.reply) }
+    ensures opening { book.new.opening ≡ book.old.opening }
+    ensures sound { IsSoundBook book.new }
+{
+    match ask(alloc, book, rank, request) {
+        Ok(receipt) => Ok(receipt),
+        Err(refusal) => {
+            leave(book);
+            Err(refusal)
+        }
+    }
+}
+
+// What waits at the front of the lowest rank is given up, if something waits.
+fn leave<S: Store + Drop>(book: &mut Book<S>)
+    ensures left { Leaves book.old book.new }
+    ensures opening { book.new.opening ≡ book.old.opening }
+    ensures sound { IsSoundBook book.new }
+{
+    book.is_sound();
+    if let Some(found) = lowest(book) {
+        give_up(book, found.rank);
+    }
+}
+
+/// A book that is asked, in which nothing waits between two requests: so that each may be.
+#[derive(Drop)]
+pub struct Service<S: Store + Drop> {
+    book: Book<S>,
+    ghost idle: { waiting_in_all book.core.state.inboxes ≡ 0 },
+}
+
+impl<S: Store + Drop> Service<S> {
+    /// A service over a book, handed back where something waits in it.
+    pub fn of(book: Book<S>) -> Result<Service<S>, Book<S>>
+        ensures { MatchResult result (λ service. service.book ≡ book) (λ back. back ≡ book) }
+    {
+        match lowest(&book) {
+            Some(_) => Err(book),
+            None => Ok(Service { book }),
+        }
+    }
+
+    /// The book, to read.
+    pub fn book(&self) -> &Book<S>
+        ensures { result.now ≡ self.now.book }
+    {
+        &self.book
+    }
+
+    /// A request comes in at a rank, and gets its answer, or is refused as `ask_once` is: then nothing of it is left.
+    pub fn ask(&mut self, alloc: Global, rank: Rank, request: Request) -> Result<Receipt, Refusal>
+        ensures asked { AsksOnce self.old.book.core self.new.book.core self.old.book.history self.new.book.history rank
+            request result }
+        ensures thawed { self.old.book.core.state.exports ≡ map.empty → result ≢ Err Refusal.Frozen }
+        ensures stands { IfOk result
+            (λ receipt. StandsInHistory self.new.book.history receipt.client receipt.tid receipt.place receipt.reply) }
+        ensures opening { self.new.book.opening ≡ self.old.book.opening }
+    {
+        ask_once(alloc, &mut self.book, rank, request)
+    }
+}

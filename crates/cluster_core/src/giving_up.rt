@@ -1,0 +1,29 @@
+//! A request that waits is given up.
+ghost use Rattle.inboxes.specs.Inboxes.{waiting_at};
+ghost use Rattle.cluster_core.specs.GivenUp.{GivesUp, GivesUpIn};
+ghost use Rattle.cluster_core.specs.Sound.{IsSoundBook};
+
+use crate::books::Book;
+use crate::clusters::Cluster;
+use mds_types::Rank;
+use objstore::Store;
+
+impl<S: Store + Drop> Cluster<S> {
+    /// The request at the front of a rank's inbox leaves it with its grants, if one waits there.
+    pub(crate) fn give_up(&mut self, rank: Rank)
+        ensures { GivesUpIn self.old self.new rank (waiting_at self.old.state.inboxes rank) }
+    {
+        if self.waiting.inboxes.front(rank).is_some() {
+            self.waiting.end_front(rank);
+        }
+    }
+}
+
+/// The request at the front of a rank's inbox is given up, if one waits there: it leaves with its grants, as if it had
+/// never come. Nothing else changes, and nothing is told.
+pub fn give_up<S: Store + Drop>(book: &mut Book<S>, rank: Rank)
+    ensures given { GivesUp book.old book.new rank }
+    ensures sound { IsSoundBook book.new }
+{
+    book.cluster.give_up(rank);
+}
