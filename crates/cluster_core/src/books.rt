@@ -16,6 +16,7 @@ use crate::clusters::Cluster;
 use crate::events::{Answer, Event};
 use crate::plain_trees::PlainTree;
 use crate::settled::{Settled, keep_settled, may_unsettle};
+use keeping::{Keep, Unkept};
 use mds_types::{Entry, Limit, Rank, Refusal};
 use objstore::Store;
 use std::alloc::Global;
@@ -117,6 +118,15 @@ impl<S: Store + Drop> Book<S> {
         ensures { self.new ≡ self.old }
     {
         self.cluster.set_hints(rank);
+    }
+}
+
+impl<S: Keep + Drop> Book<S> {
+    /// Brings what the store has where it outlives the process. Whatever it answers, all is as it was.
+    pub fn keep(&mut self) -> Result<(), Unkept>
+        ensures { self.new ≡ self.old }
+    {
+        self.cluster.keep()
     }
 }
 

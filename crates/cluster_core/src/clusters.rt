@@ -21,6 +21,7 @@ use crate::granting::grant_first;
 use crate::parts::{Given, Waiting};
 use crate::serving::serve_front;
 use inode_table::Numbers;
+use keeping::{Keep, Unkept};
 use mds_types::{Entry, Frag, Ino, Limit, Rank, Refusal, Request};
 use namespace_ops::Frags;
 use objstore::Store;
@@ -300,6 +301,15 @@ impl<S: Store + Drop> Cluster<S> {
         ensures { result ≡ nat_lt rank.0 (length self.now.state.inboxes) }
     {
         usize::from(rank.0) < self.waiting.inboxes.ranks()
+    }
+}
+
+impl<S: Keep + Drop> Cluster<S> {
+    /// Brings what the store has where it outlives the process. Whatever it answers, all is as it was.
+    pub fn keep(&mut self) -> Result<(), Unkept>
+        ensures { self.new ≡ self.old }
+    {
+        self.tree.keep()
     }
 }
 

@@ -8,6 +8,7 @@ use crate::standing_jobs::StandingJobs;
 use dentry_cache::Caches;
 use inode_table::Dirs;
 use mds_types::Limit;
+use keeping::{Keep, Unkept};
 use objstore::Store;
 use std::alloc::Global;
 use std::marker::Model;
@@ -95,5 +96,14 @@ impl<S: Store + Drop> MdCache<S> {
         ensures pins { result.now.pins ≡ self.now.pins }
     {
         &self.dirs
+    }
+}
+
+impl<S: Keep + Drop> MdCache<S> {
+    /// Brings what the store has where it outlives the process.
+    pub fn keep(&mut self) -> Result<(), Unkept>
+        ensures { self.new ≡ self.old }
+    {
+        self.store.keep()
     }
 }

@@ -10,7 +10,7 @@ ghost use Rattle.objstore.specs.Omap.{key_cmp};
 ghost use Rattle.sorted_map.specs.SortedMap.{contents, pairs_eq};
 
 use mds_types::Bytes;
-use sorted_map::SortedMap;
+use sorted_map::{Iter, SortedMap};
 use std::alloc::{AllocError, Global};
 use std::marker::Model;
 
@@ -65,6 +65,13 @@ impl KeySet {
         self.keys.reserve(1)?;
         let _ = self.keys.insert(key, ());
         Ok(())
+    }
+
+    /// The keys in their order.
+    pub fn iter(&self) -> Iter<'_, Bytes, ()>
+        ensures { result ≡ map.entries self.now }
+    {
+        self.keys.iter()
     }
 
     /// A copy. Takes memory for the keys.

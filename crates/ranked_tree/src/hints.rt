@@ -2,6 +2,7 @@
 ghost use Rattle.std.specs.Prelude.{◌≡◌};
 
 use crate::ranked_tree::RankedTree;
+use keeping::{Keep, Unkept};
 use mds_types::{Dirfrag, Rank};
 use objstore::Store;
 
@@ -21,5 +22,14 @@ impl<S: Store + Drop> RankedTree<S> {
         ensures { self.new ≡ self.old }
     {
         self.regions.roots.set_hints(rank);
+    }
+}
+
+impl<S: Keep + Drop> RankedTree<S> {
+    /// Brings what the store has where it outlives the process.
+    pub fn keep(&mut self) -> Result<(), Unkept>
+        ensures { self.new ≡ self.old }
+    {
+        self.tree.keep()
     }
 }

@@ -1,0 +1,29 @@
+-- What survives a crash, and what comes back after one.
+use Rattle.std.specs.Prelude.{◌≡◌}
+use Rattle.mds_types.specs.Tree.{Tree}
+use Rattle.objstore.specs.Objects.{Objects}
+use Rattle.cold_store.specs.ColdTree.{IsColdTree}
+use Rattle.sqlite_trees.specs.Tree.{Trees}
+use Rattle.sqlite_trees.specs.View.{IsClean, View}
+use Rattle.object_tables.specs.Noted.{none}
+use Rattle.object_tables.specs.Spelled.{Spells}
+use Rattle.kept_store.specs.Kept.{Finds, Kept}
+
+-- whatever a crash leaves spells these objects and no others
+abbrev pub Survives : (Trees → Type 0) → Objects → Type 0
+Survives recovers objects = (db : Trees) → recovers db → Spells db objects × ((others : Objects) → Spells db others → others ≡ objects)
+
+-- whatever a crash leaves spells objects of which this is the cold tree
+abbrev pub SurvivesAs : (Trees → Type 0) → Tree → Type 0
+SurvivesAs recovers tree = (db : Trees) → recovers db → (objects : Objects) × Spells db objects × IsColdTree objects tree
+
+-- a tree is the cold tree of what was found after a crash: where the disk was honest, these are objects that an outcome
+-- of the crash spells, and just those that the store had, if nothing was noted: then their cold tree is back, which the
+-- last flush left
+pub record ComesBack {T : Type 0} (view : T → View) (recovers : T → Trees → Type 0) (kept : Kept T) (tree : Tree) : Type 0 where
+  pub now : Kept T
+  pub all : now.noted ≡ none
+  pub found : IsClean (view now.tables) → Finds (recovers kept.tables) now.objects
+  pub back : IsClean (view now.tables) → kept.noted ≡ none → now.objects ≡ kept.objects
+  pub cold : IsColdTree now.objects tree
+  pub same : IsClean (view now.tables) → kept.noted ≡ none → (was : Tree) → IsColdTree kept.objects was → tree ≡ was

@@ -1,0 +1,123 @@
+-- What a mirror stands for after each call.
+use Rattle.std.proofs.Common.{◌≡◌, ◌⊎◌, ℕ, Bool, true, false, List, IsTrue, refl, sym, ap, subst, ◌∙◌, inl, inr, true≢false}
+use Rattle.std.specs.FinMap.{get-empty}
+use Rattle.objstore.specs.Omap.{key_cmp}
+use Rattle.objstore.specs.Objects.{Objects}
+use Rattle.sqlite_trees.specs.Tree.{Trees}
+use Rattle.sqlite_trees.specs.View.{IsClean, IsReopened, View}
+use Rattle.object_tables.specs.Entries.{Says}
+use Rattle.object_tables.specs.Noted.{Noted, has_key, has_name, none, spot_cmp}
+use Rattle.object_tables.specs.Spelled.{Spells, SpellsBut, object_key, pair_key}
+use Rattle.object_tables.proofs.SpelledLaws.{one_spelling, spells_less}
+use Rattle.kept_store.specs.Kept.{IsFresh, IsMirrored}
+use Rattle.kept_store.specs.Noting.{AgreeBut, IsMore}
+
+is_false : (b : Bool) → (b ≡ true → ⊥) → b ≡ false
+is_false true away = absurd (away refl)
+is_false false away = refl
+
+-- nothing is among no names and no keys
+pub no_name : (n : List ℕ) → has_name none n ≡ false
+no_name n = rw (get-empty key_cmp n) refl
+
+pub no_key : (n k : List ℕ) → has_key none n k ≡ false
+no_key n k = rw (get-empty spot_cmp (n, k)) refl
+
+pub spells_all : (db : Trees) (objects : Objects) → SpellsBut db objects (has_name none) (has_key none) → Spells db objects
+spells_all db objects s = spells_less db objects _ _ _ _ (λ n out. no_name n) (λ n k out. no_key n k) s
+
+pub spells_some : (db : Trees) (objects : Objects) (noted : Noted) → Spells db objects → SpellsBut db objects (has_name noted) (has_key noted)
+spells_some db objects noted s = spells_less db objects _ _ _ _ (λ n out. refl) (λ n k out. refl) s
+
+-- other objects that agree but for what is noted are spelled as well
+pub spells_other : (db : Trees) (a b : Objects) (old new : Noted) → IsMore old new → AgreeBut a b new
+    → SpellsBut db a (has_name old) (has_key old) → SpellsBut db b (has_name new) (has_key new)
+spells_other db a b old new more agree s = record {
+  objects_are = s.objects_are;
+  pairs_are = s.pairs_are;
+  headers = λ n out. subst (Says (db 0) (object_key n)) (agree.headers n out) (s.headers n (more.names n out));
+  values = λ n k out. subst (Says (db 1) (pair_key n k)) (agree.values n k out) (s.values n k (more.keys n k out));
+}
+
+pub mirrored_other : (v : View) (recovers : Trees → Type 0) (a b : Objects) (old new : Noted) → IsMore old new → AgreeBut a b new
+    → IsMirrored v recovers a old → IsMirrored v recovers b new
+mirrored_other v recovers a b old new more agree m = record {
+  tables = m.tables;
+  shapes = m.shapes;
+  fresh = m.fresh;
+  outcomes = λ db may. spells_other db a b old new more agree (m.outcomes db may);
+}
+
+-- ---- an open
+
+pub opened : (old new : View) (before after : Trees → Type 0) (objects : Objects) → IsFresh old → new ≡ record old { cursors = new.cursors }
+    → Spells old.trees objects → ((db : Trees) → after db → before db) → ((db : Trees) → before db → db ≡ old.committed) → IsMirrored new after objects none
+opened old new before after objects fresh same spelled fewer settled = record {
+  tables = record { objects = ap (λ (v : View). v.shape 0) same ∙ fresh.tables.objects; pairs = ap (λ (v : View). v.shape 1) same ∙ fresh.tables.pairs };
+  shapes = ap (λ (v : View). v.committed_shape) same ∙ (fresh.shapes ∙ sym (ap (λ (v : View). v.shape) same));
+  fresh = λ is_open. ap (λ (v : View). v.trees) same ∙ (fresh.fresh ∙ sym (ap (λ (v : View). v.committed) same));
+  outcomes = λ db may. spells_some db objects none (subst (λ t. Spells t objects) (fresh.fresh ∙ sym (settled db (fewer db may))) spelled);
+}
+
+-- ---- a save
+
+-- what the transaction sees spells the objects but for what is noted, where the tables aren't broken
+pub seen : (v : View) (recovers : Trees → Type 0) (objects : Objects) (noted : Noted) → IsMirrored v recovers objects noted → IsTrue v.is_open
+    → (IsTrue v.is_open → recovers v.committed) → SpellsBut v.trees objects (has_name noted) (has_key noted)
+seen v recovers objects noted m is_open stays =
+    subst (λ t. SpellsBut t objects (has_name noted) (has_key noted)) (sym (m.fresh is_open)) (m.outcomes v.committed (stays is_open))
+
+-- whatever a save answers
+pub kept_anyway : (old new : View) (before after : Trees → Type 0) (objects : Objects) (noted : Noted) → IsMirrored old before objects noted
+    → (new.shape ≡ old.shape) × (new.committed_shape ≡ old.shape) → (IsTrue new.is_open → new.trees ≡ new.committed)
+    → ((db : Trees) → after db → before db ⊎ Spells db objects) → IsMirrored new after objects noted
+kept_anyway old new before after objects noted m shapes fresh crash = record {
+  tables = record { objects = ap (λ (f : ℕ → _). f 0) shapes.0 ∙ m.tables.objects; pairs = ap (λ (f : ℕ → _). f 1) shapes.0 ∙ m.tables.pairs };
+  shapes = shapes.1 ∙ sym shapes.0;
+  fresh = fresh;
+  outcomes = λ db may. elim (crash db may) [ inl was ↦ m.outcomes db was | inr is ↦ spells_some db objects noted is ];
+}
+
+-- where it answers Ok
+pub kept_all : (old new : View) (before after : Trees → Type 0) (objects : Objects) (noted : Noted) → IsMirrored old before objects noted
+    → (new.shape ≡ old.shape) × (new.committed_shape ≡ old.shape) → (IsTrue new.is_open → new.trees ≡ new.committed)
+    → ((db : Trees) → after db → db ≡ new.committed) → Spells new.committed objects → IsMirrored new after objects none
+kept_all old new before after objects noted m shapes fresh settled spelled = record {
+  tables = record { objects = ap (λ (f : ℕ → _). f 0) shapes.0 ∙ m.tables.objects; pairs = ap (λ (f : ℕ → _). f 1) shapes.0 ∙ m.tables.pairs };
+  shapes = shapes.1 ∙ sym shapes.0;
+  fresh = fresh;
+  outcomes = λ db may. spells_some db objects none (subst (λ t. Spells t objects) (sym (settled db may)) spelled);
+}
+
+-- tables that aren't broken are open
+pub open_of : (is_open is_broken : Bool) → (is_open ≡ false → is_broken ≡ true) → is_broken ≡ false → is_open ≡ true
+open_of true b shut sound = refl
+open_of false b shut sound = absurd (true≢false (sym (shut refl) ∙ sound))
+
+-- what a crash leaves of a save
+pub crash_of : (old : View) (before after : Trees → Type 0) (objects : Objects) (noted : Noted) → IsMirrored old before objects noted
+    → (old.is_open ≡ false → old.is_broken ≡ true) → (IsTrue old.is_open → before old.committed)
+    → ((db : Trees) → after db → before db ⊎ ((old.is_broken ≡ false) × (SpellsBut old.trees objects (has_name noted) (has_key noted) → Spells db objects)))
+    → (db : Trees) → after db → before db ⊎ Spells db objects
+crash_of old before after objects noted m shut stays crash db may =
+    elim (crash db may) [ inl was ↦ inl was | inr it ↦ inr (it.1 (seen old before objects noted m (open_of old.is_open old.is_broken shut it.0) stays)) ]
+
+-- ---- after a crash
+
+-- tables that were opened again can be taken as a mirror
+pub fresh_again : (old new : View) (before : Trees → Type 0) (objects : Objects) (noted : Noted) → IsMirrored old before objects noted
+    → IsClean new → IsReopened old new → (new.shape ≡ old.shape) → (new.is_open ≡ false → new.is_broken ≡ true)
+    → (new.is_broken ≡ false → new.trees ≡ new.committed → new.shape ≡ new.committed_shape) → IsFresh new
+fresh_again old new before objects noted m clean again same shut unaltered = record {
+  tables = record { objects = ap (λ (f : ℕ → _). f 0) same ∙ m.tables.objects; pairs = ap (λ (f : ℕ → _). f 1) same ∙ m.tables.pairs };
+  shapes = sym (unaltered (again.sound clean) again.clean);
+  is_open = open_of new.is_open new.is_broken shut (again.sound clean);
+  fresh = again.clean;
+}
+
+-- what comes back is what was, where nothing was noted
+pub back_again : (old new : View) (before : Trees → Type 0) (a b : Objects) (noted : Noted) → IsMirrored old before a noted
+    → before new.committed → Spells new.committed b → noted ≡ none → b ≡ a
+back_again old new before a b noted m may spelled all =
+    one_spelling new.committed b a spelled
+    (spells_all new.committed a (subst (λ (n : Noted). SpellsBut new.committed a (has_name n) (has_key n)) all (m.outcomes new.committed may)))

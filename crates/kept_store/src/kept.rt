@@ -1,0 +1,207 @@
+//! `Kept`: a store that is mirrored in tables.
+ghost use Rattle.std.specs.Prelude.{◌≡◌, ◌⊎◌, ◌↔◌, ◌≤◌, IsTrue, IfErr, IfOk, OnErr, OnOk};
+ghost use Rattle.std.specs.FinMap as map;
+ghost use Rattle.object_tables.specs.Noted.{none};
+ghost use Rattle.object_tables.specs.Spelled.{Spells};
+ghost use Rattle.sqlite_trees.specs.Tree.{Trees as Rows};
+ghost use Rattle.sqlite_trees.specs.View.{IsClean, doubt};
+ghost use Rattle.kept_store.specs.Kept.{Finds, IsFresh, IsMirrored};
+
+use crate::noting::{note_object, note_write};
+use mds_types::{Bytes, Refusal};
+use keeping::{Keep, Unkept};
+use object_tables::{Changes, ReadFault, read_objects, save};
+use objstore::{MemStore, NamePage, Page, Store, WriteOp};
+use sqlite_trees::error::StoreError;
+use sqlite_trees::store::{Reopen, Store as Trees};
+use std::alloc::Global;
+use std::marker::Model;
+
+/// Objects in memory, what changed of them, and the tables that have all else.
+#[derive(Drop)]
+pub struct Kept<T: Trees + Drop> {
+    objects: MemStore,
+    changes: Changes,
+    tables: T,
+    alloc: Global,
+}
+
+impl<T: Trees + Drop> Model for Kept<T> {
+    ghost use Rattle.std.specs.Coded.{codes};
+    ghost use Rattle.std.specs.FinMap as map;
+    ghost use Rattle.sqlite_trees.specs.View.{IsClean};
+    ghost use Rattle.kept_store.specs.Kept.{IsMirrored, Kept};
+
+    ghost Value = { Kept T };
+
+    ghost coded = { Prim.hlevel (codes, map.code, T.code) };
+
+    ghost view = { λ k. record { objects = k.objects; noted = k.changes; tables = k.tables } };
+
+    ghost invariant = { λ k. IsClean (T.Store.view k.tables) → IsMirrored (T.Store.view k.tables) (T.Store.recovers k.tables) k.objects k.changes };
+}
+
+impl<T: Trees + Drop> Kept<T> {
+    /// The objects that tables have.
+    pub fn open(alloc: Global, mut tables: T) -> Result<Kept<T>, (ReadFault, T)>
+        requires { IsClean (T.Store.view tables) → IsFresh (T.Store.view tables) }
+        ensures objects { IfOk result (λ k. IsClean (T.Store.view k.tables) → Spells (T.Store.view tables).committed k.objects) }
+        ensures kept { IfOk result (λ k. k.noted ≡ none) }
+        ensures clean { IfOk result (λ k. doubt (T.Store.view tables).is_clean ≤ doubt (T.Store.view k.tables).is_clean) }
+    {
+        match read_objects(&mut tables, alloc) {
+            Ok(objects) => Ok(Kept {
+                objects,
+                changes: Changes::none(alloc),
+                tables,
+                alloc,
+            }),
+            Err(fault) => Err((fault, tables)),
+        }
+    }
+
+    /// The objects.
+    pub fn objects(&self) -> &MemStore
+        ensures { result.now ≡ self.now.objects }
+    {
+        &self.objects
+    }
+
+    /// Whether the tables have all objects as they are.
+    pub fn is_kept(&self) -> bool
+        ensures kept { IsTrue result ↔ (self.now.noted ≡ none) }
+        ensures outcomes { IsTrue result → IsClean (T.Store.view self.now.tables)
+            → (db : Rows) → T.Store.recovers self.now.tables db → Spells db self.now.objects }
+    {
+        self.changes.is_empty()
+    }
+
+    /// Of how many objects something changed.
+    pub fn changed(&self) -> usize
+        ensures { result ≡ map.len self.now.noted.names }
+    {
+        self.changes.len()
+    }
+
+    /// Brings what changed into the tables, in one transaction. Whatever it answers, and wherever it is cut off, a crash
+    /// leaves what it could leave before, or tables that spell exactly the objects.
+    pub fn keep(&mut self) -> Result<(), StoreError>
+        ensures kept { OnOk result (self.new.noted ≡ none) }
+        ensures noted { OnErr result (self.new.noted ≡ self.old.noted) }
+        ensures objects { self.new.objects ≡ self.old.objects }
+        ensures crash { IsClean (T.Store.view self.new.tables) → (db : Rows) → T.Store.recovers self.new.tables db
+            → T.Store.recovers self.old.tables db ⊎ Spells db self.new.objects }
+        ensures clean { doubt (T.Store.view self.old.tables).is_clean ≤ doubt (T.Store.view self.new.tables).is_clean }
+    {
+        save(&mut self.tables, self.alloc, &self.objects, &self.changes)?;
+        self.changes = Changes::none(self.alloc);
+        Ok(())
+    }
+
+    /// What always holds: a law, told of this one.
+    pub fn is_mirrored(&self)
+        ensures { IsClean (T.Store.view self.now.tables)
+            → IsMirrored (T.Store.view self.now.tables) (T.Store.recovers self.now.tables) self.now.objects self.now.noted }
+    {
+        let _ = &self.alloc;
+    }
+
+    /// The tables.
+    pub fn into_tables(self) -> T
+        ensures { result ≡ self.tables }
+    {
+        let Kept {
+            objects: _,
+            changes: _,
+            tables,
+            alloc: _,
+        } = self;
+        tables
+    }
+}
+
+impl<T: Reopen + Drop> Kept<T> {
+    /// What comes back after a crash, over a disk that can be made to crash: the objects that one of its outcomes
+    /// spells. If nothing was noted, these are just the objects that were there.
+    pub fn revive(self, alloc: Global) -> Result<Kept<T>, ReadFault>
+        ensures found { IfOk result (λ k. IsClean (T.Store.view k.tables) → Finds (T.Store.recovers self.tables) k.objects) }
+        ensures back { IfOk result (λ k. IsClean (T.Store.view k.tables) → self.noted ≡ none → k.objects ≡ self.objects) }
+        ensures kept { IfOk result (λ k. k.noted ≡ none) }
+    {
+        self.is_mirrored();
+        let mut tables = self.into_tables();
+        tables.crash_and_reopen()?;
+        match Kept::open(alloc, tables) {
+            Ok(kept) => Ok(kept),
+            Err((fault, _)) => Err(fault),
+        }
+    }
+}
+
+impl<T: Trees + Drop> Store for Kept<T> {
+    ghost objects = { λ s. s.objects };
+
+    ghost faults = { λ _. 0 };
+
+    ghost IsCall = { λ _ _ _. Unit {0} };
+
+    fn header(&mut self, alloc: Global, name: &str) -> Result<Option<Bytes>, Refusal> {
+        self.objects.header(alloc, name)
+    }
+
+    fn page(
+        &mut self,
+        alloc: Global,
+        name: &str,
+        after: Option<&Bytes>,
+        max: usize,
+    ) -> Result<Option<Page>, Refusal> {
+        self.objects.page(alloc, name, after, max)
+    }
+
+    fn apply(&mut self, alloc: Global, name: &str, op: &WriteOp) -> Result<(), Refusal> {
+        if note_write(&mut self.changes, self.alloc, &self.objects, name, op).is_err() {
+            return Err(Refusal::NoMemory);
+        }
+        self.objects.apply(alloc, name, op)
+    }
+
+    fn remove(&mut self, name: &str) -> Result<(), Refusal> {
+        if note_object(&mut self.changes, self.alloc, &self.objects, name).is_err() {
+            return Err(Refusal::NoMemory);
+        }
+        self.objects.remove(name)
+    }
+
+    fn names_page(
+        &mut self,
+        alloc: Global,
+        after: Option<&str>,
+        max: usize,
+    ) -> Result<NamePage, Refusal> {
+        self.objects.names_page(alloc, after, max)
+    }
+}
+
+impl<T: Trees + Drop> Keep for Kept<T> {
+    ghost may_fail = { Unit {0} };
+
+    ghost faultless = { λ _ _. 0 };
+
+    fn memory(&self) -> &MemStore {
+        &self.objects
+    }
+
+    fn keep(&mut self) -> Result<(), Unkept> {
+        match Kept::keep(self) {
+            Ok(()) => Ok(()),
+            Err(error) => Err(match error {
+                StoreError::OutOfMemory => Unkept::NoMemory,
+                StoreError::Full => Unkept::Full,
+                StoreError::Corrupt => Unkept::Corrupt,
+                StoreError::Io => Unkept::Io,
+                _ => Unkept::Shut,
+            }),
+        }
+    }
+}

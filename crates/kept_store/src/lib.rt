@@ -1,0 +1,8 @@
+//! A store of objects that outlives the process: objects in memory, from which all is read, the names and keys that
+//! changed, and tables that mirror them.
+#![tactic(auto)]
+
+mod kept;
+mod noting;
+
+pub use kept::Kept;

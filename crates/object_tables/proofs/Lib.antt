@@ -1,0 +1,5 @@
+pub mod EntryLaws
+pub mod ReadLaws
+pub mod RowLaws
+pub mod SpelledLaws
+pub mod StoreLaws

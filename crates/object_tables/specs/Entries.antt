@@ -1,0 +1,74 @@
+-- The rows of a table whose rows are each a key, so many texts, and one value.
+use Rattle.std.specs.Prelude.{◌≡◌, ◌⊎◌, ◌↔◌, ℕ, Bool, true, false, List, [], ◌∷◌, ◌++◌, length, Option, None, Some}
+use Rattle.std.specs.declared.cmp.Ordering.TheVariants.{Equal}
+use Rattle.sqlite_value.specs.declared.value.Value.{Value}
+use Rattle.sqlite_value.specs.declared.value.Value.TheVariants.{Null, Int, Real, Text, Blob}
+use Rattle.sqlite_value.specs.Order.{Row, column}
+use Rattle.sqlite_value.specs.Keys.{plain, prefix_cmp}
+use Rattle.sqlite_trees.specs.View.{OnlyWrites, View}
+
+-- an element of a list
+abbrev pub IsIn : {X : Type 0} → X → List X → Type 0
+IsIn x [] = ⊥
+IsIn x (y ∷ ys) = (y ≡ x) ⊎ IsIn x ys
+
+abbrev pub IsText : Value → Type 0
+IsText Null = ⊥
+IsText (Int n) = ⊥
+IsText (Real x) = ⊥
+IsText (Text t) = Unit {0}
+IsText (Blob b) = ⊥
+
+abbrev pub AreTexts : Row → Type 0
+AreTexts [] = Unit {0}
+AreTexts (v ∷ vs) = IsText v × AreTexts vs
+
+-- the row of a key and its value
+abbrev pub entry : Row → List ℕ → Row
+entry key value = key ++ Blob value ∷ []
+
+-- the row is a key of so many texts and a value
+pub record IsEntry (width : ℕ) (row : Row) : Type 0 where
+  pub key : Row
+  pub value : List ℕ
+  pub texts : AreTexts key
+  pub wide : length key ≡ width
+  pub is : row ≡ entry key value
+
+-- each row is such, and no key has two values
+pub record IsTable (width : ℕ) (rows : List Row) : Type 0 where
+  pub entries : (row : Row) → IsIn row rows → IsEntry width row
+  pub once : (key : Row) (a b : List ℕ) → IsIn (entry key a) rows → IsIn (entry key b) rows → a ≡ b
+
+-- the key has just this value there, or none
+abbrev pub Says : List Row → Row → Option (List ℕ) → Type 0
+Says rows key value = (v : List ℕ) → IsIn (entry key v) rows ↔ (value ≡ Some v)
+
+-- the key has this value now, or none, and each other what it had
+pub record SetsEntry (old new : List Row) (key : Row) (value : Option (List ℕ)) : Type 0 where
+  pub table : IsTable (length key) new
+  pub here : Says new key value
+  pub others : (k : Row) (v : List ℕ) → (k ≡ key → ⊥) → IsIn (entry k v) new ↔ IsIn (entry k v) old
+
+-- so it is with one tree of a store; each other is as it was, and nothing else changed but cursors
+pub record Puts (old new : View) (tree : ℕ) (key : Row) (value : Option (List ℕ)) : Type 0 where
+  pub sound : old.is_broken ≡ false
+  pub sets : SetsEntry (old.trees tree) (new.trees tree) key value
+  pub others : (t : ℕ) → (t ≡ tree → ⊥) → new.trees t ≡ old.trees t
+  pub only : OnlyWrites old new
+
+-- the row is of this key; or none is
+abbrev pub FindsEntry : List Row → Row → Row → Bool → Type 0
+FindsEntry rows key row true = IsIn row rows × (prefix_cmp plain row key ≡ Equal)
+FindsEntry rows key row false = (r : Row) → IsIn r rows → prefix_cmp plain r key ≡ Equal → ⊥
+
+-- a look for a row changes nothing but cursors
+pub record Looks (old new : View) (tree : ℕ) (key row : Row) (found : Bool) : Type 0 where
+  pub sound : old.is_broken ≡ false
+  pub finds : FindsEntry (old.trees tree) key row found
+  pub is : new ≡ record old { cursors = new.cursors }
+
+-- the row has just this value in a column
+abbrev pub HoldsValue : Row → ℕ → Option (List ℕ) → Type 0
+HoldsValue row at None = ⊥
+HoldsValue row at (Some value) = column row at ≡ Blob value

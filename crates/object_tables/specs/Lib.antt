@@ -1,0 +1,4 @@
+pub mod Entries
+pub mod Noted
+pub mod Reading
+pub mod Spelled
