@@ -8,6 +8,7 @@ use crate::bytes::Bytes;
 use crate::errno::{EINVAL, ENAMETOOLONG};
 use std::alloc::{AllocError, Global};
 use std::marker::Model;
+use thiserror::Error;
 
 /// A valid name: 1 to 255 bytes, none of them `/` or zero, and neither `.` nor `..`. Names are ordered by bytes.
 #[derive(Clone, Debug, Drop, PartialEq, Eq, PartialOrd, Ord)]
@@ -29,13 +30,16 @@ impl Model for Name {
 }
 
 /// Why bytes are no name, or could not be made one.
-#[derive(Clone, Copy, Debug, PartialEq, Eq)]
+#[derive(Clone, Copy, Debug, PartialEq, Eq, Error)]
 pub enum NameFault {
     /// Empty, `.`, `..`, or with a `/` or a zero byte.
+    #[error("a name isn't empty, `.` or `..`, and has no `/` and no zero byte")]
     Invalid,
     /// More than 255 bytes, whatever they are.
+    #[error("a name has at most 255 bytes")]
     TooLong,
     /// The bytes are a name, but there was no memory for it.
+    #[error("out of memory")]
     NoMemory,
 }
 

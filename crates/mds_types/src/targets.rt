@@ -11,6 +11,7 @@ use crate::bytes::Bytes;
 use crate::errno::{EINVAL, ENAMETOOLONG, ENOENT};
 use std::alloc::{AllocError, Global};
 use std::marker::Model;
+use thiserror::Error;
 
 /// What a symbolic link points to: 1 to 4095 bytes, none of them zero.
 #[derive(Debug, Drop)]
@@ -31,15 +32,19 @@ impl Model for Target {
 }
 
 /// Why bytes are no target, or could not be made one.
-#[derive(Clone, Copy, Debug, PartialEq, Eq)]
+#[derive(Clone, Copy, Debug, PartialEq, Eq, Error)]
 pub enum TargetFault {
     /// No bytes at all.
+    #[error("a link's target isn't empty")]
     Empty,
     /// At most 4095 bytes, with a zero byte among them.
+    #[error("a link's target has no zero byte")]
     Invalid,
     /// More than 4095 bytes, whatever they are.
+    #[error("a link's target has at most 4095 bytes")]
     TooLong,
     /// The bytes are a target, but there was no memory for it.
+    #[error("out of memory")]
     NoMemory,
 }
 
