@@ -16,13 +16,9 @@ use Rattle.cluster_core.specs.Steps.{Steps}
 use Rattle.cluster_core.specs.declared.events.Answer.{Answer}
 use Rattle.cluster_core.specs.declared.events.Answer.TheVariants.{Deferred, Forwarded, Job, Nothing, Reply, Sent}
 use Rattle.cluster_core.specs.declared.events.Event.TheVariants.{Serve}
+pub use Rattle.inboxes.specs.Inboxes.{waiting_in_all}
 use Rattle.asking.specs.GrantsAll.{GrantsThem, WhyNotGranted}
 use Rattle.asking.specs.declared.drains.Waiter.{Waiter}
-
--- how many requests wait at all ranks
-abbrev pub waiting_in_all : Inboxes → ℕ
-waiting_in_all [] = 0
-waiting_in_all (waiting ∷ others) = length waiting + waiting_in_all others
 
 -- at most so many of these requests aren't where they belong
 abbrev pub FewStray : (Home : Op → Type 0) → List Request → ℕ → Type 0

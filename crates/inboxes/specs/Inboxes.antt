@@ -1,5 +1,5 @@
 -- The inboxes of all ranks: one list for each, rank 0 first.
-use Rattle.std.specs.Prelude.{◌≡◌, ◌⊎◌, ◌<◌, ◌≤◌, ◌++◌, ◌∷◌, [], ℕ, List, length, get_or, set, Option, Some, None, Result, Ok, Err}
+use Rattle.std.specs.Prelude.{◌≡◌, ◌⊎◌, ◌<◌, ◌≤◌, ◌+◌, ◌++◌, ◌∷◌, [], ℕ, List, length, get_or, set, Option, Some, None, Result, Ok, Err}
 use Rattle.std.specs.Option.{option_or}
 use Rattle.mds_types.specs.declared.ids.Rank.{Rank}
 use Rattle.mds_types.specs.declared.requests.Request.{Request}
@@ -13,6 +13,11 @@ Inboxes = List (List Request)
 -- what waits at a rank: nothing where there is no such rank
 abbrev pub waiting_at : Inboxes → Rank → List Request
 waiting_at inboxes rank = get_or inboxes rank.0 []
+
+-- how many requests wait, at all ranks together
+abbrev pub waiting_in_all : Inboxes → ℕ
+waiting_in_all [] = 0
+waiting_in_all (waiting ∷ others) = length waiting + waiting_in_all others
 
 -- with this list at a rank in place of its own
 abbrev pub with_waiting : Inboxes → Rank → List Request → Inboxes

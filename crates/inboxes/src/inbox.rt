@@ -40,6 +40,21 @@ impl Inbox {
         })
     }
 
+    /// How many requests wait.
+    pub fn len(&self) -> usize
+        ensures count { result ≡ length self.now }
+        ensures bound { result ≤ 1024 }
+    {
+        self.waiting.len()
+    }
+
+    /// The request with so many in front of it.
+    pub fn get(&self, index: usize) -> Option<&Request>
+        ensures { option_copied result ≡ slice_get self.now index }
+    {
+        self.waiting.get(index)
+    }
+
     /// Whether one more request may wait.
     pub fn has_room(&self) -> bool
         ensures room { result ≡ nat_lt (length self.now) 1024 }

@@ -2,7 +2,7 @@
 ghost use Rattle.std.specs.Prelude.{◌≡◌, ◌<◌, [], length, replicate, slice_get, IfOk, OnOk, IfErr};
 ghost use Rattle.std.specs.Option.{option_copied};
 ghost use Rattle.inboxes.specs.Inbox.{rotated};
-ghost use Rattle.inboxes.specs.Inboxes.{Arrives, Forwards, TakesAt, TakesNoMore, first_waiting, waiting_at, with_last, with_waiting};
+ghost use Rattle.inboxes.specs.Inboxes.{Arrives, Forwards, TakesAt, TakesNoMore, first_waiting, waiting_at, waiting_in_all, with_last, with_waiting};
 
 use crate::inbox::Inbox;
 use mds_types::{Rank, Refusal, Request};
@@ -17,11 +17,14 @@ pub struct Inboxes {
 }
 
 impl Model for Inboxes {
+    ghost use Rattle.std.specs.Prelude.{◌≤◌, length};
     ghost use Rattle.inboxes.specs.Inboxes.{Inboxes as Waiting};
 
     ghost Value = { Waiting };
 
     ghost view = { λ i. i.inboxes.items };
+
+    ghost invariant = { λ i. length i.inboxes.items ≤ 255 };
 }
 
 impl Inboxes {
@@ -62,6 +65,34 @@ impl Inboxes {
         ensures { option_copied result ≡ slice_get (waiting_at self.now rank) 0 }
     {
         self.inboxes.get(usize::from(rank.0))?.front()
+    }
+
+    /// How many requests wait at a rank.
+    pub fn waiting(&self, rank: Rank) -> usize
+        ensures { result ≡ length (waiting_at self.now rank) }
+    {
+        match self.inboxes.get(usize::from(rank.0)) {
+            Some(inbox) => inbox.len(),
+            None => 0,
+        }
+    }
+
+    /// How many requests wait at all ranks together.
+    pub fn waiting_in_all(&self) -> usize
+        ensures { result ≡ waiting_in_all self.now }
+    {
+        let mut count = 0;
+        for inbox in &self.inboxes {
+            count += inbox.len();
+        }
+        count
+    }
+
+    /// The request in a rank's inbox with so many in front of it.
+    pub fn get(&self, rank: Rank, index: usize) -> Option<&Request>
+        ensures { option_copied result ≡ slice_get (waiting_at self.now rank) index }
+    {
+        self.inboxes.get(usize::from(rank.0))?.get(index)
     }
 
     /// Takes the request at the front of a rank's inbox out.

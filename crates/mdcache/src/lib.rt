@@ -61,3 +61,5 @@ pub use laws::{changes_are_right, merges_are_right, splits_are_right};
 pub use mdcache::MdCache;
 pub use mounting::Opening;
 pub use page::Page;
+pub use purge_list::PurgeList;
+pub use standing_jobs::StandingJobs;

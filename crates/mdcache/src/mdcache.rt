@@ -7,8 +7,8 @@ use crate::purge_list::PurgeList;
 use crate::standing_jobs::StandingJobs;
 use dentry_cache::Caches;
 use inode_table::Dirs;
-use mds_types::Limit;
 use keeping::{Keep, Unkept};
+use mds_types::Limit;
 use objstore::Store;
 use std::alloc::Global;
 use std::marker::Model;
@@ -86,6 +86,20 @@ impl<S: Store + Drop> MdCache<S> {
         ensures { result.now ≡ self.now.caches }
     {
         &self.caches
+    }
+
+    /// The commits that were begun and not ended, to read.
+    pub fn jobs(&self) -> &StandingJobs
+        ensures { result.now.jobs ≡ self.now.jobs }
+    {
+        &self.jobs
+    }
+
+    /// The names of the objects that are to be removed, to read.
+    pub fn purge_list(&self) -> &PurgeList
+        ensures { result.now.names ≡ self.now.purge }
+    {
+        &self.purge
     }
 
     /// Which directories there are, and the leaves, the count and the pin of each, to read.

@@ -6,7 +6,7 @@ ghost use Rattle.objstore.specs.Omap.{key_cmp};
 ghost use Rattle.mdcache.specs.PurgeList.{first_name};
 
 use mds_types::{ObjText, TextRef};
-use sorted_map::SortedMap;
+use sorted_map::{Iter, SortedMap};
 use std::alloc::{AllocError, Global};
 use std::marker::Model;
 
@@ -89,6 +89,13 @@ impl PurgeList {
             Some((name, _)) => Some(name),
             None => None,
         }
+    }
+
+    /// The names that wait, in their order.
+    pub fn iter(&self) -> Iter<'_, ObjText, ()>
+        ensures { result ≡ map.entries self.now.names }
+    {
+        self.names.iter()
     }
 
     /// Makes room for so many names. Where the room is there already nothing is done, and there is no error.
