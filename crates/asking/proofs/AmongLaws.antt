@@ -1,5 +1,5 @@
 -- How many wait after an ask, and an ask behind a drain.
-use Rattle.asking.proofs.Common.{Asks, BookState, Core, Entry, Err, Inboxes, IsTakenOut, List, NoneWaits, Ok, Rank, Receipt, Refusal, RefusesAsk, Request, Result, State, StillWaits, [], ap, arith, get_or, inl, inr, length, suc, with_waiting, zero, ℕ, ◌∙◌, ◌∷◌, ◌≡◌, ◌≤◌}
+use Rattle.asking.proofs.Common.{AsksAlone, BookState, Core, Entry, Err, Inboxes, IsTakenOut, List, NoneWaits, Ok, Rank, Receipt, Refusal, RefusesAsk, Request, Result, State, StillWaits, [], ap, arith, get_or, inl, inr, length, suc, with_waiting, zero, ℕ, ◌∙◌, ◌∷◌, ◌≡◌, ◌≤◌}
 use Rattle.asking.specs.Among.{AsksAmong, IsDrained}
 use Rattle.asking.specs.Drain.{waiting_in_all}
 use Rattle.asking.proofs.AnswerLaws.{none_waits}
@@ -33,11 +33,11 @@ module _ (old new : Core) (past now : List Entry) (rank : Rank) (request : Reque
   refused reason (inr (inr (inr h))) = still h.1
 
   -- one at most, which has come
-  pub one_at_most : (result : Result Receipt Refusal) → Asks old new past now rank request result → waiting_in_all new.state.inboxes ≤ 1
+  pub one_at_most : (result : Result Receipt Refusal) → AsksAlone old new past now rank request result → waiting_in_all new.state.inboxes ≤ 1
   one_at_most (Ok receipt) h = omega (arith, none_in_all new.state.inboxes (none_waits old new past now rank request receipt none h))
   one_at_most (Err reason) h = refused reason h
 
-pub asked_then : (old mid new : BookState) (rank : Rank) (request : Request) (result : Result Receipt Refusal) → IsDrained old mid → Asks mid.core new.core mid.history new.history rank request result → AsksAmong old new rank request result
+pub asked_then : (old mid new : BookState) (rank : Rank) (request : Request) (result : Result Receipt Refusal) → IsDrained old mid → AsksAlone mid.core new.core mid.history new.history rank request result → AsksAmong old new rank request result
 asked_then old mid new rank request (Ok receipt) drained asked = record { mid = mid; drained = drained; asked = asked }
 asked_then old mid new rank request (Err reason) drained asked = inl (record { mid = mid; drained = drained; asked = asked })
 

@@ -1,5 +1,5 @@
 -- From what steps give to the answer of what was asked.
-use Rattle.asking.proofs.Common.{Answer, Answers, Frozen, None, Arrive, ArrivesAt, Asks, Bool, BookState, Comes, Contains, Core, Deferred, Entry, Err, Forwarded, GrantsEach, GrantsThem, Inboxes, IsApplied, IsAtMaster, IsDeferred, IsForwarded, IsFrozenAt, IsLeft, IsMaster, IsRepeated, IsSound, IsTakenOut, KeepsButGrants, KeepsUnclean, LacksNumberFor, Leaf, List, MatchBool, NoInodes, NoMemory, NoneWaits, NotAuthority, Ok, Pin, Question, Rank, Receipt, Refusal, RefusesAsk, RefusesRequest, Request, Result, Roots, Rules, Some, State, Steps, StillWaits, StoreFault, NothingToEvict, TreeMayRefuse, TreeState, Trimmed, WaitsAlone, WhyItWaits, WhyNotGranted, [], ap, arith, false, first_waiting, grant_of, inl, inr, is_directory, is_for, is_pin, left_without, length, list_any, main_leaf, nat_lt, one_authority, refl, set, set-set, Served, ServesTo, shown_tree, subst, sym, told, true, waiting_at, with_last, with_waiting, without_request, would_change, ℕ, ◌∙◌, ◌∷◌, ◌≡◌, ◌≢◌, ◌⊎◌}
+use Rattle.asking.proofs.Common.{Answer, Answers, Frozen, None, Arrive, ArrivesAt, AsksAlone, Bool, BookState, HasCome, Contains, Core, Deferred, Entry, Err, Forwarded, GrantsEach, GrantsThem, Inboxes, IsApplied, IsNewAtMaster, IsDeferred, IsForwarded, IsFrozenAt, IsLeft, IsMaster, IsRepeated, IsSound, IsTakenOut, KeepsButGrants, KeepsUnclean, LacksNumberToServe, Leaf, List, MatchBool, NoInodes, NoMemory, NoneWaits, NotAuthority, Ok, Pin, Question, Rank, Receipt, Refusal, RefusesAsk, RefusesRequest, Request, Result, Roots, Rules, Some, State, Steps, StillWaits, StoreFault, NothingToEvict, TreeMayRefuse, TreeState, Trimmed, WaitsAlone, WhyItWaits, WhyNotGranted, [], ap, arith, false, first_waiting, grant_of, inl, inr, is_directory, is_for, is_pin, left_without, length, list_any, main_leaf, nat_lt, one_authority, refl, set, set-set, Served, ServesTo, shown_tree, subst, sym, told_as, true, waiting_at, with_last, with_waiting, without_request, would_change, ℕ, ◌∙◌, ◌∷◌, ◌≡◌, ◌≢◌, ◌⊎◌}
 use Rattle.std.specs.FinMap as map
 use Rattle.std.specs.FinMap.{get-empty}
 use Rattle.std.specs.Prelude.{OnOk}
@@ -50,11 +50,11 @@ module _ (q : Question) (mid : BookState) (sound : IsSound q.opening q.history q
   abbrev Arrived : Result Answer Refusal → Type 0
   Arrived result = ArrivesAt q.core.state mid.core.state q.history mid.history q.rank q.request result × AsksNone q.core mid.core
 
-  pub arrived : (answer : Answer) → Steps q.core mid.core q.history mid.history (Ok answer) (Arrive q.rank q.request) → Comes q mid q.rank q.request.client q.request.tid
+  pub arrived : (answer : Answer) → Steps q.core mid.core q.history mid.history (Ok answer) (Arrive q.rank q.request) → HasCome q mid q.rank q.request.client q.request.tid
   arrived answer steps = go (nat_lt q.rank.0 (length q.core.state.inboxes)) refl steps.does
     where
       go : (b : Bool) → nat_lt q.rank.0 (length q.core.state.inboxes) ≡ b → MatchBool b (Arrived (Ok answer)) ((◌≡◌ {A = Result Answer Refusal} (Ok answer) (Err NotAuthority)) × (mid.core ≡ q.core) × (mid.history ≡ q.history))
-          → Comes q mid q.rank q.request.client q.request.tid
+          → HasCome q mid q.rank q.request.client q.request.tid
       go false e h = let clash = h.0 in absurd cc
       go true e h = record {
         sound = sound;
@@ -86,7 +86,7 @@ module _ (q : Question) (mid : BookState) (sound : IsSound q.opening q.history q
 
 -- ---- a request that waits alone is served
 
-module _ (q : Question) (mid : BookState) (at : Rank) (client tid : ℕ) (c : Comes q mid at client tid) where
+module _ (q : Question) (mid : BookState) (at : Rank) (client tid : ℕ) (c : HasCome q mid at client tid) where
   -- the state that it waits in
   abbrev Waiting : State
   Waiting = record q.core.state { inboxes = with_waiting q.core.state.inboxes at (q.request ∷ []); pins = mid.core.state.pins }
@@ -131,7 +131,7 @@ module _ (q : Question) (mid : BookState) (at : Rank) (client tid : ℕ) (c : Co
     }
 
     -- it was applied as one that stood there alone, with its grants
-    applied : (receipt : Receipt) → IsApplied Waiting new.core.state q.history new.history at q.request [] (told receipt) → IsApplied Granted new.core.state q.history new.history at q.request [] (told receipt)
+    applied : (receipt : Receipt) → IsApplied Waiting new.core.state q.history new.history at q.request [] (told_as receipt) → IsApplied Granted new.core.state q.history new.history at q.request [] (told_as receipt)
     applied receipt h = record {
       is_new = h.is_new;
       master = h.master;
@@ -154,9 +154,9 @@ module _ (q : Question) (mid : BookState) (at : Rank) (client tid : ℕ) (c : Co
           }) (set-set q.core.state.inboxes at.0 (q.request ∷ []) []) h.left;
     }
 
-    pub replied : (receipt : Receipt) → IsApplied mid.core.state new.core.state mid.history new.history at q.request [] (told receipt) ⊎ IsRepeated mid.core.state new.core.state mid.history new.history at q.request [] (told receipt) → Answers q new (Ok receipt)
+    pub replied : (receipt : Receipt) → IsApplied mid.core.state new.core.state mid.history new.history at q.request [] (told_as receipt) ⊎ IsRepeated mid.core.state new.core.state mid.history new.history at q.request [] (told_as receipt) → Answers q new (Ok receipt)
     replied receipt (inl h) =
-        let its = moved (λ s past. IsApplied s new.core.state past new.history at q.request [] (told receipt)) h in
+        let its = moved (λ s past. IsApplied s new.core.state past new.history at q.request [] (told_as receipt)) h in
         inl (record {
           master = at;
           is_master = c.via its.master;
@@ -165,7 +165,7 @@ module _ (q : Question) (mid : BookState) (at : Rank) (client tid : ℕ) (c : Co
           applied = applied receipt its;
         })
     replied receipt (inr h) =
-        let its = moved (λ s past. IsRepeated s new.core.state past new.history at q.request [] (told receipt)) h in
+        let its = moved (λ s past. IsRepeated s new.core.state past new.history at q.request [] (told_as receipt)) h in
         inr (record { place = its.place; kept = its.kept; answered = its.answered; out = taken_out its.out })
 
     -- it went to its master
@@ -182,13 +182,13 @@ module _ (q : Question) (mid : BookState) (at : Rank) (client tid : ℕ) (c : Co
       other : master ≢ at
       other same = its_master.other (is_it ∙ same)
 
-      pub there : IsAtMaster q master
+      pub there : IsNewAtMaster q master
       there = record {
         is_new = its_master.is_new;
         own = own q.core.state.tree q.core.state.roots (main_leaf q.core.state.tree.covers q.request.op) (is_directory (shown_tree q.core.state.tree) (destination_of q.request.op)) at master its_own;
       }
 
-      pub goes_on : KeepsUnclean mid.core new.core → new.core.faults ≡ mid.core.faults → Comes q new master client tid
+      pub goes_on : KeepsUnclean mid.core new.core → new.core.faults ≡ mid.core.faults → HasCome q new master client tid
       goes_on unclean faults = record {
         sound = c.sound;
         none = c.none;
@@ -216,7 +216,7 @@ module _ (q : Question) (mid : BookState) (at : Rank) (client tid : ℕ) (c : Co
           pins = ap (λ (s : State). s.pins) its_master.left
 
       -- and goes nowhere from there
-      pub never_again : IsAtMaster q at → ⊥
+      pub never_again : IsNewAtMaster q at → ⊥
       never_again here =
           other (one q.core.state.tree q.core.state.roots (main_leaf q.core.state.tree.covers q.request.op) (is_directory (shown_tree q.core.state.tree) (destination_of q.request.op)) at master at its_own here.own)
 
@@ -225,10 +225,10 @@ module _ (q : Question) (mid : BookState) (at : Rank) (client tid : ℕ) (c : Co
       its_wait : IsDeferred Waiting new.core.state q.history new.history at q.request [] Deferred
       its_wait = moved (λ s past. IsDeferred s new.core.state past new.history at q.request [] Deferred) h
 
-      pub here : IsAtMaster q at
+      pub here : IsNewAtMaster q at
       here = record { is_new = its_wait.is_new; own = its_wait.master }
 
-      pub stays : KeepsUnclean mid.core new.core → new.core.faults ≡ mid.core.faults → Comes q new at client tid
+      pub stays : KeepsUnclean mid.core new.core → new.core.faults ≡ mid.core.faults → HasCome q new at client tid
       stays unclean faults = record {
         sound = c.sound;
         none = c.none;
@@ -275,7 +275,7 @@ module _ (q : Question) (mid : BookState) (at : Rank) (client tid : ℕ) (c : Co
         go (inr (inr (inr number))) = absurd (other number.0)
 
     -- it lacks a number
-    by_number : IsAtItsMaster Waiting q.history at q.request → LacksAny Waiting (TreeMayRefuse mid.core new.core) at q.request → LacksNumberFor q.core.state q.history q.rank q.request
+    by_number : IsAtItsMaster Waiting q.history at q.request → LacksAny Waiting (TreeMayRefuse mid.core new.core) at q.request → LacksNumberToServe q.core.state q.history q.rank q.request
     by_number its lacks = record { is_new = its.is_new; master = at; is_master = c.via its.master; lacks = go lacks.1 }
       where
         go : LacksNumber (outcome_of q.core.state at q.request) (offer (supply_of q.core.state at)) NoInodes ⊎ TreeMayRefuse mid.core new.core q.request.op NoInodes → LacksNumber (outcome_of q.core.state at q.request) (offer (supply_of q.core.state at)) NoInodes ⊎ LacksFor q.request.op q.core.state.tree
@@ -315,7 +315,7 @@ module _ (q : Question) (mid : BookState) (at : Rank) (client tid : ℕ) (c : Co
     alone_still : KeepsButGrants mid.core.state mid2.core.state client tid → WaitsAlone q.core.state mid2.core.state at q.request
     alone_still kept = record { there = c.alone.there; kept = grants_then _ mid.core.state mid2.core.state q.request.client q.request.tid c.alone.kept (own_grants mid2.core.state kept) }
 
-    pub granted : GrantsThem mid.core mid2.core client tid q.request.op → mid2.history ≡ mid.history → mid2.core.faults ≡ mid.core.faults → Comes q mid2 at client tid
+    pub granted : GrantsThem mid.core mid2.core client tid q.request.op → mid2.history ≡ mid.history → mid2.core.faults ≡ mid.core.faults → HasCome q mid2 at client tid
     granted h same faults = record {
       sound = c.sound;
       none = c.none;
@@ -328,7 +328,7 @@ module _ (q : Question) (mid : BookState) (at : Rank) (client tid : ℕ) (c : Co
       via = c.via;
     }
 
-    pub not_granted : IsAtMaster q at → (reason : Refusal) → GrantsEach mid.core mid2.core client tid q.request.op (Err reason) → mid2.history ≡ mid.history → Answers q mid2 (Err reason)
+    pub not_granted : IsNewAtMaster q at → (reason : Refusal) → GrantsEach mid.core mid2.core client tid q.request.op (Err reason) → mid2.history ≡ mid.history → Answers q mid2 (Err reason)
     not_granted its reason (kept, why) same =
         inr (inr (inr (
           inr (its.is_new, why_not q.core mid.core (alike_alone q.core.state mid.core.state at q.request c.alone) c.unclean mid2.core q.request.op reason c.faults why),
@@ -348,7 +348,7 @@ module _ (q : Question) (mid : BookState) (at : Rank) (client tid : ℕ) (c : Co
 
 -- ---- once it's answered nothing waits
 
-pub none_waits : (old new : Core) (past now : List Entry) (rank : Rank) (request : Request) (receipt : Receipt) → NoneWaits old.state.inboxes → Asks old new past now rank request (Ok receipt) → NoneWaits new.state.inboxes
+pub none_waits : (old new : Core) (past now : List Entry) (rank : Rank) (request : Request) (receipt : Receipt) → NoneWaits old.state.inboxes → AsksAlone old new past now rank request (Ok receipt) → NoneWaits new.state.inboxes
 none_waits old new past now rank request receipt none (inl h) =
     let was : h.granted.inboxes ≡ old.state.inboxes = ap (λ (s : State). s.inboxes) h.kept.left in
     let is : new.state.inboxes ≡ with_waiting h.granted.inboxes h.master [] = ap (λ (s : State). s.inboxes) h.applied.left in
@@ -357,7 +357,7 @@ none_waits old new past now rank request receipt none (inr h) =
     let is : new.state.inboxes ≡ with_waiting old.state.inboxes rank [] = ap (λ (s : State). s.inboxes) h.out.left in
     subst NoneWaits (sym (is ∙ still_empty old.state.inboxes rank none)) none
 
-pub none_waits_then : (old new : Core) (past now : List Entry) (rank : Rank) (request : Request) (result : Result Receipt Refusal) → NoneWaits old.state.inboxes → Asks old new past now rank request result → OnOk result (NoneWaits new.state.inboxes)
+pub none_waits_then : (old new : Core) (past now : List Entry) (rank : Rank) (request : Request) (result : Result Receipt Refusal) → NoneWaits old.state.inboxes → AsksAlone old new past now rank request result → OnOk result (NoneWaits new.state.inboxes)
 none_waits_then old new past now rank request (Ok receipt) none h = none_waits old new past now rank request receipt none h
 none_waits_then old new past now rank request (Err reason) none h = tt
 
@@ -376,7 +376,7 @@ frozen_alone old new past now rank request none (inr (inr (inr (inr (is, inr (in
 frozen_alone old new past now rank request none (inr (inr (inr (inr (is, inr (inr (inl h))), still)))) = let clash : Frozen ≡ NothingToEvict = h.0 in cc
 frozen_alone old new past now rank request none (inr (inr (inr (inr (is, inr (inr (inr (named, (leaf, has, frozen))))), still)))) = none_frozen old.state none leaf frozen
 
-pub never_frozen : (old new : Core) (past now : List Entry) (rank : Rank) (request : Request) (result : Result Receipt Refusal) → Asks old new past now rank request result → old.state.exports ≡ map.empty → result ≢ Err Frozen
+pub never_frozen : (old new : Core) (past now : List Entry) (rank : Rank) (request : Request) (result : Result Receipt Refusal) → AsksAlone old new past now rank request result → old.state.exports ≡ map.empty → result ≢ Err Frozen
 never_frozen old new past now rank request (Ok receipt) h none clash = cc
 never_frozen old new past now rank request (Err reason) h none clash = frozen_alone old new past now rank request none (subst (RefusesAsk old new past now rank request) (named clash) h)
   where

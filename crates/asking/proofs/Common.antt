@@ -1,9 +1,9 @@
 -- Names of other crates, and of this one's definitions, as the proofs of this crate take them.
-pub use Rattle.asking.specs.Ask.{Answers, Asks, Comes, IsAppliedFor, IsAtMaster, LacksNumberFor, NoneWaits, Question, RefusesAsk, StillWaits, WaitsAlone, WhyItWaits}
+pub use Rattle.asking.specs.Ask.{Answers, AsksAlone, HasCome, IsAppliedFor, IsNewAtMaster, LacksNumberToServe, NoneWaits, Question, RefusesAsk, StillWaits, WaitsAlone, WhyItWaits}
 pub use Rattle.asking.specs.Drain.{RoundEnds}
 pub use Rattle.asking.specs.GrantsAll.{ChangesFrozen, GrantsEach, GrantsOf, GrantsSo, GrantsThem, IsGrantedFor, KeepsButGrants, WhyNotGranted}
-pub use Rattle.asking.specs.Reached.{IsReached, IsStepFor}
-pub use Rattle.asking.specs.Serves.{IsOfServe, KeepsUnclean, ServesTo, SomeWaits, told, told_of}
+pub use Rattle.asking.specs.Reached.{IsBroughtBy, IsStepFor, LeadsTo, receipt_in}
+pub use Rattle.asking.specs.Serves.{IsOfServe, KeepsUnclean, ServesTo, SomeWaits, told_as, told_of}
 pub use Rattle.cluster_core.specs.declared.receipts.Receipt.{Receipt}
 pub use Rattle.asking.specs.declared.serves.Served.{Served}
 pub use Rattle.asking.specs.declared.serves.Served.TheVariants.{Replied, Goes, Waits}

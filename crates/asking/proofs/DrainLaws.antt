@@ -4,7 +4,7 @@ use Rattle.mds_types.specs.Shape.{destination_of}
 use Rattle.cluster_core.specs.Master.{IsMasterIn}
 use Rattle.cluster_core.specs.Serve.{FindsFull, entry_of}
 use Rattle.std.proofs.lemmas.List.{length-append, length-set}
-use Rattle.asking.specs.Drain.{FewStrayFrom, FewStrays, IsHeldUp, IsHome, IsRound, LowestIsFirst, OneLessStrays, OneLessWaits, RoundGives, RoundsProgress, StraysAreWaiting, waiting_in_all}
+use Rattle.asking.specs.Drain.{FewStrayFrom, FewStrays, IsHeldUp, IsAtHome, IsRound, LowestIsFirst, OneLessStrays, OneLessWaits, RoundGives, RoundsProgress, StraysAreWaiting, waiting_in_all}
 use Rattle.asking.proofs.AnswerLaws.{one, own, rules}
 use Rattle.asking.proofs.InboxLaws.{is_there}
 use Rattle.asking.proofs.LiveLaws.{is_rank}
@@ -50,7 +50,7 @@ module _ (old granted new : Core) (past now : List Entry) (rank : Rank) (request
     apart : h.master.0 ≢ rank.0
     apart same = h.other (λ i. record { 0 = same i })
 
-    stray : IsHome old.state rank.0 request.op → ⊥
+    stray : IsAtHome old.state rank.0 request.op → ⊥
     stray home = h.other (one old.state.tree old.state.roots (main_leaf old.state.tree.covers request.op) (is_directory (shown_tree old.state.tree) (destination_of request.op)) rank h.master rank its_master home)
 
     abbrev without : Inboxes
@@ -60,7 +60,7 @@ module _ (old granted new : Core) (past now : List Entry) (rank : Rank) (request
     inboxes = ap (λ (s : State). s.inboxes) h.left ∙ ap (λ (i : Inboxes). with_last (with_waiting i rank rest) h.master request) same_inboxes
 
     -- the tree and the roots are as they were, so who is at home is
-    homes : (n : ℕ) → FewStrayFrom (IsHome old.state) 0 new.state.inboxes n → FewStrays new.state n
+    homes : (n : ℕ) → FewStrayFrom (IsAtHome old.state) 0 new.state.inboxes n → FewStrays new.state n
     homes n few =
         let tree : new.state.tree ≡ old.state.tree = ap (λ (s : State). s.tree) h.left ∙ ap (λ (s : State). s.tree) round.grants.kept.left in
         let roots : new.state.roots ≡ old.state.roots = ap (λ (s : State). s.roots) h.left ∙ ap (λ (s : State). s.roots) round.grants.kept.left in
@@ -75,11 +75,11 @@ module _ (old granted new : Core) (past now : List Entry) (rank : Rank) (request
           waiting_set without h.master.0 (get_or without h.master.0 [] ++ request ∷ []) (omega (arith, master_there, length-set old.state.inboxes rank.0 rest)) in
           omega (arith, ap (λ (i : Inboxes). waiting_in_all i) inboxes, first, second, ap (λ (w : List Request). length w) round.front, length-append (get_or without h.master.0 []) (request ∷ []));
       fewer = λ n few.
-          let one = stray_leaves (IsHome old.state) 0 n old.state.inboxes rank.0 request rest round.front (λ home. stray (subst (λ (r : ℕ). IsHome old.state r request.op) (omega arith) home)) few in (
+          let one = stray_leaves (IsAtHome old.state) 0 n old.state.inboxes rank.0 request rest round.front (λ home. stray (subst (λ (r : ℕ). IsAtHome old.state r request.op) (omega arith) home)) few in (
             one.0,
             one.1,
-            homes one.0 (subst (λ (i : Inboxes). FewStrayFrom (IsHome old.state) 0 i one.0) (sym inboxes)
-                (comes_home (IsHome old.state) 0 one.0 without h.master.0 request (omega (arith, master_there, length-set old.state.inboxes rank.0 rest)) (subst (λ (r : ℕ). IsHome old.state r request.op) (omega arith) its_own) one.2)),
+            homes one.0 (subst (λ (i : Inboxes). FewStrayFrom (IsAtHome old.state) 0 i one.0) (sym inboxes)
+                (comes_home (IsAtHome old.state) 0 one.0 without h.master.0 request (omega (arith, master_there, length-set old.state.inboxes rank.0 rest)) (subst (λ (r : ℕ). IsAtHome old.state r request.op) (omega arith) its_own) one.2)),
           );
     }
 
@@ -136,7 +136,7 @@ pub rounds_progress : RoundsProgress
 rounds_progress old granted new past now rank request rest result round = progress old granted new past now rank request rest result round
 
 pub strays_are_waiting : StraysAreWaiting
-strays_are_waiting state = all_stray_from (IsHome state) 0 state.inboxes
+strays_are_waiting state = all_stray_from (IsAtHome state) 0 state.inboxes
 
 pub lowest_is_first : LowestIsFirst
 lowest_is_first inboxes rank request rest none front = lowest_first inboxes rank.0 request rest (λ k below. none (record { 0 = k }) below) front

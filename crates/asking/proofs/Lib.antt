@@ -8,6 +8,7 @@ pub mod GrantLaws
 pub mod InboxLaws
 pub mod LiveLaws
 pub mod OnceLaws
+pub mod OneLaws
 pub mod PinLaws
 pub mod ReachedLaws
 pub mod ServeLaws

@@ -8,7 +8,7 @@ use Rattle.std.proofs.lemmas.List.{append_assoc}
 use Rattle.cluster_core.proofs.RunLaws.{step_of}
 use Rattle.cluster_core.specs.Runs.{GoesOnFrom}
 use Rattle.cluster_core.specs.declared.events.Answer.TheVariants.{Job, Nothing, Reply, Sent}
-use Rattle.asking.specs.Drain.{FewStrayFrom, FewStrays, IsHome, IsLowest, RoundGives, forwards, waiting_in_all}
+use Rattle.asking.specs.Drain.{FewStrayFrom, FewStrays, IsAtHome, IsLowest, RoundGives, forwards, waiting_in_all}
 use Rattle.asking.specs.declared.drains.Waiter.{Waiter}
 use Rattle.asking.proofs.AnswerLaws.{none_frozen}
 use Rattle.asking.proofs.DrainLaws.{rounds_progress}
@@ -130,12 +130,12 @@ refused old new request reason (Err other) (inr h) (same, one, two) = (request, 
 pub few_more : (state : State) (n m : ℕ) → n ≤ m → FewStrays state n → FewStrays state m
 few_more state n m more few = go state.inboxes 0 few
   where
-    go : (xs : Inboxes) (rank : ℕ) → FewStrayFrom (IsHome state) rank xs n → FewStrayFrom (IsHome state) rank xs m
+    go : (xs : Inboxes) (rank : ℕ) → FewStrayFrom (IsAtHome state) rank xs n → FewStrayFrom (IsAtHome state) rank xs m
     go [] rank h = tt
     go (x ∷ xs) rank (here, there, sum, w, ws) = (here, there, omega (arith, sum, more), w, ws)
 
 pub few_at_most : (state : State) (m : ℕ) → waiting_in_all state.inboxes ≤ m → FewStrays state m
-few_at_most state m few = few_more state (waiting_in_all state.inboxes) m few (all_stray_from (IsHome state) 0 state.inboxes)
+few_at_most state m few = few_more state (waiting_in_all state.inboxes) m few (all_stray_from (IsAtHome state) 0 state.inboxes)
 
 -- where no export stands it isn't stopped by a frozen leaf
 pub not_frozen : (old new : Core) (reason : Refusal) → RoundEnds old new (Err reason) → old.state.exports ≡ map.empty → reason ≡ Frozen → ⊥

@@ -3,15 +3,15 @@ use Rattle.asking.proofs.Common.{BookState, Core, Err, Inboxes, IsTakenOut, List
 use Rattle.std.proofs.lemmas.Bool.{cases_eq}
 use Rattle.cluster_core.specs.GivenUp.{GivesUp, GivesUpIn}
 use Rattle.asking.specs.Drain.{IsLowest}
-use Rattle.asking.specs.Once.{AsksOnce, IsForgotten, Leaves, WhyNone}
+use Rattle.asking.specs.Once.{AsksOnce, IsGivenUp, Leaves, WhyNone}
 use Rattle.asking.specs.declared.drains.Waiter.{Waiter}
 use Rattle.asking.proofs.InboxLaws.{at_front, emptied, still_empty}
 
 module _ (old mid : BookState) (rank : Rank) (request : Request) (reason : Refusal) (none : NoneWaits old.core.state.inboxes) (h : RefusesAsk old.core mid.core old.history mid.history rank request reason) where
   abbrev Once : BookState → Type 0
-  Once new = WhyNone old.core new.core old.history rank request reason × (((new.core ≡ old.core) × (new.history ≡ old.history)) ⊎ IsForgotten old.core.state new.core.state old.history new.history request)
+  Once new = WhyNone old.core new.core old.history rank request reason × (((new.core ≡ old.core) × (new.history ≡ old.history)) ⊎ IsGivenUp old.core.state new.core.state old.history new.history request)
 
-  forgotten : IsTakenOut old.core.state mid.core.state old.history mid.history rank request [] → IsForgotten old.core.state mid.core.state old.history mid.history request
+  forgotten : IsTakenOut old.core.state mid.core.state old.history mid.history rank request [] → IsGivenUp old.core.state mid.core.state old.history mid.history request
   forgotten out = record {
     same = out.same;
     left = out.left ∙ ap (λ (i : Inboxes). record old.core.state { inboxes = i; pins = without_request old.core.state.pins request }) (still_empty old.core.state.inboxes rank none);
@@ -56,7 +56,7 @@ module _ (old mid : BookState) (rank : Rank) (request : Request) (reason : Refus
       given_so : GivesUpIn mid.core new.core s.at (request ∷ [])
       given_so = subst (GivesUpIn mid.core new.core s.at) (stands s) (subst (λ (r : Rank). GivesUpIn mid.core new.core r (waiting_at mid.core.state.inboxes r)) at given.given)
 
-      left : IsForgotten old.core.state new.core.state old.history new.history request
+      left : IsGivenUp old.core.state new.core.state old.history new.history request
       left = record {
         same = given.same ∙ s.same;
         left =
@@ -93,3 +93,8 @@ none_waits_once old new rank request reason none (why, inr is) = subst (λ (s : 
 pub once : (old mid new : BookState) (rank : Rank) (request : Request) (reason : Refusal) → NoneWaits old.core.state.inboxes → RefusesAsk old.core mid.core old.history mid.history rank request reason → Leaves mid new → AsksOnce old.core new.core old.history new.history rank request (Err reason)
 once old mid new rank request reason none h (inl (idle, same)) = subst (λ (b : BookState). AsksOnce old.core b.core old.history b.history rank request (Err reason)) (sym same) (none_left old mid rank request reason none h idle)
 once old mid new rank request reason none h (inr (found, is, given)) = given_left old mid rank request reason none h found is new given
+
+-- and the history is as it was
+pub kept_once : (old new : BookState) (rank : Rank) (request : Request) (reason : Refusal) → AsksOnce old.core new.core old.history new.history rank request (Err reason) → new.history ≡ old.history
+kept_once old new rank request reason (why, inl (same, still)) = still
+kept_once old new rank request reason (why, inr is) = is.same

@@ -1,8 +1,10 @@
 -- What a step that serves gives, by its answer.
-use Rattle.asking.proofs.Common.{Answer, Bool, false, Goes, IsOfServe, Replied, Served, ServesTo, Waits, told_of, Core, Deferred, Entry, Err, Forwarded, IsApplied, IsDeferred, IsForwarded, IsRepeated, KeepsUnclean, List, MatchBool, NoneEnds, Ok, Op, Rank, ReadsOp, Receipt, Refusal, RefusesRequest, Reply, Request, Result, Serve, ServesInbox, ServesRequest, Steps, TreeMayRefuse, UsesRequest, ap, held_roots, inl, inr, length, lt-ltb, nat_lt, reads_unclean_of, subst, sym, told, true, waiting_at, ◌∷◌, ◌≡◌, ◌⊎◌}
+use Rattle.asking.proofs.Common.{Answer, Bool, false, Goes, IsOfServe, Replied, Served, ServesTo, Waits, told_of, Core, Deferred, Entry, Err, Forwarded, IsApplied, IsDeferred, IsForwarded, IsRepeated, KeepsUnclean, List, MatchBool, NoneEnds, Ok, Op, Rank, ReadsOp, Receipt, Refusal, RefusesRequest, Reply, Request, Result, Serve, ServesInbox, ServesRequest, Steps, TreeMayRefuse, UsesRequest, ap, held_roots, refl, ◌∙◌, inl, inr, length, lt-ltb, nat_lt, reads_unclean_of, subst, sym, told_as, true, waiting_at, ◌∷◌, ◌≡◌, ◌⊎◌}
 use Rattle.cluster_core.specs.Uses.{Asks as AsksFor, UsesFront}
 use Rattle.cluster_core.specs.Serve.{entry_of}
 use Rattle.dentry_cache.specs.CacheMap.{CacheMap, unclean_of}
+use Rattle.cluster_core.specs.OneThread.{receipt_of}
+use Rattle.asking.specs.Serves.{receipts_in}
 use Rattle.asking.proofs.InboxLaws.{is_there}
 
 -- what is done where the rank is there
@@ -32,14 +34,14 @@ module _ (old new : Core) (past now : List Entry) (rank : Rank) (request : Reque
   abbrev Gives : Answer → Type 0
   Gives answer = ServesRequest old.state new.state past now (TreeMayRefuse old new) rank request rest (Ok answer)
 
-  pub replied : (receipt : Receipt) → Steps old new past now (Ok (told receipt)) (Serve rank) → IsApplied old.state new.state past now rank request rest (told receipt) ⊎ IsRepeated old.state new.state past now rank request rest (told receipt)
-  replied receipt steps = go (its (Ok (told receipt)) steps).0
+  pub replied : (receipt : Receipt) → Steps old new past now (Ok (told_as receipt)) (Serve rank) → IsApplied old.state new.state past now rank request rest (told_as receipt) ⊎ IsRepeated old.state new.state past now rank request rest (told_as receipt)
+  replied receipt steps = go (its (Ok (told_as receipt)) steps).0
     where
-      go : Gives (told receipt) → IsApplied old.state new.state past now rank request rest (told receipt) ⊎ IsRepeated old.state new.state past now rank request rest (told receipt)
+      go : Gives (told_as receipt) → IsApplied old.state new.state past now rank request rest (told_as receipt) ⊎ IsRepeated old.state new.state past now rank request rest (told_as receipt)
       go (inl h) = inl h
       go (inr (inl h)) = inr h
-      go (inr (inr (inl h))) = let clash : told receipt ≡ Forwarded h.master = h.answered in absurd cc
-      go (inr (inr (inr h))) = let clash : told receipt ≡ Deferred = h.answered in absurd cc
+      go (inr (inr (inl h))) = let clash : told_as receipt ≡ Forwarded h.master = h.answered in absurd cc
+      go (inr (inr (inr h))) = let clash : told_as receipt ≡ Deferred = h.answered in absurd cc
 
   pub goes : (master : Rank) → Steps old new past now (Ok (Forwarded master)) (Serve rank) → IsForwarded old.state new.state past now rank request rest (Forwarded master) × KeepsUnclean old new
   goes master steps = let w = its (Ok (Forwarded master)) steps in (go w.0, same_keep old new w.1)
@@ -79,3 +81,12 @@ module _ (old new : Core) (past now : List Entry) (rank : Rank) (request : Reque
       go (Replied receipt) h = replied receipt h
       go (Goes master) h = goes master h
       go Waits h = waits_on h
+
+-- the reply that an answer is, by what it says of the request
+pub told_so : (answer : Answer) (served : Served) → told_of served ≡ answer → receipt_of (Ok answer) ≡ receipts_in (Ok served)
+told_so answer served is = ap (λ (a : Answer). receipt_of (Ok a)) (sym is) ∙ go served
+  where
+    go : (s : Served) → receipt_of (Ok (told_of s)) ≡ receipts_in (Ok s)
+    go (Replied receipt) = refl
+    go (Goes master) = refl
+    go Waits = refl

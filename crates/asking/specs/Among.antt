@@ -6,7 +6,7 @@ use Rattle.mds_types.specs.declared.requests.Request.{Request}
 use Rattle.cluster_core.specs.Runs.{GoesOnFrom}
 use Rattle.cluster_core.specs.Sound.{IsSoundBook}
 use Rattle.cluster_core.specs.State.{BookState}
-use Rattle.asking.specs.Ask.{Asks, NoneWaits}
+use Rattle.asking.specs.Ask.{AsksAlone, NoneWaits}
 use Rattle.asking.specs.Drain.{IsStopped}
 use Rattle.cluster_core.specs.declared.receipts.Receipt.{Receipt}
 
@@ -21,7 +21,7 @@ pub record IsDrained (old mid : BookState) : Type 0 where
 pub record AsksThen (old new : BookState) (rank : Rank) (request : Request) (result : Result Receipt Refusal) : Type 0 where
   pub mid : BookState
   pub drained : IsDrained old mid
-  pub asked : Asks mid.core new.core mid.history new.history rank request result
+  pub asked : AsksAlone mid.core new.core mid.history new.history rank request result
 
 -- or another is held up, and the request didn't come in
 pub record IsHeldUpBefore (old new : BookState) (reason : Refusal) : Type 0 where

@@ -16,7 +16,7 @@ use Rattle.cluster_core.specs.Serve.{IsApplied, IsRepeated, IsTakenOut, outcome_
 use Rattle.cluster_core.specs.Sound.{IsSound}
 use Rattle.cluster_core.specs.State.{BookState, Core, State, supply_of}
 use Rattle.asking.specs.GrantsAll.{KeepsButGrants, WhyNotGranted}
-use Rattle.asking.specs.Serves.{KeepsUnclean, told}
+use Rattle.asking.specs.Serves.{KeepsUnclean, told_as}
 use Rattle.cluster_core.specs.declared.receipts.Receipt.{Receipt}
 
 -- nothing waits at any rank
@@ -37,10 +37,10 @@ pub record IsAppliedFor (old new : State) (past now : List Entry) (rank : Rank) 
   pub is_master : IsMaster old rank request.op master
   pub granted : State
   pub kept : KeepsButGrants old granted request.client request.tid
-  pub applied : IsApplied granted new past now master request [] (told receipt)
+  pub applied : IsApplied granted new past now master request [] (told_as receipt)
 
 -- a new request lacks a number, of its master's or of the tree's counters
-pub record LacksNumberFor (old : State) (past : List Entry) (rank : Rank) (request : Request) : Type 0 where
+pub record LacksNumberToServe (old : State) (past : List Entry) (rank : Rank) (request : Request) : Type 0 where
   pub is_new : IsNew past request.client request.tid request.oldest
   pub master : Rank
   pub is_master : IsMaster old rank request.op master
@@ -67,17 +67,17 @@ RefusesAsk old new past now rank request reason =
     ((reason ≡ NotAuthority) × (length old.state.inboxes ≤ rank.0) × (new ≡ old) × (now ≡ past))
     ⊎ ((reason ≡ Trimmed) × IsTrimmed past request.client request.tid request.oldest
     × IsTakenOut old.state new.state past now rank request [])
-    ⊎ ((reason ≡ NoInodes) × LacksNumberFor old.state past rank request
+    ⊎ ((reason ≡ NoInodes) × LacksNumberToServe old.state past rank request
     × IsTakenOut old.state new.state past now rank request [])
     ⊎ (WhyItWaits old new past request reason × StillWaits old.state new.state past now request)
 
 -- a request that is asked at a rank, where nothing waits, gets its reply: the history has it, applied now or before, and
 -- nothing waits again; or it is refused. That it was forwarded or deferred is no answer
-abbrev pub Asks : (old new : Core) → (past now : List Entry) → Rank → Request → Result Receipt Refusal → Type 0
-Asks old new past now rank request (Ok receipt) =
+abbrev pub AsksAlone : (old new : Core) → (past now : List Entry) → Rank → Request → Result Receipt Refusal → Type 0
+AsksAlone old new past now rank request (Ok receipt) =
     IsAppliedFor old.state new.state past now rank request receipt
-    ⊎ IsRepeated old.state new.state past now rank request [] (told receipt)
-Asks old new past now rank request (Err reason) = RefusesAsk old new past now rank request reason
+    ⊎ IsRepeated old.state new.state past now rank request [] (told_as receipt)
+AsksAlone old new past now rank request (Err reason) = RefusesAsk old new past now rank request reason
 
 -- nothing waits in inboxes as a new book has them, made or mounted
 abbrev pub NewAreIdle : Type 0
@@ -95,10 +95,10 @@ pub record Question : Type 0 where
 
 -- it is answered
 abbrev pub Answers : Question → BookState → Result Receipt Refusal → Type 0
-Answers q book result = Asks q.core book.core q.history book.history q.rank q.request result
+Answers q book result = AsksAlone q.core book.core q.history book.history q.rank q.request result
 
 -- it has come to a rank, and waits there alone
-pub record Comes (q : Question) (book : BookState) (rank : Rank) (client tid : ℕ) : Type 0 where
+pub record HasCome (q : Question) (book : BookState) (rank : Rank) (client tid : ℕ) : Type 0 where
   pub sound : IsSound q.opening q.history q.core
   pub none : NoneWaits q.core.state.inboxes
   pub alone : WaitsAlone q.core.state book.core.state rank q.request
@@ -111,6 +111,6 @@ pub record Comes (q : Question) (book : BookState) (rank : Rank) (client tid : �
   pub via : IsMaster q.core.state rank q.request.op rank → IsMaster q.core.state q.rank q.request.op rank
 
 -- it is new, and this is its master
-pub record IsAtMaster (q : Question) (rank : Rank) : Type 0 where
+pub record IsNewAtMaster (q : Question) (rank : Rank) : Type 0 where
   pub is_new : IsNew q.history q.request.client q.request.tid q.request.oldest
   pub own : IsMaster q.core.state rank q.request.op rank

@@ -34,12 +34,12 @@ FewStrayFrom Home rank (waiting ∷ others) n =
     × FewStrayFrom Home (suc rank) others there
 
 -- a rank is the master of an operation that it serves
-abbrev pub IsHome : State → ℕ → Op → Type 0
-IsHome state rank op = IsMaster state (record { 0 = rank }) op (record { 0 = rank })
+abbrev pub IsAtHome : State → ℕ → Op → Type 0
+IsAtHome state rank op = IsMaster state (record { 0 = rank }) op (record { 0 = rank })
 
 -- at most so many of the requests that wait aren't at their master
 abbrev pub FewStrays : State → ℕ → Type 0
-FewStrays state n = FewStrayFrom (IsHome state) 0 state.inboxes n
+FewStrays state n = FewStrayFrom (IsAtHome state) 0 state.inboxes n
 
 -- a round, in a sound book where at most 1024 requests wait in all: a request that waits at the front of a rank, and is
 -- the first waiting copy of its pair, was granted all that it needs, and its rank served

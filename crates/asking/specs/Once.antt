@@ -9,13 +9,13 @@ use Rattle.mds_types.specs.History.{IsTrimmed}
 use Rattle.cluster_core.specs.Serve.{without_request}
 use Rattle.cluster_core.specs.GivenUp.{GivesUp}
 use Rattle.cluster_core.specs.State.{BookState, Core, State}
-use Rattle.asking.specs.Ask.{Asks, LacksNumberFor, NoneWaits, WhyItWaits}
+use Rattle.asking.specs.Ask.{AsksAlone, LacksNumberToServe, NoneWaits, WhyItWaits}
 use Rattle.asking.specs.Drain.{IsLowest}
 use Rattle.asking.specs.declared.drains.Waiter.{Waiter}
 use Rattle.cluster_core.specs.declared.receipts.Receipt.{Receipt}
 
 -- a book's state and history are as they were, but that the request has no grants
-pub record IsForgotten (old new : State) (past now : List Entry) (request : Request) : Type 0 where
+pub record IsGivenUp (old new : State) (past now : List Entry) (request : Request) : Type 0 where
   pub same : now ≡ past
   pub left : new ≡ record old { pins = without_request old.pins request }
 
@@ -24,13 +24,13 @@ abbrev pub WhyNone : (old new : Core) → List Entry → Rank → Request → Re
 WhyNone old new past rank request reason =
     ((reason ≡ NotAuthority) × (length old.state.inboxes ≤ rank.0))
     ⊎ ((reason ≡ Trimmed) × IsTrimmed past request.client request.tid request.oldest)
-    ⊎ ((reason ≡ NoInodes) × LacksNumberFor old.state past rank request) ⊎ WhyItWaits old new past request reason
+    ⊎ ((reason ≡ NoInodes) × LacksNumberToServe old.state past rank request) ⊎ WhyItWaits old new past request reason
 
 abbrev pub AsksOnce : (old new : Core) → (past now : List Entry) → Rank → Request → Result Receipt Refusal → Type 0
-AsksOnce old new past now rank request (Ok receipt) = Asks old new past now rank request (Ok receipt)
+AsksOnce old new past now rank request (Ok receipt) = AsksAlone old new past now rank request (Ok receipt)
 AsksOnce old new past now rank request (Err reason) =
     WhyNone old new past rank request reason
-    × (((new ≡ old) × (now ≡ past)) ⊎ IsForgotten old.state new.state past now request)
+    × (((new ≡ old) × (now ≡ past)) ⊎ IsGivenUp old.state new.state past now request)
 
 -- ---- words of this crate's own contracts
 

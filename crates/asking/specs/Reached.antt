@@ -1,9 +1,13 @@
 -- Which steps lead from a book to another.
-use Rattle.std.specs.Prelude.{◌≡◌, ◌++◌, ◌∷◌, [], ℕ, List, Option, Some, Result, Err}
+use Rattle.std.specs.Prelude.{◌≡◌, ◌≤◌, ◌++◌, ◌∷◌, [], ℕ, List, length, Option, Some, Result, Ok, Err}
+use Rattle.std.specs.Result.{result_err}
 use Rattle.std.specs.List.{AllByRecursion}
 use Rattle.mds_types.specs.declared.refusals.Refusal.{Refusal}
+use Rattle.mds_types.specs.declared.requests.Request.{Request}
+use Rattle.cluster_core.specs.OneThread.{arrivals, receipts_of}
 use Rattle.cluster_core.specs.Runs.{Runs}
 use Rattle.cluster_core.specs.State.{BookState}
+use Rattle.cluster_core.specs.declared.receipts.Receipt.{Receipt}
 use Rattle.cluster_core.specs.declared.events.Answer.{Answer}
 use Rattle.cluster_core.specs.declared.events.Event.{Event}
 use Rattle.cluster_core.specs.declared.events.Event.TheVariants.{Arrive, Grant, Serve, Split, Merge, CommitBegin, CommitEnd, CommitDrop, CommitTree, Purge, Evict, Start, Freeze, Prep, Send, Import, Finish, Cancel}
@@ -29,12 +33,28 @@ IsStepFor client tid (Import dir f bytes) = ⊥
 IsStepFor client tid (Finish dir f) = ⊥
 IsStepFor client tid (Cancel dir f) = ⊥
 
--- steps for a request alone lead from one book to another, each from a sound book to a sound book; and what is told as a
--- refusal, if one is, is that of the last of them
-pub record IsReached (client tid : ℕ) (told : Option Refusal) (old new : BookState) : Type 0 where
+-- the receipt of a request that was asked, if it got its reply
+abbrev pub receipt_in : Result Receipt Refusal → List Receipt
+receipt_in (Ok receipt) = receipt ∷ []
+receipt_in (Err reason) = []
+
+-- steps for a request alone lead from one book to another, each from a sound book to a sound book. These requests come
+-- in by them, the replies to them are these, there are at most so many, and where a refusal is told it is that of the
+-- last of them
+pub record LeadsTo (client tid : ℕ) (came : List Request) (most : ℕ) (replies : List Receipt) (refused : Option Refusal)
+    (old new : BookState) : Type 0 where
   pub events : List Event
   pub results : List (Result Answer Refusal)
   pub ran : Runs old events results new
   pub for_it : AllByRecursion (IsStepFor client tid) events
-  pub last : (reason : Refusal) → told ≡ Some reason
+  pub brought : arrivals events ≡ came
+  pub few : length events ≤ most
+  pub told : receipts_of results ≡ replies
+  pub last : (reason : Refusal) → refused ≡ Some reason
       → (before : List (Result Answer Refusal)) × (results ≡ before ++ Err reason ∷ [])
+
+-- a request was brought to its answer by steps of the book alone, at most so many, all of them for this request: it came
+-- in once, and what was told is its reply or the refusal of the last step
+abbrev pub IsBroughtBy : Request → (most : ℕ) → Result Receipt Refusal → (old new : BookState) → Type 0
+IsBroughtBy request most result old new =
+    LeadsTo request.client request.tid (request ∷ []) most (receipt_in result) (result_err result) old new

@@ -1,5 +1,5 @@
 -- What serving the request at the front of a rank's inbox gives.
-use Rattle.std.specs.Prelude.{◌≡◌, ◌⊎◌, ◌∷◌, ℕ, List, Result, Ok, Err}
+use Rattle.std.specs.Prelude.{◌≡◌, ◌⊎◌, ◌∷◌, [], ℕ, List, Result, Ok, Err}
 use Rattle.mds_types.specs.declared.entries.Entry.{Entry}
 use Rattle.mds_types.specs.declared.ids.Rank.{Rank}
 use Rattle.mds_types.specs.declared.refusals.Refusal.{Refusal}
@@ -21,8 +21,8 @@ abbrev pub SomeWaits : Inboxes → Rank → Type 0
 SomeWaits inboxes rank = (request : Request) × (rest : List Request) × (waiting_at inboxes rank ≡ request ∷ rest)
 
 -- the answer of a step that a receipt keeps
-abbrev pub told : Receipt → Answer
-told receipt = Reply receipt.client receipt.tid receipt.place receipt.first receipt.reply
+abbrev pub told_as : Receipt → Answer
+told_as receipt = Reply receipt.client receipt.tid receipt.place receipt.first receipt.reply
 
 -- each rank has what isn't clean as it had it, and as many places
 pub record KeepsUnclean (old new : Core) : Type 0 where
@@ -34,8 +34,8 @@ pub record KeepsUnclean (old new : Core) : Type 0 where
 abbrev pub ServesTo : (old new : Core) → (past now : List Entry) → Rank → Request → List Request
     → Result Served Refusal → Type 0
 ServesTo old new past now rank request rest (Ok (Replied receipt)) =
-    IsApplied old.state new.state past now rank request rest (told receipt)
-    ⊎ IsRepeated old.state new.state past now rank request rest (told receipt)
+    IsApplied old.state new.state past now rank request rest (told_as receipt)
+    ⊎ IsRepeated old.state new.state past now rank request rest (told_as receipt)
 ServesTo old new past now rank request rest (Ok (Goes master)) =
     IsForwarded old.state new.state past now rank request rest (Forwarded master) × KeepsUnclean old new
 ServesTo old new past now rank request rest (Ok Waits) =
@@ -53,9 +53,16 @@ StandsFor history (Ok (Goes master)) = Unit {0}
 StandsFor history (Ok Waits) = Unit {0}
 StandsFor history (Err reason) = Unit {0}
 
+-- the receipt of a request that was served, if it got its reply
+abbrev pub receipts_in : Result Served Refusal → List Receipt
+receipts_in (Ok (Replied receipt)) = receipt ∷ []
+receipts_in (Ok (Goes master)) = []
+receipts_in (Ok Waits) = []
+receipts_in (Err reason) = []
+
 -- the answer of the step that served so
 abbrev pub told_of : Served → Answer
-told_of (Replied receipt) = told receipt
+told_of (Replied receipt) = told_as receipt
 told_of (Goes master) = Forwarded master
 told_of Waits = Deferred
 

@@ -1,27 +1,26 @@
 //! A request is asked, and gets its answer.
-ghost use Rattle.std.specs.Prelude.{◌≡◌, ◌≢◌, ◌+◌, ◌≤◌, IfOk, OnOk, Err};
+ghost use Rattle.std.specs.Prelude.{◌≡◌, ◌≢◌, ◌+◌, ◌≤◌, ◌∷◌, [], length, IfOk, OnOk, Err};
 ghost use Rattle.std.specs.FinMap as map;
 ghost use Rattle.std.specs.Result.{result_err};
 ghost use Rattle.objstore.specs.Objects.{faults_told};
-ghost use Rattle.cluster_core.specs.OneThread.{StandsInHistory};
+ghost use Rattle.cluster_core.specs.OneThread.{InOrder, IsOneThread, StandsInHistory};
 ghost use Rattle.cluster_core.specs.Sound.{IsSoundBook};
 ghost use Rattle.asking.specs.Among.{AsksAmong};
-ghost use Rattle.asking.specs.Ask.{Answers, Asks, Comes, IsAtMaster, NoneWaits, Question};
+ghost use Rattle.asking.specs.Ask.{Answers, AsksAlone, HasCome, IsNewAtMaster, NoneWaits, Question};
 ghost use Rattle.asking.specs.Drain.{waiting_in_all};
-ghost use Rattle.asking.specs.Reached.{IsReached};
+ghost use Rattle.asking.specs.Reached.{IsBroughtBy, LeadsTo, receipt_in};
 
 use crate::drains::drain;
 use crate::grants::grant_all;
-use cluster_core::Receipt;
 use crate::serves::{Served, serve};
-use cluster_core::{Book, Event};
+use cluster_core::{Book, Event, Receipt};
 use mds_types::{Rank, Refusal, Request};
 use objstore::Store;
 use std::alloc::Global;
 
 /// A request comes in at a rank of a book where nothing else waits, and is brought to its answer: it is served there,
 /// or at its master, once each rank has granted what it needs. Never is it told that the request was forwarded or
-/// deferred: it gets the reply that stands in the history.
+/// deferred: it gets the reply that stands in the history. At most twenty steps are made, all of them for this request.
 ///
 /// Refused `NotAuthority` exactly where there is no such rank; `Trimmed` and `NoInodes` where serving it is, and it has
 /// left; `Frozen` where it would change a fragment that is frozen; for want of memory, by the store, and for want of
@@ -33,12 +32,16 @@ pub fn ask<S: Store + Drop>(
     request: Request,
 ) -> Result<Receipt, Refusal>
     requires { NoneWaits book.old.core.state.inboxes }
-    ensures asked { Asks book.old.core book.new.core book.old.history book.new.history rank request result }
+    ensures asked { AsksAlone book.old.core book.new.core book.old.history book.new.history rank request result }
     ensures thawed { book.old.core.state.exports ≡ map.empty → result ≢ Err Refusal.Frozen }
     ensures none { OnOk result (NoneWaits book.new.core.state.inboxes) }
     ensures stands { IfOk result
         (λ receipt. StandsInHistory book.new.history receipt.client receipt.tid receipt.place receipt.reply) }
-    ensures reached { IsReached request.client request.tid (result_err result) book.old book.new }
+    ensures one_thread { IsOneThread book.old.core.state.tree.limit book.old.opening book.old.history book.new.history
+        (request ∷ []) (receipt_in result) }
+    ensures in_order { InOrder (length book.old.history) (receipt_in result) (length book.new.history) }
+    ensures reached { IsBroughtBy request 20 result book.old book.new }
+    ensures limit { book.new.core.state.tree.limit ≡ book.old.core.state.tree.limit }
     ensures opening { book.new.opening ≡ book.old.opening }
     ensures sound { IsSoundBook book.new }
     ensures counted { book.new.core.faults ≡ book.old.core.faults + faults_told (result_err result) }
@@ -62,11 +65,11 @@ fn serve_first<S: Store + Drop>(
     client: u64,
     tid: u64,
 ) -> Result<Receipt, Refusal>
-    requires { (q : Question) × Comes q book.old rank client tid }
-    ensures asked { (q : Question) → Comes q book.old rank client tid → Answers q book.new result }
+    requires { (q : Question) × HasCome q book.old rank client tid }
+    ensures asked { (q : Question) → HasCome q book.old rank client tid → Answers q book.new result }
     ensures stands { IfOk result
         (λ receipt. StandsInHistory book.new.history receipt.client receipt.tid receipt.place receipt.reply) }
-    ensures reached { IsReached client tid (result_err result) book.old book.new }
+    ensures reached { LeadsTo client tid [] 19 (receipt_in result) (result_err result) book.old book.new }
     ensures opening { book.new.opening ≡ book.old.opening }
     ensures sound { IsSoundBook book.new }
     ensures counted { book.new.core.faults ≡ book.old.core.faults + faults_told (result_err result) }
@@ -87,11 +90,11 @@ fn serve_there<S: Store + Drop>(
     client: u64,
     tid: u64,
 ) -> Result<Receipt, Refusal>
-    requires { (q : Question) × Comes q book.old rank client tid × IsAtMaster q rank }
-    ensures asked { (q : Question) → Comes q book.old rank client tid → IsAtMaster q rank → Answers q book.new result }
+    requires { (q : Question) × HasCome q book.old rank client tid × IsNewAtMaster q rank }
+    ensures asked { (q : Question) → HasCome q book.old rank client tid → IsNewAtMaster q rank → Answers q book.new result }
     ensures stands { IfOk result
         (λ receipt. StandsInHistory book.new.history receipt.client receipt.tid receipt.place receipt.reply) }
-    ensures reached { IsReached client tid (result_err result) book.old book.new }
+    ensures reached { LeadsTo client tid [] 18 (receipt_in result) (result_err result) book.old book.new }
     ensures opening { book.new.opening ≡ book.old.opening }
     ensures sound { IsSoundBook book.new }
     ensures counted { book.new.core.faults ≡ book.old.core.faults + faults_told (result_err result) }
@@ -112,11 +115,11 @@ fn serve_granted<S: Store + Drop>(
     client: u64,
     tid: u64,
 ) -> Result<Receipt, Refusal>
-    requires { (q : Question) × Comes q book.old rank client tid × IsAtMaster q rank }
-    ensures asked { (q : Question) → Comes q book.old rank client tid → IsAtMaster q rank → Answers q book.new result }
+    requires { (q : Question) × HasCome q book.old rank client tid × IsNewAtMaster q rank }
+    ensures asked { (q : Question) → HasCome q book.old rank client tid → IsNewAtMaster q rank → Answers q book.new result }
     ensures stands { IfOk result
         (λ receipt. StandsInHistory book.new.history receipt.client receipt.tid receipt.place receipt.reply) }
-    ensures reached { IsReached client tid (result_err result) book.old book.new }
+    ensures reached { LeadsTo client tid [] 17 (receipt_in result) (result_err result) book.old book.new }
     ensures opening { book.new.opening ≡ book.old.opening }
     ensures sound { IsSoundBook book.new }
     ensures counted { book.new.core.faults ≡ book.old.core.faults + faults_told (result_err result) }

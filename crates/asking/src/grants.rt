@@ -1,12 +1,12 @@
 //! Grants of all ranks for one request.
-ghost use Rattle.std.specs.Prelude.{◌≡◌, ◌≢◌, ◌+◌, Some, MatchResult};
+ghost use Rattle.std.specs.Prelude.{◌≡◌, ◌≢◌, ◌+◌, [], Some, MatchResult};
 ghost use Rattle.std.specs.Result.{result_err};
 ghost use Rattle.objstore.specs.Objects.{faults_told};
 ghost use Rattle.mds_types.specs.declared.requests.Request.{Request as Asked};
 ghost use Rattle.inboxes.specs.Inboxes.{first_waiting};
 ghost use Rattle.cluster_core.specs.Sound.{IsSoundBook};
 ghost use Rattle.asking.specs.GrantsAll.{GrantsEach, GrantsOf};
-ghost use Rattle.asking.specs.Reached.{IsReached};
+ghost use Rattle.asking.specs.Reached.{LeadsTo};
 
 use cluster_core::{Book, Event};
 use mds_types::{Rank, Refusal};
@@ -16,7 +16,7 @@ use std::alloc::Global;
 /// Each rank grants a request that waits somewhere all of its fragments that the request would change now: then none
 /// of them is frozen, and whatever rank serves the request may change them. Refused `Frozen` exactly where one of them
 /// is frozen, unless a fragment can't be read first; some grants may have been made then.
-#[tactic(auto, using(crate::proofs::ReachedLaws::reached_itself, crate::proofs::ReachedLaws::reached_then))]
+#[tactic(auto, using(crate::proofs::ReachedLaws::leads_nowhere))]
 pub fn grant_all<S: Store + Drop>(
     alloc: Global,
     book: &mut Book<S>,
@@ -25,7 +25,7 @@ pub fn grant_all<S: Store + Drop>(
 ) -> Result<(), Refusal>
     ensures granted { (request : Asked) → first_waiting client tid book.old.core.state.inboxes ≡ Some request
         → GrantsEach book.old.core book.new.core client tid request.op result }
-    ensures reached { IsReached client tid (result_err result) book.old book.new }
+    ensures reached { LeadsTo client tid [] 16 [] (result_err result) book.old book.new }
     ensures history { book.new.history ≡ book.old.history }
     ensures opening { book.new.opening ≡ book.old.opening }
     ensures sound { IsSoundBook book.new }
@@ -48,7 +48,7 @@ fn grant_own<S: Store + Drop>(
 ) -> Result<(), Refusal>
     ensures granted { (request : Asked) → first_waiting client tid book.old.core.state.inboxes ≡ Some request
         → GrantsOf book.old.core book.new.core rank client tid request.op result }
-    ensures reached { IsReached client tid (result_err result) book.old book.new }
+    ensures reached { LeadsTo client tid [] 1 [] (result_err result) book.old book.new }
     ensures history { book.new.history ≡ book.old.history }
     ensures opening { book.new.opening ≡ book.old.opening }
     ensures sound { IsSoundBook book.new }

@@ -1,15 +1,14 @@
 //! Serving the request at the front of a rank's inbox.
-ghost use Rattle.std.specs.Prelude.{◌≡◌, ◌+◌, ◌∷◌, ℕ, List, Ok, Err};
+ghost use Rattle.std.specs.Prelude.{◌≡◌, ◌+◌, ◌∷◌, [], ℕ, List, Ok, Err};
 ghost use Rattle.std.specs.Result.{result_err};
 ghost use Rattle.objstore.specs.Objects.{faults_told};
 ghost use Rattle.mds_types.specs.declared.requests.Request.{Request as Asked};
 ghost use Rattle.inboxes.specs.Inboxes.{waiting_at};
 ghost use Rattle.cluster_core.specs.Sound.{IsSoundBook};
-ghost use Rattle.asking.specs.Reached.{IsReached};
-ghost use Rattle.asking.specs.Serves.{StandsFor, IsOfServe, ServesTo, SomeWaits, told_of};
+ghost use Rattle.asking.specs.Reached.{LeadsTo};
+ghost use Rattle.asking.specs.Serves.{StandsFor, IsOfServe, ServesTo, SomeWaits, receipts_in, told_of};
 
-use cluster_core::Receipt;
-use cluster_core::{Answer, Book, Event};
+use cluster_core::{Answer, Book, Event, Receipt};
 use mds_types::{Rank, Refusal};
 use objstore::Store;
 use std::alloc::Global;
@@ -35,7 +34,8 @@ pub(crate) fn serve<S: Store + Drop>(
     ensures served { (request : Asked) (rest : List Asked) → waiting_at book.old.core.state.inboxes rank ≡ request ∷ rest
         → ServesTo book.old.core book.new.core book.old.history book.new.history rank request rest result }
     ensures stands { StandsFor book.new.history result }
-    ensures reached { (client tid : ℕ) → IsReached client tid (result_err result) book.old book.new }
+    ensures reached { (client tid : ℕ)
+        → LeadsTo client tid [] 1 (receipts_in result) (result_err result) book.old book.new }
     ensures opening { book.new.opening ≡ book.old.opening }
     ensures sound { IsSoundBook book.new }
     ensures counted { book.new.core.faults ≡ book.old.core.faults + faults_told (result_err result) }

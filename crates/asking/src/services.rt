@@ -1,16 +1,16 @@
 //! A book to ask, and nothing else: whatever was asked, nothing is left waiting.
-ghost use Rattle.std.specs.Prelude.{◌≡◌, ◌≢◌, Err, IfOk, MatchResult};
+ghost use Rattle.std.specs.Prelude.{◌≡◌, ◌≢◌, ◌∷◌, [], length, Err, IfOk, MatchResult};
 ghost use Rattle.std.specs.FinMap as map;
-ghost use Rattle.cluster_core.specs.OneThread.{StandsInHistory};
+ghost use Rattle.cluster_core.specs.OneThread.{InOrder, IsOneThread, StandsInHistory};
 ghost use Rattle.cluster_core.specs.Sound.{IsSoundBook};
 ghost use Rattle.asking.specs.Ask.{NoneWaits};
 ghost use Rattle.asking.specs.Drain.{waiting_in_all};
 ghost use Rattle.asking.specs.Once.{AsksOnce, Leaves};
+ghost use Rattle.asking.specs.Reached.{receipt_in};
 
 use crate::asks::ask;
 use crate::drains::lowest;
-use cluster_core::Receipt;
-use cluster_core::{Book, give_up};
+use cluster_core::{Book, Receipt, give_up};
 use mds_types::{Rank, Refusal, Request};
 use objstore::Store;
 use std::alloc::Global;
@@ -27,14 +27,19 @@ pub fn ask_once<S: Store + Drop>(
     request: Request,
 ) -> Result<Receipt, Refusal>
     requires { NoneWaits book.old.core.state.inboxes }
+    ensures one_thread { IsOneThread book.old.core.state.tree.limit book.old.opening book.old.history book.new.history
+        (request ∷ []) (receipt_in result) }
+    ensures in_order { InOrder (length book.old.history) (receipt_in result) (length book.new.history) }
     ensures asked { AsksOnce book.old.core book.new.core book.old.history book.new.history rank request result }
     ensures thawed { book.old.core.state.exports ≡ map.empty → result ≢ Err Refusal.Frozen }
     ensures none { NoneWaits book.new.core.state.inboxes }
     ensures stands { IfOk result
         (λ receipt. StandsInHistory book.new.history receipt.client receipt.tid receipt.place receipt.reply) }
+    ensures limit { book.new.core.state.tree.limit ≡ book.old.core.state.tree.limit }
     ensures opening { book.new.opening ≡ book.old.opening }
     ensures sound { IsSoundBook book.new }
 {
+    book.is_sound();
     match ask(alloc, book, rank, request) {
         Ok(receipt) => Ok(receipt),
         Err(refusal) => {
@@ -83,11 +88,15 @@ impl<S: Store + Drop> Service<S> {
 
     /// A request comes in at a rank, and gets its answer, or is refused as `ask_once` is: then nothing of it is left.
     pub fn ask(&mut self, alloc: Global, rank: Rank, request: Request) -> Result<Receipt, Refusal>
+        ensures one_thread { IsOneThread self.old.book.core.state.tree.limit self.old.book.opening self.old.book.history
+            self.new.book.history (request ∷ []) (receipt_in result) }
+        ensures in_order { InOrder (length self.old.book.history) (receipt_in result) (length self.new.book.history) }
         ensures asked { AsksOnce self.old.book.core self.new.book.core self.old.book.history self.new.book.history rank
             request result }
         ensures thawed { self.old.book.core.state.exports ≡ map.empty → result ≢ Err Refusal.Frozen }
         ensures stands { IfOk result
             (λ receipt. StandsInHistory self.new.book.history receipt.client receipt.tid receipt.place receipt.reply) }
+        ensures limit { self.new.book.core.state.tree.limit ≡ self.old.book.core.state.tree.limit }
         ensures opening { self.new.book.opening ≡ self.old.book.opening }
     {
         ask_once(alloc, &mut self.book, rank, request)

@@ -1,7 +1,5 @@
 //! The cluster and its events.
-ghost use Rattle.std.specs.Prelude.{◌≡◌, ◌+◌, ◌≤◌, [], List, length, nat_lt, replicate, slice_get, Ok, Err, IfOk, IfErr, OnOk};
-ghost use Rattle.std.specs.Option.{option_copied};
-ghost use Rattle.inboxes.specs.Inboxes.{waiting_at};
+ghost use Rattle.std.specs.Prelude.{◌≡◌, ◌+◌, ◌≤◌, [], List, length, nat_lt, replicate, Ok, Err, IfOk, IfErr, OnOk};
 ghost use Rattle.objstore.specs.Objects.{faults_in, faults_told};
 ghost use Rattle.std.specs.Result.{result_err};
 ghost use Rattle.std.specs.FinMap as map;
@@ -279,13 +277,6 @@ impl<S: Store + Drop> Cluster<S> {
         ensures { result.now.roots ≡ self.now.state.roots }
     {
         self.tree.roots()
-    }
-
-    /// The request at the front of a rank's inbox, to read: that which the rank serves next.
-    pub fn front(&self, rank: Rank) -> Option<&Request>
-        ensures { option_copied result ≡ slice_get (waiting_at self.now.state.inboxes rank) 0 }
-    {
-        self.waiting.inboxes.front(rank)
     }
 
     /// Each rank's hint on each subtree root of another names this rank, be it right or wrong: no answer depends on

@@ -29,6 +29,7 @@ mod restarting;
 mod runs;
 mod serving;
 mod settled;
+mod sights;
 
 pub use books::{Book, format};
 pub use clusters::Cluster;

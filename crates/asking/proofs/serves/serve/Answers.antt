@@ -1,6 +1,7 @@
-use Rattle.asking.proofs.ServeLaws.{is_of_serve, refused, served}
-use Rattle.asking.proofs.Common.{Err, Ok, Serve}
-use Rattle.asking.proofs.ReachedLaws.{reached_by}
+use Rattle.asking.proofs.ServeLaws.{is_of_serve, refused, served, told_so}
+use Rattle.asking.proofs.Common.{Err, Ok, Serve, [], refl}
+use Rattle.asking.specs.Serves.{receipts_in}
+use Rattle.asking.proofs.ReachedLaws.{leads_by}
 use Rattle.asking.proofs.serves.serve.Goals as goal
 
 pub served_by-requires : goal.served_by-requires
@@ -17,8 +18,8 @@ returns-in-Err-clause-served g c request rest waits =
 
 pub returns-in-Ok-clause-reached : goal.returns-in-Ok-clause-reached
 returns-in-Ok-clause-reached g c client tid =
-    reached_by client tid c.args.book.now c.step.new.self (Ok c.in-Ok.answer) (Serve c.args.rank) tt c.in-Ok.ensures.stepped c.in-Ok.ensures.opening c.in-Ok.ensures.sound
+    leads_by client tid c.args.book.now c.step.new.self (Ok c.in-Ok.answer) (Serve c.args.rank) [] (receipts_in (Ok c.served_by.result)) refl (told_so c.in-Ok.answer c.served_by.result c.served_by.ensures) tt c.in-Ok.ensures.stepped c.in-Ok.ensures.opening c.in-Ok.ensures.sound
 
 pub returns-in-Err-clause-reached : goal.returns-in-Err-clause-reached
 returns-in-Err-clause-reached g c client tid =
-    reached_by client tid c.args.book.now c.step.new.self (Err c.in-Err.refusal) (Serve c.args.rank) tt c.in-Err.ensures.stepped c.in-Err.ensures.opening c.in-Err.ensures.sound
+    leads_by client tid c.args.book.now c.step.new.self (Err c.in-Err.refusal) (Serve c.args.rank) [] [] refl refl tt c.in-Err.ensures.stepped c.in-Err.ensures.opening c.in-Err.ensures.sound

@@ -1,0 +1,59 @@
+-- What asking is to whoever sends requests: one plain tree, served by one thread.
+use Rattle.asking.proofs.Common.{Answer, BookState, Entry, Event, IsSoundBook, List, NoneWaits, Refusal, Request, Result, Runs, [], ap, append-nil, inl, inr, arith, length, refl, subst, sym, ℕ, ◌++◌, ◌+◌, ◌∙◌, ◌∷◌, ◌≡◌}
+use Rattle.inboxes.specs.Inboxes.{Inboxes}
+use Rattle.mds_types.specs.History.{IsLegal}
+use Rattle.cluster_core.specs.GivenUp.{GivesUpIn}
+use Rattle.cluster_core.specs.State.{Core}
+use Rattle.cluster_core.specs.OneThread.{IsOneThread, arrivals, receipts_of, waiting_in}
+use Rattle.cluster_core.specs.declared.receipts.Receipt.{Receipt}
+use Rattle.cluster_core.proofs.LimitStays.{limit_stays}
+use Rattle.cluster_core.proofs.OneThreadLaws.{ServesAsOne, run_as_one}
+use Rattle.asking.specs.Once.{Leaves}
+use Rattle.asking.specs.Reached.{IsBroughtBy, receipt_in}
+
+-- where nothing waits there is none of those that wait
+pub none_among : (inboxes : Inboxes) → NoneWaits inboxes → waiting_in inboxes ≡ []
+none_among [] none = refl
+none_among (waiting ∷ others) none =
+    ap (λ (ws : List Request). ws ++ waiting_in others) (none (record { 0 = 0 })) ∙ none_among others (λ rank. none (record { 0 = rank.0 + 1 }))
+
+-- a request that was asked alone
+pub asked_as_one : (old new : BookState) (request : Request) (most : ℕ) (result : Result Receipt Refusal) → NoneWaits old.core.state.inboxes → IsSoundBook new → IsBroughtBy request most result old new
+    → ServesAsOne old new (request ∷ []) (receipt_in result)
+asked_as_one old new request most result none sound by =
+    let its = run_as_one old new by.events by.results by.ran sound in
+    let sent : waiting_in old.core.state.inboxes ++ arrivals by.events ≡ request ∷ [] =
+    ap (λ (ws : List Request). ws ++ arrivals by.events) (none_among old.core.state.inboxes none) ∙ by.brought in
+    subst (λ (rs : List Receipt). ServesAsOne old new (request ∷ []) rs) by.told (subst (λ (ws : List Request). ServesAsOne old new ws (receipts_of by.results)) sent its)
+
+-- one that left nothing was told nothing
+pub refused_as_one : (old new : BookState) (request : Request) → IsSoundBook old → new.history ≡ old.history
+    → IsOneThread old.core.state.tree.limit old.opening old.history new.history (request ∷ []) []
+refused_as_one old new request sound same = record {
+  more = [];
+  grows = same ∙ sym (append-nil old.history);
+  legal = subst (λ (h : List Entry). IsLegal old.core.state.tree.limit old.opening h) (sym same) sound.legal;
+  asked = tt;
+  asked_for = tt;
+  agree = record { stand = record { held = tt; newer = tt; apart = tt }; as_many = (let e = ap length same in omega (arith, e)) };
+}
+
+-- ---- how many entries a directory may have
+
+abbrev limit_of : BookState → ℕ
+limit_of book = book.core.state.tree.limit
+
+limit_through : (start end : BookState) (events : List Event) (results : List (Result Answer Refusal)) → Runs start events results end → limit_of end ≡ limit_of start
+limit_through start end [] [] same = ap (λ (b : BookState). limit_of b) same
+limit_through start end [] (result ∷ results) none = absurd none
+limit_through start end (event ∷ events) [] none = absurd none
+limit_through start end (event ∷ events) (result ∷ results) (next, one, sound, more) =
+    limit_through next end events results more ∙ limit_stays start.history next.history start.core next.core result event one.stepped.does
+
+pub asked_keeps_limit : (old new : BookState) (request : Request) (most : ℕ) (result : Result Receipt Refusal) → IsBroughtBy request most result old new → limit_of new ≡ limit_of old
+asked_keeps_limit old new request most result by = limit_through old new by.events by.results by.ran
+
+pub left_keeps_limit : (old new : BookState) → Leaves old new → limit_of new ≡ limit_of old
+left_keeps_limit old new (inl (idle, same)) = ap (λ (b : BookState). limit_of b) same
+left_keeps_limit old new (inr (found, is, given)) =
+    ap (λ (c : Core). c.state.tree.limit) (subst (GivesUpIn old.core new.core found.rank) is.front given.given)

@@ -1,0 +1,86 @@
+//! What is read of a cluster to see why a step was refused: exports under way, requests that wait, grants, commits that
+//! were begun, cached fragments, and objects that are to be removed. No call takes memory.
+ghost use Rattle.std.specs.Prelude.{◌≡◌, length, slice_get};
+ghost use Rattle.std.specs.Option.{option_copied};
+ghost use Rattle.inboxes.specs.Inboxes.{waiting_at, waiting_in_all};
+
+use crate::clusters::Cluster;
+use dentry_cache::Caches;
+use export_steps::Exports;
+use inboxes::Pin;
+use mdcache::{PurgeList, StandingJobs};
+use mds_types::{Rank, Request};
+use objstore::Store;
+
+impl<S: Store + Drop> Cluster<S> {
+    /// How many ranks there are: they are numbered from 0.
+    pub fn ranks(&self) -> usize
+        ensures { result ≡ length self.now.state.inboxes }
+    {
+        self.waiting.inboxes.ranks()
+    }
+
+    /// The exports that are under way, each with its ranks and its state.
+    pub fn exports(&self) -> &Exports
+        ensures { result.now ≡ self.now.state.exports }
+    {
+        self.tree.exports()
+    }
+
+    /// How many requests wait at all ranks together.
+    pub fn waiting(&self) -> usize
+        ensures { result ≡ waiting_in_all self.now.state.inboxes }
+    {
+        self.waiting.inboxes.waiting_in_all()
+    }
+
+    /// How many requests wait at a rank.
+    pub fn waiting_at(&self, rank: Rank) -> usize
+        ensures { result ≡ length (waiting_at self.now.state.inboxes rank) }
+    {
+        self.waiting.inboxes.waiting(rank)
+    }
+
+    /// The request at the front of a rank's inbox: the one that the rank serves next.
+    pub fn front(&self, rank: Rank) -> Option<&Request>
+        ensures { option_copied result ≡ slice_get (waiting_at self.now.state.inboxes rank) 0 }
+    {
+        self.waiting.inboxes.front(rank)
+    }
+
+    /// The request in a rank's inbox with so many in front of it.
+    pub fn request(&self, rank: Rank, index: usize) -> Option<&Request>
+        ensures { option_copied result ≡ slice_get (waiting_at self.now.state.inboxes rank) index }
+    {
+        self.waiting.inboxes.get(rank, index)
+    }
+
+    /// The grants: each pins a leaf for a request that waits.
+    pub fn grants(&self) -> &[Pin]
+        ensures { result.now ≡ self.now.state.pins }
+    {
+        self.waiting.pins.as_slice()
+    }
+
+    /// The commits that were begun and not ended.
+    pub fn jobs(&self) -> &StandingJobs
+        ensures { result.now.jobs ≡ self.now.state.tree.jobs }
+    {
+        self.tree.jobs()
+    }
+
+    /// The ranks' caches: which fragments a rank caches, in the order in which it used them, and which of them are
+    /// clean.
+    pub fn caches(&self) -> &Caches
+        ensures { result.now ≡ self.now.caches }
+    {
+        self.tree.caches()
+    }
+
+    /// The names of the objects that are to be removed.
+    pub fn purge_list(&self) -> &PurgeList
+        ensures { result.now.names ≡ self.now.state.tree.purge }
+    {
+        self.tree.purge_list()
+    }
+}
