@@ -15,7 +15,8 @@ pub use Rattle.cluster_core.specs.Pins.{HasPin, inherited, own}
 pub use Rattle.cluster_core.specs.Prepared.{IsPrepared, WhyUnprepared}
 pub use Rattle.cluster_core.specs.Proposal.{IsAwayTo, IsFirstAway, IsFirstKindOf, IsFirstStep, IsIdle, IsLarge, IsLeast, IsNextStep, IsOfPinned, IsOwnStep, IsProposable, IsProposal, IsRootAt, Kind, OfExport, OfLarge, OfPin, OfSmall, Proposes, Sight, Would, WouldNot, kinds, lesser_candidate, sight, sight_of}
 pub use Rattle.cluster_core.specs.OneThread.{Agree, InOrder, IsAskedFor, IsHeld, IsOneThread, IsOneThreadThroughout, IsSent, NoneTwice, Stand, StandsInHistory, arrival, arrivals, first_places, receipt_of, receipts_of, waiting_in}
-pub use Rattle.cluster_core.specs.Runs.{AddsAtServe, AddsTo, IsOfHistory, IsRun, Records, Runs, StepsBook}
+pub use Rattle.cluster_core.proofs.Records.{AddsAtServe, AddsTo, IsOfHistory, Records}
+pub use Rattle.cluster_core.specs.Runs.{IsRun, Runs, StepsBook}
 pub use Rattle.cluster_core.specs.Serve.{AppliesRequest, AtFront, CarryLeaves, FollowPlanned, ForwardsTo, HasLeft, IsApplied, IsDeferred, IsForwarded, IsLeft, IsNoted, IsRepeated, IsTakenOut, LeavesRefused, MakesPlanned, RefusesRequest, Repeats, Replies, ServesInbox, ServesRequest, entry_of, number_of, outcome_of, went_with, with_entry, without_gone, without_request}
 pub use Rattle.cluster_core.specs.Settled.{AreSettled, IsAway, IsCalm, IsCalmIn, IsCalmOp, HasSettled, KeepsSettled}
 pub use Rattle.cluster_core.specs.Sound.{AreCached, AreExported, AreRanks, AreSupplied, IsFresh, IsSoundWith, IsSound, IsSoundBook, IsSupplied}

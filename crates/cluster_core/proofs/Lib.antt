@@ -37,6 +37,7 @@ pub mod PinsLaws
 pub mod PlaceLaws
 pub mod ProposalLaws
 pub mod Recorded
+pub mod Records
 pub mod RestartLaws
 pub mod RunLaws
 pub mod SendLaws

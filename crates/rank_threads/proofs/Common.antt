@@ -1,6 +1,5 @@
 -- Names of other crates, and of this one's definitions, as the proofs of this crate take them.
 pub use Rattle.cluster_core.specs.OneThread.{Agree, IsAskedFor, IsOneThread, IsSent, NoneTwice, Stand, arrival, first_places, receipt_of, receipts_of, waiting_in}
-pub use Rattle.cluster_core.specs.Runs.{AddsTo, AppendsOne, Records}
 pub use Rattle.cluster_core.specs.Sound.{IsSoundBook}
 pub use Rattle.cluster_core.specs.State.{BookState}
 pub use Rattle.cluster_core.specs.declared.events.Answer.{Answer}

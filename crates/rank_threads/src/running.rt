@@ -60,7 +60,6 @@ where
     ensures waits { IfOk result (λ o.
         AllByRecursion (Contains (waiting_in book.core.state.inboxes ++ plans_arrivals (lists_of plans.items)))
         (waiting_in o.book.core.state.inboxes)) }
-    ensures agree { IfOk result (λ o. Agree o.book.history (length book.history) o.receipts.items) }
 {
     let blank = Blank::new(plans.len() as u64 + 1);
     let asked = Asked { plans, workers };
