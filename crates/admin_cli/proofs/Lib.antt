@@ -1,4 +1,5 @@
 pub mod Apart
+pub mod Carried
 pub mod Committed
 pub mod Common
 pub mod PathLines

@@ -11,18 +11,18 @@ use Rattle.mds_types.specs.declared.operations.Op.{Op}
 use Rattle.mds_types.specs.declared.requests.Request.{Request}
 use Rattle.std.specs.Prelude.{Contains}
 use Rattle.cluster_core.specs.Flush.{Flushes, KeepsBook}
-use Rattle.cluster_core.specs.OneThread.{InOrder, IsOneThread, arrival, receipt_of}
+use Rattle.cluster_core.specs.OneThread.{IsAskedFor, IsSent, arrival, receipt_of, waiting_in}
 use Rattle.cluster_core.specs.SentBytes.{none_sent}
 use Rattle.cluster_core.specs.Sound.{IsSoundBook}
 use Rattle.cluster_core.specs.State.{State, new_state}
 use Rattle.cluster_core.specs.declared.events.Answer.TheVariants as answer
 use Rattle.cluster_core.specs.declared.events.Event.TheVariants as event
 use Rattle.cluster_core.specs.declared.receipts.Receipt.{Receipt}
-use Rattle.cluster_core.proofs.ListLaws.{all_append, all_back, all_front, each_right}
+use Rattle.cluster_core.proofs.ListLaws.{all_append, all_back, all_front, all_weaker, each_left, each_right}
 use Rattle.mds_types.specs.Tree.{Tree}
 use Rattle.cluster_core.proofs.NoReplyLaws.{TellsNone, tells_none}
 use Rattle.cluster_core.proofs.OneThreadLaws.{Served, as_one, served_none, served_on, served_one, served_same}
-use Rattle.cluster_core.proofs.SentLaws.{AreAmong}
+use Rattle.cluster_core.proofs.SentLaws.{AreAmong, nested}
 use Rattle.script_text.specs.Script.{line_of}
 use Rattle.script_text.specs.Input.{lines_of}
 use Rattle.script_text.specs.declared.commands.Command.TheVariants as command
@@ -39,12 +39,32 @@ use Rattle.admin_cli.specs.Execute.{OperatesAfter, OperatesLine}
 use Rattle.admin_cli.specs.ExportLines.{ExecutesExport}
 use Rattle.admin_cli.specs.OwnLines.{OwnLine}
 use Rattle.admin_cli.specs.Printed.{PrintsOneThread, counted_with, ended_line, is_reply, receipt_line, request_of, requests_of}
-use Rattle.admin_cli.specs.Scripts.{DoesLine}
+use Rattle.admin_cli.specs.Scripts.{Doing, DoesLine}
+use Rattle.admin_cli.specs.Modes.{AsksLine, AsksOperation, AsksRequest, Carries, CarriesStore, IsAsked, SavesLine, SaysSaved, asked_line}
+use Rattle.admin_cli.specs.declared.modes.Mode.{Mode}
+use Rattle.asking.specs.Ask.{NoneWaits}
+use Rattle.asking.specs.Reached.{receipt_in as told_in}
+use Rattle.mds_types.specs.History.{IsLegal}
+use Rattle.std.specs.Prelude.{Bool, MatchBool, false, true}
 use Rattle.admin_cli.specs.StepLines.{DoesEvent, IsStep, arrived_line}
 use Rattle.admin_cli.specs.StoreLines.{BeginsJob, CommitsAfter, CommitsLine, EndsKept, ExecutesStore, begun_line, flushed_line}
 use Rattle.admin_cli.specs.declared.faults.ScriptFault.{ScriptFault}
 use Rattle.admin_cli.specs.declared.faults.FaultKind.TheVariants as fault
 use Rattle.cached_frag.specs.declared.jobs.Job.{Job as Begun}
+use Rattle.keeping.specs.declared.unkept.Unkept.TheVariants as no
+
+-- ---- requests
+
+-- where nothing waits all that waits is among any requests
+idle_among : (sent : List Request) (inboxes : List (List Request)) → NoneWaits inboxes → AreAmong sent inboxes
+idle_among sent [] none = tt
+idle_among sent (waiting ∷ others) none =
+    (subst (λ (ws : List Request). AllByRecursion (Contains sent) ws) (sym (none (record { 0 = 0 }))) tt, idle_among sent others (λ rank. none (record { 0 = rank.0 + 1 })))
+
+-- one of one request is it
+of_one : (sent : List Request) (request one : Request) → Contains sent request → Contains (request ∷ []) one → Contains sent one
+of_one sent request one has (zero, below, is) = subst (Contains sent) is has
+of_one sent request one has (suc n, below, is) = absurd (omega (arith, below))
 
 -- ---- lines
 
@@ -62,6 +82,11 @@ line_replies out.Deferred = refl
 line_replies out.Queued = refl
 line_replies out.Nothing = refl
 line_replies out.Flushed = refl
+line_replies (out.Unsaved no.NoMemory) = refl
+line_replies (out.Unsaved no.Full) = refl
+line_replies (out.Unsaved no.Io) = refl
+line_replies (out.Unsaved no.Corrupt) = refl
+line_replies (out.Unsaved no.Shut) = refl
 line_replies (out.Frags leaves) = refl
 line_replies (out.Subtrees roots) = refl
 line_replies (out.Authority rank) = refl
@@ -290,12 +315,6 @@ module _ (sent : List Request) where
     served = did.served;
   }
 
-  did_line : (old new : Admin) (found : Line) (text : List ℕ) → IsReady old → AllByRecursion (Contains sent) (request_of old.operations found) → DoesLine old new found text → Did old new text
-  did_line old new line.Nothing text ready has (same, none) = did_none old new text ready same none
-  did_line old new (line.Command command) text ready has (shown, did, is) = did_one old new text shown is (executes old new command shown ready has did)
-  did_line old new (line.BadWord errno) text ready has (same, is) = did_one old new text (out.Errno errno) is (only_read old new (out.Errno errno) ready same refl)
-  did_line old new line.NotCommand text ready has h = absurd h
-
 -- ---- how many operations alone were read
 
 no_more : (old new : Admin) → new ≡ old → new.operations ≡ old.operations
@@ -375,17 +394,138 @@ command_count old new (command.Authority dir f) printed (same, tells) = no_more 
 command_count old new (command.Export command) printed h = export_count old new command printed h
 command_count old new (command.Store command) printed h = store_count old new command printed h
 
-line_count : (old new : Admin) (found : Line) (text : List ℕ) → DoesLine old new found text → new.operations ≡ counted_with old.operations found
-line_count old new line.Nothing text (same, none) = no_more old new same
-line_count old new (line.Command command) text (shown, did, is) = command_count old new command shown did
-line_count old new (line.BadWord errno) text (same, is) = no_more old new same
-line_count old new line.NotCommand text h = absurd h
+-- ---- commands
+
+-- what commands do is what one thread tells, and each operation alone counts
+pub record AreAsOne (Does : Doing) : Type 1 where
+  pub serves : (sent : List Request) (old new : Admin) (c : Command) (printed : OutputLine) → IsReady sent old → AllByRecursion (Contains sent) (request_of old.operations (line.Command c)) → Does old new c printed → DidLine sent old new printed
+  pub counts : (old new : Admin) (c : Command) (printed : OutputLine) → Does old new c printed → new.operations ≡ counted_with old.operations (line.Command c)
+
+pub executes_as_one : AreAsOne Executes
+executes_as_one = record { serves = executes; counts = command_count }
+
+-- a request that is brought to its answer
+module _ (sent : List Request) where
+  asked_receipt : (result : Result Receipt Refusal) → receipt_in (asked_line result) ≡ told_in result
+  asked_receipt (Ok receipt) = refl
+  asked_receipt (Err refusal) = refl
+
+  asks : (old new : Admin) (rank : Rank) (request : Request) (printed : OutputLine) → IsReady sent old → Contains sent request → AsksLine old.book new.book rank request printed → DidLine sent old new printed
+  asks old new rank request printed ready has h = go h.asked
+    where
+      go : IsAsked old.book new.book rank request h.result → DidLine sent old new printed
+      go (inl once) =
+          let one = once.one in
+          as_told sent old new printed (told_in h.result) (ap receipt_in h.shown ∙ asked_receipt h.result) once.sound (record {
+            opening = once.same_opening;
+            limit = once.same_limit;
+            waits = idle_among sent new.book.core.state.inboxes once.idle;
+            more = one.more;
+            grows = one.grows;
+            asked = all_weaker (IsSent (request ∷ [])) (IsSent sent) (λ e is. of_one sent request _ has is) one.more one.asked;
+            asked_for = all_weaker (IsAskedFor (request ∷ [])) (IsAskedFor sent) (λ r is. (is.0, of_one sent request is.0 has is.1, is.2, is.3)) (told_in h.result) one.asked_for;
+            held = one.agree.stand.held;
+            in_order = once.in_order;
+          })
+      go (inr (waits, is, same)) =
+          as_told sent old new printed [] (ap receipt_in h.shown ∙ (ap (λ (r : Result Receipt Refusal). receipt_in (asked_line r)) is)) (subst IsSoundBook (sym same) ready.0) (served_same sent old.book new.book same ready.1)
+
+-- a flush that is kept
+saved_silent : (result : Result (Unit {0}) Refusal) (printed : OutputLine) → SaysSaved result printed → receipt_in printed ≡ []
+saved_silent (Ok done) printed (inl is) = ap receipt_in is
+saved_silent (Ok done) printed (inr (why, is)) = ap receipt_in is
+saved_silent (Err refusal) printed is = ap receipt_in is
+
+saves : (sent : List Request) (old new : Admin) (printed : OutputLine) → IsReady sent old → SavesLine old new printed → DidLine sent old new printed
+saves sent old new printed ready h = as_told sent old new printed [] (saved_silent h.result printed h.shown) h.flushed.sound (flushed sent old.book new.book h.result ready.1 h.flushed.outcome)
+
+either_way : {P : Type 0} (b : Bool) (A B : Type 0) → (A → P) → (B → P) → MatchBool b A B → P
+either_way true A B f g h = f h
+either_way false A B f g h = g h
+
+carries_store : (mode : Mode) (sent : List Request) (old new : Admin) (c : StoreCommand) (printed : OutputLine) → IsReady sent old → CarriesStore mode old new c printed → DidLine sent old new printed
+carries_store mode sent old new (store.CommitBegin rank dir f) printed ready h = executes_store sent old new (store.CommitBegin rank dir f) printed ready h
+carries_store mode sent old new (store.CommitEnd number) printed ready h = executes_store sent old new (store.CommitEnd number) printed ready h
+carries_store mode sent old new (store.CommitDrop number) printed ready h = executes_store sent old new (store.CommitDrop number) printed ready h
+carries_store mode sent old new (store.Commit rank dir f) printed ready h = executes_store sent old new (store.Commit rank dir f) printed ready h
+carries_store mode sent old new (store.CommitTree dir) printed ready h = executes_store sent old new (store.CommitTree dir) printed ready h
+carries_store mode sent old new store.Purge printed ready h = executes_store sent old new store.Purge printed ready h
+carries_store mode sent old new store.Flush printed ready h =
+    either_way mode.keeps (SavesLine old new printed) (Executes old new (command.Store store.Flush) printed) (saves sent old new printed ready) (executes_store sent old new store.Flush printed ready) h
+carries_store mode sent old new (store.Evict rank) printed ready h = executes_store sent old new (store.Evict rank) printed ready h
+carries_store mode sent old new (store.Object name) printed ready h = executes_store sent old new (store.Object name) printed ready h
+carries_store mode sent old new store.Objects printed ready h = executes_store sent old new store.Objects printed ready h
+
+carries : (mode : Mode) (sent : List Request) (old new : Admin) (c : Command) (printed : OutputLine) → IsReady sent old → AllByRecursion (Contains sent) (request_of old.operations (line.Command c)) → Carries mode old new c printed → DidLine sent old new printed
+carries mode sent old new (command.Operation op) printed ready has h =
+    either_way mode.asks (AsksOperation old new op printed) (Executes old new (command.Operation op) printed)
+    (λ w. asks sent old new (record { 0 = 0 }) (record { client = 0; tid = old.operations + 1; oldest = old.operations + 1; op = op }) printed ready has.0 w.3)
+    (executes sent old new (command.Operation op) printed ready has) h
+carries mode sent old new (command.Request rank request) printed ready has h =
+    either_way mode.asks (AsksRequest old new rank request printed) (Executes old new (command.Request rank request) printed)
+    (λ w. asks sent old new rank request printed ready has.0 w.3) (executes sent old new (command.Request rank request) printed ready has) h
+carries mode sent old new (command.Store c) printed ready has h = carries_store mode sent old new c printed ready h
+carries mode sent old new (command.Serve rank) printed ready has h = executes sent old new (command.Serve rank) printed ready has h
+carries mode sent old new (command.Own rank) printed ready has h = executes sent old new (command.Own rank) printed ready has h
+carries mode sent old new command.History printed ready has h = executes sent old new command.History printed ready has h
+carries mode sent old new (command.Split rank dir f nb) printed ready has h = executes sent old new (command.Split rank dir f nb) printed ready has h
+carries mode sent old new (command.Merge rank dir f) printed ready has h = executes sent old new (command.Merge rank dir f) printed ready has h
+carries mode sent old new (command.Leaves dir) printed ready has h = executes sent old new (command.Leaves dir) printed ready has h
+carries mode sent old new (command.Grant rank client tid) printed ready has h = executes sent old new (command.Grant rank client tid) printed ready has h
+carries mode sent old new command.Subtrees printed ready has h = executes sent old new command.Subtrees printed ready has h
+carries mode sent old new (command.Authority dir f) printed ready has h = executes sent old new (command.Authority dir f) printed ready has h
+carries mode sent old new (command.Export c) printed ready has h = executes sent old new (command.Export c) printed ready has h
+
+carried_store : (mode : Mode) (old new : Admin) (c : StoreCommand) (printed : OutputLine) → CarriesStore mode old new c printed → new.operations ≡ old.operations
+carried_store mode old new (store.CommitBegin rank dir f) printed h = store_count old new (store.CommitBegin rank dir f) printed h
+carried_store mode old new (store.CommitEnd number) printed h = store_count old new (store.CommitEnd number) printed h
+carried_store mode old new (store.CommitDrop number) printed h = store_count old new (store.CommitDrop number) printed h
+carried_store mode old new (store.Commit rank dir f) printed h = store_count old new (store.Commit rank dir f) printed h
+carried_store mode old new (store.CommitTree dir) printed h = store_count old new (store.CommitTree dir) printed h
+carried_store mode old new store.Purge printed h = store_count old new store.Purge printed h
+carried_store mode old new store.Flush printed h =
+    either_way mode.keeps (SavesLine old new printed) (Executes old new (command.Store store.Flush) printed) (λ w. w.count) (store_count old new store.Flush printed) h
+carried_store mode old new (store.Evict rank) printed h = store_count old new (store.Evict rank) printed h
+carried_store mode old new (store.Object name) printed h = store_count old new (store.Object name) printed h
+carried_store mode old new store.Objects printed h = store_count old new store.Objects printed h
+
+carried : (mode : Mode) (old new : Admin) (c : Command) (printed : OutputLine) → Carries mode old new c printed → new.operations ≡ counted_with old.operations (line.Command c)
+carried mode old new (command.Operation op) printed h =
+    either_way mode.asks (AsksOperation old new op printed) (Executes old new (command.Operation op) printed) (λ w. w.0) (command_count old new (command.Operation op) printed) h
+carried mode old new (command.Request rank request) printed h =
+    either_way mode.asks (AsksRequest old new rank request printed) (Executes old new (command.Request rank request) printed) (λ w. w.0) (command_count old new (command.Request rank request) printed) h
+carried mode old new (command.Store c) printed h = carried_store mode old new c printed h
+carried mode old new (command.Serve rank) printed h = command_count old new (command.Serve rank) printed h
+carried mode old new (command.Own rank) printed h = command_count old new (command.Own rank) printed h
+carried mode old new command.History printed h = command_count old new command.History printed h
+carried mode old new (command.Split rank dir f nb) printed h = command_count old new (command.Split rank dir f nb) printed h
+carried mode old new (command.Merge rank dir f) printed h = command_count old new (command.Merge rank dir f) printed h
+carried mode old new (command.Leaves dir) printed h = command_count old new (command.Leaves dir) printed h
+carried mode old new (command.Grant rank client tid) printed h = command_count old new (command.Grant rank client tid) printed h
+carried mode old new command.Subtrees printed h = command_count old new command.Subtrees printed h
+carried mode old new (command.Authority dir f) printed h = command_count old new (command.Authority dir f) printed h
+carried mode old new (command.Export c) printed h = command_count old new (command.Export c) printed h
+
+pub carries_as_one : (mode : Mode) → AreAsOne (Carries mode)
+carries_as_one mode = record { serves = carries mode; counts = carried mode }
 
 -- ---- lines of a script
 
-module _ (sent : List Request) where
-  did_on : (old middle new : Admin) (first rest : List ℕ) → Did sent old middle first → Did sent middle new rest → Did sent old new (first ++ rest)
-  did_on old middle new first rest h k = record {
+module _ (Does : Doing) (one_of : AreAsOne Does) where
+  line_count : (old new : Admin) (found : Line) (text : List ℕ) → DoesLine Does old new found text → new.operations ≡ counted_with old.operations found
+  line_count old new line.Nothing text (same, none) = no_more old new same
+  line_count old new (line.Command c) text (shown, did, is) = one_of.counts old new c shown did
+  line_count old new (line.BadWord errno) text (same, is) = no_more old new same
+  line_count old new line.NotCommand text h = absurd h
+
+  did_line : (sent : List Request) (old new : Admin) (found : Line) (text : List ℕ) → IsReady sent old → AllByRecursion (Contains sent) (request_of old.operations found) → DoesLine Does old new found text → Did sent old new text
+  did_line sent old new line.Nothing text ready has (same, none) = did_none sent old new text ready same none
+  did_line sent old new (line.Command c) text ready has (shown, did, is) = did_one sent old new text shown is (one_of.serves sent old new c shown ready has did)
+  did_line sent old new (line.BadWord errno) text ready has (same, is) = did_one sent old new text (out.Errno errno) is (only_read sent old new (out.Errno errno) ready same refl)
+  did_line sent old new line.NotCommand text ready has h = absurd h
+
+  did_on : (sent : List Request) (old middle new : Admin) (first rest : List ℕ) → Did sent old middle first → Did sent middle new rest → Did sent old new (first ++ rest)
+  did_on sent old middle new first rest h k = record {
     sound = k.sound;
     told = h.told ++ k.told;
     printed = h.printed ++ k.printed;
@@ -394,15 +534,15 @@ module _ (sent : List Request) where
     served = served_on sent old.book middle.book new.book h.told k.told h.served k.served;
   }
 
-  did_lines : (old new : Admin) (lines : List (List ℕ)) (text : List ℕ) → IsReady sent old → AllByRecursion (Contains sent) (requests_of old.operations lines) → RunsLines old new lines text → Did sent old new text
-  did_lines old new [] text ready has (same, none) = did_none sent old new text ready same none
-  did_lines old new (bytes ∷ lines) text ready has (middle, first, rest, one, others, whole) =
+  did_lines : (sent : List Request) (old new : Admin) (lines : List (List ℕ)) (text : List ℕ) → IsReady sent old → AllByRecursion (Contains sent) (requests_of old.operations lines) → RunsLines Does old new lines text → Did sent old new text
+  did_lines sent old new [] text ready has (same, none) = did_none sent old new text ready same none
+  did_lines sent old new (bytes ∷ lines) text ready has (middle, first, rest, one, others, whole) =
       let found = line_of bytes in
       let rest_of = requests_of (counted_with old.operations found) lines in
       let here = did_line sent old middle found first ready (all_front (Contains sent) (request_of old.operations found) rest_of has) one.does in
       let left : AllByRecursion (Contains sent) rest_of = all_back (Contains sent) (request_of old.operations found) rest_of has in
-      let then = did_lines middle new lines rest (here.sound, here.served.waits) (subst (λ (n : ℕ). AllByRecursion (Contains sent) (requests_of n lines)) (sym (line_count old middle found first one.does)) left) others in
-      subst (λ (t : List ℕ). Did sent old new t) (sym whole) (did_on old middle new first rest here then)
+      let then = did_lines sent middle new lines rest (here.sound, here.served.waits) (subst (λ (n : ℕ). AllByRecursion (Contains sent) (requests_of n lines)) (sym (line_count old middle found first one.does)) left) others in
+      subst (λ (t : List ℕ). Did sent old new t) (sym whole) (did_on sent old middle new first rest here then)
 
 -- the lines before others make the requests that all make, first
 requests_front : (sent : List Request) (count : ℕ) (done left : List (List ℕ)) → AllByRecursion (Contains sent) (requests_of count (done ++ left)) → AllByRecursion (Contains sent) (requests_of count done)
@@ -416,57 +556,47 @@ requests_front sent count (bytes ∷ done) left h =
 
 -- ---- a whole script
 
-none_waits : (ranks : ℕ) (sent : List Request) → AreAmong sent (replicate ranks [])
-none_waits zero sent = tt
-none_waits (suc ranks) sent = (tt, none_waits ranks sent)
-
-broken_at : (old : Admin) (left : List (List ℕ)) (number : ℕ) (kind : FaultKind) (front : List ℕ) (result : Result (Unit {0}) ScriptFault) → result ≡ Err (record { line = number; kind = kind }) → StopsBefore old left kind front
+broken_at : (Does : Doing) (old : Admin) (left : List (List ℕ)) (number : ℕ) (kind : FaultKind) (front : List ℕ) (result : Result (Unit {0}) ScriptFault) → result ≡ Err (record { line = number; kind = kind }) → StopsBefore Does old left kind front
     → (front ≡ []) ⊎ ((n : ℕ) × (result ≡ Err (record { line = n; kind = fault.WriteFault })))
-broken_at old [] number fault.NotCommand front result is h = absurd h
-broken_at old (bytes ∷ left) number fault.NotCommand front result is h = inl h.1.2
-broken_at old left number fault.TooLong front result is h = inl h.1
-broken_at old left number fault.ReadFault front result is h = inl h
-broken_at old left number fault.WriteFault front result is h = inr (number, is)
-broken_at old [] number fault.OutOfMemory front result is h = absurd h
-broken_at old (bytes ∷ left) number fault.OutOfMemory front result is h = inl h.1.2
+broken_at Does old [] number fault.NotCommand front result is h = absurd h
+broken_at Does old (bytes ∷ left) number fault.NotCommand front result is h = inl h.1.2
+broken_at Does old left number fault.TooLong front result is h = inl h.1
+broken_at Does old left number fault.ReadFault front result is h = inl h
+broken_at Does old left number fault.WriteFault front result is h = inr (number, is)
+broken_at Does old [] number fault.OutOfMemory front result is h = absurd h
+broken_at Does old (bytes ∷ left) number fault.OutOfMemory front result is h = inl h.1.2
 
-broken_of : (old : Admin) (done : ℕ) (left : List (List ℕ)) (result : Result (Unit {0}) ScriptFault) (front : List ℕ) → EndsScript old done left result front
+broken_of : (Does : Doing) (old : Admin) (done : ℕ) (left : List (List ℕ)) (result : Result (Unit {0}) ScriptFault) (front : List ℕ) → EndsScript Does old done left result front
     → (front ≡ []) ⊎ ((n : ℕ) × (result ≡ Err (record { line = n; kind = fault.WriteFault })))
-broken_of old done left (Ok all) front h = inl h.1
-broken_of old done left (Err stopped) front h = broken_at old left stopped.line stopped.kind front (Err stopped) refl h.1
+broken_of Does old done left (Ok all) front h = inl h.1
+broken_of Does old done left (Err stopped) front h = broken_at Does old left stopped.line stopped.kind front (Err stopped) refl h.1
 
--- a script that ran from a new book
-prints_run : (ranks cache limit : ℕ) (known before after : Option (List ℕ)) (result : Result (Unit {0}) ScriptFault) (book : BookState) (admin : Admin) → IsFormatted ranks cache limit book → admin.book ≡ book → admin.operations ≡ 0
-    → RunsInput admin known before after result → PrintsOneThread limit known before after result
-prints_run ranks cache limit known before after result book admin formatted same none input =
+-- a script that ran over a book
+prints_run : (Does : Doing) → AreAsOne Does → (known before after : Option (List ℕ)) (result : Result (Unit {0}) ScriptFault) (admin : Admin) → IsSoundBook admin.book → admin.operations ≡ 0 → RunsInput Does admin known before after result
+    → PrintsOneThread admin.book.core.state.tree.limit admin.book.opening admin.book.history (waiting_in admin.book.core.state.inboxes) known before after result
+prints_run Does one_of known before after result admin sound none input =
     let script = input.script in
-    let sent = requests_of 0 input.lines in
     let start : BookState = admin.book in
-    let state : start.core.state ≡ new_state ranks limit = ap (λ (k : BookState). k.core.state) same ∙ formatted.state in
-    let opening : start.opening ≡ finite.empty = ap (λ (k : BookState). k.opening) same ∙ formatted.opening in
-    let history : start.history ≡ [] = ap (λ (k : BookState). k.history) same ∙ formatted.history in
-    let among : AreAmong sent start.core.state.inboxes = subst (λ (s : State). AreAmong sent s.inboxes) (sym state) (none_waits ranks sent) in
-    let ready : IsReady sent admin = (subst IsSoundBook (sym same) formatted.sound, among) in
-    let all : AllByRecursion (Contains sent) (requests_of 0 (script.done ++ script.left)) = subst (λ (ls : List (List ℕ)). AllByRecursion (Contains sent) (requests_of 0 ls)) script.whole (each_right [] sent) in
+    let waiting = waiting_in start.core.state.inboxes in
+    let made = requests_of 0 input.lines in
+    let sent = waiting ++ made in
+    let among : AreAmong sent start.core.state.inboxes = nested sent start.core.state.inboxes (each_left waiting made) in
+    let all : AllByRecursion (Contains sent) (requests_of 0 (script.done ++ script.left)) = subst (λ (ls : List (List ℕ)). AllByRecursion (Contains sent) (requests_of 0 ls)) script.whole (each_right waiting made) in
     let asked : AllByRecursion (Contains sent) (requests_of admin.operations script.done) = subst (λ (n : ℕ). AllByRecursion (Contains sent) (requests_of n script.done)) (sym none) (requests_front sent 0 script.done script.left all) in
-    let did = did_lines sent admin script.new script.done script.text ready asked script.runs in
+    let did = did_lines Does one_of sent admin script.new script.done script.text (sound, among) asked script.runs in
     let its = as_one start script.new.book sent did.told did.sound did.served in
-    let limited : start.core.state.tree.limit ≡ limit = ap (λ (s : State). s.tree.limit) state in
     record {
       lines = input.lines;
       read = input.read;
       printed = did.printed;
       front = script.front;
       written = subst (λ (t : List ℕ). Appends before after (t ++ script.front)) did.whole script.written;
-      broken = broken_of script.new (length script.done) script.left result script.front script.ended;
+      broken = broken_of Does script.new (length script.done) script.left result script.front script.ended;
       told = did.told;
       replies = did.replies;
       history = script.new.book.history;
-      one =
-          subst (λ (n : ℕ). IsOneThread n finite.empty [] script.new.book.history sent did.told) limited
-          (subst (λ (t : Tree). IsOneThread start.core.state.tree.limit t [] script.new.book.history sent did.told) opening
-          (subst (λ (es : List Entry). IsOneThread start.core.state.tree.limit start.opening es script.new.book.history sent did.told) history its.one));
-      in_order = subst (λ (es : List Entry). InOrder (length es) did.told (length script.new.book.history)) history its.in_order;
+      one = its.one;
+      in_order = its.in_order;
     }
 
 -- ---- one that didn't start
@@ -485,8 +615,9 @@ kept_appends None after h = tt
 kept_appends (Some xs) None h = absurd h
 kept_appends (Some xs) (Some ys) h = h ∙ sym (append-nil xs)
 
-prints_none : (limit : ℕ) (known before after : Option (List ℕ)) (result : Result (Unit {0}) ScriptFault) → Keeps before after → PrintsOneThread limit known before after result
-prints_none limit known before after result same = record {
+prints_none : (limit : ℕ) (opening : Tree) (past : List Entry) (waited : List Request) (known before after : Option (List ℕ)) (result : Result (Unit {0}) ScriptFault) → IsLegal limit opening past → Keeps before after
+    → PrintsOneThread limit opening past waited known before after result
+prints_none limit opening past waited known before after result legal same = record {
   lines = lines_in known;
   read = lines_read known;
   printed = [];
@@ -495,11 +626,11 @@ prints_none limit known before after result same = record {
   broken = inl refl;
   told = [];
   replies = refl;
-  history = [];
+  history = past;
   one = record {
     more = [];
-    grows = refl;
-    legal = λ k e below. absurd (omega (arith, below));
+    grows = sym (append-nil past);
+    legal = legal;
     asked = tt;
     asked_for = tt;
     agree = record { stand = record { held = tt; newer = tt; apart = tt }; as_many = omega arith };
@@ -511,11 +642,32 @@ keeps_itself : (before : Option (List ℕ)) → Keeps before before
 keeps_itself None = tt
 keeps_itself (Some xs) = refl
 
-pub prints_nothing : (limit : ℕ) (known before : Option (List ℕ)) (result : Result (Unit {0}) ScriptFault) → PrintsOneThread limit known before before result
-prints_nothing limit known before result = prints_none limit known before before result (keeps_itself before)
+nothing_legal : (limit : ℕ) → IsLegal limit finite.empty []
+nothing_legal limit = λ k e below. absurd (omega (arith, below))
 
--- what a script from a new book prints is what one thread tells
-pub prints_new : (ranks cache limit : ℕ) (known before after : Option (List ℕ)) (result : Result (Unit {0}) ScriptFault) → RunsNew ranks cache limit known before after result → PrintsOneThread limit known before after result
-prints_new ranks cache limit known before after result (inl h) =
-    prints_run ranks cache limit known before after result h.book (record { book = h.book; operations = 0; jobs = finite.empty; sent = none_sent }) h.formatted refl refl h.runs
-prints_new ranks cache limit known before after result (inr h) = prints_none limit known before after result h.same
+pub prints_nothing : (limit : ℕ) (known before : Option (List ℕ)) (result : Result (Unit {0}) ScriptFault) → PrintsOneThread limit finite.empty [] [] known before before result
+prints_nothing limit known before result = prints_none limit finite.empty [] [] known before before result (nothing_legal limit) (keeps_itself before)
+
+-- what a script prints over a book is what one thread tells
+pub prints_over : (Does : Doing) → AreAsOne Does → (book : BookState) → IsSoundBook book → (known before after : Option (List ℕ)) (result : Result (Unit {0}) ScriptFault)
+    → RunsOrNot Does (record { book = book; operations = 0; jobs = finite.empty; sent = none_sent }) known before after result
+    → PrintsOneThread book.core.state.tree.limit book.opening book.history (waiting_in book.core.state.inboxes) known before after result
+prints_over Does one_of book sound known before after result (inl runs) =
+    prints_run Does one_of known before after result (record { book = book; operations = 0; jobs = finite.empty; sent = none_sent }) sound refl runs
+prints_over Does one_of book sound known before after result (inr never) =
+    prints_none book.core.state.tree.limit book.opening book.history (waiting_in book.core.state.inboxes) known before after result sound.legal never.same
+
+none_wait : (ranks : ℕ) → waiting_in (replicate ranks []) ≡ []
+none_wait zero = refl
+none_wait (suc ranks) = none_wait ranks
+
+-- so it is over a new book
+pub prints_new : (ranks cache limit : ℕ) (known before after : Option (List ℕ)) (result : Result (Unit {0}) ScriptFault) (book : BookState) → IsFormatted ranks cache limit book
+    → PrintsOneThread book.core.state.tree.limit book.opening book.history (waiting_in book.core.state.inboxes) known before after result → PrintsOneThread limit finite.empty [] [] known before after result
+prints_new ranks cache limit known before after result book formatted h =
+    let limited : book.core.state.tree.limit ≡ limit = ap (λ (s : State). s.tree.limit) formatted.state in
+    let waits : waiting_in book.core.state.inboxes ≡ [] = ap (λ (s : State). waiting_in s.inboxes) formatted.state ∙ none_wait ranks in
+    subst (λ (n : ℕ). PrintsOneThread n finite.empty [] [] known before after result) limited
+    (subst (λ (t : Tree). PrintsOneThread book.core.state.tree.limit t [] [] known before after result) formatted.opening
+    (subst (λ (es : List Entry). PrintsOneThread book.core.state.tree.limit book.opening es [] known before after result) formatted.history
+    (subst (λ (ws : List Request). PrintsOneThread book.core.state.tree.limit book.opening book.history ws known before after result) waits h)))

@@ -4,6 +4,7 @@ pub mod ExportLines
 pub mod FaultText
 pub mod Jobs
 pub mod Loads
+pub mod Modes
 pub mod OneLine
 pub mod OwnLines
 pub mod Printed

@@ -9,14 +9,14 @@ use Rattle.admin_cli.specs.declared.commands.Admin.{Admin}
 use Rattle.admin_cli.specs.declared.faults.ScriptFault.{ScriptFault}
 use Rattle.admin_cli.specs.declared.faults.FaultKind.{FaultKind}
 use Rattle.admin_cli.specs.declared.faults.FaultKind.TheVariants.{NotCommand, TooLong, ReadFault, WriteFault, OutOfMemory}
-use Rattle.admin_cli.specs.Scripts.{text_of, DoesLine, LacksLine, NeverStarts, RunsInput, RunsLine, StopsAt}
+use Rattle.admin_cli.specs.Scripts.{Doing, text_of, DoesLine, LacksLine, NeverStarts, RunsInput, RunsLine, StopsAt}
 
 -- a line before it is printed: the line to print, if it prints one, that it is no command, or want of memory for what
 -- is kept of it
-abbrev pub AnswersLine : (old new : Admin) → Line → Result (Option OutputLine) FaultKind → Type 0
-AnswersLine old new found (Ok None) = DoesLine old new found []
-AnswersLine old new found (Ok (Some printed)) = DoesLine old new found (text_of printed)
-AnswersLine old new found (Err kind) =
+abbrev pub AnswersLine : (Does : Doing) → (old new : Admin) → Line → Result (Option OutputLine) FaultKind → Type 0
+AnswersLine Does old new found (Ok None) = DoesLine Does old new found []
+AnswersLine Does old new found (Ok (Some printed)) = DoesLine Does old new found (text_of printed)
+AnswersLine Does old new found (Err kind) =
     ((found ≡ line.NotCommand) × (kind ≡ NotCommand)) ⊎ (LacksLine old new found × (kind ≡ OutOfMemory))
 
 -- what is written of a line: all its text, for want of memory for one that takes some nothing, and at a write fault a
@@ -30,10 +30,10 @@ Prints before after printed (Err TooLong) = ⊥
 Prints before after printed (Err ReadFault) = ⊥
 
 -- one line that was read: its text is that of what it prints; or why it ends the script
-abbrev pub DoesBytes : (old new : Admin) → List ℕ → Result (Option OutputLine) FaultKind → Type 0
-DoesBytes old new bytes (Ok None) = RunsLine old new bytes []
-DoesBytes old new bytes (Ok (Some printed)) = RunsLine old new bytes (text_of printed)
-DoesBytes old new bytes (Err kind) = StopsAt old new bytes kind []
+abbrev pub DoesBytes : (Does : Doing) → (old new : Admin) → List ℕ → Result (Option OutputLine) FaultKind → Type 0
+DoesBytes Does old new bytes (Ok None) = RunsLine Does old new bytes []
+DoesBytes Does old new bytes (Ok (Some printed)) = RunsLine Does old new bytes (text_of printed)
+DoesBytes Does old new bytes (Err kind) = StopsAt Does old new bytes kind []
 
 -- a script that ended with a read fault: its reader has failed, or its lines were more than 64 bits count
 abbrev pub HasReaderFailed : Bool → Result (Unit {0}) ScriptFault → Type 0
@@ -41,5 +41,5 @@ HasReaderFailed failed result =
     IfErr result (λ fault. fault.kind ≡ ReadFault → (failed ≡ true) ⊎ (fault.line ≡ 2 ^ 64 - 1))
 
 -- lines were run after all memory for reading was taken; or none was
-abbrev pub RunsOrNot : Admin → (known before after : Option (List ℕ)) → Result (Unit {0}) ScriptFault → Type 0
-RunsOrNot old known before after result = RunsInput old known before after result ⊎ NeverStarts before after result
+abbrev pub RunsOrNot : (Does : Doing) → Admin → (known before after : Option (List ℕ)) → Result (Unit {0}) ScriptFault → Type 0
+RunsOrNot Does old known before after result = RunsInput Does old known before after result ⊎ NeverStarts before after result

@@ -1,8 +1,8 @@
 -- What a script prints, in words of one plain tree served by one thread.
 use Rattle.std.specs.Prelude.{◌≡◌, ◌⊎◌, ◌+◌, ◌++◌, ◌∷◌, [], ℕ, nat_eq, Bool, List, filter, flat_map, length, map, codes, Option, IfSome, Result, Err}
 use Rattle.std.specs.List.{starts_with}
-use Rattle.std.specs.FinMap as finite
 use Rattle.std.specs.Io.KnownBytes.{Appends}
+use Rattle.mds_types.specs.Tree.{Tree}
 use Rattle.mds_types.specs.declared.entries.Entry.{Entry}
 use Rattle.mds_types.specs.declared.requests.Request.{Request}
 use Rattle.cluster_core.specs.declared.receipts.Receipt.{Receipt}
@@ -46,11 +46,12 @@ is_reply text = starts_with nat_eq text (codes "reply ")
 abbrev pub ended_line : List ℕ → List ℕ
 ended_line text = text ++ codes "\n"
 
--- what is written of a script of these lines, from a new book: whole lines, with a beginning of the next one at a write
--- fault. Of those lines the ones that begin with `reply ` are, in their order, the replies of one thread that serves one
--- plain tree, empty at first, the requests that the script's lines make
-pub record PrintsOneThread (limit : ℕ) (known before after : Option (List ℕ))
-    (result : Result (Unit {0}) ScriptFault) : Type 0 where
+-- what is written of a script of these lines over a book that opened with this tree, had this history, and in which these
+-- requests waited: whole lines, with a beginning of the next one at a write fault. Of those lines the ones that begin with
+-- `reply ` are, in their order, the replies of one thread that serves one plain tree those requests and the ones that the
+-- script's lines make
+pub record PrintsOneThread (limit : ℕ) (opening : Tree) (past : List Entry) (waited : List Request)
+    (known before after : Option (List ℕ)) (result : Result (Unit {0}) ScriptFault) : Type 0 where
   pub lines : List (List ℕ)
   pub read : IfSome known (λ bytes. lines ≡ lines_of bytes)
   pub printed : List (List ℕ)
@@ -60,5 +61,5 @@ pub record PrintsOneThread (limit : ℕ) (known before after : Option (List ℕ)
   pub told : List Receipt
   pub replies : filter is_reply printed ≡ map receipt_line told
   pub history : List Entry
-  pub one : IsOneThread limit finite.empty [] history (requests_of 0 lines) told
-  pub in_order : InOrder 0 told (length history)
+  pub one : IsOneThread limit opening past history (waited ++ requests_of 0 lines) told
+  pub in_order : InOrder (length past) told (length history)

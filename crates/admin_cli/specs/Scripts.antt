@@ -4,6 +4,7 @@ use Rattle.std.specs.Io.KnownBytes.{Appends, Keeps}
 use Rattle.std.specs.FinMap as map
 use Rattle.cluster_core.specs.Sound.{IsSoundBook}
 use Rattle.cluster_core.specs.State.{BookState, new_caches, new_state}
+use Rattle.script_text.specs.declared.commands.Command.{Command}
 use Rattle.script_text.specs.declared.lines.Line.{Line}
 use Rattle.script_text.specs.declared.lines.Line.TheVariants as line
 use Rattle.script_output.specs.declared.lines.OutputLine.{OutputLine}
@@ -17,38 +18,42 @@ use Rattle.admin_cli.specs.declared.commands.Admin.{Admin}
 use Rattle.admin_cli.specs.declared.faults.ScriptFault.{ScriptFault}
 use Rattle.admin_cli.specs.declared.faults.FaultKind.{FaultKind}
 use Rattle.admin_cli.specs.declared.faults.FaultKind.TheVariants.{NotCommand, TooLong, ReadFault, WriteFault, OutOfMemory}
-use Rattle.admin_cli.specs.Execute.{Executes, LacksForCommand}
+use Rattle.admin_cli.specs.Execute.{LacksForCommand}
 
 -- a printed line with its LF
 abbrev pub text_of : OutputLine → List ℕ
 text_of line = output_line line ++ codes "\n"
 
+-- what a command does, with the line that it prints: as the script's own (`Executes`), or as an option has it
+abbrev pub Doing : Type 1
+Doing = (old new : Admin) → Command → OutputLine → Type 0
+
 -- what one line does, and its text, by what the line is: nothing, a command, or one with a name outside the rules, of
 -- which no request is made
-abbrev pub DoesLine : (old new : Admin) → Line → List ℕ → Type 0
-DoesLine old new line.Nothing text = (new ≡ old) × (text ≡ [])
-DoesLine old new (line.Command command) text =
-    (printed : OutputLine) × Executes old new command printed × (text ≡ text_of printed)
-DoesLine old new (line.BadWord errno) text = (new ≡ old) × (text ≡ text_of (Errno errno))
-DoesLine old new line.NotCommand text = ⊥
+abbrev pub DoesLine : (Does : Doing) → (old new : Admin) → Line → List ℕ → Type 0
+DoesLine Does old new line.Nothing text = (new ≡ old) × (text ≡ [])
+DoesLine Does old new (line.Command command) text =
+    (printed : OutputLine) × Does old new command printed × (text ≡ text_of printed)
+DoesLine Does old new (line.BadWord errno) text = (new ≡ old) × (text ≡ text_of (Errno errno))
+DoesLine Does old new line.NotCommand text = ⊥
 
 -- one line of these bytes was done: it isn't too long, and did what its bytes ask for
-pub record RunsLine (old new : Admin) (bytes text : List ℕ) : Type 0 where
+pub record RunsLine (Does : Doing) (old new : Admin) (bytes text : List ℕ) : Type 0 where
   pub short : length bytes ≤ 16384
-  pub does : DoesLine old new (line_of bytes) text
+  pub does : DoesLine Does old new (line_of bytes) text
 
 -- lines were done one after the other, each on the book that the one before it left; the text is all of theirs
-abbrev pub RunsLines : (old new : Admin) → List (List ℕ) → List ℕ → Type 0
-RunsLines old new [] text = (new ≡ old) × (text ≡ [])
-RunsLines old new (bytes ∷ lines) text =
-    (middle : Admin) × (first : List ℕ) × (rest : List ℕ) × RunsLine old middle bytes first
-    × RunsLines middle new lines rest × (text ≡ first ++ rest)
+abbrev pub RunsLines : (Does : Doing) → (old new : Admin) → List (List ℕ) → List ℕ → Type 0
+RunsLines Does old new [] text = (new ≡ old) × (text ≡ [])
+RunsLines Does old new (bytes ∷ lines) text =
+    (middle : Admin) × (first : List ℕ) × (rest : List ℕ) × RunsLine Does old middle bytes first
+    × RunsLines Does middle new lines rest × (text ≡ first ++ rest)
 
 -- a line was done, but of its text only a beginning was written, and not all of it
-pub record BreaksOff (old : Admin) (bytes front : List ℕ) : Type 0 where
+pub record BreaksOff (Does : Doing) (old : Admin) (bytes front : List ℕ) : Type 0 where
   pub new : Admin
   pub text : List ℕ
-  pub runs : RunsLine old new bytes text
+  pub runs : RunsLine Does old new bytes text
   pub rest : List ℕ
   pub left : 0 < length rest
   pub whole : text ≡ front ++ rest
@@ -66,60 +71,60 @@ LacksLine old new (line.BadWord errno) = ⊥
 LacksLine old new line.NotCommand = ⊥
 
 -- a line was done, and there was no memory for the text that it prints
-pub record LacksText (old new : Admin) (bytes : List ℕ) : Type 0 where
+pub record LacksText (Does : Doing) (old new : Admin) (bytes : List ℕ) : Type 0 where
   pub printed : OutputLine
-  pub runs : RunsLine old new bytes (text_of printed)
+  pub runs : RunsLine Does old new bytes (text_of printed)
   pub takes : TakesText printed
 
 -- memory that the script itself needs for a line was refused: to read it, which leaves all, for what its command keeps
 -- or lists, or for its text
-abbrev pub LacksMemory : (old new : Admin) → List ℕ → Type 0
-LacksMemory old new bytes =
-    (TakesMemory bytes × (new ≡ old)) ⊎ (LacksLine old new (line_of bytes) ⊎ LacksText old new bytes)
+abbrev pub LacksMemory : (Does : Doing) → (old new : Admin) → List ℕ → Type 0
+LacksMemory Does old new bytes =
+    (TakesMemory bytes × (new ≡ old)) ⊎ (LacksLine old new (line_of bytes) ⊎ LacksText Does old new bytes)
 
 -- why a line that was read ends a script, and the beginning of its text that was written: only a write fault leaves
 -- one. What it is never told as is a fault of the reader, or as too long
-abbrev pub StopsAt : (old new : Admin) → List ℕ → FaultKind → List ℕ → Type 0
-StopsAt old new bytes NotCommand front = (length bytes ≤ 16384) × (line_of bytes ≡ line.NotCommand) × (front ≡ [])
-StopsAt old new bytes TooLong front = ⊥
-StopsAt old new bytes ReadFault front = ⊥
-StopsAt old new bytes WriteFault front = BreaksOff old bytes front
-StopsAt old new bytes OutOfMemory front = (length bytes ≤ 16384) × LacksMemory old new bytes × (front ≡ [])
+abbrev pub StopsAt : (Does : Doing) → (old new : Admin) → List ℕ → FaultKind → List ℕ → Type 0
+StopsAt Does old new bytes NotCommand front = (length bytes ≤ 16384) × (line_of bytes ≡ line.NotCommand) × (front ≡ [])
+StopsAt Does old new bytes TooLong front = ⊥
+StopsAt Does old new bytes ReadFault front = ⊥
+StopsAt Does old new bytes WriteFault front = BreaksOff Does old bytes front
+StopsAt Does old new bytes OutOfMemory front = (length bytes ≤ 16384) × LacksMemory Does old new bytes × (front ≡ [])
 
 -- why a script ends before these lines: at the first of them, which is too long before all else; or the reader failed
-abbrev pub StopsBefore : Admin → List (List ℕ) → FaultKind → List ℕ → Type 0
-StopsBefore old lines NotCommand front = OfFirst (λ bytes. (new : Admin) × StopsAt old new bytes NotCommand front) lines
-StopsBefore old lines TooLong front = OfFirst (λ bytes. 16384 < length bytes) lines × (front ≡ [])
-StopsBefore old lines ReadFault front = front ≡ []
-StopsBefore old lines WriteFault front = OfFirst (λ bytes. (new : Admin) × StopsAt old new bytes WriteFault front) lines
-StopsBefore old lines OutOfMemory front =
-    OfFirst (λ bytes. (new : Admin) × StopsAt old new bytes OutOfMemory front) lines
+abbrev pub StopsBefore : (Does : Doing) → Admin → List (List ℕ) → FaultKind → List ℕ → Type 0
+StopsBefore Does old lines NotCommand front = OfFirst (λ bytes. (new : Admin) × StopsAt Does old new bytes NotCommand front) lines
+StopsBefore Does old lines TooLong front = OfFirst (λ bytes. 16384 < length bytes) lines × (front ≡ [])
+StopsBefore Does old lines ReadFault front = front ≡ []
+StopsBefore Does old lines WriteFault front = OfFirst (λ bytes. (new : Admin) × StopsAt Does old new bytes WriteFault front) lines
+StopsBefore Does old lines OutOfMemory front =
+    OfFirst (λ bytes. (new : Admin) × StopsAt Does old new bytes OutOfMemory front) lines
 
 -- how a script ended after so many lines: Ok where none is left, else a fault at the next one, all lines counted from 1
-abbrev pub EndsScript : Admin → ℕ → List (List ℕ) → Result (Unit {0}) ScriptFault → List ℕ → Type 0
-EndsScript old done left (Ok all) front = (left ≡ []) × (front ≡ [])
-EndsScript old done left (Err fault) front = (fault.line ≡ done + 1) × StopsBefore old left fault.kind front
+abbrev pub EndsScript : (Does : Doing) → Admin → ℕ → List (List ℕ) → Result (Unit {0}) ScriptFault → List ℕ → Type 0
+EndsScript Does old done left (Ok all) front = (left ≡ []) × (front ≡ [])
+EndsScript Does old done left (Err fault) front = (fault.line ≡ done + 1) × StopsBefore Does old left fault.kind front
 
 -- a script of these lines: those before its end were done, and what was written is their text, with a beginning of the
 -- next line's at a write fault
-pub record RunsScript (old : Admin) (lines : List (List ℕ)) (before after : Option (List ℕ))
+pub record RunsScript (Does : Doing) (old : Admin) (lines : List (List ℕ)) (before after : Option (List ℕ))
     (result : Result (Unit {0}) ScriptFault) : Type 0 where
   pub done : List (List ℕ)
   pub left : List (List ℕ)
   pub whole : lines ≡ done ++ left
   pub new : Admin
   pub text : List ℕ
-  pub runs : RunsLines old new done text
+  pub runs : RunsLines Does old new done text
   pub front : List ℕ
-  pub ended : EndsScript new (length done) left result front
+  pub ended : EndsScript Does new (length done) left result front
   pub written : Appends before after (text ++ front)
 
 -- a script read from a reader: its lines are those of the bytes that the reader has left, where these are known
-pub record RunsInput (old : Admin) (known before after : Option (List ℕ))
+pub record RunsInput (Does : Doing) (old : Admin) (known before after : Option (List ℕ))
     (result : Result (Unit {0}) ScriptFault) : Type 0 where
   pub lines : List (List ℕ)
   pub read : IfSome known (λ bytes. lines ≡ lines_of bytes)
-  pub script : RunsScript old lines before after result
+  pub script : RunsScript Does old lines before after result
 
 -- a book as `format` makes it with so many ranks, a cache of so many places for each, and so many entries that a
 -- directory may have: a sound book with an empty tree, an empty history, the state of a new cluster, and its caches,
@@ -133,11 +138,11 @@ pub record IsFormatted (ranks cache limit : ℕ) (book : BookState) : Type 0 whe
   pub faults : book.core.faults ≡ 0
 
 -- a whole script, from a new book, with no line read yet
-pub record RunsFormatted (ranks cache limit : ℕ) (known before after : Option (List ℕ))
+pub record RunsFormatted (Does : Doing) (ranks cache limit : ℕ) (known before after : Option (List ℕ))
     (result : Result (Unit {0}) ScriptFault) : Type 0 where
   pub book : BookState
   pub formatted : IsFormatted ranks cache limit book
-  pub runs : RunsInput (record {
+  pub runs : RunsInput Does (record {
     book =
         book;
     operations = 0;
@@ -150,7 +155,7 @@ pub record NeverStarts (before after : Option (List ℕ)) (result : Result (Unit
   pub told : result ≡ Err (record { line = 1; kind = OutOfMemory })
   pub same : Keeps before after
 
-abbrev pub RunsNew : (ranks cache limit : ℕ) → (known before after : Option (List ℕ)) → Result (Unit {0}) ScriptFault
+abbrev pub RunsNew : (Does : Doing) → (ranks cache limit : ℕ) → (known before after : Option (List ℕ)) → Result (Unit {0}) ScriptFault
     → Type 0
-RunsNew ranks cache limit known before after result =
-    RunsFormatted ranks cache limit known before after result ⊎ NeverStarts before after result
+RunsNew Does ranks cache limit known before after result =
+    RunsFormatted Does ranks cache limit known before after result ⊎ NeverStarts before after result

@@ -9,7 +9,7 @@ use Rattle.admin_cli.specs.declared.faults.FaultKind.TheVariants.{OutOfMemory, W
 use Rattle.admin_cli.specs.declared.waiting.Mark.{Mark}
 use Rattle.admin_cli.specs.declared.waiting.Waiting.{Waiting}
 use Rattle.admin_cli.specs.OneLine.{Prints}
-use Rattle.admin_cli.specs.Scripts.{RunsInput, text_of}
+use Rattle.admin_cli.specs.Scripts.{Doing, RunsInput, text_of}
 
 -- the script's line whose text has the byte at a place, by where the text of each line ends; 0, if none has it
 abbrev pub line_at : List Mark → ℕ → ℕ
@@ -95,9 +95,9 @@ PrintsCame (Ok printed) old new line before after result = PrintsOutput old new 
 PrintsCame (Err refused) old new line before after result = StopsUnprinted old new line OutOfMemory before after result
 
 -- a script ended so; what waits is to be written, or a beginning of it, and then it is the whole script that did
-pub record RunsWaiting (old : Admin) (waiting : Waiting) (known before middle : Option (List ℕ))
+pub record RunsWaiting (Does : Doing) (old : Admin) (waiting : Waiting) (known before middle : Option (List ℕ))
     (result : Result (Unit {0}) ScriptFault) : Type 0 where
   pub whole : (after : Option (List ℕ)) → Appends middle after waiting.bytes.items
-      → RunsInput old known before after result
+      → RunsInput Does old known before after result
   pub broken : (after : Option (List ℕ)) (fault : ScriptFault) → Breaks waiting middle after fault
-      → RunsInput old known before after (Err fault)
+      → RunsInput Does old known before after (Err fault)

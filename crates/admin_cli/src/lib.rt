@@ -3,12 +3,15 @@
 #![tactic(auto)]
 
 mod authorities;
+mod carrying;
 mod command_line;
 mod commands;
 mod exporting;
 mod faults;
 mod kept_jobs;
+mod modes;
 mod own_turns;
+mod saving;
 mod script;
 mod serving;
 mod store_commands;
@@ -18,6 +21,8 @@ mod workload;
 pub use command_line::{Options, settings};
 pub use faults::{FaultKind, ScriptFault};
 pub use mds_types::Limit;
-pub use script::run_script;
+pub use modes::Mode;
+pub use saving::{Unsaved, save_book};
+pub use script::{Ran, run_new, run_over, run_script};
 pub use serving::serve;
 pub use workload::{Load, ServeFault, run_serve, run_watched};

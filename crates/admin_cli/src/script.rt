@@ -1,9 +1,12 @@
 //! Running a script.
-ghost use Rattle.std.specs.Prelude.{◌≡◌, ◌+◌, ◌<◌, ◌≤◌, ◌^◌, length, IfSome};
+ghost use Rattle.std.specs.Prelude.{◌≡◌, ◌+◌, ◌<◌, ◌≤◌, ◌^◌, [], false, length, true, IfSome};
 ghost use Rattle.std.specs.FinMap as map;
 ghost use Rattle.cluster_core.specs.SentBytes.{none_sent};
 ghost use Rattle.script_text.specs.declared.commands.Command.TheVariants.{Operation};
 ghost use Rattle.script_text.specs.declared.lines.Line.TheVariants as asked;
+ghost use Rattle.cluster_core.specs.OneThread.{waiting_in};
+ghost use Rattle.admin_cli.specs.Execute.{Executes};
+ghost use Rattle.admin_cli.specs.Modes.{Carries};
 ghost use Rattle.admin_cli.specs.Printed.{PrintsOneThread};
 ghost use Rattle.admin_cli.specs.Scripts.{IsFormatted, RunsInput, RunsNew};
 ghost use Rattle.admin_cli.specs.OneLine.{AnswersLine, DoesBytes, HasReaderFailed, Prints, RunsOrNot};
@@ -11,8 +14,10 @@ ghost use Rattle.admin_cli.specs.Waiting.{IsEmpty, PrintsApart, PrintsCame, Prin
 
 use crate::commands::{Admin, shown_line};
 use crate::faults::{FaultKind, ScriptFault};
+use crate::modes::Mode;
 use crate::waiting::Waiting;
 use cluster_core::{Book, format};
+use keeping::Keep;
 use mds_types::{Limit, Op};
 use objstore::MemStore;
 use script_output::{OutputFault, OutputLine, write_line};
@@ -43,12 +48,39 @@ pub fn run_script<H: AllocGlobal + Threads + Sync, R: Read + Drop, W: Write>(
     requires few { ranks ≤ 16 }
     requires least { 512 ≤ cache }
     requires most { cache ≤ 65536 }
-    ensures one_thread { PrintsOneThread limit (R.remaining reader) (W.contents writer.old) (W.contents writer.new) result }
-    ensures ran { RunsNew ranks cache limit (R.remaining reader) (W.contents writer.old) (W.contents writer.new) result }
+    ensures one_thread { PrintsOneThread limit map.empty [] [] (R.remaining reader) (W.contents writer.old)
+        (W.contents writer.new) result }
+    ensures ran { RunsNew Executes ranks cache limit (R.remaining reader) (W.contents writer.old) (W.contents writer.new)
+        result }
 {
-    let alloc = rt.alloc();
-    match new_book(alloc, ranks, cache, limit) {
-        Some(book) => run_book(rt, reader, writer, book),
+    run_new(rt, reader, writer, ranks, cache, limit, PLAIN)
+}
+
+/// Runs a script as `run_script` does, under these options.
+pub fn run_new<H: AllocGlobal + Threads + Sync, R: Read + Drop, W: Write>(
+    rt: &H,
+    reader: R,
+    writer: &mut W,
+    ranks: u8,
+    cache: u32,
+    limit: Limit,
+    mode: Mode,
+) -> Result<(), ScriptFault>
+    requires one { 1 ≤ ranks }
+    requires few { ranks ≤ 16 }
+    requires least { 512 ≤ cache }
+    requires most { cache ≤ 65536 }
+    ensures one_thread { PrintsOneThread limit map.empty [] [] (R.remaining reader) (W.contents writer.old)
+        (W.contents writer.new) result }
+    ensures ran { RunsNew (Carries mode) ranks cache limit (R.remaining reader) (W.contents writer.old)
+        (W.contents writer.new) result }
+{
+    match new_book(rt.alloc(), ranks, cache, limit) {
+        Some(book) => {
+            let Ran { book, ended } = run_over(rt, reader, writer, book, mode);
+            drop(book);
+            ended
+        }
         // (dropped by name, as what has many parts is: docs/PROVING.md)
         none => {
             drop(none);
@@ -56,6 +88,44 @@ pub fn run_script<H: AllocGlobal + Threads + Sync, R: Read + Drop, W: Write>(
         }
     }
 }
+
+/// A script that has ended, and the book that it left.
+#[derive(Drop)]
+pub struct Ran<S: Keep + Drop> {
+    pub book: Book<S>,
+    pub ended: Result<(), ScriptFault>,
+}
+
+/// Runs a script over a book, as `run_script` does over a new one, under these options: whether a request is brought to
+/// its answer by its own line, and whether a flush is kept in the store's file. The lines that begin with `reply ` are the
+/// replies of one thread, to the requests that waited in the book and those that the lines make.
+pub fn run_over<H: AllocGlobal + Threads + Sync, R: Read + Drop, W: Write, S: Keep + Drop>(
+    rt: &H,
+    reader: R,
+    writer: &mut W,
+    book: Book<S>,
+    mode: Mode,
+) -> Ran<S>
+    ensures one_thread { PrintsOneThread book.core.state.tree.limit book.opening book.history
+        (waiting_in book.core.state.inboxes) (R.remaining reader) (W.contents writer.old) (W.contents writer.new)
+        result.ended }
+    ensures ran { RunsOrNot (Carries mode) (record { book = book; operations = 0; jobs = map.empty; sent = none_sent })
+        (R.remaining reader) (W.contents writer.old) (W.contents writer.new) result.ended }
+{
+    book.is_sound();
+    let mut admin = Admin::new(rt.alloc(), book);
+    let ended = run_input(rt, reader, writer, &mut admin, mode);
+    Ran {
+        book: admin.into_book(),
+        ended,
+    }
+}
+
+// A script that is run as it is written.
+const PLAIN: Mode = Mode {
+    asks: false,
+    keeps: false,
+};
 
 // A book over a new store; nothing where memory for it is refused.
 fn new_book(alloc: Global, ranks: u8, cache: u32, limit: Limit) -> Option<Book<MemStore>>
@@ -71,31 +141,17 @@ fn new_book(alloc: Global, ranks: u8, cache: u32, limit: Limit) -> Option<Book<M
     }
 }
 
-// Runs the lines of a reader over a book, with no line read yet.
-fn run_book<R: Read + Drop, W: Write>(
-    rt: &(impl AllocGlobal + Threads + Sync),
-    reader: R,
-    writer: &mut W,
-    book: Book<MemStore>,
-) -> Result<(), ScriptFault>
-    ensures { RunsOrNot (record { book = book; operations = 0; jobs = map.empty; sent = none_sent })
-        (R.remaining reader) (W.contents writer.old) (W.contents writer.new) result }
-{
-    let mut admin = Admin::new(rt.alloc(), book);
-    let ended = run_input(rt, reader, writer, &mut admin);
-    drop(admin);
-    ended
-}
-
 // Takes the memory that reading needs, and runs the lines of a reader.
-fn run_input<R: Read + Drop, W: Write>(
+fn run_input<R: Read + Drop, W: Write, S: Keep + Drop>(
     rt: &(impl AllocGlobal + Threads + Sync),
     reader: R,
     writer: &mut W,
-    admin: &mut Admin,
+    admin: &mut Admin<S>,
+    mode: Mode,
 ) -> Result<(), ScriptFault>
     requires { admin.old.operations ≡ 0 }
-    ensures { RunsOrNot admin.old (R.remaining reader) (W.contents writer.old) (W.contents writer.new) result }
+    ensures { RunsOrNot (Carries mode) admin.old (R.remaining reader) (W.contents writer.old) (W.contents writer.new)
+        result }
 {
     let alloc = rt.alloc();
     let Ok(mut buffer) = LineBuffer::new(alloc) else {
@@ -107,7 +163,15 @@ fn run_input<R: Read + Drop, W: Write>(
     let Ok(mut reader) = BufReader::new(alloc, reader) else {
         return Err(NO_MEMORY_AT_START);
     };
-    let ended = run_lines(rt, &mut reader, &mut buffer, &mut waiting, writer, admin);
+    let ended = run_lines(
+        rt,
+        &mut reader,
+        &mut buffer,
+        &mut waiting,
+        writer,
+        admin,
+        mode,
+    );
     waiting.flush(writer)?;
     ended
 }
@@ -132,17 +196,18 @@ impl<R: Read> ReadAhead for BufReader<R> {
 
 // Runs the lines of a reader, one after the other. What they print waits to be written together, but not while the
 // reader waits for more. More lines than 64 bits count are a read fault.
-fn run_lines<R: ReadAhead, W: Write>(
+fn run_lines<R: ReadAhead, W: Write, S: Keep + Drop>(
     rt: &(impl AllocGlobal + Threads + Sync),
     reader: &mut R,
     buffer: &mut LineBuffer,
     waiting: &mut Waiting,
     writer: &mut W,
-    admin: &mut Admin,
+    admin: &mut Admin<S>,
+    mode: Mode,
 ) -> Result<(), ScriptFault>
     requires first { admin.old.operations ≡ 0 }
     requires empty { IsEmpty waiting.old }
-    ensures runs { RunsWaiting admin.old waiting.new (R.remaining reader.old)
+    ensures runs { RunsWaiting (Carries mode) admin.old waiting.new (R.remaining reader.old)
         (W.contents writer.old) (W.contents writer.new) result }
     ensures failed { HasReaderFailed buffer.new.failed result }
 {
@@ -162,7 +227,7 @@ fn run_lines<R: ReadAhead, W: Write>(
                 kind: FaultKind::ReadFault,
             }),
         }
-        if let Err(fault) = run_line(rt, line, buffer.as_bytes(), admin, waiting, writer) {
+        if let Err(fault) = run_line(rt, line, buffer.as_bytes(), admin, mode, waiting, writer) {
             return Err(fault);
         }
     }
@@ -173,40 +238,48 @@ fn run_lines<R: ReadAhead, W: Write>(
 }
 
 // Runs the line of this number, and puts what it prints behind what waits.
-fn run_line<W: Write>(
+fn run_line<W: Write, S: Keep + Drop>(
     rt: &(impl AllocGlobal + Threads + Sync),
     line: u64,
     bytes: &[u8],
-    admin: &mut Admin,
+    admin: &mut Admin<S>,
+    mode: Mode,
     waiting: &mut Waiting,
     writer: &mut W,
 ) -> Result<(), ScriptFault>
     requires room { admin.old.operations + 1 < 2 ^ 64 }
     requires short { length bytes.now ≤ 16384 }
     ensures count { admin.new.operations ≤ admin.old.operations + 1 }
-    ensures runs { PrintsOf (DoesBytes admin.old admin.new bytes.now) waiting.old waiting.new line
+    ensures runs { PrintsOf (DoesBytes (Carries mode) admin.old admin.new bytes.now) waiting.old waiting.new line
         (W.contents writer.old) (W.contents writer.new) result }
 {
     match read_operation_line(rt.alloc(), bytes) {
-        Ok(op) => do_operation(rt.alloc(), line, op, admin, waiting, writer),
-        Err(ReadError::Fault(_)) => run_other(rt, line, bytes, admin, waiting, writer),
+        Ok(op) => {
+            if mode.asks {
+                return ask_operation(rt.alloc(), line, op, admin, mode, waiting, writer);
+            }
+            do_operation(rt.alloc(), line, op, admin, mode, waiting, writer)
+        }
+        Err(ReadError::Fault(_)) => run_other(rt, line, bytes, admin, mode, waiting, writer),
         Err(ReadError::NoMemory) => Err(at(line, FaultKind::OutOfMemory)),
     }
 }
 
 // Makes an operation alone, as most lines ask for, and puts what it prints behind what waits.
 #[inline(always)]
-fn do_operation<W: Write>(
+fn do_operation<W: Write, S: Keep + Drop>(
     alloc: Global,
     line: u64,
     op: Op,
-    admin: &mut Admin,
+    admin: &mut Admin<S>,
+    mode: Mode,
     waiting: &mut Waiting,
     writer: &mut W,
 ) -> Result<(), ScriptFault>
-    requires { admin.old.operations + 1 < 2 ^ 64 }
+    requires count { admin.old.operations + 1 < 2 ^ 64 }
+    requires plain { mode.asks ≡ false }
     ensures count { admin.new.operations ≤ admin.old.operations + 1 }
-    ensures prints { PrintsOf (AnswersLine admin.old admin.new (asked.Command (Operation op))) waiting.old waiting.new line
+    ensures prints { PrintsOf (AnswersLine (Carries mode) admin.old admin.new (asked.Command (Operation op))) waiting.old waiting.new line
         (W.contents writer.old) (W.contents writer.new) result }
 {
     let came = admin.operate(alloc, op);
@@ -220,40 +293,65 @@ fn do_operation<W: Write>(
     printed
 }
 
+// Brings an operation alone to its answer, and puts what it prints behind what waits.
+#[inline(never)]
+fn ask_operation<W: Write, S: Keep + Drop>(
+    alloc: Global,
+    line: u64,
+    op: Op,
+    admin: &mut Admin<S>,
+    mode: Mode,
+    waiting: &mut Waiting,
+    writer: &mut W,
+) -> Result<(), ScriptFault>
+    requires count { admin.old.operations + 1 < 2 ^ 64 }
+    requires asks { mode.asks ≡ true }
+    ensures count { admin.new.operations ≤ admin.old.operations + 1 }
+    ensures prints { PrintsOf (AnswersLine (Carries mode) admin.old admin.new (asked.Command (Operation op))) waiting.old
+        waiting.new line (W.contents writer.old) (W.contents writer.new) result }
+{
+    let shown = admin.ask_operation(alloc, op);
+    let printed = print(alloc, line, &shown, waiting, writer);
+    drop(shown);
+    printed
+}
+
 // Runs a line that asks for no operation alone.
 #[inline(never)]
-fn run_other<W: Write>(
+fn run_other<W: Write, S: Keep + Drop>(
     rt: &(impl AllocGlobal + Threads + Sync),
     line: u64,
     bytes: &[u8],
-    admin: &mut Admin,
+    admin: &mut Admin<S>,
+    mode: Mode,
     waiting: &mut Waiting,
     writer: &mut W,
 ) -> Result<(), ScriptFault>
     requires room { admin.old.operations + 1 < 2 ^ 64 }
     requires short { length bytes.now ≤ 16384 }
     ensures count { admin.new.operations ≤ admin.old.operations + 1 }
-    ensures runs { PrintsOf (DoesBytes admin.old admin.new bytes.now) waiting.old waiting.new line
+    ensures runs { PrintsOf (DoesBytes (Carries mode) admin.old admin.new bytes.now) waiting.old waiting.new line
         (W.contents writer.old) (W.contents writer.new) result }
 {
     let Ok(found) = read_line(rt.alloc(), bytes) else {
         return Err(at(line, FaultKind::OutOfMemory));
     };
-    do_line(rt, line, found, admin, waiting, writer)
+    do_line(rt, line, found, admin, mode, waiting, writer)
 }
 
 // Does what a line asks for, and puts what it prints behind what waits.
-fn do_line<W: Write>(
+fn do_line<W: Write, S: Keep + Drop>(
     rt: &(impl AllocGlobal + Threads + Sync),
     line: u64,
     found: Line,
-    admin: &mut Admin,
+    admin: &mut Admin<S>,
+    mode: Mode,
     waiting: &mut Waiting,
     writer: &mut W,
 ) -> Result<(), ScriptFault>
     requires { admin.old.operations + 1 < 2 ^ 64 }
     ensures count { admin.new.operations ≤ admin.old.operations + 1 }
-    ensures prints { PrintsOf (AnswersLine admin.old admin.new found) waiting.old waiting.new line
+    ensures prints { PrintsOf (AnswersLine (Carries mode) admin.old admin.new found) waiting.old waiting.new line
         (W.contents writer.old) (W.contents writer.new) result }
 {
     match found {
@@ -266,7 +364,7 @@ fn do_line<W: Write>(
             printed
         }
         Line::Command(command) => {
-            let came = admin.execute(rt, command);
+            let came = admin.carry(rt, mode, command);
             let printed = print_came(rt.alloc(), line, &came, waiting, writer);
             drop(came);
             printed

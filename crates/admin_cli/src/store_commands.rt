@@ -1,11 +1,14 @@
 //! Commands on the store: commits, fragment trees, the purge list, flushes, eviction, and looks at objects.
-ghost use Rattle.std.specs.Prelude.{◌≡◌, ℕ, IfOk, List, OnErr, Option, Result};
-ghost use Rattle.admin_cli.specs.StoreLines.{BeginsJob, BeginsLine, CommitsLine, CopiesNone, EndsJob, EndsLine, ExecutesStore, FlushesLine, LacksForCommit, LacksForStore, ListsObjects, LooksLine, LosesJob, begun_line as line_of, is_hindered, is_over};
+ghost use Rattle.std.specs.Prelude.{◌≡◌, ℕ, cond, IfOk, List, OnErr, Option, Result};
+ghost use Rattle.std.specs.FinMap as map;
+ghost use Rattle.admin_cli.specs.Modes.{SavesLine};
+ghost use Rattle.admin_cli.specs.StoreLines.{BeginsJob, BeginsLine, CommitsLine, CopiesNone, EndsJob, EndsLine, ExecutesStore, FlushesLine, IsFlush, LacksForCommit, LacksForStore, ListsObjects, LooksLine, LosesJob, begun_line as line_of, is_hindered as hinders, is_over};
 
 use crate::commands::{Admin, shown_line};
 use crate::kept_jobs::KeptJobs;
 use cached_frag::Encoded;
 use cluster_core::{Answer, Event, flush};
+use keeping::Keep;
 use mds_types::{Frag, Ino, Rank, Refusal};
 use object_lines::{object_line, objects_line};
 use script_output::OutputLine;
@@ -13,7 +16,7 @@ use script_text::StoreCommand;
 use std::alloc::{AllocError, Global};
 use std::thread::Threads;
 
-impl Admin {
+impl<S: Keep + Drop> Admin<S> {
     // Does what a command on the store asks for. Each part is a function of its own: a line that asks for none of it
     // pays for none.
     #[inline(never)]
@@ -147,16 +150,45 @@ impl Admin {
     fn flush(&mut self, rt: &(impl Threads + Sync), alloc: Global) -> OutputLine
         ensures { FlushesLine self.old self.new result }
     {
+        match self.flush_book(rt, alloc) {
+            Ok(()) => OutputLine::Flushed,
+            Err(refusal) => OutputLine::Refused(refusal),
+        }
+    }
+
+    /// `flush`, where the store has a file that may refuse what was written: then it is kept by a later one.
+    #[inline(never)]
+    pub(crate) fn save(&mut self, rt: &(impl Threads + Sync), alloc: Global) -> OutputLine
+        ensures { SavesLine self.old self.new result }
+    {
+        if let Err(refusal) = self.flush_book(rt, alloc) {
+            return OutputLine::Refused(refusal);
+        }
+        match self.book.keep() {
+            Ok(()) => OutputLine::Flushed,
+            Err(why) => OutputLine::Unsaved(why),
+        }
+    }
+
+    // The book is flushed, and no job is kept any more, unless an export stands.
+    #[inline(never)]
+    pub(crate) fn flush_book(
+        &mut self,
+        rt: &(impl Threads + Sync),
+        alloc: Global,
+    ) -> Result<(), Refusal>
+        ensures count { self.new.operations ≡ self.old.operations }
+        ensures jobs { self.new.jobs ≡ cond (hinders result) self.old.jobs map.empty }
+        ensures sent { self.new.sent ≡ self.old.sent }
+        ensures flushed { IsFlush self.old.book self.new.book result }
+    {
         let flushed = flush(rt, alloc, &mut self.book);
         if !is_hindered(&flushed) {
             self.jobs = KeptJobs::new(alloc);
         }
         // The contract of `store` is what says here that a store in memory tells no fault.
         let _ = self.book.cluster().store();
-        match flushed {
-            Ok(()) => OutputLine::Flushed,
-            Err(refusal) => OutputLine::Refused(refusal),
-        }
+        flushed
     }
 
     // What is the object of this name?
@@ -164,7 +196,7 @@ impl Admin {
     fn object(&self, alloc: Global, name: &str) -> OutputLine
         ensures { LooksLine self.now.book.core.state.tree.objects name.now result }
     {
-        match object_line(alloc, self.book.cluster().store().get(name)) {
+        match object_line(alloc, self.book.cluster().store().memory().get(name)) {
             Ok(line) => OutputLine::Object(line),
             Err(refusal) => OutputLine::Refused(refusal),
         }
@@ -175,7 +207,7 @@ impl Admin {
     fn objects(&self, alloc: Global) -> OutputLine
         ensures { ListsObjects self.now.book.core.state.tree.objects result }
     {
-        match objects_line(alloc, self.book.cluster().store()) {
+        match objects_line(alloc, self.book.cluster().store().memory()) {
             Ok(line) => line,
             Err(refusal) => OutputLine::Refused(refusal),
         }
@@ -194,7 +226,7 @@ fn is_over(ended: &Result<Answer, Refusal>) -> bool
 
 // Whether a flush was refused since an export stands.
 fn is_hindered(flushed: &Result<(), Refusal>) -> bool
-    ensures { result ≡ is_hindered flushed.now }
+    ensures { result ≡ hinders flushed.now }
 {
     match flushed {
         Ok(()) => false,

@@ -9,7 +9,7 @@ mod serves;
 mod services;
 
 pub use asks::{ask, ask_among};
+pub use cluster_core::Receipt;
 pub use drains::drain;
 pub use grants::grant_all;
-pub use cluster_core::Receipt;
 pub use services::{Service, ask_once};

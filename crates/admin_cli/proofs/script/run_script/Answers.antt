@@ -1,12 +1,8 @@
-use Rattle.admin_cli.proofs.PrintedLaws.{prints_new, prints_nothing}
-use Rattle.admin_cli.proofs.Progress.{started}
+use Rattle.admin_cli.proofs.Carried.{carries_plain}
+use Rattle.admin_cli.proofs.Common.{subst}
+use Rattle.admin_cli.specs.Scripts.{Doing, RunsNew}
 use Rattle.admin_cli.proofs.script.run_script.Goals as goal
 
-pub returns-in-Some-clause-ran : goal.returns-in-Some-clause-ran
-returns-in-Some-clause-ran g c = started _ _ _ _ _ _ _ c.in-Some.book c.in-Some.ensures c.run_book.ensures
-
-pub returns-in-Some-clause-one_thread : goal.returns-in-Some-clause-one_thread
-returns-in-Some-clause-one_thread g c = prints_new _ _ _ _ _ _ _ (returns-in-Some-clause-ran g c)
-
-pub returns-in_default-clause-one_thread : goal.returns-in_default-clause-one_thread
-returns-in_default-clause-one_thread g c = prints_nothing _ _ _ _
+pub returns-clause-ran : goal.returns-clause-ran
+returns-clause-ran g c =
+    subst (λ (Does : Doing). RunsNew Does c.args.ranks c.args.cache c.args.limit (g.R.Read.remaining c.args.reader) (g.W.Write.contents c.args.writer.now) (g.W.Write.contents c.run_new.new.writer) c.run_new.result) carries_plain c.run_new.ensures.ran

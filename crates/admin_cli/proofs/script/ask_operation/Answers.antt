@@ -1,0 +1,7 @@
+use Rattle.admin_cli.proofs.Common.{Some, inl, refl}
+use Rattle.admin_cli.proofs.Carried.{as_asked}
+use Rattle.admin_cli.proofs.script.ask_operation.Goals as goal
+
+pub returns-clause-prints : goal.returns-clause-prints
+returns-clause-prints g c =
+    inl (Some c.ask_operation-shown.result, (c.ask_operation-shown.result, as_asked c.args.mode.asks _ _ c.requires.asks c.ask_operation-shown.ensures, refl), c.print-printed.ensures)

@@ -1,0 +1,123 @@
+-- What a command of a script does where an option says more than the script: a request is brought to its answer by its
+-- own line, and a flush is kept in a file.
+use Rattle.std.specs.Prelude.{◌≡◌, ◌⊎◌, ◌+◌, ◌<◌, ◌∷◌, [], ℕ, cond, false, length, MatchBool, Result, Ok, Err}
+use Rattle.std.specs.FinMap as map
+use Rattle.mds_types.specs.declared.ids.Rank.{Rank}
+use Rattle.mds_types.specs.declared.operations.Op.{Op}
+use Rattle.mds_types.specs.declared.refusals.Refusal.{Refusal}
+use Rattle.mds_types.specs.declared.refusals.Refusal.TheVariants.{InboxFull}
+use Rattle.mds_types.specs.declared.requests.Request.{Request as Asked}
+use Rattle.inboxes.specs.Inboxes.{waiting_in_all}
+use Rattle.cluster_core.specs.OneThread.{InOrder, IsOneThread}
+use Rattle.cluster_core.specs.Sound.{IsSoundBook}
+use Rattle.cluster_core.specs.State.{BookState}
+use Rattle.cluster_core.specs.declared.receipts.Receipt.{Receipt}
+use Rattle.asking.specs.Ask.{NoneWaits}
+use Rattle.asking.specs.Once.{AsksOnce}
+use Rattle.asking.specs.Reached.{receipt_in}
+use Rattle.keeping.specs.declared.unkept.Unkept.{Unkept}
+use Rattle.script_text.specs.declared.commands.Command.{Command}
+use Rattle.script_text.specs.declared.commands.Command.TheVariants.{Operation, Own, Request, Serve, History, Split, Merge, Leaves, Grant, Subtrees, Authority, Export, Store}
+use Rattle.script_text.specs.declared.store_commands.StoreCommand.{StoreCommand}
+use Rattle.script_text.specs.declared.store_commands.StoreCommand.TheVariants as store
+use Rattle.script_output.specs.declared.lines.OutputLine.{OutputLine}
+use Rattle.script_output.specs.declared.lines.OutputLine.TheVariants.{Flushed, Refused, Reply, Unsaved}
+use Rattle.admin_cli.specs.declared.commands.Admin.{Admin}
+use Rattle.admin_cli.specs.declared.modes.Mode.{Mode}
+use Rattle.admin_cli.specs.Execute.{Executes}
+use Rattle.admin_cli.specs.StoreLines.{IsFlush, is_hindered}
+
+-- a script is run as it is written
+abbrev pub plain : Mode
+plain = record { asks = false; keeps = false }
+
+-- ---- a request that is brought to its answer
+
+-- a request was asked at a rank of a book where nothing waits, and nothing waits then
+pub record IsAskedOnce (old new : BookState) (rank : Rank) (request : Asked) (result : Result Receipt Refusal)
+    : Type 0 where
+  pub none : NoneWaits old.core.state.inboxes
+  pub asked : AsksOnce old.core new.core old.history new.history rank request result
+  pub one : IsOneThread old.core.state.tree.limit old.opening old.history new.history (request ∷ []) (receipt_in result)
+  pub in_order : InOrder (length old.history) (receipt_in result) (length new.history)
+  pub idle : NoneWaits new.core.state.inboxes
+  pub same_opening : new.opening ≡ old.opening
+  pub same_limit : new.core.state.tree.limit ≡ old.core.state.tree.limit
+  pub sound : IsSoundBook new
+
+-- so it was; where something waits, which no line of such a script leaves, it is refused InboxFull, and all is as it was
+abbrev pub IsAsked : (old new : BookState) → Rank → Asked → Result Receipt Refusal → Type 0
+IsAsked old new rank request result =
+    IsAskedOnce old new rank request result
+    ⊎ ((0 < waiting_in_all old.core.state.inboxes) × (result ≡ Err InboxFull) × (new ≡ old))
+
+-- the line of what was asked: its reply, or why it has none
+abbrev pub asked_line : Result Receipt Refusal → OutputLine
+asked_line (Ok r) = Reply r.client r.tid r.place r.first r.reply
+asked_line (Err refusal) = Refused refusal
+
+pub record AsksLine (old new : BookState) (rank : Rank) (request : Asked) (line : OutputLine) : Type 0 where
+  pub result : Result Receipt Refusal
+  pub asked : IsAsked old new rank request result
+  pub shown : line ≡ asked_line result
+
+-- ---- a flush that is kept
+
+-- the line of a flush, where the file may refuse what it wrote
+abbrev pub SaysSaved : Result (Unit {0}) Refusal → OutputLine → Type 0
+SaysSaved (Ok done) line = (line ≡ Flushed) ⊎ ((why : Unkept) × (line ≡ Unsaved why))
+SaysSaved (Err refusal) line = line ≡ Refused refusal
+
+-- the book is flushed, and the file was told to keep what it wrote; no job is kept any more, unless an export stands
+pub record SavesLine (old new : Admin) (line : OutputLine) : Type 0 where
+  pub count : new.operations ≡ old.operations
+  pub result : Result (Unit {0}) Refusal
+  pub jobs : new.jobs ≡ cond (is_hindered result) old.jobs map.empty
+  pub sent : new.sent ≡ old.sent
+  pub flushed : IsFlush old.book new.book result
+  pub shown : SaysSaved result line
+
+-- ---- a command
+
+-- an operation alone is client 0's at rank 0
+abbrev pub AsksOperation : (old new : Admin) → Op → OutputLine → Type 0
+AsksOperation old new op line =
+    (new.operations ≡ old.operations + 1) × (new.jobs ≡ old.jobs) × (new.sent ≡ old.sent)
+    × AsksLine old.book new.book (record { 0 = 0 })
+    (record { client = 0; tid = old.operations + 1; oldest = old.operations + 1; op = op }) line
+
+abbrev pub AsksRequest : (old new : Admin) → Rank → Asked → OutputLine → Type 0
+AsksRequest old new rank request line =
+    (new.operations ≡ old.operations) × (new.jobs ≡ old.jobs) × (new.sent ≡ old.sent)
+    × AsksLine old.book new.book rank request line
+
+abbrev pub CarriesStore : Mode → (old new : Admin) → StoreCommand → OutputLine → Type 0
+CarriesStore mode old new (store.CommitBegin rank dir f) line = Executes old new (Store (store.CommitBegin rank dir f)) line
+CarriesStore mode old new (store.CommitEnd number) line = Executes old new (Store (store.CommitEnd number)) line
+CarriesStore mode old new (store.CommitDrop number) line = Executes old new (Store (store.CommitDrop number)) line
+CarriesStore mode old new (store.Commit rank dir f) line = Executes old new (Store (store.Commit rank dir f)) line
+CarriesStore mode old new (store.CommitTree dir) line = Executes old new (Store (store.CommitTree dir)) line
+CarriesStore mode old new store.Purge line = Executes old new (Store store.Purge) line
+CarriesStore mode old new store.Flush line =
+    MatchBool mode.keeps (SavesLine old new line) (Executes old new (Store store.Flush) line)
+CarriesStore mode old new (store.Evict rank) line = Executes old new (Store (store.Evict rank)) line
+CarriesStore mode old new (store.Object name) line = Executes old new (Store (store.Object name)) line
+CarriesStore mode old new store.Objects line = Executes old new (Store store.Objects) line
+
+-- what a command does under these options: what it does in any script, but for these three
+abbrev pub Carries : Mode → (old new : Admin) → Command → OutputLine → Type 0
+Carries mode old new (Operation op) line =
+    MatchBool mode.asks (AsksOperation old new op line) (Executes old new (Operation op) line)
+Carries mode old new (Request rank request) line =
+    MatchBool mode.asks (AsksRequest old new rank request line) (Executes old new (Request rank request) line)
+Carries mode old new (Store command) line = CarriesStore mode old new command line
+Carries mode old new (Serve rank) line = Executes old new (Serve rank) line
+Carries mode old new (Own rank) line = Executes old new (Own rank) line
+Carries mode old new History line = Executes old new History line
+Carries mode old new (Split rank dir f nb) line = Executes old new (Split rank dir f nb) line
+Carries mode old new (Merge rank dir f) line = Executes old new (Merge rank dir f) line
+Carries mode old new (Leaves dir) line = Executes old new (Leaves dir) line
+Carries mode old new (Grant rank client tid) line = Executes old new (Grant rank client tid) line
+Carries mode old new Subtrees line = Executes old new Subtrees line
+Carries mode old new (Authority dir f) line = Executes old new (Authority dir f) line
+Carries mode old new (Export command) line = Executes old new (Export command) line

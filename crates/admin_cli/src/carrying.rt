@@ -1,0 +1,129 @@
+//! What the options of a script change: a request is brought to its answer by its own line, and a flush is kept in a
+//! file.
+ghost use Rattle.std.specs.Prelude.{◌≡◌, ◌+◌, ◌<◌, ◌≤◌, ◌^◌, IfOk, OnErr};
+ghost use Rattle.admin_cli.specs.Execute.{LacksForCommand};
+ghost use Rattle.admin_cli.specs.Modes.{AsksOperation, AsksRequest, Carries, CarriesStore, IsAsked, asked_line as line_of};
+
+use crate::commands::Admin;
+use crate::modes::Mode;
+use asking::ask_once;
+use cluster_core::Receipt;
+use keeping::Keep;
+use mds_types::{Op, Rank, Refusal, Request};
+use script_output::OutputLine;
+use script_text::{Command, StoreCommand};
+use std::alloc::{AllocError, Global};
+use std::thread::Threads;
+
+impl<S: Keep + Drop> Admin<S> {
+    /// Does what a command asks for under the options of the script, and answers the line to print; else as `execute`.
+    #[inline(never)]
+    pub fn carry(
+        &mut self,
+        rt: &(impl AllocGlobal + Threads + Sync),
+        mode: Mode,
+        command: Command,
+    ) -> Result<OutputLine, AllocError>
+        requires { self.old.operations + 1 < 2 ^ 64 }
+        ensures line { IfOk result (Carries mode self.old self.new command) }
+        ensures err { OnErr result (LacksForCommand self.old self.new command) }
+        ensures count { self.new.operations ≤ self.old.operations + 1 }
+    {
+        match command {
+            Command::Operation(op) => {
+                if mode.asks {
+                    return Ok(self.ask_operation(rt.alloc(), op));
+                }
+                self.execute(rt, Command::Operation(op))
+            }
+            Command::Request(rank, request) => {
+                if mode.asks {
+                    return Ok(self.ask_request(rt.alloc(), rank, request));
+                }
+                self.execute(rt, Command::Request(rank, request))
+            }
+            Command::Store(command) => self.carry_store(rt, mode, command),
+            other => self.execute(rt, other),
+        }
+    }
+
+    // A command on the store.
+    fn carry_store(
+        &mut self,
+        rt: &(impl AllocGlobal + Threads + Sync),
+        mode: Mode,
+        command: StoreCommand,
+    ) -> Result<OutputLine, AllocError>
+        requires { self.old.operations + 1 < 2 ^ 64 }
+        ensures line { IfOk result (CarriesStore mode self.old self.new command) }
+        ensures err { OnErr result (LacksForCommand self.old self.new (Command.Store command)) }
+        ensures count { self.new.operations ≤ self.old.operations + 1 }
+    {
+        match command {
+            StoreCommand::Flush => {
+                if mode.keeps {
+                    return Ok(self.save(rt, rt.alloc()));
+                }
+                self.execute(rt, Command::Store(StoreCommand::Flush))
+            }
+            other => self.execute(rt, Command::Store(other)),
+        }
+    }
+
+    /// An operation alone is asked at rank 0, as client 0, with the number of such lines so far as its transaction
+    /// number and its oldest.
+    #[inline(never)]
+    pub(crate) fn ask_operation(&mut self, alloc: Global, op: Op) -> OutputLine
+        requires { self.old.operations + 1 < 2 ^ 64 }
+        ensures { AsksOperation self.old self.new op result }
+    {
+        self.operations += 1;
+        let tid = self.operations;
+        let request = Request {
+            client: 0,
+            tid,
+            oldest: tid,
+            op,
+        };
+        asked_line(self.ask(alloc, Rank(0), request))
+    }
+
+    // A request is asked at a rank.
+    #[inline(never)]
+    fn ask_request(&mut self, alloc: Global, rank: Rank, request: Request) -> OutputLine
+        ensures { AsksRequest self.old self.new rank request result }
+    {
+        asked_line(self.ask(alloc, rank, request))
+    }
+
+    // A request comes in at a rank where nothing waits, and is brought to its answer. Where something waits, which no
+    // line leaves that asks so, it is refused.
+    fn ask(&mut self, alloc: Global, rank: Rank, request: Request) -> Result<Receipt, Refusal>
+        ensures count { self.new.operations ≡ self.old.operations }
+        ensures jobs { self.new.jobs ≡ self.old.jobs }
+        ensures sent { self.new.sent ≡ self.old.sent }
+        ensures asked { IsAsked self.old.book self.new.book rank request result }
+    {
+        if self.book.cluster().waiting() > 0 {
+            drop(request);
+            return Err(Refusal::InboxFull);
+        }
+        ask_once(alloc, &mut self.book, rank, request)
+    }
+}
+
+// The line of what was asked.
+fn asked_line(asked: Result<Receipt, Refusal>) -> OutputLine
+    ensures { result ≡ line_of asked }
+{
+    match asked {
+        Ok(receipt) => OutputLine::Reply {
+            client: receipt.client,
+            tid: receipt.tid,
+            place: receipt.place as u64,
+            first: receipt.first,
+            reply: receipt.reply,
+        },
+        Err(refusal) => OutputLine::Refused(refusal),
+    }
+}
