@@ -43,7 +43,7 @@ came_of (Errno errno) = came.Nothing
 abbrev pub own_line_of : OwnStep → Ino → Fragment → OutputLine → OutputLine
 own_line_of step dir f shown = Own (record { step = step; ino = dir; frag = f; result = came_of shown })
 
--- a step was made, and own_line_of so
+-- a step was made, and is shown so
 abbrev pub MakesOne : (old new : Admin) → OwnStep → Ino → Fragment → Event → OutputLine → Type 0
 MakesOne old new step dir f event line =
     (shown : OutputLine) × DoesEvent old new event shown × (line ≡ own_line_of step dir f shown)

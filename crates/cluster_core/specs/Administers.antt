@@ -49,7 +49,7 @@ abbrev pub AdministersTree : {X : Type 0} → (old new : State) → (past now : 
 AdministersTree old new past now told Did result =
     Administers old new past now told Did result × (new.roots ≡ old.roots)
 
--- work that gives told_nothing is told so
+-- work that gives nothing is told so
 abbrev pub told_nothing : Unit {0} → Answer
 told_nothing done = Nothing
 
@@ -160,7 +160,7 @@ TellsAuthority state leaf (Err reason) = (reason ≡ NoSuchFrag) × (IsLive stat
 
 -- ---- commits
 
--- the job that was begun; told_nothing for a clean fragment
+-- the job that was begun; nothing for a clean fragment
 abbrev pub told_job : Option Begun → Answer
 told_job None = Nothing
 told_job (Some job) = Job job

@@ -129,7 +129,7 @@ hands_of (Finish dir f) = record { authority = Some (dir, f); holder = None }
 hands_of (Cancel dir f) = hands_none
 
 -- one step: what its event does. Each leaf that stays keeps its authority and its holder, but in a region that is
--- hands_of on; there are as many ranks, with as many places each, and the store's count of faults rises by one where the
+-- handed on; there are as many ranks, with as many places each, and the store's count of faults rises by one where the
 -- event is refused by a fault, and not otherwise: so no fault is hidden, tried again, or told as anything else
 pub record Steps (old new : Core) (past now : List Entry) (result : Result Answer Refusal)
     (event : Event) : Type 0 where

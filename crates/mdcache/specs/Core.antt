@@ -159,7 +159,7 @@ with_dir p a home room = record p {
   room = room;
 }
 
--- an inode moved_entry from one name to another, where something was shown or nothing, and has its home there, if it is a
+-- an inode moved from one name to another, where something was shown or nothing, and has its home there, if it is a
 -- directory
 abbrev pub moved_entry : Core → Dirfrag → List ℕ → Dirfrag → List ℕ → List ℕ → Inode → Core
 moved_entry c from source to target name inode =

@@ -1,4 +1,4 @@
--- A page of a directory, rows_gathered from its leaves one after the other.
+-- A page of a directory, gathered from its leaves one after the other.
 use Rattle.std.specs.Prelude.{◌≡◌, ℕ, Bool, ◌||◌, true, List, [], ◌∷◌, Option, length, nat_lt, take}
 use Rattle.std.specs.FinMap as map
 use Rattle.std.specs.FinMap.Entries.{put}
@@ -8,7 +8,7 @@ use Rattle.sorted_map.specs.Places.{IsGap, puts}
 use Rattle.dirfrag_codec.specs.FragmentObject.{Names}
 use Rattle.cached_frag.specs.Rows.{Row, rows_after}
 
--- what was rows_gathered: the first names so far with their inodes, at most so many, and whether there were more
+-- what was gathered: the first names so far with their inodes, at most so many, and whether there were more
 pub record Gathered : Type 0 where
   pub rows : List Row
   pub more : Bool

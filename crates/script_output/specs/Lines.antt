@@ -5,7 +5,8 @@ use Rattle.script_output.specs.declared.lines.OutputLine.{OutputLine}
 use Rattle.script_output.specs.declared.lines.OutputLine.TheVariants.{Reply, Forwarded, Deferred, Queued, Nothing, Flushed, Unsaved, Frags, Subtrees, Authority, Job, Sent, Object, Objects, Idle, Own, History, Refused, Errno}
 use Rattle.script_output.specs.ObjectLines.{object_line_text}
 use Rattle.script_output.specs.OwnTurns.{own_text}
-use Rattle.script_output.specs.Texts.{reply_line, frags_text, subtrees_text, objects_text, refused_line, unsaved_line, errno_text}
+use Rattle.script_output.specs.Texts.{reply_line, frags_text, subtrees_text, objects_text, refused_line, errno_text}
+use Rattle.keeping.specs.Unkept.{unkept_word}
 use Rattle.mds_types.specs.declared.replies.Reply.{Reply as Replied}
 use Rattle.script_output.specs.declared.replies.Heading.{Heading}
 
@@ -20,7 +21,7 @@ output_line Deferred = codes "deferred"
 output_line Queued = codes "queued"
 output_line Nothing = codes "nothing"
 output_line Flushed = codes "flushed"
-output_line (Unsaved why) = unsaved_line why
+output_line (Unsaved why) = codes "unsaved " ++ unkept_word why
 output_line (Frags leaves) = frags_text leaves
 output_line (Subtrees roots) = subtrees_text roots
 output_line (Authority rank) = codes "rank " ++ decimal rank.0

@@ -15,8 +15,6 @@ use Rattle.mds_types.specs.Refusal.{refusal_number}
 use Rattle.mds_types.specs.Frag.{Fragment, fragment_text}
 use Rattle.script_output.specs.declared.root_lists.Root.{Root}
 use Rattle.script_output.specs.Escapes.{escaped}
-use Rattle.keeping.specs.Unkept.{unkept_word}
-use Rattle.keeping.specs.declared.unkept.Unkept.{Unkept}
 
 -- inode numbers print in lower hexadecimal, modes in octal, other numbers in decimal
 abbrev pub hexadecimal : ℕ → List ℕ
@@ -131,7 +129,3 @@ damaged_text refusal = []
 -- `refused N`, and `refused 17 OBJECT` of a damaged object
 abbrev pub refused_line : Refusal → List ℕ
 refused_line refusal = codes "refused " ++ (decimal (refusal_number refusal) ++ damaged_text refusal)
-
--- `unsaved WHY`: a file doesn't have what a flush wrote
-abbrev pub unsaved_line : Unkept → List ℕ
-unsaved_line why = codes "unsaved " ++ unkept_word why

@@ -1,8 +1,9 @@
 //! Lines whose text is always the same. They are printed where there is no memory for a text, so that a refusal is
 //! always told.
 ghost use Rattle.std.specs.Prelude.{◌≡◌, ◌++◌, codes, IfNone, IfSome};
+ghost use Rattle.keeping.specs.Unkept.{unkept_word};
 ghost use Rattle.script_output.specs.Lines.{output_line};
-ghost use Rattle.script_output.specs.Texts.{refused_line, unsaved_line};
+ghost use Rattle.script_output.specs.Texts.{refused_line};
 ghost use Rattle.script_output.specs.Writing.{NamesObject, TakesText};
 
 use crate::lines::OutputLine;
@@ -40,7 +41,7 @@ pub fn fixed_text(line: &OutputLine) -> Option<&'static str>
 
 // The line of a flush that a file doesn't have, with its LF.
 fn unsaved_text(why: Unkept) -> &'static str
-    ensures { result.now ≡ unsaved_line why ++ codes "\n" }
+    ensures { result.now ≡ codes "unsaved " ++ unkept_word why ++ codes "\n" }
 {
     match why {
         Unkept::NoMemory => "unsaved memory\n",
