@@ -79,7 +79,7 @@ with_directory s dentry dir = record s {
 abbrev pub with_new : State → Dentry → Inode → State
 with_new s dentry inode = cond (is_dir_kind inode.kind) (with_directory s dentry inode.ino) s
 
--- what is kept of leaves, without those of a directory that was removed
+-- what is kept of leaves, without those of a list
 abbrev pub without_leaves : {X : Type 0} → map.FinMap leaf_cmp X → List Leaf → map.FinMap leaf_cmp X
 without_leaves kept [] = kept
 without_leaves kept (leaf ∷ leaves) = without_leaves (map.remove kept leaf) leaves
