@@ -200,10 +200,9 @@ fn script<H: AllocGlobal + Threads + Sync + Print + Eprint, I: Read + Drop>(
 
 // The status of a run, whose fault is told on standard error.
 fn served(rt: &impl Eprint, ended: Result<(), ServeFault>) -> io::Result<ExitCode> {
-    match ended {
-        Ok(()) => return Ok(ExitCode::SUCCESS),
-        Err(ServeFault::Fault(number)) => eprintln!(rt; "cephmeta: fault {number}")?,
-        Err(ServeFault::Write) => eprintln!(rt; "cephmeta: write fault")?,
+    if let Err(fault) = ended {
+        eprintln!(rt; "cephmeta: {fault}")?;
+        return Ok(ExitCode::from(FAULT));
     }
-    Ok(ExitCode::from(FAULT))
+    Ok(ExitCode::SUCCESS)
 }

@@ -6,6 +6,7 @@ use crate::commits::Commit;
 use cluster_core::{Answer, Book, Receipt};
 use mds_types::Refusal;
 use objstore::Store;
+use thiserror::Error;
 
 /// What a run gave.
 #[derive(Drop)]
@@ -29,14 +30,17 @@ pub struct RunError<S: Store + Drop> {
 }
 
 /// Why a run gave no outcome.
-#[derive(Clone, Copy, Debug, PartialEq, Eq)]
+#[derive(Clone, Copy, Debug, PartialEq, Eq, Error)]
 pub enum RunFault {
     /// A growth was refused.
+    #[error("out of memory")]
     NoMemory,
     /// A thread could not be made.
+    #[error("a thread can't be made")]
     Spawn,
     /// The history does not hold a reply at its place, or two requests were told that they were applied at one place,
     /// or at an older one.
+    #[error("replies don't agree with the history")]
     Strayed,
 }
 

@@ -17,14 +17,17 @@ use std::alloc::Global;
 use std::io::Write;
 use std::sync::Wait;
 use std::thread::Threads;
+use thiserror::Error;
 
 /// Why a run failed.
-#[derive(Clone, Copy, Debug, PartialEq, Eq)]
+#[derive(Clone, Copy, Debug, PartialEq, Eq, Error)]
 pub enum ServeFault {
     /// A run fault: 1 where memory was refused or a step of one thread was, 2 where a thread couldn't be made, 3 where
     /// the receipts don't agree with the history.
+    #[error("fault {0}")]
     Fault(u8),
     /// The writer failed, or took no byte.
+    #[error("write fault")]
     Write,
 }
 
