@@ -41,6 +41,7 @@ test:
 	@tests/operation_table/run
 	@tests/many_names/run
 	@tests/random_runs/run
+	@tests/asked_runs/run
 	@tests/answers/run
 	@tests/refused_growths/run
 	@tests/serve/run

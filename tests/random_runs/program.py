@@ -10,8 +10,10 @@ class Broken(Exception):
 
 
 class Program:
+    OPTIONS = []
+
     def __init__(self, ranks):
-        self.process = subprocess.Popen([PATH, 'script', '--ranks', str(ranks), '--cache', '512'],
+        self.process = subprocess.Popen([PATH, 'script', *self.OPTIONS, '--ranks', str(ranks), '--cache', '512'],
                                         stdin=subprocess.PIPE, stdout=subprocess.PIPE, text=True, bufsize=1)
         self.lines, self.said = [], ''
 
