@@ -69,6 +69,13 @@ impl Pairs {
         Ok(())
     }
 
+    /// The pairs, in the order of their keys.
+    pub fn iter(&self) -> Iter<'_, Bytes, Bytes>
+        ensures { result ≡ map.entries self.now }
+    {
+        self.pairs.iter()
+    }
+
     /// The next pairs after a key, at most `max` of them, and whether more follow. Takes memory for copies of them.
     pub fn page(&self, alloc: Global, after: Option<&Bytes>, max: usize) -> Result<Page, AllocError>
         requires { 1 ≤ max }
