@@ -307,9 +307,18 @@ impl<S: Store + Drop> Cluster<S> {
 impl<S: Keep + Drop> Cluster<S> {
     /// Brings what the store has where it outlives the process. Whatever it answers, all is as it was.
     pub fn keep(&mut self) -> Result<(), Unkept>
-        ensures { self.new ≡ self.old }
+        ensures same { self.new ≡ self.old }
+        ensures failed { IfErr result (λ _. S.may_fail) }
     {
         self.tree.keep()
+    }
+
+    /// Leaves what was kept whole in one place, as a run ends. Whatever it answers, all is as it was.
+    pub fn settle(&mut self) -> Result<(), Unkept>
+        ensures same { self.new ≡ self.old }
+        ensures failed { IfErr result (λ _. S.may_fail) }
+    {
+        self.tree.settle()
     }
 }
 

@@ -1,5 +1,5 @@
 //! `MdCache`, and what a contract sees of it.
-ghost use Rattle.std.specs.Prelude.{◌≡◌, length};
+ghost use Rattle.std.specs.Prelude.{◌≡◌, length, IfErr};
 ghost use Rattle.dentry_cache.specs.CacheMap.{AreCaches};
 
 use crate::counters::Counters;
@@ -7,8 +7,8 @@ use crate::purge_list::PurgeList;
 use crate::standing_jobs::StandingJobs;
 use dentry_cache::Caches;
 use inode_table::Dirs;
-use mds_types::Limit;
 use keeping::{Keep, Unkept};
+use mds_types::Limit;
 use objstore::Store;
 use std::alloc::Global;
 use std::marker::Model;
@@ -100,10 +100,19 @@ impl<S: Store + Drop> MdCache<S> {
 }
 
 impl<S: Keep + Drop> MdCache<S> {
-    /// Brings what the store has where it outlives the process.
+    /// Brings what the store has where it outlives the process. Whatever it answers, all is as it was.
     pub fn keep(&mut self) -> Result<(), Unkept>
-        ensures { self.new ≡ self.old }
+        ensures same { self.new ≡ self.old }
+        ensures failed { IfErr result (λ _. S.may_fail) }
     {
         self.store.keep()
+    }
+
+    /// Leaves what was kept whole in one place, as a run ends. Whatever it answers, all is as it was.
+    pub fn settle(&mut self) -> Result<(), Unkept>
+        ensures same { self.new ≡ self.old }
+        ensures failed { IfErr result (λ _. S.may_fail) }
+    {
+        self.store.settle()
     }
 }

@@ -1,5 +1,5 @@
 //! What ranks last heard of each other's subtree roots. No answer depends on it.
-ghost use Rattle.std.specs.Prelude.{◌≡◌};
+ghost use Rattle.std.specs.Prelude.{◌≡◌, IfErr};
 
 use crate::ranked_tree::RankedTree;
 use keeping::{Keep, Unkept};
@@ -26,10 +26,19 @@ impl<S: Store + Drop> RankedTree<S> {
 }
 
 impl<S: Keep + Drop> RankedTree<S> {
-    /// Brings what the store has where it outlives the process.
+    /// Brings what the store has where it outlives the process. Whatever it answers, all is as it was.
     pub fn keep(&mut self) -> Result<(), Unkept>
-        ensures { self.new ≡ self.old }
+        ensures same { self.new ≡ self.old }
+        ensures failed { IfErr result (λ _. S.may_fail) }
     {
         self.tree.keep()
+    }
+
+    /// Leaves what was kept whole in one place, as a run ends. Whatever it answers, all is as it was.
+    pub fn settle(&mut self) -> Result<(), Unkept>
+        ensures same { self.new ≡ self.old }
+        ensures failed { IfErr result (λ _. S.may_fail) }
+    {
+        self.tree.settle()
     }
 }

@@ -1,0 +1,51 @@
+//! A store that can be told to keep its objects.
+ghost use Rattle.std.specs.Prelude.{◌≡◌, IfErr};
+
+use crate::unkept::Unkept;
+use objstore::{MemStore, Store};
+
+/// A store that has all its objects in memory, and can be told to bring them where they outlive the process, as into a
+/// file. A program calls `keep` where what it wrote belongs together, as at the end of a flush, and `settle` once, at
+/// its end.
+pub trait Keep: Store {
+    /// Whether `keep` and `settle` may fail. Of a store that is nowhere else they never do.
+    ghost may_fail: { Type 0 };
+
+    /// The objects, to read.
+    fn memory(&self) -> &MemStore
+        ensures { result.now ≡ Self.Store.objects self.now };
+
+    /// Brings all that changed since the last call that answered Ok, as a whole or not at all. Whatever it answers, the
+    /// objects are as they were.
+    fn keep(&mut self) -> Result<(), Unkept>
+        ensures objects { Self.Store.objects self.new ≡ Self.Store.objects self.old }
+        ensures failed { IfErr result (λ _. may_fail) };
+
+    /// Leaves what was kept whole in one place, as a database file whose log is empty. It brings nothing that `keep`
+    /// has not, and what was kept stays so, whatever it answers.
+    fn settle(&mut self) -> Result<(), Unkept>
+        ensures objects { Self.Store.objects self.new ≡ Self.Store.objects self.old }
+        ensures failed { IfErr result (λ _. may_fail) };
+
+    // No call tells a fault.
+    ghost faultless: { (s : Self) → Self.Store.faults s ≡ 0 };
+}
+
+/// A store that is nowhere else.
+impl Keep for MemStore {
+    ghost may_fail = { ⊥ };
+
+    ghost faultless = { λ _ _. 0 };
+
+    fn memory(&self) -> &MemStore {
+        self
+    }
+
+    fn keep(&mut self) -> Result<(), Unkept> {
+        Ok(())
+    }
+
+    fn settle(&mut self) -> Result<(), Unkept> {
+        Ok(())
+    }
+}
