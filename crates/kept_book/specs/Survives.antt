@@ -13,9 +13,16 @@ use Rattle.kept_store.specs.Kept.{Finds, Kept}
 abbrev pub Survives : (Trees → Type 0) → Objects → Type 0
 Survives recovers objects = (db : Trees) → recovers db → Spells db objects × ((others : Objects) → Spells db others → others ≡ objects)
 
--- whatever a crash leaves spells objects of which this is the cold tree
-abbrev pub SurvivesAs : (Trees → Type 0) → Tree → Type 0
-SurvivesAs recovers tree = (db : Trees) → recovers db → (objects : Objects) × Spells db objects × IsColdTree objects tree
+-- tables from which a mount shows this tree: they spell objects whose cold tree it is
+pub record Mounts (db : Trees) (tree : Tree) : Type 0 where
+  pub objects : Objects
+  pub spelled : Spells db objects
+  pub cold : IsColdTree objects tree
+
+-- a tree is on disk: whatever a crash leaves, a mount shows it and no other
+pub record IsOnDisk (recovers : Trees → Type 0) (tree : Tree) : Type 0 where
+  pub mounts : (db : Trees) → recovers db → Mounts db tree
+  pub alone : (db : Trees) → recovers db → (other : Tree) → Mounts db other → other ≡ tree
 
 -- a tree is the cold tree of what was found after a crash: where the disk was honest, these are objects that an outcome
 -- of the crash spells, and just those that the store had, if nothing was noted: then their cold tree is back, which the

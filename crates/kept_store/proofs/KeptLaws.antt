@@ -7,9 +7,9 @@ use Rattle.sqlite_trees.specs.Tree.{Trees}
 use Rattle.sqlite_trees.specs.View.{IsClean, IsReopened, View}
 use Rattle.object_tables.specs.Entries.{Says}
 use Rattle.object_tables.specs.Noted.{Noted, has_key, has_name, none, spot_cmp}
-use Rattle.object_tables.specs.Spelled.{Spells, SpellsBut, object_key, pair_key}
-use Rattle.object_tables.proofs.SpelledLaws.{one_spelling, spells_less}
-use Rattle.kept_store.specs.Kept.{IsFresh, IsMirrored}
+use Rattle.object_tables.specs.Spelled.{HasTables, HaveOwners, Spells, SpellsBut, object_key, pair_key}
+use Rattle.object_tables.proofs.SpelledLaws.{one_spelling, spells_less, spells_owned}
+use Rattle.kept_store.specs.Kept.{IsFresh, IsMirrored, IsReady}
 use Rattle.kept_store.specs.Noting.{AgreeBut, IsMore}
 
 is_false : (b : Bool) → (b ≡ true → ⊥) → b ≡ false
@@ -42,51 +42,82 @@ spells_other db a b old new more agree s = record {
 pub mirrored_other : (v : View) (recovers : Trees → Type 0) (a b : Objects) (old new : Noted) → IsMore old new → AgreeBut a b new
     → IsMirrored v recovers a old → IsMirrored v recovers b new
 mirrored_other v recovers a b old new more agree m = record {
-  tables = m.tables;
-  shapes = m.shapes;
-  fresh = m.fresh;
+  ready = m.ready;
   outcomes = λ db may. spells_other db a b old new more agree (m.outcomes db may);
+  owners = m.owners;
+}
+
+-- the tables are there after a call that keeps the shapes
+pub tables_stay : (old new : View) → new.shape ≡ old.shape → HasTables old → HasTables new
+tables_stay old new same t = record {
+  objects = ap (λ (f : ℕ → _). f 0) same ∙ t.objects;
+  pairs = ap (λ (f : ℕ → _). f 1) same ∙ t.pairs;
 }
 
 -- ---- an open
 
 pub opened : (old new : View) (before after : Trees → Type 0) (objects : Objects) → IsFresh old → new ≡ record old { cursors = new.cursors }
     → Spells old.trees objects → ((db : Trees) → after db → before db) → ((db : Trees) → before db → db ≡ old.committed) → IsMirrored new after objects none
-opened old new before after objects fresh same spelled fewer settled = record {
-  tables = record { objects = ap (λ (v : View). v.shape 0) same ∙ fresh.tables.objects; pairs = ap (λ (v : View). v.shape 1) same ∙ fresh.tables.pairs };
-  shapes = ap (λ (v : View). v.committed_shape) same ∙ (fresh.shapes ∙ sym (ap (λ (v : View). v.shape) same));
-  fresh = λ is_open. ap (λ (v : View). v.trees) same ∙ (fresh.fresh ∙ sym (ap (λ (v : View). v.committed) same));
-  outcomes = λ db may. spells_some db objects none (subst (λ t. Spells t objects) (fresh.fresh ∙ sym (settled db (fewer db may))) spelled);
-}
+opened old new before after objects fresh same spelled fewer settled =
+    let spells : (db : Trees) → after db → Spells db objects = λ db may. subst (λ t. Spells t objects) (fresh.ready.fresh ∙ sym (settled db (fewer db may))) spelled in
+    record {
+      ready = λ is_open. record {
+        tables = tables_stay old new (ap (λ (v : View). v.shape) same) fresh.ready.tables;
+        shapes = ap (λ (v : View). v.committed_shape) same ∙ (fresh.ready.shapes ∙ sym (ap (λ (v : View). v.shape) same));
+        fresh = ap (λ (v : View). v.trees) same ∙ (fresh.ready.fresh ∙ sym (ap (λ (v : View). v.committed) same));
+      };
+      outcomes = λ db may. spells_some db objects none (spells db may);
+      owners = λ db may. spells_owned db objects (spells db may);
+    }
 
 -- ---- a save
 
--- what the transaction sees spells the objects but for what is noted, where the tables aren't broken
+-- what the transaction sees spells the objects but for what is noted, and has a row for each pair's object
 pub seen : (v : View) (recovers : Trees → Type 0) (objects : Objects) (noted : Noted) → IsMirrored v recovers objects noted → IsTrue v.is_open
-    → (IsTrue v.is_open → recovers v.committed) → SpellsBut v.trees objects (has_name noted) (has_key noted)
+    → (IsTrue v.is_open → recovers v.committed) → SpellsBut v.trees objects (has_name noted) (has_key noted) × HaveOwners v.trees
 seen v recovers objects noted m is_open stays =
-    subst (λ t. SpellsBut t objects (has_name noted) (has_key noted)) (sym (m.fresh is_open)) (m.outcomes v.committed (stays is_open))
+    let same = sym (m.ready is_open).fresh in
+    (subst (λ t. SpellsBut t objects (has_name noted) (has_key noted)) same (m.outcomes v.committed (stays is_open)), subst HaveOwners same (m.owners v.committed (stays is_open)))
+
+ready_after : (old new : View) → IsReady old → (new.shape ≡ old.shape) × (new.committed_shape ≡ old.shape) → (IsTrue new.is_open → new.trees ≡ new.committed)
+    → IsTrue new.is_open → IsReady new
+ready_after old new was shapes fresh is_open = record {
+  tables = tables_stay old new shapes.0 was.tables;
+  shapes = shapes.1 ∙ sym shapes.0;
+  fresh = fresh is_open;
+}
 
 -- whatever a save answers
-pub kept_anyway : (old new : View) (before after : Trees → Type 0) (objects : Objects) (noted : Noted) → IsMirrored old before objects noted
+pub kept_anyway : (old new : View) (before after : Trees → Type 0) (objects : Objects) (noted : Noted) → IsMirrored old before objects noted → IsTrue old.is_open
     → (new.shape ≡ old.shape) × (new.committed_shape ≡ old.shape) → (IsTrue new.is_open → new.trees ≡ new.committed)
     → ((db : Trees) → after db → before db ⊎ Spells db objects) → IsMirrored new after objects noted
-kept_anyway old new before after objects noted m shapes fresh crash = record {
-  tables = record { objects = ap (λ (f : ℕ → _). f 0) shapes.0 ∙ m.tables.objects; pairs = ap (λ (f : ℕ → _). f 1) shapes.0 ∙ m.tables.pairs };
-  shapes = shapes.1 ∙ sym shapes.0;
-  fresh = fresh;
+kept_anyway old new before after objects noted m is_open shapes fresh crash = record {
+  ready = ready_after old new (m.ready is_open) shapes fresh;
   outcomes = λ db may. elim (crash db may) [ inl was ↦ m.outcomes db was | inr is ↦ spells_some db objects noted is ];
+  owners = λ db may. elim (crash db may) [ inl was ↦ m.owners db was | inr is ↦ spells_owned db objects is ];
 }
 
 -- where it answers Ok
-pub kept_all : (old new : View) (before after : Trees → Type 0) (objects : Objects) (noted : Noted) → IsMirrored old before objects noted
+pub kept_all : (old new : View) (before after : Trees → Type 0) (objects : Objects) (noted : Noted) → IsMirrored old before objects noted → IsTrue old.is_open
     → (new.shape ≡ old.shape) × (new.committed_shape ≡ old.shape) → (IsTrue new.is_open → new.trees ≡ new.committed)
     → ((db : Trees) → after db → db ≡ new.committed) → Spells new.committed objects → IsMirrored new after objects none
-kept_all old new before after objects noted m shapes fresh settled spelled = record {
-  tables = record { objects = ap (λ (f : ℕ → _). f 0) shapes.0 ∙ m.tables.objects; pairs = ap (λ (f : ℕ → _). f 1) shapes.0 ∙ m.tables.pairs };
-  shapes = shapes.1 ∙ sym shapes.0;
-  fresh = fresh;
-  outcomes = λ db may. spells_some db objects none (subst (λ t. Spells t objects) (sym (settled db may)) spelled);
+kept_all old new before after objects noted m is_open shapes fresh settled spelled =
+    let spells : (db : Trees) → after db → Spells db objects = λ db may. subst (λ t. Spells t objects) (sym (settled db may)) spelled in
+    record {
+      ready = ready_after old new (m.ready is_open) shapes fresh;
+      outcomes = λ db may. spells_some db objects none (spells db may);
+      owners = λ db may. spells_owned db objects (spells db may);
+    }
+
+-- ---- an end
+
+-- where the tables were settled: they show what they did, or are shut
+pub settled_on : (old new : View) (before after : Trees → Type 0) (objects : Objects) (noted : Noted) → IsMirrored old before objects noted
+    → (IsTrue new.is_open → new ≡ old) → ((db : Trees) → after db → before db) → IsMirrored new after objects noted
+settled_on old new before after objects noted m same fewer = record {
+  ready = λ is_open. subst IsReady (sym (same is_open)) (m.ready (sym (ap (λ (v : View). v.is_open) (same is_open)) ∙ is_open));
+  outcomes = λ db may. m.outcomes db (fewer db may);
+  owners = λ db may. m.owners db (fewer db may);
 }
 
 -- tables that aren't broken are open
@@ -97,22 +128,24 @@ open_of false b shut sound = absurd (true≢false (sym (shut refl) ∙ sound))
 -- what a crash leaves of a save
 pub crash_of : (old : View) (before after : Trees → Type 0) (objects : Objects) (noted : Noted) → IsMirrored old before objects noted
     → (old.is_open ≡ false → old.is_broken ≡ true) → (IsTrue old.is_open → before old.committed)
-    → ((db : Trees) → after db → before db ⊎ ((old.is_broken ≡ false) × (SpellsBut old.trees objects (has_name noted) (has_key noted) → Spells db objects)))
+    → ((db : Trees) → after db → before db ⊎ ((old.is_broken ≡ false)
+    × (SpellsBut old.trees objects (has_name noted) (has_key noted) → HaveOwners old.trees → Spells db objects)))
     → (db : Trees) → after db → before db ⊎ Spells db objects
-crash_of old before after objects noted m shut stays crash db may =
-    elim (crash db may) [ inl was ↦ inl was | inr it ↦ inr (it.1 (seen old before objects noted m (open_of old.is_open old.is_broken shut it.0) stays)) ]
+crash_of old before after objects noted m shut stays crash db may = elim (crash db may) [
+  | inl was ↦ inl was
+  | inr it ↦
+      let all = seen old before objects noted m (open_of old.is_open old.is_broken shut it.0) stays in
+      inr (it.1 all.0 all.1)
+]
 
 -- ---- after a crash
 
--- tables that were opened again can be taken as a mirror
-pub fresh_again : (old new : View) (before : Trees → Type 0) (objects : Objects) (noted : Noted) → IsMirrored old before objects noted
-    → IsClean new → IsReopened old new → (new.shape ≡ old.shape) → (new.is_open ≡ false → new.is_broken ≡ true)
+-- tables that were opened again can be taken as a mirror, if they are there
+pub fresh_again : (old new : View) → IsClean new → IsReopened old new → HasTables new → (new.is_open ≡ false → new.is_broken ≡ true)
     → (new.is_broken ≡ false → new.trees ≡ new.committed → new.shape ≡ new.committed_shape) → IsFresh new
-fresh_again old new before objects noted m clean again same shut unaltered = record {
-  tables = record { objects = ap (λ (f : ℕ → _). f 0) same ∙ m.tables.objects; pairs = ap (λ (f : ℕ → _). f 1) same ∙ m.tables.pairs };
-  shapes = sym (unaltered (again.sound clean) again.clean);
+fresh_again old new clean again tables shut unaltered = record {
   is_open = open_of new.is_open new.is_broken shut (again.sound clean);
-  fresh = again.clean;
+  ready = record { tables = tables; shapes = sym (unaltered (again.sound clean) again.clean); fresh = again.clean };
 }
 
 -- what comes back is what was, where nothing was noted

@@ -1,5 +1,5 @@
 -- What was noted, and what a write leaves that wasn't.
-use Rattle.std.proofs.Common.{◌≡◌, ◌⊎◌, ◌<◌, ◌≤◌, ◌+◌, ℕ, suc, Bool, true, false, cond, List, [], ◌∷◌, length, take, filter, Option, Some, None, is_some, slice_get, refl, sym, ap, subst, ◌∙◌, inl, inr, true≢false, arith, OnOk, OnErr, Result, Ok, Err, is_err}
+use Rattle.std.proofs.Common.{◌≡◌, ◌⊎◌, ℕ, Bool, true, false, cond, List, [], ◌∷◌, Option, Some, None, is_some, refl, sym, ap, subst, ◌∙◌, inl, inr, true≢false, OnOk, OnErr, Result, Ok, Err, is_err}
 use Rattle.std.specs.Ordering.{eq_by_cmp, is_eq}
 use Rattle.std.specs.Option.{option_and_then, option_or, unwrap_or}
 use Rattle.std.specs.Cmp.{IsTotalOrder, tied_itself}
@@ -7,12 +7,10 @@ use Rattle.std.specs.Cmp.Lexicographic.{nat_list_cmp_total}
 use Rattle.std.specs.FinMap as map
 use Rattle.std.specs.FinMap.{find, get-empty, get-entries, get-insert}
 use Rattle.std.proofs.lemmas.Map.Lookups.{exact_bytes}
-use Rattle.std.proofs.lemmas.Bool.{cases_lt}
 use Rattle.std.proofs.lemmas.Cmp.{then_total, on_total}
 use Rattle.sorted_map.specs.Overlay.{overlaid}
 use Rattle.sorted_map.proofs.MapLaws.{get-overlaid, get-without_keys}
-use Rattle.mds_types.specs.Step.{is_after}
-use Rattle.objstore.specs.Omap.{Keys, Omap, PairMap, empty_omap, key_cmp, pairs_after}
+use Rattle.objstore.specs.Omap.{Omap, PairMap, empty_omap, key_cmp}
 use Rattle.objstore.specs.Objects.{Objects, header_at, written}
 use Rattle.objstore.specs.Writes.{applied, pairs_before}
 use Rattle.objstore.specs.declared.write_ops.WriteOp.{WriteOp}
@@ -67,48 +65,31 @@ key_stays a b n k more = by_false (has_key a n k) (has_key b n k) (more.keys n k
 
 -- ---- all keys of an object
 
-all_after : (es : List (List ℕ × List ℕ)) → filter (λ e. is_after None e.0) es ≡ es
-all_after [] = refl
-all_after (e ∷ es) = ap (λ l. e ∷ l) (all_after es)
+-- each key of some entries is noted, or among those that are left
+abbrev pub NotedBut : {V : Type 0} → Noted → List ℕ → List (List ℕ × V) → List (List ℕ × V) → Type 0
+NotedBut noted name all left =
+    (key : List ℕ) → is_some (find key_cmp key all) ≡ true → (has_key noted name key ≡ true) ⊎ (is_some (find key_cmp key left) ≡ true)
 
-pub all_pairs : (pairs : PairMap) → pairs_after pairs None ≡ map.entries pairs
-unfolding pairs_after
-all_pairs pairs = all_after (map.entries pairs)
-
-pub take_whole : {X : Type 0} (xs : List X) (n : ℕ) → length xs ≤ n → take n xs ≡ xs
-take_whole xs n few = Rattle.std.proofs.lemmas.List.take_all n xs few
-
--- where a key is found, an entry has it
-pub found_at : (q : List ℕ) (es : List (List ℕ × List ℕ)) → is_some (find key_cmp q es) ≡ true
-    → (i : ℕ) × (e : List ℕ × List ℕ) × (i < length es) × (slice_get es i ≡ Some e) × (e.0 ≡ q)
-found_at q [] some = absurd (true≢false (sym some))
-found_at q (e ∷ es) some = go (found_at q es) (eq_by_cmp key_cmp q e.0) refl some
-  where
-    go : (is_some (find key_cmp q es) ≡ true → (i : ℕ) × (e : List ℕ × List ℕ) × (i < length es) × (slice_get es i ≡ Some e) × (e.0 ≡ q))
-        → (b : Bool) → eq_by_cmp key_cmp q e.0 ≡ b → is_some (cond b (Some e.1) (find key_cmp q es)) ≡ true
-        → (i : ℕ) × (d : List ℕ × List ℕ) × (i < length (e ∷ es)) × (slice_get (e ∷ es) i ≡ Some d) × (d.0 ≡ q)
-    go later true same h = (0, e, omega arith, refl, sym (same_name q e.0 same))
-    go later false same h = let there = later h in (suc there.0, there.1, omega (arith, there.2), there.3, there.4)
-
--- one more of the items is noted
-pub noted_next : (a b : Noted) (name : List ℕ) (items : List (List ℕ × List ℕ)) (here : ℕ) (item : List ℕ × List ℕ)
-    → ((i : ℕ) (pair : List ℕ × List ℕ) → i < here → slice_get items i ≡ Some pair → has_key a name pair.0 ≡ true)
-    → IsMore a b → slice_get items here ≡ Some item → has_key b name item.0 ≡ true
-    → (i : ℕ) (pair : List ℕ × List ℕ) → i < here + 1 → slice_get items i ≡ Some pair → has_key b name pair.0 ≡ true
-noted_next a b name items here item so_far more at_here noted i pair below at = elim (cases_lt i here) [
-  inl early ↦ key_stays a b name pair.0 more (so_far i pair early at)
-  | inr late ↦
-    let same : i ≡ here = omega (arith, below, late) in
-    let it : Some item ≡ Some pair = sym at_here ∙ (ap (slice_get items) (sym same) ∙ at) in
-    ap (λ o. has_key b name (unwrap_or o item).0) (sym it) ∙ noted
+-- one more of them is noted
+pub noted_one : {V : Type 0} (a b : Noted) (name : List ℕ) (all rest : List (List ℕ × V)) (e : List ℕ × V) → IsMore a b
+    → has_key b name e.0 ≡ true → NotedBut a name all (e ∷ rest) → NotedBut b name all rest
+noted_one {V} a b name all rest e more here so_far key some = elim (so_far key some) [
+  | inl early ↦ inl (key_stays a b name key more early)
+  | inr late ↦ go (eq_by_cmp key_cmp key e.0) refl late
 ]
+  where
+    go : (t : Bool) → eq_by_cmp key_cmp key e.0 ≡ t → is_some (cond t (Some e.1) (find key_cmp key rest)) ≡ true
+        → (has_key b name key ≡ true) ⊎ (is_some (find key_cmp key rest) ≡ true)
+    go true same h = inl (subst (λ k. has_key b name k ≡ true) (sym (same_name key e.0 same)) here)
+    go false same h = inr h
 
-pub all_noted : (noted : Noted) (name : List ℕ) (pairs : PairMap) (items : List (List ℕ × List ℕ)) → items ≡ map.entries pairs
-    → ((i : ℕ) (pair : List ℕ × List ℕ) → i < length items → slice_get items i ≡ Some pair → has_key noted name pair.0 ≡ true)
-    → (key : List ℕ) → is_some (map.get pairs key) ≡ true → has_key noted name key ≡ true
-all_noted noted name pairs items is each key some =
-    let there = found_at key items (ap is_some (ap (find key_cmp key) is ∙ sym (get-entries pairs key)) ∙ some) in
-    subst (λ k. has_key noted name k ≡ true) there.4 (each there.0 there.1 there.2 there.3)
+-- all are
+pub noted_all : {V : Type 0} (noted : Noted) (name : List ℕ) (m : map.FinMap key_cmp V) (left : List (List ℕ × V)) → left ≡ []
+    → NotedBut noted name (map.entries m) left → (key : List ℕ) → is_some (map.get m key) ≡ true → has_key noted name key ≡ true
+noted_all noted name m left none so_far key some = elim (so_far key (sym (ap is_some (get-entries m key)) ∙ some)) [
+  | inl early ↦ early
+  | inr late ↦ absurd (true≢false (sym late ∙ ap (λ l. is_some (find key_cmp key l)) none))
+]
 
 -- ---- what a write leaves
 
@@ -164,11 +145,15 @@ same_still : (b c : Bool) (pairs : PairMap) (k : List ℕ) (set : Option (List �
     → map.get pairs k ≡ cond b None (option_or set (map.get (pairs_before c pairs) k))
 same_still b c pairs k set x y s = rw (x, y, s) refl
 
--- where all keys of the object and all that are set are noted, all else is as it was; or all that are set, where nothing
--- is cleared or removed
+is_false : (b : Bool) → (b ≡ true → ⊥) → b ≡ false
+is_false true away = absurd (away refl)
+is_false false away = refl
+
+-- where the object's name, all keys that are set, and all keys of the object are noted, all else is as it was; or the
+-- keys that are set or removed, where nothing is cleared
 pub agree_written : (objects : Objects) (name : List ℕ) (op : WriteOp) (noted : Noted) → has_name noted name ≡ true
     → ((k : List ℕ) → is_some (map.get op.set k) ≡ true → has_key noted name k ≡ true)
-    → ((k : List ℕ) → is_some (value_at objects name k) ≡ true → has_key noted name k ≡ true) ⊎ ((op.clear ≡ false) × (op.remove ≡ map.empty))
+    → ((k : List ℕ) → is_some (value_at objects name k) ≡ true → has_key noted name k ≡ true) ⊎ ((op.clear ≡ false) × ((k : List ℕ) → map.contains_key op.remove k ≡ true → has_key noted name k ≡ true))
     → AgreeBut objects (written objects name op) noted
 agree_written objects name op noted there sets all = record {
   headers = λ n out. header_left objects name op n (apart_name noted name n there out);
@@ -177,16 +162,18 @@ agree_written objects name op noted there sets all = record {
   where
     unset : (k : List ℕ) → has_key noted name k ≡ false → map.get op.set k ≡ None
     unset k out = none_of (map.get op.set k) (λ some. true≢false (sym (sets k some) ∙ out))
+
     here : (k : List ℕ) → has_key noted name k ≡ false
-        → ((k : List ℕ) → is_some (value_at objects name k) ≡ true → has_key noted name k ≡ true) ⊎ ((op.clear ≡ false) × (op.remove ≡ map.empty))
+        → ((k : List ℕ) → is_some (value_at objects name k) ≡ true → has_key noted name k ≡ true) ⊎ ((op.clear ≡ false) × ((k : List ℕ) → map.contains_key op.remove k ≡ true → has_key noted name k ≡ true))
         → value_at objects name k ≡ value_at (written objects name op) name k
     here k out (inl has) =
         let none : value_at objects name k ≡ None = none_of (value_at objects name k) (λ some. true≢false (sym (has k some) ∙ out)) in
         none ∙ sym (value_written objects name op k ∙ gone_still (map.contains_key op.remove k) op.clear _ k (map.get op.set k) (unset k out) (old_value objects name k ∙ none))
     here k out (inr kept) =
         sym (old_value objects name k)
-        ∙ (same_still (map.contains_key op.remove k) op.clear _ k (map.get op.set k) (ap (λ (r : Keys). map.contains_key r k) kept.1 ∙ ap is_some (get-empty key_cmp k)) kept.0 (unset k out)
+        ∙ (same_still (map.contains_key op.remove k) op.clear _ k (map.get op.set k) (is_false (map.contains_key op.remove k) (λ some. true≢false (sym (kept.1 k some) ∙ out))) kept.0 (unset k out)
         ∙ sym (value_written objects name op k))
+
     at : (n k : List ℕ) → has_key noted n k ≡ false → (b : Bool) → eq_by_cmp key_cmp n name ≡ b → value_at objects n k ≡ value_at (written objects name op) n k
     at n k out true e =
         let same : n ≡ name = same_name n name e in
@@ -222,6 +209,6 @@ agree_removed objects name noted there all = record {
 
 pub agree_either : (a b c : Objects) (noted : Noted) → AgreeBut a c noted → (b ≡ c) ⊎ (b ≡ a) → AgreeBut a b noted
 agree_either a b c noted agree way = elim way [
-  inl is ↦ subst (λ x. AgreeBut a x noted) (sym is) agree
+  | inl is ↦ subst (λ x. AgreeBut a x noted) (sym is) agree
   | inr is ↦ subst (λ x. AgreeBut a x noted) (sym is) (agree_same a noted)
 ]

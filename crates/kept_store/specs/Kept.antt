@@ -3,8 +3,12 @@ use Rattle.std.specs.Prelude.{◌≡◌, IsTrue}
 use Rattle.objstore.specs.Objects.{Objects}
 use Rattle.sqlite_trees.specs.Tree.{Trees}
 use Rattle.sqlite_trees.specs.View.{View}
+use Rattle.sqlite_trees.specs.declared.error.StoreError.{StoreError}
+use Rattle.sqlite_trees.specs.declared.error.StoreError.TheVariants.{OutOfMemory, Io, Corrupt, Full, Broken, Unstorable}
+use Rattle.keeping.specs.declared.unkept.Unkept.{Unkept}
+use Rattle.keeping.specs.declared.unkept.Unkept.TheVariants as told
 use Rattle.object_tables.specs.Noted.{Noted, has_key, has_name}
-use Rattle.object_tables.specs.Spelled.{HasTables, Spells, SpellsBut}
+use Rattle.object_tables.specs.Spelled.{HasTables, HaveOwners, Spells, SpellsBut}
 
 -- the objects, the names and keys that changed since they were last brought into the tables, and the tables
 pub record Kept (T : Type 0) : Type 0 where
@@ -12,20 +16,33 @@ pub record Kept (T : Type 0) : Type 0 where
   pub noted : Noted
   pub tables : T
 
--- where the disk was honest: whatever a crash would leave of the tables now spells the objects, but for what was noted
-pub record IsMirrored (v : View) (recovers : Trees → Type 0) (objects : Objects) (noted : Noted) : Type 0 where
+-- tables on which a transaction may begin: they are there, as the last commit left them
+pub record IsReady (v : View) : Type 0 where
   pub tables : HasTables v
   pub shapes : v.committed_shape ≡ v.shape
-  pub fresh : IsTrue v.is_open → v.trees ≡ v.committed
+  pub fresh : v.trees ≡ v.committed
+
+-- where the disk was honest: whatever a crash would leave of the tables now spells the objects, but for what was noted,
+-- and has a row for each pair's object; while they are open they are ready
+pub record IsMirrored (v : View) (recovers : Trees → Type 0) (objects : Objects) (noted : Noted) : Type 0 where
+  pub ready : IsTrue v.is_open → IsReady v
   pub outcomes : (db : Trees) → recovers db → SpellsBut db objects (has_name noted) (has_key noted)
+  pub owners : (db : Trees) → recovers db → HaveOwners db
 
 -- tables that can be taken as a mirror: they were just opened
 pub record IsFresh (v : View) : Type 0 where
-  pub tables : HasTables v
-  pub shapes : v.committed_shape ≡ v.shape
   pub is_open : IsTrue v.is_open
-  pub fresh : v.trees ≡ v.committed
+  pub ready : IsReady v
 
 -- one of these tables spells the objects
 abbrev pub Finds : (Trees → Type 0) → Objects → Type 0
 Finds recovers objects = (db : Trees) × recovers db × Spells db objects
+
+-- how an error of the tables is told
+abbrev pub unkept_of : StoreError → Unkept
+unkept_of OutOfMemory = told.NoMemory
+unkept_of Io = told.Io
+unkept_of Corrupt = told.Corrupt
+unkept_of Full = told.Full
+unkept_of Broken = told.Shut
+unkept_of Unstorable = told.Full

@@ -5,19 +5,22 @@ ghost use Rattle.object_tables.specs.Noted.{none};
 ghost use Rattle.object_tables.specs.Spelled.{Spells};
 ghost use Rattle.sqlite_trees.specs.Tree.{Trees as Rows};
 ghost use Rattle.sqlite_trees.specs.View.{IsClean, doubt};
-ghost use Rattle.kept_store.specs.Kept.{Finds, IsFresh, IsMirrored};
+ghost use Rattle.kept_store.specs.Kept.{Finds, IsFresh, IsMirrored, unkept_of};
 
 use crate::noting::{note_object, note_write};
-use mds_types::{Bytes, Refusal};
+use crate::settling::Settle;
 use keeping::{Keep, Unkept};
-use object_tables::{Changes, ReadFault, read_objects, save};
+use mds_types::{Bytes, Refusal};
+use object_tables::{Changes, ReadFault, has_tables, read_objects, save};
 use objstore::{MemStore, NamePage, Page, Store, WriteOp};
 use sqlite_trees::error::StoreError;
 use sqlite_trees::store::{Reopen, Store as Trees};
 use std::alloc::Global;
 use std::marker::Model;
 
-/// Objects in memory, what changed of them, and the tables that have all else.
+/// A store of objects that is mirrored in tables: all objects in memory, from which each read is answered, the names and
+/// keys that changed since the last `keep`, and the tables, which have all but those. A write changes memory alone, so
+/// nothing but `keep` is slower than in a store in memory.
 #[derive(Drop)]
 pub struct Kept<T: Trees + Drop> {
     objects: MemStore,
@@ -42,7 +45,8 @@ impl<T: Trees + Drop> Model for Kept<T> {
 }
 
 impl<T: Trees + Drop> Kept<T> {
-    /// The objects that tables have.
+    /// Reads the objects out of tables that were just opened. The tables come back where they don't spell objects, or
+    /// can't be read. Takes memory for all of them.
     pub fn open(alloc: Global, mut tables: T) -> Result<Kept<T>, (ReadFault, T)>
         requires { IsClean (T.Store.view tables) → IsFresh (T.Store.view tables) }
         ensures objects { IfOk result (λ k. IsClean (T.Store.view k.tables) → Spells (T.Store.view tables).committed k.objects) }
@@ -76,7 +80,7 @@ impl<T: Trees + Drop> Kept<T> {
         self.changes.is_empty()
     }
 
-    /// Of how many objects something changed.
+    /// Of how many objects something changed since the last `keep` that answered Ok.
     pub fn changed(&self) -> usize
         ensures { result ≡ map.len self.now.noted.names }
     {
@@ -84,7 +88,8 @@ impl<T: Trees + Drop> Kept<T> {
     }
 
     /// Brings what changed into the tables, in one transaction. Whatever it answers, and wherever it is cut off, a crash
-    /// leaves what it could leave before, or tables that spell exactly the objects.
+    /// leaves what it could leave before, or tables that spell exactly the objects. Where it fails, what was noted stays
+    /// noted, so that the next call brings it too; tables that are shut take nothing any more.
     pub fn keep(&mut self) -> Result<(), StoreError>
         ensures kept { OnOk result (self.new.noted ≡ none) }
         ensures noted { OnErr result (self.new.noted ≡ self.old.noted) }
@@ -93,12 +98,15 @@ impl<T: Trees + Drop> Kept<T> {
             → T.Store.recovers self.old.tables db ⊎ Spells db self.new.objects }
         ensures clean { doubt (T.Store.view self.old.tables).is_clean ≤ doubt (T.Store.view self.new.tables).is_clean }
     {
+        if self.tables.is_broken() {
+            return Err(StoreError::Broken);
+        }
         save(&mut self.tables, self.alloc, &self.objects, &self.changes)?;
         self.changes = Changes::none(self.alloc);
         Ok(())
     }
 
-    /// What always holds: a law, told of this one.
+    /// What always holds: a law, told of this store.
     pub fn is_mirrored(&self)
         ensures { IsClean (T.Store.view self.now.tables)
             → IsMirrored (T.Store.view self.now.tables) (T.Store.recovers self.now.tables) self.now.objects self.now.noted }
@@ -120,6 +128,19 @@ impl<T: Trees + Drop> Kept<T> {
     }
 }
 
+impl<T: Settle + Drop> Kept<T> {
+    /// Leaves what was kept whole in one place, as a file whose log is empty. A crash leaves nothing that it couldn't
+    /// leave before.
+    pub fn settle(&mut self) -> Result<(), StoreError>
+        ensures objects { self.new.objects ≡ self.old.objects }
+        ensures noted { self.new.noted ≡ self.old.noted }
+        ensures crash { (db : Rows) → T.Store.recovers self.new.tables db → T.Store.recovers self.old.tables db }
+        ensures clean { doubt (T.Store.view self.old.tables).is_clean ≤ doubt (T.Store.view self.new.tables).is_clean }
+    {
+        self.tables.settle()
+    }
+}
+
 impl<T: Reopen + Drop> Kept<T> {
     /// What comes back after a crash, over a disk that can be made to crash: the objects that one of its outcomes
     /// spells. If nothing was noted, these are just the objects that were there.
@@ -131,6 +152,9 @@ impl<T: Reopen + Drop> Kept<T> {
         self.is_mirrored();
         let mut tables = self.into_tables();
         tables.crash_and_reopen()?;
+        if !has_tables(&tables) {
+            return Err(ReadFault::Row);
+        }
         match Kept::open(alloc, tables) {
             Ok(kept) => Ok(kept),
             Err((fault, _)) => Err(fault),
@@ -143,7 +167,8 @@ impl<T: Trees + Drop> Store for Kept<T> {
 
     ghost faults = { λ _. 0 };
 
-    ghost IsCall = { λ _ _ _. Unit {0} };
+    // No call but `keep` and `settle` touches the tables.
+    ghost IsCall = { λ old _ new. new.tables ≡ old.tables };
 
     fn header(&mut self, alloc: Global, name: &str) -> Result<Option<Bytes>, Refusal> {
         self.objects.header(alloc, name)
@@ -183,7 +208,7 @@ impl<T: Trees + Drop> Store for Kept<T> {
     }
 }
 
-impl<T: Trees + Drop> Keep for Kept<T> {
+impl<T: Settle + Drop> Keep for Kept<T> {
     ghost may_fail = { Unit {0} };
 
     ghost faultless = { λ _ _. 0 };
@@ -195,13 +220,28 @@ impl<T: Trees + Drop> Keep for Kept<T> {
     fn keep(&mut self) -> Result<(), Unkept> {
         match Kept::keep(self) {
             Ok(()) => Ok(()),
-            Err(error) => Err(match error {
-                StoreError::OutOfMemory => Unkept::NoMemory,
-                StoreError::Full => Unkept::Full,
-                StoreError::Corrupt => Unkept::Corrupt,
-                StoreError::Io => Unkept::Io,
-                _ => Unkept::Shut,
-            }),
+            Err(error) => Err(unkept(error)),
         }
+    }
+
+    fn settle(&mut self) -> Result<(), Unkept> {
+        match Kept::settle(self) {
+            Ok(()) => Ok(()),
+            Err(error) => Err(unkept(error)),
+        }
+    }
+}
+
+// How the error of the tables is told. Broken ones are shut: each failure of `save` is rolled back, so only those that
+// another open must mend are broken. A row of over a billion bytes finds no room.
+fn unkept(error: StoreError) -> Unkept
+    ensures { result ≡ unkept_of error }
+{
+    match error {
+        StoreError::OutOfMemory => Unkept::NoMemory,
+        StoreError::Full | StoreError::Unstorable => Unkept::Full,
+        StoreError::Io => Unkept::Io,
+        StoreError::Corrupt => Unkept::Corrupt,
+        StoreError::Broken => Unkept::Shut,
     }
 }

@@ -4,5 +4,7 @@
 
 mod kept;
 mod noting;
+mod settling;
 
 pub use kept::Kept;
+pub use settling::Settle;

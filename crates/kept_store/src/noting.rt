@@ -6,12 +6,12 @@ ghost use Rattle.object_tables.specs.Noted.{has_key, has_name};
 ghost use Rattle.object_tables.specs.Spelled.{value_at};
 ghost use Rattle.kept_store.specs.Noting.{AgreeBut, IsMore};
 
-use mds_types::Bytes;
 use object_tables::Changes;
-use objstore::{MemStore, Object, Pairs, WriteOp};
+use objstore::{KeySet, MemStore, Pairs, WriteOp};
 use std::alloc::{AllocError, Global};
 
-/// Notes all that an operation may change in the object of this name.
+/// Notes all that an operation may change in the object of this name: its name, the keys that are set and those that are
+/// removed; and all its keys, where it is cleared.
 pub fn note_write(
     changes: &mut Changes,
     alloc: Global,
@@ -24,10 +24,10 @@ pub fn note_write(
 {
     changes.note_name(alloc, name)?;
     note_pairs(changes, alloc, name, &op.set)?;
-    if op.clear || op.remove.len() > 0 {
+    if op.clear {
         return note_all(changes, alloc, objects, name);
     }
-    Ok(())
+    note_keys(changes, alloc, name, &op.remove)
 }
 
 /// Notes the object of this name, with all that it has.
@@ -73,9 +73,27 @@ fn note_pairs(
     ensures keys { OnOk result ((key : List ℕ) → is_some (map.get pairs.now key) ≡ true
         → has_key changes.new name.now key ≡ true) }
 {
-    let page = pairs.page(alloc, None, pairs.len().max(1))?;
-    for pair in page.pairs() {
-        changes.note_key(alloc, name, &pair.0)?;
+    let mut left = pairs.iter();
+    while let Some((key, _)) = left.next() {
+        changes.note_key(alloc, name, key)?;
+    }
+    Ok(())
+}
+
+// Notes these keys in the object of this name.
+fn note_keys(
+    changes: &mut Changes,
+    alloc: Global,
+    name: &str,
+    keys: &KeySet,
+) -> Result<(), AllocError>
+    ensures more { IsMore changes.old changes.new }
+    ensures keys { OnOk result ((key : List ℕ) → map.contains_key keys.now key ≡ true
+        → has_key changes.new name.now key ≡ true) }
+{
+    let mut left = keys.iter();
+    while let Some((gone, _)) = left.next() {
+        changes.note_key(alloc, name, gone)?;
     }
     Ok(())
 }

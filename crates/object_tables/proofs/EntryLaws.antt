@@ -1,22 +1,20 @@
 -- What a look, a removal and an insertion do to the rows of a table of keys and values.
-use Rattle.std.proofs.Common.{◌≡◌, ◌⊎◌, ◌↔◌, ℕ, Bool, true, false, not, List, [], ◌∷◌, ◌++◌, length, filter, get_or, Option, Some, None, refl, sym, ap, subst, ◌∙◌, inl, inr, true≢false, suc, arith}
+use Rattle.std.proofs.Common.{◌≡◌, ◌⊎◌, ◌↔◌, ℕ, Bool, true, false, not, List, [], ◌∷◌, ◌++◌, length, filter, Option, Some, None, refl, sym, ap, subst, ◌∙◌, inl, inr, true≢false, arith}
 use Rattle.std.specs.List.{AllByRecursion}
 use Rattle.std.specs.declared.cmp.Ordering.{Ordering}
 use Rattle.std.specs.declared.cmp.Ordering.TheVariants.{Less, Equal, Greater}
-use Rattle.std.specs.Ordering.{ordering_then, match_ordering, is_lt, is_gt, is_eq, nat_cmp}
+use Rattle.std.specs.Ordering.{is_lt, is_gt, is_eq}
 use Rattle.std.specs.Cmp.{tied_itself}
-use Rattle.std.specs.Cmp.Lexicographic.{slice_cmp}
 use Rattle.std.proofs.lemmas.Map.Lookups.{exact_bytes}
 use Rattle.sqlite_value.specs.declared.value.Value.{Value}
 use Rattle.sqlite_value.specs.declared.value.Value.TheVariants.{Null, Int, Real, Text, Blob}
 use Rattle.sqlite_value.specs.Order.{Row, column, value_cmp}
-use Rattle.sqlite_value.specs.declared.keys.Order.{Order}
 use Rattle.sqlite_value.specs.Keys.{plain, first_key, later, by_key, entry_cmp, prefix_cmp}
 use Rattle.sqlite_value.proofs.OrderLemmas.{value_cmp_total, value_cmp-Text, value_cmp-Blob}
-use Rattle.sqlite_value.proofs.KeyLemmas.{first_key-plain, then_tied, entry_cmp_total, entry_cmp-plain}
+use Rattle.sqlite_value.proofs.KeyLemmas.{first_key-plain, then_tied, entry_cmp_total}
 use Rattle.sqlite_trees.specs.Tree.{IsIndex, from_key, insert_entry, remove_entry}
 use Rattle.sqlite_trees.proofs.TreeLemmas.{AtMost, IsSortedTree, prefix_cmp_follows, sorted_index}
-use Rattle.object_tables.specs.Entries.{IsIn, IsText, AreTexts, entry, IsEntry, IsTable, Says, SetsEntry, FindsEntry}
+use Rattle.object_tables.specs.Entries.{IsIn, IsText, AreTexts, entry, IsEntry, IsTable, HasNoOther, Says, SetsEntry, FindsEntry}
 
 abbrev None_bytes : Option (List ℕ)
 None_bytes = None
@@ -100,11 +98,11 @@ in_filter p x (y ∷ rows) = go (p y) refl (in_filter p x rows)
     go : (b : Bool) → p y ≡ b → (IsIn x (filter p rows) ↔ (IsIn x rows × (p x ≡ true))) → IsIn x (filter p (y ∷ rows)) ↔ (IsIn x (y ∷ rows) × (p x ≡ true))
     go true e both = rw e (
       (λ h. elim h [ inl same ↦ (inl same, ap p (sym same) ∙ e) | inr rest ↦ (inr (both.0 rest).0, (both.0 rest).1) ]),
-      (λ h. elim h.0 [ inl same ↦ inl same | inr rest ↦ inr (both.1 (rest, h.1)) ])
+      (λ h. elim h.0 [ inl same ↦ inl same | inr rest ↦ inr (both.1 (rest, h.1)) ]),
     )
     go false e both = rw e (
       (λ h. (inr (both.0 h).0, (both.0 h).1)),
-      (λ h. elim h.0 [ inl same ↦ absurd (true≢false (sym h.1 ∙ (ap p (sym same) ∙ e))) | inr rest ↦ both.1 (rest, h.1) ])
+      (λ h. elim h.0 [ inl same ↦ absurd (true≢false (sym h.1 ∙ (ap p (sym same) ∙ e))) | inr rest ↦ both.1 (rest, h.1) ]),
     )
 
 -- where no other row ties with the new one, the new one comes to those that are there
@@ -116,11 +114,11 @@ in_insert new x (y ∷ rows) same = go (entry_cmp plain y new) refl (in_insert n
     go : (o : Ordering) → entry_cmp plain y new ≡ o → (IsIn x (insert_entry plain new rows) ↔ ((new ≡ x) ⊎ IsIn x rows)) → IsIn x (insert_entry plain new (y ∷ rows)) ↔ ((new ≡ x) ⊎ IsIn x (y ∷ rows))
     go Less e both = rw e (
       (λ h. elim h [ inl is ↦ inr (inl is) | inr rest ↦ elim (both.0 rest) [ inl is ↦ inl is | inr there ↦ inr (inr there) ] ]),
-      (λ h. elim h [ inl is ↦ inr (both.1 (inl is)) | inr there ↦ elim there [ inl is ↦ inl is | inr rest ↦ inr (both.1 (inr rest)) ] ])
+      (λ h. elim h [ inl is ↦ inr (both.1 (inl is)) | inr there ↦ elim there [ inl is ↦ inl is | inr rest ↦ inr (both.1 (inr rest)) ] ]),
     )
     go Equal e both = rw e (
       (λ h. inr h),
-      (λ h. elim h [ inl is ↦ inl (same y (inl refl) e ∙ is) | inr there ↦ there ])
+      (λ h. elim h [ inl is ↦ inl (same y (inl refl) e ∙ is) | inr there ↦ there ]),
     )
     go Greater e both = rw e ((λ h. h), (λ h. h))
 
@@ -213,10 +211,10 @@ set_removed rows key row table texts there begins =
     let found = row_of_key rows key row table texts there begins in
     let kept = λ (x : Row). in_filter (λ e. not (is_eq (entry_cmp plain e row))) x rows in
     let gone : (v : List ℕ) → IsIn (entry key v) (remove_entry plain row rows) → ⊥ = λ v h.
-        let was = (kept (entry key v)).0 h in
-        let only : v ≡ found.0 = table.once key v found.0 was.0 (subst (λ r. IsIn r rows) found.1 there) in
-        let tied : entry_cmp plain (entry key v) row ≡ Equal = subst (λ w. entry_cmp plain (entry key w) row ≡ Equal) (sym only) (subst (λ r. entry_cmp plain r row ≡ Equal) found.1 (tied_itself (entry_cmp_total plain) row)) in
-        true≢false (sym was.1 ∙ ap (λ o. not (is_eq o)) tied) in
+    let was = (kept (entry key v)).0 h in
+    let only : v ≡ found.0 = table.once key v found.0 was.0 (subst (λ r. IsIn r rows) found.1 there) in
+    let tied : entry_cmp plain (entry key v) row ≡ Equal = subst (λ w. entry_cmp plain (entry key w) row ≡ Equal) (sym only) (subst (λ r. entry_cmp plain r row ≡ Equal) found.1 (tied_itself (entry_cmp_total plain) row)) in
+    true≢false (sym was.1 ∙ ap (λ o. not (is_eq o)) tied) in
     record {
       table = record {
         entries = λ r h. table.entries r ((kept r).0 h).0;
@@ -225,7 +223,7 @@ set_removed rows key row table texts there begins =
       here = λ v. ((λ h. absurd (gone v h)), (λ e. absurd cc));
       others = λ k v apart. (
         (λ h. ((kept (entry k v)).0 h).0),
-        (λ h. (kept (entry k v)).1 (h, stays (entry k v) row rows (table.entries _ h) (table.entries _ there) (λ e. apart ((entry_parts k key v found.0 (e ∙ found.1)).0))))
+        (λ h. (kept (entry k v)).1 (h, stays (entry k v) row rows (table.entries _ h) (table.entries _ there) (λ e. apart ((entry_parts k key v found.0 (e ∙ found.1)).0)))),
       );
     }
   where
@@ -237,37 +235,47 @@ set_removed rows key row table texts there begins =
         tell Equal never = absurd (never refl)
         tell Greater never = refl
 
--- the row of a key that had none is put in
-pub set_inserted : (old rows : List Row) (key : Row) (value : List ℕ) → AreTexts key → SetsEntry old rows key None
-    → SetsEntry old (insert_entry plain (entry key value) rows) key (Some value)
-set_inserted old rows key value texts was =
+-- the row of a key that had none, or none but this one, is put in
+pub set_added : (rows : List Row) (key : Row) (value : List ℕ) → AreTexts key → IsTable (length key) rows → HasNoOther rows key value
+    → SetsEntry rows (insert_entry plain (entry key value) rows) key (Some value)
+set_added rows key value texts table only =
     let new = entry key value in
     let is_new : IsEntry (length key) new = record { key = key; value = value; texts = texts; wide = refl; is = refl } in
-    let ties : (r : Row) → IsIn r rows → entry_cmp plain r new ≡ Equal → r ≡ new = λ r h e. tied_entries (length key) r new (was.table.entries r h) is_new e in
+    let ties : (r : Row) → IsIn r rows → entry_cmp plain r new ≡ Equal → r ≡ new = λ r h e. tied_entries (length key) r new (table.entries r h) is_new e in
     let come = λ (x : Row). in_insert new x rows ties in
-    let none : (v : List ℕ) → IsIn (entry key v) rows → ⊥ = λ v h. let e : None_bytes ≡ Some v = (was.here v).0 h in absurd cc in
     record {
       table = record {
-        entries = λ r h. elim ((come r).0 h) [ inl is ↦ subst (IsEntry (length key)) is is_new | inr there ↦ was.table.entries r there ];
+        entries = λ r h. elim ((come r).0 h) [ inl is ↦ subst (IsEntry (length key)) is is_new | inr there ↦ table.entries r there ];
         once = λ k a b h l. one k a b ((come (entry k a)).0 h) ((come (entry k b)).0 l);
       };
       here = λ v. (
-        (λ h. elim ((come (entry key v)).0 h) [ inl is ↦ ap Some (entry_parts key key value v is).1 | inr there ↦ absurd (none v there) ]),
-        (λ e. (come (entry key v)).1 (inl (let same : value ≡ v = cc in ap (entry key) same)))
+        (λ h. elim ((come (entry key v)).0 h) [ inl is ↦ ap Some (entry_parts key key value v is).1 | inr there ↦ ap Some (sym (only v there)) ]),
+        (λ e. (come (entry key v)).1 (inl (let same : value ≡ v = cc in ap (entry key) same))),
       );
       others = λ k v apart. (
-        (λ h. elim ((come (entry k v)).0 h) [ inl is ↦ absurd (apart (sym (entry_parts key k value v is).0)) | inr there ↦ (was.others k v apart).0 there ]),
-        (λ h. (come (entry k v)).1 (inr ((was.others k v apart).1 h)))
+        (λ h. elim ((come (entry k v)).0 h) [ inl is ↦ absurd (apart (sym (entry_parts key k value v is).0)) | inr there ↦ there ]),
+        (λ h. (come (entry k v)).1 (inr h)),
       );
     }
   where
-    never : (v : List ℕ) → IsIn (entry key v) rows → ⊥
-    never v h = let e : None_bytes ≡ Some v = (was.here v).0 h in absurd cc
     one : (k : Row) (a b : List ℕ) → (entry key value ≡ entry k a) ⊎ IsIn (entry k a) rows → (entry key value ≡ entry k b) ⊎ IsIn (entry k b) rows → a ≡ b
     one k a b (inl x) (inl y) = sym (entry_parts key k value a x).1 ∙ (entry_parts key k value b y).1
-    one k a b (inl x) (inr y) = absurd (never b (subst (λ l. IsIn (entry l b) rows) (sym (entry_parts key k value a x).0) y))
-    one k a b (inr x) (inl y) = absurd (never a (subst (λ l. IsIn (entry l a) rows) (sym (entry_parts key k value b y).0) x))
-    one k a b (inr x) (inr y) = was.table.once k a b x y
+    one k a b (inl x) (inr y) = sym (entry_parts key k value a x).1 ∙ sym (only b (subst (λ l. IsIn (entry l b) rows) (sym (entry_parts key k value a x).0) y))
+    one k a b (inr x) (inl y) = only a (subst (λ l. IsIn (entry l a) rows) (sym (entry_parts key k value b y).0) x) ∙ (entry_parts key k value b y).1
+    one k a b (inr x) (inr y) = table.once k a b x y
+
+-- a key is given none, and then a value
+pub set_then : (old mid new : List Row) (key : Row) (value : List ℕ) → SetsEntry old mid key None → SetsEntry mid new key (Some value)
+    → SetsEntry old new key (Some value)
+set_then old mid new key value p q = record {
+  table = q.table;
+  here = q.here;
+  others = λ k v apart. ((λ h. (p.others k v apart).0 ((q.others k v apart).0 h)), (λ h. (q.others k v apart).1 ((p.others k v apart).1 h)));
+}
+
+-- a key that has no value has no other
+pub none_other : (rows : List Row) (key : Row) (value : List ℕ) → Says rows key None → HasNoOther rows key value
+none_other rows key value says v h = let e : None_bytes ≡ Some v = (says v).0 h in absurd cc
 
 -- ---- what a call leaves of a store
 

@@ -1,12 +1,11 @@
 -- What rows spell that are read one after the other.
 use Rattle.std.proofs.Common.{◌≡◌, ◌⊎◌, ◌↔◌, ℕ, Bool, true, false, cond, List, [], ◌∷◌, ◌++◌, length, Option, Some, None, refl, sym, ap, subst, ◌∙◌, inl, inr}
-use Rattle.std.specs.declared.cmp.Ordering.{Ordering}
-use Rattle.std.specs.Ordering.{eq_by_cmp, is_lt}
+use Rattle.std.specs.Ordering.{eq_by_cmp}
 use Rattle.std.specs.Option.{option_and_then, option_map}
 use Rattle.std.specs.Cmp.Lexicographic.{nat_list_cmp_total}
 use Rattle.std.specs.FinMap as finmap
 use Rattle.std.specs.FinMap.{get-empty, get-insert}
-use Rattle.objstore.specs.Omap.{Omap, PairMap, key_cmp}
+use Rattle.objstore.specs.Omap.{Omap, key_cmp}
 use Rattle.objstore.specs.Objects.{Objects, header_at}
 use Rattle.sqlite_value.specs.Order.{Row}
 use Rattle.sqlite_value.specs.Keys.{plain}
@@ -25,10 +24,9 @@ from_no_key (r ∷ rows) = refl
 pub in_pushed : (x row : Row) (rows : List Row) → IsIn x (rows ++ row ∷ []) ↔ (IsIn x rows ⊎ (row ≡ x))
 in_pushed x row [] = ((λ h. elim h [ inl is ↦ inr is | inr away ↦ absurd away ]), (λ h. elim h [ inl away ↦ absurd away | inr is ↦ inl is ]))
 in_pushed x row (y ∷ rows) =
-    let both = in_pushed x row rows in
-    (
+    let both = in_pushed x row rows in (
       (λ h. elim h [ inl is ↦ inl (inl is) | inr rest ↦ elim (both.0 rest) [ inl there ↦ inl (inr there) | inr is ↦ inr is ] ]),
-      (λ h. elim h [ inl there ↦ elim there [ inl is ↦ inl is | inr rest ↦ inr (both.1 (inl rest)) ] | inr is ↦ inr (both.1 (inr is)) ])
+      (λ h. elim h [ inl there ↦ elim there [ inl is ↦ inl is | inr rest ↦ inr (both.1 (inl rest)) ] | inr is ↦ inr (both.1 (inr is)) ]),
     )
 
 none_some : {X : Type 0} (o : Option X) (v : X) → o ≡ None → o ≡ Some v → ⊥
@@ -44,8 +42,10 @@ table_pushed width rows key value table texts wide none = record {
   where
     new : IsEntry width (entry key value)
     new = record { key = key; value = value; texts = texts; wide = wide; is = refl }
+
     never : (v : List ℕ) → IsIn (entry key v) rows → ⊥
     never v h = none_some None v refl ((none v).0 h)
+
     one : (k : Row) (a b : List ℕ) → IsIn (entry k a) rows ⊎ (entry key value ≡ entry k a) → IsIn (entry k b) rows ⊎ (entry key value ≡ entry k b) → a ≡ b
     one k a b (inl x) (inl y) = table.once k a b x y
     one k a b (inl x) (inr y) = absurd (never a (subst (λ l. IsIn (entry l a) rows) (sym (entry_parts key k value b y).0) x))
@@ -61,14 +61,14 @@ says_pushed rows key value k was now says (inl it) = λ v. (
     | inr is ↦ it.2 ∙ ap Some (entry_parts key k value v is).1
   ]),
   (λ e. (in_pushed (entry k v) (entry key value) rows).1 (inr (let same : value ≡ v = let m : Some value ≡ Some v = sym it.2 ∙ e in cc in
-      ap (λ l. entry l value) (sym it.0) ∙ ap (entry k) same)))
+      ap (λ l. entry l value) (sym it.0) ∙ ap (entry k) same))),
 )
 says_pushed rows key value k was now says (inr it) = λ v. (
   (λ h. elim ((in_pushed (entry k v) (entry key value) rows).0 h) [
     | inl there ↦ it.1 ∙ (says v).0 there
     | inr is ↦ absurd (it.0 (sym (entry_parts key k value v is).0))
   ]),
-  (λ e. (in_pushed (entry k v) (entry key value) rows).1 (inl ((says v).1 (sym it.1 ∙ e))))
+  (λ e. (in_pushed (entry k v) (entry key value) rows).1 (inl ((says v).1 (sym it.1 ∙ e)))),
 )
 
 -- ---- headers
@@ -102,6 +102,7 @@ header_added rows old new row s a =
         let same : n ≡ a.name = same_name n a.name e in
         inl (ap object_key same, ap (header_at old) same ∙ ap (option_map (λ (o : Omap). o.header)) a.absent, ap (λ o. header_at o n) a.added ∙ header_after old a.name a.header n true e)
     at n false e = inr (λ same. apart_names n a.name e cc, ap (λ o. header_at o n) a.added ∙ header_after old a.name a.header n false e)
+
     none : (n k : List ℕ) (b : Bool) → eq_by_cmp key_cmp n a.name ≡ b → value_at new n k ≡ None
     none n k true e = ap (λ o. value_at o n k) a.added ∙ rw (get-insert nat_list_cmp_total, e) (get-empty key_cmp k)
     none n k false e = ap (λ o. value_at o n k) a.added ∙ rw (get-insert nat_list_cmp_total, e) (s.bare n k)
@@ -130,12 +131,15 @@ pair_added heads rows old new row s a =
   where
     put : Omap
     put = record { header = a.object.header; pairs = finmap.insert a.object.pairs a.key a.value }
+
     header_same : (n : List ℕ) (b : Bool) → eq_by_cmp key_cmp n a.name ≡ b → header_at new n ≡ header_at old n
     header_same n true e =
         ap (λ o. header_at o n) a.added ∙ (rw (get-insert nat_list_cmp_total, e) refl ∙ sym (ap (header_at old) (same_name n a.name e) ∙ ap (option_map (λ (o : Omap). o.header)) a.there))
     header_same n false e = ap (λ o. header_at o n) a.added ∙ rw (get-insert nat_list_cmp_total, e) refl
+
     was : (n k : List ℕ) → n ≡ a.name → value_at old n k ≡ finmap.get a.object.pairs k
     was n k same = ap (λ m. value_at old m k) same ∙ ap (option_and_then (λ (o : Omap). finmap.get o.pairs k)) a.there
+
     at : (n k : List ℕ) (b c : Bool) → eq_by_cmp key_cmp n a.name ≡ b → eq_by_cmp key_cmp k a.key ≡ c
         → ((pair_key n k ≡ pair_key a.name a.key) × (value_at old n k ≡ None) × (value_at new n k ≡ Some a.value)) ⊎ ((pair_key n k ≡ pair_key a.name a.key → ⊥) × (value_at new n k ≡ value_at old n k))
     at n k true true e f =

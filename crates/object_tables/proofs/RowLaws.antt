@@ -1,7 +1,7 @@
 -- What a row of a table says, and the object or the pair that an operation makes of it.
-use Rattle.std.proofs.Common.{◌≡◌, ℕ, Bool, true, false, cond, List, [], ◌∷◌, length, Option, Some, None, refl, sym, ap, subst, ◌∙◌, arith, suc, is_some, option_copied, true≢false, Result, Ok, OnOk}
+use Rattle.std.proofs.Common.{◌≡◌, ℕ, Bool, true, false, cond, List, [], ◌∷◌, length, Option, Some, None, refl, sym, ap, subst, ◌∙◌, arith, is_some, option_copied, true≢false, Result, Ok, OnOk}
 use Rattle.std.specs.Borrow.{Bor}
-use Rattle.std.specs.Option.{option_or, unwrap_or}
+use Rattle.std.specs.Option.{option_or}
 use Rattle.std.specs.Ordering.{eq_by_cmp}
 use Rattle.std.specs.Cmp.Lexicographic.{nat_list_cmp_total}
 use Rattle.std.specs.FinMap as map
@@ -9,13 +9,11 @@ use Rattle.std.specs.FinMap.{get-empty, get-insert, same_map}
 use Rattle.std.proofs.lemmas.Map.Lookups.{exact_bytes}
 use Rattle.sorted_map.specs.Overlay.{overlaid, without_keys}
 use Rattle.sorted_map.proofs.MapLaws.{get-overlaid, get-without_keys}
-use Rattle.objstore.specs.Omap.{Omap, PairMap, Keys, empty_omap, key_cmp}
+use Rattle.objstore.specs.Omap.{Omap, PairMap, empty_omap, key_cmp}
 use Rattle.objstore.specs.Objects.{Objects, written}
 use Rattle.objstore.specs.Writes.{applied, nothing}
-use Rattle.objstore.specs.declared.write_ops.WriteOp.{WriteOp}
 use Rattle.objstore.proofs.WriteLaws.{applied-parts}
 use Rattle.sqlite_value.specs.declared.value.Value.{Value}
-use Rattle.sqlite_value.specs.declared.value.Value.TheVariants.{Blob, Text}
 use Rattle.sqlite_value.specs.Order.{Row, column}
 
 pub two_columns : (row : Row) (a b : Value) → length row ≡ 2 → column row 0 ≡ a → column row 1 ≡ b → row ≡ a ∷ b ∷ []
@@ -41,14 +39,14 @@ get_laid pairs set q =
 pub header_applied : (header : List ℕ) → applied (record nothing { header = Some header }) empty_omap ≡ record { header = header; pairs = map.empty }
 header_applied header =
     let pairs : without_keys {W = Unit {0}} (overlaid map.empty map.empty) map.empty ≡ map.empty {X = List ℕ} {R = key_cmp} =
-        same_map nat_list_cmp_total exact_bytes _ _ (λ q. get_laid map.empty map.empty q ∙ rw (get-empty key_cmp) refl) in
+    same_map nat_list_cmp_total exact_bytes _ _ (λ q. get_laid map.empty map.empty q ∙ rw (get-empty key_cmp) refl) in
     applied-parts (record nothing { header = Some header }) empty_omap ∙ (λ i. record { header = header; pairs = pairs i })
 
 pub pair_applied : (object : Omap) (key value : List ℕ)
     → applied (record nothing { set = map.insert map.empty key value }) object ≡ record { header = object.header; pairs = map.insert object.pairs key value }
 pair_applied object key value =
     let pairs : without_keys {W = Unit {0}} (overlaid object.pairs (map.insert map.empty key value)) map.empty ≡ map.insert object.pairs key value =
-        same_map nat_list_cmp_total exact_bytes _ _ (λ q. get_laid object.pairs (map.insert map.empty key value) q ∙ (put q (eq_by_cmp key_cmp q key) refl ∙ sym (get-insert nat_list_cmp_total object.pairs key value q))) in
+    same_map nat_list_cmp_total exact_bytes _ _ (λ q. get_laid object.pairs (map.insert map.empty key value) q ∙ (put q (eq_by_cmp key_cmp q key) refl ∙ sym (get-insert nat_list_cmp_total object.pairs key value q))) in
     applied-parts (record nothing { set = map.insert map.empty key value }) object ∙ (λ i. record { header = object.header; pairs = pairs i })
   where
     put : (q : List ℕ) (b : Bool) → eq_by_cmp key_cmp q key ≡ b

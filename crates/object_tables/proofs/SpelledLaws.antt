@@ -1,22 +1,22 @@
 -- What tables spell while names and keys are brought into them one by one, and that they spell one set of objects.
-use Rattle.std.proofs.Common.{◌≡◌, ◌⊎◌, ◌↔◌, ℕ, Bool, true, false, ◌||◌, List, [], ◌∷◌, map, Option, Some, None, refl, sym, ap, subst, ◌∙◌, true≢false, T}
+use Rattle.std.proofs.Common.{◌≡◌, ◌⊎◌, ℕ, Bool, true, false, ◌||◌, List, ◌∷◌, Option, Some, None, is_some, inl, inr, cond, Result, Ok, Err, OnOk, OnErr, refl, sym, ap, subst, ◌∙◌, true≢false}
 use Rattle.std.specs.declared.cmp.Ordering.{Ordering}
 use Rattle.std.specs.declared.cmp.Ordering.TheVariants.{Less, Equal, Greater}
-use Rattle.std.specs.Ordering.{is_eq, eq_by_cmp, ordering_then}
+use Rattle.std.specs.Ordering.{is_eq, eq_by_cmp}
 use Rattle.std.specs.Cmp.{tied_itself}
 use Rattle.std.specs.Cmp.Lexicographic.{nat_list_cmp_total}
 use Rattle.std.specs.Option.{option_and_then, option_map}
 use Rattle.std.specs.FinMap as finmap
-use Rattle.std.specs.FinMap.{contains_key-keys, same_map}
+use Rattle.std.specs.FinMap.{contains_key-keys, get-empty, get-insert, same_map}
 use Rattle.std.proofs.lemmas.Map.Lookups.{exact_bytes, exact_pairs}
-use Rattle.objstore.specs.Omap.{Omap, PairMap, key_cmp}
+use Rattle.objstore.specs.Omap.{Keys, Omap, key_cmp}
 use Rattle.objstore.specs.Objects.{Objects, header_at}
 use Rattle.sqlite_value.specs.Order.{Row}
 use Rattle.sqlite_trees.specs.Tree.{Trees}
 use Rattle.sqlite_trees.specs.View.{View}
-use Rattle.object_tables.specs.Entries.{IsIn, IsTable, Puts, Says, SetsEntry, entry}
+use Rattle.object_tables.specs.Entries.{HasRow, IsIn, IsTable, Puts, Says, SetsEntry, entry}
 use Rattle.object_tables.specs.Noted.{Noted, Spot, has_key, has_name, is_key_of, is_name_of, spot_cmp}
-use Rattle.object_tables.specs.Spelled.{HaveOneSpelling, Spells, SpellsBut, object_key, pair_key, value_at}
+use Rattle.object_tables.specs.Spelled.{AreRight, HaveOneSpelling, HaveOwners, Spells, SpellsBut, StayListed, object_key, pair_key, value_at}
 
 is_equal : (o : Ordering) → is_eq o ≡ true → o ≡ Equal
 is_equal Less e = absurd (true≢false (sym e))
@@ -70,7 +70,7 @@ said_still : (old new : List Row) (key other : Row) (value said : Option (List �
     → Says old other said → Says new other said
 said_still old new key other value said set apart says = λ v. (
   (λ h. (says v).0 ((set.others other v apart).0 h)),
-  (λ e. (set.others other v apart).1 ((says v).1 e))
+  (λ e. (set.others other v apart).1 ((says v).1 e)),
 )
 
 -- one name fewer
@@ -114,6 +114,86 @@ value_put old new objects name key rest names put s =
         said_still (old.trees 1) (new.trees 1) (pair_key name key) (pair_key n k) (value_at objects name key) (value_at objects n k) put.sets
         (λ same. apart_spots (n, k) (name, key) e (let a : n ≡ name = cc in let b : k ≡ key = cc in λ i. (a i, b i)))
         (s.values n k (either_false _ _ e out))
+
+-- ---- objects that are new in the tables
+
+-- tables that spell objects have a row for each pair's object
+pub spells_owned : (trees : Trees) (objects : Objects) → Spells trees objects → HaveOwners trees
+spells_owned trees objects s name key value row = go (finmap.get objects name) refl ((s.values name key refl value).0 row)
+  where
+    go : (o : Option Omap) → finmap.get objects name ≡ o → option_and_then (λ (x : Omap). finmap.get x.pairs key) o ≡ Some value → HasRow (trees 0) (object_key name)
+    go None is e = absurd cc
+    go (Some x) is e = (x.header, (s.headers name refl x.header).1 (ap (option_map (λ (o : Omap). o.header)) is))
+
+-- what holds while headers are brought in: the pairs are as they were, no object that is there has lost its row, and the
+-- fresh ones have no wrong pair
+pub record Listing (old new : Trees) (objects : Objects) (fresh : Keys) : Type 0 where
+  pub pairs : new 1 ≡ old 1
+  pub listed : StayListed (old 0) (new 0) objects
+  pub right : AreRight (old 1) objects (finmap.contains_key fresh)
+
+pub none_fresh : (old new : Trees) (objects : Objects) (fresh : Keys) → new ≡ old → fresh ≡ finmap.empty → Listing old new objects fresh
+none_fresh old new objects fresh same none = record {
+  pairs = ap (λ (t : Trees). t 1) same;
+  listed = λ name some row. subst (λ (t : Trees). HasRow (t 0) (object_key name)) (sym same) row;
+  right = λ name key value there row. absurd (true≢false (sym there ∙ (ap (λ (f : Keys). finmap.contains_key f name) none ∙ ap is_some (get-empty key_cmp name))));
+}
+
+some_of : {X : Type 0} (o : Option X) → is_some o ≡ true → (x : X) × (o ≡ Some x)
+some_of (Some x) some = (x, refl)
+some_of None some = absurd (true≢false (sym some))
+
+-- a name that is among those to which one was added is that one, or was among them
+pub put_in : {E : Type 0} (r : Result (Unit {0}) E) (old new : Keys) (name n : List ℕ) → OnOk r (new ≡ finmap.insert old name tt) → OnErr r (new ≡ old)
+    → finmap.contains_key new n ≡ true → (finmap.contains_key old n ≡ true) ⊎ (n ≡ name)
+put_in (Err e) old new name n ok err there = inl (ap (λ (m : Keys). finmap.contains_key m n) (sym err) ∙ there)
+put_in (Ok done) old new name n ok err there =
+    go (eq_by_cmp key_cmp n name) refl (ap is_some (sym (get-insert nat_list_cmp_total old name tt n)) ∙ (ap (λ (m : Keys). finmap.contains_key m n) (sym ok) ∙ there))
+  where
+    go : (b : Bool) → eq_by_cmp key_cmp n name ≡ b → is_some (cond b (Some tt) (finmap.get old n)) ≡ true → (finmap.contains_key old n ≡ true) ⊎ (n ≡ name)
+    go true e h = inr (same_name n name e)
+    go false e h = inl h
+
+pub listing_put : (old : Trees) (mid new : View) (objects : Objects) (name : List ℕ) (fresh more : Keys) (is_new : Bool) → HaveOwners old
+    → Listing old mid.trees objects fresh → Puts mid new 0 (object_key name) (header_at objects name)
+    → (is_new ≡ true → (is_some (header_at objects name) ≡ true) × (HasRow (mid.trees 0) (object_key name) → ⊥))
+    → ((n : List ℕ) → finmap.contains_key more n ≡ true → (finmap.contains_key fresh n ≡ true) ⊎ ((n ≡ name) × (is_new ≡ true)))
+    → Listing old new.trees objects more
+listing_put old mid new objects name fresh more is_new owners l put tells puts = record {
+  pairs = put.others 1 (λ e. absurd cc) ∙ l.pairs;
+  listed = λ n some row. at n some (l.listed n some row) (eq_by_cmp key_cmp n name) refl;
+  right = λ n k v there row. elim (puts n there) [
+    | inl early ↦ l.right n k v early row
+    | inr late ↦
+        let it = tells late.1 in
+        let had : HasRow (old 0) (object_key name) = subst (λ x. HasRow (old 0) (object_key x)) late.0 (owners n k v row) in
+        absurd (it.1 (l.listed name it.0 had))
+  ];
+}
+  where
+    at : (n : List ℕ) → is_some (header_at objects n) ≡ true → HasRow (mid.trees 0) (object_key n) → (b : Bool) → eq_by_cmp key_cmp n name ≡ b
+        → HasRow (new.trees 0) (object_key n)
+    at n some row true e =
+        let same = same_name n name e in
+        let it = some_of (header_at objects name) (subst (λ x. is_some (header_at objects x) ≡ true) same some) in
+        subst (λ x. HasRow (new.trees 0) (object_key x)) (sym same) (it.0, (put.sets.here it.0).1 it.1)
+    at n some row false e = (row.0, (put.sets.others (object_key n) row.0 (λ same. apart_names n name e cc)).1 row.1)
+
+pub right_after : (old new : Trees) (objects : Objects) (fresh : Keys) → Listing old new objects fresh → AreRight (new 1) objects (finmap.contains_key fresh)
+right_after old new objects fresh l = subst (λ rows. AreRight rows objects (finmap.contains_key fresh)) (sym l.pairs) l.right
+
+-- a pair is brought in
+pub right_put : (old new : View) (objects : Objects) (name key : List ℕ) (fresh : List ℕ → Bool) → Puts old new 1 (pair_key name key) (value_at objects name key)
+    → AreRight (old.trees 1) objects fresh → AreRight (new.trees 1) objects fresh
+right_put old new objects name key fresh put right n k v there row = at (eq_by_cmp spot_cmp (n, k) (name, key)) refl
+  where
+    at : (b : Bool) → eq_by_cmp spot_cmp (n, k) (name, key) ≡ b → value_at objects n k ≡ Some v
+    at true e =
+        let same : ◌≡◌ {A = Spot} (n, k) (name, key) = same_spot (n, k) (name, key) e in
+        let here = subst (λ (x : Spot). IsIn (entry (pair_key x.0 x.1) v) (new.trees 1)) same row in
+        subst (λ (x : Spot). value_at objects x.0 x.1 ≡ Some v) (sym same) ((put.sets.here v).0 here)
+    at false e =
+        right n k v there ((put.sets.others (pair_key n k) v (λ same. apart_spots (n, k) (name, key) e (let a : n ≡ name = cc in let b : k ≡ key = cc in λ i. (a i, b i)))).0 row)
 
 -- ---- one spelling
 

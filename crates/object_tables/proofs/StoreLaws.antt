@@ -3,17 +3,16 @@ use Rattle.std.proofs.Common.{◌≡◌, ℕ, Bool, true, false, ◌==◌, cond,
 use Rattle.std.proofs.lemmas.List.{append-nil}
 use Rattle.std.specs.Ordering.{is_eq}
 use Rattle.sqlite_value.specs.declared.value.Value.TheVariants.{Blob}
-use Rattle.sqlite_value.specs.Order.{Row, column}
-use Rattle.sqlite_value.specs.Keys.{entry_cmp, plain, prefix_cmp}
-use Rattle.sqlite_trees.specs.declared.store.Shape.{Shape}
+use Rattle.sqlite_value.specs.Order.{Row}
+use Rattle.sqlite_value.specs.Keys.{plain, prefix_cmp}
 use Rattle.sqlite_trees.specs.declared.store.Shape.TheVariants.{Index}
 use Rattle.sqlite_trees.specs.declared.store.Direction.TheVariants.{Forward}
-use Rattle.sqlite_trees.specs.Tree.{IsIndex, Trees, from_key, insert_entry, order_of, remove_entry, sought, with_tree}
+use Rattle.sqlite_trees.specs.Tree.{IsIndex, Trees, from_key, insert_entry, order_of, remove_entry, sought}
 use Rattle.sqlite_trees.specs.View.{Advances, Commits, IsOrdered, IsRolledBack, IsShaped, KeepsSchema, OnlyWrites, SetsTree, View, with_cursor}
-use Rattle.object_tables.specs.Entries.{AreTexts, FindsEntry, HoldsValue, IsTable, Looks, Puts, SetsEntry, entry}
+use Rattle.object_tables.specs.Entries.{AreTexts, HasNoOther, HoldsValue, IsTable, Looks, Misses, Puts, SetsEntry, entry}
 use Rattle.object_tables.specs.Reading.{Reads}
 use Rattle.object_tables.proofs.ReadLaws.{from_no_key}
-use Rattle.object_tables.proofs.EntryLaws.{looked, looked_past, set_absent, set_already, set_inserted, set_removed}
+use Rattle.object_tables.proofs.EntryLaws.{begins_itself, looked, looked_past, none_other, set_absent, set_added, set_already, set_removed, set_then}
 
 -- ---- looks
 
@@ -115,7 +114,7 @@ pub put_removed : (old mid new : View) (tree : ℕ) (key row : Row) → IsTable 
 put_removed old mid new tree key row table texts look shape set only =
     let same : mid.trees ≡ old.trees = ap (λ (v : View). v.trees) look.is in
     let there : new.trees tree ≡ remove_entry plain row (old.trees tree) =
-        edited_there mid new tree _ set ∙ (ap (λ s. remove_entry (order_of s) row (mid.trees tree)) shape ∙ ap (λ (t : Trees). remove_entry plain row (t tree)) same) in
+    edited_there mid new tree _ set ∙ (ap (λ s. remove_entry (order_of s) row (mid.trees tree)) shape ∙ ap (λ (t : Trees). remove_entry plain row (t tree)) same) in
     record {
       sound = look.sound;
       sets = subst (λ rows. SetsEntry (old.trees tree) rows key None) (sym there)
@@ -124,19 +123,35 @@ put_removed old mid new tree key row table texts look shape set only =
       only = writes_on old mid new (looks_only old mid tree key row true look) only;
     }
 
-pub put_inserted : (old mid new : View) (tree : ℕ) (key row : Row) (value : List ℕ) → AreTexts key → Puts old mid tree key None
-    → mid.shape tree ≡ Index plain → row ≡ entry key value → SetsTree mid new tree (insert_entry (order_of (mid.shape tree)) row)
-    → OnlyWrites mid new → Puts old new tree key (Some value)
-put_inserted old mid new tree key row value texts put shape is set only =
-    let there : new.trees tree ≡ insert_entry plain (entry key value) (mid.trees tree) =
-        edited_there mid new tree _ set ∙ (ap (λ s. insert_entry (order_of s) row (mid.trees tree)) shape ∙ ap (λ r. insert_entry plain r (mid.trees tree)) is) in
+pub put_added : (old new : View) (tree : ℕ) (key row : Row) (value : List ℕ) → AreTexts key → old.shape tree ≡ Index plain → row ≡ entry key value
+    → SetsTree old new tree (insert_entry (order_of (old.shape tree)) row) → OnlyWrites old new → IsTable (length key) (old.trees tree)
+    → HasNoOther (old.trees tree) key value → Puts old new tree key (Some value)
+put_added old new tree key row value texts shape is set only table alone =
+    let there : new.trees tree ≡ insert_entry plain (entry key value) (old.trees tree) =
+    edited_there old new tree _ set ∙ (ap (λ s. insert_entry (order_of s) row (old.trees tree)) shape ∙ ap (λ r. insert_entry plain r (old.trees tree)) is) in
     record {
-      sound = put.sound;
-      sets = subst (λ rows. SetsEntry (old.trees tree) rows key (Some value)) (sym there)
-          (set_inserted (old.trees tree) (mid.trees tree) key value texts put.sets);
-      others = λ t away. edited_not mid new tree t _ set away ∙ put.others t away;
-      only = writes_on old mid new put.only only;
+      sound = set.sound;
+      sets = subst (λ rows. SetsEntry (old.trees tree) rows key (Some value)) (sym there) (set_added (old.trees tree) key value texts table alone);
+      others = λ t away. edited_not old new tree t _ set away;
+      only = only;
     }
+
+-- a key is given none, and then a value
+pub put_then : (old mid new : View) (tree : ℕ) (key : Row) (value : List ℕ) → Puts old mid tree key None
+    → (IsTable (length key) (mid.trees tree) → HasNoOther (mid.trees tree) key value → Puts mid new tree key (Some value)) → Puts old new tree key (Some value)
+put_then old mid new tree key value p more =
+    let q = more p.sets.table (none_other (mid.trees tree) key value p.sets.here) in
+    record {
+      sound = p.sound;
+      sets = set_then (old.trees tree) (mid.trees tree) (new.trees tree) key value p.sets q.sets;
+      others = λ t away. q.others t away ∙ p.others t away;
+      only = writes_on old mid new p.only q.only;
+    }
+
+-- what a look tells
+pub missed : (old mid : View) (tree : ℕ) (key row : Row) (found : Bool) → Looks old mid tree key row found → Misses (old.trees tree) key found
+missed old mid tree key row true look = tt
+missed old mid tree key row false look = λ has. look.finds (entry key has.0) has.1 (begins_itself key (Blob has.0 ∷ []))
 
 -- what follows from two facts of an answer that is Ok
 pub on_ok_both : {A E : Type 0} (r : Result A E) (P Q R : Type 0) → (P → Q → R) → OnOk r P → OnOk r Q → OnOk r R

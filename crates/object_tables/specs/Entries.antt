@@ -40,6 +40,13 @@ pub record IsTable (width : ℕ) (rows : List Row) : Type 0 where
   pub entries : (row : Row) → IsIn row rows → IsEntry width row
   pub once : (key : Row) (a b : List ℕ) → IsIn (entry key a) rows → IsIn (entry key b) rows → a ≡ b
 
+-- a key has a row; and it has none but that of this value
+abbrev pub HasRow : List Row → Row → Type 0
+HasRow rows key = (value : List ℕ) × IsIn (entry key value) rows
+
+abbrev pub HasNoOther : List Row → Row → List ℕ → Type 0
+HasNoOther rows key value = (v : List ℕ) → IsIn (entry key v) rows → v ≡ value
+
 -- the key has just this value there, or none
 abbrev pub Says : List Row → Row → Option (List ℕ) → Type 0
 Says rows key value = (v : List ℕ) → IsIn (entry key v) rows ↔ (value ≡ Some v)
@@ -56,6 +63,11 @@ pub record Puts (old new : View) (tree : ℕ) (key : Row) (value : Option (List 
   pub sets : SetsEntry (old.trees tree) (new.trees tree) key value
   pub others : (t : ℕ) → (t ≡ tree → ⊥) → new.trees t ≡ old.trees t
   pub only : OnlyWrites old new
+
+-- whether a key had a row: where it had none, this is told
+abbrev pub Misses : List Row → Row → Bool → Type 0
+Misses rows key true = Unit {0}
+Misses rows key false = HasRow rows key → ⊥
 
 -- the row is of this key; or none is
 abbrev pub FindsEntry : List Row → Row → Row → Bool → Type 0

@@ -1,7 +1,7 @@
 -- What rows that were read so far spell: words of the contracts of private functions.
-use Rattle.std.specs.Prelude.{◌≡◌, ℕ, false, List, [], ◌∷◌, ◌++◌, Option, Some, None}
+use Rattle.std.specs.Prelude.{◌≡◌, ℕ, false, List, ◌++◌, Some, None}
 use Rattle.std.specs.FinMap as finmap
-use Rattle.objstore.specs.Omap.{Omap, empty_omap}
+use Rattle.objstore.specs.Omap.{Omap}
 use Rattle.objstore.specs.Objects.{Objects, header_at}
 use Rattle.sqlite_value.specs.Order.{Row}
 use Rattle.sqlite_trees.specs.View.{View}

@@ -1,5 +1,5 @@
 -- How two tables spell objects: the one has a row for each object with its header, the other one for each pair.
-use Rattle.std.specs.Prelude.{◌≡◌, ℕ, Bool, false, List, [], ◌∷◌, Option}
+use Rattle.std.specs.Prelude.{◌≡◌, ℕ, Bool, true, false, List, [], ◌∷◌, Option, Some, is_some}
 use Rattle.std.specs.Option.{option_and_then}
 use Rattle.std.specs.FinMap as finmap
 use Rattle.objstore.specs.Omap.{Omap}
@@ -10,7 +10,7 @@ use Rattle.sqlite_value.specs.Keys.{plain}
 use Rattle.sqlite_trees.specs.declared.store.Shape.TheVariants.{Index}
 use Rattle.sqlite_trees.specs.Tree.{Trees}
 use Rattle.sqlite_trees.specs.View.{View}
-use Rattle.object_tables.specs.Entries.{IsTable, Says}
+use Rattle.object_tables.specs.Entries.{HasRow, IsIn, IsTable, Says, entry}
 
 -- an object's key in its table, and a pair's in its own
 abbrev pub object_key : List ℕ → Row
@@ -35,6 +35,21 @@ pub record SpellsBut (trees : Trees) (objects : Objects) (names : List ℕ → B
 -- the tables have exactly the objects
 abbrev pub Spells : Trees → Objects → Type 0
 Spells trees objects = SpellsBut trees objects (λ _. false) (λ _ _. false)
+
+-- each pair's object has a row: so an object that has none has no pairs there
+abbrev pub HaveOwners : Trees → Type 0
+HaveOwners trees =
+    (name key value : List ℕ) → IsIn (entry (pair_key name key) value) (trees 1) → HasRow (trees 0) (object_key name)
+
+-- of these names there is no pair but those that the objects have
+abbrev pub AreRight : List Row → Objects → (List ℕ → Bool) → Type 0
+AreRight rows objects names =
+    (name key value : List ℕ) → names name ≡ true → IsIn (entry (pair_key name key) value) rows → value_at objects name key ≡ Some value
+
+-- no object that is there has lost its row
+abbrev pub StayListed : List Row → List Row → Objects → Type 0
+StayListed old new objects =
+    (name : List ℕ) → is_some (header_at objects name) ≡ true → HasRow old (object_key name) → HasRow new (object_key name)
 
 -- tables spell at most one set of objects
 abbrev pub HaveOneSpelling : Type 0

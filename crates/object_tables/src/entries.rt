@@ -4,7 +4,7 @@ ghost use Rattle.sqlite_value.specs.Order.{column};
 ghost use Rattle.sqlite_value.specs.Keys.{plain};
 ghost use Rattle.sqlite_value.specs.declared.value.Value.TheVariants.{Blob};
 ghost use Rattle.sqlite_trees.specs.View.{IsClean, IsQuiet, KeepsSchema, OnlyWrites};
-ghost use Rattle.object_tables.specs.Entries.{AreTexts, HoldsValue, IsTable, Looks, Puts, entry};
+ghost use Rattle.object_tables.specs.Entries.{AreTexts, HasNoOther, HoldsValue, IsTable, Looks, Misses, Puts, entry};
 
 use sqlite_trees::error::StoreError;
 use sqlite_trees::store::{Direction, Shape, Store};
@@ -15,44 +15,63 @@ use sqlite_value::value::ValueRef;
 // The cursor that looks for a row.
 const CURSOR: u16 = 0;
 
-/// Gives a key this value in a table whose rows are each a key and one value, or none. A row that is so already is left.
+/// Gives a key this value in a table whose rows are each a key and one value, or none, and says whether it had a row. A
+/// row that is so already is left.
 pub fn put_entry<T: Store>(
     trees: &mut T,
     tree: u32,
     key: &Row,
     value: Option<&[u8]>,
     row: &mut Row,
-) -> Result<(), StoreError>
+) -> Result<bool, StoreError>
     requires texts { AreTexts key.now }
     requires shaped { IsClean (T.Store.view trees.old) → (T.Store.view trees.old).shape tree ≡ Shape.Index plain }
     ensures ok { OnOk result (IsClean (T.Store.view trees.new) → IsTable (length key.now) ((T.Store.view trees.old).trees tree)
         → Puts (T.Store.view trees.old) (T.Store.view trees.new) tree key.now (option_copied value.entry)) }
+    ensures had { IfOk result (λ had. IsClean (T.Store.view trees.new) → Misses ((T.Store.view trees.old).trees tree) key.now had) }
     ensures frame { OnOk result (IsClean (T.Store.view trees.new) → OnlyWrites (T.Store.view trees.old) (T.Store.view trees.new)) }
     ensures schema { KeepsSchema (T.Store.view trees.old) (T.Store.view trees.new) }
     ensures quiet { IsQuiet T.Store.view T.Store.faults T.Store.recovers T.Store.is_shielded trees.old trees.new }
 {
-    if find(trees, tree, key, row)? {
+    let had = find(trees, tree, key, row)?;
+    if had {
         if has_value(row, key.len(), value) {
-            return Ok(());
+            return Ok(true);
         }
         trees.remove(tree, row)?;
     }
     match value {
         Some(value) => {
-            fill(row, key, value)?;
-            trees.insert(tree, row)
+            add_entry(trees, tree, key, value, row)?;
+            Ok(had)
         }
-        None => Ok(()),
+        None => Ok(had),
     }
 }
 
-// Whether there is a row of this key, which is read then.
-fn find<T: Store>(
+/// Puts in the row of a key that has none, or none but this one. It looks for no row, and so costs half.
+pub fn add_entry<T: Store>(
     trees: &mut T,
     tree: u32,
     key: &Row,
+    value: &[u8],
     row: &mut Row,
-) -> Result<bool, StoreError>
+) -> Result<(), StoreError>
+    requires texts { AreTexts key.now }
+    requires shaped { IsClean (T.Store.view trees.old) → (T.Store.view trees.old).shape tree ≡ Shape.Index plain }
+    ensures ok { OnOk result (IsClean (T.Store.view trees.new) → IsTable (length key.now) ((T.Store.view trees.old).trees tree)
+        → HasNoOther ((T.Store.view trees.old).trees tree) key.now value.now
+        → Puts (T.Store.view trees.old) (T.Store.view trees.new) tree key.now (Some value.now)) }
+    ensures frame { OnOk result (IsClean (T.Store.view trees.new) → OnlyWrites (T.Store.view trees.old) (T.Store.view trees.new)) }
+    ensures schema { KeepsSchema (T.Store.view trees.old) (T.Store.view trees.new) }
+    ensures quiet { IsQuiet T.Store.view T.Store.faults T.Store.recovers T.Store.is_shielded trees.old trees.new }
+{
+    fill(row, key, value)?;
+    trees.insert(tree, row)
+}
+
+// Whether there is a row of this key, which is read then.
+fn find<T: Store>(trees: &mut T, tree: u32, key: &Row, row: &mut Row) -> Result<bool, StoreError>
     requires shaped { IsClean (T.Store.view trees.old) → (T.Store.view trees.old).shape tree ≡ Shape.Index plain }
     ensures ok { IfOk result (λ found. IsClean (T.Store.view trees.new)
         → Looks (T.Store.view trees.old) (T.Store.view trees.new) tree key.now row.new found) }

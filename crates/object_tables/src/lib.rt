@@ -5,13 +5,14 @@
 mod changes;
 mod entries;
 mod laws;
+mod name_sets;
 mod reading;
 mod tables;
 mod writing;
 
 pub use changes::Changes;
-pub use entries::put_entry;
+pub use entries::{add_entry, put_entry};
 pub use laws::objects_have_one_spelling;
 pub use reading::{ReadFault, read_objects};
-pub use tables::{OBJECTS, PAIRS, schema};
+pub use tables::{OBJECTS, PAIRS, has_tables, schema};
 pub use writing::{save, write_changes};

@@ -148,8 +148,11 @@ fn header_op(alloc: Global, header: &[u8]) -> Result<WriteOp, AllocError>
 fn add_pair(alloc: Global, objects: &mut MemStore, row: &Row) -> Result<(), ReadFault>
     ensures { OnOk result (AddsPair objects.old objects.new row.now) }
 {
-    let (ValueRef::Text(name), ValueRef::Text(key), ValueRef::Blob(value)) =
-        (row.get(0), row.get(1), row.get(2)) else {
+    let (ValueRef::Text(name), ValueRef::Text(key), ValueRef::Blob(value)) = (
+        row.get(0),
+        row.get(1),
+        row.get(2),
+    ) else {
         return Err(ReadFault::Row);
     };
     let Ok(name) = str::from_utf8(name) else {

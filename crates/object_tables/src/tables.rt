@@ -1,10 +1,11 @@
 //! The two tables.
-ghost use Rattle.std.specs.Prelude.{◌≡◌, ◌∷◌, [], map};
+ghost use Rattle.std.specs.Prelude.{◌≡◌, ◌∷◌, [], IsTrue, map};
 ghost use Rattle.sqlite_value.specs.Keys.{plain};
 ghost use Rattle.sqlite_trees.specs.declared.store.Shape.TheVariants.{Index};
+ghost use Rattle.object_tables.specs.Spelled.{HasTables};
 
 use sqlite_trees::schema::Object;
-use sqlite_trees::store::Shape;
+use sqlite_trees::store::{Shape, Store};
 use sqlite_value::keys::Order;
 
 /// The number of the table of objects, each with its header.
@@ -39,4 +40,21 @@ pub fn schema() -> [Object<'static>; 2]
             ),
         },
     ]
+}
+
+/// Whether a store has the two tables.
+pub fn has_tables<T: Store>(trees: &T) -> bool
+    ensures { IsTrue result → HasTables (T.Store.view trees.now) }
+{
+    is_table(trees.shape(OBJECTS)) && is_table(trees.shape(PAIRS))
+}
+
+// Whether a tree's rows are in the order of their columns.
+fn is_table(shape: Shape) -> bool
+    ensures { IsTrue result → shape ≡ Index plain }
+{
+    match shape {
+        Shape::Index(order) => order.digits == 0,
+        _ => false,
+    }
 }

@@ -1,14 +1,16 @@
 //! Objects into the tables.
-ghost use Rattle.std.specs.Prelude.{◌≡◌, ◌⊎◌, ◌≤◌, ℕ, Bool, false, List, IsTrue, IfOk, OnOk, OnErr, option_copied};
+ghost use Rattle.std.specs.Prelude.{◌≡◌, ◌⊎◌, ◌≤◌, ℕ, Bool, true, false, List, Some, is_some, IsTrue, IfOk, OnOk, option_copied};
+ghost use Rattle.std.specs.FinMap as map;
 ghost use Rattle.objstore.specs.Objects.{header_at};
 ghost use Rattle.sqlite_trees.specs.Tree.{Trees};
 ghost use Rattle.sqlite_trees.specs.View.{IsClean, IsQuiet, KeepsSchema, OnlyWrites, doubt};
-ghost use Rattle.object_tables.specs.Entries.{IsTable, Puts};
+ghost use Rattle.object_tables.specs.Entries.{HasRow, IsIn, IsTable, Puts, entry};
 ghost use Rattle.object_tables.specs.Noted.{has_key, has_name, is_key_of, is_name_of};
-ghost use Rattle.object_tables.specs.Spelled.{HasTables, Spells, SpellsBut, object_key, pair_key, value_at};
+ghost use Rattle.object_tables.specs.Spelled.{AreRight, HasTables, HaveOwners, Spells, SpellsBut, object_key, pair_key, value_at};
 
 use crate::changes::Changes;
-use crate::entries::put_entry;
+use crate::entries::{add_entry, put_entry};
+use crate::name_sets::NameSet;
 use crate::tables::{OBJECTS, PAIRS};
 use mds_types::{Bytes, Text};
 use objstore::MemStore;
@@ -20,8 +22,8 @@ use sqlite_value::value::ValueRef;
 use std::alloc::{AllocError, Global};
 
 /// Brings what changed into the tables, in one transaction. Where the tables have spelled all objects but those names
-/// and keys, the last commit spells exactly the objects then. Whatever it answers, and wherever it is cut off, a crash
-/// leaves what it could leave before, or tables that spell exactly the objects.
+/// and keys, with a row for each pair's object, the last commit spells exactly the objects then. Whatever it answers, and
+/// wherever it is cut off, a crash leaves what it could leave before, or tables that spell exactly the objects.
 pub fn save<T: Store>(
     trees: &mut T,
     alloc: Global,
@@ -31,12 +33,12 @@ pub fn save<T: Store>(
     requires { IsClean (T.Store.view trees.old) → HasTables (T.Store.view trees.old) }
     ensures saved { OnOk result (IsClean (T.Store.view trees.new) → ((T.Store.view trees.old).is_broken ≡ false)
         × (SpellsBut (T.Store.view trees.old).trees objects.now (has_name changes.now) (has_key changes.now)
-        → Spells (T.Store.view trees.new).committed objects.now)) }
+        → HaveOwners (T.Store.view trees.old).trees → Spells (T.Store.view trees.new).committed objects.now)) }
     ensures open { OnOk result (IsClean (T.Store.view trees.new) → (T.Store.view trees.new).is_open ≡ (T.Store.view trees.old).is_open) }
     ensures crash { IsClean (T.Store.view trees.new) → (db : Trees) → T.Store.recovers trees.new db
         → T.Store.recovers trees.old db ⊎ (((T.Store.view trees.old).is_broken ≡ false)
         × (SpellsBut (T.Store.view trees.old).trees objects.now (has_name changes.now) (has_key changes.now)
-        → Spells db objects.now)) }
+        → HaveOwners (T.Store.view trees.old).trees → Spells db objects.now)) }
     ensures clean { doubt (T.Store.view trees.old).is_clean ≤ doubt (T.Store.view trees.new).is_clean }
     ensures fresh { IsClean (T.Store.view trees.new) → IsTrue (T.Store.view trees.new).is_open
         → (T.Store.view trees.new).trees ≡ (T.Store.view trees.new).committed }
@@ -62,51 +64,70 @@ pub fn write_changes<T: Store>(
     requires { IsClean (T.Store.view trees.old) → HasTables (T.Store.view trees.old) }
     ensures ok { OnOk result (IsClean (T.Store.view trees.new)
         → SpellsBut (T.Store.view trees.old).trees objects.now (has_name changes.now) (has_key changes.now)
-        → Spells (T.Store.view trees.new).trees objects.now) }
+        → HaveOwners (T.Store.view trees.old).trees → Spells (T.Store.view trees.new).trees objects.now) }
     ensures frame { OnOk result (IsClean (T.Store.view trees.new) → OnlyWrites (T.Store.view trees.old) (T.Store.view trees.new)) }
     ensures schema { KeepsSchema (T.Store.view trees.old) (T.Store.view trees.new) }
     ensures quiet { IsQuiet T.Store.view T.Store.faults T.Store.recovers T.Store.is_shielded trees.old trees.new }
 {
     let mut key = Row::new(alloc);
     let mut row = Row::new(alloc);
-    write_headers(trees, objects, changes.names(), &mut key, &mut row)?;
-    write_pairs(trees, objects, changes.keys(), &mut key, &mut row)
+    let fresh = write_headers(trees, alloc, objects, changes.names(), &mut key, &mut row)?;
+    write_pairs(trees, objects, changes.keys(), &fresh, &mut key, &mut row)
 }
 
-// The headers of these objects.
+// The headers of these objects. Answers the names of those that had no row, and so no pairs.
 fn write_headers<T: Store>(
     trees: &mut T,
+    alloc: Global,
     objects: &MemStore,
     mut names: Iter<'_, Text, ()>,
     key: &mut Row,
     row: &mut Row,
-) -> Result<(), StoreError>
+) -> Result<NameSet, StoreError>
     requires { IsClean (T.Store.view trees.old) → HasTables (T.Store.view trees.old) }
     ensures ok { OnOk result (IsClean (T.Store.view trees.new) → (keys : List ℕ → List ℕ → Bool)
         → SpellsBut (T.Store.view trees.old).trees objects.now (is_name_of names.entry) keys
         → SpellsBut (T.Store.view trees.new).trees objects.now (λ _. false) keys) }
+    ensures fresh { IfOk result (λ fresh. IsClean (T.Store.view trees.new) → (keys : List ℕ → List ℕ → Bool)
+        → SpellsBut (T.Store.view trees.old).trees objects.now (is_name_of names.entry) keys → HaveOwners (T.Store.view trees.old).trees
+        → AreRight ((T.Store.view trees.new).trees 1) objects.now (map.contains_key fresh)) }
     ensures frame { OnOk result (IsClean (T.Store.view trees.new) → OnlyWrites (T.Store.view trees.old) (T.Store.view trees.new)) }
     ensures schema { KeepsSchema (T.Store.view trees.old) (T.Store.view trees.new) }
     ensures quiet { IsQuiet T.Store.view T.Store.faults T.Store.recovers T.Store.is_shielded trees.old trees.new }
 {
+    let mut fresh = NameSet::new(alloc);
     while let Some((name, _)) = names.next() {
         let name = name.as_str();
         let header = header_of(objects, name);
-        put_header(trees, name, header, key, row)?;
+        let is_new = put_header(trees, name, header, key, row)?;
+        note_new(&mut fresh, alloc, name, is_new)?;
+    }
+    Ok(fresh)
+}
+
+// The name is put in, if it is a new object's.
+fn note_new(fresh: &mut NameSet, alloc: Global, name: &str, is_new: bool) -> Result<(), AllocError>
+    ensures { (n : List ℕ) → map.contains_key fresh.new n ≡ true
+        → (map.contains_key fresh.old n ≡ true) ⊎ ((n ≡ name.now) × (is_new ≡ true)) }
+{
+    if is_new {
+        return fresh.put(alloc, name);
     }
     Ok(())
 }
 
-// The pairs of these keys.
+// The pairs of these keys. Those of fresh objects have no row, and none is looked for.
 fn write_pairs<T: Store>(
     trees: &mut T,
     objects: &MemStore,
     mut keys: Iter<'_, (Text, Bytes), ()>,
+    fresh: &NameSet,
     key: &mut Row,
     row: &mut Row,
 ) -> Result<(), StoreError>
     requires { IsClean (T.Store.view trees.old) → HasTables (T.Store.view trees.old) }
     ensures ok { OnOk result (IsClean (T.Store.view trees.new) → (names : List ℕ → Bool)
+        → AreRight ((T.Store.view trees.old).trees 1) objects.now (map.contains_key fresh.now)
         → SpellsBut (T.Store.view trees.old).trees objects.now names (is_key_of keys.entry)
         → SpellsBut (T.Store.view trees.new).trees objects.now names (λ _ _. false)) }
     ensures frame { OnOk result (IsClean (T.Store.view trees.new) → OnlyWrites (T.Store.view trees.old) (T.Store.view trees.new)) }
@@ -114,9 +135,9 @@ fn write_pairs<T: Store>(
     ensures quiet { IsQuiet T.Store.view T.Store.faults T.Store.recovers T.Store.is_shielded trees.old trees.new }
 {
     while let Some((spot, _)) = keys.next() {
-        let name = spot.0.as_str();
-        let value = value_of(objects, name, &spot.1);
-        put_pair(trees, name, &spot.1, value, key, row)?;
+        let is_new = fresh.contains(&spot.0);
+        let value = value_of(objects, spot.0.as_str(), &spot.1);
+        put_pair(trees, spot, value, is_new, key, row)?;
     }
     Ok(())
 }
@@ -144,44 +165,57 @@ fn value_of<'a>(objects: &'a MemStore, name: &str, key: &Bytes) -> Option<&'a [u
     }
 }
 
-// Gives an object this header in its table, or none.
+// Gives an object this header in its table, or none. Answers whether the object is new there: it has one now, and had
+// no row.
 fn put_header<T: Store>(
     trees: &mut T,
     name: &str,
     header: Option<&[u8]>,
     key: &mut Row,
     row: &mut Row,
-) -> Result<(), StoreError>
+) -> Result<bool, StoreError>
     requires { IsClean (T.Store.view trees.old) → HasTables (T.Store.view trees.old) }
     ensures ok { OnOk result (IsClean (T.Store.view trees.new) → IsTable 1 ((T.Store.view trees.old).trees 0)
         → Puts (T.Store.view trees.old) (T.Store.view trees.new) 0 (object_key name.now) (option_copied header.entry)) }
+    ensures new { IfOk result (λ is_new. IsClean (T.Store.view trees.new) → is_new ≡ true
+        → (is_some (option_copied header.entry) ≡ true) × (HasRow ((T.Store.view trees.old).trees 0) (object_key name.now) → ⊥)) }
     ensures frame { OnOk result (IsClean (T.Store.view trees.new) → OnlyWrites (T.Store.view trees.old) (T.Store.view trees.new)) }
     ensures schema { KeepsSchema (T.Store.view trees.old) (T.Store.view trees.new) }
     ensures quiet { IsQuiet T.Store.view T.Store.faults T.Store.recovers T.Store.is_shielded trees.old trees.new }
 {
     key.clear();
     key.push(ValueRef::Text(name.as_bytes()))?;
-    put_entry(trees, OBJECTS, key, header, row)
+    let had = put_entry(trees, OBJECTS, key, header, row)?;
+    Ok(!had && header.is_some())
 }
 
-// Gives a key of an object this value in its table, or none.
+// Gives a key of an object this value in its table, or none. Of a new object no row is looked for: it has none but
+// right ones.
 fn put_pair<T: Store>(
     trees: &mut T,
-    name: &str,
-    in_object: &Bytes,
+    spot: &(Text, Bytes),
     value: Option<&[u8]>,
+    is_new: bool,
     key: &mut Row,
     row: &mut Row,
 ) -> Result<(), StoreError>
     requires { IsClean (T.Store.view trees.old) → HasTables (T.Store.view trees.old) }
     ensures ok { OnOk result (IsClean (T.Store.view trees.new) → IsTable 2 ((T.Store.view trees.old).trees 1)
-        → Puts (T.Store.view trees.old) (T.Store.view trees.new) 1 (pair_key name.now in_object.now) (option_copied value.entry)) }
+        → (is_new ≡ true → (v : List ℕ) → IsIn (entry (pair_key spot.now.0 spot.now.1) v) ((T.Store.view trees.old).trees 1)
+        → option_copied value.entry ≡ Some v)
+        → Puts (T.Store.view trees.old) (T.Store.view trees.new) 1 (pair_key spot.now.0 spot.now.1) (option_copied value.entry)) }
     ensures frame { OnOk result (IsClean (T.Store.view trees.new) → OnlyWrites (T.Store.view trees.old) (T.Store.view trees.new)) }
     ensures schema { KeepsSchema (T.Store.view trees.old) (T.Store.view trees.new) }
     ensures quiet { IsQuiet T.Store.view T.Store.faults T.Store.recovers T.Store.is_shielded trees.old trees.new }
 {
     key.clear();
-    key.push(ValueRef::Text(name.as_bytes()))?;
-    key.push(ValueRef::Text(in_object.as_slice()))?;
-    put_entry(trees, PAIRS, key, value, row)
+    key.push(ValueRef::Text(spot.0.as_str().as_bytes()))?;
+    key.push(ValueRef::Text(spot.1.as_slice()))?;
+    if is_new {
+        if let Some(value) = value {
+            return add_entry(trees, PAIRS, key, value, row);
+        }
+    }
+    put_entry(trees, PAIRS, key, value, row)?;
+    Ok(())
 }

@@ -1,8 +1,9 @@
 -- What a file has once it is open.
-use Rattle.std.proofs.Common.{◌≡◌, ◌∷◌, [], List, ap, map, refl, slice_index_or, subst, sym}
+use Rattle.std.proofs.Common.{◌≡◌, ◌∷◌, ◌∙◌, [], ℕ, List, ap, map, refl, slice_index_or, subst, sym}
 use Rattle.sqlite_disk.specs.declared.Disk.{Ghosts}
 use Rattle.sqlite_value.specs.Keys.{plain}
-use Rattle.sqlite_trees.specs.View.{IsClean}
+use Rattle.sqlite_value.specs.Order.{Row}
+use Rattle.sqlite_trees.specs.View.{Commits, IsClean, SetsTree, View}
 use Rattle.sqlite_trees.specs.declared.store.Shape.{Shape}
 use Rattle.sqlite_trees.specs.declared.store.Shape.TheVariants.{Absent, Index}
 use Rattle.sqlite_store.specs.declared.store.FileStore.{FileStore}
@@ -24,12 +25,30 @@ two_tables it is = record {
 pub fresh_of : {D : Type 0} {g : Ghosts D} (it : FileStore D g) → IsReady it → map (λ w. w.shape) (schema_of it) ≡ Index plain ∷ Index plain ∷ []
     → IsClean (view it) → IsFresh (view it)
 fresh_of it ready is clean = record {
-  tables = two_tables it is;
-  shapes = subst (λ o. (view_of it.pool (schema_of it) o it.is_numbered it.cursors.items it.has_failed).committed_shape ≡ all_shapes (schema_of it)) (sym ready.unaltered) refl;
   is_open = ready.is_open clean;
-  fresh = ready.clean;
+  ready = record {
+    tables = two_tables it is;
+    shapes = subst (λ o. (view_of it.pool (schema_of it) o it.is_numbered it.cursors.items it.has_failed).committed_shape ≡ all_shapes (schema_of it)) (sym ready.unaltered) refl;
+    fresh = ready.clean;
+  };
 }
 
 pub shapes_wanted : (objects : List Object) → map (λ w. w.shape) (map wanted_of objects) ≡ map (λ (o : Object). o.shape) objects
 shapes_wanted [] = refl
 shapes_wanted (o ∷ os) = ap (λ l. o.shape ∷ l) (shapes_wanted os)
+
+-- a tree that isn't one of the two was set, and that was committed
+pub fresh_on : (old mid new : View) (tree : ℕ) (edit : List Row → List Row) → IsFresh old → SetsTree old mid tree edit → Commits mid new → IsFresh new
+fresh_on old mid new tree edit fresh set done =
+    let shape : new.shape ≡ old.shape = ap (λ (v : View). v.shape) done.is ∙ ap (λ (v : View). v.shape) set.is in
+    record {
+      is_open = ap (λ (v : View). v.is_open) done.is ∙ (ap (λ (v : View). v.is_open) set.is ∙ fresh.is_open);
+      ready = record {
+        tables = record {
+          objects = ap (λ (f : ℕ → _). f 0) shape ∙ fresh.ready.tables.objects;
+          pairs = ap (λ (f : ℕ → _). f 1) shape ∙ fresh.ready.tables.pairs;
+        };
+        shapes = ap (λ (v : View). v.committed_shape) done.is ∙ sym (ap (λ (v : View). v.shape) done.is);
+        fresh = ap (λ (v : View). v.trees) done.is ∙ sym (ap (λ (v : View). v.committed) done.is);
+      };
+    }

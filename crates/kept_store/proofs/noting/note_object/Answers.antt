@@ -9,6 +9,6 @@ returns-clause-more c =
 pub returns-clause-noted : goal.returns-clause-noted
 returns-clause-noted c = on_ok_weaker c.note_all.result
     (λ keys. agree_removed c.args.objects.now c.args.name.now c.note_all.new.changes
-        (name_stays c.note_name.new.self c.note_all.new.changes _ c.note_all.ensures.more (name_noted c.args.changes.now c.note_name.new.self _ c.in_ok-note_name.ensures.ok))
-        keys)
+    (name_stays c.note_name.new.self c.note_all.new.changes _ c.note_all.ensures.more (name_noted c.args.changes.now c.note_name.new.self _ c.in_ok-note_name.ensures.ok))
+    keys)
     c.note_all.ensures.keys

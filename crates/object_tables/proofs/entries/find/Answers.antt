@@ -1,4 +1,4 @@
-use Rattle.std.proofs.Common.{◌∙◌, ap, arith, subst, sym}
+use Rattle.std.proofs.Common.{◌∙◌, ap, arith, sym}
 use Rattle.std.specs.Ordering.{is_eq}
 use Rattle.object_tables.proofs.StoreLaws.{found_look, missed_look}
 use Rattle.object_tables.proofs.entries.find.Goals as goal

@@ -1,4 +1,4 @@
-use Rattle.std.proofs.Common.{◌≡◌, ap, arith, refl}
+use Rattle.std.proofs.Common.{ap, arith, refl}
 use Rattle.sqlite_trees.specs.View.{IsClean, View}
 use Rattle.object_tables.proofs.ReadLaws.{all_read}
 use Rattle.object_tables.proofs.reading.read_objects.Goals as goal

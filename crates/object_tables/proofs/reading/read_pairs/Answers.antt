@@ -1,4 +1,4 @@
-use Rattle.std.proofs.Common.{◌≡◌, ◌++◌, ◌∷◌, [], arith, rules}
+use Rattle.std.proofs.Common.{◌++◌, ◌∷◌, [], arith, rules}
 use Rattle.sqlite_trees.specs.View.{IsClean}
 use Rattle.object_tables.proofs.ReadLaws.{no_pairs, pair_added}
 use Rattle.object_tables.proofs.StoreLaws.{moved_on, placed, reads_more, reads_start}
@@ -7,8 +7,7 @@ use Rattle.object_tables.proofs.reading.read_pairs.Goals as goal
 pub rows-init : goal.rows-init
 rows-init g c =
     let old = g.T.Store.view c.args.trees.now in
-    let now = g.T.Store.view c.seek.new.self in
-    (
+    let now = g.T.Store.view c.seek.new.self in (
       λ clean. ([], reads_start old now 1 _ c.new-first.ensures (c.requires.shaped (omega (arith, c.seek.ensures.quiet.clean))).pairs (c.in_ok-seek.ensures.sound clean) (c.in_ok-seek.ensures.ok clean), λ heads spelled. no_pairs heads c.args.objects.now spelled),
       λ clean. placed old now 0 _ (c.in_ok-seek.ensures.ok clean),
       c.in_ok-seek.ensures.live,
@@ -20,8 +19,7 @@ pub rows-preserved : goal.rows-preserved
 rows-preserved g c =
     let old = g.T.Store.view c.args.trees.now in
     let mid = g.T.Store.view c.rows.trees in
-    let now = g.T.Store.view c.next.new.self in
-    (
+    let now = g.T.Store.view c.next.new.self in (
       λ clean.
           let early : IsClean mid = omega (arith, c.next.ensures.quiet.clean) in
           let before = c.rows.invariant.0 early in

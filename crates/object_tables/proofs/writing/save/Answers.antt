@@ -1,4 +1,4 @@
-use Rattle.std.proofs.Common.{◌≡◌, ◌∙◌, ap, arith, subst, sym}
+use Rattle.std.proofs.Common.{arith, subst, sym}
 use Rattle.std.proofs.lemmas.Result.{on_ok_weaker}
 use Rattle.sqlite_trees.specs.View.{IsClean}
 use Rattle.object_tables.specs.Spelled.{Spells}
@@ -8,12 +8,12 @@ use Rattle.object_tables.proofs.writing.save.Goals as goal
 pub returns-in-Ok-clause-saved : goal.returns-in-Ok-clause-saved
 returns-in-Ok-clause-saved g c = on_ok_weaker c.commit.result
     (λ done clean.
-        let old = g.T.Store.view c.args.trees.now in
-        let mid = g.T.Store.view c.write_changes.new.trees in
-        let new = g.T.Store.view c.commit.new.self in
-        let early : IsClean mid = omega (arith, c.commit.ensures.clean) in
-        let it = committed_spells old mid new (c.in-Ok.ensures.frame early) (done clean) in
-        (it.0, λ spelled. subst (λ t. Spells t c.args.objects.now) (sym it.1) (c.in-Ok.ensures.ok early spelled)))
+    let old = g.T.Store.view c.args.trees.now in
+    let mid = g.T.Store.view c.write_changes.new.trees in
+    let new = g.T.Store.view c.commit.new.self in
+    let early : IsClean mid = omega (arith, c.commit.ensures.clean) in
+    let it = committed_spells old mid new (c.in-Ok.ensures.frame early) (done clean) in
+    (it.0, λ spelled owners. subst (λ t. Spells t c.args.objects.now) (sym it.1) (c.in-Ok.ensures.ok early spelled owners)))
     c.commit.ensures.ok
 
 pub returns-in-Ok-clause-shape : goal.returns-in-Ok-clause-shape

@@ -2,5 +2,5 @@ use Rattle.std.proofs.Common.{ap, ◌∙◌, map}
 use Rattle.store_file.proofs.OpenLaws.{fresh_of}
 use Rattle.store_file.proofs.opening.created.Goals as goal
 
-pub returns-in-Ok : goal.returns-in-Ok
-returns-in-Ok g c = record { fresh = fresh_of c.in-Ok.store c.in-Ok.ensures.ready (ap (λ ws. map (λ w. w.shape) ws) c.in-Ok.ensures.schema ∙ c.requires.schema) }
+pub settled-requires : goal.settled-requires
+settled-requires g c = fresh_of c.in-Ok.store c.in-Ok.ensures.ready (ap (λ ws. map (λ w. w.shape) ws) c.in-Ok.ensures.schema ∙ c.requires.schema)

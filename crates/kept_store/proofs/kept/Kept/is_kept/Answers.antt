@@ -10,4 +10,4 @@ pub returns-clause-outcomes : goal.returns-clause-outcomes
 returns-clause-outcomes g c empty =
     subst (λ (k : Kept _). IsClean (g.T.Store.view k.tables) → (db : _) → g.T.Store.recovers k.tables db → Spells db k.objects) c.self.view_is
     (λ clean db may. spells_all db c.self.inside.objects
-        (subst (λ (n : Noted). SpellsBut db c.self.inside.objects (has_name n) (has_key n)) (c.is_empty.ensures.0 empty) ((c.self.invariant clean).outcomes db may)))
+    (subst (λ (n : Noted). SpellsBut db c.self.inside.objects (has_name n) (has_key n)) (c.is_empty.ensures.0 empty) ((c.self.invariant clean).outcomes db may)))

@@ -1,6 +1,5 @@
-use Rattle.std.proofs.Common.{◌^◌, arith, ap, subst, sym}
+use Rattle.std.proofs.Common.{◌^◌, arith, ap, subst}
 use Rattle.sqlite_trees.specs.View.{IsClean}
-use Rattle.kept_store.specs.Kept.{IsMirrored}
 use Rattle.kept_store.proofs.KeptLaws.{back_again, fresh_again}
 use Rattle.kept_store.proofs.kept.Kept.revive.Goals as goal
 
@@ -8,21 +7,16 @@ pub open-requires : goal.open-requires
 open-requires g c clean =
     let tables = c.into_tables-tables.result in
     let new = c.crash_and_reopen.new.self in
-    let early : IsClean (g.T.Store.view tables) = omega (arith, c.crash_and_reopen.ensures.clean) in
-    let m : IsMirrored (g.T.Store.view tables) (g.T.Store.recovers tables) c.args.self.objects c.args.self.noted =
-        subst (λ t. IsClean (g.T.Store.view t) → IsMirrored (g.T.Store.view t) (g.T.Store.recovers t) c.args.self.objects c.args.self.noted)
-        (sym c.into_tables-tables.ensures) c.is_mirrored.ensures early in
-    fresh_again (g.T.Store.view tables) (g.T.Store.view new) (g.T.Store.recovers tables) c.args.self.objects c.args.self.noted m
-    clean c.in_ok-crash_and_reopen.ensures.fresh (c.crash_and_reopen.ensures.shape (sym m.shapes)) (g.met.T.Store.broken_if_shut new)
+    fresh_again (g.T.Store.view tables) (g.T.Store.view new) clean c.in_ok-crash_and_reopen.ensures.fresh (c.has_tables.ensures c.if-not-has_tables.false) (g.met.T.Store.broken_if_shut new)
     (λ sound same. (g.met.T.Store.unaltered new sound (ap (λ t. t (2 ^ 32)) same)).0)
 
 pub returns-in-Ok-clause-found : goal.returns-in-Ok-clause-found
 returns-in-Ok-clause-found g c clean =
     let new = c.crash_and_reopen.new.self in
-    let late : IsClean (g.T.Store.view new) = omega (arith, c.in-Ok.ensures.clean) in
-    ( (g.T.Store.view new).committed
-    , subst (λ t. g.T.Store.recovers t (g.T.Store.view new).committed) c.into_tables-tables.ensures (c.in_ok-crash_and_reopen.ensures.found late)
-    , c.in-Ok.ensures.objects clean
+    let late : IsClean (g.T.Store.view new) = omega (arith, c.in-Ok.ensures.clean) in (
+      (g.T.Store.view new).committed,
+      subst (λ t. g.T.Store.recovers t (g.T.Store.view new).committed) c.into_tables-tables.ensures (c.in_ok-crash_and_reopen.ensures.found late),
+      c.in-Ok.ensures.objects clean,
     )
 
 pub returns-in-Ok-clause-back : goal.returns-in-Ok-clause-back

@@ -15,6 +15,6 @@ invariant_of-self-2 g c clean =
     mirrored_other (g.T.Store.view c.self.inside.tables) (g.T.Store.recovers c.self.inside.tables) a c.apply.new.self
     c.self.inside.changes c.note_write.new.changes c.note_write.ensures.more
     (agree_either a c.apply.new.self (written a c.args.name.now c.args.op.now) c.note_write.new.changes
-        (of_ok c.note_write.result _ (sym c.is_err.ensures.value ∙ c.if-is_err.false) c.note_write.ensures.noted)
-        (one_way c.apply.result _ _ c.apply.ensures.done c.apply.ensures.same))
+    (of_ok c.note_write.result _ (sym c.is_err.ensures.value ∙ c.if-is_err.false) c.note_write.ensures.noted)
+    (one_way c.apply.result _ _ c.apply.ensures.done c.apply.ensures.same))
     (c.self.invariant clean)

@@ -15,6 +15,6 @@ invariant_of-self-2 g c clean =
     mirrored_other (g.T.Store.view c.self.inside.tables) (g.T.Store.recovers c.self.inside.tables) a c.remove.new.self
     c.self.inside.changes c.note_object.new.changes c.note_object.ensures.more
     (agree_either a c.remove.new.self (finmap.remove a c.args.name.now) c.note_object.new.changes
-        (of_ok c.note_object.result _ (sym c.is_err.ensures.value ∙ c.if-is_err.false) c.note_object.ensures.noted)
-        (inl c.remove.ensures.removed))
+    (of_ok c.note_object.result _ (sym c.is_err.ensures.value ∙ c.if-is_err.false) c.note_object.ensures.noted)
+    (inl c.remove.ensures.removed))
     (c.self.invariant clean)

@@ -1,6 +1,6 @@
 use Rattle.std.proofs.Common.{subst, sym}
 use Rattle.cold_store.specs.ColdTree.{IsColdTree}
-use Rattle.kept_book.proofs.come_back.Goals as goal
+use Rattle.kept_book.proofs.back.come_back.Goals as goal
 
 pub returns-in-Ok-mount-clause-back : goal.returns-in-Ok-mount-clause-back
 returns-in-Ok-mount-clause-back g c = record {

@@ -1,0 +1,66 @@
+//! The tree after the history is brought on disk.
+ghost use Rattle.std.specs.Prelude.{◌≡◌, IfOk, IfSome};
+ghost use Rattle.mds_types.specs.History.{after};
+ghost use Rattle.mds_types.specs.Tree.{Tree};
+ghost use Rattle.cold_store.specs.ColdTree.{IsColdTree};
+ghost use Rattle.sqlite_trees.specs.View.{IsClean};
+ghost use Rattle.kept_book.specs.Survives.{IsOnDisk, Survives};
+
+use cluster_core::{Book, flush};
+use cold_store::laws::has_one_cold_tree;
+use keeping::Unkept;
+use kept_store::{Kept, Settle};
+use mds_types::Refusal;
+use sqlite_trees::store::Store as Trees;
+use std::alloc::Global;
+use std::thread::Threads;
+use thiserror::Error;
+
+/// Why a tree wasn't brought on disk.
+#[derive(Clone, Copy, Debug, PartialEq, Eq, Error)]
+pub enum Unsaved {
+    /// The flush was refused.
+    #[error("{0}")]
+    Refused(Refusal),
+    /// The flush was done, and not kept. The next one that is kept brings it too.
+    #[error("{0}")]
+    Unkept(Unkept),
+}
+
+/// Flushes a cluster, and keeps what it wrote. Where it answers Ok, and the disk was honest, the tree after the history is
+/// on disk: whatever a crash leaves of the file from then on, a mount of it shows this tree and no other. It answers the
+/// store, which tells so.
+pub fn save<'a, T: Settle + Drop>(
+    rt: &(impl Threads + Sync),
+    alloc: Global,
+    book: &'a mut Book<Kept<T>>,
+) -> Result<&'a Kept<T>, Unsaved>
+    ensures on_disk { IfOk result (λ s. IsClean (T.Store.view s.now.tables)
+        → IsOnDisk (T.Store.recovers s.now.tables)
+        (after book.old.core.state.tree.limit book.old.opening book.old.history)) }
+{
+    if let Err(refusal) = flush(rt, alloc, book) {
+        return Err(Unsaved::Refused(refusal));
+    }
+    if let Err(why) = book.keep() {
+        return Err(Unsaved::Unkept(why));
+    }
+    match kept_of(book) {
+        Some(store) => Ok(store),
+        None => Err(Unsaved::Unkept(Unkept::Shut)),
+    }
+}
+
+/// The store of a cluster, if its tables have all that the cluster wrote. Then, where the disk was honest, whatever a
+/// crash leaves spells the cluster's objects and no others; and if they have a cold tree, as after a flush, which leaves
+/// the tree after the history, that tree is on disk.
+pub fn kept_of<T: Trees + Drop>(book: &Book<Kept<T>>) -> Option<&Kept<T>>
+    ensures survives { IfSome result (λ s. IsClean (T.Store.view s.now.tables)
+        → Survives (T.Store.recovers s.now.tables) book.now.core.state.tree.objects) }
+    ensures on_disk { IfSome result (λ s. IsClean (T.Store.view s.now.tables) → (tree : Tree)
+        → IsColdTree book.now.core.state.tree.objects tree → IsOnDisk (T.Store.recovers s.now.tables) tree) }
+{
+    has_one_cold_tree();
+    let store = book.cluster().store();
+    if store.is_kept() { Some(store) } else { None }
+}

@@ -1,0 +1,40 @@
+//! The version of the tables, which stands in the file as SQLite's `user_version`.
+ghost use Rattle.std.specs.Prelude.{OnOk};
+ghost use Rattle.sqlite_trees.specs.View.{IsClean};
+ghost use Rattle.sqlite_store.specs.FileStore.{view};
+ghost use Rattle.kept_store.specs.Kept.{IsFresh};
+
+use crate::faults::OpenFault;
+use sqlite_disk::Disk;
+use sqlite_store::FileStore;
+use sqlite_trees::error::StoreError;
+use sqlite_trees::store::{Alter, Store};
+
+/// The version of a file that this program made. Each of its pages ends in a sum. One that another program made with the
+/// same tables has no sums, and SQLite's own version 0: so no flipped bit of the header turns the one into the other.
+pub const VERSION: u32 = 1;
+
+/// Looks at the version of a store that was opened, and gives one that was just made its own. Then the log is put into
+/// the file.
+pub fn versioned<D: Disk + Drop>(store: &mut FileStore<D>, has_sums: bool) -> Result<(), OpenFault>
+    requires { IsClean (view store.old) → IsFresh (view store.old) }
+    ensures { OnOk result (IsClean (view store.new) → IsFresh (view store.new)) }
+{
+    match (has_sums, store.version()) {
+        (true, VERSION) | (false, 0) => {}
+        (true, 0) => set_version(store)?,
+        (false, VERSION) => return Err(OpenFault::Damaged),
+        (_, version) => return Err(OpenFault::Version(version)),
+    }
+    store.checkpoint()?;
+    Ok(())
+}
+
+// Gives a store that has none its version, in a transaction of its own.
+fn set_version<D: Disk + Drop>(store: &mut FileStore<D>) -> Result<(), StoreError>
+    requires { IsClean (view store.old) → IsFresh (view store.old) }
+    ensures { OnOk result (IsClean (view store.new) → IsFresh (view store.new)) }
+{
+    store.set_version(VERSION)?;
+    store.commit()
+}
