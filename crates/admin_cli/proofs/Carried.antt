@@ -4,7 +4,7 @@ use Rattle.std.specs.Prelude.{Bool, MatchBool, false, true}
 use Rattle.script_text.specs.declared.commands.Command.TheVariants as command
 use Rattle.script_text.specs.declared.store_commands.StoreCommand.{StoreCommand}
 use Rattle.script_text.specs.declared.store_commands.StoreCommand.TheVariants as store
-use Rattle.admin_cli.specs.Modes.{Carries, CarriesStore, plain}
+use Rattle.admin_cli.specs.Modes.{DoesUnder, DoesStoreUnder, plain}
 use Rattle.admin_cli.specs.Scripts.{Doing}
 
 pub as_plain : (asks : Bool) (A B : Type 0) → asks ≡ false → B → MatchBool asks A B
@@ -14,7 +14,7 @@ pub as_asked : (asks : Bool) (A B : Type 0) → asks ≡ true → A → MatchBoo
 as_asked asks A B is h = subst (λ (b : Bool). MatchBool b A B) (sym is) h
 
 -- with no option a script does what it says
-same_store : (old new : Admin) (c : StoreCommand) (line : OutputLine) → CarriesStore plain old new c line ≡ Executes old new (command.Store c) line
+same_store : (old new : Admin) (c : StoreCommand) (line : OutputLine) → DoesStoreUnder plain old new c line ≡ Executes old new (command.Store c) line
 same_store old new (store.CommitBegin rank dir f) line = refl
 same_store old new (store.CommitEnd number) line = refl
 same_store old new (store.CommitDrop number) line = refl
@@ -26,7 +26,7 @@ same_store old new (store.Evict rank) line = refl
 same_store old new (store.Object name) line = refl
 same_store old new store.Objects line = refl
 
-same_command : (old new : Admin) (c : Command) (line : OutputLine) → Carries plain old new c line ≡ Executes old new c line
+same_command : (old new : Admin) (c : Command) (line : OutputLine) → DoesUnder plain old new c line ≡ Executes old new c line
 same_command old new (command.Operation op) line = refl
 same_command old new (command.Request rank request) line = refl
 same_command old new (command.Store c) line = same_store old new c line
@@ -41,5 +41,5 @@ same_command old new command.Subtrees line = refl
 same_command old new (command.Authority dir f) line = refl
 same_command old new (command.Export c) line = refl
 
-pub carries_plain : ◌≡◌ {A = Doing} (Carries plain) Executes
+pub carries_plain : ◌≡◌ {A = Doing} (DoesUnder plain) Executes
 carries_plain = λ i old new c line. same_command old new c line i

@@ -40,7 +40,7 @@ use Rattle.admin_cli.specs.ExportLines.{ExecutesExport}
 use Rattle.admin_cli.specs.OwnLines.{OwnLine}
 use Rattle.admin_cli.specs.Printed.{PrintsOneThread, counted_with, ended_line, is_reply, receipt_line, request_of, requests_of}
 use Rattle.admin_cli.specs.Scripts.{Doing, DoesLine}
-use Rattle.admin_cli.specs.Modes.{AsksLine, AsksOperation, AsksRequest, Carries, CarriesStore, IsAsked, SavesLine, SaysSaved, asked_line}
+use Rattle.admin_cli.specs.Modes.{AsksLine, AsksOperation, AsksRequest, DoesUnder, DoesStoreUnder, AsksNow, SavesLine, SaysSaved, asked_line}
 use Rattle.admin_cli.specs.declared.modes.Mode.{Mode}
 use Rattle.asking.specs.Ask.{NoneWaits}
 use Rattle.asking.specs.Reached.{receipt_in as told_in}
@@ -413,7 +413,7 @@ module _ (sent : List Request) where
   asks : (old new : Admin) (rank : Rank) (request : Request) (printed : OutputLine) → IsReady sent old → Contains sent request → AsksLine old.book new.book rank request printed → DidLine sent old new printed
   asks old new rank request printed ready has h = go h.asked
     where
-      go : IsAsked old.book new.book rank request h.result → DidLine sent old new printed
+      go : AsksNow old.book new.book rank request h.result → DidLine sent old new printed
       go (inl once) =
           let one = once.one in
           as_told sent old new printed (told_in h.result) (ap receipt_in h.shown ∙ asked_receipt h.result) once.sound (record {
@@ -443,7 +443,7 @@ either_way : {P : Type 0} (b : Bool) (A B : Type 0) → (A → P) → (B → P) 
 either_way true A B f g h = f h
 either_way false A B f g h = g h
 
-carries_store : (mode : Mode) (sent : List Request) (old new : Admin) (c : StoreCommand) (printed : OutputLine) → IsReady sent old → CarriesStore mode old new c printed → DidLine sent old new printed
+carries_store : (mode : Mode) (sent : List Request) (old new : Admin) (c : StoreCommand) (printed : OutputLine) → IsReady sent old → DoesStoreUnder mode old new c printed → DidLine sent old new printed
 carries_store mode sent old new (store.CommitBegin rank dir f) printed ready h = executes_store sent old new (store.CommitBegin rank dir f) printed ready h
 carries_store mode sent old new (store.CommitEnd number) printed ready h = executes_store sent old new (store.CommitEnd number) printed ready h
 carries_store mode sent old new (store.CommitDrop number) printed ready h = executes_store sent old new (store.CommitDrop number) printed ready h
@@ -456,7 +456,7 @@ carries_store mode sent old new (store.Evict rank) printed ready h = executes_st
 carries_store mode sent old new (store.Object name) printed ready h = executes_store sent old new (store.Object name) printed ready h
 carries_store mode sent old new store.Objects printed ready h = executes_store sent old new store.Objects printed ready h
 
-carries : (mode : Mode) (sent : List Request) (old new : Admin) (c : Command) (printed : OutputLine) → IsReady sent old → AllByRecursion (Contains sent) (request_of old.operations (line.Command c)) → Carries mode old new c printed → DidLine sent old new printed
+carries : (mode : Mode) (sent : List Request) (old new : Admin) (c : Command) (printed : OutputLine) → IsReady sent old → AllByRecursion (Contains sent) (request_of old.operations (line.Command c)) → DoesUnder mode old new c printed → DidLine sent old new printed
 carries mode sent old new (command.Operation op) printed ready has h =
     either_way mode.asks (AsksOperation old new op printed) (Executes old new (command.Operation op) printed)
     (λ w. asks sent old new (record { 0 = 0 }) (record { client = 0; tid = old.operations + 1; oldest = old.operations + 1; op = op }) printed ready has.0 w.3)
@@ -476,7 +476,7 @@ carries mode sent old new command.Subtrees printed ready has h = executes sent o
 carries mode sent old new (command.Authority dir f) printed ready has h = executes sent old new (command.Authority dir f) printed ready has h
 carries mode sent old new (command.Export c) printed ready has h = executes sent old new (command.Export c) printed ready has h
 
-carried_store : (mode : Mode) (old new : Admin) (c : StoreCommand) (printed : OutputLine) → CarriesStore mode old new c printed → new.operations ≡ old.operations
+carried_store : (mode : Mode) (old new : Admin) (c : StoreCommand) (printed : OutputLine) → DoesStoreUnder mode old new c printed → new.operations ≡ old.operations
 carried_store mode old new (store.CommitBegin rank dir f) printed h = store_count old new (store.CommitBegin rank dir f) printed h
 carried_store mode old new (store.CommitEnd number) printed h = store_count old new (store.CommitEnd number) printed h
 carried_store mode old new (store.CommitDrop number) printed h = store_count old new (store.CommitDrop number) printed h
@@ -489,7 +489,7 @@ carried_store mode old new (store.Evict rank) printed h = store_count old new (s
 carried_store mode old new (store.Object name) printed h = store_count old new (store.Object name) printed h
 carried_store mode old new store.Objects printed h = store_count old new store.Objects printed h
 
-carried : (mode : Mode) (old new : Admin) (c : Command) (printed : OutputLine) → Carries mode old new c printed → new.operations ≡ counted_with old.operations (line.Command c)
+carried : (mode : Mode) (old new : Admin) (c : Command) (printed : OutputLine) → DoesUnder mode old new c printed → new.operations ≡ counted_with old.operations (line.Command c)
 carried mode old new (command.Operation op) printed h =
     either_way mode.asks (AsksOperation old new op printed) (Executes old new (command.Operation op) printed) (λ w. w.0) (command_count old new (command.Operation op) printed) h
 carried mode old new (command.Request rank request) printed h =
@@ -506,7 +506,7 @@ carried mode old new command.Subtrees printed h = command_count old new command.
 carried mode old new (command.Authority dir f) printed h = command_count old new (command.Authority dir f) printed h
 carried mode old new (command.Export c) printed h = command_count old new (command.Export c) printed h
 
-pub carries_as_one : (mode : Mode) → AreAsOne (Carries mode)
+pub carries_as_one : (mode : Mode) → AreAsOne (DoesUnder mode)
 carries_as_one mode = record { serves = carries mode; counts = carried mode }
 
 -- ---- lines of a script

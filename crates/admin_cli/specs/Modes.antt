@@ -46,8 +46,8 @@ pub record IsAskedOnce (old new : BookState) (rank : Rank) (request : Asked) (re
   pub sound : IsSoundBook new
 
 -- so it was; where something waits, which no line of such a script leaves, it is refused InboxFull, and all is as it was
-abbrev pub IsAsked : (old new : BookState) → Rank → Asked → Result Receipt Refusal → Type 0
-IsAsked old new rank request result =
+abbrev pub AsksNow : (old new : BookState) → Rank → Asked → Result Receipt Refusal → Type 0
+AsksNow old new rank request result =
     IsAskedOnce old new rank request result
     ⊎ ((0 < waiting_in_all old.core.state.inboxes) × (result ≡ Err InboxFull) × (new ≡ old))
 
@@ -58,7 +58,7 @@ asked_line (Err refusal) = Refused refusal
 
 pub record AsksLine (old new : BookState) (rank : Rank) (request : Asked) (line : OutputLine) : Type 0 where
   pub result : Result Receipt Refusal
-  pub asked : IsAsked old new rank request result
+  pub asked : AsksNow old new rank request result
   pub shown : line ≡ asked_line result
 
 -- ---- a flush that is kept
@@ -91,33 +91,33 @@ AsksRequest old new rank request line =
     (new.operations ≡ old.operations) × (new.jobs ≡ old.jobs) × (new.sent ≡ old.sent)
     × AsksLine old.book new.book rank request line
 
-abbrev pub CarriesStore : Mode → (old new : Admin) → StoreCommand → OutputLine → Type 0
-CarriesStore mode old new (store.CommitBegin rank dir f) line = Executes old new (Store (store.CommitBegin rank dir f)) line
-CarriesStore mode old new (store.CommitEnd number) line = Executes old new (Store (store.CommitEnd number)) line
-CarriesStore mode old new (store.CommitDrop number) line = Executes old new (Store (store.CommitDrop number)) line
-CarriesStore mode old new (store.Commit rank dir f) line = Executes old new (Store (store.Commit rank dir f)) line
-CarriesStore mode old new (store.CommitTree dir) line = Executes old new (Store (store.CommitTree dir)) line
-CarriesStore mode old new store.Purge line = Executes old new (Store store.Purge) line
-CarriesStore mode old new store.Flush line =
+abbrev pub DoesStoreUnder : Mode → (old new : Admin) → StoreCommand → OutputLine → Type 0
+DoesStoreUnder mode old new (store.CommitBegin rank dir f) line = Executes old new (Store (store.CommitBegin rank dir f)) line
+DoesStoreUnder mode old new (store.CommitEnd number) line = Executes old new (Store (store.CommitEnd number)) line
+DoesStoreUnder mode old new (store.CommitDrop number) line = Executes old new (Store (store.CommitDrop number)) line
+DoesStoreUnder mode old new (store.Commit rank dir f) line = Executes old new (Store (store.Commit rank dir f)) line
+DoesStoreUnder mode old new (store.CommitTree dir) line = Executes old new (Store (store.CommitTree dir)) line
+DoesStoreUnder mode old new store.Purge line = Executes old new (Store store.Purge) line
+DoesStoreUnder mode old new store.Flush line =
     MatchBool mode.keeps (SavesLine old new line) (Executes old new (Store store.Flush) line)
-CarriesStore mode old new (store.Evict rank) line = Executes old new (Store (store.Evict rank)) line
-CarriesStore mode old new (store.Object name) line = Executes old new (Store (store.Object name)) line
-CarriesStore mode old new store.Objects line = Executes old new (Store store.Objects) line
+DoesStoreUnder mode old new (store.Evict rank) line = Executes old new (Store (store.Evict rank)) line
+DoesStoreUnder mode old new (store.Object name) line = Executes old new (Store (store.Object name)) line
+DoesStoreUnder mode old new store.Objects line = Executes old new (Store store.Objects) line
 
 -- what a command does under these options: what it does in any script, but for these three
-abbrev pub Carries : Mode → (old new : Admin) → Command → OutputLine → Type 0
-Carries mode old new (Operation op) line =
+abbrev pub DoesUnder : Mode → (old new : Admin) → Command → OutputLine → Type 0
+DoesUnder mode old new (Operation op) line =
     MatchBool mode.asks (AsksOperation old new op line) (Executes old new (Operation op) line)
-Carries mode old new (Request rank request) line =
+DoesUnder mode old new (Request rank request) line =
     MatchBool mode.asks (AsksRequest old new rank request line) (Executes old new (Request rank request) line)
-Carries mode old new (Store command) line = CarriesStore mode old new command line
-Carries mode old new (Serve rank) line = Executes old new (Serve rank) line
-Carries mode old new (Own rank) line = Executes old new (Own rank) line
-Carries mode old new History line = Executes old new History line
-Carries mode old new (Split rank dir f nb) line = Executes old new (Split rank dir f nb) line
-Carries mode old new (Merge rank dir f) line = Executes old new (Merge rank dir f) line
-Carries mode old new (Leaves dir) line = Executes old new (Leaves dir) line
-Carries mode old new (Grant rank client tid) line = Executes old new (Grant rank client tid) line
-Carries mode old new Subtrees line = Executes old new Subtrees line
-Carries mode old new (Authority dir f) line = Executes old new (Authority dir f) line
-Carries mode old new (Export command) line = Executes old new (Export command) line
+DoesUnder mode old new (Store command) line = DoesStoreUnder mode old new command line
+DoesUnder mode old new (Serve rank) line = Executes old new (Serve rank) line
+DoesUnder mode old new (Own rank) line = Executes old new (Own rank) line
+DoesUnder mode old new History line = Executes old new History line
+DoesUnder mode old new (Split rank dir f nb) line = Executes old new (Split rank dir f nb) line
+DoesUnder mode old new (Merge rank dir f) line = Executes old new (Merge rank dir f) line
+DoesUnder mode old new (Leaves dir) line = Executes old new (Leaves dir) line
+DoesUnder mode old new (Grant rank client tid) line = Executes old new (Grant rank client tid) line
+DoesUnder mode old new Subtrees line = Executes old new Subtrees line
+DoesUnder mode old new (Authority dir f) line = Executes old new (Authority dir f) line
+DoesUnder mode old new (Export command) line = Executes old new (Export command) line

@@ -2,7 +2,7 @@
 //! file.
 ghost use Rattle.std.specs.Prelude.{◌≡◌, ◌+◌, ◌<◌, ◌≤◌, ◌^◌, IfOk, OnErr};
 ghost use Rattle.admin_cli.specs.Execute.{LacksForCommand};
-ghost use Rattle.admin_cli.specs.Modes.{AsksOperation, AsksRequest, Carries, CarriesStore, IsAsked, asked_line as line_of};
+ghost use Rattle.admin_cli.specs.Modes.{AsksOperation, AsksRequest, DoesUnder, DoesStoreUnder, AsksNow, asked_line as line_of};
 
 use crate::commands::Admin;
 use crate::modes::Mode;
@@ -25,7 +25,7 @@ impl<S: Keep + Drop> Admin<S> {
         command: Command,
     ) -> Result<OutputLine, AllocError>
         requires { self.old.operations + 1 < 2 ^ 64 }
-        ensures line { IfOk result (Carries mode self.old self.new command) }
+        ensures line { IfOk result (DoesUnder mode self.old self.new command) }
         ensures err { OnErr result (LacksForCommand self.old self.new command) }
         ensures count { self.new.operations ≤ self.old.operations + 1 }
     {
@@ -55,7 +55,7 @@ impl<S: Keep + Drop> Admin<S> {
         command: StoreCommand,
     ) -> Result<OutputLine, AllocError>
         requires { self.old.operations + 1 < 2 ^ 64 }
-        ensures line { IfOk result (CarriesStore mode self.old self.new command) }
+        ensures line { IfOk result (DoesStoreUnder mode self.old self.new command) }
         ensures err { OnErr result (LacksForCommand self.old self.new (Command.Store command)) }
         ensures count { self.new.operations ≤ self.old.operations + 1 }
     {
@@ -102,7 +102,7 @@ impl<S: Keep + Drop> Admin<S> {
         ensures count { self.new.operations ≡ self.old.operations }
         ensures jobs { self.new.jobs ≡ self.old.jobs }
         ensures sent { self.new.sent ≡ self.old.sent }
-        ensures asked { IsAsked self.old.book self.new.book rank request result }
+        ensures asked { AsksNow self.old.book self.new.book rank request result }
     {
         if self.book.cluster().waiting() > 0 {
             drop(request);

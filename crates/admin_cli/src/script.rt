@@ -6,7 +6,7 @@ ghost use Rattle.script_text.specs.declared.commands.Command.TheVariants.{Operat
 ghost use Rattle.script_text.specs.declared.lines.Line.TheVariants as asked;
 ghost use Rattle.cluster_core.specs.OneThread.{waiting_in};
 ghost use Rattle.admin_cli.specs.Execute.{Executes};
-ghost use Rattle.admin_cli.specs.Modes.{Carries};
+ghost use Rattle.admin_cli.specs.Modes.{DoesUnder};
 ghost use Rattle.admin_cli.specs.Printed.{PrintsOneThread};
 ghost use Rattle.admin_cli.specs.Scripts.{IsFormatted, RunsInput, RunsNew};
 ghost use Rattle.admin_cli.specs.OneLine.{AnswersLine, DoesBytes, HasReaderFailed, Prints, RunsOrNot};
@@ -72,7 +72,7 @@ pub fn run_new<H: AllocGlobal + Threads + Sync, R: Read + Drop, W: Write>(
     requires most { cache ≤ 65536 }
     ensures one_thread { PrintsOneThread limit map.empty [] [] (R.remaining reader) (W.contents writer.old)
         (W.contents writer.new) result }
-    ensures ran { RunsNew (Carries mode) ranks cache limit (R.remaining reader) (W.contents writer.old)
+    ensures ran { RunsNew (DoesUnder mode) ranks cache limit (R.remaining reader) (W.contents writer.old)
         (W.contents writer.new) result }
 {
     match new_book(rt.alloc(), ranks, cache, limit) {
@@ -109,7 +109,7 @@ pub fn run_over<H: AllocGlobal + Threads + Sync, R: Read + Drop, W: Write, S: Ke
     ensures one_thread { PrintsOneThread book.core.state.tree.limit book.opening book.history
         (waiting_in book.core.state.inboxes) (R.remaining reader) (W.contents writer.old) (W.contents writer.new)
         result.ended }
-    ensures ran { RunsOrNot (Carries mode) (record { book = book; operations = 0; jobs = map.empty; sent = none_sent })
+    ensures ran { RunsOrNot (DoesUnder mode) (record { book = book; operations = 0; jobs = map.empty; sent = none_sent })
         (R.remaining reader) (W.contents writer.old) (W.contents writer.new) result.ended }
 {
     book.is_sound();
@@ -150,7 +150,7 @@ fn run_input<R: Read + Drop, W: Write, S: Keep + Drop>(
     mode: Mode,
 ) -> Result<(), ScriptFault>
     requires { admin.old.operations ≡ 0 }
-    ensures { RunsOrNot (Carries mode) admin.old (R.remaining reader) (W.contents writer.old) (W.contents writer.new)
+    ensures { RunsOrNot (DoesUnder mode) admin.old (R.remaining reader) (W.contents writer.old) (W.contents writer.new)
         result }
 {
     let alloc = rt.alloc();
@@ -207,7 +207,7 @@ fn run_lines<R: ReadAhead, W: Write, S: Keep + Drop>(
 ) -> Result<(), ScriptFault>
     requires first { admin.old.operations ≡ 0 }
     requires empty { IsEmpty waiting.old }
-    ensures runs { RunsWaiting (Carries mode) admin.old waiting.new (R.remaining reader.old)
+    ensures runs { RunsWaiting (DoesUnder mode) admin.old waiting.new (R.remaining reader.old)
         (W.contents writer.old) (W.contents writer.new) result }
     ensures failed { HasReaderFailed buffer.new.failed result }
 {
@@ -250,7 +250,7 @@ fn run_line<W: Write, S: Keep + Drop>(
     requires room { admin.old.operations + 1 < 2 ^ 64 }
     requires short { length bytes.now ≤ 16384 }
     ensures count { admin.new.operations ≤ admin.old.operations + 1 }
-    ensures runs { PrintsOf (DoesBytes (Carries mode) admin.old admin.new bytes.now) waiting.old waiting.new line
+    ensures runs { PrintsOf (DoesBytes (DoesUnder mode) admin.old admin.new bytes.now) waiting.old waiting.new line
         (W.contents writer.old) (W.contents writer.new) result }
 {
     match read_operation_line(rt.alloc(), bytes) {
@@ -279,7 +279,7 @@ fn do_operation<W: Write, S: Keep + Drop>(
     requires count { admin.old.operations + 1 < 2 ^ 64 }
     requires plain { mode.asks ≡ false }
     ensures count { admin.new.operations ≤ admin.old.operations + 1 }
-    ensures prints { PrintsOf (AnswersLine (Carries mode) admin.old admin.new (asked.Command (Operation op))) waiting.old waiting.new line
+    ensures prints { PrintsOf (AnswersLine (DoesUnder mode) admin.old admin.new (asked.Command (Operation op))) waiting.old waiting.new line
         (W.contents writer.old) (W.contents writer.new) result }
 {
     let came = admin.operate(alloc, op);
@@ -307,7 +307,7 @@ fn ask_operation<W: Write, S: Keep + Drop>(
     requires count { admin.old.operations + 1 < 2 ^ 64 }
     requires asks { mode.asks ≡ true }
     ensures count { admin.new.operations ≤ admin.old.operations + 1 }
-    ensures prints { PrintsOf (AnswersLine (Carries mode) admin.old admin.new (asked.Command (Operation op))) waiting.old
+    ensures prints { PrintsOf (AnswersLine (DoesUnder mode) admin.old admin.new (asked.Command (Operation op))) waiting.old
         waiting.new line (W.contents writer.old) (W.contents writer.new) result }
 {
     let shown = admin.ask_operation(alloc, op);
@@ -330,7 +330,7 @@ fn run_other<W: Write, S: Keep + Drop>(
     requires room { admin.old.operations + 1 < 2 ^ 64 }
     requires short { length bytes.now ≤ 16384 }
     ensures count { admin.new.operations ≤ admin.old.operations + 1 }
-    ensures runs { PrintsOf (DoesBytes (Carries mode) admin.old admin.new bytes.now) waiting.old waiting.new line
+    ensures runs { PrintsOf (DoesBytes (DoesUnder mode) admin.old admin.new bytes.now) waiting.old waiting.new line
         (W.contents writer.old) (W.contents writer.new) result }
 {
     let Ok(found) = read_line(rt.alloc(), bytes) else {
@@ -351,7 +351,7 @@ fn do_line<W: Write, S: Keep + Drop>(
 ) -> Result<(), ScriptFault>
     requires { admin.old.operations + 1 < 2 ^ 64 }
     ensures count { admin.new.operations ≤ admin.old.operations + 1 }
-    ensures prints { PrintsOf (AnswersLine (Carries mode) admin.old admin.new found) waiting.old waiting.new line
+    ensures prints { PrintsOf (AnswersLine (DoesUnder mode) admin.old admin.new found) waiting.old waiting.new line
         (W.contents writer.old) (W.contents writer.new) result }
 {
     match found {

@@ -1,46 +1,46 @@
 use Rattle.admin_cli.proofs.Common.{DoesBytes, Err, List, Ok, PrintsOf, arith, subst, ℕ, ◌≡◌}
 use Rattle.admin_cli.proofs.Progress.{begin, finish, line_on, line_stops, settled, stop_long, stop_reading, stop_settling}
-use Rattle.admin_cli.specs.Modes.{Carries}
+use Rattle.admin_cli.specs.Modes.{DoesUnder}
 use Rattle.admin_cli.proofs.script.run_lines.Goals as goal
 
 pub loop-line-init : goal.loop-line-init
-loop-line-init g c = record { few = omega (arith, c.requires.first); reached = begin (Carries c.args.mode) _ _ _ _ _ c.requires.empty.0 c.requires.empty.1 }
+loop-line-init g c = record { few = omega (arith, c.requires.first); reached = begin (DoesUnder c.args.mode) _ _ _ _ _ c.requires.empty.0 c.requires.empty.1 }
 
 pub returns-in-Err-clause-runs : goal.returns-in-Err-clause-runs
-returns-in-Err-clause-runs g c = stop_settling (Carries c.args.mode) _ _ _ _ _ _ _ c.loop-line.waiting c.settle.new.self _ c.loop-line.invariant.reached c.in-Err.fault c.in-Err.ensures
+returns-in-Err-clause-runs g c = stop_settling (DoesUnder c.args.mode) _ _ _ _ _ _ _ c.loop-line.waiting c.settle.new.self _ c.loop-line.invariant.reached c.in-Err.fault c.in-Err.ensures
 
 pub returns-in-Ok-End-clause-runs : goal.returns-in-Ok-End-clause-runs
 returns-in-Ok-End-clause-runs g c =
-    finish (Carries c.args.mode) _ _ _ _ _ _ c.settle.new.self _ (settled (Carries c.args.mode) _ _ _ _ _ _ _ c.loop-line.waiting c.settle.new.self _ c.loop-line.invariant.reached c.in_default.field-0 c.in_default.ensures)
+    finish (DoesUnder c.args.mode) _ _ _ _ _ _ c.settle.new.self _ (settled (DoesUnder c.args.mode) _ _ _ _ _ _ _ c.loop-line.waiting c.settle.new.self _ c.loop-line.invariant.reached c.in_default.field-0 c.in_default.ensures)
     (rw c.in-Ok-End.field-0-is at c.in-Ok-End.ensures.line)
 
 pub returns-in-Err-TooLong-clause-runs : goal.returns-in-Err-TooLong-clause-runs
 returns-in-Err-TooLong-clause-runs g c =
-    stop_long (Carries c.args.mode) _ _ _ _ _ _ c.settle.new.self _ (settled (Carries c.args.mode) _ _ _ _ _ _ _ c.loop-line.waiting c.settle.new.self _ c.loop-line.invariant.reached c.in_default.field-0 c.in_default.ensures)
+    stop_long (DoesUnder c.args.mode) _ _ _ _ _ _ c.settle.new.self _ (settled (DoesUnder c.args.mode) _ _ _ _ _ _ _ c.loop-line.waiting c.settle.new.self _ c.loop-line.invariant.reached c.in_default.field-0 c.in_default.ensures)
     (rw c.in-Err-TooLong.field-0-is at c.in-Err-TooLong.ensures.line)
 
 pub returns-in-Err-Fault-clause-runs : goal.returns-in-Err-Fault-clause-runs
 returns-in-Err-Fault-clause-runs g c =
-    stop_reading (Carries c.args.mode) _ _ _ _ _ _ c.settle.new.self _ (settled (Carries c.args.mode) _ _ _ _ _ _ _ c.loop-line.waiting c.settle.new.self _ c.loop-line.invariant.reached c.in_default.field-0 c.in_default.ensures)
+    stop_reading (DoesUnder c.args.mode) _ _ _ _ _ _ c.settle.new.self _ (settled (DoesUnder c.args.mode) _ _ _ _ _ _ _ c.loop-line.waiting c.settle.new.self _ c.loop-line.invariant.reached c.in_default.field-0 c.in_default.ensures)
 
 pub returns-in-Err-run_line-clause-runs : goal.returns-in-Err-run_line-clause-runs
 returns-in-Err-run_line-clause-runs g c =
-    line_stops (Carries c.args.mode) _ _ c.run_line.new.admin _ _ _ _ _ _ c.settle.new.self c.run_line.new.waiting _ c.next_line.new.line.line
-    (settled (Carries c.args.mode) _ _ _ _ _ _ _ c.loop-line.waiting c.settle.new.self _ c.loop-line.invariant.reached c.in_default.field-0 c.in_default.ensures) (rw c.in-Ok-Read.field-0-is at c.in-Ok-Read.ensures.line)
+    line_stops (DoesUnder c.args.mode) _ _ c.run_line.new.admin _ _ _ _ _ _ c.settle.new.self c.run_line.new.waiting _ c.next_line.new.line.line
+    (settled (DoesUnder c.args.mode) _ _ _ _ _ _ _ c.loop-line.waiting c.settle.new.self _ c.loop-line.invariant.reached c.in_default.field-0 c.in_default.ensures) (rw c.in-Ok-Read.field-0-is at c.in-Ok-Read.ensures.line)
     c.in-Err-run_line.fault
-    (subst (λ (b : List ℕ). PrintsOf (DoesBytes (Carries c.args.mode) c.loop-line.admin c.run_line.new.admin b) c.settle.new.self c.run_line.new.waiting c.loop-line.line (g.W.Write.contents c.settle.new.writer) (g.W.Write.contents c.run_line.new.writer) (Err c.in-Err-run_line.fault)) c.as_bytes.ensures.bytes c.in-Err-run_line.ensures.runs)
+    (subst (λ (b : List ℕ). PrintsOf (DoesBytes (DoesUnder c.args.mode) c.loop-line.admin c.run_line.new.admin b) c.settle.new.self c.run_line.new.waiting c.loop-line.line (g.W.Write.contents c.settle.new.writer) (g.W.Write.contents c.run_line.new.writer) (Err c.in-Err-run_line.fault)) c.as_bytes.ensures.bytes c.in-Err-run_line.ensures.runs)
 
 pub returns-clause-runs : goal.returns-clause-runs
 returns-clause-runs g c =
     let last : c.loop-line.line ≡ 18446744073709551615 = omega (arith, c.loop-line.auto.line-end, c.loop-line-test.false) in
-    stop_reading (Carries c.args.mode) c.args.admin.now c.loop-line.admin (g.R.Read.remaining c.args.reader.now) (g.R.Read.remaining c.loop-line.reader) (g.W.Write.contents c.args.writer.now)
+    stop_reading (DoesUnder c.args.mode) c.args.admin.now c.loop-line.admin (g.R.Read.remaining c.args.reader.now) (g.R.Read.remaining c.loop-line.reader) (g.W.Write.contents c.args.writer.now)
     (g.W.Write.contents c.loop-line.writer) c.loop-line.waiting 18446744073709551615 (rw last at c.loop-line.invariant.reached)
 
 pub loop-line-preserved : goal.loop-line-preserved
 loop-line-preserved g c = record {
   few = omega (arith, c.run_line.ensures.count, c.loop-line.invariant.few);
-  reached = line_on (Carries c.args.mode) _ _ _ _ _ _ _ _ _ c.settle.new.self c.run_line.new.waiting _ c.next_line.new.line.line
-      (settled (Carries c.args.mode) _ _ _ _ _ _ _ c.loop-line.waiting c.settle.new.self _ c.loop-line.invariant.reached c.in_default.field-0 c.in_default.ensures) (rw c.in-Ok-Read.field-0-is at c.in-Ok-Read.ensures.line)
+  reached = line_on (DoesUnder c.args.mode) _ _ _ _ _ _ _ _ _ c.settle.new.self c.run_line.new.waiting _ c.next_line.new.line.line
+      (settled (DoesUnder c.args.mode) _ _ _ _ _ _ _ c.loop-line.waiting c.settle.new.self _ c.loop-line.invariant.reached c.in_default.field-0 c.in_default.ensures) (rw c.in-Ok-Read.field-0-is at c.in-Ok-Read.ensures.line)
       c.in_default-run_line.field-0
-      (subst (λ (b : List ℕ). PrintsOf (DoesBytes (Carries c.args.mode) c.loop-line.admin c.run_line.new.admin b) c.settle.new.self c.run_line.new.waiting c.loop-line.line (g.W.Write.contents c.settle.new.writer) (g.W.Write.contents c.run_line.new.writer) (Ok c.in_default-run_line.field-0)) c.as_bytes.ensures.bytes c.in_default-run_line.ensures.runs);
+      (subst (λ (b : List ℕ). PrintsOf (DoesBytes (DoesUnder c.args.mode) c.loop-line.admin c.run_line.new.admin b) c.settle.new.self c.run_line.new.waiting c.loop-line.line (g.W.Write.contents c.settle.new.writer) (g.W.Write.contents c.run_line.new.writer) (Ok c.in_default-run_line.field-0)) c.as_bytes.ensures.bytes c.in_default-run_line.ensures.runs);
 }
