@@ -5,10 +5,10 @@ ghost use Rattle.std.specs.Prelude.{◌≤◌};
 ghost use Rattle.admin_cli.specs.Settings.{AreInRange};
 
 use admin_cli::{
-    Limit, Mode, Options, Ran, ServeFault, run_new, run_over, run_script, save_book, serve,
-    settings,
+    Limit, Mode, Options, Ran, ServeFault, run_new, run_over, run_script, serve, settings,
 };
 use cluster_core::mount;
+use kept_book::save;
 use kept_store::Kept;
 use std::fmt::Display;
 use std::io::{IsTerminal, Read};
@@ -134,7 +134,7 @@ fn stored<H: AllocGlobal + Threads + Sync>(
         }
     };
     let Ran { mut book, ended } = run_over(rt, host.reader(), &mut io::writer(host), book, mode);
-    let saved = save_book(rt, rt.alloc(), &mut book);
+    let saved = save(rt, rt.alloc(), &mut book).map(|_| ());
     let settled = book.settle();
     if settled.is_ok() {
         let _ = remove_log(host, path);
@@ -143,8 +143,9 @@ fn stored<H: AllocGlobal + Threads + Sync>(
     if let Err(fault) = ended {
         eprintln!(host; "{fault}")?;
     }
-    if let Err(unsaved) = saved {
-        return told(host, path, &unsaved);
+    if let Err(why) = saved {
+        eprintln!(host; "cephmeta: {path}: not all is saved: {why}")?;
+        return Ok(ExitCode::from(FAULT));
     }
     if let Err(why) = settled {
         return told(host, path, &why);
