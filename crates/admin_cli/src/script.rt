@@ -163,7 +163,7 @@ fn run_input<R: Read + Drop, W: Write, S: Keep + Drop>(
     let Ok(mut reader) = BufReader::new(alloc, reader) else {
         return Err(NO_MEMORY_AT_START);
     };
-    let ended = run_lines(
+    let lines_ended = run_lines(
         rt,
         &mut reader,
         &mut buffer,
@@ -173,7 +173,7 @@ fn run_input<R: Read + Drop, W: Write, S: Keep + Drop>(
         mode,
     );
     waiting.flush(writer)?;
-    ended
+    lines_ended
 }
 
 // The memory that reading needs was refused before the first line.
