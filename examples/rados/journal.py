@@ -7,18 +7,17 @@ push that broke off ends it: before that moment by removing its parts, after it 
 import collections
 import errno
 import hashlib
-import itertools
 import struct
 
-from librados import RadosError, Write
-from pool import AT_ONCE, KEYS, Head, Refused
+from librados import Texts, Write
+from pool import AT_ONCE, Head
 
 PART = 4 << 20
-BYTES = 1 << 20
 REMOVE, CHANGE, CHANGE_HEADER = range(3)
 
 # What one write operation does to an object: removes it, or removes and sets pairs, and sets the header where it has one.
 Step = collections.namedtuple('Step', 'kind name header gone keys values')
+FIRST = struct.Struct('<QQQ')
 
 
 class LostPart(Exception):
@@ -26,24 +25,11 @@ class LostPart(Exception):
 
 
 def encoded(step):
-    """A step as bytes: its kind, how many keys it removes and sets, the length of each text, and the texts."""
+    """A step as bytes: its kind, how many keys it removes and sets, the length of each text, and the texts. All numbers
+    have 8 bytes, the least one first."""
     texts = [step.name, step.header, *step.gone, *step.keys, *step.values]
-    lengths = struct.pack(f'<{len(texts)}I', *map(len, texts))
-    return struct.pack('<BII', step.kind, len(step.gone), len(step.keys)) + lengths + b''.join(texts)
-
-
-def steps_of(part):
-    """The steps that a part spells."""
-    at = 0
-    while at < len(part):
-        kind, gone, keys = struct.unpack_from('<BII', part, at)
-        count = 2 + gone + 2 * keys
-        lengths = struct.unpack_from(f'<{count}I', part, at + 9)
-        at += 9 + 4 * count
-        ends = list(itertools.accumulate(lengths, initial=at))
-        texts = [part[begin:end] for begin, end in zip(ends, ends[1:])]
-        at = ends[-1]
-        yield Step(kind, texts[0], texts[1], texts[2:2 + gone], texts[2 + gone:2 + gone + keys], texts[2 + gone + keys:])
+    lengths = struct.pack(f'<{len(texts)}Q', *map(len, texts))
+    return FIRST.pack(step.kind, len(step.gone), len(step.keys)) + lengths + b''.join(texts)
 
 
 def parts_of(steps):
@@ -95,18 +81,29 @@ class Window:
             completion.wait(allowed)
 
 
-def make(step, window):
-    """Makes one step."""
+def made(part, window):
+    """Makes the steps that a part spells."""
+    at = 0
+    while at < len(part):
+        kind, gone, keys = FIRST.unpack_from(part, at)
+        count = 2 + gone + 2 * keys
+        texts = Texts(part, at + FIRST.size + 8 * count, struct.unpack_from(f'<{count}Q', part, at + FIRST.size))
+        make(kind, texts, gone, keys, window)
+        at = texts.end()
+
+
+def make(kind, texts, gone, keys, window):
+    """Makes one step, whose texts are its object's name, the header, the keys that go, those that are set, and values."""
     with Write() as write:
-        if step.kind == REMOVE:
+        if kind == REMOVE:
             write.gone()
-        if step.kind == CHANGE_HEADER:
-            write.header(step.header)
-        if step.gone:
-            write.without(step.gone)
-        if step.keys:
-            write.pairs(step.keys, step.values)
-        window.begin(step.name, write, errno.ENOENT if step.kind == REMOVE else 0)
+        if kind == CHANGE_HEADER:
+            write.header(texts[1])
+        if gone:
+            write.without(texts, 2, gone)
+        if keys:
+            write.pairs(texts, 2 + gone, 2 + gone + keys, keys)
+        window.begin(texts[0], write, errno.ENOENT if kind == REMOVE else 0)
 
 
 def written(pool, lease, head, parts):
@@ -125,8 +122,7 @@ def applied(pool, lease, head, parts):
     """Makes all changes of the push that is under way."""
     with Window(pool.objects, lease) as window:
         for part in parts:
-            for step in steps_of(part):
-                make(step, window)
+            made(part, window)
     head.push, head.count, head.stage, head.broken = head.under_way, head.count + 1, 'sweep', False
     pool.set_head(head, lease)
 
@@ -182,16 +178,3 @@ def pushed(pool, lease, head, push, parts, sums):
     written(pool, lease, head, parts())
     applied(pool, lease, head, parts())
     return head
-
-
-def chunks(rows):
-    """Pairs of a key and a value, or keys alone, in lists that one write operation takes."""
-    taken, size = [], 0
-    for row in rows:
-        taken.append(row)
-        size += sum(map(len, row))
-        if len(taken) == KEYS or size >= BYTES:
-            yield taken
-            taken, size = [], 0
-    if taken:
-        yield taken

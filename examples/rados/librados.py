@@ -4,10 +4,12 @@ python3-rados of Ceph 16.2 has no call for an object's omap header, and does not
 file's name may be. The library has both: keys with their lengths in its C calls, the header in two methods of its C++
 classes, whose names carry the version of their binary form, so that another form is a name that isn't there.
 """
+import array
 import ctypes
 import errno
+import itertools
 import os
-from ctypes import POINTER, byref, c_char_p, c_int, c_long, c_size_t, c_ubyte, c_uint32, c_uint64, c_void_p
+from ctypes import byref, c_char_p, c_int, c_long, c_size_t, c_ubyte, c_uint32, c_uint64, c_void_p
 
 SET_HEADER = '_ZN8librados7v14_2_020ObjectWriteOperation15omap_set_headerERKN4ceph6buffer7v15_2_04listE'
 GET_HEADER = '_ZN8librados7v14_2_019ObjectReadOperation15omap_get_headerEPN4ceph6buffer7v15_2_04listEPi'
@@ -56,14 +58,13 @@ def _library():
 def _declared():
     """The library's functions with the types of their arguments."""
     rados, common = _library()
-    pointers = POINTER(c_char_p), POINTER(c_size_t)
     for function, result, arguments in [
         (rados.rados_create_write_op, c_void_p, []),
         (rados.rados_create_read_op, c_void_p, []),
         (rados.rados_release_write_op, None, [c_void_p]),
         (rados.rados_release_read_op, None, [c_void_p]),
-        (rados.rados_write_op_omap_set2, None, [c_void_p, pointers[0], pointers[0], *pointers[1:] * 2, c_size_t]),
-        (rados.rados_write_op_omap_rm_keys2, None, [c_void_p, pointers[0], pointers[1], c_size_t]),
+        (rados.rados_write_op_omap_set2, None, [c_void_p, c_void_p, c_void_p, c_void_p, c_void_p, c_size_t]),
+        (rados.rados_write_op_omap_rm_keys2, None, [c_void_p, c_void_p, c_void_p, c_size_t]),
         (rados.rados_write_op_remove, None, [c_void_p]),
         (rados.rados_write_op_write_full, None, [c_void_p, c_char_p, c_size_t]),
         (rados.rados_write_op_exec, None, [c_void_p, c_char_p, c_char_p, c_char_p, c_size_t, c_void_p]),
@@ -72,7 +73,6 @@ def _declared():
         (rados.rados_aio_read_op_operate, c_int, [c_void_p, c_void_p, c_void_p, c_char_p, c_int]),
         (rados.rados_read_op_omap_get_vals2, None,
          [c_void_p, c_char_p, c_char_p, c_uint64, c_void_p, c_void_p, c_void_p]),
-        (rados.rados_omap_get_next2, c_int, [c_void_p] * 5),
         (rados.rados_omap_get_end, None, [c_void_p]),
         (rados.rados_read, c_int, [c_void_p, c_char_p, c_char_p, c_size_t, c_uint64]),
         (rados.rados_stat, c_int, [c_void_p, c_char_p, c_void_p, c_void_p]),
@@ -89,6 +89,10 @@ def _declared():
 
 
 RADOS, COMMON_LIBRARY, FREE = _declared()
+# what is called for each pair: with the interpreter's lock held, and arguments as they are
+NEXT_PAIR = ctypes.PyDLL('librados.so.2').rados_omap_get_next2
+BYTES_AT = ctypes.pythonapi.PyBytes_FromStringAndSize
+BYTES_AT.restype = ctypes.py_object
 
 
 def checked(answer, what):
@@ -123,9 +127,26 @@ def _as_object(operation):
     return (c_void_p * 2)(None, operation)
 
 
-def _texts(texts):
-    """Byte strings and their lengths, as the C calls take them."""
-    return (c_char_p * len(texts))(*texts), (c_size_t * len(texts))(*map(len, texts))
+class Texts:
+    """Byte strings that lie one behind the other in `data`, as the C calls take them: the address of each, and its length.
+    """
+
+    def __init__(self, data, at, lengths):
+        self.data, self.at, self.lengths = data, at, array.array('Q', lengths)
+        begin = ctypes.cast(c_char_p(data), c_void_p).value + at
+        self.addresses = array.array('Q', itertools.accumulate(self.lengths, initial=begin))
+
+    def end(self):
+        """Where the last one ends in the data."""
+        return self.at + self.addresses[-1] - self.addresses[0]
+
+    def __getitem__(self, k):
+        begin = self.at + self.addresses[k] - self.addresses[0]
+        return self.data[begin:begin + self.lengths[k]]
+
+    def from_number(self, k):
+        """The addresses of the addresses and of the lengths, from number k on."""
+        return self.addresses.buffer_info()[0] + 8 * k, self.lengths.buffer_info()[0] + 8 * k
 
 
 class Completion:
@@ -165,13 +186,14 @@ class Write:
     def header(self, data):
         RADOS[SET_HEADER](_as_object(self.operation), _list_of(data))
 
-    def pairs(self, keys, values):
-        keys, key_lengths = _texts(keys)
-        values, value_lengths = _texts(values)
-        RADOS.rados_write_op_omap_set2(self.operation, keys, values, key_lengths, value_lengths, len(keys))
+    def pairs(self, texts, keys_at, values_at, count):
+        """Sets so many pairs, whose keys and values are the texts from these numbers on."""
+        keys, key_lengths = texts.from_number(keys_at)
+        values, value_lengths = texts.from_number(values_at)
+        RADOS.rados_write_op_omap_set2(self.operation, keys, values, key_lengths, value_lengths, count)
 
-    def without(self, keys):
-        RADOS.rados_write_op_omap_rm_keys2(self.operation, *_texts(keys), len(keys))
+    def without(self, texts, keys_at, count):
+        RADOS.rados_write_op_omap_rm_keys2(self.operation, *texts.from_number(keys_at), count)
 
     def data(self, data):
         RADOS.rados_write_op_write_full(self.operation, data, len(data))
@@ -202,15 +224,14 @@ class Page:
                                            byref(self.failed[1]))
 
     def read(self):
-        """The header, the pairs and whether more follow, once the read has ended."""
+        """The header, keys and values in turn, and whether more follow, once the read has ended."""
         header, rows = _bytes_of(self.buffer_list), []
         key, value, key_length, value_length = c_void_p(), c_void_p(), c_size_t(), c_size_t()
-        places = byref(key), byref(value), byref(key_length), byref(value_length)
-        following, bytes_at = RADOS.rados_omap_get_next2, ctypes.string_at
-        following(self.pairs, *places)
-        while key.value:
-            rows.append((bytes_at(key.value, key_length.value), bytes_at(value.value, value_length.value)))
-            following(self.pairs, *places)
+        arguments = self.pairs, byref(key), byref(value), byref(key_length), byref(value_length)
+        NEXT_PAIR(*arguments)
+        while key:
+            rows += BYTES_AT(key, key_length), BYTES_AT(value, value_length)
+            NEXT_PAIR(*arguments)
         RADOS.rados_omap_get_end(self.pairs)
         RADOS.rados_release_read_op(self.operation)
         return header, rows, bool(self.more.value)

@@ -6,7 +6,6 @@ store, by their own names.
 """
 import collections
 import contextlib
-import dataclasses
 import errno
 import json
 import os
@@ -14,7 +13,6 @@ import re
 import socket
 import threading
 import time
-import uuid
 
 from librados import Cluster, Objects, Page, RadosError, Write
 
@@ -31,19 +29,22 @@ class Refused(Exception):
     """Why a command does not go on, as a sentence."""
 
 
-@dataclasses.dataclass
 class Head:
-    """What a pool has, and the push that is under way there: `push` is the last one that was finished."""
-    push: str = ''
-    count: int = 0
-    # '', or of the push under way: 'write' while its parts are written, 'apply' once they are all there and until each
-    # change is made, 'sweep' while they are removed
-    stage: str = ''
-    under_way: str = ''
-    sums: list = dataclasses.field(default_factory=list)
-    client: str = ''
-    # a part was lost, so that the objects are between two pushes
-    broken: bool = False
+    """What a pool has, and the push that is under way there."""
+
+    def __init__(self, push='', count=0, stage='', under_way='', sums=(), client='', broken=False):
+        # the last push that was finished, and how many were
+        self.push, self.count = push, count
+        # 'write' while the parts of a push are written, 'apply' once they are all there and until each change is made,
+        # 'sweep' while they are removed; else nothing
+        self.stage = stage
+        # the push under way, the sums of its parts, and the client that began it
+        self.under_way, self.sums, self.client = under_way, list(sums), client
+        # a part was lost, so that the objects are between two pushes
+        self.broken = broken
+
+    def spelled(self):
+        return json.dumps({'form': FORM, **vars(self)}).encode()
 
 
 def head_of(data):
@@ -64,7 +65,7 @@ class Lease:
 
     def __init__(self, objects, seconds, shared):
         self.objects, self.seconds, self.shared = objects, seconds, shared
-        self.cookie = f'{socket.gethostname()}:{os.getpid()}:{uuid.uuid4().hex[:8]}'.encode()
+        self.cookie = f'{socket.gethostname()}:{os.getpid()}:{os.urandom(4).hex()}'.encode()
         self.over = threading.Event()
         self.lost = None
         self.renewed = time.monotonic()
@@ -147,11 +148,10 @@ class Pool:
 
     def set_head(self, head, lease):
         """Writes the head, which the pool refuses where the lock is not ours any more."""
-        text = json.dumps({'form': FORM, **dataclasses.asdict(head)}).encode()
         lease.check()
         with Write() as write:
             write.only_if_locked(LOCK, lease.cookie)
-            write.data(text)
+            write.data(head.spelled())
             try:
                 self.objects.write(HEAD, write)
             except RadosError as why:
@@ -171,7 +171,7 @@ class Pool:
         return sorted(names), foreign
 
     def pages(self, names, lease):
-        """Each of these objects in pages: name, header and pairs. Several are read at once."""
+        """Each of these objects in pages: name, header, and keys and values in turn. Several are read at once."""
         asked, names = collections.deque(), iter(names)
 
         def ask(name, after=b''):
@@ -188,7 +188,7 @@ class Pool:
             lease.check()
             header, pairs, more = page.read()
             if more and pairs:
-                asked.appendleft(ask(page.name, pairs[-1][0]))
+                asked.appendleft(ask(page.name, pairs[-2]))
             yield page.name, header, pairs
 
 

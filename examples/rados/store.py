@@ -11,8 +11,8 @@ import os
 import shutil
 import sqlite3
 
-from journal import CHANGE, CHANGE_HEADER, REMOVE, Step, chunks
-from pool import Refused
+from journal import CHANGE, CHANGE_HEADER, REMOVE, Step
+from pool import KEYS, Refused
 
 # the program opens a file with just these texts
 TABLES = [
@@ -22,6 +22,8 @@ TABLES = [
 ]
 # the bytes of a database that SQLite locks: who reads shares them, a running program has them for itself
 SHARED_FIRST, SHARED_SIZE = 0x40000002, 510
+# bytes a write operation, and rows a statement
+BYTES, ROWS = 4 << 20, 100
 
 GONE_OBJECTS = '''SELECT o.name FROM old.object o
     WHERE NOT EXISTS (SELECT 1 FROM object n WHERE n.name = o.name) ORDER BY o.name'''
@@ -33,6 +35,8 @@ CHANGED_PAIRS = '''SELECT n.object, n.key, n.value FROM omap n
 GONE_PAIRS = '''SELECT o.object, o.key FROM old.omap o
     WHERE EXISTS (SELECT 1 FROM object n WHERE n.name = o.object)
     AND NOT EXISTS (SELECT 1 FROM omap n WHERE n.object = o.object AND n.key = o.key) ORDER BY o.object, o.key'''
+
+INSERT_PAIRS, PAIR = 'INSERT INTO omap VALUES ', '(CAST(?1 AS TEXT), CAST(? AS TEXT), ?)'
 
 
 @contextlib.contextmanager
@@ -80,20 +84,25 @@ def settled(copy, path, push):
                                                                       "AND name NOT LIKE 'pushed' ORDER BY name")]
             if tables != TABLES:
                 raise Refused(f'{path} is no store of cephmeta')
+            connection.execute('PRAGMA synchronous = OFF')
             # deletes the log after its pages went into the file
             connection.execute('PRAGMA journal_mode = DELETE')
-            noted(connection, push)
     except sqlite3.DatabaseError as why:
         raise Refused(f'{path} is no store of cephmeta, or damaged ({why})') from None
+    noted(copy, push)
 
 
-def noted(connection, push):
-    """Notes of which push a copy is the tree."""
-    connection.execute('CREATE TABLE IF NOT EXISTS pushed (push TEXT NOT NULL)')
-    connection.execute('BEGIN')
-    connection.execute('DELETE FROM pushed')
-    connection.execute('INSERT INTO pushed VALUES (?)', (push,))
-    connection.execute('COMMIT')
+def noted(copy, push):
+    """Notes in a copy of which push it is the tree, and brings it to the disk."""
+    with database(copy) as connection:
+        connection.execute('PRAGMA synchronous = OFF')
+        connection.execute('PRAGMA journal_mode = OFF')
+        connection.execute('BEGIN')
+        connection.execute('CREATE TABLE IF NOT EXISTS pushed (push TEXT NOT NULL)')
+        connection.execute('DELETE FROM pushed')
+        connection.execute('INSERT INTO pushed VALUES (?)', (push,))
+        connection.execute('COMMIT')
+    on_disk(copy)
 
 
 def push_of(copy):
@@ -123,8 +132,22 @@ def compared(new, old):
         yield connection
 
 
+def chunks(rows):
+    """The columns of rows, of as many rows as one write operation takes: KEYS, and BYTES of the last column."""
+    while taken := list(itertools.islice(rows, KEYS)):
+        yield from halved(tuple(zip(*taken)))
+
+
+def halved(columns):
+    count = len(columns[0])
+    if count > 1 and sum(map(len, columns[-1])) > BYTES:
+        return [part for cut in (slice(0, count // 2), slice(count // 2, count))
+                for part in halved([column[cut] for column in columns])]
+    return [columns]
+
+
 def changes(connection):
-    """The steps that make the old store the new one, in an order in which none is made in vain."""
+    """The steps that make the old store the new one. No two are about the same header or key."""
     for (name,) in connection.execute(GONE_OBJECTS):
         yield Step(REMOVE, name, b'', (), (), ())
     headers = dict(connection.execute(CHANGED_HEADERS))
@@ -134,11 +157,11 @@ def changes(connection):
         return Step(CHANGE if header is None else CHANGE_HEADER, name, header or b'', gone, keys, values)
 
     for name, rows in itertools.groupby(connection.execute(CHANGED_PAIRS), operator.itemgetter(0)):
-        for chunk in chunks(row[1:] for row in rows):
-            yield change(name, (), *zip(*chunk))
+        for _, keys, values in chunks(rows):
+            yield change(name, (), keys, values)
     for name, rows in itertools.groupby(connection.execute(GONE_PAIRS), operator.itemgetter(0)):
-        for chunk in chunks(row[1:] for row in rows):
-            yield change(name, [key for (key,) in chunk], (), ())
+        for _, keys in chunks(rows):
+            yield change(name, keys, (), ())
     for name in list(headers):
         yield change(name, (), (), ())
 
@@ -154,8 +177,9 @@ def fetched(pool, lease, path, names):
         connection.execute('BEGIN')
         for name, header, pairs in pool.pages(names, lease):
             connection.execute('INSERT OR IGNORE INTO object VALUES (CAST(? AS TEXT), ?)', (name, header))
-            connection.executemany('INSERT INTO omap VALUES (CAST(? AS TEXT), CAST(? AS TEXT), ?)',
-                                   ((name, key, value) for key, value in pairs))
+            for at in range(0, len(pairs), 2 * ROWS):
+                rows = pairs[at:at + 2 * ROWS]
+                connection.execute(INSERT_PAIRS + ', '.join([PAIR] * (len(rows) // 2)), (name, *rows))
         connection.execute('COMMIT')
 
 

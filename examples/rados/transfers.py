@@ -3,8 +3,6 @@ import contextlib
 import os
 import shutil
 import tempfile
-import urllib.parse
-import uuid
 
 import journal
 import store
@@ -16,7 +14,7 @@ MOST_TOLD = 20
 
 def beside(path, name, namespace, end):
     """The file beside a store that knows what a pool has of it."""
-    words = [urllib.parse.quote(word, safe='').replace('.', '%2E') for word in (name, namespace) if word]
+    words = [''.join(c if c.isalnum() or c in '-_' else f'%{ord(c):x}' for c in word) for word in (name, namespace) if word]
     return '.'.join([path, *words, end])
 
 
@@ -42,8 +40,7 @@ def known(pool, lease, head, pushing, pushed, say):
         say(f'{os.path.basename(pushed)} is not of the last push to {pool.told}: the pool is read and compared')
         names, _ = pool.listed()
         store.fetched(pool, lease, pushed, names)
-        with store.database(pushed) as connection:
-            store.noted(connection, head.push)
+        store.noted(pushed, head.push)
     return pushed
 
 
@@ -85,7 +82,7 @@ def push(pool, path, name, namespace, seconds, say, copy_of=None):
     with pool.locked(seconds) as lease:
         head = finished(pool, lease, say)
         old = known(pool, lease, head, pushing, pushed, say)
-        number = uuid.uuid4().hex
+        number = os.urandom(16).hex()
         store.copied(path, pushing)
         store.settled(pushing, path, number)
         with store.compared(pushing, old) as connection:
@@ -143,8 +140,7 @@ def pull(pool, path, name, namespace, seconds, say):
         with reading(pool, seconds) as (lease, head):
             read(pool, lease, pulling, say)
         shutil.copyfile(pulling, pushed)
-        with store.database(pushed) as connection:
-            store.noted(connection, head.push)
+        store.noted(pushed, head.push)
         with store.database(pulling) as connection:
             objects, pairs = store.counts(connection)
             connection.execute('PRAGMA journal_mode = WAL')
