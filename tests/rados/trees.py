@@ -107,12 +107,14 @@ class Store:
 
 
 def asked(served, script):
-    """The answers to requests of a program that runs."""
-    if not script:
-        return []
-    served.stdin.write('\n'.join(script) + '\n')
-    served.stdin.flush()
-    return [served.stdout.readline().split(' ', 5)[5].rstrip('\n') for _ in script]
+    """The answers to requests of a program that runs: so many at a time as its output has room for."""
+    answers = []
+    for k in range(0, len(script), 100):
+        part = script[k:k + 100]
+        served.stdin.write('\n'.join(part) + '\n')
+        served.stdin.flush()
+        answers += [served.stdout.readline().split(' ', 5)[5].rstrip('\n') for _ in part]
+    return answers
 
 
 def read_all(served, number):
