@@ -5,6 +5,7 @@ file's name may be. The library has both: keys with their lengths in its C calls
 classes, whose names carry the version of their binary form, so that another form is a name that isn't there.
 """
 import array
+import collections
 import ctypes
 import errno
 import itertools
@@ -73,6 +74,7 @@ def _declared():
         (rados.rados_aio_read_op_operate, c_int, [c_void_p, c_void_p, c_void_p, c_char_p, c_int]),
         (rados.rados_read_op_omap_get_vals2, None,
          [c_void_p, c_char_p, c_char_p, c_uint64, c_void_p, c_void_p, c_void_p]),
+        (rados.rados_omap_iter_size, ctypes.c_uint, [c_void_p]),
         (rados.rados_omap_get_end, None, [c_void_p]),
         (rados.rados_read, c_int, [c_void_p, c_char_p, c_char_p, c_size_t, c_uint64]),
         (rados.rados_stat, c_int, [c_void_p, c_char_p, c_void_p, c_void_p]),
@@ -89,10 +91,10 @@ def _declared():
 
 
 RADOS, COMMON_LIBRARY, FREE = _declared()
-# what is called for each pair: with the interpreter's lock held, and arguments as they are
+# what is called for each pair: with the interpreter's lock held, as both return at once
 NEXT_PAIR = ctypes.PyDLL('librados.so.2').rados_omap_get_next2
 BYTES_AT = ctypes.pythonapi.PyBytes_FromStringAndSize
-BYTES_AT.restype = ctypes.py_object
+BYTES_AT.restype, BYTES_AT.argtypes = ctypes.py_object, [c_void_p, ctypes.c_ssize_t]
 
 
 def checked(answer, what):
@@ -224,17 +226,16 @@ class Page:
                                            byref(self.failed[1]))
 
     def read(self):
-        """The header, keys and values in turn, and whether more follow, once the read has ended."""
-        header, rows = _bytes_of(self.buffer_list), []
-        key, value, key_length, value_length = c_void_p(), c_void_p(), c_size_t(), c_size_t()
-        arguments = self.pairs, byref(key), byref(value), byref(key_length), byref(value_length)
-        NEXT_PAIR(*arguments)
-        while key:
-            rows += BYTES_AT(key, key_length), BYTES_AT(value, value_length)
-            NEXT_PAIR(*arguments)
+        """The header, the keys, their values, and whether more follow, once the read has ended."""
+        header, count = _bytes_of(self.buffer_list), RADOS.rados_omap_iter_size(self.pairs)
+        # address and length of each key and of each value
+        columns = [(c_uint64 * count)() for _ in range(4)]
+        places = [[byref(column, 8 * k) for k in range(count)] for column in columns]
+        collections.deque(map(NEXT_PAIR, itertools.repeat(self.pairs), *places), maxlen=0)
+        keys, values = list(map(BYTES_AT, columns[0], columns[2])), list(map(BYTES_AT, columns[1], columns[3]))
         RADOS.rados_omap_get_end(self.pairs)
         RADOS.rados_release_read_op(self.operation)
-        return header, rows, bool(self.more.value)
+        return header, keys, values, bool(self.more.value)
 
 
 class Cluster:

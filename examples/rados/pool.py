@@ -171,7 +171,7 @@ class Pool:
         return sorted(names), foreign
 
     def pages(self, names, lease):
-        """Each of these objects in pages: name, header, and keys and values in turn. Several are read at once."""
+        """Each of these objects in pages: name, header, keys and values. Several are read at once."""
         asked, names = collections.deque(), iter(names)
 
         def ask(name, after=b''):
@@ -186,10 +186,10 @@ class Pool:
             page, completion = asked.popleft()
             completion.wait()
             lease.check()
-            header, pairs, more = page.read()
-            if more and pairs:
-                asked.appendleft(ask(page.name, pairs[-2]))
-            yield page.name, header, pairs
+            header, keys, values, more = page.read()
+            if more and keys:
+                asked.appendleft(ask(page.name, keys[-1]))
+            yield page.name, header, keys, values
 
 
 @contextlib.contextmanager

@@ -175,11 +175,11 @@ def fetched(pool, lease, path, names):
         connection.execute('PRAGMA synchronous = OFF')
         new_tables(connection)
         connection.execute('BEGIN')
-        for name, header, pairs in pool.pages(names, lease):
+        for name, header, keys, values in pool.pages(names, lease):
             connection.execute('INSERT OR IGNORE INTO object VALUES (CAST(? AS TEXT), ?)', (name, header))
-            for at in range(0, len(pairs), 2 * ROWS):
-                rows = pairs[at:at + 2 * ROWS]
-                connection.execute(INSERT_PAIRS + ', '.join([PAIR] * (len(rows) // 2)), (name, *rows))
+            for at in range(0, len(keys), ROWS):
+                rows = itertools.chain.from_iterable(zip(keys[at:at + ROWS], values[at:at + ROWS]))
+                connection.execute(INSERT_PAIRS + ', '.join([PAIR] * min(ROWS, len(keys) - at)), (name, *rows))
         connection.execute('COMMIT')
 
 

@@ -96,6 +96,18 @@ def push(pool, path, name, namespace, seconds, say, copy_of=None):
     return f'push {head.count} to {pool.told}: {plural(spool.keys, "key")} of {plural(len(spool.objects), "object")}'
 
 
+def unpushed(path, name, namespace):
+    """How many keys of how many objects a pool lacks of a store, as far as the files beside the store know."""
+    pushed = beside(path, name, namespace, 'pushed')
+    with tempfile.TemporaryDirectory() as folder:
+        copy = os.path.join(folder, 'store')
+        store.copied(path, copy)
+        store.settled(copy, path, '')
+        with store.compared(copy, pushed if store.push_of(pushed) else None) as connection:
+            spool = Spool(store.changes(connection))
+    return spool.keys, len(spool.objects)
+
+
 @contextlib.contextmanager
 def reading(pool, seconds):
     """Holds the lock of a pool that has a finished push, for reading alone; one that broke off is ended first."""
