@@ -14,11 +14,15 @@ import store
 CLIENT = os.path.join(os.path.dirname(os.path.abspath(__file__)), 'cephmeta-rados')
 
 
-class Background:
-    """The pushes of one store to one pool."""
+def to_standard_error(line):
+    print(line, file=sys.stderr)
 
-    def __init__(self, path, pool, namespace='', conf=None, patience=60):
-        self.path, self.pool, self.patience = path, pool, patience
+
+class Background:
+    """The pushes of one store to one pool. `say` gets a line where a push is refused."""
+
+    def __init__(self, path, pool, namespace='', conf=None, patience=60, say=to_standard_error):
+        self.path, self.pool, self.patience, self.say = path, pool, patience, say
         self.words = ['--namespace', namespace, *(['--conf', conf] if conf else [])]
         # the copy that waits to be pushed, and the one that is being pushed: numbers of two files
         self.waiting, self.running, self.over = None, None, False
@@ -45,13 +49,19 @@ class Background:
                 if self.over:
                     return
                 self.running, self.waiting = self.waiting, None
-            ran = subprocess.run([sys.executable, CLIENT, 'push', self.copy(self.running), self.pool, '--copy-of', self.path,
-                                  *self.words], stdout=subprocess.DEVNULL)
+            went = self.client('push', self.copy(self.running), self.pool, '--copy-of', self.path, *self.words)[0] == 0
             with self.change:
                 store.removed(self.copy(self.running))
                 self.running = None
-            if ran.returncode:
-                print(f'{self.path}: this flush is not in pool {self.pool} yet', file=sys.stderr)
+            if not went:
+                self.say(f'{self.path}: this flush is not in pool {self.pool} yet')
+
+    def client(self, *words, patience=None):
+        """Runs a command of the client, and tells what it says; the status, and what it prints."""
+        ran = subprocess.run([sys.executable, CLIENT, *words], capture_output=True, text=True, timeout=patience)
+        if ran.stderr:
+            self.say(ran.stderr.rstrip('\n'))
+        return ran.returncode, ran.stdout.strip()
 
     def ended(self):
         """Pushes what is lacking, once the program has ended. A sentence where the pool still lacks something, else None."""
@@ -60,12 +70,10 @@ class Background:
             self.change.notify()
         self.thread.join(self.patience)
         try:
-            subprocess.run([sys.executable, CLIENT, 'push', self.path, self.pool, *self.words], stdout=subprocess.DEVNULL,
-                           timeout=self.patience)
+            self.client('push', self.path, self.pool, *self.words, patience=self.patience)
         except subprocess.TimeoutExpired:
-            print(f'{self.path}: pool {self.pool} did not answer within {self.patience} s', file=sys.stderr)
+            self.say(f'{self.path}: pool {self.pool} did not answer within {self.patience} s')
         for number in (0, 1):
             store.removed(self.copy(number))
-        left = subprocess.run([sys.executable, CLIENT, 'unpushed', self.path, self.pool, *self.words], capture_output=True,
-                              text=True)
-        return (left.stdout or left.stderr).strip() if left.returncode else None
+        status, told = self.client('unpushed', self.path, self.pool, *self.words)
+        return told or f'{self.path}: what pool {self.pool} lacks is not known' if status else None

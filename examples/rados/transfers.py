@@ -87,7 +87,7 @@ def push(pool, path, name, namespace, seconds, say, copy_of=None):
         store.settled(pushing, path, number)
         with store.compared(pushing, old) as connection:
             spool = Spool(store.changes(connection))
-        if not spool.sums and not head.broken:
+        if not spool.sums and head.push:
             store.removed(pushing)
             return f'{pool.told} has it all'
         head = journal.pushed(pool, lease, head, number, spool.parts, spool.sums)

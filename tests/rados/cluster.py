@@ -65,11 +65,13 @@ def free_port():
 
 class Cluster:
     """The cluster, with an OSD that keeps its objects in memory, or of another kind."""
+    every = []
 
     def __init__(self, kind='memstore'):
         self.folder = tempfile.mkdtemp(prefix='rados-')
         self.conf = os.path.join(self.folder, 'ceph.conf')
         self.processes, self.kind, self.client = {}, kind, None
+        self.every.append(self)
 
     def __enter__(self):
         try:
@@ -83,8 +85,8 @@ class Cluster:
         self.end()
 
     def run(self, *words):
-        return subprocess.run([*words[:1], '-c', self.conf, *words[1:]], check=True, capture_output=True,
-                              cwd=self.folder).stdout
+        return subprocess.run([*words[:1], '-c', self.conf, *words[1:]], check=True, capture_output=True, cwd=self.folder,
+                              preexec_fn=ends_with_parent).stdout
 
     def start(self, name, *words):
         with open(os.path.join(self.folder, name + '.out'), 'ab') as out:
@@ -139,9 +141,7 @@ class Cluster:
         return counts['op_in_bytes'], counts['op_out_bytes']
 
     def end(self):
-        if self.client:
-            self.client.shutdown()
-        for process in reversed(self.processes.values()):
+        for process in self.processes.values():
             process.kill()
             process.wait()
         shutil.rmtree(self.folder, ignore_errors=True)
