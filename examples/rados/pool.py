@@ -178,18 +178,23 @@ class Pool:
             page = Page(name, after, KEYS)
             return page, self.objects.begin_read(page)
 
-        while True:
-            while len(asked) < AT_ONCE and (name := next(names, None)) is not None:
-                asked.append(ask(name))
-            if not asked:
-                return
-            page, completion = asked.popleft()
-            completion.wait()
-            lease.check()
-            header, keys, values, more = page.read()
-            if more and keys:
-                asked.appendleft(ask(page.name, keys[-1]))
-            yield page.name, header, keys, values
+        try:
+            while True:
+                while len(asked) < AT_ONCE and (name := next(names, None)) is not None:
+                    asked.append(ask(name))
+                if not asked:
+                    return
+                page, completion = asked.popleft()
+                completion.wait()
+                lease.check()
+                header, keys, values, more = page.read()
+                if more and keys:
+                    asked.appendleft(ask(page.name, keys[-1]))
+                yield page.name, header, keys, values
+        finally:
+            # whatever fails, no read is under way behind this
+            for _, completion in asked:
+                completion.wait_only()
 
 
 @contextlib.contextmanager
