@@ -1,7 +1,7 @@
 """What the kernel asks of a file system, as requests to the cluster.
 
 The kernel names an inode by its number and the cluster by a directory and a name, so for each number that the kernel knows there is a `Node`, as a
-client's dentry cache has it. Nothing else is remembered: each look-up is asked of the cluster, for a file system whose names other clients change.
+client's dentry cache has it. No name is remembered but those: each look-up is asked of the cluster.
 """
 import errno
 import functools
@@ -15,6 +15,8 @@ from words import escaped, inode_of, page_of, unescaped
 
 ROOT = pyfuse3.ROOT_INODE
 PAGE = 1000
+# seconds for which the kernel believes what it was told of an inode. It asks again where it has changed the inode itself, and no other client does
+ATTRIBUTES_HOLD = 1_000_000
 PIN = b'ceph.dir.pin'
 DOTS = b'.', b'..'
 
@@ -104,7 +106,7 @@ class FileSystem(pyfuse3.Operations):
         shown.st_atime_ns = shown.st_mtime_ns = shown.st_ctime_ns = it.mtime
         shown.st_nlink = 0 if node.is_gone else 1
         shown.st_blksize, shown.st_blocks = 4096, (it.size + 511) // 512
-        shown.entry_timeout = shown.attr_timeout = 0
+        shown.entry_timeout, shown.attr_timeout = 0, ATTRIBUTES_HOLD
         return shown
 
     def refresh(self, node):
@@ -259,8 +261,8 @@ class FileSystem(pyfuse3.Operations):
         if fields.update_size:
             self.resize(node, given.st_size)
             changes['size'] = given.st_size
-            # who has a file open, or opens it to write it anew, changes it even where its size stays
-            if handle is not None or given.st_size == 0 or given.st_size != node.seen.size:
+            # who has a file open changes it even where its size stays
+            if handle is not None or given.st_size != node.seen.size:
                 changes['mtime'] = time.time_ns()
         if fields.update_mtime:
             # a time before 1970 becomes the first that can be kept, as the kernel does it for its own file systems
@@ -309,7 +311,11 @@ class FileSystem(pyfuse3.Operations):
 
     @answered
     async def open(self, number, flags, ctx):
-        self.fit(self.refresh(self.nodes[number]))
+        node = self.refresh(self.nodes[number])
+        self.fit(node)
+        if flags & os.O_TRUNC:
+            self.resize(node, 0)
+            self.alter(node, size=0, mtime=time.time_ns())
         return pyfuse3.FileInfo(fh=number)
 
     @answered
