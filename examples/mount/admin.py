@@ -4,6 +4,7 @@ A line is looked at before it is said, since the program ends at one that is no 
 """
 import os
 import re
+import stat
 
 import trio
 
@@ -26,10 +27,15 @@ def said(cluster, line):
 async def serve(cluster, path):
     """Answers whoever connects, for as long as the file system is mounted."""
     async def answer(stream):
-        line = await stream.receive_some(16384)
-        await stream.send_all(said(cluster, line.decode('ascii', 'replace').strip()).encode() + b'\n')
+        try:
+            line = await stream.receive_some(16384)
+            await stream.send_all(said(cluster, line.decode('ascii', 'replace').strip()).encode() + b'\n')
+        except trio.BrokenResourceError:
+            """Who asked doesn't listen any more."""
 
     socket = trio.socket.socket(trio.socket.AF_UNIX)
+    if os.path.exists(path) and stat.S_ISSOCK(os.stat(path).st_mode):
+        os.unlink(path)     # of a mount that was killed
     await socket.bind(path)
     try:
         socket.listen()

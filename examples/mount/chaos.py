@@ -55,6 +55,7 @@ class Chaos:
         if words[0] != 'frags':
             del self.places[directory]
             return self.leaves(cluster)
+        cluster.changed.add(directory)
         return directory, words[2:]
 
     def leaf(self, cluster):

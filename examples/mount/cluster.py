@@ -13,6 +13,7 @@ CLIENT = 1
 TRIES = 10_000
 # after so many requests each rank has a turn of its own, in which it splits, merges and hands over what is pinned elsewhere
 TURNS_AFTER = 100
+READS = {'lookup', 'readdir', 'readlink'}
 # what a system call returns where memory, the store or inode numbers are lacking
 LACKS = {1: errno.ENOMEM, 2: errno.EIO, 3: errno.ENOSPC}
 UNSAVED = {'full': errno.ENOSPC, 'memory': errno.ENOMEM}
@@ -56,24 +57,24 @@ class Stepping:
             said = cluster.say(f'req {rank} {CLIENT} {tid} {tid} {operation}')
             if said != 'queued':
                 return said
-        self.waiting = None
-        was_deferred = False
-        while True:
+        said, rank = self.served(cluster, rank, tid)
+        if said == 'deferred':
+            for other in range(cluster.ranks):
+                if other != rank:
+                    cluster.say(f'grant {other} {CLIENT} {tid}')
+            said, rank = self.served(cluster, rank, tid)
+        # with all grants it waits for what is frozen alone
+        said = f'refused {FROZEN}' if said == 'deferred' else said
+        self.waiting = (tid, rank) if refusal(said) else None
+        return said
+
+    def served(self, cluster, rank, tid):
+        """What serving a rank's front comes to, here or where it is forwarded to; and the rank there."""
+        said = cluster.say(f'serve {rank}')
+        if said.startswith('forwarded'):
+            rank = int(said.split()[1])
             said = cluster.say(f'serve {rank}')
-            if said.startswith('forwarded'):
-                rank = int(said.split()[1])
-            elif said == 'deferred' and not was_deferred:
-                was_deferred = True
-                for other in range(cluster.ranks):
-                    if other != rank:
-                        cluster.say(f'grant {other} {CLIENT} {tid}')
-            elif said == 'deferred':
-                self.waiting = tid, rank
-                return f'refused {FROZEN}'
-            else:
-                if refusal(said):
-                    self.waiting = tid, rank
-                return said
+        return said, rank
 
 
 class Cluster:
@@ -88,12 +89,14 @@ class Cluster:
         self.command += ['--store', store] if store else []
         self.tid = self.requests = 0
         self.fault = None
+        self.changed = set()            # directories whose leaves may not be in the store
         self.flushed = lambda: None     # is called when all is in the store
         self.start()
 
     def start(self):
         """Begins a program. The first line that it answers tells that it could."""
-        self.process = subprocess.Popen(self.command, stdin=subprocess.PIPE, stdout=subprocess.PIPE, start_new_session=True)
+        pipes = dict.fromkeys(('stdin', 'stdout', 'stderr'), subprocess.PIPE)
+        self.process = subprocess.Popen(self.command, start_new_session=True, **pipes)
         self.since_start = 0
         self.say('get subtrees')
 
@@ -108,7 +111,7 @@ class Cluster:
         except BrokenPipeError:
             said = b''
         if not said.endswith(b'\n'):
-            self.breaks(f'the program has ended, at: {line}')
+            self.breaks(f'the program has ended, at: {line}\n{self.process.stderr.read().decode()}'.strip())
         return said[:-1].decode()
 
     def breaks(self, text):
@@ -126,13 +129,21 @@ class Cluster:
     def bring(self, operation):
         self.tid += 1
         words = self.answered(operation).split()
-        if words[0] == 'reply':
-            reply, client, tid, _place, first, *words = words
-            if (client, tid, first) != (str(CLIENT), str(self.tid), 'new'):
-                self.breaks(f'{operation}: the reply is of another request')
+        if words[0] == 'reply' and words[1:3] == [str(CLIENT), str(self.tid)] and words[4] == 'new':
+            words = words[5:]
+        elif words[0] != 'errno':
+            self.breaks(f'{operation}: {" ".join(words)}')
         if words[0] == 'errno':
             raise OSError(int(words[1]), os.strerror(int(words[1])))
+        self.note(operation.split(), words)
         return words
+
+    def note(self, operation, answer):
+        """The directories whose names an operation has changed, and a new one."""
+        if operation[0] not in READS:
+            self.changed.update(int(number, 16) for number in (operation[1:4:2] if operation[0] == 'rename' else operation[1:2]))
+            if operation[0] == 'mkdir':
+                self.changed.add(int(answer[1], 16))
 
     def answered(self, operation):
         """The line that answers a request. While what it changes is frozen the ranks go on with their exports; while a rank's cache is full of
@@ -154,8 +165,19 @@ class Cluster:
         self.breaks(f'{operation}: {said}')
 
     def take_turns(self):
-        """Each rank makes the next step of its own, if it has one; says whether any had."""
-        return any([self.say(f'own {rank}') != 'none' for rank in range(self.ranks)])
+        """Each rank makes the next step of its own, if it has one; says whether any had. A cache that is full of what isn't in the store can't import
+        anything, and no flush comes while an export stands: so all that has changed is committed then."""
+        said = [self.say(f'own {rank}') for rank in range(self.ranks)]
+        if any(line.endswith(f'refused {NO_PLACE}') for line in said):
+            self.commit_changed()
+        return any(line != 'none' for line in said)
+
+    def commit_changed(self):
+        for directory in [*self.changed]:
+            word, *leaves = self.say(f'dirfrag ls {directory:x}').split()
+            for leaf in leaves[1:] if word == 'frags' else []:
+                rank = self.say(f'authority {directory:x} {leaf}').split()[1]
+                self.say(f'commit {rank} {directory:x} {leaf}')
 
     def settle(self):
         """The ranks make steps of their own until none has any."""
@@ -187,6 +209,7 @@ class Cluster:
         for _ in range(TRIES):
             said = self.say('flush')
             if said == 'flushed':
+                self.changed.clear()
                 self.flushed()
                 return
             if refusal(said) != EXPORT_STANDS:

@@ -2,8 +2,8 @@
 import os
 import stat
 
-from calls import RENAME_EXCHANGE, opened, outcome, renameat2
-from mounts import Mounted, TMPFS, equal, expect, room
+from calls import Calls, RENAME_EXCHANGE, opened, outcome, renameat2
+from mounts import Failed, Mounted, TMPFS, equal, expect, room
 
 WITH_CHAOS = ['--ranks', 3, '--chaos', 0.3]
 
@@ -60,13 +60,6 @@ def holes(top):
         os.ftruncate(file, (1 << 33) + 3)
         os.ftruncate(file, 1 << 34)
         equal(os.pread(file, 8, (1 << 33) - 1), b'\0mid\0\0\0\0', 'what was cut off is')
-
-
-def the_same_mount(mount, rows):
-    for row in rows:
-        top = os.path.join(mount.path, row.__name__)
-        os.mkdir(top)
-        row(top)
 
 
 def numbers_that_are_held(given):
@@ -133,21 +126,69 @@ def a_folder_of_bytes(given):
             equal(os.listdir(data), [], 'then there is')
 
 
+def more_than_a_cache_holds(given):
+    """New directories are nowhere but in a cache until they are written. Where one is full of them the cluster writes them, exports or not."""
+    with room() as folder, Mounted(given.program, folder, *WITH_CHAOS, '--cache', 512, '--flush-every', 10**9) as mount:
+        wanted = {f'd{number}': [f'e{below}' for below in range(25)] for number in range(30)}
+        for name, below in wanted.items():
+            os.mkdir(os.path.join(mount.path, name))
+            for inner in below:
+                os.mkdir(os.path.join(mount.path, name, inner))
+        equal({name: sorted(os.listdir(os.path.join(mount.path, name))) for name in os.listdir(mount.path)},
+              {name: sorted(below) for name, below in wanted.items()}, 'then there is')
+        mount.unmount()
+
+
+def several_clients(given):
+    """Each of some processes at once works in a folder of its own as on tmpfs."""
+    with room() as folder, room(TMPFS) as beside, Mounted(given.program, folder, *WITH_CHAOS) as mount:
+        children = []
+        for number in range(4):
+            ours, theirs = (os.path.join(top, f'client {number}') for top in (mount.path, beside))
+            os.mkdir(ours)
+            os.mkdir(theirs)
+            child = os.fork()
+            if not child:
+                os._exit(told(Calls(given.seed + number, ours, theirs)))
+            children.append(child)
+        for child in children:
+            equal(os.waitpid(child, 0)[1], 0, 'a client ends with status')
+        mount.unmount()
+
+
+def told(calls):
+    """A process's status: whether its calls come out well."""
+    try:
+        calls.make(300)
+        calls.compare()
+        return 0
+    except Failed as failure:
+        print(f'clients: several_clients: {failure}', flush=True)
+        return 1
+
+
 def paths_in_the_mount(given):
     """A mount that would wait for itself isn't made."""
     with room() as folder:
         for word in ('--store', '--data', '--admin'):
+            complaint = ''
             try:
-                with Mounted(given.program, folder, word, os.path.join(folder, 'mount/inside')):
-                    expect(False, f'{word} may lie in the mount')
-            except Exception as failure:
-                expect('lies in MOUNTPOINT' in str(failure), str(failure))
+                with Mounted(given.program, folder, word, os.path.join(folder, 'mount/inside')) as mount:
+                    mount.unmount()
+            except Failed as failure:
+                complaint = str(failure)
+            expect('lies in MOUNTPOINT' in complaint, f'of {word} in the mount is said: {complaint}')
+
+
+def in_one_mount(given):
+    with room() as folder, Mounted(given.program, folder, *WITH_CHAOS) as mount:
+        for row in (what_is_not_supported, listing_while_names_change, a_handle_that_is_read_again, holes):
+            top = os.path.join(mount.path, row.__name__)
+            os.mkdir(top)
+            row(top)
+        mount.unmount()
 
 
 def all_of_them(given):
-    with room() as folder, room(TMPFS):
-        with Mounted(given.program, folder, *WITH_CHAOS) as mount:
-            the_same_mount(mount, [what_is_not_supported, listing_while_names_change, a_handle_that_is_read_again, holes])
-            mount.unmount()
-    for row in (numbers_that_are_held, pins, a_folder_of_bytes, paths_in_the_mount):
+    for row in (in_one_mount, numbers_that_are_held, more_than_a_cache_holds, several_clients, pins, a_folder_of_bytes, paths_in_the_mount):
         row(given)

@@ -22,8 +22,9 @@ def lacking():
     """Why nothing can be mounted here, or nothing."""
     if not os.path.exists('/dev/fuse') or not os.access('/dev/fuse', os.R_OK | os.W_OK):
         return 'there is no device /dev/fuse that may be opened'
-    if not shutil.which('fusermount3'):
-        return 'there is no fusermount3 (package fuse3)'
+    for program, package in {'fusermount3': 'fuse3', 'git': 'git', 'rsync': 'rsync', 'setfattr': 'attr'}.items():
+        if not shutil.which(program):
+            return f'there is no {program} (package {package})'
     if subprocess.run([SYSTEM_PYTHON, '-c', 'import pyfuse3, trio'], capture_output=True).returncode:
         return f'{SYSTEM_PYTHON} has no pyfuse3 (package python3-pyfuse3)'
     for line in open('/proc/mounts'):
@@ -60,7 +61,7 @@ class Mounted:
         self.path, self.errors = os.path.join(folder, 'mount'), os.path.join(folder, 'errors')
         os.makedirs(self.path, exist_ok=True)
         with open(self.errors, 'w') as errors:
-            self.process = subprocess.Popen([SYSTEM_PYTHON, MOUNT, '--program', program, *map(str, words), self.path],
+            self.process = subprocess.Popen([SYSTEM_PYTHON, MOUNT, '--foreground', '--program', program, *map(str, words), self.path],
                                             stdout=subprocess.PIPE, stderr=errors, text=True)
         if not self.process.stdout.readline().endswith('is mounted\n'):
             self.process.wait()

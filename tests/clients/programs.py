@@ -1,24 +1,17 @@
 """Programs that nobody wrote for this file system. Each does the same on tmpfs, and leaves the same."""
 import os
 import random
-import shutil
 import subprocess
 
-from mounts import Mounted, TMPFS, equal, expect, room
+from mounts import MOUNT, Mounted, TMPFS, equal, expect, room
 from trees import difference, tree_of
 
+TOP = os.path.join(os.path.dirname(os.path.abspath(__file__)), '../..')
 WITH_CHAOS = ['--ranks', 3, '--chaos', 0.2]
 # nobody's own settings, and the same commits at each run
 GIT = {'PATH': os.environ['PATH'], 'HOME': '/nonexistent', 'GIT_CONFIG_NOSYSTEM': '1', 'LC_ALL': 'C', 'GIT_AUTHOR_NAME': 'a', 'GIT_COMMITTER_NAME': 'a',
        'GIT_AUTHOR_EMAIL': 'a@example.org', 'GIT_COMMITTER_EMAIL': 'a@example.org', 'GIT_AUTHOR_DATE': '1000000000 +0000',
        'GIT_COMMITTER_DATE': '1000000000 +0000'}
-
-
-def lacking():
-    for program in ('git', 'rsync'):
-        if not shutil.which(program):
-            return f'there is no {program}'
-    return None
 
 
 def ran(words, folder, **settings):
@@ -125,3 +118,18 @@ def rsync(given):
         ran(['rm', '-r', there], mount.path)
         equal(os.listdir(mount.path), [], 'after `rm -r` there is')
         mount.unmount()
+
+
+def session(given):
+    """examples/mount/first.session, which README shows: each command prints what stands below it, `umount` after a mount in the background too."""
+    with room() as folder, open(os.path.join(TOP, 'examples/mount/first.session')) as file:
+        os.symlink(os.path.join(TOP, 'examples'), os.path.join(folder, 'examples'))
+        wanted = file.read()
+        with open(os.path.join(folder, 'cephmeta-mount'), 'w') as mount:
+            mount.write(f'#!/bin/sh\nexec {MOUNT} --program {given.program} "$@"\n')
+        os.chmod(mount.name, 0o755)
+        printed = ''
+        for command in (line for line in wanted.splitlines(True) if line.startswith('$ ')):
+            words = command[2:].replace('examples/mount/cephmeta-mount', './cephmeta-mount')
+            printed += command + ran(['bash', '-c', words], folder).replace(f'cephmeta-mount: {folder}/tree is mounted\n', '')
+        equal(printed, wanted, 'the session is')
