@@ -14,7 +14,7 @@ import pyfuse3
 from words import escaped, inode_of, page_of, unescaped
 
 ROOT = pyfuse3.ROOT_INODE
-PAGE = 1000
+PAGE = 256
 # seconds for which the kernel believes what it was told of an inode. It asks again where it has changed the inode itself, and no other client does
 ATTRIBUTES_HOLD = 1_000_000
 PIN = b'ceph.dir.pin'

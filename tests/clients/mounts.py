@@ -2,6 +2,7 @@
 import contextlib
 import json
 import os
+import select
 import shutil
 import signal
 import subprocess
@@ -107,8 +108,13 @@ class Mounted:
         subprocess.run(['fusermount3', '-u', '-z', self.path], capture_output=True)
 
     def kill_program(self):
+        """The program ends at once, and has let go of its files when this returns."""
         with contextlib.suppress(ProcessLookupError, IndexError, FileNotFoundError):
-            os.kill(self.program(), signal.SIGKILL)
+            program = self.program()
+            handle = os.pidfd_open(program)
+            os.kill(program, signal.SIGKILL)
+            select.select([handle], [], [])
+            os.close(handle)
 
     def tell(self, socket, line):
         return subprocess.run([SYSTEM_PYTHON, TELL, socket, *line.split()], capture_output=True, text=True).stdout.rstrip('\n')
