@@ -191,11 +191,10 @@ class Cluster:
         self.since_start += 1
         if self.requests % TURNS_AFTER == 0:
             self.take_turns()
-        is_due = self.store and self.since_start >= self.restart_after
-        if is_due or self.requests % self.flush_every == 0:
+        if self.requests % min(self.flush_every, self.restart_after) == 0:
             try:
                 self.flush()
-                if is_due:
+                if self.store and self.since_start >= self.restart_after:
                     self.end()
                     self.start()
             except OSError as error:

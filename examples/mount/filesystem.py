@@ -17,6 +17,7 @@ ROOT = pyfuse3.ROOT_INODE
 PAGE = 256
 # seconds for which the kernel believes what it was told of an inode. It asks again where it has changed the inode itself, and no other client does
 ATTRIBUTES_HOLD = 1_000_000
+LAST_TIME = (1 << 64) - 1
 PIN = b'ceph.dir.pin'
 DOTS = b'.', b'..'
 
@@ -265,8 +266,8 @@ class FileSystem(pyfuse3.Operations):
             if handle is not None or given.st_size != node.seen.size:
                 changes['mtime'] = time.time_ns()
         if fields.update_mtime:
-            # a time before 1970 becomes the first that can be kept, as the kernel does it for its own file systems
-            changes['mtime'] = max(0, given.st_mtime_ns)
+            # a time that can't be kept becomes the nearest that can, as the kernel does it for its own file systems
+            changes['mtime'] = min(max(0, given.st_mtime_ns), LAST_TIME)
         if fields.update_uid:
             changes['uid'] = given.st_uid
         if fields.update_gid:

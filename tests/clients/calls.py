@@ -157,6 +157,14 @@ class Call:
         with opened(path, os.O_RDONLY) as file:
             return os.read(file, 20_000)
 
+    def held(self, path, other):
+        """What is changed through a handle is seen through it."""
+        with opened(path, os.O_RDWR) as file:
+            os.fchmod(file, self.mode)
+            os.ftruncate(file, self.size)
+            os.utime(file, ns=(self.time, self.time))
+            return attributes(os.fstat(file))
+
     def unlinked(self, path, other):
         """A file that is open keeps its bytes and attributes without its name."""
         with opened(path, os.O_RDWR) as file:
@@ -182,7 +190,7 @@ class Call:
 NAMING = [Call.mkdir] * 3 + [Call.creat] * 2 + [Call.excl] + [Call.rename] * 3 + [Call.rename_noreplace, Call.symlink, Call.chmod, Call.chown, Call.chgrp,
                                                                             Call.utime, Call.unlink, Call.rmdir, Call.remove_tree]
 READING = [Call.readlink, Call.listdir, Call.lstat, Call.stat, Call.access, Call.read]
-WRITING = [Call.truncate, Call.trunc, Call.append, Call.append, Call.pwrite, Call.unlinked, Call.replaced]
+WRITING = [Call.held, Call.truncate, Call.trunc, Call.append, Call.append, Call.pwrite, Call.unlinked, Call.replaced]
 EACH = NAMING + READING + WRITING
 
 

@@ -103,6 +103,10 @@ def pins(given):
             equal(mount.tell(socket, 'get subtrees'), f'subtrees 2 1:*:0 {number:x}:*:1', 'get subtrees')
             equal(mount.tell(socket, f'authority {os.lstat(os.path.join(pinned, "below")).st_ino:x} *'), 'rank 1', 'authority')
             equal(outcome(os.setxattr, pinned, 'ceph.dir.pin', b'x'), 'EINVAL', 'no rank comes to')
+            equal(outcome(os.setxattr, pinned, 'ceph.dir.pin', b'16'), 'EINVAL', 'a rank that no cluster has comes to')
+            file = os.path.join(mount.path, 'file')
+            os.close(os.open(file, os.O_CREAT | os.O_WRONLY))
+            equal(outcome(os.setxattr, file, 'ceph.dir.pin', b'1'), 'ENOTDIR', 'a pin of a file comes to')
             equal(outcome(os.setxattr, pinned, 'user.x', b'x'), 'ENOTSUP', 'another attribute comes to')
             # no line that would end the program gets there, and none of a client
             for line in ('get', 'lookup 1 pinned', 'own 256', 'own 0 1', 'serve 0', 'dirfrag ls 0'):
@@ -180,9 +184,16 @@ def paths_in_the_mount(given):
             expect('lies in MOUNTPOINT' in complaint, f'of {word} in the mount is said: {complaint}')
 
 
+def times(top):
+    """A time that can't be kept becomes the nearest that can: the kernel's own rule. What can be is kept to the nanosecond."""
+    for given, kept in ((0, 0), (1, 1), (17 * 10**18 + 1, 17 * 10**18 + 1), (-1, 0), ((1 << 64) + 7, (1 << 64) - 1)):
+        os.utime(top, ns=(given, given))
+        equal(os.stat(top).st_mtime_ns, kept, f'the time {given} is')
+
+
 def in_one_mount(given):
     with room() as folder, Mounted(given.program, folder, *WITH_CHAOS) as mount:
-        for row in (what_is_not_supported, listing_while_names_change, a_handle_that_is_read_again, holes):
+        for row in (what_is_not_supported, listing_while_names_change, a_handle_that_is_read_again, holes, times):
             top = os.path.join(mount.path, row.__name__)
             os.mkdir(top)
             row(top)
