@@ -1,7 +1,8 @@
 #!/usr/bin/python3
-"""A mount whose requests are timed: mounted.py MOUNTPOINT plain, or MOUNTPOINT PROGRAM RANKS. In the end it prints how many requests there were, and for how
-many seconds they were the cluster's."""
+"""A mount whose requests are timed: mounted.py MOUNTPOINT plain, or MOUNTPOINT PROGRAM RANKS. In the end it prints how many requests there were, for how
+many seconds the cluster had them, and the seconds of processor time that this process and the cluster's took."""
 import os
+import resource
 import sys
 import time
 
@@ -42,8 +43,8 @@ def main(mountpoint, kind, ranks='1'):
         trio.run(pyfuse3.main)
     finally:
         pyfuse3.close(unmount=True)
-        print(files.asked, files.seconds, flush=True)
         cluster.close()
+        print(files.asked, files.seconds, *(sum(resource.getrusage(who)[:2]) for who in (resource.RUSAGE_SELF, resource.RUSAGE_CHILDREN)), flush=True)
 
 
 if __name__ == '__main__':
