@@ -33,18 +33,24 @@ class Timed(FileSystem):
         return call
 
 
+def processor():
+    """Seconds of this process, and of those that it has waited for."""
+    return [sum(resource.getrusage(who)[:2]) for who in (resource.RUSAGE_SELF, resource.RUSAGE_CHILDREN)]
+
+
 def main(mountpoint, kind, ranks='1'):
     cluster = Plain() if kind == 'plain' else Cluster(kind, int(ranks))
     files = Timed(cluster, Memory(), Inode(pyfuse3.ROOT_INODE, 0o040000, 0o755, 0, time.time_ns()))
     cluster.request = files.timed(cluster.request)
     pyfuse3.init(files, mountpoint, pyfuse3.default_options | {'fsname=cephmeta', 'default_permissions'})
     print('is mounted', flush=True)
+    begin = processor()
     try:
         trio.run(pyfuse3.main)
     finally:
         pyfuse3.close(unmount=True)
         cluster.close()
-        print(files.asked, files.seconds, *(sum(resource.getrusage(who)[:2]) for who in (resource.RUSAGE_SELF, resource.RUSAGE_CHILDREN)), flush=True)
+        print(files.asked, files.seconds, *(end - before for end, before in zip(processor(), begin)), flush=True)
 
 
 if __name__ == '__main__':
