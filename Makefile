@@ -42,6 +42,7 @@ test:
 	@tests/many_names/run
 	@tests/random_runs/run
 	@tests/asked_runs/run
+	@tests/clients/run
 	@tests/answers/run
 	@tests/refused_growths/run
 	@tests/serve/run
