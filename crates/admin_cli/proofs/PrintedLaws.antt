@@ -59,7 +59,7 @@ use Rattle.keeping.specs.declared.unkept.Unkept.TheVariants as no
 idle_among : (sent : List Request) (inboxes : List (List Request)) → NoneWaits inboxes → AreAmong sent inboxes
 idle_among sent [] none = tt
 idle_among sent (waiting ∷ others) none =
-    (subst (λ (ws : List Request). AllByRecursion (Contains sent) ws) (sym (none (record { 0 = 0 }))) tt, idle_among sent others (λ rank. none (record { 0 = rank.0 + 1 })))
+    (subst (λ (ws : List Request). AllByRecursion (Contains sent) ws) (sym (none (record { 0 = 0 }))) tt, idle_among sent others (λ rank. none (record { 0 = suc rank.0 })))
 
 -- one of one request is it
 of_one : (sent : List Request) (request one : Request) → Contains sent request → Contains (request ∷ []) one → Contains sent one

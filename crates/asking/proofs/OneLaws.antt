@@ -1,5 +1,6 @@
 -- What asking is to whoever sends requests: one plain tree, served by one thread.
-use Rattle.asking.proofs.Common.{Answer, BookState, Entry, Event, IsSoundBook, List, NoneWaits, Refusal, Request, Result, Runs, [], ap, append-nil, inl, inr, arith, length, refl, subst, sym, ℕ, ◌++◌, ◌+◌, ◌∙◌, ◌∷◌, ◌≡◌}
+use Rattle.asking.proofs.Common.{Answer, BookState, Entry, Event, IsSoundBook, List, NoneWaits, Refusal, Request, Result, Runs, [], ap, append-nil, inl, inr, arith, length, refl, subst, sym, ℕ, ◌++◌, ◌∙◌, ◌∷◌, ◌≡◌}
+use Rattle.std.specs.Prelude.{suc}
 use Rattle.inboxes.specs.Inboxes.{Inboxes}
 use Rattle.mds_types.specs.History.{IsLegal}
 use Rattle.cluster_core.specs.GivenUp.{GivesUpIn}
@@ -15,7 +16,7 @@ use Rattle.asking.specs.Reached.{IsBroughtBy, receipt_in}
 pub none_among : (inboxes : Inboxes) → NoneWaits inboxes → waiting_in inboxes ≡ []
 none_among [] none = refl
 none_among (waiting ∷ others) none =
-    ap (λ (ws : List Request). ws ++ waiting_in others) (none (record { 0 = 0 })) ∙ none_among others (λ rank. none (record { 0 = rank.0 + 1 }))
+    ap (λ (ws : List Request). ws ++ waiting_in others) (none (record { 0 = 0 })) ∙ none_among others (λ rank. none (record { 0 = suc rank.0 }))
 
 -- a request that was asked alone
 pub asked_as_one : (old new : BookState) (request : Request) (most : ℕ) (result : Result Receipt Refusal) → NoneWaits old.core.state.inboxes → IsSoundBook new → IsBroughtBy request most result old new

@@ -9,6 +9,8 @@ use Rattle.std.proofs.lemmas.Option.{none-some, same_Some}
 use Rattle.cluster_core.specs.OneThread.{arrival, arrivals, receipt_of, receipts_of}
 use Rattle.cluster_core.specs.declared.receipts.Receipt.{Receipt}
 use Rattle.asking.specs.Reached.{LeadsTo}
+use Rattle.asking.specs.Serves.{receipts_in}
+use Rattle.asking.specs.declared.serves.Served.{Served}
 
 runs_then : (a b c : BookState) (events more : List Event) (results others : List (Result Answer Refusal)) → Runs a events results b → Runs b more others c → Runs a (events ++ more) (results ++ others) c
 runs_then a b c [] more [] others same rest = subst (λ (x : BookState). Runs x more others c) same rest
@@ -22,7 +24,7 @@ all_then P (x ∷ xs) ys (one, all) more = (one, all_then P xs ys all more)
 
 receipts_then : (xs ys : List (Result Answer Refusal)) → receipts_of (xs ++ ys) ≡ receipts_of xs ++ receipts_of ys
 receipts_then [] ys = refl
-receipts_then (x ∷ xs) ys = ap (λ (rs : List Receipt). receipt_of x ++ rs) (receipts_then xs ys) ∙ append_assoc (receipt_of x) (receipts_of xs) (receipts_of ys)
+receipts_then (x ∷ xs) ys = ap (λ (rs : List Receipt). receipt_of x ++ rs) (receipts_then xs ys) ∙ sym (append_assoc (receipt_of x) (receipts_of xs) (receipts_of ys))
 
 module _ (client tid : ℕ) where
   pub leads_nowhere : (book : BookState) → LeadsTo client tid [] 0 [] None book book
@@ -95,3 +97,7 @@ module _ (client tid : ℕ) where
         let end = other.last reason is in
         (one.results ++ end.0, ap (λ (rs : List (Result Answer Refusal)). one.results ++ rs) end.1 ∙ sym (append_assoc one.results end.0 (Err reason ∷ [])));
   }
+
+  -- a step that served, by what became of the request
+  pub leads_served : (told served : Served) → told ≡ served → (old new : BookState) → LeadsTo client tid [] 1 (receipts_in (Ok told)) None old new → LeadsTo client tid [] 1 (receipts_in (Ok served)) None old new
+  leads_served told served is old new one = subst (λ (s : Served). LeadsTo client tid [] 1 (receipts_in (Ok s)) None old new) is one

@@ -33,7 +33,9 @@ pub fn grant_all<S: Store + Drop>(
 {
     book.is_sound();
     for rank in 0..16 {
-        grant_own(alloc, book, Rank(rank), client, tid)?;
+        if let Err(refusal) = grant_own(alloc, book, Rank(rank), client, tid) {
+            return Err(refusal);
+        }
     }
     Ok(())
 }

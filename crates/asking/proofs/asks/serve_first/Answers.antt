@@ -1,7 +1,7 @@
 use Rattle.asking.proofs.Common.{Goes, None, Replied, Some, Waits, [], arith, receipt_in, ◌∷◌}
 use Rattle.std.specs.Result.{result_err}
 use Rattle.asking.proofs.AnswerLaws.{front, goes_on, here, refused, replied, stays, there, told_so}
-use Rattle.asking.proofs.ReachedLaws.{leads_then, leads_within}
+use Rattle.asking.proofs.ReachedLaws.{leads_served, leads_then, leads_within}
 use Rattle.asking.proofs.asks.serve_first.Goals as goal
 
 pub serve-requires : goal.serve-requires
@@ -52,17 +52,17 @@ returns-in-Err-clause-asked g c q come =
 
 pub returns-in-Ok-Replied-clause-reached : goal.returns-in-Ok-Replied-clause-reached
 returns-in-Ok-Replied-clause-reached g c =
-    leads_within c.args.client c.args.tid [] 1 19 (c.in-Ok-Replied.receipt ∷ []) None c.args.book.now c.serve.new.book (omega arith) (c.in-Ok-Replied.ensures.reached c.args.client c.args.tid)
+    leads_within c.args.client c.args.tid [] 1 19 (c.in-Ok-Replied.receipt ∷ []) None c.args.book.now c.serve.new.book (omega arith) (leads_served c.args.client c.args.tid c.in-Ok-Replied.field-0 (Replied c.in-Ok-Replied.receipt) c.in-Ok-Replied.field-0-is c.args.book.now c.serve.new.book (c.in-Ok-Replied.ensures.reached c.args.client c.args.tid))
 
 pub returns-in-Ok-Goes-clause-reached : goal.returns-in-Ok-Goes-clause-reached
 returns-in-Ok-Goes-clause-reached g c =
     leads_then c.args.client c.args.tid [] [] 1 18 19 [] (receipt_in c.serve_there.result) None (result_err c.serve_there.result) c.args.book.now c.serve.new.book c.serve_there.new.book (omega arith)
-    (c.in-Ok-Goes.ensures.reached c.args.client c.args.tid) c.serve_there.ensures.reached
+    (leads_served c.args.client c.args.tid c.in-Ok-Goes.field-0 (Goes c.in-Ok-Goes.master) c.in-Ok-Goes.field-0-is c.args.book.now c.serve.new.book (c.in-Ok-Goes.ensures.reached c.args.client c.args.tid)) c.serve_there.ensures.reached
 
 pub returns-in-Ok-Waits-clause-reached : goal.returns-in-Ok-Waits-clause-reached
 returns-in-Ok-Waits-clause-reached g c =
     leads_then c.args.client c.args.tid [] [] 1 17 19 [] (receipt_in c.serve_granted.result) None (result_err c.serve_granted.result) c.args.book.now c.serve.new.book c.serve_granted.new.book (omega arith)
-    (c.in-Ok-Waits.ensures.reached c.args.client c.args.tid) c.serve_granted.ensures.reached
+    (leads_served c.args.client c.args.tid c.in-Ok-Waits.field-0 Waits c.in-Ok-Waits.field-0-is c.args.book.now c.serve.new.book (c.in-Ok-Waits.ensures.reached c.args.client c.args.tid)) c.serve_granted.ensures.reached
 
 pub returns-in-Err-clause-reached : goal.returns-in-Err-clause-reached
 returns-in-Err-clause-reached g c =

@@ -1,6 +1,6 @@
 use Rattle.asking.proofs.Common.{Goes, HasCome, None, Replied, Some, Waits, [], arith, ◌∷◌}
 use Rattle.asking.proofs.AnswerLaws.{front, granted, is_waiting, needs_no_wait, never_again, not_granted, refused, replied, told_so}
-use Rattle.asking.proofs.ReachedLaws.{leads_then, leads_within}
+use Rattle.asking.proofs.ReachedLaws.{leads_served, leads_then, leads_within}
 use Rattle.asking.proofs.asks.serve_granted.Goals as goal
 
 pub returns-in-Err-clause-asked : goal.returns-in-Err-clause-asked
@@ -45,7 +45,7 @@ returns-in-Err-serve-clause-asked g c q come master =
 pub returns-in-Ok-Replied-clause-reached : goal.returns-in-Ok-Replied-clause-reached
 returns-in-Ok-Replied-clause-reached g c =
     leads_then c.args.client c.args.tid [] [] 16 1 17 [] (c.in-Ok-Replied.receipt ∷ []) None None c.args.book.now c.grant_all.new.book c.serve.new.book (omega arith)
-    c.in_default.ensures.reached (c.in-Ok-Replied.ensures.reached c.args.client c.args.tid)
+    c.in_default.ensures.reached (leads_served c.args.client c.args.tid c.in-Ok-Replied.field-0 (Replied c.in-Ok-Replied.receipt) c.in-Ok-Replied.field-0-is c.grant_all.new.book c.serve.new.book (c.in-Ok-Replied.ensures.reached c.args.client c.args.tid))
 
 pub returns-in-Err-serve-clause-reached : goal.returns-in-Err-serve-clause-reached
 returns-in-Err-serve-clause-reached g c =

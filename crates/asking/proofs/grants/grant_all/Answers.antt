@@ -1,4 +1,4 @@
-use Rattle.asking.proofs.Common.{None, State, [], ap, arith, first_waiting, ◌+◌, ◌∙◌}
+use Rattle.asking.proofs.Common.{None, Some, State, [], ap, arith, first_waiting, ◌+◌, ◌∙◌}
 use Rattle.asking.proofs.GrantLaws.{all_granted, one_more}
 use Rattle.asking.proofs.ReachedLaws.{leads_then, leads_within}
 use Rattle.asking.proofs.grants.grant_all.Goals as goal
@@ -8,12 +8,12 @@ loop-rank-preserved g c = record {
   so = λ request waits.
       let so = c.loop-rank.invariant.so request waits in
       one_more c.args.book.now.core c.loop-rank.book.core c.grant_own.new.book.core c.args.client c.args.tid c.loop-rank.rank request.op so
-      (c.in_ok-grant_own.ensures.granted request (ap (λ (s : State). first_waiting c.args.client c.args.tid s.inboxes) so.kept.left ∙ waits));
-  reached = leads_then c.args.client c.args.tid [] [] c.loop-rank.rank 1 (c.loop-rank.rank + 1) [] [] None None c.args.book.now c.loop-rank.book c.grant_own.new.book (omega arith) c.loop-rank.invariant.reached c.in_ok-grant_own.ensures.reached;
+      (c.in_default.ensures.granted request (ap (λ (s : State). first_waiting c.args.client c.args.tid s.inboxes) so.kept.left ∙ waits));
+  reached = leads_then c.args.client c.args.tid [] [] c.loop-rank.rank 1 (c.loop-rank.rank + 1) [] [] None None c.args.book.now c.loop-rank.book c.grant_own.new.book (omega arith) c.loop-rank.invariant.reached c.in_default.ensures.reached;
   history = c.grant_own.ensures.history ∙ c.loop-rank.invariant.history;
   opening = c.grant_own.ensures.opening ∙ c.loop-rank.invariant.opening;
   sound = c.grant_own.ensures.sound;
-  faults = omega (arith, c.in_ok-grant_own.ensures.counted, c.loop-rank.invariant.faults);
+  faults = omega (arith, c.in_default.ensures.counted, c.loop-rank.invariant.faults);
 }
 
 pub returns-clause-granted : goal.returns-clause-granted
@@ -24,5 +24,7 @@ pub returns-clause-reached : goal.returns-clause-reached
 returns-clause-reached g c =
     leads_within c.args.client c.args.tid [] c.loop-rank.rank 16 [] None c.args.book.now c.loop-rank.book (omega (arith, c.loop-rank-test.false, c.loop-rank.auto.rank-end)) c.loop-rank.invariant.reached
 
-pub returns-in_err-grant_own-clause-reached : goal.returns-in_err-grant_own-clause-reached
-returns-in_err-grant_own-clause-reached g c = ?
+pub returns-in-Err-clause-reached : goal.returns-in-Err-clause-reached
+returns-in-Err-clause-reached g c =
+    leads_then c.args.client c.args.tid [] [] c.loop-rank.rank 1 16 [] [] None (Some c.in-Err.refusal) c.args.book.now c.loop-rank.book c.grant_own.new.book (omega (arith, c.loop-rank-test.true, c.loop-rank.auto.rank-end))
+    c.loop-rank.invariant.reached c.in-Err.ensures.reached
