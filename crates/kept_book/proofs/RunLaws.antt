@@ -1,14 +1,13 @@
 -- What a crash leaves of a run, and what a mount of it shows.
-use Rattle.std.proofs.Common.{◌≡◌, ◌⊎◌, List, [], ◌∷◌, ◌++◌, inl, inr, subst}
+use Rattle.std.proofs.Common.{◌≡◌, inl, inr, subst}
 use Rattle.mds_types.specs.Tree.{Tree}
 use Rattle.objstore.specs.Objects.{Objects}
 use Rattle.cold_store.specs.ColdTree.{IsColdTree}
 use Rattle.sqlite_trees.specs.Tree.{Trees}
 use Rattle.object_tables.specs.Spelled.{Spells}
 use Rattle.object_tables.proofs.SpelledLaws.{one_spelling}
-use Rattle.kept_store.specs.Kept.{Kept}
-use Rattle.kept_book.specs.Survives.{IsOnDisk, Mounts}
-use Rattle.kept_book.specs.Runs.{LeavesAFlush, MountsOneOf, Runs, begins, writes, flushes, settles}
+use Rattle.kept_book.specs.Survives.{IsOnDisk}
+use Rattle.kept_book.specs.Runs.{LeavesAFlush, begins, writes, flushes, settles}
 
 pub leaves_a_flush : {T : Type 0} (recovers : T → Trees → Type 0) → LeavesAFlush recovers
 leaves_a_flush recovers first _ last _ disk begins db may = inl (disk.mounts db may)
