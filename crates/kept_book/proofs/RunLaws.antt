@@ -1,24 +1,23 @@
 -- What a crash leaves of a run, and what a mount of it shows.
-use Rattle.std.proofs.Common.{◌≡◌, ◌⊎◌, List, [], ◌∷◌, ◌++◌, inl, inr, subst, sym, ◌∙◌}
+use Rattle.std.proofs.Common.{◌≡◌, inl, inr, subst}
 use Rattle.mds_types.specs.Tree.{Tree}
 use Rattle.objstore.specs.Objects.{Objects}
 use Rattle.cold_store.specs.ColdTree.{IsColdTree}
 use Rattle.sqlite_trees.specs.Tree.{Trees}
 use Rattle.object_tables.specs.Spelled.{Spells}
 use Rattle.object_tables.proofs.SpelledLaws.{one_spelling}
-use Rattle.kept_store.specs.Kept.{Kept}
-use Rattle.kept_book.specs.Survives.{IsOnDisk, Mounts}
-use Rattle.kept_book.specs.Runs.{LeavesAFlush, MountsOneOf, Runs, begins, writes, flushes, settles}
+use Rattle.kept_book.specs.Survives.{IsOnDisk}
+use Rattle.kept_book.specs.Runs.{LeavesAFlush, begins, writes, flushes, settles}
 
 pub leaves_a_flush : {T : Type 0} (recovers : T → Trees → Type 0) → LeavesAFlush recovers
-leaves_a_flush recovers first first last [] disk begins db may = inl (disk.mounts db may)
-leaves_a_flush recovers first next last tried disk (writes tried now next run same) db may =
+leaves_a_flush recovers first _ last _ disk begins db may = inl (disk.mounts db may)
+leaves_a_flush recovers first _ last _ disk (writes tried now next run same) db may =
     leaves_a_flush recovers first now last tried disk run db (subst (λ t. recovers t db) same may)
-leaves_a_flush recovers first next last (tree ∷ tried) disk (flushes tried now next tree run cold crash) db may = elim (crash db may) [
+leaves_a_flush recovers first _ last _ disk (flushes tried now next tree run cold crash) db may = elim (crash db may) [
   | inl was ↦ inr (leaves_a_flush recovers first now last tried disk run db was)
   | inr is ↦ inl (record { objects = next.objects; spelled = is; cold = cold })
 ]
-leaves_a_flush recovers first next last tried disk (settles tried now next run fewer) db may =
+leaves_a_flush recovers first _ last _ disk (settles tried now next run fewer) db may =
     leaves_a_flush recovers first now last tried disk run db (fewer db may)
 
 -- where whatever a crash leaves spells objects, their cold tree is on disk

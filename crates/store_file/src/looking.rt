@@ -46,13 +46,29 @@ pub fn look<D: Disk>(
         return begun(alloc, files, new_size, length);
     }
     if length < HEADER {
-        return Err(OpenFault::CutShort);
+        return Err(shortened(&mut files.db, length));
     }
     let has_sums = read_header(&mut files.db)?;
     match probe_page_size(files) {
         Ok(Some(size)) => Ok(Found::Database { size, has_sums }),
         Ok(None) => Err(OpenFault::Damaged),
         Err(error) => Err(of_read(error)),
+    }
+}
+
+// Why a file that is too short for a database is refused: it begins as one, or not.
+fn shortened<D: Disk>(db: &mut D, length: usize) -> OpenFault
+    requires { IsTrue (D.Disk.is_usable db.old) }
+{
+    let mut start = [0; MAGIC.len()];
+    let count = length.min(MAGIC.len());
+    if let Err(error) = db.read_at(0, &mut start[..count]) {
+        return of_read(error);
+    }
+    if MAGIC.starts_with(&start[..count]) {
+        OpenFault::CutShort
+    } else {
+        OpenFault::NotDatabase
     }
 }
 

@@ -1,7 +1,0 @@
-use Rattle.std.proofs.Common.{ap, ◌∙◌, map}
-use Rattle.store_file.proofs.OpenLaws.{fresh_of}
-use Rattle.store_file.proofs.opening.open_listed.Goals as goal
-
-pub settled-requires : goal.settled-requires
-settled-requires g c =
-    fresh_of c.in-Ok.store c.in-Ok.ensures.ready (ap (λ ws. map (λ w. w.shape) ws) (c.in-Ok.ensures.schema ∙ c.lists_tables.ensures.schema) ∙ c.requires.schema)
