@@ -1,6 +1,5 @@
 -- Steps after steps.
-use Rattle.asking.proofs.Common.{Answer, BookState, Err, Event, IsSoundBook, IsStepFor, List, None, Ok, Option, Refusal, Request, Result, Runs, Some, Steps, [], ap, append-nil, arith, length, refl, subst, sym, ℕ, ◌++◌, ◌+◌, ◌∙◌, ◌∷◌, ◌≡◌, ◌≤◌}
-use Rattle.std.specs.Prelude.{Contains}
+use Rattle.asking.proofs.Common.{Answer, BookState, Err, Event, IsSoundBook, IsStepFor, List, None, Ok, Option, Refusal, Request, Result, Runs, Some, Steps, [], ap, append-nil, arith, refl, subst, sym, ℕ, ◌++◌, ◌+◌, ◌∙◌, ◌∷◌, ◌≡◌, ◌≤◌}
 use Rattle.std.specs.List.{AllByRecursion}
 use Rattle.std.specs.Result.{result_err}
 use Rattle.std.proofs.lemmas.List.{append_assoc, length-append}

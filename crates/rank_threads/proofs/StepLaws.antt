@@ -1,5 +1,5 @@
 -- What one step makes of the history that was handed in, and of its length.
-use Rattle.rank_threads.proofs.Common.{Answer, BookState, Continues, Entry, IsSoundBook, List, Refusal, Result, Tree, ap, arith, drop, first_in, length, length-take, receipt_of, sym, take, take-append-drop, take-append-le, ℕ, ◌++◌, ◌+◌, ◌∙◌, ◌≡◌, ◌≤◌}
+use Rattle.rank_threads.proofs.Common.{Answer, BookState, Continues, Entry, IsOneThread, IsSoundBook, List, Receipt, Refusal, Request, Result, Tree, ap, arith, drop, first_in, length, length-take, receipt_of, sym, take, take-append-drop, take-append-le, ℕ, ◌++◌, ◌+◌, ◌∙◌, ◌≡◌, ◌≤◌}
 use Rattle.cluster_core.specs.OneThread.{InOrder}
 use Rattle.cluster_core.proofs.OneThreadLaws.{counts}
 
@@ -12,8 +12,9 @@ pub begun_fits : (begun past : List Entry) → take (length begun) past ≡ begu
 begun_fits begun past was = let n : length (take (length begun) past) ≡ length begun = ap length was in omega (arith, length-take (length begun) past, n)
 
 -- what a history begins with, it still begins with
-pub still_begins : (begun past now more : List Entry) → now ≡ past ++ more → take (length begun) past ≡ begun → take (length begun) now ≡ begun
-still_begins begun past now more grows was = ap (take (length begun)) grows ∙ take-append-le (length begun) past more (begun_fits begun past was) ∙ was
+pub still_begins : (begun past now : List Entry) (limit : ℕ) (opening : Tree) (sent : List Request) (told : List Receipt) → IsOneThread limit opening past now sent told → take (length begun) past ≡ begun → take (length begun) now ≡ begun
+still_begins begun past now limit opening sent told one was =
+    ap (take (length begun)) one.grows ∙ take-append-le (length begun) past one.more (begun_fits begun past was) ∙ was
 
 -- a book that keeps what was handed in goes on from it
 pub continued : (opening : Tree) (begun : List Entry) (book : BookState) → IsSoundBook book → book.opening ≡ opening → take (length begun) book.history ≡ begun → Continues opening begun book

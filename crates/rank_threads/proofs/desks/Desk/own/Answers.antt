@@ -8,7 +8,7 @@ use Rattle.rank_threads.proofs.desks.Desk.own.Goals as goal
 
 pub invariant_of-self-in_default-event-clause-begins : goal.invariant_of-self-in_default-event-clause-begins
 invariant_of-self-in_default-event-clause-begins g c =
-    still_begins g.L.Handed.begun c.propose.new.self.history c.step.new.self.history c.step.ensures.one_thread.more c.step.ensures.one_thread.grows
+    still_begins g.L.Handed.begun c.propose.new.self.history c.step.new.self.history _ _ _ _ c.step.ensures.one_thread
     (subst (λ (k : BookState). take (length g.L.Handed.begun) k.history ≡ g.L.Handed.begun) (sym c.propose.ensures.same) c.args.self.now.begins)
 
 pub invariant_of-self-in_default-event-clause-serves : goal.invariant_of-self-in_default-event-clause-serves

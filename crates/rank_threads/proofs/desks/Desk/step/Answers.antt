@@ -22,8 +22,8 @@ returns-else-is_first-clause-asked_for g c =
 
 pub invariant_of-self-clause-begins : goal.invariant_of-self-clause-begins
 invariant_of-self-clause-begins g c =
-    still_begins g.L.Handed.begun c.args.self.now.book.history c.step-answer.new.self.history c.step-answer.ensures.one_thread.more c.step-answer.ensures.one_thread.grows c.args.self.now.begins
+    still_begins g.L.Handed.begun c.args.self.now.book.history c.step-answer.new.self.history _ _ _ _ c.step-answer.ensures.one_thread c.args.self.now.begins
 
 pub invariant_of-self-else-is_first-clause-begins : goal.invariant_of-self-else-is_first-clause-begins
 invariant_of-self-else-is_first-clause-begins g c =
-    still_begins g.L.Handed.begun c.args.self.now.book.history c.step-answer.new.self.history c.step-answer.ensures.one_thread.more c.step-answer.ensures.one_thread.grows c.args.self.now.begins
+    still_begins g.L.Handed.begun c.args.self.now.book.history c.step-answer.new.self.history _ _ _ _ c.step-answer.ensures.one_thread c.args.self.now.begins
