@@ -10,7 +10,7 @@ use std::alloc::{AllocError, Global};
 
 /// What the command line asks for.
 #[derive(Clone, Copy, Debug, PartialEq, Eq)]
-pub enum Options<'a> {
+pub enum Options {
     /// A script over a cluster of so many ranks, each of which may cache so many fragments, where a directory may have
     /// so many entries.
     Script {
@@ -19,8 +19,6 @@ pub enum Options<'a> {
         limit: Limit,
         /// Whether a request is brought to its answer by its own line.
         asks: bool,
-        /// The file that has the tree, and takes it at each flush.
-        store: Option<&'a str>,
     },
     /// Clients that create files, served by rank threads.
     Serve(Load),
@@ -28,7 +26,7 @@ pub enum Options<'a> {
 
 /// Reads the words of a command line, the program's own name first. An error is a text for the user with the status to
 /// exit with: 0 where help was asked for, and otherwise 2.
-pub fn settings<'a>(alloc: Global, words: &'a [String]) -> Result<Options<'a>, Error>
+pub fn settings(alloc: Global, words: &[String]) -> Result<Options, Error>
     ensures { IfOk result AreInRange }
 {
     let mut program = program(alloc)?;
@@ -39,10 +37,7 @@ pub fn settings<'a>(alloc: Global, words: &'a [String]) -> Result<Options<'a>, E
 }
 
 // What the words ask the program for; nothing where a number is out of its range, which clap has looked at.
-fn read_words<'a>(
-    program: &mut Command<'a>,
-    words: &'a [String],
-) -> Result<Option<Options<'a>>, Error>
+fn read_words<'a>(program: &mut Command<'a>, words: &'a [String]) -> Result<Option<Options>, Error>
     ensures { IfOk result (λ asked. IfSome asked AreInRange) }
 {
     let matches = program.try_get_matches_from_mut(words)?;
@@ -53,7 +48,7 @@ fn read_words<'a>(
 }
 
 // The options of the subcommand `script`, where its numbers are in their ranges.
-fn of_script<'a>(script: &ArgMatches<'a>) -> Option<Options<'a>>
+fn of_script(script: &ArgMatches) -> Option<Options>
     ensures { IfSome result AreInRange }
 {
     let ranks = script.get_one::<u8>("ranks")?;
@@ -65,14 +60,13 @@ fn of_script<'a>(script: &ArgMatches<'a>) -> Option<Options<'a>>
             cache,
             limit,
             asks: script.get_flag("ask"),
-            store: script.get_str("store"),
         });
     }
     None
 }
 
 // Those of the subcommand `serve`, where it was given with numbers in their ranges.
-fn of_serve<'a>(matches: &ArgMatches<'a>) -> Option<Options<'a>>
+fn of_serve(matches: &ArgMatches) -> Option<Options>
     ensures { IfSome result AreInRange }
 {
     let serve = matches.subcommand_matches("serve")?;
@@ -144,8 +138,7 @@ fn script<'a>(alloc: Global) -> Result<Command<'a>, AllocError> {
         .arg(ranks(alloc))?
         .arg(cache(alloc))?
         .arg(limit(alloc))?
-        .arg(ask(alloc))?
-        .arg(file(alloc))
+        .arg(ask(alloc))
 }
 
 // What follows the options of `serve`.
@@ -200,15 +193,6 @@ fn ask<'a>(alloc: Global) -> Arg<'a> {
         .long("ask")
         .action(ArgAction::SetTrue)
         .help("Bring each request to its answer by its own line")
-}
-
-fn file<'a>(alloc: Global) -> Arg<'a> {
-    Arg::new(alloc, "store")
-        .long("store")
-        .value_name("FILE")
-        .help(
-            "Keep the tree in FILE, which each flush writes, and make FILE where it does not exist",
-        )
 }
 
 fn workers<'a>(alloc: Global) -> Arg<'a> {

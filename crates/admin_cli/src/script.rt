@@ -17,7 +17,6 @@ use crate::faults::{FaultKind, ScriptFault};
 use crate::modes::Mode;
 use crate::waiting::Waiting;
 use cluster_core::{Book, format};
-use keeping::Keep;
 use mds_types::{Limit, Op};
 use objstore::MemStore;
 use script_output::{OutputFault, OutputLine, write_line};
@@ -91,21 +90,20 @@ pub fn run_new<H: AllocGlobal + Threads + Sync, R: Read + Drop, W: Write>(
 
 /// A script that has ended, and the book that it left.
 #[derive(Drop)]
-pub struct Ran<S: Keep + Drop> {
-    pub book: Book<S>,
+pub struct Ran {
+    pub book: Book<MemStore>,
     pub ended: Result<(), ScriptFault>,
 }
 
-/// Runs a script over a book, as `run_script` does over a new one, under these options: whether a request is brought to
-/// its answer by its own line, and whether a flush is kept in the store's file. The lines that begin with `reply ` are the
-/// replies of one thread, to the requests that waited in the book and those that the lines make.
-pub fn run_over<H: AllocGlobal + Threads + Sync, R: Read + Drop, W: Write, S: Keep + Drop>(
+/// Runs a script over a book, as `run_new` does over a new one. The lines that begin with `reply ` are the replies of
+/// one thread, to the requests that waited in the book and those that the lines make.
+pub fn run_over<H: AllocGlobal + Threads + Sync, R: Read + Drop, W: Write>(
     rt: &H,
     reader: R,
     writer: &mut W,
-    book: Book<S>,
+    book: Book<MemStore>,
     mode: Mode,
-) -> Ran<S>
+) -> Ran
     ensures one_thread { PrintsOneThread book.core.state.tree.limit book.opening book.history
         (waiting_in book.core.state.inboxes) (R.remaining reader) (W.contents writer.old) (W.contents writer.new)
         result.ended }
@@ -122,10 +120,7 @@ pub fn run_over<H: AllocGlobal + Threads + Sync, R: Read + Drop, W: Write, S: Ke
 }
 
 // A script that is run as it is written.
-const PLAIN: Mode = Mode {
-    asks: false,
-    keeps: false,
-};
+const PLAIN: Mode = Mode { asks: false };
 
 // A book over a new store; nothing where memory for it is refused.
 fn new_book(alloc: Global, ranks: u8, cache: u32, limit: Limit) -> Option<Book<MemStore>>
@@ -142,11 +137,11 @@ fn new_book(alloc: Global, ranks: u8, cache: u32, limit: Limit) -> Option<Book<M
 }
 
 // Takes the memory that reading needs, and runs the lines of a reader.
-fn run_input<R: Read + Drop, W: Write, S: Keep + Drop>(
+fn run_input<R: Read + Drop, W: Write>(
     rt: &(impl AllocGlobal + Threads + Sync),
     reader: R,
     writer: &mut W,
-    admin: &mut Admin<S>,
+    admin: &mut Admin,
     mode: Mode,
 ) -> Result<(), ScriptFault>
     requires { admin.old.operations ≡ 0 }
@@ -196,13 +191,13 @@ impl<R: Read> ReadAhead for BufReader<R> {
 
 // Runs the lines of a reader, one after the other. What they print waits to be written together, but not while the
 // reader waits for more. More lines than 64 bits count are a read fault.
-fn run_lines<R: ReadAhead, W: Write, S: Keep + Drop>(
+fn run_lines<R: ReadAhead, W: Write>(
     rt: &(impl AllocGlobal + Threads + Sync),
     reader: &mut R,
     buffer: &mut LineBuffer,
     waiting: &mut Waiting,
     writer: &mut W,
-    admin: &mut Admin<S>,
+    admin: &mut Admin,
     mode: Mode,
 ) -> Result<(), ScriptFault>
     requires first { admin.old.operations ≡ 0 }
@@ -238,11 +233,11 @@ fn run_lines<R: ReadAhead, W: Write, S: Keep + Drop>(
 }
 
 // Runs the line of this number, and puts what it prints behind what waits.
-fn run_line<W: Write, S: Keep + Drop>(
+fn run_line<W: Write>(
     rt: &(impl AllocGlobal + Threads + Sync),
     line: u64,
     bytes: &[u8],
-    admin: &mut Admin<S>,
+    admin: &mut Admin,
     mode: Mode,
     waiting: &mut Waiting,
     writer: &mut W,
@@ -267,11 +262,11 @@ fn run_line<W: Write, S: Keep + Drop>(
 
 // Makes an operation alone, as most lines ask for, and puts what it prints behind what waits.
 #[inline(always)]
-fn do_operation<W: Write, S: Keep + Drop>(
+fn do_operation<W: Write>(
     alloc: Global,
     line: u64,
     op: Op,
-    admin: &mut Admin<S>,
+    admin: &mut Admin,
     mode: Mode,
     waiting: &mut Waiting,
     writer: &mut W,
@@ -295,11 +290,11 @@ fn do_operation<W: Write, S: Keep + Drop>(
 
 // Brings an operation alone to its answer, and puts what it prints behind what waits.
 #[inline(never)]
-fn ask_operation<W: Write, S: Keep + Drop>(
+fn ask_operation<W: Write>(
     alloc: Global,
     line: u64,
     op: Op,
-    admin: &mut Admin<S>,
+    admin: &mut Admin,
     mode: Mode,
     waiting: &mut Waiting,
     writer: &mut W,
@@ -318,11 +313,11 @@ fn ask_operation<W: Write, S: Keep + Drop>(
 
 // Runs a line that asks for no operation alone.
 #[inline(never)]
-fn run_other<W: Write, S: Keep + Drop>(
+fn run_other<W: Write>(
     rt: &(impl AllocGlobal + Threads + Sync),
     line: u64,
     bytes: &[u8],
-    admin: &mut Admin<S>,
+    admin: &mut Admin,
     mode: Mode,
     waiting: &mut Waiting,
     writer: &mut W,
@@ -340,11 +335,11 @@ fn run_other<W: Write, S: Keep + Drop>(
 }
 
 // Does what a line asks for, and puts what it prints behind what waits.
-fn do_line<W: Write, S: Keep + Drop>(
+fn do_line<W: Write>(
     rt: &(impl AllocGlobal + Threads + Sync),
     line: u64,
     found: Line,
-    admin: &mut Admin<S>,
+    admin: &mut Admin,
     mode: Mode,
     waiting: &mut Waiting,
     writer: &mut W,
