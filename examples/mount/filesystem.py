@@ -364,18 +364,15 @@ class FileSystem(pyfuse3.Operations):
     async def releasedir(self, handle):
         del self.listings[handle]
 
-    # ---- what outlives the program
+    # ---- the end
 
     @answered
     async def fsync(self, number, only_data):
         self.data.sync(number)
-        if self.cluster.store:
-            self.cluster.flush()
 
     @answered
     async def fsyncdir(self, handle, only_data):
-        if self.cluster.store:
-            self.cluster.flush()
+        """Names are in memory alone."""
 
     def close(self):
         """The last flush, when the kernel has let go of all."""
