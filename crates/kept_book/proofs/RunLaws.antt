@@ -4,7 +4,7 @@ use Rattle.mds_types.specs.Tree.{Tree}
 use Rattle.objstore.specs.Objects.{Objects}
 use Rattle.cold_store.specs.ColdTree.{IsColdTree}
 use Rattle.sqlite_trees.specs.Tree.{Trees}
-use Rattle.object_tables.specs.Spelled.{Spells}
+use Rattle.object_tables.specs.Spelled.{SpellsObjects}
 use Rattle.object_tables.proofs.SpelledLaws.{one_spelling}
 use Rattle.kept_book.specs.Survives.{IsOnDisk}
 use Rattle.kept_book.specs.Runs.{LeavesAFlush, begins, writes, flushes, settles}
@@ -21,7 +21,7 @@ leaves_a_flush recovers first _ last _ disk (settles tried now next run fewer) d
     leaves_a_flush recovers first now last tried disk run db (fewer db may)
 
 -- where whatever a crash leaves spells objects, their cold tree is on disk
-pub on_disk : (recovers : Trees → Type 0) (objects : Objects) (tree : Tree) → ((db : Trees) → recovers db → Spells db objects) → IsColdTree objects tree
+pub on_disk : (recovers : Trees → Type 0) (objects : Objects) (tree : Tree) → ((db : Trees) → recovers db → SpellsObjects db objects) → IsColdTree objects tree
     → ((o : Objects) (s t : Tree) → IsColdTree o s → IsColdTree o t → s ≡ t) → IsOnDisk recovers tree
 on_disk recovers objects tree spelled cold one = record {
   mounts = λ db may. record { objects = objects; spelled = spelled db may; cold = cold };

@@ -3,32 +3,32 @@ use Rattle.std.specs.Prelude.{◌≡◌, ◌⊎◌, List, [], ◌∷◌, ◌++�
 use Rattle.mds_types.specs.Tree.{Tree}
 use Rattle.cold_store.specs.ColdTree.{IsColdTree}
 use Rattle.sqlite_trees.specs.Tree.{Trees}
-use Rattle.object_tables.specs.Spelled.{Spells}
-use Rattle.kept_store.specs.Kept.{Kept}
-use Rattle.kept_book.specs.Survives.{IsOnDisk, Mounts}
+use Rattle.object_tables.specs.Spelled.{SpellsObjects}
+use Rattle.kept_store.specs.Kept.{KeptObjects}
+use Rattle.kept_book.specs.Survives.{IsOnDisk, MountShows}
 
 -- A run of a store from one moment on, with the tree of each flush that was tried since, the last one first. A write
 -- leaves the tables as they are (`IsCall` of a store that is kept). A flush ends by a call of `keep`, whose clause `crash`
 -- says: whatever it answers, and wherever it is cut off, a crash leaves what it could leave before, or what spells the
 -- objects. The end of a run leaves nothing new (`settle`).
-pub data Runs {T : Type 0} (recovers : T → Trees → Type 0) (first : Kept T) : List Tree → Kept T → Type 0 where
-  begins : Runs recovers first [] first
-  writes : (tried : List Tree) (now next : Kept T) → Runs recovers first tried now
-      → next.tables ≡ now.tables → Runs recovers first tried next
-  flushes : (tried : List Tree) (now next : Kept T) (tree : Tree) → Runs recovers first tried now → IsColdTree next.objects tree
-      → ((db : Trees) → recovers next.tables db → recovers now.tables db ⊎ Spells db next.objects) → Runs recovers first (tree ∷ tried) next
-  settles : (tried : List Tree) (now next : Kept T) → Runs recovers first tried now
-      → ((db : Trees) → recovers next.tables db → recovers now.tables db) → Runs recovers first tried next
+pub data KeptRuns {T : Type 0} (recovers : T → Trees → Type 0) (first : KeptObjects T) : List Tree → KeptObjects T → Type 0 where
+  begins : KeptRuns recovers first [] first
+  writes : (tried : List Tree) (now next : KeptObjects T) → KeptRuns recovers first tried now
+      → next.tables ≡ now.tables → KeptRuns recovers first tried next
+  flushes : (tried : List Tree) (now next : KeptObjects T) (tree : Tree) → KeptRuns recovers first tried now → IsColdTree next.objects tree
+      → ((db : Trees) → recovers next.tables db → recovers now.tables db ⊎ SpellsObjects db next.objects) → KeptRuns recovers first (tree ∷ tried) next
+  settles : (tried : List Tree) (now next : KeptObjects T) → KeptRuns recovers first tried now
+      → ((db : Trees) → recovers next.tables db → recovers now.tables db) → KeptRuns recovers first tried next
 
 -- a mount shows one of these trees
 abbrev pub MountsOneOf : Trees → List Tree → Type 0
 MountsOneOf db [] = ⊥
-MountsOneOf db (tree ∷ trees) = Mounts db tree ⊎ MountsOneOf db trees
+MountsOneOf db (tree ∷ trees) = MountShows db tree ⊎ MountsOneOf db trees
 
 -- From a moment at which a tree is on disk, as after a flush that was kept: whatever a crash leaves later, a mount shows
 -- that tree, or the one of a flush that was tried since. So before the next flush it is that tree, and while that flush is
 -- under way, or where it failed, the one or the other.
 abbrev pub LeavesAFlush : {T : Type 0} → (T → Trees → Type 0) → Type 0
 LeavesAFlush {T} recovers =
-    (first now : Kept T) (last : Tree) (tried : List Tree) → IsOnDisk (recovers first.tables) last → Runs recovers first tried now
+    (first now : KeptObjects T) (last : Tree) (tried : List Tree) → IsOnDisk (recovers first.tables) last → KeptRuns recovers first tried now
     → (db : Trees) → recovers now.tables db → MountsOneOf db (tried ++ last ∷ [])

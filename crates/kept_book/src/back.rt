@@ -2,7 +2,7 @@
 ghost use Rattle.std.specs.Prelude.{◌≡◌, ◌≤◌, IfOk};
 ghost use Rattle.cold_store.specs.ColdTree.{IsColdTree};
 ghost use Rattle.cluster_core.specs.State.{shown};
-ghost use Rattle.object_tables.specs.Noted.{none};
+ghost use Rattle.object_tables.specs.Noted.{none_noted};
 ghost use Rattle.sqlite_trees.specs.View.{IsClean};
 ghost use Rattle.kept_book.specs.Survives.{ComesBack};
 
@@ -27,7 +27,7 @@ pub fn come_back<T: Reopen + Drop>(
     requires least { 512 ≤ cache }
     requires most { cache ≤ 65536 }
     ensures back { IfOk result (λ book. ComesBack T.Store.view T.Store.recovers kept (shown book.core.state)) }
-    ensures honest { ((t : T) → IsClean (T.Store.view t)) → kept.noted ≡ none → IfOk result (λ book. IsColdTree kept.objects (shown book.core.state)) }
+    ensures honest { ((t : T) → IsClean (T.Store.view t)) → kept.noted ≡ none_noted → IfOk result (λ book. IsColdTree kept.objects (shown book.core.state)) }
 {
     has_one_cold_tree();
     let Ok(store) = kept.revive(alloc) else {

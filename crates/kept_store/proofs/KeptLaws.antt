@@ -6,10 +6,10 @@ use Rattle.objstore.specs.Objects.{Objects}
 use Rattle.sqlite_trees.specs.Tree.{Trees}
 use Rattle.sqlite_trees.specs.View.{IsClean, IsReopened, View}
 use Rattle.object_tables.specs.Entries.{Says}
-use Rattle.object_tables.specs.Noted.{Noted, has_key, has_name, none, spot_cmp}
-use Rattle.object_tables.specs.Spelled.{HasTables, HaveOwners, Spells, SpellsBut, object_key, pair_key}
+use Rattle.object_tables.specs.Noted.{Noted, has_key, has_name, none_noted, spot_cmp}
+use Rattle.object_tables.specs.Spelled.{HasTables, HaveOwners, SpellsObjects, SpellsBut, object_key, pair_key}
 use Rattle.object_tables.proofs.SpelledLaws.{one_spelling, spells_less, spells_owned}
-use Rattle.kept_store.specs.Kept.{IsFresh, IsMirrored, IsReady}
+use Rattle.kept_store.specs.Kept.{IsFreshMirror, IsMirrored, IsReady}
 use Rattle.kept_store.specs.Noting.{AgreeBut, IsMore}
 
 is_false : (b : Bool) → (b ≡ true → ⊥) → b ≡ false
@@ -17,16 +17,16 @@ is_false true away = absurd (away refl)
 is_false false away = refl
 
 -- nothing is among no names and no keys
-pub no_name : (n : List ℕ) → has_name none n ≡ false
+pub no_name : (n : List ℕ) → has_name none_noted n ≡ false
 no_name n = rw (get-empty key_cmp n) refl
 
-pub no_key : (n k : List ℕ) → has_key none n k ≡ false
+pub no_key : (n k : List ℕ) → has_key none_noted n k ≡ false
 no_key n k = rw (get-empty spot_cmp (n, k)) refl
 
-pub spells_all : (db : Trees) (objects : Objects) → SpellsBut db objects (has_name none) (has_key none) → Spells db objects
+pub spells_all : (db : Trees) (objects : Objects) → SpellsBut db objects (has_name none_noted) (has_key none_noted) → SpellsObjects db objects
 spells_all db objects s = spells_less db objects _ _ _ _ (λ n out. no_name n) (λ n k out. no_key n k) s
 
-pub spells_some : (db : Trees) (objects : Objects) (noted : Noted) → Spells db objects → SpellsBut db objects (has_name noted) (has_key noted)
+pub spells_some : (db : Trees) (objects : Objects) (noted : Noted) → SpellsObjects db objects → SpellsBut db objects (has_name noted) (has_key noted)
 spells_some db objects noted s = spells_less db objects _ _ _ _ (λ n out. refl) (λ n k out. refl) s
 
 -- other objects that agree but for what is noted are spelled as well
@@ -56,17 +56,17 @@ tables_stay old new same t = record {
 
 -- ---- an open
 
-pub opened : (old new : View) (before after : Trees → Type 0) (objects : Objects) → IsFresh old → new ≡ record old { cursors = new.cursors }
-    → Spells old.trees objects → ((db : Trees) → after db → before db) → ((db : Trees) → before db → db ≡ old.committed) → IsMirrored new after objects none
+pub opened : (old new : View) (before after : Trees → Type 0) (objects : Objects) → IsFreshMirror old → new ≡ record old { cursors = new.cursors }
+    → SpellsObjects old.trees objects → ((db : Trees) → after db → before db) → ((db : Trees) → before db → db ≡ old.committed) → IsMirrored new after objects none_noted
 opened old new before after objects fresh same spelled fewer settled =
-    let spells : (db : Trees) → after db → Spells db objects = λ db may. subst (λ t. Spells t objects) (fresh.ready.fresh ∙ sym (settled db (fewer db may))) spelled in
+    let spells : (db : Trees) → after db → SpellsObjects db objects = λ db may. subst (λ t. SpellsObjects t objects) (fresh.ready.fresh ∙ sym (settled db (fewer db may))) spelled in
     record {
       ready = λ is_open. record {
         tables = tables_stay old new (ap (λ (v : View). v.shape) same) fresh.ready.tables;
         shapes = ap (λ (v : View). v.committed_shape) same ∙ (fresh.ready.shapes ∙ sym (ap (λ (v : View). v.shape) same));
         fresh = ap (λ (v : View). v.trees) same ∙ (fresh.ready.fresh ∙ sym (ap (λ (v : View). v.committed) same));
       };
-      outcomes = λ db may. spells_some db objects none (spells db may);
+      outcomes = λ db may. spells_some db objects none_noted (spells db may);
       owners = λ db may. spells_owned db objects (spells db may);
     }
 
@@ -90,7 +90,7 @@ ready_after old new was shapes fresh is_open = record {
 -- whatever a save answers
 pub kept_anyway : (old new : View) (before after : Trees → Type 0) (objects : Objects) (noted : Noted) → IsMirrored old before objects noted → IsTrue old.is_open
     → (new.shape ≡ old.shape) × (new.committed_shape ≡ old.shape) → (IsTrue new.is_open → new.trees ≡ new.committed)
-    → ((db : Trees) → after db → before db ⊎ Spells db objects) → IsMirrored new after objects noted
+    → ((db : Trees) → after db → before db ⊎ SpellsObjects db objects) → IsMirrored new after objects noted
 kept_anyway old new before after objects noted m is_open shapes fresh crash = record {
   ready = ready_after old new (m.ready is_open) shapes fresh;
   outcomes = λ db may. elim (crash db may) [ inl was ↦ m.outcomes db was | inr is ↦ spells_some db objects noted is ];
@@ -100,12 +100,12 @@ kept_anyway old new before after objects noted m is_open shapes fresh crash = re
 -- where it answers Ok
 pub kept_all : (old new : View) (before after : Trees → Type 0) (objects : Objects) (noted : Noted) → IsMirrored old before objects noted → IsTrue old.is_open
     → (new.shape ≡ old.shape) × (new.committed_shape ≡ old.shape) → (IsTrue new.is_open → new.trees ≡ new.committed)
-    → ((db : Trees) → after db → db ≡ new.committed) → Spells new.committed objects → IsMirrored new after objects none
+    → ((db : Trees) → after db → db ≡ new.committed) → SpellsObjects new.committed objects → IsMirrored new after objects none_noted
 kept_all old new before after objects noted m is_open shapes fresh settled spelled =
-    let spells : (db : Trees) → after db → Spells db objects = λ db may. subst (λ t. Spells t objects) (sym (settled db may)) spelled in
+    let spells : (db : Trees) → after db → SpellsObjects db objects = λ db may. subst (λ t. SpellsObjects t objects) (sym (settled db may)) spelled in
     record {
       ready = ready_after old new (m.ready is_open) shapes fresh;
-      outcomes = λ db may. spells_some db objects none (spells db may);
+      outcomes = λ db may. spells_some db objects none_noted (spells db may);
       owners = λ db may. spells_owned db objects (spells db may);
     }
 
@@ -129,8 +129,8 @@ open_of false b shut sound = absurd (true≢false (sym (shut refl) ∙ sound))
 pub crash_of : (old : View) (before after : Trees → Type 0) (objects : Objects) (noted : Noted) → IsMirrored old before objects noted
     → (old.is_open ≡ false → old.is_broken ≡ true) → (IsTrue old.is_open → before old.committed)
     → ((db : Trees) → after db → before db ⊎ ((old.is_broken ≡ false)
-    × (SpellsBut old.trees objects (has_name noted) (has_key noted) → HaveOwners old.trees → Spells db objects)))
-    → (db : Trees) → after db → before db ⊎ Spells db objects
+    × (SpellsBut old.trees objects (has_name noted) (has_key noted) → HaveOwners old.trees → SpellsObjects db objects)))
+    → (db : Trees) → after db → before db ⊎ SpellsObjects db objects
 crash_of old before after objects noted m shut stays crash db may = elim (crash db may) [
   | inl was ↦ inl was
   | inr it ↦
@@ -142,7 +142,7 @@ crash_of old before after objects noted m shut stays crash db may = elim (crash 
 
 -- tables that were opened again can be taken as a mirror, if they are there
 pub fresh_again : (old new : View) → IsClean new → IsReopened old new → HasTables new → (new.is_open ≡ false → new.is_broken ≡ true)
-    → (new.is_broken ≡ false → new.trees ≡ new.committed → new.shape ≡ new.committed_shape) → IsFresh new
+    → (new.is_broken ≡ false → new.trees ≡ new.committed → new.shape ≡ new.committed_shape) → IsFreshMirror new
 fresh_again old new clean again tables shut unaltered = record {
   is_open = open_of new.is_open new.is_broken shut (again.sound clean);
   ready = record { tables = tables; shapes = sym (unaltered (again.sound clean) again.clean); fresh = again.clean };
@@ -150,7 +150,7 @@ fresh_again old new clean again tables shut unaltered = record {
 
 -- what comes back is what was, where nothing was noted
 pub back_again : (old new : View) (before : Trees → Type 0) (a b : Objects) (noted : Noted) → IsMirrored old before a noted
-    → before new.committed → Spells new.committed b → noted ≡ none → b ≡ a
+    → before new.committed → SpellsObjects new.committed b → noted ≡ none_noted → b ≡ a
 back_again old new before a b noted m may spelled all =
     one_spelling new.committed b a spelled
     (spells_all new.committed a (subst (λ (n : Noted). SpellsBut new.committed a (has_name n) (has_key n)) all (m.outcomes new.committed may)))

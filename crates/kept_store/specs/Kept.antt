@@ -8,10 +8,10 @@ use Rattle.sqlite_trees.specs.declared.error.StoreError.TheVariants.{OutOfMemory
 use Rattle.keeping.specs.declared.unkept.Unkept.{Unkept}
 use Rattle.keeping.specs.declared.unkept.Unkept.TheVariants as told
 use Rattle.object_tables.specs.Noted.{Noted, has_key, has_name}
-use Rattle.object_tables.specs.Spelled.{HasTables, HaveOwners, Spells, SpellsBut}
+use Rattle.object_tables.specs.Spelled.{HasTables, HaveOwners, SpellsObjects, SpellsBut}
 
 -- the objects, the names and keys that changed since they were last brought into the tables, and the tables
-pub record Kept (T : Type 0) : Type 0 where
+pub record KeptObjects (T : Type 0) : Type 0 where
   pub objects : Objects
   pub noted : Noted
   pub tables : T
@@ -30,13 +30,13 @@ pub record IsMirrored (v : View) (recovers : Trees → Type 0) (objects : Object
   pub owners : (db : Trees) → recovers db → HaveOwners db
 
 -- tables that can be taken as a mirror: they were just opened
-pub record IsFresh (v : View) : Type 0 where
+pub record IsFreshMirror (v : View) : Type 0 where
   pub is_open : IsTrue v.is_open
   pub ready : IsReady v
 
 -- one of these tables spells the objects
-abbrev pub Finds : (Trees → Type 0) → Objects → Type 0
-Finds recovers objects = (db : Trees) × recovers db × Spells db objects
+abbrev pub RecoversObjects : (Trees → Type 0) → Objects → Type 0
+RecoversObjects recovers objects = (db : Trees) × recovers db × SpellsObjects db objects
 
 -- how an error of the tables is told
 abbrev pub unkept_of : StoreError → Unkept

@@ -1,11 +1,11 @@
 //! `Kept`: a store that is mirrored in tables.
 ghost use Rattle.std.specs.Prelude.{◌≡◌, ◌⊎◌, ◌↔◌, ◌≤◌, IsTrue, IfErr, IfOk, OnErr, OnOk};
 ghost use Rattle.std.specs.FinMap as map;
-ghost use Rattle.object_tables.specs.Noted.{none};
-ghost use Rattle.object_tables.specs.Spelled.{Spells};
+ghost use Rattle.object_tables.specs.Noted.{none_noted};
+ghost use Rattle.object_tables.specs.Spelled.{SpellsObjects};
 ghost use Rattle.sqlite_trees.specs.Tree.{Trees as Rows};
 ghost use Rattle.sqlite_trees.specs.View.{IsClean, doubt};
-ghost use Rattle.kept_store.specs.Kept.{Finds, IsFresh, IsMirrored, unkept_of};
+ghost use Rattle.kept_store.specs.Kept.{RecoversObjects, IsFreshMirror, IsMirrored, unkept_of};
 
 use crate::noting::{note_object, note_write};
 use crate::settling::Settle;
@@ -33,9 +33,9 @@ impl<T: Trees + Drop> Model for Kept<T> {
     ghost use Rattle.std.specs.Coded.{codes};
     ghost use Rattle.std.specs.FinMap as map;
     ghost use Rattle.sqlite_trees.specs.View.{IsClean};
-    ghost use Rattle.kept_store.specs.Kept.{IsMirrored, Kept};
+    ghost use Rattle.kept_store.specs.Kept.{IsMirrored, KeptObjects};
 
-    ghost Value = { Kept T };
+    ghost Value = { KeptObjects T };
 
     ghost coded = { Prim.hlevel (codes, map.code, T.code) };
 
@@ -48,9 +48,9 @@ impl<T: Trees + Drop> Kept<T> {
     /// Reads the objects out of tables that were just opened. The tables come back where they don't spell objects, or
     /// can't be read. Takes memory for all of them.
     pub fn open(alloc: Global, mut tables: T) -> Result<Kept<T>, (ReadFault, T)>
-        requires { IsClean (T.Store.view tables) → IsFresh (T.Store.view tables) }
-        ensures objects { IfOk result (λ k. IsClean (T.Store.view k.tables) → Spells (T.Store.view tables).committed k.objects) }
-        ensures kept { IfOk result (λ k. k.noted ≡ none) }
+        requires { IsClean (T.Store.view tables) → IsFreshMirror (T.Store.view tables) }
+        ensures objects { IfOk result (λ k. IsClean (T.Store.view k.tables) → SpellsObjects (T.Store.view tables).committed k.objects) }
+        ensures kept { IfOk result (λ k. k.noted ≡ none_noted) }
         ensures clean { IfOk result (λ k. doubt (T.Store.view tables).is_clean ≤ doubt (T.Store.view k.tables).is_clean) }
     {
         match read_objects(&mut tables, alloc) {
@@ -73,9 +73,9 @@ impl<T: Trees + Drop> Kept<T> {
 
     /// Whether the tables have all objects as they are.
     pub fn is_kept(&self) -> bool
-        ensures kept { IsTrue result ↔ (self.now.noted ≡ none) }
+        ensures kept { IsTrue result ↔ (self.now.noted ≡ none_noted) }
         ensures outcomes { IsTrue result → IsClean (T.Store.view self.now.tables)
-            → (db : Rows) → T.Store.recovers self.now.tables db → Spells db self.now.objects }
+            → (db : Rows) → T.Store.recovers self.now.tables db → SpellsObjects db self.now.objects }
     {
         self.changes.is_empty()
     }
@@ -91,11 +91,11 @@ impl<T: Trees + Drop> Kept<T> {
     /// leaves what it could leave before, or tables that spell exactly the objects. Where it fails, what was noted stays
     /// noted, so that the next call brings it too; tables that are shut take nothing any more.
     pub fn keep(&mut self) -> Result<(), StoreError>
-        ensures kept { OnOk result (self.new.noted ≡ none) }
+        ensures kept { OnOk result (self.new.noted ≡ none_noted) }
         ensures noted { OnErr result (self.new.noted ≡ self.old.noted) }
         ensures objects { self.new.objects ≡ self.old.objects }
         ensures crash { IsClean (T.Store.view self.new.tables) → (db : Rows) → T.Store.recovers self.new.tables db
-            → T.Store.recovers self.old.tables db ⊎ Spells db self.new.objects }
+            → T.Store.recovers self.old.tables db ⊎ SpellsObjects db self.new.objects }
         ensures clean { doubt (T.Store.view self.old.tables).is_clean ≤ doubt (T.Store.view self.new.tables).is_clean }
     {
         if self.tables.is_broken() {
@@ -145,9 +145,9 @@ impl<T: Reopen + Drop> Kept<T> {
     /// What comes back after a crash, over a disk that can be made to crash: the objects that one of its outcomes
     /// spells. If nothing was noted, these are just the objects that were there.
     pub fn revive(self, alloc: Global) -> Result<Kept<T>, ReadFault>
-        ensures found { IfOk result (λ k. IsClean (T.Store.view k.tables) → Finds (T.Store.recovers self.tables) k.objects) }
-        ensures back { IfOk result (λ k. IsClean (T.Store.view k.tables) → self.noted ≡ none → k.objects ≡ self.objects) }
-        ensures kept { IfOk result (λ k. k.noted ≡ none) }
+        ensures found { IfOk result (λ k. IsClean (T.Store.view k.tables) → RecoversObjects (T.Store.recovers self.tables) k.objects) }
+        ensures back { IfOk result (λ k. IsClean (T.Store.view k.tables) → self.noted ≡ none_noted → k.objects ≡ self.objects) }
+        ensures kept { IfOk result (λ k. k.noted ≡ none_noted) }
     {
         self.is_mirrored();
         let mut tables = self.into_tables();

@@ -14,7 +14,7 @@ use Rattle.sqlite_value.proofs.OrderLemmas.{value_cmp_total, value_cmp-Text, val
 use Rattle.sqlite_value.proofs.KeyLemmas.{first_key-plain, then_tied, entry_cmp_total}
 use Rattle.sqlite_trees.specs.Tree.{IsIndex, from_key, insert_entry, remove_entry}
 use Rattle.sqlite_trees.proofs.TreeLemmas.{AtMost, IsSortedTree, prefix_cmp_follows, sorted_index}
-use Rattle.object_tables.specs.Entries.{IsIn, IsText, AreTexts, entry, IsEntry, IsTable, HasNoOther, Says, SetsEntry, FindsEntry}
+use Rattle.object_tables.specs.Entries.{IsIn, IsTextValue, AreTexts, entry, IsEntryRow, IsKeyedTable, HasNoOther, Says, SetsEntry, FindsEntry}
 
 abbrev None_bytes : Option (List ℕ)
 None_bytes = None
@@ -24,7 +24,7 @@ None_bytes = None
 pub by_plain : (v w : Value) → by_key (first_key plain) v w ≡ value_cmp v w
 by_plain v w = rw first_key-plain
 
-same_text : (v w : Value) → IsText v → IsText w → value_cmp v w ≡ Equal → v ≡ w
+same_text : (v w : Value) → IsTextValue v → IsTextValue w → value_cmp v w ≡ Equal → v ≡ w
 same_text (Text s) (Text t) a b e = ap Text (exact_bytes s t (sym (value_cmp-Text s t) ∙ e))
 same_text (Text s) Null a b e = absurd b
 same_text (Text s) (Int n) a b e = absurd b
@@ -80,7 +80,7 @@ tied_rest (v ∷ k) (w ∷ l) a b p q n e =
     let rest : entry k a ≡ entry l b = tied_rest k l a b p.1 q.1 (omega arith) both.1 in
     cc
 
-pub tied_entries : (width : ℕ) (r s : Row) → IsEntry width r → IsEntry width s → entry_cmp plain r s ≡ Equal → r ≡ s
+pub tied_entries : (width : ℕ) (r s : Row) → IsEntryRow width r → IsEntryRow width s → entry_cmp plain r s ≡ Equal → r ≡ s
 tied_entries width r s p q e =
     let n : length p.key ≡ length q.key = p.wide ∙ sym q.wide in
     p.is ∙ (tied_rest p.key q.key p.value q.value p.texts q.texts n (subst (λ x. entry_cmp plain x (entry q.key q.value) ≡ Equal) p.is (subst (λ y. entry_cmp plain r y ≡ Equal) q.is e)) ∙ sym q.is)
@@ -175,7 +175,7 @@ none_of_key key (y ∷ rows) up first r h e = go (λ f there. none_of_key key ro
 -- ---- what a call leaves of a table
 
 -- a key's row, where a table has a row that begins with the key
-pub row_of_key : (rows : List Row) (key row : Row) → IsTable (length key) rows → AreTexts key → IsIn row rows → prefix_cmp plain row key ≡ Equal
+pub row_of_key : (rows : List Row) (key row : Row) → IsKeyedTable (length key) rows → AreTexts key → IsIn row rows → prefix_cmp plain row key ≡ Equal
     → (v : List ℕ) × (row ≡ entry key v)
 row_of_key rows key row table texts there begins =
     let it = table.entries row there in
@@ -183,7 +183,7 @@ row_of_key rows key row table texts there begins =
     (it.value, it.is ∙ ap (λ k. entry k it.value) same)
 
 -- the key has the value already
-pub set_already : (rows : List Row) (key row : Row) (value : List ℕ) → IsTable (length key) rows → AreTexts key → IsIn row rows
+pub set_already : (rows : List Row) (key row : Row) (value : List ℕ) → IsKeyedTable (length key) rows → AreTexts key → IsIn row rows
     → prefix_cmp plain row key ≡ Equal → column row (length key) ≡ Blob value → SetsEntry rows rows key (Some value)
 set_already rows key row value table texts there begins at =
     let found = row_of_key rows key row table texts there begins in
@@ -196,7 +196,7 @@ set_already rows key row value table texts there begins at =
     }
 
 -- no row is of the key
-pub set_absent : (rows : List Row) (key : Row) → IsTable (length key) rows → ((r : Row) → IsIn r rows → prefix_cmp plain r key ≡ Equal → ⊥)
+pub set_absent : (rows : List Row) (key : Row) → IsKeyedTable (length key) rows → ((r : Row) → IsIn r rows → prefix_cmp plain r key ≡ Equal → ⊥)
     → SetsEntry rows rows key None
 set_absent rows key table none = record {
   table = table;
@@ -205,7 +205,7 @@ set_absent rows key table none = record {
 }
 
 -- the one row of a key is removed
-pub set_removed : (rows : List Row) (key row : Row) → IsTable (length key) rows → AreTexts key → IsIn row rows → prefix_cmp plain row key ≡ Equal
+pub set_removed : (rows : List Row) (key row : Row) → IsKeyedTable (length key) rows → AreTexts key → IsIn row rows → prefix_cmp plain row key ≡ Equal
     → SetsEntry rows (remove_entry plain row rows) key None
 set_removed rows key row table texts there begins =
     let found = row_of_key rows key row table texts there begins in
@@ -227,7 +227,7 @@ set_removed rows key row table texts there begins =
       );
     }
   where
-    stays : (x y : Row) (rows : List Row) → IsEntry (length key) x → IsEntry (length key) y → (x ≡ y → ⊥) → not (is_eq (entry_cmp plain x y)) ≡ true
+    stays : (x y : Row) (rows : List Row) → IsEntryRow (length key) x → IsEntryRow (length key) y → (x ≡ y → ⊥) → not (is_eq (entry_cmp plain x y)) ≡ true
     stays x y rows a b apart = tell (entry_cmp plain x y) (λ e. apart (tied_entries (length key) x y a b e))
       where
         tell : (o : Ordering) → (o ≡ Equal → ⊥) → not (is_eq o) ≡ true
@@ -236,16 +236,16 @@ set_removed rows key row table texts there begins =
         tell Greater never = refl
 
 -- the row of a key that had none, or none but this one, is put in
-pub set_added : (rows : List Row) (key : Row) (value : List ℕ) → AreTexts key → IsTable (length key) rows → HasNoOther rows key value
+pub set_added : (rows : List Row) (key : Row) (value : List ℕ) → AreTexts key → IsKeyedTable (length key) rows → HasNoOther rows key value
     → SetsEntry rows (insert_entry plain (entry key value) rows) key (Some value)
 set_added rows key value texts table only =
     let new = entry key value in
-    let is_new : IsEntry (length key) new = record { key = key; value = value; texts = texts; wide = refl; is = refl } in
+    let is_new : IsEntryRow (length key) new = record { key = key; value = value; texts = texts; wide = refl; is = refl } in
     let ties : (r : Row) → IsIn r rows → entry_cmp plain r new ≡ Equal → r ≡ new = λ r h e. tied_entries (length key) r new (table.entries r h) is_new e in
     let come = λ (x : Row). in_insert new x rows ties in
     record {
       table = record {
-        entries = λ r h. elim ((come r).0 h) [ inl is ↦ subst (IsEntry (length key)) is is_new | inr there ↦ table.entries r there ];
+        entries = λ r h. elim ((come r).0 h) [ inl is ↦ subst (IsEntryRow (length key)) is is_new | inr there ↦ table.entries r there ];
         once = λ k a b h l. one k a b ((come (entry k a)).0 h) ((come (entry k b)).0 l);
       };
       here = λ v. (

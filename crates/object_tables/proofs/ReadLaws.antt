@@ -10,9 +10,9 @@ use Rattle.objstore.specs.Objects.{Objects, header_at}
 use Rattle.sqlite_value.specs.Order.{Row}
 use Rattle.sqlite_value.specs.Keys.{plain}
 use Rattle.sqlite_trees.specs.Tree.{from_key}
-use Rattle.object_tables.specs.Entries.{AreTexts, IsEntry, IsIn, IsTable, Says, entry}
+use Rattle.object_tables.specs.Entries.{AreTexts, IsEntryRow, IsIn, IsKeyedTable, Says, entry}
 use Rattle.object_tables.specs.Reading.{AddsObject, AddsPair, SpellHeaders, SpellPairs}
-use Rattle.object_tables.specs.Spelled.{Spells, object_key, pair_key, value_at}
+use Rattle.object_tables.specs.Spelled.{SpellsObjects, object_key, pair_key, value_at}
 use Rattle.object_tables.proofs.EntryLaws.{entry_parts}
 use Rattle.object_tables.proofs.SpelledLaws.{apart_names, same_name}
 
@@ -33,14 +33,14 @@ none_some : {X : Type 0} (o : Option X) (v : X) → o ≡ None → o ≡ Some v 
 none_some o v a b = absurd cc
 
 -- a row of a key that has none comes to a table
-pub table_pushed : (width : ℕ) (rows : List Row) (key : Row) (value : List ℕ) → IsTable width rows → AreTexts key → length key ≡ width
-    → Says rows key None → IsTable width (rows ++ entry key value ∷ [])
+pub table_pushed : (width : ℕ) (rows : List Row) (key : Row) (value : List ℕ) → IsKeyedTable width rows → AreTexts key → length key ≡ width
+    → Says rows key None → IsKeyedTable width (rows ++ entry key value ∷ [])
 table_pushed width rows key value table texts wide none = record {
-  entries = λ r h. elim ((in_pushed r (entry key value) rows).0 h) [ inl there ↦ table.entries r there | inr is ↦ subst (IsEntry width) is new ];
+  entries = λ r h. elim ((in_pushed r (entry key value) rows).0 h) [ inl there ↦ table.entries r there | inr is ↦ subst (IsEntryRow width) is new ];
   once = λ k a b h l. one k a b ((in_pushed (entry k a) (entry key value) rows).0 h) ((in_pushed (entry k b) (entry key value) rows).0 l);
 }
   where
-    new : IsEntry width (entry key value)
+    new : IsEntryRow width (entry key value)
     new = record { key = key; value = value; texts = texts; wide = wide; is = refl }
 
     never : (v : List ℕ) → IsIn (entry key v) rows → ⊥
@@ -151,10 +151,10 @@ pair_added heads rows old new row s a =
         inr (λ same. apart_names k a.key f cc, ap (λ o. value_at o n k) a.added ∙ (rw (get-insert nat_list_cmp_total, e, get-insert nat_list_cmp_total, f) refl ∙ sym (was n k one)))
     at n k false c e f = inr (λ same. apart_names n a.name e cc, ap (λ o. value_at o n k) a.added ∙ rw (get-insert nat_list_cmp_total, e) refl)
 
-pub all_read : (heads rows : List Row) (objects : Objects) (trees : ℕ → List Row) → heads ≡ trees 0 → rows ≡ trees 1 → SpellPairs heads rows objects → Spells trees objects
+pub all_read : (heads rows : List Row) (objects : Objects) (trees : ℕ → List Row) → heads ≡ trees 0 → rows ≡ trees 1 → SpellPairs heads rows objects → SpellsObjects trees objects
 all_read heads rows objects trees a b s = record {
-  objects_are = subst (IsTable 1) a s.heads_are;
-  pairs_are = subst (IsTable 2) b s.table;
+  objects_are = subst (IsKeyedTable 1) a s.heads_are;
+  pairs_are = subst (IsKeyedTable 2) b s.table;
   headers = λ n out. subst (λ r. Says r (object_key n) (header_at objects n)) a (s.headers n);
   values = λ n k out. subst (λ r. Says r (pair_key n k) (value_at objects n k)) b (s.values n k);
 }

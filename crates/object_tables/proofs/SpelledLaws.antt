@@ -14,9 +14,9 @@ use Rattle.objstore.specs.Objects.{Objects, header_at}
 use Rattle.sqlite_value.specs.Order.{Row}
 use Rattle.sqlite_trees.specs.Tree.{Trees}
 use Rattle.sqlite_trees.specs.View.{View}
-use Rattle.object_tables.specs.Entries.{HasRow, IsIn, IsTable, Puts, Says, SetsEntry, entry}
+use Rattle.object_tables.specs.Entries.{HasRow, IsIn, IsKeyedTable, PutsRow, Says, SetsEntry, entry}
 use Rattle.object_tables.specs.Noted.{Noted, Spot, has_key, has_name, is_key_of, is_name_of, spot_cmp}
-use Rattle.object_tables.specs.Spelled.{AreRight, HaveOneSpelling, HaveOwners, Spells, SpellsBut, StayListed, object_key, pair_key, value_at}
+use Rattle.object_tables.specs.Spelled.{AreRight, HaveOneSpelling, HaveOwners, SpellsObjects, SpellsBut, StayListed, object_key, pair_key, value_at}
 
 is_equal : (o : Ordering) → is_eq o ≡ true → o ≡ Equal
 is_equal Less e = absurd (true≢false (sym e))
@@ -75,13 +75,13 @@ said_still old new key other value said set apart says = λ v. (
 
 -- one name fewer
 pub header_put : (old new : View) (objects : Objects) (name : List ℕ) (rest : List (List ℕ × Unit {0})) (keys : List ℕ → List ℕ → Bool)
-    → Puts old new 0 (object_key name) (header_at objects name)
+    → PutsRow old new 0 (object_key name) (header_at objects name)
     → SpellsBut old.trees objects (is_name_of ((name, tt) ∷ rest)) keys → SpellsBut new.trees objects (is_name_of rest) keys
 header_put old new objects name rest keys put s =
     let kept : new.trees 1 ≡ old.trees 1 = put.others 1 (λ e. absurd cc) in
     record {
       objects_are = put.sets.table;
-      pairs_are = subst (IsTable 2) (sym kept) s.pairs_are;
+      pairs_are = subst (IsKeyedTable 2) (sym kept) s.pairs_are;
       headers = λ n out. at n out (eq_by_cmp key_cmp n name) refl;
       values = λ n k out. subst (λ rows. Says rows (pair_key n k) (value_at objects n k)) (sym kept) (s.values n k out);
     }
@@ -94,12 +94,12 @@ header_put old new objects name rest keys put s =
 
 -- one key fewer
 pub value_put : (old new : View) (objects : Objects) (name key : List ℕ) (rest : List (Spot × Unit {0})) (names : List ℕ → Bool)
-    → Puts old new 1 (pair_key name key) (value_at objects name key)
+    → PutsRow old new 1 (pair_key name key) (value_at objects name key)
     → SpellsBut old.trees objects names (is_key_of (((name, key), tt) ∷ rest)) → SpellsBut new.trees objects names (is_key_of rest)
 value_put old new objects name key rest names put s =
     let kept : new.trees 0 ≡ old.trees 0 = put.others 0 (λ e. absurd cc) in
     record {
-      objects_are = subst (IsTable 1) (sym kept) s.objects_are;
+      objects_are = subst (IsKeyedTable 1) (sym kept) s.objects_are;
       pairs_are = put.sets.table;
       headers = λ n out. subst (λ rows. Says rows (object_key n) (header_at objects n)) (sym kept) (s.headers n out);
       values = λ n k out. at n k out (eq_by_cmp spot_cmp (n, k) (name, key)) refl;
@@ -118,7 +118,7 @@ value_put old new objects name key rest names put s =
 -- ---- objects that are new in the tables
 
 -- tables that spell objects have a row for each pair's object
-pub spells_owned : (trees : Trees) (objects : Objects) → Spells trees objects → HaveOwners trees
+pub spells_owned : (trees : Trees) (objects : Objects) → SpellsObjects trees objects → HaveOwners trees
 spells_owned trees objects s name key value row = go (finmap.get objects name) refl ((s.values name key refl value).0 row)
   where
     go : (o : Option Omap) → finmap.get objects name ≡ o → option_and_then (λ (x : Omap). finmap.get x.pairs key) o ≡ Some value → HasRow (trees 0) (object_key name)
@@ -155,7 +155,7 @@ put_in (Ok done) old new name n ok err there =
     go false e h = inl h
 
 pub listing_put : (old : Trees) (mid new : View) (objects : Objects) (name : List ℕ) (fresh more : Keys) (is_new : Bool) → HaveOwners old
-    → Listing old mid.trees objects fresh → Puts mid new 0 (object_key name) (header_at objects name)
+    → Listing old mid.trees objects fresh → PutsRow mid new 0 (object_key name) (header_at objects name)
     → (is_new ≡ true → (is_some (header_at objects name) ≡ true) × (HasRow (mid.trees 0) (object_key name) → ⊥))
     → ((n : List ℕ) → finmap.contains_key more n ≡ true → (finmap.contains_key fresh n ≡ true) ⊎ ((n ≡ name) × (is_new ≡ true)))
     → Listing old new.trees objects more
@@ -183,7 +183,7 @@ pub right_after : (old new : Trees) (objects : Objects) (fresh : Keys) → Listi
 right_after old new objects fresh l = subst (λ rows. AreRight rows objects (finmap.contains_key fresh)) (sym l.pairs) l.right
 
 -- a pair is brought in
-pub right_put : (old new : View) (objects : Objects) (name key : List ℕ) (fresh : List ℕ → Bool) → Puts old new 1 (pair_key name key) (value_at objects name key)
+pub right_put : (old new : View) (objects : Objects) (name key : List ℕ) (fresh : List ℕ → Bool) → PutsRow old new 1 (pair_key name key) (value_at objects name key)
     → AreRight (old.trees 1) objects fresh → AreRight (new.trees 1) objects fresh
 right_put old new objects name key fresh put right n k v there row = at (eq_by_cmp spot_cmp (n, k) (name, key)) refl
   where

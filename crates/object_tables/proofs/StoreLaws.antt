@@ -9,7 +9,7 @@ use Rattle.sqlite_trees.specs.declared.store.Shape.TheVariants.{Index}
 use Rattle.sqlite_trees.specs.declared.store.Direction.TheVariants.{Forward}
 use Rattle.sqlite_trees.specs.Tree.{IsIndex, Trees, from_key, insert_entry, order_of, remove_entry, sought}
 use Rattle.sqlite_trees.specs.View.{Advances, Commits, IsOrdered, IsRolledBack, IsShaped, KeepsSchema, OnlyWrites, SetsTree, View, with_cursor}
-use Rattle.object_tables.specs.Entries.{AreTexts, HasNoOther, HoldsValue, IsTable, Looks, Misses, Puts, SetsEntry, entry}
+use Rattle.object_tables.specs.Entries.{AreTexts, HasNoOther, HoldsValue, IsKeyedTable, Looks, Misses, PutsRow, SetsEntry, entry}
 use Rattle.object_tables.specs.Reading.{Reads}
 use Rattle.object_tables.proofs.ReadLaws.{from_no_key}
 use Rattle.object_tables.proofs.EntryLaws.{begins_itself, looked, looked_past, none_other, set_absent, set_added, set_already, set_removed, set_then}
@@ -83,8 +83,8 @@ looks_only old new tree key row found look =
 
 -- ---- a key that is given a value
 
-pub put_already : (old new : View) (tree : ℕ) (key row : Row) (value : Option (List ℕ)) → IsTable (length key) (old.trees tree) → AreTexts key
-    → Looks old new tree key row true → HoldsValue row (length key) value → Puts old new tree key value
+pub put_already : (old new : View) (tree : ℕ) (key row : Row) (value : Option (List ℕ)) → IsKeyedTable (length key) (old.trees tree) → AreTexts key
+    → Looks old new tree key row true → HoldsValue row (length key) value → PutsRow old new tree key value
 put_already old new tree key row None table texts look holds = absurd holds
 put_already old new tree key row (Some value) table texts look holds =
     let same : new.trees ≡ old.trees = ap (λ (v : View). v.trees) look.is in
@@ -96,8 +96,8 @@ put_already old new tree key row (Some value) table texts look holds =
       only = looks_only old new tree key row true look;
     }
 
-pub put_absent : (old new : View) (tree : ℕ) (key row : Row) → IsTable (length key) (old.trees tree) → Looks old new tree key row false
-    → Puts old new tree key None
+pub put_absent : (old new : View) (tree : ℕ) (key row : Row) → IsKeyedTable (length key) (old.trees tree) → Looks old new tree key row false
+    → PutsRow old new tree key None
 put_absent old new tree key row table look =
     let same : new.trees ≡ old.trees = ap (λ (v : View). v.trees) look.is in
     record {
@@ -108,9 +108,9 @@ put_absent old new tree key row table look =
       only = looks_only old new tree key row false look;
     }
 
-pub put_removed : (old mid new : View) (tree : ℕ) (key row : Row) → IsTable (length key) (old.trees tree) → AreTexts key
+pub put_removed : (old mid new : View) (tree : ℕ) (key row : Row) → IsKeyedTable (length key) (old.trees tree) → AreTexts key
     → Looks old mid tree key row true → mid.shape tree ≡ Index plain → SetsTree mid new tree (remove_entry (order_of (mid.shape tree)) row)
-    → OnlyWrites mid new → Puts old new tree key None
+    → OnlyWrites mid new → PutsRow old new tree key None
 put_removed old mid new tree key row table texts look shape set only =
     let same : mid.trees ≡ old.trees = ap (λ (v : View). v.trees) look.is in
     let there : new.trees tree ≡ remove_entry plain row (old.trees tree) =
@@ -124,8 +124,8 @@ put_removed old mid new tree key row table texts look shape set only =
     }
 
 pub put_added : (old new : View) (tree : ℕ) (key row : Row) (value : List ℕ) → AreTexts key → old.shape tree ≡ Index plain → row ≡ entry key value
-    → SetsTree old new tree (insert_entry (order_of (old.shape tree)) row) → OnlyWrites old new → IsTable (length key) (old.trees tree)
-    → HasNoOther (old.trees tree) key value → Puts old new tree key (Some value)
+    → SetsTree old new tree (insert_entry (order_of (old.shape tree)) row) → OnlyWrites old new → IsKeyedTable (length key) (old.trees tree)
+    → HasNoOther (old.trees tree) key value → PutsRow old new tree key (Some value)
 put_added old new tree key row value texts shape is set only table alone =
     let there : new.trees tree ≡ insert_entry plain (entry key value) (old.trees tree) =
     edited_there old new tree _ set ∙ (ap (λ s. insert_entry (order_of s) row (old.trees tree)) shape ∙ ap (λ r. insert_entry plain r (old.trees tree)) is) in
@@ -137,8 +137,8 @@ put_added old new tree key row value texts shape is set only table alone =
     }
 
 -- a key is given none, and then a value
-pub put_then : (old mid new : View) (tree : ℕ) (key : Row) (value : List ℕ) → Puts old mid tree key None
-    → (IsTable (length key) (mid.trees tree) → HasNoOther (mid.trees tree) key value → Puts mid new tree key (Some value)) → Puts old new tree key (Some value)
+pub put_then : (old mid new : View) (tree : ℕ) (key : Row) (value : List ℕ) → PutsRow old mid tree key None
+    → (IsKeyedTable (length key) (mid.trees tree) → HasNoOther (mid.trees tree) key value → PutsRow mid new tree key (Some value)) → PutsRow old new tree key (Some value)
 put_then old mid new tree key value p more =
     let q = more p.sets.table (none_other (mid.trees tree) key value p.sets.here) in
     record {

@@ -12,23 +12,23 @@ abbrev pub IsIn : {X : Type 0} → X → List X → Type 0
 IsIn x [] = ⊥
 IsIn x (y ∷ ys) = (y ≡ x) ⊎ IsIn x ys
 
-abbrev pub IsText : Value → Type 0
-IsText Null = ⊥
-IsText (Int n) = ⊥
-IsText (Real x) = ⊥
-IsText (Text t) = Unit {0}
-IsText (Blob b) = ⊥
+abbrev pub IsTextValue : Value → Type 0
+IsTextValue Null = ⊥
+IsTextValue (Int n) = ⊥
+IsTextValue (Real x) = ⊥
+IsTextValue (Text t) = Unit {0}
+IsTextValue (Blob b) = ⊥
 
 abbrev pub AreTexts : Row → Type 0
 AreTexts [] = Unit {0}
-AreTexts (v ∷ vs) = IsText v × AreTexts vs
+AreTexts (v ∷ vs) = IsTextValue v × AreTexts vs
 
 -- the row of a key and its value
 abbrev pub entry : Row → List ℕ → Row
 entry key value = key ++ Blob value ∷ []
 
 -- the row is a key of so many texts and a value
-pub record IsEntry (width : ℕ) (row : Row) : Type 0 where
+pub record IsEntryRow (width : ℕ) (row : Row) : Type 0 where
   pub key : Row
   pub value : List ℕ
   pub texts : AreTexts key
@@ -36,8 +36,8 @@ pub record IsEntry (width : ℕ) (row : Row) : Type 0 where
   pub is : row ≡ entry key value
 
 -- each row is such, and no key has two values
-pub record IsTable (width : ℕ) (rows : List Row) : Type 0 where
-  pub entries : (row : Row) → IsIn row rows → IsEntry width row
+pub record IsKeyedTable (width : ℕ) (rows : List Row) : Type 0 where
+  pub entries : (row : Row) → IsIn row rows → IsEntryRow width row
   pub once : (key : Row) (a b : List ℕ) → IsIn (entry key a) rows → IsIn (entry key b) rows → a ≡ b
 
 -- a key has a row; and it has none but that of this value
@@ -53,12 +53,12 @@ Says rows key value = (v : List ℕ) → IsIn (entry key v) rows ↔ (value ≡ 
 
 -- the key has this value now, or none, and each other what it had
 pub record SetsEntry (old new : List Row) (key : Row) (value : Option (List ℕ)) : Type 0 where
-  pub table : IsTable (length key) new
+  pub table : IsKeyedTable (length key) new
   pub here : Says new key value
   pub others : (k : Row) (v : List ℕ) → (k ≡ key → ⊥) → IsIn (entry k v) new ↔ IsIn (entry k v) old
 
 -- so it is with one tree of a store; each other is as it was, and nothing else changed but cursors
-pub record Puts (old new : View) (tree : ℕ) (key : Row) (value : Option (List ℕ)) : Type 0 where
+pub record PutsRow (old new : View) (tree : ℕ) (key : Row) (value : Option (List ℕ)) : Type 0 where
   pub sound : old.is_broken ≡ false
   pub sets : SetsEntry (old.trees tree) (new.trees tree) key value
   pub others : (t : ℕ) → (t ≡ tree → ⊥) → new.trees t ≡ old.trees t

@@ -20,8 +20,8 @@ pub record Noted : Type 0 where
   pub names : Keys
   pub keys : Spots
 
-abbrev pub none : Noted
-none = record { names = finmap.empty; keys = finmap.empty }
+abbrev pub none_noted : Noted
+none_noted = record { names = finmap.empty; keys = finmap.empty }
 
 -- whether a name is among them, and whether a key is
 abbrev pub has_name : Noted → List ℕ → Bool

@@ -5,7 +5,7 @@ use Rattle.objstore.specs.Omap.{Omap}
 use Rattle.objstore.specs.Objects.{Objects, header_at}
 use Rattle.sqlite_value.specs.Order.{Row}
 use Rattle.sqlite_trees.specs.View.{View}
-use Rattle.object_tables.specs.Entries.{IsTable, Says, entry}
+use Rattle.object_tables.specs.Entries.{IsKeyedTable, Says, entry}
 use Rattle.object_tables.specs.Spelled.{object_key, pair_key, value_at}
 
 -- an object with a header and no pairs is added, which the row spells
@@ -29,15 +29,15 @@ pub record AddsPair (old new : Objects) (row : Row) : Type 0 where
 
 -- these rows spell the objects' headers, and the objects have no pairs
 pub record SpellHeaders (rows : List Row) (objects : Objects) : Type 0 where
-  pub table : IsTable 1 rows
+  pub table : IsKeyedTable 1 rows
   pub headers : (name : List ℕ) → Says rows (object_key name) (header_at objects name)
   pub bare : (name key : List ℕ) → value_at objects name key ≡ None
 
 -- these rows spell the objects' pairs, and those the headers
 pub record SpellPairs (heads rows : List Row) (objects : Objects) : Type 0 where
-  pub heads_are : IsTable 1 heads
+  pub heads_are : IsKeyedTable 1 heads
   pub headers : (name : List ℕ) → Says heads (object_key name) (header_at objects name)
-  pub table : IsTable 2 rows
+  pub table : IsKeyedTable 2 rows
   pub values : (name key : List ℕ) → Says rows (pair_key name key) (value_at objects name key)
 
 -- a cursor has the rest of a table's rows, of which some were seen

@@ -10,7 +10,7 @@ use Rattle.sqlite_value.specs.Keys.{plain}
 use Rattle.sqlite_trees.specs.declared.store.Shape.TheVariants.{Index}
 use Rattle.sqlite_trees.specs.Tree.{Trees}
 use Rattle.sqlite_trees.specs.View.{View}
-use Rattle.object_tables.specs.Entries.{HasRow, IsIn, IsTable, Says, entry}
+use Rattle.object_tables.specs.Entries.{HasRow, IsIn, IsKeyedTable, Says, entry}
 
 -- an object's key in its table, and a pair's in its own
 abbrev pub object_key : List ℕ → Row
@@ -27,14 +27,14 @@ value_at objects name key = option_and_then (λ (o : Omap). finmap.get o.pairs k
 -- is said
 pub record SpellsBut (trees : Trees) (objects : Objects) (names : List ℕ → Bool) (keys : List ℕ → List ℕ → Bool)
     : Type 0 where
-  pub objects_are : IsTable 1 (trees 0)
-  pub pairs_are : IsTable 2 (trees 1)
+  pub objects_are : IsKeyedTable 1 (trees 0)
+  pub pairs_are : IsKeyedTable 2 (trees 1)
   pub headers : (name : List ℕ) → names name ≡ false → Says (trees 0) (object_key name) (header_at objects name)
   pub values : (name key : List ℕ) → keys name key ≡ false → Says (trees 1) (pair_key name key) (value_at objects name key)
 
 -- the tables have exactly the objects
-abbrev pub Spells : Trees → Objects → Type 0
-Spells trees objects = SpellsBut trees objects (λ _. false) (λ _ _. false)
+abbrev pub SpellsObjects : Trees → Objects → Type 0
+SpellsObjects trees objects = SpellsBut trees objects (λ _. false) (λ _ _. false)
 
 -- each pair's object has a row: so an object that has none has no pairs there
 abbrev pub HaveOwners : Trees → Type 0
@@ -53,7 +53,7 @@ StayListed old new objects =
 
 -- tables spell at most one set of objects
 abbrev pub HaveOneSpelling : Type 0
-HaveOneSpelling = (trees : Trees) (a b : Objects) → Spells trees a → Spells trees b → a ≡ b
+HaveOneSpelling = (trees : Trees) (a b : Objects) → SpellsObjects trees a → SpellsObjects trees b → a ≡ b
 
 -- the store has the two tables
 pub record HasTables (v : View) : Type 0 where

@@ -2,7 +2,7 @@
 ghost use Rattle.std.specs.Prelude.{◌≡◌, ◌↔◌, ◌⊎◌, IsTrue, OnOk, OnErr};
 ghost use Rattle.std.specs.FinMap as map;
 ghost use Rattle.objstore.specs.Omap.{key_cmp};
-ghost use Rattle.object_tables.specs.Noted.{none as no_changes, spot_cmp};
+ghost use Rattle.object_tables.specs.Noted.{none_noted as no_changes, spot_cmp};
 
 use mds_types::{Bytes, Text};
 use sorted_map::{Iter, SortedMap};

@@ -4,7 +4,7 @@ ghost use Rattle.sqlite_value.specs.Order.{column};
 ghost use Rattle.sqlite_value.specs.Keys.{plain};
 ghost use Rattle.sqlite_value.specs.declared.value.Value.TheVariants.{Blob};
 ghost use Rattle.sqlite_trees.specs.View.{IsClean, IsQuiet, KeepsSchema, OnlyWrites};
-ghost use Rattle.object_tables.specs.Entries.{AreTexts, HasNoOther, HoldsValue, IsTable, Looks, Misses, Puts, entry};
+ghost use Rattle.object_tables.specs.Entries.{AreTexts, HasNoOther, HoldsValue, IsKeyedTable, Looks, Misses, PutsRow, entry};
 
 use sqlite_trees::error::StoreError;
 use sqlite_trees::store::{Direction, Shape, Store};
@@ -26,8 +26,8 @@ pub fn put_entry<T: Store>(
 ) -> Result<bool, StoreError>
     requires texts { AreTexts key.now }
     requires shaped { IsClean (T.Store.view trees.old) → (T.Store.view trees.old).shape tree ≡ Shape.Index plain }
-    ensures ok { OnOk result (IsClean (T.Store.view trees.new) → IsTable (length key.now) ((T.Store.view trees.old).trees tree)
-        → Puts (T.Store.view trees.old) (T.Store.view trees.new) tree key.now (option_copied value.entry)) }
+    ensures ok { OnOk result (IsClean (T.Store.view trees.new) → IsKeyedTable (length key.now) ((T.Store.view trees.old).trees tree)
+        → PutsRow (T.Store.view trees.old) (T.Store.view trees.new) tree key.now (option_copied value.entry)) }
     ensures had { IfOk result (λ had. IsClean (T.Store.view trees.new) → Misses ((T.Store.view trees.old).trees tree) key.now had) }
     ensures frame { OnOk result (IsClean (T.Store.view trees.new) → OnlyWrites (T.Store.view trees.old) (T.Store.view trees.new)) }
     ensures schema { KeepsSchema (T.Store.view trees.old) (T.Store.view trees.new) }
@@ -59,9 +59,9 @@ pub fn add_entry<T: Store>(
 ) -> Result<(), StoreError>
     requires texts { AreTexts key.now }
     requires shaped { IsClean (T.Store.view trees.old) → (T.Store.view trees.old).shape tree ≡ Shape.Index plain }
-    ensures ok { OnOk result (IsClean (T.Store.view trees.new) → IsTable (length key.now) ((T.Store.view trees.old).trees tree)
+    ensures ok { OnOk result (IsClean (T.Store.view trees.new) → IsKeyedTable (length key.now) ((T.Store.view trees.old).trees tree)
         → HasNoOther ((T.Store.view trees.old).trees tree) key.now value.now
-        → Puts (T.Store.view trees.old) (T.Store.view trees.new) tree key.now (Some value.now)) }
+        → PutsRow (T.Store.view trees.old) (T.Store.view trees.new) tree key.now (Some value.now)) }
     ensures frame { OnOk result (IsClean (T.Store.view trees.new) → OnlyWrites (T.Store.view trees.old) (T.Store.view trees.new)) }
     ensures schema { KeepsSchema (T.Store.view trees.old) (T.Store.view trees.new) }
     ensures quiet { IsQuiet T.Store.view T.Store.faults T.Store.recovers T.Store.is_shielded trees.old trees.new }

@@ -5,7 +5,7 @@ ghost use Rattle.objstore.specs.Writes.{nothing};
 ghost use Rattle.sqlite_value.specs.Order.{Row as Columns};
 ghost use Rattle.sqlite_trees.specs.View.{IsClean, IsQuiet, KeepsSchema};
 ghost use Rattle.object_tables.specs.Reading.{AddsObject, AddsPair, SpellHeaders, SpellPairs};
-ghost use Rattle.object_tables.specs.Spelled.{HasTables, Spells};
+ghost use Rattle.object_tables.specs.Spelled.{HasTables, SpellsObjects};
 
 use crate::tables::{OBJECTS, PAIRS};
 use mds_types::{Bytes, Refusal};
@@ -51,7 +51,7 @@ impl From<AllocError> for ReadFault {
 /// All objects that the tables have, exactly.
 pub fn read_objects<T: Store>(trees: &mut T, alloc: Global) -> Result<MemStore, ReadFault>
     requires { IsClean (T.Store.view trees.old) → HasTables (T.Store.view trees.old) }
-    ensures ok { IfOk result (λ objects. IsClean (T.Store.view trees.new) → Spells (T.Store.view trees.old).trees objects) }
+    ensures ok { IfOk result (λ objects. IsClean (T.Store.view trees.new) → SpellsObjects (T.Store.view trees.old).trees objects) }
     ensures same { OnOk result (IsClean (T.Store.view trees.new)
         → T.Store.view trees.new ≡ record (T.Store.view trees.old) { cursors = (T.Store.view trees.new).cursors }) }
     ensures schema { KeepsSchema (T.Store.view trees.old) (T.Store.view trees.new) }

@@ -4,9 +4,9 @@ ghost use Rattle.std.specs.FinMap as map;
 ghost use Rattle.objstore.specs.Objects.{header_at};
 ghost use Rattle.sqlite_trees.specs.Tree.{Trees};
 ghost use Rattle.sqlite_trees.specs.View.{IsClean, IsQuiet, KeepsSchema, OnlyWrites, doubt};
-ghost use Rattle.object_tables.specs.Entries.{HasRow, IsIn, IsTable, Puts, entry};
+ghost use Rattle.object_tables.specs.Entries.{HasRow, IsIn, IsKeyedTable, PutsRow, entry};
 ghost use Rattle.object_tables.specs.Noted.{has_key, has_name, is_key_of, is_name_of};
-ghost use Rattle.object_tables.specs.Spelled.{AreRight, HasTables, HaveOwners, Spells, SpellsBut, object_key, pair_key, value_at};
+ghost use Rattle.object_tables.specs.Spelled.{AreRight, HasTables, HaveOwners, SpellsObjects, SpellsBut, object_key, pair_key, value_at};
 
 use crate::changes::Changes;
 use crate::entries::{add_entry, put_entry};
@@ -33,12 +33,12 @@ pub fn save<T: Store>(
     requires { IsClean (T.Store.view trees.old) → HasTables (T.Store.view trees.old) }
     ensures saved { OnOk result (IsClean (T.Store.view trees.new) → ((T.Store.view trees.old).is_broken ≡ false)
         × (SpellsBut (T.Store.view trees.old).trees objects.now (has_name changes.now) (has_key changes.now)
-        → HaveOwners (T.Store.view trees.old).trees → Spells (T.Store.view trees.new).committed objects.now)) }
+        → HaveOwners (T.Store.view trees.old).trees → SpellsObjects (T.Store.view trees.new).committed objects.now)) }
     ensures open { OnOk result (IsClean (T.Store.view trees.new) → (T.Store.view trees.new).is_open ≡ (T.Store.view trees.old).is_open) }
     ensures crash { IsClean (T.Store.view trees.new) → (db : Trees) → T.Store.recovers trees.new db
         → T.Store.recovers trees.old db ⊎ (((T.Store.view trees.old).is_broken ≡ false)
         × (SpellsBut (T.Store.view trees.old).trees objects.now (has_name changes.now) (has_key changes.now)
-        → HaveOwners (T.Store.view trees.old).trees → Spells db objects.now)) }
+        → HaveOwners (T.Store.view trees.old).trees → SpellsObjects db objects.now)) }
     ensures clean { doubt (T.Store.view trees.old).is_clean ≤ doubt (T.Store.view trees.new).is_clean }
     ensures fresh { IsClean (T.Store.view trees.new) → IsTrue (T.Store.view trees.new).is_open
         → (T.Store.view trees.new).trees ≡ (T.Store.view trees.new).committed }
@@ -64,7 +64,7 @@ pub fn write_changes<T: Store>(
     requires { IsClean (T.Store.view trees.old) → HasTables (T.Store.view trees.old) }
     ensures ok { OnOk result (IsClean (T.Store.view trees.new)
         → SpellsBut (T.Store.view trees.old).trees objects.now (has_name changes.now) (has_key changes.now)
-        → HaveOwners (T.Store.view trees.old).trees → Spells (T.Store.view trees.new).trees objects.now) }
+        → HaveOwners (T.Store.view trees.old).trees → SpellsObjects (T.Store.view trees.new).trees objects.now) }
     ensures frame { OnOk result (IsClean (T.Store.view trees.new) → OnlyWrites (T.Store.view trees.old) (T.Store.view trees.new)) }
     ensures schema { KeepsSchema (T.Store.view trees.old) (T.Store.view trees.new) }
     ensures quiet { IsQuiet T.Store.view T.Store.faults T.Store.recovers T.Store.is_shielded trees.old trees.new }
@@ -175,8 +175,8 @@ fn put_header<T: Store>(
     row: &mut Row,
 ) -> Result<bool, StoreError>
     requires { IsClean (T.Store.view trees.old) → HasTables (T.Store.view trees.old) }
-    ensures ok { OnOk result (IsClean (T.Store.view trees.new) → IsTable 1 ((T.Store.view trees.old).trees 0)
-        → Puts (T.Store.view trees.old) (T.Store.view trees.new) 0 (object_key name.now) (option_copied header.entry)) }
+    ensures ok { OnOk result (IsClean (T.Store.view trees.new) → IsKeyedTable 1 ((T.Store.view trees.old).trees 0)
+        → PutsRow (T.Store.view trees.old) (T.Store.view trees.new) 0 (object_key name.now) (option_copied header.entry)) }
     ensures new { IfOk result (λ is_new. IsClean (T.Store.view trees.new) → is_new ≡ true
         → (is_some (option_copied header.entry) ≡ true) × (HasRow ((T.Store.view trees.old).trees 0) (object_key name.now) → ⊥)) }
     ensures frame { OnOk result (IsClean (T.Store.view trees.new) → OnlyWrites (T.Store.view trees.old) (T.Store.view trees.new)) }
@@ -200,10 +200,10 @@ fn put_pair<T: Store>(
     row: &mut Row,
 ) -> Result<(), StoreError>
     requires { IsClean (T.Store.view trees.old) → HasTables (T.Store.view trees.old) }
-    ensures ok { OnOk result (IsClean (T.Store.view trees.new) → IsTable 2 ((T.Store.view trees.old).trees 1)
+    ensures ok { OnOk result (IsClean (T.Store.view trees.new) → IsKeyedTable 2 ((T.Store.view trees.old).trees 1)
         → (is_new ≡ true → (v : List ℕ) → IsIn (entry (pair_key spot.now.0 spot.now.1) v) ((T.Store.view trees.old).trees 1)
         → option_copied value.entry ≡ Some v)
-        → Puts (T.Store.view trees.old) (T.Store.view trees.new) 1 (pair_key spot.now.0 spot.now.1) (option_copied value.entry)) }
+        → PutsRow (T.Store.view trees.old) (T.Store.view trees.new) 1 (pair_key spot.now.0 spot.now.1) (option_copied value.entry)) }
     ensures frame { OnOk result (IsClean (T.Store.view trees.new) → OnlyWrites (T.Store.view trees.old) (T.Store.view trees.new)) }
     ensures schema { KeepsSchema (T.Store.view trees.old) (T.Store.view trees.new) }
     ensures quiet { IsQuiet T.Store.view T.Store.faults T.Store.recovers T.Store.is_shielded trees.old trees.new }

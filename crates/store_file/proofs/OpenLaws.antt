@@ -12,7 +12,7 @@ use Rattle.sqlite_store.specs.Listing.{all_shapes}
 use Rattle.sqlite_store.specs.Catalog.{wanted_of}
 use Rattle.sqlite_trees.specs.declared.schema.Object.{Object}
 use Rattle.object_tables.specs.Spelled.{HasTables}
-use Rattle.kept_store.specs.Kept.{IsFresh}
+use Rattle.kept_store.specs.Kept.{IsFreshMirror}
 
 -- the shape of a tree is that of the schema, but for the two that each store has
 pub two_tables : {D : Type 0} {g : Ghosts D} (it : FileStore D g) → map (λ w. w.shape) (schema_of it) ≡ Index plain ∷ Index plain ∷ [] → HasTables (view it)
@@ -23,7 +23,7 @@ two_tables it is = record {
 }
 
 pub fresh_of : {D : Type 0} {g : Ghosts D} (it : FileStore D g) → IsReady it → map (λ w. w.shape) (schema_of it) ≡ Index plain ∷ Index plain ∷ []
-    → IsClean (view it) → IsFresh (view it)
+    → IsClean (view it) → IsFreshMirror (view it)
 fresh_of it ready is clean = record {
   is_open = ready.is_open clean;
   ready = record {
@@ -38,7 +38,7 @@ shapes_wanted [] = refl
 shapes_wanted (o ∷ os) = ap (λ l. o.shape ∷ l) (shapes_wanted os)
 
 -- a tree that isn't one of the two was set, and that was committed
-pub fresh_on : (old mid new : View) (tree : ℕ) (edit : List Row → List Row) → IsFresh old → SetsTree old mid tree edit → Commits mid new → IsFresh new
+pub fresh_on : (old mid new : View) (tree : ℕ) (edit : List Row → List Row) → IsFreshMirror old → SetsTree old mid tree edit → Commits mid new → IsFreshMirror new
 fresh_on old mid new tree edit fresh set done =
     let shape : new.shape ≡ old.shape = ap (λ (v : View). v.shape) done.is ∙ ap (λ (v : View). v.shape) set.is in
     record {

@@ -2,7 +2,7 @@
 ghost use Rattle.std.specs.Prelude.{IfOk};
 ghost use Rattle.sqlite_trees.specs.View.{IsClean};
 ghost use Rattle.sqlite_store.specs.FileStore.{view};
-ghost use Rattle.kept_store.specs.Kept.{IsFresh};
+ghost use Rattle.kept_store.specs.Kept.{IsFreshMirror};
 
 use crate::faults::OpenFault;
 use crate::opening::open_files;
@@ -24,7 +24,7 @@ pub fn open<S: Start>(
     path: &str,
     start: S,
 ) -> Result<FileStore<FileFrom<S>>, OpenFault>
-    ensures fresh { IfOk result (λ it. IsClean (view it) → IsFresh (view it)) }
+    ensures fresh { IfOk result (λ it. IsClean (view it) → IsFreshMirror (view it)) }
 {
     if let Some(fault) = seen_fault(rt, path) {
         return Err(fault);

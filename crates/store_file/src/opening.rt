@@ -5,7 +5,7 @@ ghost use Rattle.sqlite_trees.specs.View.{IsClean};
 ghost use Rattle.sqlite_trees.specs.declared.store.Shape.TheVariants.{Index};
 ghost use Rattle.sqlite_store.specs.FileStore.{view};
 ghost use Rattle.sqlite_store.specs.Unopened.{AreUsable, files_of, wanted_by};
-ghost use Rattle.kept_store.specs.Kept.{IsFresh};
+ghost use Rattle.kept_store.specs.Kept.{IsFreshMirror};
 
 use crate::faults::{OpenFault, refused};
 use crate::looking::{Found, look};
@@ -31,7 +31,7 @@ pub fn open_files<D: Disk + Drop>(
 ) -> Result<FileStore<D>, (OpenFault, Files<D>)>
     requires log { IsTrue (D.Disk.is_usable files.log) }
     requires db { IsTrue (D.Disk.is_usable files.db) }
-    ensures fresh { IfOk result (λ it. IsClean (view it) → IsFresh (view it)) }
+    ensures fresh { IfOk result (λ it. IsClean (view it) → IsFreshMirror (view it)) }
 {
     let Some(new_size) = PageSize::new(PAGE) else {
         return Err((OpenFault::Io, files));
@@ -55,7 +55,7 @@ fn open_database<D: Disk + Drop>(
 ) -> Result<FileStore<D>, (OpenFault, Files<D>)>
     requires log { IsTrue (D.Disk.is_usable files.log) }
     requires db { IsTrue (D.Disk.is_usable files.db) }
-    ensures fresh { IfOk result (λ it. IsClean (view it) → IsFresh (view it)) }
+    ensures fresh { IfOk result (λ it. IsClean (view it) → IsFreshMirror (view it)) }
 {
     let unopened = unopened(alloc, files, size, options, has_sums)?;
     let before = unopened.tally();
@@ -84,7 +84,7 @@ fn open_other<D: Disk + Drop>(
     options: Options,
     has_sums: bool,
 ) -> Result<FileStore<D>, (OpenFault, Files<D>)>
-    ensures fresh { IfOk result (λ it. IsClean (view it) → IsFresh (view it)) }
+    ensures fresh { IfOk result (λ it. IsClean (view it) → IsFreshMirror (view it)) }
 {
     if !files.log.may_be_used() || !files.db.may_be_used() {
         return Err((OpenFault::Io, files));
@@ -121,7 +121,7 @@ fn created<D: Disk + Drop>(
 ) -> Result<FileStore<D>, (OpenFault, Files<D>)>
     requires usable { AreUsable unopened }
     requires schema { map (λ w. w.shape) (wanted_by unopened) ≡ Index plain ∷ Index plain ∷ [] }
-    ensures fresh { IfOk result (λ it. IsClean (view it) → IsFresh (view it)) }
+    ensures fresh { IfOk result (λ it. IsClean (view it) → IsFreshMirror (view it)) }
 {
     let before = unopened.tally();
     match unopened.create() {
@@ -138,8 +138,8 @@ fn settled<D: Disk + Drop>(
     mut store: FileStore<D>,
     has_sums: bool,
 ) -> Result<FileStore<D>, (OpenFault, Files<D>)>
-    requires { IsClean (view store) → IsFresh (view store) }
-    ensures fresh { IfOk result (λ it. IsClean (view it) → IsFresh (view it)) }
+    requires { IsClean (view store) → IsFreshMirror (view store) }
+    ensures fresh { IfOk result (λ it. IsClean (view it) → IsFreshMirror (view it)) }
 {
     match versioned(&mut store, has_sums) {
         Ok(()) => Ok(store),

@@ -2,7 +2,7 @@
 ghost use Rattle.std.specs.Prelude.{OnOk};
 ghost use Rattle.sqlite_trees.specs.View.{IsClean};
 ghost use Rattle.sqlite_store.specs.FileStore.{view};
-ghost use Rattle.kept_store.specs.Kept.{IsFresh};
+ghost use Rattle.kept_store.specs.Kept.{IsFreshMirror};
 
 use crate::faults::OpenFault;
 use sqlite_disk::Disk;
@@ -17,8 +17,8 @@ pub const VERSION: u32 = 1;
 /// Looks at the version of a store that was opened, and gives one that was just made its own. Then the log is put into
 /// the file.
 pub fn versioned<D: Disk + Drop>(store: &mut FileStore<D>, has_sums: bool) -> Result<(), OpenFault>
-    requires { IsClean (view store.old) → IsFresh (view store.old) }
-    ensures { OnOk result (IsClean (view store.new) → IsFresh (view store.new)) }
+    requires { IsClean (view store.old) → IsFreshMirror (view store.old) }
+    ensures { OnOk result (IsClean (view store.new) → IsFreshMirror (view store.new)) }
 {
     match (has_sums, store.version()) {
         (true, VERSION) | (false, 0) => {}
@@ -32,8 +32,8 @@ pub fn versioned<D: Disk + Drop>(store: &mut FileStore<D>, has_sums: bool) -> Re
 
 // Gives a store that has none its version, in a transaction of its own.
 fn set_version<D: Disk + Drop>(store: &mut FileStore<D>) -> Result<(), StoreError>
-    requires { IsClean (view store.old) → IsFresh (view store.old) }
-    ensures { OnOk result (IsClean (view store.new) → IsFresh (view store.new)) }
+    requires { IsClean (view store.old) → IsFreshMirror (view store.old) }
+    ensures { OnOk result (IsClean (view store.new) → IsFreshMirror (view store.new)) }
 {
     store.set_version(VERSION)?;
     store.commit()

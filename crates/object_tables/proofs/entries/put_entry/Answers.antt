@@ -1,7 +1,7 @@
 use Rattle.std.proofs.Common.{◌∙◌, ap, arith, subst, option_copied, ℕ}
 use Rattle.sqlite_trees.specs.View.{IsClean}
 use Rattle.sqlite_trees.specs.declared.store.Shape.{Shape}
-use Rattle.object_tables.specs.Entries.{HoldsValue, Looks, Puts}
+use Rattle.object_tables.specs.Entries.{HoldsValue, Looks, PutsRow}
 use Rattle.object_tables.proofs.StoreLaws.{missed, put_absent, put_already, put_removed, put_then}
 use Rattle.object_tables.proofs.entries.put_entry.Goals.{then-had+else-has_value+in_ok-remove, else-had}
 use Rattle.object_tables.proofs.entries.put_entry.Goals as goal
@@ -20,7 +20,7 @@ returns-in_ok-add_entry-in-Some-clause-ok g c clean table =
     let mid = g.T.Store.view c.find.new.trees in
     let late = g.T.Store.view c.if-had.trees in
     let before : IsClean late = omega (arith, c.add_entry.ensures.quiet.clean) in
-    let gone : Puts old late c.args.tree c.args.key.now _ = elim c.if-had.branch [
+    let gone : PutsRow old late c.args.tree c.args.key.now _ = elim c.if-had.branch [
       | then-had+else-has_value+in_ok-remove w ↦
           let cleaned : IsClean (g.T.Store.view w.remove.new.self) = subst (λ t. IsClean (g.T.Store.view t)) w.trees-is before in
           let early : IsClean mid = omega (arith, w.remove.ensures.quiet.clean) in

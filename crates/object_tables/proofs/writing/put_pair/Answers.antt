@@ -1,6 +1,6 @@
 use Rattle.std.proofs.Common.{◌≡◌, ◌∙◌, ap, length, option_copied, rules, subst, sym, Some}
 use Rattle.std.proofs.lemmas.Result.{on_ok_weaker}
-use Rattle.object_tables.specs.Entries.{HasNoOther, IsTable, Puts}
+use Rattle.object_tables.specs.Entries.{HasNoOther, IsKeyedTable, PutsRow}
 use Rattle.object_tables.specs.Spelled.{pair_key}
 use Rattle.object_tables.proofs.writing.put_pair.Goals as goal
 
@@ -15,6 +15,6 @@ returns-in-Some-clause-ok g c = on_ok_weaker c.add_entry.result
     let is : c.push-2.new.self ≡ key = search rules in
     let copied : option_copied c.args.value ≡ Some value = ap option_copied c.in-Some.is in
     let only : HasNoOther rows key value = λ v row. let e : Some value ≡ Some v = sym copied ∙ right c.if-is_new.true v row in cc in
-    subst (Puts old new 1 key) (sym copied) (subst (λ k. Puts old new 1 k (Some value)) is
-    (done clean (subst (λ k. IsTable (length k) rows) (sym is) table) (subst (λ k. HasNoOther rows k value) (sym is) only))))
+    subst (PutsRow old new 1 key) (sym copied) (subst (λ k. PutsRow old new 1 k (Some value)) is
+    (done clean (subst (λ k. IsKeyedTable (length k) rows) (sym is) table) (subst (λ k. HasNoOther rows k value) (sym is) only))))
     c.add_entry.ensures.ok

@@ -1,7 +1,7 @@
 use Rattle.std.proofs.Common.{arith, subst, sym}
 use Rattle.std.proofs.lemmas.Result.{on_ok_weaker}
 use Rattle.sqlite_trees.specs.View.{IsClean}
-use Rattle.object_tables.specs.Spelled.{Spells}
+use Rattle.object_tables.specs.Spelled.{SpellsObjects}
 use Rattle.object_tables.proofs.StoreLaws.{committed_shapes, committed_spells, on_either, undone_shapes}
 use Rattle.object_tables.proofs.writing.save.Goals as goal
 
@@ -13,7 +13,7 @@ returns-in-Ok-clause-saved g c = on_ok_weaker c.commit.result
     let new = g.T.Store.view c.commit.new.self in
     let early : IsClean mid = omega (arith, c.commit.ensures.clean) in
     let it = committed_spells old mid new (c.in-Ok.ensures.frame early) (done clean) in
-    (it.0, λ spelled owners. subst (λ t. Spells t c.args.objects.now) (sym it.1) (c.in-Ok.ensures.ok early spelled owners)))
+    (it.0, λ spelled owners. subst (λ t. SpellsObjects t c.args.objects.now) (sym it.1) (c.in-Ok.ensures.ok early spelled owners)))
     c.commit.ensures.ok
 
 pub returns-in-Ok-clause-shape : goal.returns-in-Ok-clause-shape

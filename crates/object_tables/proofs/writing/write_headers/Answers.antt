@@ -1,7 +1,7 @@
 use Rattle.std.proofs.Common.{◌≡◌, ◌∙◌, ap, arith, subst, sym, rules, refl, true, is_some, inl, inr}
 use Rattle.sqlite_trees.specs.View.{IsClean}
 use Rattle.objstore.specs.Objects.{header_at}
-use Rattle.object_tables.specs.Entries.{HasRow, Puts}
+use Rattle.object_tables.specs.Entries.{HasRow, PutsRow}
 use Rattle.object_tables.specs.Noted.{is_name_of}
 use Rattle.object_tables.specs.Spelled.{SpellsBut, object_key}
 use Rattle.object_tables.proofs.SpelledLaws.{header_put, listing_put, none_fresh, right_after}
@@ -21,11 +21,11 @@ loop-name-preserved g c =
     let same : n ≡ name = cc in
     let header = c.header_of-header.ensures ∙ ap (header_at objects) same in
     let put_of : IsClean new → (keys : _) → SpellsBut (g.T.Store.view c.args.trees.now).trees objects (is_name_of c.args.names) keys
-    → Puts mid new 0 (object_key name) (header_at objects name) = λ clean keys spelled.
+    → PutsRow mid new 0 (object_key name) (header_at objects name) = λ clean keys spelled.
     let early : IsClean mid = omega (arith, c.put_header.ensures.quiet.clean) in
     let before = c.loop-name.invariant.0 early keys spelled in
-    subst (λ x. Puts mid new 0 (object_key x) (header_at objects name)) same
-    (subst (Puts mid new 0 (object_key n)) header (c.in_ok-is_new.ensures.ok clean before.objects_are)) in (
+    subst (λ x. PutsRow mid new 0 (object_key x) (header_at objects name)) same
+    (subst (PutsRow mid new 0 (object_key n)) header (c.in_ok-is_new.ensures.ok clean before.objects_are)) in (
       λ clean keys spelled.
           let early : IsClean mid = omega (arith, c.put_header.ensures.quiet.clean) in
           let at = subst (λ l. SpellsBut mid.trees objects (is_name_of l) keys) c.in-Some.ensures.steps (c.loop-name.invariant.0 early keys spelled) in

@@ -1,7 +1,7 @@
 use Rattle.std.proofs.Common.{◌≡◌, ◌∙◌, ap, arith, subst, sym, rules}
 use Rattle.std.specs.FinMap as map
 use Rattle.sqlite_trees.specs.View.{IsClean}
-use Rattle.object_tables.specs.Entries.{Puts}
+use Rattle.object_tables.specs.Entries.{PutsRow}
 use Rattle.object_tables.specs.Noted.{is_key_of}
 use Rattle.object_tables.specs.Spelled.{SpellsBut, pair_key, value_at}
 use Rattle.object_tables.proofs.SpelledLaws.{right_put, value_put}
@@ -20,7 +20,7 @@ loop-spot-preserved g c =
           let before = c.loop-spot.invariant.0 early names right spelled in
           let at = subst (λ l. SpellsBut mid.trees objects names (is_key_of l)) c.in-Some.ensures.steps before.0 in
           let value = c.value_of-value.ensures ∙ (let same : c.as_str.result.now ≡ n = cc in ap (λ x. value_at objects x k) same) in
-          let put : Puts mid new 1 (pair_key n k) (value_at objects n k) = subst (Puts mid new 1 (pair_key n k)) value
+          let put : PutsRow mid new 1 (pair_key n k) (value_at objects n k) = subst (PutsRow mid new 1 (pair_key n k)) value
           (c.in_ok-put_pair.ensures.ok clean at.pairs_are
           (λ is_new v row. value ∙ before.1 n k v (sym c.contains-is_new.ensures ∙ is_new) row)) in
           (value_put mid new objects n k c.next.new.self names put at, right_put mid new objects n k (map.contains_key c.args.fresh.now) put before.1),

@@ -1,7 +1,7 @@
 use Rattle.std.proofs.Common.{arith, subst, sym}
 use Rattle.sqlite_trees.specs.View.{IsClean}
 use Rattle.sqlite_store.specs.FileStore.{view}
-use Rattle.kept_store.specs.Kept.{IsFresh}
+use Rattle.kept_store.specs.Kept.{IsFreshMirror}
 use Rattle.store_file.proofs.versions.versioned.Goals.{then-has_sums+in-1-1, in-true-eq0+in_ok-set_version-in-true-eq0, else-has_sums+in-0-1}
 use Rattle.store_file.proofs.versions.versioned.Goals as goal
 
@@ -9,9 +9,9 @@ pub returns : goal.returns
 returns g c clean =
     let mid = c.if-has_sums.store in
     let before : IsClean (view mid) = omega (arith, c.checkpoint.ensures.quiet.clean) in
-    let fresh : IsClean (view mid) → IsFresh (view mid) = elim c.if-has_sums.branch [
-      | then-has_sums+in-1-1 w ↦ subst (λ s. IsClean (view s) → IsFresh (view s)) (sym w.store-is) c.requires
-      | in-true-eq0+in_ok-set_version-in-true-eq0 w ↦ subst (λ s. IsClean (view s) → IsFresh (view s)) (sym w.store-is) w.in_ok-set_version-in-true-eq0.ensures
-      | else-has_sums+in-0-1 w ↦ subst (λ s. IsClean (view s) → IsFresh (view s)) (sym w.store-is) c.requires
+    let fresh : IsClean (view mid) → IsFreshMirror (view mid) = elim c.if-has_sums.branch [
+      | then-has_sums+in-1-1 w ↦ subst (λ s. IsClean (view s) → IsFreshMirror (view s)) (sym w.store-is) c.requires
+      | in-true-eq0+in_ok-set_version-in-true-eq0 w ↦ subst (λ s. IsClean (view s) → IsFreshMirror (view s)) (sym w.store-is) w.in_ok-set_version-in-true-eq0.ensures
+      | else-has_sums+in-0-1 w ↦ subst (λ s. IsClean (view s) → IsFreshMirror (view s)) (sym w.store-is) c.requires
     ] in
-    subst IsFresh (sym (c.checkpoint.ensures.same (c.in_ok-checkpoint.ensures.open clean))) (fresh before)
+    subst IsFreshMirror (sym (c.checkpoint.ensures.same (c.in_ok-checkpoint.ensures.open clean))) (fresh before)

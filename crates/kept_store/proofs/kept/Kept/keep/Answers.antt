@@ -1,7 +1,7 @@
 use Rattle.std.proofs.Common.{◌⊎◌, ◌∙◌, arith, subst, sym}
 use Rattle.sqlite_trees.specs.View.{IsClean}
-use Rattle.object_tables.specs.Spelled.{Spells}
-use Rattle.kept_store.specs.Kept.{Kept}
+use Rattle.object_tables.specs.Spelled.{SpellsObjects}
+use Rattle.kept_store.specs.Kept.{KeptObjects}
 use Rattle.kept_store.proofs.KeptLaws.{crash_of, kept_all, kept_anyway, open_of, seen}
 use Rattle.kept_store.proofs.kept.Kept.keep.Goals as goal
 
@@ -29,7 +29,7 @@ returns-in_err-save-clause-crash g c clean db may =
     let tables = c.self.inside.tables in
     let old = g.T.Store.view tables in
     let early : IsClean old = omega (arith, c.save.ensures.clean) in
-    subst (λ (k : Kept _). g.T.Store.recovers k.tables db ⊎ Spells db c.self.inside.objects) c.self.view_is
+    subst (λ (k : KeptObjects _). g.T.Store.recovers k.tables db ⊎ SpellsObjects db c.self.inside.objects) c.self.view_is
     (crash_of old (g.T.Store.recovers tables) (g.T.Store.recovers c.save.new.trees) c.self.inside.objects c.self.inside.changes (c.self.invariant early)
     (g.met.T.Store.broken_if_shut tables) (g.met.T.Store.stays tables) (c.save.ensures.crash clean) db may)
 
@@ -53,6 +53,6 @@ returns-clause-crash g c clean db may =
     let tables = c.self.inside.tables in
     let old = g.T.Store.view tables in
     let early : IsClean old = omega (arith, c.save.ensures.clean) in
-    subst (λ (k : Kept _). g.T.Store.recovers k.tables db ⊎ Spells db c.self.inside.objects) c.self.view_is
+    subst (λ (k : KeptObjects _). g.T.Store.recovers k.tables db ⊎ SpellsObjects db c.self.inside.objects) c.self.view_is
     (crash_of old (g.T.Store.recovers tables) (g.T.Store.recovers c.save.new.trees) c.self.inside.objects c.self.inside.changes (c.self.invariant early)
     (g.met.T.Store.broken_if_shut tables) (g.met.T.Store.stays tables) (c.save.ensures.crash clean) db may)
