@@ -18,7 +18,8 @@ use std::{fs, io};
 pub type StoreFile = FileStore<FileFrom<Wary>>;
 
 /// Opens the store of this path, or makes it where there is no file, or an empty one. A program passes `Wary`. The log
-/// lies beside the file while it is open, and isn't left beside one that is refused, unless it was there.
+/// lies beside the file while it is open, and isn't left beside one that is refused, unless it was there; one whose file
+/// didn't exist stays, since it may have what the file has not.
 pub fn open<S: Start>(
     rt: &HostRuntime,
     path: &str,
@@ -64,10 +65,10 @@ pub fn remove_log(rt: &HostRuntime, path: &str) -> io::Result<()> {
     fs::remove_file(rt, log.as_str())
 }
 
-// Whether there is a log beside the file.
+// Whether there may be a log beside the file that another run left: one is taken to be there where the file isn't.
 fn has_log(rt: &HostRuntime, path: &str) -> bool {
     let Ok(real) = fs::canonicalize(rt, path) else {
-        return false;
+        return true;
     };
     let Ok(log) = format!(in rt.alloc(); "{}-wal", real.as_str()) else {
         return true;
