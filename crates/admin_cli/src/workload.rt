@@ -1,13 +1,13 @@
 //! What `cephmeta serve` does: clients whose directories are made, rank threads that create files in them and commit as
 //! they go, and the listing of the tree that they leave, printed with the outcome of the audit.
 
-mod asking;
 mod handing;
 mod listing;
 mod loads;
 mod plans;
 mod progress;
 mod reports;
+mod requests;
 mod serving;
 mod setup;
 

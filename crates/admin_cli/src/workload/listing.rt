@@ -2,7 +2,7 @@
 ghost use Rattle.std.specs.Prelude.{◌≡◌, IfSome};
 ghost use Rattle.admin_cli.specs.Reports.{AreInOrder};
 
-use crate::workload::asking::ask;
+use crate::workload::requests::ask;
 use cluster_core::Book;
 use mds_types::{Bytes, Ino, Inode, Kind, Name, Op, PageSize, Reply, Request};
 use objstore::MemStore;

@@ -2,8 +2,8 @@
 ghost use Rattle.std.specs.Prelude.{◌≡◌, ◌≤◌, IfSome};
 ghost use Rattle.std.specs.FinMap as map;
 
-use crate::workload::asking::ask;
 use crate::workload::handing::hand;
+use crate::workload::requests::ask;
 use cluster_core::{Book, format};
 use mds_types::{Birth, Dentry, Ino, Limit, Mode, Name, Op, Rank, Reply, Request};
 use objstore::MemStore;
