@@ -4,9 +4,9 @@ import re
 import signal
 import subprocess
 
-from formats import Unsound, wants
-from kills import differences, found
-from served import Ended, Served, Told, ran, went
+from formats import ROOT, Unsound, wants
+from kills import differences
+from served import Ended, Served, Told, answer_of, inode_of, ran, went
 from stores import copied, log_of, removed, rows_of, tree_of, written
 
 HERE = os.path.dirname(os.path.abspath(__file__))
@@ -35,11 +35,11 @@ def library(folder):
 class Faults:
     """Runs over a file as `before` has it, or over none. `trees` are the trees before and behind each flush, the last by the end."""
 
-    def __init__(self, program, folder, before=None):
-        self.program, self.folder, self.before = program, folder, before
+    def __init__(self, program, folder, before=None, flushes=FLUSHES):
+        self.program, self.folder, self.before, self.flushes = program, folder, before, flushes
         self.library, self.path = library(folder), os.path.join(folder, 'refused')
         self.told = os.path.join(folder, 'calls')
-        self.script = [line for lines in FLUSHES[:-1] for line in [*lines, 'flush']] + FLUSHES[-1]
+        self.script = [line for lines in flushes[:-1] for line in [*lines, 'flush']] + flushes[-1]
         self.renew()
         first = tree_of(rows_of(self.path)) if before else {}
         status, self.printed, told = self.run()
@@ -92,7 +92,7 @@ class Faults:
             return f'not opened: {words}'
         flushes = [said for said, line in zip(printed, self.script) if line == 'flush']
         wants([said for said, line in zip(printed, self.script) if line != 'flush'] == others, f'the replies are {printed}')
-        wants(len(flushes) == len(FLUSHES) - 1, f'the flushes print {flushes}')
+        wants(len(flushes) == len(self.flushes) - 1, f'the flushes print {flushes}')
         self.is_left(self.allowed(flushes, status, words, once))
         return ' '.join(flushes + [words or 'ended'])
 
@@ -120,10 +120,10 @@ class Faults:
         """Kills the program at a call: it leaves the tree of the last flush that was answered, or the one under way."""
         run, answered = Served(self.program, self.path, env=self.environment(how, k, k)), 0
         try:
-            for lines in FLUSHES[:-1]:
+            for lines in self.flushes[:-1]:
                 wants(run.ask([*lines, 'flush'])[-1] == 'flushed', 'a flush is not kept')
                 answered += 1
-            run.ask(FLUSHES[-1])
+            run.ask(self.flushes[-1])
         except Ended:
             pass
         status, _, told = run.close()
@@ -142,17 +142,53 @@ class Faults:
         wants(tree.pop((1, b'next'), None) and tree in allowed, 'the next run saved something else')
 
 
+class LongLog(Faults):
+    """A run whose second flush finds a log of more than a thousand pages, and puts it into the file first. All names are new."""
+
+    MANY = 12000
+
+    def __init__(self, program, folder):
+        flushes = [[f'create 1 {k:0250d} 644' for k in range(self.MANY)], ['create 1 a 644'], ['create 1 b 644'], ['create 1 last 644']]
+        super().__init__(program, folder, flushes=flushes)
+
+    def behind(self, first):
+        tree = dict(first)
+        for line, said in zip(self.script, self.printed):
+            if line == 'flush':
+                wants(said == 'flushed', f'a flush prints {said}')
+                yield dict(tree)
+            else:
+                tree[ROOT, line.split()[2].encode()] = inode_of(answer_of(said))
+        yield tree
+
+    def checkpoint(self):
+        """Some of the calls that put the log into the file: the first and the last ones, and one between."""
+        pages = [(k, name) for k, name in enumerate(self.calls, 1) if name == self.calls[k - 2] == self.calls[k - 3] == self.calls[k - 4]]
+        reads, writes = ([k for k, name in pages if name == kind] for kind in ('pread', 'pwrite'))
+        wants(len(reads) > 900 and len(writes) > 900, f'{len(reads)} pages of the log are read, and {len(writes)} written')
+        return [reads[0], writes[0], writes[500], writes[-1], *range(writes[-1] + 1, writes[-1] + 7)]
+
+
+def long_log(program, folder):
+    """Calls refused, and kills, while a long log goes into the file within a flush."""
+    it = LongLog(program, folder)
+    calls = it.checkpoint()
+    counts = each_refused(it, errors=['EIO'], calls=calls)
+    each_killed(it, calls=calls[1::2])
+    return counts
+
+
 def meets(how, name):
     """Whether a call of this name can be refused so."""
     return name in PARTLY if how == 'short' else how != 'ENOSPC' or name not in NEVER_FULL
 
 
-def each_refused(it, past=0, errors=ERRORS):
-    """Each call refused, and `past` calls behind it; gives how often each came."""
+def each_refused(it, past=0, errors=ERRORS, calls=None):
+    """Each call refused, or each of these, and `past` calls behind it; gives how often each came."""
     counts, failed = {}, []
     for how in errors:
         for k, name in enumerate(it.calls, 1):
-            if not meets(how, name):
+            if not meets(how, name) or calls and k not in calls:
                 continue
             it.renew()
             try:
@@ -165,11 +201,11 @@ def each_refused(it, past=0, errors=ERRORS):
     return counts
 
 
-def each_killed(it, how='kill'):
+def each_killed(it, how='kill', calls=None):
     """Kills the program in place of each call, or in the middle of each write. The lines of a flush are given to it at once, and the next
     ones when it has answered."""
     for k, name in enumerate(it.calls, 1):
-        if how == 'kill' or name == 'pwrite':
+        if (how == 'kill' or name == 'pwrite') and (not calls or k in calls):
             it.renew()
             try:
                 it.is_survived(how, k)

@@ -4,7 +4,7 @@ import random
 import sqlite3
 
 from formats import ROOT, Inode, wants
-from served import shown, went
+from served import Served, shown, went
 from stores import removed, rows_of, tree_of, written
 
 FIRST = 1 << 40
@@ -96,3 +96,17 @@ def read_by_sqlite3(program, folder):
         (1, b'-'): Inode(FIRST + 3, 'file', 0, 0, 0, 0, 0, None, b'')}, 'what the program wrote is read as another tree')
     objects, _ = rows_of(path)
     wants(sorted(objects) == [b'1.01000000', b'1.01800000', b'1.fragtree', b'10000000000.00000000'], f'the objects are {sorted(objects)}')
+
+
+def read_behind_a_kill(program, folder):
+    """sqlite3 reads what a kill left, and puts the log into the file as it ends: the program opens that with the same tree."""
+    path = os.path.join(folder, 'killed')
+    run = Served(program, path)
+    run.ask([f'create 1 n{k} 644' for k in range(100)] + ['flush', 'unlink 1 n7', 'flush', 'create 1 lost 644'])
+    run.process.kill()
+    run.close()
+    base = sqlite3.connect(path)
+    names = sorted(key for key, in base.execute('SELECT key FROM omap'))
+    base.close()
+    wants(names == sorted(f'n{k}_head' for k in range(100) if k != 7), f'sqlite3 reads {names}')
+    wants(sorted(name for _, name in shown(program, path)) == sorted(b'n%d' % k for k in range(100) if k != 7), 'the program shows another tree')

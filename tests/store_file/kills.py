@@ -46,7 +46,7 @@ class Killed:
         self.program, self.folder, self.seed = program, folder, seed
         self.chance = random.Random(seed)
         self.usual = {'opening': 0.01, 'in a flush': 0.005, 'at its end': 0.005, 'in changes': 0.05}
-        self.files, self.counts = 0, {}
+        self.files, self.counts, self.ended = 0, {}, 0
         self.renew()
 
     def renew(self):
@@ -139,6 +139,7 @@ class Killed:
         allowed = [it for it in (self.saved, self.trying) if it is not None]
         which = self.which([it.tree() for it in allowed])
         self.saved, self.trying = allowed[which], None
+        self.ended += ended
         what = (self.moment, 'ended' if ended else ['the last', 'the one under way'][which])
         self.counts[what] = self.counts.get(what, 0) + 1
 
@@ -158,13 +159,15 @@ class Killed:
 
 
 def killed(program, folder, seed, count):
-    """Kills `count` runs. Each tenth begins a new file."""
-    it = Killed(program, folder, seed)
-    for k in range(count):
-        if k % 10 == 9:
+    """Kills `count` runs; some more end before their kill. Each tenth begins a new file."""
+    it, runs = Killed(program, folder, seed), 0
+    while sum(it.counts.values()) - it.ended < count:
+        runs += 1
+        if runs % 10 == 0:
             it.renew()
         try:
             it.turn()
         except Unsound as why:
-            raise Unsound(f'seed {seed}, kill {k}, {it.moment}: {why}') from None
+            it.run.process.kill()
+            raise Unsound(f'seed {seed}, run {runs}, killed {it.moment}: {why}') from None
     return it.counts

@@ -130,6 +130,22 @@ def bytes_of_files(it):
     it.refuses(it.at('lost'), CUT)
 
 
+def log_alone(it):
+    """A log whose file was taken away: it is refused, and the log, which has the last flushes, stays."""
+    run = Served(it.program, it.copy('killed'))
+    run.ask(['create 1 c 644', 'flush'])
+    run.process.kill()
+    run.close()
+    os.rename(it.at('killed'), it.at('moved'))
+    before = log_of(it.at('killed'))
+    status, printed, told = ran(it.program, it.at('killed'), LOOK)
+    wants((status, printed, told) == (1, [], f'cephmeta: {it.at("killed")}: {CUT}\n'), f'a log alone: {status} {printed} {told}')
+    wants(log_of(it.at('killed')) == before, 'the log of a file that was taken away is gone, or changed')
+    # with its file again all is there
+    os.rename(it.at('moved'), it.at('killed'))
+    it.shows(it.at('killed'), [SHOWN[0].replace('2 end a:10000000001', '3 end a:10000000001 c:10000000003')] + SHOWN[1:])
+
+
 def databases(it):
     """Databases of something else, of another version, and those that sqlite3 changed."""
     it.refuses(it.base('other', 'CREATE TABLE t (a)', 'INSERT INTO t VALUES (1)'), FOREIGN)

@@ -2,7 +2,9 @@
    the file's, and on their folder. WATCHED has the file's path. The calls are counted from 1; those from FIRST_REFUSED to LAST_REFUSED are
    refused as REFUSAL says: with the error of this name; `short`, a write that takes half of its bytes, or a read that gives half; `kill`,
    the process is killed in place of the call; `torn`, a write takes half of its bytes and then the process is killed. CALLS_TOLD names a file, which gets a line for each call:
-   its number, its name, and `refused` where it was. */
+   its number, its name, and `refused` where it was. CHANGES_TOLD names another, which gets what a disk has to know, each with a line
+   before it: `write FILE AT LENGTH` and the bytes, `truncate FILE LENGTH`, `sync FILE`, `unlink FILE`, where FILE is 0 or, for the log, 1; and
+   `answer 1 0 LENGTH` and the bytes that the program printed. */
 #define _GNU_SOURCE
 #include <dlfcn.h>
 #include <errno.h>
@@ -19,8 +21,29 @@
 
 #define MOST 1024
 
+/* 1 for the file, 2 for its log, 3 for their folder and other files */
 static char watched[MOST];
 static long seen;
+
+static int is_log(const char *path)
+{
+    size_t length = strlen(path);
+    return length > 4 && !strcmp(path + length - 4, "-wal");
+}
+
+/* Puts down a change that was made. */
+static void note(const char *what, int file, long at, long length, const void *bytes)
+{
+    const char *told = getenv("CHANGES_TOLD");
+    char line[128];
+    int begin = snprintf(line, sizeof line, "%s %d %ld %ld\n", what, file, at, length);
+    int to = told ? syscall(SYS_openat, AT_FDCWD, told, O_CREAT | O_WRONLY | O_APPEND | O_CLOEXEC, 0600) : -1;
+    if (to < 0)
+        return;
+    if (syscall(SYS_write, to, line, (size_t)begin) != begin || (bytes && syscall(SYS_write, to, bytes, (size_t)length) != length))
+        abort();
+    syscall(SYS_close, to);
+}
 
 static int is_watched(const char *path)
 {
@@ -109,7 +132,7 @@ int open(const char *path, int flags, ...)
     REFUSE_IF(mine, "open");
     int fd = real(path, flags, mode);
     if (fd >= 0 && fd < MOST)
-        watched[fd] = mine;
+        watched[fd] = !mine ? 0 : is_log(path) ? 2 : is_folder(path) || strcmp(path, getenv("WATCHED")) ? 3 : 1;
     return fd;
 }
 
@@ -153,28 +176,50 @@ ssize_t pwrite(int fd, const void *from, size_t count, off_t at)
         errno = error_of();
         return -1;
     }
-    return real(fd, from, count, at);
+    ssize_t done = real(fd, from, count, at);
+    if (has(fd) && done > 0)
+        note("write", watched[fd] - 1, at, done, from);
+    return done;
+}
+
+/* What the program prints. */
+ssize_t write(int fd, const void *from, size_t count)
+{
+    REAL(write);
+    ssize_t done = real(fd, from, count);
+    if (fd == 1 && done > 0)
+        note("answer", 1, 0, done, from);
+    return done;
 }
 
 int fdatasync(int fd)
 {
     REAL(fdatasync);
     REFUSE_IF(has(fd), "fdatasync");
-    return real(fd);
+    int done = real(fd);
+    if (has(fd) && !done)
+        note("sync", watched[fd] - 1, 0, 0, NULL);
+    return done;
 }
 
 int fsync(int fd)
 {
     REAL(fsync);
     REFUSE_IF(has(fd), "fsync");
-    return real(fd);
+    int done = real(fd);
+    if (has(fd) && !done)
+        note("sync", watched[fd] - 1, 0, 0, NULL);
+    return done;
 }
 
 int ftruncate(int fd, off_t length)
 {
     REAL(ftruncate);
     REFUSE_IF(has(fd), "ftruncate");
-    return real(fd, length);
+    int done = real(fd, length);
+    if (has(fd) && !done)
+        note("truncate", watched[fd] - 1, length, 0, NULL);
+    return done;
 }
 
 off_t lseek(int fd, off_t at, int from)
@@ -227,7 +272,10 @@ int unlink(const char *path)
 {
     REAL(unlink);
     REFUSE_IF(is_watched(path), "unlink");
-    return real(path);
+    int done = real(path);
+    if (is_watched(path) && !done)
+        note("unlink", is_log(path), 0, 0, NULL);
+    return done;
 }
 
 char *realpath(const char *path, char *to)

@@ -7,6 +7,7 @@ from table import Entry, Table
 
 # a run that takes longer hangs
 PATIENCE = 60
+AT_ONCE = 100
 
 
 def spelled(name):
@@ -35,15 +36,18 @@ class Served:
         return self.ask([line])[0]
 
     def ask(self, lines):
-        """What some lines print that are given at once."""
-        try:
-            self.process.stdin.write('\n'.join([*lines, '']).encode())
-            self.process.stdin.flush()
-        except BrokenPipeError:
-            raise Ended() from None
-        printed = [self.process.stdout.readline() for _ in lines]
-        if not printed[-1].endswith(b'\n'):
-            raise Ended()
+        """What some lines print: so many are given at once as their answers have room in a pipe."""
+        printed = []
+        for k in range(0, len(lines), AT_ONCE):
+            part = lines[k:k + AT_ONCE]
+            try:
+                self.process.stdin.write('\n'.join([*part, '']).encode())
+                self.process.stdin.flush()
+            except BrokenPipeError:
+                raise Ended() from None
+            printed += [self.process.stdout.readline() for _ in part]
+            if not printed[-1].endswith(b'\n'):
+                raise Ended()
         return [line[:-1].decode() for line in printed]
 
     def close(self):

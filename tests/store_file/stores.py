@@ -96,7 +96,7 @@ def entries_of(ino, objects, pairs, left):
             continue
         left.discard(name)
         entries = [(key[:-len(ENDING)], entry_of(value)) for key, value in pairs[name].items() if is_key(key)]
-        wants(all(bits_of(it).startswith(leaf) for it, _ in entries), f'{name} has a name of another leaf')
+        wants(leaf == '' or all(bits_of(it).startswith(leaf) for it, _ in entries), f'{name} has a name of another leaf')
         dirs = sum(inode.kind == 'dir' for _, inode in entries)
         header = header_of(objects[name])
         wants(header == Header(header.version, len(entries) - dirs, dirs), f'{name} counts {header}, and has {len(entries)}')
