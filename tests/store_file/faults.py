@@ -25,10 +25,9 @@ OPENINGS = ['the disk failed to read or write', 'the disk is full', 'no permissi
 
 
 def library(folder):
-    """The library that refuses calls."""
+    """Builds the library that refuses calls."""
     path = os.path.join(folder, 'refuse_call.so')
-    if not os.path.exists(path):
-        subprocess.run(['gcc', '-O1', '-shared', '-fPIC', '-o', path, os.path.join(HERE, 'refuse_call.c'), '-ldl'], check=True)
+    subprocess.run(['gcc', '-O1', '-shared', '-fPIC', '-o', path, os.path.join(HERE, 'refuse_call.c'), '-ldl'], check=True)
     return path
 
 
@@ -37,7 +36,7 @@ class Faults:
 
     def __init__(self, program, folder, before=None, flushes=FLUSHES):
         self.program, self.folder, self.before, self.flushes = program, folder, before, flushes
-        self.library, self.path = library(folder), os.path.join(folder, 'refused')
+        self.library, self.path = os.environ['REFUSE_CALL'], os.path.join(folder, 'refused')
         self.told = os.path.join(folder, 'calls')
         self.script = [line for lines in flushes[:-1] for line in [*lines, 'flush']] + flushes[-1]
         self.renew()

@@ -113,7 +113,7 @@ class Killed:
         elif self.moment == 'at its end':
             self.run.process.stdin.close()
             timer, begin = self.kill_within(self.moment), time.monotonic()
-            os.waitid(os.P_PID, self.run.process.pid, os.WEXITED | os.WNOWAIT)
+            self.run.process.wait()
             self.usual[self.moment] = max(time.monotonic() - begin, 0.001)
             timer.join()
         else:

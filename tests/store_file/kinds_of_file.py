@@ -7,6 +7,7 @@ import shutil
 import sqlite3
 import subprocess
 import sys
+import tempfile
 
 from formats import wants
 from served import Served, ran, went
@@ -248,6 +249,15 @@ def permissions(it):
     nobody = pwd.getpwnam('nobody').pw_uid
     os.chmod(it.folder, 0o777)
     by = ('setpriv', f'--reuid={nobody}', f'--regid={nobody}', '--clear-groups')
+    with tempfile.TemporaryDirectory() as place:
+        # the program's own folder may be private
+        os.chmod(place, 0o755)
+        it.program = shutil.copy(it.program, place)
+        os.chmod(it.program, 0o755)
+        are_refused(it, by)
+
+
+def are_refused(it, by):
     os.chmod(it.copy('readable'), 0o444)
     it.refuses(it.at('readable'), 'is read-only', by)
     os.chmod(it.copy('others'), 0o644)
