@@ -3,7 +3,6 @@ import copy
 import os
 import random
 import signal
-import sqlite3
 import threading
 import time
 

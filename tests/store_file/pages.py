@@ -1,13 +1,11 @@
 """What the pages of the documentation say of `--store`, run."""
 import os
 import re
-import shlex
 import sqlite3
 import subprocess
 
 from formats import wants
 from served import went
-from stores import rows_of
 
 HERE = os.path.dirname(os.path.abspath(__file__))
 
