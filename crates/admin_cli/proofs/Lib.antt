@@ -5,3 +5,4 @@ pub mod Common
 pub mod PathLines
 pub mod PrintedLaws
 pub mod Progress
+pub mod WaitLaws

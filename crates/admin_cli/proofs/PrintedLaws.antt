@@ -1,5 +1,5 @@
 -- What a script prints is what one thread tells.
-use Rattle.admin_cli.proofs.Common.{Admin, Answer, Appends, BookState, Command, EndsScript, Err, Event, Executes, FaultKind, Fragment, IfSome, Ino, IsFormatted, Keeps, List, MakesStep, None, Ok, Option, OutputLine, Rank, Refusal, Result, RunsInput, RunsLines, RunsNew, Some, StopsBefore, [], ap, append-nil, arith, inl, inr, length, refl, shown_line, subst, sym, text_of, ℕ, ◌++◌, ◌+◌, ◌∙◌, ◌∷◌, ◌≡◌}
+use Rattle.admin_cli.proofs.Common.{Admin, Answer, Appends, BookState, Command, EndsScript, Err, Event, Executes, FaultKind, Fragment, IfSome, Ino, IsFormatted, Keeps, List, MakesStep, None, Ok, Option, OutputLine, Rank, Refusal, Result, RunsInput, RunsLines, RunsNew, RunsOrNot, Some, StopsBefore, [], ap, append-nil, arith, inl, inr, length, refl, shown_line, subst, sym, text_of, ℕ, ◌++◌, ◌+◌, ◌∙◌, ◌∷◌, ◌≡◌}
 use Rattle.std.specs.Prelude.{◌⊎◌, filter, flat_map, map, replicate, suc, zero}
 use Rattle.std.specs.List.{AllByRecursion}
 use Rattle.std.specs.FinMap as finite
@@ -111,11 +111,11 @@ shown_receipt (Err refusal) = refl
 
 module _ (sent : List Request) where
   -- what a line did, by what it printed
-  record DidLine (old new : Admin) (printed : OutputLine) : Type 0 where
+  pub record DidLine (old new : Admin) (printed : OutputLine) : Type 0 where
     sound : IsSoundBook new.book
     served : Served old.book new.book sent (receipt_in printed)
 
-  abbrev IsReady : Admin → Type 0
+  abbrev pub IsReady : Admin → Type 0
   IsReady admin = IsSoundBook admin.book × AreAmong sent admin.book.core.state.inboxes
 
   as_told : (old new : Admin) (printed : OutputLine) (told : List Receipt) → receipt_in printed ≡ told → IsSoundBook new.book → Served old.book new.book sent told → DidLine old new printed

@@ -72,13 +72,15 @@ impl Admin {
 
     // A request comes in at a rank where nothing waits, and is brought to its answer. Where something waits, which no
     // line leaves that asks so, it is refused.
+    #[tactic(auto, using(crate::proofs::WaitLaws::none_from_all))]
     fn ask(&mut self, alloc: Global, rank: Rank, request: Request) -> Result<Receipt, Refusal>
         ensures count { self.new.operations ≡ self.old.operations }
         ensures jobs { self.new.jobs ≡ self.old.jobs }
         ensures sent { self.new.sent ≡ self.old.sent }
         ensures asked { AsksNow self.old.book self.new.book rank request result }
     {
-        if self.book.cluster().waiting() > 0 {
+        let waiting = self.book.cluster().waiting();
+        if waiting > 0 {
             drop(request);
             return Err(Refusal::InboxFull);
         }
