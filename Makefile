@@ -46,6 +46,7 @@ test:
 	@tests/answers/run
 	@tests/refused_growths/run
 	@tests/serve/run
+	@tests/rados/run
 
 units:
 	@tests/units/run $(NAMES)

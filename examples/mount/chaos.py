@@ -22,6 +22,11 @@ class Chaos:
         self.steps = [self.split] * 3 + [self.merge] * 2 + [self.commit] * 2 + [self.begin] + [self.end] * 2 + [self.evict] * 2
         self.steps += [self.tree, self.purge, self.own, self.own, self.pin] + [self.export] * 6
 
+    def forget(self):
+        """The program is another one: what was begun has ended with the last."""
+        self.exports.clear()
+        self.jobs.clear()
+
     def note(self, directory, place):
         """A directory that a request has told of, and where it stands."""
         self.places.pop(directory, None)

@@ -16,6 +16,7 @@ TURNS_AFTER = 100
 READS = {'lookup', 'readdir', 'readlink'}
 # what a system call returns where memory, the store or inode numbers are lacking
 LACKS = {1: errno.ENOMEM, 2: errno.EIO, 3: errno.ENOSPC}
+UNSAVED = {'full': errno.ENOSPC, 'memory': errno.ENOMEM}
 FROZEN, NO_PLACE, EXPORT_STANDS = 6, 16, 18
 
 
@@ -79,12 +80,13 @@ class Stepping:
 class Cluster:
     """The program with its pipe."""
 
-    def __init__(self, program, ranks=1, cache=None, chaos=None, flush_every=2000):
-        self.ranks, self.chaos, self.flush_every = ranks, chaos, flush_every
+    def __init__(self, program, ranks=1, cache=None, store=None, chaos=None, flush_every=2000, restart_after=1_000_000):
+        self.ranks, self.chaos, self.store, self.flush_every, self.restart_after = ranks, chaos, store, flush_every, restart_after
         usage = subprocess.run([program, 'script', '--help'], capture_output=True, text=True, check=True).stdout
         self.way = Asking() if '--ask' in usage else Stepping()
         self.command = [program, 'script', '--ranks', str(ranks), *self.way.words]
         self.command += ['--cache', str(cache)] if cache else []
+        self.command += ['--store', store] if store else []
         self.tid = self.requests = 0
         self.fault = None
         self.changed = set()            # directories whose leaves may not be in the store
@@ -95,6 +97,7 @@ class Cluster:
         """Begins a program. The first line that it answers tells that it could."""
         pipes = dict.fromkeys(('stdin', 'stdout', 'stderr'), subprocess.PIPE)
         self.process = subprocess.Popen(self.command, start_new_session=True, **pipes)
+        self.since_start = 0
         self.say('get subtrees')
 
     def say(self, line):
@@ -183,13 +186,17 @@ class Cluster:
                 break
 
     def look_after(self):
-        """What comes around with the requests: own turns and flushes."""
+        """What comes around with the requests: own turns, flushes, and a new program in place of one whose history is long."""
         self.requests += 1
+        self.since_start += 1
         if self.requests % TURNS_AFTER == 0:
             self.take_turns()
-        if self.requests % self.flush_every == 0:
+        if self.requests % min(self.flush_every, self.restart_after) == 0:
             try:
                 self.flush()
+                if self.store and self.since_start >= self.restart_after:
+                    self.end()
+                    self.start()
             except OSError as error:
                 if error is self.fault:
                     raise
@@ -197,7 +204,7 @@ class Cluster:
                 print(f'cephmeta-mount: a flush: {error.strerror}', file=sys.stderr, flush=True)
 
     def flush(self):
-        """Writes all that isn't in the store, when the exports that stand have come to their ends."""
+        """Writes all that isn't in the store, and with --store into the file, when the exports that stand have come to their ends."""
         for _ in range(TRIES):
             said = self.say('flush')
             if said == 'flushed':
@@ -205,7 +212,9 @@ class Cluster:
                 self.flushed()
                 return
             if refusal(said) != EXPORT_STANDS:
-                raise OSError(LACKS.get(refusal(said), errno.EIO), said)
+                word, *reason = said.split()
+                number = UNSAVED.get(reason[0], errno.EIO) if word == 'unsaved' else LACKS.get(refusal(said), errno.EIO)
+                raise OSError(number, said)
             self.take_turns()
         raise OSError(errno.EBUSY, said)
 
@@ -215,6 +224,8 @@ class Cluster:
         self.process.stdout.read()
         if self.process.wait():
             self.breaks(f'the program ends with status {self.process.returncode}')
+        if self.chaos:
+            self.chaos.forget()
 
     def close(self):
         """The last flush, and the end."""

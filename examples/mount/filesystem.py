@@ -364,15 +364,18 @@ class FileSystem(pyfuse3.Operations):
     async def releasedir(self, handle):
         del self.listings[handle]
 
-    # ---- the end
+    # ---- what outlives the program
 
     @answered
     async def fsync(self, number, only_data):
         self.data.sync(number)
+        if self.cluster.store:
+            self.cluster.flush()
 
     @answered
     async def fsyncdir(self, handle, only_data):
-        """Names are in memory alone."""
+        if self.cluster.store:
+            self.cluster.flush()
 
     def close(self):
         """The last flush, when the kernel has let go of all."""

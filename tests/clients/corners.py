@@ -63,9 +63,9 @@ def holes(top):
 
 
 def numbers_that_are_held(given):
-    """A file without a name and a working directory without one keep their numbers to themselves."""
+    """A file without a name and a working directory without one keep their numbers to themselves, however often the program is started anew."""
     with room() as folder:
-        words = ['--data', os.path.join(folder, 'data'), '--flush-every', 40]
+        words = ['--store', os.path.join(folder, 'tree.db'), '--data', os.path.join(folder, 'data'), '--restart-after', 40]
         with Mounted(given.program, folder, *WITH_CHAOS, *words) as mount:
             gone, lost = os.path.join(mount.path, 'gone'), os.path.join(mount.path, 'lost')
             os.mkdir(lost)
@@ -174,7 +174,7 @@ def told(calls):
 def paths_in_the_mount(given):
     """A mount that would wait for itself isn't made."""
     with room() as folder:
-        for word in ('--data', '--admin'):
+        for word in ('--store', '--data', '--admin'):
             complaint = ''
             try:
                 with Mounted(given.program, folder, word, os.path.join(folder, 'mount/inside')) as mount:

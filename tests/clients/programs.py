@@ -64,15 +64,21 @@ def git_session(source, folder):
 
 
 def git(given):
+    """With --store git's fsyncs are flushes, and the program is started anew now and then, which git doesn't notice."""
     with room() as folder, room(TMPFS) as beside:
         source = os.path.join(beside, 'source')
         os.mkdir(source)
         new_repository(source)
-        with Mounted(given.program, folder, *WITH_CHAOS, '--data', os.path.join(folder, 'data')) as mount:
+        words = [*WITH_CHAOS, '--store', os.path.join(folder, 'tree.db'), '--data', os.path.join(folder, 'data'), '--restart-after', 1500]
+        with Mounted(given.program, folder, *words) as mount:
             (said, left), (wanted, wanted_left) = git_session(source, mount.path), git_session(source, beside)
             equal(said, wanted, 'git says of the clone')
             equal(difference(left, wanted_left), None, 'the working tree')
             mount.terminate()
+        with Mounted(given.program, folder, *words) as mount:
+            clone = os.path.join(mount.path, 'clone')
+            equal(git_in(clone, 'fsck', '--full', '--strict', '--no-progress') + git_in(clone, 'status', '--porcelain'), '', 'mounted again git says')
+            mount.unmount()
 
 
 def grow(folder, rand, files):

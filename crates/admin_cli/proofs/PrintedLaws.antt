@@ -51,6 +51,7 @@ use Rattle.admin_cli.specs.StoreLines.{BeginsJob, CommitsAfter, CommitsLine, End
 use Rattle.admin_cli.specs.declared.faults.ScriptFault.{ScriptFault}
 use Rattle.admin_cli.specs.declared.faults.FaultKind.TheVariants as fault
 use Rattle.cached_frag.specs.declared.jobs.Job.{Job as Begun}
+use Rattle.keeping.specs.declared.unkept.Unkept.TheVariants as no
 
 -- ---- requests
 
@@ -81,6 +82,11 @@ line_replies out.Deferred = refl
 line_replies out.Queued = refl
 line_replies out.Nothing = refl
 line_replies out.Flushed = refl
+line_replies (out.Unsaved no.NoMemory) = refl
+line_replies (out.Unsaved no.Full) = refl
+line_replies (out.Unsaved no.Io) = refl
+line_replies (out.Unsaved no.Corrupt) = refl
+line_replies (out.Unsaved no.Shut) = refl
 line_replies (out.Frags leaves) = refl
 line_replies (out.Subtrees roots) = refl
 line_replies (out.Authority rank) = refl

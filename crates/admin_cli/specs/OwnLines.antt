@@ -8,7 +8,7 @@ use Rattle.cluster_core.specs.declared.events.Event.{Event}
 use Rattle.cluster_core.specs.declared.events.Event.TheVariants.{Arrive, Serve, Grant, Split, Merge, CommitBegin, CommitEnd, CommitDrop, CommitTree, Purge, Evict, Start, Freeze, Prep, Send, Import, Finish, Cancel}
 use Rattle.cluster_core.specs.Proposal.{Proposes}
 use Rattle.script_output.specs.declared.lines.OutputLine.{OutputLine}
-use Rattle.script_output.specs.declared.lines.OutputLine.TheVariants.{Reply, Forwarded, Deferred, Queued, Nothing, Flushed, Frags, Subtrees, Authority, Job, Sent, Object, Objects, Idle, Own, History, Refused, Errno}
+use Rattle.script_output.specs.declared.lines.OutputLine.TheVariants.{Reply, Forwarded, Deferred, Queued, Nothing, Flushed, Unsaved, Frags, Subtrees, Authority, Job, Sent, Object, Objects, Idle, Own, History, Refused, Errno}
 use Rattle.script_output.specs.declared.own_turns.OwnResult.{OwnResult}
 use Rattle.script_output.specs.declared.own_turns.OwnResult.TheVariants as came
 use Rattle.script_output.specs.declared.own_turns.OwnStep.{OwnStep}
@@ -25,6 +25,7 @@ came_of Deferred = came.Nothing
 came_of Queued = came.Nothing
 came_of Nothing = came.Nothing
 came_of Flushed = came.Nothing
+came_of (Unsaved why) = came.Nothing
 came_of (Frags leaves) = came.Nothing
 came_of (Subtrees roots) = came.Nothing
 came_of (Authority rank) = came.Nothing

@@ -1,6 +1,8 @@
 //! Commands on the store: commits, fragment trees, the purge list, flushes, eviction, and looks at objects.
-ghost use Rattle.std.specs.Prelude.{◌≡◌, ℕ, IfOk, List, OnErr, Option, Result};
-ghost use Rattle.admin_cli.specs.StoreLines.{BeginsJob, BeginsLine, CommitsLine, CopiesNone, EndsJob, EndsLine, ExecutesStore, FlushesLine, LacksForCommit, LacksForStore, ListsObjects, LooksLine, LosesJob, begun_line as line_of, is_hindered, is_over};
+ghost use Rattle.std.specs.Prelude.{◌≡◌, ℕ, cond, IfOk, List, OnErr, Option, Result};
+ghost use Rattle.std.specs.FinMap as map;
+ghost use Rattle.admin_cli.specs.Modes.{SavesLine};
+ghost use Rattle.admin_cli.specs.StoreLines.{BeginsJob, BeginsLine, CommitsLine, CopiesNone, EndsJob, EndsLine, ExecutesStore, FlushesLine, IsFlush, LacksForCommit, LacksForStore, ListsObjects, LooksLine, LosesJob, begun_line as line_of, is_hindered as hinders, is_over};
 
 use crate::commands::{Admin, shown_line};
 use crate::kept_jobs::KeptJobs;
@@ -147,16 +149,31 @@ impl Admin {
     fn flush(&mut self, rt: &(impl Threads + Sync), alloc: Global) -> OutputLine
         ensures { FlushesLine self.old self.new result }
     {
+        match self.flush_book(rt, alloc) {
+            Ok(()) => OutputLine::Flushed,
+            Err(refusal) => OutputLine::Refused(refusal),
+        }
+    }
+
+    // The book is flushed, and no job is kept any more, unless an export stands.
+    #[inline(never)]
+    pub(crate) fn flush_book(
+        &mut self,
+        rt: &(impl Threads + Sync),
+        alloc: Global,
+    ) -> Result<(), Refusal>
+        ensures count { self.new.operations ≡ self.old.operations }
+        ensures jobs { self.new.jobs ≡ cond (hinders result) self.old.jobs map.empty }
+        ensures sent { self.new.sent ≡ self.old.sent }
+        ensures flushed { IsFlush self.old.book self.new.book result }
+    {
         let flushed = flush(rt, alloc, &mut self.book);
         if !is_hindered(&flushed) {
             self.jobs = KeptJobs::new(alloc);
         }
         // The contract of `store` is what says here that a store in memory tells no fault.
         let _ = self.book.cluster().store();
-        match flushed {
-            Ok(()) => OutputLine::Flushed,
-            Err(refusal) => OutputLine::Refused(refusal),
-        }
+        flushed
     }
 
     // What is the object of this name?
@@ -194,7 +211,7 @@ fn is_over(ended: &Result<Answer, Refusal>) -> bool
 
 // Whether a flush was refused since an export stands.
 fn is_hindered(flushed: &Result<(), Refusal>) -> bool
-    ensures { result ≡ is_hindered flushed.now }
+    ensures { result ≡ hinders flushed.now }
 {
     match flushed {
         Ok(()) => false,

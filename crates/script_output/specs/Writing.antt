@@ -5,7 +5,7 @@ use Rattle.mds_types.specs.declared.object_names.ObjName.{ObjName}
 use Rattle.mds_types.specs.declared.refusals.Refusal.{Refusal}
 use Rattle.mds_types.specs.declared.refusals.Refusal.TheVariants.{Damaged}
 use Rattle.script_output.specs.declared.lines.OutputLine.{OutputLine}
-use Rattle.script_output.specs.declared.lines.OutputLine.TheVariants.{Reply, Forwarded, Deferred, Queued, Nothing, Flushed, Frags, Subtrees, Authority, Job, Sent, Object, Objects, Idle, Own, History, Refused, Errno}
+use Rattle.script_output.specs.declared.lines.OutputLine.TheVariants.{Reply, Forwarded, Deferred, Queued, Nothing, Flushed, Unsaved, Frags, Subtrees, Authority, Job, Sent, Object, Objects, Idle, Own, History, Refused, Errno}
 use Rattle.script_output.specs.declared.writing.OutputFault.{OutputFault}
 use Rattle.script_output.specs.declared.writing.OutputFault.TheVariants.{NoMemory, Write}
 
@@ -47,6 +47,7 @@ TakesText Deferred = ⊥
 TakesText Queued = ⊥
 TakesText Nothing = ⊥
 TakesText Flushed = ⊥
+TakesText (Unsaved why) = ⊥
 TakesText (Frags leaves) = Unit {0}
 TakesText (Subtrees roots) = Unit {0}
 TakesText (Authority rank) = Unit {0}

@@ -1,11 +1,13 @@
 //! Lines whose text is always the same. They are printed where there is no memory for a text, so that a refusal is
 //! always told.
 ghost use Rattle.std.specs.Prelude.{◌≡◌, ◌++◌, codes, IfNone, IfSome};
+ghost use Rattle.keeping.specs.Unkept.{unkept_word};
 ghost use Rattle.script_output.specs.Lines.{output_line};
 ghost use Rattle.script_output.specs.Texts.{refused_line};
 ghost use Rattle.script_output.specs.Writing.{NamesObject, TakesText};
 
 use crate::lines::OutputLine;
+use keeping::Unkept;
 use mds_types::Refusal;
 
 /// The line with its LF, if it is always the same.
@@ -19,6 +21,7 @@ pub fn fixed_text(line: &OutputLine) -> Option<&'static str>
         OutputLine::Queued => Some("queued\n"),
         OutputLine::Nothing => Some("nothing\n"),
         OutputLine::Flushed => Some("flushed\n"),
+        OutputLine::Unsaved(why) => Some(unsaved_text(*why)),
         OutputLine::Idle => Some("none\n"),
         OutputLine::Refused(refusal) => refused_text(*refusal),
         OutputLine::Reply { .. } => None,
@@ -33,6 +36,19 @@ pub fn fixed_text(line: &OutputLine) -> Option<&'static str>
         OutputLine::Own(_) => None,
         OutputLine::History(_) => None,
         OutputLine::Errno(_) => None,
+    }
+}
+
+// The line of a flush that a file doesn't have, with its LF.
+fn unsaved_text(why: Unkept) -> &'static str
+    ensures { result.now ≡ codes "unsaved " ++ unkept_word why ++ codes "\n" }
+{
+    match why {
+        Unkept::NoMemory => "unsaved memory\n",
+        Unkept::Full => "unsaved full\n",
+        Unkept::Io => "unsaved io\n",
+        Unkept::Corrupt => "unsaved corrupt\n",
+        Unkept::Shut => "unsaved shut\n",
     }
 }
 

@@ -11,6 +11,7 @@ use crate::own_turns::OwnTurn;
 use crate::replies::{Heading, push_reply};
 use crate::root_lists::RootList;
 use crate::word_lists::{ObjectsText, WordList};
+use keeping::Unkept;
 use mds_types::{Rank, Refusal, Reply};
 use std::alloc::{AllocError, Global};
 use std::fmt;
@@ -38,6 +39,8 @@ pub enum OutputLine {
     Nothing,
     /// `flushed`: all that wasn't in the store is written.
     Flushed,
+    /// `unsaved WHY`: all that wasn't in the store is written, but the file didn't take what changed.
+    Unsaved(Unkept),
     /// `frags K F ..`: the leaves of a directory.
     Frags(FragList),
     /// `subtrees K INO:FRAG:RANK ..`: the subtree map.
@@ -110,6 +113,7 @@ impl OutputLine {
             | OutputLine::Queued
             | OutputLine::Nothing
             | OutputLine::Flushed
+            | OutputLine::Unsaved(_)
             | OutputLine::Idle => unreachable!(),
             OutputLine::Frags(leaves) => push_text(out, format!(in alloc; "{leaves}\n")),
             OutputLine::Subtrees(roots) => push_text(out, format!(in alloc; "{roots}\n")),
