@@ -2,7 +2,9 @@
 use Rattle.admin_cli.proofs.Common.{Admin, Command, Executes, OutputLine, refl, subst, sym, ◌≡◌}
 use Rattle.std.specs.Prelude.{Bool, MatchBool, false, true}
 use Rattle.script_text.specs.declared.commands.Command.TheVariants as command
-use Rattle.admin_cli.specs.Modes.{DoesUnder, plain}
+use Rattle.script_text.specs.declared.store_commands.StoreCommand.{StoreCommand}
+use Rattle.script_text.specs.declared.store_commands.StoreCommand.TheVariants as store
+use Rattle.admin_cli.specs.Modes.{DoesUnder, DoesStoreUnder, plain}
 use Rattle.admin_cli.specs.Scripts.{Doing}
 
 pub as_plain : (asks : Bool) (A B : Type 0) → asks ≡ false → B → MatchBool asks A B
@@ -12,10 +14,22 @@ pub as_asked : (asks : Bool) (A B : Type 0) → asks ≡ true → A → MatchBoo
 as_asked asks A B is h = subst (λ (b : Bool). MatchBool b A B) (sym is) h
 
 -- with no option a script does what it says
+same_store : (old new : Admin) (c : StoreCommand) (line : OutputLine) → DoesStoreUnder plain old new c line ≡ Executes old new (command.Store c) line
+same_store old new (store.CommitBegin rank dir f) line = refl
+same_store old new (store.CommitEnd number) line = refl
+same_store old new (store.CommitDrop number) line = refl
+same_store old new (store.Commit rank dir f) line = refl
+same_store old new (store.CommitTree dir) line = refl
+same_store old new store.Purge line = refl
+same_store old new store.Flush line = refl
+same_store old new (store.Evict rank) line = refl
+same_store old new (store.Object name) line = refl
+same_store old new store.Objects line = refl
+
 same_command : (old new : Admin) (c : Command) (line : OutputLine) → DoesUnder plain old new c line ≡ Executes old new c line
 same_command old new (command.Operation op) line = refl
 same_command old new (command.Request rank request) line = refl
-same_command old new (command.Store c) line = refl
+same_command old new (command.Store c) line = same_store old new c line
 same_command old new (command.Serve rank) line = refl
 same_command old new (command.Own rank) line = refl
 same_command old new command.History line = refl

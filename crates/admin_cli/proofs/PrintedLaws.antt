@@ -40,7 +40,7 @@ use Rattle.admin_cli.specs.ExportLines.{ExecutesExport}
 use Rattle.admin_cli.specs.OwnLines.{OwnLine}
 use Rattle.admin_cli.specs.Printed.{PrintsOneThread, counted_with, ended_line, is_reply, receipt_line, request_of, requests_of}
 use Rattle.admin_cli.specs.Scripts.{Doing, DoesLine}
-use Rattle.admin_cli.specs.Modes.{AsksLine, AsksOperation, AsksRequest, DoesUnder, AsksNow, asked_line}
+use Rattle.admin_cli.specs.Modes.{AsksLine, AsksOperation, AsksRequest, DoesUnder, DoesStoreUnder, AsksNow, SavesLine, SaysSaved, asked_line}
 use Rattle.admin_cli.specs.declared.modes.Mode.{Mode}
 use Rattle.asking.specs.Ask.{NoneWaits}
 use Rattle.asking.specs.Reached.{receipt_in as told_in}
@@ -430,9 +430,31 @@ module _ (sent : List Request) where
       go (inr (waits, is, same)) =
           as_told sent old new printed [] (ap receipt_in h.shown ∙ (ap (λ (r : Result Receipt Refusal). receipt_in (asked_line r)) is)) (subst IsSoundBook (sym same) ready.0) (served_same sent old.book new.book same ready.1)
 
+-- a flush that is kept
+saved_silent : (result : Result (Unit {0}) Refusal) (printed : OutputLine) → SaysSaved result printed → receipt_in printed ≡ []
+saved_silent (Ok done) printed (inl is) = ap receipt_in is
+saved_silent (Ok done) printed (inr (why, is)) = ap receipt_in is
+saved_silent (Err refusal) printed is = ap receipt_in is
+
+saves : (sent : List Request) (old new : Admin) (printed : OutputLine) → IsReady sent old → SavesLine old new printed → DidLine sent old new printed
+saves sent old new printed ready h = as_told sent old new printed [] (saved_silent h.result printed h.shown) h.flushed.sound (flushed sent old.book new.book h.result ready.1 h.flushed.outcome)
+
 either_way : {P : Type 0} (b : Bool) (A B : Type 0) → (A → P) → (B → P) → MatchBool b A B → P
 either_way true A B f g h = f h
 either_way false A B f g h = g h
+
+carries_store : (mode : Mode) (sent : List Request) (old new : Admin) (c : StoreCommand) (printed : OutputLine) → IsReady sent old → DoesStoreUnder mode old new c printed → DidLine sent old new printed
+carries_store mode sent old new (store.CommitBegin rank dir f) printed ready h = executes_store sent old new (store.CommitBegin rank dir f) printed ready h
+carries_store mode sent old new (store.CommitEnd number) printed ready h = executes_store sent old new (store.CommitEnd number) printed ready h
+carries_store mode sent old new (store.CommitDrop number) printed ready h = executes_store sent old new (store.CommitDrop number) printed ready h
+carries_store mode sent old new (store.Commit rank dir f) printed ready h = executes_store sent old new (store.Commit rank dir f) printed ready h
+carries_store mode sent old new (store.CommitTree dir) printed ready h = executes_store sent old new (store.CommitTree dir) printed ready h
+carries_store mode sent old new store.Purge printed ready h = executes_store sent old new store.Purge printed ready h
+carries_store mode sent old new store.Flush printed ready h =
+    either_way mode.keeps (SavesLine old new printed) (Executes old new (command.Store store.Flush) printed) (saves sent old new printed ready) (executes_store sent old new store.Flush printed ready) h
+carries_store mode sent old new (store.Evict rank) printed ready h = executes_store sent old new (store.Evict rank) printed ready h
+carries_store mode sent old new (store.Object name) printed ready h = executes_store sent old new (store.Object name) printed ready h
+carries_store mode sent old new store.Objects printed ready h = executes_store sent old new store.Objects printed ready h
 
 carries : (mode : Mode) (sent : List Request) (old new : Admin) (c : Command) (printed : OutputLine) → IsReady sent old → AllByRecursion (Contains sent) (request_of old.operations (line.Command c)) → DoesUnder mode old new c printed → DidLine sent old new printed
 carries mode sent old new (command.Operation op) printed ready has h =
@@ -442,7 +464,7 @@ carries mode sent old new (command.Operation op) printed ready has h =
 carries mode sent old new (command.Request rank request) printed ready has h =
     either_way mode.asks (AsksRequest old new rank request printed) (Executes old new (command.Request rank request) printed)
     (λ w. asks sent old new rank request printed ready has.0 w.3) (executes sent old new (command.Request rank request) printed ready has) h
-carries mode sent old new (command.Store c) printed ready has h = executes sent old new (command.Store c) printed ready has h
+carries mode sent old new (command.Store c) printed ready has h = carries_store mode sent old new c printed ready h
 carries mode sent old new (command.Serve rank) printed ready has h = executes sent old new (command.Serve rank) printed ready has h
 carries mode sent old new (command.Own rank) printed ready has h = executes sent old new (command.Own rank) printed ready has h
 carries mode sent old new command.History printed ready has h = executes sent old new command.History printed ready has h
@@ -454,12 +476,25 @@ carries mode sent old new command.Subtrees printed ready has h = executes sent o
 carries mode sent old new (command.Authority dir f) printed ready has h = executes sent old new (command.Authority dir f) printed ready has h
 carries mode sent old new (command.Export c) printed ready has h = executes sent old new (command.Export c) printed ready has h
 
+carried_store : (mode : Mode) (old new : Admin) (c : StoreCommand) (printed : OutputLine) → DoesStoreUnder mode old new c printed → new.operations ≡ old.operations
+carried_store mode old new (store.CommitBegin rank dir f) printed h = store_count old new (store.CommitBegin rank dir f) printed h
+carried_store mode old new (store.CommitEnd number) printed h = store_count old new (store.CommitEnd number) printed h
+carried_store mode old new (store.CommitDrop number) printed h = store_count old new (store.CommitDrop number) printed h
+carried_store mode old new (store.Commit rank dir f) printed h = store_count old new (store.Commit rank dir f) printed h
+carried_store mode old new (store.CommitTree dir) printed h = store_count old new (store.CommitTree dir) printed h
+carried_store mode old new store.Purge printed h = store_count old new store.Purge printed h
+carried_store mode old new store.Flush printed h =
+    either_way mode.keeps (SavesLine old new printed) (Executes old new (command.Store store.Flush) printed) (λ w. w.count) (store_count old new store.Flush printed) h
+carried_store mode old new (store.Evict rank) printed h = store_count old new (store.Evict rank) printed h
+carried_store mode old new (store.Object name) printed h = store_count old new (store.Object name) printed h
+carried_store mode old new store.Objects printed h = store_count old new store.Objects printed h
+
 carried : (mode : Mode) (old new : Admin) (c : Command) (printed : OutputLine) → DoesUnder mode old new c printed → new.operations ≡ counted_with old.operations (line.Command c)
 carried mode old new (command.Operation op) printed h =
     either_way mode.asks (AsksOperation old new op printed) (Executes old new (command.Operation op) printed) (λ w. w.0) (command_count old new (command.Operation op) printed) h
 carried mode old new (command.Request rank request) printed h =
     either_way mode.asks (AsksRequest old new rank request printed) (Executes old new (command.Request rank request) printed) (λ w. w.0) (command_count old new (command.Request rank request) printed) h
-carried mode old new (command.Store c) printed h = command_count old new (command.Store c) printed h
+carried mode old new (command.Store c) printed h = carried_store mode old new c printed h
 carried mode old new (command.Serve rank) printed h = command_count old new (command.Serve rank) printed h
 carried mode old new (command.Own rank) printed h = command_count old new (command.Own rank) printed h
 carried mode old new command.History printed h = command_count old new command.History printed h

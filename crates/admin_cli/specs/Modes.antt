@@ -1,6 +1,7 @@
 -- What a command of a script does where an option says more than the script: a request is brought to its answer by its
--- own line.
-use Rattle.std.specs.Prelude.{◌≡◌, ◌⊎◌, ◌+◌, ◌<◌, ◌∷◌, [], ℕ, false, length, MatchBool, Result, Ok, Err}
+-- own line, and a flush is kept in a file.
+use Rattle.std.specs.Prelude.{◌≡◌, ◌⊎◌, ◌+◌, ◌<◌, ◌∷◌, [], ℕ, cond, false, length, MatchBool, Result, Ok, Err}
+use Rattle.std.specs.FinMap as map
 use Rattle.mds_types.specs.declared.ids.Rank.{Rank}
 use Rattle.mds_types.specs.declared.operations.Op.{Op}
 use Rattle.mds_types.specs.declared.refusals.Refusal.{Refusal}
@@ -14,17 +15,21 @@ use Rattle.cluster_core.specs.declared.receipts.Receipt.{Receipt}
 use Rattle.asking.specs.Ask.{NoneWaits}
 use Rattle.asking.specs.Once.{AsksOnce}
 use Rattle.asking.specs.Reached.{receipt_in}
+use Rattle.keeping.specs.declared.unkept.Unkept.{Unkept}
 use Rattle.script_text.specs.declared.commands.Command.{Command}
 use Rattle.script_text.specs.declared.commands.Command.TheVariants.{Operation, Own, Request, Serve, History, Split, Merge, Leaves, Grant, Subtrees, Authority, Export, Store}
+use Rattle.script_text.specs.declared.store_commands.StoreCommand.{StoreCommand}
+use Rattle.script_text.specs.declared.store_commands.StoreCommand.TheVariants as store
 use Rattle.script_output.specs.declared.lines.OutputLine.{OutputLine}
-use Rattle.script_output.specs.declared.lines.OutputLine.TheVariants.{Refused, Reply}
+use Rattle.script_output.specs.declared.lines.OutputLine.TheVariants.{Flushed, Refused, Reply, Unsaved}
 use Rattle.admin_cli.specs.declared.commands.Admin.{Admin}
 use Rattle.admin_cli.specs.declared.modes.Mode.{Mode}
 use Rattle.admin_cli.specs.Execute.{Executes}
+use Rattle.admin_cli.specs.StoreLines.{IsFlush, is_hindered}
 
 -- a script is run as it is written
 abbrev pub plain : Mode
-plain = record { asks = false }
+plain = record { asks = false; keeps = false }
 
 -- ---- a request that is brought to its answer
 
@@ -56,6 +61,22 @@ pub record AsksLine (old new : BookState) (rank : Rank) (request : Asked) (line 
   pub asked : AsksNow old new rank request result
   pub shown : line ≡ asked_line result
 
+-- ---- a flush that is kept
+
+-- the line of a flush, where the file may refuse what it wrote
+abbrev pub SaysSaved : Result (Unit {0}) Refusal → OutputLine → Type 0
+SaysSaved (Ok done) line = (line ≡ Flushed) ⊎ ((why : Unkept) × (line ≡ Unsaved why))
+SaysSaved (Err refusal) line = line ≡ Refused refusal
+
+-- the book is flushed, and the file was told to keep what it wrote; no job is kept any more, unless an export stands
+pub record SavesLine (old new : Admin) (line : OutputLine) : Type 0 where
+  pub count : new.operations ≡ old.operations
+  pub result : Result (Unit {0}) Refusal
+  pub jobs : new.jobs ≡ cond (is_hindered result) old.jobs map.empty
+  pub sent : new.sent ≡ old.sent
+  pub flushed : IsFlush old.book new.book result
+  pub shown : SaysSaved result line
+
 -- ---- a command
 
 -- an operation alone is client 0's at rank 0
@@ -70,13 +91,26 @@ AsksRequest old new rank request line =
     (new.operations ≡ old.operations) × (new.jobs ≡ old.jobs) × (new.sent ≡ old.sent)
     × AsksLine old.book new.book rank request line
 
--- what a command does under these options: what it does in any script, but for these two
+abbrev pub DoesStoreUnder : Mode → (old new : Admin) → StoreCommand → OutputLine → Type 0
+DoesStoreUnder mode old new (store.CommitBegin rank dir f) line = Executes old new (Store (store.CommitBegin rank dir f)) line
+DoesStoreUnder mode old new (store.CommitEnd number) line = Executes old new (Store (store.CommitEnd number)) line
+DoesStoreUnder mode old new (store.CommitDrop number) line = Executes old new (Store (store.CommitDrop number)) line
+DoesStoreUnder mode old new (store.Commit rank dir f) line = Executes old new (Store (store.Commit rank dir f)) line
+DoesStoreUnder mode old new (store.CommitTree dir) line = Executes old new (Store (store.CommitTree dir)) line
+DoesStoreUnder mode old new store.Purge line = Executes old new (Store store.Purge) line
+DoesStoreUnder mode old new store.Flush line =
+    MatchBool mode.keeps (SavesLine old new line) (Executes old new (Store store.Flush) line)
+DoesStoreUnder mode old new (store.Evict rank) line = Executes old new (Store (store.Evict rank)) line
+DoesStoreUnder mode old new (store.Object name) line = Executes old new (Store (store.Object name)) line
+DoesStoreUnder mode old new store.Objects line = Executes old new (Store store.Objects) line
+
+-- what a command does under these options: what it does in any script, but for these three
 abbrev pub DoesUnder : Mode → (old new : Admin) → Command → OutputLine → Type 0
 DoesUnder mode old new (Operation op) line =
     MatchBool mode.asks (AsksOperation old new op line) (Executes old new (Operation op) line)
 DoesUnder mode old new (Request rank request) line =
     MatchBool mode.asks (AsksRequest old new rank request line) (Executes old new (Request rank request) line)
-DoesUnder mode old new (Store command) line = Executes old new (Store command) line
+DoesUnder mode old new (Store command) line = DoesStoreUnder mode old new command line
 DoesUnder mode old new (Serve rank) line = Executes old new (Serve rank) line
 DoesUnder mode old new (Own rank) line = Executes old new (Own rank) line
 DoesUnder mode old new History line = Executes old new History line

@@ -6,12 +6,13 @@ ghost use Rattle.admin_cli.specs.StepLines.{DoesEvent};
 
 use crate::commands::Admin;
 use cluster_core::Event;
+use keeping::Keep;
 use mds_types::{Frag, Ino, Rank};
 use script_output::{OutputLine, Root, RootList};
 use std::alloc::{AllocError, Global};
 use subtree_map::Subtrees;
 
-impl Admin {
+impl<S: Keep + Drop> Admin<S> {
     // A rank lets a waiting request change fragments that are the rank's.
     #[inline(never)]
     pub(crate) fn grant(&mut self, alloc: Global, rank: Rank, client: u64, tid: u64) -> OutputLine

@@ -1,19 +1,21 @@
-//! What the options of a script change: a request is brought to its answer by its own line.
+//! What the options of a script change: a request is brought to its answer by its own line, and a flush is kept in a
+//! file.
 ghost use Rattle.std.specs.Prelude.{◌≡◌, ◌+◌, ◌<◌, ◌≤◌, ◌^◌, IfOk, OnErr};
 ghost use Rattle.admin_cli.specs.Execute.{LacksForCommand};
-ghost use Rattle.admin_cli.specs.Modes.{AsksOperation, AsksRequest, DoesUnder, AsksNow, asked_line as line_of};
+ghost use Rattle.admin_cli.specs.Modes.{AsksOperation, AsksRequest, DoesUnder, DoesStoreUnder, AsksNow, asked_line as line_of};
 
 use crate::commands::Admin;
 use crate::modes::Mode;
 use asking::ask_once;
 use cluster_core::Receipt;
+use keeping::Keep;
 use mds_types::{Op, Rank, Refusal, Request};
 use script_output::OutputLine;
-use script_text::Command;
+use script_text::{Command, StoreCommand};
 use std::alloc::{AllocError, Global};
 use std::thread::Threads;
 
-impl Admin {
+impl<S: Keep + Drop> Admin<S> {
     /// Does what a command asks for under the options of the script, and answers the line to print; else as `execute`.
     #[inline(never)]
     pub fn carry(
@@ -40,7 +42,31 @@ impl Admin {
                 }
                 self.execute(rt, Command::Request(rank, request))
             }
+            Command::Store(command) => self.carry_store(rt, mode, command),
             other => self.execute(rt, other),
+        }
+    }
+
+    // A command on the store.
+    fn carry_store(
+        &mut self,
+        rt: &(impl AllocGlobal + Threads + Sync),
+        mode: Mode,
+        command: StoreCommand,
+    ) -> Result<OutputLine, AllocError>
+        requires { self.old.operations + 1 < 2 ^ 64 }
+        ensures line { IfOk result (DoesStoreUnder mode self.old self.new command) }
+        ensures err { OnErr result (LacksForCommand self.old self.new (Command.Store command)) }
+        ensures count { self.new.operations ≤ self.old.operations + 1 }
+    {
+        match command {
+            StoreCommand::Flush => {
+                if mode.keeps {
+                    return Ok(self.save(rt, rt.alloc()));
+                }
+                self.execute(rt, Command::Store(StoreCommand::Flush))
+            }
+            other => self.execute(rt, Command::Store(other)),
         }
     }
 

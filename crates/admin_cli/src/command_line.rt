@@ -10,7 +10,7 @@ use std::alloc::{AllocError, Global};
 
 /// What the command line asks for.
 #[derive(Clone, Copy, Debug, PartialEq, Eq)]
-pub enum Options {
+pub enum Options<'a> {
     /// A script over a cluster of so many ranks, each of which may cache so many fragments, where a directory may have
     /// so many entries.
     Script {
@@ -19,6 +19,8 @@ pub enum Options {
         limit: Limit,
         /// Whether a request is brought to its answer by its own line.
         asks: bool,
+        /// The file that has the tree, and takes it at each flush.
+        store: Option<&'a str>,
     },
     /// Clients that create files, served by rank threads.
     Serve(Load),
@@ -26,7 +28,7 @@ pub enum Options {
 
 /// Reads the words of a command line, the program's own name first. An error is a text for the user with the status to
 /// exit with: 0 where help was asked for, and otherwise 2.
-pub fn settings(alloc: Global, words: &[String]) -> Result<Options, Error>
+pub fn settings<'a>(alloc: Global, words: &'a [String]) -> Result<Options<'a>, Error>
     ensures { IfOk result AreInRange }
 {
     let mut program = program(alloc)?;
@@ -37,7 +39,10 @@ pub fn settings(alloc: Global, words: &[String]) -> Result<Options, Error>
 }
 
 // What the words ask the program for; nothing where a number is out of its range, which clap has looked at.
-fn read_words<'a>(program: &mut Command<'a>, words: &'a [String]) -> Result<Option<Options>, Error>
+fn read_words<'a>(
+    program: &mut Command<'a>,
+    words: &'a [String],
+) -> Result<Option<Options<'a>>, Error>
     ensures { IfOk result (λ asked. IfSome asked AreInRange) }
 {
     let matches = program.try_get_matches_from_mut(words)?;
@@ -48,7 +53,7 @@ fn read_words<'a>(program: &mut Command<'a>, words: &'a [String]) -> Result<Opti
 }
 
 // The options of the subcommand `script`, where its numbers are in their ranges.
-fn of_script(script: &ArgMatches) -> Option<Options>
+fn of_script<'a>(script: &ArgMatches<'a>) -> Option<Options<'a>>
     ensures { IfSome result AreInRange }
 {
     let ranks = script.get_one::<u8>("ranks")?;
@@ -60,13 +65,14 @@ fn of_script(script: &ArgMatches) -> Option<Options>
             cache,
             limit,
             asks: script.get_flag("ask"),
+            store: script.get_str("store"),
         });
     }
     None
 }
 
 // Those of the subcommand `serve`, where it was given with numbers in their ranges.
-fn of_serve(matches: &ArgMatches) -> Option<Options>
+fn of_serve<'a>(matches: &ArgMatches<'a>) -> Option<Options<'a>>
     ensures { IfSome result AreInRange }
 {
     let serve = matches.subcommand_matches("serve")?;
@@ -138,7 +144,8 @@ fn script<'a>(alloc: Global) -> Result<Command<'a>, AllocError> {
         .arg(ranks(alloc))?
         .arg(cache(alloc))?
         .arg(limit(alloc))?
-        .arg(ask(alloc))
+        .arg(ask(alloc))?
+        .arg(file(alloc))
 }
 
 // What follows the options of `serve`.
@@ -193,6 +200,15 @@ fn ask<'a>(alloc: Global) -> Arg<'a> {
         .long("ask")
         .action(ArgAction::SetTrue)
         .help("Bring each request to its answer by its own line")
+}
+
+fn file<'a>(alloc: Global) -> Arg<'a> {
+    Arg::new(alloc, "store")
+        .long("store")
+        .value_name("FILE")
+        .help(
+            "Keep the tree in FILE, which each flush writes, and make FILE where it does not exist",
+        )
 }
 
 fn workers<'a>(alloc: Global) -> Arg<'a> {

@@ -7,8 +7,8 @@ ghost use Rattle.admin_cli.specs.StepLines.{shown_line as line_of};
 
 use crate::kept_jobs::KeptJobs;
 use cluster_core::{Answer, Book, Event, KeptBytes};
+use keeping::Keep;
 use mds_types::{Frag, Ino, Op, Rank, Refusal, Request};
-use objstore::MemStore;
 use script_output::{FragList, OutputLine};
 use script_text::Command;
 use std::alloc::{AllocError, Global};
@@ -17,20 +17,20 @@ use std::thread::Threads;
 /// A book, how many lines with an operation alone were read for it, the jobs that were begun, and the bytes that
 /// exports sent.
 #[derive(Drop)]
-pub struct Admin {
-    pub(crate) book: Book<MemStore>,
+pub struct Admin<S: Keep + Drop> {
+    pub(crate) book: Book<S>,
     pub(crate) operations: u64,
     pub(crate) jobs: KeptJobs,
     pub(crate) sent: KeptBytes,
 }
 
-impl Admin {
+impl<S: Keep + Drop> Admin<S> {
     ghost use Rattle.cluster_core.specs.declared.events.Event.TheVariants.{Arrive, Merge, Serve, Split};
     ghost use Rattle.admin_cli.specs.Execute.{Executes, LacksForCommand, ListsLine, OperatesLine};
     ghost use Rattle.admin_cli.specs.StepLines.{DoesEvent, IsStep, StepsLine, arrived_line};
 
     /// An administrator of this book, who has read no line yet.
-    pub fn new(alloc: Global, book: Book<MemStore>) -> Admin
+    pub fn new(alloc: Global, book: Book<S>) -> Admin<S>
         ensures { result ≡ record { book = book; operations = 0; jobs = map.empty; sent = none_sent } }
     {
         Admin {
@@ -42,7 +42,7 @@ impl Admin {
     }
 
     /// The book.
-    pub fn into_book(self) -> Book<MemStore>
+    pub fn into_book(self) -> Book<S>
         ensures { result ≡ self.book }
     {
         let Admin {

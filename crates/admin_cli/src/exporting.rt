@@ -4,12 +4,13 @@ ghost use Rattle.admin_cli.specs.ExportLines.{CopiesNoBytes, ExecutesExport, Imp
 
 use crate::commands::{Admin, shown_line};
 use cluster_core::{Answer, Event};
+use keeping::Keep;
 use mds_types::{Frag, Ino, Refusal};
 use script_output::OutputLine;
 use script_text::ExportCommand;
 use std::alloc::{AllocError, Global};
 
-impl Admin {
+impl<S: Keep + Drop> Admin<S> {
     // Does what a command on an export asks for.
     #[inline(never)]
     pub(crate) fn execute_export(

@@ -5,11 +5,12 @@ ghost use Rattle.admin_cli.specs.OwnLines.{LacksForStep, LacksForTurn, MakesOne,
 
 use crate::commands::Admin;
 use cluster_core::Event;
+use keeping::Keep;
 use mds_types::{Frag, Ino, Rank};
 use script_output::{OutputLine, OwnResult, OwnStep, OwnTurn};
 use std::alloc::{AllocError, Global};
 
-impl Admin {
+impl<S: Keep + Drop> Admin<S> {
     /// A rank proposes a step of its own, and makes it, if there is one. What a Send hands over is kept, and its Import
     /// takes a copy of it, as by the commands of exports. An error says that there was no memory for that, and no step
     /// was made.

@@ -17,6 +17,7 @@ use crate::faults::{FaultKind, ScriptFault};
 use crate::modes::Mode;
 use crate::waiting::Waiting;
 use cluster_core::{Book, format};
+use keeping::Keep;
 use mds_types::{Limit, Op};
 use objstore::MemStore;
 use script_output::{OutputFault, OutputLine, write_line};
@@ -90,20 +91,21 @@ pub fn run_new<H: AllocGlobal + Threads + Sync, R: Read + Drop, W: Write>(
 
 /// A script that has ended, and the book that it left.
 #[derive(Drop)]
-pub struct Ran {
-    pub book: Book<MemStore>,
+pub struct Ran<S: Keep + Drop> {
+    pub book: Book<S>,
     pub ended: Result<(), ScriptFault>,
 }
 
-/// Runs a script over a book, as `run_new` does over a new one. The lines that begin with `reply ` are the replies of
-/// one thread, to the requests that waited in the book and those that the lines make.
-pub fn run_over<H: AllocGlobal + Threads + Sync, R: Read + Drop, W: Write>(
+/// Runs a script over a book, as `run_script` does over a new one, under these options: whether a request is brought to
+/// its answer by its own line, and whether a flush is kept in the store's file. The lines that begin with `reply ` are the
+/// replies of one thread, to the requests that waited in the book and those that the lines make.
+pub fn run_over<H: AllocGlobal + Threads + Sync, R: Read + Drop, W: Write, S: Keep + Drop>(
     rt: &H,
     reader: R,
     writer: &mut W,
-    book: Book<MemStore>,
+    book: Book<S>,
     mode: Mode,
-) -> Ran
+) -> Ran<S>
     ensures one_thread { PrintsOneThread book.core.state.tree.limit book.opening book.history
         (waiting_in book.core.state.inboxes) (R.remaining reader) (W.contents writer.old) (W.contents writer.new)
         result.ended }
@@ -120,7 +122,10 @@ pub fn run_over<H: AllocGlobal + Threads + Sync, R: Read + Drop, W: Write>(
 }
 
 // A script that is run as it is written.
-const PLAIN: Mode = Mode { asks: false };
+const PLAIN: Mode = Mode {
+    asks: false,
+    keeps: false,
+};
 
 // A book over a new store; nothing where memory for it is refused.
 fn new_book(alloc: Global, ranks: u8, cache: u32, limit: Limit) -> Option<Book<MemStore>>
@@ -137,11 +142,11 @@ fn new_book(alloc: Global, ranks: u8, cache: u32, limit: Limit) -> Option<Book<M
 }
 
 // Takes the memory that reading needs, and runs the lines of a reader.
-fn run_input<R: Read + Drop, W: Write>(
+fn run_input<R: Read + Drop, W: Write, S: Keep + Drop>(
     rt: &(impl AllocGlobal + Threads + Sync),
     reader: R,
     writer: &mut W,
-    admin: &mut Admin,
+    admin: &mut Admin<S>,
     mode: Mode,
 ) -> Result<(), ScriptFault>
     requires { admin.old.operations ≡ 0 }
@@ -191,13 +196,13 @@ impl<R: Read> ReadAhead for BufReader<R> {
 
 // Runs the lines of a reader, one after the other. What they print waits to be written together, but not while the
 // reader waits for more. More lines than 64 bits count are a read fault.
-fn run_lines<R: ReadAhead, W: Write>(
+fn run_lines<R: ReadAhead, W: Write, S: Keep + Drop>(
     rt: &(impl AllocGlobal + Threads + Sync),
     reader: &mut R,
     buffer: &mut LineBuffer,
     waiting: &mut Waiting,
     writer: &mut W,
-    admin: &mut Admin,
+    admin: &mut Admin<S>,
     mode: Mode,
 ) -> Result<(), ScriptFault>
     requires first { admin.old.operations ≡ 0 }
@@ -233,11 +238,11 @@ fn run_lines<R: ReadAhead, W: Write>(
 }
 
 // Runs the line of this number, and puts what it prints behind what waits.
-fn run_line<W: Write>(
+fn run_line<W: Write, S: Keep + Drop>(
     rt: &(impl AllocGlobal + Threads + Sync),
     line: u64,
     bytes: &[u8],
-    admin: &mut Admin,
+    admin: &mut Admin<S>,
     mode: Mode,
     waiting: &mut Waiting,
     writer: &mut W,
@@ -262,11 +267,11 @@ fn run_line<W: Write>(
 
 // Makes an operation alone, as most lines ask for, and puts what it prints behind what waits.
 #[inline(always)]
-fn do_operation<W: Write>(
+fn do_operation<W: Write, S: Keep + Drop>(
     alloc: Global,
     line: u64,
     op: Op,
-    admin: &mut Admin,
+    admin: &mut Admin<S>,
     mode: Mode,
     waiting: &mut Waiting,
     writer: &mut W,
@@ -290,11 +295,11 @@ fn do_operation<W: Write>(
 
 // Brings an operation alone to its answer, and puts what it prints behind what waits.
 #[inline(never)]
-fn ask_operation<W: Write>(
+fn ask_operation<W: Write, S: Keep + Drop>(
     alloc: Global,
     line: u64,
     op: Op,
-    admin: &mut Admin,
+    admin: &mut Admin<S>,
     mode: Mode,
     waiting: &mut Waiting,
     writer: &mut W,
@@ -313,11 +318,11 @@ fn ask_operation<W: Write>(
 
 // Runs a line that asks for no operation alone.
 #[inline(never)]
-fn run_other<W: Write>(
+fn run_other<W: Write, S: Keep + Drop>(
     rt: &(impl AllocGlobal + Threads + Sync),
     line: u64,
     bytes: &[u8],
-    admin: &mut Admin,
+    admin: &mut Admin<S>,
     mode: Mode,
     waiting: &mut Waiting,
     writer: &mut W,
@@ -335,11 +340,11 @@ fn run_other<W: Write>(
 }
 
 // Does what a line asks for, and puts what it prints behind what waits.
-fn do_line<W: Write>(
+fn do_line<W: Write, S: Keep + Drop>(
     rt: &(impl AllocGlobal + Threads + Sync),
     line: u64,
     found: Line,
-    admin: &mut Admin,
+    admin: &mut Admin<S>,
     mode: Mode,
     waiting: &mut Waiting,
     writer: &mut W,

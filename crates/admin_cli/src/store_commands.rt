@@ -8,6 +8,7 @@ use crate::commands::{Admin, shown_line};
 use crate::kept_jobs::KeptJobs;
 use cached_frag::Encoded;
 use cluster_core::{Answer, Event, flush};
+use keeping::Keep;
 use mds_types::{Frag, Ino, Rank, Refusal};
 use object_lines::{object_line, objects_line};
 use script_output::OutputLine;
@@ -15,7 +16,7 @@ use script_text::StoreCommand;
 use std::alloc::{AllocError, Global};
 use std::thread::Threads;
 
-impl Admin {
+impl<S: Keep + Drop> Admin<S> {
     // Does what a command on the store asks for. Each part is a function of its own: a line that asks for none of it
     // pays for none.
     #[inline(never)]
@@ -155,6 +156,20 @@ impl Admin {
         }
     }
 
+    /// `flush`, where the store has a file that may refuse what was written: then it is kept by a later one.
+    #[inline(never)]
+    pub(crate) fn save(&mut self, rt: &(impl Threads + Sync), alloc: Global) -> OutputLine
+        ensures { SavesLine self.old self.new result }
+    {
+        if let Err(refusal) = self.flush_book(rt, alloc) {
+            return OutputLine::Refused(refusal);
+        }
+        match self.book.keep() {
+            Ok(()) => OutputLine::Flushed,
+            Err(why) => OutputLine::Unsaved(why),
+        }
+    }
+
     // The book is flushed, and no job is kept any more, unless an export stands.
     #[inline(never)]
     pub(crate) fn flush_book(
@@ -181,7 +196,7 @@ impl Admin {
     fn object(&self, alloc: Global, name: &str) -> OutputLine
         ensures { LooksLine self.now.book.core.state.tree.objects name.now result }
     {
-        match object_line(alloc, self.book.cluster().store().get(name)) {
+        match object_line(alloc, self.book.cluster().store().memory().get(name)) {
             Ok(line) => OutputLine::Object(line),
             Err(refusal) => OutputLine::Refused(refusal),
         }
@@ -192,7 +207,7 @@ impl Admin {
     fn objects(&self, alloc: Global) -> OutputLine
         ensures { ListsObjects self.now.book.core.state.tree.objects result }
     {
-        match objects_line(alloc, self.book.cluster().store()) {
+        match objects_line(alloc, self.book.cluster().store().memory()) {
             Ok(line) => line,
             Err(refusal) => OutputLine::Refused(refusal),
         }
