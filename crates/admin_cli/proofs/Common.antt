@@ -8,7 +8,7 @@ pub use Rattle.admin_cli.specs.Scripts.{BreaksOff, EndsScript, IsFormatted, Runs
 pub use Rattle.admin_cli.specs.StepLines.{StepsLine, shown_line}
 pub use Rattle.admin_cli.specs.StoreLines.{BeginsJob, CommitsLine, CopiesNone, EndsLine, LacksForCommit}
 pub use Rattle.admin_cli.specs.Waiting.{Breaks, IsEmpty, MayFlush, PrintsAny, PrintsCame, PrintsOf, PrintsOwn, RunsWaiting, line_at}
-pub use Rattle.admin_cli.specs.declared.commands.Admin.{Admin}
+pub use Rattle.admin_cli.specs.Admin.{Admin}
 pub use Rattle.admin_cli.specs.declared.faults.FaultKind.{FaultKind}
 pub use Rattle.admin_cli.specs.declared.faults.FaultKind.TheVariants.{NotCommand, OutOfMemory, ReadFault, TooLong, WriteFault}
 pub use Rattle.admin_cli.specs.declared.faults.ScriptFault.{ScriptFault}

@@ -12,7 +12,7 @@ use Rattle.script_text.specs.declared.commands.Command.{Command}
 use Rattle.script_text.specs.declared.commands.Command.TheVariants.{Operation, Own, Request, Serve, History, Split, Merge, Leaves, Grant, Subtrees, Authority, Export, Store}
 use Rattle.script_output.specs.declared.lines.OutputLine.{OutputLine}
 use Rattle.script_output.specs.declared.lines.OutputLine.TheVariants.{Frags, History as HistoryLine, Refused}
-use Rattle.admin_cli.specs.declared.commands.Admin.{Admin}
+use Rattle.admin_cli.specs.Admin.{Admin}
 use Rattle.admin_cli.specs.StepLines.{DoesEvent, IsStep, StepsLine, arrived_line, shown_line}
 use Rattle.admin_cli.specs.Authorities.{ListsSubtrees, TellsLine}
 use Rattle.admin_cli.specs.ExportLines.{ExecutesExport, LacksForExport}

@@ -12,7 +12,7 @@ use Rattle.cluster_core.specs.declared.events.Event.TheVariants.{Start as StartE
 use Rattle.script_text.specs.declared.exports.ExportCommand.{ExportCommand}
 use Rattle.script_text.specs.declared.exports.ExportCommand.TheVariants.{Dir, Freeze, Prep, Send, Import, Finish, Cancel}
 use Rattle.script_output.specs.declared.lines.OutputLine.{OutputLine}
-use Rattle.admin_cli.specs.declared.commands.Admin.{Admin}
+use Rattle.admin_cli.specs.Admin.{Admin}
 use Rattle.admin_cli.specs.StepLines.{DoesEvent, IsStep, shown_line}
 
 -- what was sent is kept under its root, in place of what was kept there

@@ -1,3 +1,4 @@
+pub mod Admin
 pub mod Authorities
 pub mod Execute
 pub mod ExportLines

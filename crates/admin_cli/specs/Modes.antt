@@ -22,7 +22,7 @@ use Rattle.script_text.specs.declared.store_commands.StoreCommand.{StoreCommand}
 use Rattle.script_text.specs.declared.store_commands.StoreCommand.TheVariants as store
 use Rattle.script_output.specs.declared.lines.OutputLine.{OutputLine}
 use Rattle.script_output.specs.declared.lines.OutputLine.TheVariants.{Flushed, Refused, Reply, Unsaved}
-use Rattle.admin_cli.specs.declared.commands.Admin.{Admin}
+use Rattle.admin_cli.specs.Admin.{Admin}
 use Rattle.admin_cli.specs.declared.modes.Mode.{Mode}
 use Rattle.admin_cli.specs.Execute.{Executes}
 use Rattle.admin_cli.specs.StoreLines.{IsFlush, is_hindered}

@@ -13,7 +13,7 @@ use Rattle.script_output.specs.declared.own_turns.OwnResult.{OwnResult}
 use Rattle.script_output.specs.declared.own_turns.OwnResult.TheVariants as came
 use Rattle.script_output.specs.declared.own_turns.OwnStep.{OwnStep}
 use Rattle.script_output.specs.declared.own_turns.OwnStep.TheVariants as own
-use Rattle.admin_cli.specs.declared.commands.Admin.{Admin}
+use Rattle.admin_cli.specs.Admin.{Admin}
 use Rattle.admin_cli.specs.ExportLines.{CopiesNoBytes, ImportsLine, MakesNoRoom, SendsLine}
 use Rattle.admin_cli.specs.StepLines.{DoesEvent}
 

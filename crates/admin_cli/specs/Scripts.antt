@@ -14,7 +14,7 @@ use Rattle.script_text.specs.Script.{line_of, TakesMemory}
 use Rattle.script_output.specs.Lines.{output_line}
 use Rattle.script_output.specs.Writing.{TakesText}
 use Rattle.cluster_core.specs.SentBytes.{none_sent}
-use Rattle.admin_cli.specs.declared.commands.Admin.{Admin}
+use Rattle.admin_cli.specs.Admin.{Admin}
 use Rattle.admin_cli.specs.declared.faults.ScriptFault.{ScriptFault}
 use Rattle.admin_cli.specs.declared.faults.FaultKind.{FaultKind}
 use Rattle.admin_cli.specs.declared.faults.FaultKind.TheVariants.{NotCommand, TooLong, ReadFault, WriteFault, OutOfMemory}

@@ -9,7 +9,7 @@ use Rattle.cluster_core.specs.Runs.{StepsBook}
 use Rattle.cluster_core.specs.Sound.{IsSoundBook}
 use Rattle.script_output.specs.declared.lines.OutputLine.{OutputLine}
 use Rattle.script_output.specs.declared.lines.OutputLine.TheVariants.{Reply as ReplyLine, Forwarded as ForwardedLine, Deferred as DeferredLine, Queued, Nothing as NothingLine, Job as JobLine, Sent as SentLine, Refused}
-use Rattle.admin_cli.specs.declared.commands.Admin.{Admin}
+use Rattle.admin_cli.specs.Admin.{Admin}
 
 -- one event led from a book to the next with this result, by all that the contract of a book's step says; its store,
 -- which is in memory, tells no fault

@@ -24,7 +24,7 @@ use Rattle.script_output.specs.declared.lines.OutputLine.{OutputLine}
 use Rattle.script_output.specs.declared.lines.OutputLine.TheVariants.{Nothing as NothingLine, Flushed, Job as JobLine, Object as ObjectLine, Objects as ObjectsLine, Refused}
 use Rattle.script_output.specs.declared.object_lines.ObjectLine.{ObjectLine as Shown}
 use Rattle.object_lines.specs.ObjectLines.{IsLineOf, MayTakeMemory}
-use Rattle.admin_cli.specs.declared.commands.Admin.{Admin}
+use Rattle.admin_cli.specs.Admin.{Admin}
 use Rattle.admin_cli.specs.Jobs.{JobsByNumber}
 use Rattle.admin_cli.specs.StepLines.{DoesEvent, IsStep, shown_line}
 

@@ -12,6 +12,7 @@ use mds_types::{Frag, Ino, Op, Rank, Refusal, Request};
 use script_output::{FragList, OutputLine};
 use script_text::Command;
 use std::alloc::{AllocError, Global};
+use std::marker::Model;
 use std::thread::Threads;
 
 /// A book, how many lines with an operation alone were read for it, the jobs that were begun, and the bytes that
@@ -22,6 +23,18 @@ pub struct Admin<S: Keep + Drop> {
     pub(crate) operations: u64,
     pub(crate) jobs: KeptJobs,
     pub(crate) sent: KeptBytes,
+}
+
+impl<S: Keep + Drop> Model for Admin<S> {
+    ghost use Rattle.std.specs.Coded.{codes};
+    ghost use Rattle.std.specs.FinMap as map;
+    ghost use Rattle.admin_cli.specs.Admin as specs;
+
+    ghost Value = { specs.Admin };
+
+    ghost coded = { Prim.hlevel (codes, map.code) };
+
+    ghost view = { λ a. record { book = a.book; operations = a.operations; jobs = a.jobs; sent = a.sent } };
 }
 
 impl<S: Keep + Drop> Admin<S> {

@@ -4,19 +4,15 @@
 ghost use Rattle.std.specs.Prelude.{◌≤◌};
 ghost use Rattle.admin_cli.specs.Settings.{AreInRange};
 
-use admin_cli::{
-    Limit, Mode, Options, Ran, ServeFault, run_new, run_over, run_script, serve, settings,
-};
-use cluster_core::mount;
-use kept_book::save;
-use kept_store::Kept;
-use std::fmt::Display;
+mod stored;
+
+use crate::stored::{Shape, run_stored};
+use admin_cli::{Limit, Mode, Options, ServeFault, run_new, run_script, serve, settings};
 use std::io::{IsTerminal, Read};
 use std::process::ExitCode;
 use std::sync::Wait;
 use std::thread::Threads;
 use std::{env, io};
-use store_file::{Wary, open, remove_log};
 
 /// The status of a command line that can't be read, for want of memory too.
 const BAD_COMMAND_LINE: u8 = 2;
@@ -43,17 +39,13 @@ fn main(rt: HostRuntime) -> io::Result<ExitCode> {
             },
         ) => {
             let mode = Mode { asks, keeps: true };
-            stored(
-                &rt,
-                &rt,
-                path,
-                Shape {
-                    ranks,
-                    cache,
-                    limit,
-                },
-                mode,
-            )
+            let shape = Shape {
+                ranks,
+                cache,
+                limit,
+            };
+            let is_well = run_stored(&rt, &rt, path, shape, mode)?;
+            Ok(ExitCode::from(if is_well { 0 } else { FAULT }))
         }
         Ok(options) => run(&rt, rt.reader(), rt.stderr().is_terminal(), &options),
         Err(error) => {
@@ -92,75 +84,6 @@ fn run<H: AllocGlobal + Threads + Wait + Sync + Print + Eprint, I: Read + Drop>(
             served(rt, ended)
         }
     }
-}
-
-// Ranks, cached fragments of each, and entries that a directory may have.
-#[derive(Clone, Copy, Debug)]
-struct Shape {
-    ranks: u8,
-    cache: u32,
-    limit: Limit,
-}
-
-// Runs a script over the tree that a file has, and saves what was not flushed. `host` opens the file, `rt` runs threads.
-fn stored<H: AllocGlobal + Threads + Sync>(
-    host: &HostRuntime,
-    rt: &H,
-    path: &str,
-    shape: Shape,
-    mode: Mode,
-) -> io::Result<ExitCode>
-    requires one { 1 ≤ shape.ranks }
-    requires few { shape.ranks ≤ 16 }
-    requires least { 512 ≤ shape.cache }
-    requires most { shape.cache ≤ 65536 }
-{
-    let tables = match open(host, path, Wary) {
-        Ok(tables) => tables,
-        Err(fault) => return told(host, path, &fault),
-    };
-    let kept = match Kept::open(rt.alloc(), tables) {
-        Ok(kept) => kept,
-        Err((fault, tables)) => {
-            drop(tables);
-            return told(host, path, &fault);
-        }
-    };
-    let book = match mount(rt.alloc(), kept, shape.ranks, shape.cache, shape.limit) {
-        Ok(book) => book,
-        Err((refusal, kept)) => {
-            drop(kept);
-            return told(host, path, &refusal);
-        }
-    };
-    let Ran { mut book, ended } = run_over(rt, host.reader(), &mut io::writer(host), book, mode);
-    let saved = save(rt, rt.alloc(), &mut book).map(|_| ());
-    let settled = book.settle();
-    if settled.is_ok() {
-        let _ = remove_log(host, path);
-    }
-    drop(book);
-    if let Err(fault) = ended {
-        eprintln!(host; "{fault}")?;
-    }
-    if let Err(why) = saved {
-        eprintln!(host; "cephmeta: {path}: not all is saved: {why}")?;
-        return Ok(ExitCode::from(FAULT));
-    }
-    if let Err(why) = settled {
-        return told(host, path, &why);
-    }
-    Ok(if ended.is_err() {
-        ExitCode::from(FAULT)
-    } else {
-        ExitCode::SUCCESS
-    })
-}
-
-// What is wrong with the file is told on standard error.
-fn told(host: &impl Eprint, path: &str, fault: &impl Display) -> io::Result<ExitCode> {
-    eprintln!(host; "cephmeta: {path}: {fault}")?;
-    Ok(ExitCode::from(FAULT))
 }
 
 // The command line needs memory too.

@@ -18,6 +18,7 @@ pub mod OneThread
 pub mod Pins
 pub mod Prepared
 pub mod Proposal
+pub mod Restart
 pub mod Runs
 pub mod SentBytes
 pub mod Serve

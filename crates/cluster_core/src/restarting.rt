@@ -1,6 +1,7 @@
 //! A book that is closed, and opened again from its store alone.
-ghost use Rattle.std.specs.Prelude.{◌≡◌, ◌≤◌, [], IfOk};
+ghost use Rattle.std.specs.Prelude.{◌≡◌, ◌≤◌, [], IfErr, IfOk};
 ghost use Rattle.mds_types.specs.History.{after};
+ghost use Rattle.cluster_core.specs.Restart.{Leaves};
 ghost use Rattle.cluster_core.specs.Sound.{IsSoundBook};
 ghost use Rattle.cluster_core.specs.State.{shown};
 
@@ -42,7 +43,8 @@ pub enum NotRestarted<S: Store + Drop> {
 
 /// Flushes a book, drops all of it but its store, and mounts that: the book that comes back, of so many ranks, opens
 /// with the tree after the history of the one that was closed, whatever ranks and caches that had. What clients were
-/// told is known no more: a request that was applied before is a new one.
+/// told is known no more: a request that was applied before is a new one. Where it isn't opened again nothing is lost:
+/// the book is handed back as a refused flush leaves it, or the store with the tree after the history.
 pub fn restart<S: Store + Drop>(
     rt: &(impl Threads + Sync),
     alloc: Global,
@@ -61,6 +63,7 @@ pub fn restart<S: Store + Drop>(
     ensures limit { IfOk result (λ next. next.core.state.tree.limit ≡ limit) }
     ensures shows { IfOk result (λ next. shown next.core.state ≡ next.opening) }
     ensures sound { IfOk result IsSoundBook }
+    ensures left { IfErr result (Leaves S.objects S.faults book) }
 {
     let mut closed = book;
     if let Err(refusal) = flush(rt, alloc, &mut closed) {

@@ -48,12 +48,48 @@ pub fn look<D: Disk>(
     if length < HEADER {
         return Err(shortened(&mut files.db, length));
     }
-    let has_sums = read_header(&mut files.db)?;
-    match probe_page_size(files) {
-        Ok(Some(size)) => Ok(Found::Database { size, has_sums }),
-        Ok(None) => Err(OpenFault::Damaged),
-        Err(error) => Err(of_read(error)),
+    let size = match probe_page_size(files) {
+        Ok(size) => size,
+        Err(error) => return Err(of_read(error)),
+    };
+    let has_sums = match first_page_in_log(alloc, &mut files.log, size)? {
+        Some(at) => read_header(&mut files.log, at)?,
+        None => read_header(&mut files.db, 0)?,
+    };
+    match size {
+        Some(size) => Ok(Found::Database { size, has_sums }),
+        None => Err(OpenFault::Damaged),
     }
+}
+
+// How many bytes of a log lie before its first frame, and of a frame before its page: the format of SQLite's log.
+const LOG_HEADER: usize = 32;
+const FRAME_HEADER: usize = 24;
+
+// Where the log has the first page that recovery will take, if it has one: a machine that stopped while the log was put
+// into the file may have torn the first page there.
+fn first_page_in_log<D: Disk>(
+    alloc: Global,
+    log: &mut D,
+    size: Option<PageSize>,
+) -> Result<Option<usize>, OpenFault>
+    requires { IsTrue (D.Disk.is_usable log.old) }
+    ensures { OnOk result (IsTrue (D.Disk.is_usable log.new)) }
+{
+    let Some(size) = size else {
+        return Ok(None);
+    };
+    let frames = match probe_frames(alloc, log, size) {
+        Ok(frames) => frames,
+        Err(error) => return Err(probed(error)),
+    };
+    let Some(index) = frames.iter().rposition(|page| *page == 1) else {
+        return Ok(None);
+    };
+    let Some(before) = index.checked_mul(FRAME_HEADER + size.bytes()) else {
+        return Ok(None);
+    };
+    Ok(before.checked_add(LOG_HEADER + FRAME_HEADER))
 }
 
 // Why a file that is too short for a database is refused: it begins as one, or not.
@@ -96,13 +132,13 @@ fn begun<D: Disk>(
     Ok(Found::Nothing)
 }
 
-// Whether the pages of a database end in sums, by its header. Its version is looked at first.
-fn read_header<D: Disk>(db: &mut D) -> Result<bool, OpenFault>
-    requires { IsTrue (D.Disk.is_usable db.old) }
-    ensures { OnOk result (IsTrue (D.Disk.is_usable db.new)) }
+// Whether the pages of a database end in sums, by its header, which a file has there. Its version is looked at first.
+fn read_header<D: Disk>(file: &mut D, at: usize) -> Result<bool, OpenFault>
+    requires { IsTrue (D.Disk.is_usable file.old) }
+    ensures { OnOk result (IsTrue (D.Disk.is_usable file.new)) }
 {
     let mut header = [0; HEADER];
-    if let Err(error) = db.read_at(0, &mut header) {
+    if let Err(error) = file.read_at(at, &mut header) {
         return Err(of_read(error));
     }
     if !header.starts_with(MAGIC) {
