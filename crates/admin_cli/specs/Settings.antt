@@ -8,4 +8,4 @@ use Rattle.admin_cli.specs.declared.command_line.Options.TheVariants.{Script, Se
 abbrev pub AreInRange : Options → Type 0
 AreInRange (Script ranks cache limit asks store) =
     (1 ≤ ranks) × (ranks ≤ 16) × (512 ≤ cache) × (cache ≤ 65536) × (1 ≤ limit) × (limit ≤ 1048576)
-AreInRange (Serve load) = IsLoad load.ranks load.workers load.clients load.creates
+AreInRange (Serve load store) = IsLoad load.ranks load.workers load.clients load.creates

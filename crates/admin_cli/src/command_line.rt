@@ -23,7 +23,11 @@ pub enum Options<'a> {
         store: Option<&'a str>,
     },
     /// Clients that create files, served by rank threads.
-    Serve(Load),
+    Serve {
+        load: Load,
+        /// The file that has the empty tree that the load begins with, and takes the one that it leaves.
+        store: Option<&'a str>,
+    },
 }
 
 /// Reads the words of a command line, the program's own name first. An error is a text for the user with the status to
@@ -83,7 +87,10 @@ fn of_serve<'a>(matches: &ArgMatches<'a>) -> Option<Options<'a>>
         creates: serve.get_one::<u16>("creates")?,
     };
     if load.is_in_range() {
-        return Some(Options::Serve(load));
+        return Some(Options::Serve {
+            load,
+            store: serve.get_str("store"),
+        });
     }
     None
 }
@@ -165,7 +172,8 @@ fn serve<'a>(alloc: Global) -> Result<Command<'a>, AllocError> {
         .arg(ranks(alloc))?
         .arg(workers(alloc))?
         .arg(clients(alloc))?
-        .arg(creates(alloc))
+        .arg(creates(alloc))?
+        .arg(file(alloc))
 }
 
 fn ranks<'a>(alloc: Global) -> Arg<'a> {
@@ -206,9 +214,7 @@ fn file<'a>(alloc: Global) -> Arg<'a> {
     Arg::new(alloc, "store")
         .long("store")
         .value_name("FILE")
-        .help(
-            "Keep the tree in FILE, which each flush writes, and make FILE where it does not exist",
-        )
+        .help("Keep the tree in FILE, which is created where it does not exist")
 }
 
 fn workers<'a>(alloc: Global) -> Arg<'a> {

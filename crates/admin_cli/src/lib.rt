@@ -22,5 +22,5 @@ pub use faults::{FaultKind, ScriptFault};
 pub use mds_types::Limit;
 pub use modes::Mode;
 pub use script::{Ran, run_new, run_over, run_script};
-pub use serving::serve;
-pub use workload::{Load, ServeFault, run_serve, run_watched};
+pub use serving::{serve, serve_over};
+pub use workload::{CACHE, Load, ServeFault, Served, run_over_book, run_serve, run_watched};

@@ -1,8 +1,15 @@
 //! What `cephmeta serve` runs.
+ghost use Rattle.std.specs.Prelude.{◌≡◌};
+ghost use Rattle.std.specs.FinMap as map;
 ghost use Rattle.admin_cli.specs.Loads.{IsLoad};
 ghost use Rattle.admin_cli.specs.Reports.{ServesOut};
 
-use crate::workload::{Load, Progress, ServeFault, run_serve, run_watched};
+use crate::workload::{
+    Load, Progress, ServeFault, Served, run_over_book, run_serve, run_watched,
+};
+use cluster_core::Book;
+use keeping::Keep;
+use rank_threads::OpenGate;
 use std::io::Write;
 use std::sync::Wait;
 use std::thread::Threads;
@@ -28,4 +35,26 @@ pub fn serve<W: Write, H: Threads + Wait + Sync + AllocGlobal + Eprint>(
         load.clients,
         load.creates,
     )
+}
+
+/// Serves a load so, over a book of as many ranks that opened with the empty tree, and hands the book back.
+pub fn serve_over<W, H, S>(
+    rt: &H,
+    writer: &mut W,
+    book: Book<S>,
+    load: Load,
+    is_watched: bool,
+) -> Served<S>
+where
+    W: Write,
+    H: Threads + Wait + Sync + AllocGlobal + Eprint,
+    S: Keep + Drop + Send,
+    requires load { IsLoad load.ranks load.workers load.clients load.creates }
+    requires opening { book.opening ≡ map.empty }
+    ensures { ServesOut (W.contents writer.old) (W.contents writer.new) result.ended }
+{
+    if is_watched {
+        return run_over_book(rt, writer, book, load, &Progress::new(rt, load));
+    }
+    run_over_book(rt, writer, book, load, &OpenGate)
 }

@@ -13,4 +13,4 @@ mod setup;
 
 pub use loads::Load;
 pub use progress::Progress;
-pub use serving::{ServeFault, run_serve, run_watched};
+pub use serving::{CACHE, ServeFault, Served, run_over_book, run_serve, run_watched};

@@ -6,7 +6,7 @@ ghost use Rattle.admin_cli.specs.Settings.{AreInRange};
 
 mod stored;
 
-use crate::stored::{Shape, run_stored};
+use crate::stored::{Shape, script_stored, serve_stored};
 use admin_cli::{Limit, Mode, Options, ServeFault, run_new, run_script, serve, settings};
 use std::io::{IsTerminal, Read};
 use std::process::ExitCode;
@@ -29,25 +29,7 @@ fn main(rt: HostRuntime) -> io::Result<ExitCode> {
         Err(_) => return no_memory_for_words(&rt),
     };
     match settings(rt.alloc(), words.as_slice()) {
-        Ok(
-            Options::Script {
-                ranks,
-                cache,
-                limit,
-                asks,
-                store: Some(path),
-            },
-        ) => {
-            let mode = Mode { asks, keeps: true };
-            let shape = Shape {
-                ranks,
-                cache,
-                limit,
-            };
-            let is_well = run_stored(&rt, &rt, path, shape, mode)?;
-            Ok(ExitCode::from(if is_well { 0 } else { FAULT }))
-        }
-        Ok(options) => run(&rt, rt.reader(), rt.stderr().is_terminal(), &options),
+        Ok(options) => run(&rt, &rt, &options),
         Err(error) => {
             if error.print(&rt).is_err() {
                 eprintln!(rt; "cephmeta: write fault")?;
@@ -62,11 +44,10 @@ fn main(rt: HostRuntime) -> io::Result<ExitCode> {
     }
 }
 
-// Does what the command line asks for. `is_watched` says that somebody sees what goes wrong, as it does.
-fn run<H: AllocGlobal + Threads + Wait + Sync + Print + Eprint, I: Read + Drop>(
+// Does what the command line asks for. `host` has the files and the streams, `rt` runs threads.
+fn run<H: AllocGlobal + Threads + Wait + Sync + Print + Eprint>(
+    host: &HostRuntime,
     rt: &H,
-    input: I,
-    is_watched: bool,
     options: &Options,
 ) -> io::Result<ExitCode>
     requires { AreInRange options.now }
@@ -77,13 +58,41 @@ fn run<H: AllocGlobal + Threads + Wait + Sync + Print + Eprint, I: Read + Drop>(
             cache,
             limit,
             asks,
-            store: _,
-        } => script(rt, input, *ranks, *cache, *limit, *asks),
-        Options::Serve(load) => {
+            store: None,
+        } => script(rt, host.reader(), *ranks, *cache, *limit, *asks),
+        Options::Script {
+            ranks,
+            cache,
+            limit,
+            asks,
+            store: Some(path),
+        } => {
+            let mode = Mode {
+                asks: *asks,
+                keeps: true,
+            };
+            let shape = Shape {
+                ranks: *ranks,
+                cache: *cache,
+                limit: *limit,
+            };
+            Ok(status(script_stored(host, rt, path, shape, mode)?))
+        }
+        Options::Serve { load, store: None } => {
+            let is_watched = host.stderr().is_terminal();
             let ended = serve(rt, &mut io::writer(rt), *load, is_watched);
             served(rt, ended)
         }
+        Options::Serve {
+            load,
+            store: Some(path),
+        } => Ok(status(serve_stored(host, rt, path, *load)?)),
     }
+}
+
+// The status of a run that went well, or did not and has told why.
+fn status(is_well: bool) -> ExitCode {
+    ExitCode::from(if is_well { 0 } else { FAULT })
 }
 
 // The command line needs memory too.

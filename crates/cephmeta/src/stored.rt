@@ -1,15 +1,17 @@
-//! A script over the tree that a file has.
+//! A script, or a load, over the tree that a file has.
 ghost use Rattle.std.specs.Prelude.{◌≤◌};
+ghost use Rattle.admin_cli.specs.Loads.{IsLoad};
 
-use admin_cli::{Limit, Mode, Ran, run_over};
-use cluster_core::{Book, mount};
+use admin_cli::{CACHE, Limit, Load, Mode, Ran, Served, run_over, serve_over};
+use cluster_core::{Book, PlainTree, mount};
 use kept_book::save;
 use kept_store::Kept;
 use mds_types::Refusal;
 use object_tables::ReadFault;
 use std::alloc::Global;
 use std::io;
-use std::process::ExitCode;
+use std::io::IsTerminal;
+use std::sync::Wait;
 use std::thread::Threads;
 use store_file::{OpenFault, StoreFile, Wary, open, remove_log};
 use thiserror::Error;
@@ -33,9 +35,9 @@ enum Unmounted {
     Tree(Refusal),
 }
 
-/// Runs a script over the tree of a file, and saves what the script didn't flush. What is wrong with the file, and what
-/// isn't saved, is told on standard error. `host` opens the file, `rt` runs threads.
-pub fn run_stored<H: AllocGlobal + Threads + Sync>(
+/// Runs a script over the tree of a file, and saves what the script didn't flush. Answers whether all went well: what is
+/// wrong with the file, and what isn't saved, is told on standard error. `host` opens the file, `rt` runs threads.
+pub fn script_stored<H: AllocGlobal + Threads + Sync>(
     host: &HostRuntime,
     rt: &H,
     path: &str,
@@ -48,12 +50,67 @@ pub fn run_stored<H: AllocGlobal + Threads + Sync>(
     requires most { shape.cache ≤ 65536 }
 {
     match mounted(host, rt.alloc(), path, shape) {
-        Ok(book) => run_book(host, rt, path, book, mode),
+        Ok(book) => {
+            let writer = &mut io::writer(host);
+            let Ran { book, ended } = run_over(rt, host.reader(), writer, book, mode);
+            if let Err(fault) = ended {
+                eprintln!(host; "{fault}")?;
+            }
+            Ok(is_closed(host, rt, path, book)? && ended.is_ok())
+        }
         Err(why) => {
             eprintln!(host; "cephmeta: {path}: {why}")?;
             Ok(false)
         }
     }
+}
+
+/// Serves a load over the tree of a file, which has to be empty, and saves the tree that it leaves. Answers whether all
+/// went well, and tells what did not, as `script_stored` does.
+pub fn serve_stored<H: AllocGlobal + Threads + Wait + Sync + Eprint>(
+    host: &HostRuntime,
+    rt: &H,
+    path: &str,
+    load: Load,
+) -> io::Result<bool>
+    requires { IsLoad load.ranks load.workers load.clients load.creates }
+{
+    let shape = Shape {
+        ranks: load.ranks,
+        cache: CACHE,
+        limit: Limit::MAX,
+    };
+    match mounted(host, rt.alloc(), path, shape) {
+        Ok(book) => serve_book(host, rt, path, book, load),
+        Err(why) => {
+            eprintln!(host; "cephmeta: {path}: {why}")?;
+            Ok(false)
+        }
+    }
+}
+
+// Serves a load over a book, if its tree is empty.
+fn serve_book<H: AllocGlobal + Threads + Wait + Sync + Eprint>(
+    host: &HostRuntime,
+    rt: &H,
+    path: &str,
+    book: Book<Kept<StoreFile>>,
+    load: Load,
+) -> io::Result<bool>
+    requires { IsLoad load.ranks load.workers load.clients load.creates }
+{
+    if book.opening() != &PlainTree::new(rt.alloc()) {
+        eprintln!(host; "cephmeta: {path}: has a tree, and serve begins with an empty one")?;
+        let _ = is_closed(host, rt, path, book)?;
+        return Ok(false);
+    }
+    let is_watched = host.stderr().is_terminal();
+    let writer = &mut io::writer(host);
+    let Served { book, ended } = serve_over(rt, writer, book, load, is_watched);
+    if let Err(fault) = ended {
+        eprintln!(host; "cephmeta: {fault}")?;
+    }
+    Ok(is_closed(host, rt, path, book)? && ended.is_ok())
 }
 
 // Opens a file, and mounts its tree. A file that is refused is left without its log, which has nothing that the file
@@ -91,15 +148,13 @@ fn mounted(
     }
 }
 
-// Runs a script over a book, and saves what it leaves. Answers whether all went well.
-fn run_book<H: AllocGlobal + Threads + Sync>(
+// Saves what a book leaves, and leaves the file without its log. Answers whether all is in the file.
+fn is_closed(
     host: &HostRuntime,
-    rt: &H,
+    rt: &(impl AllocGlobal + Threads + Sync),
     path: &str,
-    book: Book<Kept<StoreFile>>,
-    mode: Mode,
+    mut book: Book<Kept<StoreFile>>,
 ) -> io::Result<bool> {
-    let Ran { mut book, ended } = run_over(rt, host.reader(), &mut io::writer(host), book, mode);
     let saved = save(rt, rt.alloc(), &mut book).map(|_| ());
     let settled = book.settle();
     // The log is removed while the file is still held, so that no other process has it open.
@@ -107,16 +162,13 @@ fn run_book<H: AllocGlobal + Threads + Sync>(
         let _ = remove_log(host, path);
     }
     drop(book);
-    if let Err(fault) = ended {
-        eprintln!(host; "{fault}")?;
-    }
     if let Err(why) = saved {
         eprintln!(host; "cephmeta: {path}: not all is saved: {why}")?;
         return Ok(false);
     }
     if let Err(why) = settled {
-        eprintln!(host; "cephmeta: {path}: all is saved, in part in {path}-wal: {why}")?;
+        eprintln!(host; "cephmeta: {path}: all is saved, but in part in {path}-wal: {why}")?;
         return Ok(false);
     }
-    Ok(ended.is_ok())
+    Ok(true)
 }

@@ -2,8 +2,8 @@
 ghost use Rattle.std.specs.Prelude.{◌≡◌};
 
 use cluster_core::{Answer, Book, Event};
+use keeping::Keep;
 use mds_types::{Bytes, Frag, Ino, Rank, Refusal};
-use objstore::MemStore;
 use std::alloc::Global;
 
 /// The rank that has every subtree of a new book.
@@ -11,7 +11,7 @@ const FIRST: Rank = Rank(0);
 
 /// Exports a directory of one leaf from rank 0 to another rank, one step after the other. Nothing where a step is
 /// refused.
-pub(crate) fn hand(alloc: Global, book: &mut Book<MemStore>, ino: Ino, to: Rank) -> Option<()>
+pub(crate) fn hand<S: Keep + Drop>(alloc: Global, book: &mut Book<S>, ino: Ino, to: Rank) -> Option<()>
     ensures { book.new.opening ≡ book.old.opening }
 {
     let frag = Frag::ROOT;

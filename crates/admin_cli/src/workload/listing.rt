@@ -4,15 +4,15 @@ ghost use Rattle.admin_cli.specs.Reports.{AreInOrder};
 
 use crate::workload::requests::ask;
 use cluster_core::Book;
+use keeping::Keep;
 use mds_types::{Bytes, Ino, Inode, Kind, Name, Op, PageSize, Reply, Request};
-use objstore::MemStore;
 use std::alloc::Global;
 
 /// The client that reads.
 const READER: u64 = 0;
 
 /// The paths of what stands in the root and in the directories there, in the order of bytes.
-pub(crate) fn all_paths(alloc: Global, book: &mut Book<MemStore>) -> Option<Vec<Bytes>>
+pub(crate) fn all_paths<S: Keep + Drop>(alloc: Global, book: &mut Book<S>) -> Option<Vec<Bytes>>
     ensures { IfSome result (λ paths. AreInOrder paths.items) }
 {
     let top = names_in(alloc, book, Ino::ROOT, 1)?;
@@ -37,9 +37,9 @@ fn sorted(paths: Vec<Bytes>) -> Option<Vec<Bytes>>
 }
 
 // An entry of the root, and what stands in it if it is a directory.
-fn add_entry(
+fn add_entry<S: Keep + Drop>(
     alloc: Global,
-    book: &mut Book<MemStore>,
+    book: &mut Book<S>,
     tid: u64,
     name: &Name,
     inode: &Inode,
@@ -78,9 +78,9 @@ fn path(alloc: Global, dir: &Name, name: &Name) -> Option<Bytes> {
 
 // The names in a directory with their inodes. One page has them all: it holds 1024, and no directory of a run has more
 // than 1000.
-fn names_in(
+fn names_in<S: Keep + Drop>(
     alloc: Global,
-    book: &mut Book<MemStore>,
+    book: &mut Book<S>,
     dir: Ino,
     tid: u64,
 ) -> Option<Vec<(Name, Inode)>> {

@@ -1,5 +1,5 @@
 //! A whole run of `cephmeta serve`.
-ghost use Rattle.std.specs.Prelude.{◌≡◌, ◌⊎◌, IfErr, IfOk, false};
+ghost use Rattle.std.specs.Prelude.{◌≡◌, ◌⊎◌, ◌≤◌, IfErr, IfOk, IfSome, false, vec_len};
 ghost use Rattle.std.specs.FinMap as map;
 ghost use Rattle.cluster_core.specs.Sound.{IsSoundBook};
 ghost use Rattle.admin_cli.specs.Loads.{IsLoad};
@@ -8,10 +8,12 @@ ghost use Rattle.admin_cli.specs.Reports.{IsText, ServesOut};
 use crate::workload::loads::Load;
 use crate::workload::plans::plans_of;
 use crate::workload::reports::report;
-use crate::workload::setup::{Start, set_up};
-use cluster_core::Book;
+use crate::workload::setup::make_homes;
+use cluster_core::{Book, format};
+use keeping::Keep;
+use mds_types::Limit;
 use objstore::MemStore;
-use rank_threads::{Gate, OpenGate, Outcome, RunError, RunFault, run_cluster};
+use rank_threads::{Gate, OpenGate, Outcome, RunError, RunFault, Turn, run_cluster};
 use script_output::{WriteFault, write_all_of};
 use std::alloc::Global;
 use std::io::Write;
@@ -66,10 +68,67 @@ pub fn run_watched<W: Write, R: Threads + Wait + Sync + AllocGlobal, G: Gate>(
     requires { IsLoad load.ranks load.workers load.clients load.creates }
     ensures { ServesOut (W.contents writer.old) (W.contents writer.new) result }
 {
-    match run_load(rt, load, gate) {
+    match new_book(rt.alloc(), load.ranks) {
+        Some(book) => {
+            let Served { book, ended } = run_over_book(rt, writer, book, load, gate);
+            drop(book);
+            ended
+        }
+        none => {
+            drop(none);
+            Err(ServeFault::Fault(RunFault::NoMemory.number()))
+        }
+    }
+}
+
+/// How many fragments each rank may cache.
+pub const CACHE: u32 = 4096;
+
+// A new book over an empty store in memory.
+fn new_book(alloc: Global, ranks: u8) -> Option<Book<MemStore>>
+    requires some { 1 ≤ ranks }
+    requires ranked { ranks ≤ 16 }
+    ensures { IfSome result (λ book. book.opening ≡ map.empty) }
+{
+    match format(alloc, MemStore::new(alloc), ranks, CACHE, Limit::MAX) {
+        Ok(book) => Some(book),
+        Err(back) => {
+            drop(back);
+            None
+        }
+    }
+}
+
+/// A load that was run, and the book that it left.
+#[derive(Drop)]
+pub struct Served<S: Keep + Drop> {
+    pub book: Book<S>,
+    pub ended: Result<(), ServeFault>,
+}
+
+/// Runs a load as `run_watched` does, over a book of as many ranks that opened with the empty tree.
+pub fn run_over_book<W, S, R, G>(
+    rt: &R,
+    writer: &mut W,
+    book: Book<S>,
+    load: Load,
+    gate: &G,
+) -> Served<S>
+where
+    W: Write,
+    S: Keep + Drop + Send,
+    R: Threads + Wait + Sync + AllocGlobal,
+    G: Gate,
+    requires load { IsLoad load.ranks load.workers load.clients load.creates }
+    requires opening { book.opening ≡ map.empty }
+    ensures { ServesOut (W.contents writer.old) (W.contents writer.new) result.ended }
+{
+    let Loaded { book, gave } = run_load(rt, book, load, gate);
+    let ended = match gave {
         Ok(printed) => print(writer, printed),
         Err(number) => Err(ServeFault::Fault(number)),
-    }
+    };
+    Served { book, ended }
 }
 
 /// What a run prints, and whether its receipts agreed.
@@ -79,24 +138,31 @@ struct Printed {
     agrees: bool,
 }
 
-// Runs a load, and answers what there is to print, or the number of the run fault.
-fn run_load<R: Threads + Wait + Sync + AllocGlobal, G: Gate>(
-    rt: &R,
-    load: Load,
-    gate: &G,
-) -> Result<Printed, u8>
-    requires { IsLoad load.ranks load.workers load.clients load.creates }
-    ensures ok { IfOk result (λ p. IsText p.agrees p.text.items) }
-    ensures err { IfErr result (λ number. (number ≡ 1) ⊎ (number ≡ 2)) }
+// What a run gave: what there is to print, or the number of the run fault; and the book that it left.
+#[derive(Drop)]
+struct Loaded<S: Keep + Drop> {
+    book: Book<S>,
+    gave: Result<Printed, u8>,
+}
+
+// Runs a load.
+fn run_load<S, R, G>(rt: &R, mut book: Book<S>, load: Load, gate: &G) -> Loaded<S>
+where
+    S: Keep + Drop + Send,
+    R: Threads + Wait + Sync + AllocGlobal,
+    G: Gate,
+    requires load { IsLoad load.ranks load.workers load.clients load.creates }
+    requires opening { book.opening ≡ map.empty }
+    ensures ok { IfOk result.gave (λ p. IsText p.agrees p.text.items) }
+    ensures err { IfErr result.gave (λ number. (number ≡ 1) ⊎ (number ≡ 2)) }
 {
     let alloc = rt.alloc();
-    let Some(start) = set_up(alloc, load.ranks, load.clients) else {
-        return Err(RunFault::NoMemory.number());
-    };
-    let Start { book, homes } = start;
-    let Some(plans) = plans_of(alloc, load.ranks, homes.as_slice(), load.creates) else {
-        drop(book);
-        return Err(RunFault::NoMemory.number());
+    let plans = planned(alloc, &mut book, load);
+    let Some(plans) = plans else {
+        return Loaded {
+            book,
+            gave: Err(RunFault::NoMemory.number()),
+        };
     };
     match run_cluster(rt, alloc, book, plans, load.workers, gate) {
         Ok(Outcome { book, .. }) => reported(alloc, book, true),
@@ -104,37 +170,49 @@ fn run_load<R: Threads + Wait + Sync + AllocGlobal, G: Gate>(
     }
 }
 
+// The directories of all clients are made, and what each rank's thread is to do is listed. Nothing where memory is
+// refused, or a step is.
+fn planned<S: Keep + Drop>(alloc: Global, book: &mut Book<S>, load: Load) -> Option<Vec<Vec<Turn>>>
+    requires { IsLoad load.ranks load.workers load.clients load.creates }
+    ensures opening { book.new.opening ≡ book.old.opening }
+    ensures ranks { IfSome result (λ plans. vec_len plans ≡ load.ranks) }
+{
+    let homes = make_homes(alloc, book, load.ranks, load.clients)?;
+    plans_of(alloc, load.ranks, homes.as_slice(), load.creates)
+}
+
 // What a run prints that gave no outcome: at a reply that the history doesn't hold the same as at success, but for one
 // word.
-fn failed(alloc: Global, book: Book<MemStore>, fault: RunFault) -> Result<Printed, u8>
+fn failed<S: Keep + Drop>(alloc: Global, book: Book<S>, fault: RunFault) -> Loaded<S>
     requires sound { IsSoundBook book }
     requires opening { book.opening ≡ map.empty }
-    ensures ok { IfOk result (λ p. IsText p.agrees p.text.items) }
-    ensures strayed { IfOk result (λ p. p.agrees ≡ false) }
-    ensures err { IfErr result (λ number. (number ≡ 1) ⊎ (number ≡ 2)) }
+    ensures ok { IfOk result.gave (λ p. IsText p.agrees p.text.items) }
+    ensures strayed { IfOk result.gave (λ p. p.agrees ≡ false) }
+    ensures err { IfErr result.gave (λ number. (number ≡ 1) ⊎ (number ≡ 2)) }
 {
     if fault == RunFault::Strayed {
         return reported(alloc, book, false);
     }
-    drop(book);
-    Err(fault.number())
+    Loaded {
+        book,
+        gave: Err(fault.number()),
+    }
 }
 
 // What a run prints.
-fn reported(alloc: Global, book: Book<MemStore>, agrees: bool) -> Result<Printed, u8>
+fn reported<S: Keep + Drop>(alloc: Global, book: Book<S>, agrees: bool) -> Loaded<S>
     requires sound { IsSoundBook book }
     requires opening { book.opening ≡ map.empty }
-    ensures ok { IfOk result (λ p. IsText p.agrees p.text.items) }
-    ensures agrees { IfOk result (λ p. p.agrees ≡ agrees) }
-    ensures err { IfErr result (λ number. number ≡ 1) }
+    ensures ok { IfOk result.gave (λ p. IsText p.agrees p.text.items) }
+    ensures agrees { IfOk result.gave (λ p. p.agrees ≡ agrees) }
+    ensures err { IfErr result.gave (λ number. number ≡ 1) }
 {
     let mut book = book;
-    let text = report(alloc, &mut book, agrees);
-    drop(book);
-    match text {
+    let gave = match report(alloc, &mut book, agrees) {
         Some(text) => Ok(Printed { text, agrees }),
         None => Err(RunFault::NoMemory.number()),
-    }
+    };
+    Loaded { book, gave }
 }
 
 // Writes the text.

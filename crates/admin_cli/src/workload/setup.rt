@@ -1,16 +1,12 @@
-//! What stands before the threads start: a book in which each client has its directory.
-ghost use Rattle.std.specs.Prelude.{◌≡◌, ◌≤◌, IfSome};
-ghost use Rattle.std.specs.FinMap as map;
+//! What is made before the threads start: a directory for each client.
+ghost use Rattle.std.specs.Prelude.{◌≡◌, ◌≤◌};
 
 use crate::workload::handing::hand;
 use crate::workload::requests::ask;
-use cluster_core::{Book, format};
-use mds_types::{Birth, Dentry, Ino, Limit, Mode, Name, Op, Rank, Reply, Request};
-use objstore::MemStore;
+use cluster_core::Book;
+use keeping::Keep;
+use mds_types::{Birth, Dentry, Ino, Mode, Name, Op, Rank, Reply, Request};
 use std::alloc::Global;
-
-/// How many fragments each rank may cache.
-const CACHE: u32 = 4096;
 
 /// A client, its directory, and the rank that is the directory's authority.
 #[derive(Clone, Copy, Debug)]
@@ -20,47 +16,14 @@ pub(crate) struct Home {
     pub(crate) rank: Rank,
 }
 
-/// A book in which each client has its directory.
-#[derive(Drop)]
-pub(crate) struct Start {
-    pub(crate) book: Book<MemStore>,
-    pub(crate) homes: Vec<Home>,
-}
-
-/// Makes a directory in the root for each of so many clients, in a new book of so many ranks, and hands them to the
-/// ranks in turn: the first to rank 0, the next to rank 1, ..
-pub(crate) fn set_up(alloc: Global, ranks: u8, clients: u8) -> Option<Start>
-    requires some { 1 ≤ ranks }
-    requires ranked { ranks ≤ 16 }
-    ensures { IfSome result (λ start. start.book.opening ≡ map.empty) }
-{
-    let mut book = new_book(alloc, ranks)?;
-    match make_homes(alloc, &mut book, ranks, clients) {
-        Some(homes) => Some(Start { book, homes }),
-        None => {
-            drop(book);
-            None
-        }
-    }
-}
-
-// A new book over an empty store.
-fn new_book(alloc: Global, ranks: u8) -> Option<Book<MemStore>>
-    requires some { 1 ≤ ranks }
-    requires ranked { ranks ≤ 16 }
-    ensures { IfSome result (λ book. book.opening ≡ map.empty) }
-{
-    match format(alloc, MemStore::new(alloc), ranks, CACHE, Limit::MAX) {
-        Ok(book) => Some(book),
-        Err(back) => {
-            drop(back);
-            None
-        }
-    }
-}
-
-// A directory for each client, one after the other, and each at the next rank.
-fn make_homes(alloc: Global, book: &mut Book<MemStore>, ranks: u8, clients: u8) -> Option<Vec<Home>>
+/// Makes a directory in the root for each of so many clients, in a book of so many ranks, and hands them to the ranks in
+/// turn: the first to rank 0, the next to rank 1, .. Nothing where memory is refused, or a step is.
+pub(crate) fn make_homes<S: Keep + Drop>(
+    alloc: Global,
+    book: &mut Book<S>,
+    ranks: u8,
+    clients: u8,
+) -> Option<Vec<Home>>
     requires { 1 ≤ ranks }
     ensures { book.new.opening ≡ book.old.opening }
 {
@@ -75,7 +38,12 @@ fn make_homes(alloc: Global, book: &mut Book<MemStore>, ranks: u8, clients: u8) 
 }
 
 // Makes the directory of the client after so many others, at a rank.
-fn make_home(alloc: Global, book: &mut Book<MemStore>, number: u8, rank: Rank) -> Option<Home>
+fn make_home<S: Keep + Drop>(
+    alloc: Global,
+    book: &mut Book<S>,
+    number: u8,
+    rank: Rank,
+) -> Option<Home>
     ensures { book.new.opening ≡ book.old.opening }
 {
     let dir = make_dir(alloc, book, number)?;
@@ -96,7 +64,7 @@ fn client_of(number: u8) -> u64 {
 }
 
 // Makes the directory of that client in the root.
-fn make_dir(alloc: Global, book: &mut Book<MemStore>, number: u8) -> Option<Ino>
+fn make_dir<S: Keep + Drop>(alloc: Global, book: &mut Book<S>, number: u8) -> Option<Ino>
     ensures { book.new.opening ≡ book.old.opening }
 {
     let request = Request {
