@@ -25,7 +25,7 @@ pub struct Shape {
 }
 
 /// Why the tree of a file can't be had: the file itself, its rows, or the objects that they spell.
-#[derive(Clone, Debug, Error)]
+#[derive(Debug, Drop, Error)]
 enum Unmounted {
     #[error("{0}")]
     File(OpenFault),
