@@ -2,7 +2,7 @@ use Rattle.admin_cli.proofs.Common.{AllocError, Err, Event, IfOk, BookState, Mak
 use Rattle.admin_cli.proofs.commands.Admin.own_turn.Goals as goal
 
 pub returns-in-Ok-Some-clause-line : goal.returns-in-Ok-Some-clause-line
-returns-in-Ok-Some-clause-line c = go c.own_step.result c.own_step.ensures.line
+returns-in-Ok-Some-clause-line g c = go c.own_step.result c.own_step.ensures.line
   where
     proposed : Proposes c.args.self.now.book.core c.args.rank (Ok (Some c.in-Ok-Some.event))
     proposed = subst (λ (o : Option Event). Proposes c.args.self.now.book.core c.args.rank (Ok o)) c.in-Ok-Some.field-0-is c.in-Ok-Some.ensures.proposed
