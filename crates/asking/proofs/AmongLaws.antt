@@ -37,9 +37,9 @@ module _ (old new : Core) (past now : List Entry) (rank : Rank) (request : Reque
   one_at_most (Ok receipt) h = omega (arith, none_in_all new.state.inboxes (none_waits old new past now rank request receipt none h))
   one_at_most (Err reason) h = refused reason h
 
-pub asked_then : (old mid new : BookState) (rank : Rank) (request : Request) (result : Result Receipt Refusal) → IsDrained old mid → AsksAlone mid.core new.core mid.history new.history rank request result → AsksAmong old new rank request result
-asked_then old mid new rank request (Ok receipt) drained asked = record { mid = mid; drained = drained; asked = asked }
-asked_then old mid new rank request (Err reason) drained asked = inl (record { mid = mid; drained = drained; asked = asked })
+pub asked_then : (old mid new : BookState) (others : List Receipt) (rank : Rank) (request : Request) (result : Result Receipt Refusal) → IsDrained old mid others → AsksAlone mid.core new.core mid.history new.history rank request result → AsksAmong old new others rank request result
+asked_then old mid new others rank request (Ok receipt) drained asked = record { mid = mid; drained = drained; asked = asked }
+asked_then old mid new others rank request (Err reason) drained asked = inl (record { mid = mid; drained = drained; asked = asked })
 
 -- where none wait in all none waits
 pub none_from_all : (xs : Inboxes) → waiting_in_all xs ≡ 0 → NoneWaits xs

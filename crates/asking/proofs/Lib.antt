@@ -13,3 +13,4 @@ pub mod PinLaws
 pub mod ReachedLaws
 pub mod ServeLaws
 pub mod Transport
+pub mod WaitingLaws

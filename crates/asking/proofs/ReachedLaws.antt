@@ -11,17 +11,17 @@ use Rattle.asking.specs.Reached.{LeadsTo}
 use Rattle.asking.specs.Serves.{receipts_in}
 use Rattle.asking.specs.declared.serves.Served.{Served}
 
-runs_then : (a b c : BookState) (events more : List Event) (results others : List (Result Answer Refusal)) → Runs a events results b → Runs b more others c → Runs a (events ++ more) (results ++ others) c
+pub runs_then : (a b c : BookState) (events more : List Event) (results others : List (Result Answer Refusal)) → Runs a events results b → Runs b more others c → Runs a (events ++ more) (results ++ others) c
 runs_then a b c [] more [] others same rest = subst (λ (x : BookState). Runs x more others c) same rest
 runs_then a b c [] more (result ∷ results) others none rest = absurd none
 runs_then a b c (event ∷ events) more [] others none rest = absurd none
 runs_then a b c (event ∷ events) more (result ∷ results) others (next, step, sound, ran) rest = (next, step, sound, runs_then next b c events more results others ran rest)
 
-all_then : (P : Event → Type 0) (xs ys : List Event) → AllByRecursion P xs → AllByRecursion P ys → AllByRecursion P (xs ++ ys)
+pub all_then : (P : Event → Type 0) (xs ys : List Event) → AllByRecursion P xs → AllByRecursion P ys → AllByRecursion P (xs ++ ys)
 all_then P [] ys all more = more
 all_then P (x ∷ xs) ys (one, all) more = (one, all_then P xs ys all more)
 
-receipts_then : (xs ys : List (Result Answer Refusal)) → receipts_of (xs ++ ys) ≡ receipts_of xs ++ receipts_of ys
+pub receipts_then : (xs ys : List (Result Answer Refusal)) → receipts_of (xs ++ ys) ≡ receipts_of xs ++ receipts_of ys
 receipts_then [] ys = refl
 receipts_then (x ∷ xs) ys = ap (λ (rs : List Receipt). receipt_of x ++ rs) (receipts_then xs ys) ∙ sym (append_assoc (receipt_of x) (receipts_of xs) (receipts_of ys))
 

@@ -58,3 +58,33 @@ pub record LeadsTo (client tid : ℕ) (came : List Request) (most : ℕ) (replie
 abbrev pub IsBroughtBy : Request → (most : ℕ) → Result Receipt Refusal → (old new : BookState) → Type 0
 IsBroughtBy request most result old new =
     LeadsTo request.client request.tid (request ∷ []) most (receipt_in result) (result_err result) old new
+
+-- a rank serves, or grants
+abbrev pub ServesOrGrants : Event → Type 0
+ServesOrGrants (Arrive rank request) = ⊥
+ServesOrGrants (Serve rank) = Unit {0}
+ServesOrGrants (Grant rank of number) = Unit {0}
+ServesOrGrants (Split rank dir f nb) = ⊥
+ServesOrGrants (Merge rank dir f) = ⊥
+ServesOrGrants (CommitBegin rank dir f) = ⊥
+ServesOrGrants (CommitEnd encoded) = ⊥
+ServesOrGrants (CommitDrop job) = ⊥
+ServesOrGrants (CommitTree dir) = ⊥
+ServesOrGrants Purge = ⊥
+ServesOrGrants (Evict rank) = ⊥
+ServesOrGrants (Start from dir f to) = ⊥
+ServesOrGrants (Freeze dir f) = ⊥
+ServesOrGrants (Prep dir f) = ⊥
+ServesOrGrants (Send dir f) = ⊥
+ServesOrGrants (Import dir f bytes) = ⊥
+ServesOrGrants (Finish dir f) = ⊥
+ServesOrGrants (Cancel dir f) = ⊥
+
+-- ranks served and granted, and nothing else was done: no request came in, each that left did so by such a step, so with
+-- its reply, too old, or for want of a number, and these are the replies
+pub record ServesWaiting (old new : BookState) (replies : List Receipt) : Type 0 where
+  pub events : List Event
+  pub results : List (Result Answer Refusal)
+  pub ran : Runs old events results new
+  pub only : AllByRecursion ServesOrGrants events
+  pub told : receipts_of results ≡ replies

@@ -10,7 +10,7 @@ ghost use Rattle.asking.specs.Ask.{Answers, AsksAlone, HasCome, IsNewAtMaster, N
 ghost use Rattle.asking.specs.Drain.{waiting_in_all};
 ghost use Rattle.asking.specs.Reached.{IsBroughtBy, LeadsTo, receipt_in};
 
-use crate::drains::drain;
+use crate::drains::{Drained, drain};
 use crate::grants::grant_all;
 use crate::serves::{Served, serve};
 use cluster_core::{Book, Event, Receipt};
@@ -135,6 +135,14 @@ fn serve_granted<S: Store + Drop>(
     }
 }
 
+/// What came of a request that was asked where others waited.
+#[derive(Drop)]
+pub struct Among {
+    /// The replies to the others, in the order in which they were told.
+    pub others: Vec<Receipt>,
+    pub answer: Result<Receipt, Refusal>,
+}
+
 /// A request comes in at a rank of a book where others may wait, at most 1024 in all: these are answered first, then the
 /// request is asked. Where one of them is held up it isn't, and never came in.
 pub fn ask_among<S: Store + Drop>(
@@ -142,19 +150,27 @@ pub fn ask_among<S: Store + Drop>(
     book: &mut Book<S>,
     rank: Rank,
     request: Request,
-) -> Result<Receipt, Refusal>
+) -> Among
     requires { waiting_in_all book.old.core.state.inboxes ≤ 1024 }
-    ensures asked { AsksAmong book.old book.new rank request result }
-    ensures thawed { book.old.core.state.exports ≡ map.empty → result ≢ Err Refusal.Frozen }
-    ensures stands { IfOk result
+    ensures asked { AsksAmong book.old book.new result.others.items rank request result.answer }
+    ensures thawed { book.old.core.state.exports ≡ map.empty → result.answer ≢ Err Refusal.Frozen }
+    ensures stands { IfOk result.answer
         (λ receipt. StandsInHistory book.new.history receipt.client receipt.tid receipt.place receipt.reply) }
     ensures few { waiting_in_all book.new.core.state.inboxes ≤ 1024 }
     ensures opening { book.new.opening ≡ book.old.opening }
     ensures sound { IsSoundBook book.new }
 {
-    if let Err(refusal) = drain(alloc, book) {
+    let Drained {
+        receipts: others,
+        ended,
+    } = drain(alloc, book);
+    if let Err(refusal) = ended {
         drop(request);
-        return Err(refusal);
+        return Among {
+            others,
+            answer: Err(refusal),
+        };
     }
-    ask(alloc, book, rank, request)
+    let answer = ask(alloc, book, rank, request);
+    Among { others, answer }
 }

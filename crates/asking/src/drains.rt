@@ -1,13 +1,16 @@
 //! Draining: all that waits is answered.
-ghost use Rattle.std.specs.Prelude.{◌≡◌, ◌≢◌, ◌⊎◌, ◌-◌, ◌<◌, ◌≤◌, true, cond, Err, IfErr, MatchBool, MatchOption, MatchResult, OnOk};
+ghost use Rattle.std.specs.Prelude.{◌≡◌, ◌≢◌, ◌⊎◌, ◌-◌, ◌<◌, ◌≤◌, ◌++◌, [], true, cond, length, vec_capacity, vec_len, List, Ok, Err, IfErr, MatchBool, MatchOption, MatchResult, OnOk};
 ghost use Rattle.std.specs.FinMap as map;
+ghost use Rattle.cluster_core.specs.OneThread.{InOrder, IsOneThread, receipt_of, waiting_in};
 ghost use Rattle.cluster_core.specs.Runs.{GoesOnFrom};
 ghost use Rattle.cluster_core.specs.Sound.{IsSoundBook};
 ghost use Rattle.asking.specs.Ask.{NoneWaits};
 ghost use Rattle.asking.specs.Drain.{IsLowest, IsStopped, OneLessStrays, OneLessWaits, RoundEnds, forwards, waiting_in_all};
+ghost use Rattle.asking.specs.Reached.{ServesWaiting};
+ghost use Rattle.cluster_core.specs.declared.receipts.Receipt.{Receipt as Told};
 
 use crate::grants::grant_all;
-use cluster_core::{Answer, Book, Event};
+use cluster_core::{Answer, Book, Event, Receipt};
 use mds_types::{Rank, Refusal};
 use objstore::Store;
 use std::alloc::Global;
@@ -23,13 +26,49 @@ pub(crate) struct Waiter {
 /// How many requests may wait in all.
 const MOST: usize = 1024;
 
+/// What was told while the requests that waited were answered, and how that ended.
+#[derive(Drop)]
+pub struct Drained {
+    /// The replies, in the order in which they were told.
+    pub receipts: Vec<Receipt>,
+    /// Ok where nothing waits any more; otherwise why the next request is held up.
+    pub ended: Result<(), Refusal>,
+}
+
 /// Every request that waits at any rank is answered, or leaves since it is too old or finds no number, in a book where at
-/// most 1024 wait in all. Whoever asked for one gets its reply by asking again.
+/// most 1024 wait in all. Nothing else is done than that ranks serve and grant.
 ///
-/// Refused where the next one is held up: for want of memory, by the store, for want of places, or since it would change a
-/// frozen fragment, and so never `Frozen` where no export stands. Those that were answered before it are.
-pub fn drain<S: Store + Drop>(alloc: Global, book: &mut Book<S>) -> Result<(), Refusal>
+/// It ends refused where the next request is held up: for want of memory, by the store, for want of places, or since it
+/// would change a frozen fragment, and so never `Frozen` where no export stands. Those that were answered before it are.
+pub fn drain<S: Store + Drop>(alloc: Global, book: &mut Book<S>) -> Drained
     requires { waiting_in_all book.old.core.state.inboxes ≤ 1024 }
+    ensures served { ServesWaiting book.old book.new result.receipts.items }
+    ensures one_thread { IsOneThread book.old.core.state.tree.limit book.old.opening book.old.history book.new.history
+        (waiting_in book.old.core.state.inboxes) result.receipts.items }
+    ensures in_order { InOrder (length book.old.history) result.receipts.items (length book.new.history) }
+    ensures drained { OnOk result.ended (NoneWaits book.new.core.state.inboxes) }
+    ensures stopped { IfErr result.ended (IsStopped book.new.core) }
+    ensures thawed { book.old.core.state.exports ≡ map.empty → result.ended ≢ Err Refusal.Frozen }
+    ensures exports { book.new.core.state.exports ≡ book.old.core.state.exports }
+    ensures few { waiting_in_all book.new.core.state.inboxes ≤ 1024 }
+    ensures grows { GoesOnFrom book.new.history book.old.history }
+    ensures opening { book.new.opening ≡ book.old.opening }
+    ensures sound { IsSoundBook book.new }
+{
+    let mut receipts = Vec::new(alloc);
+    let ended = answer_all(alloc, book, &mut receipts);
+    Drained { receipts, ended }
+}
+
+// So, one round after the other. The replies come into an empty list.
+fn answer_all<S: Store + Drop>(
+    alloc: Global,
+    book: &mut Book<S>,
+    receipts: &mut Vec<Receipt>,
+) -> Result<(), Refusal>
+    requires few { waiting_in_all book.old.core.state.inboxes ≤ 1024 }
+    requires empty { receipts.old.items ≡ [] }
+    ensures served { ServesWaiting book.old book.new receipts.new.items }
     ensures drained { OnOk result (NoneWaits book.new.core.state.inboxes) }
     ensures stopped { IfErr result (IsStopped book.new.core) }
     ensures thawed { book.old.core.state.exports ≡ map.empty → result ≢ Err Refusal.Frozen }
@@ -42,7 +81,7 @@ pub fn drain<S: Store + Drop>(alloc: Global, book: &mut Book<S>) -> Result<(), R
     book.is_sound();
     let mut strays = MOST;
     while let Some(found) = lowest(book) {
-        let moved = match play_round(alloc, book, found) {
+        let moved = match play_round(alloc, book, found, receipts) {
             Ok(moved) => moved,
             Err(refusal) => return Err(refusal),
         };
@@ -78,39 +117,73 @@ pub(crate) fn lowest<S: Store + Drop>(book: &Book<S>) -> Option<Waiter>
 }
 
 // One round: each rank grants the request at a front what it needs, and its rank serves it. Whether it went to its master;
-// otherwise it has left.
+// otherwise it has left. Its reply, if it has one, comes behind the others.
 fn play_round<S: Store + Drop>(
     alloc: Global,
     book: &mut Book<S>,
     found: Waiter,
+    receipts: &mut Vec<Receipt>,
 ) -> Result<bool, Refusal>
     requires few { waiting_in_all book.old.core.state.inboxes ≤ 1024 }
     requires lowest { IsLowest book.old.core.state.inboxes found }
     ensures ends { RoundEnds book.old.core book.new.core result }
+    ensures served { (replies : List Told) × (receipts.new.items ≡ receipts.old.items ++ replies)
+        × ServesWaiting book.old book.new replies }
     ensures exports { book.new.core.state.exports ≡ book.old.core.state.exports }
     ensures grows { GoesOnFrom book.new.history book.old.history }
     ensures opening { book.new.opening ≡ book.old.opening }
     ensures sound { IsSoundBook book.new }
 {
     book.is_sound();
+    // room for the reply comes first: once it is told it can't be lost
+    if receipts.reserve(1).is_err() {
+        return Err(Refusal::NoMemory);
+    }
     if let Err(refusal) = grant_all(alloc, book, found.client, found.tid) {
         return Err(refusal);
     }
     match book.step(alloc, Event::Serve { rank: found.rank }) {
-        Ok(answer) => {
-            let moved = is_forwarded(&answer);
-            drop(answer);
-            Ok(moved)
-        }
+        Ok(answer) => Ok(note(answer, receipts)),
         Err(refusal) => unless_gone(refusal),
     }
 }
 
-// Whether a request went to its master.
-fn is_forwarded(answer: &Answer) -> bool
-    ensures { result ≡ forwards answer.now }
+// Notes the receipt of an answer, if it is a reply, in a list that has room for it, and tells whether a request went to
+// its master.
+fn note(answer: Answer, receipts: &mut Vec<Receipt>) -> bool
+    requires { vec_len receipts.old < vec_capacity receipts.old }
+    ensures moved { result ≡ forwards answer }
+    ensures told { receipts.new.items ≡ receipts.old.items ++ receipt_of (Ok answer) }
 {
-    matches!(answer, Answer::Forwarded(_))
+    match answer {
+        Answer::Reply {
+            client,
+            tid,
+            place,
+            first,
+            reply,
+        } => {
+            let _ = receipts.push(Receipt {
+                client,
+                tid,
+                place,
+                first,
+                reply,
+            });
+            false
+        }
+        Answer::Forwarded(_) => true,
+        Answer::Deferred => false,
+        Answer::Nothing => false,
+        Answer::Job(job) => {
+            drop(job);
+            false
+        }
+        Answer::Sent(bytes) => {
+            drop(bytes);
+            false
+        }
+    }
 }
 
 // That a request has left is no refusal.

@@ -8,8 +8,8 @@ pub mod laws;
 mod serves;
 mod services;
 
-pub use asks::{ask, ask_among};
+pub use asks::{Among, ask, ask_among};
 pub use cluster_core::Receipt;
-pub use drains::drain;
+pub use drains::{Drained, drain};
 pub use grants::grant_all;
 pub use services::{Service, ask_once};

@@ -4,8 +4,8 @@ use Rattle.asking.proofs.asks.ask_among.Goals as goal
 
 pub returns-clause-asked : goal.returns-clause-asked
 returns-clause-asked g c =
-    asked_then c.args.book.now c.drain.new.book c.ask.new.book c.args.rank c.args.request c.ask.result
-    (record { sound = c.in_default.ensures.sound; grows = c.in_default.ensures.grows; same_opening = c.in_default.ensures.opening; none = c.in_default.ensures.drained }) c.ask.ensures.asked
+    asked_then c.args.book.now c.drain.new.book c.ask.new.book c.drain.result.receipts.items c.args.rank c.args.request c.ask.result
+    (record { served = c.in_default.ensures.served; sound = c.in_default.ensures.sound; grows = c.in_default.ensures.grows; same_opening = c.in_default.ensures.opening; none = c.in_default.ensures.drained }) c.ask.ensures.asked
 
 pub returns-clause-few : goal.returns-clause-few
 returns-clause-few g c =

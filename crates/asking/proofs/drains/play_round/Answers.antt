@@ -1,4 +1,6 @@
-use Rattle.asking.proofs.Common.{Bool, Err, Ok, RoundEnds, State, ap, arith, subst, sym}
+use Rattle.asking.proofs.Common.{Bool, Err, List, None, Ok, Receipt, RoundEnds, Some, State, [], ap, arith, inl, refl, subst, sym, ◌++◌, ◌∙◌, ◌≡◌}
+use Rattle.cluster_core.specs.OneThread.{receipt_of}
+use Rattle.asking.proofs.WaitingLaws.{served_by, served_once, served_then, tells_none}
 use Rattle.asking.proofs.LoopLaws.{ended, exports_stand, gives, is_first, not_granted, refused, served_on}
 use Rattle.asking.proofs.drains.play_round.Goals as goal
 
@@ -11,7 +13,7 @@ returns-in-Err-clause-exports g c = ap (λ (s : State). s.exports) (c.in-Err.ens
 
 pub returns-in-Ok-clause-ends : goal.returns-in-Ok-clause-ends
 returns-in-Ok-clause-ends g c =
-    subst (λ (b : Bool). RoundEnds c.args.book.now.core c.step.new.self.core (Ok b)) (sym c.is_forwarded-moved.ensures)
+    subst (λ (b : Bool). RoundEnds c.args.book.now.core c.step.new.self.core (Ok b)) (sym c.note.ensures.moved)
     (ended c.args.book.now.core c.step.new.self.core c.requires.lowest.request c.in-Ok.answer (gives c.args.book.now c.is_sound.ensures c.requires.few c.args.found c.requires.lowest c.grant_all.new.book c.step.new.self (Ok c.in-Ok.answer) (c.in_default.ensures.granted c.requires.lowest.request (is_first c.args.book.now c.is_sound.ensures c.requires.few c.args.found c.requires.lowest)) (omega (arith, c.in_default.ensures.counted)) c.in_default.ensures.history c.in-Ok.ensures.stepped))
 
 pub returns-in-Ok-clause-exports : goal.returns-in-Ok-clause-exports
@@ -26,3 +28,9 @@ returns-in-Err-step-clause-ends g c =
 
 pub returns-in-Err-step-clause-exports : goal.returns-in-Err-step-clause-exports
 returns-in-Err-step-clause-exports g c = exports_stand c.args.book.now c.is_sound.ensures c.requires.few c.args.found c.requires.lowest c.grant_all.new.book c.step.new.self (Err c.in-Err-step.refusal) (c.in_default.ensures.granted c.requires.lowest.request (is_first c.args.book.now c.is_sound.ensures c.requires.few c.args.found c.requires.lowest)) (omega (arith, c.in_default.ensures.counted)) c.in_default.ensures.history c.in-Err-step.ensures.stepped
+
+pub returns-then-is_err-clause-ends : goal.returns-then-is_err-clause-ends
+returns-then-is_err-clause-ends g c = (c.requires.lowest.request, inl refl, refl)
+
+pub returns-then-is_err-clause-served : goal.returns-then-is_err-clause-served
+returns-then-is_err-clause-served g c = tells_none c.args.book.now c.args.receipts.now.items c.reserve.new.self.items (search rules)

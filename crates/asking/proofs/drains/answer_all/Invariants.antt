@@ -2,11 +2,13 @@
 use Rattle.asking.proofs.Common.{IsSoundBook, ◌*◌, ◌+◌, ◌≡◌, ◌≤◌}
 use Rattle.cluster_core.specs.Runs.{GoesOnFrom}
 use Rattle.asking.specs.Drain.{FewStrays, waiting_in_all}
-use Rattle.asking.proofs.drains.drain.Given as goal
+use Rattle.asking.specs.Reached.{ServesWaiting}
+use Rattle.asking.proofs.drains.answer_all.Given as goal
 
 abbrev pub invariant-loop-found : goal.invariant-loop-found
 invariant-loop-found g l = record {
   few : waiting_in_all l.book.core.state.inboxes ≤ 1024;
+  served : ServesWaiting l.initial.book l.book l.receipts.items;
   strays : FewStrays l.book.core.state l.strays;
   exports : l.book.core.state.exports ≡ l.initial.book.core.state.exports;
   grows : GoesOnFrom l.book.history l.initial.book.history;
