@@ -1,13 +1,15 @@
 -- What contracts see of an administrator.
 use Rattle.std.specs.Prelude.{ℕ}
+use Rattle.std.specs.FinMap as map
+use Rattle.std.specs.Ordering.{nat_cmp}
+use Rattle.cached_frag.specs.declared.jobs.Job.{Job}
 use Rattle.cluster_core.specs.SentBytes.{SentBytes}
 use Rattle.cluster_core.specs.State.{BookState}
-use Rattle.admin_cli.specs.Jobs.{JobsByNumber}
 
--- a book, how many lines with an operation alone were read for it, the jobs that were begun, and the bytes that exports
--- sent
+-- a book, how many lines with an operation alone were read for it, the jobs that were begun, by their numbers, and the
+-- bytes that exports sent
 pub record Admin : Type 0 where
   pub book : BookState
   pub operations : ℕ
-  pub jobs : JobsByNumber
+  pub jobs : map.FinMap nat_cmp Job
   pub sent : SentBytes

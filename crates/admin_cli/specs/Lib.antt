@@ -3,7 +3,6 @@ pub mod Authorities
 pub mod Execute
 pub mod ExportLines
 pub mod FaultText
-pub mod Jobs
 pub mod Loads
 pub mod Modes
 pub mod OneLine

@@ -1,6 +1,8 @@
 -- What a command on the store does, and the line that it prints.
 use Rattle.std.specs.Prelude.{◌≡◌, ◌⊎◌, ◌==◌, ℕ, Bool, true, false, cond, List, Option, Some, None, Result, Ok, Err, OnOk}
 use Rattle.std.specs.FinMap as map
+use Rattle.std.specs.Ordering.{nat_cmp}
+use Rattle.cached_frag.specs.declared.jobs.Job.{Job as Begun}
 use Rattle.mds_types.specs.declared.ids.Ino.{Ino}
 use Rattle.mds_types.specs.declared.ids.Rank.{Rank}
 use Rattle.mds_types.specs.declared.refusals.Refusal.{Refusal}
@@ -25,7 +27,6 @@ use Rattle.script_output.specs.declared.lines.OutputLine.TheVariants.{Nothing as
 use Rattle.script_output.specs.declared.object_lines.ObjectLine.{ObjectLine as Shown}
 use Rattle.object_lines.specs.ObjectLines.{IsLineOf, MayTakeMemory}
 use Rattle.admin_cli.specs.Admin.{Admin}
-use Rattle.admin_cli.specs.Jobs.{JobsByNumber}
 use Rattle.admin_cli.specs.StepLines.{DoesEvent, IsStep, shown_line}
 
 -- ---- commits
@@ -41,7 +42,7 @@ number_in (Ok (Sent bytes)) = Ok None
 number_in (Err refusal) = Err refusal
 
 -- the job is kept, by its number
-abbrev pub with_begun : JobsByNumber → Result Answer Refusal → JobsByNumber
+abbrev pub with_begun : map.FinMap nat_cmp Begun → Result Answer Refusal → map.FinMap nat_cmp Begun
 with_begun jobs (Ok (Job job)) = map.insert jobs job.number job
 with_begun jobs (Ok Nothing) = jobs
 with_begun jobs (Ok (Reply client tid place first reply)) = jobs

@@ -18,9 +18,9 @@ impl Model for KeptJobs {
     ghost use Rattle.std.specs.FinMap as map;
     ghost use Rattle.std.specs.Ordering.{nat_cmp};
     ghost use Rattle.sorted_map.specs.SortedMap.{contents};
-    ghost use Rattle.admin_cli.specs.Jobs.{JobsByNumber};
+    ghost use Rattle.cached_frag.specs.declared.jobs.Job as declared;
 
-    ghost Value = { JobsByNumber };
+    ghost Value = { map.FinMap nat_cmp declared.Job };
 
     ghost coded = { Prim.hlevel (codes, map.code) };
 

@@ -11,13 +11,10 @@ use Rattle.cluster_core.specs.State.{BookState}
 use Rattle.cluster_core.specs.declared.restarting.NotRestarted.{NotRestarted}
 use Rattle.cluster_core.specs.declared.restarting.NotRestarted.TheVariants.{Unflushed, Unmounted}
 
--- the tree after the history of a book is in a store
-abbrev pub IsSaved : BookState → Objects → Type 0
-IsSaved book objects = IsColdTree objects (after book.core.state.tree.limit book.opening book.history)
-
 -- nothing is lost: the flush was refused, and the book is as a refused flush leaves it; or the mount was, and the store has
 -- the tree after the history
-abbrev pub Leaves : {S : Type 0} → (objects : S → Objects) (faults : S → ℕ) → BookState → NotRestarted S → Type 0
-Leaves objects faults old (Unflushed reason left) = Flushes old left (Err reason) × IsSoundBook left
-Leaves objects faults old (Unmounted reason store) =
-    IsSaved old (objects store) × ((before : ℕ) × MayNotMount (objects store) before (faults store) reason)
+abbrev pub LosesNothing : {S : Type 0} → (objects : S → Objects) (faults : S → ℕ) → BookState → NotRestarted S → Type 0
+LosesNothing objects faults old (Unflushed reason left) = Flushes old left (Err reason) × IsSoundBook left
+LosesNothing objects faults old (Unmounted reason store) =
+    IsColdTree (objects store) (after old.core.state.tree.limit old.opening old.history)
+    × ((before : ℕ) × MayNotMount (objects store) before (faults store) reason)

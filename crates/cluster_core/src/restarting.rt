@@ -1,7 +1,7 @@
 //! A book that is closed, and opened again from its store alone.
 ghost use Rattle.std.specs.Prelude.{◌≡◌, ◌≤◌, [], IfErr, IfOk};
 ghost use Rattle.mds_types.specs.History.{after};
-ghost use Rattle.cluster_core.specs.Restart.{Leaves};
+ghost use Rattle.cluster_core.specs.Restart.{LosesNothing};
 ghost use Rattle.cluster_core.specs.Sound.{IsSoundBook};
 ghost use Rattle.cluster_core.specs.State.{shown};
 
@@ -63,7 +63,7 @@ pub fn restart<S: Store + Drop>(
     ensures limit { IfOk result (λ next. next.core.state.tree.limit ≡ limit) }
     ensures shows { IfOk result (λ next. shown next.core.state ≡ next.opening) }
     ensures sound { IfOk result IsSoundBook }
-    ensures left { IfErr result (Leaves S.objects S.faults book) }
+    ensures left { IfErr result (LosesNothing S.objects S.faults book) }
 {
     let mut closed = book;
     if let Err(refusal) = flush(rt, alloc, &mut closed) {
