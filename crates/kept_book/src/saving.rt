@@ -3,7 +3,9 @@ ghost use Rattle.std.specs.Prelude.{◌≡◌, IfOk, IfSome};
 ghost use Rattle.mds_types.specs.History.{after};
 ghost use Rattle.mds_types.specs.Tree.{Tree};
 ghost use Rattle.cold_store.specs.ColdTree.{IsColdTree};
+ghost use Rattle.cluster_core.specs.Sound.{IsSoundBook};
 ghost use Rattle.sqlite_trees.specs.View.{IsClean};
+ghost use Rattle.kept_book.specs.Saves.{Saves};
 ghost use Rattle.kept_book.specs.Survives.{IsOnDisk, Survives};
 
 use cluster_core::{Book, flush};
@@ -13,6 +15,7 @@ use kept_store::{Kept, Settle};
 use mds_types::Refusal;
 use sqlite_trees::store::Store as Trees;
 use std::alloc::Global;
+use std::snapshot::Snapshot;
 use std::thread::Threads;
 use thiserror::Error;
 
@@ -28,16 +31,18 @@ pub enum Unsaved {
 }
 
 /// Flushes a cluster, and keeps what it wrote. Where it answers Ok, and the disk was honest, the tree after the history is
-/// on disk: whatever a crash leaves of the file from then on, a mount of it shows this tree and no other. It answers the
-/// store, which tells so.
-pub fn save<'a, T: Settle + Drop>(
+/// on disk: whatever a crash leaves of the file from then on, a mount of it shows this tree and no other. The answer is
+/// the store at that moment, for contracts alone. Whatever it answers, the tree and the history are as they were.
+pub fn save<T: Settle + Drop>(
     rt: &(impl Threads + Sync),
     alloc: Global,
-    book: &'a mut Book<Kept<T>>,
-) -> Result<&'a Kept<T>, Unsaved>
-    ensures on_disk { IfOk result (λ s. IsClean (T.Store.view s.now.tables)
-        → IsOnDisk (T.Store.recovers s.now.tables)
+    book: &mut Book<Kept<T>>,
+) -> Result<Snapshot<Kept<T>>, Unsaved>
+    ensures on_disk { IfOk result (λ s. IsClean (T.Store.view s.value.tables)
+        → IsOnDisk (T.Store.recovers s.value.tables)
         (after book.old.core.state.tree.limit book.old.opening book.old.history)) }
+    ensures saves { Saves book.old book.new result }
+    ensures sound { IsSoundBook book.new }
 {
     if let Err(refusal) = flush(rt, alloc, book) {
         return Err(Unsaved::Refused(refusal));
@@ -46,7 +51,7 @@ pub fn save<'a, T: Settle + Drop>(
         return Err(Unsaved::Unkept(why));
     }
     match kept_of(book) {
-        Some(store) => Ok(store),
+        Some(store) => Ok(Snapshot::of(store)),
         None => Err(Unsaved::Unkept(Unkept::Shut)),
     }
 }
