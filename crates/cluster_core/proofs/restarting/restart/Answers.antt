@@ -1,6 +1,9 @@
--- What was flushed is found again.
+-- What was flushed is found again; and where it isn't opened, it is still there.
 use Rattle.cluster_core.proofs.RestartLaws.{opens_again}
 use Rattle.cluster_core.proofs.restarting.restart.Goals as goal
 
 pub returns-in-Ok-clause-opening : goal.returns-in-Ok-clause-opening
 returns-in-Ok-clause-opening g c = opens_again _ _ _ _ _ c.into_store.ensures.objects c.in_default.ensures.cold c.in-Ok.ensures.cold c.in-Ok.ensures.opening
+
+pub returns-in-Err-clause-left : goal.returns-in-Err-clause-left
+returns-in-Err-clause-left g c = (c.in-Err.ensures.outcome, c.in-Err.ensures.sound)
