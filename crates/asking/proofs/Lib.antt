@@ -12,5 +12,6 @@ pub mod OneLaws
 pub mod PinLaws
 pub mod ReachedLaws
 pub mod ServeLaws
+pub mod ServiceLaws
 pub mod Transport
 pub mod WaitingLaws

@@ -1,8 +1,11 @@
 //! A book to ask, and nothing else: whatever was asked, nothing is left waiting.
-ghost use Rattle.std.specs.Prelude.{◌≡◌, ◌≢◌, ◌∷◌, [], length, Err, IfOk, MatchResult};
+ghost use Rattle.std.specs.Prelude.{◌≡◌, ◌≢◌, ◌∷◌, [], length, Err, IfErr, IfOk, MatchResult, OnOk};
 ghost use Rattle.std.specs.FinMap as map;
-ghost use Rattle.cluster_core.specs.OneThread.{InOrder, IsOneThread, StandsInHistory};
+ghost use Rattle.mds_types.specs.History.{after};
+ghost use Rattle.cluster_core.specs.Flush.{Flushes, IsColdTree};
+ghost use Rattle.cluster_core.specs.OneThread.{InOrder, IsOneThread, StandsInHistory, arrival};
 ghost use Rattle.cluster_core.specs.Sound.{IsSoundBook};
+ghost use Rattle.cluster_core.specs.Steps.{Steps};
 ghost use Rattle.asking.specs.Ask.{NoneWaits};
 ghost use Rattle.asking.specs.Drain.{waiting_in_all};
 ghost use Rattle.asking.specs.Once.{AsksOnce, Leaves};
@@ -10,10 +13,12 @@ ghost use Rattle.asking.specs.Reached.{receipt_in};
 
 use crate::asks::ask;
 use crate::drains::lowest;
-use cluster_core::{Book, Receipt, give_up};
+use cluster_core::{Answer, Book, Event, Receipt, flush, give_up};
+use keeping::{Keep, Unkept};
 use mds_types::{Rank, Refusal, Request};
 use objstore::Store;
 use std::alloc::Global;
+use std::thread::Threads;
 
 /// A request comes in at a rank of a book where nothing else waits, and is brought to its answer; where that is refused it is
 /// given up, as if it had never come. Nothing waits afterwards, whatever came of it.
@@ -86,6 +91,37 @@ impl<S: Store + Drop> Service<S> {
         &self.book
     }
 
+    /// The book, handed back.
+    pub fn into_book(self) -> Book<S>
+        ensures { result ≡ self.book }
+    {
+        let Service { book, .. } = self;
+        book
+    }
+
+    /// One step of the book, of an event that brings no request, as an administrator's: what it answers, or why it is
+    /// refused.
+    pub fn step(&mut self, alloc: Global, event: Event) -> Result<Answer, Refusal>
+        requires { arrival event ≡ [] }
+        ensures stepped { Steps self.old.book.core self.new.book.core self.old.book.history self.new.book.history result
+            event }
+        ensures silent { self.new.book.history ≡ self.old.book.history }
+        ensures limit { self.new.book.core.state.tree.limit ≡ self.old.book.core.state.tree.limit }
+        ensures opening { self.new.book.opening ≡ self.old.book.opening }
+    {
+        self.book.step(alloc, event)
+    }
+
+    /// Writes all that isn't in the store, as `flush` does.
+    pub fn flush(&mut self, rt: &(impl Threads + Sync), alloc: Global) -> Result<(), Refusal>
+        ensures cold { OnOk result
+            (IsColdTree self.new.book.core.state.tree.objects
+            (after self.old.book.core.state.tree.limit self.old.book.opening self.old.book.history)) }
+        ensures outcome { Flushes self.old.book self.new.book result }
+    {
+        flush(rt, alloc, &mut self.book)
+    }
+
     /// A request comes in at a rank, and gets its answer, or is refused as `ask_once` is: then nothing of it is left.
     pub fn ask(&mut self, alloc: Global, rank: Rank, request: Request) -> Result<Receipt, Refusal>
         ensures one_thread { IsOneThread self.old.book.core.state.tree.limit self.old.book.opening self.old.book.history
@@ -100,5 +136,23 @@ impl<S: Store + Drop> Service<S> {
         ensures opening { self.new.book.opening ≡ self.old.book.opening }
     {
         ask_once(alloc, &mut self.book, rank, request)
+    }
+}
+
+impl<S: Keep + Drop> Service<S> {
+    /// Brings what the store has where it outlives the process, as `Book::keep` does.
+    pub fn keep(&mut self) -> Result<(), Unkept>
+        ensures same { self.new.book ≡ self.old.book }
+        ensures failed { IfErr result (λ _. S.may_fail) }
+    {
+        self.book.keep()
+    }
+
+    /// Leaves what was kept whole in one place, as a run ends.
+    pub fn settle(&mut self) -> Result<(), Unkept>
+        ensures same { self.new.book ≡ self.old.book }
+        ensures failed { IfErr result (λ _. S.may_fail) }
+    {
+        self.book.settle()
     }
 }

@@ -1,0 +1,38 @@
+-- Where nothing waits, nothing waits after a step that brings no request.
+use Rattle.asking.proofs.Common.{BookState, Entry, Inboxes, List, Receipt, Refusal, Request, Result, State, Tree, [], ap, append-nil, arith, inl, inr, length, refl, subst, ℕ, ◌++◌, ◌<◌, ◌∙◌, ◌∷◌, ◌≡◌}
+use Rattle.std.specs.List.{AllByRecursion, Contains}
+use Rattle.cluster_core.specs.Flush.{Flushes}
+use Rattle.cluster_core.specs.OneThread.{IsOneThread, IsSent, waiting_in}
+use Rattle.asking.specs.Drain.{waiting_in_all}
+use Rattle.asking.proofs.OneLaws.{none_among}
+use Rattle.asking.proofs.AmongLaws.{none_from_all}
+
+-- all of none are none
+none_of_none : (ws : List Request) → AllByRecursion (Contains []) ws → ws ≡ []
+none_of_none [] all = refl
+none_of_none (w ∷ ws) (has, all) = let few : has.0 < length {A = Request} [] = has.1 in absurd (omega (arith, few))
+
+none_wait : (xs : Inboxes) → waiting_in xs ≡ [] → waiting_in_all xs ≡ 0
+none_wait [] none = refl
+none_wait ([] ∷ xs) none = none_wait xs none
+none_wait ((q ∷ qs) ∷ xs) none = let clash : q ∷ (qs ++ waiting_in xs) ≡ [] = none in absurd cc
+
+pub idle_still : (old new : Inboxes) (came : List Request) → came ≡ [] → waiting_in_all old ≡ 0 → AllByRecursion (Contains (waiting_in old ++ came)) (waiting_in new) → waiting_in_all new ≡ 0
+idle_still old new came none idle waits =
+    let empty : waiting_in old ++ came ≡ [] = ap (λ (ws : List Request). ws ++ came) (none_among old (none_from_all old idle)) ∙ none in
+    none_wait new (none_of_none (waiting_in new) (subst (λ (sent : List Request). AllByRecursion (Contains sent) (waiting_in new)) empty waits))
+
+none_sent : (more : List Entry) → AllByRecursion (IsSent []) more → more ≡ []
+none_sent [] all = refl
+none_sent (e ∷ es) (has, all) = let few : has.0 < length {A = Request} [] = has.1 in absurd (omega (arith, few))
+
+-- and nothing is applied
+pub nothing_applied : (limit : ℕ) (opening : Tree) (past now : List Entry) (old : Inboxes) (came : List Request) (told : List Receipt) → came ≡ [] → waiting_in_all old ≡ 0 → IsOneThread limit opening past now (waiting_in old ++ came) told → now ≡ past
+nothing_applied limit opening past now old came told none idle one =
+    let empty : waiting_in old ++ came ≡ [] = ap (λ (ws : List Request). ws ++ came) (none_among old (none_from_all old idle)) ∙ none in
+    one.grows ∙ (ap (λ (es : List Entry). past ++ es) (none_sent one.more (subst (λ (sent : List Request). AllByRecursion (IsSent sent) one.more) empty one.asked)) ∙ append-nil past)
+
+-- nor after a flush
+pub idle_flushed : (old new : BookState) (result : Result (Unit {0}) Refusal) → Flushes old new result → waiting_in_all old.core.state.inboxes ≡ 0 → waiting_in_all new.core.state.inboxes ≡ 0
+idle_flushed old new result (inl hindered) idle = ap (λ (b : BookState). waiting_in_all b.core.state.inboxes) hindered.left ∙ idle
+idle_flushed old new result (inr tried) idle = ap (λ (s : State). waiting_in_all s.inboxes) tried.kept.core.left ∙ idle
