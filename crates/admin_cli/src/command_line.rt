@@ -146,7 +146,7 @@ fn program<'a>(alloc: Global) -> Result<Command<'a>, AllocError> {
 // Its subcommand `script`.
 fn script<'a>(alloc: Global) -> Result<Command<'a>, AllocError> {
     Command::new(alloc, "script")
-        .about("Runs a script from standard input over a cluster with an empty tree")
+        .about("Runs a script from standard input over a cluster: an empty tree, or that of a file")
         .after_help(LINES)
         .arg(ranks(alloc))?
         .arg(cache(alloc))?
