@@ -5,6 +5,7 @@ use Rattle.std.specs.Ordering.{nat_cmp}
 use Rattle.cached_frag.specs.declared.jobs.Job.{Job}
 use Rattle.cluster_core.specs.SentBytes.{SentBytes}
 use Rattle.cluster_core.specs.State.{BookState}
+use Rattle.admin_cli.specs.declared.commands.Admin as declared
 
 -- a book, how many lines with an operation alone were read for it, the jobs that were begun, by their numbers, and the
 -- bytes that exports sent
@@ -13,3 +14,7 @@ pub record Admin : Type 0 where
   pub operations : ℕ
   pub jobs : map.FinMap nat_cmp Job
   pub sent : SentBytes
+
+-- so it is whatever store the book is over
+abbrev pub seen : {S : Type 0} → declared.Admin S → Admin
+seen a = record { book = a.book; operations = a.operations; jobs = a.jobs; sent = a.sent }

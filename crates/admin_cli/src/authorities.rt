@@ -3,6 +3,7 @@ ghost use Rattle.std.specs.Prelude.{◌≡◌, IfOk};
 ghost use Rattle.cluster_core.specs.declared.events.Event.TheVariants.{Grant};
 ghost use Rattle.admin_cli.specs.Authorities.{ListsSubtrees, TellsLine, roots_in};
 ghost use Rattle.admin_cli.specs.StepLines.{DoesEvent};
+ghost use Rattle.admin_cli.specs.Admin.{seen};
 
 use crate::commands::Admin;
 use cluster_core::Event;
@@ -16,7 +17,7 @@ impl<S: Keep + Drop> Admin<S> {
     // A rank lets a waiting request change fragments that are the rank's.
     #[inline(never)]
     pub(crate) fn grant(&mut self, alloc: Global, rank: Rank, client: u64, tid: u64) -> OutputLine
-        ensures { DoesEvent self.old self.new (Grant rank client tid) result }
+        ensures { DoesEvent (seen self.old) (seen self.new) (Grant rank client tid) result }
     {
         self.step(alloc, Event::Grant { rank, client, tid })
     }

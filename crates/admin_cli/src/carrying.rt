@@ -3,6 +3,7 @@
 ghost use Rattle.std.specs.Prelude.{◌≡◌, ◌+◌, ◌<◌, ◌≤◌, ◌^◌, IfOk, OnErr};
 ghost use Rattle.admin_cli.specs.Execute.{LacksForCommand};
 ghost use Rattle.admin_cli.specs.Modes.{AsksOperation, AsksRequest, DoesUnder, DoesStoreUnder, AsksNow, asked_line as line_of};
+ghost use Rattle.admin_cli.specs.Admin.{seen};
 
 use crate::commands::Admin;
 use crate::modes::Mode;
@@ -25,8 +26,8 @@ impl<S: Keep + Drop> Admin<S> {
         command: Command,
     ) -> Result<OutputLine, AllocError>
         requires { self.old.operations + 1 < 2 ^ 64 }
-        ensures line { IfOk result (DoesUnder mode self.old self.new command) }
-        ensures err { OnErr result (LacksForCommand self.old self.new command) }
+        ensures line { IfOk result (DoesUnder mode (seen self.old) (seen self.new) command) }
+        ensures err { OnErr result (LacksForCommand (seen self.old) (seen self.new) command) }
         ensures count { self.new.operations ≤ self.old.operations + 1 }
     {
         match command {
@@ -55,8 +56,8 @@ impl<S: Keep + Drop> Admin<S> {
         command: StoreCommand,
     ) -> Result<OutputLine, AllocError>
         requires { self.old.operations + 1 < 2 ^ 64 }
-        ensures line { IfOk result (DoesStoreUnder mode self.old self.new command) }
-        ensures err { OnErr result (LacksForCommand self.old self.new (Command.Store command)) }
+        ensures line { IfOk result (DoesStoreUnder mode (seen self.old) (seen self.new) command) }
+        ensures err { OnErr result (LacksForCommand (seen self.old) (seen self.new) (Command.Store command)) }
         ensures count { self.new.operations ≤ self.old.operations + 1 }
     {
         match command {
@@ -75,7 +76,7 @@ impl<S: Keep + Drop> Admin<S> {
     #[inline(never)]
     pub(crate) fn ask_operation(&mut self, alloc: Global, op: Op) -> OutputLine
         requires { self.old.operations + 1 < 2 ^ 64 }
-        ensures { AsksOperation self.old self.new op result }
+        ensures { AsksOperation (seen self.old) (seen self.new) op result }
     {
         self.operations += 1;
         let tid = self.operations;
@@ -91,7 +92,7 @@ impl<S: Keep + Drop> Admin<S> {
     // A request is asked at a rank.
     #[inline(never)]
     fn ask_request(&mut self, alloc: Global, rank: Rank, request: Request) -> OutputLine
-        ensures { AsksRequest self.old self.new rank request result }
+        ensures { AsksRequest (seen self.old) (seen self.new) rank request result }
     {
         asked_line(self.ask(alloc, rank, request))
     }

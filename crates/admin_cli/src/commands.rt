@@ -4,6 +4,7 @@ ghost use Rattle.std.specs.Prelude.{◌≡◌, ◌+◌, ◌<◌, ◌≤◌, ◌^
 ghost use Rattle.std.specs.FinMap as map;
 ghost use Rattle.cluster_core.specs.SentBytes.{none_sent};
 ghost use Rattle.admin_cli.specs.StepLines.{shown_line as line_of};
+ghost use Rattle.admin_cli.specs.Admin.{seen};
 
 use crate::kept_jobs::KeptJobs;
 use cluster_core::{Answer, Book, Event, KeptBytes};
@@ -12,7 +13,6 @@ use mds_types::{Frag, Ino, Op, Rank, Refusal, Request};
 use script_output::{FragList, OutputLine};
 use script_text::Command;
 use std::alloc::{AllocError, Global};
-use std::marker::Model;
 use std::thread::Threads;
 
 /// A book, how many lines with an operation alone were read for it, the jobs that were begun, and the bytes that
@@ -25,18 +25,6 @@ pub struct Admin<S: Keep + Drop> {
     pub(crate) sent: KeptBytes,
 }
 
-impl<S: Keep + Drop> Model for Admin<S> {
-    ghost use Rattle.std.specs.Coded.{codes};
-    ghost use Rattle.std.specs.FinMap as map;
-    ghost use Rattle.admin_cli.specs.Admin as specs;
-
-    ghost Value = { specs.Admin };
-
-    ghost coded = { Prim.hlevel (codes, map.code) };
-
-    ghost view = { λ a. record { book = a.book; operations = a.operations; jobs = a.jobs; sent = a.sent } };
-}
-
 impl<S: Keep + Drop> Admin<S> {
     ghost use Rattle.cluster_core.specs.declared.events.Event.TheVariants.{Arrive, Merge, Serve, Split};
     ghost use Rattle.admin_cli.specs.Execute.{Executes, LacksForCommand, ListsLine, OperatesLine};
@@ -44,7 +32,7 @@ impl<S: Keep + Drop> Admin<S> {
 
     /// An administrator of this book, who has read no line yet.
     pub fn new(alloc: Global, book: Book<S>) -> Admin<S>
-        ensures { result ≡ record { book = book; operations = 0; jobs = map.empty; sent = none_sent } }
+        ensures { seen result ≡ record { book = book; operations = 0; jobs = map.empty; sent = none_sent } }
     {
         Admin {
             book,
@@ -82,8 +70,8 @@ impl<S: Keep + Drop> Admin<S> {
         command: Command,
     ) -> Result<OutputLine, AllocError>
         requires { self.old.operations + 1 < 2 ^ 64 }
-        ensures line { IfOk result (Executes self.old self.new command) }
-        ensures err { OnErr result (LacksForCommand self.old self.new command) }
+        ensures line { IfOk result (Executes (seen self.old) (seen self.new) command) }
+        ensures err { OnErr result (LacksForCommand (seen self.old) (seen self.new) command) }
         ensures count { self.new.operations ≤ self.old.operations + 1 }
     {
         let alloc = rt.alloc();
@@ -159,7 +147,7 @@ impl<S: Keep + Drop> Admin<S> {
     // A rank serves.
     #[inline(never)]
     fn serve(&mut self, alloc: Global, rank: Rank) -> OutputLine
-        ensures { DoesEvent self.old self.new (Serve rank) result }
+        ensures { DoesEvent (seen self.old) (seen self.new) (Serve rank) result }
     {
         self.step(alloc, Event::Serve { rank })
     }
@@ -174,7 +162,7 @@ impl<S: Keep + Drop> Admin<S> {
         frag: Frag,
         bits: u8,
     ) -> OutputLine
-        ensures { DoesEvent self.old self.new (Split rank ino frag bits) result }
+        ensures { DoesEvent (seen self.old) (seen self.new) (Split rank ino frag bits) result }
     {
         self.step(
             alloc,
@@ -190,7 +178,7 @@ impl<S: Keep + Drop> Admin<S> {
     // Leaves of a directory are merged.
     #[inline(never)]
     pub(crate) fn merge(&mut self, alloc: Global, rank: Rank, ino: Ino, frag: Frag) -> OutputLine
-        ensures { DoesEvent self.old self.new (Merge rank ino frag) result }
+        ensures { DoesEvent (seen self.old) (seen self.new) (Merge rank ino frag) result }
     {
         self.step(alloc, Event::Merge { rank, ino, frag })
     }
@@ -198,7 +186,7 @@ impl<S: Keep + Drop> Admin<S> {
     // One event. It is put into its callers, as the step of a book is: an event is large, and none is moved then.
     #[inline(always)]
     pub(crate) fn step(&mut self, alloc: Global, event: Event) -> OutputLine
-        ensures { DoesEvent self.old self.new event result }
+        ensures { DoesEvent (seen self.old) (seen self.new) event result }
     {
         shown_line(self.step_book(alloc, event))
     }

@@ -1,6 +1,7 @@
 //! Commands on the exports of subtrees. What an export sends is kept here, between its `send` and its `import`.
 ghost use Rattle.std.specs.Prelude.{◌≡◌, IfOk, OnErr};
 ghost use Rattle.admin_cli.specs.ExportLines.{CopiesNoBytes, ExecutesExport, ImportsLine, LacksForExport, SendsLine, is_done};
+ghost use Rattle.admin_cli.specs.Admin.{seen};
 
 use crate::commands::{Admin, shown_line};
 use cluster_core::{Answer, Event};
@@ -18,8 +19,8 @@ impl<S: Keep + Drop> Admin<S> {
         alloc: Global,
         command: ExportCommand,
     ) -> Result<OutputLine, AllocError>
-        ensures line { IfOk result (ExecutesExport self.old self.new command) }
-        ensures err { OnErr result (LacksForExport self.old self.new command) }
+        ensures line { IfOk result (ExecutesExport (seen self.old) (seen self.new) command) }
+        ensures err { OnErr result (LacksForExport (seen self.old) (seen self.new) command) }
         ensures count { self.new.operations ≡ self.old.operations }
     {
         match command {
@@ -61,8 +62,8 @@ impl<S: Keep + Drop> Admin<S> {
         ino: Ino,
         frag: Frag,
     ) -> Result<OutputLine, AllocError>
-        ensures line { IfOk result (SendsLine self.old self.new ino frag) }
-        ensures err { OnErr result (self.new ≡ self.old) }
+        ensures line { IfOk result (SendsLine (seen self.old) (seen self.new) ino frag) }
+        ensures err { OnErr result ((seen self.new) ≡ (seen self.old)) }
         ensures count { self.new.operations ≡ self.old.operations }
     {
         self.sent.reserve()?;
@@ -85,8 +86,8 @@ impl<S: Keep + Drop> Admin<S> {
         ino: Ino,
         frag: Frag,
     ) -> Result<OutputLine, AllocError>
-        ensures line { IfOk result (ImportsLine self.old self.new ino frag) }
-        ensures err { OnErr result (CopiesNoBytes self.old self.new ino frag) }
+        ensures line { IfOk result (ImportsLine (seen self.old) (seen self.new) ino frag) }
+        ensures err { OnErr result (CopiesNoBytes (seen self.old) (seen self.new) ino frag) }
         ensures count { self.new.operations ≡ self.old.operations }
     {
         let bytes = self.sent.copy_of(ino, frag)?;

@@ -2,6 +2,7 @@
 ghost use Rattle.std.specs.Prelude.{◌≡◌, IfOk, OnErr};
 ghost use Rattle.cluster_core.specs.Proposal.{IsOwnStep};
 ghost use Rattle.admin_cli.specs.OwnLines.{LacksForStep, LacksForTurn, MakesOne, MakesStep, TakesTurn, came_of, own_line_of};
+ghost use Rattle.admin_cli.specs.Admin.{seen};
 
 use crate::commands::Admin;
 use cluster_core::Event;
@@ -16,8 +17,8 @@ impl<S: Keep + Drop> Admin<S> {
     /// was made.
     #[inline(never)]
     pub(crate) fn own_turn(&mut self, alloc: Global, rank: Rank) -> Result<OutputLine, AllocError>
-        ensures line { IfOk result (TakesTurn self.old self.new rank) }
-        ensures err { OnErr result (LacksForTurn self.old self.new rank) }
+        ensures line { IfOk result (TakesTurn (seen self.old) (seen self.new) rank) }
+        ensures err { OnErr result (LacksForTurn (seen self.old) (seen self.new) rank) }
         ensures count { self.new.operations ≡ self.old.operations }
     {
         match self.book.propose(rank) {
@@ -30,8 +31,8 @@ impl<S: Keep + Drop> Admin<S> {
     // Makes the step that a rank proposed.
     fn own_step(&mut self, alloc: Global, event: Event) -> Result<OutputLine, AllocError>
         requires { IsOwnStep event }
-        ensures line { IfOk result (MakesStep self.old self.new event) }
-        ensures err { OnErr result (LacksForStep self.old self.new event) }
+        ensures line { IfOk result (MakesStep (seen self.old) (seen self.new) event) }
+        ensures err { OnErr result (LacksForStep (seen self.old) (seen self.new) event) }
         ensures count { self.new.operations ≡ self.old.operations }
     {
         match event {
@@ -115,7 +116,7 @@ impl<S: Keep + Drop> Admin<S> {
         frag: Frag,
         event: Event,
     ) -> OutputLine
-        ensures line { MakesOne self.old self.new step ino frag event result }
+        ensures line { MakesOne (seen self.old) (seen self.new) step ino frag event result }
         ensures count { self.new.operations ≡ self.old.operations }
     {
         let shown = self.step(alloc, event);

@@ -11,6 +11,7 @@ ghost use Rattle.admin_cli.specs.Printed.{PrintsOneThread};
 ghost use Rattle.admin_cli.specs.Scripts.{IsFormatted, RunsInput, RunsNew};
 ghost use Rattle.admin_cli.specs.OneLine.{AnswersLine, DoesBytes, HasReaderFailed, Prints, RunsOrNot};
 ghost use Rattle.admin_cli.specs.Waiting.{IsEmpty, PrintsApart, PrintsCame, PrintsOf, PrintsOutput, RunsWaiting};
+ghost use Rattle.admin_cli.specs.Admin.{seen};
 
 use crate::commands::{Admin, shown_line};
 use crate::faults::{FaultKind, ScriptFault};
@@ -150,7 +151,7 @@ fn run_input<R: Read + Drop, W: Write, S: Keep + Drop>(
     mode: Mode,
 ) -> Result<(), ScriptFault>
     requires { admin.old.operations ≡ 0 }
-    ensures { RunsOrNot (DoesUnder mode) admin.old (R.remaining reader) (W.contents writer.old) (W.contents writer.new)
+    ensures { RunsOrNot (DoesUnder mode) (seen admin.old) (R.remaining reader) (W.contents writer.old) (W.contents writer.new)
         result }
 {
     let alloc = rt.alloc();
@@ -207,7 +208,7 @@ fn run_lines<R: ReadAhead, W: Write, S: Keep + Drop>(
 ) -> Result<(), ScriptFault>
     requires first { admin.old.operations ≡ 0 }
     requires empty { IsEmpty waiting.old }
-    ensures runs { RunsWaiting (DoesUnder mode) admin.old waiting.new (R.remaining reader.old)
+    ensures runs { RunsWaiting (DoesUnder mode) (seen admin.old) waiting.new (R.remaining reader.old)
         (W.contents writer.old) (W.contents writer.new) result }
     ensures failed { HasReaderFailed buffer.new.failed result }
 {
@@ -250,7 +251,7 @@ fn run_line<W: Write, S: Keep + Drop>(
     requires room { admin.old.operations + 1 < 2 ^ 64 }
     requires short { length bytes.now ≤ 16384 }
     ensures count { admin.new.operations ≤ admin.old.operations + 1 }
-    ensures runs { PrintsOf (DoesBytes (DoesUnder mode) admin.old admin.new bytes.now) waiting.old waiting.new line
+    ensures runs { PrintsOf (DoesBytes (DoesUnder mode) (seen admin.old) (seen admin.new) bytes.now) waiting.old waiting.new line
         (W.contents writer.old) (W.contents writer.new) result }
 {
     match read_operation_line(rt.alloc(), bytes) {
@@ -279,7 +280,7 @@ fn do_operation<W: Write, S: Keep + Drop>(
     requires count { admin.old.operations + 1 < 2 ^ 64 }
     requires plain { mode.asks ≡ false }
     ensures count { admin.new.operations ≤ admin.old.operations + 1 }
-    ensures prints { PrintsOf (AnswersLine (DoesUnder mode) admin.old admin.new (asked.Command (Operation op))) waiting.old waiting.new line
+    ensures prints { PrintsOf (AnswersLine (DoesUnder mode) (seen admin.old) (seen admin.new) (asked.Command (Operation op))) waiting.old waiting.new line
         (W.contents writer.old) (W.contents writer.new) result }
 {
     let came = admin.operate(alloc, op);
@@ -307,7 +308,7 @@ fn ask_operation<W: Write, S: Keep + Drop>(
     requires count { admin.old.operations + 1 < 2 ^ 64 }
     requires asks { mode.asks ≡ true }
     ensures count { admin.new.operations ≤ admin.old.operations + 1 }
-    ensures prints { PrintsOf (AnswersLine (DoesUnder mode) admin.old admin.new (asked.Command (Operation op))) waiting.old
+    ensures prints { PrintsOf (AnswersLine (DoesUnder mode) (seen admin.old) (seen admin.new) (asked.Command (Operation op))) waiting.old
         waiting.new line (W.contents writer.old) (W.contents writer.new) result }
 {
     let shown = admin.ask_operation(alloc, op);
@@ -330,7 +331,7 @@ fn run_other<W: Write, S: Keep + Drop>(
     requires room { admin.old.operations + 1 < 2 ^ 64 }
     requires short { length bytes.now ≤ 16384 }
     ensures count { admin.new.operations ≤ admin.old.operations + 1 }
-    ensures runs { PrintsOf (DoesBytes (DoesUnder mode) admin.old admin.new bytes.now) waiting.old waiting.new line
+    ensures runs { PrintsOf (DoesBytes (DoesUnder mode) (seen admin.old) (seen admin.new) bytes.now) waiting.old waiting.new line
         (W.contents writer.old) (W.contents writer.new) result }
 {
     let Ok(found) = read_line(rt.alloc(), bytes) else {
@@ -351,7 +352,7 @@ fn do_line<W: Write, S: Keep + Drop>(
 ) -> Result<(), ScriptFault>
     requires { admin.old.operations + 1 < 2 ^ 64 }
     ensures count { admin.new.operations ≤ admin.old.operations + 1 }
-    ensures prints { PrintsOf (AnswersLine (DoesUnder mode) admin.old admin.new found) waiting.old waiting.new line
+    ensures prints { PrintsOf (AnswersLine (DoesUnder mode) (seen admin.old) (seen admin.new) found) waiting.old waiting.new line
         (W.contents writer.old) (W.contents writer.new) result }
 {
     match found {

@@ -3,6 +3,7 @@ ghost use Rattle.std.specs.Prelude.{◌≡◌, ℕ, cond, IfOk, List, OnErr, Opt
 ghost use Rattle.std.specs.FinMap as map;
 ghost use Rattle.admin_cli.specs.Modes.{SavesLine};
 ghost use Rattle.admin_cli.specs.StoreLines.{BeginsJob, BeginsLine, CommitsLine, CopiesNone, EndsJob, EndsLine, ExecutesStore, FlushesLine, IsFlush, LacksForCommit, LacksForStore, ListsObjects, LooksLine, LosesJob, begun_line as line_of, is_hindered as hinders, is_over};
+ghost use Rattle.admin_cli.specs.Admin.{seen};
 
 use crate::commands::{Admin, shown_line};
 use crate::kept_jobs::KeptJobs;
@@ -26,8 +27,8 @@ impl<S: Keep + Drop> Admin<S> {
         alloc: Global,
         command: StoreCommand,
     ) -> Result<OutputLine, AllocError>
-        ensures line { IfOk result (ExecutesStore self.old self.new command) }
-        ensures err { OnErr result (LacksForStore self.old self.new command) }
+        ensures line { IfOk result (ExecutesStore (seen self.old) (seen self.new) command) }
+        ensures err { OnErr result (LacksForStore (seen self.old) (seen self.new) command) }
         ensures count { self.new.operations ≡ self.old.operations }
     {
         match command {
@@ -60,8 +61,8 @@ impl<S: Keep + Drop> Admin<S> {
         ino: Ino,
         frag: Frag,
     ) -> Result<Result<Option<u64>, Refusal>, AllocError>
-        ensures begun { IfOk result (λ number. BeginsJob self.old self.new rank ino frag number) }
-        ensures err { OnErr result (LosesJob self.old self.new rank ino frag) }
+        ensures begun { IfOk result (λ number. BeginsJob (seen self.old) (seen self.new) rank ino frag number) }
+        ensures err { OnErr result (LosesJob (seen self.old) (seen self.new) rank ino frag) }
         ensures count { self.new.operations ≡ self.old.operations }
     {
         match self.step_book(alloc, Event::CommitBegin { rank, ino, frag }) {
@@ -88,8 +89,8 @@ impl<S: Keep + Drop> Admin<S> {
         ino: Ino,
         frag: Frag,
     ) -> Result<OutputLine, AllocError>
-        ensures line { IfOk result (BeginsLine self.old self.new rank ino frag) }
-        ensures err { OnErr result (LosesJob self.old self.new rank ino frag) }
+        ensures line { IfOk result (BeginsLine (seen self.old) (seen self.new) rank ino frag) }
+        ensures err { OnErr result (LosesJob (seen self.old) (seen self.new) rank ino frag) }
         ensures count { self.new.operations ≡ self.old.operations }
     {
         Ok(begun_line(self.begin(alloc, rank, ino, frag)?))
@@ -98,8 +99,8 @@ impl<S: Keep + Drop> Admin<S> {
     // `end J`: the kept job is encoded, and its commit ended. An error says that there was no memory to copy it.
     #[inline(never)]
     fn end(&mut self, alloc: Global, number: u64) -> Result<OutputLine, AllocError>
-        ensures line { IfOk result (EndsLine self.old self.new number) }
-        ensures err { OnErr result (CopiesNone self.old self.new number) }
+        ensures line { IfOk result (EndsLine (seen self.old) (seen self.new) number) }
+        ensures err { OnErr result (CopiesNone (seen self.old) (seen self.new) number) }
         ensures count { self.new.operations ≡ self.old.operations }
     {
         let Some(job) = self.jobs.get(number) else {
@@ -115,7 +116,7 @@ impl<S: Keep + Drop> Admin<S> {
     // A step that is to end a commit. Once that is over, its job is kept no longer.
     #[inline(never)]
     fn end_job(&mut self, alloc: Global, number: u64, event: Event) -> OutputLine
-        ensures { EndsJob self.old self.new number event result }
+        ensures { EndsJob (seen self.old) (seen self.new) number event result }
     {
         let ended = self.step_book(alloc, event);
         if is_over(&ended) {
@@ -133,8 +134,8 @@ impl<S: Keep + Drop> Admin<S> {
         ino: Ino,
         frag: Frag,
     ) -> Result<OutputLine, AllocError>
-        ensures line { IfOk result (CommitsLine self.old self.new rank ino frag) }
-        ensures err { OnErr result (LacksForCommit self.old self.new rank ino frag) }
+        ensures line { IfOk result (CommitsLine (seen self.old) (seen self.new) rank ino frag) }
+        ensures err { OnErr result (LacksForCommit (seen self.old) (seen self.new) rank ino frag) }
         ensures count { self.new.operations ≡ self.old.operations }
     {
         match self.begin(alloc, rank, ino, frag)? {
@@ -148,7 +149,7 @@ impl<S: Keep + Drop> Admin<S> {
     // refused, and all is left.
     #[inline(never)]
     fn flush(&mut self, rt: &(impl Threads + Sync), alloc: Global) -> OutputLine
-        ensures { FlushesLine self.old self.new result }
+        ensures { FlushesLine (seen self.old) (seen self.new) result }
     {
         match self.flush_book(rt, alloc) {
             Ok(()) => OutputLine::Flushed,
@@ -159,7 +160,7 @@ impl<S: Keep + Drop> Admin<S> {
     /// `flush`, where the store has a file that may refuse what was written: then it is kept by a later one.
     #[inline(never)]
     pub(crate) fn save(&mut self, rt: &(impl Threads + Sync), alloc: Global) -> OutputLine
-        ensures { SavesLine self.old self.new result }
+        ensures { SavesLine (seen self.old) (seen self.new) result }
     {
         if let Err(refusal) = self.flush_book(rt, alloc) {
             return OutputLine::Refused(refusal);

@@ -1,16 +1,17 @@
 use Rattle.admin_cli.proofs.Common.{AnswersLine, Errno, Line, PrintsOf, Some, inl, refl, subst, sym}
 use Rattle.admin_cli.proofs.Progress.{command_printed}
 use Rattle.admin_cli.specs.Modes.{DoesUnder}
+use Rattle.admin_cli.specs.Admin.{seen}
 use Rattle.admin_cli.proofs.script.do_line.Goals as goal
 
 pub returns-in-BadWord-clause-prints : goal.returns-in-BadWord-clause-prints
 returns-in-BadWord-clause-prints g c =
-    subst (λ (l : Line). PrintsOf (AnswersLine (DoesUnder c.args.mode) c.args.admin.now c.args.admin.now l) c.args.waiting.now c.print-printed.new.waiting c.args.line (g.W.Write.contents c.args.writer.now) (g.W.Write.contents c.print-printed.new.writer) c.print-printed.result)
+    subst (λ (l : Line). PrintsOf (AnswersLine (DoesUnder c.args.mode) (seen c.args.admin.now) (seen c.args.admin.now) l) c.args.waiting.now c.print-printed.new.waiting c.args.line (g.W.Write.contents c.args.writer.now) (g.W.Write.contents c.print-printed.new.writer) c.print-printed.result)
     (sym c.in-BadWord.is) (inl (Some (Errno c.in-BadWord.errno), (refl, refl), c.print-printed.ensures))
 
 pub returns-in-Command-clause-prints : goal.returns-in-Command-clause-prints
 returns-in-Command-clause-prints g c =
-    subst (λ (l : Line). PrintsOf (AnswersLine (DoesUnder c.args.mode) c.args.admin.now c.carry-came.new.self l) c.args.waiting.now c.print_came-printed.new.waiting c.args.line (g.W.Write.contents c.args.writer.now) (g.W.Write.contents c.print_came-printed.new.writer) c.print_came-printed.result)
+    subst (λ (l : Line). PrintsOf (AnswersLine (DoesUnder c.args.mode) (seen c.args.admin.now) (seen c.carry-came.new.self) l) c.args.waiting.now c.print_came-printed.new.waiting c.args.line (g.W.Write.contents c.args.writer.now) (g.W.Write.contents c.print_came-printed.new.writer) c.print_came-printed.result)
     (sym c.in-Command.is)
-    (command_printed (DoesUnder c.args.mode) c.args.admin.now c.carry-came.new.self c.in-Command.command c.args.waiting.now c.print_came-printed.new.waiting c.args.line (g.W.Write.contents c.args.writer.now) (g.W.Write.contents c.print_came-printed.new.writer) c.print_came-printed.result c.carry-came.result
+    (command_printed (DoesUnder c.args.mode) (seen c.args.admin.now) (seen c.carry-came.new.self) c.in-Command.command c.args.waiting.now c.print_came-printed.new.waiting c.args.line (g.W.Write.contents c.args.writer.now) (g.W.Write.contents c.print_came-printed.new.writer) c.print_came-printed.result c.carry-came.result
     c.carry-came.ensures.line c.carry-came.ensures.err c.print_came-printed.ensures)

@@ -1,6 +1,7 @@
 use Rattle.admin_cli.proofs.Common.{DoesBytes, Err, List, Ok, PrintsOf, arith, subst, ℕ, ◌≡◌}
 use Rattle.admin_cli.proofs.Progress.{begin, finish, line_on, line_stops, settled, stop_long, stop_reading, stop_settling}
 use Rattle.admin_cli.specs.Modes.{DoesUnder}
+use Rattle.admin_cli.specs.Admin.{seen}
 use Rattle.admin_cli.proofs.script.run_lines.Goals as goal
 
 pub loop-line-init : goal.loop-line-init
@@ -25,15 +26,15 @@ returns-in-Err-Fault-clause-runs g c =
 
 pub returns-in-Err-run_line-clause-runs : goal.returns-in-Err-run_line-clause-runs
 returns-in-Err-run_line-clause-runs g c =
-    line_stops (DoesUnder c.args.mode) _ _ c.run_line.new.admin _ _ _ _ _ _ c.settle.new.self c.run_line.new.waiting _ c.next_line.new.line.line
+    line_stops (DoesUnder c.args.mode) _ _ (seen c.run_line.new.admin) _ _ _ _ _ _ c.settle.new.self c.run_line.new.waiting _ c.next_line.new.line.line
     (settled (DoesUnder c.args.mode) _ _ _ _ _ _ _ c.loop-line.waiting c.settle.new.self _ c.loop-line.invariant.reached c.in_default.field-0 c.in_default.ensures) (rw c.in-Ok-Read.field-0-is at c.in-Ok-Read.ensures.line)
     c.in-Err-run_line.fault
-    (subst (λ (b : List ℕ). PrintsOf (DoesBytes (DoesUnder c.args.mode) c.loop-line.admin c.run_line.new.admin b) c.settle.new.self c.run_line.new.waiting c.loop-line.line (g.W.Write.contents c.settle.new.writer) (g.W.Write.contents c.run_line.new.writer) (Err c.in-Err-run_line.fault)) c.as_bytes.ensures.bytes c.in-Err-run_line.ensures.runs)
+    (subst (λ (b : List ℕ). PrintsOf (DoesBytes (DoesUnder c.args.mode) (seen c.loop-line.admin) (seen c.run_line.new.admin) b) c.settle.new.self c.run_line.new.waiting c.loop-line.line (g.W.Write.contents c.settle.new.writer) (g.W.Write.contents c.run_line.new.writer) (Err c.in-Err-run_line.fault)) c.as_bytes.ensures.bytes c.in-Err-run_line.ensures.runs)
 
 pub returns-clause-runs : goal.returns-clause-runs
 returns-clause-runs g c =
     let last : c.loop-line.line ≡ 18446744073709551615 = omega (arith, c.loop-line.auto.line-end, c.loop-line-test.false) in
-    stop_reading (DoesUnder c.args.mode) c.args.admin.now c.loop-line.admin (g.R.Read.remaining c.args.reader.now) (g.R.Read.remaining c.loop-line.reader) (g.W.Write.contents c.args.writer.now)
+    stop_reading (DoesUnder c.args.mode) (seen c.args.admin.now) (seen c.loop-line.admin) (g.R.Read.remaining c.args.reader.now) (g.R.Read.remaining c.loop-line.reader) (g.W.Write.contents c.args.writer.now)
     (g.W.Write.contents c.loop-line.writer) c.loop-line.waiting 18446744073709551615 (rw last at c.loop-line.invariant.reached)
 
 pub loop-line-preserved : goal.loop-line-preserved
@@ -42,5 +43,5 @@ loop-line-preserved g c = record {
   reached = line_on (DoesUnder c.args.mode) _ _ _ _ _ _ _ _ _ c.settle.new.self c.run_line.new.waiting _ c.next_line.new.line.line
       (settled (DoesUnder c.args.mode) _ _ _ _ _ _ _ c.loop-line.waiting c.settle.new.self _ c.loop-line.invariant.reached c.in_default.field-0 c.in_default.ensures) (rw c.in-Ok-Read.field-0-is at c.in-Ok-Read.ensures.line)
       c.in_default-run_line.field-0
-      (subst (λ (b : List ℕ). PrintsOf (DoesBytes (DoesUnder c.args.mode) c.loop-line.admin c.run_line.new.admin b) c.settle.new.self c.run_line.new.waiting c.loop-line.line (g.W.Write.contents c.settle.new.writer) (g.W.Write.contents c.run_line.new.writer) (Ok c.in_default-run_line.field-0)) c.as_bytes.ensures.bytes c.in_default-run_line.ensures.runs);
+      (subst (λ (b : List ℕ). PrintsOf (DoesBytes (DoesUnder c.args.mode) (seen c.loop-line.admin) (seen c.run_line.new.admin) b) c.settle.new.self c.run_line.new.waiting c.loop-line.line (g.W.Write.contents c.settle.new.writer) (g.W.Write.contents c.run_line.new.writer) (Ok c.in_default-run_line.field-0)) c.as_bytes.ensures.bytes c.in_default-run_line.ensures.runs);
 }
