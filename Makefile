@@ -1,52 +1,48 @@
-# make                    proves every crate that the program stands on and builds it as ./cephmeta, where one of their files is newer
-# make run                does so, and runs a script from standard input
-# make test               is the gate: every proof from nothing, the edits that must fail, the tests and the programs
-# make install            puts the program with its man page and completions below PREFIX, /usr/local if none is given
+# make run                builds the program with no proof and every check at run time as out/unproved/cephmeta, and runs a first session
+# make, make proved       proves every crate that the program stands on and builds it as ./cephmeta, where one of their files is newer
+# make test               is the gate: every proof from nothing, the edits that must fail, the tests and the programs, over the proved program
+# make install            puts the proved program with its man page and completions below PREFIX, /usr/local if none is given; with
+#                         PROGRAM=out/unproved/cephmeta the one of `make run`
 # make units [NAME..]     runs the tests of these files of tests/units or of all
 # make strength [CRATE..] tries the edits that the gate leaves out, of these crates or of all
 
-.PHONY: all run install test units strength
+.PHONY: all proved run install test units strength
 
 PREFIX ?= /usr/local
+PROGRAM ?= cephmeta
+UNPROVED := out/unproved/cephmeta
 
 # what the program is made of; `out` has what the prover leaves
 SOURCES := crates.txt HANDLES $(shell find crates -name out -prune -o -type f \( -name '*.rt' -o -name '*.antt' \) -print)
 
-all: cephmeta
+all proved: cephmeta
+
+# the sum of the proved program, by which `make install` knows it
+NOTE := mkdir -p out && sha256sum cephmeta > out/proved
 
 cephmeta: $(SOURCES)
-	@cd crates/cephmeta && rt run -- script < /dev/null >&2
-	@cp crates/cephmeta/out/cephmeta cephmeta
-	@echo 'cephmeta is proved and built' >&2
+	@building/proved cephmeta
+	@$(NOTE)
 
-run: all
-	@./cephmeta script
+$(UNPROVED): $(SOURCES)
+	@building/unproved crates/cephmeta $@
 
-install: $(if $(wildcard cephmeta),,all)
-	@install -D cephmeta $(DESTDIR)$(PREFIX)/bin/cephmeta
-	@install/make_pages ./cephmeta $(DESTDIR)$(PREFIX)/share
+run: $(UNPROVED)
+	@building/session $(UNPROVED) examples/first.script
+	@echo '$(UNPROVED) is not proved; `make test` proves the same sources' >&2
+
+install: $(PROGRAM)
+	@install/put $(PROGRAM) $(DESTDIR)$(PREFIX)
 
 # `rt ci` proves and builds the program; nothing is proved again for what follows it. A check gets the processors that no other task
 # waits for: the chain of crates is long, so that is faster by the clock than one job each (docs/PROVING.md, Times)
 test:
-	@rt ci
-	@tests/claims/run
-	@tests/claims/names
-	@tests/units/run
+	@building/gate
 	@cp crates/cephmeta/out/cephmeta cephmeta
-	@examples/check
-	@examples/library/run
-	@tests/install/run
-	@tests/rows/run
-	@tests/operation_table/run
-	@tests/many_names/run
-	@tests/random_runs/run
-	@tests/asked_runs/run
-	@tests/clients/run
-	@tests/answers/run
-	@tests/refused_growths/run
-	@tests/serve/run
-	@tests/rados/run
+	@$(NOTE)
+	@building/tests tests/claims/run tests/claims/names tests/claims/calls tests/units/run examples/check examples/library/run tests/install/run \
+	    tests/building/run tests/rows/run tests/operation_table/run tests/many_names/run tests/random_runs/run tests/asked_runs/run \
+	    tests/clients/run tests/answers/run tests/refused_growths/run tests/serve/run tests/rados/run
 
 units:
 	@tests/units/run $(NAMES)
