@@ -6,6 +6,9 @@
 # make units [NAME..]     runs the tests of these files of tests/units or of all
 # make strength [CRATE..] tries the edits that the gate leaves out, of these crates or of all
 
+# no rule but those below: a search for others at each source takes longer than all else
+MAKEFLAGS += --no-builtin-rules
+
 .PHONY: all proved run install test units strength
 
 PREFIX ?= /usr/local
