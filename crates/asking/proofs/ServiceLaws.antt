@@ -14,7 +14,7 @@ none_of_none (w ∷ ws) (has, all) = let few : has.0 < length {A = Request} [] =
 
 none_wait : (xs : Inboxes) → waiting_in xs ≡ [] → waiting_in_all xs ≡ 0
 none_wait [] none = refl
-none_wait ([] ∷ xs) none = none_wait xs none
+none_wait ([] ∷ xs) none = omega (arith, none_wait xs none)
 none_wait ((q ∷ qs) ∷ xs) none = let clash : q ∷ (qs ++ waiting_in xs) ≡ [] = none in absurd cc
 
 pub idle_still : (old new : Inboxes) (came : List Request) → came ≡ [] → waiting_in_all old ≡ 0 → AllByRecursion (Contains (waiting_in old ++ came)) (waiting_in new) → waiting_in_all new ≡ 0

@@ -1,12 +1,16 @@
-use Rattle.asking.proofs.Common.{arith}
+use Rattle.asking.proofs.Common.{NoneWaits, Refusal, Result, arith, subst}
+use Rattle.std.specs.Prelude.{OnOk}
 use Rattle.asking.proofs.AmongLaws.{asked_then, one_at_most}
 use Rattle.asking.proofs.asks.ask_among.Goals as goal
 
 pub returns-clause-asked : goal.returns-clause-asked
 returns-clause-asked g c =
-    asked_then c.args.book.now c.drain.new.book c.ask.new.book c.drain.result.receipts.items c.args.rank c.args.request c.ask.result
-    (record { served = c.in_default.ensures.served; sound = c.in_default.ensures.sound; grows = c.in_default.ensures.grows; same_opening = c.in_default.ensures.opening; none = c.in_default.ensures.drained }) c.ask.ensures.asked
+    let its = c.drain-others.ensures in
+    let none : NoneWaits c.drain-others.new.book.core.state.inboxes = subst (λ (r : Result (Unit {0}) Refusal). OnOk r (NoneWaits c.drain-others.new.book.core.state.inboxes)) c.in_default.is its.drained in
+    asked_then c.args.book.now c.drain-others.new.book c.ask-answer.new.book c.drain-others.result.receipts.items c.args.rank c.args.request c.ask-answer.result
+    (record { served = its.served; sound = its.sound; grows = its.grows; same_opening = its.opening; none = none }) c.ask-answer.ensures.asked
 
 pub returns-clause-few : goal.returns-clause-few
 returns-clause-few g c =
-    omega (arith, one_at_most c.drain.new.book.core c.ask.new.book.core c.drain.new.book.history c.ask.new.book.history c.args.rank c.args.request c.in_default.ensures.drained c.ask.result c.ask.ensures.asked)
+    let none : NoneWaits c.drain-others.new.book.core.state.inboxes = subst (λ (r : Result (Unit {0}) Refusal). OnOk r (NoneWaits c.drain-others.new.book.core.state.inboxes)) c.in_default.is c.drain-others.ensures.drained in
+    omega (arith, one_at_most c.drain-others.new.book.core c.ask-answer.new.book.core c.drain-others.new.book.history c.ask-answer.new.book.history c.args.rank c.args.request none c.ask-answer.result c.ask-answer.ensures.asked)

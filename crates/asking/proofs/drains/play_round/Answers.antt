@@ -1,4 +1,4 @@
-use Rattle.asking.proofs.Common.{Bool, Err, List, None, Ok, Receipt, RoundEnds, Some, State, [], ap, arith, inl, refl, subst, sym, ◌++◌, ◌∙◌, ◌≡◌}
+use Rattle.asking.proofs.Common.{Bool, Err, List, None, Ok, Receipt, RoundEnds, Some, State, [], ap, append-nil, arith, inl, refl, rules, subst, sym, ◌++◌, ◌∙◌, ◌≡◌}
 use Rattle.cluster_core.specs.OneThread.{receipt_of}
 use Rattle.asking.proofs.WaitingLaws.{served_by, served_once, served_then, tells_none}
 use Rattle.asking.proofs.LoopLaws.{ended, exports_stand, gives, is_first, not_granted, refused, served_on}
@@ -34,3 +34,29 @@ returns-then-is_err-clause-ends g c = (c.requires.lowest.request, inl refl, refl
 
 pub returns-then-is_err-clause-served : goal.returns-then-is_err-clause-served
 returns-then-is_err-clause-served g c = tells_none c.args.book.now c.args.receipts.now.items c.reserve.new.self.items (search rules)
+
+pub returns-in-Err-clause-served : goal.returns-in-Err-clause-served
+returns-in-Err-clause-served g c =
+    let same : c.reserve.new.self.items ≡ c.args.receipts.now.items = search rules in
+    ([], same ∙ sym (append-nil c.args.receipts.now.items), served_by c.args.found.client c.args.found.tid 16 [] (Some c.in-Err.refusal) c.args.book.now c.grant_all.new.book c.in-Err.ensures.reached)
+
+pub returns-in-Ok-clause-served : goal.returns-in-Ok-clause-served
+returns-in-Ok-clause-served g c =
+    let same : c.reserve.new.self.items ≡ c.args.receipts.now.items = search rules in
+    let told : List Receipt = receipt_of (Ok c.in-Ok.answer) in
+    (
+      told,
+      c.note.ensures.told ∙ ap (λ (rs : List Receipt). rs ++ told) same,
+      served_then c.args.book.now c.grant_all.new.book c.step.new.self [] told (served_by c.args.found.client c.args.found.tid 16 [] None c.args.book.now c.grant_all.new.book c.in_default.ensures.reached)
+          (served_once c.grant_all.new.book c.step.new.self c.args.found.rank (Ok c.in-Ok.answer) c.in-Ok.ensures.stepped c.in-Ok.ensures.opening c.in-Ok.ensures.sound),
+    )
+
+pub returns-in-Err-step-clause-served : goal.returns-in-Err-step-clause-served
+returns-in-Err-step-clause-served g c =
+    let same : c.reserve.new.self.items ≡ c.args.receipts.now.items = search rules in
+    (
+      [],
+      same ∙ sym (append-nil c.args.receipts.now.items),
+      served_then c.args.book.now c.grant_all.new.book c.step.new.self [] [] (served_by c.args.found.client c.args.found.tid 16 [] None c.args.book.now c.grant_all.new.book c.in_default.ensures.reached)
+          (served_once c.grant_all.new.book c.step.new.self c.args.found.rank (Err c.in-Err-step.refusal) c.in-Err-step.ensures.stepped c.in-Err-step.ensures.opening c.in-Err-step.ensures.sound),
+    )
