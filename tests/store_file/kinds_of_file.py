@@ -115,10 +115,11 @@ def bytes_of_files(it):
     it.refuses(it.holds('text', b'A text of more than a hundred bytes. ' * 100), 'is no database')
     it.refuses(it.holds('zeros', bytes(4096)), 'is no database')
     whole = open(it.good, 'rb').read()
-    wants(len(whole) == 12288, f'the small store has {len(whole)} bytes')
+    page = int.from_bytes(whole[16:18], 'big')
+    wants(len(whole) == 3 * page, f'the small store has {len(whole)} bytes')
     for length in (1, 15, 16, 99):
         it.refuses(it.holds('cut', whole[:length]), CUT)
-    for length in (100, 511, 512, 2048, 4096, 6144, 8192, 12287):
+    for length in (100, 511, 512, page - 1, page, page + 512, 2 * page, 3 * page - 1):
         it.refuses(it.holds('cut', whole[:length]), DAMAGED)
     # a file that lost all of its bytes, and has its log yet
     run = Served(it.program, it.copy('logged'))
