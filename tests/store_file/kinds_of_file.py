@@ -13,6 +13,7 @@ from formats import wants
 from served import Served, ran, went
 from stores import copied, log_of, rows_of, tree_of, written
 
+HERE = os.path.dirname(os.path.abspath(__file__))
 DAMAGED, CUT, FOREIGN = 'has a damaged page', 'is cut short', 'is a database of something else'
 DENIED = 'no permission to read and write the file, or to make a file in its folder'
 SPECIAL = 'is no regular file of one name'
@@ -114,6 +115,8 @@ def bytes_of_files(it):
     it.shows(it.at('missing'), EMPTY)
     it.refuses(it.holds('text', b'A text of more than a hundred bytes. ' * 100), 'is no database')
     it.refuses(it.holds('zeros', bytes(4096)), 'is no database')
+    for length in (1, 2, 15, 16, 50, 99, 100):
+        it.refuses(it.holds('short', b'A text that is short. '.ljust(length, b'-')[:length]), 'is no database')
     whole = open(it.good, 'rb').read()
     page = int.from_bytes(whole[16:18], 'big')
     wants(len(whole) == 3 * page, f'the small store has {len(whole)} bytes')
@@ -166,11 +169,20 @@ def databases(it):
         it.refuses(it.base('version', f'PRAGMA user_version = {version}'), f"is of version {version}, which this program doesn't know")
         shutil.copy(it.at('foreign'), it.at('version'))
         it.refuses(it.base('version', f'PRAGMA user_version = {version}'), f"is of version {version}, which this program doesn't know")
+    # pages that are kept in another way
+    for name, line in (('vacuums', 'auto_vacuum = FULL'), ('now_and_then', 'auto_vacuum = INCREMENTAL'), ('wide', "encoding = 'UTF-16le'")):
+        written(it.at(name), tree, pragmas=[line])
+        it.refuses(it.at(name), DAMAGED)
     # sqlite3 writes no sums
     for name, line in (('more', 'CREATE TABLE more (a)'), ('deleted', "DELETE FROM omap WHERE key = 'a_head'"),
                        ('version_0', 'PRAGMA user_version = 0'), ('packed', 'VACUUM')):
         it.copy(name)
         it.refuses(it.base(name, line), DAMAGED)
+    for name, copy in (('backed_up', backed_up), ('into', lambda base, path: base.execute('VACUUM INTO ?', [path]))):
+        base = sqlite3.connect(it.good)
+        copy(base, it.at(name))
+        base.close()
+        it.refuses(it.at(name), DAMAGED)
     # but it may read
     before = open(it.good, 'rb').read()
     it.base('good', 'SELECT * FROM omap', 'SELECT * FROM object', 'PRAGMA integrity_check', 'PRAGMA wal_checkpoint(TRUNCATE)')
@@ -179,6 +191,30 @@ def databases(it):
     it.base('journal', 'VACUUM')
     it.holds('journal-journal', b'x' * 600)
     it.refuses(it.at('journal'), 'has a rollback journal: open it with sqlite3 first')
+
+
+def backed_up(base, path):
+    to = sqlite3.connect(path)
+    base.backup(to)
+    to.close()
+
+
+def dumped(it):
+    """The sentence of docs/SCRIPT.md by which sqlite3 makes a database of a FILE that it may change."""
+    if not shutil.which('sqlite3'):
+        return
+    went(it.program, it.good, ['create 1 %ff%27%0a%22 600', 'symlink 1 %20 %ff', 'unlink 1 %ff%27%0a%22'])
+    with open(os.path.join(HERE, '../../docs/SCRIPT.md'), encoding='utf8') as page:
+        line = re.search('`(sqlite3 FILE .dump [^`]*)`', page.read())[1]
+    done = subprocess.run(['sh', '-c', line.replace('FILE', 'good').replace('OTHER', 'other')], cwd=it.folder, capture_output=True, text=True)
+    wants((done.returncode, done.stdout, done.stderr) == (0, '', ''), f'{line}: {done}')
+    wants(rows_of(it.at('other')) == rows_of(it.good), f'{line} leaves other rows')
+    it.base('other', "DELETE FROM omap WHERE key = CAST(x'205f68656164' AS TEXT)", 'VACUUM', 'ANALYZE', 'DROP TABLE sqlite_stat1')
+    # the header counts what is there, so a run sees that a name is gone
+    it.refuses(it.at('other'), 'object 1.00000000 is damaged')
+    it.base('other', "INSERT INTO omap SELECT object, CAST(x'205f68656164' AS TEXT), value FROM omap WHERE key = 'a_head'",
+            "DELETE FROM omap WHERE key = 'a_head'")
+    it.shows(it.at('other'), [SHOWN[0].replace(' a:10000000001', ' %20:10000000001')] + SHOWN[1:2] + [EMPTY[2]])
 
 
 def empty_database(it):
