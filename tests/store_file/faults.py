@@ -109,6 +109,7 @@ class Faults:
         wants((status == 0) == (words == ''), f'status {status}, and the end says {words}')
         if not words.startswith(UNSAVED):
             # all is saved, be it that the log couldn't be brought into the file
+            wants(not words or words.startswith(f'all is saved, in part in {self.path}-wal: '), f'the end says {words}')
             wants(before != 'unsaved shut', f'a file that is shut took the end: {words}')
             return self.trees[-1:]
         shut = words.startswith(f'{UNSAVED}the file is shut')

@@ -38,7 +38,8 @@ def words(program, folder):
     section = re.search("A run whose FILE can't be opened.*?\n\n(.*?)\n\n", page('docs/SCRIPT.md'), re.S)[1]
     told = set(re.findall('`([^`]+)`', ' '.join(line.split('|')[1] for line in section.splitlines()[2:])))
     found = re.findall(r'#\[error\("([^"]+)"\)\]', page('crates/store_file/src/faults.rt'))
-    wants({it.replace('{0}', 'N') for it in found} - {'N'} <= told, f'docs/SCRIPT.md lacks {set(found) - told}')
+    lacking = {it.replace('{0}', 'N') for it in found} - {'N'} - told
+    wants(not lacking, f'docs/SCRIPT.md lacks {lacking}')
 
 
 def session(program, folder):
