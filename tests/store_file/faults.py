@@ -109,7 +109,7 @@ class Faults:
         wants((status == 0) == (words == ''), f'status {status}, and the end says {words}')
         if not words.startswith(UNSAVED):
             # all is saved, be it that the log couldn't be brought into the file
-            wants(not words or words.startswith(f'all is saved, in part in {self.path}-wal: '), f'the end says {words}')
+            wants(not words or words.startswith(f'all is saved, but in part in {self.path}-wal: '), f'the end says {words}')
             wants(before != 'unsaved shut', f'a file that is shut took the end: {words}')
             return self.trees[-1:]
         shut = words.startswith(f'{UNSAVED}the file is shut')
@@ -197,7 +197,7 @@ def each_refused(it, past=0, errors=ERRORS, calls=None):
                 counts[words] = counts.get(words, 0) + 1
             except Unsound as why:
                 failed.append(f'{how} at call {k}, {name}: {why}')
-    wants(not failed, f'{len(failed)} faults: {" | ".join(failed)}')
+    wants(not failed, f'{len(failed)} faults: {" | ".join(failed[:5])}')
     return counts
 
 
