@@ -38,7 +38,14 @@ class Background:
         """
         with self.change:
             number = 0 if self.running == 1 else 1
-            store.copied(self.path, self.copy(number), running=True)
+            self.waiting = None
+            try:
+                store.copied(self.path, self.copy(number), running=True)
+            except store.Refused as why:
+                # the next one brings it too, or the last one
+                store.removed(self.copy(number))
+                self.say(f'{why}: this flush is not in pool {self.pool} yet')
+                return
             self.waiting = number
             self.change.notify()
 

@@ -95,6 +95,10 @@ RADOS, COMMON_LIBRARY, FREE = _declared()
 NEXT_PAIR = ctypes.PyDLL('librados.so.2').rados_omap_get_next2
 BYTES_AT = ctypes.pythonapi.PyBytes_FromStringAndSize
 BYTES_AT.restype, BYTES_AT.argtypes = ctypes.py_object, [c_void_p, ctypes.c_ssize_t]
+# where the pairs of a page are told, so many at most: the address of each key and of each value, then their lengths
+MOST = 1000
+COLUMNS = [(c_uint64 * MOST)() for _ in range(4)]
+PLACES = [[byref(column, 8 * k) for k in range(MOST)] for column in COLUMNS]
 
 
 def checked(answer, what):
@@ -214,25 +218,23 @@ class Write:
 
 
 class Page:
-    """A read of an object's header and of its first pairs behind a key."""
+    """A read of an object's header and of its first MOST pairs behind a key."""
 
-    def __init__(self, name, after, most):
+    def __init__(self, name, after):
         self.name, self.more = name, c_ubyte()
         self.operation = RADOS.rados_create_read_op()
         self.pairs, self.buffer_list = c_void_p(), _list_of(b'')
         self.failed = c_int(), c_int()
         RADOS[GET_HEADER](_as_object(self.operation), self.buffer_list, byref(self.failed[0]))
-        RADOS.rados_read_op_omap_get_vals2(self.operation, after, b'', most, byref(self.pairs), byref(self.more),
+        RADOS.rados_read_op_omap_get_vals2(self.operation, after, b'', MOST, byref(self.pairs), byref(self.more),
                                            byref(self.failed[1]))
 
     def read(self):
-        """The header, the keys, their values, and whether more follow, once the read has ended."""
+        """The header, the keys, their values, and whether more follow, once the read has ended. Pages are taken one after
+        the other."""
         header, count = _bytes_of(self.buffer_list), RADOS.rados_omap_iter_size(self.pairs)
-        # address and length of each key and of each value
-        columns = [(c_uint64 * count)() for _ in range(4)]
-        places = [[byref(column, 8 * k) for k in range(count)] for column in columns]
-        collections.deque(map(NEXT_PAIR, itertools.repeat(self.pairs), *places), maxlen=0)
-        keys, values = list(map(BYTES_AT, columns[0], columns[2])), list(map(BYTES_AT, columns[1], columns[3]))
+        collections.deque(map(NEXT_PAIR, itertools.repeat(self.pairs, count), *PLACES), maxlen=0)
+        keys, values = (list(map(BYTES_AT, COLUMNS[k][:count], COLUMNS[k + 2][:count])) for k in (0, 1))
         RADOS.rados_omap_get_end(self.pairs)
         RADOS.rados_release_read_op(self.operation)
         return header, keys, values, bool(self.more.value)

@@ -14,14 +14,15 @@ import socket
 import threading
 import time
 
-from librados import Cluster, Objects, Page, RadosError, Write
+from librados import MOST, Cluster, Objects, Page, RadosError, Write
 
 HEAD = b'cephmeta.head'
 LOCK = b'cephmeta'
 FORM = 'cephmeta-rados 1'
 OF_STORE = re.compile(rb'[0-9a-f]+\.([0-9a-f]{8}|fragtree)')
 OWN = re.compile(rb'cephmeta\.(head|push\.[0-9a-f]+\.[0-9]+)')
-KEYS = 1000
+# keys that a write operation has at most, as a page of pairs
+KEYS = MOST
 AT_ONCE = 16
 
 
@@ -175,7 +176,7 @@ class Pool:
         asked, names = collections.deque(), iter(names)
 
         def ask(name, after=b''):
-            page = Page(name, after, KEYS)
+            page = Page(name, after)
             return page, self.objects.begin_read(page)
 
         try:

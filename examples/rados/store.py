@@ -29,9 +29,9 @@ GONE_OBJECTS = '''SELECT o.name FROM old.object o
     WHERE NOT EXISTS (SELECT 1 FROM object n WHERE n.name = o.name) ORDER BY o.name'''
 CHANGED_HEADERS = '''SELECT n.name, n.header FROM object n LEFT JOIN old.object o ON o.name = n.name
     WHERE o.header IS NOT n.header ORDER BY n.name'''
-CHANGED_PAIRS = '''SELECT n.object, n.key, n.value FROM omap n
+CHANGED_PAIRS = '''SELECT n.key, n.value FROM omap n
     LEFT JOIN old.omap o ON o.object = n.object AND o.key = n.key
-    WHERE o.value IS NOT n.value ORDER BY n.object, n.key'''
+    WHERE n.object = CAST(? AS TEXT) AND o.value IS NOT n.value ORDER BY n.key'''
 GONE_PAIRS = '''SELECT o.object, o.key FROM old.omap o
     WHERE EXISTS (SELECT 1 FROM object n WHERE n.name = o.object)
     AND NOT EXISTS (SELECT 1 FROM omap n WHERE n.object = o.object AND n.key = o.key) ORDER BY o.object, o.key'''
@@ -156,8 +156,8 @@ def changes(connection):
         header = headers.pop(name, None)
         return Step(CHANGE if header is None else CHANGE_HEADER, name, header or b'', gone, keys, values)
 
-    for name, rows in itertools.groupby(connection.execute(CHANGED_PAIRS), operator.itemgetter(0)):
-        for _, keys, values in chunks(rows):
+    for (name,) in connection.execute('SELECT name FROM object ORDER BY name').fetchall():
+        for keys, values in chunks(connection.execute(CHANGED_PAIRS, (name,))):
             yield change(name, (), keys, values)
     for name, rows in itertools.groupby(connection.execute(GONE_PAIRS), operator.itemgetter(0)):
         for _, keys in chunks(rows):

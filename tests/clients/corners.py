@@ -73,6 +73,10 @@ def numbers_that_are_held(given):
                 os.write(file, b'kept')
                 os.unlink(gone)
                 os.rmdir(lost)
+                # the next program knows neither number, as no name has it
+                first = mount.program()
+                while mount.program() == first:
+                    os.path.lexists(os.path.join(mount.path, 'nothing'))
                 numbers = set()
                 for number in range(120):
                     path = os.path.join(mount.path, f'new{number}')

@@ -58,12 +58,12 @@ def room(parent=None):
 class Mounted:
     """A mount below a folder. What it printed on standard error is told where a test fails."""
 
-    def __init__(self, program, folder, *words):
+    def __init__(self, program, folder, *words, **more):
         self.path, self.errors = os.path.join(folder, 'mount'), os.path.join(folder, 'errors')
         os.makedirs(self.path, exist_ok=True)
         with open(self.errors, 'w') as errors:
             self.process = subprocess.Popen([SYSTEM_PYTHON, MOUNT, '--foreground', '--program', program, *map(str, words), self.path],
-                                            stdout=subprocess.PIPE, stderr=errors, text=True)
+                                            stdout=subprocess.PIPE, stderr=errors, text=True, **more)
         if not self.process.stdout.readline().endswith('is mounted\n'):
             self.process.wait()
             raise Failed(f'nothing is mounted: {self.complaint()}')

@@ -12,7 +12,7 @@ NAMES = ['mkdir 1 d 755', 'create 1 a 644 uid 7 gid 8', 'symlink 1 l /x/y', 'cre
 LOOK = ['readdir 1 - 10', 'readdir 10000000000 - 10', 'readdir 10000000003 - 10', 'lookup 1 d', 'lookup 1 a', 'lookup 1 l', 'readlink 1 l', 'lookup 1 e',
         'lookup 10000000000 b%ff', 'dirfrag ls 10000000000', 'objects']
 WORDS = re.compile(r"has a damaged page|is no database|is a database of something else|is cut short|is of version \d+, which this program doesn't know")
-PAGE, FRONT, HEADER, RANDOM = 4096, 64, 200, 2000
+FRONT, HEADER, RANDOM = 16, 100, 2000
 
 
 def small(program, folder):
@@ -22,10 +22,15 @@ def small(program, folder):
     return path, went(program, path, LOOK)
 
 
+def page_of(data):
+    """The size of a page, which stands in the header."""
+    return int.from_bytes(data[16:18], 'big')
+
+
 def chosen(data, seed):
     """Each bit of the header, and of each page's front, and random ones: places of bits."""
     places = {*range(8 * HEADER)}
-    for page in range(0, len(data), PAGE):
+    for page in range(0, len(data), page_of(data)):
         places |= {*range(8 * page, 8 * (page + FRONT))}
     used = [at for at, byte in enumerate(data) if byte]
     chance = random.Random(seed)
@@ -38,7 +43,7 @@ def changed(program, folder, part, parts, every=False):
     """Changes bits: this part of them. Gives how many came to what."""
     path, printed = small(program, folder)
     data, counts = bytearray(open(path, 'rb').read()), {}
-    wants(len(data) < 8 * PAGE, f'the small file has {len(data)} bytes')
+    wants(len(data) < 9 * page_of(data), f'the small file has {len(data)} bytes')
     places = range(8 * len(data)) if every else chosen(data, 1)
     for place in places[part::parts]:
         other = bytearray(data)

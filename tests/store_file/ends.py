@@ -77,6 +77,26 @@ def signals(program, folder):
         wants(names(path, log=False) == [b'a'], f'behind signal {number} the next run leaves {names(path)}')
 
 
+def serve(program, folder):
+    """`serve` leaves the tree of its clients in an empty FILE, and changes none that has a tree, or is refused."""
+    path, words = os.path.join(folder, 'served'), ['--ranks', '2', '--workers', '2', '--clients', '2', '--creates', '5']
+    paths = sorted(f'c{client}{name}' for client in range(2) for name in ['', *(f'/f{k}' for k in range(5))])
+    for run in range(2):
+        done = subprocess.run([program, 'serve', *words, '--store', path], capture_output=True, text=True)
+        came = done.returncode, done.stdout.splitlines(), done.stderr
+        wants(came == ((0, ['served 12', 'audit ok', *paths], '') if run == 0 else
+                       (1, [], f'cephmeta: {path}: has a tree, and serve begins with an empty one\n')), f'run {run} of serve: {came}')
+        wants(log_of(path) is None, f'run {run} of serve leaves a log')
+        tree = tree_of(rows_of(path, log=False))
+        folders = {inode.ino: name.decode() for (above, name), inode in tree.items() if inode.kind == 'dir'}
+        wants(sorted('/'.join(filter(None, [folders.get(above), name.decode()])) for above, name in tree) == paths, f'run {run} of serve leaves {tree}')
+    wants(went(program, path, ['readdir 1 - 10'])[0].split()[5:8] == ['entries', '2', 'end'], 'a script shows another tree')
+    with open(path, 'w') as file:
+        file.write('no database')
+    done = subprocess.run([program, 'serve', *words, '--store', path], capture_output=True, text=True)
+    wants((done.returncode, done.stdout, done.stderr) == (1, '', f'cephmeta: {path}: is no database\n'), f'serve over a text: {done}')
+
+
 def stays_whole(program, folder):
     """A copy of the file alone has the tree behind each end; a copy that is taken between two runs goes on by itself."""
     path, other = os.path.join(folder, 'whole'), os.path.join(folder, 'other')

@@ -109,6 +109,7 @@ class Faults:
         wants((status == 0) == (words == ''), f'status {status}, and the end says {words}')
         if not words.startswith(UNSAVED):
             # all is saved, be it that the log couldn't be brought into the file
+            wants(not words or words.startswith(f'all is saved, but in part in {self.path}-wal: '), f'the end says {words}')
             wants(before != 'unsaved shut', f'a file that is shut took the end: {words}')
             return self.trees[-1:]
         shut = words.startswith(f'{UNSAVED}the file is shut')
@@ -144,7 +145,7 @@ class Faults:
 class LongLog(Faults):
     """A run whose second flush finds a log of more than a thousand pages, and puts it into the file first. All names are new."""
 
-    MANY = 12000
+    MANY = 3600
 
     def __init__(self, program, folder):
         flushes = [[f'create 1 {k:0250d} 644' for k in range(self.MANY)], ['create 1 a 644'], ['create 1 b 644'], ['create 1 last 644']]
@@ -196,7 +197,7 @@ def each_refused(it, past=0, errors=ERRORS, calls=None):
                 counts[words] = counts.get(words, 0) + 1
             except Unsound as why:
                 failed.append(f'{how} at call {k}, {name}: {why}')
-    wants(not failed, f'{len(failed)} faults: {" | ".join(failed)}')
+    wants(not failed, f'{len(failed)} faults: {" | ".join(failed[:5])}')
     return counts
 
 
@@ -210,6 +211,32 @@ def each_killed(it, how='kill', calls=None):
                 it.is_survived(how, k)
             except Unsound as why:
                 raise Unsound(f'{how} at call {k}, {name}: {why}') from None
+
+
+def planted(program, folder):
+    """What a wrong program would print and leave behind a refused call: each is seen."""
+    it, seen = Faults(program, folder), []
+    dropped = [*FLUSHES[0], 'flush', 'rmdir 1 d', 'flush', *FLUSHES[-1]]
+    full, told = f'cephmeta: {it.path}: {UNSAVED}the disk is full\n', 'flushed unsaved full flushed'
+    for what, script, flushes, status, words in (
+            ('notes that are dropped though their transaction failed', dropped, told, 0, ''),
+            ('a flush that saves nothing and says that it did', dropped, 'flushed flushed flushed', 0, ''),
+            ('a next flush that saves nothing either', [*FLUSHES[0], 'flush'], 'flushed unsaved full unsaved full', 1, full),
+            ('an end that saves nothing and says nothing', it.script[:-1], told, 0, ''),
+            ('a status without words', it.script[:-1], told, 1, ''),
+            ('words without a status', it.script[:-1], told, 0, full),
+            ('words of another flush', it.script, 'flushed unsaved because flushed', 0, '')):
+        it.renew()
+        ran(program, it.path, script)
+        said = iter(flushes.replace('unsaved ', 'unsaved_').split())
+        printed = [next(said).replace('_', ' ') if line == 'flush' else reply for line, reply in zip(it.script, it.printed)]
+        try:
+            it.look(status, printed, words, once=True)
+        except Unsound:
+            seen.append(what)
+            continue
+        raise Unsound(f'nothing sees {what}')
+    return seen
 
 
 def started(program, folder, before):

@@ -13,6 +13,7 @@ from formats import wants
 from served import Served, ran, went
 from stores import copied, log_of, rows_of, tree_of, written
 
+HERE = os.path.dirname(os.path.abspath(__file__))
 DAMAGED, CUT, FOREIGN = 'has a damaged page', 'is cut short', 'is a database of something else'
 DENIED = 'no permission to read and write the file, or to make a file in its folder'
 SPECIAL = 'is no regular file of one name'
@@ -114,11 +115,14 @@ def bytes_of_files(it):
     it.shows(it.at('missing'), EMPTY)
     it.refuses(it.holds('text', b'A text of more than a hundred bytes. ' * 100), 'is no database')
     it.refuses(it.holds('zeros', bytes(4096)), 'is no database')
+    for length in (1, 2, 15, 16, 50, 99, 100):
+        it.refuses(it.holds('short', b'A text that is short. '.ljust(length, b'-')[:length]), 'is no database')
     whole = open(it.good, 'rb').read()
-    wants(len(whole) == 12288, f'the small store has {len(whole)} bytes')
+    page = int.from_bytes(whole[16:18], 'big')
+    wants(len(whole) == 3 * page, f'the small store has {len(whole)} bytes')
     for length in (1, 15, 16, 99):
         it.refuses(it.holds('cut', whole[:length]), CUT)
-    for length in (100, 511, 512, 2048, 4096, 6144, 8192, 12287):
+    for length in (100, 511, 512, page - 1, page, page + 512, 2 * page, 3 * page - 1):
         it.refuses(it.holds('cut', whole[:length]), DAMAGED)
     # a file that lost all of its bytes, and has its log yet
     run = Served(it.program, it.copy('logged'))
@@ -165,11 +169,20 @@ def databases(it):
         it.refuses(it.base('version', f'PRAGMA user_version = {version}'), f"is of version {version}, which this program doesn't know")
         shutil.copy(it.at('foreign'), it.at('version'))
         it.refuses(it.base('version', f'PRAGMA user_version = {version}'), f"is of version {version}, which this program doesn't know")
+    # pages that are kept in another way
+    for name, line in (('vacuums', 'auto_vacuum = FULL'), ('now_and_then', 'auto_vacuum = INCREMENTAL'), ('wide', "encoding = 'UTF-16le'")):
+        written(it.at(name), tree, pragmas=[line])
+        it.refuses(it.at(name), DAMAGED)
     # sqlite3 writes no sums
     for name, line in (('more', 'CREATE TABLE more (a)'), ('deleted', "DELETE FROM omap WHERE key = 'a_head'"),
                        ('version_0', 'PRAGMA user_version = 0'), ('packed', 'VACUUM')):
         it.copy(name)
         it.refuses(it.base(name, line), DAMAGED)
+    for name, copy in (('backed_up', backed_up), ('into', lambda base, path: base.execute('VACUUM INTO ?', [path]))):
+        base = sqlite3.connect(it.good)
+        copy(base, it.at(name))
+        base.close()
+        it.refuses(it.at(name), DAMAGED)
     # but it may read
     before = open(it.good, 'rb').read()
     it.base('good', 'SELECT * FROM omap', 'SELECT * FROM object', 'PRAGMA integrity_check', 'PRAGMA wal_checkpoint(TRUNCATE)')
@@ -178,6 +191,27 @@ def databases(it):
     it.base('journal', 'VACUUM')
     it.holds('journal-journal', b'x' * 600)
     it.refuses(it.at('journal'), 'has a rollback journal: open it with sqlite3 first')
+
+
+def backed_up(base, path):
+    to = sqlite3.connect(path)
+    base.backup(to)
+    to.close()
+
+
+def dumped(it):
+    """The sentence of docs/SCRIPT.md by which sqlite3 makes a database of a FILE that it may change."""
+    if not shutil.which('sqlite3'):
+        return
+    went(it.program, it.good, ['create 1 %ff%27%0a%22 600', 'symlink 1 %20 %ff', 'unlink 1 %ff%27%0a%22'])
+    with open(os.path.join(HERE, '../../docs/SCRIPT.md'), encoding='utf8') as page:
+        line = re.search('`(sqlite3 FILE .dump [^`]*)`', page.read())[1]
+    done = subprocess.run(['sh', '-c', line.replace('FILE', 'good').replace('OTHER', 'other')], cwd=it.folder, capture_output=True, text=True)
+    wants((done.returncode, done.stdout, done.stderr) == (0, '', ''), f'{line}: {done}')
+    wants(rows_of(it.at('other')) == rows_of(it.good), f'{line} leaves other rows')
+    # a change of sqlite3 that leaves a tree
+    it.base('other', "UPDATE omap SET key = 'c_head' WHERE key = ' _head'", 'VACUUM')
+    it.shows(it.at('other'), [SHOWN[0].replace('2 end a:10000000001', '3 end a:10000000001 c:10000000004')] + SHOWN[1:])
 
 
 def empty_database(it):
@@ -203,7 +237,6 @@ def objects(it):
             ('value', "UPDATE omap SET value = x'49' WHERE key = 'b_head'", 'object 10000000000.00000000 is damaged'),
             ('number_twice', f"UPDATE omap SET value = {value} WHERE key = 'a_head'", 'object .* is damaged'),
             ('key', "UPDATE omap SET key = 'a' WHERE key = 'a_head'", 'object 1.00000000 is damaged'),
-            ('stranger', "INSERT INTO object VALUES ('10000000777.00000000', (SELECT header FROM object))", 'object .* is damaged'),
             ('text', "UPDATE object SET header = 'text' WHERE name = '1.00000000'", "has a row that is no object's"),
             ('blob', "INSERT INTO omap VALUES (x'00', 'a_head', x'00')", "has a row that is no object's"),
             ('name', "UPDATE object SET name = 'else' WHERE name LIKE '1000000%'; UPDATE omap SET object = 'else' WHERE object LIKE '1000000%'",
@@ -214,6 +247,14 @@ def objects(it):
         status, printed, told = ran(it.program, it.at(name), LOOK)
         wants((status, printed) == (1, []) and re.fullmatch(f'cephmeta: {re.escape(it.at(name))}: {words}\n', told), f'{name}: {status} {printed} {told}')
         wants(content(it.folder) == before, f'{name}, which is refused, is changed, or has a log beside it')
+
+
+def strangers(it):
+    """An object that nothing owns is no fault: a flush removes such ones."""
+    written(it.at('stranger'), tree_of(rows_of(it.good)))
+    it.base('stranger', "INSERT INTO object VALUES ('10000000777.00000000', x'00')", "INSERT INTO omap VALUES ('10000000777.00000000', 'a_head', x'00')")
+    it.shows(it.at('stranger'), SHOWN)
+    wants(rows_of(it.at('stranger'))[0].keys() == rows_of(it.good)[0].keys(), 'a flush leaves an object that nothing owns')
 
 
 def holders(it):

@@ -33,6 +33,15 @@ def queries(program, folder):
     base.close()
 
 
+def words(program, folder):
+    """The words by which a FILE is refused stand in docs/SCRIPT.md, each with nothing but a number, a name or the system's words in it."""
+    section = re.search("A run whose FILE can't be opened.*?\n\n(.*?)\n\n", page('docs/SCRIPT.md'), re.S)[1]
+    told = set(re.findall('`([^`]+)`', ' '.join(line.split('|')[1] for line in section.splitlines()[2:])))
+    found = re.findall(r'#\[error\("([^"]+)"\)\]', page('crates/store_file/src/faults.rt'))
+    lacking = {it.replace('{0}', 'N') for it in found} - {'N'} - told
+    wants(not lacking, f'docs/SCRIPT.md lacks {lacking}')
+
+
 def session(program, folder):
     """README's session with `--store`: each of its commands prints what stands below it."""
     block = re.search(r"\n\n((?:    .*\n)*    \$ printf 'mkdir 1 d 755.*\n(?:    .*\n)*)", page('README.md'))

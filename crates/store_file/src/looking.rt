@@ -126,8 +126,11 @@ fn begun<D: Disk>(
         Ok(frames) => frames.len(),
         Err(error) => return Err(probed(error)),
     };
-    if frames > 0 || (length > 0 && logged == 0) {
+    if frames > 0 {
         return Err(OpenFault::CutShort);
+    }
+    if length > 0 && logged == 0 {
+        return Err(shortened(&mut files.db, length));
     }
     Ok(Found::Nothing)
 }
