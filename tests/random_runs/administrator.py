@@ -49,7 +49,7 @@ class Administrator(Player):
     # ---- steps
 
     def split(self):
-        leaf, bits = self.leaf(), self.random.choice([1, 1, 2, 3, 9])
+        leaf, bits = self.leaf(), self.random.choice([1, 1, 2, 3, 3, 9])
         rank = self.rank_of(leaf)
         self.expect(f'dirfrag split {rank} {named(leaf)} {bits}', printed(self.ranks.split(rank, leaf, bits)))
 
@@ -131,8 +131,28 @@ class Administrator(Player):
             self.ranks.jobs = {}
             self.expect('flush', 'flushed')
             for leaf in self.ranks.all_leaves():
-                self.ranks.unclean.written(leaf, self.ranks.unclean.snapshot(leaf))
+                self.store(leaf)
             self.is_stored()
+
+    def store(self, leaf):
+        """All of a leaf is in the store, where something wasn't."""
+        if not self.ranks.unclean.is_clean(leaf):
+            self.ranks.unclean.written(leaf, self.ranks.unclean.snapshot(leaf))
+
+    def own(self):
+        """A rank's own next step: the one that there is, or one of those where that goes by what it caches."""
+        busy = [rank for rank in range(self.count) if self.ranks.own_steps(rank) != [None]]
+        rank = self.random.choice(busy) if busy and self.random.random() < 0.8 else self.random.randrange(self.count + 1)
+        if rank == self.count:
+            self.expect(f'own {rank}', 'refused 5')
+            return
+        steps = {}
+        for step in self.ranks.own_steps(rank):
+            sent = f'sent {self.ranks.sent(step[1])}' if step and step[0] == 'send' else 'nothing'
+            steps[f'own {step[0]} {named(step[1])} {sent}' if step else 'none'] = step
+        step = steps[self.expect(f'own {rank}', *steps)]
+        if step and self.ranks.make(rank, *step):
+            raise Broken(f'own {rank}\n  prints {self.said}\n  which is to be refused')
 
     def start(self):
         leaf = self.leaf()
@@ -163,11 +183,10 @@ class Administrator(Player):
         self.expect('history', f'history {len(self.replies)}')
 
     def is_object(self, leaf, names):
-        """The leaf's object has these names, and counts those of them that are directories, and the others."""
-        name, dirs = object_of(leaf), sum(is_dir for _, is_dir in names)
-        said = self.say(f'object {name}').split()
-        if said[:1] + said[2:] != ['frag', str(len(names) - dirs), str(dirs), *(text + '_head' for text, _ in names)]:
-            raise Broken(f'object {name}\n  prints {" ".join(said)}\n  and its names are {names}')
+        """The leaf's object has the version of so many writes and these names, and counts those that are directories, and the others."""
+        dirs, version = sum(is_dir for _, is_dir in names), self.ranks.unclean.versions[leaf]
+        keys = [text + '_head' for text, _ in names]
+        self.expect(f'object {object_of(leaf)}', ' '.join(['frag', str(version), str(len(names) - dirs), str(dirs), *keys]))
 
     def is_stored(self):
         """Each leaf's object is there with its names, and no object but these and those of directories with more leaves than one."""
@@ -208,6 +227,7 @@ class Administrator(Player):
             self.say(f'drop {number}')
         for leaf in self.ranks.all_leaves():
             self.expect(f'commit {self.ranks.authority(leaf)} {named(leaf)}', 'nothing')
+            self.store(leaf)
         for directory in self.ranks.leaves:
             self.expect(f'tree {directory:x}', 'nothing')
         there = None

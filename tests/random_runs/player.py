@@ -8,15 +8,18 @@ from table import ROOT, Table
 NAMES = [f'{letter}{number}' for letter in 'abcd' for number in range(4)]
 # of client 9 come the listings by which a directory is looked at
 LOOKER = 9
+# how many entries a directory may have: as many as a directory can, or so few that some get full
+LIMITS = (1048576, 1048576, 9, 3)
 
 
 class Player(Program):
     """The program, and beside it the plain table, whose each leaf is, what waits at each rank, and every reply so far."""
 
     def __init__(self, seed, ranks):
-        super().__init__(ranks)
+        limit = LIMITS[seed % len(LIMITS)]
+        super().__init__(ranks, limit)
         self.random = random.Random(seed)
-        self.count, self.table, self.bare, self.looks = ranks, Table(), 0, 0
+        self.count, self.table, self.bare, self.looks = ranks, Table(limit), 0, 0
         self.ranks = Ranks(self.table, ranks)
         # a request is its pair of client and number, its oldest, and its operation
         self.inboxes, self.replies, self.marks = [[] for _ in range(ranks)], {}, {}
@@ -106,11 +109,24 @@ class Player(Program):
         at = f'{directory:x} {name}'
         if self.random.random() < 0.6 / len(self.ranks.leaves):
             return f'mkdir {at} 755'
+        if self.random.random() < 0.2:
+            return self.owned(at)
         return pick([
             f'create {at} 644', f'create {at} 600', f'mkdir {at} 755', f'mkdir {at} 700', f'symlink {at} to%20{name}', f'lookup {at}',
             f'readlink {at}', f'setattr {at} mode 640 size {self.random.randrange(100)}', f'unlink {at}', f'rmdir {at}',
             f'rename {at} {self.directory():x} {pick(NAMES)}', f'rename {at} {self.directory():x} {pick(NAMES)}',
             f'readdir {self.directory():x} {pick(["-", name])} {pick([1, 3, 1024])}',
+        ])
+
+    def owned(self, at):
+        """An operation on owners, or one that pins a directory to a rank, also to one that isn't there."""
+        uid, gid = self.random.choice([0, 5, 4294967295]), self.random.choice([0, 6])
+        dirs = [f'{row.directory:x} {row.name}' for row in self.table.rows if row.kind == 'dir']
+        pinned = self.random.choice([at, *dirs])
+        return self.random.choice([
+            f'create {at} 644 uid {uid} gid {gid}', f'mkdir {at} 755 uid {uid}', f'symlink {at} to gid {gid}', f'setattr {at} uid {uid}',
+            f'setattr {at} mode 600 uid {uid} gid {gid}', *[f'setpin {pinned} {self.random.randrange(self.count)}'] * 6,
+            f'setpin {pinned} -1', f'setpin {pinned} {self.random.choice([15, 16, 255])}',
         ])
 
     def waiting(self):

@@ -12,8 +12,8 @@ class Broken(Exception):
 class Program:
     OPTIONS = []
 
-    def __init__(self, ranks):
-        self.process = subprocess.Popen([PATH, 'script', *self.OPTIONS, '--ranks', str(ranks), '--cache', '512'],
+    def __init__(self, ranks, limit):
+        self.process = subprocess.Popen([PATH, 'script', *self.OPTIONS, '--ranks', str(ranks), '--cache', '512', '--limit', str(limit)],
                                         stdin=subprocess.PIPE, stdout=subprocess.PIPE, text=True, bufsize=1)
         self.lines, self.said = [], ''
 

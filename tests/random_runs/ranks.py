@@ -15,6 +15,12 @@ STEPS = {'freeze': ('started', 'frozen'), 'prep': ('frozen', 'prepared'), 'send'
          'finish': ('imported', None)}
 
 
+def place_of(leaf):
+    """The order of leaves: by directory, then value, then bits."""
+    bits = leaf[1][:-1]
+    return leaf[0], bits.ljust(24, '0'), len(bits)
+
+
 class Export:
     def __init__(self, exporter, importer):
         self.exporter, self.importer, self.state = exporter, importer, 'started'
@@ -236,3 +242,58 @@ class Ranks:
         self.roots[root] = exporter
         self.jobs = {leaf: job for leaf, job in self.jobs.items() if self.climbs_to(leaf) != root}
         return 0
+
+    # ---- what ranks do of their own
+
+    def own_steps(self, rank):
+        """The steps of which a rank makes one of its own: the first that there is, as what it does and where, none for none. Leaves that are merged have to
+        be cached: those that aren't clean are, and others may be."""
+        for root, export in sorted(self.exports.items(), key=lambda it: place_of(it[0])):
+            if export.exporter == rank and (step := self.next_own(rank, root, export)):
+                return [(step, root)]
+        steps = []
+        for whole, parts in self.small(rank):
+            steps.append(('merge', whole))
+            if not any(map(self.unclean.is_clean, parts)):
+                return steps
+        away = [leaf for leaf in self.all_leaves() if self.is_away(rank, leaf)]
+        return steps + [('start', min(away, key=place_of)) if away else None]
+
+    def next_own(self, rank, root, export):
+        """How a rank goes on with an export: one that is started waits while it can't be frozen."""
+        if export.state != 'started':
+            return next(word for word, (needed, _) in STEPS.items() if needed == export.state)
+        if not self.is_leaf(root) or self.authority(root) != rank:
+            return 'cancel'
+        is_held = self.is_frozen(root) or any(self.climbs_to(leaf, root) == root for leaf, _ in self.grants)
+        return None if is_held else 'freeze'
+
+    def small(self, rank):
+        """The fragments of which eight leaves have fewer than 50 entries together, are the rank's, and neither frozen nor granted."""
+        wholes = {(directory, frag[:-4] + '*') for directory, frag in self.all_leaves() if len(frag) > 3}
+        for directory, frag in sorted(wholes, key=place_of):
+            parts = [(directory, f'{frag[:-1]}{child:03b}*') for child in range(8)]
+            if all(map(self.is_leaf, parts)) and not self.barred(rank, parts) and sum(len(self.rows_in(leaf)) for leaf in parts) < 50:
+                yield (directory, frag), parts
+
+    def pin_of(self, directory):
+        """The rank that a directory is pinned to, itself or by the nearest above it."""
+        while directory != ROOT:
+            row = next(row for row in self.table.rows if row.ino == directory)
+            if row.pin is not None:
+                return row.pin
+            directory = row.directory
+        return None
+
+    def is_away(self, rank, leaf):
+        """Whether a rank would start an export of a leaf: a subtree root of its own, or one of a directory that has a pin, pinned to another rank."""
+        to = self.pin_of(leaf[0])
+        has_pin = any(row.ino == leaf[0] and row.pin is not None for row in self.table.rows)
+        return (to is not None and to != rank and to < self.count and (leaf in self.roots or has_pin) and self.authority(leaf) == rank
+                and not self.is_frozen(leaf) and leaf not in self.exports)
+
+    def make(self, rank, step, leaf):
+        """A rank makes a step of its own."""
+        if step == 'start':
+            return self.start(rank, leaf, self.pin_of(leaf[0]))
+        return self.merge(rank, leaf) if step == 'merge' else self.step(step, leaf)

@@ -1,9 +1,9 @@
-"""What of each leaf isn't in the store yet: all of a new one, and the names that changed since."""
+"""What of each leaf isn't in the store yet: all of a new one, and the names that changed since; and how often it was written since it was new."""
 
 
 class Unclean:
     def __init__(self, new):
-        self.new, self.dirty, self.changes = {new}, {}, 0
+        self.new, self.dirty, self.changes, self.versions = {new}, {}, 0, {new: 0}
 
     def change(self, leaf, name):
         self.changes += 1
@@ -12,12 +12,14 @@ class Unclean:
     def make(self, leaf, names):
         """A leaf is new, with these names."""
         self.new.add(leaf)
+        self.versions[leaf] = 0
         for name in names:
             self.change(leaf, name)
 
     def forget(self, leaf):
         self.new.discard(leaf)
         self.dirty.pop(leaf, None)
+        self.versions.pop(leaf, None)
 
     def is_clean(self, leaf):
         return leaf not in self.new and not self.dirty.get(leaf)
@@ -28,6 +30,7 @@ class Unclean:
     def written(self, leaf, snapshot):
         """A leaf is in the store as it was then: what changed since isn't."""
         self.new.discard(leaf)
+        self.versions[leaf] += 1
         self.dirty[leaf] = {name: change for name, change in self.snapshot(leaf).items() if snapshot.get(name) != change}
 
     def sent(self, leaf, table):
