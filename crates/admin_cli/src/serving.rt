@@ -4,9 +4,7 @@ ghost use Rattle.std.specs.FinMap as map;
 ghost use Rattle.admin_cli.specs.Loads.{IsLoad};
 ghost use Rattle.admin_cli.specs.Reports.{ServesOut};
 
-use crate::workload::{
-    Load, Progress, ServeFault, Served, run_over_book, run_serve, run_watched,
-};
+use crate::workload::{Load, Progress, ServeFault, Served, run_over_book, run_serve, run_watched};
 use cluster_core::Book;
 use keeping::Keep;
 use rank_threads::OpenGate;

@@ -64,6 +64,7 @@ pub fn look<D: Disk>(
 
 // How many bytes of a log lie before its first frame, and of a frame before its page: the format of SQLite's log.
 const LOG_HEADER: usize = 32;
+
 const FRAME_HEADER: usize = 24;
 
 // Where the log has the first page that recovery will take, if it has one: a machine that stopped while the log was put

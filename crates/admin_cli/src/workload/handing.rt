@@ -11,7 +11,12 @@ const FIRST: Rank = Rank(0);
 
 /// Exports a directory of one leaf from rank 0 to another rank, one step after the other. Nothing where a step is
 /// refused.
-pub(crate) fn hand<S: Keep + Drop>(alloc: Global, book: &mut Book<S>, ino: Ino, to: Rank) -> Option<()>
+pub(crate) fn hand<S: Keep + Drop>(
+    alloc: Global,
+    book: &mut Book<S>,
+    ino: Ino,
+    to: Rank,
+) -> Option<()>
     ensures { book.new.opening ≡ book.old.opening }
 {
     let frag = Frag::ROOT;

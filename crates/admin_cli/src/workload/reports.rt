@@ -10,7 +10,11 @@ use std::alloc::{AllocError, Global};
 
 /// The text of a run: how many requests were applied, whether the receipts agree, and the paths of the tree. Nothing
 /// where memory is refused or the tree can't be read.
-pub(crate) fn report<S: Keep + Drop>(alloc: Global, book: &mut Book<S>, agrees: bool) -> Option<Vec<u8>>
+pub(crate) fn report<S: Keep + Drop>(
+    alloc: Global,
+    book: &mut Book<S>,
+    agrees: bool,
+) -> Option<Vec<u8>>
     ensures { IfSome result (λ text. Reports (length book.old.history) agrees text.items) }
 {
     let served = book.history().len();

@@ -8,7 +8,11 @@ use std::alloc::Global;
 
 /// Sends a request to rank 0 and serves it there, or at the rank to which it is forwarded. Answers its reply, or
 /// nothing where it has none.
-pub(crate) fn ask<S: Keep + Drop>(alloc: Global, book: &mut Book<S>, request: Request) -> Option<Reply>
+pub(crate) fn ask<S: Keep + Drop>(
+    alloc: Global,
+    book: &mut Book<S>,
+    request: Request,
+) -> Option<Reply>
     ensures { book.new.opening ≡ book.old.opening }
 {
     let client = request.client;

@@ -43,8 +43,7 @@ returns-in-Err-clause-served g c =
 pub returns-in-Ok-clause-served : goal.returns-in-Ok-clause-served
 returns-in-Ok-clause-served g c =
     let same : c.reserve.new.self.items ≡ c.args.receipts.now.items = search rules in
-    let told : List Receipt = receipt_of (Ok c.in-Ok.answer) in
-    (
+    let told : List Receipt = receipt_of (Ok c.in-Ok.answer) in (
       told,
       c.note.ensures.told ∙ ap (λ (rs : List Receipt). rs ++ told) same,
       served_then c.args.book.now c.grant_all.new.book c.step.new.self [] told (served_by c.args.found.client c.args.found.tid 16 [] None c.args.book.now c.grant_all.new.book c.in_default.ensures.reached)
@@ -53,8 +52,7 @@ returns-in-Ok-clause-served g c =
 
 pub returns-in-Err-step-clause-served : goal.returns-in-Err-step-clause-served
 returns-in-Err-step-clause-served g c =
-    let same : c.reserve.new.self.items ≡ c.args.receipts.now.items = search rules in
-    (
+    let same : c.reserve.new.self.items ≡ c.args.receipts.now.items = search rules in (
       [],
       same ∙ sym (append-nil c.args.receipts.now.items),
       served_then c.args.book.now c.grant_all.new.book c.step.new.self [] [] (served_by c.args.found.client c.args.found.tid 16 [] None c.args.book.now c.grant_all.new.book c.in_default.ensures.reached)
