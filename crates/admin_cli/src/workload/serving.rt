@@ -208,11 +208,16 @@ fn reported<S: Keep + Drop>(alloc: Global, book: Book<S>, agrees: bool) -> Loade
     ensures err { IfErr result.gave (λ number. number ≡ 1) }
 {
     let mut book = book;
-    let gave = match report(alloc, &mut book, agrees) {
-        Some(text) => Ok(Printed { text, agrees }),
-        None => Err(RunFault::NoMemory.number()),
-    };
-    Loaded { book, gave }
+    match report(alloc, &mut book, agrees) {
+        Some(text) => Loaded {
+            book,
+            gave: Ok(Printed { text, agrees }),
+        },
+        None => Loaded {
+            book,
+            gave: Err(RunFault::NoMemory.number()),
+        },
+    }
 }
 
 // Writes the text.
