@@ -1,20 +1,21 @@
-//! A script, or a load, over the tree that a file has.
+//! A script, or a load, over the tree that a file has. What follows the opening of the file is said of any tables: so
+//! nothing here is proved of the database's own types.
 ghost use Rattle.std.specs.Prelude.{◌≤◌};
+ghost use Rattle.sqlite_trees.specs.View.{IsClean};
+ghost use Rattle.kept_store.specs.Kept.{IsFreshMirror};
 ghost use Rattle.admin_cli.specs.Loads.{IsLoad};
 
 use admin_cli::{CACHE, Limit, Load, Mode, Ran, Served, run_over, serve_over};
 use cluster_core::{Book, PlainTree, mount};
 use kept_book::save;
-use kept_store::Kept;
-use mds_types::Refusal;
-use object_tables::ReadFault;
+use kept_store::{Kept, Settle};
 use std::alloc::Global;
+use std::fmt::Display;
 use std::io;
 use std::io::IsTerminal;
 use std::sync::Wait;
 use std::thread::Threads;
-use store_file::{OpenFault, StoreFile, Wary, open, remove_log};
-use thiserror::Error;
+use store_file::{Wary, open, remove_log};
 
 /// Ranks, cached fragments of each, and entries that a directory may have.
 #[derive(Clone, Copy, Debug)]
@@ -22,17 +23,6 @@ pub struct Shape {
     pub ranks: u8,
     pub cache: u32,
     pub limit: Limit,
-}
-
-/// Why the tree of a file can't be had: the file itself, its rows, or the objects that they spell.
-#[derive(Debug, Drop, Error)]
-enum Unmounted {
-    #[error("{0}")]
-    File(OpenFault),
-    #[error("{0}")]
-    Rows(ReadFault),
-    #[error("{0}")]
-    Tree(Refusal),
 }
 
 /// Runs a script over the tree of a file, and saves what the script didn't flush. Answers whether all went well: what is
@@ -49,19 +39,9 @@ pub fn script_stored<H: AllocGlobal + Threads + Sync>(
     requires least { 512 ≤ shape.cache }
     requires most { shape.cache ≤ 65536 }
 {
-    match mounted(host, rt.alloc(), path, shape) {
-        Ok(book) => {
-            let writer = &mut io::writer(host);
-            let Ran { book, ended } = run_over(rt, host.reader(), writer, book, mode);
-            if let Err(fault) = ended {
-                eprintln!(host; "{fault}")?;
-            }
-            Ok(is_closed(host, rt, path, book)? && ended.is_ok())
-        }
-        Err(why) => {
-            eprintln!(host; "cephmeta: {path}: {why}")?;
-            Ok(false)
-        }
+    match open(host, path, Wary) {
+        Ok(tables) => script_over(host, rt, path, tables, shape, mode),
+        Err(fault) => told(host, path, &fault),
     }
 }
 
@@ -75,30 +55,57 @@ pub fn serve_stored<H: AllocGlobal + Threads + Wait + Sync + Eprint>(
 ) -> io::Result<bool>
     requires { IsLoad load.ranks load.workers load.clients load.creates }
 {
+    match open(host, path, Wary) {
+        Ok(tables) => load_over(host, rt, path, tables, load),
+        Err(fault) => told(host, path, &fault),
+    }
+}
+
+// Runs a script over the tree that tables have.
+fn script_over<T: Settle + Drop, H: AllocGlobal + Threads + Sync>(
+    host: &HostRuntime,
+    rt: &H,
+    path: &str,
+    tables: T,
+    shape: Shape,
+    mode: Mode,
+) -> io::Result<bool>
+    requires fresh { IsClean (T.Store.view tables) → IsFreshMirror (T.Store.view tables) }
+    requires one { 1 ≤ shape.ranks }
+    requires few { shape.ranks ≤ 16 }
+    requires least { 512 ≤ shape.cache }
+    requires most { shape.cache ≤ 65536 }
+{
+    let Some(book) = mounted(host, rt.alloc(), path, tables, shape)? else {
+        return Ok(false);
+    };
+    let writer = &mut io::writer(host);
+    let Ran { book, ended } = run_over(rt, host.reader(), writer, book, mode);
+    if let Err(fault) = ended {
+        eprintln!(host; "{fault}")?;
+    }
+    Ok(is_closed(host, rt, path, book)? && ended.is_ok())
+}
+
+// Serves a load over the tree that tables have, if that is empty.
+fn load_over<T: Settle + Drop + Send, H: AllocGlobal + Threads + Wait + Sync + Eprint>(
+    host: &HostRuntime,
+    rt: &H,
+    path: &str,
+    tables: T,
+    load: Load,
+) -> io::Result<bool>
+    requires fresh { IsClean (T.Store.view tables) → IsFreshMirror (T.Store.view tables) }
+    requires load { IsLoad load.ranks load.workers load.clients load.creates }
+{
     let shape = Shape {
         ranks: load.ranks,
         cache: CACHE,
         limit: Limit::MAX,
     };
-    match mounted(host, rt.alloc(), path, shape) {
-        Ok(book) => serve_book(host, rt, path, book, load),
-        Err(why) => {
-            eprintln!(host; "cephmeta: {path}: {why}")?;
-            Ok(false)
-        }
-    }
-}
-
-// Serves a load over a book, if its tree is empty.
-fn serve_book<H: AllocGlobal + Threads + Wait + Sync + Eprint>(
-    host: &HostRuntime,
-    rt: &H,
-    path: &str,
-    book: Book<Kept<StoreFile>>,
-    load: Load,
-) -> io::Result<bool>
-    requires { IsLoad load.ranks load.workers load.clients load.creates }
-{
+    let Some(book) = mounted(host, rt.alloc(), path, tables, shape)? else {
+        return Ok(false);
+    };
     if book.opening() != &PlainTree::new(rt.alloc()) {
         eprintln!(host; "cephmeta: {path}: has a tree, and serve begins with an empty one")?;
         let _ = is_closed(host, rt, path, book)?;
@@ -113,47 +120,47 @@ fn serve_book<H: AllocGlobal + Threads + Wait + Sync + Eprint>(
     Ok(is_closed(host, rt, path, book)? && ended.is_ok())
 }
 
-// Opens a file, and mounts its tree. A file that is refused is left without its log, which has nothing that the file
-// lacks once it was opened.
-fn mounted(
+// Mounts the tree that tables have, or tells why not. Tables that are refused leave their file without its log, which has
+// nothing that the file lacks once it was opened.
+fn mounted<T: Settle + Drop>(
     host: &HostRuntime,
     alloc: Global,
     path: &str,
+    tables: T,
     shape: Shape,
-) -> Result<Book<Kept<StoreFile>>, Unmounted>
+) -> io::Result<Option<Book<Kept<T>>>>
+    requires fresh { IsClean (T.Store.view tables) → IsFreshMirror (T.Store.view tables) }
     requires one { 1 ≤ shape.ranks }
     requires few { shape.ranks ≤ 16 }
     requires least { 512 ≤ shape.cache }
     requires most { shape.cache ≤ 65536 }
 {
-    let tables = match open(host, path, Wary) {
-        Ok(tables) => tables,
-        Err(fault) => return Err(Unmounted::File(fault)),
-    };
     let kept = match Kept::open(alloc, tables) {
         Ok(kept) => kept,
         Err((fault, tables)) => {
             let _ = remove_log(host, path);
             drop(tables);
-            return Err(Unmounted::Rows(fault));
+            told(host, path, &fault)?;
+            return Ok(None);
         }
     };
     match mount(alloc, kept, shape.ranks, shape.cache, shape.limit) {
-        Ok(book) => Ok(book),
+        Ok(book) => Ok(Some(book)),
         Err((refusal, kept)) => {
             let _ = remove_log(host, path);
             drop(kept);
-            Err(Unmounted::Tree(refusal))
+            told(host, path, &refusal)?;
+            Ok(None)
         }
     }
 }
 
 // Saves what a book leaves, and leaves the file without its log. Answers whether all is in the file.
-fn is_closed(
+fn is_closed<T: Settle + Drop>(
     host: &HostRuntime,
     rt: &(impl AllocGlobal + Threads + Sync),
     path: &str,
-    mut book: Book<Kept<StoreFile>>,
+    mut book: Book<Kept<T>>,
 ) -> io::Result<bool> {
     let saved = save(rt, rt.alloc(), &mut book).map(|_| ());
     let settled = book.settle();
@@ -171,4 +178,10 @@ fn is_closed(
         return Ok(false);
     }
     Ok(true)
+}
+
+// What is wrong with the file is told on standard error.
+fn told(host: &impl Eprint, path: &str, fault: &impl Display) -> io::Result<bool> {
+    eprintln!(host; "cephmeta: {path}: {fault}")?;
+    Ok(false)
 }
