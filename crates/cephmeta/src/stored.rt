@@ -1,13 +1,15 @@
 //! A script, or a load, over the tree that a file has. What follows the opening of the file is said of any tables: so
 //! nothing here is proved of the database's own types.
-ghost use Rattle.std.specs.Prelude.{◌≤◌};
+ghost use Rattle.std.specs.Prelude.{◌≡◌, ◌≤◌, IsTrue};
+ghost use Rattle.std.specs.FinMap as map;
 ghost use Rattle.sqlite_trees.specs.View.{IsClean};
 ghost use Rattle.kept_store.specs.Kept.{IsFreshMirror};
 ghost use Rattle.admin_cli.specs.Loads.{IsLoad};
 
 use admin_cli::{CACHE, Limit, Load, Mode, Ran, Served, run_over, serve_over};
 use cluster_core::{Book, PlainTree, mount};
-use kept_book::save;
+use keeping::Unkept;
+use kept_book::{Unsaved, save};
 use kept_store::{Kept, Settle};
 use std::alloc::Global;
 use std::fmt::Display;
@@ -76,15 +78,18 @@ fn script_over<T: Settle + Drop, H: AllocGlobal + Threads + Sync>(
     requires least { 512 ≤ shape.cache }
     requires most { shape.cache ≤ 65536 }
 {
-    let Some(book) = mounted(host, rt.alloc(), path, tables, shape)? else {
-        return Ok(false);
-    };
-    let writer = &mut io::writer(host);
-    let Ran { book, ended } = run_over(rt, host.reader(), writer, book, mode);
-    if let Err(fault) = ended {
-        eprintln!(host; "{fault}")?;
+    match mounted(host, rt.alloc(), path, tables, shape) {
+        Ok(book) => {
+            let writer = &mut io::writer(host);
+            let Ran { book, ended } = run_over(rt, host.reader(), writer, book, mode);
+            let closed = close(host, rt, path, book);
+            if let Err(fault) = ended {
+                eprintln!(host; "{fault}")?;
+            }
+            Ok(is_saved(host, path, closed)? && ended.is_ok())
+        }
+        Err(told) => told,
     }
-    Ok(is_closed(host, rt, path, book)? && ended.is_ok())
 }
 
 // Serves a load over the tree that tables have, if that is empty.
@@ -103,21 +108,34 @@ fn load_over<T: Settle + Drop + Send, H: AllocGlobal + Threads + Wait + Sync + E
         cache: CACHE,
         limit: Limit::MAX,
     };
-    let Some(book) = mounted(host, rt.alloc(), path, tables, shape)? else {
-        return Ok(false);
-    };
-    if book.opening() != &PlainTree::new(rt.alloc()) {
-        eprintln!(host; "cephmeta: {path}: has a tree, and serve begins with an empty one")?;
-        let _ = is_closed(host, rt, path, book)?;
-        return Ok(false);
+    match mounted(host, rt.alloc(), path, tables, shape) {
+        Ok(book) => {
+            if !opens_empty(rt.alloc(), &book) {
+                let _ = is_saved(host, path, close(host, rt, path, book))?;
+                return told(
+                    host,
+                    path,
+                    &"has a tree, and serve begins with an empty one",
+                );
+            }
+            let is_watched = host.stderr().is_terminal();
+            let writer = &mut io::writer(host);
+            let Served { book, ended } = serve_over(rt, writer, book, load, is_watched);
+            let closed = close(host, rt, path, book);
+            if let Err(fault) = ended {
+                eprintln!(host; "cephmeta: {fault}")?;
+            }
+            Ok(is_saved(host, path, closed)? && ended.is_ok())
+        }
+        Err(told) => told,
     }
-    let is_watched = host.stderr().is_terminal();
-    let writer = &mut io::writer(host);
-    let Served { book, ended } = serve_over(rt, writer, book, load, is_watched);
-    if let Err(fault) = ended {
-        eprintln!(host; "cephmeta: {fault}")?;
-    }
-    Ok(is_closed(host, rt, path, book)? && ended.is_ok())
+}
+
+// Whether a book opened with the empty tree.
+fn opens_empty<T: Settle + Drop>(alloc: Global, book: &Book<Kept<T>>) -> bool
+    ensures { IsTrue result → book.now.opening ≡ map.empty }
+{
+    book.opening() == &PlainTree::new(alloc)
 }
 
 // Mounts the tree that tables have, or tells why not. Tables that are refused leave their file without its log, which has
@@ -128,7 +146,7 @@ fn mounted<T: Settle + Drop>(
     path: &str,
     tables: T,
     shape: Shape,
-) -> io::Result<Option<Book<Kept<T>>>>
+) -> Result<Book<Kept<T>>, io::Result<bool>>
     requires fresh { IsClean (T.Store.view tables) → IsFreshMirror (T.Store.view tables) }
     requires one { 1 ≤ shape.ranks }
     requires few { shape.ranks ≤ 16 }
@@ -140,40 +158,57 @@ fn mounted<T: Settle + Drop>(
         Err((fault, tables)) => {
             let _ = remove_log(host, path);
             drop(tables);
-            told(host, path, &fault)?;
-            return Ok(None);
+            return Err(told(host, path, &fault));
         }
     };
     match mount(alloc, kept, shape.ranks, shape.cache, shape.limit) {
-        Ok(book) => Ok(Some(book)),
+        Ok(book) => Ok(book),
         Err((refusal, kept)) => {
             let _ = remove_log(host, path);
-            drop(kept);
-            told(host, path, &refusal)?;
-            Ok(None)
+            drop(kept.into_tables());
+            Err(told(host, path, &refusal))
         }
     }
 }
 
-// Saves what a book leaves, and leaves the file without its log. Answers whether all is in the file.
-fn is_closed<T: Settle + Drop>(
+// Whether a tree is on disk, and whether its file has all of it without the log.
+#[derive(Clone, Copy, Debug)]
+struct Closed {
+    saved: Result<(), Unsaved>,
+    settled: Result<(), Unkept>,
+}
+
+// Saves what a book leaves, and leaves the file without its log. The log is removed while the file is still held, so that
+// no other process has it open. A book is taken apart, since dropping it would be proved here of all that it is made of.
+fn close<T: Settle + Drop>(
     host: &HostRuntime,
     rt: &(impl AllocGlobal + Threads + Sync),
     path: &str,
     mut book: Book<Kept<T>>,
-) -> io::Result<bool> {
-    let saved = save(rt, rt.alloc(), &mut book).map(|_| ());
+) -> Closed {
+    let saved = match save(rt, rt.alloc(), &mut book) {
+        Ok(snapshot) => {
+            drop(snapshot);
+            Ok(())
+        }
+        Err(why) => Err(why),
+    };
     let settled = book.settle();
-    // The log is removed while the file is still held, so that no other process has it open.
+    let tables = book.into_store().into_tables();
     if settled.is_ok() {
         let _ = remove_log(host, path);
     }
-    drop(book);
-    if let Err(why) = saved {
+    drop(tables);
+    Closed { saved, settled }
+}
+
+// Whether all is in the file; what isn't is told on standard error.
+fn is_saved(host: &impl Eprint, path: &str, closed: Closed) -> io::Result<bool> {
+    if let Err(why) = closed.saved {
         eprintln!(host; "cephmeta: {path}: not all is saved: {why}")?;
         return Ok(false);
     }
-    if let Err(why) = settled {
+    if let Err(why) = closed.settled {
         eprintln!(host; "cephmeta: {path}: all is saved, but in part in {path}-wal: {why}")?;
         return Ok(false);
     }
