@@ -135,7 +135,10 @@ fn load_over<T: Settle + Drop + Send, H: AllocGlobal + Threads + Wait + Sync + E
 fn opens_empty<T: Settle + Drop>(alloc: Global, book: &Book<Kept<T>>) -> bool
     ensures { IsTrue result → book.now.opening ≡ map.empty }
 {
-    book.opening() == &PlainTree::new(alloc)
+    let empty = PlainTree::new(alloc);
+    let is_empty = book.opening().eq(&empty);
+    drop(empty);
+    is_empty
 }
 
 // Mounts the tree that tables have, or tells why not. Tables that are refused leave their file without its log, which has
