@@ -1,4 +1,9 @@
 //! The steps that a rank makes of its own.
+ghost use Rattle.std.specs.Prelude.{◌≡◌, Some};
+ghost use Rattle.std.specs.FinMap as map;
+ghost use Rattle.cluster_core.specs.declared.events.Event.TheVariants.{Send};
+ghost use Rattle.cluster_core.specs.SentBytes.{none_sent};
+ghost use Rattle.rank_threads.specs.OwnTurn.{MakesStep, TakesOwnTurn, import_with};
 
 use crate::desks::{Desk, Handed};
 use cluster_core::{Answer, Event, KeptBytes};
@@ -15,7 +20,9 @@ pub(crate) struct OwnTurns {
 
 impl OwnTurns {
     /// A rank that has sent nothing. Takes no memory.
-    pub(crate) fn new(alloc: Global, rank: Rank) -> OwnTurns {
+    pub(crate) fn new(alloc: Global, rank: Rank) -> OwnTurns
+        ensures { result ≡ record { rank = rank; kept = none_sent } }
+    {
         OwnTurns {
             rank,
             kept: KeptBytes::new(alloc),
@@ -27,7 +34,11 @@ impl<S: Store + Drop, L: Handed> Desk<S, L> {
     /// A rank proposes a step of its own, and makes it, if there is one. An Import is given the bytes that the rank's
     /// thread keeps; one whose bytes aren't kept there is passed over. The history stays.
     #[tactic(auto, using(cluster_core::proofs::OwnLaws::proposal_stays))]
-    pub(crate) fn own(&mut self, alloc: Global, own: &mut OwnTurns) -> Result<(), Refusal> {
+    pub(crate) fn own(&mut self, alloc: Global, own: &mut OwnTurns) -> Result<(), Refusal>
+        ensures rank { own.new.rank ≡ own.old.rank }
+        ensures turn { TakesOwnTurn self.old.book self.new.book own.old.rank own.old.kept.bytes
+            own.new.kept.bytes result }
+    {
         let Some(event) = self.book.propose(own.rank)? else {
             return Ok(());
         };
@@ -49,7 +60,9 @@ impl<S: Store + Drop, L: Handed> Desk<S, L> {
         kept: &mut KeptBytes,
         ino: Ino,
         frag: Frag,
-    ) -> Result<(), Refusal> {
+    ) -> Result<(), Refusal>
+        ensures { MakesStep self.old.book self.new.book kept.old.bytes kept.new.bytes (Some (Send ino frag)) result }
+    {
         if kept.reserve().is_err() {
             return Err(Refusal::NoMemory);
         }
@@ -71,7 +84,10 @@ impl<S: Store + Drop, L: Handed> Desk<S, L> {
         kept: &mut KeptBytes,
         ino: Ino,
         frag: Frag,
-    ) -> Result<(), Refusal> {
+    ) -> Result<(), Refusal>
+        ensures { MakesStep self.old.book self.new.book kept.old.bytes kept.new.bytes
+            (import_with ino frag (map.get kept.old.bytes (ino, frag))) result }
+    {
         if !kept.has(ino, frag) {
             return Ok(());
         }

@@ -2,6 +2,7 @@
 ghost use Rattle.std.specs.Prelude.{◌≡◌, ◌+◌, ◌<◌, ◌≤◌, ◌++◌, ◌∷◌, [], Contains, IfSome, vec_len, vec_capacity};
 ghost use Rattle.std.specs.List.{AllByRecursion};
 ghost use Rattle.cluster_core.specs.OneThread.{IsAskedFor, receipt_of, receipts_of};
+ghost use Rattle.rank_threads.specs.TookTurn.{TookCommitTurn, TookTurn};
 ghost use Rattle.rank_threads.specs.Sent.{plan_arrivals, turn_arrival};
 ghost use Rattle.rank_threads.specs.Turns.{AreAnswered, FitsTurn, first_in, firsts};
 
@@ -159,6 +160,8 @@ fn take_turn<S: Store + Drop, L: Handed, G: Gate, R: Wait>(
     ensures parts { mine.new.share.parts ≡ 1 }
     ensures amount { mine.new.share.amount ≡ mine.old.share.amount + first_in result }
     ensures fits { FitsTurn turn result }
+    ensures rank { mine.new.own.rank ≡ mine.old.own.rank }
+    ensures took { TookTurn turn mine.old.own.rank mine.old.own.kept.bytes mine.new.own.kept.bytes result }
     ensures asked_for { ∥ AllByRecursion (IsAskedFor L.sent) (receipt_of result) ∥₁ }
 {
     let rank = mine.own.rank;
@@ -196,7 +199,9 @@ fn begin_commit<S: Store + Drop, L: Handed, R: Wait>(
     desk: &Mutex<Desk<S, L>>,
     jobs: &Sender<Job>,
     leaf: &Dirfrag,
-) -> Result<(), Refusal> {
+) -> Result<(), Refusal>
+    ensures { TookCommitTurn leaf.now.rank leaf.now.dir leaf.now.frag result }
+{
     // the lock is let go before the job is sent
     let begun = lock(desk, rt).begin(alloc, leaf.rank, leaf.dir, leaf.frag)?;
     let Some(job) = begun else {
