@@ -62,7 +62,7 @@ pub(crate) struct Desk<S: Store + Drop, L: Handed> {
 impl<S: Store + Drop, L: Handed> Desk<S, L> {
     /// One step of the book, of an event whose request, if it brings one, was sent. The share rises by one where the step
     /// adds an entry to the history, and a reply that is handed out was asked for.
-    #[tactic(auto, using(crate::proofs::StepLaws::still_begins, crate::proofs::StepLaws::counts_on))]
+    #[tactic(auto, using(crate::proofs::StepLaws::still_begins, crate::proofs::StepLaws::counts_on, crate::proofs::StepLaws::one_step))]
     pub(crate) fn step(
         &mut self,
         alloc: Global,
@@ -85,6 +85,7 @@ impl<S: Store + Drop, L: Handed> Desk<S, L> {
     }
 
     /// A commit of a leaf begins at a rank: its job, unless the leaf is clean. The history stays.
+    #[tactic(auto, using(crate::proofs::StepLaws::one_step))]
     pub(crate) fn begin(
         &mut self,
         alloc: Global,
@@ -105,13 +106,15 @@ impl<S: Store + Drop, L: Handed> Desk<S, L> {
     }
 
     /// The commit of what was encoded ends. The history stays.
+    #[tactic(auto, using(crate::proofs::StepLaws::one_step))]
     pub(crate) fn end(&mut self, alloc: Global, encoded: Encoded) -> Result<(), Refusal>
         ensures { IsStepTold self.old.book self.new.book (CommitEnd encoded) done_of result }
     {
-        self.book.step(alloc, Event::CommitEnd(encoded)).map(|_| ())
+        done(self.book.step(alloc, Event::CommitEnd(encoded)))
     }
 
     /// A commit is given up. The history stays.
+    #[tactic(auto, using(crate::proofs::StepLaws::one_step))]
     pub(crate) fn give_up(&mut self, alloc: Global, job: u64)
         ensures { (came : Result Answer Refusal) × IsOneStep self.old.book self.new.book (CommitDrop job) came }
     {
@@ -144,6 +147,19 @@ impl<S: Store + Drop, L: Handed> Desk<S, L> {
         total.audit(all);
         book.is_sound();
         book
+    }
+}
+
+/// That a step was made, or why it was refused.
+pub(crate) fn done(came: Result<Answer, Refusal>) -> Result<(), Refusal>
+    ensures { result ≡ done_of came }
+{
+    match came {
+        Ok(answer) => {
+            drop(answer);
+            Ok(())
+        }
+        Err(refusal) => Err(refusal),
     }
 }
 

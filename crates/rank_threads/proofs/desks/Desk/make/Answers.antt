@@ -1,0 +1,15 @@
+-- What the lock keeps, of a step that its rank proposed.
+use Rattle.rank_threads.proofs.Common.{AllByRecursion, Contains, arrival, receipt_of}
+use Rattle.cluster_core.proofs.OwnLaws.{proposal_brings}
+use Rattle.rank_threads.proofs.AskedLaws.{still_serves}
+use Rattle.rank_threads.proofs.StepLaws.{still_begins}
+use Rattle.rank_threads.proofs.desks.Desk.make.Goals as goal
+
+pub invariant_of-self-in_default-clause-begins : goal.invariant_of-self-in_default-clause-begins
+invariant_of-self-in_default-clause-begins g c =
+    still_begins g.L.Handed.begun c.args.self.now.book.history c.step.new.self.history _ _ _ _ c.step.ensures.one_thread c.args.self.now.begins
+
+pub invariant_of-self-in_default-clause-serves : goal.invariant_of-self-in_default-clause-serves
+invariant_of-self-in_default-clause-serves g c =
+    let none : AllByRecursion (Contains g.L.Handed.sent) (arrival c.args.event) = proposal_brings c.requires.0 c.requires.1 c.args.event (Contains g.L.Handed.sent) c.requires.2 in
+    still_serves g.L.Handed.limit g.L.Handed.sent g.L.Handed.begun c.args.self.now.book c.step.new.self (arrival c.args.event) (receipt_of c.step.result) c.step.ensures.one_thread c.step.ensures.waits c.step.ensures.limit c.args.self.now.begins ∣ none ∣₁ c.args.self.now.serves
