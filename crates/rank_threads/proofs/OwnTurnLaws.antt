@@ -1,6 +1,7 @@
 -- What a rank's own turn is, from what the calls that it makes say: over plain books, kept bytes and results.
 use Rattle.rank_threads.proofs.Common.{Answer, Bool, BookState, Err, Event, List, Ok, Refusal, Result, Sent, ap, false, false≢true, refl, subst, sym, true, ℕ, ◌∙◌, ◌≡◌}
-use Rattle.std.specs.Prelude.{Option, Some, None, inl, inr, is_some}
+use Rattle.std.proofs.Common.{inl, inr}
+use Rattle.std.specs.Prelude.{Option, Some, None, is_some}
 use Rattle.mds_types.specs.declared.ids.Ino.{Ino}
 use Rattle.mds_types.specs.declared.ids.Rank.{Rank}
 use Rattle.mds_types.specs.declared.refusals.Refusal.TheVariants.{NoMemory}

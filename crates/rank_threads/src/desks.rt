@@ -100,7 +100,10 @@ impl<S: Store + Drop, L: Handed> Desk<S, L> {
             .step(alloc, Event::CommitBegin { rank, ino, frag })
         {
             Ok(Answer::Job(job)) => Ok(Some(job)),
-            Ok(_) => Ok(None),
+            Ok(other) => {
+                drop(other);
+                Ok(None)
+            }
             Err(refusal) => Err(refusal),
         }
     }

@@ -90,7 +90,10 @@ impl<S: Store + Drop, L: Handed> Desk<S, L> {
                 kept.keep(ino, frag, bytes);
                 Ok(())
             }
-            Ok(_) => Ok(()),
+            Ok(other) => {
+                drop(other);
+                Ok(())
+            }
             Err(refusal) => Err(refusal),
         }
     }
