@@ -1,5 +1,5 @@
 -- What a rank's own turn is, from what the calls that it makes say: over plain books, kept bytes and results.
-use Rattle.rank_threads.proofs.Common.{Answer, Bool, BookState, Err, Event, List, Ok, Refusal, Result, Sent, ap, false, false≢true, refl, subst, sym, true, ℕ, ◌∙◌, ◌≡◌}
+use Rattle.rank_threads.proofs.Common.{Answer, BookState, Err, Event, List, Ok, Refusal, Result, Sent, false, false≢true, refl, subst, sym, true, ℕ, ◌≡◌}
 use Rattle.std.proofs.Common.{inl, inr}
 use Rattle.std.specs.Prelude.{Option, Some, None, is_some}
 use Rattle.mds_types.specs.declared.ids.Ino.{Ino}
@@ -10,7 +10,7 @@ use Rattle.cluster_core.specs.declared.events.Event.TheVariants.{Import, Send}
 use Rattle.cluster_core.specs.Proposal.{Proposes}
 use Rattle.cluster_core.specs.SentBytes.{bytes_or_none}
 use Rattle.rank_threads.specs.OneStep.{IsOneStep, done_of}
-use Rattle.rank_threads.specs.OwnTurn.{ChangesNothing, DoesProposal, Kept, MakesStep, TakesOwnTurn, import_with, kept_after, step_of}
+use Rattle.rank_threads.specs.OwnTurn.{DoesProposal, Kept, MakesStep, TakesOwnTurn, import_with, kept_after, step_of}
 
 -- ---- the proposal changes nothing, so what follows it follows the book before it
 

@@ -49,7 +49,7 @@ impl<S: Store + Drop, L: Handed> Desk<S, L> {
     }
 
     // Makes a step that a rank proposed.
-    #[tactic(auto, using(cluster_core::proofs::OwnLaws::proposal_stays, crate::proofs::OwnTurnLaws::made_other, crate::proofs::StepLaws::one_step))]
+    #[tactic(auto, using(crate::proofs::OwnTurnLaws::made_other, crate::proofs::StepLaws::one_step))]
     fn make(
         &mut self,
         alloc: Global,
