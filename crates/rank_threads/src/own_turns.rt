@@ -50,12 +50,7 @@ impl<S: Store + Drop, L: Handed> Desk<S, L> {
 
     // Makes a step that a rank proposed.
     #[tactic(auto, using(crate::proofs::OwnTurnLaws::made_other, crate::proofs::StepLaws::one_step))]
-    fn make(
-        &mut self,
-        alloc: Global,
-        kept: &mut KeptBytes,
-        event: Event,
-    ) -> Result<(), Refusal>
+    fn make(&mut self, alloc: Global, kept: &mut KeptBytes, event: Event) -> Result<(), Refusal>
         requires { (core : Core) × (rank : Rank) × Proposes core rank (Ok (Some event)) }
         ensures { MakesStep self.old.book self.new.book kept.old.bytes kept.new.bytes
             (step_of kept.old.bytes event) result }
