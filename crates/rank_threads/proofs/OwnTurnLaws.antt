@@ -6,11 +6,13 @@ use Rattle.mds_types.specs.declared.ids.Ino.{Ino}
 use Rattle.mds_types.specs.declared.ids.Rank.{Rank}
 use Rattle.mds_types.specs.declared.refusals.Refusal.TheVariants.{NoMemory}
 use Rattle.mds_types.specs.Frag.{Fragment}
-use Rattle.cluster_core.specs.declared.events.Event.TheVariants.{Import, Send}
+use Rattle.cached_frag.specs.declared.jobs.Job.{Job}
+use Rattle.cluster_core.specs.declared.events.Event.TheVariants.{CommitBegin, Import, Send}
 use Rattle.cluster_core.specs.Proposal.{Proposes}
 use Rattle.cluster_core.specs.SentBytes.{bytes_or_none}
-use Rattle.rank_threads.specs.OneStep.{IsOneStep, done_of}
+use Rattle.rank_threads.specs.OneStep.{IsOneStep, IsStepTold, done_of, job_of}
 use Rattle.rank_threads.specs.OwnTurn.{DoesProposal, Kept, MakesStep, TakesOwnTurn, import_with, kept_after, step_of}
+use Rattle.rank_threads.specs.TookTurn.{HandedOn, TookCommitTurn}
 
 -- ---- the proposal changes nothing, so what follows it follows the book before it
 
@@ -61,3 +63,8 @@ module _ (old new : BookState) (before after : Kept) (dir : Ino) (f : Fragment) 
 pub sent_nothing : (kept : Kept) (dir : Ino) (f : Fragment) (answer : Answer) → ((bytes : List ℕ) → answer ≡ Sent bytes → ⊥) → kept_after kept (Send dir f) (Ok answer) ≡ kept
 sent_nothing kept dir f (Sent bytes) other = absurd (other bytes refl)
 sent_nothing kept dir f answer other = refl
+
+-- ---- what a thread knows of a commit's turn
+
+pub commit_told : (old new : BookState) (rank : Rank) (dir : Ino) (f : Fragment) (told : Result (Option Job) Refusal) (done : Result (Unit {0}) Refusal) → IsStepTold old new (CommitBegin rank dir f) job_of told → HandedOn told done → TookCommitTurn rank dir f done
+commit_told old new rank dir f told done step handed = (told, (old, new, step), handed)
