@@ -66,5 +66,9 @@ sent_nothing kept dir f answer other = refl
 
 -- ---- what a thread knows of a commit's turn
 
-pub commit_told : (old new : BookState) (rank : Rank) (dir : Ino) (f : Fragment) (told : Result (Option Job) Refusal) (done : Result (Unit {0}) Refusal) → IsStepTold old new (CommitBegin rank dir f) job_of told → HandedOn told done → TookCommitTurn rank dir f done
-commit_told old new rank dir f told done step handed = (told, (old, new, step), handed)
+module _ (old new : BookState) (rank : Rank) (dir : Ino) (f : Fragment) (told : Result (Option Job) Refusal) (done : Result (Unit {0}) Refusal) (step : IsStepTold old new (CommitBegin rank dir f) job_of told) where
+  pub commit_told : (is : Result (Option Job) Refusal) → told ≡ is → HandedOn is done → TookCommitTurn rank dir f done
+  commit_told is same handed = (told, (old, new, step), subst (λ (t : Result (Option Job) Refusal). HandedOn t done) (sym same) handed)
+
+  pub commit_began : (job is : Option Job) → told ≡ Ok job → job ≡ is → HandedOn (Ok is) done → TookCommitTurn rank dir f done
+  commit_began job is same alike handed = commit_told (Ok job) same (subst (λ (o : Option Job). HandedOn (Ok o) done) (sym alike) handed)

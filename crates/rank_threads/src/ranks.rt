@@ -192,7 +192,6 @@ fn take_turn<S: Store + Drop, L: Handed, G: Gate, R: Wait>(
 }
 
 // Begins a commit of a leaf at a rank, and hands its job to the workers.
-#[tactic(auto, using(crate::proofs::OwnTurnLaws::commit_told))]
 fn begin_commit<S: Store + Drop, L: Handed, R: Wait>(
     rt: &R,
     alloc: Global,
