@@ -12,7 +12,9 @@ use Rattle.cluster_core.specs.Proposal.{Proposes}
 use Rattle.cluster_core.specs.SentBytes.{bytes_or_none}
 use Rattle.rank_threads.specs.OneStep.{IsOneStep, IsStepTold, done_of, job_of}
 use Rattle.rank_threads.specs.OwnTurn.{DoesProposal, Kept, MakesStep, TakesOwnTurn, import_with, kept_after, step_of}
-use Rattle.rank_threads.specs.TookTurn.{HandedOn, TookCommitTurn}
+use Rattle.rank_threads.specs.TookTurn.{HandedOn, TookCommitTurn, TookTurn, result_of}
+use Rattle.rank_threads.specs.declared.plans.Turn.{Turn}
+use Rattle.rank_threads.specs.declared.plans.Turn.TheVariants.{Step, Own}
 
 -- ---- the proposal changes nothing, so what follows it follows the book before it
 
@@ -64,7 +66,7 @@ pub sent_nothing : (kept : Kept) (dir : Ino) (f : Fragment) (answer : Answer) �
 sent_nothing kept dir f (Sent bytes) other = absurd (other bytes refl)
 sent_nothing kept dir f answer other = refl
 
--- ---- what a thread knows of a commit's turn
+-- ---- what a thread knows of its turn
 
 module _ (old new : BookState) (rank : Rank) (dir : Ino) (f : Fragment) (told : Result (Option Job) Refusal) (done : Result (Unit {0}) Refusal) (step : IsStepTold old new (CommitBegin rank dir f) job_of told) where
   pub commit_told : (is : Result (Option Job) Refusal) → told ≡ is → HandedOn is done → TookCommitTurn rank dir f done
@@ -72,3 +74,9 @@ module _ (old new : BookState) (rank : Rank) (dir : Ino) (f : Fragment) (told : 
 
   pub commit_began : (job is : Option Job) → told ≡ Ok job → job ≡ is → HandedOn (Ok is) done → TookCommitTurn rank dir f done
   commit_began job is same alike handed = commit_told (Ok job) same (subst (λ (o : Option Job). HandedOn (Ok o) done) (sym alike) handed)
+
+pub step_took : (turn : Turn) (event : Event) (rank : Rank) (kept : Kept) (result : Result Answer Refusal) (old new : BookState) → turn ≡ Step event → IsOneStep old new event result → TookTurn turn rank kept kept result
+step_took turn event rank kept result old new is step = subst (λ (t : Turn). TookTurn t rank kept kept result) (sym is) (refl, (old, new, step))
+
+pub own_took : (turn : Turn) (rank : Rank) (before after : Kept) (done : Result (Unit {0}) Refusal) (old new : BookState) → turn ≡ Own → TakesOwnTurn old new rank before after done → TookTurn turn rank before after (result_of done)
+own_took turn rank before after done old new is took = subst (λ (t : Turn). TookTurn t rank before after (result_of done)) (sym is) (done, refl, (old, new, took))
