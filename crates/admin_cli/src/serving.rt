@@ -1,6 +1,7 @@
 //! What `cephmeta serve` runs.
 ghost use Rattle.std.specs.Prelude.{◌≡◌};
 ghost use Rattle.std.specs.FinMap as map;
+ghost use Rattle.admin_cli.specs.Left.{GoesOn};
 ghost use Rattle.admin_cli.specs.Loads.{IsLoad};
 ghost use Rattle.admin_cli.specs.Reports.{ServesOut};
 
@@ -35,7 +36,8 @@ pub fn serve<W: Write, H: Threads + Wait + Sync + AllocGlobal + Eprint>(
     )
 }
 
-/// Serves a load so, over a book of as many ranks that opened with the empty tree, and hands the book back.
+/// Serves a load so, over a book of as many ranks that opened with the empty tree, and hands the book back, as
+/// `run_over_book` does.
 pub fn serve_over<W, H, S>(
     rt: &H,
     writer: &mut W,
@@ -49,7 +51,8 @@ where
     S: Keep + Drop + Send,
     requires load { IsLoad load.ranks load.workers load.clients load.creates }
     requires opening { book.opening ≡ map.empty }
-    ensures { ServesOut (W.contents writer.old) (W.contents writer.new) result.ended }
+    ensures served { ServesOut (W.contents writer.old) (W.contents writer.new) result.ended }
+    ensures left { GoesOn book result.book }
 {
     if is_watched {
         return run_over_book(rt, writer, book, load, &Progress::new(rt, load));
