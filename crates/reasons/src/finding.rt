@@ -7,7 +7,7 @@ use crate::grants::granted;
 use crate::jobs::{begun, stale};
 use crate::lacking::{Lacks, damaged, left, numbers};
 use crate::leaves::{bad_split, no_leaf, too_many};
-use crate::requests::{Deferral, deferral, forwarding, frozen_for};
+use crate::requests::{Deferral, deferral, forwarding, frozen_for, waiting_request};
 use crate::room::room;
 use crate::sentences::{Reason, Told, Why};
 use crate::waiting::{empty, full, old};
@@ -107,6 +107,9 @@ fn what_froze<S: Store + Drop>(cluster: &Cluster<S>, asked: Asked<'_>) -> Option
     match asked {
         Asked::Operation(op) => frozen_for(cluster, op),
         Asked::Arrive(_, request) => frozen_for(cluster, &request.op),
+        Asked::Grant { client, tid, .. } => {
+            frozen_for(cluster, &waiting_request(cluster, client, tid)?.op)
+        }
         Asked::Split { leaf, .. }
         | Asked::Commit { leaf, .. }
         | Asked::Start { leaf, .. }

@@ -60,6 +60,24 @@ pub(crate) fn master<S: Store + Drop>(cluster: &Cluster<S>, op: &Op) -> Option<R
     authority(cluster, main_leaf(cluster, op)?)
 }
 
+/// The first request of this client and number that waits.
+pub(crate) fn waiting_request<S: Store + Drop>(
+    cluster: &Cluster<S>,
+    client: u64,
+    tid: u64,
+) -> Option<&Request> {
+    for rank in 0..16_u8 {
+        for index in 0..cluster.waiting_at(Rank(rank)) {
+            if let Some(request) = cluster.request(Rank(rank), index) {
+                if request.client == client && request.tid == tid {
+                    return Some(request);
+                }
+            }
+        }
+    }
+    None
+}
+
 /// Why the request that a line served at a rank waits on: it is the last of the rank's inbox now.
 pub(crate) fn deferral<S: Store + Drop>(cluster: &Cluster<S>, asked: Asked<'_>) -> Deferral {
     let rank = match asked {

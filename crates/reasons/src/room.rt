@@ -3,9 +3,9 @@
 use crate::asked::Asked;
 use crate::leaf::{Leaf, Words};
 use crate::looks::{export_of, holder, leaf_inside};
-use crate::requests::{main_leaf, source_leaf};
+use crate::requests::{main_leaf, source_leaf, waiting_request};
 use cluster_core::Cluster;
-use mds_types::{Op, Rank, Request};
+use mds_types::{Op, Rank};
 use objstore::Store;
 use script_output::OwnStep;
 use std::fmt;
@@ -45,24 +45,6 @@ pub(crate) fn room<S: Store + Drop>(cluster: &Cluster<S>, asked: Asked<'_>) -> O
         }
         _ => None,
     }
-}
-
-// The first request of this client and number that waits.
-fn waiting_request<S: Store + Drop>(
-    cluster: &Cluster<S>,
-    client: u64,
-    tid: u64,
-) -> Option<&Request> {
-    for rank in 0..16_u8 {
-        for index in 0..cluster.waiting_at(Rank(rank)) {
-            if let Some(request) = cluster.request(Rank(rank), index) {
-                if request.client == client && request.tid == tid {
-                    return Some(request);
-                }
-            }
-        }
-    }
-    None
 }
 
 // Of the ranks that hold the names of an operation, the one with the fewest clean fragments.
