@@ -1,0 +1,148 @@
+//! Refused for an export: `Frozen`, `WrongExportState` and `NotClean`.
+
+use crate::asked::Asked;
+use crate::leaf::{Leaf, Words};
+use crate::looks::{MOST_LEAVES, UnderWay, end_of, export_at, export_of, freezing, leaf_inside};
+use cluster_core::Cluster;
+use export_steps::ExportState;
+use mds_types::Rank;
+use objstore::Store;
+use script_output::OwnStep;
+use std::fmt;
+
+/// A leaf is frozen by an export.
+#[derive(Clone, Copy, Debug)]
+pub(crate) struct Freezes {
+    pub(crate) leaf: Leaf,
+    pub(crate) by: UnderWay,
+}
+
+/// A step of an export, or a flush, in a state that doesn't allow it.
+#[derive(Clone, Copy, Debug)]
+pub(crate) enum WrongState {
+    /// No export of the leaf is under way.
+    None(Leaf),
+    /// One is, where it was to start.
+    Stands(UnderWay),
+    /// One is, and another step is its next.
+    Other(UnderWay),
+    /// One is, and was sent, so it isn't cancelled any more.
+    Late(UnderWay),
+    /// One is, and so many more, where a flush was to be made.
+    Flush(UnderWay, usize),
+}
+
+/// What froze a leaf, if it is frozen.
+pub(crate) fn frozen<S: Store + Drop>(cluster: &Cluster<S>, leaf: Leaf) -> Option<Freezes> {
+    let by = freezing(cluster, leaf)?;
+    Some(Freezes { leaf, by })
+}
+
+/// What froze one of the leaves properly inside a fragment.
+pub(crate) fn frozen_inside<S: Store + Drop>(
+    cluster: &Cluster<S>,
+    whole: Leaf,
+) -> Option<Freezes> {
+    let mut hash = whole.frag.value();
+    for _ in 0..MOST_LEAVES {
+        let leaf = leaf_inside(cluster, whole, hash)?;
+        let found = frozen(cluster, leaf);
+        if found.is_some() {
+            return found;
+        }
+        hash = end_of(leaf.frag);
+    }
+    None
+}
+
+/// What state the export of a leaf is in, where it doesn't allow the step.
+pub(crate) fn wrong_state<S: Store + Drop>(
+    cluster: &Cluster<S>,
+    asked: Asked<'_>,
+) -> Option<WrongState> {
+    match asked {
+        Asked::Start { leaf, .. } => Some(WrongState::Stands(export_of(cluster, leaf)?)),
+        Asked::Export(OwnStep::Cancel, leaf) => Some(match export_of(cluster, leaf) {
+            Some(under_way) => WrongState::Late(under_way),
+            None => WrongState::None(leaf),
+        }),
+        Asked::Export(_, leaf) => Some(match export_of(cluster, leaf) {
+            Some(under_way) => WrongState::Other(under_way),
+            None => WrongState::None(leaf),
+        }),
+        _ => None,
+    }
+}
+
+/// The exports for which a flush waits.
+pub(crate) fn unflushed<S: Store + Drop>(cluster: &Cluster<S>) -> Option<WrongState> {
+    let first = export_at(cluster, 0)?;
+    let more = cluster.exports().len().saturating_sub(1);
+    Some(WrongState::Flush(first, more))
+}
+
+// The state, in a word.
+fn state_word(state: ExportState) -> &'static str {
+    match state {
+        ExportState::Started => "started",
+        ExportState::Frozen => "frozen",
+        ExportState::Prepared => "prepared",
+        ExportState::Sent => "sent",
+        ExportState::Imported => "imported",
+    }
+}
+
+// The step that comes next in this state.
+fn next_step(state: ExportState) -> OwnStep {
+    match state {
+        ExportState::Started => OwnStep::Freeze,
+        ExportState::Frozen => OwnStep::Prep,
+        ExportState::Prepared => OwnStep::Send,
+        ExportState::Sent => OwnStep::Import,
+        ExportState::Imported => OwnStep::Finish,
+    }
+}
+
+/// `the export of LEAF from rank A to rank B is STATE (next: ..)`
+impl fmt::Display for UnderWay {
+    fn fmt<W: fmt::Write>(&self, f: &mut fmt::Formatter<W>) -> fmt::Result {
+        let root = self.root;
+        let (Rank(from), Rank(to)) = (self.export.exporter, self.export.importer);
+        let state = state_word(self.export.state);
+        let next = next_step(self.export.state);
+        let words = Words(root);
+        write!(f, "the export of {root} from rank {from} to rank {to} is {state}")?;
+        write!(f, " (next: `export {next} {words}`)")
+    }
+}
+
+impl fmt::Display for Freezes {
+    fn fmt<W: fmt::Write>(&self, f: &mut fmt::Formatter<W>) -> fmt::Result {
+        let leaf = self.leaf;
+        let by = self.by;
+        write!(f, "{leaf} thaws when its export ends: {by}")
+    }
+}
+
+impl fmt::Display for WrongState {
+    fn fmt<W: fmt::Write>(&self, f: &mut fmt::Formatter<W>) -> fmt::Result {
+        match *self {
+            WrongState::None(leaf) => write!(
+                f,
+                "no export of {leaf} is under way; `export dir` starts one"
+            ),
+            WrongState::Stands(export) => write!(f, "one is under way: {export}"),
+            WrongState::Other(export) => write!(f, "another step is due: {export}"),
+            WrongState::Late(export) => {
+                write!(f, "what was sent can't be cancelled: {export}")
+            }
+            WrongState::Flush(export, 0) => {
+                write!(f, "a flush waits until no export is under way: {export}")
+            }
+            WrongState::Flush(export, more) => write!(
+                f,
+                "a flush waits until no export is under way: {export}, and {more} more are under way"
+            ),
+        }
+    }
+}

@@ -1,0 +1,120 @@
+//! Why a line was refused, deferred or forwarded.
+
+use crate::asked::{Asked, asked, asked_of_own};
+use crate::authorities::not_its;
+use crate::exports::{Freezes, frozen, frozen_inside, unflushed, wrong_state};
+use crate::grants::granted;
+use crate::jobs::{begun, stale};
+use crate::lacking::{Lacks, damaged, left, numbers};
+use crate::leaves::{bad_split, no_leaf, too_many};
+use crate::requests::{Deferral, deferral, forwarding, frozen_for, waiting_request};
+use crate::room::room;
+use crate::sentences::{Reason, Told, Why};
+use crate::waiting::{empty, full, old};
+use cluster_core::{Book, Cluster};
+use mds_types::{Rank, Refusal};
+use objstore::Store;
+use script_output::{OutputLine, OwnResult, OwnTurn};
+use script_text::Command;
+
+/// Why a line was refused, deferred or forwarded, which asked for this command and printed this line: a sentence on the book as
+/// the line left it. None where it was none of these. A step of a rank's own that was refused has one, too. Takes no memory.
+pub fn reason<S: Store + Drop>(
+    book: &Book<S>,
+    command: &Command,
+    printed: &OutputLine,
+) -> Option<Reason> {
+    match printed {
+        OutputLine::Refused(refusal) => Some(refused(book, asked(command), *refusal)),
+        OutputLine::Deferred => Some(Reason {
+            told: Told::Deferred,
+            why: Why::Deferral(deferral(book.cluster(), asked(command))),
+        }),
+        OutputLine::Forwarded(rank) => Some(forwarded(book.cluster(), *rank)),
+        OutputLine::Own(turn) => refused_own(book, asked(command), turn),
+        _ => None,
+    }
+}
+
+// The reason of a request that went to this rank.
+fn forwarded<S: Store + Drop>(cluster: &Cluster<S>, rank: Rank) -> Reason {
+    let why = match forwarding(cluster, rank) {
+        Some(forwarding) => Why::Forwarding(forwarding),
+        None => Why::Deferral(Deferral::Gone),
+    };
+    Reason {
+        told: Told::Forwarded(rank),
+        why,
+    }
+}
+
+// The reason of a rank's own step, if it was refused.
+fn refused_own<S: Store + Drop>(
+    book: &Book<S>,
+    command: Asked<'_>,
+    turn: &OwnTurn,
+) -> Option<Reason> {
+    let OwnResult::Refused(refusal) = turn.result else {
+        return None;
+    };
+    let asked = match command {
+        Asked::Own(rank) => asked_of_own(rank, turn),
+        other => other,
+    };
+    Some(refused(book, asked, refusal))
+}
+
+// The reason of a refusal.
+fn refused<S: Store + Drop>(book: &Book<S>, asked: Asked<'_>, refusal: Refusal) -> Reason {
+    let why = why_refused(book, asked, refusal).unwrap_or(Why::Plain(refusal));
+    Reason {
+        told: Told::Refused(refusal),
+        why,
+    }
+}
+
+// Which check it was, as far as the book tells.
+fn why_refused<S: Store + Drop>(
+    book: &Book<S>,
+    asked: Asked<'_>,
+    refusal: Refusal,
+) -> Option<Why> {
+    let cluster = book.cluster();
+    match refusal {
+        Refusal::NoMemory => Some(Why::Lacks(Lacks::Memory(left(cluster, asked)))),
+        Refusal::StoreFault => Some(Why::Lacks(Lacks::Store(left(cluster, asked)))),
+        Refusal::NoInodes => Some(Why::Lacks(numbers(asked))),
+        Refusal::Trimmed => Some(Why::Queue(old(book, asked)?)),
+        Refusal::NotAuthority => Some(Why::NotIts(not_its(cluster, asked)?)),
+        Refusal::Frozen => Some(Why::Frozen(what_froze(cluster, asked)?)),
+        Refusal::Pinned => Some(Why::Granted(granted(cluster, asked)?)),
+        Refusal::NoSuchFrag => Some(Why::NoLeaf(no_leaf(cluster, asked)?)),
+        Refusal::BadSplit => Some(Why::BadSplit(bad_split(asked)?)),
+        Refusal::TooManyFrags => Some(Why::TooMany(too_many(cluster, asked)?)),
+        Refusal::StaleJob => Some(Why::Job(stale(asked)?)),
+        Refusal::JobOutstanding => Some(Why::Job(begun(cluster, asked)?)),
+        Refusal::WrongExportState => Some(Why::Export(wrong_state(cluster, asked)?)),
+        Refusal::InboxEmpty => Some(Why::Queue(empty(asked)?)),
+        Refusal::InboxFull => Some(Why::Queue(full(cluster, asked)?)),
+        Refusal::NothingToEvict => Some(Why::Room(room(cluster, asked)?)),
+        Refusal::Damaged(object) => Some(Why::Lacks(damaged(asked, object))),
+        Refusal::NotClean => Some(Why::Export(unflushed(cluster)?)),
+    }
+}
+
+// What froze a leaf that the line would change.
+fn what_froze<S: Store + Drop>(cluster: &Cluster<S>, asked: Asked<'_>) -> Option<Freezes> {
+    match asked {
+        Asked::Operation(op) => frozen_for(cluster, op),
+        Asked::Arrive(_, request) => frozen_for(cluster, &request.op),
+        Asked::Grant { client, tid, .. } => {
+            frozen_for(cluster, &waiting_request(cluster, client, tid)?.op)
+        }
+        Asked::Split { leaf, .. }
+        | Asked::Commit { leaf, .. }
+        | Asked::Start { leaf, .. }
+        | Asked::Export(_, leaf) => frozen(cluster, leaf),
+        Asked::Merge { whole, .. } => frozen_inside(cluster, whole),
+        _ => None,
+    }
+}

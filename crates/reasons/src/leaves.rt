@@ -1,0 +1,146 @@
+//! Refused for a directory's leaves: `NoSuchFrag`, `BadSplit` and `TooManyFrags`.
+
+use crate::asked::Asked;
+use crate::leaf::Leaf;
+use crate::looks::{count_inside, leaf_at};
+use cluster_core::Cluster;
+use mds_types::{Frag, Ino};
+use objstore::Store;
+use std::fmt;
+
+/// There is no such directory or leaf, or nothing to merge.
+#[derive(Clone, Copy, Debug)]
+pub(crate) enum NoLeaf {
+    NoDir(Ino),
+    /// The fragment is no leaf, and the leaf where it begins is another.
+    Other { asked: Leaf, there: Leaf },
+    /// No leaf lies properly inside the fragment, and the leaf where it begins is this.
+    NoneInside { whole: Leaf, there: Leaf },
+}
+
+/// A split by too few or too many bits.
+#[derive(Clone, Copy, Debug)]
+pub(crate) enum BadSplit {
+    Bits(u8),
+    /// The children would have more than 24 bits.
+    Deep { leaf: Leaf, bits: u8 },
+}
+
+/// Too many leaves.
+#[derive(Clone, Copy, Debug)]
+pub(crate) enum TooMany {
+    /// The directory has so many.
+    Split { dir: Ino, leaves: u32 },
+    /// So many lie in the fragment.
+    Merge { whole: Leaf, leaves: u32 },
+}
+
+/// Which directory or leaf there isn't.
+pub(crate) fn no_leaf<S: Store + Drop>(cluster: &Cluster<S>, asked: Asked<'_>) -> Option<NoLeaf> {
+    match asked {
+        Asked::Dir(dir) => Some(NoLeaf::NoDir(dir)),
+        Asked::Merge { whole, .. } => Some(match leaf_at(cluster, whole.dir, whole.frag.value()) {
+            Some(there) => NoLeaf::NoneInside { whole, there },
+            None => NoLeaf::NoDir(whole.dir),
+        }),
+        other => no_such_leaf(cluster, leaf_of(other)?),
+    }
+}
+
+// The leaf that was asked for.
+fn leaf_of(asked: Asked<'_>) -> Option<Leaf> {
+    match asked {
+        Asked::Split { leaf, .. }
+        | Asked::Authority(leaf)
+        | Asked::Commit { leaf, .. }
+        | Asked::Start { leaf, .. }
+        | Asked::Export(_, leaf) => Some(leaf),
+        _ => None,
+    }
+}
+
+// That there is no such leaf.
+fn no_such_leaf<S: Store + Drop>(cluster: &Cluster<S>, asked: Leaf) -> Option<NoLeaf> {
+    Some(match leaf_at(cluster, asked.dir, asked.frag.value()) {
+        Some(there) => NoLeaf::Other { asked, there },
+        None => NoLeaf::NoDir(asked.dir),
+    })
+}
+
+/// What is wrong with the bits of a split.
+pub(crate) fn bad_split(asked: Asked<'_>) -> Option<BadSplit> {
+    match asked {
+        Asked::Split { leaf, bits, .. } => Some(if bits >= 1 && bits <= 8 {
+            BadSplit::Deep { leaf, bits }
+        } else {
+            BadSplit::Bits(bits)
+        }),
+        _ => None,
+    }
+}
+
+/// Of what there are too many.
+pub(crate) fn too_many<S: Store + Drop>(cluster: &Cluster<S>, asked: Asked<'_>) -> Option<TooMany> {
+    match asked {
+        Asked::Split { leaf, .. } => {
+            let dir = leaf.dir;
+            let all = Leaf {
+                dir,
+                frag: Frag::ROOT,
+            };
+            // (a directory of one leaf has none properly inside `*`)
+            let leaves = count_inside(cluster, all).max(1);
+            Some(TooMany::Split { dir, leaves })
+        }
+        Asked::Merge { whole, .. } => {
+            let leaves = count_inside(cluster, whole);
+            Some(TooMany::Merge { whole, leaves })
+        }
+        _ => None,
+    }
+}
+
+impl fmt::Display for NoLeaf {
+    fn fmt<W: fmt::Write>(&self, f: &mut fmt::Formatter<W>) -> fmt::Result {
+        match *self {
+            NoLeaf::NoDir(Ino(dir)) => write!(f, "there is no directory {dir:x}"),
+            NoLeaf::Other { asked, there } => {
+                let dir = asked.dir.0;
+                write!(f, "{asked} is no leaf: {there} is; `dirfrag ls {dir:x}` lists them")
+            }
+            NoLeaf::NoneInside { whole, there } => {
+                write!(f, "no leaf lies inside {whole}: the leaf there is {there}")
+            }
+        }
+    }
+}
+
+impl fmt::Display for BadSplit {
+    fn fmt<W: fmt::Write>(&self, f: &mut fmt::Formatter<W>) -> fmt::Result {
+        match *self {
+            BadSplit::Bits(bits) => write!(f, "a leaf is split by 1 to 8 bits, not by {bits}"),
+            BadSplit::Deep { leaf, bits } => {
+                let has = leaf.frag.bits();
+                write!(f, "{leaf} has {has} bits, and {bits} more make more than 24")
+            }
+        }
+    }
+}
+
+impl fmt::Display for TooMany {
+    fn fmt<W: fmt::Write>(&self, f: &mut fmt::Formatter<W>) -> fmt::Result {
+        match *self {
+            TooMany::Split {
+                dir: Ino(dir),
+                leaves,
+            } => write!(
+                f,
+                "directory {dir:x} has {leaves} leaves, and may have 4096; merge some first"
+            ),
+            TooMany::Merge { whole, leaves } => write!(
+                f,
+                "{leaves} leaves lie inside {whole}, and a merge takes at most 256; merge parts first"
+            ),
+        }
+    }
+}
