@@ -1,7 +1,8 @@
 //! The threads of ranks.
-ghost use Rattle.std.specs.Prelude.{◌≡◌, ◌+◌, ◌<◌, ◌≤◌, ◌++◌, ◌∷◌, [], Contains, IfSome, vec_len, vec_capacity};
+ghost use Rattle.std.specs.Prelude.{◌≡◌, ◌+◌, ◌<◌, ◌≤◌, ◌++◌, ◌∷◌, [], Contains, IfSome, Ok, Some, vec_len, vec_capacity};
 ghost use Rattle.std.specs.List.{AllByRecursion};
 ghost use Rattle.cluster_core.specs.OneThread.{IsAskedFor, receipt_of, receipts_of};
+ghost use Rattle.rank_threads.specs.TookTurn.{HandedOn, TookCommitTurn, TookTurn};
 ghost use Rattle.rank_threads.specs.Sent.{plan_arrivals, turn_arrival};
 ghost use Rattle.rank_threads.specs.Turns.{AreAnswered, FitsTurn, first_in, firsts};
 
@@ -159,6 +160,8 @@ fn take_turn<S: Store + Drop, L: Handed, G: Gate, R: Wait>(
     ensures parts { mine.new.share.parts ≡ 1 }
     ensures amount { mine.new.share.amount ≡ mine.old.share.amount + first_in result }
     ensures fits { FitsTurn turn result }
+    ensures rank { mine.new.own.rank ≡ mine.old.own.rank }
+    ensures took { TookTurn turn mine.old.own.rank mine.old.own.kept.bytes mine.new.own.kept.bytes result }
     ensures asked_for { ∥ AllByRecursion (IsAskedFor L.sent) (receipt_of result) ∥₁ }
 {
     let rank = mine.own.rank;
@@ -188,20 +191,35 @@ fn take_turn<S: Store + Drop, L: Handed, G: Gate, R: Wait>(
     }
 }
 
-// Begins a commit of a leaf at a rank, and hands its job to the workers. Where it can't be handed on, the commit is
-// given up.
+// Begins a commit of a leaf at a rank, and hands its job to the workers.
 fn begin_commit<S: Store + Drop, L: Handed, R: Wait>(
     rt: &R,
     alloc: Global,
     desk: &Mutex<Desk<S, L>>,
     jobs: &Sender<Job>,
     leaf: &Dirfrag,
-) -> Result<(), Refusal> {
+) -> Result<(), Refusal>
+    ensures { TookCommitTurn leaf.now.rank leaf.now.dir leaf.now.frag result }
+{
     // the lock is let go before the job is sent
-    let begun = lock(desk, rt).begin(alloc, leaf.rank, leaf.dir, leaf.frag)?;
-    let Some(job) = begun else {
-        return Ok(());
-    };
+    let begun = lock(desk, rt).begin(alloc, leaf.rank, leaf.dir, leaf.frag);
+    match begun {
+        Ok(Some(job)) => hand_on(rt, alloc, desk, jobs, job),
+        Ok(None) => Ok(()),
+        Err(refusal) => Err(refusal),
+    }
+}
+
+// Hands a job to the workers. Where it can't be handed on, its commit is given up.
+fn hand_on<S: Store + Drop, L: Handed, R: Wait>(
+    rt: &R,
+    alloc: Global,
+    desk: &Mutex<Desk<S, L>>,
+    jobs: &Sender<Job>,
+    job: Job,
+) -> Result<(), Refusal>
+    ensures { HandedOn (Ok (Some job)) result }
+{
     let number = job.number;
     if jobs.send(rt, job).is_err() {
         lock(desk, rt).give_up(alloc, number);
