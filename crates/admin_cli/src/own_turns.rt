@@ -1,7 +1,7 @@
 //! The line `own RANK`: a rank proposes a step of its own, and makes it.
 ghost use Rattle.std.specs.Prelude.{◌≡◌, IfOk, OnErr};
 ghost use Rattle.cluster_core.specs.Proposal.{IsOwnStep};
-ghost use Rattle.admin_cli.specs.OwnLines.{LacksForStep, LacksForTurn, MakesOne, MakesStep, TakesTurn, came_of, own_line_of};
+ghost use Rattle.admin_cli.specs.OwnLines.{IsNamed, LacksForStep, LacksForTurn, MakesStep, TakesTurn, came_of, own_line_of};
 ghost use Rattle.admin_cli.specs.Admin.{seen};
 
 use crate::commands::Admin;
@@ -35,104 +35,60 @@ impl<S: Keep + Drop> Admin<S> {
         ensures err { OnErr result (LacksForStep (seen self.old) (seen self.new) event) }
         ensures count { self.new.operations ≡ self.old.operations }
     {
-        match event {
-            Event::Send { ino, frag } => {
-                let shown = self.send(alloc, ino, frag)?;
-                Ok(told(OwnStep::Send, ino, frag, shown))
-            }
+        let name = named(&event);
+        let shown = match event {
+            Event::Send { ino, frag } => self.send(alloc, ino, frag)?,
             Event::Import { ino, frag, bytes } => {
                 drop(bytes);
-                let shown = self.import(alloc, ino, frag)?;
-                Ok(told(OwnStep::Import, ino, frag, shown))
+                self.import(alloc, ino, frag)?
             }
-            Event::Split {
-                rank,
-                ino,
-                frag,
-                bits,
-            } => {
-                let step = Event::Split {
-                    rank,
-                    ino,
-                    frag,
-                    bits,
-                };
-                Ok(self.own_one(alloc, OwnStep::Split, ino, frag, step))
-            }
-            Event::Merge { rank, ino, frag } => {
-                let step = Event::Merge { rank, ino, frag };
-                Ok(self.own_one(alloc, OwnStep::Merge, ino, frag, step))
-            }
-            Event::Start {
-                from,
-                ino,
-                frag,
-                to,
-            } => {
-                let step = Event::Start {
-                    from,
-                    ino,
-                    frag,
-                    to,
-                };
-                Ok(self.own_one(alloc, OwnStep::Start, ino, frag, step))
-            }
-            Event::Freeze { ino, frag } => {
-                let step = Event::Freeze { ino, frag };
-                Ok(self.own_one(alloc, OwnStep::Freeze, ino, frag, step))
-            }
-            Event::Prep { ino, frag } => {
-                let step = Event::Prep { ino, frag };
-                Ok(self.own_one(alloc, OwnStep::Prep, ino, frag, step))
-            }
-            Event::Finish { ino, frag } => {
-                let step = Event::Finish { ino, frag };
-                Ok(self.own_one(alloc, OwnStep::Finish, ino, frag, step))
-            }
-            Event::Cancel { ino, frag } => {
-                let step = Event::Cancel { ino, frag };
-                Ok(self.own_one(alloc, OwnStep::Cancel, ino, frag, step))
-            }
-            // none of these is a rank's own
-            Event::Arrive { .. } => unreachable!(),
-            Event::Serve { .. } => unreachable!(),
-            Event::Grant { .. } => unreachable!(),
-            Event::CommitBegin { .. } => unreachable!(),
-            Event::CommitEnd(_) => unreachable!(),
-            Event::CommitDrop { .. } => unreachable!(),
-            Event::CommitTree { .. } => unreachable!(),
-            Event::Purge => unreachable!(),
-            Event::Evict { .. } => unreachable!(),
-        }
+            other => self.step(alloc, other),
+        };
+        Ok(told(&name, shown))
     }
+}
 
-    // Makes a step that needs no memory of the script's own.
-    #[inline(never)]
-    fn own_one(
-        &mut self,
-        alloc: Global,
-        step: OwnStep,
-        ino: Ino,
-        frag: Frag,
-        event: Event,
-    ) -> OutputLine
-        ensures line { MakesOne (seen self.old) (seen self.new) step ino frag event result }
-        ensures count { self.new.operations ≡ self.old.operations }
-    {
-        let shown = self.step(alloc, event);
-        told(step, ino, frag, shown)
+// What a step of a rank's own is called, and the root or the leaf that it is made at.
+#[derive(Drop)]
+struct Named {
+    step: OwnStep,
+    ino: Ino,
+    frag: Frag,
+}
+
+// So of each step that a rank may propose.
+fn named(event: &Event) -> Named
+    requires { IsOwnStep event.now }
+    ensures { IsNamed event.now result.step result.ino result.frag }
+{
+    let (step, ino, frag) = match event {
+        Event::Split { ino, frag, .. } => (OwnStep::Split, ino, frag),
+        Event::Merge { ino, frag, .. } => (OwnStep::Merge, ino, frag),
+        Event::Start { ino, frag, .. } => (OwnStep::Start, ino, frag),
+        Event::Freeze { ino, frag } => (OwnStep::Freeze, ino, frag),
+        Event::Prep { ino, frag } => (OwnStep::Prep, ino, frag),
+        Event::Send { ino, frag } => (OwnStep::Send, ino, frag),
+        Event::Import { ino, frag, .. } => (OwnStep::Import, ino, frag),
+        Event::Finish { ino, frag } => (OwnStep::Finish, ino, frag),
+        Event::Cancel { ino, frag } => (OwnStep::Cancel, ino, frag),
+        _ => unreachable!(),
+    };
+    Named {
+        step,
+        ino: *ino,
+        frag: *frag,
     }
 }
 
 // The line of a step that was made, by the line that its own command prints.
-fn told(step: OwnStep, ino: Ino, frag: Frag, shown: OutputLine) -> OutputLine
-    ensures { result ≡ own_line_of step ino frag shown }
+fn told(name: &Named, shown: OutputLine) -> OutputLine
+    ensures { result ≡ own_line_of name.now.step name.now.ino name.now.frag shown }
 {
     let result = came_of(&shown);
     OutputLine::Own(OwnTurn {
-        step,
-        ino,
-        frag,
+        step: name.step,
+        ino: name.ino,
+        frag: name.frag,
         result,
     })
 }

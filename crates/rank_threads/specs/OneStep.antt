@@ -1,5 +1,5 @@
 -- One step of the book under its lock, and what the thread that made it is told.
-use Rattle.std.specs.Prelude.{◌≡◌, Option, Some, None, Result, Ok, Err}
+use Rattle.std.specs.Prelude.{◌≡◌, Bool, true, Option, Some, None, Result, Ok, Err}
 use Rattle.mds_types.specs.declared.refusals.Refusal.{Refusal}
 use Rattle.cached_frag.specs.declared.jobs.Job.{Job as Begun}
 use Rattle.cluster_core.specs.declared.events.Answer.{Answer}
@@ -25,6 +25,11 @@ pub record IsStepTold {X : Type 0} (old new : BookState) (event : Event) (rule :
 abbrev pub done_of : Result Answer Refusal → Result (Unit {0}) Refusal
 done_of (Ok answer) = Ok tt
 done_of (Err reason) = Err reason
+
+-- so it is told to a turn that may make no step
+abbrev pub made_of : Result Answer Refusal → Result Bool Refusal
+made_of (Ok answer) = Ok true
+made_of (Err reason) = Err reason
 
 -- the job that the step began, if it began one, or why it was refused
 abbrev pub job_of : Result Answer Refusal → Result (Option Begun) Refusal

@@ -1,23 +1,28 @@
 -- A rank's own turn: what it makes of the book, and of the bytes that the rank's thread keeps of its exports.
-use Rattle.std.specs.Prelude.{◌≡◌, ◌⊎◌, ℕ, List, Option, Some, None, Result, Ok, Err}
+use Rattle.std.specs.Prelude.{◌≡◌, ◌⊎◌, ℕ, Bool, false, List, Option, Some, None, Result, Ok, Err}
 use Rattle.std.specs.FinMap as map
 use Rattle.mds_types.specs.declared.ids.Ino.{Ino}
 use Rattle.mds_types.specs.declared.ids.Rank.{Rank}
 use Rattle.mds_types.specs.declared.refusals.Refusal.{Refusal}
 use Rattle.mds_types.specs.declared.refusals.Refusal.TheVariants.{NoMemory}
 use Rattle.mds_types.specs.Frag.{Fragment}
-use Rattle.mds_types.specs.Leaf.{leaf_cmp}
+use Rattle.mds_types.specs.Leaf.{Leaf, leaf_cmp}
 use Rattle.cluster_core.specs.declared.events.Answer.{Answer}
 use Rattle.cluster_core.specs.declared.events.Answer.TheVariants.{Sent}
 use Rattle.cluster_core.specs.declared.events.Event.{Event}
 use Rattle.cluster_core.specs.declared.events.Event.TheVariants.{Import, Send}
 use Rattle.cluster_core.specs.Proposal.{Proposes}
 use Rattle.cluster_core.specs.State.{BookState}
-use Rattle.rank_threads.specs.OneStep.{IsOneStep, done_of}
+use Rattle.rank_threads.specs.OneStep.{IsOneStep, made_of}
 
 -- the bytes that a rank's thread keeps, under the roots of the exports that sent them
 abbrev pub Kept : Type 0
 Kept = map.FinMap leaf_cmp (List ℕ)
+
+-- bytes are kept under a root, in place of those that were kept there; or there was no memory for them, and nothing changed
+abbrev pub KeepsBytes : (before after : Kept) → Leaf → List ℕ → Result (Unit {0}) Refusal → Type 0
+KeepsBytes before after root bytes (Ok done) = after ≡ map.insert before root bytes
+KeepsBytes before after root bytes (Err reason) = (reason ≡ NoMemory) × (after ≡ before)
 
 -- an Import with bytes, if there are any
 abbrev pub import_with : Ino → Fragment → Option (List ℕ) → Option Event
@@ -47,24 +52,25 @@ pub record ChangesNothing (old new : BookState) (before after : Kept) : Type 0 w
   pub book : new ≡ old
   pub kept : after ≡ before
 
--- a step was made, once; or the thread's memory for it was refused, and nothing changed; or there was none to make
-abbrev pub MakesStep : (old new : BookState) → (before after : Kept) → Option Event → Result (Unit {0}) Refusal → Type 0
-MakesStep old new before after None done = (done ≡ Ok tt) × ChangesNothing old new before after
-MakesStep old new before after (Some event) done =
-    ((result : Result Answer Refusal) × IsOneStep old new event result × (done ≡ done_of result)
+-- a step was made, once; or the thread's memory for it was refused, and nothing changed; or there was none to make. It is
+-- told whether one was made
+abbrev pub MakesStep : (old new : BookState) → (before after : Kept) → Option Event → Result Bool Refusal → Type 0
+MakesStep old new before after None made = (made ≡ Ok false) × ChangesNothing old new before after
+MakesStep old new before after (Some event) made =
+    ((result : Result Answer Refusal) × IsOneStep old new event result × (made ≡ made_of result)
     × (after ≡ kept_after before event result))
-    ⊎ ((done ≡ Err NoMemory) × NeedsMemory event × ChangesNothing old new before after)
+    ⊎ ((made ≡ Err NoMemory) × NeedsMemory event × ChangesNothing old new before after)
 
 -- what was proposed was done; or nothing was proposed; or the proposal was refused
 abbrev pub DoesProposal : (old new : BookState) → (before after : Kept) → Result (Option Event) Refusal
-    → Result (Unit {0}) Refusal → Type 0
-DoesProposal old new before after (Ok None) done = (done ≡ Ok tt) × ChangesNothing old new before after
-DoesProposal old new before after (Ok (Some event)) done = MakesStep old new before after (step_of before event) done
-DoesProposal old new before after (Err reason) done = (done ≡ Err reason) × ChangesNothing old new before after
+    → Result Bool Refusal → Type 0
+DoesProposal old new before after (Ok None) made = (made ≡ Ok false) × ChangesNothing old new before after
+DoesProposal old new before after (Ok (Some event)) made = MakesStep old new before after (step_of before event) made
+DoesProposal old new before after (Err reason) made = (made ≡ Err reason) × ChangesNothing old new before after
 
 -- a rank's own turn: what the rank proposes is done
 pub record TakesOwnTurn (old new : BookState) (rank : Rank) (before after : Kept)
-    (done : Result (Unit {0}) Refusal) : Type 0 where
+    (made : Result Bool Refusal) : Type 0 where
   pub proposal : Result (Option Event) Refusal
   pub proposed : Proposes old.core rank proposal
-  pub does : DoesProposal old new before after proposal done
+  pub does : DoesProposal old new before after proposal made

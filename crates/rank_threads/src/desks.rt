@@ -153,8 +153,8 @@ impl<S: Store + Drop, L: Handed> Desk<S, L> {
     }
 }
 
-/// That a step was made, or why it was refused.
-pub(crate) fn done(came: Result<Answer, Refusal>) -> Result<(), Refusal>
+// That a step was made, or why it was refused.
+fn done(came: Result<Answer, Refusal>) -> Result<(), Refusal>
     ensures { result ≡ done_of came }
 {
     match came {
