@@ -36,24 +36,38 @@ impl<S: Keep + Drop> Admin<S> {
         ensures count { self.new.operations ≡ self.old.operations }
     {
         let name = named(&event);
-        let shown = match event {
-            Event::Send { ino, frag } => self.send(alloc, ino, frag)?,
+        match event {
+            Event::Send { ino, frag } => {
+                let shown = self.send(alloc, ino, frag)?;
+                Ok(told(&name, shown))
+            }
             Event::Import { ino, frag, bytes } => {
                 drop(bytes);
-                self.import(alloc, ino, frag)?
+                let shown = self.import(alloc, ino, frag)?;
+                Ok(told(&name, shown))
             }
-            other => self.step(alloc, other),
-        };
-        Ok(told(&name, shown))
+            other => {
+                let shown = self.step(alloc, other);
+                Ok(told(&name, shown))
+            }
+        }
     }
 }
 
 // What a step of a rank's own is called, and the root or the leaf that it is made at.
-#[derive(Drop)]
+#[derive(Clone, Copy)]
 struct Named {
     step: OwnStep,
     ino: Ino,
     frag: Frag,
+}
+
+impl Named {
+    fn of(step: OwnStep, ino: Ino, frag: Frag) -> Named
+        ensures { result ≡ record { step = step; ino = ino; frag = frag } }
+    {
+        Named { step, ino, frag }
+    }
 }
 
 // So of each step that a rank may propose.
@@ -61,22 +75,18 @@ fn named(event: &Event) -> Named
     requires { IsOwnStep event.now }
     ensures { IsNamed event.now result.step result.ino result.frag }
 {
-    let (step, ino, frag) = match event {
-        Event::Split { ino, frag, .. } => (OwnStep::Split, ino, frag),
-        Event::Merge { ino, frag, .. } => (OwnStep::Merge, ino, frag),
-        Event::Start { ino, frag, .. } => (OwnStep::Start, ino, frag),
-        Event::Freeze { ino, frag } => (OwnStep::Freeze, ino, frag),
-        Event::Prep { ino, frag } => (OwnStep::Prep, ino, frag),
-        Event::Send { ino, frag } => (OwnStep::Send, ino, frag),
-        Event::Import { ino, frag, .. } => (OwnStep::Import, ino, frag),
-        Event::Finish { ino, frag } => (OwnStep::Finish, ino, frag),
-        Event::Cancel { ino, frag } => (OwnStep::Cancel, ino, frag),
+    match event {
+        Event::Split { ino, frag, .. } => Named::of(OwnStep::Split, *ino, *frag),
+        Event::Merge { ino, frag, .. } => Named::of(OwnStep::Merge, *ino, *frag),
+        Event::Start { ino, frag, .. } => Named::of(OwnStep::Start, *ino, *frag),
+        Event::Freeze { ino, frag } => Named::of(OwnStep::Freeze, *ino, *frag),
+        Event::Prep { ino, frag } => Named::of(OwnStep::Prep, *ino, *frag),
+        Event::Send { ino, frag } => Named::of(OwnStep::Send, *ino, *frag),
+        Event::Import { ino, frag, .. } => Named::of(OwnStep::Import, *ino, *frag),
+        Event::Finish { ino, frag } => Named::of(OwnStep::Finish, *ino, *frag),
+        Event::Cancel { ino, frag } => Named::of(OwnStep::Cancel, *ino, *frag),
+        // no rank proposes another
         _ => unreachable!(),
-    };
-    Named {
-        step,
-        ino: *ino,
-        frag: *frag,
     }
 }
 
