@@ -56,42 +56,42 @@ impl<S: Keep + Drop> Admin<S> {
 
 // What a step of a rank's own is called, and the root or the leaf that it is made at.
 #[derive(Clone, Copy)]
-struct Named {
+struct StepName {
     step: OwnStep,
     ino: Ino,
     frag: Frag,
 }
 
-impl Named {
-    fn of(step: OwnStep, ino: Ino, frag: Frag) -> Named
+impl StepName {
+    fn of(step: OwnStep, ino: Ino, frag: Frag) -> StepName
         ensures { result ≡ record { step = step; ino = ino; frag = frag } }
     {
-        Named { step, ino, frag }
+        StepName { step, ino, frag }
     }
 }
 
 // So of each step that a rank may propose.
-fn named(event: &Event) -> Named
+fn named(event: &Event) -> StepName
     requires { IsOwnStep event.now }
     ensures { IsNamed event.now result.step result.ino result.frag }
 {
     match event {
-        Event::Split { ino, frag, .. } => Named::of(OwnStep::Split, *ino, *frag),
-        Event::Merge { ino, frag, .. } => Named::of(OwnStep::Merge, *ino, *frag),
-        Event::Start { ino, frag, .. } => Named::of(OwnStep::Start, *ino, *frag),
-        Event::Freeze { ino, frag } => Named::of(OwnStep::Freeze, *ino, *frag),
-        Event::Prep { ino, frag } => Named::of(OwnStep::Prep, *ino, *frag),
-        Event::Send { ino, frag } => Named::of(OwnStep::Send, *ino, *frag),
-        Event::Import { ino, frag, .. } => Named::of(OwnStep::Import, *ino, *frag),
-        Event::Finish { ino, frag } => Named::of(OwnStep::Finish, *ino, *frag),
-        Event::Cancel { ino, frag } => Named::of(OwnStep::Cancel, *ino, *frag),
+        Event::Split { ino, frag, .. } => StepName::of(OwnStep::Split, *ino, *frag),
+        Event::Merge { ino, frag, .. } => StepName::of(OwnStep::Merge, *ino, *frag),
+        Event::Start { ino, frag, .. } => StepName::of(OwnStep::Start, *ino, *frag),
+        Event::Freeze { ino, frag } => StepName::of(OwnStep::Freeze, *ino, *frag),
+        Event::Prep { ino, frag } => StepName::of(OwnStep::Prep, *ino, *frag),
+        Event::Send { ino, frag } => StepName::of(OwnStep::Send, *ino, *frag),
+        Event::Import { ino, frag, .. } => StepName::of(OwnStep::Import, *ino, *frag),
+        Event::Finish { ino, frag } => StepName::of(OwnStep::Finish, *ino, *frag),
+        Event::Cancel { ino, frag } => StepName::of(OwnStep::Cancel, *ino, *frag),
         // no rank proposes another
         _ => unreachable!(),
     }
 }
 
 // The line of a step that was made, by the line that its own command prints.
-fn told(name: &Named, shown: OutputLine) -> OutputLine
+fn told(name: &StepName, shown: OutputLine) -> OutputLine
     ensures { result ≡ own_line_of name.now.step name.now.ino name.now.frag shown }
 {
     let result = came_of(&shown);

@@ -79,12 +79,12 @@ module _ (ranked : Ranked) (numbers : List Supply) (inboxes : Inboxes) (pins : L
 abbrev Kept : Type 0
 Kept = map.FinMap leaf_cmp (List ℕ)
 
-pub popped_first : (old new : Kept) (o : Option (Leaf × List ℕ)) → o ≡ first_pair old → map.entries new ≡ drop 1 (map.entries old) → IfSome o (λ pair. new ≡ map.remove old pair.0) → IfNone o (new ≡ old)
-    → MatchOption o ((old ≡ map.empty) × (new ≡ old)) (HandsOut old new)
-popped_first old new None value rest removed left =
-    (empty_of_len old (len-entries old ∙ ap (length {A = Leaf × List ℕ}) (none_left (map.entries old) None refl value)), left)
-popped_first old new (Some pair) value rest removed left =
-    let all : map.entries old ≡ pair ∷ map.entries new = popped (map.entries old) (map.entries new) (Some pair) pair refl value rest in (
-      get-entries old pair.0 ∙ ap (find leaf_cmp pair.0) all ∙ ap (λ (b : Bool). cond b (Some pair.1) (find leaf_cmp pair.0 (map.entries new))) (key_itself pair.0),
+pub popped_first : {S : Type 0} (seen : S → Kept) (was is : S) (o : Option (Leaf × List ℕ)) → o ≡ first_pair (seen was) → map.entries (seen is) ≡ drop 1 (map.entries (seen was)) → IfSome o (λ pair. seen is ≡ map.remove (seen was) pair.0) → IfNone o (is ≡ was)
+    → MatchOption o ((seen was ≡ map.empty) × (seen is ≡ seen was)) (HandsOut (seen was) (seen is))
+popped_first seen was is None value rest removed left =
+    (empty_of_len (seen was) (len-entries (seen was) ∙ ap (length {A = Leaf × List ℕ}) (none_left (map.entries (seen was)) None refl value)), ap seen left)
+popped_first seen was is (Some pair) value rest removed left =
+    let all : map.entries (seen was) ≡ pair ∷ map.entries (seen is) = popped (map.entries (seen was)) (map.entries (seen is)) (Some pair) pair refl value rest in (
+      get-entries (seen was) pair.0 ∙ ap (find leaf_cmp pair.0) all ∙ ap (λ (b : Bool). cond b (Some pair.1) (find leaf_cmp pair.0 (map.entries (seen is)))) (key_itself pair.0),
       removed,
     )
