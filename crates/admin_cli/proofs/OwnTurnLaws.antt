@@ -1,11 +1,10 @@
 -- A step that a rank proposed, by what it is called.
-use Rattle.admin_cli.proofs.Common.{Event, List, MakesStep, OutputLine, refl, ℕ, ◌≡◌}
+use Rattle.admin_cli.proofs.Common.{Event, List, MakesStep, OutputLine, refl, subst, sym, ℕ, ◌≡◌}
 use Rattle.mds_types.specs.declared.ids.Ino.{Ino}
 use Rattle.mds_types.specs.Frag.{Fragment}
 use Rattle.cluster_core.specs.declared.events.Event.TheVariants.{Arrive, Serve, Grant, Split, Merge, CommitBegin, CommitEnd, CommitDrop, CommitTree, Purge, Evict, Start, Freeze, Prep, Send, Import, Finish, Cancel}
 use Rattle.script_output.specs.declared.own_turns.OwnStep.{OwnStep}
 use Rattle.admin_cli.specs.Admin.{Admin}
-use Rattle.admin_cli.specs.ExportLines.{ImportsLine, SendsLine}
 use Rattle.admin_cli.specs.OwnLines.{IsNamed, own_line_of}
 use Rattle.admin_cli.specs.StepLines.{DoesEvent}
 
@@ -13,14 +12,8 @@ module _ (old new : Admin) (step : OwnStep) (dir : Ino) (f : Fragment) (shown : 
   line_is : (other : OwnStep) (ino : Ino) (frag : Fragment) → (step ≡ other) × (dir ≡ ino) × (f ≡ frag) → own_line_of step dir f shown ≡ own_line_of other ino frag shown
   line_is other ino frag named = λ i. own_line_of (named.0 i) (named.1 i) (named.2 i) shown
 
-  pub sent_line : (ino : Ino) (frag : Fragment) → IsNamed (Send ino frag) step dir f → SendsLine old new ino frag shown → MakesStep old new (Send ino frag) (own_line_of step dir f shown)
-  sent_line ino frag named sends = (shown, sends, line_is _ ino frag named)
-
-  pub imported_line : (ino : Ino) (frag : Fragment) (bytes : List ℕ) → IsNamed (Import ino frag bytes) step dir f → ImportsLine old new ino frag shown → MakesStep old new (Import ino frag bytes) (own_line_of step dir f shown)
-  imported_line ino frag bytes named imports = (shown, imports, line_is _ ino frag named)
-
   -- each other step is made as proposed
-  pub made_line : (event : Event) → IsNamed event step dir f → ((ino : Ino) (frag : Fragment) → event ≡ Send ino frag → ⊥) → ((ino : Ino) (frag : Fragment) (bytes : List ℕ) → event ≡ Import ino frag bytes → ⊥)
+  made_line : (event : Event) → IsNamed event step dir f → ((ino : Ino) (frag : Fragment) → event ≡ Send ino frag → ⊥) → ((ino : Ino) (frag : Fragment) (bytes : List ℕ) → event ≡ Import ino frag bytes → ⊥)
       → DoesEvent old new event shown → MakesStep old new event (own_line_of step dir f shown)
   made_line (Arrive rank request) named other another does = absurd named
   made_line (Serve rank) named other another does = absurd named
@@ -40,3 +33,8 @@ module _ (old new : Admin) (step : OwnStep) (dir : Ino) (f : Fragment) (shown : 
   made_line (Import ino frag bytes) named other another does = absurd (another ino frag bytes refl)
   made_line (Finish ino frag) named other another does = (shown, does, line_is _ ino frag named)
   made_line (Cancel ino frag) named other another does = (shown, does, line_is _ ino frag named)
+
+-- so it is with the line that tells it
+pub told_line : (old new : Admin) (step : OwnStep) (dir : Ino) (f : Fragment) (shown line : OutputLine) (event : Event) → line ≡ own_line_of step dir f shown → IsNamed event step dir f → ((ino : Ino) (frag : Fragment) → event ≡ Send ino frag → ⊥) → ((ino : Ino) (frag : Fragment) (bytes : List ℕ) → event ≡ Import ino frag bytes → ⊥)
+    → DoesEvent old new event shown → MakesStep old new event line
+told_line old new step dir f shown line event is named other another does = subst (λ (l : OutputLine). MakesStep old new event l) (sym is) (made_line old new step dir f shown event named other another does)

@@ -22,33 +22,40 @@ impl<S: Keep + Drop> Admin<S> {
         ensures count { self.new.operations ≡ self.old.operations }
     {
         match self.book.propose(rank) {
-            Ok(Some(event)) => self.own_step(alloc, event),
+            Ok(Some(event)) => {
+                let name = named(&event);
+                self.own_step(alloc, &name, event)
+            }
             Ok(None) => Ok(OutputLine::Idle),
             Err(refusal) => Ok(OutputLine::Refused(refusal)),
         }
     }
 
     // Makes the step that a rank proposed.
-    fn own_step(&mut self, alloc: Global, event: Event) -> Result<OutputLine, AllocError>
-        requires { IsOwnStep event }
+    fn own_step(
+        &mut self,
+        alloc: Global,
+        name: &StepName,
+        event: Event,
+    ) -> Result<OutputLine, AllocError>
+        requires { IsNamed event name.now.step name.now.ino name.now.frag }
         ensures line { IfOk result (MakesStep (seen self.old) (seen self.new) event) }
         ensures err { OnErr result (LacksForStep (seen self.old) (seen self.new) event) }
         ensures count { self.new.operations ≡ self.old.operations }
     {
-        let name = named(&event);
         match event {
             Event::Send { ino, frag } => {
                 let shown = self.send(alloc, ino, frag)?;
-                Ok(told(&name, shown))
+                Ok(told(name, shown))
             }
             Event::Import { ino, frag, bytes } => {
                 drop(bytes);
                 let shown = self.import(alloc, ino, frag)?;
-                Ok(told(&name, shown))
+                Ok(told(name, shown))
             }
             other => {
                 let shown = self.step(alloc, other);
-                Ok(told(&name, shown))
+                Ok(told(name, shown))
             }
         }
     }

@@ -3,7 +3,7 @@ use Rattle.rank_threads.proofs.Common.{Answer, List, Refusal, Result, Turn, [], 
 use Rattle.std.specs.FinMap as finmap
 use Rattle.mds_types.specs.declared.ids.Rank.{Rank}
 use Rattle.rank_threads.specs.OwnTurn.{Kept}
-use Rattle.rank_threads.specs.TookTurn.{PlansTook, TookTurn, TookTurns, ranked_from}
+use Rattle.rank_threads.specs.TookTurn.{PlansTook, TookTurn, TookTurns, at_rank, ranked_from}
 
 pub took_more : (rank : Rank) (before mid after : Kept) (turns : List Turn) (results : List (Result Answer Refusal)) (turn : Turn) (result : Result Answer Refusal) → TookTurns rank before mid turns results → TookTurn turn rank mid after result
     → TookTurns rank before after (turns ++ turn ∷ []) (results ++ result ∷ [])
@@ -30,7 +30,7 @@ took_gathered f g k hs h vs vnow v ks know x was took grown more =
 -- ---- plans in the order of ranks
 
 abbrev of_rank : ℕ → List Turn → Rank × List Turn
-of_rank n turns = (record { 0 = n }, turns)
+of_rank n turns = at_rank (record { 0 = n }) turns
 
 pub ranked_more : (first : ℕ) (plans : List (List Turn)) (turns : List Turn) → ranked_from first (plans ++ turns ∷ []) ≡ ranked_from first plans ++ of_rank (first + length plans) turns ∷ []
 ranked_more first [] turns = ap (λ (n : ℕ). of_rank n turns ∷ []) (let e : first ≡ first + 0 = omega arith in e)

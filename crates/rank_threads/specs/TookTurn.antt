@@ -65,10 +65,14 @@ TookTurns rank before after (turn ∷ turns) [] = ⊥
 TookTurns rank before after (turn ∷ turns) (result ∷ results) =
     (between : Kept) × TookTurn turn rank before between result × TookTurns rank between after turns results
 
--- plans with the ranks of their threads, the first of which is this
+-- a plan with the rank of its thread
+abbrev pub at_rank : Rank → List Turn → Rank × List Turn
+at_rank rank turns = (rank, turns)
+
+-- plans so, the first of which is this rank's
 abbrev pub ranked_from : ℕ → List (List Turn) → List (Rank × List Turn)
 ranked_from first [] = []
-ranked_from first (turns ∷ plans) = (record { 0 = first }, turns) ∷ ranked_from (suc first) plans
+ranked_from first (turns ∷ plans) = at_rank (record { 0 = first }) turns ∷ ranked_from (suc first) plans
 
 -- plans in the order of ranks
 abbrev pub by_rank : List (List Turn) → List (Rank × List Turn)
