@@ -4,6 +4,7 @@ pub mod Committed
 pub mod Common
 pub mod GoesOnLaws
 pub mod LeavesLaws
+pub mod OwnTurnLaws
 pub mod PathLines
 pub mod PrintedLaws
 pub mod Progress

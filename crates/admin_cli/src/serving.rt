@@ -13,7 +13,8 @@ use std::io::Write;
 use std::sync::Wait;
 use std::thread::Threads;
 
-/// Serves a load, as `run_serve` does, and tells on standard error how far it has come where somebody looks on.
+/// Serves a load, as `run_serve` does, and tells on standard error how far it has come, and how many steps the ranks made
+/// of their own, where somebody looks on.
 pub fn serve<W: Write, H: Threads + Wait + Sync + AllocGlobal + Eprint>(
     rt: &H,
     writer: &mut W,
@@ -24,7 +25,12 @@ pub fn serve<W: Write, H: Threads + Wait + Sync + AllocGlobal + Eprint>(
     ensures { ServesOut (W.contents writer.old) (W.contents writer.new) result }
 {
     if is_watched {
-        return run_watched(rt, writer, load, &Progress::new(rt, load));
+        let progress = Progress::new(rt, load);
+        let ended = run_watched(rt, writer, load, &progress);
+        if ended.is_ok() {
+            progress.end();
+        }
+        return ended;
     }
     run_serve(
         rt,
@@ -55,7 +61,12 @@ where
     ensures left { GoesOn book result.book }
 {
     if is_watched {
-        return run_over_book(rt, writer, book, load, &Progress::new(rt, load));
+        let progress = Progress::new(rt, load);
+        let served = run_over_book(rt, writer, book, load, &progress);
+        if served.ended.is_ok() {
+            progress.end();
+        }
+        return served;
     }
     run_over_book(rt, writer, book, load, &OpenGate)
 }

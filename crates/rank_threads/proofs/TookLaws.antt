@@ -1,0 +1,39 @@
+-- What threads keep of exports: one turn more, and one thread more that was joined.
+use Rattle.rank_threads.proofs.Common.{Answer, List, Refusal, Result, Turn, [], ap, arith, length, map, map-append, refl, subst, suc, ℕ, ◌++◌, ◌+◌, ◌∙◌, ◌∷◌, ◌≡◌}
+use Rattle.std.specs.FinMap as finmap
+use Rattle.mds_types.specs.declared.ids.Rank.{Rank}
+use Rattle.rank_threads.specs.OwnTurn.{Kept}
+use Rattle.rank_threads.specs.TookTurn.{PlansTook, TookTurn, TookTurns, at_rank, ranked_from}
+
+pub took_more : (rank : Rank) (before mid after : Kept) (turns : List Turn) (results : List (Result Answer Refusal)) (turn : Turn) (result : Result Answer Refusal) → TookTurns rank before mid turns results → TookTurn turn rank mid after result
+    → TookTurns rank before after (turns ++ turn ∷ []) (results ++ result ∷ [])
+took_more rank before mid after [] [] turn result same took = (after, subst (λ (k : Kept). TookTurn turn rank k after result) same took, refl)
+took_more rank before mid after [] (r ∷ results) turn result h took = absurd h
+took_more rank before mid after (t ∷ turns) [] turn result h took = absurd h
+took_more rank before mid after (t ∷ turns) (r ∷ results) turn result h took = (h.0, h.1, took_more rank h.0 mid after turns results turn result h.2 took)
+
+plans_took_more : (plans : List (Rank × List Turn)) (answers : List (List (Result Answer Refusal))) (kept : List Kept) (plan : Rank × List Turn) (results : List (Result Answer Refusal)) (left : Kept)
+    → PlansTook plans answers kept → TookTurns plan.0 finmap.empty left plan.1 results → PlansTook (plans ++ plan ∷ []) (answers ++ results ∷ []) (kept ++ left ∷ [])
+plans_took_more [] [] [] plan results left h took = (took, tt)
+plans_took_more [] [] (k ∷ kept) plan results left h took = absurd h
+plans_took_more [] (r ∷ answers) kept plan results left h took = absurd h
+plans_took_more (p ∷ plans) [] kept plan results left h took = absurd h
+plans_took_more (p ∷ plans) (r ∷ answers) [] plan results left h took = absurd h
+plans_took_more (p ∷ plans) (r ∷ answers) (k ∷ kept) plan results left h took = (h.0, plans_took_more plans answers kept plan results left h.1 took)
+
+-- one thread more was joined, whose work is that of its turns
+pub took_gathered : {A B C : Type 0} (f : A → Rank × List Turn) (g : B → List (Result Answer Refusal)) (k : C → Kept) (hs : List A) (h : A) (vs vnow : List B) (v : B) (ks know : List C) (x : C)
+    → PlansTook (map f hs) (map g vs) (map k ks) → TookTurns (f h).0 finmap.empty (k x) (f h).1 (g v) → vnow ≡ vs ++ v ∷ [] → know ≡ ks ++ x ∷ [] → PlansTook (map f (hs ++ h ∷ [])) (map g vnow) (map k know)
+took_gathered f g k hs h vs vnow v ks know x was took grown more =
+    rw (grown, more, map-append f hs (h ∷ []), map-append g vs (v ∷ []), map-append k ks (x ∷ [])) (plans_took_more (map f hs) (map g vs) (map k ks) (f h) (g v) (k x) was took)
+
+-- ---- plans in the order of ranks
+
+abbrev of_rank : ℕ → List Turn → Rank × List Turn
+of_rank n turns = at_rank (record { 0 = n }) turns
+
+pub ranked_more : (first : ℕ) (plans : List (List Turn)) (turns : List Turn) → ranked_from first (plans ++ turns ∷ []) ≡ ranked_from first plans ++ of_rank (first + length plans) turns ∷ []
+ranked_more first [] turns = ap (λ (n : ℕ). of_rank n turns ∷ []) (let e : first ≡ first + 0 = omega arith in e)
+ranked_more first (other ∷ plans) turns =
+    ap (λ (rest : List (Rank × List Turn)). of_rank first other ∷ rest)
+    (ranked_more (suc first) plans turns ∙ ap (λ (n : ℕ). ranked_from (suc first) plans ++ of_rank n turns ∷ []) (let e : suc first + length plans ≡ first + suc (length plans) = omega arith in e))
