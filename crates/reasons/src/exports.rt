@@ -141,7 +141,7 @@ impl fmt::Display for WrongState {
             }
             WrongState::Flush(export, more) => write!(
                 f,
-                "a flush waits until no export is under way: {export}, and {more} more are under way"
+                "a flush waits until no export is under way: {export}, and {more} more"
             ),
         }
     }

@@ -1,4 +1,6 @@
 //! Why a line was refused, deferred or forwarded.
+ghost use Rattle.std.specs.Prelude.{◌≡◌, is_some};
+ghost use Rattle.reasons.specs.Explained.{is_explained, own_was_refused};
 
 use crate::asked::{Asked, asked, asked_of_own};
 use crate::authorities::not_its;
@@ -23,7 +25,9 @@ pub fn reason<S: Store + Drop>(
     book: &Book<S>,
     command: &Command,
     printed: &OutputLine,
-) -> Option<Reason> {
+) -> Option<Reason>
+    ensures { is_some result ≡ is_explained printed.now }
+{
     match printed {
         OutputLine::Refused(refusal) => Some(refused(book, asked(command), *refusal)),
         OutputLine::Deferred => Some(Reason {
@@ -32,7 +36,21 @@ pub fn reason<S: Store + Drop>(
         }),
         OutputLine::Forwarded(rank) => Some(forwarded(book.cluster(), *rank)),
         OutputLine::Own(turn) => refused_own(book, asked(command), turn),
-        _ => None,
+        OutputLine::Reply { .. }
+        | OutputLine::Queued
+        | OutputLine::Nothing
+        | OutputLine::Flushed
+        | OutputLine::Unsaved(_)
+        | OutputLine::Frags(_)
+        | OutputLine::Subtrees(_)
+        | OutputLine::Authority(_)
+        | OutputLine::Job(_)
+        | OutputLine::Sent(_)
+        | OutputLine::Object(_)
+        | OutputLine::Objects(_)
+        | OutputLine::Idle
+        | OutputLine::History(_)
+        | OutputLine::Errno(_) => None,
     }
 }
 
@@ -53,15 +71,18 @@ fn refused_own<S: Store + Drop>(
     book: &Book<S>,
     command: Asked<'_>,
     turn: &OwnTurn,
-) -> Option<Reason> {
-    let OwnResult::Refused(refusal) = turn.result else {
-        return None;
-    };
+) -> Option<Reason>
+    ensures { is_some result ≡ own_was_refused turn.now.result }
+{
     let asked = match command {
         Asked::Own(rank) => asked_of_own(rank, turn),
         other => other,
     };
-    Some(refused(book, asked, refusal))
+    match turn.result {
+        OwnResult::Refused(refusal) => Some(refused(book, asked, refusal)),
+        OwnResult::Sent(_) => None,
+        OwnResult::Nothing => None,
+    }
 }
 
 // The reason of a refusal.

@@ -39,7 +39,7 @@ impl fmt::Display for JobWhy {
         match *self {
             JobWhy::Stale(job) => write!(
                 f,
-                "no commit of job {job} is under way: it ended, or its leaf was changed or exported"
+                "no commit has job {job} now: it ended, or a flush, a freeze or the end of its leaf gave it up"
             ),
             JobWhy::Begun { leaf, job } => {
                 write!(f, "job {job} commits {leaf}; `end {job}` writes it, ")?;

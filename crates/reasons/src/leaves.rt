@@ -29,8 +29,8 @@ pub(crate) enum BadSplit {
 /// Too many leaves.
 #[derive(Clone, Copy, Debug)]
 pub(crate) enum TooMany {
-    /// The directory has so many.
-    Split { dir: Ino, leaves: u32 },
+    /// The directory has so many, and a split makes so many more.
+    Split { dir: Ino, leaves: u32, more: u32 },
     /// So many lie in the fragment.
     Merge { whole: Leaf, leaves: u32 },
 }
@@ -82,7 +82,7 @@ pub(crate) fn bad_split(asked: Asked<'_>) -> Option<BadSplit> {
 /// Of what there are too many.
 pub(crate) fn too_many<S: Store + Drop>(cluster: &Cluster<S>, asked: Asked<'_>) -> Option<TooMany> {
     match asked {
-        Asked::Split { leaf, .. } => {
+        Asked::Split { leaf, bits, .. } => {
             let dir = leaf.dir;
             let all = Leaf {
                 dir,
@@ -90,7 +90,8 @@ pub(crate) fn too_many<S: Store + Drop>(cluster: &Cluster<S>, asked: Asked<'_>) 
             };
             // (a directory of one leaf has none properly inside `*`)
             let leaves = count_inside(cluster, all).max(1);
-            Some(TooMany::Split { dir, leaves })
+            let more = (1_u32 << bits.min(8)) - 1;
+            Some(TooMany::Split { dir, leaves, more })
         }
         Asked::Merge { whole, .. } => {
             let leaves = count_inside(cluster, whole);
@@ -133,9 +134,10 @@ impl fmt::Display for TooMany {
             TooMany::Split {
                 dir: Ino(dir),
                 leaves,
+                more,
             } => write!(
                 f,
-                "directory {dir:x} has {leaves} leaves, and may have 4096; merge some first"
+                "directory {dir:x} has {leaves} leaves, and {more} more are above 4096; merge some first"
             ),
             TooMany::Merge { whole, leaves } => write!(
                 f,

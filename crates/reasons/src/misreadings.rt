@@ -3,11 +3,22 @@
 use crate::kinds::Kind;
 use crate::quoted::Quoted;
 use std::fmt;
+use std::marker::Model;
 
-/// Why a line is no command: which word, and what was expected there. It is shown as a sentence.
-#[derive(Clone, Copy, Debug)]
+/// Why a line is no command: which word, and what was expected there. It is shown as a sentence. A contract sees whether
+/// there is such a word, or a byte.
+#[derive(Debug, Drop)]
 pub struct Misread<'a> {
     pub(crate) wrong: Wrong<'a>,
+}
+
+impl<'a> Model for Misread<'a> {
+    ghost use Rattle.std.specs.Prelude.{Bool};
+    ghost use Rattle.reasons.specs.Misread.{tells_one};
+
+    ghost Value = { Bool };
+
+    ghost view = { λ m. tells_one m.wrong };
 }
 
 /// The first thing in a line that keeps it from being a command.

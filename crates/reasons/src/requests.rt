@@ -238,7 +238,7 @@ impl fmt::Display for Deferral {
     fn fmt<W: fmt::Write>(&self, f: &mut fmt::Formatter<W>) -> fmt::Result {
         match *self {
             Deferral::Frozen(freezes, Rank(rank)) => {
-                write!(f, "{freezes}; `serve {rank}` tries the request again")
+                write!(f, "{freezes}; the request waits on at rank {rank}")
             }
             Deferral::Ungranted {
                 leaf,

@@ -102,7 +102,7 @@ impl fmt::Display for Room {
     fn fmt<W: fmt::Write>(&self, f: &mut fmt::Formatter<W>) -> fmt::Result {
         let Rank(rank) = self.rank;
         let (cached, clean) = (self.cached, self.clean);
-        write!(f, "rank {rank} caches {cached} fragments, of which {clean} are clean")?;
+        write!(f, "{clean} of {cached} fragments cached at rank {rank} are clean")?;
         match self.unclean {
             Some(leaf) => {
                 let words = Words(leaf);
