@@ -10,7 +10,7 @@ use script_output::OwnStep;
 use std::fmt;
 
 /// Which of these it is.
-#[derive(Clone, Copy, Debug)]
+#[derive(Clone, Copy)]
 pub(crate) enum NotIts {
     /// There is no such rank. The last one that there is.
     NoRank { rank: Rank, last: usize },

@@ -11,14 +11,14 @@ use script_output::OwnStep;
 use std::fmt;
 
 /// A leaf is frozen by an export.
-#[derive(Clone, Copy, Debug)]
+#[derive(Clone, Copy)]
 pub(crate) struct Freezes {
     pub(crate) leaf: Leaf,
     pub(crate) by: UnderWay,
 }
 
 /// A step of an export, or a flush, in a state that doesn't allow it.
-#[derive(Clone, Copy, Debug)]
+#[derive(Clone, Copy)]
 pub(crate) enum WrongState {
     /// No export of the leaf is under way.
     None(Leaf),

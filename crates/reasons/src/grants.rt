@@ -10,7 +10,7 @@ use script_output::OwnStep;
 use std::fmt;
 
 /// A leaf is granted for a request.
-#[derive(Clone, Copy, Debug)]
+#[derive(Clone, Copy)]
 pub(crate) struct Granted(Pin);
 
 /// The grant that the step met.

@@ -7,7 +7,7 @@ use objstore::Store;
 use std::fmt;
 
 /// Which job it is.
-#[derive(Clone, Copy, Debug)]
+#[derive(Clone, Copy)]
 pub(crate) enum JobWhy {
     /// No commit has a job of this number any more.
     Stale(u64),

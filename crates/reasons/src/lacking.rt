@@ -9,7 +9,7 @@ use script_output::OwnStep;
 use std::fmt;
 
 /// What lacks or is at fault, and what is left.
-#[derive(Clone, Copy, Debug)]
+#[derive(Clone, Copy)]
 pub(crate) enum Lacks {
     Memory(Left),
     Store(Left),
@@ -22,7 +22,7 @@ pub(crate) enum Lacks {
 }
 
 /// What a refusal leaves.
-#[derive(Clone, Copy, Debug)]
+#[derive(Clone, Copy)]
 pub(crate) enum Left {
     /// The request waits on at this rank.
     Request(Rank),

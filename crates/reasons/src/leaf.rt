@@ -4,7 +4,7 @@ use mds_types::{Frag, Ino};
 use std::fmt;
 
 /// A leaf of a directory, or a fragment that may be one.
-#[derive(Clone, Copy, Debug, PartialEq, Eq)]
+#[derive(Clone, Copy)]
 pub(crate) struct Leaf {
     pub(crate) dir: Ino,
     pub(crate) frag: Frag,
@@ -20,7 +20,7 @@ impl fmt::Display for Leaf {
 }
 
 /// The same as words of a line, `INO FRAG`.
-#[derive(Clone, Copy, Debug)]
+#[derive(Clone, Copy)]
 pub(crate) struct Words(pub(crate) Leaf);
 
 impl fmt::Display for Words {

@@ -9,7 +9,7 @@ use objstore::Store;
 use std::fmt;
 
 /// There is no such directory or leaf, or nothing to merge.
-#[derive(Clone, Copy, Debug)]
+#[derive(Clone, Copy)]
 pub(crate) enum NoLeaf {
     NoDir(Ino),
     /// The fragment is no leaf, and the leaf where it begins is another.
@@ -19,7 +19,7 @@ pub(crate) enum NoLeaf {
 }
 
 /// A split by too few or too many bits.
-#[derive(Clone, Copy, Debug)]
+#[derive(Clone, Copy)]
 pub(crate) enum BadSplit {
     Bits(u8),
     /// The children would have more than 24 bits.
@@ -27,7 +27,7 @@ pub(crate) enum BadSplit {
 }
 
 /// Too many leaves.
-#[derive(Clone, Copy, Debug)]
+#[derive(Clone, Copy)]
 pub(crate) enum TooMany {
     /// The directory has so many, and a split makes so many more.
     Split { dir: Ino, leaves: u32, more: u32 },

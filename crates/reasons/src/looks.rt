@@ -79,7 +79,7 @@ pub(crate) fn authority<S: Store + Drop>(cluster: &Cluster<S>, leaf: Leaf) -> Op
 }
 
 /// An export that is under way.
-#[derive(Clone, Copy, Debug)]
+#[derive(Clone, Copy)]
 pub(crate) struct UnderWay {
     pub(crate) root: Leaf,
     pub(crate) export: StandingExport,

@@ -7,7 +7,7 @@ use std::marker::Model;
 
 /// Why a line is no command: which word, and what was expected there. It is shown as a sentence. A contract sees whether
 /// there is such a word, or a byte.
-#[derive(Debug, Drop)]
+#[derive(Drop)]
 pub struct Misread<'a> {
     pub(crate) wrong: Wrong<'a>,
 }
@@ -22,7 +22,7 @@ impl<'a> Model for Misread<'a> {
 }
 
 /// The first thing in a line that keeps it from being a command.
-#[derive(Clone, Copy, Debug)]
+#[derive(Clone, Copy)]
 pub(crate) enum Wrong<'a> {
     /// There is none: the line is a command, or says nothing.
     Nothing,

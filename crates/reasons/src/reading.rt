@@ -25,7 +25,7 @@ pub fn misread(line: &[u8]) -> Misread<'_>
 }
 
 // What is left of a line behind a word.
-#[derive(Clone, Copy, Debug)]
+#[derive(Clone, Copy)]
 struct Read<'a> {
     last: &'a [u8],
     rest: &'a [u8],
@@ -77,10 +77,10 @@ fn wrong_in_command<'a>(verb: &'a [u8], rest: &'a [u8]) -> Wrong<'a> {
 fn read_words(read: Read<'_>, kinds: [Kind; 4]) -> Result<Read<'_>, Wrong<'_>> {
     let mut read = read;
     for kind in kinds {
-        if kind == Kind::None {
-            return Ok(read);
+        match kind {
+            Kind::None => return Ok(read),
+            other => read = read_word(read, other)?,
         }
-        read = read_word(read, kind)?;
     }
     Ok(read)
 }

@@ -13,7 +13,7 @@ use std::cell::Cell;
 use std::fmt;
 
 /// Why a request has to wait.
-#[derive(Clone, Copy, Debug)]
+#[derive(Clone, Copy)]
 pub(crate) enum Deferral {
     /// A leaf is frozen that it would change at this rank.
     Frozen(Freezes, Rank),
@@ -29,7 +29,7 @@ pub(crate) enum Deferral {
 }
 
 /// Where a request went.
-#[derive(Clone, Copy, Debug)]
+#[derive(Clone, Copy)]
 pub(crate) struct Forwarding {
     leaf: Leaf,
     to: Rank,

@@ -14,7 +14,7 @@ use std::fmt;
 const MOST_PLACES: u32 = 65_536;
 
 /// What a rank caches.
-#[derive(Clone, Copy, Debug)]
+#[derive(Clone, Copy)]
 pub(crate) struct Room {
     rank: Rank,
     /// How many fragments,

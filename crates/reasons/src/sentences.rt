@@ -15,14 +15,14 @@ use std::fmt;
 
 /// Why a line was refused, deferred or forwarded. It is shown as a sentence: `refused 7 (pinned): 1:0* is granted to client 0,
 /// request 3; it ends when that request is served`.
-#[derive(Clone, Copy, Debug)]
+#[derive(Clone, Copy)]
 pub struct Reason {
     pub(crate) told: Told,
     pub(crate) why: Why,
 }
 
 /// What the line printed.
-#[derive(Clone, Copy, Debug)]
+#[derive(Clone, Copy)]
 pub(crate) enum Told {
     Refused(Refusal),
     Deferred,
@@ -30,7 +30,7 @@ pub(crate) enum Told {
 }
 
 /// Which check it was, of which leaf, rank or request.
-#[derive(Clone, Copy, Debug)]
+#[derive(Clone, Copy)]
 pub(crate) enum Why {
     /// Nothing more than the refusal's own words.
     Plain(Refusal),

@@ -11,7 +11,7 @@ use std::fmt;
 const MOST_WAITING: usize = 1024;
 
 /// What it is about.
-#[derive(Clone, Copy, Debug)]
+#[derive(Clone, Copy)]
 pub(crate) enum Queue {
     /// Nothing waits at the rank.
     Empty(Rank),
