@@ -21,9 +21,9 @@ impl fmt::Display for Leaf {
 
 /// The same as words of a line, `INO FRAG`.
 #[derive(Clone, Copy)]
-pub(crate) struct Words(pub(crate) Leaf);
+pub(crate) struct Words<'a>(pub(crate) &'a Leaf);
 
-impl fmt::Display for Words {
+impl fmt::Display for Words<'_> {
     fn fmt<W: fmt::Write>(&self, f: &mut fmt::Formatter<W>) -> fmt::Result {
         let dir = self.0.dir.0;
         let frag = self.0.frag;

@@ -42,7 +42,10 @@ impl fmt::Display for Misread<'_> {
         match self.wrong {
             Wrong::Nothing => write!(f, "each word fits"),
             Wrong::Byte(byte, column) => {
-                write!(f, "byte {byte} in column {column} is no visible character of ASCII")?;
+                write!(
+                    f,
+                    "byte {byte} in column {column} is no visible character of ASCII"
+                )?;
                 write!(f, ": a name has it as %{byte:02x}")
             }
             Wrong::Word(word, kind) => {

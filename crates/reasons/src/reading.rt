@@ -4,9 +4,7 @@ ghost use Rattle.std.specs.List.{list_all};
 ghost use Rattle.script_words.specs.Words.{is_comment, is_printable, words_of};
 ghost use Rattle.reasons.specs.Misread.{tells_one};
 
-use crate::forms::{
-    Form, Tail, command_form, dirfrag_form, export_form, get_form, operation_form,
-};
+use crate::forms::{Form, Tail, command_form, dirfrag_form, export_form, get_form, operation_form};
 use crate::kinds::{Kind, fits};
 use crate::misreadings::{Misread, Wrong};
 use script_words::{is_comment, is_printable, is_text, next_word};
