@@ -14,45 +14,27 @@ pub(crate) enum Asked<'a> {
     Operation(&'a Op),
     Serve(Rank),
     Own(Rank),
-    Grant {
-        rank: Rank,
-        client: u64,
-        tid: u64,
-    },
-    Split {
-        rank: Rank,
-        leaf: Leaf,
-        bits: u8,
-    },
-    Merge {
-        rank: Rank,
-        whole: Leaf,
-    },
+    Grant { rank: Rank, client: u64, tid: u64 },
+    Split { rank: Rank, leaf: Leaf, bits: u8 },
+    Merge { rank: Rank, whole: Leaf },
     /// Something of a directory.
     Dir(Ino),
     /// Whose a leaf is.
     Authority(Leaf),
     /// A commit of a leaf begins.
-    Commit {
-        rank: Rank,
-        leaf: Leaf,
-    },
+    Commit { rank: Rank, leaf: Leaf },
     /// A commit ends, or is given up.
     Job(u64),
     Flush,
     Evict(Rank),
-    Start {
-        from: Rank,
-        leaf: Leaf,
-        to: Rank,
-    },
+    Start { from: Rank, leaf: Leaf, to: Rank },
     /// A later step of an export.
     Export(OwnStep, Leaf),
     Other,
 }
 
 /// What a command asked.
-pub(crate) fn asked(command: &Command) -> Asked<'_> {
+pub(crate) fn asked_of(command: &Command) -> Asked<'_> {
     match command {
         Command::Operation(op) => Asked::Operation(op),
         Command::Request(rank, request) => Asked::Arrive(*rank, request),
@@ -110,11 +92,11 @@ fn asked_of_export(command: &ExportCommand) -> Asked<'_> {
 // What a command on the store asked.
 fn asked_of_store(command: &StoreCommand) -> Asked<'_> {
     match command {
-        StoreCommand::CommitBegin { rank, ino, frag }
-        | StoreCommand::Commit { rank, ino, frag } => Asked::Commit {
-            rank: *rank,
-            leaf: leaf(*ino, *frag),
-        },
+        StoreCommand::CommitBegin { rank, ino, frag } | StoreCommand::Commit { rank, ino, frag } =>
+            Asked::Commit {
+                rank: *rank,
+                leaf: leaf(*ino, *frag),
+            },
         StoreCommand::CommitEnd(job) | StoreCommand::CommitDrop(job) => Asked::Job(*job),
         StoreCommand::CommitTree(ino) => Asked::Dir(*ino),
         StoreCommand::Flush => Asked::Flush,

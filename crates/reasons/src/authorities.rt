@@ -10,10 +10,13 @@ use script_output::OwnStep;
 use std::fmt;
 
 /// Which of these it is.
-#[derive(Clone, Copy, Debug)]
+#[derive(Clone, Copy)]
 pub(crate) enum NotIts {
     /// There is no such rank. The last one that there is.
-    NoRank { rank: Rank, last: usize },
+    NoRank {
+        rank: Rank,
+        last: usize,
+    },
     /// A leaf is another rank's.
     Another {
         leaf: Leaf,
@@ -27,7 +30,11 @@ pub(crate) enum NotIts {
         authority: Rank,
     },
     /// The rank has nothing to grant.
-    NoGrant { rank: Rank, client: u64, tid: u64 },
+    NoGrant {
+        rank: Rank,
+        client: u64,
+        tid: u64,
+    },
     /// An export from a rank to itself.
     Itself(Rank),
     /// The leaf of a started export is another rank's by now.
@@ -39,19 +46,17 @@ pub(crate) enum NotIts {
 }
 
 /// Which of these it is, as far as the book tells.
-pub(crate) fn not_its<S: Store + Drop>(cluster: &Cluster<S>, asked: Asked<'_>) -> Option<NotIts> {
+pub(crate) fn not_its<S: Store + Drop>(cluster: &Cluster<S>, asked: &Asked<'_>) -> Option<NotIts> {
     match asked {
         Asked::Arrive(rank, _) | Asked::Serve(rank) | Asked::Own(rank) | Asked::Evict(rank) => {
-            no_rank(cluster, rank)
+            no_rank(cluster, *rank)
         }
-        Asked::Grant { rank, client, tid } => {
-            no_rank(cluster, rank).or(Some(NotIts::NoGrant { rank, client, tid }))
-        }
+        Asked::Grant { rank, client, tid } => Some(not_of_grant(cluster, *rank, *client, *tid)),
         Asked::Split { rank, leaf, .. } | Asked::Commit { rank, leaf } => {
-            not_of_leaf(cluster, rank, leaf)
+            not_of_leaf(cluster, *rank, leaf)
         }
-        Asked::Merge { rank, whole } => not_of_merge(cluster, rank, whole),
-        Asked::Start { from, leaf, to } => not_of_start(cluster, from, leaf, to),
+        Asked::Merge { rank, whole } => not_of_merge(cluster, *rank, whole),
+        Asked::Start { from, leaf, to } => not_of_start(cluster, *from, leaf, *to),
         Asked::Export(OwnStep::Freeze, leaf) => not_of_freeze(cluster, leaf),
         _ => None,
     }
@@ -66,22 +71,37 @@ fn no_rank<S: Store + Drop>(cluster: &Cluster<S>, rank: Rank) -> Option<NotIts> 
     Some(NotIts::NoRank { rank, last })
 }
 
+// There is no such rank, or it has nothing to grant.
+fn not_of_grant<S: Store + Drop>(
+    cluster: &Cluster<S>,
+    rank: Rank,
+    client: u64,
+    tid: u64,
+) -> NotIts {
+    match no_rank(cluster, rank) {
+        Some(none) => none,
+        None => NotIts::NoGrant { rank, client, tid },
+    }
+}
+
 // There is no such rank, or a leaf is another's.
-fn not_of_leaf<S: Store + Drop>(cluster: &Cluster<S>, rank: Rank, leaf: Leaf) -> Option<NotIts> {
+fn not_of_leaf<S: Store + Drop>(cluster: &Cluster<S>, rank: Rank, leaf: &Leaf) -> Option<NotIts> {
     let none = no_rank(cluster, rank);
     if none.is_some() {
         return none;
     }
-    let authority = authority(cluster, leaf)?;
-    Some(NotIts::Another {
-        leaf,
-        rank,
-        authority,
-    })
+    match authority(cluster, leaf) {
+        Some(authority) => Some(NotIts::Another {
+            leaf: *leaf,
+            rank,
+            authority,
+        }),
+        None => None,
+    }
 }
 
 // There is no such rank, or one of the leaves to merge is another's.
-fn not_of_merge<S: Store + Drop>(cluster: &Cluster<S>, rank: Rank, whole: Leaf) -> Option<NotIts> {
+fn not_of_merge<S: Store + Drop>(cluster: &Cluster<S>, rank: Rank, whole: &Leaf) -> Option<NotIts> {
     let none = no_rank(cluster, rank);
     if none.is_some() {
         return none;
@@ -89,50 +109,64 @@ fn not_of_merge<S: Store + Drop>(cluster: &Cluster<S>, rank: Rank, whole: Leaf) 
     let mut hash = whole.frag.value();
     for _ in 0..MOST_LEAVES {
         let leaf = leaf_inside(cluster, whole, hash)?;
-        let authority = authority(cluster, leaf)?;
-        if authority != rank {
-            return Some(NotIts::Among {
-                leaf,
-                rank,
-                authority,
-            });
-        }
         hash = end_of(leaf.frag);
+        let found = not_among(cluster, rank, &leaf);
+        if found.is_some() {
+            return found;
+        }
     }
     None
+}
+
+// One of the leaves to merge is another's.
+fn not_among<S: Store + Drop>(cluster: &Cluster<S>, rank: Rank, leaf: &Leaf) -> Option<NotIts> {
+    match authority(cluster, leaf) {
+        Some(authority) if authority != rank => Some(NotIts::Among {
+            leaf: *leaf,
+            rank,
+            authority,
+        }),
+        _ => None,
+    }
 }
 
 // There is no such rank, the export would go to the exporter, or the leaf is another's.
 fn not_of_start<S: Store + Drop>(
     cluster: &Cluster<S>,
     from: Rank,
-    leaf: Leaf,
+    leaf: &Leaf,
     to: Rank,
 ) -> Option<NotIts> {
-    let none = no_rank(cluster, from).or(no_rank(cluster, to));
+    let none = no_rank(cluster, from);
     if none.is_some() {
         return none;
     }
-    if from == to {
+    let none = no_rank(cluster, to);
+    if none.is_some() {
+        return none;
+    }
+    if from.0 == to.0 {
         return Some(NotIts::Itself(from));
     }
     not_of_leaf(cluster, from, leaf)
 }
 
 // The leaf of a started export is another's by now.
-fn not_of_freeze<S: Store + Drop>(cluster: &Cluster<S>, leaf: Leaf) -> Option<NotIts> {
-    let exporter = export_of(cluster, leaf)?.export.exporter;
-    let authority = authority(cluster, leaf)?;
-    Some(NotIts::Moved {
-        leaf,
-        exporter,
-        authority,
-    })
+fn not_of_freeze<S: Store + Drop>(cluster: &Cluster<S>, leaf: &Leaf) -> Option<NotIts> {
+    let under_way = export_of(cluster, leaf)?;
+    match authority(cluster, leaf) {
+        Some(authority) => Some(NotIts::Moved {
+            leaf: *leaf,
+            exporter: under_way.export.exporter,
+            authority,
+        }),
+        None => None,
+    }
 }
 
 impl fmt::Display for NotIts {
     fn fmt<W: fmt::Write>(&self, f: &mut fmt::Formatter<W>) -> fmt::Result {
-        match *self {
+        match self {
             NotIts::NoRank {
                 rank: Rank(rank),
                 last,
@@ -168,7 +202,7 @@ impl fmt::Display for NotIts {
                 leaf,
                 exporter,
                 authority,
-            } => write_moved(f, leaf, exporter, authority),
+            } => write_moved(f, leaf, *exporter, *authority),
         }
     }
 }
@@ -176,7 +210,7 @@ impl fmt::Display for NotIts {
 // That a leaf is another's than its exporter's.
 fn write_moved<W: fmt::Write>(
     f: &mut fmt::Formatter<W>,
-    leaf: Leaf,
+    leaf: &Leaf,
     exporter: Rank,
     authority: Rank,
 ) -> fmt::Result {

@@ -4,7 +4,7 @@ use crate::kinds::Kind;
 use script_words::is_text;
 
 /// What may follow the words of a form.
-#[derive(Clone, Copy, Debug, PartialEq, Eq)]
+#[derive(Clone, Copy)]
 pub(crate) enum Tail {
     /// Nothing.
     End,
@@ -21,7 +21,7 @@ pub(crate) enum Tail {
 }
 
 /// The words that follow a first word: of fewer than four the rest are none.
-#[derive(Clone, Copy, Debug)]
+#[derive(Clone, Copy)]
 pub(crate) struct Form {
     pub(crate) words: [Kind; 4],
     pub(crate) tail: Tail,

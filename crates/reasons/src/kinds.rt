@@ -4,7 +4,7 @@ use script_words::{client, decimal, frag, id, ino, mode, page_size, pin, rank, s
 use std::fmt;
 
 /// What a word of a line has to be.
-#[derive(Clone, Copy, Debug, PartialEq, Eq)]
+#[derive(Clone, Copy)]
 pub(crate) enum Kind {
     /// There is no such word.
     None,

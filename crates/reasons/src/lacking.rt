@@ -9,7 +9,7 @@ use script_output::OwnStep;
 use std::fmt;
 
 /// What lacks or is at fault, and what is left.
-#[derive(Clone, Copy, Debug)]
+#[derive(Clone, Copy)]
 pub(crate) enum Lacks {
     Memory(Left),
     Store(Left),
@@ -22,7 +22,7 @@ pub(crate) enum Lacks {
 }
 
 /// What a refusal leaves.
-#[derive(Clone, Copy, Debug)]
+#[derive(Clone, Copy)]
 pub(crate) enum Left {
     /// The request waits on at this rank.
     Request(Rank),
@@ -33,9 +33,9 @@ pub(crate) enum Left {
 }
 
 /// What the refusal leaves.
-pub(crate) fn left<S: Store + Drop>(cluster: &Cluster<S>, asked: Asked<'_>) -> Left {
+pub(crate) fn what_stays<S: Store + Drop>(cluster: &Cluster<S>, asked: &Asked<'_>) -> Left {
     match asked {
-        Asked::Serve(rank) => Left::Request(rank),
+        Asked::Serve(rank) => Left::Request(*rank),
         // (with --ask the request is gone)
         Asked::Operation(_) if cluster.waiting_at(Rank(0)) > 0 => Left::Request(Rank(0)),
         Asked::Flush => Left::Written,
@@ -44,25 +44,25 @@ pub(crate) fn left<S: Store + Drop>(cluster: &Cluster<S>, asked: Asked<'_>) -> L
 }
 
 /// Which numbers are used up.
-pub(crate) fn numbers(asked: Asked<'_>) -> Lacks {
+pub(crate) fn numbers(asked: &Asked<'_>) -> Lacks {
     match asked {
-        Asked::Serve(rank) | Asked::Arrive(rank, _) => Lacks::Inodes(rank),
+        Asked::Serve(rank) | Asked::Arrive(rank, _) => Lacks::Inodes(*rank),
         Asked::Operation(_) => Lacks::Inodes(Rank(0)),
         _ => Lacks::Counter,
     }
 }
 
 /// What isn't as it has to be.
-pub(crate) fn damaged(asked: Asked<'_>, object: ObjName) -> Lacks {
+pub(crate) fn damaged(asked: &Asked<'_>, object: ObjName) -> Lacks {
     match asked {
-        Asked::Export(OwnStep::Import, leaf) => Lacks::Bytes(leaf),
+        Asked::Export(OwnStep::Import, leaf) => Lacks::Bytes(*leaf),
         _ => Lacks::Object(object),
     }
 }
 
 impl fmt::Display for Lacks {
     fn fmt<W: fmt::Write>(&self, f: &mut fmt::Formatter<W>) -> fmt::Result {
-        match *self {
+        match self {
             Lacks::Memory(left) => write!(f, "there was no memory for it; {left}"),
             Lacks::Store(left) => write!(f, "the store failed; {left}"),
             Lacks::Inodes(Rank(rank)) => write!(
@@ -80,7 +80,7 @@ impl fmt::Display for Lacks {
 
 impl fmt::Display for Left {
     fn fmt<W: fmt::Write>(&self, f: &mut fmt::Formatter<W>) -> fmt::Result {
-        match *self {
+        match self {
             Left::Request(Rank(rank)) => {
                 write!(f, "the request waits on, and `serve {rank}` tries it again")
             }

@@ -4,7 +4,7 @@ use mds_types::{Frag, Ino};
 use std::fmt;
 
 /// A leaf of a directory, or a fragment that may be one.
-#[derive(Clone, Copy, Debug, PartialEq, Eq)]
+#[derive(Clone, Copy)]
 pub(crate) struct Leaf {
     pub(crate) dir: Ino,
     pub(crate) frag: Frag,
@@ -20,10 +20,10 @@ impl fmt::Display for Leaf {
 }
 
 /// The same as words of a line, `INO FRAG`.
-#[derive(Clone, Copy, Debug)]
-pub(crate) struct Words(pub(crate) Leaf);
+#[derive(Clone, Copy)]
+pub(crate) struct Words<'a>(pub(crate) &'a Leaf);
 
-impl fmt::Display for Words {
+impl fmt::Display for Words<'_> {
     fn fmt<W: fmt::Write>(&self, f: &mut fmt::Formatter<W>) -> fmt::Result {
         let dir = self.0.dir.0;
         let frag = self.0.frag;

@@ -45,21 +45,26 @@ pub(crate) fn end_of(frag: Frag) -> u32 {
 /// The leaf of a directory to which a hash belongs, if it lies properly inside a fragment.
 pub(crate) fn leaf_inside<S: Store + Drop>(
     cluster: &Cluster<S>,
-    whole: Leaf,
+    whole: &Leaf,
     hash: u32,
 ) -> Option<Leaf> {
     if hash >= end_of(whole.frag) {
         return None;
     }
     let leaf = leaf_at(cluster, whole.dir, hash)?;
-    if leaf.frag.bits() > whole.frag.bits() && whole.frag.contains_frag(leaf.frag) {
+    if lies_inside(whole.frag, leaf.frag) {
         return Some(leaf);
     }
     None
 }
 
+// Whether a fragment lies properly inside another.
+fn lies_inside(whole: Frag, frag: Frag) -> bool {
+    whole.bits() < frag.bits() && whole.contains_frag(frag)
+}
+
 /// How many leaves of a directory lie properly inside a fragment.
-pub(crate) fn count_inside<S: Store + Drop>(cluster: &Cluster<S>, whole: Leaf) -> u32 {
+pub(crate) fn count_inside<S: Store + Drop>(cluster: &Cluster<S>, whole: &Leaf) -> u32 {
     let mut hash = whole.frag.value();
     for count in 0..MOST_LEAVES {
         let Some(leaf) = leaf_inside(cluster, whole, hash) else {
@@ -71,7 +76,7 @@ pub(crate) fn count_inside<S: Store + Drop>(cluster: &Cluster<S>, whole: Leaf) -
 }
 
 /// The authority of a leaf, if there is such a leaf.
-pub(crate) fn authority<S: Store + Drop>(cluster: &Cluster<S>, leaf: Leaf) -> Option<Rank> {
+pub(crate) fn authority<S: Store + Drop>(cluster: &Cluster<S>, leaf: &Leaf) -> Option<Rank> {
     match cluster.authority(leaf.dir, leaf.frag) {
         Ok(rank) => Some(rank),
         Err(_) => None,
@@ -79,33 +84,39 @@ pub(crate) fn authority<S: Store + Drop>(cluster: &Cluster<S>, leaf: Leaf) -> Op
 }
 
 /// An export that is under way.
-#[derive(Clone, Copy, Debug)]
+#[derive(Clone, Copy)]
 pub(crate) struct UnderWay {
     pub(crate) root: Leaf,
     pub(crate) export: StandingExport,
 }
 
 /// The export of a leaf, if one is under way.
-pub(crate) fn export_of<S: Store + Drop>(cluster: &Cluster<S>, root: Leaf) -> Option<UnderWay> {
-    let export = cluster.exports().get(root.dir, root.frag)?;
-    Some(UnderWay { root, export })
+pub(crate) fn export_of<S: Store + Drop>(cluster: &Cluster<S>, root: &Leaf) -> Option<UnderWay> {
+    match cluster.exports().get(root.dir, root.frag) {
+        Some(export) => Some(UnderWay {
+            root: *root,
+            export,
+        }),
+        None => None,
+    }
 }
 
 /// The export at a place in the order of roots.
 pub(crate) fn export_at<S: Store + Drop>(cluster: &Cluster<S>, index: usize) -> Option<UnderWay> {
-    let ((dir, frag), export) = cluster.exports().standing(index)?;
-    let root = Leaf { dir, frag };
-    Some(UnderWay { root, export })
+    match cluster.exports().standing(index) {
+        Some(((dir, frag), export)) => Some(UnderWay {
+            root: Leaf { dir, frag },
+            export,
+        }),
+        None => None,
+    }
 }
 
 /// The export that freezes a leaf, if one does.
-pub(crate) fn freezing<S: Store + Drop>(cluster: &Cluster<S>, leaf: Leaf) -> Option<UnderWay> {
+pub(crate) fn freezing<S: Store + Drop>(cluster: &Cluster<S>, leaf: &Leaf) -> Option<UnderWay> {
     for index in 0..cluster.exports().len() {
         if let Some(under_way) = export_at(cluster, index) {
-            let root = under_way.root;
-            if under_way.export.state.is_freezing()
-                && cluster.is_under(&(root.dir, root.frag), &(leaf.dir, leaf.frag))
-            {
+            if does_freeze(cluster, &under_way, leaf) {
                 return Some(under_way);
             }
         }
@@ -113,19 +124,37 @@ pub(crate) fn freezing<S: Store + Drop>(cluster: &Cluster<S>, leaf: Leaf) -> Opt
     None
 }
 
+// Whether an export freezes a leaf.
+fn does_freeze<S: Store + Drop>(cluster: &Cluster<S>, under_way: &UnderWay, leaf: &Leaf) -> bool {
+    under_way.export.state.is_freezing() && is_under(cluster, &under_way.root, leaf)
+}
+
+/// Whether a leaf lies in the region that another has as a root.
+pub(crate) fn is_under<S: Store + Drop>(cluster: &Cluster<S>, root: &Leaf, leaf: &Leaf) -> bool {
+    let root = (root.dir, root.frag);
+    let leaf = (leaf.dir, leaf.frag);
+    cluster.is_under(&root, &leaf)
+}
+
 /// The rank that holds a leaf, in whose cache its fragment lies.
-pub(crate) fn holder<S: Store + Drop>(cluster: &Cluster<S>, leaf: Leaf) -> Option<Rank> {
+pub(crate) fn holder<S: Store + Drop>(cluster: &Cluster<S>, leaf: &Leaf) -> Option<Rank> {
     let rank = authority(cluster, leaf)?;
     match freezing(cluster, leaf) {
-        Some(UnderWay { export, .. }) if export.state == ExportState::Imported => {
-            Some(export.importer)
-        }
-        _ => Some(rank),
+        Some(under_way) => Some(held_in(&under_way, rank)),
+        None => Some(rank),
+    }
+}
+
+// The rank that holds a frozen leaf of this authority.
+fn held_in(under_way: &UnderWay, rank: Rank) -> Rank {
+    match under_way.export.state {
+        ExportState::Imported => under_way.export.importer,
+        _ => rank,
     }
 }
 
 /// The first grant on a leaf, if there is one.
-pub(crate) fn grant_on<S: Store + Drop>(cluster: &Cluster<S>, leaf: Leaf) -> Option<Pin> {
+pub(crate) fn grant_on<S: Store + Drop>(cluster: &Cluster<S>, leaf: &Leaf) -> Option<Pin> {
     for pin in cluster.grants() {
         if pin.dir == leaf.dir && pin.frag == leaf.frag {
             return Some(*pin);
@@ -137,7 +166,7 @@ pub(crate) fn grant_on<S: Store + Drop>(cluster: &Cluster<S>, leaf: Leaf) -> Opt
 /// Whether a leaf is granted for a request.
 pub(crate) fn is_granted<S: Store + Drop>(
     cluster: &Cluster<S>,
-    leaf: Leaf,
+    leaf: &Leaf,
     client: u64,
     tid: u64,
 ) -> bool {

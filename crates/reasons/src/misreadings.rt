@@ -3,15 +3,26 @@
 use crate::kinds::Kind;
 use crate::quoted::Quoted;
 use std::fmt;
+use std::marker::Model;
 
-/// Why a line is no command: which word, and what was expected there. It is shown as a sentence.
-#[derive(Clone, Copy, Debug)]
+/// Why a line is no command: which word, and what was expected there. It is shown as a sentence. A contract sees whether
+/// there is such a word, or a byte.
+#[derive(Drop)]
 pub struct Misread<'a> {
     pub(crate) wrong: Wrong<'a>,
 }
 
+impl<'a> Model for Misread<'a> {
+    ghost use Rattle.std.specs.Prelude.{Bool};
+    ghost use Rattle.reasons.specs.Misread.{tells_one};
+
+    ghost Value = { Bool };
+
+    ghost view = { λ m. tells_one m.wrong };
+}
+
 /// The first thing in a line that keeps it from being a command.
-#[derive(Clone, Copy, Debug)]
+#[derive(Clone, Copy)]
 pub(crate) enum Wrong<'a> {
     /// There is none: the line is a command, or says nothing.
     Nothing,
@@ -31,7 +42,10 @@ impl fmt::Display for Misread<'_> {
         match self.wrong {
             Wrong::Nothing => write!(f, "each word fits"),
             Wrong::Byte(byte, column) => {
-                write!(f, "byte {byte} in column {column} is no visible character of ASCII")?;
+                write!(
+                    f,
+                    "byte {byte} in column {column} is no visible character of ASCII"
+                )?;
                 write!(f, ": a name has it as %{byte:02x}")
             }
             Wrong::Word(word, kind) => {

@@ -4,7 +4,7 @@ use mds_types::Refusal;
 use std::fmt;
 
 /// A refusal's name in the library, in words.
-#[derive(Clone, Copy, Debug)]
+#[derive(Clone, Copy)]
 pub(crate) struct Named(pub(crate) Refusal);
 
 impl fmt::Display for Named {

@@ -6,7 +6,7 @@ use std::fmt;
 const SHOWN: usize = 40;
 
 /// A word in backquotes, of a long one its beginning.
-#[derive(Clone, Copy, Debug)]
+#[derive(Clone, Copy)]
 pub(crate) struct Quoted<'a>(pub(crate) &'a [u8]);
 
 impl fmt::Display for Quoted<'_> {

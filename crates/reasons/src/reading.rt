@@ -1,38 +1,67 @@
 //! A line is read word by word, until one doesn't fit.
+ghost use Rattle.std.specs.Prelude.{◌≡◌, [], true, false};
+ghost use Rattle.std.specs.List.{list_all};
+ghost use Rattle.script_words.specs.Words.{is_comment, is_printable, words_of};
+ghost use Rattle.reasons.specs.Misread.{tells_one};
 
-use crate::forms::{
-    Form, Tail, command_form, dirfrag_form, export_form, get_form, operation_form,
-};
+use crate::forms::{Form, Tail, command_form, dirfrag_form, export_form, get_form, operation_form};
 use crate::kinds::{Kind, fits};
 use crate::misreadings::{Misread, Wrong};
-use script_words::{is_comment, is_text, next_word};
+use script_words::{is_comment, is_printable, is_text, next_word};
 
 /// Why a line is no command: which word, and what was expected there. The line is that of a reader without its LF. The
 /// first word that doesn't fit is told. Takes no memory.
-pub fn misread(line: &[u8]) -> Misread<'_> {
+pub fn misread(line: &[u8]) -> Misread<'_>
+    ensures comment { is_comment line.now ≡ true → result ≡ false }
+    ensures empty { is_comment line.now ≡ false → list_all is_printable line.now ≡ true → words_of line.now ≡ []
+        → result ≡ false }
+    ensures stray { is_comment line.now ≡ false → list_all is_printable line.now ≡ false → result ≡ true }
+{
     Misread {
         wrong: first_wrong(line),
     }
 }
 
 // What is left of a line behind a word.
-#[derive(Clone, Copy, Debug)]
+#[derive(Clone, Copy)]
 struct Read<'a> {
     last: &'a [u8],
     rest: &'a [u8],
 }
 
 // The first thing in a line that is wrong.
-fn first_wrong(line: &[u8]) -> Wrong<'_> {
+fn first_wrong(line: &[u8]) -> Wrong<'_>
+    ensures comment { is_comment line.now ≡ true → tells_one result ≡ false }
+    ensures empty { is_comment line.now ≡ false → list_all is_printable line.now ≡ true → words_of line.now ≡ []
+        → tells_one result ≡ false }
+    ensures stray { is_comment line.now ≡ false → list_all is_printable line.now ≡ false → tells_one result ≡ true }
+{
     if is_comment(line) {
         return Wrong::Nothing;
     }
-    if let Some(stray) = stray_byte(line) {
-        return Wrong::Byte(stray.0, stray.1);
+    if !is_printable(line) {
+        return stray_byte(line);
     }
-    let Some((verb, rest)) = next_word(line) else {
-        return Wrong::Nothing;
-    };
+    match next_word(line) {
+        Some((verb, rest)) => wrong_in_command(verb, rest),
+        None => Wrong::Nothing,
+    }
+}
+
+// The first byte that is no visible character of ASCII and no space, with its column from 1.
+fn stray_byte(line: &[u8]) -> Wrong<'_>
+    ensures { tells_one result ≡ true }
+{
+    for i in 0..line.len() {
+        if line[i] < 0x20 || line[i] > 0x7e {
+            return Wrong::Byte(line[i], i + 1);
+        }
+    }
+    Wrong::Extra(line)
+}
+
+// What is wrong in the words after a first one, or with that.
+fn wrong_in_command<'a>(verb: &'a [u8], rest: &'a [u8]) -> Wrong<'a> {
     let Some(form) = command_form(verb) else {
         return Wrong::Word(verb, Kind::Command);
     };
@@ -42,24 +71,14 @@ fn first_wrong(line: &[u8]) -> Wrong<'_> {
     }
 }
 
-// The first byte that is no visible character of ASCII and no space, and its column from 1.
-fn stray_byte(line: &[u8]) -> Option<(u8, usize)> {
-    for i in 0..line.len() {
-        if line[i] < 0x20 || line[i] > 0x7e {
-            return Some((line[i], i + 1));
-        }
-    }
-    None
-}
-
 // Reads words of these kinds.
 fn read_words(read: Read<'_>, kinds: [Kind; 4]) -> Result<Read<'_>, Wrong<'_>> {
     let mut read = read;
     for kind in kinds {
-        if kind == Kind::None {
-            return Ok(read);
+        match kind {
+            Kind::None => return Ok(read),
+            other => read = read_word(read, other)?,
         }
-        read = read_word(read, kind)?;
     }
     Ok(read)
 }

@@ -13,7 +13,7 @@ use std::cell::Cell;
 use std::fmt;
 
 /// Why a request has to wait.
-#[derive(Clone, Copy, Debug)]
+#[derive(Clone, Copy)]
 pub(crate) enum Deferral {
     /// A leaf is frozen that it would change at this rank.
     Frozen(Freezes, Rank),
@@ -29,7 +29,7 @@ pub(crate) enum Deferral {
 }
 
 /// Where a request went.
-#[derive(Clone, Copy, Debug)]
+#[derive(Clone, Copy)]
 pub(crate) struct Forwarding {
     leaf: Leaf,
     to: Rank,
@@ -57,7 +57,8 @@ pub(crate) fn source_leaf<S: Store + Drop>(cluster: &Cluster<S>, op: &Op) -> Opt
 
 /// The rank that serves an operation.
 pub(crate) fn master<S: Store + Drop>(cluster: &Cluster<S>, op: &Op) -> Option<Rank> {
-    authority(cluster, main_leaf(cluster, op)?)
+    let leaf = main_leaf(cluster, op)?;
+    authority(cluster, &leaf)
 }
 
 /// The first request of this client and number that waits.
@@ -79,9 +80,9 @@ pub(crate) fn waiting_request<S: Store + Drop>(
 }
 
 /// Why the request that a line served at a rank waits on: it is the last of the rank's inbox now.
-pub(crate) fn deferral<S: Store + Drop>(cluster: &Cluster<S>, asked: Asked<'_>) -> Deferral {
+pub(crate) fn why_deferred<S: Store + Drop>(cluster: &Cluster<S>, asked: &Asked<'_>) -> Deferral {
     let rank = match asked {
-        Asked::Serve(rank) => rank,
+        Asked::Serve(rank) => *rank,
         _ => Rank(0),
     };
     match last(cluster, rank) {
@@ -98,13 +99,15 @@ fn last<S: Store + Drop>(cluster: &Cluster<S>, rank: Rank) -> Option<&Request> {
 
 // Why a rank may not change what a request would, in the order in which it looks.
 fn why_waits<S: Store + Drop>(cluster: &Cluster<S>, rank: Rank, request: &Request) -> Deferral {
-    let source = barred(cluster, rank, request, source_leaf(cluster, &request.op));
-    if let Some(deferral) = source {
-        return deferral;
+    if let Some(leaf) = source_leaf(cluster, &request.op) {
+        if let Some(deferral) = barred(cluster, rank, request, &leaf) {
+            return deferral;
+        }
     }
-    let main = barred(cluster, rank, request, main_leaf(cluster, &request.op));
-    if let Some(deferral) = main {
-        return deferral;
+    if let Some(leaf) = main_leaf(cluster, &request.op) {
+        if let Some(deferral) = barred(cluster, rank, request, &leaf) {
+            return deferral;
+        }
     }
     match gone(cluster, &request.op) {
         Some(dir) => barred_of(cluster, rank, request, dir).unwrap_or(Deferral::Gone),
@@ -117,19 +120,18 @@ fn barred<S: Store + Drop>(
     cluster: &Cluster<S>,
     rank: Rank,
     request: &Request,
-    leaf: Option<Leaf>,
+    leaf: &Leaf,
 ) -> Option<Deferral> {
-    let leaf = leaf?;
     if let Some(freezes) = frozen(cluster, leaf) {
         return Some(Deferral::Frozen(freezes, rank));
     }
     let authority = authority(cluster, leaf)?;
     let (client, tid) = (request.client, request.tid);
-    if authority == rank || is_granted(cluster, leaf, client, tid) {
+    if authority.0 == rank.0 || is_granted(cluster, leaf, client, tid) {
         return None;
     }
     Some(Deferral::Ungranted {
-        leaf,
+        leaf: *leaf,
         authority,
         client,
         tid,
@@ -149,11 +151,11 @@ fn barred_of<S: Store + Drop>(
             return None;
         }
         let leaf = leaf_at(cluster, dir, hash)?;
-        let found = barred(cluster, rank, request, Some(leaf));
+        hash = end_of(leaf.frag);
+        let found = barred(cluster, rank, request, &leaf);
         if found.is_some() {
             return found;
         }
-        hash = end_of(leaf.frag);
     }
     None
 }
@@ -169,7 +171,7 @@ fn gone<S: Store + Drop>(cluster: &Cluster<S>, op: &Op) -> Option<Ino> {
 // The directory at a dentry, if its leaf is cached.
 fn dir_at<S: Store + Drop>(cluster: &Cluster<S>, dentry: &Dentry) -> Option<Ino> {
     let leaf = leaf_of(cluster, dentry)?;
-    let rank = holder(cluster, leaf)?;
+    let rank = holder(cluster, &leaf)?;
     let caches = cluster.caches();
     if usize::from(rank.0) >= caches.ranks() {
         return None;
@@ -189,11 +191,11 @@ fn dir_at<S: Store + Drop>(cluster: &Cluster<S>, dentry: &Dentry) -> Option<Ino>
 
 /// What is frozen of the leaves that an operation would change.
 pub(crate) fn frozen_for<S: Store + Drop>(cluster: &Cluster<S>, op: &Op) -> Option<Freezes> {
-    let source = frozen_at(cluster, source_leaf(cluster, op));
+    let source = frozen_at(cluster, &source_leaf(cluster, op));
     if source.is_some() {
         return source;
     }
-    let main = frozen_at(cluster, main_leaf(cluster, op));
+    let main = frozen_at(cluster, &main_leaf(cluster, op));
     if main.is_some() {
         return main;
     }
@@ -201,8 +203,11 @@ pub(crate) fn frozen_for<S: Store + Drop>(cluster: &Cluster<S>, op: &Op) -> Opti
 }
 
 // What froze a leaf, if there is one.
-fn frozen_at<S: Store + Drop>(cluster: &Cluster<S>, leaf: Option<Leaf>) -> Option<Freezes> {
-    frozen(cluster, leaf?)
+fn frozen_at<S: Store + Drop>(cluster: &Cluster<S>, leaf: &Option<Leaf>) -> Option<Freezes> {
+    match leaf {
+        Some(leaf) => frozen(cluster, leaf),
+        None => None,
+    }
 }
 
 // What froze one of a directory's leaves.
@@ -213,17 +218,17 @@ fn frozen_of<S: Store + Drop>(cluster: &Cluster<S>, dir: Ino) -> Option<Freezes>
             return None;
         }
         let leaf = leaf_at(cluster, dir, hash)?;
-        let found = frozen(cluster, leaf);
+        hash = end_of(leaf.frag);
+        let found = frozen(cluster, &leaf);
         if found.is_some() {
             return found;
         }
-        hash = end_of(leaf.frag);
     }
     None
 }
 
 /// Where a request went: it is the last of that rank's inbox now.
-pub(crate) fn forwarding<S: Store + Drop>(cluster: &Cluster<S>, to: Rank) -> Option<Forwarding> {
+pub(crate) fn why_forwarded<S: Store + Drop>(cluster: &Cluster<S>, to: Rank) -> Option<Forwarding> {
     let request = last(cluster, to)?;
     let leaf = main_leaf(cluster, &request.op)?;
     Some(Forwarding {
@@ -236,9 +241,9 @@ pub(crate) fn forwarding<S: Store + Drop>(cluster: &Cluster<S>, to: Rank) -> Opt
 
 impl fmt::Display for Deferral {
     fn fmt<W: fmt::Write>(&self, f: &mut fmt::Formatter<W>) -> fmt::Result {
-        match *self {
+        match self {
             Deferral::Frozen(freezes, Rank(rank)) => {
-                write!(f, "{freezes}; `serve {rank}` tries the request again")
+                write!(f, "{freezes}; the request waits on at rank {rank}")
             }
             Deferral::Ungranted {
                 leaf,
@@ -259,10 +264,13 @@ impl fmt::Display for Deferral {
 
 impl fmt::Display for Forwarding {
     fn fmt<W: fmt::Write>(&self, f: &mut fmt::Formatter<W>) -> fmt::Result {
-        let leaf = self.leaf;
-        let Rank(to) = self.to;
+        let leaf = &self.leaf;
+        let to = self.to.0;
         let (client, tid) = (self.client, self.tid);
-        write!(f, "{leaf} is rank {to}'s, where client {client}, request {tid}, waits now; ")?;
+        write!(
+            f,
+            "{leaf} is rank {to}'s, where client {client}, request {tid}, waits now; "
+        )?;
         write!(f, "`serve {to}` serves it")
     }
 }

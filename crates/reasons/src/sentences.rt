@@ -15,14 +15,14 @@ use std::fmt;
 
 /// Why a line was refused, deferred or forwarded. It is shown as a sentence: `refused 7 (pinned): 1:0* is granted to client 0,
 /// request 3; it ends when that request is served`.
-#[derive(Clone, Copy, Debug)]
+#[derive(Clone, Copy)]
 pub struct Reason {
     pub(crate) told: Told,
     pub(crate) why: Why,
 }
 
 /// What the line printed.
-#[derive(Clone, Copy, Debug)]
+#[derive(Clone, Copy)]
 pub(crate) enum Told {
     Refused(Refusal),
     Deferred,
@@ -30,7 +30,7 @@ pub(crate) enum Told {
 }
 
 /// Which check it was, of which leaf, rank or request.
-#[derive(Clone, Copy, Debug)]
+#[derive(Clone, Copy)]
 pub(crate) enum Why {
     /// Nothing more than the refusal's own words.
     Plain(Refusal),
@@ -52,11 +52,11 @@ pub(crate) enum Why {
 /// The sentence, with no full stop: `refused N (NAME): WHY`, `deferred: WHY` or `forwarded R: WHY`.
 impl fmt::Display for Reason {
     fn fmt<W: fmt::Write>(&self, f: &mut fmt::Formatter<W>) -> fmt::Result {
-        let why = self.why;
-        match self.told {
+        let why = &self.why;
+        match &self.told {
             Told::Refused(refusal) => {
                 let number = refusal.number();
-                let name = Named(refusal);
+                let name = Named(*refusal);
                 write!(f, "refused {number} ({name}): {why}")
             }
             Told::Deferred => write!(f, "deferred: {why}"),
@@ -67,7 +67,7 @@ impl fmt::Display for Reason {
 
 impl fmt::Display for Why {
     fn fmt<W: fmt::Write>(&self, f: &mut fmt::Formatter<W>) -> fmt::Result {
-        match *self {
+        match self {
             Why::Plain(refusal) => write!(f, "{refusal}"),
             Why::Lacks(why) => write!(f, "{why}"),
             Why::NotIts(why) => write!(f, "{why}"),

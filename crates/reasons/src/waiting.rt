@@ -11,7 +11,7 @@ use std::fmt;
 const MOST_WAITING: usize = 1024;
 
 /// What it is about.
-#[derive(Clone, Copy, Debug)]
+#[derive(Clone, Copy)]
 pub(crate) enum Queue {
     /// Nothing waits at the rank.
     Empty(Rank),
@@ -28,28 +28,34 @@ pub(crate) enum Queue {
 }
 
 /// Why nothing that waits was found.
-pub(crate) fn empty(asked: Asked<'_>) -> Option<Queue> {
+pub(crate) fn empty(asked: &Asked<'_>) -> Option<Queue> {
     match asked {
-        Asked::Serve(rank) => Some(Queue::Empty(rank)),
+        Asked::Serve(rank) => Some(Queue::Empty(*rank)),
         Asked::Operation(_) => Some(Queue::Empty(Rank(0))),
-        Asked::Grant { client, tid, .. } => Some(Queue::NoRequest { client, tid }),
+        Asked::Grant { client, tid, .. } => Some(Queue::NoRequest {
+            client: *client,
+            tid: *tid,
+        }),
         _ => None,
     }
 }
 
 /// Where no more may wait.
-pub(crate) fn full<S: Store + Drop>(cluster: &Cluster<S>, asked: Asked<'_>) -> Option<Queue> {
+pub(crate) fn full<S: Store + Drop>(cluster: &Cluster<S>, asked: &Asked<'_>) -> Option<Queue> {
     match asked {
-        Asked::Arrive(rank, _) => Some(Queue::Full(rank)),
-        Asked::Serve(rank) => full_there(cluster, rank),
-        Asked::Operation(_) => {
-            if cluster.waiting_at(Rank(0)) >= MOST_WAITING {
-                return Some(Queue::Full(Rank(0)));
-            }
-            full_there(cluster, Rank(0))
-        }
+        Asked::Arrive(rank, _) => Some(Queue::Full(*rank)),
+        Asked::Serve(rank) => full_there(cluster, *rank),
+        Asked::Operation(_) => full_at_0(cluster),
         _ => None,
     }
+}
+
+// No more may wait at rank 0, or where its front would go.
+fn full_at_0<S: Store + Drop>(cluster: &Cluster<S>) -> Option<Queue> {
+    if cluster.waiting_at(Rank(0)) >= MOST_WAITING {
+        return Some(Queue::Full(Rank(0)));
+    }
+    full_there(cluster, Rank(0))
 }
 
 // The front of a rank's inbox would go to this one.
@@ -60,9 +66,9 @@ fn full_there<S: Store + Drop>(cluster: &Cluster<S>, rank: Rank) -> Option<Queue
 }
 
 /// Which request was too old.
-pub(crate) fn old<S: Store + Drop>(book: &Book<S>, asked: Asked<'_>) -> Option<Queue> {
+pub(crate) fn old<S: Store + Drop>(book: &Book<S>, asked: &Asked<'_>) -> Option<Queue> {
     match asked {
-        Asked::Serve(rank) => Some(Queue::OldFront(rank)),
+        Asked::Serve(rank) => Some(Queue::OldFront(*rank)),
         Asked::Operation(_) => Some(Queue::OldFront(Rank(0))),
         Asked::Arrive(_, request) => Some(old_request(book, request)),
         _ => None,
@@ -87,7 +93,7 @@ fn old_request<S: Store + Drop>(book: &Book<S>, request: &Request) -> Queue {
 
 impl fmt::Display for Queue {
     fn fmt<W: fmt::Write>(&self, f: &mut fmt::Formatter<W>) -> fmt::Result {
-        match *self {
+        match self {
             Queue::Empty(Rank(rank)) => write!(f, "nothing waits at rank {rank}"),
             Queue::NoRequest { client, tid } => {
                 write!(f, "client {client}, request {tid}, waits at no rank")
