@@ -289,7 +289,9 @@ fn run_line<W: Write, S: Keep + Drop, T: Tell>(
             }
             do_operation(rt.alloc(), line, op, admin, mode, waiting, writer)
         }
-        Err(ReadError::Fault(_)) => run_other(rt, line, bytes, admin, mode, waiting, writer, teller),
+        Err(ReadError::Fault(_)) => run_other(
+            rt, line, bytes, admin, mode, waiting, writer, teller,
+        ),
         Err(ReadError::NoMemory) => Err(at(line, FaultKind::OutOfMemory)),
     }
 }

@@ -131,7 +131,16 @@ fn script<H: AllocGlobal + Threads + Sync + Print + Eprint, I: Read + Drop>(
     } = shape;
     let mode = Mode { asks, keeps: false };
     let ended = if explains {
-        run_new(rt, input, writer, ranks, cache, limit, mode, &Aloud::new(rt))
+        run_new(
+            rt,
+            input,
+            writer,
+            ranks,
+            cache,
+            limit,
+            mode,
+            &Aloud::new(rt),
+        )
     } else if asks {
         run_new(rt, input, writer, ranks, cache, limit, mode, &Untold)
     } else {

@@ -149,11 +149,7 @@ struct Loaded<S: Keep + Drop> {
 }
 
 // Runs a load.
-#[tactic(auto, using(
-    crate::proofs::GoesOnLaws::goes_on_here,
-    crate::proofs::GoesOnLaws::goes_on_past,
-    crate::proofs::GoesOnLaws::goes_on_run
-))]
+#[tactic(auto, using(crate::proofs::GoesOnLaws::goes_on_here, crate::proofs::GoesOnLaws::goes_on_past, crate::proofs::GoesOnLaws::goes_on_run))]
 fn run_load<S, R, G>(rt: &R, mut book: Book<S>, load: Load, gate: &G) -> Loaded<S>
 where
     S: Keep + Drop + Send,
@@ -181,11 +177,7 @@ where
 
 // The directories of all clients are made, and what each rank's thread is to do is listed. Nothing where memory is
 // refused, or a step is.
-#[tactic(auto, using(
-    crate::proofs::GoesOnLaws::goes_on_here,
-    crate::proofs::GoesOnLaws::goes_on_past,
-    crate::proofs::GoesOnLaws::goes_on_run
-))]
+#[tactic(auto, using(crate::proofs::GoesOnLaws::goes_on_here, crate::proofs::GoesOnLaws::goes_on_past, crate::proofs::GoesOnLaws::goes_on_run))]
 fn planned<S: Keep + Drop>(alloc: Global, book: &mut Book<S>, load: Load) -> Option<Vec<Vec<Turn>>>
     requires { IsLoad load.ranks load.workers load.clients load.creates }
     ensures goes_on { GoesOn book.old book.new }
@@ -197,11 +189,7 @@ fn planned<S: Keep + Drop>(alloc: Global, book: &mut Book<S>, load: Load) -> Opt
 
 // What a run prints that gave no outcome: at a reply that the history doesn't hold the same as at success, but for one
 // word.
-#[tactic(auto, using(
-    crate::proofs::GoesOnLaws::goes_on_here,
-    crate::proofs::GoesOnLaws::goes_on_past,
-    crate::proofs::GoesOnLaws::goes_on_run
-))]
+#[tactic(auto, using(crate::proofs::GoesOnLaws::goes_on_here, crate::proofs::GoesOnLaws::goes_on_past, crate::proofs::GoesOnLaws::goes_on_run))]
 fn failed<S: Keep + Drop>(alloc: Global, book: Book<S>, fault: RunFault) -> Loaded<S>
     requires sound { IsSoundBook book }
     requires opening { book.opening ≡ map.empty }
@@ -220,11 +208,7 @@ fn failed<S: Keep + Drop>(alloc: Global, book: Book<S>, fault: RunFault) -> Load
 }
 
 // What a run prints.
-#[tactic(auto, using(
-    crate::proofs::GoesOnLaws::goes_on_here,
-    crate::proofs::GoesOnLaws::goes_on_past,
-    crate::proofs::GoesOnLaws::goes_on_run
-))]
+#[tactic(auto, using(crate::proofs::GoesOnLaws::goes_on_here, crate::proofs::GoesOnLaws::goes_on_past, crate::proofs::GoesOnLaws::goes_on_run))]
 fn reported<S: Keep + Drop>(alloc: Global, book: Book<S>, agrees: bool) -> Loaded<S>
     requires sound { IsSoundBook book }
     requires opening { book.opening ≡ map.empty }
