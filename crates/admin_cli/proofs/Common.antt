@@ -1,7 +1,7 @@
 -- Names of other crates, and of this one's definitions, as the proofs of this crate take them.
 pub use Rattle.admin_cli.specs.Authorities.{root_of, roots_in}
 pub use Rattle.admin_cli.specs.Execute.{Executes, LacksForCommand, OperatesAfter}
-pub use Rattle.admin_cli.specs.Left.{Leaves}
+pub use Rattle.admin_cli.specs.Left.{LeavesAdmin}
 pub use Rattle.admin_cli.specs.OneLine.{AnswersLine, DoesBytes, Prints, RunsOrNot}
 pub use Rattle.admin_cli.specs.OwnLines.{MakesStep, TakesTurn}
 pub use Rattle.admin_cli.specs.Reports.{path_lines}

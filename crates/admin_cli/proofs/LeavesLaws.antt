@@ -1,5 +1,5 @@
 -- What a script leaves, wherever it ends.
-use Rattle.admin_cli.proofs.Common.{Admin, Appends, Appends-trans, DoesBytes, Err, FaultKind, IfSome, IsFirstLine, LacksMemory, Leaves, LeavesWaiting, List, Mark, None, OfFirst, Ok, Option, OutputLine, PrintsOf, Result, RunsLine, RunsLines, ScriptFault, Some, Waiting, [], append-nil, append_assoc, inl, inr, lines_of, refl, subst, sym, text_of, ℕ, ◌++◌, ◌+◌, ◌∷◌, ◌≡◌}
+use Rattle.admin_cli.proofs.Common.{Admin, Appends, Appends-trans, DoesBytes, Err, FaultKind, IfSome, IsFirstLine, LacksMemory, LeavesAdmin, LeavesWaiting, List, Mark, None, OfFirst, Ok, Option, OutputLine, PrintsOf, Result, RunsLine, RunsLines, ScriptFault, Some, Waiting, [], append-nil, append_assoc, inl, inr, lines_of, refl, subst, sym, text_of, ℕ, ◌++◌, ◌+◌, ◌∷◌, ◌≡◌}
 use Rattle.std.specs.Prelude.{◌⊎◌}
 use Rattle.admin_cli.proofs.Progress.{IsLeft, IsReached, TakesLines, all_lines, first_left, runs-append, some_left, takes-next}
 use Rattle.admin_cli.specs.Scripts.{Doing}
@@ -10,7 +10,7 @@ module _ (Does : Doing) where
   Last now new lines = (new ≡ now) ⊎ OfFirst (λ bytes. LacksMemory Does now new bytes) lines
 
   left_by : (old now new : Admin) (known left : Option (List ℕ)) (done lines : List (List ℕ)) (text : List ℕ) → TakesLines Does known left done → IsLeft Does left lines → RunsLines Does old now done text → Last now new lines
-      → (before after : Option (List ℕ)) (fault : ScriptFault) → Leaves Does old new known before after (Err fault)
+      → (before after : Option (List ℕ)) (fault : ScriptFault) → LeavesAdmin Does old new known before after (Err fault)
   left_by old now new known left done lines text taken rest runs last before after fault = record {
     lines = done ++ lines;
     read = all_lines Does known left done lines taken rest;
@@ -24,7 +24,7 @@ module _ (Does : Doing) where
     all = tt;
   }
 
-  waits_so : (old new : Admin) (known before mid : Option (List ℕ)) (waiting : Waiting) (fault : ScriptFault) → ((after : Option (List ℕ)) (other : ScriptFault) → Leaves Does old new known before after (Err other))
+  waits_so : (old new : Admin) (known before mid : Option (List ℕ)) (waiting : Waiting) (fault : ScriptFault) → ((after : Option (List ℕ)) (other : ScriptFault) → LeavesAdmin Does old new known before after (Err other))
       → LeavesWaiting Does old new waiting known before mid (Err fault)
   waits_so old new known before mid waiting fault leaves = record { whole = λ after wrote. leaves after fault; broken = leaves }
 
@@ -55,13 +55,13 @@ module _ (Does : Doing) where
 
     module _ (new : Admin) (rest : Option (List ℕ)) (line : List ℕ) (next : IfSome left (λ known. IsFirstLine known line rest)) where
       -- the next line was done
-      done_so : (more : List ℕ) → RunsLine Does now new line more → (after : Option (List ℕ)) (other : ScriptFault) → Leaves Does old new known before after (Err other)
+      done_so : (more : List ℕ) → RunsLine Does now new line more → (after : Option (List ℕ)) (other : ScriptFault) → LeavesAdmin Does old new known before after (Err other)
       done_so more run after other =
           let (lines, others) = some_left Does rest in
           left_by old new new known rest (r.done ++ line ∷ []) lines ((r.text ++ bytes) ++ more) (takes-next Does known left rest r.done line r.taken next) others
           (runs-append Does old now new r.done line (r.text ++ bytes) more r.runs run) (inl refl) before after other
 
-      any_line : (printed : Option OutputLine) → DoesBytes Does now new line (Ok printed) → (after : Option (List ℕ)) (other : ScriptFault) → Leaves Does old new known before after (Err other)
+      any_line : (printed : Option OutputLine) → DoesBytes Does now new line (Ok printed) → (after : Option (List ℕ)) (other : ScriptFault) → LeavesAdmin Does old new known before after (Err other)
       any_line None run = done_so [] run
       any_line (Some printed) run = done_so (text_of printed) run
 
@@ -69,7 +69,7 @@ module _ (Does : Doing) where
       first_of others (inl same) = inl same
       first_of others (inr lacks) = inr lacks
 
-      stopped_so : (kind : FaultKind) → DoesBytes Does now new line (Err kind) → (after : Option (List ℕ)) (other : ScriptFault) → Leaves Does old new known before after (Err other)
+      stopped_so : (kind : FaultKind) → DoesBytes Does now new line (Err kind) → (after : Option (List ℕ)) (other : ScriptFault) → LeavesAdmin Does old new known before after (Err other)
       stopped_so kind (stops, leaves) after other =
           let (others, all) = first_left Does left rest line next in
           left_by old now new known left r.done (line ∷ others) (r.text ++ bytes) r.taken all r.runs (first_of others leaves) before after other
@@ -85,7 +85,7 @@ module _ (Does : Doing) where
   taken_none (Some bytes) = refl
 
   -- no line was read
-  pub leaves_none : (old : Admin) (known before after : Option (List ℕ)) (fault : ScriptFault) → Leaves Does old old known before after (Err fault)
+  pub leaves_none : (old : Admin) (known before after : Option (List ℕ)) (fault : ScriptFault) → LeavesAdmin Does old old known before after (Err fault)
   leaves_none old known before after fault =
       let (lines, rest) = some_left Does known in
       left_by old old old known known [] lines [] (taken_none known) rest (refl, refl) (inl refl) before after fault

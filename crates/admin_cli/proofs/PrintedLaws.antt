@@ -38,7 +38,7 @@ use Rattle.script_output.specs.declared.object_lines.ObjectLine.TheVariants as o
 use Rattle.admin_cli.proofs.Progress.{runs-append}
 use Rattle.admin_cli.specs.Execute.{LacksForCommand, OperatesAfter, OperatesLine}
 use Rattle.admin_cli.specs.ExportLines.{ExecutesExport, LacksForExport}
-use Rattle.admin_cli.specs.Left.{Leaves, LeavesOneThread, PrintsReplies}
+use Rattle.admin_cli.specs.Left.{LeavesAdmin, LeavesOneThread, PrintsReplies}
 use Rattle.admin_cli.specs.OwnLines.{LacksForStep, OwnLine}
 use Rattle.admin_cli.specs.Printed.{PrintsOneThread, counted_with, ended_line, is_reply, receipt_line, request_of, requests_of}
 use Rattle.admin_cli.specs.Scripts.{Doing, DoesLine, LacksLine, LacksMemory, OfFirst, RunsLine}
@@ -786,7 +786,7 @@ printed_all sent old new text left d before after (Err fault) all = tt
 
 -- a script over a book leaves what one thread leaves
 pub leaves_over : (Does : Doing) → AreAsOne Does → (old : BookState) → IsSoundBook old → (new : Admin) (known before after : Option (List ℕ)) (result : Result (Unit {0}) ScriptFault)
-    → Leaves Does (record { book = old; operations = 0; jobs = finite.empty; sent = none_sent }) new known before after result → LeavesOneThread old new.book known before after result
+    → LeavesAdmin Does (record { book = old; operations = 0; jobs = finite.empty; sent = none_sent }) new known before after result → LeavesOneThread old new.book known before after result
 leaves_over Does one_of old sound new known before after result h =
     let admin : Admin = record { book = old; operations = 0; jobs = finite.empty; sent = none_sent } in
     let waiting = waiting_in old.core.state.inboxes in

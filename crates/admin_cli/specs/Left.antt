@@ -17,7 +17,7 @@ use Rattle.admin_cli.specs.Scripts.{Doing, LacksMemory, OfFirst, RunsLines}
 
 -- what a script left of an administrator: lines of it were done, one after the other, whether they were printed or not,
 -- and of the next line what was done before memory for it was refused. One that ended well did and wrote them all
-pub record Leaves (Does : Doing) (old new : Admin) (known before after : Option (List ℕ))
+pub record LeavesAdmin (Does : Doing) (old new : Admin) (known before after : Option (List ℕ))
     (result : Result (Unit {0}) ScriptFault) : Type 0 where
   pub lines : List (List ℕ)
   pub read : IfSome known (λ bytes. lines ≡ lines_of bytes)
@@ -34,7 +34,7 @@ pub record Leaves (Does : Doing) (old new : Admin) (known before after : Option 
 pub record LeavesBook (Does : Doing) (old new : BookState) (known before after : Option (List ℕ))
     (result : Result (Unit {0}) ScriptFault) : Type 0 where
   pub admin : Admin
-  pub leaves : Leaves Does (record { book = old; operations = 0; jobs = finite.empty; sent = none_sent }) admin known before after result
+  pub leaves : LeavesAdmin Does (record { book = old; operations = 0; jobs = finite.empty; sent = none_sent }) admin known before after result
   pub book_is : new ≡ admin.book
 
 -- ---- in words of one plain tree served by one thread
@@ -62,6 +62,6 @@ pub record LeavesOneThread (old new : BookState) (known before after : Option (L
 -- ---- of a load
 
 -- the book opened with the same tree, and its history begins with that from before
-pub record GoesOn (old new : BookState) : Type 0 where
+pub record BookGrows (old new : BookState) : Type 0 where
   pub same_opening : new.opening ≡ old.opening
   pub grows : GoesOnFrom new.history old.history

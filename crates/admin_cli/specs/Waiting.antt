@@ -8,7 +8,7 @@ use Rattle.admin_cli.specs.declared.faults.FaultKind.{FaultKind}
 use Rattle.admin_cli.specs.declared.faults.FaultKind.TheVariants.{OutOfMemory, WriteFault}
 use Rattle.admin_cli.specs.declared.waiting.Mark.{Mark}
 use Rattle.admin_cli.specs.declared.waiting.Waiting.{Waiting}
-use Rattle.admin_cli.specs.Left.{Leaves}
+use Rattle.admin_cli.specs.Left.{LeavesAdmin}
 use Rattle.admin_cli.specs.OneLine.{Prints}
 use Rattle.admin_cli.specs.Scripts.{Doing, RunsInput, text_of}
 
@@ -107,5 +107,5 @@ pub record RunsWaiting (Does : Doing) (old : Admin) (waiting : Waiting) (known b
 pub record LeavesWaiting (Does : Doing) (old new : Admin) (waiting : Waiting) (known before middle : Option (List ℕ))
     (result : Result (Unit {0}) ScriptFault) : Type 0 where
   pub whole : (after : Option (List ℕ)) → Appends middle after waiting.bytes.items
-      → Leaves Does old new known before after result
-  pub broken : (after : Option (List ℕ)) (fault : ScriptFault) → Leaves Does old new known before after (Err fault)
+      → LeavesAdmin Does old new known before after result
+  pub broken : (after : Option (List ℕ)) (fault : ScriptFault) → LeavesAdmin Does old new known before after (Err fault)

@@ -6,7 +6,7 @@ ghost use Rattle.script_text.specs.declared.commands.Command.TheVariants.{Operat
 ghost use Rattle.script_text.specs.declared.lines.Line.TheVariants as asked;
 ghost use Rattle.cluster_core.specs.OneThread.{waiting_in};
 ghost use Rattle.admin_cli.specs.Execute.{Executes};
-ghost use Rattle.admin_cli.specs.Left.{Leaves, LeavesBook, LeavesOneThread};
+ghost use Rattle.admin_cli.specs.Left.{LeavesAdmin, LeavesBook, LeavesOneThread};
 ghost use Rattle.admin_cli.specs.Modes.{DoesUnder};
 ghost use Rattle.admin_cli.specs.Printed.{PrintsOneThread};
 ghost use Rattle.admin_cli.specs.Scripts.{IsFormatted, RunsInput, RunsNew};
@@ -170,7 +170,7 @@ fn run_input<R: Read + Drop, W: Write, S: Keep + Drop, T: Tell>(
     requires { admin.old.operations ≡ 0 }
     ensures runs { RunsOrNot (DoesUnder mode) (seen admin.old) (R.remaining reader) (W.contents writer.old)
         (W.contents writer.new) result }
-    ensures leaves { Leaves (DoesUnder mode) (seen admin.old) (seen admin.new) (R.remaining reader) (W.contents writer.old)
+    ensures leaves { LeavesAdmin (DoesUnder mode) (seen admin.old) (seen admin.new) (R.remaining reader) (W.contents writer.old)
         (W.contents writer.new) result }
 {
     let alloc = rt.alloc();

@@ -1,7 +1,7 @@
 //! What `cephmeta serve` runs.
 ghost use Rattle.std.specs.Prelude.{◌≡◌};
 ghost use Rattle.std.specs.FinMap as map;
-ghost use Rattle.admin_cli.specs.Left.{GoesOn};
+ghost use Rattle.admin_cli.specs.Left.{BookGrows};
 ghost use Rattle.admin_cli.specs.Loads.{IsLoad};
 ghost use Rattle.admin_cli.specs.Reports.{ServesOut};
 
@@ -58,7 +58,7 @@ where
     requires load { IsLoad load.ranks load.workers load.clients load.creates }
     requires opening { book.opening ≡ map.empty }
     ensures served { ServesOut (W.contents writer.old) (W.contents writer.new) result.ended }
-    ensures left { GoesOn book result.book }
+    ensures left { BookGrows book result.book }
 {
     if is_watched {
         let progress = Progress::new(rt, load);

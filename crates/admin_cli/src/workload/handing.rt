@@ -1,5 +1,5 @@
 //! A directory handed to another rank, before the threads start.
-ghost use Rattle.admin_cli.specs.Left.{GoesOn};
+ghost use Rattle.admin_cli.specs.Left.{BookGrows};
 
 use crate::workload::steps::step;
 use cluster_core::{Answer, Book, Event};
@@ -19,7 +19,7 @@ pub(crate) fn hand<S: Keep + Drop>(
     ino: Ino,
     to: Rank,
 ) -> Option<()>
-    ensures { GoesOn book.old book.new }
+    ensures { BookGrows book.old book.new }
 {
     let frag = Frag::ROOT;
     let from = FIRST;

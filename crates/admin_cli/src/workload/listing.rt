@@ -1,6 +1,6 @@
 //! The paths of the tree, read by requests.
 ghost use Rattle.std.specs.Prelude.{◌≡◌, IfSome};
-ghost use Rattle.admin_cli.specs.Left.{GoesOn};
+ghost use Rattle.admin_cli.specs.Left.{BookGrows};
 ghost use Rattle.admin_cli.specs.Reports.{AreInOrder};
 
 use crate::workload::requests::ask;
@@ -16,7 +16,7 @@ const READER: u64 = 0;
 #[tactic(auto, using(crate::proofs::GoesOnLaws::goes_on_here, crate::proofs::GoesOnLaws::goes_on_past))]
 pub(crate) fn all_paths<S: Keep + Drop>(alloc: Global, book: &mut Book<S>) -> Option<Vec<Bytes>>
     ensures ordered { IfSome result (λ paths. AreInOrder paths.items) }
-    ensures goes_on { GoesOn book.old book.new }
+    ensures goes_on { BookGrows book.old book.new }
 {
     let top = names_in(alloc, book, Ino::ROOT, 1)?;
     let mut paths = Vec::new(alloc);
@@ -49,7 +49,7 @@ fn add_entry<S: Keep + Drop>(
     inode: &Inode,
     paths: &mut Vec<Bytes>,
 ) -> Option<()>
-    ensures { GoesOn book.old book.new }
+    ensures { BookGrows book.old book.new }
 {
     let path = Bytes::from_slice(alloc, name.as_bytes()).ok()?;
     paths.push(path).ok()?;
@@ -91,7 +91,7 @@ fn names_in<S: Keep + Drop>(
     dir: Ino,
     tid: u64,
 ) -> Option<Vec<(Name, Inode)>>
-    ensures { GoesOn book.old book.new }
+    ensures { BookGrows book.old book.new }
 {
     let op = Op::Readdir {
         dir,

@@ -1,6 +1,6 @@
 //! What a run prints.
 ghost use Rattle.std.specs.Prelude.{◌≡◌, ◌++◌, IfOk, IfSome, OnOk, length};
-ghost use Rattle.admin_cli.specs.Left.{GoesOn};
+ghost use Rattle.admin_cli.specs.Left.{BookGrows};
 ghost use Rattle.admin_cli.specs.Reports.{Reports, head_text, path_lines};
 
 use crate::workload::listing::all_paths;
@@ -18,7 +18,7 @@ pub(crate) fn report<S: Keep + Drop>(
     agrees: bool,
 ) -> Option<Vec<u8>>
     ensures reports { IfSome result (λ text. Reports (length book.old.history) agrees text.items) }
-    ensures goes_on { GoesOn book.old book.new }
+    ensures goes_on { BookGrows book.old book.new }
 {
     let served = book.history().len();
     let paths = all_paths(alloc, book)?;

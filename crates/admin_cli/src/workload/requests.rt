@@ -1,5 +1,5 @@
 //! A request, answered by one thread.
-ghost use Rattle.admin_cli.specs.Left.{GoesOn};
+ghost use Rattle.admin_cli.specs.Left.{BookGrows};
 
 use crate::workload::steps::step;
 use cluster_core::{Answer, Book, Event};
@@ -15,7 +15,7 @@ pub(crate) fn ask<S: Keep + Drop>(
     book: &mut Book<S>,
     request: Request,
 ) -> Option<Reply>
-    ensures { GoesOn book.old book.new }
+    ensures { BookGrows book.old book.new }
 {
     let client = request.client;
     let tid = request.tid;

@@ -2,7 +2,7 @@
 ghost use Rattle.std.specs.Prelude.{◌≡◌, ◌⊎◌, ◌≤◌, IfErr, IfOk, IfSome, false, vec_len};
 ghost use Rattle.std.specs.FinMap as map;
 ghost use Rattle.cluster_core.specs.Sound.{IsSoundBook};
-ghost use Rattle.admin_cli.specs.Left.{GoesOn};
+ghost use Rattle.admin_cli.specs.Left.{BookGrows};
 ghost use Rattle.admin_cli.specs.Loads.{IsLoad};
 ghost use Rattle.admin_cli.specs.Reports.{IsText, ServesOut};
 
@@ -124,7 +124,7 @@ where
     requires load { IsLoad load.ranks load.workers load.clients load.creates }
     requires opening { book.opening ≡ map.empty }
     ensures served { ServesOut (W.contents writer.old) (W.contents writer.new) result.ended }
-    ensures left { GoesOn book result.book }
+    ensures left { BookGrows book result.book }
 {
     let Loaded { book, gave } = run_load(rt, book, load, gate);
     let ended = match gave {
@@ -159,7 +159,7 @@ where
     requires opening { book.opening ≡ map.empty }
     ensures ok { IfOk result.gave (λ p. IsText p.agrees p.text.items) }
     ensures err { IfErr result.gave (λ number. (number ≡ 1) ⊎ (number ≡ 2)) }
-    ensures left { GoesOn book result.book }
+    ensures left { BookGrows book result.book }
 {
     let alloc = rt.alloc();
     let plans = planned(alloc, &mut book, load);
@@ -180,7 +180,7 @@ where
 #[tactic(auto, using(crate::proofs::GoesOnLaws::goes_on_here, crate::proofs::GoesOnLaws::goes_on_past, crate::proofs::GoesOnLaws::goes_on_run))]
 fn planned<S: Keep + Drop>(alloc: Global, book: &mut Book<S>, load: Load) -> Option<Vec<Vec<Turn>>>
     requires { IsLoad load.ranks load.workers load.clients load.creates }
-    ensures goes_on { GoesOn book.old book.new }
+    ensures goes_on { BookGrows book.old book.new }
     ensures ranks { IfSome result (λ plans. vec_len plans ≡ load.ranks) }
 {
     let homes = make_homes(alloc, book, load.ranks, load.clients)?;
@@ -196,7 +196,7 @@ fn failed<S: Keep + Drop>(alloc: Global, book: Book<S>, fault: RunFault) -> Load
     ensures ok { IfOk result.gave (λ p. IsText p.agrees p.text.items) }
     ensures strayed { IfOk result.gave (λ p. p.agrees ≡ false) }
     ensures err { IfErr result.gave (λ number. (number ≡ 1) ⊎ (number ≡ 2)) }
-    ensures left { GoesOn book result.book }
+    ensures left { BookGrows book result.book }
 {
     if fault == RunFault::Strayed {
         return reported(alloc, book, false);
@@ -215,7 +215,7 @@ fn reported<S: Keep + Drop>(alloc: Global, book: Book<S>, agrees: bool) -> Loade
     ensures ok { IfOk result.gave (λ p. IsText p.agrees p.text.items) }
     ensures agrees { IfOk result.gave (λ p. p.agrees ≡ agrees) }
     ensures err { IfErr result.gave (λ number. number ≡ 1) }
-    ensures left { GoesOn book result.book }
+    ensures left { BookGrows book result.book }
 {
     let mut book = book;
     match report(alloc, &mut book, agrees) {

@@ -1,6 +1,6 @@
 //! What is made before the threads start: a directory for each client.
 ghost use Rattle.std.specs.Prelude.{◌≤◌};
-ghost use Rattle.admin_cli.specs.Left.{GoesOn};
+ghost use Rattle.admin_cli.specs.Left.{BookGrows};
 
 use crate::workload::handing::hand;
 use crate::workload::requests::ask;
@@ -27,7 +27,7 @@ pub(crate) fn make_homes<S: Keep + Drop>(
     clients: u8,
 ) -> Option<Vec<Home>>
     requires { 1 ≤ ranks }
-    ensures { GoesOn book.old book.new }
+    ensures { BookGrows book.old book.new }
 {
     let mut homes = Vec::new(alloc);
     for number in 0..clients {
@@ -47,7 +47,7 @@ fn make_home<S: Keep + Drop>(
     number: u8,
     rank: Rank,
 ) -> Option<Home>
-    ensures { GoesOn book.old book.new }
+    ensures { BookGrows book.old book.new }
 {
     let dir = make_dir(alloc, book, number)?;
     // a new directory is that of the rank that has the root
@@ -69,7 +69,7 @@ fn client_of(number: u8) -> u64 {
 // Makes the directory of that client in the root.
 #[tactic(auto, using(crate::proofs::GoesOnLaws::goes_on_here, crate::proofs::GoesOnLaws::goes_on_past))]
 fn make_dir<S: Keep + Drop>(alloc: Global, book: &mut Book<S>, number: u8) -> Option<Ino>
-    ensures { GoesOn book.old book.new }
+    ensures { BookGrows book.old book.new }
 {
     let request = Request {
         client: client_of(number),

@@ -1,5 +1,5 @@
 //! A step of a load's book.
-ghost use Rattle.admin_cli.specs.Left.{GoesOn};
+ghost use Rattle.admin_cli.specs.Left.{BookGrows};
 
 use cluster_core::{Answer, Book, Event};
 use keeping::Keep;
@@ -13,7 +13,7 @@ pub(crate) fn step<S: Keep + Drop>(
     book: &mut Book<S>,
     event: Event,
 ) -> Result<Answer, Refusal>
-    ensures { GoesOn book.old book.new }
+    ensures { BookGrows book.old book.new }
 {
     book.step(alloc, event)
 }

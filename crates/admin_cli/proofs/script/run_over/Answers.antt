@@ -1,4 +1,4 @@
-use Rattle.admin_cli.proofs.Common.{Admin, Leaves, RunsOrNot, subst, sym}
+use Rattle.admin_cli.proofs.Common.{Admin, LeavesAdmin, RunsOrNot, subst, sym}
 use Rattle.admin_cli.proofs.PrintedLaws.{carries_as_one, leaves_over, prints_over}
 use Rattle.admin_cli.specs.Admin.{seen}
 use Rattle.admin_cli.specs.Left.{LeavesOneThread}
@@ -13,7 +13,7 @@ returns-clause-one_thread g c = prints_over (DoesUnder c.args.mode) (carries_as_
 pub returns-clause-leaves : goal.returns-clause-leaves
 returns-clause-leaves g c = record {
   admin = seen c.run_input-ended.new.admin;
-  leaves = subst (λ (a : Admin). Leaves (DoesUnder c.args.mode) a (seen c.run_input-ended.new.admin) (g.R.Read.remaining c.args.reader) (g.W.Write.contents c.args.writer.now) (g.W.Write.contents c.run_input-ended.new.writer) c.run_input-ended.result)
+  leaves = subst (λ (a : Admin). LeavesAdmin (DoesUnder c.args.mode) a (seen c.run_input-ended.new.admin) (g.R.Read.remaining c.args.reader) (g.W.Write.contents c.args.writer.now) (g.W.Write.contents c.run_input-ended.new.writer) c.run_input-ended.result)
       c.new-admin.ensures c.run_input-ended.ensures.leaves;
   book_is = c.into_book.ensures;
 }
