@@ -83,3 +83,9 @@ own_took turn rank before after made old new is took = subst (λ (t : Turn). Too
 
 pub keep_took : (turn : Turn) (rank : Rank) (before after : Kept) (dir : Ino) (f : Fragment) (bytes : List ℕ) (done : Result (Unit {0}) Refusal) → turn ≡ Keep dir f bytes → KeepsBytes before after (dir, f) bytes done → TookTurn turn rank before after (result_of done)
 keep_took turn rank before after dir f bytes done is keeps = subst (λ (t : Turn). TookTurn t rank before after (result_of done)) (sym is) (done, refl, keeps)
+
+pub own_told : (turn : Turn) (rank : Rank) (before after : Kept) (made : Result Bool Refusal) (result : Result Answer Refusal) (old new : BookState) → turn ≡ Own → TakesOwnTurn old new rank before after made → result ≡ result_of made → TookTurn turn rank before after result
+own_told turn rank before after made result old new is took told = subst (TookTurn turn rank before after) (sym told) (own_took turn rank before after made old new is took)
+
+pub keep_told : (turn : Turn) (rank : Rank) (before after : Kept) (dir : Ino) (f : Fragment) (bytes : List ℕ) (done : Result (Unit {0}) Refusal) (result : Result Answer Refusal) → turn ≡ Keep dir f bytes → KeepsBytes before after (dir, f) bytes done → result ≡ result_of done → TookTurn turn rank before after result
+keep_told turn rank before after dir f bytes done result is keeps told = subst (TookTurn turn rank before after) (sym told) (keep_took turn rank before after dir f bytes done is keeps)

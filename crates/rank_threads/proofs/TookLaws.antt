@@ -1,16 +1,22 @@
 -- What threads keep of exports: one turn more, and one thread more that was joined.
-use Rattle.rank_threads.proofs.Common.{Answer, List, Refusal, Result, Turn, [], ap, arith, length, map, map-append, refl, subst, suc, ℕ, ◌++◌, ◌+◌, ◌∙◌, ◌∷◌, ◌≡◌}
+use Rattle.rank_threads.proofs.Common.{Answer, List, Refusal, Result, Turn, [], ap, arith, length, map, map-append, refl, subst, suc, sym, ℕ, ◌++◌, ◌+◌, ◌∙◌, ◌∷◌, ◌≡◌}
 use Rattle.std.specs.FinMap as finmap
+use Rattle.std.proofs.lemmas.List.{length-map}
 use Rattle.mds_types.specs.declared.ids.Rank.{Rank}
 use Rattle.rank_threads.specs.OwnTurn.{Kept}
-use Rattle.rank_threads.specs.TookTurn.{PlansTook, TookTurn, TookTurns, at_rank, ranked_from}
+use Rattle.rank_threads.specs.TookTurn.{PlansTook, TookTurn, TookTurns, at_rank, by_rank, ranked_from}
 
-pub took_more : (rank : Rank) (before mid after : Kept) (turns : List Turn) (results : List (Result Answer Refusal)) (turn : Turn) (result : Result Answer Refusal) → TookTurns rank before mid turns results → TookTurn turn rank mid after result
+took_push : (rank : Rank) (before mid after : Kept) (turns : List Turn) (results : List (Result Answer Refusal)) (turn : Turn) (result : Result Answer Refusal) → TookTurns rank before mid turns results → TookTurn turn rank mid after result
     → TookTurns rank before after (turns ++ turn ∷ []) (results ++ result ∷ [])
-took_more rank before mid after [] [] turn result same took = (after, subst (λ (k : Kept). TookTurn turn rank k after result) same took, refl)
-took_more rank before mid after [] (r ∷ results) turn result h took = absurd h
-took_more rank before mid after (t ∷ turns) [] turn result h took = absurd h
-took_more rank before mid after (t ∷ turns) (r ∷ results) turn result h took = (h.0, h.1, took_more rank h.0 mid after turns results turn result h.2 took)
+took_push rank before mid after [] [] turn result same took = (after, subst (λ (k : Kept). TookTurn turn rank k after result) same took, refl)
+took_push rank before mid after [] (r ∷ results) turn result h took = absurd h
+took_push rank before mid after (t ∷ turns) [] turn result h took = absurd h
+took_push rank before mid after (t ∷ turns) (r ∷ results) turn result h took = (h.0, h.1, took_push rank h.0 mid after turns results turn result h.2 took)
+
+pub took_more : (rank same : Rank) (before mid after : Kept) (turns : List Turn) (results now : List (Result Answer Refusal)) (turn : Turn) (result : Result Answer Refusal) → TookTurn turn same mid after result → TookTurns rank before mid turns results → same ≡ rank → now ≡ results ++ result ∷ []
+    → TookTurns rank before after (turns ++ turn ∷ []) now
+took_more rank same before mid after turns results now turn result took h is grown =
+    subst (TookTurns rank before after (turns ++ turn ∷ [])) (sym grown) (took_push rank before mid after turns results turn result h (subst (λ (r : Rank). TookTurn turn r mid after result) is took))
 
 plans_took_more : (plans : List (Rank × List Turn)) (answers : List (List (Result Answer Refusal))) (kept : List Kept) (plan : Rank × List Turn) (results : List (Result Answer Refusal)) (left : Kept)
     → PlansTook plans answers kept → TookTurns plan.0 finmap.empty left plan.1 results → PlansTook (plans ++ plan ∷ []) (answers ++ results ∷ []) (kept ++ left ∷ [])
@@ -37,3 +43,11 @@ ranked_more first [] turns = ap (λ (n : ℕ). of_rank n turns ∷ []) (let e : 
 ranked_more first (other ∷ plans) turns =
     ap (λ (rest : List (Rank × List Turn)). of_rank first other ∷ rest)
     (ranked_more (suc first) plans turns ∙ ap (λ (n : ℕ). ranked_from (suc first) plans ++ of_rank n turns ∷ []) (let e : suc first + length plans ≡ first + suc (length plans) = omega arith in e))
+
+-- one plan more, at the rank behind those of the others
+pub ranked_push : {A B : Type 0} (f : A → Rank × List Turn) (g : B → List Turn) (ps now : List A) (p : A) (vs : List B) (v : B) (rank : ℕ)
+    → map f ps ≡ by_rank (map g vs) → rank ≡ length vs → f p ≡ at_rank (record { 0 = rank }) (g v) → now ≡ ps ++ p ∷ [] → map f now ≡ by_rank (map g (vs ++ v ∷ []))
+ranked_push f g ps now p vs v rank was is at grown =
+    let last : f p ≡ of_rank (0 + length (map g vs)) (g v) = at ∙ ap (λ (n : ℕ). of_rank n (g v)) (let e : rank ≡ 0 + length (map g vs) = is ∙ sym (length-map vs g) in e) in
+    rw (grown, map-append f ps (p ∷ []), map-append g vs (v ∷ [])) ((λ i. was i ++ last i ∷ []) ∙ sym (ranked_more 0 (map g vs) (g v)))
+
