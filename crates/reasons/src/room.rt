@@ -105,6 +105,9 @@ impl fmt::Display for Room {
     fn fmt<W: fmt::Write>(&self, f: &mut fmt::Formatter<W>) -> fmt::Result {
         let rank = self.rank.0;
         let (cached, clean) = (self.cached, self.clean);
+        if cached == 0 {
+            return write!(f, "rank {rank} caches no fragment");
+        }
         write!(
             f,
             "{clean} of {cached} fragments cached at rank {rank} are clean"
