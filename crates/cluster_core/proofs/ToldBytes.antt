@@ -1,5 +1,5 @@
 -- The bytes of a sent export, told anew; and how those that are kept are handed out.
-use Rattle.cluster_core.proofs.Common.{Bool, Core, Err, Inboxes, Leaf, List, None, Ok, Option, Pin, Rank, Ranked, Refusal, RefusesImport, Result, Some, State, Supply, Table, ap, core_of, get_put, inl, inr, one_value, refl, subst, sym, ℕ, ◌∙◌, ◌≡◌}
+use Rattle.cluster_core.proofs.Common.{Bool, Core, Err, Inboxes, Leaf, List, None, Ok, Option, Pin, Rank, Ranked, Refusal, RefusesImport, Result, Some, State, Supply, Table, ap, core_of, get_put, inl, inr, one_value, refl, subst, sym, ℕ, ◌∙◌, ◌∷◌, ◌≡◌}
 use Rattle.std.specs.FinMap as map
 use Rattle.std.specs.FinMap.{empty_of_len, find, get-entries, len-entries}
 use Rattle.std.specs.Prelude.{IfErr, IfNone, IfOk, IfSome, MatchOption, cond, drop, length}
