@@ -52,4 +52,3 @@ ranked_push f g ps now p vs v rank was is at grown =
     let place : rank ≡ 0 + length (map g vs) = omega (arith, is, count) in
     let last : f p ≡ of_rank (0 + length (map g vs)) (g v) = at ∙ ap (λ (n : ℕ). of_rank n (g v)) place in
     rw (grown, map-append f ps (p ∷ []), map-append g vs (v ∷ [])) ((λ i. was i ++ last i ∷ []) ∙ sym (ranked_more 0 (map g vs) (g v)))
-
