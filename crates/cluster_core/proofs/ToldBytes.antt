@@ -79,12 +79,12 @@ module _ (ranked : Ranked) (numbers : List Supply) (inboxes : Inboxes) (pins : L
 abbrev Kept : Type 0
 Kept = map.FinMap leaf_cmp (List ℕ)
 
-pub popped_first : {S : Type 0} (seen : S → Kept) (was is : S) (o : Option (Leaf × List ℕ)) → o ≡ first_pair (seen was) → map.entries (seen is) ≡ drop 1 (map.entries (seen was)) → IfSome o (λ pair. seen is ≡ map.remove (seen was) pair.0) → IfNone o (is ≡ was)
-    → MatchOption o ((seen was ≡ map.empty) × (seen is ≡ seen was)) (HandsOut (seen was) (seen is))
-popped_first seen was is None value rest removed left =
+pub popped_first : {S : Type 0} (seen : S → Kept) (was now : S) (o : Option (Leaf × List ℕ)) → o ≡ first_pair (seen was) → map.entries (seen now) ≡ drop 1 (map.entries (seen was)) → IfSome o (λ pair. seen now ≡ map.remove (seen was) pair.0) → IfNone o (now ≡ was)
+    → MatchOption o ((seen was ≡ map.empty) × (seen now ≡ seen was)) (HandsOut (seen was) (seen now))
+popped_first seen was now None value rest removed left =
     (empty_of_len (seen was) (len-entries (seen was) ∙ ap (length {A = Leaf × List ℕ}) (none_left (map.entries (seen was)) None refl value)), ap seen left)
-popped_first seen was is (Some pair) value rest removed left =
-    let all : map.entries (seen was) ≡ pair ∷ map.entries (seen is) = popped (map.entries (seen was)) (map.entries (seen is)) (Some pair) pair refl value rest in (
-      get-entries (seen was) pair.0 ∙ ap (find leaf_cmp pair.0) all ∙ ap (λ (b : Bool). cond b (Some pair.1) (find leaf_cmp pair.0 (map.entries (seen is)))) (key_itself pair.0),
+popped_first seen was now (Some pair) value rest removed left =
+    let all : map.entries (seen was) ≡ pair ∷ map.entries (seen now) = popped (map.entries (seen was)) (map.entries (seen now)) (Some pair) pair refl value rest in (
+      get-entries (seen was) pair.0 ∙ ap (find leaf_cmp pair.0) all ∙ ap (λ (b : Bool). cond b (Some pair.1) (find leaf_cmp pair.0 (map.entries (seen now)))) (key_itself pair.0),
       removed,
     )

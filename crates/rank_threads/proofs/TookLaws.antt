@@ -48,6 +48,7 @@ ranked_more first (other ∷ plans) turns =
 pub ranked_push : {A B : Type 0} (f : A → Rank × List Turn) (g : B → List Turn) (ps now : List A) (p : A) (vs : List B) (v : B) (rank : ℕ)
     → map f ps ≡ by_rank (map g vs) → rank ≡ length vs → f p ≡ at_rank (record { 0 = rank }) (g v) → now ≡ ps ++ p ∷ [] → map f now ≡ by_rank (map g (vs ++ v ∷ []))
 ranked_push f g ps now p vs v rank was is at grown =
-    let last : f p ≡ of_rank (0 + length (map g vs)) (g v) = at ∙ ap (λ (n : ℕ). of_rank n (g v)) (let e : rank ≡ 0 + length (map g vs) = is ∙ sym (length-map vs g) in e) in
+    let count : length (map g vs) ≡ length vs = length-map vs g in
+    let place : rank ≡ 0 + length (map g vs) = omega (arith, is, count) in
+    let last : f p ≡ of_rank (0 + length (map g vs)) (g v) = at ∙ ap (λ (n : ℕ). of_rank n (g v)) place in
     rw (grown, map-append f ps (p ∷ []), map-append g vs (v ∷ [])) ((λ i. was i ++ last i ∷ []) ∙ sym (ranked_more 0 (map g vs) (g v)))
-

@@ -84,7 +84,6 @@ pub(crate) fn prepare<L: Handed>(
 }
 
 // A plan for each list of turns, in the order of ranks, with a part of the share each.
-#[tactic(auto, using(crate::proofs::TookLaws::ranked_push))]
 fn plans_of<L: Handed>(
     alloc: Global,
     lists: Vec<Vec<Turn>>,
@@ -105,7 +104,7 @@ fn plans_of<L: Handed>(
     for turns in lists {
         let share = all.split_off(1, 0);
         plans.push(plan_of(alloc, Rank(rank), turns, jobs.clone()?, share)?)?;
-        rank = rank.wrapping_add(1);
+        rank += 1;
     }
     Ok(plans)
 }
