@@ -84,6 +84,7 @@ pub(crate) fn prepare<L: Handed>(
 }
 
 // A plan for each list of turns, in the order of ranks, with a part of the share each.
+#[tactic(auto, using(crate::proofs::TookLaws::ranked_push))]
 fn plans_of<L: Handed>(
     alloc: Global,
     lists: Vec<Vec<Turn>>,
