@@ -5,7 +5,7 @@ use Rattle.mds_types.specs.Frag.{Fragment}
 use Rattle.cluster_core.specs.declared.events.Event.TheVariants.{Arrive, Serve, Grant, Split, Merge, CommitBegin, CommitEnd, CommitDrop, CommitTree, Purge, Evict, Start, Freeze, Prep, Send, Import, Finish, Cancel}
 use Rattle.script_output.specs.declared.own_turns.OwnStep.{OwnStep}
 use Rattle.admin_cli.specs.Admin.{Admin}
-use Rattle.admin_cli.specs.OwnLines.{IsNamed, own_line_of}
+use Rattle.admin_cli.specs.OwnLines.{IsCalled, own_line_of}
 use Rattle.admin_cli.specs.StepLines.{DoesEvent}
 
 module _ (old new : Admin) (step : OwnStep) (dir : Ino) (f : Fragment) (shown : OutputLine) where
@@ -13,7 +13,7 @@ module _ (old new : Admin) (step : OwnStep) (dir : Ino) (f : Fragment) (shown : 
   line_is other ino frag named = λ i. own_line_of (named.0 i) (named.1 i) (named.2 i) shown
 
   -- each other step is made as proposed
-  made_line : (event : Event) → IsNamed event step dir f → ((ino : Ino) (frag : Fragment) → event ≡ Send ino frag → ⊥) → ((ino : Ino) (frag : Fragment) (bytes : List ℕ) → event ≡ Import ino frag bytes → ⊥)
+  made_line : (event : Event) → IsCalled event step dir f → ((ino : Ino) (frag : Fragment) → event ≡ Send ino frag → ⊥) → ((ino : Ino) (frag : Fragment) (bytes : List ℕ) → event ≡ Import ino frag bytes → ⊥)
       → DoesEvent old new event shown → MakesStep old new event (own_line_of step dir f shown)
   made_line (Arrive rank request) named other another does = absurd named
   made_line (Serve rank) named other another does = absurd named
@@ -35,6 +35,6 @@ module _ (old new : Admin) (step : OwnStep) (dir : Ino) (f : Fragment) (shown : 
   made_line (Cancel ino frag) named other another does = (shown, does, line_is _ ino frag named)
 
 -- so it is with the line that tells it
-pub told_line : (old new : Admin) (step : OwnStep) (dir : Ino) (f : Fragment) (shown line : OutputLine) (event : Event) → line ≡ own_line_of step dir f shown → IsNamed event step dir f → ((ino : Ino) (frag : Fragment) → event ≡ Send ino frag → ⊥) → ((ino : Ino) (frag : Fragment) (bytes : List ℕ) → event ≡ Import ino frag bytes → ⊥)
+pub told_line : (old new : Admin) (step : OwnStep) (dir : Ino) (f : Fragment) (shown line : OutputLine) (event : Event) → line ≡ own_line_of step dir f shown → IsCalled event step dir f → ((ino : Ino) (frag : Fragment) → event ≡ Send ino frag → ⊥) → ((ino : Ino) (frag : Fragment) (bytes : List ℕ) → event ≡ Import ino frag bytes → ⊥)
     → DoesEvent old new event shown → MakesStep old new event line
 told_line old new step dir f shown line event is named other another does = subst (λ (l : OutputLine). MakesStep old new event l) (sym is) (made_line old new step dir f shown event named other another does)

@@ -1,7 +1,7 @@
 //! The line `own RANK`: a rank proposes a step of its own, and makes it.
 ghost use Rattle.std.specs.Prelude.{◌≡◌, IfOk, OnErr};
 ghost use Rattle.cluster_core.specs.Proposal.{IsOwnStep};
-ghost use Rattle.admin_cli.specs.OwnLines.{IsNamed, LacksForStep, LacksForTurn, MakesStep, TakesTurn, came_of, own_line_of};
+ghost use Rattle.admin_cli.specs.OwnLines.{IsCalled, LacksForStep, LacksForTurn, MakesStep, TakesTurn, came_of, own_line_of};
 ghost use Rattle.admin_cli.specs.Admin.{seen};
 
 use crate::commands::Admin;
@@ -38,7 +38,7 @@ impl<S: Keep + Drop> Admin<S> {
         name: &StepName,
         event: Event,
     ) -> Result<OutputLine, AllocError>
-        requires { IsNamed event name.now.step name.now.ino name.now.frag }
+        requires { IsCalled event name.now.step name.now.ino name.now.frag }
         ensures line { IfOk result (MakesStep (seen self.old) (seen self.new) event) }
         ensures err { OnErr result (LacksForStep (seen self.old) (seen self.new) event) }
         ensures count { self.new.operations ≡ self.old.operations }
@@ -80,7 +80,7 @@ impl StepName {
 // So of each step that a rank may propose.
 fn named(event: &Event) -> StepName
     requires { IsOwnStep event.now }
-    ensures { IsNamed event.now result.step result.ino result.frag }
+    ensures { IsCalled event.now result.step result.ino result.frag }
 {
     match event {
         Event::Split { ino, frag, .. } => StepName::of(OwnStep::Split, *ino, *frag),
