@@ -251,8 +251,16 @@ fn run_lines<R: ReadAhead, W: Write, S: Keep + Drop, T: Tell>(
                 kind: FaultKind::ReadFault,
             }),
         }
-        let bytes = buffer.as_bytes();
-        if let Err(fault) = run_line(rt, line, bytes, admin, mode, waiting, writer, teller) {
+        if let Err(fault) = run_line(
+            rt,
+            line,
+            buffer.as_bytes(),
+            admin,
+            mode,
+            waiting,
+            writer,
+            teller,
+        ) {
             return Err(fault);
         }
     }
