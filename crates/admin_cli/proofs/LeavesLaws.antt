@@ -1,8 +1,9 @@
 -- What a script leaves, wherever it ends.
-use Rattle.admin_cli.proofs.Common.{Admin, Appends, Appends-trans, DoesBytes, Err, FaultKind, IfSome, IsFirstLine, LacksMemory, LeavesAdmin, LeavesWaiting, List, Mark, None, OfFirst, Ok, Option, OutputLine, PrintsOf, Result, RunsLine, RunsLines, ScriptFault, Some, Waiting, [], append-nil, append_assoc, inl, inr, lines_of, refl, subst, sym, text_of, ℕ, ◌++◌, ◌+◌, ◌∷◌, ◌≡◌}
+use Rattle.admin_cli.proofs.Common.{Admin, AnswersLine, Appends, Appends-trans, DoesBytes, Err, FaultKind, IfSome, IsFirstLine, LacksMemory, LeavesAdmin, LeavesWaiting, Line, List, Mark, None, OfFirst, Ok, Option, OutputLine, PrintsOf, Result, RunsLine, RunsLines, ScriptFault, Some, StopsAt, Waiting, [], append-nil, append_assoc, inl, inr, length, lines_of, refl, subst, sym, text_of, ℕ, ◌++◌, ◌+◌, ◌∙◌, ◌∷◌, ◌≡◌, ◌≤◌}
 use Rattle.std.specs.Prelude.{◌⊎◌}
 use Rattle.admin_cli.proofs.Progress.{IsLeft, IsReached, TakesLines, all_lines, first_left, runs-append, some_left, takes-next}
-use Rattle.admin_cli.specs.Scripts.{Doing}
+use Rattle.admin_cli.specs.Scripts.{DoesLine, Doing, LacksLine}
+use Rattle.script_text.specs.Script.{line_of}
 
 module _ (Does : Doing) where
   -- what was left at the line from which the script didn't go on
@@ -89,3 +90,18 @@ module _ (Does : Doing) where
   leaves_none old known before after fault =
       let (lines, rest) = some_left Does known in
       left_by old old old known known [] lines [] (taken_none known) rest (refl, refl) (inl refl) before after fault
+
+  -- what a line came to, by what it was read as
+  by_bytes : (old new : Admin) (bytes : List ℕ) (found : Line) → line_of bytes ≡ found → length bytes ≤ 16384 → (came : Result (Option OutputLine) FaultKind) → AnswersLine Does old new found came → DoesBytes Does old new bytes came
+  by_bytes old new bytes found is short (Ok None) does = record { short = short; does = subst (λ (l : Line). DoesLine Does old new l []) (sym is) does }
+  by_bytes old new bytes found is short (Ok (Some printed)) does = record { short = short; does = subst (λ (l : Line). DoesLine Does old new l (text_of printed)) (sym is) does }
+  by_bytes old new bytes found is short (Err kind) (inl (none, told, same)) =
+      subst (λ (k : FaultKind). StopsAt Does old new bytes k [] × ((new ≡ old) ⊎ LacksMemory Does old new bytes)) (sym told) ((short, is ∙ none, refl), inl same)
+  by_bytes old new bytes found is short (Err kind) (inr (lacks, told)) =
+      let line_lacks : LacksLine old new (line_of bytes) = subst (λ (l : Line). LacksLine old new l) (sym is) lacks in
+      subst (λ (k : FaultKind). StopsAt Does old new bytes k [] × ((new ≡ old) ⊎ LacksMemory Does old new bytes)) (sym told) ((short, inr (inl line_lacks), refl), inr (inr (inl line_lacks)))
+
+  pub prints_bytes : (old new : Admin) (bytes : List ℕ) (found : Line) → line_of bytes ≡ found → length bytes ≤ 16384 → (waiting waiting' : Waiting) (number : ℕ) (before after : Option (List ℕ)) (result : Result (Unit {0}) ScriptFault)
+      → PrintsOf (AnswersLine Does old new found) waiting waiting' number before after result → PrintsOf (DoesBytes Does old new bytes) waiting waiting' number before after result
+  prints_bytes old new bytes found is short waiting waiting' number before after result (inl (printed, does, prints)) = inl (printed, by_bytes old new bytes found is short (Ok printed) does, prints)
+  prints_bytes old new bytes found is short waiting waiting' number before after result (inr (kind, stops, unprinted)) = inr (kind, by_bytes old new bytes found is short (Err kind) stops, unprinted)
