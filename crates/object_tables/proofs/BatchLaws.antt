@@ -15,7 +15,7 @@ use Rattle.objstore.specs.Objects.{Objects, written}
 use Rattle.objstore.specs.Writes.{applied, nothing}
 use Rattle.objstore.proofs.WriteLaws.{applied-parts}
 use Rattle.object_tables.specs.Entries.{entry}
-use Rattle.object_tables.specs.Reading.{AddsPair, HoldsBatch, IsBatch, IsReady, Precedes, sets_pairs, with_waiting}
+use Rattle.object_tables.specs.Reading.{AddsPair, HoldsBatch, IsBatch, IsReady, Precedes, sets_pairs, with_unset}
 use Rattle.object_tables.specs.Spelled.{pair_key}
 use Rattle.object_tables.proofs.RowLaws.{get_laid}
 use Rattle.object_tables.proofs.SpelledLaws.{same_name}
@@ -89,7 +89,7 @@ op_written objects name op object there sets = ap (written objects name) sets �
 -- ---- ready for a key
 
 pub ready_on : (objects : Objects) (name : List ℕ) (op : WriteOp) (last : Option (List ℕ)) (key : List ℕ) → HoldsBatch objects name op last → Precedes last key
-    → IsReady objects name op key (with_waiting objects name op last)
+    → IsReady objects name op key (with_unset objects name op last)
 ready_on objects name op None key holds before = absurd before
 ready_on objects name op (Some last) key holds before = record {
   object = holds.object;
@@ -101,7 +101,7 @@ ready_on objects name op (Some last) key holds before = record {
 }
 
 pub ready_set : (objects new : Objects) (name : List ℕ) (op now : WriteOp) (last : Option (List ℕ)) (key : List ℕ) → HoldsBatch objects name op last → Precedes last key
-    → new ≡ written objects name op → now ≡ nothing → IsReady new name now key (with_waiting objects name op last)
+    → new ≡ written objects name op → now ≡ nothing → IsReady new name now key (with_unset objects name op last)
 ready_set objects new name op now None key holds before set none = absurd before
 ready_set objects new name op now (Some last) key holds before set none =
     let object = with_set holds.object op.set in
@@ -173,16 +173,16 @@ taken_pair objects before name op key value ready =
 -- ---- what waits, or nothing
 
 pub set_waiting : (objects new : Objects) (name : List ℕ) (op : WriteOp) (last : Option (List ℕ)) → is_some last ≡ true → new ≡ written objects name op
-    → new ≡ with_waiting objects name op last
+    → new ≡ with_unset objects name op last
 set_waiting objects new name op None some set = absurd (true≢false (sym some))
 set_waiting objects new name op (Some last) some set = set
 
 pub none_waits : (objects : Objects) (name : List ℕ) (op : WriteOp) (last : Option (List ℕ)) → is_some last ≡ false → HoldsBatch objects name op last
-    → (objects ≡ with_waiting objects name op last) × (op ≡ nothing)
+    → (objects ≡ with_unset objects name op last) × (op ≡ nothing)
 none_waits objects name op None some holds = (refl, holds)
 none_waits objects name op (Some last) some holds = absurd (true≢false some)
 
 pub begun : (objects : Objects) (name : List ℕ) (op : WriteOp) (last : Option (List ℕ)) → last ≡ None → op ≡ nothing
-    → HoldsBatch objects name op last × (with_waiting objects name op last ≡ objects)
+    → HoldsBatch objects name op last × (with_unset objects name op last ≡ objects)
 begun objects name op None none is = (is, refl)
 begun objects name op (Some last) none is = absurd cc

@@ -58,12 +58,12 @@ Precedes None key = ⊥
 Precedes (Some last) key = key_cmp last key ≡ Less
 
 -- the objects once the pairs that wait are set
-abbrev pub with_waiting : Objects → List ℕ → WriteOp → Option (List ℕ) → Objects
-with_waiting objects name op None = objects
-with_waiting objects name op (Some last) = written objects name op
+abbrev pub with_unset : Objects → List ℕ → WriteOp → Option (List ℕ) → Objects
+with_unset objects name op None = objects
+with_unset objects name op (Some last) = written objects name op
 
 abbrev pub with_batch : Objects → Batch → Objects
-with_batch objects batch = with_waiting objects batch.name batch.pairs batch.last
+with_batch objects batch = with_unset objects batch.name batch.pairs batch.last
 
 -- the object of a name has, with the pairs that wait, no such key and none after it; and all is as it was before
 pub record IsReady (objects : Objects) (name : List ℕ) (op : WriteOp) (key : List ℕ) (before : Objects) : Type 0 where
