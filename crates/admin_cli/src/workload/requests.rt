@@ -24,11 +24,23 @@ pub(crate) fn ask<S: Keep + Drop>(
         return None;
     }
     let answer = step(alloc, book, Event::Serve { rank });
-    let answer = match answer {
+    let answer = serve_on(alloc, book, answer);
+    reply_to(client, tid, answer)
+}
+
+// What was forwarded is served at the rank that it went to.
+#[tactic(auto, using(crate::proofs::GoesOnLaws::goes_on_here))]
+fn serve_on<S: Keep + Drop>(
+    alloc: Global,
+    book: &mut Book<S>,
+    answer: Result<Answer, Refusal>,
+) -> Result<Answer, Refusal>
+    ensures { BookGrows book.old book.new }
+{
+    match answer {
         Ok(Answer::Forwarded(master)) => step(alloc, book, Event::Serve { rank: master }),
         other => other,
-    };
-    reply_to(client, tid, answer)
+    }
 }
 
 // The reply to this client's request, if the answer is that.
