@@ -23,8 +23,9 @@ use Rattle.cluster_core.specs.State.{LacksPlacesAt}
 use Rattle.cluster_core.specs.declared.events.Answer.TheVariants.{Sent}
 use Rattle.cluster_core.specs.declared.events.Event.TheVariants.{Cancel, Finish, Import, Prep, Send}
 use Rattle.mds_types.specs.declared.refusals.Refusal.TheVariants.{WrongExportState}
-use Rattle.asking.specs.Ending.{CancelsOr, EndsFrozen, EndsRefused, HandsOrCancels, HasBytes, HasEnded, IsFreezing, IsStepOn, KeepsOtherBytes, StandsStill, TakesOn, WhyNotEnded}
+use Rattle.asking.specs.Ending.{CancelsOr, EndsFrozen, EndsRefused, HandsOrCancels, HasBytes, HasEnded, IsFreezing, IsStepOn, KeepsOtherBytes, KeepsSpelled, StandsStill, TakesOn, WhyNotEnded}
 use Rattle.asking.proofs.ReachedLaws.{all_then, runs_then}
+use Rattle.asking.proofs.SpelledLaws.{spelled_finished, spelled_imported, spelled_kept, spelled_same}
 
 abbrev Kept : Type 0
 Kept = map.FinMap leaf_cmp (List ℕ)
@@ -63,6 +64,7 @@ pub record Unseen (root : Leaf) (old new : BookState) : Type 0 where
   pub tree : shown new.core.state ≡ shown old.core.state
   pub left : new.core.state ≡ record old.core.state { tree = new.core.state.tree; roots = new.core.state.roots; exports = new.core.state.exports }
   pub others : (other : Leaf) → (other ≡ root → ⊥) → map.get new.core.state.exports other ≡ map.get old.core.state.exports other
+  pub spelled : KeepsSpelled old.core.state new.core.state root
 
 module _ (root : Leaf) where
   -- a refused one leaves all
@@ -72,11 +74,12 @@ module _ (root : Leaf) where
     tree = ap (λ (s : State). shown s) is.left;
     left = subst (λ (s : State). s ≡ record old.core.state { tree = s.tree; roots = s.roots; exports = s.exports }) (sym is.left) refl;
     others = λ other apart. ap (λ (s : State). map.get s.exports other) is.left;
+    spelled = spelled_same old.core.state new.core.state root is.left;
   }
 
   pub unseen_step : (old new : BookState) → IsUnseenStep old.core.state new.core.state old.history new.history
-      → ((other : Leaf) → (other ≡ root → ⊥) → map.get new.core.state.exports other ≡ map.get old.core.state.exports other) → Unseen root old new
-  unseen_step old new is others = record { same = is.same; tree = is.tree; left = is.left; others = others }
+      → ((other : Leaf) → (other ≡ root → ⊥) → map.get new.core.state.exports other ≡ map.get old.core.state.exports other) → KeepsSpelled old.core.state new.core.state root → Unseen root old new
+  unseen_step old new is others spelled = record { same = is.same; tree = is.tree; left = is.left; others = others; spelled = spelled }
 
   module _ (old new : Standing) (from to : ExportState) (is : ComesTo old new root from to) where
     pub came_others : (other : Leaf) → (other ≡ root → ⊥) → map.get new other ≡ map.get old other
@@ -108,6 +111,7 @@ module _ (cancel : Bool) (root : Leaf) where
     tree = refl;
     left = refl;
     others = λ other apart. refl;
+    spelled = λ other export bytes apart spells. spells;
   }
 
   pub takes_by : (old new : BookState) (result : Result Answer Refusal) (event : Event) → IsStepOn cancel root event → Steps old.core new.core old.history new.history result event → new.opening ≡ old.opening → IsSoundBook new
@@ -123,6 +127,7 @@ module _ (cancel : Bool) (root : Leaf) where
     tree = unseen.tree;
     left = unseen.left;
     others = unseen.others;
+    spelled = unseen.spelled;
   }
 
   pub takes_within : (most all : ℕ) (refused : Option Refusal) (old new : BookState) → most ≤ all → TakesOn cancel root most refused old new → TakesOn cancel root all refused old new
@@ -137,6 +142,7 @@ module _ (cancel : Bool) (root : Leaf) where
     tree = one.tree;
     left = one.left;
     others = one.others;
+    spelled = one.spelled;
   }
 
   all_ok_then : (xs ys : List (Result Answer Refusal)) → AllByRecursion IsOk xs → AllByRecursion IsOk ys → AllByRecursion IsOk (xs ++ ys)
@@ -161,6 +167,7 @@ module _ (cancel : Bool) (root : Leaf) where
     tree = other.tree ∙ one.tree;
     left = other.left ∙ ap (λ (s : State). record s { tree = new.core.state.tree; roots = new.core.state.roots; exports = new.core.state.exports }) one.left;
     others = λ leaf apart. other.others leaf apart ∙ one.others leaf apart;
+    spelled = λ leaf export bytes apart spells. other.spelled leaf export bytes apart (one.spelled leaf export bytes apart spells);
   }
 
   -- ---- what is kept
@@ -245,7 +252,7 @@ module _ (cancel : Bool) (root : Leaf) where
           freezing = freezing;
           taken =
               takes_then few 1 all (Some refusal) None old mid new low one (λ reason clash. absurd (none-some reason clash))
-              (takes_by mid new (Ok answer) (Cancel root.0 root.1) (allowed, refl) steps opening sound (unseen_step root mid new steps.does.2 others));
+              (takes_by mid new (Ok answer) (Cancel root.0 root.1) (allowed, refl) steps opening sound (unseen_step root mid new steps.does.2 others (spelled_kept mid.core.state new.core.state root did.2)));
           ended = gone ∙ ap (λ (s : State). map.remove s.exports root) same;
           by = inr (allowed, unsent, did.2.roots ∙ ap (λ (s : State). s.roots) same, did.2.tree ∙ ap (λ (s : State). s.tree) same);
           bytes = bytes;
@@ -271,7 +278,7 @@ module _ (cancel : Bool) (dir : Ino) (f : Fragment) (old mid : BookState) (openi
         let step : ComesTo old.core.state.exports mid.core.state.exports root at.Frozen at.Prepared = steps.does.1.0 in
         let keeps : KeepsTreeAndRoots old.core.state mid.core.state = steps.does.1.1 in
         goes_on cancel root old mid new before before after at.Frozen at.Prepared step refl (λ early. (refl, keeps.tree)) keeps.roots
-        (takes_by cancel root old mid (Ok answer) (Prep dir f) refl steps opening sound (unseen_step root old mid steps.does.2 (came_others root old.core.state.exports mid.core.state.exports at.Frozen at.Prepared step)))
+        (takes_by cancel root old mid (Ok answer) (Prep dir f) refl steps opening sound (unseen_step root old mid steps.does.2 (came_others root old.core.state.exports mid.core.state.exports at.Frozen at.Prepared step) (spelled_kept old.core.state mid.core.state root keeps)))
         (tt, tt) (λ other apart. refl)
         (λ had. unsent_has cancel root mid.core.state before (come_to at.Prepared step.export) (came_here root old.core.state.exports mid.core.state.exports at.Frozen at.Prepared step) refl)
         3 4 (omega arith)
@@ -308,7 +315,7 @@ module _ (cancel : Bool) (dir : Ino) (f : Fragment) (old mid : BookState) (openi
           (subst (λ (b : List ℕ). SpellsRegion old.core.state.tree old.core.state.roots root (come_to at.Sent step.export) b) (sym here) (spells_so at.Sent old.core.state.tree old.core.state.roots root step.export steps.does.0 spells))) in
           let there : map.get mid.core.state.exports root ≡ Some (come_to at.Sent step.export) = came_here root old.core.state.exports mid.core.state.exports at.Prepared at.Sent step in
           goes_on cancel root old mid new before kept after at.Prepared at.Sent step refl (λ early. let clash : false ≡ true = early in cc) keeps.roots
-          (takes_by cancel root old mid (Ok answer) (Send dir f) refl steps opening sound (unseen_step root old mid steps.does.3 (came_others root old.core.state.exports mid.core.state.exports at.Prepared at.Sent step)))
+          (takes_by cancel root old mid (Ok answer) (Send dir f) refl steps opening sound (unseen_step root old mid steps.does.3 (came_others root old.core.state.exports mid.core.state.exports at.Prepared at.Sent step) (spelled_kept old.core.state mid.core.state root keeps)))
           (tt, tt)
           (λ other apart. ap (λ (m : Kept). map.get m other) inserted ∙ (get_beside reserved.bytes root steps.does.0 other apart ∙ ap (λ (m : Kept). map.get m other) same))
           (λ had export stands is.
@@ -331,7 +338,7 @@ module _ (cancel : Bool) (dir : Ino) (f : Fragment) (old mid : BookState) (openi
         let step : ComesTo old.core.state.exports mid.core.state.exports root at.Sent at.Imported = steps.does.1.step in
         let there : map.get mid.core.state.exports root ≡ Some (come_to at.Imported step.export) = came_here root old.core.state.exports mid.core.state.exports at.Sent at.Imported step in
         ends_on cancel root old mid new before before after at.Sent at.Imported step refl (λ early. let clash : false ≡ true = early in cc) steps.does.1.roots
-        (takes_by cancel root old mid (Ok answer) (Import dir f bytes) refl steps opening sound (unseen_step root old mid steps.does.2 (came_others root old.core.state.exports mid.core.state.exports at.Sent at.Imported step)))
+        (takes_by cancel root old mid (Ok answer) (Import dir f bytes) refl steps opening sound (unseen_step root old mid steps.does.2 (came_others root old.core.state.exports mid.core.state.exports at.Sent at.Imported step) (spelled_imported old.core.state mid.core.state root steps.does.1.renewed steps.does.1.roots)))
         (tt, tt) (λ other apart. refl)
         (λ had export stands is.
         let same : export ≡ come_to at.Imported step.export = value_is (map.get mid.core.state.exports root) export (come_to at.Imported step.export) stands there in
@@ -387,16 +394,18 @@ module _ (cancel : Bool) (dir : Ino) (f : Fragment) (old mid : BookState) (openi
 
   -- Finish
   module _ (before after : SentBytes) where
-    pub finished : (answer : Answer) → Steps old.core mid.core old.history mid.history (Ok answer) (Finish dir f) → after.bytes ≡ map.remove before.bytes root → HasEnded cancel root 1 old mid before after
-    finished answer steps forgot =
+    pub finished : IsSoundBook old → (answer : Answer) → Steps old.core mid.core old.history mid.history (Ok answer) (Finish dir f) → after.bytes ≡ map.remove before.bytes root → HasEnded cancel root 1 old mid before after
+    finished good answer steps forgot =
         let did : IsFinishIn old.core.state mid.core.state root = steps.does.1 in
         let others : (other : Leaf) → (other ≡ root → ⊥) → map.get mid.core.state.exports other ≡ map.get old.core.state.exports other =
         λ other apart. ap (λ (m : Standing). map.get m other) did.ended ∙ get_left old.core.state.exports root other apart in
+        let spelled : KeepsSpelled old.core.state mid.core.state root =
+        spelled_finished old.core.state mid.core.state root did.export.exporter did.export.importer (good.exported.placed root did.export did.stood (ap is_freezing did.imported)) did.roots did.tree in
         record {
           export = did.export;
           stood = did.stood;
           freezing = ap is_freezing did.imported;
-          taken = takes_by cancel root old mid (Ok answer) (Finish dir f) refl steps opening sound (unseen_step root old mid steps.does.2 others);
+          taken = takes_by cancel root old mid (Ok answer) (Finish dir f) refl steps opening sound (unseen_step root old mid steps.does.2 others spelled);
           ended = did.ended;
           by = inl did.roots;
           bytes = λ other apart. ap (λ (m : Kept). map.get m other) forgot ∙ get_left before.bytes root other apart;

@@ -1,24 +1,29 @@
 -- Exports are ended one after the other, until a request may change what it would.
-use Rattle.asking.proofs.Common.{BookState, Core, Entry, Err, Frozen, Inboxes, IsFrozenAt, IsSound, IsSoundBook, Leaf, List, NoInodes, NoMemory, None, NoneWaits, NotAuthority, NothingToEvict, Ok, Option, Rank, Receipt, Refusal, Request, Result, Some, State, StoreFault, Tree, Trimmed, WhyItWaits, [], ap, arith, cond, false, inl, inr, length, refl, subst, sym, true, ℕ, ◌++◌, ◌+◌, ◌-◌, ◌<◌, ◌∙◌, ◌∷◌, ◌≡◌, ◌≢◌, ◌≤◌, ◌⊎◌}
+use Rattle.asking.proofs.Common.{BookState, Core, Entry, Err, Frozen, Inboxes, IsFrozenAt, IsSound, IsSoundBook, Leaf, List, NoInodes, NoMemory, None, NoneWaits, NotAuthority, NothingToEvict, Ok, Option, Rank, Receipt, Refusal, Request, Result, Roots, Some, State, StoreFault, Tree, TreeState, Trimmed, WhyItWaits, [], ap, arith, cond, false, inl, inr, length, refl, subst, sym, true, ℕ, ◌++◌, ◌+◌, ◌-◌, ◌<◌, ◌∙◌, ◌∷◌, ◌≡◌, ◌≢◌, ◌≤◌, ◌⊎◌}
 use Rattle.std.specs.FinMap as map
 use Rattle.std.specs.FinMap.{empty_of_len, get-empty, len-remove}
 use Rattle.std.specs.Prelude.{Bool, is_some}
+use Rattle.std.specs.Option.{option_map}
 use Rattle.std.proofs.lemmas.Bool.{cases_eq}
 use Rattle.std.proofs.lemmas.List.{length-append}
 use Rattle.mds_types.specs.Leaf.{leaf_cmp}
-use Rattle.mds_types.proofs.LeafLaws.{leaf-total}
+use Rattle.mds_types.proofs.LeafLaws.{get_removed, leaf-total, same_or_apart}
 use Rattle.std.specs.declared.cmp.Ordering.TheVariants.{Less}
 use Rattle.dentry_cache.specs.Candidates.{IsBehind}
 use Rattle.export_steps.specs.ByExporter.{IsFirstOf, IsNextOf}
 use Rattle.export_steps.specs.ByExporter.{IsBehind as IsBehindRoot}
 use Rattle.export_steps.specs.Standing.{Standing, is_freezing}
+use Rattle.export_steps.specs.declared.exports.ExportState.{ExportState}
+use Rattle.export_steps.specs.declared.exports.ExportState.TheVariants as at
 use Rattle.export_steps.specs.declared.exports.StandingExport.{StandingExport}
 use Rattle.cluster_core.specs.OneThread.{InOrder, IsOneThread}
-use Rattle.cluster_core.specs.SentBytes.{SentBytes}
-use Rattle.asking.specs.Ending.{EndsExport, EndsFrozen, HasEnded, IsFreezing, NoneFreezing, NoneFreezingOf, StandsStill, TakesOn}
+use Rattle.ranked_tree.specs.Sending.{SpellsRegion}
+use Rattle.cluster_core.specs.Exporting.{SendsAt}
+use Rattle.cluster_core.specs.SentBytes.{SentBytes, bytes_for, bytes_or_none}
+use Rattle.asking.specs.Ending.{EndsExport, HasAllBytes, HasEnded, IsFreezing, NoneFreezing, NoneFreezingOf, StandsStill, TakesOn, WhyNotEnded}
 use Rattle.asking.specs.Once.{AsksOnce, WhyNone}
 use Rattle.asking.specs.Reached.{receipt_in}
-use Rattle.asking.specs.Through.{AsksCopy, AsksThrough, Concludes, EndsFor, GoesThrough, IsToldOf}
+use Rattle.asking.specs.Through.{AsksCopy, AsksThrough, CantSend, Concludes, EndsFor, GoesThrough, IsToldOf}
 use Rattle.asking.proofs.LiveLaws.{is_one_of_16}
 use Rattle.asking.proofs.OnceLaws.{kept_once, none_waits_once}
 use Rattle.asking.proofs.OneLaws.{limit_of, limit_through}
@@ -99,6 +104,54 @@ pub copy_asked : (old new : BookState) (rank : Rank) (request : Request) (reason
 copy_asked old new rank request reason other (inl once) = once
 copy_asked old new rank request reason other (inr (is, same)) = let clash : ◌≡◌ {A = Result Receipt Refusal} (Err reason) (Err NoMemory) = is in absurd (other cc)
 
+-- ---- the bytes that are kept
+
+same_has : (old new : State) (kept : SentBytes) → new.exports ≡ old.exports → new.tree ≡ old.tree → new.roots ≡ old.roots → HasAllBytes old kept → HasAllBytes new kept
+same_has old new kept exports tree roots has root export stands sent =
+    subst (λ (t : TreeState). SpellsRegion t new.roots root export (bytes_for kept root)) (sym tree)
+    (subst (λ (r : Roots). SpellsRegion old.tree r root export (bytes_for kept root)) (sym roots) (has root export (ap (λ (m : Standing). map.get m root) (sym exports) ∙ stands) sent))
+
+-- an ask leaves them
+pub has_once : (old new : BookState) (kept : SentBytes) (rank : Rank) (request : Request) (reason : Refusal) → AsksOnce old.core new.core old.history new.history rank request (Err reason) → HasAllBytes old.core.state kept → HasAllBytes new.core.state kept
+has_once old new kept rank request reason (why, inl (same, still)) has = subst (λ (c : Core). HasAllBytes c.state kept) (sym same) has
+has_once old new kept rank request reason (why, inr is) has =
+    same_has old.core.state new.core.state kept (ap (λ (s : State). s.exports) is.left) (ap (λ (s : State). s.tree) is.left) (ap (λ (s : State). s.roots) is.left) has
+
+-- and so does an export that ends
+pub has_ended : (cancel : Bool) (root : Leaf) (most : ℕ) (old new : BookState) (before after : SentBytes) → HasEnded cancel root most old new before after → HasAllBytes old.core.state before → HasAllBytes new.core.state after
+has_ended cancel root most old new before after its has other export stands sent = go (same_or_apart other root)
+  where
+    go : (other ≡ root) ⊎ (other ≡ root → ⊥) → SpellsRegion new.core.state.tree new.core.state.roots other export (bytes_for after other)
+    go (inl same) =
+        let gone : map.get new.core.state.exports other ≡ None = ap (λ (l : Leaf). map.get new.core.state.exports l) same ∙ (ap (λ (m : Standing). map.get m root) its.ended ∙ get_removed old.core.state.exports root) in
+        let clash : None ≡ Some export = sym gone ∙ stands in absurd cc
+    go (inr apart) =
+        subst (λ (b : List ℕ). SpellsRegion new.core.state.tree new.core.state.roots other export b) (ap bytes_or_none (sym (its.bytes other apart)))
+        (its.taken.spelled other export (bytes_for before other) apart (has other export (sym (its.taken.others other apart) ∙ stands) sent))
+
+-- where they are right, an export that stands still, and not for want of memory or places, can't be sent
+pub cant_send : (cancel : Bool) (root : Leaf) (most : ℕ) (refusal : Refusal) (old new : BookState) (before after : SentBytes) → StandsStill cancel root most refusal old new before after → HasAllBytes old.core.state before
+    → refusal ≢ NoMemory → refusal ≢ NothingToEvict → CantSend cancel new.core.state
+cant_send cancel root most refusal old new before after its has memory places = by_why its.why
+  where
+    by_send : its.export.state ≡ at.Prepared → cancel ≡ false → SendsAt new.core.state new.core.state root (Err refusal) → CantSend cancel new.core.state
+    by_send prepared off (inl (named, wrong)) =
+        absurd (wrong (ap (λ (o : Option StandingExport). option_map (λ (e : StandingExport). e.state) o) its.stands ∙ ap (λ (s : ExportState). Some s) prepared))
+    by_send prepared off (inr (right, inr (few, is))) = absurd (memory is)
+    by_send prepared off (inr (right, inl (named, many))) = (
+      off,
+      root,
+      ap (λ (o : Option StandingExport). option_map (λ (e : StandingExport). e.state) o) its.stands ∙ ap (λ (s : ExportState). Some s) prepared,
+      subst (λ (r : Refusal). SendsAt new.core.state new.core.state root (Err r)) named (inr (right, inl (named, many))),
+    )
+
+    by_why : WhyNotEnded cancel new.core after root its.export refusal → CantSend cancel new.core.state
+    by_why (inl (sent, inl is)) = absurd (memory is)
+    by_why (inl (sent, inr (inl (named, wrong)))) = absurd (wrong (its.kept (has root) its.export its.stands sent))
+    by_why (inl (sent, inr (inr (named, rest)))) = absurd (places named)
+    by_why (inr (early, off, inl is)) = absurd (memory is)
+    by_why (inr (early, off, inr (prepared, sends))) = by_send prepared off sends
+
 -- ---- one export ended
 
 -- a map that loses a key gets shorter
@@ -122,9 +175,12 @@ module _ (cancel : Bool) (rank : Rank) (request : Request) where
 
   goes_more : (roots : List Leaf) (root : Leaf) (old mid new : BookState) (before kept after : SentBytes) → GoesThrough cancel rank request roots old mid before kept → EndsFor cancel rank request root mid new kept after (Ok tt)
       → GoesThrough cancel rank request (roots ++ root ∷ []) old new before after
-  goes_more [] root old mid new before kept after (same, still) ends =
-      (new, after,
-      subst (λ (k : SentBytes). EndsFor cancel rank request root old new k after (Ok tt)) still (subst (λ (b : BookState). EndsFor cancel rank request root b new kept after (Ok tt)) same ends), (refl, refl))
+  goes_more [] root old mid new before kept after (same, still) ends = (
+    new,
+    after,
+    subst (λ (k : SentBytes). EndsFor cancel rank request root old new k after (Ok tt)) still (subst (λ (b : BookState). EndsFor cancel rank request root b new kept after (Ok tt)) same ends),
+    (refl, refl),
+  )
   goes_more (one ∷ roots) root old mid new before kept after (next, some, first, rest) ends = (next, some, first, goes_more roots root next mid new some kept after rest ends)
 
   -- an export ends
@@ -166,6 +222,14 @@ module _ (cancel : Bool) (rank : Rank) (request : Request) where
           let were = ap (λ (m : Standing). map.len m) exports in
           omega (arith, count, now, were)
 
+      pub has_still : HasAllBytes mid.core.state kept → EndsExport cancel root asked new kept after (Ok tt) → HasAllBytes new.core.state after
+      has_still has ends = has_ended cancel root 4 asked new kept after (ended ends) (has_once mid asked kept rank request Frozen refused has)
+
+      pub thawed : HasAllBytes mid.core.state kept → (refusal reason : Refusal) → EndsExport cancel root asked new kept after (Err refusal) → IsToldOf refusal reason → reason ≡ Frozen → CantSend cancel new.core.state
+      thawed has refusal reason ends (inl (same, inl memory)) is = let clash : NoMemory ≡ Frozen = sym memory ∙ (sym same ∙ is) in absurd cc
+      thawed has refusal reason ends (inl (same, inr places)) is = let clash : NothingToEvict ≡ Frozen = sym places ∙ (sym same ∙ is) in absurd cc
+      thawed has refusal reason ends (inr (same, memory, places)) is = cant_send cancel root 4 refusal asked new kept after (stood refusal ends) (has_once mid asked kept rank request Frozen refused has) memory places
+
       pub taken_on : EndsExport cancel root asked new kept after (Ok tt) → TakesOn cancel root 4 None asked new
       taken_on ends = (ended ends).taken
 
@@ -180,35 +244,35 @@ module _ (cancel : Bool) (rank : Rank) (request : Request) where
         mid = mid;
         kept = kept;
         through = gone.through;
-        then = inr (inl (root, refusal, record { asked = asked; refused = refused; same_opening = same; ends = stood refusal ends }, told));
+        concluded = inr (inl (root, refusal, record { asked = asked; refused = refused; same_opening = same; ends = stood refusal ends }, told));
       }
 
   -- what came of it
   module _ (old mid new : BookState) (before kept : SentBytes) (gone : HasGone old mid before kept) where
-    concluded : (result : Result Receipt Refusal) → Concludes cancel rank request mid new kept kept result → AsksThrough cancel rank request old new before kept result
-    concluded result then = record {
+    concludes : (result : Result Receipt Refusal) → Concludes cancel rank request mid new kept kept result → AsksThrough cancel rank request old new before kept result
+    concludes result ends = record {
       roots = gone.roots;
       few = (let so_far = gone.left in omega (arith, so_far));
       mid = mid;
       kept = kept;
       through = gone.through;
-      then = then;
+      concluded = ends;
     }
 
     -- the copy was asked, and got another answer than that something froze
     pub copy_told : (result : Result Receipt Refusal) → result ≢ Err Frozen → AsksCopy mid new rank request result → AsksThrough cancel rank request old new before kept result
-    copy_told (Ok receipt) other (inl once) = concluded (Ok receipt) (once, refl)
+    copy_told (Ok receipt) other (inl once) = concludes (Ok receipt) (once, refl)
     copy_told (Ok receipt) other (inr (is, same)) = let clash : ◌≡◌ {A = Result Receipt Refusal} (Ok receipt) (Err NoMemory) = is in absurd cc
-    copy_told (Err reason) other (inl once) = concluded (Err reason) (inl (once, (λ is. other (ap (λ (r : Refusal). Err r) is)), refl))
-    copy_told (Err reason) other (inr (is, same)) = concluded (Err reason) (inr (inr (named is, same, refl)))
+    copy_told (Err reason) other (inl once) = concludes (Err reason) (inl (once, (λ is. other (ap (λ (r : Refusal). Err r) is)), refl))
+    copy_told (Err reason) other (inr (is, same)) = concludes (Err reason) (inr (inr (named is, same, refl)))
       where
         named : ◌≡◌ {A = Result Receipt Refusal} (Err reason) (Err NoMemory) → reason ≡ NoMemory
         named clash = cc
 
     -- nothing is frozen any more
     pub asked_last : (result : Result Receipt Refusal) → NoneFreezing mid.core.state.exports → AsksOnce mid.core new.core mid.history new.history rank request result → AsksThrough cancel rank request old new before kept result
-    asked_last (Ok receipt) none once = concluded (Ok receipt) (once, refl)
-    asked_last (Err reason) none once = concluded (Err reason) (inl (once, never_frozen_once mid.core new.core mid.history new.history rank request reason none once, refl))
+    asked_last (Ok receipt) none once = concludes (Ok receipt) (once, refl)
+    asked_last (Err reason) none once = concludes (Err reason) (inl (once, never_frozen_once mid.core new.core mid.history new.history rank request reason none once, refl))
 
 -- ---- what stays while exports are ended
 

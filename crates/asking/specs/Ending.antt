@@ -56,9 +56,15 @@ EndsRefused results reason =
     ((before : List (Result Answer Refusal)) × (results ≡ before ++ Err reason ∷ []))
     ⊎ ((reason ≡ NoMemory) × AllByRecursion IsOk results)
 
+-- bytes that spell the region of another root do so still
+abbrev pub KeepsSpelled : (old new : State) → Leaf → Type 0
+KeepsSpelled old new root =
+    (other : Leaf) (export : StandingExport) (bytes : List ℕ) → (other ≡ root → ⊥)
+    → SpellsRegion old.tree old.roots other export bytes → SpellsRegion new.tree new.roots other export bytes
+
 -- at most so many steps of the export of a root lead from one book to another, and where a refusal is told it is that of
 -- the last of them. Nothing of it is seen by clients, and nothing changes but the tree's own state, the subtree roots and
--- this export
+-- this export; what others sent or would send is as it was
 pub record TakesOn (cancel : Bool) (root : Leaf) (most : ℕ) (refused : Option Refusal) (old new : BookState) : Type 0 where
   pub events : List Event
   pub results : List (Result Answer Refusal)
@@ -76,6 +82,7 @@ pub record TakesOn (cancel : Bool) (root : Leaf) (most : ℕ) (refused : Option 
   }
   pub others : (other : Leaf) → (other ≡ root → ⊥)
       → map.get new.core.state.exports other ≡ map.get old.core.state.exports other
+  pub spelled : KeepsSpelled old.core.state new.core.state root
 
 -- ---- kept bytes
 
@@ -89,6 +96,10 @@ abbrev pub HasBytes : State → SentBytes → Leaf → Type 0
 HasBytes state kept root =
     (export : StandingExport) → map.get state.exports root ≡ Some export → export.state ≡ Sent
     → SpellsRegion state.tree state.roots root export (bytes_for kept root)
+
+-- so it is with each export that is sent
+abbrev pub HasAllBytes : State → SentBytes → Type 0
+HasAllBytes state kept = (root : Leaf) → HasBytes state kept root
 
 -- ---- how it ends
 

@@ -1,13 +1,16 @@
 -- A request is asked through exports: those under way are brought to their end where it would change what they froze.
-use Rattle.std.specs.Prelude.{◌≡◌, ◌≢◌, ◌⊎◌, ◌≤◌, ◌∷◌, [], Bool, List, length, Result, Ok, Err}
+use Rattle.std.specs.Prelude.{◌≡◌, ◌≢◌, ◌⊎◌, ◌≤◌, ◌∷◌, [], Bool, false, List, length, Some, Result, Ok, Err}
 use Rattle.std.specs.FinMap as map
 use Rattle.mds_types.specs.declared.ids.Rank.{Rank}
 use Rattle.mds_types.specs.declared.refusals.Refusal.{Refusal}
-use Rattle.mds_types.specs.declared.refusals.Refusal.TheVariants.{Frozen, NoMemory, NothingToEvict}
+use Rattle.mds_types.specs.declared.refusals.Refusal.TheVariants.{Frozen, NoMemory, NothingToEvict, TooManyFrags}
 use Rattle.mds_types.specs.declared.requests.Request.{Request}
 use Rattle.mds_types.specs.Leaf.{Leaf}
+use Rattle.export_steps.specs.declared.exports.ExportState.TheVariants.{Prepared}
+use Rattle.export_steps.specs.Standing.{state_at}
+use Rattle.cluster_core.specs.Exporting.{SendsAt}
 use Rattle.cluster_core.specs.SentBytes.{SentBytes}
-use Rattle.cluster_core.specs.State.{BookState}
+use Rattle.cluster_core.specs.State.{BookState, State}
 use Rattle.cluster_core.specs.declared.receipts.Receipt.{Receipt}
 use Rattle.asking.specs.Ending.{EndsFrozen}
 use Rattle.asking.specs.Once.{AsksOnce}
@@ -55,7 +58,12 @@ pub record AsksThrough (cancel : Bool) (rank : Rank) (request : Request) (old ne
   pub mid : BookState
   pub kept : SentBytes
   pub through : GoesThrough cancel rank request roots old mid before kept
-  pub then : Concludes cancel rank request mid new kept after result
+  pub concluded : Concludes cancel rank request mid new kept after result
+
+-- an export can't be sent, since a fragment of its region has too many dirty names, and may not be cancelled
+abbrev pub CantSend : (cancel : Bool) → State → Type 0
+CantSend cancel state =
+    (cancel ≡ false) × (root : Leaf) × (state_at state.exports root ≡ Some Prepared) × SendsAt state state root (Err TooManyFrags)
 
 -- ---- words of this crate's own contracts
 

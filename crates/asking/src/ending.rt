@@ -155,6 +155,7 @@ fn finish<S: Store + Drop>(
     ensures opening { book.new.opening ≡ book.old.opening }
     ensures sound { IsSoundBook book.new }
 {
+    book.is_sound();
     kept.forget(ino, frag);
     match book.step(alloc, Event::Finish { ino, frag }) {
         Ok(answer) => drop(answer),

@@ -7,10 +7,11 @@ ghost use Rattle.cluster_core.specs.OneThread.{InOrder, IsOneThread, StandsInHis
 ghost use Rattle.cluster_core.specs.Sound.{IsSoundBook};
 ghost use Rattle.cluster_core.specs.Steps.{Steps};
 ghost use Rattle.asking.specs.Ask.{NoneWaits};
+ghost use Rattle.asking.specs.Ending.{HasAllBytes};
 ghost use Rattle.asking.specs.Drain.{waiting_in_all};
 ghost use Rattle.asking.specs.Once.{AsksOnce, Leaves};
 ghost use Rattle.asking.specs.Reached.{receipt_in};
-ghost use Rattle.asking.specs.Through.{AsksThrough};
+ghost use Rattle.asking.specs.Through.{AsksThrough, CantSend};
 
 use crate::asks::ask;
 use crate::drains::lowest;
@@ -154,6 +155,8 @@ impl<S: Store + Drop> Service<S> {
             self.new.book.history (request ∷ []) (receipt_in result) }
         ensures in_order { InOrder (length self.old.book.history) (receipt_in result) (length self.new.book.history) }
         ensures asked { AsksThrough cancel rank request self.old.book self.new.book kept.old kept.new result }
+        ensures thawed { HasAllBytes self.old.book.core.state kept.old → result ≡ Err Refusal.Frozen
+            → CantSend cancel self.new.book.core.state }
         ensures stands { IfOk result
             (λ receipt. StandsInHistory self.new.book.history receipt.client receipt.tid receipt.place receipt.reply) }
         ensures limit { self.new.book.core.state.tree.limit ≡ self.old.book.core.state.tree.limit }

@@ -1,11 +1,11 @@
 //! Asking through exports: those that keep a request from its answer are brought to their end.
-ghost use Rattle.std.specs.Prelude.{◌≡◌, ◌∷◌, [], length, IfOk, MatchOption};
+ghost use Rattle.std.specs.Prelude.{◌≡◌, ◌∷◌, [], length, Err, IfOk, MatchOption};
 ghost use Rattle.cluster_core.specs.OneThread.{InOrder, IsOneThread, StandsInHistory};
 ghost use Rattle.cluster_core.specs.Sound.{IsSoundBook};
 ghost use Rattle.asking.specs.Ask.{NoneWaits};
-ghost use Rattle.asking.specs.Ending.{IsFreezing, NoneFreezing, NoneFreezingOf};
+ghost use Rattle.asking.specs.Ending.{HasAllBytes, IsFreezing, NoneFreezing, NoneFreezingOf};
 ghost use Rattle.asking.specs.Reached.{receipt_in};
-ghost use Rattle.asking.specs.Through.{AsksCopy, AsksThrough, IsToldOf};
+ghost use Rattle.asking.specs.Through.{AsksCopy, AsksThrough, CantSend, IsToldOf};
 
 use crate::ending::end_export;
 use crate::services::ask_once;
@@ -36,6 +36,7 @@ pub fn ask_through<S: Store + Drop>(
         (request ∷ []) (receipt_in result) }
     ensures in_order { InOrder (length book.old.history) (receipt_in result) (length book.new.history) }
     ensures asked { AsksThrough cancel rank request book.old book.new kept.old kept.new result }
+    ensures thawed { HasAllBytes book.old.core.state kept.old → result ≡ Err Refusal.Frozen → CantSend cancel book.new.core.state }
     ensures none { NoneWaits book.new.core.state.inboxes }
     ensures stands { IfOk result
         (λ receipt. StandsInHistory book.new.history receipt.client receipt.tid receipt.place receipt.reply) }
