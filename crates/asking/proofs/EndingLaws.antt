@@ -1,12 +1,11 @@
 -- An export is taken on, step by step, to its end.
-use Rattle.asking.proofs.Common.{Answer, Bool, BookState, Core, Err, Event, Fragment, Ino, IsLeft, IsSoundBook, Leaf, List, NoMemory, None, NothingToEvict, Ok, Option, Refusal, Result, Roots, Some, State, Steps, TreeState, [], ap, arith, false, inl, inr, length, refl, shown, subst, sym, true, ℕ, ◌++◌, ◌+◌, ◌<◌, ◌∙◌, ◌∷◌, ◌≡◌, ◌≢◌, ◌≤◌, ◌⊎◌}
+use Rattle.asking.proofs.Common.{Answer, Bool, BookState, Core, Err, Event, Fragment, Ino, IsLeft, IsSoundBook, Leaf, List, NoMemory, None, NothingToEvict, Ok, Option, Rank, Refusal, Result, Roots, Some, State, Steps, TreeState, [], ap, arith, false, inl, inr, length, refl, shown, subst, sym, true, ℕ, ◌++◌, ◌+◌, ◌<◌, ◌∙◌, ◌∷◌, ◌≡◌, ◌≢◌, ◌≤◌, ◌⊎◌}
 use Rattle.std.specs.FinMap as map
 use Rattle.std.specs.FinMap.{same_map}
-use Rattle.std.specs.List.{AllByRecursion}
 use Rattle.std.specs.Prelude.{IsOk}
 use Rattle.std.specs.Option.{option_map}
 use Rattle.std.specs.Result.{result_err}
-use Rattle.std.proofs.lemmas.List.{append_assoc, length-append}
+use Rattle.std.proofs.lemmas.List.{length-append}
 use Rattle.std.proofs.lemmas.Option.{none-some, same_Some}
 use Rattle.mds_types.proofs.LeafLaws.{get_beside, get_left, get_put, get_removed, leaf-exact, leaf-total, same_or_apart}
 use Rattle.mds_types.specs.Leaf.{leaf_cmp}
@@ -23,7 +22,7 @@ use Rattle.cluster_core.specs.State.{LacksPlacesAt}
 use Rattle.cluster_core.specs.declared.events.Answer.TheVariants.{Sent}
 use Rattle.cluster_core.specs.declared.events.Event.TheVariants.{Cancel, Finish, Import, Prep, Send}
 use Rattle.mds_types.specs.declared.refusals.Refusal.TheVariants.{WrongExportState}
-use Rattle.asking.specs.Ending.{CancelsOr, EndsFrozen, EndsRefused, HandsOrCancels, HasBytes, HasEnded, IsFreezing, IsStepOn, KeepsOtherBytes, KeepsSpelled, StandsStill, TakesOn, WhyNotEnded}
+use Rattle.asking.specs.Ending.{CancelsOr, EndsFrozen, EndsRefused, HandsOrCancels, HasBytes, HasEnded, IsFreezing, IsStepOn, KeepsOtherBytes, KeepsSpelled, StandsStill, TakesOn, TriesToSend, WhyNotEnded}
 use Rattle.asking.proofs.ReachedLaws.{all_then, runs_then}
 use Rattle.asking.proofs.SpelledLaws.{spelled_finished, spelled_imported, spelled_kept, spelled_same}
 
@@ -145,24 +144,36 @@ module _ (cancel : Bool) (root : Leaf) where
     spelled = one.spelled;
   }
 
-  all_ok_then : (xs ys : List (Result Answer Refusal)) → AllByRecursion IsOk xs → AllByRecursion IsOk ys → AllByRecursion IsOk (xs ++ ys)
-  all_ok_then [] ys all more = more
-  all_ok_then (x ∷ xs) ys (one, all) more = (one, all_ok_then xs ys all more)
+  refused_then : (result : Result Answer Refusal) (results : List (Result Answer Refusal)) (reason : Refusal) → IsOk result → EndsRefused results reason → EndsRefused (result ∷ results) reason
+  refused_then result results reason ok (inl end) = inl (result ∷ end.0, ap (λ (rs : List (Result Answer Refusal)). result ∷ rs) end.1)
+  refused_then result results reason ok (inr (memory, all)) = inr (memory, (ok, all))
 
-  refused_then : (xs ys : List (Result Answer Refusal)) (reason : Refusal) → AllByRecursion IsOk xs → EndsRefused ys reason → EndsRefused (xs ++ ys) reason
-  refused_then xs ys reason ok (inl end) = inl (xs ++ end.0, ap (λ (rs : List (Result Answer Refusal)). xs ++ rs) end.1 ∙ sym (append_assoc xs end.0 (Err reason ∷ [])))
-  refused_then xs ys reason ok (inr (memory, all)) = inr (memory, all_ok_then xs ys ok all)
+  -- a step that was made, and more
+  pub step_then : (most all : ℕ) (refused : Option Refusal) (old mid new : BookState) → 1 + most ≤ all → (answer : Answer) (event : Event) → IsStepOn cancel root event → Steps old.core mid.core old.history mid.history (Ok answer) event
+      → mid.opening ≡ old.opening → IsSoundBook mid → Unseen root old mid → TakesOn cancel root most refused mid new → TakesOn cancel root all refused old new
+  step_then most all refused old mid new low answer event is steps opening sound unseen other = record {
+    events = event ∷ other.events;
+    results = Ok answer ∷ other.results;
+    ran = (mid, record { stepped = steps; same_opening = opening }, sound, other.ran);
+    of_it = (is, other.of_it);
+    few = (let a = other.few in omega (arith, low, a));
+    last = λ reason told. refused_then (Ok answer) other.results reason tt (other.last reason told);
+    same = other.same ∙ unseen.same;
+    tree = other.tree ∙ unseen.tree;
+    left = other.left ∙ ap (λ (s : State). record s { tree = new.core.state.tree; roots = new.core.state.roots; exports = new.core.state.exports }) unseen.left;
+    others = λ leaf apart. other.others leaf apart ∙ unseen.others leaf apart;
+    spelled = λ leaf export bytes apart spells. other.spelled leaf export bytes apart (unseen.spelled leaf export bytes apart spells);
+  }
 
-  -- what comes behind steps that were made, or of which nothing is told
-  pub takes_then : (few most all : ℕ) (before refused : Option Refusal) (old mid new : BookState) → few + most ≤ all → (one : TakesOn cancel root few before old mid) → ((reason : Refusal) → refused ≡ Some reason → AllByRecursion IsOk one.results)
-      → TakesOn cancel root most refused mid new → TakesOn cancel root all refused old new
-  takes_then few most all before refused old mid new low one ok other = record {
+  -- steps of which the last was refused, and then one that ends it
+  pub takes_then : (few most all : ℕ) (before : Option Refusal) (old mid new : BookState) → few + most ≤ all → TakesOn cancel root few before old mid → TakesOn cancel root most None mid new → TakesOn cancel root all None old new
+  takes_then few most all before old mid new low one other = record {
     events = one.events ++ other.events;
     results = one.results ++ other.results;
     ran = runs_then old mid new one.events other.events one.results other.results one.ran other.ran;
     of_it = all_then (IsStepOn cancel root) one.events other.events one.of_it other.of_it;
     few = (let a = one.few in let b = other.few in let c = length-append one.events other.events in omega (arith, low, a, b, c));
-    last = λ reason is. refused_then one.results other.results reason (ok reason is) (other.last reason is);
+    last = λ reason clash. absurd (none-some reason clash);
     same = other.same ∙ one.same;
     tree = other.tree ∙ one.tree;
     left = other.left ∙ ap (λ (s : State). record s { tree = new.core.state.tree; roots = new.core.state.roots; exports = new.core.state.exports }) one.left;
@@ -185,12 +196,12 @@ module _ (cancel : Bool) (root : Leaf) where
 
   -- a step by which it has come to another state, and the rest
   module _ (old mid new : BookState) (before kept after : SentBytes) (from to : ExportState) (step : ComesTo old.core.state.exports mid.core.state.exports root from to) (freezing : is_freezing from ≡ true)
-      (unsent : is_before_send to ≡ true → (is_before_send from ≡ true) × (mid.core.state.tree ≡ old.core.state.tree)) (roots : mid.core.state.roots ≡ old.core.state.roots) (one : TakesOn cancel root 1 None old mid)
-      (ok : AllByRecursion IsOk one.results) (bytes : KeepsOtherBytes before kept root) (has : HasBytes old.core.state before root → HasBytes mid.core.state kept root) (most all : ℕ) (low : 1 + most ≤ all) where
+      (unsent : is_before_send to ≡ true → (is_before_send from ≡ true) × (mid.core.state.tree ≡ old.core.state.tree)) (roots : mid.core.state.roots ≡ old.core.state.roots) (answer : Answer) (event : Event)
+      (is : IsStepOn cancel root event) (steps : Steps old.core mid.core old.history mid.history (Ok answer) event) (opening : mid.opening ≡ old.opening) (sound : IsSoundBook mid) (unseen : Unseen root old mid) (bytes : KeepsOtherBytes before kept root) (has : HasBytes old.core.state before root → HasBytes mid.core.state kept root) (most all : ℕ) (low : 1 + most ≤ all) where
     by_hand : (export : StandingExport) → export ≡ come_to to step.export → HandsOrCancels cancel mid.core.state new.core.state root export → HandsOrCancels cancel old.core.state new.core.state root step.export
-    by_hand export is (inl handed) = inl (handed ∙ (ap (λ (r : Roots). map.insert r root export.importer) roots ∙ ap (λ (e : StandingExport). map.insert old.core.state.roots root e.importer) is))
-    by_hand export is (inr (allowed, early, kept_roots, kept_tree)) =
-        let its = unsent (sym (ap (λ (e : StandingExport). is_before_send e.state) is) ∙ early) in
+    by_hand export same (inl handed) = inl (handed ∙ (ap (λ (r : Roots). map.insert r root export.importer) roots ∙ ap (λ (e : StandingExport). map.insert old.core.state.roots root e.importer) same))
+    by_hand export same (inr (allowed, early, kept_roots, kept_tree)) =
+        let its = unsent (sym (ap (λ (e : StandingExport). is_before_send e.state) same) ∙ early) in
         inr (allowed, ap is_before_send step.was ∙ its.0, kept_roots ∙ roots, kept_tree ∙ its.1)
 
     pub ends_on : HasEnded cancel root most mid new kept after → HasEnded cancel root all old new before after
@@ -198,7 +209,7 @@ module _ (cancel : Bool) (root : Leaf) where
       export = step.export;
       stood = step.stood;
       freezing = ap is_freezing step.was ∙ freezing;
-      taken = takes_then 1 most all None None old mid new low one (λ reason clash. absurd (none-some reason clash)) its.taken;
+      taken = step_then most all None old mid new low answer event is steps opening sound unseen its.taken;
       ended = its.ended ∙ (ap (λ (m : Standing). map.remove m root) step.changed ∙ gone_again old.core.state.exports root (come_to to step.export));
       by = by_hand its.export (value_is (map.get mid.core.state.exports root) its.export (come_to to step.export) its.stood (came_here root old.core.state.exports mid.core.state.exports from to step)) its.by;
       bytes = λ other apart. its.bytes other apart ∙ bytes other apart;
@@ -210,7 +221,7 @@ module _ (cancel : Bool) (root : Leaf) where
       export = its.export;
       stands = its.stands;
       freezing = its.freezing;
-      taken = takes_then 1 most all None (Some reason) old mid new low one (λ other is. ok) its.taken;
+      taken = step_then most all (Some reason) old mid new low answer event is steps opening sound unseen its.taken;
       why = its.why;
       bytes = λ other apart. its.bytes other apart ∙ bytes other apart;
       kept = λ had. its.kept (has had);
@@ -251,7 +262,7 @@ module _ (cancel : Bool) (root : Leaf) where
           stood = stood;
           freezing = freezing;
           taken =
-              takes_then few 1 all (Some refusal) None old mid new low one (λ reason clash. absurd (none-some reason clash))
+              takes_then few 1 all (Some refusal) old mid new low one
               (takes_by mid new (Ok answer) (Cancel root.0 root.1) (allowed, refl) steps opening sound (unseen_step root mid new steps.does.2 others (spelled_kept mid.core.state new.core.state root did.2)));
           ended = gone ∙ ap (λ (s : State). map.remove s.exports root) same;
           by = inr (allowed, unsent, did.2.roots ∙ ap (λ (s : State). s.roots) same, did.2.tree ∙ ap (λ (s : State). s.tree) same);
@@ -278,8 +289,8 @@ module _ (cancel : Bool) (dir : Ino) (f : Fragment) (old mid : BookState) (openi
         let step : ComesTo old.core.state.exports mid.core.state.exports root at.Frozen at.Prepared = steps.does.1.0 in
         let keeps : KeepsTreeAndRoots old.core.state mid.core.state = steps.does.1.1 in
         goes_on cancel root old mid new before before after at.Frozen at.Prepared step refl (λ early. (refl, keeps.tree)) keeps.roots
-        (takes_by cancel root old mid (Ok answer) (Prep dir f) refl steps opening sound (unseen_step root old mid steps.does.2 (came_others root old.core.state.exports mid.core.state.exports at.Frozen at.Prepared step) (spelled_kept old.core.state mid.core.state root keeps)))
-        (tt, tt) (λ other apart. refl)
+        answer (Prep dir f) refl steps opening sound (unseen_step root old mid steps.does.2 (came_others root old.core.state.exports mid.core.state.exports at.Frozen at.Prepared step) (spelled_kept old.core.state mid.core.state root keeps))
+        (λ other apart. refl)
         (λ had. unsent_has cancel root mid.core.state before (come_to at.Prepared step.export) (came_here root old.core.state.exports mid.core.state.exports at.Frozen at.Prepared step) refl)
         3 4 (omega arith)
 
@@ -315,8 +326,7 @@ module _ (cancel : Bool) (dir : Ino) (f : Fragment) (old mid : BookState) (openi
           (subst (λ (b : List ℕ). SpellsRegion old.core.state.tree old.core.state.roots root (come_to at.Sent step.export) b) (sym here) (spells_so at.Sent old.core.state.tree old.core.state.roots root step.export steps.does.0 spells))) in
           let there : map.get mid.core.state.exports root ≡ Some (come_to at.Sent step.export) = came_here root old.core.state.exports mid.core.state.exports at.Prepared at.Sent step in
           goes_on cancel root old mid new before kept after at.Prepared at.Sent step refl (λ early. let clash : false ≡ true = early in cc) keeps.roots
-          (takes_by cancel root old mid (Ok answer) (Send dir f) refl steps opening sound (unseen_step root old mid steps.does.3 (came_others root old.core.state.exports mid.core.state.exports at.Prepared at.Sent step) (spelled_kept old.core.state mid.core.state root keeps)))
-          (tt, tt)
+          answer (Send dir f) refl steps opening sound (unseen_step root old mid steps.does.3 (came_others root old.core.state.exports mid.core.state.exports at.Prepared at.Sent step) (spelled_kept old.core.state mid.core.state root keeps))
           (λ other apart. ap (λ (m : Kept). map.get m other) inserted ∙ (get_beside reserved.bytes root steps.does.0 other apart ∙ ap (λ (m : Kept). map.get m other) same))
           (λ had export stands is.
           subst (λ (e : StandingExport). SpellsRegion mid.core.state.tree mid.core.state.roots root e (bytes_for kept root)) (sym (value_is (map.get mid.core.state.exports root) export (come_to at.Sent step.export) stands there)) now)
@@ -338,8 +348,8 @@ module _ (cancel : Bool) (dir : Ino) (f : Fragment) (old mid : BookState) (openi
         let step : ComesTo old.core.state.exports mid.core.state.exports root at.Sent at.Imported = steps.does.1.step in
         let there : map.get mid.core.state.exports root ≡ Some (come_to at.Imported step.export) = came_here root old.core.state.exports mid.core.state.exports at.Sent at.Imported step in
         ends_on cancel root old mid new before before after at.Sent at.Imported step refl (λ early. let clash : false ≡ true = early in cc) steps.does.1.roots
-        (takes_by cancel root old mid (Ok answer) (Import dir f bytes) refl steps opening sound (unseen_step root old mid steps.does.2 (came_others root old.core.state.exports mid.core.state.exports at.Sent at.Imported step) (spelled_imported old.core.state mid.core.state root steps.does.1.renewed steps.does.1.roots)))
-        (tt, tt) (λ other apart. refl)
+        answer (Import dir f bytes) refl steps opening sound (unseen_step root old mid steps.does.2 (came_others root old.core.state.exports mid.core.state.exports at.Sent at.Imported step) (spelled_imported old.core.state mid.core.state root steps.does.1.renewed steps.does.1.roots))
+        (λ other apart. refl)
         (λ had export stands is.
         let same : export ≡ come_to at.Imported step.export = value_is (map.get mid.core.state.exports root) export (come_to at.Imported step.export) stands there in
         let state : at.Imported ≡ at.Sent = sym (ap (λ (e : StandingExport). e.state) same) ∙ is in absurd cc)
@@ -359,7 +369,7 @@ module _ (cancel : Bool) (dir : Ino) (f : Fragment) (old mid : BookState) (openi
         caches : refusal ≡ NothingToEvict → mid.core.caches ≡ old.core.caches
         caches is = go steps.does.2
           where
-            keeps : (importer : _) → KeepsRegion importer old.core.caches mid.core.caches refusal → mid.core.caches ≡ old.core.caches
+            keeps : (importer : Rank) → KeepsRegion importer old.core.caches mid.core.caches refusal → mid.core.caches ≡ old.core.caches
             keeps importer (inl same) = same
             keeps importer (inr (memory, leaves)) = let clash : NoMemory ≡ NothingToEvict = sym memory ∙ is in absurd cc
 
@@ -428,13 +438,17 @@ module _ (cancel : Bool) (dir : Ino) (f : Fragment) (old mid : BookState) (openi
 
 -- ---- where no step was made, for want of memory
 
+abbrev pub option_freezes : Option ExportState → Bool
+option_freezes None = false
+option_freezes (Some state) = is_freezing state
+
 module _ (cancel : Bool) (root : Leaf) (book : BookState) (before after : SentBytes) where
-  pub no_room : state_at book.core.state.exports root ≡ Some at.Prepared → (new : BookState) → new.opening ≡ book.opening → IsSoundBook new → after ≡ before → (result : Result (Unit {0}) Refusal)
+  pub no_room : state_at book.core.state.exports root ≡ Some at.Prepared → (new : BookState) → new.opening ≡ book.opening → IsSoundBook new → after.bytes ≡ before.bytes → (result : Result (Unit {0}) Refusal)
       → CancelsOr cancel root book new NoMemory result → EndsFrozen cancel root 3 book new before after result
   no_room prepared new later good same result =
       let export = export_at book.core.state.exports root at.Prepared prepared in
       cancels_or cancel root book book new before after export.0 export.1 (ap is_freezing export.2) (ap is_before_send export.2) 0 3 (omega arith) NoMemory (takes_nothing cancel root book) refl (inl refl)
-      (λ other apart. ap (λ (k : SentBytes). map.get k.bytes other) same) result later good
+      (λ other apart. ap (λ (m : Kept). map.get m other) same) result later good
 
   pub no_copy : state_at book.core.state.exports root ≡ Some at.Sent → after ≡ before → StandsStill cancel root 2 NoMemory book book before after
   no_copy sent same =
@@ -451,6 +465,46 @@ module _ (cancel : Bool) (root : Leaf) (book : BookState) (before after : SentBy
 
   pub unsent_at : (state : ExportState) → is_before_send state ≡ true → state_at book.core.state.exports root ≡ Some state → IsUnsent book.core.state root
   unsent_at state early is = let export = export_at book.core.state.exports root state is in (export.0, export.1, ap is_before_send export.2 ∙ early)
+
+  -- it wasn't sent, or there was no room
+  pub not_sent_so : state_at book.core.state.exports root ≡ Some at.Prepared → (mid new : BookState) → mid.opening ≡ book.opening → IsSoundBook mid → (refusal : Refusal) → TriesToSend root book mid (Err refusal) → new.opening ≡ mid.opening → IsSoundBook new
+      → after.bytes ≡ before.bytes → (result : Result (Unit {0}) Refusal) → CancelsOr cancel root mid new refusal result → EndsFrozen cancel root 3 book new before after result
+  not_sent_so prepared mid new opening sound refusal (inl steps) later good same = not_sent cancel root.0 root.1 book mid opening sound new before after prepared refusal steps later good same
+  not_sent_so prepared mid new opening sound refusal (inr (is, still)) later good same result its =
+      no_room prepared new (later ∙ opening) good same result
+      (subst (λ (r : Refusal). CancelsOr cancel root book new r result) is (subst (λ (b : BookState). CancelsOr cancel root b new refusal result) still its))
+
+  unsent_mid : (mid : BookState) (refusal : Refusal) → TriesToSend root book mid (Err refusal) → mid.core.state ≡ book.core.state
+  unsent_mid mid refusal (inl steps) = steps.does.1.left
+  unsent_mid mid refusal (inr (is, still)) = ap (λ (b : BookState). b.core.state) still
+
+  pub unsent_then : state_at book.core.state.exports root ≡ Some at.Prepared → (mid : BookState) (refusal : Refusal) → TriesToSend root book mid (Err refusal) → IsUnsent mid.core.state root
+  unsent_then prepared mid refusal tries = subst (λ (s : State). IsUnsent s root) (sym (unsent_mid mid refusal tries)) (unsent_at at.Prepared refl prepared)
+
+  pub ends_within : (most all : ℕ) (new : BookState) → most ≤ all → (result : Result (Unit {0}) Refusal) → EndsFrozen cancel root most book new before after result → EndsFrozen cancel root all book new before after result
+  ends_within most all new low (Ok done) its = record {
+    export = its.export;
+    stood = its.stood;
+    freezing = its.freezing;
+    taken = takes_within cancel root most all None book new low its.taken;
+    ended = its.ended;
+    by = its.by;
+    bytes = its.bytes;
+  }
+  ends_within most all new low (Err reason) its = record {
+    export = its.export;
+    stands = its.stands;
+    freezing = its.freezing;
+    taken = takes_within cancel root most all (Some reason) book new low its.taken;
+    why = its.why;
+    bytes = its.bytes;
+    kept = its.kept;
+  }
+
+  pub never_started : (state : Option ExportState) → state_at book.core.state.exports root ≡ state → option_freezes state ≡ false → IsFreezing book.core.state.exports root → ⊥
+  never_started state is thaws (export, there, freezing) =
+      let its : state ≡ Some export.state = sym is ∙ state_of_it book.core.state.exports root export there in
+      let clash : false ≡ true = sym thaws ∙ (ap option_freezes its ∙ freezing) in cc
 
   pub freezing_at : (state : ExportState) → is_freezing state ≡ true → state_at book.core.state.exports root ≡ Some state → IsFreezing book.core.state.exports root
   freezing_at state freezes is = let export = export_at book.core.state.exports root state is in (export.0, export.1, ap is_freezing export.2 ∙ freezes)

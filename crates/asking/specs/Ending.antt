@@ -169,3 +169,10 @@ CancelsOr cancel root old new refusal (Ok done) =
     (cancel ≡ true) × (answer : Answer)
     × Steps old.core new.core old.history new.history (Ok answer) (Cancel root.0 root.1)
 CancelsOr cancel root old new refusal (Err reason) = (reason ≡ refusal) × (cancel ≡ false) × (new ≡ old)
+
+-- a prepared export was sent, or not; or there was no room for its bytes
+abbrev pub TriesToSend : Leaf → (old new : BookState) → Result Answer Refusal → Type 0
+TriesToSend root old new (Ok answer) = Steps old.core new.core old.history new.history (Ok answer) (Send root.0 root.1)
+TriesToSend root old new (Err reason) =
+    Steps old.core new.core old.history new.history (Err reason) (Send root.0 root.1)
+    ⊎ ((reason ≡ NoMemory) × (new ≡ old))

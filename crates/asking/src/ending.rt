@@ -1,12 +1,12 @@
 //! Ending an export that froze its region, by its own next steps.
-ghost use Rattle.std.specs.Prelude.{◌≡◌, ◌<◌, ℕ, List, Some};
+ghost use Rattle.std.specs.Prelude.{◌≡◌, ◌<◌, ℕ, List, Some, OnOk};
 ghost use Rattle.std.specs.FinMap as map;
 ghost use Rattle.export_steps.specs.declared.exports.ExportState.TheVariants as at;
 ghost use Rattle.export_steps.specs.Standing.{state_at};
 ghost use Rattle.cluster_core.specs.Exporting.{IsUnsent};
 ghost use Rattle.cluster_core.specs.Sound.{IsSoundBook};
 ghost use Rattle.cluster_core.specs.declared.events.Answer.TheVariants.{Sent};
-ghost use Rattle.asking.specs.Ending.{CancelsOr, EndsExport, EndsFrozen, HasEnded};
+ghost use Rattle.asking.specs.Ending.{CancelsOr, EndsExport, EndsFrozen, HasEnded, TriesToSend};
 
 use cluster_core::{Answer, Book, Event, KeptBytes};
 use export_steps::ExportState;
@@ -34,18 +34,26 @@ pub fn end_export<S: Store + Drop>(
     ensures sound { IsSoundBook book.new }
 {
     book.is_sound();
-    let Some(export) = book.cluster().exports().get(ino, frag) else {
-        return Err(Refusal::WrongExportState);
-    };
-    match export.state {
-        ExportState::Started => Err(Refusal::WrongExportState),
-        ExportState::Frozen => end_frozen(alloc, book, kept, ino, frag, cancel),
-        ExportState::Prepared => end_prepared(alloc, book, kept, ino, frag, cancel),
-        ExportState::Sent => end_sent(alloc, book, kept, ino, frag, cancel),
-        ExportState::Imported => {
+    match state_of(book, ino, frag) {
+        None => Err(Refusal::WrongExportState),
+        Some(ExportState::Started) => Err(Refusal::WrongExportState),
+        Some(ExportState::Frozen) => end_frozen(alloc, book, kept, ino, frag, cancel),
+        Some(ExportState::Prepared) => end_prepared(alloc, book, kept, ino, frag, cancel),
+        Some(ExportState::Sent) => end_sent(alloc, book, kept, ino, frag, cancel),
+        Some(ExportState::Imported) => {
             finish(alloc, book, kept, ino, frag, cancel);
             Ok(())
         }
+    }
+}
+
+// The state of the export of a root, if there is one.
+fn state_of<S: Store + Drop>(book: &Book<S>, ino: Ino, frag: Frag) -> Option<ExportState>
+    ensures { result ≡ state_at book.now.core.state.exports (ino, frag) }
+{
+    match book.cluster().exports().get(ino, frag) {
+        Some(export) => Some(export.state),
+        None => None,
     }
 }
 
@@ -72,7 +80,7 @@ fn end_frozen<S: Store + Drop>(
     }
 }
 
-// One that is prepared. Room for the bytes comes before it is sent: after that they can't be lost.
+// One that is prepared.
 fn end_prepared<S: Store + Drop>(
     alloc: Global,
     book: &mut Book<S>,
@@ -86,15 +94,33 @@ fn end_prepared<S: Store + Drop>(
     ensures opening { book.new.opening ≡ book.old.opening }
     ensures sound { IsSoundBook book.new }
 {
-    if kept.reserve().is_err() {
-        return unless_cancelled(alloc, book, ino, frag, cancel, Refusal::NoMemory);
-    }
-    match book.step(alloc, Event::Send { ino, frag }) {
+    match send(alloc, book, kept, ino, frag) {
         Ok(answer) => {
             keep_sent(kept, ino, frag, answer);
             end_sent(alloc, book, kept, ino, frag, cancel)
         }
         Err(refusal) => unless_cancelled(alloc, book, ino, frag, cancel, refusal),
+    }
+}
+
+// It is sent, once there is room for its bytes: after that they can't be lost.
+fn send<S: Store + Drop>(
+    alloc: Global,
+    book: &mut Book<S>,
+    kept: &mut KeptBytes,
+    ino: Ino,
+    frag: Frag,
+) -> Result<Answer, Refusal>
+    ensures sends { TriesToSend (ino, frag) book.old book.new result }
+    ensures room { OnOk result (0 < kept.new.room) }
+    ensures bytes { kept.new.bytes ≡ kept.old.bytes }
+    ensures opening { book.new.opening ≡ book.old.opening }
+    ensures sound { IsSoundBook book.new }
+{
+    book.is_sound();
+    match kept.reserve() {
+        Ok(()) => book.step(alloc, Event::Send { ino, frag }),
+        Err(_) => Err(Refusal::NoMemory),
     }
 }
 
