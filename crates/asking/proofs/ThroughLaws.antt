@@ -293,3 +293,18 @@ thread_on old mid new request result history opening limit one =
 
 pub order_on : (old mid new : BookState) (result : Result Receipt Refusal) → mid.history ≡ old.history → InOrder (length mid.history) (receipt_in result) (length new.history) → InOrder (length old.history) (receipt_in result) (length new.history)
 order_on old mid new result history order = subst (λ (h : List Entry). InOrder (length h) (receipt_in result) (length new.history)) history order
+
+-- a refusal that isn't told of a frozen export
+pub last_not : (old new : BookState) (rank : Rank) (request : Request) (result : Result Receipt Refusal) → NoneFreezing old.core.state.exports → AsksOnce old.core new.core old.history new.history rank request result → result ≢ Err Frozen
+last_not old new rank request (Ok receipt) none once clash = cc
+last_not old new rank request (Err reason) none once clash = never_frozen_once old.core new.core old.history new.history rank request reason none once (named clash)
+  where
+    named : ◌≡◌ {A = Result Receipt Refusal} (Err reason) (Err Frozen) → reason ≡ Frozen
+    named same = cc
+
+pub frozen_of : (reason : Refusal) → ◌≡◌ {A = Result Receipt Refusal} (Err reason) (Err Frozen) → reason ≡ Frozen
+frozen_of reason same = cc
+
+-- the copy was asked, and something is frozen
+pub refused_so : (old new : BookState) (rank : Rank) (request : Request) → AsksCopy old new rank request (Err Frozen) → AsksOnce old.core new.core old.history new.history rank request (Err Frozen)
+refused_so old new rank request asked = copy_asked old new rank request Frozen (λ is. let clash : Frozen ≡ NoMemory = is in cc) asked
