@@ -1,6 +1,5 @@
 use Rattle.asking.proofs.Common.{Frozen, None, refl, ◌∙◌}
 use Rattle.asking.proofs.OnceLaws.{kept_once}
-
 use Rattle.asking.proofs.ThroughLaws.{asked_last, fewer_left, frozen_of, gone_none, gone_one, has_still, last_not, limit_taken, none_taken, order_on, refused_so, stopped, taken_on, thawed, thread_on}
 use Rattle.asking.proofs.through.ask_through.Goals as goal
 
