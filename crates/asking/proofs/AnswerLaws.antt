@@ -84,6 +84,15 @@ module _ (q : Question) (mid : BookState) (sound : IsSound q.opening q.history q
       go true e h = absurd (omega (arith, h.0.1, ap (λ (w : List Request). length w) (none q.rank)))
       go false e h = inl (named h.0, ltb-false _ _ e, h.1, h.2)
 
+-- a request that comes in is told nothing
+pub told_nothing : (old mid : BookState) (rank : Rank) (request : Request) (answer : Answer) → Steps old.core mid.core old.history mid.history (Ok answer) (Arrive rank request) → answer ≡ Nothing
+told_nothing old mid rank request answer steps = go (nat_lt rank.0 (length old.core.state.inboxes)) steps.does
+  where
+    go : (b : Bool) → MatchBool b (ArrivesAt old.core.state mid.core.state old.history mid.history rank request (Ok answer) × AsksNone old.core mid.core) ((◌≡◌ {A = Result Answer Refusal} (Ok answer) (Err NotAuthority)) × (mid.core ≡ old.core) × (mid.history ≡ old.history))
+        → answer ≡ Nothing
+    go true h = h.0.0
+    go false h = let clash = h.0 in cc
+
 -- ---- a request that waits alone is served
 
 module _ (q : Question) (mid : BookState) (at : Rank) (client tid : ℕ) (c : HasCome q mid at client tid) where

@@ -1,0 +1,9 @@
+use Rattle.asking.proofs.Common.{arith}
+use Rattle.asking.proofs.ThroughLaws.{none_at_all, none_more}
+use Rattle.asking.proofs.through.first_frozen.Goals as goal
+
+pub loop-rank-preserved : goal.loop-rank-preserved
+loop-rank-preserved g c = none_more c.args.book.now.core.state.exports c.loop-rank.rank c.loop-rank.invariant c.in_default.ensures
+
+pub returns : goal.returns
+returns g c = none_at_all c.args.book.now c.is_sound.ensures c.loop-rank.rank (omega (arith, c.loop-rank-test.false)) c.loop-rank.invariant
