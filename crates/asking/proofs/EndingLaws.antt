@@ -157,7 +157,7 @@ module _ (cancel : Bool) (root : Leaf) where
     ran = (mid, record { stepped = steps; same_opening = opening }, sound, other.ran);
     of_it = (is, other.of_it);
     few = (let a = other.few in omega (arith, low, a));
-    last = λ reason told. refused_then (Ok answer) other.results reason tt (other.last reason told);
+    last = λ reason told. refused_then (Ok answer) other.results reason refl (other.last reason told);
     same = other.same ∙ unseen.same;
     tree = other.tree ∙ unseen.tree;
     left = other.left ∙ ap (λ (s : State). record s { tree = new.core.state.tree; roots = new.core.state.roots; exports = new.core.state.exports }) unseen.left;
@@ -361,7 +361,7 @@ module _ (cancel : Bool) (dir : Ino) (f : Fragment) (old mid : BookState) (openi
 
     pub not_imported : state_at old.core.state.exports root ≡ Some at.Sent → (refusal : Refusal) (bytes : List ℕ) → bytes ≡ bytes_for kept root → Steps old.core mid.core old.history mid.history (Err refusal) (Import dir f bytes)
         → StandsStill cancel root 2 refusal old mid kept kept
-    not_imported sent refusal bytes are steps = by_why steps.does.0
+    not_imported was refusal bytes are steps = by_why steps.does.0
       where
         left : mid.core.state ≡ old.core.state
         left = steps.does.1.left
@@ -371,7 +371,7 @@ module _ (cancel : Bool) (dir : Ino) (f : Fragment) (old mid : BookState) (openi
           where
             keeps : (importer : Rank) → KeepsRegion importer old.core.caches mid.core.caches refusal → mid.core.caches ≡ old.core.caches
             keeps importer (inl same) = same
-            keeps importer (inr (memory, leaves)) = let clash : NoMemory ≡ NothingToEvict = sym memory ∙ is in absurd cc
+            keeps importer (inr (memory, leaves, wants)) = let clash : NoMemory ≡ NothingToEvict = sym memory ∙ is in absurd cc
 
             go : LeavesCaches old.core.state.exports root old.core.caches mid.core.caches refusal → mid.core.caches ≡ old.core.caches
             go (inl same) = same
@@ -391,7 +391,7 @@ module _ (cancel : Bool) (dir : Ino) (f : Fragment) (old mid : BookState) (openi
             on_bytes export (inr (inr (named, sends, subst (λ (c : CacheMap). c.cap < map.len (unclean_of c export.importer.0) + length sends.export.frags) (sym (caches named)) lacks)))
 
         by_why : RefusesImport (λ count rank. LacksPlacesAt count old.core rank) old.core.state.tree old.core.state.roots old.core.state.exports root bytes refusal → StandsStill cancel root 2 refusal old mid kept kept
-        by_why (inl (named, wrong)) = absurd (wrong sent)
+        by_why (inl (named, wrong)) = absurd (wrong was)
         by_why (inr (export, stands, is, may)) = record {
           export = export;
           stands = ap (λ (s : State). map.get s.exports root) left ∙ stands;
@@ -469,7 +469,8 @@ module _ (cancel : Bool) (root : Leaf) (book : BookState) (before after : SentBy
   -- it wasn't sent, or there was no room
   pub not_sent_so : state_at book.core.state.exports root ≡ Some at.Prepared → (mid new : BookState) → mid.opening ≡ book.opening → IsSoundBook mid → (refusal : Refusal) → TriesToSend root book mid (Err refusal) → new.opening ≡ mid.opening → IsSoundBook new
       → after.bytes ≡ before.bytes → (result : Result (Unit {0}) Refusal) → CancelsOr cancel root mid new refusal result → EndsFrozen cancel root 3 book new before after result
-  not_sent_so prepared mid new opening sound refusal (inl steps) later good same = not_sent cancel root.0 root.1 book mid opening sound new before after prepared refusal steps later good same
+  not_sent_so prepared mid new opening sound refusal (inl steps) later good same result its =
+      not_sent cancel root.0 root.1 book mid opening sound new before after prepared refusal steps later good same result its
   not_sent_so prepared mid new opening sound refusal (inr (is, still)) later good same result its =
       no_room prepared new (later ∙ opening) good same result
       (subst (λ (r : Refusal). CancelsOr cancel root book new r result) is (subst (λ (b : BookState). CancelsOr cancel root b new refusal result) still its))

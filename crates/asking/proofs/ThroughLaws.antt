@@ -148,7 +148,7 @@ cant_send cancel root most refusal old new before after its has memory places = 
     by_why : WhyNotEnded cancel new.core after root its.export refusal → CantSend cancel new.core.state
     by_why (inl (sent, inl is)) = absurd (memory is)
     by_why (inl (sent, inr (inl (named, wrong)))) = absurd (wrong (its.kept (has root) its.export its.stands sent))
-    by_why (inl (sent, inr (inr (named, rest)))) = absurd (places named)
+    by_why (inl (sent, inr (inr (named, spells, lacks)))) = absurd (places named)
     by_why (inr (early, off, inl is)) = absurd (memory is)
     by_why (inr (early, off, inr (prepared, sends))) = by_send prepared off sends
 
@@ -171,7 +171,7 @@ module _ (cancel : Bool) (rank : Rank) (request : Request) where
     pub through : GoesThrough cancel rank request roots old new before after
 
   pub gone_none : (book : BookState) (kept : SentBytes) → HasGone book book kept kept
-  gone_none book kept = record { roots = []; left = refl; through = (refl, refl) }
+  gone_none book kept = record { roots = []; left = omega arith; through = (refl, refl) }
 
   goes_more : (roots : List Leaf) (root : Leaf) (old mid new : BookState) (before kept after : SentBytes) → GoesThrough cancel rank request roots old mid before kept → EndsFor cancel rank request root mid new kept after (Ok tt)
       → GoesThrough cancel rank request (roots ++ root ∷ []) old new before after
@@ -194,11 +194,11 @@ module _ (cancel : Bool) (rank : Rank) (request : Request) where
     module _ (is : IsFreezing mid.core.state.exports root) where
       ended : EndsExport cancel root asked new kept after (Ok tt) → HasEnded cancel root 4 asked new kept after
       ended (inl (freezing, its)) = its
-      ended (inr (none, clash, rest)) = absurd (none (freezing_still is))
+      ended (inr (none, clash, same_book, same_bytes)) = absurd (none (freezing_still is))
 
       stood : (refusal : Refusal) → EndsExport cancel root asked new kept after (Err refusal) → StandsStill cancel root 4 refusal asked new kept after
       stood refusal (inl (freezing, its)) = its
-      stood refusal (inr (none, rest)) = absurd (none (freezing_still is))
+      stood refusal (inr (none, named, same_book, same_bytes)) = absurd (none (freezing_still is))
 
       pub gone_one : EndsExport cancel root asked new kept after (Ok tt) → HasGone old new before after
       gone_one ends =
@@ -269,6 +269,15 @@ module _ (cancel : Bool) (rank : Rank) (request : Request) where
         named : ◌≡◌ {A = Result Receipt Refusal} (Err reason) (Err NoMemory) → reason ≡ NoMemory
         named clash = cc
 
+    pub copy_replied : (receipt : Receipt) → AsksCopy mid new rank request (Ok receipt) → AsksThrough cancel rank request old new before kept (Ok receipt)
+    copy_replied receipt asked = copy_told (Ok receipt) (λ is. let clash : ◌≡◌ {A = Result Receipt Refusal} (Ok receipt) (Err Frozen) = is in absurd cc) asked
+
+    pub copy_refused : (reason other : Refusal) → AsksCopy mid new rank request (Err reason) → (other ≡ reason) × (reason ≢ Frozen) → AsksThrough cancel rank request old new before kept (Err other)
+    copy_refused reason other asked (same, thawed_so) = subst (λ (r : Refusal). AsksThrough cancel rank request old new before kept (Err r)) (sym same) (copy_told (Err reason) (λ is. thawed_so (named is)) asked)
+      where
+        named : ◌≡◌ {A = Result Receipt Refusal} (Err reason) (Err Frozen) → reason ≡ Frozen
+        named clash = cc
+
     -- nothing is frozen any more
     pub asked_last : (result : Result Receipt Refusal) → NoneFreezing mid.core.state.exports → AsksOnce mid.core new.core mid.history new.history rank request result → AsksThrough cancel rank request old new before kept result
     asked_last (Ok receipt) none once = concludes (Ok receipt) (once, refl)
@@ -306,5 +315,6 @@ pub frozen_of : (reason : Refusal) → ◌≡◌ {A = Result Receipt Refusal} (E
 frozen_of reason same = cc
 
 -- the copy was asked, and something is frozen
-pub refused_so : (old new : BookState) (rank : Rank) (request : Request) → AsksCopy old new rank request (Err Frozen) → AsksOnce old.core new.core old.history new.history rank request (Err Frozen)
-refused_so old new rank request asked = copy_asked old new rank request Frozen (λ is. let clash : Frozen ≡ NoMemory = is in cc) asked
+pub refused_so : (old new : BookState) (rank : Rank) (request : Request) (reason : Refusal) → reason ≡ Frozen → AsksCopy old new rank request (Err reason) → AsksOnce old.core new.core old.history new.history rank request (Err Frozen)
+refused_so old new rank request reason is asked =
+    copy_asked old new rank request Frozen (λ memory. let clash : Frozen ≡ NoMemory = memory in cc) (subst (λ (r : Refusal). AsksCopy old new rank request (Err r)) is asked)

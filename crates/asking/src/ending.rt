@@ -154,6 +154,7 @@ fn end_sent<S: Store + Drop>(
     ensures opening { book.new.opening ≡ book.old.opening }
     ensures sound { IsSoundBook book.new }
 {
+    book.is_sound();
     let Ok(bytes) = kept.copy_of(ino, frag) else {
         return Err(Refusal::NoMemory);
     };

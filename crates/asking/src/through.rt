@@ -1,5 +1,5 @@
 //! Asking through exports: those that keep a request from its answer are brought to their end.
-ghost use Rattle.std.specs.Prelude.{◌≡◌, ◌∷◌, [], length, Err, IfOk, MatchOption};
+ghost use Rattle.std.specs.Prelude.{◌≡◌, ◌≢◌, ◌∷◌, [], length, Err, IfOk, MatchOption, MatchResult};
 ghost use Rattle.cluster_core.specs.OneThread.{InOrder, IsOneThread, StandsInHistory};
 ghost use Rattle.cluster_core.specs.Sound.{IsSoundBook};
 ghost use Rattle.asking.specs.Ask.{NoneWaits};
@@ -47,10 +47,15 @@ pub fn ask_through<S: Store + Drop>(
     book.is_sound();
     while let Some(root) = first_frozen(book) {
         match ask_copy(alloc, book, rank, &request) {
-            Err(Refusal::Frozen) => {}
-            told => {
+            Ok(receipt) => {
                 drop(request);
-                return told;
+                return Ok(receipt);
+            }
+            Err(refusal) => {
+                if let Err(other) = unless_frozen(refusal) {
+                    drop(request);
+                    return Err(other);
+                }
             }
         }
         if let Err(refusal) = end_export(alloc, book, kept, root.0, root.1, cancel) {
@@ -84,6 +89,17 @@ fn ask_copy<S: Store + Drop>(
     match request.try_clone() {
         Ok(copy) => ask_once(alloc, book, rank, copy),
         Err(_) => Err(Refusal::NoMemory),
+    }
+}
+
+// That something is frozen is no refusal.
+fn unless_frozen(refusal: Refusal) -> Result<(), Refusal>
+    ensures { MatchResult result (λ done. refusal ≡ Refusal.Frozen)
+        (λ reason. (reason ≡ refusal) × (refusal ≢ Refusal.Frozen)) }
+{
+    match refusal {
+        Refusal::Frozen => Ok(()),
+        other => Err(other),
     }
 }
 

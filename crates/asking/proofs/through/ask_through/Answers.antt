@@ -1,6 +1,6 @@
-use Rattle.asking.proofs.Common.{Frozen, None, refl, ◌∙◌}
+use Rattle.asking.proofs.Common.{Frozen, None, Some, refl, ◌∙◌}
 use Rattle.asking.proofs.OnceLaws.{kept_once}
-use Rattle.asking.proofs.ThroughLaws.{asked_last, fewer_left, frozen_of, gone_none, gone_one, has_still, last_not, limit_taken, none_taken, order_on, refused_so, stopped, taken_on, thawed, thread_on}
+use Rattle.asking.proofs.ThroughLaws.{asked_last, copy_refused, copy_replied, fewer_left, frozen_of, gone_none, gone_one, has_still, last_not, limit_taken, none_taken, order_on, refused_so, stopped, taken_on, taken_still, thawed, thread_on}
 use Rattle.asking.proofs.through.ask_through.Goals as goal
 
 pub loop-root-init : goal.loop-root-init
@@ -17,37 +17,37 @@ loop-root-init g c = record {
 pub loop-root-smaller : goal.loop-root-smaller
 loop-root-smaller g c =
     fewer_left c.args.cancel c.args.rank c.args.request c.in-Some.root c.args.book.now c.loop-root.book c.ask_copy.new.book c.end_export.new.book c.args.kept.now c.loop-root.kept c.end_export.new.kept c.loop-root.invariant.gone
-    (refused_so c.loop-root.book c.ask_copy.new.book c.args.rank c.args.request c.in-Err-Frozen.ensures.asked) c.in-Err-Frozen.ensures.opening c.in-Some.ensures c.in_default.ensures.ends
+    (refused_so c.loop-root.book c.ask_copy.new.book c.args.rank c.args.request c.in-Err.refusal c.in_default-unless_frozen.ensures c.in-Err.ensures.asked) c.in-Err.ensures.opening c.in-Some.ensures c.in_default-end_export.ensures.ends
 
 pub loop-root-preserved : goal.loop-root-preserved
 loop-root-preserved g c =
-    let refused = refused_so c.loop-root.book c.ask_copy.new.book c.args.rank c.args.request c.in-Err-Frozen.ensures.asked in
+    let refused = refused_so c.loop-root.book c.ask_copy.new.book c.args.rank c.args.request c.in-Err.refusal c.in_default-unless_frozen.ensures c.in-Err.ensures.asked in
     let taken =
     taken_on c.args.cancel c.args.rank c.args.request c.in-Some.root c.args.book.now c.loop-root.book c.ask_copy.new.book c.end_export.new.book c.args.kept.now c.loop-root.kept c.end_export.new.kept c.loop-root.invariant.gone refused
-    c.in-Err-Frozen.ensures.opening c.in-Some.ensures c.in_default.ensures.ends in
+    c.in-Err.ensures.opening c.in-Some.ensures c.in_default-end_export.ensures.ends in
     record {
       gone =
           gone_one c.args.cancel c.args.rank c.args.request c.in-Some.root c.args.book.now c.loop-root.book c.ask_copy.new.book c.end_export.new.book c.args.kept.now c.loop-root.kept c.end_export.new.kept c.loop-root.invariant.gone
-          refused c.in-Err-Frozen.ensures.opening c.in-Some.ensures c.in_default.ensures.ends;
+          refused c.in-Err.ensures.opening c.in-Some.ensures c.in_default-end_export.ensures.ends;
       bytes = λ has.
           has_still c.args.cancel c.args.rank c.args.request c.in-Some.root c.args.book.now c.loop-root.book c.ask_copy.new.book c.end_export.new.book c.args.kept.now c.loop-root.kept c.end_export.new.kept c.loop-root.invariant.gone
-          refused c.in-Err-Frozen.ensures.opening c.in-Some.ensures (c.loop-root.invariant.bytes has) c.in_default.ensures.ends;
-      none = none_taken c.args.cancel c.in-Some.root 4 None c.ask_copy.new.book c.end_export.new.book taken c.in-Err-Frozen.ensures.none;
+          refused c.in-Err.ensures.opening c.in-Some.ensures (c.loop-root.invariant.bytes has) c.in_default-end_export.ensures.ends;
+      none = none_taken c.args.cancel c.in-Some.root 4 None c.ask_copy.new.book c.end_export.new.book taken c.in-Err.ensures.none;
       history = taken.same ∙ (kept_once c.loop-root.book c.ask_copy.new.book c.args.rank c.args.request Frozen refused ∙ c.loop-root.invariant.history);
-      opening = c.in_default.ensures.opening ∙ (c.in-Err-Frozen.ensures.opening ∙ c.loop-root.invariant.opening);
-      limit = limit_taken c.args.cancel c.in-Some.root 4 None c.ask_copy.new.book c.end_export.new.book taken ∙ (c.in-Err-Frozen.ensures.limit ∙ c.loop-root.invariant.limit);
-      sound = c.in_default.ensures.sound;
+      opening = c.in_default-end_export.ensures.opening ∙ (c.in-Err.ensures.opening ∙ c.loop-root.invariant.opening);
+      limit = limit_taken c.args.cancel c.in-Some.root 4 None c.ask_copy.new.book c.end_export.new.book taken ∙ (c.in-Err.ensures.limit ∙ c.loop-root.invariant.limit);
+      sound = c.in_default-end_export.ensures.sound;
     }
 
-pub returns-in-Err-clause-asked : goal.returns-in-Err-clause-asked
-returns-in-Err-clause-asked g c =
+pub returns-in-Err-end_export-clause-asked : goal.returns-in-Err-end_export-clause-asked
+returns-in-Err-end_export-clause-asked g c =
     stopped c.args.cancel c.args.rank c.args.request c.in-Some.root c.args.book.now c.loop-root.book c.ask_copy.new.book c.end_export.new.book c.args.kept.now c.loop-root.kept c.end_export.new.kept c.loop-root.invariant.gone
-    (refused_so c.loop-root.book c.ask_copy.new.book c.args.rank c.args.request c.in-Err-Frozen.ensures.asked) c.in-Err-Frozen.ensures.opening c.in-Some.ensures c.in-Err.refusal c.told_of.result c.in-Err.ensures.ends c.told_of.ensures
+    (refused_so c.loop-root.book c.ask_copy.new.book c.args.rank c.args.request c.in-Err.refusal c.in_default-unless_frozen.ensures c.in-Err.ensures.asked) c.in-Err.ensures.opening c.in-Some.ensures c.in-Err-end_export.refusal c.told_of.result c.in-Err-end_export.ensures.ends c.told_of.ensures
 
-pub returns-in-Err-clause-thawed : goal.returns-in-Err-clause-thawed
-returns-in-Err-clause-thawed g c has is =
+pub returns-in-Err-end_export-clause-thawed : goal.returns-in-Err-end_export-clause-thawed
+returns-in-Err-end_export-clause-thawed g c has is =
     thawed c.args.cancel c.args.rank c.args.request c.in-Some.root c.args.book.now c.loop-root.book c.ask_copy.new.book c.end_export.new.book c.args.kept.now c.loop-root.kept c.end_export.new.kept c.loop-root.invariant.gone
-    (refused_so c.loop-root.book c.ask_copy.new.book c.args.rank c.args.request c.in-Err-Frozen.ensures.asked) c.in-Err-Frozen.ensures.opening c.in-Some.ensures (c.loop-root.invariant.bytes has) c.in-Err.refusal c.told_of.result c.in-Err.ensures.ends
+    (refused_so c.loop-root.book c.ask_copy.new.book c.args.rank c.args.request c.in-Err.refusal c.in_default-unless_frozen.ensures c.in-Err.ensures.asked) c.in-Err.ensures.opening c.in-Some.ensures (c.loop-root.invariant.bytes has) c.in-Err-end_export.refusal c.told_of.result c.in-Err-end_export.ensures.ends
     c.told_of.ensures (frozen_of c.told_of.result is)
 
 pub returns-clause-asked : goal.returns-clause-asked
@@ -63,3 +63,20 @@ returns-clause-one_thread g c =
 
 pub returns-clause-in_order : goal.returns-clause-in_order
 returns-clause-in_order g c = order_on c.args.book.now c.loop-root.book c.ask_once.new.book c.ask_once.result c.loop-root.invariant.history c.ask_once.ensures.in_order
+
+pub returns-in-Err-end_export-clause-limit : goal.returns-in-Err-end_export-clause-limit
+returns-in-Err-end_export-clause-limit g c =
+    let refused = refused_so c.loop-root.book c.ask_copy.new.book c.args.rank c.args.request c.in-Err.refusal c.in_default-unless_frozen.ensures c.in-Err.ensures.asked in
+    limit_taken c.args.cancel c.in-Some.root 4 (Some c.in-Err-end_export.refusal) c.ask_copy.new.book c.end_export.new.book
+    (taken_still c.args.cancel c.args.rank c.args.request c.in-Some.root c.args.book.now c.loop-root.book c.ask_copy.new.book c.end_export.new.book c.args.kept.now c.loop-root.kept c.end_export.new.kept c.loop-root.invariant.gone refused
+    c.in-Err.ensures.opening c.in-Some.ensures c.in-Err-end_export.refusal c.in-Err-end_export.ensures.ends)
+    ∙ (c.in-Err.ensures.limit ∙ c.loop-root.invariant.limit)
+
+pub returns-in-Ok-clause-asked : goal.returns-in-Ok-clause-asked
+returns-in-Ok-clause-asked g c =
+    copy_replied c.args.cancel c.args.rank c.args.request c.args.book.now c.loop-root.book c.ask_copy.new.book c.args.kept.now c.loop-root.kept c.loop-root.invariant.gone c.in-Ok.receipt c.in-Ok.ensures.asked
+
+pub returns-in-Err-unless_frozen-clause-asked : goal.returns-in-Err-unless_frozen-clause-asked
+returns-in-Err-unless_frozen-clause-asked g c =
+    copy_refused c.args.cancel c.args.rank c.args.request c.args.book.now c.loop-root.book c.ask_copy.new.book c.args.kept.now c.loop-root.kept c.loop-root.invariant.gone c.in-Err.refusal c.in-Err-unless_frozen.other c.in-Err.ensures.asked
+    c.in-Err-unless_frozen.ensures

@@ -4,7 +4,7 @@ use Rattle.asking.proofs.ThroughLaws.{AllBehind}
 use Rattle.asking.proofs.through.first_of.Given as goal
 
 abbrev pub invariant-loop-found : goal.invariant-loop-found
-invariant-loop-found g l = AllBehind l.exports l.rank l.after
+invariant-loop-found l = AllBehind l.exports l.rank l.after
 
 abbrev pub decreases-loop-found : goal.decreases-loop-found
-decreases-loop-found g l = left l.after
+decreases-loop-found l = left l.after
