@@ -22,7 +22,7 @@ use Rattle.cluster_core.specs.State.{LacksPlacesAt}
 use Rattle.cluster_core.specs.declared.events.Answer.TheVariants.{Sent}
 use Rattle.cluster_core.specs.declared.events.Event.TheVariants.{Cancel, Finish, Import, Prep, Send}
 use Rattle.mds_types.specs.declared.refusals.Refusal.TheVariants.{WrongExportState}
-use Rattle.asking.specs.Ending.{CancelsOr, EndsFrozen, EndsRefused, HandsOrCancels, HasBytes, HasEnded, IsFreezing, IsStepOn, KeepsOtherBytes, KeepsSpelled, StandsStill, TakesOn, TriesToSend, WhyNotEnded}
+use Rattle.asking.specs.Ending.{CancelsOr, EndsFrozen, EndsRefused, HandsOrCancels, HasBytes, HasEnded, IsFreezing, IsStepOn, KeepsOtherBytes, KeepsSpelled, StandsStill, TakesOn, TriesToSend}
 use Rattle.asking.proofs.ReachedLaws.{all_then, runs_then}
 use Rattle.asking.proofs.SpelledLaws.{spelled_finished, spelled_imported, spelled_kept, spelled_same}
 

@@ -8,7 +8,7 @@ use Rattle.subtree_map.specs.Authority.{NearestRoot}
 use Rattle.subtree_map.specs.Authority.NearestRoot.{inherited, itself}
 use Rattle.subtree_map.proofs.Nearest.{one_root}
 use Rattle.export_steps.specs.declared.exports.StandingExport.{StandingExport}
-use Rattle.ranked_tree.proofs.Common.{Unsaved, sent_of}
+use Rattle.ranked_tree.proofs.Common.{sent_of}
 use Rattle.ranked_tree.specs.Importing.{IsRenewed}
 use Rattle.ranked_tree.specs.Sending.{IsInRegionOf, SpellsRegion}
 use Rattle.cluster_core.specs.Exporting.{KeepsTreeAndRoots}

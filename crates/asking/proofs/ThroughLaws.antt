@@ -1,5 +1,5 @@
 -- Exports are ended one after the other, until a request may change what it would.
-use Rattle.asking.proofs.Common.{BookState, Core, Entry, Err, Frozen, Inboxes, IsFrozenAt, IsSound, IsSoundBook, Leaf, List, NoInodes, NoMemory, None, NoneWaits, NotAuthority, NothingToEvict, Ok, Option, Rank, Receipt, Refusal, Request, Result, Roots, Some, State, StoreFault, Tree, TreeState, Trimmed, WhyItWaits, [], ap, arith, cond, false, inl, inr, length, refl, subst, sym, true, ℕ, ◌++◌, ◌+◌, ◌-◌, ◌<◌, ◌∙◌, ◌∷◌, ◌≡◌, ◌≢◌, ◌≤◌, ◌⊎◌}
+use Rattle.asking.proofs.Common.{BookState, Core, Entry, Err, Frozen, IsSoundBook, Leaf, List, NoInodes, NoMemory, None, NoneWaits, NotAuthority, NothingToEvict, Ok, Option, Rank, Receipt, Refusal, Request, Result, Roots, Some, State, StoreFault, Tree, TreeState, Trimmed, WhyItWaits, [], ap, arith, cond, false, inl, inr, length, refl, subst, sym, true, ℕ, ◌++◌, ◌+◌, ◌-◌, ◌<◌, ◌∙◌, ◌∷◌, ◌≡◌, ◌≢◌, ◌≤◌, ◌⊎◌}
 use Rattle.std.specs.FinMap as map
 use Rattle.std.specs.FinMap.{empty_of_len, get-empty, len-remove}
 use Rattle.std.specs.Prelude.{Bool, is_some}
@@ -10,7 +10,7 @@ use Rattle.mds_types.specs.Leaf.{leaf_cmp}
 use Rattle.mds_types.proofs.LeafLaws.{get_removed, leaf-total, same_or_apart}
 use Rattle.std.specs.declared.cmp.Ordering.TheVariants.{Less}
 use Rattle.dentry_cache.specs.Candidates.{IsBehind}
-use Rattle.export_steps.specs.ByExporter.{IsFirstOf, IsNextOf}
+use Rattle.export_steps.specs.ByExporter.{IsNextOf}
 use Rattle.export_steps.specs.ByExporter.{IsBehind as IsBehindRoot}
 use Rattle.export_steps.specs.Standing.{Standing, is_freezing}
 use Rattle.export_steps.specs.declared.exports.ExportState.{ExportState}
@@ -25,7 +25,6 @@ use Rattle.asking.specs.Once.{AsksOnce, WhyNone}
 use Rattle.asking.specs.Reached.{receipt_in}
 use Rattle.asking.specs.Through.{AsksCopy, AsksThrough, CantSend, Concludes, EndsFor, GoesThrough, IsToldOf}
 use Rattle.asking.proofs.LiveLaws.{is_one_of_16}
-use Rattle.asking.proofs.OnceLaws.{kept_once, none_waits_once}
 use Rattle.asking.proofs.OneLaws.{limit_of, limit_through}
 
 -- ---- the first export that froze

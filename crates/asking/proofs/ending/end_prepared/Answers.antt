@@ -1,4 +1,3 @@
-use Rattle.asking.proofs.Common.{subst, sym}
 use Rattle.export_steps.specs.declared.exports.ExportState.TheVariants as at
 use Rattle.asking.proofs.EndingLaws.{came_to, not_sent_so, sends_these, sent, unsent_then}
 use Rattle.asking.proofs.ending.end_prepared.Goals as goal

@@ -1,4 +1,4 @@
-use Rattle.asking.proofs.Common.{Request, Result, inl, inr, refl, subst}
+use Rattle.asking.proofs.Common.{Request, inl, inr, refl, subst}
 use Rattle.asking.specs.Through.{AsksCopy}
 use Rattle.asking.proofs.OneLaws.{refused_as_one}
 use Rattle.asking.proofs.through.ask_copy.Goals as goal
