@@ -27,9 +27,9 @@ done_of (Ok answer) = Ok tt
 done_of (Err reason) = Err reason
 
 -- so it is told to a turn that may make no step
-abbrev pub made_of : Result Answer Refusal → Result Bool Refusal
-made_of (Ok answer) = Ok true
-made_of (Err reason) = Err reason
+abbrev pub answer_of : Result Answer Refusal → Result Bool Refusal
+answer_of (Ok answer) = Ok true
+answer_of (Err reason) = Err reason
 
 -- the job that the step began, if it began one, or why it was refused
 abbrev pub job_of : Result Answer Refusal → Result (Option Begun) Refusal

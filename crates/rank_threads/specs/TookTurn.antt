@@ -16,7 +16,7 @@ use Rattle.cluster_core.specs.State.{BookState}
 use Rattle.rank_threads.specs.declared.plans.Turn.{Turn}
 use Rattle.rank_threads.specs.declared.plans.Turn.TheVariants.{Step, Commit, Own, Keep}
 use Rattle.rank_threads.specs.OneStep.{IsOneStep, IsStepTold, job_of}
-use Rattle.rank_threads.specs.OwnTurn.{Kept, KeepsBytes, TakesOwnTurn}
+use Rattle.rank_threads.specs.OwnTurn.{KeptSoFar, KeepsBytes, TakesOwnTurn}
 
 -- a step of this event, with this result
 abbrev pub MadeStep : Event → Result Answer Refusal → Type 0
@@ -38,7 +38,7 @@ abbrev pub TookCommitTurn : Rank → Ino → Fragment → Result (Unit {0}) Refu
 TookCommitTurn rank dir f done = (told : Result (Option Begun) Refusal) × BeganCommit rank dir f told × HandedOn told done
 
 -- a rank's own turn
-abbrev pub TookOwnTurn : Rank → (before after : Kept) → Result Bool Refusal → Type 0
+abbrev pub TookOwnTurn : Rank → (before after : KeptSoFar) → Result Bool Refusal → Type 0
 TookOwnTurn rank before after made =
     (old : BookState) × (new : BookState) × TakesOwnTurn old new rank before after made
 
@@ -48,7 +48,7 @@ result_of (Ok done) = Ok Nothing
 result_of (Err reason) = Err reason
 
 -- a turn of a rank's thread, with its result, and what the thread keeps of exports before and after it
-abbrev pub TookTurn : Turn → Rank → (before after : Kept) → Result Answer Refusal → Type 0
+abbrev pub TookTurn : Turn → Rank → (before after : KeptSoFar) → Result Answer Refusal → Type 0
 TookTurn (Step event) rank before after result = (after ≡ before) × MadeStep event result
 TookTurn (Commit dir f) rank before after result =
     (after ≡ before) × (done : Result (Unit {0}) Refusal) × (result ≡ result_of done) × TookCommitTurn rank dir f done
@@ -58,33 +58,33 @@ TookTurn (Keep dir f bytes) rank before after result =
     (done : Result (Unit {0}) Refusal) × (result ≡ result_of done) × KeepsBytes before after (dir, f) bytes done
 
 -- the turns of a rank's thread, one after the other, with their results, and what the thread keeps before and after them
-abbrev pub TookTurns : Rank → (before after : Kept) → List Turn → List (Result Answer Refusal) → Type 0
+abbrev pub TookTurns : Rank → (before after : KeptSoFar) → List Turn → List (Result Answer Refusal) → Type 0
 TookTurns rank before after [] [] = after ≡ before
 TookTurns rank before after [] (result ∷ results) = ⊥
 TookTurns rank before after (turn ∷ turns) [] = ⊥
 TookTurns rank before after (turn ∷ turns) (result ∷ results) =
-    (between : Kept) × TookTurn turn rank before between result × TookTurns rank between after turns results
+    (between : KeptSoFar) × TookTurn turn rank before between result × TookTurns rank between after turns results
 
 -- a plan with the rank of its thread
-abbrev pub at_rank : Rank → List Turn → Rank × List Turn
-at_rank rank turns = (rank, turns)
+abbrev pub of_rank : Rank → List Turn → Rank × List Turn
+of_rank rank turns = (rank, turns)
 
 -- plans so, the first of which is this rank's
 abbrev pub ranked_from : ℕ → List (List Turn) → List (Rank × List Turn)
 ranked_from first [] = []
-ranked_from first (turns ∷ plans) = at_rank (record { 0 = first }) turns ∷ ranked_from (suc first) plans
+ranked_from first (turns ∷ plans) = of_rank (record { 0 = first }) turns ∷ ranked_from (suc first) plans
 
 -- plans in the order of ranks
 abbrev pub by_rank : List (List Turn) → List (Rank × List Turn)
 by_rank plans = ranked_from 0 plans
 
 -- what is kept, without the room for more
-abbrev pub kept_of : List SentBytes → List Kept
+abbrev pub kept_of : List SentBytes → List KeptSoFar
 kept_of all = list_map (λ (sent : SentBytes). sent.bytes) all
 
 -- the turns of all plans, each plan's with its rank, their results, and what each thread keeps at its end: none kept
 -- anything as it began
-abbrev pub PlansTook : List (Rank × List Turn) → List (List (Result Answer Refusal)) → List Kept → Type 0
+abbrev pub PlansTook : List (Rank × List Turn) → List (List (Result Answer Refusal)) → List KeptSoFar → Type 0
 PlansTook [] [] [] = Unit {0}
 PlansTook [] [] (kept ∷ others) = ⊥
 PlansTook [] (results ∷ more) others = ⊥

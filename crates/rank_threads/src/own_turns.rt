@@ -5,8 +5,8 @@ ghost use Rattle.cluster_core.specs.declared.events.Event.TheVariants.{Send};
 ghost use Rattle.cluster_core.specs.Proposal.{Proposes};
 ghost use Rattle.cluster_core.specs.SentBytes.{none_sent};
 ghost use Rattle.cluster_core.specs.State.{Core};
-ghost use Rattle.rank_threads.specs.OneStep.{made_of};
-ghost use Rattle.rank_threads.specs.OwnTurn.{KeepsBytes, MakesStep, TakesOwnTurn, import_with, step_of};
+ghost use Rattle.rank_threads.specs.OneStep.{answer_of};
+ghost use Rattle.rank_threads.specs.OwnTurn.{KeepsBytes, StepsOwn, TakesOwnTurn, import_with, step_of};
 
 use crate::desks::{Desk, Handed};
 use cluster_core::{Answer, Event, KeptBytes};
@@ -66,7 +66,7 @@ impl<S: Store + Drop, L: Handed> Desk<S, L> {
     #[tactic(auto, using(crate::proofs::OwnTurnLaws::made_other, crate::proofs::StepLaws::one_step))]
     fn make(&mut self, alloc: Global, kept: &mut KeptBytes, event: Event) -> Result<bool, Refusal>
         requires { (core : Core) × (rank : Rank) × Proposes core rank (Ok (Some event)) }
-        ensures { MakesStep self.old.book self.new.book kept.old.bytes kept.new.bytes
+        ensures { StepsOwn self.old.book self.new.book kept.old.bytes kept.new.bytes
             (step_of kept.old.bytes event) result }
     {
         match event {
@@ -89,7 +89,7 @@ impl<S: Store + Drop, L: Handed> Desk<S, L> {
         ino: Ino,
         frag: Frag,
     ) -> Result<bool, Refusal>
-        ensures { MakesStep self.old.book self.new.book kept.old.bytes kept.new.bytes (Some (Send ino frag)) result }
+        ensures { StepsOwn self.old.book self.new.book kept.old.bytes kept.new.bytes (Some (Send ino frag)) result }
     {
         if kept.reserve().is_err() {
             return Err(Refusal::NoMemory);
@@ -117,7 +117,7 @@ impl<S: Store + Drop, L: Handed> Desk<S, L> {
         ino: Ino,
         frag: Frag,
     ) -> Result<bool, Refusal>
-        ensures { MakesStep self.old.book self.new.book kept.old.bytes kept.new.bytes
+        ensures { StepsOwn self.old.book self.new.book kept.old.bytes kept.new.bytes
             (import_with ino frag (map.get kept.old.bytes (ino, frag))) result }
     {
         if !kept.has(ino, frag) {
@@ -139,7 +139,7 @@ impl<S: Store + Drop, L: Handed> Desk<S, L> {
 
 // That a step was made, or why it was refused.
 fn made(came: Result<Answer, Refusal>) -> Result<bool, Refusal>
-    ensures { result ≡ made_of came }
+    ensures { result ≡ answer_of came }
 {
     match came {
         Ok(answer) => {

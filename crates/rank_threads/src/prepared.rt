@@ -2,7 +2,7 @@
 ghost use Rattle.std.specs.Prelude.{◌≡◌, ◌+◌, ◌<◌, ◌≤◌, [], Contains, IfOk, map, vec_len};
 ghost use Rattle.std.specs.List.{AllByRecursion};
 ghost use Rattle.rank_threads.specs.Sent.{EachIsSent, plan_arrivals};
-ghost use Rattle.rank_threads.specs.TookTurn.{at_rank, by_rank};
+ghost use Rattle.rank_threads.specs.TookTurn.{of_rank, by_rank};
 ghost use Rattle.rank_threads.specs.Turns.{lists_of};
 
 use crate::commits::Commit;
@@ -56,7 +56,7 @@ pub(crate) fn prepare<L: Handed>(
     requires sent { EachIsSent L.sent (lists_of lists.items) }
     ensures turns { IfOk result (λ r. map (λ p. p.turns.items) r.starts.plans.items ≡ lists_of lists.items) }
     ensures asked { IfOk result (λ r.
-        map (λ p. at_rank p.rank p.turns.items) r.starts.plans.items ≡ by_rank (lists_of lists.items)) }
+        map (λ p. of_rank p.rank p.turns.items) r.starts.plans.items ≡ by_rank (lists_of lists.items)) }
     ensures count { IfOk result (λ r. vec_len r.starts.plans ≡ vec_len lists) }
     ensures empty { IfOk result (λ r.
         (r.starts.handles.items ≡ []) × (r.answers.items ≡ []) × (r.kept.items ≡ [])) }
@@ -96,7 +96,7 @@ fn plans_of<L: Handed>(
     requires sent { EachIsSent L.sent (lists_of lists.items) }
     ensures turns { IfOk result (λ plans. map (λ p. p.turns.items) plans.items ≡ lists_of lists.items) }
     ensures asked { IfOk result (λ plans.
-        map (λ p. at_rank p.rank p.turns.items) plans.items ≡ by_rank (lists_of lists.items)) }
+        map (λ p. of_rank p.rank p.turns.items) plans.items ≡ by_rank (lists_of lists.items)) }
     ensures parts { IfOk result (λ plans. all.new.parts + vec_len lists ≡ all.old.parts) }
     ensures amount { IfOk result (λ plans. all.new.amount ≡ all.old.amount) }
 {

@@ -2,7 +2,7 @@
 ghost use Rattle.std.specs.Prelude.{◌≡◌, ◌+◌, [], IfOk, IfSome, OnOk, map, vec_len};
 ghost use Rattle.std.specs.List.{AllByRecursion};
 ghost use Rattle.cluster_core.specs.OneThread.{IsAskedFor};
-ghost use Rattle.rank_threads.specs.TookTurn.{PlansTook, at_rank, kept_of};
+ghost use Rattle.rank_threads.specs.TookTurn.{PlansTook, of_rank, kept_of};
 ghost use Rattle.rank_threads.specs.Turns.{PlansAnswered, firsts_of_all, lists_of, receipts_of_all};
 
 use crate::commits::{Commit, end_all};
@@ -45,7 +45,7 @@ where
     requires { (needs.starts.handles.items ≡ []) × (needs.answers.items ≡ []) × (needs.kept.items ≡ []) }
     ensures answered { IfOk result (λ r.
         PlansAnswered (map (λ p. p.turns.items) needs.starts.plans.items) (lists_of r.answers.items)) }
-    ensures took { IfOk result (λ r. PlansTook (map (λ p. at_rank p.rank p.turns.items) needs.starts.plans.items)
+    ensures took { IfOk result (λ r. PlansTook (map (λ p. of_rank p.rank p.turns.items) needs.starts.plans.items)
         (lists_of r.answers.items) (kept_of r.kept.items)) }
     ensures parts { IfOk result (λ r. r.all.parts ≡ needs.all.parts + vec_len needs.starts.plans) }
     ensures amount { IfOk result (λ r. r.all.amount ≡ needs.all.amount + firsts_of_all (lists_of r.answers.items)) }
@@ -59,7 +59,7 @@ where
             requires { (needs.starts.handles.items ≡ []) × (needs.answers.items ≡ []) × (needs.kept.items ≡ []) }
             ensures { IfOk result (λ r.
                 PlansAnswered (map (λ p. p.turns.items) needs.starts.plans.items) (lists_of r.answers.items)
-                × PlansTook (map (λ p. at_rank p.rank p.turns.items) needs.starts.plans.items) (lists_of r.answers.items)
+                × PlansTook (map (λ p. of_rank p.rank p.turns.items) needs.starts.plans.items) (lists_of r.answers.items)
                 (kept_of r.kept.items)
                 × (r.all.parts ≡ needs.all.parts + vec_len needs.starts.plans)
                 × (r.all.amount ≡ needs.all.amount + firsts_of_all (lists_of r.answers.items))
@@ -85,7 +85,7 @@ where
     requires { (needs.starts.handles.items ≡ []) × (needs.answers.items ≡ []) × (needs.kept.items ≡ []) }
     ensures answered { IfOk result (λ r.
         PlansAnswered (map (λ p. p.turns.items) needs.starts.plans.items) (lists_of r.answers.items)) }
-    ensures took { IfOk result (λ r. PlansTook (map (λ p. at_rank p.rank p.turns.items) needs.starts.plans.items)
+    ensures took { IfOk result (λ r. PlansTook (map (λ p. of_rank p.rank p.turns.items) needs.starts.plans.items)
         (lists_of r.answers.items) (kept_of r.kept.items)) }
     ensures parts { IfOk result (λ r. r.all.parts ≡ needs.all.parts + vec_len needs.starts.plans) }
     ensures amount { IfOk result (λ r. r.all.amount ≡ needs.all.amount + firsts_of_all (lists_of r.answers.items)) }
@@ -138,8 +138,8 @@ where
     requires empty { starts.handles.items ≡ [] }
     ensures turns { IfSome result (λ handles.
         map (λ h. h.promise.turns.value.items) handles.items ≡ map (λ p. p.turns.items) starts.plans.items) }
-    ensures asked { IfSome result (λ handles. map (λ h. at_rank h.promise.rank h.promise.turns.value.items) handles.items
-        ≡ map (λ p. at_rank p.rank p.turns.items) starts.plans.items) }
+    ensures asked { IfSome result (λ handles. map (λ h. of_rank h.promise.rank h.promise.turns.value.items) handles.items
+        ≡ map (λ p. of_rank p.rank p.turns.items) starts.plans.items) }
 {
     let Starts { plans, mut handles } = starts;
     for plan in plans {
@@ -162,7 +162,7 @@ fn gather<L: Handed, R: Threads>(
     requires none { kept.old.items ≡ [] }
     ensures answered { OnOk result (
         PlansAnswered (map (λ h. h.promise.turns.value.items) handles.items) (lists_of answers.new.items)) }
-    ensures took { OnOk result (PlansTook (map (λ h. at_rank h.promise.rank h.promise.turns.value.items) handles.items)
+    ensures took { OnOk result (PlansTook (map (λ h. of_rank h.promise.rank h.promise.turns.value.items) handles.items)
         (lists_of answers.new.items) (kept_of kept.new.items)) }
     ensures parts { OnOk result (all.new.parts ≡ all.old.parts + vec_len handles) }
     ensures amount { OnOk result (all.new.amount ≡ all.old.amount + firsts_of_all (lists_of answers.new.items)) }
