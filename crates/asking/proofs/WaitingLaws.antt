@@ -1,5 +1,5 @@
 -- What ranks did that served and granted alone.
-use Rattle.asking.proofs.Common.{Answer, Arrive, BookState, Event, Grant, IsSoundBook, IsStepFor, LeadsTo, List, Option, Rank, Receipt, Refusal, Request, Result, Serve, Steps, [], ap, append-nil, refl, subst, sym, ℕ, ◌++◌, ◌∙◌, ◌∷◌, ◌≡◌}
+use Rattle.asking.proofs.Common.{Answer, Arrive, BookState, Event, Grant, IsSoundBook, IsStepFor, LeadsTo, List, Option, Rank, Receipt, Refusal, Request, Result, Serve, Steps, UsesStep, [], ap, append-nil, refl, subst, sym, ℕ, ◌++◌, ◌∙◌, ◌∷◌, ◌≡◌}
 use Rattle.std.specs.List.{AllByRecursion}
 use Rattle.cluster_core.specs.OneThread.{arrivals, receipt_of, receipts_of, waiting_in}
 use Rattle.cluster_core.proofs.OneThreadLaws.{ServesAsOne, run_as_one}
@@ -36,11 +36,11 @@ served_by client tid most replies refused old new led = record {
 }
 
 -- one rank serves
-pub served_once : (old new : BookState) (rank : Rank) (result : Result Answer Refusal) → Steps old.core new.core old.history new.history result (Serve rank) → new.opening ≡ old.opening → IsSoundBook new → ServesWaiting old new (receipt_of result)
-served_once old new rank result steps same sound = record {
+pub served_once : (old new : BookState) (rank : Rank) (result : Result Answer Refusal) → Steps old.core new.core old.history new.history result (Serve rank) → UsesStep old.core new.core result (Serve rank) → new.opening ≡ old.opening → IsSoundBook new → ServesWaiting old new (receipt_of result)
+served_once old new rank result steps uses same sound = record {
   events = Serve rank ∷ [];
   results = result ∷ [];
-  ran = (new, record { stepped = steps; same_opening = same }, sound, refl);
+  ran = (new, record { stepped = steps; uses = uses; same_opening = same }, sound, refl);
   only = (tt, tt);
   told = append-nil (receipt_of result);
 }
