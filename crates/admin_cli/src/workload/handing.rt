@@ -12,13 +12,22 @@ const FIRST: Rank = Rank(0);
 
 /// Exports a directory of one leaf from rank 0 to another rank, one step after the other. Nothing where a step is
 /// refused.
-#[tactic(auto, using(crate::proofs::GoesOnLaws::goes_on_here, crate::proofs::GoesOnLaws::goes_on_past))]
+#[tactic(auto, using(crate::proofs::GoesOnLaws::goes_on_past))]
 pub(crate) fn hand<S: Keep + Drop>(
     alloc: Global,
     book: &mut Book<S>,
     ino: Ino,
     to: Rank,
 ) -> Option<()>
+    ensures { BookGrows book.old book.new }
+{
+    prepare(alloc, book, ino, to)?;
+    take_over(alloc, book, ino)
+}
+
+// The first three steps of its export: the importer is told what will come.
+#[tactic(auto, using(crate::proofs::GoesOnLaws::goes_on_past))]
+fn prepare<S: Keep + Drop>(alloc: Global, book: &mut Book<S>, ino: Ino, to: Rank) -> Option<()>
     ensures { BookGrows book.old book.new }
 {
     let frag = Frag::ROOT;
@@ -36,6 +45,15 @@ pub(crate) fn hand<S: Keep + Drop>(
     .ok()?;
     step(alloc, book, Event::Freeze { ino, frag }).ok()?;
     step(alloc, book, Event::Prep { ino, frag }).ok()?;
+    Some(())
+}
+
+// The last three: the importer takes it over.
+#[tactic(auto, using(crate::proofs::GoesOnLaws::goes_on_past))]
+fn take_over<S: Keep + Drop>(alloc: Global, book: &mut Book<S>, ino: Ino) -> Option<()>
+    ensures { BookGrows book.old book.new }
+{
+    let frag = Frag::ROOT;
     let bytes = sent(step(alloc, book, Event::Send { ino, frag }))?;
     step(alloc, book, Event::Import { ino, frag, bytes }).ok()?;
     step(alloc, book, Event::Finish { ino, frag }).ok()?;
