@@ -8,13 +8,13 @@ import collections
 import errno
 import hashlib
 import struct
-import threading
 
 from librados import Texts, Write
-from pool import AT_ONCE, Head
+from pool import Head
 
 PART = 1 << 20
-THREADS = 3
+# writes under way: what more would bring by the clock it takes of the processors, for memory that isn't at hand any more
+AT_ONCE = 4
 REMOVE, CHANGE, CHANGE_HEADER = range(3)
 
 # What one write operation does to an object: removes it, or removes and sets pairs, and sets the header where it has one.
@@ -120,37 +120,11 @@ def written(pool, lease, head, parts):
     pool.set_head(head, lease)
 
 
-def in_threads(work, items):
-    """Does the work for each item, several at once; fails as the first one that fails."""
-    items, gate, faults = iter(items), threading.Lock(), []
-
-    def run():
-        while not faults:
-            try:
-                with gate:
-                    item = next(items, None)
-                if item is None:
-                    return
-                work(item)
-            except BaseException as why:
-                faults.append(why)
-
-    threads = [threading.Thread(target=run) for _ in range(THREADS)]
-    for thread in threads:
-        thread.start()
-    for thread in threads:
-        thread.join()
-    if faults:
-        raise faults[0]
-
-
 def applied(pool, lease, head, parts):
     """Makes all changes of the push that is under way. No two steps are about the same key, so their order is free."""
-    def work(part):
-        with Window(pool.objects, lease) as window:
+    with Window(pool.objects, lease) as window:
+        for part in parts:
             made(part, window)
-
-    in_threads(work, parts)
     head.push, head.count, head.stage, head.broken = head.under_way, head.count + 1, 'sweep', False
     pool.set_head(head, lease)
 

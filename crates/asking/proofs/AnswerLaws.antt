@@ -1,5 +1,5 @@
 -- From what steps give to the answer of what was asked.
-use Rattle.asking.proofs.Common.{Answer, Answers, Frozen, None, Arrive, ArrivesAt, AsksAlone, Bool, BookState, HasCome, Contains, Core, Deferred, Entry, Err, Forwarded, GrantsEach, GrantsThem, Inboxes, IsApplied, IsNewAtMaster, IsDeferred, IsForwarded, IsFrozenAt, IsLeft, IsMaster, IsRepeated, IsSound, IsTakenOut, KeepsButGrants, KeepsUnclean, LacksNumberToServe, Leaf, List, MatchBool, NoInodes, NoMemory, NoneWaits, NotAuthority, Ok, Pin, Question, Rank, Receipt, Refusal, RefusesAsk, RefusesRequest, Request, Result, Roots, Rules, Some, State, Steps, StillWaits, StoreFault, NothingToEvict, TreeMayRefuse, TreeState, Trimmed, WaitsAlone, WhyItWaits, WhyNotGranted, [], ap, arith, false, first_waiting, grant_of, inl, inr, is_directory, is_for, is_pin, left_without, length, list_any, main_leaf, nat_lt, one_authority, refl, set, set-set, Served, ServesTo, shown_tree, subst, sym, told_as, true, waiting_at, with_last, with_waiting, without_request, would_change, ℕ, ◌∙◌, ◌∷◌, ◌≡◌, ◌≢◌, ◌⊎◌}
+use Rattle.asking.proofs.Common.{Answer, Answers, Frozen, None, Nothing, Arrive, ArrivesAt, AsksAlone, Bool, BookState, HasCome, Contains, Core, Deferred, Entry, Err, Forwarded, GrantsEach, GrantsThem, Inboxes, IsApplied, IsNewAtMaster, IsDeferred, IsForwarded, IsFrozenAt, IsLeft, IsMaster, IsRepeated, IsSound, IsTakenOut, KeepsButGrants, KeepsUnclean, LacksNumberToServe, Leaf, List, MatchBool, NoInodes, NoMemory, NoneWaits, NotAuthority, Ok, Pin, Question, Rank, Receipt, Refusal, RefusesAsk, RefusesRequest, Request, Result, Roots, Rules, Some, State, Steps, StillWaits, StoreFault, NothingToEvict, TreeMayRefuse, TreeState, Trimmed, WaitsAlone, WhyItWaits, WhyNotGranted, [], ap, arith, false, first_waiting, grant_of, inl, inr, is_directory, is_for, is_pin, left_without, length, list_any, main_leaf, nat_lt, one_authority, refl, set, set-set, Served, ServesTo, shown_tree, subst, sym, told_as, true, waiting_at, with_last, with_waiting, without_request, would_change, ℕ, ◌∙◌, ◌∷◌, ◌≡◌, ◌≢◌, ◌⊎◌}
 use Rattle.std.specs.FinMap as map
 use Rattle.std.specs.FinMap.{get-empty}
 use Rattle.std.specs.Prelude.{OnOk}
@@ -83,6 +83,15 @@ module _ (q : Question) (mid : BookState) (sound : IsSound q.opening q.history q
           → Answers q mid (Err reason)
       go true e h = absurd (omega (arith, h.0.1, ap (λ (w : List Request). length w) (none q.rank)))
       go false e h = inl (named h.0, ltb-false _ _ e, h.1, h.2)
+
+-- a request that comes in is told nothing
+pub told_nothing : (old mid : BookState) (rank : Rank) (request : Request) (answer : Answer) → Steps old.core mid.core old.history mid.history (Ok answer) (Arrive rank request) → answer ≡ Nothing
+told_nothing old mid rank request answer steps = go (nat_lt rank.0 (length old.core.state.inboxes)) steps.does
+  where
+    go : (b : Bool) → MatchBool b (ArrivesAt old.core.state mid.core.state old.history mid.history rank request (Ok answer) × AsksNone old.core mid.core) ((◌≡◌ {A = Result Answer Refusal} (Ok answer) (Err NotAuthority)) × (mid.core ≡ old.core) × (mid.history ≡ old.history))
+        → answer ≡ Nothing
+    go true h = h.0.0
+    go false h = let clash = h.0 in cc
 
 -- ---- a request that waits alone is served
 

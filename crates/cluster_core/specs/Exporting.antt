@@ -4,6 +4,7 @@ use Rattle.std.specs.FinMap as map
 use Rattle.std.specs.List.{Contains}
 use Rattle.mds_types.specs.declared.entries.Entry.{Entry}
 use Rattle.mds_types.specs.declared.ids.Rank.{Rank}
+use Rattle.mds_types.specs.declared.object_names.ObjName.{ObjName}
 use Rattle.mds_types.specs.declared.refusals.Refusal.{Refusal}
 use Rattle.mds_types.specs.declared.refusals.Refusal.TheVariants as why
 use Rattle.mds_types.specs.Leaf.{Leaf}
@@ -17,6 +18,7 @@ use Rattle.subtree_map.specs.Authority.{Roots}
 use Rattle.ranked_tree.specs.Exported.{EndsRegion, IsUnder}
 use Rattle.ranked_tree.specs.Importing.{HandsRegion, IsRenewed, LeavesCaches, RefusesImport}
 use Rattle.ranked_tree.specs.Sending.{IsInRegionOf, SpellsRegion}
+use Rattle.ranked_tree.specs.SentBytes.{SpellsSent}
 use Rattle.cluster_core.specs.declared.events.Answer.{Answer}
 use Rattle.cluster_core.specs.declared.events.Answer.TheVariants.{Nothing, Sent}
 use Rattle.cluster_core.specs.Administers.{AsksNone}
@@ -162,6 +164,28 @@ SendsExport old new past now leaf (Ok answer) =
 SendsExport old new past now leaf (Err reason) =
     SendsAt old.state new.state leaf (Err reason) × IsLeft old.state new.state past now × AsksNone old new
 
+-- ---- the bytes of a sent export, told anew
+
+-- they spell what isn't clean of its region; refused where none of this root stands sent, or a fragment of the region
+-- has too many dirty names
+abbrev pub TellsSentBytes : State → Leaf → Result (List ℕ) Refusal → Type 0
+TellsSentBytes old leaf (Ok bytes) = SpellsSent old.tree old.roots old.exports leaf bytes
+TellsSentBytes old leaf (Err reason) =
+    Check why.WrongExportState (state_at old.exports leaf ≢ Some state.Sent)
+    (Check why.TooManyFrags (HasTooMany (IsInRegionOf old.tree old.roots leaf) old.tree.unsaved) ForMemory) reason
+
+-- told in the state that Send leaves, they are those that Send gave
+abbrev pub TellsWhatSendGave : Type 0
+TellsWhatSendGave =
+    (old new : State) (leaf : Leaf) (bytes told : List ℕ) → SendsAt old new leaf (Ok bytes)
+    → TellsSentBytes new leaf (Ok told) → told ≡ bytes
+
+-- no state tells two
+abbrev pub TellsOneBytes : Type 0
+TellsOneBytes =
+    (old : State) (leaf : Leaf) (one other : List ℕ) → TellsSentBytes old leaf (Ok one)
+    → TellsSentBytes old leaf (Ok other) → one ≡ other
+
 -- ---- Import
 
 -- a sent export is imported: the bytes are those of its region, and its importer has what isn't clean of it, of
@@ -183,6 +207,12 @@ ImportsExport old new past now leaf bytes (Err reason) =
     RefusesImport (λ count rank. LacksPlacesAt count old rank) old.state.tree old.state.roots old.state.exports leaf
     bytes reason
     × IsLeft old.state new.state past now × LeavesCaches old.state.exports leaf old.caches new.caches reason
+
+-- bytes that the state tells are never damaged to it
+abbrev pub ImportsWhatIsTold : Type 0
+ImportsWhatIsTold =
+    (old new : Core) (past now : List Entry) (leaf : Leaf) (bytes : List ℕ) (object : ObjName)
+    → TellsSentBytes old.state leaf (Ok bytes) → ImportsExport old new past now leaf bytes (Err (why.Damaged object)) → ⊥
 
 -- ---- Finish
 

@@ -13,6 +13,7 @@ ghost use Rattle.cluster_core.specs.Grants.{GrantsWaiting};
 ghost use Rattle.ranked_tree.specs.Subtrees.{AreRoots, KeepsRoots};
 ghost use Rattle.cluster_core.specs.Sound.{AreCached, IsSoundWith, IsSound};
 ghost use Rattle.cluster_core.specs.Administers.{AsksNone, ListsLeaves, TellsAuthority};
+ghost use Rattle.cluster_core.specs.Exporting.{TellsSentBytes};
 
 use crate::events::{Answer, Event};
 use crate::granting::grant_first;
@@ -20,7 +21,7 @@ use crate::parts::{Given, Waiting};
 use crate::serving::serve_front;
 use inode_table::Numbers;
 use keeping::{Keep, Unkept};
-use mds_types::{Entry, Frag, Ino, Limit, Rank, Refusal, Request};
+use mds_types::{Bytes, Entry, Frag, Ino, Limit, Rank, Refusal, Request};
 use namespace_ops::Frags;
 use objstore::Store;
 use ranked_tree::RankedTree;
@@ -270,6 +271,15 @@ impl<S: Store + Drop> Cluster<S> {
             Some(rank) => Ok(rank),
             None => Err(Refusal::NoSuchFrag),
         }
+    }
+
+    /// The bytes of an export that stands sent, spelled from its region as it is: those that its Import takes, for
+    /// whoever has them no more. Refused `WrongExportState` exactly where no export of this root stands sent;
+    /// `TooManyFrags` where a Send of that region would be, so that none was sent; and for want of memory.
+    pub fn sent_bytes(&self, alloc: Global, ino: Ino, frag: Frag) -> Result<Bytes, Refusal>
+        ensures { TellsSentBytes self.now.state (ino, frag) result }
+    {
+        self.tree.sent_bytes(alloc, ino, frag)
     }
 
     /// The subtree roots with their ranks, to read.

@@ -1,11 +1,14 @@
 use Rattle.asking.proofs.Common.{Question}
-use Rattle.asking.proofs.AnswerLaws.{arrived, never_frozen, none_waits_then}
+use Rattle.asking.proofs.AnswerLaws.{arrived, never_frozen, none_waits_then, told_nothing}
 use Rattle.asking.proofs.Common.{Arrive, Err, None, Ok, Some, [], arith, receipt_in, refl, ◌∷◌}
 use Rattle.std.specs.Result.{result_err}
 use Rattle.cluster_core.proofs.NoReplyLaws.{tells_none}
 use Rattle.asking.proofs.OneLaws.{asked_as_one, asked_keeps_limit}
 use Rattle.asking.proofs.ReachedLaws.{leads_by, leads_then, leads_within}
 use Rattle.asking.proofs.asks.ask.Goals as goal
+
+pub drop_nothing-requires : goal.drop_nothing-requires
+drop_nothing-requires g c = told_nothing c.args.book.now c.step.new.self c.args.rank c.args.request c.in-Ok.answer c.in-Ok.ensures.stepped
 
 pub serve_first-requires : goal.serve_first-requires
 serve_first-requires g c =
