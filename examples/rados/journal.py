@@ -8,13 +8,13 @@ import collections
 import errno
 import hashlib
 import struct
-import threading
 
 from librados import Texts, Write
-from pool import AT_ONCE, Head
+from pool import Head
 
 PART = 1 << 20
-THREADS = 3
+# how many writes are under way at once: more take more processor time, since their buffers leave its cache
+WRITES = 4
 REMOVE, CHANGE, CHANGE_HEADER = range(3)
 
 # What one write operation does to an object: removes it, or removes and sets pairs, and sets the header where it has one.
@@ -73,7 +73,7 @@ class Window:
                 completion.wait_only()
 
     def begin(self, name, write, allowed=0):
-        self.drain(AT_ONCE - 1)
+        self.drain(WRITES - 1)
         self.lease.check()
         self.waiting.append((self.objects.begin_write(name, write), allowed))
 
@@ -120,37 +120,11 @@ def written(pool, lease, head, parts):
     pool.set_head(head, lease)
 
 
-def in_threads(work, items):
-    """Does the work for each item, several at once; fails as the first one that fails."""
-    items, gate, faults = iter(items), threading.Lock(), []
-
-    def run():
-        while not faults:
-            try:
-                with gate:
-                    item = next(items, None)
-                if item is None:
-                    return
-                work(item)
-            except BaseException as why:
-                faults.append(why)
-
-    threads = [threading.Thread(target=run) for _ in range(THREADS)]
-    for thread in threads:
-        thread.start()
-    for thread in threads:
-        thread.join()
-    if faults:
-        raise faults[0]
-
-
 def applied(pool, lease, head, parts):
     """Makes all changes of the push that is under way. No two steps are about the same key, so their order is free."""
-    def work(part):
-        with Window(pool.objects, lease) as window:
+    with Window(pool.objects, lease) as window:
+        for part in parts:
             made(part, window)
-
-    in_threads(work, parts)
     head.push, head.count, head.stage, head.broken = head.under_way, head.count + 1, 'sweep', False
     pool.set_head(head, lease)
 

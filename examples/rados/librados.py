@@ -98,6 +98,8 @@ BYTES_AT.restype, BYTES_AT.argtypes = ctypes.py_object, [c_void_p, ctypes.c_ssiz
 # where the pairs of a page are told, so many at most: the address of each key and of each value, then their lengths
 MOST = 1000
 COLUMNS = [(c_uint64 * MOST)() for _ in range(4)]
+# the addresses of the keys as texts that end at a zero
+KEYS = (c_char_p * MOST).from_buffer(COLUMNS[0])
 PLACES = [[byref(column, 8 * k) for k in range(MOST)] for column in COLUMNS]
 
 
@@ -234,7 +236,10 @@ class Page:
         the other."""
         header, count = _bytes_of(self.buffer_list), RADOS.rados_omap_iter_size(self.pairs)
         collections.deque(map(NEXT_PAIR, itertools.repeat(self.pairs, count), *PLACES), maxlen=0)
-        keys, values = (list(map(BYTES_AT, COLUMNS[k][:count], COLUMNS[k + 2][:count])) for k in (0, 1))
+        keys, values = KEYS[:count], list(map(BYTES_AT, COLUMNS[1][:count], COLUMNS[3][:count]))
+        if list(map(len, keys)) != COLUMNS[2][:count]:
+            # some key of somebody else's has a zero in it
+            keys = list(map(BYTES_AT, COLUMNS[0][:count], COLUMNS[2][:count]))
         RADOS.rados_omap_get_end(self.pairs)
         RADOS.rados_release_read_op(self.operation)
         return header, keys, values, bool(self.more.value)

@@ -22,13 +22,15 @@ TABLES = [
 ]
 # the bytes of a database that SQLite locks: who reads shares them, a running program has them for itself
 SHARED_FIRST, SHARED_SIZE = 0x40000002, 510
-# bytes a write operation, and rows a statement
-BYTES, ROWS = 4 << 20, 100
+# bytes a write operation, rows a statement, and KB of a database that are kept in memory while it is made
+BYTES, ROWS, CACHE = 4 << 20, 100, 65536
 
 GONE_OBJECTS = '''SELECT o.name FROM old.object o
     WHERE NOT EXISTS (SELECT 1 FROM object n WHERE n.name = o.name) ORDER BY o.name'''
 CHANGED_HEADERS = '''SELECT n.name, n.header FROM object n LEFT JOIN old.object o ON o.name = n.name
     WHERE o.header IS NOT n.header ORDER BY n.name'''
+OBJECTS = '''SELECT n.name, o.name IS NULL FROM object n LEFT JOIN old.object o ON o.name = n.name ORDER BY n.name'''
+ALL_PAIRS = '''SELECT key, value FROM omap WHERE object = CAST(? AS TEXT) ORDER BY key'''
 CHANGED_PAIRS = '''SELECT n.key, n.value FROM omap n
     LEFT JOIN old.omap o ON o.object = n.object AND o.key = n.key
     WHERE n.object = CAST(? AS TEXT) AND o.value IS NOT n.value ORDER BY n.key'''
@@ -156,8 +158,8 @@ def changes(connection):
         header = headers.pop(name, None)
         return Step(CHANGE if header is None else CHANGE_HEADER, name, header or b'', gone, keys, values)
 
-    for (name,) in connection.execute('SELECT name FROM object ORDER BY name').fetchall():
-        for keys, values in chunks(connection.execute(CHANGED_PAIRS, (name,))):
+    for name, is_new in connection.execute(OBJECTS).fetchall():
+        for keys, values in chunks(connection.execute(ALL_PAIRS if is_new else CHANGED_PAIRS, (name,))):
             yield change(name, (), keys, values)
     for name, rows in itertools.groupby(connection.execute(GONE_PAIRS), operator.itemgetter(0)):
         for _, keys in chunks(rows):
@@ -173,6 +175,7 @@ def fetched(pool, lease, path, names):
         # a file that isn't finished is never read
         connection.execute('PRAGMA journal_mode = OFF')
         connection.execute('PRAGMA synchronous = OFF')
+        connection.execute(f'PRAGMA cache_size = -{CACHE}')
         new_tables(connection)
         connection.execute('BEGIN')
         for name, header, keys, values in pool.pages(names, lease):

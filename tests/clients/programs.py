@@ -112,9 +112,13 @@ def rsync(given):
                 equal(ran(['rsync', '-a', '--delete', '--checksum', '--dry-run', '--itemize-changes', f'{begin}/', f'{end}/'], beside), '',
                       f'rsync would still do from {begin} to {end}')
                 equal(difference(tree_of(end, exact_times=True), tree_of(begin, exact_times=True)), None, end)
-            for path in sorted(tree_of(source))[::7]:
-                if os.path.islink(os.path.join(source, path)) or os.path.isfile(os.path.join(source, path)):
-                    os.unlink(os.path.join(source, path))
+            # some files are removed and some replaced: rsync writes the new ones under other names, and renames them onto these
+            for number, path in enumerate(os.path.join(source, path) for path in sorted(tree_of(source))):
+                if number % 7 < 2 and (os.path.islink(path) or os.path.isfile(path)):
+                    os.unlink(path)
+                    if number % 7 == 1:
+                        with open(path, 'wb') as file:
+                            file.write(rand.randbytes(3000))
         ran(['rm', '-r', there], mount.path)
         equal(os.listdir(mount.path), [], 'after `rm -r` there is')
         mount.unmount()

@@ -1,5 +1,5 @@
 """An administrator's steps at random, each beside what it has to print, and what has to hold after them."""
-from player import Player
+from player import NAMES, Player
 from program import Broken
 from ranks import STEPS
 
@@ -80,13 +80,28 @@ class Administrator(Player):
 
     def evict(self):
         rank = self.rank_of(self.leaf())
-        self.expect(f'evict {rank}', *['nothing', 'refused 16'] if rank < self.count else ['refused 5'])
+        self.expect(f'evict {rank}', printed(self.ranks.evict(rank)))
+
+    def drain(self):
+        """Some of what a rank caches and is clean goes, into one of these leaves an operation looks, and then all of it goes: so it is told which leaf
+        was the least recently used."""
+        rank = self.random.randrange(self.count)
+        clean = [leaf for leaf in self.ranks.cached.orders[rank] if self.ranks.unclean.is_clean(leaf)]
+        for _ in range(self.random.randrange(len(clean) + 1)):
+            self.expect(f'evict {rank}', printed(self.ranks.evict(rank)))
+        places = [(leaf[0], name) for leaf in clean for name in NAMES if self.ranks.leaf_of(leaf[0], name) == leaf]
+        if places:
+            directory, name = self.random.choice(places)
+            self.read(rank, f'lookup {directory:x} {name}')
+        while self.expect(f'evict {rank}', printed(self.ranks.evict(rank))) == 'nothing':
+            pass
 
     def begun_at(self, rank, leaf):
         """The number of the job that a commit begins, 0 where none is begun; and the number of the refusal."""
         refused = self.ranks.begin(rank, leaf)
         if refused or self.ranks.unclean.is_clean(leaf):
             return 0, refused
+        self.ranks.use(leaf)
         number = len(self.begun) + 1
         self.ranks.jobs[leaf] = number
         self.begun[number] = self.ranks.rows_in(leaf), self.ranks.unclean.snapshot(leaf)
@@ -116,6 +131,7 @@ class Administrator(Player):
         """The object has what the leaf had when its job was begun."""
         names, snapshot = self.begun[number]
         del self.ranks.jobs[leaf]
+        self.ranks.use(leaf)
         self.ranks.unclean.written(leaf, snapshot)
         self.is_object(leaf, names)
 
@@ -130,6 +146,7 @@ class Administrator(Player):
         else:
             self.ranks.jobs = {}
             self.expect('flush', 'flushed')
+            self.ranks.cached.write(self.ranks.unclean.is_clean)
             for leaf in self.ranks.all_leaves():
                 self.store(leaf)
             self.is_stored()
@@ -140,17 +157,15 @@ class Administrator(Player):
             self.ranks.unclean.written(leaf, self.ranks.unclean.snapshot(leaf))
 
     def own(self):
-        """A rank's own next step: the one that there is, or one of those where that goes by what it caches."""
-        busy = [rank for rank in range(self.count) if self.ranks.own_steps(rank) != [None]]
+        """A rank's own next step, made."""
+        busy = [rank for rank in range(self.count) if self.ranks.own_step(rank)]
         rank = self.random.choice(busy) if busy and self.random.random() < 0.8 else self.random.randrange(self.count + 1)
         if rank == self.count:
             self.expect(f'own {rank}', 'refused 5')
             return
-        steps = {}
-        for step in self.ranks.own_steps(rank):
-            sent = f'sent {self.ranks.sent(step[1])}' if step and step[0] == 'send' else 'nothing'
-            steps[f'own {step[0]} {named(step[1])} {sent}' if step else 'none'] = step
-        step = steps[self.expect(f'own {rank}', *steps)]
+        step = self.ranks.own_step(rank)
+        sent = f'sent {self.ranks.sent(step[1])}' if step and step[0] == 'send' else 'nothing'
+        self.expect(f'own {rank}', f'own {step[0]} {named(step[1])} {sent}' if step else 'none')
         if step and self.ranks.make(rank, *step):
             raise Broken(f'own {rank}\n  prints {self.said}\n  which is to be refused')
 

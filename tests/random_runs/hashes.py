@@ -20,10 +20,11 @@ def mixed(a, b, c):
 @functools.lru_cache(None)
 def bits_of(name):
     """The 24 bits that decide in which leaf a name lies, as digits."""
-    a, b, c, rest = 0x9e3779b9, 0x9e3779b9, 0, name.encode()
+    rest = name if isinstance(name, bytes) else name.encode()
+    a, b, c, length = 0x9e3779b9, 0x9e3779b9, 0, len(rest)
     while len(rest) >= 12:
         a, b, c = mixed(*(word + int.from_bytes(rest[at:at + 4], 'little') & WORD for word, at in ((a, 0), (b, 4), (c, 8))))
         rest = rest[12:]
     a, b = a + int.from_bytes(rest[:4], 'little') & WORD, b + int.from_bytes(rest[4:8], 'little') & WORD
-    c = c + len(name) + (int.from_bytes(rest[8:], 'little') << 8) & WORD
+    c = c + length + (int.from_bytes(rest[8:], 'little') << 8) & WORD
     return f'{mixed(a, b, c)[2] & 0xffffff:024b}'

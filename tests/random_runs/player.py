@@ -45,6 +45,7 @@ class Player(Program):
         if master not in (None, rank):
             self.inboxes[master].append(request)
             return f'forwarded {master}'
+        self.ranks.look(operation)
         if self.ranks.waits(rank, pair, operation):
             self.inboxes[rank].append(request)
             return 'deferred'
@@ -73,13 +74,17 @@ class Player(Program):
         """A directory, listed by requests that come in at a rank. It has to be what the plain table says."""
         after, more = '-', True
         while more:
-            self.looks += 1
-            pair = LOOKER, self.looks
-            self.request(rank, pair, 1, f'readdir {directory:x} {after} {most}')
-            while pair not in self.replies:
-                self.serve(next(at for at, inbox in enumerate(self.inboxes) if any(request[0] == pair for request in inbox)))
-            words = self.replies[pair][1].split()
+            words = self.read(rank, f'readdir {directory:x} {after} {most}').split()
             more, after = words[2:3] == ['more'], words[-1].rsplit(':', 1)[0]
+
+    def read(self, rank, operation):
+        """The answer of a read that comes in at a rank, served until it is there."""
+        self.looks += 1
+        pair = LOOKER, self.looks
+        self.request(rank, pair, 1, operation)
+        while pair not in self.replies:
+            self.serve(next(at for at, inbox in enumerate(self.inboxes) if any(request[0] == pair for request in inbox)))
+        return self.replies[pair][1]
 
     # ---- what is picked
 

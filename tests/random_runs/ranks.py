@@ -5,6 +5,7 @@ A leaf is a directory and a fragment, such as `01*`. What an administrator's ste
 """
 import copy
 
+from cached import Cached
 from hashes import bits_of
 from table import ROOT
 from unclean import Unclean
@@ -44,6 +45,7 @@ class Ranks:
         self.table, self.count = table, count
         self.leaves, self.roots = {ROOT: ['*']}, {(ROOT, '*'): 0}
         self.exports, self.grants, self.jobs, self.unclean = {}, set(), {}, Unclean((ROOT, '*'))
+        self.cached = Cached(count, (ROOT, '*'))
 
     # ---- what is there
 
@@ -73,6 +75,15 @@ class Ranks:
     def authority(self, leaf):
         return self.roots[self.climbs_to(leaf)]
 
+    def holder(self, leaf):
+        """The rank that caches a leaf: its authority, but from an import to its finish the importer."""
+        root = self.climbs_to(leaf)
+        export = self.exports.get(root)
+        return export.importer if export and export.state == 'imported' else self.roots[root]
+
+    def use(self, leaf):
+        self.cached.use(self.holder(leaf), leaf)
+
     def is_frozen(self, leaf):
         export = self.exports.get(self.climbs_to(leaf))
         return export is not None and export.state != 'started'
@@ -89,6 +100,31 @@ class Ranks:
         if directory not in self.leaves:
             return None
         return self.authority((directory, self.leaves[directory][0]) if word == 'readdir' else self.leaf_of(directory, name))
+
+    def looked_into(self, operation):
+        """The leaves that an operation looks into, in their order: those of its names, as far as it asks for them, and of a listing all. What it
+        then changes, and what a directory that goes has, it doesn't look into."""
+        word, places = places_of(operation)
+        if any(directory not in self.leaves for directory, _ in places):
+            return []
+        if word == 'readdir':
+            return [(places[0][0], frag) for frag in self.leaves[places[0][0]]]
+        if word == 'rename':
+            row = self.table.find(*places[0])
+            if row is None or places[0] == places[1] or row.kind == 'dir' and row.ino in self.path_to(places[1][0]):
+                places = places[:1]
+        return [self.leaf_of(*place) for place in places]
+
+    def path_to(self, directory):
+        """A directory and those above it."""
+        path = [directory]
+        while path[-1] != ROOT:
+            path.append(next(row.directory for row in self.table.rows if row.ino == path[-1]))
+        return path
+
+    def look(self, operation):
+        for leaf in self.looked_into(operation):
+            self.use(leaf)
 
     def changed(self, operation):
         """The leaves that an operation would change now."""
@@ -119,6 +155,7 @@ class Ranks:
         for new in there - self.leaves.keys():
             self.leaves[new] = ['*']
             self.unclean.make((new, '*'), [])
+            self.use((new, '*'))
         for leaf in self.all_leaves():
             if leaf[0] not in there:
                 self.forget(leaf)
@@ -138,6 +175,7 @@ class Ranks:
         self.roots.pop(leaf, None)
         self.jobs.pop(leaf, None)
         self.unclean.forget(leaf)
+        self.cached.forget(leaf)
         self.grants = {(pinned, pair) for pinned, pair in self.grants if pinned != leaf}
 
     def barred(self, rank, leaves):
@@ -147,12 +185,13 @@ class Ranks:
     def replace(self, old, new):
         """Leaves of a directory become others; where one was a root, these are."""
         directory = old[0][0]
-        whose = [self.roots[leaf] for leaf in old if leaf in self.roots]
+        whose, holder = [self.roots[leaf] for leaf in old if leaf in self.roots], self.holder(old[0])
         for leaf in old:
             self.forget(leaf)
         self.leaves[directory] = sorted({*self.leaves[directory], *new} - {frag for _, frag in old})
         for leaf in [(directory, frag) for frag in new]:
             self.unclean.make(leaf, self.names_in(leaf))
+            self.cached.use(holder, leaf)
             self.roots.update({leaf: rank for rank in whose})
         return 0
 
@@ -182,12 +221,18 @@ class Ranks:
         barred = self.barred(rank, [leaf])
         return barred if barred in (5, 6) else 12 if leaf in self.jobs else 0
 
+    def evict(self, rank):
+        if rank >= self.count:
+            return 5
+        return 0 if self.cached.evict(rank, self.unclean.is_clean) else 16
+
     def grant(self, rank, pair, operation):
         """A rank grants what a request would change of its leaves; the operation is none where no such request waits."""
         if rank >= self.count:
             return 5
         if operation is None:
             return 14
+        self.look(operation)
         mine = [leaf for leaf in self.changed(operation) if self.authority(leaf) == rank]
         if not mine:
             return 5
@@ -224,6 +269,8 @@ class Ranks:
             return 13
         if word == 'freeze' and (refused := self.freeze(root, export.exporter)):
             return refused
+        if word == 'import':
+            self.hand_over(root, export)
         if word == 'finish':
             self.roots[root] = export.importer
         if word in ('finish', 'cancel'):
@@ -231,6 +278,13 @@ class Ranks:
         else:
             export.state = STEPS[word][1]
         return 0
+
+    def hand_over(self, root, export):
+        """What the exporter caches of a region and isn't clean is the importer's; what is clean is cached no more."""
+        region = [leaf for leaf in self.all_leaves() if self.climbs_to(leaf) == root and self.cached.has(export.exporter, leaf)]
+        for leaf in region:
+            self.cached.forget(leaf)
+        self.cached.move(sorted((leaf for leaf in region if not self.unclean.is_clean(leaf)), key=place_of), export.importer)
 
     def freeze(self, root, exporter):
         if not self.is_leaf(root):
@@ -245,19 +299,16 @@ class Ranks:
 
     # ---- what ranks do of their own
 
-    def own_steps(self, rank):
-        """The steps of which a rank makes one of its own: the first that there is, as what it does and where, none for none. Leaves that are merged have to
-        be cached: those that aren't clean are, and others may be."""
+    def own_step(self, rank):
+        """A rank's own step: the first that there is, as what it does and where, or none. Leaves that are merged are cached."""
         for root, export in sorted(self.exports.items(), key=lambda it: place_of(it[0])):
             if export.exporter == rank and (step := self.next_own(rank, root, export)):
-                return [(step, root)]
-        steps = []
+                return step, root
         for whole, parts in self.small(rank):
-            steps.append(('merge', whole))
-            if not any(map(self.unclean.is_clean, parts)):
-                return steps
+            if all(self.cached.has(rank, leaf) for leaf in parts):
+                return 'merge', whole
         away = [leaf for leaf in self.all_leaves() if self.is_away(rank, leaf)]
-        return steps + [('start', min(away, key=place_of)) if away else None]
+        return ('start', min(away, key=place_of)) if away else None
 
     def next_own(self, rank, root, export):
         """How a rank goes on with an export: one that is started waits while it can't be frozen."""

@@ -1,3 +1,4 @@
+pub mod BatchLaws
 pub mod EntryLaws
 pub mod ReadLaws
 pub mod RowLaws

@@ -1,15 +1,14 @@
 -- What a row of a table says, and the object or the pair that an operation makes of it.
-use Rattle.std.proofs.Common.{◌≡◌, ℕ, Bool, true, false, cond, List, [], ◌∷◌, length, Option, Some, None, refl, sym, ap, subst, ◌∙◌, arith, is_some, option_copied, true≢false, Result, Ok, OnOk}
+use Rattle.std.proofs.Common.{◌≡◌, ℕ, Bool, false, cond, List, [], ◌∷◌, length, Option, Some, None, refl, sym, ap, subst, ◌∙◌, arith, is_some, option_copied, true≢false, Result, Ok, OnOk}
 use Rattle.std.specs.Borrow.{Bor}
 use Rattle.std.specs.Option.{option_or}
-use Rattle.std.specs.Ordering.{eq_by_cmp}
 use Rattle.std.specs.Cmp.Lexicographic.{nat_list_cmp_total}
 use Rattle.std.specs.FinMap as map
-use Rattle.std.specs.FinMap.{get-empty, get-insert, same_map}
+use Rattle.std.specs.FinMap.{get-empty, same_map}
 use Rattle.std.proofs.lemmas.Map.Lookups.{exact_bytes}
 use Rattle.sorted_map.specs.Overlay.{overlaid, without_keys}
 use Rattle.sorted_map.proofs.MapLaws.{get-overlaid, get-without_keys}
-use Rattle.objstore.specs.Omap.{Omap, PairMap, empty_omap, key_cmp}
+use Rattle.objstore.specs.Omap.{PairMap, empty_omap, key_cmp}
 use Rattle.objstore.specs.Objects.{Objects, written}
 use Rattle.objstore.specs.Writes.{applied, nothing}
 use Rattle.objstore.proofs.WriteLaws.{applied-parts}
@@ -42,27 +41,10 @@ header_applied header =
     same_map nat_list_cmp_total exact_bytes _ _ (λ q. get_laid map.empty map.empty q ∙ rw (get-empty key_cmp) refl) in
     applied-parts (record nothing { header = Some header }) empty_omap ∙ (λ i. record { header = header; pairs = pairs i })
 
-pub pair_applied : (object : Omap) (key value : List ℕ)
-    → applied (record nothing { set = map.insert map.empty key value }) object ≡ record { header = object.header; pairs = map.insert object.pairs key value }
-pair_applied object key value =
-    let pairs : without_keys {W = Unit {0}} (overlaid object.pairs (map.insert map.empty key value)) map.empty ≡ map.insert object.pairs key value =
-    same_map nat_list_cmp_total exact_bytes _ _ (λ q. get_laid object.pairs (map.insert map.empty key value) q ∙ (put q (eq_by_cmp key_cmp q key) refl ∙ sym (get-insert nat_list_cmp_total object.pairs key value q))) in
-    applied-parts (record nothing { set = map.insert map.empty key value }) object ∙ (λ i. record { header = object.header; pairs = pairs i })
-  where
-    put : (q : List ℕ) (b : Bool) → eq_by_cmp key_cmp q key ≡ b
-        → option_or (map.get (map.insert {R = key_cmp} map.empty key value) q) (map.get object.pairs q) ≡ cond (eq_by_cmp key_cmp q key) (Some value) (map.get object.pairs q)
-    put q true e = rw (get-insert nat_list_cmp_total, e) refl
-    put q false e = rw (get-insert nat_list_cmp_total, e, get-empty key_cmp) refl
-
 pub header_written : (old : Objects) (name header : List ℕ) → map.get old name ≡ None
     → written old name (record nothing { header = Some header }) ≡ map.insert old name (record { header = header; pairs = map.empty })
 unfolding written
 header_written old name header absent = rw absent (ap (map.insert old name) (header_applied header))
-
-pub pair_written : (old : Objects) (name key value : List ℕ) (object : Omap) → map.get old name ≡ Some object
-    → written old name (record nothing { set = map.insert map.empty key value }) ≡ map.insert old name (record { header = object.header; pairs = map.insert object.pairs key value })
-unfolding written
-pair_written old name key value object there = rw there (ap (map.insert old name) (pair_applied object key value))
 
 -- ---- what is known of a look
 

@@ -2,6 +2,7 @@
 //! is brought into the tables in one transaction, and all objects are read out of them again.
 #![tactic(auto)]
 
+mod batches;
 mod changes;
 mod entries;
 mod laws;

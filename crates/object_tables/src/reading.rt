@@ -4,9 +4,10 @@ ghost use Rattle.std.specs.FinMap as map;
 ghost use Rattle.objstore.specs.Writes.{nothing};
 ghost use Rattle.sqlite_value.specs.Order.{Row as Columns};
 ghost use Rattle.sqlite_trees.specs.View.{IsClean, IsQuiet, KeepsSchema};
-ghost use Rattle.object_tables.specs.Reading.{AddsObject, AddsPair, SpellHeaders, SpellPairs};
+ghost use Rattle.object_tables.specs.Reading.{AddsObject, AddsPair, HasBatch, SpellHeaders, SpellPairs, with_batch};
 ghost use Rattle.object_tables.specs.Spelled.{HasTables, SpellsObjects};
 
+use crate::batches::{Batch, add, finish};
 use crate::tables::{OBJECTS, PAIRS};
 use mds_types::{Bytes, Refusal};
 use objstore::{MemStore, Store as _, WriteOp};
@@ -106,12 +107,13 @@ fn read_pairs<T: Store>(
     ensures quiet { IsQuiet T.Store.view T.Store.faults T.Store.recovers T.Store.is_shielded trees.old trees.new }
 {
     let first = Row::new(alloc);
+    let mut batch = Batch::new(alloc)?;
     trees.seek(0, PAIRS, &first, Direction::Forward)?;
     'rows: for _ in 0..u64::MAX {
         if !trees.next(0, row)? {
-            return Ok(());
+            return finish(alloc, objects, &mut batch);
         }
-        add_pair(alloc, objects, row)?;
+        add_pair(alloc, objects, &mut batch, row)?;
     }
     Err(ReadFault::Row)
 }
@@ -145,8 +147,15 @@ fn header_op(alloc: Global, header: &[u8]) -> Result<WriteOp, AllocError>
 }
 
 // The pair of a row of the second table.
-fn add_pair(alloc: Global, objects: &mut MemStore, row: &Row) -> Result<(), ReadFault>
-    ensures { OnOk result (AddsPair objects.old objects.new row.now) }
+fn add_pair(
+    alloc: Global,
+    objects: &mut MemStore,
+    batch: &mut Batch,
+    row: &Row,
+) -> Result<(), ReadFault>
+    requires { HasBatch objects.old batch.old }
+    ensures batch { OnOk result (HasBatch objects.new batch.new) }
+    ensures added { OnOk result (AddsPair (with_batch objects.old batch.old) (with_batch objects.new batch.new) row.now) }
 {
     let (ValueRef::Text(name), ValueRef::Text(key), ValueRef::Blob(value)) = (
         row.get(0),
@@ -158,31 +167,14 @@ fn add_pair(alloc: Global, objects: &mut MemStore, row: &Row) -> Result<(), Read
     let Ok(name) = str::from_utf8(name) else {
         return Err(ReadFault::Row);
     };
-    let key = Bytes::from_slice(alloc, key)?;
-    let Some(object) = objects.get(name) else {
-        return Err(ReadFault::Row);
-    };
-    if row.len() != 3 || object.pairs().get(&key).is_some() {
+    if row.len() != 3 {
         return Err(ReadFault::Row);
     }
-    let op = pair_op(alloc, key, value)?;
-    let done = objects.apply(alloc, name, &op);
-    drop(op);
-    applied(done)
+    add(alloc, objects, batch, name, key, value)
 }
 
-// The operation that sets one pair.
-fn pair_op(alloc: Global, key: Bytes, value: &[u8]) -> Result<WriteOp, AllocError>
-    ensures { IfOk result (λ op. op ≡ record nothing { set = map.insert map.empty key value.now }) }
-{
-    let value = Bytes::from_slice(alloc, value)?;
-    let mut op = WriteOp::new(alloc);
-    op.set.put(key, value)?;
-    Ok(op)
-}
-
-// A store in memory refuses for want of memory alone.
-fn applied(done: Result<(), Refusal>) -> Result<(), ReadFault>
+/// A store in memory refuses for want of memory alone.
+pub fn applied(done: Result<(), Refusal>) -> Result<(), ReadFault>
     ensures { OnOk result (done ≡ Ok tt) }
 {
     match done {
