@@ -13,8 +13,8 @@ from librados import Texts, Write
 from pool import Head
 
 PART = 1 << 20
-# writes under way: what more would bring by the clock it takes of the processors, for memory that isn't at hand any more
-AT_ONCE = 4
+# how many writes are under way at once: more take more processor time, since their buffers leave its cache
+WRITES = 4
 REMOVE, CHANGE, CHANGE_HEADER = range(3)
 
 # What one write operation does to an object: removes it, or removes and sets pairs, and sets the header where it has one.
@@ -73,7 +73,7 @@ class Window:
                 completion.wait_only()
 
     def begin(self, name, write, allowed=0):
-        self.drain(AT_ONCE - 1)
+        self.drain(WRITES - 1)
         self.lease.check()
         self.waiting.append((self.objects.begin_write(name, write), allowed))
 

@@ -23,7 +23,8 @@ OF_STORE = re.compile(rb'[0-9a-f]+\.([0-9a-f]{8}|fragtree)')
 OWN = re.compile(rb'cephmeta\.(head|push\.[0-9a-f]+\.[0-9]+)')
 # keys that a write operation has at most, as a page of pairs
 KEYS = MOST
-AT_ONCE = 16
+# pages that are read at once
+READS = 16
 
 
 class Refused(Exception):
@@ -181,7 +182,7 @@ class Pool:
 
         try:
             while True:
-                while len(asked) < AT_ONCE and (name := next(names, None)) is not None:
+                while len(asked) < READS and (name := next(names, None)) is not None:
                     asked.append(ask(name))
                 if not asked:
                     return

@@ -112,7 +112,7 @@ def rsync(given):
                 equal(ran(['rsync', '-a', '--delete', '--checksum', '--dry-run', '--itemize-changes', f'{begin}/', f'{end}/'], beside), '',
                       f'rsync would still do from {begin} to {end}')
                 equal(difference(tree_of(end, exact_times=True), tree_of(begin, exact_times=True)), None, end)
-            # some go, and some are others, for which rsync makes new files and renames them to these names
+            # some files are removed and some replaced: rsync writes the new ones under other names, and renames them onto these
             for number, path in enumerate(os.path.join(source, path) for path in sorted(tree_of(source))):
                 if number % 7 < 2 and (os.path.islink(path) or os.path.isfile(path)):
                     os.unlink(path)
