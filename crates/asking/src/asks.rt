@@ -26,6 +26,7 @@ use std::alloc::Global;
 /// Refused `NotAuthority` exactly where there is no such rank; `Trimmed` and `NoInodes` where serving it is, and it has
 /// left; `Frozen` where it would change a fragment that is frozen; for want of memory, by the store, and for want of
 /// places. After one of these four the request waits on, alone.
+#[inline(always)]
 pub fn ask<S: Store + Drop>(
     alloc: Global,
     book: &mut Book<S>,
@@ -73,7 +74,7 @@ fn drop_nothing(answer: Answer)
     }
 }
 
-// The request is served where it came in.
+// The request is served where it came in. The reply is taken from the step's answer at once, so it is moved once.
 #[inline(always)]
 fn serve_first<S: Store + Drop>(
     alloc: Global,
@@ -91,10 +92,25 @@ fn serve_first<S: Store + Drop>(
     ensures sound { IsSoundBook book.new }
     ensures counted { book.new.core.faults ≡ book.old.core.faults + faults_told (result_err result) }
 {
-    match serve(alloc, book, rank) {
-        Ok(Served::Replied(receipt)) => Ok(receipt),
-        Ok(Served::Goes(master)) => serve_there(alloc, book, master, client, tid),
-        Ok(Served::Waits) => serve_granted(alloc, book, rank, client, tid),
+    match book.step(alloc, Event::Serve { rank }) {
+        Ok(Answer::Reply {
+            client: whose,
+            tid: number,
+            place,
+            first,
+            reply,
+        }) => Ok(Receipt {
+            client: whose,
+            tid: number,
+            place,
+            first,
+            reply,
+        }),
+        Ok(Answer::Forwarded(master)) => serve_there(alloc, book, master, client, tid),
+        Ok(Answer::Deferred) => serve_granted(alloc, book, rank, client, tid),
+        Ok(Answer::Nothing) => unreachable!(),
+        Ok(Answer::Job(_)) => unreachable!(),
+        Ok(Answer::Sent(_)) => unreachable!(),
         Err(refusal) => Err(refusal),
     }
 }

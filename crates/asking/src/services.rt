@@ -28,6 +28,7 @@ use std::thread::Threads;
 ///
 /// Refused `NotAuthority` exactly where there is no such rank; `Trimmed`, `NoInodes` where serving it is; `Frozen` where it
 /// would change a fragment that is frozen; for want of memory, by the store, and for want of places.
+#[inline(always)]
 pub fn ask_once<S: Store + Drop>(
     alloc: Global,
     book: &mut Book<S>,
@@ -58,6 +59,7 @@ pub fn ask_once<S: Store + Drop>(
 }
 
 // What waits at the front of the lowest rank is given up, if something waits.
+#[inline(never)]
 fn leave<S: Store + Drop>(book: &mut Book<S>)
     ensures left { Leaves book.old book.new }
     ensures opening { book.new.opening ≡ book.old.opening }
@@ -126,6 +128,7 @@ impl<S: Store + Drop> Service<S> {
     }
 
     /// A request comes in at a rank, and gets its answer, or is refused as `ask_once` is: then nothing of it is left.
+    #[inline(always)]
     pub fn ask(&mut self, alloc: Global, rank: Rank, request: Request) -> Result<Receipt, Refusal>
         ensures one_thread { IsOneThread self.old.book.core.state.tree.limit self.old.book.opening self.old.book.history
             self.new.book.history (request ∷ []) (receipt_in result) }
