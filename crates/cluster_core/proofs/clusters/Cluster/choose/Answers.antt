@@ -58,6 +58,12 @@ returns-in-Arrive-clause-stepped g c =
       counted = c.arrive.ensures.counted;
     })
 
+pub returns-in-Serve-clause-uses : goal.returns-in-Serve-clause-uses
+returns-in-Serve-clause-uses g c = rw c.in-Serve.is c.serve.ensures.uses
+
+pub returns-in-Grant-clause-uses : goal.returns-in-Grant-clause-uses
+returns-in-Grant-clause-uses g c = rw c.in-Grant.is c.grant.ensures.uses
+
 pub returns-in-Arrive-clause-uses : goal.returns-in-Arrive-clause-uses
 returns-in-Arrive-clause-uses g c = rw c.in-Arrive.is c.arrive.ensures.caches
 
