@@ -1,5 +1,5 @@
 -- What each event does to a cluster and its history. What becomes of the caches is said in Uses, by itself.
-use Rattle.std.specs.Prelude.{◌≡◌, ◌⊎◌, ◌+◌, ℕ, nat_lt, MatchBool, ◌<◌, List, length, Option, Some, None, Result, Ok, Err}
+use Rattle.std.specs.Prelude.{◌≡◌, ◌⊎◌, ◌+◌, nat_lt, MatchBool, ◌<◌, List, length, Option, Some, None, Result, Ok, Err}
 use Rattle.std.specs.Result.{result_err}
 use Rattle.objstore.specs.Objects.{faults_told}
 use Rattle.mds_types.specs.declared.ids.Rank.{Rank}
