@@ -1,5 +1,5 @@
 -- An export is taken on, step by step, to its end.
-use Rattle.asking.proofs.Common.{Answer, Bool, BookState, Core, Err, Event, Fragment, Ino, IsLeft, IsSoundBook, Leaf, List, NoMemory, None, NothingToEvict, Ok, Option, Rank, Refusal, Result, Roots, Some, State, Steps, TreeState, [], ap, arith, false, inl, inr, length, refl, shown, subst, sym, true, ℕ, ◌++◌, ◌+◌, ◌<◌, ◌∙◌, ◌∷◌, ◌≡◌, ◌≢◌, ◌≤◌, ◌⊎◌}
+use Rattle.asking.proofs.Common.{Answer, Bool, BookState, Core, Err, Event, Fragment, Ino, IsLeft, IsSoundBook, Leaf, List, NoMemory, None, NothingToEvict, Ok, Option, Rank, Refusal, Result, Roots, Some, State, Steps, TreeState, UsesStep, [], ap, arith, false, inl, inr, length, refl, shown, subst, sym, true, ℕ, ◌++◌, ◌+◌, ◌<◌, ◌∙◌, ◌∷◌, ◌≡◌, ◌≢◌, ◌≤◌, ◌⊎◌}
 use Rattle.std.specs.FinMap as map
 use Rattle.std.specs.FinMap.{same_map}
 use Rattle.std.specs.Prelude.{IsOk}
@@ -113,12 +113,12 @@ module _ (cancel : Bool) (root : Leaf) where
     spelled = λ other export bytes apart spells. spells;
   }
 
-  pub takes_by : (old new : BookState) (result : Result Answer Refusal) (event : Event) → IsStepOn cancel root event → Steps old.core new.core old.history new.history result event → new.opening ≡ old.opening → IsSoundBook new
-      → Unseen root old new → TakesOn cancel root 1 (result_err result) old new
-  takes_by old new result event is steps same sound unseen = record {
+  pub takes_by : (old new : BookState) (result : Result Answer Refusal) (event : Event) → IsStepOn cancel root event → Steps old.core new.core old.history new.history result event → UsesStep old.core new.core result event → new.opening ≡ old.opening
+      → IsSoundBook new → Unseen root old new → TakesOn cancel root 1 (result_err result) old new
+  takes_by old new result event is steps uses same sound unseen = record {
     events = event ∷ [];
     results = result ∷ [];
-    ran = (new, record { stepped = steps; same_opening = same }, sound, refl);
+    ran = (new, record { stepped = steps; uses = uses; same_opening = same }, sound, refl);
     of_it = (is, tt);
     few = omega arith;
     last = λ reason told. inl ([], ap (λ (r : Result Answer Refusal). r ∷ []) (err_of result reason told));
@@ -150,11 +150,11 @@ module _ (cancel : Bool) (root : Leaf) where
 
   -- a step that was made, and more
   pub step_then : (most all : ℕ) (refused : Option Refusal) (old mid new : BookState) → 1 + most ≤ all → (answer : Answer) (event : Event) → IsStepOn cancel root event → Steps old.core mid.core old.history mid.history (Ok answer) event
-      → mid.opening ≡ old.opening → IsSoundBook mid → Unseen root old mid → TakesOn cancel root most refused mid new → TakesOn cancel root all refused old new
-  step_then most all refused old mid new low answer event is steps opening sound unseen other = record {
+      → UsesStep old.core mid.core (Ok answer) event → mid.opening ≡ old.opening → IsSoundBook mid → Unseen root old mid → TakesOn cancel root most refused mid new → TakesOn cancel root all refused old new
+  step_then most all refused old mid new low answer event is steps uses opening sound unseen other = record {
     events = event ∷ other.events;
     results = Ok answer ∷ other.results;
-    ran = (mid, record { stepped = steps; same_opening = opening }, sound, other.ran);
+    ran = (mid, record { stepped = steps; uses = uses; same_opening = opening }, sound, other.ran);
     of_it = (is, other.of_it);
     few = (let a = other.few in omega (arith, low, a));
     last = λ reason told. refused_then (Ok answer) other.results reason refl (other.last reason told);
@@ -197,7 +197,7 @@ module _ (cancel : Bool) (root : Leaf) where
   -- a step by which it has come to another state, and the rest
   module _ (old mid new : BookState) (before kept after : SentBytes) (from to : ExportState) (step : ComesTo old.core.state.exports mid.core.state.exports root from to) (freezing : is_freezing from ≡ true)
       (unsent : is_before_send to ≡ true → (is_before_send from ≡ true) × (mid.core.state.tree ≡ old.core.state.tree)) (roots : mid.core.state.roots ≡ old.core.state.roots) (answer : Answer) (event : Event)
-      (is : IsStepOn cancel root event) (steps : Steps old.core mid.core old.history mid.history (Ok answer) event) (opening : mid.opening ≡ old.opening) (sound : IsSoundBook mid) (unseen : Unseen root old mid) (bytes : KeepsOtherBytes before kept root) (has : HasBytes old.core.state before root → HasBytes mid.core.state kept root) (most all : ℕ) (low : 1 + most ≤ all) where
+      (is : IsStepOn cancel root event) (steps : Steps old.core mid.core old.history mid.history (Ok answer) event) (uses : UsesStep old.core mid.core (Ok answer) event) (opening : mid.opening ≡ old.opening) (sound : IsSoundBook mid) (unseen : Unseen root old mid) (bytes : KeepsOtherBytes before kept root) (has : HasBytes old.core.state before root → HasBytes mid.core.state kept root) (most all : ℕ) (low : 1 + most ≤ all) where
     by_hand : (export : StandingExport) → export ≡ come_to to step.export → HandsOrCancels cancel mid.core.state new.core.state root export → HandsOrCancels cancel old.core.state new.core.state root step.export
     by_hand export same (inl handed) = inl (handed ∙ (ap (λ (r : Roots). map.insert r root export.importer) roots ∙ ap (λ (e : StandingExport). map.insert old.core.state.roots root e.importer) same))
     by_hand export same (inr (allowed, early, kept_roots, kept_tree)) =
@@ -209,7 +209,7 @@ module _ (cancel : Bool) (root : Leaf) where
       export = step.export;
       stood = step.stood;
       freezing = ap is_freezing step.was ∙ freezing;
-      taken = step_then most all None old mid new low answer event is steps opening sound unseen its.taken;
+      taken = step_then most all None old mid new low answer event is steps uses opening sound unseen its.taken;
       ended = its.ended ∙ (ap (λ (m : Standing). map.remove m root) step.changed ∙ gone_again old.core.state.exports root (come_to to step.export));
       by = by_hand its.export (value_is (map.get mid.core.state.exports root) its.export (come_to to step.export) its.stood (came_here root old.core.state.exports mid.core.state.exports from to step)) its.by;
       bytes = λ other apart. its.bytes other apart ∙ bytes other apart;
@@ -221,7 +221,7 @@ module _ (cancel : Bool) (root : Leaf) where
       export = its.export;
       stands = its.stands;
       freezing = its.freezing;
-      taken = step_then most all (Some reason) old mid new low answer event is steps opening sound unseen its.taken;
+      taken = step_then most all (Some reason) old mid new low answer event is steps uses opening sound unseen its.taken;
       why = its.why;
       bytes = λ other apart. its.bytes other apart ∙ bytes other apart;
       kept = λ had. its.kept (has had);
@@ -252,7 +252,7 @@ module _ (cancel : Bool) (root : Leaf) where
         }
 
     cancels : new.opening ≡ mid.opening → IsSoundBook new → CancelsOr cancel root mid new refusal (Ok tt) → HasEnded cancel root all old new before after
-    cancels opening sound (allowed, answer, steps) =
+    cancels opening sound (allowed, answer, steps, uses) =
         let did : CancelsAt mid.core.state new.core.state root (Ok tt) = steps.does.1 in
         let gone : new.core.state.exports ≡ map.remove mid.core.state.exports root = did.1 in
         let others : (other : Leaf) → (other ≡ root → ⊥) → map.get new.core.state.exports other ≡ map.get mid.core.state.exports other =
@@ -263,7 +263,7 @@ module _ (cancel : Bool) (root : Leaf) where
           freezing = freezing;
           taken =
               takes_then few 1 all (Some refusal) old mid new low one
-              (takes_by mid new (Ok answer) (Cancel root.0 root.1) (allowed, refl) steps opening sound (unseen_step root mid new steps.does.2 others (spelled_kept mid.core.state new.core.state root did.2)));
+              (takes_by mid new (Ok answer) (Cancel root.0 root.1) (allowed, refl) steps uses opening sound (unseen_step root mid new steps.does.2 others (spelled_kept mid.core.state new.core.state root did.2)));
           ended = gone ∙ ap (λ (s : State). map.remove s.exports root) same;
           by = inr (allowed, unsent, did.2.roots ∙ ap (λ (s : State). s.roots) same, did.2.tree ∙ ap (λ (s : State). s.tree) same);
           bytes = bytes;
@@ -284,22 +284,22 @@ module _ (cancel : Bool) (dir : Ino) (f : Fragment) (old mid : BookState) (openi
 
   -- Prep
   module _ (new : BookState) (before after : SentBytes) where
-    pub prepped : (answer : Answer) → Steps old.core mid.core old.history mid.history (Ok answer) (Prep dir f) → (result : Result (Unit {0}) Refusal) → EndsFrozen cancel root 3 mid new before after result → EndsFrozen cancel root 4 old new before after result
-    prepped answer steps =
+    pub prepped : (answer : Answer) → Steps old.core mid.core old.history mid.history (Ok answer) (Prep dir f) → UsesStep old.core mid.core (Ok answer) (Prep dir f) → (result : Result (Unit {0}) Refusal) → EndsFrozen cancel root 3 mid new before after result → EndsFrozen cancel root 4 old new before after result
+    prepped answer steps uses =
         let step : ComesTo old.core.state.exports mid.core.state.exports root at.Frozen at.Prepared = steps.does.1.0 in
         let keeps : KeepsTreeAndRoots old.core.state mid.core.state = steps.does.1.1 in
         goes_on cancel root old mid new before before after at.Frozen at.Prepared step refl (λ early. (refl, keeps.tree)) keeps.roots
-        answer (Prep dir f) refl steps opening sound (unseen_step root old mid steps.does.2 (came_others root old.core.state.exports mid.core.state.exports at.Frozen at.Prepared step) (spelled_kept old.core.state mid.core.state root keeps))
+        answer (Prep dir f) refl steps uses opening sound (unseen_step root old mid steps.does.2 (came_others root old.core.state.exports mid.core.state.exports at.Frozen at.Prepared step) (spelled_kept old.core.state mid.core.state root keeps))
         (λ other apart. refl)
         (λ had. unsent_has cancel root mid.core.state before (come_to at.Prepared step.export) (came_here root old.core.state.exports mid.core.state.exports at.Frozen at.Prepared step) refl)
         3 4 (omega arith)
 
-    pub not_prepped : state_at old.core.state.exports root ≡ Some at.Frozen → (refusal : Refusal) → Steps old.core mid.core old.history mid.history (Err refusal) (Prep dir f) → new.opening ≡ mid.opening → IsSoundBook new
-        → after ≡ before → (result : Result (Unit {0}) Refusal) → CancelsOr cancel root mid new refusal result → EndsFrozen cancel root 4 old new before after result
-    not_prepped frozen refusal steps later good same result =
+    pub not_prepped : state_at old.core.state.exports root ≡ Some at.Frozen → (refusal : Refusal) → Steps old.core mid.core old.history mid.history (Err refusal) (Prep dir f) → UsesStep old.core mid.core (Err refusal) (Prep dir f) → new.opening ≡ mid.opening
+        → IsSoundBook new → after ≡ before → (result : Result (Unit {0}) Refusal) → CancelsOr cancel root mid new refusal result → EndsFrozen cancel root 4 old new before after result
+    not_prepped frozen refusal steps uses later good same result =
         let export = export_at old.core.state.exports root at.Frozen frozen in
         cancels_or cancel root old mid new before after export.0 export.1 (ap is_freezing export.2) (ap is_before_send export.2) 1 4 (omega arith) refusal
-        (takes_by cancel root old mid (Err refusal) (Prep dir f) refl steps opening sound (unseen_left root old mid steps.does.1)) steps.does.1.left (inl (memory steps.does.0)) (λ other apart. ap (λ (k : SentBytes). map.get k.bytes other) same) result later
+        (takes_by cancel root old mid (Err refusal) (Prep dir f) refl steps uses opening sound (unseen_left root old mid steps.does.1)) steps.does.1.left (inl (memory steps.does.0)) (λ other apart. ap (λ (k : SentBytes). map.get k.bytes other) same) result later
         good
       where
         memory : Check WrongExportState (state_at old.core.state.exports root ≢ Some at.Frozen) ForMemory refusal → refusal ≡ NoMemory
@@ -312,9 +312,9 @@ module _ (cancel : Bool) (dir : Ino) (f : Fragment) (old mid : BookState) (openi
     sends_these answer steps = (steps.does.0, steps.does.1)
 
     module _ (new : BookState) (after : SentBytes) where
-      pub sent : (answer : Answer) → Steps old.core mid.core old.history mid.history (Ok answer) (Send dir f) → (reserved : SentBytes) → reserved.bytes ≡ before.bytes
+      pub sent : (answer : Answer) → Steps old.core mid.core old.history mid.history (Ok answer) (Send dir f) → UsesStep old.core mid.core (Ok answer) (Send dir f) → (reserved : SentBytes) → reserved.bytes ≡ before.bytes
           → ((bytes : List ℕ) → answer ≡ Sent bytes → kept.bytes ≡ map.insert reserved.bytes root bytes) → (result : Result (Unit {0}) Refusal) → EndsFrozen cancel root 2 mid new kept after result → EndsFrozen cancel root 3 old new before after result
-      sent answer steps reserved same put =
+      sent answer steps uses reserved same put =
           let step : ComesTo old.core.state.exports mid.core.state.exports root at.Prepared at.Sent = steps.does.2.0 in
           let spells : SpellsRegion old.core.state.tree old.core.state.roots root step.export steps.does.0 = steps.does.2.1 in
           let keeps : KeepsTreeAndRoots old.core.state mid.core.state = steps.does.2.2 in
@@ -326,29 +326,29 @@ module _ (cancel : Bool) (dir : Ino) (f : Fragment) (old mid : BookState) (openi
           (subst (λ (b : List ℕ). SpellsRegion old.core.state.tree old.core.state.roots root (come_to at.Sent step.export) b) (sym here) (spells_so at.Sent old.core.state.tree old.core.state.roots root step.export steps.does.0 spells))) in
           let there : map.get mid.core.state.exports root ≡ Some (come_to at.Sent step.export) = came_here root old.core.state.exports mid.core.state.exports at.Prepared at.Sent step in
           goes_on cancel root old mid new before kept after at.Prepared at.Sent step refl (λ early. let clash : false ≡ true = early in cc) keeps.roots
-          answer (Send dir f) refl steps opening sound (unseen_step root old mid steps.does.3 (came_others root old.core.state.exports mid.core.state.exports at.Prepared at.Sent step) (spelled_kept old.core.state mid.core.state root keeps))
+          answer (Send dir f) refl steps uses opening sound (unseen_step root old mid steps.does.3 (came_others root old.core.state.exports mid.core.state.exports at.Prepared at.Sent step) (spelled_kept old.core.state mid.core.state root keeps))
           (λ other apart. ap (λ (m : Kept). map.get m other) inserted ∙ (get_beside reserved.bytes root steps.does.0 other apart ∙ ap (λ (m : Kept). map.get m other) same))
           (λ had export stands is.
           subst (λ (e : StandingExport). SpellsRegion mid.core.state.tree mid.core.state.roots root e (bytes_for kept root)) (sym (value_is (map.get mid.core.state.exports root) export (come_to at.Sent step.export) stands there)) now)
           2 3 (omega arith)
 
   module _ (new : BookState) (before after : SentBytes) where
-    pub not_sent : state_at old.core.state.exports root ≡ Some at.Prepared → (refusal : Refusal) → Steps old.core mid.core old.history mid.history (Err refusal) (Send dir f) → new.opening ≡ mid.opening → IsSoundBook new
-        → after.bytes ≡ before.bytes → (result : Result (Unit {0}) Refusal) → CancelsOr cancel root mid new refusal result → EndsFrozen cancel root 3 old new before after result
-    not_sent prepared refusal steps later good same result =
+    pub not_sent : state_at old.core.state.exports root ≡ Some at.Prepared → (refusal : Refusal) → Steps old.core mid.core old.history mid.history (Err refusal) (Send dir f) → UsesStep old.core mid.core (Err refusal) (Send dir f) → new.opening ≡ mid.opening
+        → IsSoundBook new → after.bytes ≡ before.bytes → (result : Result (Unit {0}) Refusal) → CancelsOr cancel root mid new refusal result → EndsFrozen cancel root 3 old new before after result
+    not_sent prepared refusal steps uses later good same result =
         let export = export_at old.core.state.exports root at.Prepared prepared in
         cancels_or cancel root old mid new before after export.0 export.1 (ap is_freezing export.2) (ap is_before_send export.2) 1 3 (omega arith) refusal
-        (takes_by cancel root old mid (Err refusal) (Send dir f) refl steps opening sound (unseen_left root old mid steps.does.1)) steps.does.1.left (inr (export.2, steps.does.0)) (λ other apart. ap (λ (m : Kept). map.get m other) same)
+        (takes_by cancel root old mid (Err refusal) (Send dir f) refl steps uses opening sound (unseen_left root old mid steps.does.1)) steps.does.1.left (inr (export.2, steps.does.0)) (λ other apart. ap (λ (m : Kept). map.get m other) same)
         result later good
 
   -- Import
   module _ (new : BookState) (before after : SentBytes) where
-    pub imported : (answer : Answer) (bytes : List ℕ) → Steps old.core mid.core old.history mid.history (Ok answer) (Import dir f bytes) → HasEnded cancel root 1 mid new before after → HasEnded cancel root 2 old new before after
-    imported answer bytes steps =
+    pub imported : (answer : Answer) (bytes : List ℕ) → Steps old.core mid.core old.history mid.history (Ok answer) (Import dir f bytes) → UsesStep old.core mid.core (Ok answer) (Import dir f bytes) → HasEnded cancel root 1 mid new before after → HasEnded cancel root 2 old new before after
+    imported answer bytes steps uses =
         let step : ComesTo old.core.state.exports mid.core.state.exports root at.Sent at.Imported = steps.does.1.step in
         let there : map.get mid.core.state.exports root ≡ Some (come_to at.Imported step.export) = came_here root old.core.state.exports mid.core.state.exports at.Sent at.Imported step in
         ends_on cancel root old mid new before before after at.Sent at.Imported step refl (λ early. let clash : false ≡ true = early in cc) steps.does.1.roots
-        answer (Import dir f bytes) refl steps opening sound (unseen_step root old mid steps.does.2 (came_others root old.core.state.exports mid.core.state.exports at.Sent at.Imported step) (spelled_imported old.core.state mid.core.state root steps.does.1.renewed steps.does.1.roots))
+        answer (Import dir f bytes) refl steps uses opening sound (unseen_step root old mid steps.does.2 (came_others root old.core.state.exports mid.core.state.exports at.Sent at.Imported step) (spelled_imported old.core.state mid.core.state root steps.does.1.renewed steps.does.1.roots))
         (λ other apart. refl)
         (λ had export stands is.
         let same : export ≡ come_to at.Imported step.export = value_is (map.get mid.core.state.exports root) export (come_to at.Imported step.export) stands there in
@@ -360,14 +360,14 @@ module _ (cancel : Bool) (dir : Ino) (f : Fragment) (old mid : BookState) (openi
     May core export reason = MayNotImport (λ count rank. LacksPlacesAt count core rank) core.state.tree core.state.roots root export (bytes_for kept root) reason
 
     pub not_imported : state_at old.core.state.exports root ≡ Some at.Sent → (refusal : Refusal) (bytes : List ℕ) → bytes ≡ bytes_for kept root → Steps old.core mid.core old.history mid.history (Err refusal) (Import dir f bytes)
-        → StandsStill cancel root 2 refusal old mid kept kept
-    not_imported was refusal bytes are steps = by_why steps.does.0
+        → UsesStep old.core mid.core (Err refusal) (Import dir f bytes) → StandsStill cancel root 2 refusal old mid kept kept
+    not_imported was refusal bytes are steps uses = by_why steps.does.0
       where
         left : mid.core.state ≡ old.core.state
         left = steps.does.1.left
 
         caches : refusal ≡ NothingToEvict → mid.core.caches ≡ old.core.caches
-        caches is = go steps.does.2
+        caches is = go uses.1
           where
             keeps : (importer : Rank) → KeepsRegion importer old.core.caches mid.core.caches refusal → mid.core.caches ≡ old.core.caches
             keeps importer (inl same) = same
@@ -396,7 +396,7 @@ module _ (cancel : Bool) (dir : Ino) (f : Fragment) (old mid : BookState) (openi
           export = export;
           stands = ap (λ (s : State). map.get s.exports root) left ∙ stands;
           freezing = ap is_freezing is;
-          taken = takes_within cancel root 1 2 (Some refusal) old mid (omega arith) (takes_by cancel root old mid (Err refusal) (Import dir f bytes) refl steps opening sound (unseen_left root old mid steps.does.1));
+          taken = takes_within cancel root 1 2 (Some refusal) old mid (omega arith) (takes_by cancel root old mid (Err refusal) (Import dir f bytes) refl steps uses opening sound (unseen_left root old mid steps.does.1));
           why = inl (is, may_not export may);
           bytes = λ other apart. refl;
           kept = same_has cancel root old.core.state mid.core.state kept left;
@@ -404,8 +404,8 @@ module _ (cancel : Bool) (dir : Ino) (f : Fragment) (old mid : BookState) (openi
 
   -- Finish
   module _ (before after : SentBytes) where
-    pub finished : IsSoundBook old → (answer : Answer) → Steps old.core mid.core old.history mid.history (Ok answer) (Finish dir f) → after.bytes ≡ map.remove before.bytes root → HasEnded cancel root 1 old mid before after
-    finished good answer steps forgot =
+    pub finished : IsSoundBook old → (answer : Answer) → Steps old.core mid.core old.history mid.history (Ok answer) (Finish dir f) → UsesStep old.core mid.core (Ok answer) (Finish dir f) → after.bytes ≡ map.remove before.bytes root → HasEnded cancel root 1 old mid before after
+    finished good answer steps uses forgot =
         let did : IsFinishIn old.core.state mid.core.state root = steps.does.1 in
         let others : (other : Leaf) → (other ≡ root → ⊥) → map.get mid.core.state.exports other ≡ map.get old.core.state.exports other =
         λ other apart. ap (λ (m : Standing). map.get m other) did.ended ∙ get_left old.core.state.exports root other apart in
@@ -415,7 +415,7 @@ module _ (cancel : Bool) (dir : Ino) (f : Fragment) (old mid : BookState) (openi
           export = did.export;
           stood = did.stood;
           freezing = ap is_freezing did.imported;
-          taken = takes_by cancel root old mid (Ok answer) (Finish dir f) refl steps opening sound (unseen_step root old mid steps.does.2 others spelled);
+          taken = takes_by cancel root old mid (Ok answer) (Finish dir f) refl steps uses opening sound (unseen_step root old mid steps.does.2 others spelled);
           ended = did.ended;
           by = inl did.roots;
           bytes = λ other apart. ap (λ (m : Kept). map.get m other) forgot ∙ get_left before.bytes root other apart;
@@ -469,14 +469,14 @@ module _ (cancel : Bool) (root : Leaf) (book : BookState) (before after : SentBy
   -- it wasn't sent, or there was no room
   pub not_sent_so : state_at book.core.state.exports root ≡ Some at.Prepared → (mid new : BookState) → mid.opening ≡ book.opening → IsSoundBook mid → (refusal : Refusal) → TriesToSend root book mid (Err refusal) → new.opening ≡ mid.opening → IsSoundBook new
       → after.bytes ≡ before.bytes → (result : Result (Unit {0}) Refusal) → CancelsOr cancel root mid new refusal result → EndsFrozen cancel root 3 book new before after result
-  not_sent_so prepared mid new opening sound refusal (inl steps) later good same result its =
-      not_sent cancel root.0 root.1 book mid opening sound new before after prepared refusal steps later good same result its
+  not_sent_so prepared mid new opening sound refusal (inl (steps, uses)) later good same result its =
+      not_sent cancel root.0 root.1 book mid opening sound new before after prepared refusal steps uses later good same result its
   not_sent_so prepared mid new opening sound refusal (inr (is, still)) later good same result its =
       no_room prepared new (later ∙ opening) good same result
       (subst (λ (r : Refusal). CancelsOr cancel root book new r result) is (subst (λ (b : BookState). CancelsOr cancel root b new refusal result) still its))
 
   unsent_mid : (mid : BookState) (refusal : Refusal) → TriesToSend root book mid (Err refusal) → mid.core.state ≡ book.core.state
-  unsent_mid mid refusal (inl steps) = steps.does.1.left
+  unsent_mid mid refusal (inl (steps, uses)) = steps.does.1.left
   unsent_mid mid refusal (inr (is, still)) = ap (λ (b : BookState). b.core.state) still
 
   pub unsent_then : state_at book.core.state.exports root ≡ Some at.Prepared → (mid : BookState) (refusal : Refusal) → TriesToSend root book mid (Err refusal) → IsUnsent mid.core.state root

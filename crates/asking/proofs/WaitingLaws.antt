@@ -1,5 +1,5 @@
 -- What ranks did that served and granted alone.
-use Rattle.asking.proofs.Common.{Answer, Arrive, BookState, Entry, Event, Grant, IsBroughtBy, IsSoundBook, IsStepFor, LeadsTo, List, Option, Rank, Receipt, Refusal, Request, Result, Serve, Steps, Tree, [], ap, append-nil, length, receipt_in, refl, subst, sym, ℕ, ◌++◌, ◌∙◌, ◌∷◌, ◌≡◌}
+use Rattle.asking.proofs.Common.{Answer, Arrive, BookState, Entry, Event, Grant, IsBroughtBy, IsSoundBook, IsStepFor, LeadsTo, List, Option, Rank, Receipt, Refusal, Request, Result, Serve, Steps, Tree, UsesStep, [], ap, append-nil, length, receipt_in, refl, subst, sym, ℕ, ◌++◌, ◌∙◌, ◌∷◌, ◌≡◌}
 use Rattle.std.specs.List.{AllByRecursion}
 use Rattle.std.proofs.lemmas.List.Concat.{flat_map-append}
 use Rattle.std.proofs.lemmas.List.Elements.{Contains-append_left}
@@ -39,11 +39,11 @@ served_by client tid most replies refused old new led = record {
 }
 
 -- one rank serves
-pub served_once : (old new : BookState) (rank : Rank) (result : Result Answer Refusal) → Steps old.core new.core old.history new.history result (Serve rank) → new.opening ≡ old.opening → IsSoundBook new → ServesWaiting old new (receipt_of result)
-served_once old new rank result steps same sound = record {
+pub served_once : (old new : BookState) (rank : Rank) (result : Result Answer Refusal) → Steps old.core new.core old.history new.history result (Serve rank) → UsesStep old.core new.core result (Serve rank) → new.opening ≡ old.opening → IsSoundBook new → ServesWaiting old new (receipt_of result)
+served_once old new rank result steps uses same sound = record {
   events = Serve rank ∷ [];
   results = result ∷ [];
-  ran = (new, record { stepped = steps; same_opening = same }, sound, refl);
+  ran = (new, record { stepped = steps; uses = uses; same_opening = same }, sound, refl);
   only = (tt, tt);
   told = append-nil (receipt_of result);
 }

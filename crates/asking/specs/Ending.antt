@@ -16,6 +16,7 @@ use Rattle.cluster_core.specs.Runs.{Runs}
 use Rattle.cluster_core.specs.SentBytes.{SentBytes, bytes_for}
 use Rattle.cluster_core.specs.State.{BookState, Core, LacksPlacesAt, State, shown}
 use Rattle.cluster_core.specs.Steps.{Steps}
+use Rattle.cluster_core.specs.Uses.{UsesStep}
 use Rattle.cluster_core.specs.declared.events.Answer.{Answer}
 use Rattle.cluster_core.specs.declared.events.Event.{Event}
 use Rattle.cluster_core.specs.declared.events.Event.TheVariants.{Arrive, Grant, Serve, Split, Merge, CommitBegin, CommitEnd, CommitDrop, CommitTree, Purge, Evict, Start, Freeze, Prep, Send, Import, Finish, Cancel}
@@ -168,11 +169,15 @@ abbrev pub CancelsOr : (cancel : Bool) → Leaf → (old new : BookState) → Re
 CancelsOr cancel root old new refusal (Ok done) =
     (cancel ≡ true) × (answer : Answer)
     × Steps old.core new.core old.history new.history (Ok answer) (Cancel root.0 root.1)
+    × UsesStep old.core new.core (Ok answer) (Cancel root.0 root.1)
 CancelsOr cancel root old new refusal (Err reason) = (reason ≡ refusal) × (cancel ≡ false) × (new ≡ old)
 
 -- a prepared export was sent, or not; or there was no room for its bytes
 abbrev pub TriesToSend : Leaf → (old new : BookState) → Result Answer Refusal → Type 0
-TriesToSend root old new (Ok answer) = Steps old.core new.core old.history new.history (Ok answer) (Send root.0 root.1)
+TriesToSend root old new (Ok answer) =
+    Steps old.core new.core old.history new.history (Ok answer) (Send root.0 root.1)
+    × UsesStep old.core new.core (Ok answer) (Send root.0 root.1)
 TriesToSend root old new (Err reason) =
-    Steps old.core new.core old.history new.history (Err reason) (Send root.0 root.1)
+    (Steps old.core new.core old.history new.history (Err reason) (Send root.0 root.1)
+    × UsesStep old.core new.core (Err reason) (Send root.0 root.1))
     ⊎ ((reason ≡ NoMemory) × (new ≡ old))

@@ -6,6 +6,7 @@ ghost use Rattle.cluster_core.specs.Flush.{Flushes, IsColdTree};
 ghost use Rattle.cluster_core.specs.OneThread.{InOrder, IsOneThread, StandsInHistory, arrival};
 ghost use Rattle.cluster_core.specs.Sound.{IsSoundBook};
 ghost use Rattle.cluster_core.specs.Steps.{Steps};
+ghost use Rattle.cluster_core.specs.Uses.{UsesStep};
 ghost use Rattle.asking.specs.Ask.{NoneWaits};
 ghost use Rattle.asking.specs.Ending.{HasAllBytes};
 ghost use Rattle.asking.specs.Drain.{waiting_in_all};
@@ -110,6 +111,7 @@ impl<S: Store + Drop> Service<S> {
         requires { arrival event ≡ [] }
         ensures stepped { Steps self.old.book.core self.new.book.core self.old.book.history self.new.book.history result
             event }
+        ensures uses { UsesStep self.old.book.core self.new.book.core result event }
         ensures silent { self.new.book.history ≡ self.old.book.history }
         ensures limit { self.new.book.core.state.tree.limit ≡ self.old.book.core.state.tree.limit }
         ensures opening { self.new.book.opening ≡ self.old.book.opening }

@@ -16,12 +16,11 @@ use Rattle.inboxes.specs.declared.pins.Pin.{Pin}
 use Rattle.inode_table.specs.Dirs.{Covers, Homes, IsLive}
 use Rattle.subtree_map.specs.Authority.{Roots}
 use Rattle.ranked_tree.specs.Exported.{EndsRegion, IsUnder}
-use Rattle.ranked_tree.specs.Importing.{HandsRegion, IsRenewed, LeavesCaches, RefusesImport}
+use Rattle.ranked_tree.specs.Importing.{IsRenewed, RefusesImport}
 use Rattle.ranked_tree.specs.Sending.{IsInRegionOf, SpellsRegion}
 use Rattle.ranked_tree.specs.SentBytes.{SpellsSent}
 use Rattle.cluster_core.specs.declared.events.Answer.{Answer}
 use Rattle.cluster_core.specs.declared.events.Answer.TheVariants.{Nothing, Sent}
-use Rattle.cluster_core.specs.Administers.{AsksNone}
 use Rattle.cluster_core.specs.Master.{IsAuthority, IsFrozenAt}
 use Rattle.cluster_core.specs.Serve.{IsLeft}
 use Rattle.cluster_core.specs.State.{Core, LacksPlacesAt, State, shown}
@@ -49,12 +48,12 @@ pub record IsUnseenStep (old new : State) (past now : List Entry) : Type 0 where
   pub left : new ≡ record old { tree = new.tree; roots = new.roots; exports = new.exports }
 
 -- a step that answers has done its work, unseen, and says no more; a refused one has left all, and was refused as the
--- work was. No fragment is asked for
+-- work was
 abbrev pub Exports : (old new : Core) → (past now : List Entry) → (Did : Result (Unit {0}) Refusal → Type 0)
     → Result Answer Refusal → Type 0
 Exports old new past now Did (Ok answer) =
-    (answer ≡ Nothing) × Did (Ok tt) × IsUnseenStep old.state new.state past now × AsksNone old new
-Exports old new past now Did (Err reason) = Did (Err reason) × IsLeft old.state new.state past now × AsksNone old new
+    (answer ≡ Nothing) × Did (Ok tt) × IsUnseenStep old.state new.state past now
+Exports old new past now Did (Err reason) = Did (Err reason) × IsLeft old.state new.state past now
 
 -- the tree and the subtree roots stay
 pub record KeepsTreeAndRoots (old new : State) : Type 0 where
@@ -160,9 +159,9 @@ SendsAt old new leaf (Err reason) =
 abbrev pub SendsExport : (old new : Core) → (past now : List Entry) → Leaf → Result Answer Refusal → Type 0
 SendsExport old new past now leaf (Ok answer) =
     (bytes : List ℕ) × (answer ≡ Sent bytes) × SendsAt old.state new.state leaf (Ok bytes)
-    × IsUnseenStep old.state new.state past now × AsksNone old new
+    × IsUnseenStep old.state new.state past now
 SendsExport old new past now leaf (Err reason) =
-    SendsAt old.state new.state leaf (Err reason) × IsLeft old.state new.state past now × AsksNone old new
+    SendsAt old.state new.state leaf (Err reason) × IsLeft old.state new.state past now
 
 -- ---- the bytes of a sent export, told anew
 
@@ -189,13 +188,12 @@ TellsOneBytes =
 -- ---- Import
 
 -- a sent export is imported: the bytes are those of its region, and its importer has what isn't clean of it, of
--- generation 0; the exporter caches none of it
+-- generation 0
 pub record IsImport (old new : Core) (leaf : Leaf) (bytes : List ℕ) : Type 0 where
   pub step : ComesTo old.state.exports new.state.exports leaf state.Sent state.Imported
   pub region : SpellsRegion old.state.tree old.state.roots leaf step.export bytes
   pub renewed : IsRenewed (IsInRegionOf old.state.tree old.state.roots leaf) old.state.tree new.state.tree
   pub roots : new.state.roots ≡ old.state.roots
-  pub caches : HandsRegion (IsInRegionOf old.state.tree old.state.roots leaf) step.export old.caches new.caches
 
 -- refused where none of this root stands sent; where one does, for other bytes, for want of places of the importer, or
 -- of memory
@@ -206,7 +204,7 @@ ImportsExport old new past now leaf bytes (Ok answer) =
 ImportsExport old new past now leaf bytes (Err reason) =
     RefusesImport (λ count rank. LacksPlacesAt count old rank) old.state.tree old.state.roots old.state.exports leaf
     bytes reason
-    × IsLeft old.state new.state past now × LeavesCaches old.state.exports leaf old.caches new.caches reason
+    × IsLeft old.state new.state past now
 
 -- bytes that the state tells are never damaged to it
 abbrev pub ImportsWhatIsTold : Type 0

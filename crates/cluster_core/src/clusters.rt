@@ -8,11 +8,13 @@ ghost use Rattle.mds_types.specs.Tree.{Tree};
 ghost use Rattle.sessions.specs.Rooms.{table};
 ghost use Rattle.mdcache.specs.New.{MayNotFormat, new_caches};
 ghost use Rattle.cluster_core.specs.State.{new_state, whole_supplies};
-ghost use Rattle.cluster_core.specs.Steps.{ArrivesAt, AtRank, TreeMayRefuse, ServesRank, Steps, UsesGranted, UsesInbox};
+ghost use Rattle.cluster_core.specs.Steps.{ArrivesAt, AtRank, TreeMayRefuse, ServesRank, Steps};
+ghost use Rattle.cluster_core.specs.Uses.{UsesStep};
+ghost use Rattle.cluster_core.specs.declared.events.Event.TheVariants.{Serve as ServeEvent, Grant as GrantEvent};
 ghost use Rattle.cluster_core.specs.Grants.{GrantsWaiting};
 ghost use Rattle.ranked_tree.specs.Subtrees.{AreRoots, KeepsRoots};
 ghost use Rattle.cluster_core.specs.Sound.{AreCached, IsSoundWith, IsSound};
-ghost use Rattle.cluster_core.specs.Administers.{AsksNone, ListsLeaves, TellsAuthority};
+ghost use Rattle.cluster_core.specs.Administers.{ListsLeaves, TellsAuthority};
 ghost use Rattle.cluster_core.specs.Exporting.{TellsSentBytes};
 
 use crate::events::{Answer, Event};
@@ -110,6 +112,7 @@ impl<S: Store + Drop> Cluster<S> {
     ) -> Result<Answer, Refusal>
         requires { (opening : Tree) × IsSound opening history.old.items self.old }
         ensures stepped { Steps self.old self.new history.old.items history.new.items result event }
+        ensures uses { UsesStep self.old self.new result event }
         ensures sound { (opening : Tree) → IsSound opening history.old.items self.old
             → IsSound opening history.new.items self.new }
     {
@@ -129,6 +132,7 @@ impl<S: Store + Drop> Cluster<S> {
     ) -> Result<Answer, Refusal>
         requires { (opening : Tree) × IsSound opening history.old.items self.old }
         ensures stepped { Steps self.old self.new history.old.items history.new.items result event }
+        ensures uses { UsesStep self.old self.new result event }
         ensures valid { AreRoots self.new.state.tree self.new.state.roots }
     {
         match event {
@@ -175,7 +179,7 @@ impl<S: Store + Drop> Cluster<S> {
     #[inline(always)]
     fn arrive(&mut self, rank: Rank, request: Request) -> Result<Answer, Refusal>
         ensures arrived { (past : List Applied) → AtRank self.old self.new past past rank result
-            (ArrivesAt self.old.state self.new.state past past rank request result × AsksNone self.old self.new) }
+            (ArrivesAt self.old.state self.new.state past past rank request result) }
         ensures tree { self.new.state.tree ≡ self.old.state.tree }
         ensures roots { self.new.state.roots ≡ self.old.state.roots }
         ensures exports { self.new.state.exports ≡ self.old.state.exports }
@@ -202,8 +206,8 @@ impl<S: Store + Drop> Cluster<S> {
     ) -> Result<Answer, Refusal>
         requires { (opening : Tree) × IsSound opening history.old.items self.old }
         ensures served { AtRank self.old self.new history.old.items history.new.items rank result
-            (ServesRank self.old self.new history.old.items history.new.items rank result
-            × UsesInbox self.old self.new rank result) }
+            (ServesRank self.old self.new history.old.items history.new.items rank result) }
+        ensures uses { UsesStep self.old self.new result (ServeEvent rank) }
         ensures kept { KeepsRoots self.old.state.tree self.new.state.tree self.old.state.roots self.new.state.roots
             self.old.state.exports self.new.state.exports }
         ensures count { length self.new.caches.used ≡ length self.old.caches.used }
@@ -227,8 +231,9 @@ impl<S: Store + Drop> Cluster<S> {
     #[inline(never)]
     fn grant(&mut self, alloc: Global, rank: Rank, client: u64, tid: u64) -> Result<Answer, Refusal>
         ensures granted { (past : List Applied) → AtRank self.old self.new past past rank result
-            (GrantsWaiting self.old.state self.new.state past past (TreeMayRefuse self.old self.new) rank client tid result
-            × UsesGranted self.old self.new client tid) }
+            (GrantsWaiting self.old.state self.new.state past past (TreeMayRefuse self.old self.new) rank client tid
+            result) }
+        ensures uses { UsesStep self.old self.new result (GrantEvent rank client tid) }
         ensures tree { self.new.state.tree ≡ self.old.state.tree }
         ensures roots { self.new.state.roots ≡ self.old.state.roots }
         ensures exports { self.new.state.exports ≡ self.old.state.exports }

@@ -2,6 +2,7 @@
 use Rattle.rank_threads.proofs.Common.{Answer, BookState, Continues, Entry, Event, IsOneThread, IsSoundBook, List, Receipt, Refusal, Request, Result, Tree, ap, arith, drop, first_in, length, length-take, receipt_of, sym, take, take-append-drop, take-append-le, ℕ, ◌++◌, ◌+◌, ◌∙◌, ◌≡◌, ◌≤◌}
 use Rattle.cluster_core.specs.OneThread.{InOrder}
 use Rattle.cluster_core.specs.Steps.{Steps}
+use Rattle.cluster_core.specs.Uses.{UsesStep}
 use Rattle.cluster_core.proofs.OneThreadLaws.{counts}
 use Rattle.rank_threads.specs.OneStep.{IsOneStep}
 
@@ -27,5 +28,6 @@ continued opening begun book sound same was = record {
 }
 
 -- what the contract of a step of the book says is one step
-pub one_step : (old new : BookState) (event : Event) (result : Result Answer Refusal) → Steps old.core new.core old.history new.history result event → new.opening ≡ old.opening → IsSoundBook new → IsOneStep old new event result
-one_step old new event result stepped opening sound = record { stepped = record { stepped = stepped; same_opening = opening }; sound = sound }
+pub one_step : (old new : BookState) (event : Event) (result : Result Answer Refusal) → Steps old.core new.core old.history new.history result event → UsesStep old.core new.core result event → new.opening ≡ old.opening → IsSoundBook new
+    → IsOneStep old new event result
+one_step old new event result stepped uses opening sound = record { stepped = record { stepped = stepped; uses = uses; same_opening = opening }; sound = sound }

@@ -13,10 +13,10 @@ unless_cancelled-requires g c =
 
 pub returns-in-Ok-clause-ends : goal.returns-in-Ok-clause-ends
 returns-in-Ok-clause-ends g c =
-    prepped c.args.cancel c.args.ino c.args.frag c.args.book.now c.step.new.self c.in-Ok.ensures.opening c.in-Ok.ensures.sound c.end_prepared.new.book c.args.kept.now c.end_prepared.new.kept c.in-Ok.answer c.in-Ok.ensures.stepped c.end_prepared.result
+    prepped c.args.cancel c.args.ino c.args.frag c.args.book.now c.step.new.self c.in-Ok.ensures.opening c.in-Ok.ensures.sound c.end_prepared.new.book c.args.kept.now c.end_prepared.new.kept c.in-Ok.answer c.in-Ok.ensures.stepped c.in-Ok.ensures.uses c.end_prepared.result
     c.end_prepared.ensures.ends
 
 pub returns-in-Err-clause-ends : goal.returns-in-Err-clause-ends
 returns-in-Err-clause-ends g c =
-    not_prepped c.args.cancel c.args.ino c.args.frag c.args.book.now c.step.new.self c.in-Err.ensures.opening c.in-Err.ensures.sound c.unless_cancelled.new.book c.args.kept.now c.args.kept.now c.requires c.in-Err.refusal c.in-Err.ensures.stepped
+    not_prepped c.args.cancel c.args.ino c.args.frag c.args.book.now c.step.new.self c.in-Err.ensures.opening c.in-Err.ensures.sound c.unless_cancelled.new.book c.args.kept.now c.args.kept.now c.requires c.in-Err.refusal c.in-Err.ensures.stepped c.in-Err.ensures.uses
     c.unless_cancelled.ensures.opening c.unless_cancelled.ensures.sound refl c.unless_cancelled.result c.unless_cancelled.ensures.cancels

@@ -3,7 +3,7 @@ use Rattle.asking.proofs.ending.finish.Goals as goal
 
 pub returns-clause-ends : goal.returns-clause-ends
 returns-clause-ends g c =
-    finished c.args.cancel c.args.ino c.args.frag c.args.book.now c.step.new.self c.in-Ok.ensures.opening c.in-Ok.ensures.sound c.args.kept.now c.forget.new.self c.is_sound.ensures c.in-Ok.answer c.in-Ok.ensures.stepped c.forget.ensures
+    finished c.args.cancel c.args.ino c.args.frag c.args.book.now c.step.new.self c.in-Ok.ensures.opening c.in-Ok.ensures.sound c.args.kept.now c.forget.new.self c.is_sound.ensures c.in-Ok.answer c.in-Ok.ensures.stepped c.in-Ok.ensures.uses c.forget.ensures
 
 pub unreachable-requires : goal.unreachable-requires
 unreachable-requires g c =
