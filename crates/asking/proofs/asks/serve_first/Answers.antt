@@ -1,4 +1,4 @@
-use Rattle.asking.proofs.Common.{BookState, Err, Goes, None, Nothing, Ok, Replied, Serve, Some, Steps, UsesStep, Waits, [], ℕ, arith, receipt_in, refl, subst, sym, ◌≡◌, ◌∷◌}
+use Rattle.asking.proofs.Common.{BookState, Err, Goes, None, Nothing, Ok, Receipt, Replied, Serve, Some, Steps, UsesStep, Waits, [], ℕ, arith, receipt_in, refl, subst, sym, ◌≡◌, ◌∷◌}
 use Rattle.std.specs.Result.{result_err}
 use Rattle.cluster_core.specs.declared.events.Answer.{Answer}
 use Rattle.mds_types.specs.declared.ids.Rank.{Rank}
@@ -37,7 +37,7 @@ serve_granted-requires g c =
 
 pub returns-in-Ok-Reply-clause-asked : goal.returns-in-Ok-Reply-clause-asked
 returns-in-Ok-Reply-clause-asked g c q come =
-    let receipt = record { client = c.in-Ok-Reply.whose; tid = c.in-Ok-Reply.number; place = c.in-Ok-Reply.place; first = c.in-Ok-Reply.first; reply = c.in-Ok-Reply.reply } in
+    let receipt : Receipt = record { client = c.in-Ok-Reply.whose; tid = c.in-Ok-Reply.number; place = c.in-Ok-Reply.place; first = c.in-Ok-Reply.first; reply = c.in-Ok-Reply.reply } in
     replied q c.args.book.now c.args.rank c.args.client c.args.tid come c.step.new.self receipt
     (its q c.args.book.now c.args.rank c.args.client c.args.tid come c.step.new.self c.in-Ok-Reply.field-0 (Replied receipt) (sym c.in-Ok-Reply.field-0-is) c.in-Ok-Reply.ensures.stepped c.in-Ok-Reply.ensures.uses)
 
@@ -62,7 +62,7 @@ returns-in-Err-clause-asked g c q come =
 
 pub returns-in-Ok-Reply-clause-reached : goal.returns-in-Ok-Reply-clause-reached
 returns-in-Ok-Reply-clause-reached g c =
-    let receipt = record { client = c.in-Ok-Reply.whose; tid = c.in-Ok-Reply.number; place = c.in-Ok-Reply.place; first = c.in-Ok-Reply.first; reply = c.in-Ok-Reply.reply } in
+    let receipt : Receipt = record { client = c.in-Ok-Reply.whose; tid = c.in-Ok-Reply.number; place = c.in-Ok-Reply.place; first = c.in-Ok-Reply.first; reply = c.in-Ok-Reply.reply } in
     leads_within c.args.client c.args.tid [] 1 19 (receipt ∷ []) None c.args.book.now c.step.new.self (omega arith)
     (leads_by c.args.client c.args.tid c.args.book.now c.step.new.self (Ok c.in-Ok-Reply.field-0) (Serve c.args.rank) [] (receipt ∷ []) refl (told_so c.in-Ok-Reply.field-0 (Replied receipt) (sym c.in-Ok-Reply.field-0-is)) tt c.in-Ok-Reply.ensures.stepped c.in-Ok-Reply.ensures.uses c.in-Ok-Reply.ensures.opening c.in-Ok-Reply.ensures.sound)
 
