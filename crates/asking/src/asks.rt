@@ -93,13 +93,15 @@ fn serve_first<S: Store + Drop>(
     ensures counted { book.new.core.faults ≡ book.old.core.faults + faults_told (result_err result) }
 {
     match book.step(alloc, Event::Serve { rank }) {
-        Ok(Answer::Reply {
-            client: whose,
-            tid: number,
-            place,
-            first,
-            reply,
-        }) => Ok(Receipt {
+        Ok(
+            Answer::Reply {
+                client: whose,
+                tid: number,
+                place,
+                first,
+                reply,
+            },
+        ) => Ok(Receipt {
             client: whose,
             tid: number,
             place,
