@@ -145,7 +145,7 @@ class Faults:
 class LongLog(Faults):
     """A run whose second flush finds a log of more than a thousand pages, and puts it into the file first. All names are new."""
 
-    MANY = 3600
+    MANY = 7200
 
     def __init__(self, program, folder):
         flushes = [[f'create 1 {k:0250d} 644' for k in range(self.MANY)], ['create 1 a 644'], ['create 1 b 644'], ['create 1 last 644']]

@@ -1,13 +1,14 @@
 -- Names of other crates, and of this one's definitions, as the proofs of this crate take them.
 pub use Rattle.admin_cli.specs.Authorities.{root_of, roots_in}
 pub use Rattle.admin_cli.specs.Execute.{Executes, LacksForCommand, OperatesAfter}
+pub use Rattle.admin_cli.specs.Left.{LeavesAdmin}
 pub use Rattle.admin_cli.specs.OneLine.{AnswersLine, DoesBytes, Prints, RunsOrNot}
 pub use Rattle.admin_cli.specs.OwnLines.{MakesStep, TakesTurn}
 pub use Rattle.admin_cli.specs.Reports.{path_lines}
-pub use Rattle.admin_cli.specs.Scripts.{BreaksOff, EndsScript, IsFormatted, RunsInput, RunsLine, RunsLines, RunsNew, StopsAt, StopsBefore, text_of}
+pub use Rattle.admin_cli.specs.Scripts.{BreaksOff, EndsScript, IsFormatted, LacksMemory, OfFirst, RunsInput, RunsLine, RunsLines, RunsNew, StopsAt, StopsBefore, text_of}
 pub use Rattle.admin_cli.specs.StepLines.{StepsLine, shown_line}
 pub use Rattle.admin_cli.specs.StoreLines.{BeginsJob, CommitsLine, CopiesNone, EndsLine, LacksForCommit}
-pub use Rattle.admin_cli.specs.Waiting.{Breaks, IsEmpty, MayFlush, PrintsAny, PrintsCame, PrintsOf, PrintsOwn, RunsWaiting, line_at}
+pub use Rattle.admin_cli.specs.Waiting.{Breaks, IsEmpty, LeavesWaiting, MayFlush, PrintsAny, PrintsCame, PrintsOf, PrintsOwn, RunsWaiting, line_at}
 pub use Rattle.admin_cli.specs.Admin.{Admin}
 pub use Rattle.admin_cli.specs.declared.faults.FaultKind.{FaultKind}
 pub use Rattle.admin_cli.specs.declared.faults.FaultKind.TheVariants.{NotCommand, OutOfMemory, ReadFault, TooLong, WriteFault}

@@ -2,6 +2,9 @@ pub mod Apart
 pub mod Carried
 pub mod Committed
 pub mod Common
+pub mod GoesOnLaws
+pub mod LeavesLaws
+pub mod OwnTurnLaws
 pub mod PathLines
 pub mod PrintedLaws
 pub mod Progress

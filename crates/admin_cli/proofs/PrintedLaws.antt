@@ -1,5 +1,5 @@
 -- What a script prints is what one thread tells.
-use Rattle.admin_cli.proofs.Common.{Admin, Answer, Appends, BookState, Command, EndsScript, Err, Event, Executes, FaultKind, Fragment, IfSome, Ino, IsFormatted, Keeps, List, MakesStep, None, Ok, Option, OutputLine, Rank, Refusal, Result, RunsInput, RunsLines, RunsNew, RunsOrNot, Some, StopsBefore, [], ap, append-nil, arith, inl, inr, length, refl, shown_line, subst, sym, text_of, ℕ, ◌++◌, ◌+◌, ◌∙◌, ◌∷◌, ◌≡◌}
+use Rattle.admin_cli.proofs.Common.{Admin, Answer, Appends, BookState, Command, EndsScript, Err, Event, Executes, FaultKind, Fragment, IfOk, IfSome, Ino, IsFormatted, Keeps, List, MakesStep, None, Ok, Option, OutputLine, Rank, Refusal, Result, RunsInput, RunsLines, RunsNew, RunsOrNot, Some, StopsBefore, [], ap, append-nil, append_assoc, arith, inl, inr, length, refl, shown_line, subst, sym, text_of, ℕ, ◌++◌, ◌+◌, ◌∙◌, ◌∷◌, ◌≡◌}
 use Rattle.std.specs.Prelude.{◌⊎◌, filter, flat_map, map, replicate, suc, zero}
 use Rattle.std.specs.List.{AllByRecursion}
 use Rattle.std.specs.FinMap as finite
@@ -35,11 +35,13 @@ use Rattle.script_text.specs.declared.store_commands.StoreCommand.TheVariants as
 use Rattle.script_output.specs.Lines.{output_line}
 use Rattle.script_output.specs.declared.lines.OutputLine.TheVariants as out
 use Rattle.script_output.specs.declared.object_lines.ObjectLine.TheVariants as object
-use Rattle.admin_cli.specs.Execute.{OperatesAfter, OperatesLine}
-use Rattle.admin_cli.specs.ExportLines.{ExecutesExport}
-use Rattle.admin_cli.specs.OwnLines.{OwnLine}
+use Rattle.admin_cli.proofs.Progress.{runs-append}
+use Rattle.admin_cli.specs.Execute.{LacksForCommand, OperatesAfter, OperatesLine}
+use Rattle.admin_cli.specs.ExportLines.{ExecutesExport, LacksForExport}
+use Rattle.admin_cli.specs.Left.{LeavesAdmin, LeavesOneThread, PrintsReplies}
+use Rattle.admin_cli.specs.OwnLines.{LacksForStep, OwnLine}
 use Rattle.admin_cli.specs.Printed.{PrintsOneThread, counted_with, ended_line, is_reply, receipt_line, request_of, requests_of}
-use Rattle.admin_cli.specs.Scripts.{Doing, DoesLine}
+use Rattle.admin_cli.specs.Scripts.{Doing, DoesLine, LacksLine, LacksMemory, OfFirst, RunsLine}
 use Rattle.admin_cli.specs.Modes.{AsksLine, AsksOperation, AsksRequest, DoesUnder, DoesStoreUnder, AsksNow, SavesLine, SaysSaved, asked_line}
 use Rattle.admin_cli.specs.declared.modes.Mode.{Mode}
 use Rattle.asking.specs.Ask.{NoneWaits}
@@ -47,7 +49,7 @@ use Rattle.asking.specs.Reached.{receipt_in as told_in}
 use Rattle.mds_types.specs.History.{IsLegal}
 use Rattle.std.specs.Prelude.{Bool, MatchBool, false, true}
 use Rattle.admin_cli.specs.StepLines.{DoesEvent, IsStep, arrived_line}
-use Rattle.admin_cli.specs.StoreLines.{BeginsJob, CommitsAfter, CommitsLine, EndsKept, ExecutesStore, begun_line, flushed_line}
+use Rattle.admin_cli.specs.StoreLines.{BeginsAlone, BeginsJob, CommitsAfter, CommitsLine, EndsKept, ExecutesStore, LacksForStore, LosesJob, begun_line, flushed_line}
 use Rattle.admin_cli.specs.declared.faults.ScriptFault.{ScriptFault}
 use Rattle.admin_cli.specs.declared.faults.FaultKind.TheVariants as fault
 use Rattle.cached_frag.specs.declared.jobs.Job.{Job as Begun}
@@ -656,6 +658,155 @@ prints_over Does one_of book sound known before after result (inl runs) =
     prints_run Does one_of known before after result (record { book = book; operations = 0; jobs = finite.empty; sent = none_sent }) sound refl runs
 prints_over Does one_of book sound known before after result (inr never) =
     prints_none book.core.state.tree.limit book.opening book.history (waiting_in book.core.state.inboxes) known before after result sound.legal never.same
+
+-- ---- the book that a script leaves
+
+-- where memory was refused for what the script keeps of a command, nothing is told of it
+module _ (sent : List Request) where
+  same_did : (old new : Admin) → IsReady sent old → new ≡ old → Did sent old new []
+  same_did old new ready same = did_none sent old new [] ready same refl
+
+  quiet_did : (old new : Admin) → IsSoundBook new.book → Served old.book new.book sent [] → Did sent old new []
+  quiet_did old new sound served = record { sound = sound; told = []; printed = []; whole = refl; replies = refl; served = served }
+
+  loses_did : (old new : Admin) (rank : Rank) (dir : Ino) (f : Fragment) → IsReady sent old → LosesJob old new rank dir f → Did sent old new []
+  loses_did old new rank dir f ready h =
+      quiet_did old new h.stepped.sound (one_step sent old.book new.book (Ok (answer.Job h.job)) (event.CommitBegin rank dir f) ready.1 tt h.stepped)
+
+  alone_did : (old new : Admin) (rank : Rank) (dir : Ino) (f : Fragment) → IsReady sent old → BeginsAlone old new rank dir f → Did sent old new []
+  alone_did old new rank dir f ready h =
+      let begun = begins_job sent old h.middle rank dir f (Ok (Some h.number)) (begun_line (Ok (Some h.number))) ready h.begun refl in
+      subst (λ (a : Admin). Did sent old a []) (sym h.rest.0) (quiet_did old h.middle begun.sound begun.served)
+
+  lacks_step : (old new : Admin) (event : Event) → IsReady sent old → LacksForStep old new event → Did sent old new []
+  lacks_step old new (event.Arrive rank request) ready h = absurd h
+  lacks_step old new (event.Serve rank) ready h = absurd h
+  lacks_step old new (event.Grant rank client tid) ready h = absurd h
+  lacks_step old new (event.Split rank dir f bits) ready h = absurd h
+  lacks_step old new (event.Merge rank dir f) ready h = absurd h
+  lacks_step old new (event.CommitBegin rank dir f) ready h = absurd h
+  lacks_step old new (event.CommitEnd encoded) ready h = absurd h
+  lacks_step old new (event.CommitDrop job) ready h = absurd h
+  lacks_step old new (event.CommitTree dir) ready h = absurd h
+  lacks_step old new event.Purge ready h = absurd h
+  lacks_step old new (event.Evict rank) ready h = absurd h
+  lacks_step old new (event.Start from dir f to) ready h = absurd h
+  lacks_step old new (event.Freeze dir f) ready h = absurd h
+  lacks_step old new (event.Prep dir f) ready h = absurd h
+  lacks_step old new (event.Send dir f) ready h = same_did old new ready h
+  lacks_step old new (event.Import dir f bytes) ready h = same_did old new ready h.0
+  lacks_step old new (event.Finish dir f) ready h = absurd h
+  lacks_step old new (event.Cancel dir f) ready h = absurd h
+
+  lacks_export : (old new : Admin) (c : ExportCommand) → IsReady sent old → LacksForExport old new c → Did sent old new []
+  lacks_export old new (export.Dir from dir f to) ready h = absurd h
+  lacks_export old new (export.Freeze dir f) ready h = absurd h
+  lacks_export old new (export.Prep dir f) ready h = absurd h
+  lacks_export old new (export.Send dir f) ready h = same_did old new ready h
+  lacks_export old new (export.Import dir f) ready h = same_did old new ready h.0
+  lacks_export old new (export.Finish dir f) ready h = absurd h
+  lacks_export old new (export.Cancel dir f) ready h = absurd h
+
+  lacks_store : (old new : Admin) (c : StoreCommand) → IsReady sent old → LacksForStore old new c → Did sent old new []
+  lacks_store old new (store.CommitBegin rank dir f) ready h = loses_did old new rank dir f ready h
+  lacks_store old new (store.CommitEnd number) ready h = same_did old new ready h.0
+  lacks_store old new (store.CommitDrop number) ready h = absurd h
+  lacks_store old new (store.Commit rank dir f) ready (inl h) = loses_did old new rank dir f ready h
+  lacks_store old new (store.Commit rank dir f) ready (inr h) = alone_did old new rank dir f ready h
+  lacks_store old new (store.CommitTree dir) ready h = absurd h
+  lacks_store old new store.Purge ready h = absurd h
+  lacks_store old new store.Flush ready h = absurd h
+  lacks_store old new (store.Evict rank) ready h = absurd h
+  lacks_store old new (store.Object name) ready h = absurd h
+  lacks_store old new store.Objects ready h = absurd h
+
+  lacks_command : (old new : Admin) (c : Command) → IsReady sent old → LacksForCommand old new c → Did sent old new []
+  lacks_command old new (command.Operation op) ready h = absurd h
+  lacks_command old new (command.Serve rank) ready h = absurd h
+  lacks_command old new (command.Own rank) ready h = lacks_step old new h.event ready h.lacks
+  lacks_command old new (command.Request rank request) ready h = absurd h
+  lacks_command old new command.History ready h = absurd h
+  lacks_command old new (command.Split rank dir f nb) ready h = absurd h
+  lacks_command old new (command.Merge rank dir f) ready h = absurd h
+  lacks_command old new (command.Leaves dir) ready h = absurd h
+  lacks_command old new (command.Grant rank client tid) ready h = absurd h
+  lacks_command old new command.Subtrees ready h = same_did old new ready h
+  lacks_command old new (command.Authority dir f) ready h = absurd h
+  lacks_command old new (command.Export c) ready h = lacks_export old new c ready h
+  lacks_command old new (command.Store c) ready h = lacks_store old new c ready h
+
+  lacks_line : (old new : Admin) (found : Line) → IsReady sent old → LacksLine old new found → Did sent old new []
+  lacks_line old new line.Nothing ready h = absurd h
+  lacks_line old new (line.Command c) ready h = lacks_command old new c ready h
+  lacks_line old new (line.BadWord errno) ready h = absurd h
+  lacks_line old new line.NotCommand ready h = absurd h
+
+-- what lines did whose text is this, where all were done
+record DidTo (sent : List Request) (old new : Admin) (text : List ℕ) (left : List (List ℕ)) : Type 0 where
+  some : List ℕ
+  did : Did sent old new some
+  whole : left ≡ [] → some ≡ text
+
+module _ (Does : Doing) (one_of : AreAsOne Does) (sent : List Request) (old reached new : Admin) (done : List (List ℕ)) (text : List ℕ) (ready : IsReady sent old) (runs : RunsLines Does old reached done text) where
+  did_before : AllByRecursion (Contains sent) (requests_of old.operations done) → Did sent old reached text
+  did_before has = did_lines Does one_of sent old reached done text ready has runs
+
+  -- a line that was done, and of whose text nothing is printed
+  one_more : (bytes more : List ℕ) → AllByRecursion (Contains sent) (requests_of old.operations (done ++ bytes ∷ [])) → RunsLine Does reached new bytes more → Did sent old new (text ++ more)
+  one_more bytes more has run = did_lines Does one_of sent old new (done ++ bytes ∷ []) (text ++ more) ready has (runs-append Does old reached new done bytes text more runs run)
+
+  quietly : (did : Did sent old reached text) → Did sent reached new [] → Did sent old new text
+  quietly did then = subst (λ (t : List ℕ). Did sent old new t) (append-nil text) (did_on Does one_of sent old reached new text [] did then)
+
+  did_to : (left : List (List ℕ)) → AllByRecursion (Contains sent) (requests_of old.operations (done ++ left)) → (new ≡ reached) ⊎ OfFirst (λ bytes. LacksMemory Does reached new bytes) left → DidTo sent old new text left
+  did_to left has (inl same) =
+      let did = did_before (requests_front sent old.operations done left has) in
+      record { some = text; did = subst (λ (a : Admin). Did sent old a text) (sym same) did; whole = λ none. refl }
+  did_to [] has (inr lacks) = absurd lacks
+  did_to (bytes ∷ others) has (inr (inl (takes, same))) =
+      let did = did_before (requests_front sent old.operations done (bytes ∷ others) has) in
+      record { some = text; did = subst (λ (a : Admin). Did sent old a text) (sym same) did; whole = λ none. refl }
+  did_to (bytes ∷ others) has (inr (inr (inl lacks))) =
+      let did = did_before (requests_front sent old.operations done (bytes ∷ others) has) in
+      record { some = text; did = quietly did (lacks_line sent reached new (line_of bytes) (did.sound, did.served.waits) lacks); whole = λ none. refl }
+  did_to (bytes ∷ others) has (inr (inr (inr lacks))) =
+      let first : AllByRecursion (Contains sent) (requests_of old.operations ((done ++ bytes ∷ []) ++ others)) = subst (λ (ls : List (List ℕ)). AllByRecursion (Contains sent) (requests_of old.operations ls)) (sym (append_assoc done (bytes ∷ []) others)) has in
+      let asked = requests_front sent old.operations (done ++ bytes ∷ []) others first in
+      record { some = text ++ text_of lacks.printed; did = one_more bytes (text_of lacks.printed) asked lacks.runs; whole = λ none. cc }
+
+-- the replies of a script that ended well were printed
+printed_all : (sent : List Request) (old new : Admin) (text : List ℕ) (left : List (List ℕ)) (d : DidTo sent old new text left) (before after : Option (List ℕ)) (result : Result (Unit {0}) ScriptFault)
+    → IfOk result (λ ended. (left ≡ []) × Appends before after text) → IfOk result (λ ended. PrintsReplies d.did.told before after)
+printed_all sent old new text left d before after (Ok ended) (none, wrote) = record {
+  printed = d.did.printed;
+  written = subst (λ (t : List ℕ). Appends before after t) (sym (d.whole none) ∙ d.did.whole) wrote;
+  replies = d.did.replies;
+}
+printed_all sent old new text left d before after (Err fault) all = tt
+
+-- a script over a book leaves what one thread leaves
+pub leaves_over : (Does : Doing) → AreAsOne Does → (old : BookState) → IsSoundBook old → (new : Admin) (known before after : Option (List ℕ)) (result : Result (Unit {0}) ScriptFault)
+    → LeavesAdmin Does (record { book = old; operations = 0; jobs = finite.empty; sent = none_sent }) new known before after result → LeavesOneThread old new.book known before after result
+leaves_over Does one_of old sound new known before after result h =
+    let admin : Admin = record { book = old; operations = 0; jobs = finite.empty; sent = none_sent } in
+    let waiting = waiting_in old.core.state.inboxes in
+    let made = requests_of 0 h.lines in
+    let sent = waiting ++ made in
+    let among : AreAmong sent old.core.state.inboxes = nested sent old.core.state.inboxes (each_left waiting made) in
+    let all : AllByRecursion (Contains sent) (requests_of 0 (h.done ++ h.left)) = subst (λ (ls : List (List ℕ)). AllByRecursion (Contains sent) (requests_of 0 ls)) h.whole (each_right waiting made) in
+    let to = did_to Does one_of sent admin h.reached new h.done h.text (sound, among) h.runs h.left all h.last in
+    let did = to.did in
+    let its = as_one old new.book sent did.told did.sound did.served in
+    record {
+      lines = h.lines;
+      read = h.read;
+      told = did.told;
+      one = its.one;
+      in_order = its.in_order;
+      same_opening = did.served.opening;
+      same_limit = did.served.limit;
+      printed = printed_all sent admin new h.text h.left to before after result h.all;
+    }
 
 none_wait : (ranks : ℕ) → waiting_in (replicate ranks []) ≡ []
 none_wait zero = refl

@@ -55,14 +55,14 @@ module _ (Does : Doing) where
       at (Some bytes) = refl
 
   -- one line after others
-  runs-append : (old now new : Admin) (done : List (List ℕ)) (bytes text more : List ℕ) → RunsLines Does old now done text → RunsLine Does now new bytes more → RunsLines Does old new (done ++ bytes ∷ []) (text ++ more)
+  pub runs-append : (old now new : Admin) (done : List (List ℕ)) (bytes text more : List ℕ) → RunsLines Does old now done text → RunsLine Does now new bytes more → RunsLines Does old new (done ++ bytes ∷ []) (text ++ more)
   runs-append old now new [] bytes text more (same, none) run =
       (new, more, [], subst (λ a. RunsLine Does a new bytes more) same run, (refl, refl), ap (λ t. t ++ more) none ∙ sym (append-nil more))
   runs-append old now new (first ∷ done) bytes text more (middle, front, rest, one, others, whole) run =
       (middle, front, rest ++ more, one, runs-append middle now new done bytes rest more others run, ap (λ t. t ++ more) whole ∙ append_assoc front rest more)
 
   -- one more line was taken
-  takes-next : (known left after : Option (List ℕ)) (done : List (List ℕ)) (line : List ℕ) → TakesLines known left done → IfSome left (λ bytes. IsFirstLine bytes line after) → TakesLines known after (done ++ line ∷ [])
+  pub takes-next : (known left after : Option (List ℕ)) (done : List (List ℕ)) (line : List ℕ) → TakesLines known left done → IfSome left (λ bytes. IsFirstLine bytes line after) → TakesLines known after (done ++ line ∷ [])
   takes-next None left after done line taken next = tt
   takes-next (Some bytes) None after done line taken next = absurd taken
   takes-next (Some bytes) (Some rest) after done line taken next =
@@ -185,16 +185,16 @@ module _ (Does : Doing) where
   }
 
   -- what is left are these lines
-  abbrev IsLeft : Option (List ℕ) → List (List ℕ) → Type 0
+  abbrev pub IsLeft : Option (List ℕ) → List (List ℕ) → Type 0
   IsLeft left lines = IfSome left (λ bytes. lines_of bytes ≡ lines)
 
-  all_lines : (known left : Option (List ℕ)) (done lines : List (List ℕ)) → TakesLines known left done → IsLeft left lines → IfSome known (λ bytes. done ++ lines ≡ lines_of bytes)
+  pub all_lines : (known left : Option (List ℕ)) (done lines : List (List ℕ)) → TakesLines known left done → IsLeft left lines → IfSome known (λ bytes. done ++ lines ≡ lines_of bytes)
   all_lines None left done lines taken rest = tt
   all_lines (Some bytes) None done lines taken rest = absurd taken
   all_lines (Some bytes) (Some more) done lines taken rest = sym (taken ∙ ap (λ l. done ++ l) rest)
 
   -- whatever is left
-  some_left : (left : Option (List ℕ)) → (lines : List (List ℕ)) × IsLeft left lines
+  pub some_left : (left : Option (List ℕ)) → (lines : List (List ℕ)) × IsLeft left lines
   some_left None = ([], tt)
   some_left (Some bytes) = (lines_of bytes, refl)
 
@@ -292,7 +292,7 @@ module _ (Does : Doing) where
   stops-first old new bytes others OutOfMemory front stops = (new, stops)
 
   -- the lines that are left begin with the one that was read
-  first_left : (left after : Option (List ℕ)) (line : List ℕ) → IfSome left (λ bytes. IsFirstLine bytes line after) → (others : List (List ℕ)) × IsLeft left (line ∷ others)
+  pub first_left : (left after : Option (List ℕ)) (line : List ℕ) → IfSome left (λ bytes. IsFirstLine bytes line after) → (others : List (List ℕ)) × IsLeft left (line ∷ others)
   first_left None after line next = ([], tt)
   first_left (Some bytes) after line next = (lines_of next.rest, next.lines)
 
@@ -300,7 +300,7 @@ module _ (Does : Doing) where
   pub stop_line : (old now new : Admin) (known left rest before mid : Option (List ℕ)) (waiting : Waiting) (number : ℕ) (bytes : List ℕ) (kind : FaultKind)
       → IsReached old now known left before mid waiting.bytes.items waiting.marks.items number → IfSome left (λ known. IsFirstLine known bytes rest) → DoesBytes Does now new bytes (Err kind)
       → RunsWaiting Does old waiting known before mid (Err (record { line = number; kind = kind }))
-  stop_line old now new known left rest before mid waiting number bytes kind r next stops =
+  stop_line old now new known left rest before mid waiting number bytes kind r next (stops, leaves) =
       let (others, all) = first_left left rest bytes next in
       leave old now known left before mid waiting number r (bytes ∷ others) (Err (record { line = number; kind = kind })) all (r.count, stops-first now new bytes others kind [] stops)
 

@@ -9,7 +9,7 @@ use Rattle.admin_cli.specs.Admin.{Admin}
 use Rattle.admin_cli.specs.declared.faults.ScriptFault.{ScriptFault}
 use Rattle.admin_cli.specs.declared.faults.FaultKind.{FaultKind}
 use Rattle.admin_cli.specs.declared.faults.FaultKind.TheVariants.{NotCommand, TooLong, ReadFault, WriteFault, OutOfMemory}
-use Rattle.admin_cli.specs.Scripts.{Doing, text_of, DoesLine, LacksLine, NeverStarts, RunsInput, RunsLine, StopsAt}
+use Rattle.admin_cli.specs.Scripts.{Doing, text_of, DoesLine, LacksLine, LacksMemory, NeverStarts, RunsInput, RunsLine, StopsAt}
 
 -- a line before it is printed: the line to print, if it prints one, that it is no command, or want of memory for what
 -- is kept of it
@@ -17,7 +17,7 @@ abbrev pub AnswersLine : (Does : Doing) → (old new : Admin) → Line → Resul
 AnswersLine Does old new found (Ok None) = DoesLine Does old new found []
 AnswersLine Does old new found (Ok (Some printed)) = DoesLine Does old new found (text_of printed)
 AnswersLine Does old new found (Err kind) =
-    ((found ≡ line.NotCommand) × (kind ≡ NotCommand)) ⊎ (LacksLine old new found × (kind ≡ OutOfMemory))
+    ((found ≡ line.NotCommand) × (kind ≡ NotCommand) × (new ≡ old)) ⊎ (LacksLine old new found × (kind ≡ OutOfMemory))
 
 -- what is written of a line: all its text, for want of memory for one that takes some nothing, and at a write fault a
 -- beginning
@@ -29,11 +29,12 @@ Prints before after printed (Err NotCommand) = ⊥
 Prints before after printed (Err TooLong) = ⊥
 Prints before after printed (Err ReadFault) = ⊥
 
--- one line that was read: its text is that of what it prints; or why it ends the script
+-- one line that was read: its text is that of what it prints; or why it ends the script, and what it leaves
 abbrev pub DoesBytes : (Does : Doing) → (old new : Admin) → List ℕ → Result (Option OutputLine) FaultKind → Type 0
 DoesBytes Does old new bytes (Ok None) = RunsLine Does old new bytes []
 DoesBytes Does old new bytes (Ok (Some printed)) = RunsLine Does old new bytes (text_of printed)
-DoesBytes Does old new bytes (Err kind) = StopsAt Does old new bytes kind []
+DoesBytes Does old new bytes (Err kind) =
+    StopsAt Does old new bytes kind [] × ((new ≡ old) ⊎ LacksMemory Does old new bytes)
 
 -- a script that ended with a read fault: its reader has failed, or its lines were more than 64 bits count
 abbrev pub HasReaderFailed : Bool → Result (Unit {0}) ScriptFault → Type 0

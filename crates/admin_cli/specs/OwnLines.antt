@@ -43,6 +43,27 @@ came_of (Errno errno) = came.Nothing
 abbrev pub own_line_of : OwnStep → Ino → Fragment → OutputLine → OutputLine
 own_line_of step dir f shown = Own (record { step = step; ino = dir; frag = f; result = came_of shown })
 
+-- what a step of a rank's own is called, and the root or the leaf that it is made at
+abbrev pub IsCalled : Event → OwnStep → Ino → Fragment → Type 0
+IsCalled (Arrive rank request) step dir f = ⊥
+IsCalled (Serve rank) step dir f = ⊥
+IsCalled (Grant rank client tid) step dir f = ⊥
+IsCalled (Split rank ino frag bits) step dir f = (step ≡ own.Split) × (dir ≡ ino) × (f ≡ frag)
+IsCalled (Merge rank ino frag) step dir f = (step ≡ own.Merge) × (dir ≡ ino) × (f ≡ frag)
+IsCalled (CommitBegin rank ino frag) step dir f = ⊥
+IsCalled (CommitEnd encoded) step dir f = ⊥
+IsCalled (CommitDrop job) step dir f = ⊥
+IsCalled (CommitTree ino) step dir f = ⊥
+IsCalled Purge step dir f = ⊥
+IsCalled (Evict rank) step dir f = ⊥
+IsCalled (Start from ino frag to) step dir f = (step ≡ own.Start) × (dir ≡ ino) × (f ≡ frag)
+IsCalled (Freeze ino frag) step dir f = (step ≡ own.Freeze) × (dir ≡ ino) × (f ≡ frag)
+IsCalled (Prep ino frag) step dir f = (step ≡ own.Prep) × (dir ≡ ino) × (f ≡ frag)
+IsCalled (Send ino frag) step dir f = (step ≡ own.Send) × (dir ≡ ino) × (f ≡ frag)
+IsCalled (Import ino frag bytes) step dir f = (step ≡ own.Import) × (dir ≡ ino) × (f ≡ frag)
+IsCalled (Finish ino frag) step dir f = (step ≡ own.Finish) × (dir ≡ ino) × (f ≡ frag)
+IsCalled (Cancel ino frag) step dir f = (step ≡ own.Cancel) × (dir ≡ ino) × (f ≡ frag)
+
 -- a step was made, and is shown so
 abbrev pub MakesOne : (old new : Admin) → OwnStep → Ino → Fragment → Event → OutputLine → Type 0
 MakesOne old new step dir f event line =

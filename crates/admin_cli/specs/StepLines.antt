@@ -12,7 +12,7 @@ use Rattle.script_output.specs.declared.lines.OutputLine.TheVariants.{Reply as R
 use Rattle.admin_cli.specs.Admin.{Admin}
 
 -- one event led from a book to the next with this result, by all that the contract of a book's step says; its store,
--- which is in memory, tells no fault
+-- which has all its objects in memory, tells no fault
 pub record IsStep (old new : BookState) (result : Result Answer Refusal) (event : Event) : Type 0 where
   pub stepped : StepsBook old new result event
   pub sound : IsSoundBook new

@@ -133,8 +133,8 @@ LacksForCommit old new rank dir f = LosesJob old new rank dir f ⊎ BeginsAlone 
 
 -- ---- flushes
 
--- a flush led from a book to the next with this result, by all that its contract says; the store, which is in memory,
--- tells no fault
+-- a flush led from a book to the next with this result, by all that its contract says; the store, which has all
+-- its objects in memory, tells no fault
 pub record IsFlush (old new : BookState) (result : Result (Unit {0}) Refusal) : Type 0 where
   pub cold : OnOk result (IsColdTree new.core.state.tree.objects
       (after old.core.state.tree.limit old.opening old.history))

@@ -8,6 +8,7 @@ use Rattle.admin_cli.specs.declared.faults.FaultKind.{FaultKind}
 use Rattle.admin_cli.specs.declared.faults.FaultKind.TheVariants.{OutOfMemory, WriteFault}
 use Rattle.admin_cli.specs.declared.waiting.Mark.{Mark}
 use Rattle.admin_cli.specs.declared.waiting.Waiting.{Waiting}
+use Rattle.admin_cli.specs.Left.{LeavesAdmin}
 use Rattle.admin_cli.specs.OneLine.{Prints}
 use Rattle.admin_cli.specs.Scripts.{Doing, RunsInput, text_of}
 
@@ -101,3 +102,10 @@ pub record RunsWaiting (Does : Doing) (old : Admin) (waiting : Waiting) (known b
       → RunsInput Does old known before after result
   pub broken : (after : Option (List ℕ)) (fault : ScriptFault) → Breaks waiting middle after fault
       → RunsInput Does old known before after (Err fault)
+
+-- and so it left this administrator, once what waits is written
+pub record LeavesWaiting (Does : Doing) (old new : Admin) (waiting : Waiting) (known before middle : Option (List ℕ))
+    (result : Result (Unit {0}) ScriptFault) : Type 0 where
+  pub whole : (after : Option (List ℕ)) → Appends middle after waiting.bytes.items
+      → LeavesAdmin Does old new known before after result
+  pub broken : (after : Option (List ℕ)) (fault : ScriptFault) → LeavesAdmin Does old new known before after (Err fault)

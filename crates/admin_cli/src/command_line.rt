@@ -21,6 +21,8 @@ pub enum Options<'a> {
         asks: bool,
         /// The file that has the tree, and takes it at each flush.
         store: Option<&'a str>,
+        /// Whether standard error tells why a line was refused, deferred or forwarded, or is no command.
+        explains: bool,
     },
     /// Clients that create files, served by rank threads.
     Serve {
@@ -70,6 +72,7 @@ fn of_script<'a>(script: &ArgMatches<'a>) -> Option<Options<'a>>
             limit,
             asks: script.get_flag("ask"),
             store: script.get_str("store"),
+            explains: script.get_flag("explain"),
         });
     }
     None
@@ -152,6 +155,7 @@ fn script<'a>(alloc: Global) -> Result<Command<'a>, AllocError> {
         .arg(cache(alloc))?
         .arg(limit(alloc))?
         .arg(ask(alloc))?
+        .arg(explain(alloc))?
         .arg(file(alloc))
 }
 
@@ -208,6 +212,13 @@ fn ask<'a>(alloc: Global) -> Arg<'a> {
         .long("ask")
         .action(ArgAction::SetTrue)
         .help("Bring each request to its answer by its own line")
+}
+
+fn explain<'a>(alloc: Global) -> Arg<'a> {
+    Arg::new(alloc, "explain")
+        .long("explain")
+        .action(ArgAction::SetTrue)
+        .help("Say on standard error why a line was refused, deferred or forwarded")
 }
 
 fn file<'a>(alloc: Global) -> Arg<'a> {

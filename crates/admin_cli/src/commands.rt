@@ -42,6 +42,13 @@ impl<S: Keep + Drop> Admin<S> {
         }
     }
 
+    /// The book, to be looked at.
+    pub fn book(&self) -> &Book<S>
+        ensures { result.now ≡ self.now.book }
+    {
+        &self.book
+    }
+
     /// The book.
     pub fn into_book(self) -> Book<S>
         ensures { result ≡ self.book }
@@ -200,7 +207,7 @@ impl<S: Keep + Drop> Admin<S> {
         ensures stepped { IsStep self.old.book self.new.book result event }
     {
         let came = self.book.step(alloc, event);
-        // The contract of `store` is what says here that a store in memory tells no fault.
+        // The contract of `store` says here that a store which has all its objects in memory tells no fault.
         let _ = self.book.cluster().store();
         came
     }

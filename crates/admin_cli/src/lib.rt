@@ -14,6 +14,7 @@ mod own_turns;
 mod script;
 mod serving;
 mod store_commands;
+mod telling;
 mod waiting;
 mod workload;
 
@@ -23,4 +24,5 @@ pub use mds_types::Limit;
 pub use modes::Mode;
 pub use script::{Ran, run_new, run_over, run_script};
 pub use serving::{serve, serve_over};
+pub use telling::{Aloud, Tell, Untold};
 pub use workload::{CACHE, Load, ServeFault, Served, run_over_book, run_serve, run_watched};

@@ -1,7 +1,7 @@
 //! The line `own RANK`: a rank proposes a step of its own, and makes it.
 ghost use Rattle.std.specs.Prelude.{◌≡◌, IfOk, OnErr};
 ghost use Rattle.cluster_core.specs.Proposal.{IsOwnStep};
-ghost use Rattle.admin_cli.specs.OwnLines.{LacksForStep, LacksForTurn, MakesOne, MakesStep, TakesTurn, came_of, own_line_of};
+ghost use Rattle.admin_cli.specs.OwnLines.{IsCalled, LacksForStep, LacksForTurn, MakesStep, TakesTurn, came_of, own_line_of};
 ghost use Rattle.admin_cli.specs.Admin.{seen};
 
 use crate::commands::Admin;
@@ -22,15 +22,23 @@ impl<S: Keep + Drop> Admin<S> {
         ensures count { self.new.operations ≡ self.old.operations }
     {
         match self.book.propose(rank) {
-            Ok(Some(event)) => self.own_step(alloc, event),
+            Ok(Some(event)) => {
+                let name = named(&event);
+                self.own_step(alloc, &name, event)
+            }
             Ok(None) => Ok(OutputLine::Idle),
             Err(refusal) => Ok(OutputLine::Refused(refusal)),
         }
     }
 
     // Makes the step that a rank proposed.
-    fn own_step(&mut self, alloc: Global, event: Event) -> Result<OutputLine, AllocError>
-        requires { IsOwnStep event }
+    fn own_step(
+        &mut self,
+        alloc: Global,
+        name: &StepName,
+        event: Event,
+    ) -> Result<OutputLine, AllocError>
+        requires { IsCalled event name.now.step name.now.ino name.now.frag }
         ensures line { IfOk result (MakesStep (seen self.old) (seen self.new) event) }
         ensures err { OnErr result (LacksForStep (seen self.old) (seen self.new) event) }
         ensures count { self.new.operations ≡ self.old.operations }
@@ -38,101 +46,66 @@ impl<S: Keep + Drop> Admin<S> {
         match event {
             Event::Send { ino, frag } => {
                 let shown = self.send(alloc, ino, frag)?;
-                Ok(told(OwnStep::Send, ino, frag, shown))
+                Ok(told(name, shown))
             }
             Event::Import { ino, frag, bytes } => {
                 drop(bytes);
                 let shown = self.import(alloc, ino, frag)?;
-                Ok(told(OwnStep::Import, ino, frag, shown))
+                Ok(told(name, shown))
             }
-            Event::Split {
-                rank,
-                ino,
-                frag,
-                bits,
-            } => {
-                let step = Event::Split {
-                    rank,
-                    ino,
-                    frag,
-                    bits,
-                };
-                Ok(self.own_one(alloc, OwnStep::Split, ino, frag, step))
+            other => {
+                let shown = self.step(alloc, other);
+                Ok(told(name, shown))
             }
-            Event::Merge { rank, ino, frag } => {
-                let step = Event::Merge { rank, ino, frag };
-                Ok(self.own_one(alloc, OwnStep::Merge, ino, frag, step))
-            }
-            Event::Start {
-                from,
-                ino,
-                frag,
-                to,
-            } => {
-                let step = Event::Start {
-                    from,
-                    ino,
-                    frag,
-                    to,
-                };
-                Ok(self.own_one(alloc, OwnStep::Start, ino, frag, step))
-            }
-            Event::Freeze { ino, frag } => {
-                let step = Event::Freeze { ino, frag };
-                Ok(self.own_one(alloc, OwnStep::Freeze, ino, frag, step))
-            }
-            Event::Prep { ino, frag } => {
-                let step = Event::Prep { ino, frag };
-                Ok(self.own_one(alloc, OwnStep::Prep, ino, frag, step))
-            }
-            Event::Finish { ino, frag } => {
-                let step = Event::Finish { ino, frag };
-                Ok(self.own_one(alloc, OwnStep::Finish, ino, frag, step))
-            }
-            Event::Cancel { ino, frag } => {
-                let step = Event::Cancel { ino, frag };
-                Ok(self.own_one(alloc, OwnStep::Cancel, ino, frag, step))
-            }
-            // none of these is a rank's own
-            Event::Arrive { .. } => unreachable!(),
-            Event::Serve { .. } => unreachable!(),
-            Event::Grant { .. } => unreachable!(),
-            Event::CommitBegin { .. } => unreachable!(),
-            Event::CommitEnd(_) => unreachable!(),
-            Event::CommitDrop { .. } => unreachable!(),
-            Event::CommitTree { .. } => unreachable!(),
-            Event::Purge => unreachable!(),
-            Event::Evict { .. } => unreachable!(),
         }
     }
+}
 
-    // Makes a step that needs no memory of the script's own.
-    #[inline(never)]
-    fn own_one(
-        &mut self,
-        alloc: Global,
-        step: OwnStep,
-        ino: Ino,
-        frag: Frag,
-        event: Event,
-    ) -> OutputLine
-        ensures line { MakesOne (seen self.old) (seen self.new) step ino frag event result }
-        ensures count { self.new.operations ≡ self.old.operations }
+// What a step of a rank's own is called, and the root or the leaf that it is made at.
+#[derive(Clone, Copy)]
+struct StepName {
+    step: OwnStep,
+    ino: Ino,
+    frag: Frag,
+}
+
+impl StepName {
+    fn of(step: OwnStep, ino: Ino, frag: Frag) -> StepName
+        ensures { result ≡ record { step = step; ino = ino; frag = frag } }
     {
-        let shown = self.step(alloc, event);
-        told(step, ino, frag, shown)
+        StepName { step, ino, frag }
+    }
+}
+
+// So of each step that a rank may propose.
+fn named(event: &Event) -> StepName
+    requires { IsOwnStep event.now }
+    ensures { IsCalled event.now result.step result.ino result.frag }
+{
+    match event {
+        Event::Split { ino, frag, .. } => StepName::of(OwnStep::Split, *ino, *frag),
+        Event::Merge { ino, frag, .. } => StepName::of(OwnStep::Merge, *ino, *frag),
+        Event::Start { ino, frag, .. } => StepName::of(OwnStep::Start, *ino, *frag),
+        Event::Freeze { ino, frag } => StepName::of(OwnStep::Freeze, *ino, *frag),
+        Event::Prep { ino, frag } => StepName::of(OwnStep::Prep, *ino, *frag),
+        Event::Send { ino, frag } => StepName::of(OwnStep::Send, *ino, *frag),
+        Event::Import { ino, frag, .. } => StepName::of(OwnStep::Import, *ino, *frag),
+        Event::Finish { ino, frag } => StepName::of(OwnStep::Finish, *ino, *frag),
+        Event::Cancel { ino, frag } => StepName::of(OwnStep::Cancel, *ino, *frag),
+        // no rank proposes another
+        _ => unreachable!(),
     }
 }
 
 // The line of a step that was made, by the line that its own command prints.
-fn told(step: OwnStep, ino: Ino, frag: Frag, shown: OutputLine) -> OutputLine
-    ensures { result ≡ own_line_of step ino frag shown }
+fn told(name: &StepName, shown: OutputLine) -> OutputLine
+    ensures { result ≡ own_line_of name.now.step name.now.ino name.now.frag shown }
 {
     let result = came_of(&shown);
     OutputLine::Own(OwnTurn {
-        step,
-        ino,
-        frag,
+        step: name.step,
+        ino: name.ino,
+        frag: name.frag,
         result,
     })
 }

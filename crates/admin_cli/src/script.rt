@@ -6,16 +6,18 @@ ghost use Rattle.script_text.specs.declared.commands.Command.TheVariants.{Operat
 ghost use Rattle.script_text.specs.declared.lines.Line.TheVariants as asked;
 ghost use Rattle.cluster_core.specs.OneThread.{waiting_in};
 ghost use Rattle.admin_cli.specs.Execute.{Executes};
+ghost use Rattle.admin_cli.specs.Left.{LeavesAdmin, LeavesBook, LeavesOneThread};
 ghost use Rattle.admin_cli.specs.Modes.{DoesUnder};
 ghost use Rattle.admin_cli.specs.Printed.{PrintsOneThread};
 ghost use Rattle.admin_cli.specs.Scripts.{IsFormatted, RunsInput, RunsNew};
 ghost use Rattle.admin_cli.specs.OneLine.{AnswersLine, DoesBytes, HasReaderFailed, Prints, RunsOrNot};
-ghost use Rattle.admin_cli.specs.Waiting.{IsEmpty, PrintsApart, PrintsCame, PrintsOf, PrintsOutput, RunsWaiting};
+ghost use Rattle.admin_cli.specs.Waiting.{IsEmpty, LeavesWaiting, PrintsApart, PrintsCame, PrintsOf, PrintsOutput, RunsWaiting};
 ghost use Rattle.admin_cli.specs.Admin.{seen};
 
 use crate::commands::{Admin, shown_line};
 use crate::faults::{FaultKind, ScriptFault};
 use crate::modes::Mode;
+use crate::telling::{Tell, Untold, tell_misread, tell_reason};
 use crate::waiting::Waiting;
 use cluster_core::{Book, format};
 use keeping::Keep;
@@ -54,11 +56,11 @@ pub fn run_script<H: AllocGlobal + Threads + Sync, R: Read + Drop, W: Write>(
     ensures ran { RunsNew Executes ranks cache limit (R.remaining reader) (W.contents writer.old) (W.contents writer.new)
         result }
 {
-    run_new(rt, reader, writer, ranks, cache, limit, PLAIN)
+    run_new(rt, reader, writer, ranks, cache, limit, PLAIN, &Untold)
 }
 
-/// Runs a script as `run_script` does, under these options.
-pub fn run_new<H: AllocGlobal + Threads + Sync, R: Read + Drop, W: Write>(
+/// Runs a script as `run_script` does, under these options, and tells why a line was refused where somebody listens.
+pub fn run_new<H: AllocGlobal + Threads + Sync, R: Read + Drop, W: Write, T: Tell>(
     rt: &H,
     reader: R,
     writer: &mut W,
@@ -66,6 +68,7 @@ pub fn run_new<H: AllocGlobal + Threads + Sync, R: Read + Drop, W: Write>(
     cache: u32,
     limit: Limit,
     mode: Mode,
+    teller: &T,
 ) -> Result<(), ScriptFault>
     requires one { 1 ≤ ranks }
     requires few { ranks ≤ 16 }
@@ -78,7 +81,7 @@ pub fn run_new<H: AllocGlobal + Threads + Sync, R: Read + Drop, W: Write>(
 {
     match new_book(rt.alloc(), ranks, cache, limit) {
         Some(book) => {
-            let Ran { book, ended } = run_over(rt, reader, writer, book, mode);
+            let Ran { book, ended } = run_over(rt, reader, writer, book, mode, teller);
             drop(book);
             ended
         }
@@ -99,23 +102,35 @@ pub struct Ran<S: Keep + Drop> {
 
 /// Runs a script over a book, as `run_script` does over a new one, under these options: whether a request is brought to
 /// its answer by its own line, and whether a flush is kept in the store's file. The lines that begin with `reply ` are the
-/// replies of one thread, to the requests that waited in the book and those that the lines make.
-pub fn run_over<H: AllocGlobal + Threads + Sync, R: Read + Drop, W: Write, S: Keep + Drop>(
+/// replies of one thread, to the requests that waited in the book and those that the lines make. The book that it leaves
+/// has the history of that thread: each line that was done is in it, also one that could not be printed.
+pub fn run_over<H, R, W, S, T>(
     rt: &H,
     reader: R,
     writer: &mut W,
     book: Book<S>,
     mode: Mode,
+    teller: &T,
 ) -> Ran<S>
+where
+    H: AllocGlobal + Threads + Sync,
+    R: Read + Drop,
+    W: Write,
+    S: Keep + Drop,
+    T: Tell,
     ensures one_thread { PrintsOneThread book.core.state.tree.limit book.opening book.history
         (waiting_in book.core.state.inboxes) (R.remaining reader) (W.contents writer.old) (W.contents writer.new)
         result.ended }
+    ensures left { LeavesOneThread book result.book (R.remaining reader) (W.contents writer.old) (W.contents writer.new)
+        result.ended }
     ensures ran { RunsOrNot (DoesUnder mode) (record { book = book; operations = 0; jobs = map.empty; sent = none_sent })
         (R.remaining reader) (W.contents writer.old) (W.contents writer.new) result.ended }
+    ensures leaves { LeavesBook (DoesUnder mode) book result.book (R.remaining reader) (W.contents writer.old)
+        (W.contents writer.new) result.ended }
 {
     book.is_sound();
     let mut admin = Admin::new(rt.alloc(), book);
-    let ended = run_input(rt, reader, writer, &mut admin, mode);
+    let ended = run_input(rt, reader, writer, &mut admin, mode, teller);
     Ran {
         book: admin.into_book(),
         ended,
@@ -143,16 +158,20 @@ fn new_book(alloc: Global, ranks: u8, cache: u32, limit: Limit) -> Option<Book<M
 }
 
 // Takes the memory that reading needs, and runs the lines of a reader.
-fn run_input<R: Read + Drop, W: Write, S: Keep + Drop>(
+#[tactic(auto, using(crate::proofs::LeavesLaws::leaves_none))]
+fn run_input<R: Read + Drop, W: Write, S: Keep + Drop, T: Tell>(
     rt: &(impl AllocGlobal + Threads + Sync),
     reader: R,
     writer: &mut W,
     admin: &mut Admin<S>,
     mode: Mode,
+    teller: &T,
 ) -> Result<(), ScriptFault>
     requires { admin.old.operations ≡ 0 }
-    ensures { RunsOrNot (DoesUnder mode) (seen admin.old) (R.remaining reader) (W.contents writer.old) (W.contents writer.new)
-        result }
+    ensures runs { RunsOrNot (DoesUnder mode) (seen admin.old) (R.remaining reader) (W.contents writer.old)
+        (W.contents writer.new) result }
+    ensures leaves { LeavesAdmin (DoesUnder mode) (seen admin.old) (seen admin.new) (R.remaining reader) (W.contents writer.old)
+        (W.contents writer.new) result }
 {
     let alloc = rt.alloc();
     let Ok(mut buffer) = LineBuffer::new(alloc) else {
@@ -172,6 +191,7 @@ fn run_input<R: Read + Drop, W: Write, S: Keep + Drop>(
         writer,
         admin,
         mode,
+        teller,
     );
     waiting.flush(writer)?;
     lines_ended
@@ -197,7 +217,7 @@ impl<R: Read> ReadAhead for BufReader<R> {
 
 // Runs the lines of a reader, one after the other. What they print waits to be written together, but not while the
 // reader waits for more. More lines than 64 bits count are a read fault.
-fn run_lines<R: ReadAhead, W: Write, S: Keep + Drop>(
+fn run_lines<R: ReadAhead, W: Write, S: Keep + Drop, T: Tell>(
     rt: &(impl AllocGlobal + Threads + Sync),
     reader: &mut R,
     buffer: &mut LineBuffer,
@@ -205,10 +225,13 @@ fn run_lines<R: ReadAhead, W: Write, S: Keep + Drop>(
     writer: &mut W,
     admin: &mut Admin<S>,
     mode: Mode,
+    teller: &T,
 ) -> Result<(), ScriptFault>
     requires first { admin.old.operations ≡ 0 }
     requires empty { IsEmpty waiting.old }
     ensures runs { RunsWaiting (DoesUnder mode) (seen admin.old) waiting.new (R.remaining reader.old)
+        (W.contents writer.old) (W.contents writer.new) result }
+    ensures leaves { LeavesWaiting (DoesUnder mode) (seen admin.old) (seen admin.new) waiting.new (R.remaining reader.old)
         (W.contents writer.old) (W.contents writer.new) result }
     ensures failed { HasReaderFailed buffer.new.failed result }
 {
@@ -228,7 +251,16 @@ fn run_lines<R: ReadAhead, W: Write, S: Keep + Drop>(
                 kind: FaultKind::ReadFault,
             }),
         }
-        if let Err(fault) = run_line(rt, line, buffer.as_bytes(), admin, mode, waiting, writer) {
+        if let Err(fault) = run_line(
+            rt,
+            line,
+            buffer.as_bytes(),
+            admin,
+            mode,
+            waiting,
+            writer,
+            teller,
+        ) {
             return Err(fault);
         }
     }
@@ -239,7 +271,7 @@ fn run_lines<R: ReadAhead, W: Write, S: Keep + Drop>(
 }
 
 // Runs the line of this number, and puts what it prints behind what waits.
-fn run_line<W: Write, S: Keep + Drop>(
+fn run_line<W: Write, S: Keep + Drop, T: Tell>(
     rt: &(impl AllocGlobal + Threads + Sync),
     line: u64,
     bytes: &[u8],
@@ -247,6 +279,7 @@ fn run_line<W: Write, S: Keep + Drop>(
     mode: Mode,
     waiting: &mut Waiting,
     writer: &mut W,
+    teller: &T,
 ) -> Result<(), ScriptFault>
     requires room { admin.old.operations + 1 < 2 ^ 64 }
     requires short { length bytes.now ≤ 16384 }
@@ -254,6 +287,9 @@ fn run_line<W: Write, S: Keep + Drop>(
     ensures runs { PrintsOf (DoesBytes (DoesUnder mode) (seen admin.old) (seen admin.new) bytes.now) waiting.old waiting.new line
         (W.contents writer.old) (W.contents writer.new) result }
 {
+    if teller.listens() {
+        return run_other(rt, line, bytes, admin, mode, waiting, writer, teller);
+    }
     match read_operation_line(rt.alloc(), bytes) {
         Ok(op) => {
             if mode.asks {
@@ -261,7 +297,9 @@ fn run_line<W: Write, S: Keep + Drop>(
             }
             do_operation(rt.alloc(), line, op, admin, mode, waiting, writer)
         }
-        Err(ReadError::Fault(_)) => run_other(rt, line, bytes, admin, mode, waiting, writer),
+        Err(ReadError::Fault(_)) => run_other(
+            rt, line, bytes, admin, mode, waiting, writer, teller,
+        ),
         Err(ReadError::NoMemory) => Err(at(line, FaultKind::OutOfMemory)),
     }
 }
@@ -319,7 +357,7 @@ fn ask_operation<W: Write, S: Keep + Drop>(
 
 // Runs a line that asks for no operation alone.
 #[inline(never)]
-fn run_other<W: Write, S: Keep + Drop>(
+fn run_other<W: Write, S: Keep + Drop, T: Tell>(
     rt: &(impl AllocGlobal + Threads + Sync),
     line: u64,
     bytes: &[u8],
@@ -327,6 +365,7 @@ fn run_other<W: Write, S: Keep + Drop>(
     mode: Mode,
     waiting: &mut Waiting,
     writer: &mut W,
+    teller: &T,
 ) -> Result<(), ScriptFault>
     requires room { admin.old.operations + 1 < 2 ^ 64 }
     requires short { length bytes.now ≤ 16384 }
@@ -337,27 +376,33 @@ fn run_other<W: Write, S: Keep + Drop>(
     let Ok(found) = read_line(rt.alloc(), bytes) else {
         return Err(at(line, FaultKind::OutOfMemory));
     };
-    do_line(rt, line, found, admin, mode, waiting, writer)
+    do_line(rt, line, bytes, found, admin, mode, waiting, writer, teller)
 }
 
-// Does what a line asks for, and puts what it prints behind what waits.
-fn do_line<W: Write, S: Keep + Drop>(
+// Does what a line asks for, and puts what it prints behind what waits. Its bytes are there for words about it.
+fn do_line<W: Write, S: Keep + Drop, T: Tell>(
     rt: &(impl AllocGlobal + Threads + Sync),
     line: u64,
+    bytes: &[u8],
     found: Line,
     admin: &mut Admin<S>,
     mode: Mode,
     waiting: &mut Waiting,
     writer: &mut W,
+    teller: &T,
 ) -> Result<(), ScriptFault>
-    requires { admin.old.operations + 1 < 2 ^ 64 }
+    requires room { admin.old.operations + 1 < 2 ^ 64 }
+    requires short { length bytes.now ≤ 16384 }
     ensures count { admin.new.operations ≤ admin.old.operations + 1 }
     ensures prints { PrintsOf (AnswersLine (DoesUnder mode) (seen admin.old) (seen admin.new) found) waiting.old waiting.new line
         (W.contents writer.old) (W.contents writer.new) result }
 {
     match found {
         Line::Nothing => Ok(()),
-        Line::NotCommand => Err(at(line, FaultKind::NotCommand)),
+        Line::NotCommand => {
+            tell_misread(line, bytes, teller);
+            Err(at(line, FaultKind::NotCommand))
+        }
         Line::BadWord(errno) => {
             let shown = OutputLine::Errno(errno);
             let printed = print(rt.alloc(), line, &shown, waiting, writer);
@@ -366,6 +411,7 @@ fn do_line<W: Write, S: Keep + Drop>(
         }
         Line::Command(command) => {
             let came = admin.carry(rt, mode, command);
+            tell_reason(rt.alloc(), line, bytes, &came, admin.book(), teller);
             let printed = print_came(rt.alloc(), line, &came, waiting, writer);
             drop(came);
             printed

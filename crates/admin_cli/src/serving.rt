@@ -1,6 +1,7 @@
 //! What `cephmeta serve` runs.
 ghost use Rattle.std.specs.Prelude.{◌≡◌};
 ghost use Rattle.std.specs.FinMap as map;
+ghost use Rattle.admin_cli.specs.Left.{BookGrows};
 ghost use Rattle.admin_cli.specs.Loads.{IsLoad};
 ghost use Rattle.admin_cli.specs.Reports.{ServesOut};
 
@@ -12,7 +13,8 @@ use std::io::Write;
 use std::sync::Wait;
 use std::thread::Threads;
 
-/// Serves a load, as `run_serve` does, and tells on standard error how far it has come where somebody looks on.
+/// Serves a load, as `run_serve` does, and tells on standard error how far it has come, and how many steps the ranks made
+/// of their own, where somebody looks on.
 pub fn serve<W: Write, H: Threads + Wait + Sync + AllocGlobal + Eprint>(
     rt: &H,
     writer: &mut W,
@@ -23,7 +25,12 @@ pub fn serve<W: Write, H: Threads + Wait + Sync + AllocGlobal + Eprint>(
     ensures { ServesOut (W.contents writer.old) (W.contents writer.new) result }
 {
     if is_watched {
-        return run_watched(rt, writer, load, &Progress::new(rt, load));
+        let progress = Progress::new(rt, load);
+        let ended = run_watched(rt, writer, load, &progress);
+        if ended.is_ok() {
+            progress.end();
+        }
+        return ended;
     }
     run_serve(
         rt,
@@ -35,7 +42,8 @@ pub fn serve<W: Write, H: Threads + Wait + Sync + AllocGlobal + Eprint>(
     )
 }
 
-/// Serves a load so, over a book of as many ranks that opened with the empty tree, and hands the book back.
+/// Serves a load so, over a book of as many ranks that opened with the empty tree, and hands the book back, as
+/// `run_over_book` does.
 pub fn serve_over<W, H, S>(
     rt: &H,
     writer: &mut W,
@@ -49,10 +57,16 @@ where
     S: Keep + Drop + Send,
     requires load { IsLoad load.ranks load.workers load.clients load.creates }
     requires opening { book.opening ≡ map.empty }
-    ensures { ServesOut (W.contents writer.old) (W.contents writer.new) result.ended }
+    ensures served { ServesOut (W.contents writer.old) (W.contents writer.new) result.ended }
+    ensures left { BookGrows book result.book }
 {
     if is_watched {
-        return run_over_book(rt, writer, book, load, &Progress::new(rt, load));
+        let progress = Progress::new(rt, load);
+        let served = run_over_book(rt, writer, book, load, &progress);
+        if served.ended.is_ok() {
+            progress.end();
+        }
+        return served;
     }
     run_over_book(rt, writer, book, load, &OpenGate)
 }

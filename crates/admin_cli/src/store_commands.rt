@@ -187,7 +187,7 @@ impl<S: Keep + Drop> Admin<S> {
         if !is_hindered(&flushed) {
             self.jobs = KeptJobs::new(alloc);
         }
-        // The contract of `store` is what says here that a store in memory tells no fault.
+        // The contract of `store` says here that a store which has all its objects in memory tells no fault.
         let _ = self.book.cluster().store();
         flushed
     }

@@ -10,6 +10,7 @@ mod reports;
 mod requests;
 mod serving;
 mod setup;
+mod steps;
 
 pub use loads::Load;
 pub use progress::Progress;

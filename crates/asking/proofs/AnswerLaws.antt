@@ -1,5 +1,5 @@
 -- From what steps give to the answer of what was asked.
-use Rattle.asking.proofs.Common.{Answer, Answers, Frozen, None, Arrive, ArrivesAt, AsksAlone, Bool, BookState, HasCome, Contains, Core, Deferred, Entry, Err, Forwarded, GrantsEach, GrantsThem, Inboxes, IsApplied, IsNewAtMaster, IsDeferred, IsForwarded, IsFrozenAt, IsLeft, IsMaster, IsRepeated, IsSound, IsTakenOut, KeepsButGrants, KeepsUnclean, LacksNumberToServe, Leaf, List, MatchBool, NoInodes, NoMemory, NoneWaits, NotAuthority, Ok, Pin, Question, Rank, Receipt, Refusal, RefusesAsk, RefusesRequest, Request, Result, Roots, Rules, Some, State, Steps, StillWaits, StoreFault, NothingToEvict, TreeMayRefuse, TreeState, Trimmed, WaitsAlone, WhyItWaits, WhyNotGranted, [], ap, arith, false, first_waiting, grant_of, inl, inr, is_directory, is_for, is_pin, left_without, length, list_any, main_leaf, nat_lt, one_authority, refl, set, set-set, Served, ServesTo, shown_tree, subst, sym, told_as, true, waiting_at, with_last, with_waiting, without_request, would_change, ℕ, ◌∙◌, ◌∷◌, ◌≡◌, ◌≢◌, ◌⊎◌}
+use Rattle.asking.proofs.Common.{Answer, Answers, Frozen, None, Nothing, Arrive, ArrivesAt, AsksAlone, Bool, BookState, HasCome, Contains, Core, Deferred, Entry, Err, Forwarded, GrantsEach, GrantsThem, Inboxes, IsApplied, IsNewAtMaster, IsDeferred, IsForwarded, IsFrozenAt, IsLeft, IsMaster, IsRepeated, IsSound, IsTakenOut, KeepsButGrants, KeepsUnclean, LacksNumberToServe, Leaf, List, MatchBool, NoInodes, NoMemory, NoneWaits, NotAuthority, Ok, Pin, Question, Rank, Receipt, Refusal, RefusesAsk, RefusesRequest, Request, Result, Roots, Rules, Some, State, Steps, StillWaits, StoreFault, NothingToEvict, TreeMayRefuse, TreeState, Trimmed, UsesStep, WaitsAlone, WhyItWaits, WhyNotGranted, [], ap, arith, false, first_waiting, grant_of, inl, inr, is_directory, is_for, is_pin, left_without, length, list_any, main_leaf, nat_lt, one_authority, refl, set, set-set, Served, ServesTo, shown_tree, subst, sym, told_as, true, waiting_at, with_last, with_waiting, without_request, would_change, ℕ, ◌∙◌, ◌∷◌, ◌≡◌, ◌≢◌, ◌⊎◌}
 use Rattle.std.specs.FinMap as map
 use Rattle.std.specs.FinMap.{get-empty}
 use Rattle.std.specs.Prelude.{OnOk}
@@ -8,7 +8,6 @@ use Rattle.mds_types.specs.Leaf.{leaf_cmp}
 use Rattle.std.proofs.lemmas.Bool.{ltb-false, ltb-true}
 use Rattle.mds_types.specs.Shape.{destination_of}
 use Rattle.cluster_core.specs.Serve.{FindsFull, IsAtMaster as IsAtItsMaster, LacksAny, ServingTakesMemory}
-use Rattle.cluster_core.specs.Administers.{AsksNone}
 use Rattle.cluster_core.specs.Offer.{after_taking}
 use Rattle.cluster_core.specs.Serve.{entry_of, number_of, outcome_of, with_entry}
 use Rattle.cluster_core.specs.State.{supply_of}
@@ -48,10 +47,10 @@ module _ (tree : TreeState) (roots : Roots) (leaf : Leaf) where
 
 module _ (q : Question) (mid : BookState) (sound : IsSound q.opening q.history q.core) (none : NoneWaits q.core.state.inboxes) where
   abbrev Arrived : Result Answer Refusal → Type 0
-  Arrived result = ArrivesAt q.core.state mid.core.state q.history mid.history q.rank q.request result × AsksNone q.core mid.core
+  Arrived result = ArrivesAt q.core.state mid.core.state q.history mid.history q.rank q.request result
 
-  pub arrived : (answer : Answer) → Steps q.core mid.core q.history mid.history (Ok answer) (Arrive q.rank q.request) → HasCome q mid q.rank q.request.client q.request.tid
-  arrived answer steps = go (nat_lt q.rank.0 (length q.core.state.inboxes)) refl steps.does
+  pub arrived : (answer : Answer) → Steps q.core mid.core q.history mid.history (Ok answer) (Arrive q.rank q.request) → UsesStep q.core mid.core (Ok answer) (Arrive q.rank q.request) → HasCome q mid q.rank q.request.client q.request.tid
+  arrived answer steps uses = go (nat_lt q.rank.0 (length q.core.state.inboxes)) refl steps.does
     where
       go : (b : Bool) → nat_lt q.rank.0 (length q.core.state.inboxes) ≡ b → MatchBool b (Arrived (Ok answer)) ((◌≡◌ {A = Result Answer Refusal} (Ok answer) (Err NotAuthority)) × (mid.core ≡ q.core) × (mid.history ≡ q.history))
           → HasCome q mid q.rank q.request.client q.request.tid
@@ -63,10 +62,10 @@ module _ (q : Question) (mid : BookState) (sound : IsSound q.opening q.history q
           there = ltb-true _ _ e;
           kept =
               no_grants _ mid.core.state q.request.client q.request.tid
-              (h.0.2 ∙ ap (λ (i : Inboxes). record q.core.state { inboxes = i }) (came q.core.state.inboxes q.rank q.request none));
+              (h.2 ∙ ap (λ (i : Inboxes). record q.core.state { inboxes = i }) (came q.core.state.inboxes q.rank q.request none));
         };
-        same = h.0.3;
-        unclean = same_keep q.core mid.core h.1;
+        same = h.3;
+        unclean = same_keep q.core mid.core uses;
         faults = omega (arith, steps.counted);
         client_is = refl;
         tid_is = refl;
@@ -81,8 +80,17 @@ module _ (q : Question) (mid : BookState) (sound : IsSound q.opening q.history q
 
       go : (b : Bool) → nat_lt q.rank.0 (length q.core.state.inboxes) ≡ b → MatchBool b (Arrived (Err reason)) ((◌≡◌ {A = Result Answer Refusal} (Err reason) (Err NotAuthority)) × (mid.core ≡ q.core) × (mid.history ≡ q.history))
           → Answers q mid (Err reason)
-      go true e h = absurd (omega (arith, h.0.1, ap (λ (w : List Request). length w) (none q.rank)))
+      go true e h = absurd (omega (arith, h.1, ap (λ (w : List Request). length w) (none q.rank)))
       go false e h = inl (named h.0, ltb-false _ _ e, h.1, h.2)
+
+-- a request that comes in is told nothing
+pub told_nothing : (old mid : BookState) (rank : Rank) (request : Request) (answer : Answer) → Steps old.core mid.core old.history mid.history (Ok answer) (Arrive rank request) → answer ≡ Nothing
+told_nothing old mid rank request answer steps = go (nat_lt rank.0 (length old.core.state.inboxes)) steps.does
+  where
+    go : (b : Bool) → MatchBool b (ArrivesAt old.core.state mid.core.state old.history mid.history rank request (Ok answer)) ((◌≡◌ {A = Result Answer Refusal} (Ok answer) (Err NotAuthority)) × (mid.core ≡ old.core) × (mid.history ≡ old.history))
+        → answer ≡ Nothing
+    go true h = h.0
+    go false h = let clash = h.0 in cc
 
 -- ---- a request that waits alone is served
 

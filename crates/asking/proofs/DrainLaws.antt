@@ -130,7 +130,7 @@ module _ (old granted new : Core) (past now : List Entry) (rank : Rank) (request
   by_result (Err reason) (inr (inr (inr (inr h)))) = inr (by_tree reason h.0 h.2 h.3)
 
   progress : RoundGives old new request result
-  progress = by_result result (its granted new past now rank request rest front result round.served).0
+  progress = by_result result (its granted new past now rank request rest front result round.served)
 
 pub rounds_progress : RoundsProgress
 rounds_progress old granted new past now rank request rest result round = progress old granted new past now rank request rest result round

@@ -1,5 +1,5 @@
 -- What a grant gives, and those of all ranks one after the other.
-use Rattle.asking.proofs.Common.{Answer, Bool, Contains, Core, Entry, Err, Frozen, Grant, Grants, GrantsEach, GrantsFirst, GrantsOf, GrantsRequest, GrantsSo, GrantsThem, GrantsWaiting, IsAuthority, IsFrozenAt, IsGranted, IsSound, KeepsUnclean, Leaf, List, MatchBool, NoInodes, NoMemory, NotAuthority, NothingToEvict, Ok, Op, Pin, Rank, ReadsOp, Refusal, RefusesGrant, Request, Result, Some, State, Steps, StoreFault, Tree, TreeMayRefuse, WhyNotGranted, ap, arith, false, first_waiting, grant_of, held_roots, inl, inr, is_for, is_pin, left_without, length, list_any, nat_lt, refl, subst, sym, true, with_grants, would_change, ℕ, ◌+◌, ◌<◌, ◌∙◌, ◌≡◌, ◌≢◌, ◌⊎◌}
+use Rattle.asking.proofs.Common.{Answer, Bool, Contains, Core, Entry, Err, Frozen, Grant, Grants, GrantsEach, GrantsFirst, GrantsOf, GrantsRequest, GrantsSo, GrantsThem, GrantsWaiting, IsAuthority, IsFrozenAt, IsGranted, IsSound, KeepsUnclean, Leaf, List, MatchBool, NoInodes, NoMemory, NotAuthority, NothingToEvict, Ok, Op, Pin, Rank, ReadsOp, Refusal, RefusesGrant, Request, Result, Some, State, Steps, StoreFault, Tree, TreeMayRefuse, UsesStep, WhyNotGranted, ap, arith, false, first_waiting, grant_of, held_roots, inl, inr, is_for, is_pin, left_without, length, list_any, nat_lt, refl, subst, sym, true, with_grants, would_change, ℕ, ◌+◌, ◌<◌, ◌∙◌, ◌≡◌, ◌≢◌, ◌⊎◌}
 use Rattle.std.proofs.lemmas.Bool.{cases_lt, lt-ltb}
 use Rattle.cluster_core.specs.Uses.{UsesWaiting}
 use Rattle.asking.proofs.LiveLaws.{change_ruled, is_one_of_16, is_rank}
@@ -18,21 +18,21 @@ module _ (old new : Core) (past now : List Entry) (rank : Rank) (client tid : �
   abbrev Looked : Result Answer Refusal → Type 0
   Looked result = (Done result × Used) ⊎ ((nat_lt rank.0 (length old.state.inboxes) ≡ false) × (result ≡ Err NotAuthority) × (new ≡ old))
 
-  looked : (result : Result Answer Refusal) → Steps old new past now result (Grant rank client tid) → Looked result
-  looked result steps = go (nat_lt rank.0 (length old.state.inboxes)) refl steps.does
+  looked : (result : Result Answer Refusal) → Steps old new past now result (Grant rank client tid) → UsesStep old new result (Grant rank client tid) → Looked result
+  looked result steps uses = go (nat_lt rank.0 (length old.state.inboxes)) refl steps.does uses
     where
       go : (b : Bool) → nat_lt rank.0 (length old.state.inboxes) ≡ b
-          → MatchBool b (GrantsWaiting old.state new.state past now (TreeMayRefuse old new) rank client tid result × UsesWaiting old.state.tree (held_roots old.state) old.caches new.caches (first_waiting client tid old.state.inboxes)) ((result ≡ Err NotAuthority) × (new ≡ old) × (now ≡ past))
-          → Looked result
-      go true e done = inl (
-        subst (GrantsFirst old.state new.state past now (TreeMayRefuse old new) rank client tid result) waits done.0,
-        subst (UsesWaiting old.state.tree (held_roots old.state) old.caches new.caches) waits done.1,
+          → MatchBool b (GrantsWaiting old.state new.state past now (TreeMayRefuse old new) rank client tid result) ((result ≡ Err NotAuthority) × (new ≡ old) × (now ≡ past))
+          → MatchBool b (UsesWaiting old.state.tree (held_roots old.state) old.caches new.caches (first_waiting client tid old.state.inboxes)) (new.caches ≡ old.caches) → Looked result
+      go true e done used = inl (
+        subst (GrantsFirst old.state new.state past now (TreeMayRefuse old new) rank client tid result) waits done,
+        subst (UsesWaiting old.state.tree (held_roots old.state) old.caches new.caches) waits used,
       )
-      go false e none = inr (e, none.0, none.1)
+      go false e none same = inr (e, none.0, none.1)
 
   -- it granted what is its own
-  pub granted : (answer : Answer) → Steps old new past now (Ok answer) (Grant rank client tid) → GrantsOf old new rank client tid request.op (Ok tt)
-  granted answer steps = go (looked (Ok answer) steps)
+  pub granted : (answer : Answer) → Steps old new past now (Ok answer) (Grant rank client tid) → UsesStep old new (Ok answer) (Grant rank client tid) → GrantsOf old new rank client tid request.op (Ok tt)
+  granted answer steps uses = go (looked (Ok answer) steps uses)
     where
       of : Grants old.state new.state past now rank client tid request.op answer → Used → GrantsOf old new rank client tid request.op (Ok tt)
       of h used =
@@ -68,8 +68,8 @@ module _ (old new : Core) (past now : List Entry) (rank : Rank) (client tid : �
   )
 
   -- nothing is its own
-  pub foreign : (opening : Tree) → IsSound opening past old → (reason : Refusal) → reason ≡ NotAuthority → Steps old new past now (Err reason) (Grant rank client tid) → GrantsOf old new rank client tid request.op (Ok tt)
-  foreign opening sound reason is steps = go (looked (Err reason) steps)
+  pub foreign : (opening : Tree) → IsSound opening past old → (reason : Refusal) → reason ≡ NotAuthority → Steps old new past now (Err reason) (Grant rank client tid) → UsesStep old new (Err reason) (Grant rank client tid) → GrantsOf old new rank client tid request.op (Ok tt)
+  foreign opening sound reason is steps uses = go (looked (Err reason) steps uses)
     where
       of : RefusesGrant old.state new.state past now (TreeMayRefuse old new) rank request.op reason → Used → GrantsOf old new rank client tid request.op (Ok tt)
       of (inl (named, none), left) used = nothing left.left (reads_keep old new request.op steps.capacity used) none
@@ -87,8 +87,8 @@ module _ (old new : Core) (past now : List Entry) (rank : Rank) (client tid : �
           (λ leaf its. let there = is_rank opening past old sound leaf rank its.mine in let clash : true ≡ false = sym (lt-ltb _ _ there) ∙ e in cc)
 
   -- it was refused
-  pub not_granted : (reason : Refusal) → reason ≢ NotAuthority → Steps old new past now (Err reason) (Grant rank client tid) → GrantsOf old new rank client tid request.op (Err reason)
-  not_granted reason other steps = go (looked (Err reason) steps)
+  pub not_granted : (reason : Refusal) → reason ≢ NotAuthority → Steps old new past now (Err reason) (Grant rank client tid) → UsesStep old new (Err reason) (Grant rank client tid) → GrantsOf old new rank client tid request.op (Err reason)
+  not_granted reason other steps uses = go (looked (Err reason) steps uses)
     where
       why : RefusesGrant old.state new.state past now (TreeMayRefuse old new) rank request.op reason → WhyNotGranted old new request.op reason
       why (inl (named, none), left) = absurd (other named)

@@ -2,6 +2,7 @@ pub mod AmongLaws
 pub mod AnswerLaws
 pub mod Common
 pub mod DrainLaws
+pub mod EndingLaws
 pub mod LoopLaws
 pub mod StrayLaws
 pub mod GrantLaws
@@ -13,5 +14,7 @@ pub mod PinLaws
 pub mod ReachedLaws
 pub mod ServeLaws
 pub mod ServiceLaws
+pub mod SpelledLaws
+pub mod ThroughLaws
 pub mod Transport
 pub mod WaitingLaws

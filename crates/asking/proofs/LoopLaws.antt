@@ -90,7 +90,7 @@ module _ (old : BookState) (sound : IsSoundBook old) (few : waiting_in_all old.c
 
     pub exports_stand : new.core.state.exports ≡ old.core.state.exports
     exports_stand =
-        serves_exports mid.core.state new.core.state mid.history new.history (TreeMayRefuse mid.core new.core) found.rank is.request is.rest result (its mid.core new.core mid.history new.history found.rank is.request is.rest front result steps).0
+        serves_exports mid.core.state new.core.state mid.history new.history (TreeMayRefuse mid.core new.core) found.rank is.request is.rest result (its mid.core new.core mid.history new.history found.rank is.request is.rest front result steps)
         ∙ ap (λ (s : State). s.exports) grants.kept.left
 
 -- by the answer

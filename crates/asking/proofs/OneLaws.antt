@@ -41,10 +41,10 @@ refused_as_one old new request sound same = record {
 
 -- ---- how many entries a directory may have
 
-abbrev limit_of : BookState → ℕ
+abbrev pub limit_of : BookState → ℕ
 limit_of book = book.core.state.tree.limit
 
-limit_through : (start end : BookState) (events : List Event) (results : List (Result Answer Refusal)) → Runs start events results end → limit_of end ≡ limit_of start
+pub limit_through : (start end : BookState) (events : List Event) (results : List (Result Answer Refusal)) → Runs start events results end → limit_of end ≡ limit_of start
 limit_through start end [] [] same = ap (λ (b : BookState). limit_of b) same
 limit_through start end [] (result ∷ results) none = absurd none
 limit_through start end (event ∷ events) [] none = absurd none

@@ -1,5 +1,5 @@
 -- Steps after steps.
-use Rattle.asking.proofs.Common.{Answer, BookState, Err, Event, IsSoundBook, IsStepFor, List, None, Ok, Option, Refusal, Request, Result, Runs, Some, Steps, [], ap, append-nil, arith, refl, subst, sym, ℕ, ◌++◌, ◌+◌, ◌∙◌, ◌∷◌, ◌≡◌, ◌≤◌}
+use Rattle.asking.proofs.Common.{Answer, BookState, Err, Event, IsSoundBook, IsStepFor, List, None, Ok, Option, Refusal, Request, Result, Runs, Some, Steps, UsesStep, [], ap, append-nil, arith, refl, subst, sym, ℕ, ◌++◌, ◌+◌, ◌∙◌, ◌∷◌, ◌≡◌, ◌≤◌}
 use Rattle.std.specs.List.{AllByRecursion}
 use Rattle.std.specs.Result.{result_err}
 use Rattle.std.proofs.lemmas.List.{append_assoc, length-append}
@@ -39,11 +39,11 @@ module _ (client tid : ℕ) where
   }
 
   pub leads_by : (old new : BookState) (result : Result Answer Refusal) (event : Event) (came : List Request) (replies : List Receipt) → arrival event ≡ came → receipt_of result ≡ replies → IsStepFor client tid event
-      → Steps old.core new.core old.history new.history result event → new.opening ≡ old.opening → IsSoundBook new → LeadsTo client tid came 1 replies (result_err result) old new
-  leads_by old new result event came replies brings tells is steps same sound = record {
+      → Steps old.core new.core old.history new.history result event → UsesStep old.core new.core result event → new.opening ≡ old.opening → IsSoundBook new → LeadsTo client tid came 1 replies (result_err result) old new
+  leads_by old new result event came replies brings tells is steps uses same sound = record {
     events = event ∷ [];
     results = result ∷ [];
-    ran = (new, record { stepped = steps; same_opening = same }, sound, refl);
+    ran = (new, record { stepped = steps; uses = uses; same_opening = same }, sound, refl);
     for_it = (is, tt);
     brought = append-nil (arrival event) ∙ brings;
     few = omega arith;

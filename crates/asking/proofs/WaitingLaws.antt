@@ -1,7 +1,10 @@
 -- What ranks did that served and granted alone.
-use Rattle.asking.proofs.Common.{Answer, Arrive, BookState, Event, Grant, IsSoundBook, IsStepFor, LeadsTo, List, Option, Rank, Receipt, Refusal, Request, Result, Serve, Steps, [], ap, append-nil, refl, subst, sym, ℕ, ◌++◌, ◌∙◌, ◌∷◌, ◌≡◌}
+use Rattle.asking.proofs.Common.{Answer, Arrive, BookState, Entry, Event, Grant, IsBroughtBy, IsSoundBook, IsStepFor, LeadsTo, List, Option, Rank, Receipt, Refusal, Request, Result, Serve, Steps, Tree, UsesStep, [], ap, append-nil, length, receipt_in, refl, subst, sym, ℕ, ◌++◌, ◌∙◌, ◌∷◌, ◌≡◌}
 use Rattle.std.specs.List.{AllByRecursion}
-use Rattle.cluster_core.specs.OneThread.{arrivals, receipt_of, receipts_of, waiting_in}
+use Rattle.std.proofs.lemmas.List.Concat.{flat_map-append}
+use Rattle.std.proofs.lemmas.List.Elements.{Contains-append_left}
+use Rattle.cluster_core.specs.OneThread.{InOrder, IsAskedFor, IsOneThread, IsSent, arrival, arrivals, receipt_of, receipts_of, waiting_in}
+use Rattle.cluster_core.proofs.ListLaws.{all_weaker}
 use Rattle.cluster_core.proofs.OneThreadLaws.{ServesAsOne, run_as_one}
 use Rattle.asking.specs.Reached.{ServesOrGrants, ServesWaiting}
 use Rattle.asking.proofs.ReachedLaws.{all_then, receipts_then, runs_then}
@@ -36,11 +39,11 @@ served_by client tid most replies refused old new led = record {
 }
 
 -- one rank serves
-pub served_once : (old new : BookState) (rank : Rank) (result : Result Answer Refusal) → Steps old.core new.core old.history new.history result (Serve rank) → new.opening ≡ old.opening → IsSoundBook new → ServesWaiting old new (receipt_of result)
-served_once old new rank result steps same sound = record {
+pub served_once : (old new : BookState) (rank : Rank) (result : Result Answer Refusal) → Steps old.core new.core old.history new.history result (Serve rank) → UsesStep old.core new.core result (Serve rank) → new.opening ≡ old.opening → IsSoundBook new → ServesWaiting old new (receipt_of result)
+served_once old new rank result steps uses same sound = record {
   events = Serve rank ∷ [];
   results = result ∷ [];
-  ran = (new, record { stepped = steps; same_opening = same }, sound, refl);
+  ran = (new, record { stepped = steps; uses = uses; same_opening = same }, sound, refl);
   only = (tt, tt);
   told = append-nil (receipt_of result);
 }
@@ -69,3 +72,39 @@ waiting_as_one old new replies sound served =
     let waiting = waiting_in old.core.state.inboxes in
     let none : waiting ++ arrivals served.events ≡ waiting = ap (λ (rs : List Request). waiting ++ rs) (none_comes served.events served.only) ∙ append-nil waiting in
     subst (λ (rs : List Receipt). ServesAsOne old new waiting rs) served.told (subst (λ (sent : List Request). ServesAsOne old new sent (receipts_of served.results)) none (run_as_one old new served.events served.results served.ran sound))
+
+-- a request more may have been sent
+more_sent : (limit : ℕ) (opening : Tree) (past now : List Entry) (sent more : List Request) (told : List Receipt) → IsOneThread limit opening past now sent told → IsOneThread limit opening past now (sent ++ more) told
+more_sent limit opening past now sent more told one = record {
+  more = one.more;
+  grows = one.grows;
+  legal = one.legal;
+  asked = all_weaker (IsSent sent) (IsSent (sent ++ more)) (λ e. Contains-append_left sent more (record { client = e.client; tid = e.tid; oldest = e.oldest; op = e.op })) one.more one.asked;
+  asked_for = all_weaker (IsAskedFor sent) (IsAskedFor (sent ++ more)) (λ r for. (for.0, Contains-append_left sent more for.0 for.1, for.2, for.3)) told one.asked_for;
+  agree = one.agree;
+}
+
+-- as is one that didn't come in
+pub held_as_one : (old new : BookState) (replies : List Receipt) (request : Request) → IsSoundBook new → ServesWaiting old new replies
+    → IsOneThread old.core.state.tree.limit old.opening old.history new.history (waiting_in old.core.state.inboxes ++ request ∷ []) (replies ++ [])
+held_as_one old new replies request sound served =
+    let waiting = waiting_in old.core.state.inboxes in
+    subst (λ (rs : List Receipt). IsOneThread old.core.state.tree.limit old.opening old.history new.history (waiting ++ request ∷ []) rs) (sym (append-nil replies))
+    (more_sent old.core.state.tree.limit old.opening old.history new.history waiting (request ∷ []) replies (waiting_as_one old new replies sound served).one)
+
+pub held_in_order : (old new : BookState) (replies : List Receipt) → IsSoundBook new → ServesWaiting old new replies → InOrder (length old.history) (replies ++ []) (length new.history)
+held_in_order old new replies sound served =
+    subst (λ (rs : List Receipt). InOrder (length old.history) rs (length new.history)) (sym (append-nil replies)) (waiting_as_one old new replies sound served).in_order
+
+-- those that waited were served, and then one was asked
+pub among_as_one : (old mid new : BookState) (replies : List Receipt) (request : Request) (most : ℕ) (result : Result Receipt Refusal) → IsSoundBook new → ServesWaiting old mid replies → IsBroughtBy request most result mid new
+    → ServesAsOne old new (waiting_in old.core.state.inboxes ++ request ∷ []) (replies ++ receipt_in result)
+among_as_one old mid new replies request most result sound served by =
+    let waiting = waiting_in old.core.state.inboxes in
+    let its = run_as_one old new (served.events ++ by.events) (served.results ++ by.results) (runs_then old mid new served.events by.events served.results by.results served.ran by.ran) sound in
+    let came : arrivals (served.events ++ by.events) ≡ request ∷ [] =
+    flat_map-append arrival served.events by.events ∙ (ap (λ (rs : List Request). rs ++ arrivals by.events) (none_comes served.events served.only) ∙ by.brought) in
+    let told : receipts_of (served.results ++ by.results) ≡ replies ++ receipt_in result =
+    receipts_then served.results by.results ∙ (ap (λ (rs : List Receipt). rs ++ receipts_of by.results) served.told ∙ ap (λ (rs : List Receipt). replies ++ rs) by.told) in
+    subst (λ (rs : List Receipt). ServesAsOne old new (waiting ++ request ∷ []) rs) told
+    (subst (λ (rs : List Request). ServesAsOne old new (waiting ++ rs) (receipts_of (served.results ++ by.results))) came its)

@@ -1,7 +1,9 @@
 pub mod Among
 pub mod Ask
 pub mod Drain
+pub mod Ending
 pub mod GrantsAll
 pub mod Once
 pub mod Reached
 pub mod Serves
+pub mod Through

@@ -1,10 +1,11 @@
 //! A request is asked, and gets its answer.
-ghost use Rattle.std.specs.Prelude.{◌≡◌, ◌≢◌, ◌+◌, ◌≤◌, ◌∷◌, [], length, IfOk, OnOk, Err};
+ghost use Rattle.std.specs.Prelude.{◌≡◌, ◌≢◌, ◌+◌, ◌≤◌, ◌++◌, ◌∷◌, [], length, IfOk, OnOk, Err};
 ghost use Rattle.std.specs.FinMap as map;
 ghost use Rattle.std.specs.Result.{result_err};
 ghost use Rattle.objstore.specs.Objects.{faults_told};
-ghost use Rattle.cluster_core.specs.OneThread.{InOrder, IsOneThread, StandsInHistory};
+ghost use Rattle.cluster_core.specs.OneThread.{InOrder, IsOneThread, StandsInHistory, waiting_in};
 ghost use Rattle.cluster_core.specs.Sound.{IsSoundBook};
+ghost use Rattle.cluster_core.specs.declared.events.Answer.TheVariants.{Nothing};
 ghost use Rattle.asking.specs.Among.{AsksAmong};
 ghost use Rattle.asking.specs.Ask.{Answers, AsksAlone, HasCome, IsNewAtMaster, NoneWaits, Question};
 ghost use Rattle.asking.specs.Drain.{waiting_in_all};
@@ -13,7 +14,7 @@ ghost use Rattle.asking.specs.Reached.{IsBroughtBy, LeadsTo, receipt_in};
 use crate::drains::{Drained, drain};
 use crate::grants::grant_all;
 use crate::serves::{Served, serve};
-use cluster_core::{Book, Event, Receipt};
+use cluster_core::{Answer, Book, Event, Receipt};
 use mds_types::{Rank, Refusal, Request};
 use objstore::Store;
 use std::alloc::Global;
@@ -25,6 +26,7 @@ use std::alloc::Global;
 /// Refused `NotAuthority` exactly where there is no such rank; `Trimmed` and `NoInodes` where serving it is, and it has
 /// left; `Frozen` where it would change a fragment that is frozen; for want of memory, by the store, and for want of
 /// places. After one of these four the request waits on, alone.
+#[inline(always)]
 pub fn ask<S: Store + Drop>(
     alloc: Global,
     book: &mut Book<S>,
@@ -50,14 +52,30 @@ pub fn ask<S: Store + Drop>(
     let (client, tid) = (request.client, request.tid);
     match book.step(alloc, Event::Arrive { rank, request }) {
         Ok(answer) => {
-            drop(answer);
+            drop_nothing(answer);
             serve_first(alloc, book, rank, client, tid)
         }
         Err(refusal) => Err(refusal),
     }
 }
 
-// The request is served where it came in.
+// An answer that is `Nothing` is dropped: put into its callers this costs nothing.
+#[inline(always)]
+fn drop_nothing(answer: Answer)
+    requires { answer ≡ Nothing }
+{
+    match answer {
+        Answer::Nothing => {}
+        Answer::Reply { .. } => unreachable!(),
+        Answer::Job(_) => unreachable!(),
+        Answer::Sent(_) => unreachable!(),
+        Answer::Forwarded(_) => unreachable!(),
+        Answer::Deferred => unreachable!(),
+    }
+}
+
+// The request is served where it came in. The reply is taken from the step's answer at once, so it is moved once.
+#[inline(always)]
 fn serve_first<S: Store + Drop>(
     alloc: Global,
     book: &mut Book<S>,
@@ -74,15 +92,33 @@ fn serve_first<S: Store + Drop>(
     ensures sound { IsSoundBook book.new }
     ensures counted { book.new.core.faults ≡ book.old.core.faults + faults_told (result_err result) }
 {
-    match serve(alloc, book, rank) {
-        Ok(Served::Replied(receipt)) => Ok(receipt),
-        Ok(Served::Goes(master)) => serve_there(alloc, book, master, client, tid),
-        Ok(Served::Waits) => serve_granted(alloc, book, rank, client, tid),
+    match book.step(alloc, Event::Serve { rank }) {
+        Ok(
+            Answer::Reply {
+                client: whose,
+                tid: number,
+                place,
+                first,
+                reply,
+            },
+        ) => Ok(Receipt {
+            client: whose,
+            tid: number,
+            place,
+            first,
+            reply,
+        }),
+        Ok(Answer::Forwarded(master)) => serve_there(alloc, book, master, client, tid),
+        Ok(Answer::Deferred) => serve_granted(alloc, book, rank, client, tid),
+        Ok(Answer::Nothing) => unreachable!(),
+        Ok(Answer::Job(_)) => unreachable!(),
+        Ok(Answer::Sent(_)) => unreachable!(),
         Err(refusal) => Err(refusal),
     }
 }
 
 // It is served at its master.
+#[inline(never)]
 fn serve_there<S: Store + Drop>(
     alloc: Global,
     book: &mut Book<S>,
@@ -108,6 +144,7 @@ fn serve_there<S: Store + Drop>(
 }
 
 // It is served at its master, once each rank has granted what it needs.
+#[inline(never)]
 fn serve_granted<S: Store + Drop>(
     alloc: Global,
     book: &mut Book<S>,
@@ -152,6 +189,10 @@ pub fn ask_among<S: Store + Drop>(
     request: Request,
 ) -> Among
     requires { waiting_in_all book.old.core.state.inboxes ≤ 1024 }
+    ensures one_thread { IsOneThread book.old.core.state.tree.limit book.old.opening book.old.history book.new.history
+        (waiting_in book.old.core.state.inboxes ++ request ∷ []) (result.others.items ++ receipt_in result.answer) }
+    ensures in_order { InOrder (length book.old.history)
+        (result.others.items ++ receipt_in result.answer) (length book.new.history) }
     ensures asked { AsksAmong book.old book.new result.others.items rank request result.answer }
     ensures thawed { book.old.core.state.exports ≡ map.empty → result.answer ≢ Err Refusal.Frozen }
     ensures stands { IfOk result.answer

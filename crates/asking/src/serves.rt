@@ -25,6 +25,7 @@ pub(crate) enum Served {
 }
 
 /// The request at the front of a rank's inbox is served, where one waits.
+#[inline(always)]
 pub(crate) fn serve<S: Store + Drop>(
     alloc: Global,
     book: &mut Book<S>,
@@ -47,6 +48,7 @@ pub(crate) fn serve<S: Store + Drop>(
 }
 
 // What the answer of a step that serves says of the request.
+#[inline(always)]
 fn served_by(answer: Answer) -> Served
     requires { IsOfServe answer }
     ensures { told_of result ≡ answer }

@@ -6,14 +6,18 @@ ghost use Rattle.cluster_core.specs.Flush.{Flushes, IsColdTree};
 ghost use Rattle.cluster_core.specs.OneThread.{InOrder, IsOneThread, StandsInHistory, arrival};
 ghost use Rattle.cluster_core.specs.Sound.{IsSoundBook};
 ghost use Rattle.cluster_core.specs.Steps.{Steps};
+ghost use Rattle.cluster_core.specs.Uses.{UsesStep};
 ghost use Rattle.asking.specs.Ask.{NoneWaits};
+ghost use Rattle.asking.specs.Ending.{HasAllBytes};
 ghost use Rattle.asking.specs.Drain.{waiting_in_all};
 ghost use Rattle.asking.specs.Once.{AsksOnce, Leaves};
 ghost use Rattle.asking.specs.Reached.{receipt_in};
+ghost use Rattle.asking.specs.Through.{AsksThrough, CantSend};
 
 use crate::asks::ask;
 use crate::drains::lowest;
-use cluster_core::{Answer, Book, Event, Receipt, flush, give_up};
+use crate::through::ask_through;
+use cluster_core::{Answer, Book, Event, KeptBytes, Receipt, flush, give_up};
 use keeping::{Keep, Unkept};
 use mds_types::{Rank, Refusal, Request};
 use objstore::Store;
@@ -25,6 +29,7 @@ use std::thread::Threads;
 ///
 /// Refused `NotAuthority` exactly where there is no such rank; `Trimmed`, `NoInodes` where serving it is; `Frozen` where it
 /// would change a fragment that is frozen; for want of memory, by the store, and for want of places.
+#[inline(always)]
 pub fn ask_once<S: Store + Drop>(
     alloc: Global,
     book: &mut Book<S>,
@@ -55,6 +60,7 @@ pub fn ask_once<S: Store + Drop>(
 }
 
 // What waits at the front of the lowest rank is given up, if something waits.
+#[inline(never)]
 fn leave<S: Store + Drop>(book: &mut Book<S>)
     ensures left { Leaves book.old book.new }
     ensures opening { book.new.opening ≡ book.old.opening }
@@ -105,6 +111,7 @@ impl<S: Store + Drop> Service<S> {
         requires { arrival event ≡ [] }
         ensures stepped { Steps self.old.book.core self.new.book.core self.old.book.history self.new.book.history result
             event }
+        ensures uses { UsesStep self.old.book.core self.new.book.core result event }
         ensures silent { self.new.book.history ≡ self.old.book.history }
         ensures limit { self.new.book.core.state.tree.limit ≡ self.old.book.core.state.tree.limit }
         ensures opening { self.new.book.opening ≡ self.old.book.opening }
@@ -123,6 +130,7 @@ impl<S: Store + Drop> Service<S> {
     }
 
     /// A request comes in at a rank, and gets its answer, or is refused as `ask_once` is: then nothing of it is left.
+    #[inline(always)]
     pub fn ask(&mut self, alloc: Global, rank: Rank, request: Request) -> Result<Receipt, Refusal>
         ensures one_thread { IsOneThread self.old.book.core.state.tree.limit self.old.book.opening self.old.book.history
             self.new.book.history (request ∷ []) (receipt_in result) }
@@ -136,6 +144,30 @@ impl<S: Store + Drop> Service<S> {
         ensures opening { self.new.book.opening ≡ self.old.book.opening }
     {
         ask_once(alloc, &mut self.book, rank, request)
+    }
+
+    /// A request comes in at a rank, and gets its answer, where exports that keep it from that are brought to their end, as
+    /// by `ask_through`.
+    pub fn ask_through(
+        &mut self,
+        alloc: Global,
+        kept: &mut KeptBytes,
+        rank: Rank,
+        request: Request,
+        cancel: bool,
+    ) -> Result<Receipt, Refusal>
+        ensures one_thread { IsOneThread self.old.book.core.state.tree.limit self.old.book.opening self.old.book.history
+            self.new.book.history (request ∷ []) (receipt_in result) }
+        ensures in_order { InOrder (length self.old.book.history) (receipt_in result) (length self.new.book.history) }
+        ensures asked { AsksThrough cancel rank request self.old.book self.new.book kept.old kept.new result }
+        ensures thawed { HasAllBytes self.old.book.core.state kept.old → result ≡ Err Refusal.Frozen
+            → CantSend cancel self.new.book.core.state }
+        ensures stands { IfOk result
+            (λ receipt. StandsInHistory self.new.book.history receipt.client receipt.tid receipt.place receipt.reply) }
+        ensures limit { self.new.book.core.state.tree.limit ≡ self.old.book.core.state.tree.limit }
+        ensures opening { self.new.book.opening ≡ self.old.book.opening }
+    {
+        ask_through(alloc, &mut self.book, kept, rank, request, cancel)
     }
 }
 

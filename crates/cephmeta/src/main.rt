@@ -7,7 +7,7 @@ ghost use Rattle.admin_cli.specs.Settings.{AreInRange};
 mod stored;
 
 use crate::stored::{Shape, script_stored, serve_stored};
-use admin_cli::{Limit, Mode, Options, ServeFault, run_new, run_script, serve, settings};
+use admin_cli::{Aloud, Mode, Options, ServeFault, Untold, run_new, run_script, serve, settings};
 use std::io::{IsTerminal, Read};
 use std::process::ExitCode;
 use std::sync::Wait;
@@ -59,13 +59,22 @@ fn run<H: AllocGlobal + Threads + Wait + Sync + Print + Eprint>(
             limit,
             asks,
             store: None,
-        } => script(rt, host.reader(), *ranks, *cache, *limit, *asks),
+            explains,
+        } => {
+            let shape = Shape {
+                ranks: *ranks,
+                cache: *cache,
+                limit: *limit,
+            };
+            script(rt, host.reader(), shape, *asks, *explains)
+        }
         Options::Script {
             ranks,
             cache,
             limit,
             asks,
             store: Some(path),
+            explains,
         } => {
             let mode = Mode {
                 asks: *asks,
@@ -76,7 +85,7 @@ fn run<H: AllocGlobal + Threads + Wait + Sync + Print + Eprint>(
                 cache: *cache,
                 limit: *limit,
             };
-            Ok(status(script_stored(host, rt, path, shape, mode)?))
+            Ok(status(script_stored(host, rt, path, shape, mode, *explains)?))
         }
         Options::Serve { load, store: None } => {
             let is_watched = host.stderr().is_terminal();
@@ -105,20 +114,35 @@ fn no_memory_for_words(rt: &impl Eprint) -> io::Result<ExitCode> {
 fn script<H: AllocGlobal + Threads + Sync + Print + Eprint, I: Read + Drop>(
     rt: &H,
     input: I,
-    ranks: u8,
-    cache: u32,
-    limit: Limit,
+    shape: Shape,
     asks: bool,
+    explains: bool,
 ) -> io::Result<ExitCode>
-    requires one { 1 ≤ ranks }
-    requires few { ranks ≤ 16 }
-    requires least { 512 ≤ cache }
-    requires most { cache ≤ 65536 }
+    requires one { 1 ≤ shape.ranks }
+    requires few { shape.ranks ≤ 16 }
+    requires least { 512 ≤ shape.cache }
+    requires most { shape.cache ≤ 65536 }
 {
     let writer = &mut io::writer(rt);
-    let ended = if asks {
-        let mode = Mode { asks, keeps: false };
-        run_new(rt, input, writer, ranks, cache, limit, mode)
+    let Shape {
+        ranks,
+        cache,
+        limit,
+    } = shape;
+    let mode = Mode { asks, keeps: false };
+    let ended = if explains {
+        run_new(
+            rt,
+            input,
+            writer,
+            ranks,
+            cache,
+            limit,
+            mode,
+            &Aloud::new(rt),
+        )
+    } else if asks {
+        run_new(rt, input, writer, ranks, cache, limit, mode, &Untold)
     } else {
         run_script(rt, input, writer, ranks, cache, limit)
     };

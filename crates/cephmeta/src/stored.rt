@@ -6,7 +6,7 @@ ghost use Rattle.sqlite_trees.specs.View.{IsClean};
 ghost use Rattle.kept_store.specs.Kept.{IsFreshMirror};
 ghost use Rattle.admin_cli.specs.Loads.{IsLoad};
 
-use admin_cli::{CACHE, Limit, Load, Mode, Ran, Served, run_over, serve_over};
+use admin_cli::{Aloud, CACHE, Limit, Load, Mode, Ran, Served, Untold, run_over, serve_over};
 use cluster_core::{Book, PlainTree, mount};
 use keeping::Unkept;
 use kept_book::{Unsaved, save};
@@ -28,13 +28,15 @@ pub struct Shape {
 }
 
 /// Runs a script over the tree of a file, and saves what the script didn't flush. Answers whether all went well: what is
-/// wrong with the file, and what isn't saved, is told on standard error. `host` opens the file, `rt` runs threads.
+/// wrong with the file, and what isn't saved, is told on standard error, and why a line was refused, if that is asked for.
+/// `host` opens the file, `rt` runs threads.
 pub fn script_stored<H: AllocGlobal + Threads + Sync>(
     host: &HostRuntime,
     rt: &H,
     path: &str,
     shape: Shape,
     mode: Mode,
+    explains: bool,
 ) -> io::Result<bool>
     requires one { 1 ≤ shape.ranks }
     requires few { shape.ranks ≤ 16 }
@@ -42,7 +44,7 @@ pub fn script_stored<H: AllocGlobal + Threads + Sync>(
     requires most { shape.cache ≤ 65536 }
 {
     match open(host, path, Wary) {
-        Ok(tables) => script_over(host, rt, path, tables, shape, mode),
+        Ok(tables) => script_over(host, rt, path, tables, shape, mode, explains),
         Err(fault) => told(host, path, &fault),
     }
 }
@@ -71,6 +73,7 @@ fn script_over<T: Settle + Drop, H: AllocGlobal + Threads + Sync>(
     tables: T,
     shape: Shape,
     mode: Mode,
+    explains: bool,
 ) -> io::Result<bool>
     requires fresh { IsClean (T.Store.view tables) → IsFreshMirror (T.Store.view tables) }
     requires one { 1 ≤ shape.ranks }
@@ -81,7 +84,11 @@ fn script_over<T: Settle + Drop, H: AllocGlobal + Threads + Sync>(
     match mounted(host, rt.alloc(), path, tables, shape) {
         Ok(book) => {
             let writer = &mut io::writer(host);
-            let Ran { book, ended } = run_over(rt, host.reader(), writer, book, mode);
+            let Ran { book, ended } = if explains {
+                run_over(rt, host.reader(), writer, book, mode, &Aloud::new(host))
+            } else {
+                run_over(rt, host.reader(), writer, book, mode, &Untold)
+            };
             let closed = close(host, rt, path, book);
             if let Err(fault) = ended {
                 eprintln!(host; "{fault}")?;

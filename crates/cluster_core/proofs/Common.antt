@@ -22,7 +22,7 @@ pub use Rattle.cluster_core.specs.Settled.{AreSettled, IsAway, IsCalm, IsCalmIn,
 pub use Rattle.cluster_core.specs.Sound.{AreCached, AreExported, AreRanks, AreSupplied, IsFresh, IsSoundWith, IsSound, IsSoundBook, IsSupplied}
 pub use Rattle.cluster_core.specs.State.{Core, BookState, State, core_of, new_state, no_supply, shown, state_of, supply_of, whole_supplies}
 pub use Rattle.cluster_core.specs.Steps.{ArrivesAt, Does, TreeMayRefuse, Steps}
-pub use Rattle.cluster_core.specs.Uses.{Asks, ChangesOp, ReadsOp, UsesApplied, UsesFront, UsesRequest}
+pub use Rattle.cluster_core.specs.Uses.{Asks, ChangesOp, ReadsOp, UsesApplied, UsesFront, UsesRequest, UsesStep}
 pub use Rattle.cluster_core.specs.declared.applying.Prepared.{Prepared}
 pub use Rattle.cluster_core.specs.declared.events.Answer.{Answer}
 pub use Rattle.cluster_core.specs.declared.events.Answer.TheVariants.{Deferred, Forwarded, Nothing, Reply, Sent}

@@ -70,25 +70,25 @@ module _ (opening : Tree) (past now : List Entry) (old new : Core) (sound : IsSo
   imported at bytes (Err reason) h = kept (left old.state new.state h.1.left)
 
   step : (result : Result Answer Refusal) (event : Event) → Does old new past now result event → Kept
-  step result (Arrive rank request) h = at_rank (nat_lt rank.0 (length old.state.inboxes)) result (λ w. kept (arrived old.state new.state past now rank request result w.0)) h
-  step result (Serve rank) h = at_rank (nat_lt rank.0 (length old.state.inboxes)) result (λ w. kept (served_inbox old.state new.state past now (TreeMayRefuse old new) rank result (waiting_at old.state.inboxes rank) w.0)) h
-  step result (Grant rank client tid) h = at_rank (nat_lt rank.0 (length old.state.inboxes)) result (λ w. kept (granted old.state new.state past now (TreeMayRefuse old new) rank client tid result (first_waiting client tid old.state.inboxes) w.0)) h
+  step result (Arrive rank request) h = at_rank (nat_lt rank.0 (length old.state.inboxes)) result (λ w. kept (arrived old.state new.state past now rank request result w)) h
+  step result (Serve rank) h = at_rank (nat_lt rank.0 (length old.state.inboxes)) result (λ w. kept (served_inbox old.state new.state past now (TreeMayRefuse old new) rank result (waiting_at old.state.inboxes rank) w)) h
+  step result (Grant rank client tid) h = at_rank (nat_lt rank.0 (length old.state.inboxes)) result (λ w. kept (granted old.state new.state past now (TreeMayRefuse old new) rank client tid result (first_waiting client tid old.state.inboxes) w)) h
   step result (Split rank dir f nb) h =
-      at_rank (nat_lt rank.0 (length old.state.inboxes)) result (λ w. worked told_nothing (SplitsLeaf old new rank dir f nb) (λ done did. kept (regrouped_objects old.state.tree new.state.tree dir _ _ _ did.3.regrouped)) result w.0) h
+      at_rank (nat_lt rank.0 (length old.state.inboxes)) result (λ w. worked told_nothing (SplitsLeaf old new rank dir f nb) (λ done did. kept (regrouped_objects old.state.tree new.state.tree dir _ _ _ did.3.regrouped)) result w) h
   step result (Merge rank dir f) h =
-      at_rank (nat_lt rank.0 (length old.state.inboxes)) result (λ w. worked told_nothing (MergesLeaves old new rank dir f) (λ done did. kept (regrouped_objects old.state.tree new.state.tree dir _ _ _ did.3.regrouped)) result w.0) h
+      at_rank (nat_lt rank.0 (length old.state.inboxes)) result (λ w. worked told_nothing (MergesLeaves old new rank dir f) (λ done did. kept (regrouped_objects old.state.tree new.state.tree dir _ _ _ did.3.regrouped)) result w) h
   step result (CommitBegin rank dir f) h =
-      at_rank (nat_lt rank.0 (length old.state.inboxes)) result (λ w. worked told_job (BeginsAt old.state new.state rank (dir, f)) (λ given did. kept (begun_objects old.state.tree new.state.tree _ (dir, f) given did.2.2)) result w.0.0) h
+      at_rank (nat_lt rank.0 (length old.state.inboxes)) result (λ w. worked told_job (BeginsAt old.state new.state rank (dir, f)) (λ given did. kept (begun_objects old.state.tree new.state.tree _ (dir, f) given did.2.2)) result w.0) h
   step result (CommitEnd encoded) h =
-      worked told_nothing (EndsJobOf old.state.tree new.state.tree old.faults new.faults encoded.job) (λ done did. ended_object old.state.tree new.state.tree sound.tree.sound leaf job stood stands old.faults new.faults encoded.job (Ok done) did) result h.0.0
-  step result (CommitDrop number) h = worked told_nothing (Drops old.state.tree new.state.tree number) (λ done did. kept (dropped_objects old.state.tree new.state.tree number (Ok done) did)) result h.0.0
+      worked told_nothing (EndsJobOf old.state.tree new.state.tree old.faults new.faults encoded.job) (λ done did. ended_object old.state.tree new.state.tree sound.tree.sound leaf job stood stands old.faults new.faults encoded.job (Ok done) did) result h.0
+  step result (CommitDrop number) h = worked told_nothing (Drops old.state.tree new.state.tree number) (λ done did. kept (dropped_objects old.state.tree new.state.tree number (Ok done) did)) result h.0
   step result (CommitTree dir) h =
-      worked told_nothing (SavesTree old.state.tree new.state.tree old.faults new.faults dir) (λ done did. saved_object old.state.tree new.state.tree sound.tree.sound leaf job stood old.faults new.faults dir (Ok done) did) result h.0.0
+      worked told_nothing (SavesTree old.state.tree new.state.tree old.faults new.faults dir) (λ done did. saved_object old.state.tree new.state.tree sound.tree.sound leaf job stood old.faults new.faults dir (Ok done) did) result h.0
   step result Purge h =
       worked told_nothing (Purges old.state.tree new.state.tree old.faults new.faults)
-      (λ done did. purged_object old.state.tree new.state.tree sound.tree.sound leaf job stood old.faults new.faults (first_name old.state.tree.purge) refl (Ok done) did) result h.0.0
+      (λ done did. purged_object old.state.tree new.state.tree sound.tree.sound leaf job stood old.faults new.faults (first_name old.state.tree.purge) refl (Ok done) did) result h.0
   step result (Evict rank) h =
-      at_rank (nat_lt rank.0 (length old.state.inboxes)) result (λ w. worked told_nothing (EvictsOne old new rank) (λ done did. kept (ap (λ (s : State). s.tree.objects) did.1)) result w.0) h
+      at_rank (nat_lt rank.0 (length old.state.inboxes)) result (λ w. worked told_nothing (EvictsOne old new rank) (λ done did. kept (ap (λ (s : State). s.tree.objects) did)) result w.0) h
   step result (Start from dir f to) h =
       at_rank (nat_lt from.0 (length old.state.inboxes)) result (λ w. at_rank (nat_lt to.0 (length old.state.inboxes)) result (λ done. exported (StartsIn old.state new.state from (dir, f) to) (λ did. ap (λ (t : TreeState). t.objects) did.2.tree) result done) w) h
   step result (Freeze dir f) h = exported (FreezesIn old.state new.state (dir, f)) (λ did. ap (λ (t : TreeState). t.objects) did.1.ended.left) result h

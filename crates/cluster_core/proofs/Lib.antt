@@ -50,6 +50,7 @@ pub mod Stays
 pub mod Stepped
 pub mod Supplies
 pub mod TeethLaws
+pub mod ToldBytes
 pub mod UsesLaws
 pub mod WalkLaws
 pub mod Worked

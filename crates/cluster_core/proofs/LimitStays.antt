@@ -119,25 +119,25 @@ module _ (past now : List Entry) (old new : Core) where
   imported at bytes (Err reason) h = left old.state new.state h.1.left
 
   pub limit_stays : (result : Result Answer Refusal) (event : Event) → Does old new past now result event → Kept
-  limit_stays result (Arrive rank request) h = at_rank (nat_lt rank.0 (length old.state.inboxes)) result (λ w. arrived old.state new.state past now rank request result w.0) h
-  limit_stays result (Serve rank) h = at_rank (nat_lt rank.0 (length old.state.inboxes)) result (λ w. served_inbox old.state new.state past now (TreeMayRefuse old new) rank result (waiting_at old.state.inboxes rank) w.0) h
-  limit_stays result (Grant rank client tid) h = at_rank (nat_lt rank.0 (length old.state.inboxes)) result (λ w. granted old.state new.state past now (TreeMayRefuse old new) rank client tid result (first_waiting client tid old.state.inboxes) w.0) h
+  limit_stays result (Arrive rank request) h = at_rank (nat_lt rank.0 (length old.state.inboxes)) result (λ w. arrived old.state new.state past now rank request result w) h
+  limit_stays result (Serve rank) h = at_rank (nat_lt rank.0 (length old.state.inboxes)) result (λ w. served_inbox old.state new.state past now (TreeMayRefuse old new) rank result (waiting_at old.state.inboxes rank) w) h
+  limit_stays result (Grant rank client tid) h = at_rank (nat_lt rank.0 (length old.state.inboxes)) result (λ w. granted old.state new.state past now (TreeMayRefuse old new) rank client tid result (first_waiting client tid old.state.inboxes) w) h
   limit_stays result (Split rank dir f nb) h =
-      at_rank (nat_lt rank.0 (length old.state.inboxes)) result (λ w. worked told_nothing (SplitsLeaf old new rank dir f nb) (λ done did. ap (λ (t : TreeState). t.limit) did.3.regrouped.left) result w.0) h
+      at_rank (nat_lt rank.0 (length old.state.inboxes)) result (λ w. worked told_nothing (SplitsLeaf old new rank dir f nb) (λ done did. ap (λ (t : TreeState). t.limit) did.3.regrouped.left) result w) h
   limit_stays result (Merge rank dir f) h =
-      at_rank (nat_lt rank.0 (length old.state.inboxes)) result (λ w. worked told_nothing (MergesLeaves old new rank dir f) (λ done did. ap (λ (t : TreeState). t.limit) did.3.regrouped.left) result w.0) h
+      at_rank (nat_lt rank.0 (length old.state.inboxes)) result (λ w. worked told_nothing (MergesLeaves old new rank dir f) (λ done did. ap (λ (t : TreeState). t.limit) did.3.regrouped.left) result w) h
   limit_stays result (CommitBegin rank dir f) h =
-      at_rank (nat_lt rank.0 (length old.state.inboxes)) result (λ w. worked told_job (BeginsAt old.state new.state rank (dir, f)) (λ given did. begun_limit old.state.tree new.state.tree _ (dir, f) given did.2.2) result w.0.0) h
+      at_rank (nat_lt rank.0 (length old.state.inboxes)) result (λ w. worked told_job (BeginsAt old.state new.state rank (dir, f)) (λ given did. begun_limit old.state.tree new.state.tree _ (dir, f) given did.2.2) result w.0) h
   limit_stays result (CommitEnd encoded) h =
-      worked told_nothing (EndsJobOf old.state.tree new.state.tree old.faults new.faults encoded.job) (λ done did. ap (λ (t : TreeState). t.limit) did.left) result h.0.0
-  limit_stays result (CommitDrop number) h = worked told_nothing (Drops old.state.tree new.state.tree number) (λ done did. ap (λ (t : TreeState). t.limit) did.left) result h.0.0
+      worked told_nothing (EndsJobOf old.state.tree new.state.tree old.faults new.faults encoded.job) (λ done did. ap (λ (t : TreeState). t.limit) did.left) result h.0
+  limit_stays result (CommitDrop number) h = worked told_nothing (Drops old.state.tree new.state.tree number) (λ done did. ap (λ (t : TreeState). t.limit) did.left) result h.0
   limit_stays result (CommitTree dir) h =
-      worked told_nothing (SavesTree old.state.tree new.state.tree old.faults new.faults dir) (λ done did. ap (λ (t : TreeState). t.limit) did.1) result h.0.0
+      worked told_nothing (SavesTree old.state.tree new.state.tree old.faults new.faults dir) (λ done did. ap (λ (t : TreeState). t.limit) did.1) result h.0
   limit_stays result Purge h =
       worked told_nothing (Purges old.state.tree new.state.tree old.faults new.faults)
-      (λ done did. purged_limit old.state.tree new.state.tree old.faults new.faults (first_name old.state.tree.purge) (Ok done) did) result h.0.0
+      (λ done did. purged_limit old.state.tree new.state.tree old.faults new.faults (first_name old.state.tree.purge) (Ok done) did) result h.0
   limit_stays result (Evict rank) h =
-      at_rank (nat_lt rank.0 (length old.state.inboxes)) result (λ w. worked told_nothing (EvictsOne old new rank) (λ done did. ap (λ (s : State). s.tree.limit) did.1) result w.0) h
+      at_rank (nat_lt rank.0 (length old.state.inboxes)) result (λ w. worked told_nothing (EvictsOne old new rank) (λ done did. ap (λ (s : State). s.tree.limit) did) result w.0) h
   limit_stays result (Start from dir f to) h =
       at_rank (nat_lt from.0 (length old.state.inboxes)) result (λ w. at_rank (nat_lt to.0 (length old.state.inboxes)) result (λ done. exported (StartsIn old.state new.state from (dir, f) to) (λ did. ap (λ (t : TreeState). t.limit) did.2.tree) result done) w) h
   limit_stays result (Freeze dir f) h = exported (FreezesIn old.state new.state (dir, f)) (λ did. ap (λ (t : TreeState). t.limit) did.1.ended.left) result h

@@ -55,18 +55,18 @@ module _ (old new : Core) (past now : List Entry) where
   at_rank false result go h = ap receipt_of h.0
 
   pub tells_none : (result : Result Answer Refusal) (event : Event) → Does old new past now result event → TellsNone event result
-  tells_none result (Arrive rank request) h = at_rank (nat_lt rank.0 (length old.state.inboxes)) result (λ w. arrived old.state new.state past now rank request result w.0) h
+  tells_none result (Arrive rank request) h = at_rank (nat_lt rank.0 (length old.state.inboxes)) result (λ w. arrived old.state new.state past now rank request result w) h
   tells_none result (Serve rank) h = tt
   tells_none result (Grant rank client tid) h =
-      at_rank (nat_lt rank.0 (length old.state.inboxes)) result (λ w. granted old.state new.state past now (TreeMayRefuse old new) rank client tid result (first_waiting client tid old.state.inboxes) w.0) h
-  tells_none result (Split rank dir f nb) h = at_rank (nat_lt rank.0 (length old.state.inboxes)) result (λ w. done old.state new.state past now (SplitsLeaf old new rank dir f nb) result w.0) h
-  tells_none result (Merge rank dir f) h = at_rank (nat_lt rank.0 (length old.state.inboxes)) result (λ w. done old.state new.state past now (MergesLeaves old new rank dir f) result w.0) h
+      at_rank (nat_lt rank.0 (length old.state.inboxes)) result (λ w. granted old.state new.state past now (TreeMayRefuse old new) rank client tid result (first_waiting client tid old.state.inboxes) w) h
+  tells_none result (Split rank dir f nb) h = at_rank (nat_lt rank.0 (length old.state.inboxes)) result (λ w. done old.state new.state past now (SplitsLeaf old new rank dir f nb) result w) h
+  tells_none result (Merge rank dir f) h = at_rank (nat_lt rank.0 (length old.state.inboxes)) result (λ w. done old.state new.state past now (MergesLeaves old new rank dir f) result w) h
   tells_none result (CommitBegin rank dir f) h =
-      at_rank (nat_lt rank.0 (length old.state.inboxes)) result (λ w. begun old.state new.state past now (BeginsAt old.state new.state rank (dir, f)) result w.0.0) h
-  tells_none result (CommitEnd encoded) h = done old.state new.state past now (EndsJobOf old.state.tree new.state.tree old.faults new.faults encoded.job) result h.0.0
-  tells_none result (CommitDrop number) h = done old.state new.state past now (Drops old.state.tree new.state.tree number) result h.0.0
-  tells_none result (CommitTree dir) h = done old.state new.state past now (SavesTree old.state.tree new.state.tree old.faults new.faults dir) result h.0.0
-  tells_none result Purge h = done old.state new.state past now (Purges old.state.tree new.state.tree old.faults new.faults) result h.0.0
+      at_rank (nat_lt rank.0 (length old.state.inboxes)) result (λ w. begun old.state new.state past now (BeginsAt old.state new.state rank (dir, f)) result w.0) h
+  tells_none result (CommitEnd encoded) h = done old.state new.state past now (EndsJobOf old.state.tree new.state.tree old.faults new.faults encoded.job) result h.0
+  tells_none result (CommitDrop number) h = done old.state new.state past now (Drops old.state.tree new.state.tree number) result h.0
+  tells_none result (CommitTree dir) h = done old.state new.state past now (SavesTree old.state.tree new.state.tree old.faults new.faults dir) result h.0
+  tells_none result Purge h = done old.state new.state past now (Purges old.state.tree new.state.tree old.faults new.faults) result h.0
   tells_none result (Evict rank) h = at_rank (nat_lt rank.0 (length old.state.inboxes)) result (λ w. done old.state new.state past now (EvictsOne old new rank) result w.0) h
   tells_none result (Start from dir f to) h =
       at_rank (nat_lt from.0 (length old.state.inboxes)) result

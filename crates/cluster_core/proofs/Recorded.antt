@@ -36,20 +36,20 @@ state_stays : (old new : Core) → new ≡ old → new.state ≡ old.state
 state_stays old new same = ap (λ (c : Core). c.state) same
 
 adds_at_serve : (old new : Core) (past now : List Entry) (result : Result Answer Refusal) (event : Event) → Does old new past now result event → AddsAtServe event past now
-adds_at_serve old new past now result (Arrive rank request) h = at_rank old.state new.state past now (nat_lt rank.0 (length old.state.inboxes)) result (state_stays old new) (λ w. arrived old.state new.state past now rank request result w.0) h
+adds_at_serve old new past now result (Arrive rank request) h = at_rank old.state new.state past now (nat_lt rank.0 (length old.state.inboxes)) result (state_stays old new) (λ w. arrived old.state new.state past now rank request result w) h
 adds_at_serve old new past now result (Serve rank) h = tt
 adds_at_serve old new past now result (Grant rank client tid) h =
-    at_rank old.state new.state past now (nat_lt rank.0 (length old.state.inboxes)) result (state_stays old new) (λ w. granted old.state new.state past now (TreeMayRefuse old new) rank client tid result (first_waiting client tid old.state.inboxes) w.0) h
+    at_rank old.state new.state past now (nat_lt rank.0 (length old.state.inboxes)) result (state_stays old new) (λ w. granted old.state new.state past now (TreeMayRefuse old new) rank client tid result (first_waiting client tid old.state.inboxes) w) h
 adds_at_serve old new past now result (Split rank dir f nb) h =
-    at_rank old.state new.state past now (nat_lt rank.0 (length old.state.inboxes)) result (state_stays old new) (λ w. administered old.state new.state past now told_nothing (SplitsLeaf old new rank dir f nb) result w.0) h
+    at_rank old.state new.state past now (nat_lt rank.0 (length old.state.inboxes)) result (state_stays old new) (λ w. administered old.state new.state past now told_nothing (SplitsLeaf old new rank dir f nb) result w) h
 adds_at_serve old new past now result (Merge rank dir f) h =
-    at_rank old.state new.state past now (nat_lt rank.0 (length old.state.inboxes)) result (state_stays old new) (λ w. administered old.state new.state past now told_nothing (MergesLeaves old new rank dir f) result w.0) h
+    at_rank old.state new.state past now (nat_lt rank.0 (length old.state.inboxes)) result (state_stays old new) (λ w. administered old.state new.state past now told_nothing (MergesLeaves old new rank dir f) result w) h
 adds_at_serve old new past now result (CommitBegin rank dir f) h =
-    at_rank old.state new.state past now (nat_lt rank.0 (length old.state.inboxes)) result (state_stays old new) (λ w. administered old.state new.state past now told_job (BeginsAt old.state new.state rank (dir, f)) result w.0.0) h
-adds_at_serve old new past now result (CommitEnd encoded) h = administered old.state new.state past now told_nothing (EndsJobOf old.state.tree new.state.tree old.faults new.faults encoded.job) result h.0.0
-adds_at_serve old new past now result (CommitDrop number) h = administered old.state new.state past now told_nothing (Drops old.state.tree new.state.tree number) result h.0.0
-adds_at_serve old new past now result (CommitTree dir) h = administered old.state new.state past now told_nothing (SavesTree old.state.tree new.state.tree old.faults new.faults dir) result h.0.0
-adds_at_serve old new past now result Purge h = administered old.state new.state past now told_nothing (Purges old.state.tree new.state.tree old.faults new.faults) result h.0.0
+    at_rank old.state new.state past now (nat_lt rank.0 (length old.state.inboxes)) result (state_stays old new) (λ w. administered old.state new.state past now told_job (BeginsAt old.state new.state rank (dir, f)) result w.0) h
+adds_at_serve old new past now result (CommitEnd encoded) h = administered old.state new.state past now told_nothing (EndsJobOf old.state.tree new.state.tree old.faults new.faults encoded.job) result h.0
+adds_at_serve old new past now result (CommitDrop number) h = administered old.state new.state past now told_nothing (Drops old.state.tree new.state.tree number) result h.0
+adds_at_serve old new past now result (CommitTree dir) h = administered old.state new.state past now told_nothing (SavesTree old.state.tree new.state.tree old.faults new.faults dir) result h.0
+adds_at_serve old new past now result Purge h = administered old.state new.state past now told_nothing (Purges old.state.tree new.state.tree old.faults new.faults) result h.0
 adds_at_serve old new past now result (Evict rank) h =
     at_rank old.state new.state past now (nat_lt rank.0 (length old.state.inboxes)) result (state_stays old new) (λ w. administered old.state new.state past now told_nothing (EvictsOne old new rank) result w.0) h
 adds_at_serve old new past now result (Start from dir f to) h =

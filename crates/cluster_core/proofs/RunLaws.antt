@@ -127,19 +127,19 @@ state_stays old new same = ap (λ (c : Core). c.state) same
 
 -- one step adds to the history alone, and a reply that it hands out stands there
 pub step_of : (old new : Core) (past now : List Entry) (result : Result Answer Refusal) (event : Event) → Does old new past now result event → IsStepOf past now result
-step_of old new past now result (Arrive rank request) h = at_rank old.state new.state past now (nat_lt rank.0 (length old.state.inboxes)) result (state_stays old new) (λ w. arrived old.state new.state past now rank request result w.0) h
+step_of old new past now result (Arrive rank request) h = at_rank old.state new.state past now (nat_lt rank.0 (length old.state.inboxes)) result (state_stays old new) (λ w. arrived old.state new.state past now rank request result w) h
 step_of old new past now result (Serve rank) h =
-    at_rank old.state new.state past now (nat_lt rank.0 (length old.state.inboxes)) result (state_stays old new) (λ w. served_inbox old.state new.state past now (TreeMayRefuse old new) rank result (waiting_at old.state.inboxes rank) w.0) h
+    at_rank old.state new.state past now (nat_lt rank.0 (length old.state.inboxes)) result (state_stays old new) (λ w. served_inbox old.state new.state past now (TreeMayRefuse old new) rank result (waiting_at old.state.inboxes rank) w) h
 step_of old new past now result (Grant rank client tid) h =
-    at_rank old.state new.state past now (nat_lt rank.0 (length old.state.inboxes)) result (state_stays old new) (λ w. granted old.state new.state past now (TreeMayRefuse old new) rank client tid result (first_waiting client tid old.state.inboxes) w.0) h
-step_of old new past now result (Split rank dir f nb) h = at_rank old.state new.state past now (nat_lt rank.0 (length old.state.inboxes)) result (state_stays old new) (λ w. done old.state new.state past now (SplitsLeaf old new rank dir f nb) result w.0) h
-step_of old new past now result (Merge rank dir f) h = at_rank old.state new.state past now (nat_lt rank.0 (length old.state.inboxes)) result (state_stays old new) (λ w. done old.state new.state past now (MergesLeaves old new rank dir f) result w.0) h
+    at_rank old.state new.state past now (nat_lt rank.0 (length old.state.inboxes)) result (state_stays old new) (λ w. granted old.state new.state past now (TreeMayRefuse old new) rank client tid result (first_waiting client tid old.state.inboxes) w) h
+step_of old new past now result (Split rank dir f nb) h = at_rank old.state new.state past now (nat_lt rank.0 (length old.state.inboxes)) result (state_stays old new) (λ w. done old.state new.state past now (SplitsLeaf old new rank dir f nb) result w) h
+step_of old new past now result (Merge rank dir f) h = at_rank old.state new.state past now (nat_lt rank.0 (length old.state.inboxes)) result (state_stays old new) (λ w. done old.state new.state past now (MergesLeaves old new rank dir f) result w) h
 step_of old new past now result (CommitBegin rank dir f) h =
-    at_rank old.state new.state past now (nat_lt rank.0 (length old.state.inboxes)) result (state_stays old new) (λ w. begun old.state new.state past now (BeginsAt old.state new.state rank (dir, f)) result w.0.0) h
-step_of old new past now result (CommitEnd encoded) h = done old.state new.state past now (EndsJobOf old.state.tree new.state.tree old.faults new.faults encoded.job) result h.0.0
-step_of old new past now result (CommitDrop number) h = done old.state new.state past now (Drops old.state.tree new.state.tree number) result h.0.0
-step_of old new past now result (CommitTree dir) h = done old.state new.state past now (SavesTree old.state.tree new.state.tree old.faults new.faults dir) result h.0.0
-step_of old new past now result Purge h = done old.state new.state past now (Purges old.state.tree new.state.tree old.faults new.faults) result h.0.0
+    at_rank old.state new.state past now (nat_lt rank.0 (length old.state.inboxes)) result (state_stays old new) (λ w. begun old.state new.state past now (BeginsAt old.state new.state rank (dir, f)) result w.0) h
+step_of old new past now result (CommitEnd encoded) h = done old.state new.state past now (EndsJobOf old.state.tree new.state.tree old.faults new.faults encoded.job) result h.0
+step_of old new past now result (CommitDrop number) h = done old.state new.state past now (Drops old.state.tree new.state.tree number) result h.0
+step_of old new past now result (CommitTree dir) h = done old.state new.state past now (SavesTree old.state.tree new.state.tree old.faults new.faults dir) result h.0
+step_of old new past now result Purge h = done old.state new.state past now (Purges old.state.tree new.state.tree old.faults new.faults) result h.0
 step_of old new past now result (Evict rank) h = at_rank old.state new.state past now (nat_lt rank.0 (length old.state.inboxes)) result (state_stays old new) (λ w. done old.state new.state past now (EvictsOne old new rank) result w.0) h
 step_of old new past now result (Start from dir f to) h =
     at_rank old.state new.state past now (nat_lt from.0 (length old.state.inboxes)) result (state_stays old new)

@@ -16,4 +16,4 @@ module _ (old new : Ranked) (numbers : List Supply) (inboxes : Inboxes) (pins : 
   unseen = record { same = refl; tree = ap (λ (t : TreeCore). shown_tree (tree_state t)) tree; left = refl }
 
   pub sent_so : (bytes : List ℕ) → Sends old new leaf bytes → SendsExport was is past past leaf (Ok (Sent bytes))
-  sent_so bytes sends = (bytes, refl, (sends.step, sends.region, keeps), unseen, ap (λ (t : TreeCore). t.caches) tree)
+  sent_so bytes sends = (bytes, refl, (sends.step, sends.region, keeps), unseen)

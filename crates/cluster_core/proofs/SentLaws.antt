@@ -171,19 +171,19 @@ module _ (sent : List Request) (old new : Core) (past now : List Entry) (among :
 
   -- what each event leaves
   pub of_sent : (result : Result Answer Refusal) (event : Event) → AllByRecursion (Contains sent) (arrival event) → Does old new past now result event → Leaves result
-  of_sent result (Arrive rank request) brings h = at_rank (nat_lt rank.0 (length old.state.inboxes)) result (λ w. arrived rank request result brings.0 w.0) h
+  of_sent result (Arrive rank request) brings h = at_rank (nat_lt rank.0 (length old.state.inboxes)) result (λ w. arrived rank request result brings.0 w) h
   of_sent result (Serve rank) brings h =
-      at_rank (nat_lt rank.0 (length old.state.inboxes)) result (λ w. served_inbox (TreeMayRefuse old new) rank result (waiting_at old.state.inboxes rank) refl w.0) h
+      at_rank (nat_lt rank.0 (length old.state.inboxes)) result (λ w. served_inbox (TreeMayRefuse old new) rank result (waiting_at old.state.inboxes rank) refl w) h
   of_sent result (Grant rank client tid) brings h =
-      at_rank (nat_lt rank.0 (length old.state.inboxes)) result (λ w. granted (TreeMayRefuse old new) rank client tid result (first_waiting client tid old.state.inboxes) w.0) h
-  of_sent result (Split rank dir f nb) brings h = at_rank (nat_lt rank.0 (length old.state.inboxes)) result (λ w. done (SplitsLeaf old new rank dir f nb) result w.0) h
-  of_sent result (Merge rank dir f) brings h = at_rank (nat_lt rank.0 (length old.state.inboxes)) result (λ w. done (MergesLeaves old new rank dir f) result w.0) h
+      at_rank (nat_lt rank.0 (length old.state.inboxes)) result (λ w. granted (TreeMayRefuse old new) rank client tid result (first_waiting client tid old.state.inboxes) w) h
+  of_sent result (Split rank dir f nb) brings h = at_rank (nat_lt rank.0 (length old.state.inboxes)) result (λ w. done (SplitsLeaf old new rank dir f nb) result w) h
+  of_sent result (Merge rank dir f) brings h = at_rank (nat_lt rank.0 (length old.state.inboxes)) result (λ w. done (MergesLeaves old new rank dir f) result w) h
   of_sent result (CommitBegin rank dir f) brings h =
-      at_rank (nat_lt rank.0 (length old.state.inboxes)) result (λ w. begun (BeginsAt old.state new.state rank (dir, f)) result w.0.0) h
-  of_sent result (CommitEnd encoded) brings h = done (EndsJobOf old.state.tree new.state.tree old.faults new.faults encoded.job) result h.0.0
-  of_sent result (CommitDrop number) brings h = done (Drops old.state.tree new.state.tree number) result h.0.0
-  of_sent result (CommitTree dir) brings h = done (SavesTree old.state.tree new.state.tree old.faults new.faults dir) result h.0.0
-  of_sent result Purge brings h = done (Purges old.state.tree new.state.tree old.faults new.faults) result h.0.0
+      at_rank (nat_lt rank.0 (length old.state.inboxes)) result (λ w. begun (BeginsAt old.state new.state rank (dir, f)) result w.0) h
+  of_sent result (CommitEnd encoded) brings h = done (EndsJobOf old.state.tree new.state.tree old.faults new.faults encoded.job) result h.0
+  of_sent result (CommitDrop number) brings h = done (Drops old.state.tree new.state.tree number) result h.0
+  of_sent result (CommitTree dir) brings h = done (SavesTree old.state.tree new.state.tree old.faults new.faults dir) result h.0
+  of_sent result Purge brings h = done (Purges old.state.tree new.state.tree old.faults new.faults) result h.0
   of_sent result (Evict rank) brings h = at_rank (nat_lt rank.0 (length old.state.inboxes)) result (λ w. done (EvictsOne old new rank) result w.0) h
   of_sent result (Start from dir f to) brings h =
       at_rank (nat_lt from.0 (length old.state.inboxes)) result

@@ -105,10 +105,10 @@ module _ (past now : List Entry) (old new : Core) where
     pub authorities : KeepsAuthorities old.state.tree new.state.tree old.state.roots new.state.roots
 
   serves : (rank : Rank) (result : Result Answer Refusal) (here : Bool) → nat_lt rank.0 (length old.state.inboxes) ≡ here → (inbox : List Request) → KeepsAuthorities old.state.tree new.state.tree old.state.roots new.state.roots
-      → (Uses : Type 0) → MatchBool here (ServesInbox old.state new.state past now (TreeMayRefuse old new) rank result inbox × Uses) ((result ≡ Err NotAuthority) × (new ≡ old) × (now ≡ past)) → Kept ⊎ Applied
-  serves rank result false is inbox keeps Uses h = inl (all_left h.1)
-  serves rank result true is [] keeps Uses h = inl (state_left h.0.1.left)
-  serves rank result true is (request ∷ rest) keeps Uses h = go (served_request old.state new.state past now (TreeMayRefuse old new) rank request rest result h.0)
+      → MatchBool here (ServesInbox old.state new.state past now (TreeMayRefuse old new) rank result inbox) ((result ≡ Err NotAuthority) × (new ≡ old) × (now ≡ past)) → Kept ⊎ Applied
+  serves rank result false is inbox keeps h = inl (all_left h.1)
+  serves rank result true is [] keeps h = inl (state_left h.1.left)
+  serves rank result true is (request ∷ rest) keeps h = go (served_request old.state new.state past now (TreeMayRefuse old new) rank request rest result h)
     where
       go : ((answer : Answer) × IsApplied old.state new.state past now rank request rest answer) ⊎ Kept → Kept ⊎ Applied
       go (inl (answer, its)) = inr (record { rank = rank; here = is; request = request; rest = rest; answer = answer; applied = its; authorities = keeps })
@@ -139,14 +139,14 @@ module _ (past now : List Entry) (old new : Core) where
   splits : (rank : Rank) (dir : Ino) (f : Fragment) (nb : ℕ) (result : Result Answer Refusal) (here : Bool) → KeepsAuthorities old.state.tree new.state.tree old.state.roots new.state.roots
       → MatchBool here (Splits old new past now rank dir f nb result) ((result ≡ Err NotAuthority) × (new ≡ old) × (now ≡ past)) → Came
   splits rank dir f nb result false keeps h = inl (all_left h.1)
-  splits rank dir f nb (Ok answer) true keeps h = inr (inr (inl (record { dir = dir; frag = f; bits = nb; split = h.0.2.3; roots = h.0.2.4; authorities = keeps })))
-  splits rank dir f nb (Err reason) true keeps h = inl (state_left h.0.1.left)
+  splits rank dir f nb (Ok answer) true keeps h = inr (inr (inl (record { dir = dir; frag = f; bits = nb; split = h.2.3; roots = h.2.4; authorities = keeps })))
+  splits rank dir f nb (Err reason) true keeps h = inl (state_left h.1.left)
 
   merges : (rank : Rank) (dir : Ino) (f : Fragment) (result : Result Answer Refusal) (here : Bool) → KeepsAuthorities old.state.tree new.state.tree old.state.roots new.state.roots
       → MatchBool here (Merges old new past now rank dir f result) ((result ≡ Err NotAuthority) × (new ≡ old) × (now ≡ past)) → Came
   merges rank dir f result false keeps h = inl (all_left h.1)
-  merges rank dir f (Ok answer) true keeps h = inr (inr (inr (record { rank = rank; dir = dir; frag = f; all = h.0.2.0; merge = h.0.2.3; roots = h.0.2.4; authorities = keeps })))
-  merges rank dir f (Err reason) true keeps h = inl (state_left h.0.1.left)
+  merges rank dir f (Ok answer) true keeps h = inr (inr (inr (record { rank = rank; dir = dir; frag = f; all = h.2.0; merge = h.2.3; roots = h.2.4; authorities = keeps })))
+  merges rank dir f (Err reason) true keeps h = inl (state_left h.1.left)
 
   served_or : Kept ⊎ Applied → Came
   served_or (inl kept) = inl kept
@@ -154,17 +154,17 @@ module _ (past now : List Entry) (old new : Core) where
 
   -- a calm step leaves all this, but where it applies a request, splits or merges
   pub ground_stays : (result : Result Answer Refusal) (event : Event) → IsCalm event → Steps old new past now result event → Came
-  ground_stays result (Arrive rank request) calm steps = inl (at_rank (nat_lt rank.0 (length old.state.inboxes)) result (λ w. arrived old.state new.state past now rank request result w.0) steps.does)
-  ground_stays result (Serve rank) calm steps = served_or (serves rank result (nat_lt rank.0 (length old.state.inboxes)) refl (waiting_at old.state.inboxes rank) steps.authorities _ steps.does)
-  ground_stays result (Grant rank client tid) calm steps = inl (at_rank (nat_lt rank.0 (length old.state.inboxes)) result (λ w. granted old.state new.state past now (TreeMayRefuse old new) rank client tid result (first_waiting client tid old.state.inboxes) w.0) steps.does)
+  ground_stays result (Arrive rank request) calm steps = inl (at_rank (nat_lt rank.0 (length old.state.inboxes)) result (λ w. arrived old.state new.state past now rank request result w) steps.does)
+  ground_stays result (Serve rank) calm steps = served_or (serves rank result (nat_lt rank.0 (length old.state.inboxes)) refl (waiting_at old.state.inboxes rank) steps.authorities steps.does)
+  ground_stays result (Grant rank client tid) calm steps = inl (at_rank (nat_lt rank.0 (length old.state.inboxes)) result (λ w. granted old.state new.state past now (TreeMayRefuse old new) rank client tid result (first_waiting client tid old.state.inboxes) w) steps.does)
   ground_stays result (Split rank dir f nb) calm steps = splits rank dir f nb result (nat_lt rank.0 (length old.state.inboxes)) steps.authorities steps.does
   ground_stays result (Merge rank dir f) calm steps = merges rank dir f result (nat_lt rank.0 (length old.state.inboxes)) steps.authorities steps.does
-  ground_stays result (CommitBegin rank dir f) calm steps = inl (at_rank (nat_lt rank.0 (length old.state.inboxes)) result (λ w. worked told_job (BeginsAt old.state new.state rank (dir, f)) (λ given did. begun old.state.tree new.state.tree _ (dir, f) given did.2.2) result w.0) steps.does)
-  ground_stays result (CommitEnd encoded) calm steps = inl (worked told_nothing (EndsJobOf old.state.tree new.state.tree old.faults new.faults encoded.job) (λ done did. ap tables did.left) result steps.does.0)
-  ground_stays result (CommitDrop number) calm steps = inl (worked told_nothing (Drops old.state.tree new.state.tree number) (λ done did. ap tables did.left) result steps.does.0)
-  ground_stays result (CommitTree dir) calm steps = inl (worked told_nothing (SavesTree old.state.tree new.state.tree old.faults new.faults dir) (λ done did. ap tables did.1) result steps.does.0)
-  ground_stays result Purge calm steps = inl (worked told_nothing (Purges old.state.tree new.state.tree old.faults new.faults) (λ done did. purged old.state.tree new.state.tree old.faults new.faults (first_name old.state.tree.purge) did) result steps.does.0)
-  ground_stays result (Evict rank) calm steps = inl (at_rank (nat_lt rank.0 (length old.state.inboxes)) result (λ w. worked told_nothing (EvictsOne old new rank) (λ done did. ap ground did.1) result w) steps.does)
+  ground_stays result (CommitBegin rank dir f) calm steps = inl (at_rank (nat_lt rank.0 (length old.state.inboxes)) result (λ w. worked told_job (BeginsAt old.state new.state rank (dir, f)) (λ given did. begun old.state.tree new.state.tree _ (dir, f) given did.2.2) result w) steps.does)
+  ground_stays result (CommitEnd encoded) calm steps = inl (worked told_nothing (EndsJobOf old.state.tree new.state.tree old.faults new.faults encoded.job) (λ done did. ap tables did.left) result steps.does)
+  ground_stays result (CommitDrop number) calm steps = inl (worked told_nothing (Drops old.state.tree new.state.tree number) (λ done did. ap tables did.left) result steps.does)
+  ground_stays result (CommitTree dir) calm steps = inl (worked told_nothing (SavesTree old.state.tree new.state.tree old.faults new.faults dir) (λ done did. ap tables did.1) result steps.does)
+  ground_stays result Purge calm steps = inl (worked told_nothing (Purges old.state.tree new.state.tree old.faults new.faults) (λ done did. purged old.state.tree new.state.tree old.faults new.faults (first_name old.state.tree.purge) did) result steps.does)
+  ground_stays result (Evict rank) calm steps = inl (at_rank (nat_lt rank.0 (length old.state.inboxes)) result (λ w. worked told_nothing (EvictsOne old new rank) (λ done did. ap ground did) result w) steps.does)
   ground_stays result (Start from dir f to) calm steps = inl (at_rank (nat_lt from.0 (length old.state.inboxes)) result (λ w. at_rank (nat_lt to.0 (length old.state.inboxes)) result (λ done. exported (StartsIn old.state new.state from (dir, f) to) (λ did. kept_tree did.2) result done) w) steps.does)
   ground_stays result (Freeze dir f) calm steps = absurd calm
   ground_stays result (Prep dir f) calm steps = inl (exported (PrepsIn old.state new.state (dir, f)) (λ did. kept_tree did.1) result steps.does)

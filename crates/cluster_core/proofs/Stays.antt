@@ -37,7 +37,7 @@ module _ (old new : State) (past now : List Entry) (valid : AreRoots old.tree ol
 -- an eviction leaves the whole state
 pub evicted_keeps : (old new : Core) (past now : List Entry) (rank : Rank) (result : Result Answer Refusal) → AreRoots old.state.tree old.state.roots → AdministersTree old.state new.state past now told_nothing (EvictsOne old new rank) result
     → KeepsRoots old.state.tree new.state.tree old.state.roots new.state.roots old.state.exports new.state.exports
-evicted_keeps old new past now rank (Ok answer) valid h = keeps_same old.state.tree new.state.tree old.state.roots new.state.roots old.state.exports new.state.exports (ap (λ (s : State). s.tree) h.0.2.1) h.1 (ap (λ (s : State). s.exports) h.0.2.1) valid
+evicted_keeps old new past now rank (Ok answer) valid h = keeps_same old.state.tree new.state.tree old.state.roots new.state.roots old.state.exports new.state.exports (ap (λ (s : State). s.tree) h.0.2) h.1 (ap (λ (s : State). s.exports) h.0.2) valid
 evicted_keeps old new past now rank (Err reason) valid h = keeps_same old.state.tree new.state.tree old.state.roots new.state.roots old.state.exports new.state.exports (ap (λ (s : State). s.tree) h.0.1.left) h.1 (ap (λ (s : State). s.exports) h.0.1.left) valid
 
 -- at a rank that isn't there all is left

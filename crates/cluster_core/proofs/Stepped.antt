@@ -87,16 +87,16 @@ module _ (opening : Tree) (past now : List Entry) (old new : Core) (sound : IsSo
 
   -- every step keeps a book sound
   pub sound-step : (result : Result Answer Refusal) (event : Event) → Does old new past now result event → IsSound opening now new
-  sound-step result (Arrive rank request) h = at_rank (nat_lt rank.0 (length old.state.inboxes)) result (λ here w. arrived rank request result w.0) h
-  sound-step result (Serve rank) h = at_rank (nat_lt rank.0 (length old.state.inboxes)) result (λ here w. served_inbox (TreeMayRefuse old new) rank (there_of old sound.ranks rank here) result (waiting_at old.state.inboxes rank) w.0) h
-  sound-step result (Grant rank client tid) h = at_rank (nat_lt rank.0 (length old.state.inboxes)) result (λ here w. granted (TreeMayRefuse old new) rank client tid result (first_waiting client tid old.state.inboxes) w.0) h
-  sound-step result (Split rank dir f nb) h = at_rank (nat_lt rank.0 (length old.state.inboxes)) result (λ here w. administered told_nothing (SplitsLeaf old new rank dir f nb) result w.0) h
-  sound-step result (Merge rank dir f) h = at_rank (nat_lt rank.0 (length old.state.inboxes)) result (λ here w. administered told_nothing (MergesLeaves old new rank dir f) result w.0) h
-  sound-step result (CommitBegin rank dir f) h = at_rank (nat_lt rank.0 (length old.state.inboxes)) result (λ here done. administered told_job (BeginsAt old.state new.state rank (dir, f)) result done.0.0) h
-  sound-step result (CommitEnd encoded) h = administered told_nothing (EndsJobOf old.state.tree new.state.tree old.faults new.faults encoded.job) result h.0.0
-  sound-step result (CommitDrop number) h = administered told_nothing (Drops old.state.tree new.state.tree number) result h.0.0
-  sound-step result (CommitTree dir) h = administered told_nothing (SavesTree old.state.tree new.state.tree old.faults new.faults dir) result h.0.0
-  sound-step result Purge h = administered told_nothing (Purges old.state.tree new.state.tree old.faults new.faults) result h.0.0
+  sound-step result (Arrive rank request) h = at_rank (nat_lt rank.0 (length old.state.inboxes)) result (λ here w. arrived rank request result w) h
+  sound-step result (Serve rank) h = at_rank (nat_lt rank.0 (length old.state.inboxes)) result (λ here w. served_inbox (TreeMayRefuse old new) rank (there_of old sound.ranks rank here) result (waiting_at old.state.inboxes rank) w) h
+  sound-step result (Grant rank client tid) h = at_rank (nat_lt rank.0 (length old.state.inboxes)) result (λ here w. granted (TreeMayRefuse old new) rank client tid result (first_waiting client tid old.state.inboxes) w) h
+  sound-step result (Split rank dir f nb) h = at_rank (nat_lt rank.0 (length old.state.inboxes)) result (λ here w. administered told_nothing (SplitsLeaf old new rank dir f nb) result w) h
+  sound-step result (Merge rank dir f) h = at_rank (nat_lt rank.0 (length old.state.inboxes)) result (λ here w. administered told_nothing (MergesLeaves old new rank dir f) result w) h
+  sound-step result (CommitBegin rank dir f) h = at_rank (nat_lt rank.0 (length old.state.inboxes)) result (λ here done. administered told_job (BeginsAt old.state new.state rank (dir, f)) result done.0) h
+  sound-step result (CommitEnd encoded) h = administered told_nothing (EndsJobOf old.state.tree new.state.tree old.faults new.faults encoded.job) result h.0
+  sound-step result (CommitDrop number) h = administered told_nothing (Drops old.state.tree new.state.tree number) result h.0
+  sound-step result (CommitTree dir) h = administered told_nothing (SavesTree old.state.tree new.state.tree old.faults new.faults dir) result h.0
+  sound-step result Purge h = administered told_nothing (Purges old.state.tree new.state.tree old.faults new.faults) result h.0
   sound-step result (Evict rank) h = at_rank (nat_lt rank.0 (length old.state.inboxes)) result (λ here done. administered told_nothing (EvictsOne old new rank) result done.0) h
   sound-step result (Start from dir f to) h =
       at_rank (nat_lt from.0 (length old.state.inboxes)) result (λ here w. at_rank (nat_lt to.0 (length old.state.inboxes)) result (λ there done. stepped (StartsIn old.state new.state from (dir, f) to) result done) w) h

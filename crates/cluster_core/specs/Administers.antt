@@ -16,17 +16,16 @@ use Rattle.inboxes.specs.declared.pins.Pin.{Pin}
 use Rattle.inboxes.specs.Pins.{is_on}
 use Rattle.inode_table.specs.Dirs.{Covers, Homes, IsLive, is_known, leaves_of}
 use Rattle.subtree_map.specs.Changes.{IsRootMerge, IsRootSplit, is_inside}
-use Rattle.mdcache.specs.Commits.{Begins, Drops, EndsJobOf, leaf_of}
+use Rattle.mdcache.specs.Commits.{Begins, Drops, EndsJobOf}
 use Rattle.mdcache.specs.Objects.{Purges, SavesTree}
 use Rattle.mdcache.specs.Regroups.{MayNotRegroup}
 use Rattle.mdcache.specs.Splits.{IsMergedInto, IsSplitInto}
 use Rattle.cluster_core.specs.declared.events.Answer.{Answer}
 use Rattle.cluster_core.specs.declared.events.Answer.TheVariants.{Job, Nothing}
 use Rattle.cluster_core.specs.State.{Core, LacksPlacesAt, State, shown}
-use Rattle.cluster_core.specs.Master.{IsAuthority, IsFrozenAt, IsHolder}
+use Rattle.cluster_core.specs.Master.{IsAuthority, IsFrozenAt}
 use Rattle.cluster_core.specs.Serve.{IsLeft}
 use Rattle.ranked_tree.specs.Exported.{IsAnyFrozen}
-use Rattle.ranked_tree.specs.Held.{CameAt, IsFamilyOf, IsMergedHere, UsesAt}
 use Rattle.ranked_tree.specs.Subtrees.{AllHave}
 
 -- what such a step leaves unseen: the shown tree, and all but the tree's own state and the subtree roots
@@ -56,16 +55,6 @@ told_nothing done = Nothing
 -- the rank is the authority of each leaf of a directory that lies properly inside a fragment
 abbrev pub HoldsInside : State → Rank → Ino → Fragment → Type 0
 HoldsInside state rank dir f = AllHave state.tree.homes state.tree.covers state.roots dir f rank
-
--- ---- what a step makes of the caches
-
--- of the caches a leaf was used at most, at the rank that holds it
-abbrev pub UsesLeaf : (old new : Core) → Leaf → Type 0
-UsesLeaf old new leaf = UsesAt (IsHolder old.state leaf) leaf old.caches new.caches
-
--- no leaf was asked for
-abbrev pub AsksNone : (old new : Core) → Type 0
-AsksNone old new = new.caches ≡ old.caches
 
 -- ---- leaves
 
@@ -130,19 +119,14 @@ MergesLeaves old new rank dir f (Err reason) =
     (LacksPlacesAt 1 old rank) old.faults new.faults why)
     reason
 
--- so a split; of the caches the leaf and its children were used at most, and ended, at its authority
 abbrev pub Splits : (old new : Core) → (past now : List Entry) → Rank → Ino → Fragment → ℕ → Result Answer Refusal
     → Type 0
 Splits old new past now rank dir f nb result =
     Administers old.state new.state past now told_nothing (SplitsLeaf old new rank dir f nb) result
-    × CameAt (IsAuthority old.state (dir, f)) (IsFamilyOf dir f nb) old.caches new.caches
 
--- so a merge; of the caches the leaves properly inside and the one that they would be, at the authority of all
 abbrev pub Merges : (old new : Core) → (past now : List Entry) → Rank → Ino → Fragment → Result Answer Refusal → Type 0
 Merges old new past now rank dir f result =
     Administers old.state new.state past now told_nothing (MergesLeaves old new rank dir f) result
-    × CameAt (λ (rank : Rank). HoldsInside old.state rank dir f)
-    (IsMergedHere old.state.tree.covers dir f) old.caches new.caches
 
 -- the leaves of a directory by value; refused NoSuchFrag exactly where there is no such directory, and else for want of
 -- memory
@@ -181,36 +165,33 @@ BeginsAt old new rank leaf (Err reason) =
 abbrev pub BeginsCommit : (old new : Core) → (past now : List Entry) → Rank → Leaf → Result Answer Refusal → Type 0
 BeginsCommit old new past now rank leaf result =
     AdministersTree old.state new.state past now told_job (BeginsAt old.state new.state rank leaf) result
-    × UsesLeaf old new leaf
 
 abbrev pub EndsCommit : (old new : Core) → (past now : List Entry) → Begun → Result Answer Refusal → Type 0
 EndsCommit old new past now job result =
     AdministersTree old.state new.state past now told_nothing
-    (EndsJobOf old.state.tree new.state.tree old.faults new.faults job) result × UsesLeaf old new (leaf_of job)
+    (EndsJobOf old.state.tree new.state.tree old.faults new.faults job) result
 
 abbrev pub DropsCommit : (old new : Core) → (past now : List Entry) → ℕ → Result Answer Refusal → Type 0
 DropsCommit old new past now number result =
     AdministersTree old.state new.state past now told_nothing (Drops old.state.tree new.state.tree number) result
-    × AsksNone old new
 
 -- ---- objects and places
 
 abbrev pub CommitsTree : (old new : Core) → (past now : List Entry) → Ino → Result Answer Refusal → Type 0
 CommitsTree old new past now dir result =
     AdministersTree old.state new.state past now told_nothing
-    (SavesTree old.state.tree new.state.tree old.faults new.faults dir) result × AsksNone old new
+    (SavesTree old.state.tree new.state.tree old.faults new.faults dir) result
 
 abbrev pub PurgesObject : (old new : Core) → (past now : List Entry) → Result Answer Refusal → Type 0
 PurgesObject old new past now result =
     AdministersTree old.state new.state past now told_nothing
-    (Purges old.state.tree new.state.tree old.faults new.faults) result × AsksNone old new
+    (Purges old.state.tree new.state.tree old.faults new.faults) result
 
--- the least recently used of the clean fragments that a rank caches is no longer cached, and all else is as it was, the
--- caches of the other ranks too; refused exactly where none is clean
+-- a clean fragment of those that a rank caches is no longer cached (`UsesStep` says which), and the state is as it was;
+-- refused exactly where none is clean
 abbrev pub EvictsOne : (old new : Core) → Rank → Result (Unit {0}) Refusal → Type 0
-EvictsOne old new rank (Ok done) = (evicted old.caches rank.0 None ≡ Some new.caches) × (new.state ≡ old.state)
-EvictsOne old new rank (Err reason) =
-    (reason ≡ NothingToEvict) × (evicted old.caches rank.0 None ≡ None) × (new.caches ≡ old.caches)
+EvictsOne old new rank (Ok done) = new.state ≡ old.state
+EvictsOne old new rank (Err reason) = (reason ≡ NothingToEvict) × (evicted old.caches rank.0 None ≡ None)
 
 abbrev pub EvictsFragment : (old new : Core) → (past now : List Entry) → Rank → Result Answer Refusal → Type 0
 EvictsFragment old new past now rank result =

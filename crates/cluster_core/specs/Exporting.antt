@@ -4,6 +4,7 @@ use Rattle.std.specs.FinMap as map
 use Rattle.std.specs.List.{Contains}
 use Rattle.mds_types.specs.declared.entries.Entry.{Entry}
 use Rattle.mds_types.specs.declared.ids.Rank.{Rank}
+use Rattle.mds_types.specs.declared.object_names.ObjName.{ObjName}
 use Rattle.mds_types.specs.declared.refusals.Refusal.{Refusal}
 use Rattle.mds_types.specs.declared.refusals.Refusal.TheVariants as why
 use Rattle.mds_types.specs.Leaf.{Leaf}
@@ -15,11 +16,11 @@ use Rattle.inboxes.specs.declared.pins.Pin.{Pin}
 use Rattle.inode_table.specs.Dirs.{Covers, Homes, IsLive}
 use Rattle.subtree_map.specs.Authority.{Roots}
 use Rattle.ranked_tree.specs.Exported.{EndsRegion, IsUnder}
-use Rattle.ranked_tree.specs.Importing.{HandsRegion, IsRenewed, LeavesCaches, RefusesImport}
+use Rattle.ranked_tree.specs.Importing.{IsRenewed, RefusesImport}
 use Rattle.ranked_tree.specs.Sending.{IsInRegionOf, SpellsRegion}
+use Rattle.ranked_tree.specs.SentBytes.{SpellsSent}
 use Rattle.cluster_core.specs.declared.events.Answer.{Answer}
 use Rattle.cluster_core.specs.declared.events.Answer.TheVariants.{Nothing, Sent}
-use Rattle.cluster_core.specs.Administers.{AsksNone}
 use Rattle.cluster_core.specs.Master.{IsAuthority, IsFrozenAt}
 use Rattle.cluster_core.specs.Serve.{IsLeft}
 use Rattle.cluster_core.specs.State.{Core, LacksPlacesAt, State, shown}
@@ -47,12 +48,12 @@ pub record IsUnseenStep (old new : State) (past now : List Entry) : Type 0 where
   pub left : new ≡ record old { tree = new.tree; roots = new.roots; exports = new.exports }
 
 -- a step that answers has done its work, unseen, and says no more; a refused one has left all, and was refused as the
--- work was. No fragment is asked for
+-- work was
 abbrev pub Exports : (old new : Core) → (past now : List Entry) → (Did : Result (Unit {0}) Refusal → Type 0)
     → Result Answer Refusal → Type 0
 Exports old new past now Did (Ok answer) =
-    (answer ≡ Nothing) × Did (Ok tt) × IsUnseenStep old.state new.state past now × AsksNone old new
-Exports old new past now Did (Err reason) = Did (Err reason) × IsLeft old.state new.state past now × AsksNone old new
+    (answer ≡ Nothing) × Did (Ok tt) × IsUnseenStep old.state new.state past now
+Exports old new past now Did (Err reason) = Did (Err reason) × IsLeft old.state new.state past now
 
 -- the tree and the subtree roots stay
 pub record KeepsTreeAndRoots (old new : State) : Type 0 where
@@ -158,20 +159,41 @@ SendsAt old new leaf (Err reason) =
 abbrev pub SendsExport : (old new : Core) → (past now : List Entry) → Leaf → Result Answer Refusal → Type 0
 SendsExport old new past now leaf (Ok answer) =
     (bytes : List ℕ) × (answer ≡ Sent bytes) × SendsAt old.state new.state leaf (Ok bytes)
-    × IsUnseenStep old.state new.state past now × AsksNone old new
+    × IsUnseenStep old.state new.state past now
 SendsExport old new past now leaf (Err reason) =
-    SendsAt old.state new.state leaf (Err reason) × IsLeft old.state new.state past now × AsksNone old new
+    SendsAt old.state new.state leaf (Err reason) × IsLeft old.state new.state past now
+
+-- ---- the bytes of a sent export, told anew
+
+-- they spell what isn't clean of its region; refused where none of this root stands sent, or a fragment of the region
+-- has too many dirty names
+abbrev pub TellsSentBytes : State → Leaf → Result (List ℕ) Refusal → Type 0
+TellsSentBytes old leaf (Ok bytes) = SpellsSent old.tree old.roots old.exports leaf bytes
+TellsSentBytes old leaf (Err reason) =
+    Check why.WrongExportState (state_at old.exports leaf ≢ Some state.Sent)
+    (Check why.TooManyFrags (HasTooMany (IsInRegionOf old.tree old.roots leaf) old.tree.unsaved) ForMemory) reason
+
+-- told in the state that Send leaves, they are those that Send gave
+abbrev pub TellsWhatSendGave : Type 0
+TellsWhatSendGave =
+    (old new : State) (leaf : Leaf) (bytes told : List ℕ) → SendsAt old new leaf (Ok bytes)
+    → TellsSentBytes new leaf (Ok told) → told ≡ bytes
+
+-- no state tells two
+abbrev pub TellsOneBytes : Type 0
+TellsOneBytes =
+    (old : State) (leaf : Leaf) (one other : List ℕ) → TellsSentBytes old leaf (Ok one)
+    → TellsSentBytes old leaf (Ok other) → one ≡ other
 
 -- ---- Import
 
 -- a sent export is imported: the bytes are those of its region, and its importer has what isn't clean of it, of
--- generation 0; the exporter caches none of it
+-- generation 0
 pub record IsImport (old new : Core) (leaf : Leaf) (bytes : List ℕ) : Type 0 where
   pub step : ComesTo old.state.exports new.state.exports leaf state.Sent state.Imported
   pub region : SpellsRegion old.state.tree old.state.roots leaf step.export bytes
   pub renewed : IsRenewed (IsInRegionOf old.state.tree old.state.roots leaf) old.state.tree new.state.tree
   pub roots : new.state.roots ≡ old.state.roots
-  pub caches : HandsRegion (IsInRegionOf old.state.tree old.state.roots leaf) step.export old.caches new.caches
 
 -- refused where none of this root stands sent; where one does, for other bytes, for want of places of the importer, or
 -- of memory
@@ -182,7 +204,13 @@ ImportsExport old new past now leaf bytes (Ok answer) =
 ImportsExport old new past now leaf bytes (Err reason) =
     RefusesImport (λ count rank. LacksPlacesAt count old rank) old.state.tree old.state.roots old.state.exports leaf
     bytes reason
-    × IsLeft old.state new.state past now × LeavesCaches old.state.exports leaf old.caches new.caches reason
+    × IsLeft old.state new.state past now
+
+-- bytes that the state tells are never damaged to it
+abbrev pub ImportsWhatIsTold : Type 0
+ImportsWhatIsTold =
+    (old new : Core) (past now : List Entry) (leaf : Leaf) (bytes : List ℕ) (object : ObjName)
+    → TellsSentBytes old.state leaf (Ok bytes) → ImportsExport old new past now leaf bytes (Err (why.Damaged object)) → ⊥
 
 -- ---- Finish
 

@@ -7,10 +7,12 @@ use Rattle.cluster_core.specs.declared.events.Event.{Event}
 use Rattle.cluster_core.specs.Sound.{IsSoundBook}
 use Rattle.cluster_core.specs.State.{BookState}
 use Rattle.cluster_core.specs.Steps.{Steps}
+use Rattle.cluster_core.specs.Uses.{UsesStep}
 
 -- one event leads from a book to the next, with this result
 pub record StepsBook (old new : BookState) (result : Result Answer Refusal) (event : Event) : Type 0 where
   pub stepped : Steps old.core new.core old.history new.history result event
+  pub uses : UsesStep old.core new.core result event
   pub same_opening : new.opening ≡ old.opening
 
 -- events lead from one book to another, one after the other, with a result for each; each leads to a sound book

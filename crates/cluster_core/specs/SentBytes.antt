@@ -1,5 +1,5 @@
 -- The bytes that exports sent, kept until they are imported.
-use Rattle.std.specs.Prelude.{ℕ, List, [], Option, Some, None}
+use Rattle.std.specs.Prelude.{◌≡◌, ℕ, List, [], Option, Some, None}
 use Rattle.std.specs.FinMap as map
 use Rattle.mds_types.specs.Leaf.{Leaf, leaf_cmp}
 
@@ -11,6 +11,10 @@ pub record SentBytes : Type 0 where
 -- none of any export
 abbrev pub none_sent : SentBytes
 none_sent = record { bytes = map.empty; room = 0 }
+
+-- the bytes kept under a root are handed out with it, and kept no longer
+abbrev pub HandsOut : (old new : map.FinMap leaf_cmp (List ℕ)) → Leaf × List ℕ → Type 0
+HandsOut old new out = (map.get old out.0 ≡ Some out.1) × (new ≡ map.remove old out.0)
 
 -- the bytes that are kept, or no bytes
 abbrev pub bytes_or_none : Option (List ℕ) → List ℕ

@@ -1,5 +1,5 @@
--- What each event does to a cluster and its history.
-use Rattle.std.specs.Prelude.{◌≡◌, ◌⊎◌, ◌+◌, ℕ, nat_lt, MatchBool, ◌<◌, List, length, Option, Some, None, Result, Ok, Err}
+-- What each event does to a cluster and its history. What becomes of the caches is said in Uses, by itself.
+use Rattle.std.specs.Prelude.{◌≡◌, ◌⊎◌, ◌+◌, nat_lt, MatchBool, ◌<◌, List, length, Option, Some, None, Result, Ok, Err}
 use Rattle.std.specs.Result.{result_err}
 use Rattle.objstore.specs.Objects.{faults_told}
 use Rattle.mds_types.specs.declared.ids.Rank.{Rank}
@@ -15,14 +15,13 @@ use Rattle.cluster_core.specs.declared.events.Answer.{Answer}
 use Rattle.cluster_core.specs.declared.events.Answer.TheVariants.{Nothing}
 use Rattle.cluster_core.specs.declared.events.Event.{Event}
 use Rattle.cluster_core.specs.declared.events.Event.TheVariants.{Arrive, Grant, Serve, Split, Merge, CommitBegin, CommitEnd, CommitDrop, CommitTree, Purge, Evict, Start, Freeze, Prep, Send, Import, Finish, Cancel}
-use Rattle.cluster_core.specs.Administers.{AsksNone, BeginsCommit, CommitsTree, DropsCommit, EndsCommit, EvictsFragment, Merges, PurgesObject, Splits}
+use Rattle.cluster_core.specs.Administers.{BeginsCommit, CommitsTree, DropsCommit, EndsCommit, EvictsFragment, Merges, PurgesObject, Splits}
 use Rattle.cluster_core.specs.Exporting.{CancelsExport, FinishesExport, FreezesExport, ImportsExport, PrepsExport, SendsExport, StartsExport}
-use Rattle.inboxes.specs.Inboxes.{first_waiting, waiting_at, with_last}
+use Rattle.inboxes.specs.Inboxes.{waiting_at, with_last}
 use Rattle.cluster_core.specs.Grants.{GrantsWaiting}
 use Rattle.cluster_core.specs.Master.{IsHolder}
 use Rattle.cluster_core.specs.State.{Core, LacksPlacesAt, State, held_roots}
 use Rattle.cluster_core.specs.Serve.{IsLeft, ServesInbox}
-use Rattle.cluster_core.specs.Uses.{UsesFront, UsesWaiting}
 use Rattle.ranked_tree.specs.Subtrees.{KeepsOutside}
 
 -- an arriving request goes to the back of the rank's inbox; refused InboxFull exactly where 1024 requests wait there
@@ -52,17 +51,6 @@ abbrev pub ServesRank : (old new : Core) → (past now : List Entry) → Rank �
 ServesRank old new past now rank result =
     ServesInbox old.state new.state past now (TreeMayRefuse old new) rank result (waiting_at old.state.inboxes rank)
 
--- what serving it makes of the caches
-abbrev pub UsesInbox : (old new : Core) → Rank → Result Answer Refusal → Type 0
-UsesInbox old new rank result =
-    UsesFront old.state.tree new.state.tree (held_roots old.state) old.caches new.caches result
-    (waiting_at old.state.inboxes rank)
-
--- so it is with a grant for a request of this client and number
-abbrev pub UsesGranted : (old new : Core) → (client tid : ℕ) → Type 0
-UsesGranted old new client tid =
-    UsesWaiting old.state.tree (held_roots old.state) old.caches new.caches (first_waiting client tid old.state.inboxes)
-
 -- an event names a rank, and a rank that isn't there is refused NotAuthority before all else
 abbrev pub AtRank : (old new : Core) → (past now : List Entry) → Rank → Result Answer Refusal → Type 0 → Type 0
 AtRank old new past now rank result done =
@@ -71,12 +59,12 @@ AtRank old new past now rank result done =
 -- what an event does
 abbrev pub Does : (old new : Core) → (past now : List Entry) → Result Answer Refusal → Event → Type 0
 Does old new past now result (Arrive rank request) =
-    AtRank old new past now rank result (ArrivesAt old.state new.state past now rank request result × AsksNone old new)
+    AtRank old new past now rank result (ArrivesAt old.state new.state past now rank request result)
 Does old new past now result (Serve rank) =
-    AtRank old new past now rank result (ServesRank old new past now rank result × UsesInbox old new rank result)
+    AtRank old new past now rank result (ServesRank old new past now rank result)
 Does old new past now result (Grant rank client tid) =
-    AtRank old new past now rank result (GrantsWaiting old.state new.state past now
-    (TreeMayRefuse old new) rank client tid result × UsesGranted old new client tid)
+    AtRank old new past now rank result
+    (GrantsWaiting old.state new.state past now (TreeMayRefuse old new) rank client tid result)
 Does old new past now result (Split rank dir f nb) =
     AtRank old new past now rank result (Splits old new past now rank dir f nb result)
 Does old new past now result (Merge rank dir f) =

@@ -1,13 +1,18 @@
--- What serving and granting make of the caches.
-use Rattle.std.specs.Prelude.{◌≡◌, ◌⊎◌, ℕ, true, false, List, [], ◌∷◌, Option, Some, None, Result, Ok, Err}
+-- What each event makes of the caches.
+use Rattle.std.specs.Prelude.{◌≡◌, ◌⊎◌, ℕ, true, false, nat_lt, MatchBool, List, [], ◌∷◌, length, Option, Some, None, Result, Ok, Err, OnOk, OnErr, IfErr}
+use Rattle.std.specs.FinMap as map
+use Rattle.mds_types.specs.declared.ids.Rank.{Rank}
 use Rattle.mds_types.specs.declared.operations.Op.{Op}
 use Rattle.mds_types.specs.declared.requests.Request.{Request}
 use Rattle.mds_types.specs.declared.refusals.Refusal.{Refusal}
 use Rattle.mds_types.specs.declared.refusals.Refusal.TheVariants.{InboxFull, Trimmed}
 use Rattle.dentry_cache.specs.Cache.{Leaf}
-use Rattle.dentry_cache.specs.CacheMap.{CacheMap}
+use Rattle.dentry_cache.specs.CacheMap.{CacheMap, evicted}
 use Rattle.dentry_cache.specs.Came.{Came, NoneEnds}
 use Rattle.dentry_cache.specs.Reads.{Reads}
+use Rattle.export_steps.specs.declared.exports.StandingExport.{StandingExport}
+use Rattle.inboxes.specs.Inboxes.{first_waiting, waiting_at}
+use Rattle.mdcache.specs.Commits.{leaf_of}
 use Rattle.namespace_ops.specs.Changes.{Concerns}
 use Rattle.namespace_ops.specs.Reasons.{IsOfFragments}
 use Rattle.subtree_map.specs.Authority.{Roots}
@@ -15,7 +20,14 @@ use Rattle.mdcache.specs.Shown.{shown_tree}
 use Rattle.mdcache.specs.State.{State as TreeState}
 use Rattle.cluster_core.specs.declared.events.Answer.{Answer}
 use Rattle.cluster_core.specs.declared.events.Answer.TheVariants.{Deferred, Forwarded, Job, Nothing, Reply, Sent}
-use Rattle.ranked_tree.specs.Held.{AsksFor, IsGone}
+use Rattle.cluster_core.specs.declared.events.Event.{Event}
+use Rattle.cluster_core.specs.declared.events.Event.TheVariants.{Serve, Grant, Split, Merge, CommitBegin, CommitEnd, Evict, Import}
+use Rattle.cluster_core.specs.Administers.{HoldsInside}
+use Rattle.cluster_core.specs.Master.{IsAuthority, IsHolder}
+use Rattle.cluster_core.specs.State.{Core, held_roots}
+use Rattle.ranked_tree.specs.Held.{AsksFor, CameAt, IsFamilyOf, IsGone, IsMergedHere, UsesAt}
+use Rattle.ranked_tree.specs.Importing.{HandsRegion, LeavesCaches}
+use Rattle.ranked_tree.specs.Sending.{IsInRegionOf}
 
 -- a leaf that an operation asks for at a rank: one of a directory that it concerns, at the rank that holds it, or the
 -- first leaf of a directory that comes
@@ -64,3 +76,43 @@ UsesFront tree new roots before after result (request ∷ rest) =
 abbrev pub UsesWaiting : TreeState → Roots → (before after : CacheMap) → Option Request → Type 0
 UsesWaiting tree roots before after None = after ≡ before
 UsesWaiting tree roots before after (Some request) = ReadsOp tree roots request.op before after
+
+-- no leaf was asked for
+abbrev pub AsksNone : (old new : Core) → Type 0
+AsksNone old new = new.caches ≡ old.caches
+
+-- a leaf was used at most, at the rank that holds it
+abbrev pub UsesLeaf : (old new : Core) → Leaf → Type 0
+UsesLeaf old new leaf = UsesAt (IsHolder old.state leaf) leaf old.caches new.caches
+
+-- a rank that isn't there asks for none
+abbrev pub UsesThere : (old new : Core) → Rank → (Uses : Type 0) → Type 0
+UsesThere old new rank Uses = MatchBool (nat_lt rank.0 (length old.state.inboxes)) Uses (AsksNone old new)
+
+-- what an event makes of the caches, as `Does` says what it does to the state:
+-- a split used and ended at most the leaf and its children, at its authority; a merge the leaves properly inside and the
+-- one that they would be, at the authority of all. An eviction took away the least recently used of the clean fragments
+-- that its rank caches. An import handed the region to its importer; a refused one left the caches, but for clean
+-- fragments of the importer. All other events asked for none
+abbrev pub UsesStep : (old new : Core) → Result Answer Refusal → Event → Type 0
+UsesStep old new result (Serve rank) =
+    UsesThere old new rank (UsesFront old.state.tree new.state.tree (held_roots old.state) old.caches new.caches result
+    (waiting_at old.state.inboxes rank))
+UsesStep old new result (Grant rank client tid) =
+    UsesThere old new rank (UsesWaiting old.state.tree (held_roots old.state) old.caches new.caches
+    (first_waiting client tid old.state.inboxes))
+UsesStep old new result (Split rank dir f nb) =
+    UsesThere old new rank (CameAt (IsAuthority old.state (dir, f)) (IsFamilyOf dir f nb) old.caches new.caches)
+UsesStep old new result (Merge rank dir f) =
+    UsesThere old new rank (CameAt (λ (rank : Rank). HoldsInside old.state rank dir f)
+    (IsMergedHere old.state.tree.covers dir f) old.caches new.caches)
+UsesStep old new result (CommitBegin rank dir f) = UsesThere old new rank (UsesLeaf old new (dir, f))
+UsesStep old new result (CommitEnd encoded) = UsesLeaf old new (leaf_of encoded.job)
+UsesStep old new result (Evict rank) =
+    UsesThere old new rank (OnOk result (evicted old.caches rank.0 None ≡ Some new.caches)
+    × OnErr result (AsksNone old new))
+UsesStep old new result (Import dir f bytes) =
+    OnOk result ((export : StandingExport) × (map.get old.state.exports (dir, f) ≡ Some export)
+    × HandsRegion (IsInRegionOf old.state.tree old.state.roots (dir, f)) export old.caches new.caches)
+    × IfErr result (LeavesCaches old.state.exports (dir, f) old.caches new.caches)
+UsesStep old new result other = AsksNone old new

@@ -9,9 +9,13 @@ ghost use Rattle.inode_table.specs.Numbers.{Supply};
 ghost use Rattle.mdcache.specs.Core.{state_of as tree_state};
 ghost use Rattle.sessions.specs.Table.{Table};
 ghost use Rattle.cluster_core.specs.State.{core_of};
-ghost use Rattle.ranked_tree.specs.Subtrees.{AreRoots, KeepsRoots};
+ghost use Rattle.ranked_tree.specs.Ranked.{held_roots};
+ghost use Rattle.ranked_tree.specs.Subtrees.{AllHave, AreRoots, KeepsRoots, Rules};
 ghost use Rattle.cluster_core.specs.Administers.{BeginsCommit, CommitsTree, DropsCommit, EndsCommit, EvictsFragment, Merges, PurgesObject, Splits, told_job};
 ghost use Rattle.cluster_core.specs.Steps.{AtRank};
+ghost use Rattle.cluster_core.specs.Uses.{UsesStep};
+ghost use Rattle.cluster_core.specs.declared.events.Event.TheVariants.{Split as SplitEvent, Merge as MergeEvent, CommitBegin as CommitBeginEvent, CommitEnd as CommitEndEvent, Evict as EvictEvent};
+ghost use Rattle.ranked_tree.specs.Held.{CameAt, IsFamilyOf, IsMergedHere, UsesAt};
 
 use crate::clusters::Cluster;
 use crate::events::Answer;
@@ -37,6 +41,7 @@ impl<S: Store + Drop> Cluster<S> {
         requires { AreRoots self.old.state.tree self.old.state.roots }
         ensures split { (past : List Applied) → AtRank self.old self.new past past rank result
             (Splits self.old self.new past past rank ino frag bits result) }
+        ensures uses { UsesStep self.old self.new result (SplitEvent rank ino frag bits) }
         ensures kept { KeepsRoots self.old.state.tree self.new.state.tree self.old.state.roots self.new.state.roots
             self.old.state.exports self.new.state.exports }
         ensures count { length self.new.caches.used ≡ length self.old.caches.used }
@@ -66,6 +71,7 @@ impl<S: Store + Drop> Cluster<S> {
         requires { AreRoots self.old.state.tree self.old.state.roots }
         ensures merged { (past : List Applied) → AtRank self.old self.new past past rank result
             (Merges self.old self.new past past rank ino frag result) }
+        ensures uses { UsesStep self.old self.new result (MergeEvent rank ino frag) }
         ensures kept { KeepsRoots self.old.state.tree self.new.state.tree self.old.state.roots self.new.state.roots
             self.old.state.exports self.new.state.exports }
         ensures count { length self.new.caches.used ≡ length self.old.caches.used }
@@ -88,6 +94,7 @@ impl<S: Store + Drop> Cluster<S> {
     ) -> Result<Answer, Refusal>
         ensures begun { (past : List Applied) → AtRank self.old self.new past past rank result
             (BeginsCommit self.old self.new past past rank (ino, frag) result) }
+        ensures uses { UsesStep self.old self.new result (CommitBeginEvent rank ino frag) }
         ensures count { length self.new.caches.used ≡ length self.old.caches.used }
         ensures cap { self.new.caches.cap ≡ self.old.caches.cap }
         ensures counted { self.new.faults ≡ self.old.faults + faults_told (result_err result) }
@@ -102,6 +109,7 @@ impl<S: Store + Drop> Cluster<S> {
     #[inline(never)]
     pub(crate) fn end_commit(&mut self, alloc: Global, encoded: &Encoded) -> Result<Answer, Refusal>
         ensures ended { (past : List Applied) → EndsCommit self.old self.new past past encoded.now.job result }
+        ensures uses { UsesStep self.old self.new result (CommitEndEvent encoded.now) }
         ensures count { length self.new.caches.used ≡ length self.old.caches.used }
         ensures cap { self.new.caches.cap ≡ self.old.caches.cap }
         ensures counted { self.new.faults ≡ self.old.faults + faults_told (result_err result) }
@@ -116,6 +124,7 @@ impl<S: Store + Drop> Cluster<S> {
     #[inline(never)]
     pub(crate) fn drop_commit(&mut self, job: u64) -> Result<Answer, Refusal>
         ensures dropped { (past : List Applied) → DropsCommit self.old self.new past past job result }
+        ensures caches { self.new.caches ≡ self.old.caches }
         ensures count { length self.new.caches.used ≡ length self.old.caches.used }
         ensures cap { self.new.caches.cap ≡ self.old.caches.cap }
         ensures counted { self.new.faults ≡ self.old.faults + faults_told (result_err result) }
@@ -128,6 +137,7 @@ impl<S: Store + Drop> Cluster<S> {
     #[inline(never)]
     pub(crate) fn commit_tree(&mut self, alloc: Global, ino: Ino) -> Result<Answer, Refusal>
         ensures saved { (past : List Applied) → CommitsTree self.old self.new past past ino result }
+        ensures caches { self.new.caches ≡ self.old.caches }
         ensures count { length self.new.caches.used ≡ length self.old.caches.used }
         ensures cap { self.new.caches.cap ≡ self.old.caches.cap }
         ensures counted { self.new.faults ≡ self.old.faults + faults_told (result_err result) }
@@ -140,6 +150,7 @@ impl<S: Store + Drop> Cluster<S> {
     #[inline(never)]
     pub(crate) fn purge(&mut self) -> Result<Answer, Refusal>
         ensures purged { (past : List Applied) → PurgesObject self.old self.new past past result }
+        ensures caches { self.new.caches ≡ self.old.caches }
         ensures count { length self.new.caches.used ≡ length self.old.caches.used }
         ensures cap { self.new.caches.cap ≡ self.old.caches.cap }
         ensures counted { self.new.faults ≡ self.old.faults + faults_told (result_err result) }
@@ -154,6 +165,7 @@ impl<S: Store + Drop> Cluster<S> {
         requires { length self.old.caches.used ≡ length self.old.state.inboxes }
         ensures evicted { (past : List Applied) → AtRank self.old self.new past past rank result
             (EvictsFragment self.old self.new past past rank result) }
+        ensures uses { UsesStep self.old self.new result (EvictEvent rank) }
         ensures count { length self.new.caches.used ≡ length self.old.caches.used }
         ensures cap { self.new.caches.cap ≡ self.old.caches.cap }
         ensures counted { self.new.faults ≡ self.old.faults + faults_told (result_err result) }
@@ -179,6 +191,8 @@ fn split_at<S: Store + Drop>(
         → Splits (core_of tree.old.tree tree.old.subtrees.roots tree.old.exports numbers inboxes pins.now sessions)
         (core_of tree.new.tree tree.new.subtrees.roots tree.new.exports numbers inboxes pins.now sessions) past past
         asked.now.rank asked.now.dir asked.now.frag bits result }
+    ensures came { CameAt (Rules (tree_state tree.old.tree) tree.old.subtrees.roots (asked.now.dir, asked.now.frag))
+        (IsFamilyOf asked.now.dir asked.now.frag bits) tree.old.tree.caches tree.new.tree.caches }
     ensures kept { KeepsRoots (tree_state tree.old.tree)
         (tree_state tree.new.tree) tree.old.subtrees.roots tree.new.subtrees.roots tree.old.exports tree.new.exports }
     ensures count { length tree.new.tree.caches.used ≡ length tree.old.tree.caches.used }
@@ -223,6 +237,8 @@ fn merge_at<S: Store + Drop>(
         → Merges (core_of tree.old.tree tree.old.subtrees.roots tree.old.exports numbers inboxes pins.now sessions)
         (core_of tree.new.tree tree.new.subtrees.roots tree.new.exports numbers inboxes pins.now sessions)
         past past rank ino frag result }
+    ensures came { CameAt (AllHave tree.old.tree.homes tree.old.tree.covers tree.old.subtrees.roots ino frag)
+        (IsMergedHere tree.old.tree.covers ino frag) tree.old.tree.caches tree.new.tree.caches }
     ensures kept { KeepsRoots (tree_state tree.old.tree)
         (tree_state tree.new.tree) tree.old.subtrees.roots tree.new.subtrees.roots tree.old.exports tree.new.exports }
     ensures count { length tree.new.tree.caches.used ≡ length tree.old.tree.caches.used }
@@ -258,6 +274,8 @@ fn begin_at<S: Store + Drop>(
         (past : List Applied) → BeginsCommit (core_of tree.old.tree tree.old.subtrees.roots tree.old.exports numbers
         inboxes pins sessions) (core_of tree.new.tree tree.new.subtrees.roots tree.new.exports numbers inboxes pins
         sessions) past past rank (ino, frag) result }
+    ensures came { UsesAt (Rules (tree_state tree.old.tree) (held_roots tree.old) (ino, frag)) (ino, frag)
+        tree.old.tree.caches tree.new.tree.caches }
     ensures count { length tree.new.tree.caches.used ≡ length tree.old.tree.caches.used }
     ensures cap { tree.new.tree.caches.cap ≡ tree.old.tree.caches.cap }
     ensures faults { tree.new.tree.faults ≡ tree.old.tree.faults }

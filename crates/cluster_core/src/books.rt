@@ -10,6 +10,7 @@ ghost use Rattle.cluster_core.specs.OneThread.{InOrder, IsOneThread, arrival, re
 ghost use Rattle.cluster_core.specs.State.{new_state, shown};
 ghost use Rattle.cluster_core.specs.Steps.{Steps};
 ghost use Rattle.cluster_core.specs.Sound.{IsSoundBook};
+ghost use Rattle.cluster_core.specs.Uses.{UsesStep};
 
 use crate::clusters::Cluster;
 use crate::events::{Answer, Event};
@@ -86,8 +87,8 @@ impl<S: Store + Drop> Book<S> {
     /// one entry where a request is applied, and each reply that is handed out stands in it.
     ///
     /// What this is to whoever sends requests is the first part of the contract: one plain tree, served by one thread.
-    /// Then come what the fragments, caches and objects of all ranks mean together, which is that tree, and what each
-    /// event does to them.
+    /// Then come what the fragments, caches and objects of all ranks mean together, which is that tree, what each event
+    /// does to the state, and what it makes of the caches.
     #[inline(always)]
     pub fn step(&mut self, alloc: Global, event: Event) -> Result<Answer, Refusal>
         ensures one_thread { IsOneThread self.old.core.state.tree.limit self.old.opening self.old.history self.new.history
@@ -98,6 +99,7 @@ impl<S: Store + Drop> Book<S> {
         ensures shows { shown self.new.core.state
             ≡ after self.old.core.state.tree.limit self.old.opening self.new.history }
         ensures stepped { Steps self.old.core self.new.core self.old.history self.new.history result event }
+        ensures uses { UsesStep self.old.core self.new.core result event }
         ensures opening { self.new.opening ≡ self.old.opening }
         ensures limit { self.new.core.state.tree.limit ≡ self.old.core.state.tree.limit }
         ensures sound { IsSoundBook self.new }

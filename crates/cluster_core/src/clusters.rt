@@ -8,11 +8,14 @@ ghost use Rattle.mds_types.specs.Tree.{Tree};
 ghost use Rattle.sessions.specs.Rooms.{table};
 ghost use Rattle.mdcache.specs.New.{MayNotFormat, new_caches};
 ghost use Rattle.cluster_core.specs.State.{new_state, whole_supplies};
-ghost use Rattle.cluster_core.specs.Steps.{ArrivesAt, AtRank, TreeMayRefuse, ServesRank, Steps, UsesGranted, UsesInbox};
+ghost use Rattle.cluster_core.specs.Steps.{ArrivesAt, AtRank, TreeMayRefuse, ServesRank, Steps};
+ghost use Rattle.cluster_core.specs.Uses.{UsesStep};
+ghost use Rattle.cluster_core.specs.declared.events.Event.TheVariants.{Serve as ServeEvent, Grant as GrantEvent};
 ghost use Rattle.cluster_core.specs.Grants.{GrantsWaiting};
 ghost use Rattle.ranked_tree.specs.Subtrees.{AreRoots, KeepsRoots};
 ghost use Rattle.cluster_core.specs.Sound.{AreCached, IsSoundWith, IsSound};
-ghost use Rattle.cluster_core.specs.Administers.{AsksNone, ListsLeaves, TellsAuthority};
+ghost use Rattle.cluster_core.specs.Administers.{ListsLeaves, TellsAuthority};
+ghost use Rattle.cluster_core.specs.Exporting.{TellsSentBytes};
 
 use crate::events::{Answer, Event};
 use crate::granting::grant_first;
@@ -20,7 +23,7 @@ use crate::parts::{Given, Waiting};
 use crate::serving::serve_front;
 use inode_table::Numbers;
 use keeping::{Keep, Unkept};
-use mds_types::{Entry, Frag, Ino, Limit, Rank, Refusal, Request};
+use mds_types::{Bytes, Entry, Frag, Ino, Limit, Rank, Refusal, Request};
 use namespace_ops::Frags;
 use objstore::Store;
 use ranked_tree::RankedTree;
@@ -109,6 +112,7 @@ impl<S: Store + Drop> Cluster<S> {
     ) -> Result<Answer, Refusal>
         requires { (opening : Tree) × IsSound opening history.old.items self.old }
         ensures stepped { Steps self.old self.new history.old.items history.new.items result event }
+        ensures uses { UsesStep self.old self.new result event }
         ensures sound { (opening : Tree) → IsSound opening history.old.items self.old
             → IsSound opening history.new.items self.new }
     {
@@ -128,6 +132,7 @@ impl<S: Store + Drop> Cluster<S> {
     ) -> Result<Answer, Refusal>
         requires { (opening : Tree) × IsSound opening history.old.items self.old }
         ensures stepped { Steps self.old self.new history.old.items history.new.items result event }
+        ensures uses { UsesStep self.old self.new result event }
         ensures valid { AreRoots self.new.state.tree self.new.state.roots }
     {
         match event {
@@ -174,7 +179,7 @@ impl<S: Store + Drop> Cluster<S> {
     #[inline(always)]
     fn arrive(&mut self, rank: Rank, request: Request) -> Result<Answer, Refusal>
         ensures arrived { (past : List Applied) → AtRank self.old self.new past past rank result
-            (ArrivesAt self.old.state self.new.state past past rank request result × AsksNone self.old self.new) }
+            (ArrivesAt self.old.state self.new.state past past rank request result) }
         ensures tree { self.new.state.tree ≡ self.old.state.tree }
         ensures roots { self.new.state.roots ≡ self.old.state.roots }
         ensures exports { self.new.state.exports ≡ self.old.state.exports }
@@ -201,8 +206,8 @@ impl<S: Store + Drop> Cluster<S> {
     ) -> Result<Answer, Refusal>
         requires { (opening : Tree) × IsSound opening history.old.items self.old }
         ensures served { AtRank self.old self.new history.old.items history.new.items rank result
-            (ServesRank self.old self.new history.old.items history.new.items rank result
-            × UsesInbox self.old self.new rank result) }
+            (ServesRank self.old self.new history.old.items history.new.items rank result) }
+        ensures uses { UsesStep self.old self.new result (ServeEvent rank) }
         ensures kept { KeepsRoots self.old.state.tree self.new.state.tree self.old.state.roots self.new.state.roots
             self.old.state.exports self.new.state.exports }
         ensures count { length self.new.caches.used ≡ length self.old.caches.used }
@@ -226,8 +231,9 @@ impl<S: Store + Drop> Cluster<S> {
     #[inline(never)]
     fn grant(&mut self, alloc: Global, rank: Rank, client: u64, tid: u64) -> Result<Answer, Refusal>
         ensures granted { (past : List Applied) → AtRank self.old self.new past past rank result
-            (GrantsWaiting self.old.state self.new.state past past (TreeMayRefuse self.old self.new) rank client tid result
-            × UsesGranted self.old self.new client tid) }
+            (GrantsWaiting self.old.state self.new.state past past (TreeMayRefuse self.old self.new) rank client tid
+            result) }
+        ensures uses { UsesStep self.old self.new result (GrantEvent rank client tid) }
         ensures tree { self.new.state.tree ≡ self.old.state.tree }
         ensures roots { self.new.state.roots ≡ self.old.state.roots }
         ensures exports { self.new.state.exports ≡ self.old.state.exports }
@@ -270,6 +276,15 @@ impl<S: Store + Drop> Cluster<S> {
             Some(rank) => Ok(rank),
             None => Err(Refusal::NoSuchFrag),
         }
+    }
+
+    /// The bytes of an export that stands sent, spelled from its region as it is: those that its Import takes, for
+    /// whoever has them no more. Refused `WrongExportState` exactly where no export of this root stands sent;
+    /// `TooManyFrags` where a Send of that region would be, so that none was sent; and for want of memory.
+    pub fn sent_bytes(&self, alloc: Global, ino: Ino, frag: Frag) -> Result<Bytes, Refusal>
+        ensures { TellsSentBytes self.now.state (ino, frag) result }
+    {
+        self.tree.sent_bytes(alloc, ino, frag)
     }
 
     /// The subtree roots with their ranks, to read.

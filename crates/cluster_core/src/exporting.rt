@@ -17,6 +17,8 @@ ghost use Rattle.ranked_tree.specs.Subtrees.{AreRoots, KeepsAuthorities, KeepsHo
 ghost use Rattle.cluster_core.specs.Exporting.{CancelsExport, FinishesExport, FreezesExport, ImportsExport, PrepsExport, SendsExport, StartsExport};
 ghost use Rattle.cluster_core.specs.State.{core_of, held_roots as holders_of};
 ghost use Rattle.cluster_core.specs.Steps.{AtRank};
+ghost use Rattle.cluster_core.specs.Uses.{UsesStep};
+ghost use Rattle.cluster_core.specs.declared.events.Event.TheVariants.{Import as ImportEvent};
 
 use crate::clusters::Cluster;
 use crate::events::Answer;
@@ -108,6 +110,7 @@ impl<S: Store + Drop> Cluster<S> {
     ) -> Result<Answer, Refusal>
         ensures imported { (past : List Applied) → ImportsExport self.old self.new past past
             (ino, frag) bytes.now result }
+        ensures uses { UsesStep self.old self.new result (ImportEvent ino frag bytes.now) }
         ensures authorities { KeepsAuthorities self.old.state.tree self.new.state.tree
             self.old.state.roots self.new.state.roots }
         ensures others { KeepsOutside (Some (ino, frag)) self.old.state.tree self.new.state.tree

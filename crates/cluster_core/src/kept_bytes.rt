@@ -1,7 +1,7 @@
 //! The bytes that exports sent: those of each stay under its root until they are imported.
-ghost use Rattle.std.specs.Prelude.{◌≡◌, ◌<◌, IfOk, IsOk, IsSome, OnErr, OnOk, is_some, option_copied};
+ghost use Rattle.std.specs.Prelude.{◌≡◌, ◌<◌, IfOk, IsOk, IsSome, MatchOption, OnErr, OnOk, is_some, option_copied};
 ghost use Rattle.std.specs.FinMap as map;
-ghost use Rattle.cluster_core.specs.SentBytes.{bytes_for, none_sent};
+ghost use Rattle.cluster_core.specs.SentBytes.{HandsOut, bytes_for, none_sent};
 
 use mds_types::{Bytes, Frag, Ino};
 use sorted_map::SortedMap;
@@ -81,6 +81,15 @@ impl KeptBytes {
         ensures { self.new.bytes ≡ map.insert self.old.bytes (ino, frag) bytes }
     {
         drop(self.bytes.insert((ino, frag), bytes));
+    }
+
+    /// Hands out the bytes of the least root, with the root, and keeps them no longer: none exactly where none are kept.
+    /// Takes no memory.
+    pub fn pop_first(&mut self) -> Option<((Ino, Frag), Bytes)>
+        ensures { MatchOption result ((self.old.bytes ≡ map.empty) × (self.new.bytes ≡ self.old.bytes))
+            (HandsOut self.old.bytes self.new.bytes) }
+    {
+        self.bytes.pop_first()
     }
 
     /// Keeps the bytes of a root no longer. Takes no memory.

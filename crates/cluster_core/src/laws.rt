@@ -1,6 +1,7 @@
 //! Laws of steps, each the contract of a function that does nothing.
 ghost use Rattle.cluster_core.specs.Checks.{MergesByChecks, SplitsByChecks};
 ghost use Rattle.cluster_core.specs.Commits.{JobsKeepObjects, JobsTakeWhatIsShown};
+ghost use Rattle.cluster_core.specs.Exporting.{ImportsWhatIsTold, TellsOneBytes, TellsWhatSendGave};
 ghost use Rattle.cluster_core.specs.Teeth.{OneThreadInventsNothing, OneThreadTellsAll};
 
 /// As long as a job stands, whatever steps come, its fragment's object stays what it was when the job was given out: so
@@ -12,6 +13,14 @@ pub fn jobs_keep_objects()
 /// What a job is given out with is what its fragment shows.
 pub fn jobs_take_what_is_shown()
     ensures { JobsTakeWhatIsShown }
+{}
+
+/// The bytes of an export that stands sent are told as Send gave them, always the same in one state, and no Import that
+/// is given them is refused for what they are.
+pub fn sent_bytes_are_imported()
+    ensures given { TellsWhatSendGave }
+    ensures same { TellsOneBytes }
+    ensures imported { ImportsWhatIsTold }
 {}
 
 /// Where nothing was sent, one thread applies nothing and tells nothing.

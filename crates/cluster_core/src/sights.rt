@@ -1,15 +1,16 @@
 //! What is read of a cluster to see why a step was refused: exports under way, requests that wait, grants, commits that
 //! were begun, cached fragments, and objects that are to be removed. No call takes memory.
-ghost use Rattle.std.specs.Prelude.{◌≡◌, length, slice_get};
+ghost use Rattle.std.specs.Prelude.{◌≡◌, ◌↔◌, IsTrue, length, slice_get};
 ghost use Rattle.std.specs.Option.{option_copied};
 ghost use Rattle.inboxes.specs.Inboxes.{waiting_at, waiting_in_all};
+ghost use Rattle.ranked_tree.specs.Exported.{IsUnder};
 
 use crate::clusters::Cluster;
 use dentry_cache::Caches;
 use export_steps::Exports;
 use inboxes::Pin;
 use mdcache::{PurgeList, StandingJobs};
-use mds_types::{Rank, Request};
+use mds_types::{Frag, Ino, Rank, Request};
 use objstore::Store;
 
 impl<S: Store + Drop> Cluster<S> {
@@ -25,6 +26,15 @@ impl<S: Store + Drop> Cluster<S> {
         ensures { result.now ≡ self.now.state.exports }
     {
         self.tree.exports()
+    }
+
+    /// Whether a leaf lies in the region that another has once it is a subtree root: of a root, whether the leaf is in
+    /// its region.
+    pub fn is_under(&self, root: &(Ino, Frag), leaf: &(Ino, Frag)) -> bool
+        ensures { IsTrue result ↔ IsUnder self.now.state.roots self.now.state.tree.homes self.now.state.tree.covers
+            root.now leaf.now }
+    {
+        self.tree.is_under(root, leaf)
     }
 
     /// How many requests wait at all ranks together.

@@ -1,7 +1,10 @@
 -- What one step makes of the history that was handed in, and of its length.
-use Rattle.rank_threads.proofs.Common.{Answer, BookState, Continues, Entry, IsOneThread, IsSoundBook, List, Receipt, Refusal, Request, Result, Tree, ap, arith, drop, first_in, length, length-take, receipt_of, sym, take, take-append-drop, take-append-le, ℕ, ◌++◌, ◌+◌, ◌∙◌, ◌≡◌, ◌≤◌}
+use Rattle.rank_threads.proofs.Common.{Answer, BookState, Continues, Entry, Event, IsOneThread, IsSoundBook, List, Receipt, Refusal, Request, Result, Tree, ap, arith, drop, first_in, length, length-take, receipt_of, sym, take, take-append-drop, take-append-le, ℕ, ◌++◌, ◌+◌, ◌∙◌, ◌≡◌, ◌≤◌}
 use Rattle.cluster_core.specs.OneThread.{InOrder}
+use Rattle.cluster_core.specs.Steps.{Steps}
+use Rattle.cluster_core.specs.Uses.{UsesStep}
 use Rattle.cluster_core.proofs.OneThreadLaws.{counts}
+use Rattle.rank_threads.specs.OneStep.{IsOneStep}
 
 -- the history is longer by as many entries as the result is a first reply
 pub counts_on : (past now : List Entry) (result : Result Answer Refusal) → InOrder (length past) (receipt_of result) (length now) → length now ≡ length past + first_in result
@@ -23,3 +26,8 @@ continued opening begun book sound same was = record {
   same_opening = same;
   begins = (drop (length begun) book.history, sym (take-append-drop (length begun) book.history) ∙ ap (λ xs. xs ++ drop (length begun) book.history) was);
 }
+
+-- what the contract of a step of the book says is one step
+pub one_step : (old new : BookState) (event : Event) (result : Result Answer Refusal) → Steps old.core new.core old.history new.history result event → UsesStep old.core new.core result event → new.opening ≡ old.opening → IsSoundBook new
+    → IsOneStep old new event result
+one_step old new event result stepped uses opening sound = record { stepped = record { stepped = stepped; uses = uses; same_opening = opening }; sound = sound }

@@ -6,13 +6,14 @@ use Rattle.mds_types.specs.declared.requests.Request.{Request}
 use Rattle.cluster_core.specs.OneThread.{IsSent, arrival, waiting_in}
 use Rattle.cluster_core.specs.State.{BookState}
 use Rattle.rank_threads.specs.declared.plans.Turn.{Turn}
-use Rattle.rank_threads.specs.declared.plans.Turn.TheVariants.{Step, Commit, Own}
+use Rattle.rank_threads.specs.declared.plans.Turn.TheVariants.{Step, Commit, Own, Keep}
 
 -- the request that a turn brings, if it brings one
 abbrev pub turn_arrival : Turn → List Request
 turn_arrival (Step event) = arrival event
 turn_arrival (Commit ino frag) = []
 turn_arrival Own = []
+turn_arrival (Keep ino frag bytes) = []
 
 -- those that the turns of a plan bring, and those of all plans
 abbrev pub plan_arrivals : List Turn → List Request

@@ -7,15 +7,17 @@ use Rattle.cluster_core.specs.declared.events.Answer.TheVariants.{Nothing}
 use Rattle.cluster_core.specs.declared.receipts.Receipt.{Receipt}
 use Rattle.cluster_core.specs.OneThread.{first_places, receipt_of, receipts_of}
 use Rattle.rank_threads.specs.declared.plans.Turn.{Turn}
-use Rattle.rank_threads.specs.declared.plans.Turn.TheVariants.{Step, Commit, Own}
+use Rattle.rank_threads.specs.declared.plans.Turn.TheVariants.{Step, Commit, Own, Keep}
 
--- a commit's turn and a rank's own stand as Nothing or a refusal
+-- a commit's turn, a rank's own, and one that keeps bytes stand as Nothing or a refusal
 abbrev pub FitsTurn : Turn → Result Answer Refusal → Type 0
 FitsTurn (Step event) result = Unit {0}
 FitsTurn (Commit ino frag) (Ok answer) = answer ≡ Nothing
 FitsTurn (Commit ino frag) (Err reason) = Unit {0}
 FitsTurn Own (Ok answer) = answer ≡ Nothing
 FitsTurn Own (Err reason) = Unit {0}
+FitsTurn (Keep ino frag bytes) (Ok answer) = answer ≡ Nothing
+FitsTurn (Keep ino frag bytes) (Err reason) = Unit {0}
 
 -- one result for each turn
 abbrev pub AreAnswered : List Turn → List (Result Answer Refusal) → Type 0

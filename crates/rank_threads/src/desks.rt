@@ -1,5 +1,5 @@
 //! What lies under the lock.
-ghost use Rattle.std.specs.Prelude.{◌≡◌, ◌+◌, ◌<◌, ℕ, List, [], Contains, cond, length, take};
+ghost use Rattle.std.specs.Prelude.{Result, ◌≡◌, ◌+◌, ◌<◌, ℕ, List, [], Contains, cond, length, take};
 ghost use Rattle.std.specs.List.{AllByRecursion};
 ghost use Rattle.std.specs.Coded.{codes};
 ghost use Rattle.std.specs.FinMap as map;
@@ -7,7 +7,9 @@ ghost use Rattle.mds_types.specs.declared.entries.Entry.{Entry as Applied};
 ghost use Rattle.mds_types.specs.declared.requests.Request.{Request as Asked};
 ghost use Rattle.mds_types.specs.Tree.{Tree};
 ghost use Rattle.cluster_core.specs.OneThread.{IsAskedFor, arrival, receipt_of};
+ghost use Rattle.cluster_core.specs.declared.events.Event.TheVariants.{CommitBegin, CommitDrop, CommitEnd};
 ghost use Rattle.rank_threads.specs.Continued.{Continues};
+ghost use Rattle.rank_threads.specs.OneStep.{IsOneStep, IsStepTold, done_of, job_of};
 ghost use Rattle.rank_threads.specs.Sent.{Serves};
 ghost use Rattle.rank_threads.specs.Turns.{first_in};
 
@@ -60,7 +62,7 @@ pub(crate) struct Desk<S: Store + Drop, L: Handed> {
 impl<S: Store + Drop, L: Handed> Desk<S, L> {
     /// One step of the book, of an event whose request, if it brings one, was sent. The share rises by one where the step
     /// adds an entry to the history, and a reply that is handed out was asked for.
-    #[tactic(auto, using(crate::proofs::StepLaws::still_begins, crate::proofs::StepLaws::counts_on))]
+    #[tactic(auto, using(crate::proofs::StepLaws::still_begins, crate::proofs::StepLaws::counts_on, crate::proofs::StepLaws::one_step))]
     pub(crate) fn step(
         &mut self,
         alloc: Global,
@@ -72,6 +74,7 @@ impl<S: Store + Drop, L: Handed> Desk<S, L> {
         ensures parts { mine.new.parts ≡ mine.old.parts }
         ensures amount { mine.new.amount ≡ mine.old.amount + first_in result }
         ensures asked_for { ∥ AllByRecursion (IsAskedFor L.sent) (receipt_of result) ∥₁ }
+        ensures stepped { IsOneStep self.old.book self.new.book event result }
     {
         let Desk { book, total } = self;
         let answer = book.step(alloc, event);
@@ -82,30 +85,42 @@ impl<S: Store + Drop, L: Handed> Desk<S, L> {
     }
 
     /// A commit of a leaf begins at a rank: its job, unless the leaf is clean. The history stays.
+    #[tactic(auto, using(crate::proofs::StepLaws::one_step))]
     pub(crate) fn begin(
         &mut self,
         alloc: Global,
         rank: Rank,
         ino: Ino,
         frag: Frag,
-    ) -> Result<Option<Job>, Refusal> {
+    ) -> Result<Option<Job>, Refusal>
+        ensures { IsStepTold self.old.book self.new.book (CommitBegin rank ino frag) job_of result }
+    {
         match self
             .book
             .step(alloc, Event::CommitBegin { rank, ino, frag })
         {
             Ok(Answer::Job(job)) => Ok(Some(job)),
-            Ok(_) => Ok(None),
+            Ok(other) => {
+                drop(other);
+                Ok(None)
+            }
             Err(refusal) => Err(refusal),
         }
     }
 
     /// The commit of what was encoded ends. The history stays.
-    pub(crate) fn end(&mut self, alloc: Global, encoded: Encoded) -> Result<(), Refusal> {
-        self.book.step(alloc, Event::CommitEnd(encoded)).map(|_| ())
+    #[tactic(auto, using(crate::proofs::StepLaws::one_step))]
+    pub(crate) fn end(&mut self, alloc: Global, encoded: Encoded) -> Result<(), Refusal>
+        ensures { IsStepTold self.old.book self.new.book (CommitEnd encoded) done_of result }
+    {
+        done(self.book.step(alloc, Event::CommitEnd(encoded)))
     }
 
     /// A commit is given up. The history stays.
-    pub(crate) fn give_up(&mut self, alloc: Global, job: u64) {
+    #[tactic(auto, using(crate::proofs::StepLaws::one_step))]
+    pub(crate) fn give_up(&mut self, alloc: Global, job: u64)
+        ensures { (came : Result Answer Refusal) × IsOneStep self.old.book self.new.book (CommitDrop job) came }
+    {
         let _ = self.book.step(alloc, Event::CommitDrop { job });
     }
 
@@ -135,6 +150,19 @@ impl<S: Store + Drop, L: Handed> Desk<S, L> {
         total.audit(all);
         book.is_sound();
         book
+    }
+}
+
+// That a step was made, or why it was refused.
+fn done(came: Result<Answer, Refusal>) -> Result<(), Refusal>
+    ensures { result ≡ done_of came }
+{
+    match came {
+        Ok(answer) => {
+            drop(answer);
+            Ok(())
+        }
+        Err(refusal) => Err(refusal),
     }
 }
 

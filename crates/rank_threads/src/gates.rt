@@ -9,6 +9,9 @@ pub trait Gate: Sync {
 
     /// A rank's thread was given a reply.
     fn answered(&self, rank: Rank);
+
+    /// A rank's thread made a step of its rank's own.
+    fn moved(&self, rank: Rank);
 }
 
 /// Holds no thread up.
@@ -19,4 +22,6 @@ impl Gate for OpenGate {
     fn encoding(&self, _job: u64) {}
 
     fn answered(&self, _rank: Rank) {}
+
+    fn moved(&self, _rank: Rank) {}
 }

@@ -3,7 +3,7 @@ ghost use Rattle.std.specs.Prelude.{◌≡◌};
 ghost use Rattle.rank_threads.specs.Faults.{run_fault_number};
 
 use crate::commits::Commit;
-use cluster_core::{Answer, Book, Receipt};
+use cluster_core::{Answer, Book, KeptBytes, Receipt};
 use mds_types::Refusal;
 use objstore::Store;
 use thiserror::Error;
@@ -15,13 +15,16 @@ pub struct Outcome<S: Store + Drop> {
     pub book: Book<S>,
     /// For each plan the results of its turns, in their order.
     pub answers: Vec<Vec<Result<Answer, Refusal>>>,
+    /// For each plan the bytes that its thread keeps still, each under the root of its export: what was sent, and not
+    /// imported.
+    pub kept: Vec<KeptBytes>,
     /// The replies among the answers.
     pub receipts: Vec<Receipt>,
     /// How each commit ended that was handed to the workers, in the order in which that was done.
     pub commits: Vec<Commit>,
 }
 
-/// A run that gave no outcome, with its book.
+/// A run that gave no outcome, with its book. What its threads kept of exports the book tells anew: `Cluster::sent_bytes`.
 #[derive(Drop)]
 pub struct RunError<S: Store + Drop> {
     pub fault: RunFault,

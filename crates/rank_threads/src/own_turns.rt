@@ -1,8 +1,16 @@
 //! The steps that a rank makes of its own.
+ghost use Rattle.std.specs.Prelude.{◌≡◌, Ok, Some};
+ghost use Rattle.std.specs.FinMap as map;
+ghost use Rattle.cluster_core.specs.declared.events.Event.TheVariants.{Send};
+ghost use Rattle.cluster_core.specs.Proposal.{Proposes};
+ghost use Rattle.cluster_core.specs.SentBytes.{none_sent};
+ghost use Rattle.cluster_core.specs.State.{Core};
+ghost use Rattle.rank_threads.specs.OneStep.{answer_of};
+ghost use Rattle.rank_threads.specs.OwnTurn.{KeepsBytes, StepsOwn, TakesOwnTurn, import_with, step_of};
 
 use crate::desks::{Desk, Handed};
 use cluster_core::{Answer, Event, KeptBytes};
-use mds_types::{Frag, Ino, Rank, Refusal};
+use mds_types::{Bytes, Frag, Ino, Rank, Refusal};
 use objstore::Store;
 use std::alloc::Global;
 
@@ -15,76 +23,129 @@ pub(crate) struct OwnTurns {
 
 impl OwnTurns {
     /// A rank that has sent nothing. Takes no memory.
-    pub(crate) fn new(alloc: Global, rank: Rank) -> OwnTurns {
+    pub(crate) fn new(alloc: Global, rank: Rank) -> OwnTurns
+        ensures { result ≡ record { rank = rank; kept = none_sent } }
+    {
         OwnTurns {
             rank,
             kept: KeptBytes::new(alloc),
         }
     }
+
+    /// Keeps the bytes of an export that was sent before the run.
+    pub(crate) fn keep(&mut self, ino: Ino, frag: Frag, bytes: Bytes) -> Result<(), Refusal>
+        ensures rank { self.new.rank ≡ self.old.rank }
+        ensures kept { KeepsBytes self.old.kept.bytes self.new.kept.bytes (ino, frag) bytes result }
+    {
+        if self.kept.reserve().is_err() {
+            return Err(Refusal::NoMemory);
+        }
+        self.kept.keep(ino, frag, bytes);
+        Ok(())
+    }
 }
 
 impl<S: Store + Drop, L: Handed> Desk<S, L> {
     /// A rank proposes a step of its own, and makes it, if there is one. An Import is given the bytes that the rank's
-    /// thread keeps; one whose bytes aren't kept there is passed over. The history stays.
-    #[tactic(auto, using(cluster_core::proofs::OwnLaws::proposal_stays))]
-    pub(crate) fn own(&mut self, alloc: Global, own: &mut OwnTurns) -> Result<(), Refusal> {
-        let Some(event) = self.book.propose(own.rank)? else {
-            return Ok(());
-        };
+    /// thread keeps; one whose bytes aren't kept there is passed over. The history stays. Answers whether a step was
+    /// made.
+    #[tactic(auto, using(crate::proofs::OwnTurnLaws::took_turn))]
+    pub(crate) fn own(&mut self, alloc: Global, own: &mut OwnTurns) -> Result<bool, Refusal>
+        ensures rank { own.new.rank ≡ own.old.rank }
+        ensures turn { TakesOwnTurn self.old.book self.new.book own.old.rank own.old.kept.bytes
+            own.new.kept.bytes result }
+    {
+        match self.book.propose(own.rank) {
+            Ok(Some(event)) => self.make(alloc, &mut own.kept, event),
+            Ok(None) => Ok(false),
+            Err(refusal) => Err(refusal),
+        }
+    }
+
+    // Makes a step that a rank proposed.
+    #[tactic(auto, using(crate::proofs::OwnTurnLaws::made_other, crate::proofs::StepLaws::one_step))]
+    fn make(&mut self, alloc: Global, kept: &mut KeptBytes, event: Event) -> Result<bool, Refusal>
+        requires { (core : Core) × (rank : Rank) × Proposes core rank (Ok (Some event)) }
+        ensures { StepsOwn self.old.book self.new.book kept.old.bytes kept.new.bytes
+            (step_of kept.old.bytes event) result }
+    {
         match event {
-            Event::Send { ino, frag } => self.send(alloc, &mut own.kept, ino, frag),
+            Event::Send { ino, frag } => self.send(alloc, kept, ino, frag),
             Event::Import { ino, frag, bytes } => {
                 drop(bytes);
-                self.import(alloc, &mut own.kept, ino, frag)
+                self.import(alloc, kept, ino, frag)
             }
-            other => self.book.step(alloc, other).map(|_| ()),
+            other => made(self.book.step(alloc, other)),
         }
     }
 
     // An export is sent, and what it hands over is kept. Room for it comes first: once it is sent, nothing but its
     // Import ends it.
+    #[tactic(auto, using(crate::proofs::OwnTurnLaws::sent_nothing, crate::proofs::StepLaws::one_step))]
     fn send(
         &mut self,
         alloc: Global,
         kept: &mut KeptBytes,
         ino: Ino,
         frag: Frag,
-    ) -> Result<(), Refusal> {
+    ) -> Result<bool, Refusal>
+        ensures { StepsOwn self.old.book self.new.book kept.old.bytes kept.new.bytes (Some (Send ino frag)) result }
+    {
         if kept.reserve().is_err() {
             return Err(Refusal::NoMemory);
         }
         match self.book.step(alloc, Event::Send { ino, frag }) {
             Ok(Answer::Sent(bytes)) => {
                 kept.keep(ino, frag, bytes);
-                Ok(())
+                Ok(true)
             }
-            Ok(_) => Ok(()),
+            Ok(other) => {
+                drop(other);
+                Ok(true)
+            }
             Err(refusal) => Err(refusal),
         }
     }
 
     // An export is imported, if its bytes are kept. The importer is given a copy, since an Import that is refused has
     // eaten its bytes.
+    #[tactic(auto, using(crate::proofs::OwnTurnLaws::passed_over, crate::proofs::OwnTurnLaws::not_copied, crate::proofs::OwnTurnLaws::imported, crate::proofs::StepLaws::one_step))]
     fn import(
         &mut self,
         alloc: Global,
         kept: &mut KeptBytes,
         ino: Ino,
         frag: Frag,
-    ) -> Result<(), Refusal> {
+    ) -> Result<bool, Refusal>
+        ensures { StepsOwn self.old.book self.new.book kept.old.bytes kept.new.bytes
+            (import_with ino frag (map.get kept.old.bytes (ino, frag))) result }
+    {
         if !kept.has(ino, frag) {
-            return Ok(());
+            return Ok(false);
         }
         let Ok(bytes) = kept.copy_of(ino, frag) else {
             return Err(Refusal::NoMemory);
         };
-        let imported = self
-            .book
-            .step(alloc, Event::Import { ino, frag, bytes })
-            .map(|_| ());
-        if imported.is_ok() {
-            kept.forget(ino, frag);
+        match self.book.step(alloc, Event::Import { ino, frag, bytes }) {
+            Ok(answer) => {
+                drop(answer);
+                kept.forget(ino, frag);
+                Ok(true)
+            }
+            Err(refusal) => Err(refusal),
         }
-        imported
+    }
+}
+
+// That a step was made, or why it was refused.
+fn made(came: Result<Answer, Refusal>) -> Result<bool, Refusal>
+    ensures { result ≡ answer_of came }
+{
+    match came {
+        Ok(answer) => {
+            drop(answer);
+            Ok(true)
+        }
+        Err(refusal) => Err(refusal),
     }
 }

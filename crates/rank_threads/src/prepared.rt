@@ -1,7 +1,8 @@
 //! What a run needs, made before its first lock.
-ghost use Rattle.std.specs.Prelude.{◌≡◌, ◌+◌, ◌<◌, [], Contains, IfOk, map, vec_len};
+ghost use Rattle.std.specs.Prelude.{◌≡◌, ◌+◌, ◌<◌, ◌≤◌, [], Contains, IfOk, map, vec_len};
 ghost use Rattle.std.specs.List.{AllByRecursion};
 ghost use Rattle.rank_threads.specs.Sent.{EachIsSent, plan_arrivals};
+ghost use Rattle.rank_threads.specs.TookTurn.{of_rank, by_rank};
 ghost use Rattle.rank_threads.specs.Turns.{lists_of};
 
 use crate::commits::Commit;
@@ -10,6 +11,7 @@ use crate::plans::Turn;
 use crate::ranks::{Answered, Plan, Working};
 use crate::workers::Finished;
 use cached_frag::Job;
+use cluster_core::KeptBytes;
 use crossbeam_channel::{Receiver, Sender};
 use mds_types::Rank;
 use std::alloc::{AllocError, Global};
@@ -29,6 +31,7 @@ pub(crate) struct Needs<L: Handed> {
     pub(crate) workers: Vec<Ends>,
     pub(crate) results: Receiver<Finished>,
     pub(crate) answers: Vec<Vec<Answered>>,
+    pub(crate) kept: Vec<KeptBytes>,
     pub(crate) commits: Vec<Commit>,
     /// What the plans leave of the share.
     pub(crate) all: Share<L>,
@@ -49,16 +52,21 @@ pub(crate) fn prepare<L: Handed>(
     share: Share<L>,
 ) -> Result<Needs<L>, AllocError>
     requires parts { vec_len lists < share.parts }
+    requires few { vec_len lists ≤ 16 }
     requires sent { EachIsSent L.sent (lists_of lists.items) }
     ensures turns { IfOk result (λ r. map (λ p. p.turns.items) r.starts.plans.items ≡ lists_of lists.items) }
+    ensures asked { IfOk result (λ r.
+        map (λ p. of_rank p.rank p.turns.items) r.starts.plans.items ≡ by_rank (lists_of lists.items)) }
     ensures count { IfOk result (λ r. vec_len r.starts.plans ≡ vec_len lists) }
-    ensures empty { IfOk result (λ r. (r.starts.handles.items ≡ []) × (r.answers.items ≡ [])) }
+    ensures empty { IfOk result (λ r.
+        (r.starts.handles.items ≡ []) × (r.answers.items ≡ []) × (r.kept.items ≡ [])) }
     ensures parts { IfOk result (λ r. r.all.parts + vec_len lists ≡ share.parts) }
     ensures amount { IfOk result (λ r. r.all.amount ≡ share.amount) }
 {
     let mut all = share;
     let handles = Vec::with_capacity(alloc, lists.len())?;
     let answers = Vec::with_capacity(alloc, lists.len())?;
+    let kept = Vec::with_capacity(alloc, lists.len())?;
     let commits = Vec::with_capacity(alloc, count_commits(&lists))?;
     let (jobs, from) = crossbeam_channel::unbounded(alloc)?;
     let (to, results) = crossbeam_channel::unbounded(alloc)?;
@@ -69,12 +77,14 @@ pub(crate) fn prepare<L: Handed>(
         workers,
         results,
         answers,
+        kept,
         commits,
         all,
     })
 }
 
 // A plan for each list of turns, in the order of ranks, with a part of the share each.
+#[tactic(auto, using(crate::proofs::TookLaws::ranked_push))]
 fn plans_of<L: Handed>(
     alloc: Global,
     lists: Vec<Vec<Turn>>,
@@ -82,8 +92,11 @@ fn plans_of<L: Handed>(
     all: &mut Share<L>,
 ) -> Result<Vec<Plan<L>>, AllocError>
     requires parts { vec_len lists < all.old.parts }
+    requires few { vec_len lists ≤ 16 }
     requires sent { EachIsSent L.sent (lists_of lists.items) }
     ensures turns { IfOk result (λ plans. map (λ p. p.turns.items) plans.items ≡ lists_of lists.items) }
+    ensures asked { IfOk result (λ plans.
+        map (λ p. of_rank p.rank p.turns.items) plans.items ≡ by_rank (lists_of lists.items)) }
     ensures parts { IfOk result (λ plans. all.new.parts + vec_len lists ≡ all.old.parts) }
     ensures amount { IfOk result (λ plans. all.new.amount ≡ all.old.amount) }
 {
@@ -92,7 +105,7 @@ fn plans_of<L: Handed>(
     for turns in lists {
         let share = all.split_off(1, 0);
         plans.push(plan_of(alloc, Rank(rank), turns, jobs.clone()?, share)?)?;
-        rank = rank.wrapping_add(1);
+        rank += 1;
     }
     Ok(plans)
 }
@@ -108,7 +121,8 @@ fn plan_of<L: Handed>(
     requires one { share.parts ≡ 1 }
     requires none { share.amount ≡ 0 }
     requires sent { AllByRecursion (Contains L.sent) (plan_arrivals turns.items) }
-    ensures { IfOk result (λ p. p.turns ≡ turns) }
+    ensures turns { IfOk result (λ p. p.turns ≡ turns) }
+    ensures rank { IfOk result (λ p. p.rank ≡ rank) }
 {
     let answers = Vec::with_capacity(alloc, turns.len())?;
     Ok(Plan {

@@ -1,7 +1,9 @@
 //! The threads of ranks.
-ghost use Rattle.std.specs.Prelude.{◌≡◌, ◌+◌, ◌<◌, ◌≤◌, ◌++◌, ◌∷◌, [], Contains, IfSome, vec_len, vec_capacity};
+ghost use Rattle.std.specs.Prelude.{◌≡◌, ◌+◌, ◌<◌, ◌≤◌, ◌++◌, ◌∷◌, [], Contains, IfSome, Ok, Some, vec_len, vec_capacity};
 ghost use Rattle.std.specs.List.{AllByRecursion};
 ghost use Rattle.cluster_core.specs.OneThread.{IsAskedFor, receipt_of, receipts_of};
+ghost use Rattle.rank_threads.specs.TookTurn.{HandedOn, TookCommitTurn, TookTurn, TookTurns};
+ghost use Rattle.std.specs.FinMap as map;
 ghost use Rattle.rank_threads.specs.Sent.{plan_arrivals, turn_arrival};
 ghost use Rattle.rank_threads.specs.Turns.{AreAnswered, FitsTurn, first_in, firsts};
 
@@ -11,7 +13,7 @@ use crate::locking::lock;
 use crate::own_turns::OwnTurns;
 use crate::plans::Turn;
 use cached_frag::Job;
-use cluster_core::Answer;
+use cluster_core::{Answer, KeptBytes};
 use crossbeam_channel::Sender;
 use mds_types::{Dirfrag, Rank, Refusal};
 use objstore::Store;
@@ -40,11 +42,12 @@ pub(crate) struct Plan<L: Handed> {
     pub(crate) ghost sent: { ∥ AllByRecursion (Contains L.sent) (plan_arrivals turns.items) ∥₁ },
 }
 
-/// What a rank's thread hands back: a result for each turn, of which each reply was asked for, and its share, which
-/// counts the first replies among them.
+/// What a rank's thread hands back: a result for each turn, of which each reply was asked for; the bytes that it keeps
+/// still; and its share, which counts the first replies among the results.
 #[derive(Drop)]
 pub(crate) struct Work<L: Handed> {
     pub(crate) answers: Vec<Answered>,
+    pub(crate) kept: KeptBytes,
     pub(crate) share: Share<L>,
     pub(crate) ghost one_part: { share.parts ≡ 1 },
     pub(crate) ghost counted: { share.amount ≡ firsts answers.items },
@@ -60,12 +63,16 @@ struct Mine<L: Handed> {
     share: Share<L>,
 }
 
-/// That work has a result for each of these turns.
+/// That work is that of these turns at this rank: it has a result for each, and keeps what they left.
 #[derive(Drop)]
-pub(crate) struct Answers(Snapshot<Vec<Turn>>);
+pub(crate) struct Answers {
+    rank: Rank,
+    turns: Snapshot<Vec<Turn>>,
+}
 
 impl<L: Handed> Promise<Work<L>> for Answers {
-    ghost kept_by = { λ p w. AreAnswered p.0.value.items w.answers.items };
+    ghost kept_by = { λ p w. AreAnswered p.turns.value.items w.answers.items
+        × TookTurns p.rank map.empty w.kept.bytes p.turns.value.items w.answers.items };
 }
 
 /// A thread that works off a plan.
@@ -85,16 +92,20 @@ where
     L: Handed + Send + Sync + 's,
     G: Gate + 's,
     R: Threads + Wait + Sync + 's,
-    ensures { IfSome result (λ h. h.promise.0.value.items ≡ plan.turns.items) }
+    ensures turns { IfSome result (λ h. h.promise.turns.value.items ≡ plan.turns.items) }
+    ensures rank { IfSome result (λ h. h.promise.rank ≡ plan.rank) }
 {
-    let promise = Answers(Snapshot::of(&plan.turns));
+    let promise = Answers {
+        rank: plan.rank,
+        turns: Snapshot::of(&plan.turns),
+    };
     scope
         .spawn_with(promise, move || work_off(rt, alloc, desk, gate, plan))
         .ok()
 }
 
-// Works off a plan, and takes the lock anew for each turn.
-#[tactic(auto, using(crate::proofs::TurnLaws::answered_more, crate::proofs::TurnLaws::firsts_more, crate::proofs::AskedLaws::first_brings, crate::proofs::AskedLaws::rest_brings, crate::proofs::AskedLaws::asked_more))]
+// Works off a plan, and takes the lock anew for each turn. No bytes of an export are kept before its first one.
+#[tactic(auto, using(crate::proofs::TurnLaws::answered_more, crate::proofs::TookLaws::took_more, crate::proofs::TurnLaws::firsts_more, crate::proofs::AskedLaws::first_brings, crate::proofs::AskedLaws::rest_brings, crate::proofs::AskedLaws::asked_more))]
 fn work_off<S: Store + Drop, L: Handed, G: Gate, R: Wait>(
     rt: &R,
     alloc: Global,
@@ -102,7 +113,8 @@ fn work_off<S: Store + Drop, L: Handed, G: Gate, R: Wait>(
     gate: &G,
     plan: Plan<L>,
 ) -> Work<L>
-    ensures { AreAnswered plan.turns.items result.answers.items }
+    ensures answered { AreAnswered plan.turns.items result.answers.items }
+    ensures took { TookTurns plan.rank map.empty result.kept.bytes plan.turns.items result.answers.items }
 {
     let Plan {
         rank,
@@ -121,18 +133,23 @@ fn work_off<S: Store + Drop, L: Handed, G: Gate, R: Wait>(
         let answer = take_turn(rt, alloc, desk, gate, &mut mine, turn);
         put(&mut answers, answer);
     }
-    let Mine { share, .. } = mine;
-    finished(answers, share)
+    let Mine { own, share, .. } = mine;
+    finished(answers, own.kept, share)
 }
 
 // The work that was done. A function of its own, since one with a loop loses what a struct's fields keep.
-fn finished<L: Handed>(answers: Vec<Answered>, share: Share<L>) -> Work<L>
+fn finished<L: Handed>(answers: Vec<Answered>, kept: KeptBytes, share: Share<L>) -> Work<L>
     requires one { share.parts ≡ 1 }
     requires counted { share.amount ≡ firsts answers.items }
     requires asked_for { ∥ AllByRecursion (IsAskedFor L.sent) (receipts_of answers.items) ∥₁ }
-    ensures { result.answers ≡ answers }
+    ensures answers { result.answers ≡ answers }
+    ensures kept { result.kept ≡ kept }
 {
-    Work { answers, share }
+    Work {
+        answers,
+        kept,
+        share,
+    }
 }
 
 // Puts a result at the end of a list that has room for it.
@@ -146,6 +163,7 @@ fn put(answers: &mut Vec<Answered>, newest: Answered)
 }
 
 // One turn.
+#[tactic(auto, using(crate::proofs::OwnTurnLaws::own_told, crate::proofs::OwnTurnLaws::keep_told))]
 fn take_turn<S: Store + Drop, L: Handed, G: Gate, R: Wait>(
     rt: &R,
     alloc: Global,
@@ -159,6 +177,8 @@ fn take_turn<S: Store + Drop, L: Handed, G: Gate, R: Wait>(
     ensures parts { mine.new.share.parts ≡ 1 }
     ensures amount { mine.new.share.amount ≡ mine.old.share.amount + first_in result }
     ensures fits { FitsTurn turn result }
+    ensures rank { mine.new.own.rank ≡ mine.old.own.rank }
+    ensures took { TookTurn turn mine.old.own.rank mine.old.own.kept.bytes mine.new.own.kept.bytes result }
     ensures asked_for { ∥ AllByRecursion (IsAskedFor L.sent) (receipt_of result) ∥₁ }
 {
     let rank = mine.own.rank;
@@ -181,27 +201,54 @@ fn take_turn<S: Store + Drop, L: Handed, G: Gate, R: Wait>(
                 Err(refusal) => Err(refusal),
             }
         }
-        Turn::Own => match lock(desk, rt).own(alloc, &mut mine.own) {
+        Turn::Own => {
+            // the lock is let go before the gate is told
+            let made = lock(desk, rt).own(alloc, &mut mine.own);
+            match made {
+                Ok(true) => {
+                    gate.moved(rank);
+                    Ok(Answer::Nothing)
+                }
+                Ok(false) => Ok(Answer::Nothing),
+                Err(refusal) => Err(refusal),
+            }
+        }
+        Turn::Keep { ino, frag, bytes } => match mine.own.keep(ino, frag, bytes) {
             Ok(()) => Ok(Answer::Nothing),
             Err(refusal) => Err(refusal),
         },
     }
 }
 
-// Begins a commit of a leaf at a rank, and hands its job to the workers. Where it can't be handed on, the commit is
-// given up.
+// Begins a commit of a leaf at a rank, and hands its job to the workers.
 fn begin_commit<S: Store + Drop, L: Handed, R: Wait>(
     rt: &R,
     alloc: Global,
     desk: &Mutex<Desk<S, L>>,
     jobs: &Sender<Job>,
     leaf: &Dirfrag,
-) -> Result<(), Refusal> {
+) -> Result<(), Refusal>
+    ensures { TookCommitTurn leaf.now.rank leaf.now.dir leaf.now.frag result }
+{
     // the lock is let go before the job is sent
-    let begun = lock(desk, rt).begin(alloc, leaf.rank, leaf.dir, leaf.frag)?;
-    let Some(job) = begun else {
-        return Ok(());
-    };
+    let begun = lock(desk, rt).begin(alloc, leaf.rank, leaf.dir, leaf.frag);
+    match begun {
+        Ok(Some(job)) => hand_on(rt, alloc, desk, jobs, job),
+        Ok(None) => Ok(()),
+        Err(refusal) => Err(refusal),
+    }
+}
+
+// Hands a job to the workers. Where it can't be handed on, its commit is given up.
+fn hand_on<S: Store + Drop, L: Handed, R: Wait>(
+    rt: &R,
+    alloc: Global,
+    desk: &Mutex<Desk<S, L>>,
+    jobs: &Sender<Job>,
+    job: Job,
+) -> Result<(), Refusal>
+    ensures { HandedOn (Ok (Some job)) result }
+{
     let number = job.number;
     if jobs.send(rt, job).is_err() {
         lock(desk, rt).give_up(alloc, number);

@@ -4,6 +4,7 @@ ghost use Rattle.std.specs.List.{AllByRecursion};
 ghost use Rattle.cluster_core.specs.OneThread.{Agree, IsAskedFor, IsOneThread, Stand, waiting_in};
 ghost use Rattle.rank_threads.specs.Continued.{Continues};
 ghost use Rattle.rank_threads.specs.Sent.{Serves, plans_arrivals};
+ghost use Rattle.rank_threads.specs.TookTurn.{PlansTook, by_rank, kept_of};
 ghost use Rattle.rank_threads.specs.Turns.{PlansAnswered, firsts_of_all, lists_of, receipts_of_all};
 
 use crate::desks::{Desk, Handed};
@@ -32,7 +33,8 @@ use std::thread::Threads;
 /// Whatever the schedule was, the book that comes back is a sound one with the opening tree of the book handed in, and
 /// its history begins with that book's. Where the run succeeds, each turn of each plan has a result, and the receipts,
 /// which are the replies among them, are those of one thread that serves one plain tree the requests that waited and
-/// those that the plans bring.
+/// those that the plans bring. Each turn made what it says, with its result, and each thread hands back the bytes that
+/// its own turns sent, or that it was given to keep, and that none of them imported.
 ///
 /// The run waits for its threads. It fails with `NoMemory` where memory was refused, `Spawn` where a thread can't be
 /// made, and `Strayed` where a reply that was handed out isn't the history's.
@@ -54,6 +56,8 @@ where
     ensures ok { IfOk result (λ o. Continues book.opening book.history o.book) }
     ensures err { IfErr result (λ e. Continues book.opening book.history e.book) }
     ensures answered { IfOk result (λ o. PlansAnswered (lists_of plans.items) (lists_of o.answers.items)) }
+    ensures took { IfOk result (λ o.
+        PlansTook (by_rank (lists_of plans.items)) (lists_of o.answers.items) (kept_of o.kept.items)) }
     ensures told { IfOk result (λ o. o.receipts.items ≡ receipts_of_all (lists_of o.answers.items)) }
     ensures one_thread { IfOk result (λ o. IsOneThread book.core.state.tree.limit book.opening book.history
         o.book.history (waiting_in book.core.state.inboxes ++ plans_arrivals (lists_of plans.items)) o.receipts.items) }
@@ -90,6 +94,7 @@ where
     requires name { blank.name ≡ L.name }
     requires parts { blank.parts ≡ L.parts }
     requires each { blank.parts ≡ vec_len asked.plans + 1 }
+    requires few { vec_len asked.plans ≤ 16 }
     requires begun { L.begun ≡ book.history }
     requires opened { L.opened ≡ book.opening }
     requires limit { L.limit ≡ book.core.state.tree.limit }
@@ -97,6 +102,8 @@ where
     ensures ok { IfOk result (λ o. Continues book.opening book.history o.book) }
     ensures err { IfErr result (λ e. Continues book.opening book.history e.book) }
     ensures answered { IfOk result (λ o. PlansAnswered (lists_of asked.plans.items) (lists_of o.answers.items)) }
+    ensures took { IfOk result (λ o.
+        PlansTook (by_rank (lists_of asked.plans.items)) (lists_of o.answers.items) (kept_of o.kept.items)) }
     ensures told { IfOk result (λ o. o.receipts.items ≡ receipts_of_all (lists_of o.answers.items)) }
     ensures one_thread { IfOk result (λ o. IsOneThread book.core.state.tree.limit book.opening book.history
         o.book.history (waiting_in book.core.state.inboxes ++ plans_arrivals (lists_of asked.plans.items)) o.receipts.items) }
@@ -148,9 +155,11 @@ fn settled<S: Store + Drop, L: Handed>(
     ensures waits { IfOk result (λ o. AllByRecursion (Contains L.sent) (waiting_in o.book.core.state.inboxes)) }
     ensures agree { IfOk result (λ o. Agree o.book.history (length L.begun) o.receipts.items) }
     ensures answers { IfOk result (λ o. o.answers ≡ ran.answers) }
+    ensures kept { IfOk result (λ o. o.kept ≡ ran.kept) }
 {
     let Ran {
         answers,
+        kept,
         commits,
         mut all,
     } = ran;
@@ -159,6 +168,7 @@ fn settled<S: Store + Drop, L: Handed>(
         Ok(receipts) => Ok(Outcome {
             book,
             answers,
+            kept,
             receipts,
             commits,
         }),

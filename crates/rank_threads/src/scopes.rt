@@ -2,6 +2,7 @@
 ghost use Rattle.std.specs.Prelude.{◌≡◌, ◌+◌, [], IfOk, IfSome, OnOk, map, vec_len};
 ghost use Rattle.std.specs.List.{AllByRecursion};
 ghost use Rattle.cluster_core.specs.OneThread.{IsAskedFor};
+ghost use Rattle.rank_threads.specs.TookTurn.{PlansTook, of_rank, kept_of};
 ghost use Rattle.rank_threads.specs.Turns.{PlansAnswered, firsts_of_all, lists_of, receipts_of_all};
 
 use crate::commits::{Commit, end_all};
@@ -11,6 +12,7 @@ use crate::outcomes::RunFault;
 use crate::prepared::{Ends, Needs, Starts};
 use crate::ranks::{Answered, Work, Working, start};
 use crate::workers::encode_all;
+use cluster_core::KeptBytes;
 use objstore::Store;
 use std::alloc::{AllocError, Global};
 use std::sync::ledger::Share;
@@ -22,6 +24,7 @@ use std::thread::{Scope, Threads};
 #[derive(Drop)]
 pub(crate) struct Ran<L: Handed> {
     pub(crate) answers: Vec<Vec<Answered>>,
+    pub(crate) kept: Vec<KeptBytes>,
     pub(crate) commits: Vec<Commit>,
     pub(crate) all: Share<L>,
 }
@@ -39,9 +42,11 @@ where
     L: Handed + Send + Sync,
     G: Gate,
     R: Threads + Wait + Sync,
-    requires { (needs.starts.handles.items ≡ []) × (needs.answers.items ≡ []) }
+    requires { (needs.starts.handles.items ≡ []) × (needs.answers.items ≡ []) × (needs.kept.items ≡ []) }
     ensures answered { IfOk result (λ r.
         PlansAnswered (map (λ p. p.turns.items) needs.starts.plans.items) (lists_of r.answers.items)) }
+    ensures took { IfOk result (λ r. PlansTook (map (λ p. of_rank p.rank p.turns.items) needs.starts.plans.items)
+        (lists_of r.answers.items) (kept_of r.kept.items)) }
     ensures parts { IfOk result (λ r. r.all.parts ≡ needs.all.parts + vec_len needs.starts.plans) }
     ensures amount { IfOk result (λ r. r.all.amount ≡ needs.all.amount + firsts_of_all (lists_of r.answers.items)) }
     ensures asked_for { IfOk result (λ r.
@@ -51,9 +56,11 @@ where
         thread::scope_env(),
         rt,
         move |scope| -> Result<Ran<L>, RunFault>
-            requires { (needs.starts.handles.items ≡ []) × (needs.answers.items ≡ []) }
+            requires { (needs.starts.handles.items ≡ []) × (needs.answers.items ≡ []) × (needs.kept.items ≡ []) }
             ensures { IfOk result (λ r.
                 PlansAnswered (map (λ p. p.turns.items) needs.starts.plans.items) (lists_of r.answers.items)
+                × PlansTook (map (λ p. of_rank p.rank p.turns.items) needs.starts.plans.items) (lists_of r.answers.items)
+                (kept_of r.kept.items)
                 × (r.all.parts ≡ needs.all.parts + vec_len needs.starts.plans)
                 × (r.all.amount ≡ needs.all.amount + firsts_of_all (lists_of r.answers.items))
                 × ∥ AllByRecursion (IsAskedFor L.sent) (receipts_of_all (lists_of r.answers.items)) ∥₁) }
@@ -75,9 +82,11 @@ where
     L: Handed + Send + Sync + 's,
     G: Gate + 's,
     R: Threads + Wait + Sync + 's,
-    requires { (needs.starts.handles.items ≡ []) × (needs.answers.items ≡ []) }
+    requires { (needs.starts.handles.items ≡ []) × (needs.answers.items ≡ []) × (needs.kept.items ≡ []) }
     ensures answered { IfOk result (λ r.
         PlansAnswered (map (λ p. p.turns.items) needs.starts.plans.items) (lists_of r.answers.items)) }
+    ensures took { IfOk result (λ r. PlansTook (map (λ p. of_rank p.rank p.turns.items) needs.starts.plans.items)
+        (lists_of r.answers.items) (kept_of r.kept.items)) }
     ensures parts { IfOk result (λ r. r.all.parts ≡ needs.all.parts + vec_len needs.starts.plans) }
     ensures amount { IfOk result (λ r. r.all.amount ≡ needs.all.amount + firsts_of_all (lists_of r.answers.items)) }
     ensures asked_for { IfOk result (λ r.
@@ -88,6 +97,7 @@ where
         workers,
         results,
         mut answers,
+        mut kept,
         mut commits,
         mut all,
     } = needs;
@@ -100,11 +110,12 @@ where
     let Some(handles) = started else {
         return Err(RunFault::Spawn);
     };
-    if gather(rt, handles, &mut answers, &mut all).is_err() || !listed {
+    if gather(rt, handles, &mut answers, &mut kept, &mut all).is_err() || !listed {
         return Err(RunFault::NoMemory);
     }
     Ok(Ran {
         answers,
+        kept,
         commits,
         all,
     })
@@ -125,8 +136,10 @@ where
     G: Gate + 's,
     R: Threads + Wait + Sync + 's,
     requires empty { starts.handles.items ≡ [] }
-    ensures { IfSome result (λ handles.
-        map (λ h. h.promise.0.value.items) handles.items ≡ map (λ p. p.turns.items) starts.plans.items) }
+    ensures turns { IfSome result (λ handles.
+        map (λ h. h.promise.turns.value.items) handles.items ≡ map (λ p. p.turns.items) starts.plans.items) }
+    ensures asked { IfSome result (λ handles. map (λ h. of_rank h.promise.rank h.promise.turns.value.items) handles.items
+        ≡ map (λ p. of_rank p.rank p.turns.items) starts.plans.items) }
 {
     let Starts { plans, mut handles } = starts;
     for plan in plans {
@@ -137,16 +150,20 @@ where
     Some(handles)
 }
 
-// Joins all threads, and gathers their answers and shares.
+// Joins all threads, and gathers their answers, what they keep still, and their shares.
 fn gather<L: Handed, R: Threads>(
     rt: &R,
     handles: Vec<Working<L>>,
     answers: &mut Vec<Vec<Answered>>,
+    kept: &mut Vec<KeptBytes>,
     all: &mut Share<L>,
 ) -> Result<(), AllocError>
     requires empty { answers.old.items ≡ [] }
+    requires none { kept.old.items ≡ [] }
     ensures answered { OnOk result (
-        PlansAnswered (map (λ h. h.promise.0.value.items) handles.items) (lists_of answers.new.items)) }
+        PlansAnswered (map (λ h. h.promise.turns.value.items) handles.items) (lists_of answers.new.items)) }
+    ensures took { OnOk result (PlansTook (map (λ h. of_rank h.promise.rank h.promise.turns.value.items) handles.items)
+        (lists_of answers.new.items) (kept_of kept.new.items)) }
     ensures parts { OnOk result (all.new.parts ≡ all.old.parts + vec_len handles) }
     ensures amount { OnOk result (all.new.amount ≡ all.old.amount + firsts_of_all (lists_of answers.new.items)) }
     ensures asked_for { OnOk result
@@ -155,11 +172,13 @@ fn gather<L: Handed, R: Threads>(
     for handle in handles {
         let Work {
             answers: given,
+            kept: left,
             share,
             ..
         } = handle.join(rt);
         all.merge(share);
         answers.push(given)?;
+        kept.push(left)?;
     }
     Ok(())
 }

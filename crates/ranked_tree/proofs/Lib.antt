@@ -20,6 +20,7 @@ pub mod ReadsForLaws
 pub mod RenameLaws
 pub mod RootLaws
 pub mod SendLaws
+pub mod SentBytesLaws
 pub mod StandLaws
 pub mod Stays
 pub mod StepLaws

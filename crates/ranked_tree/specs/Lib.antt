@@ -5,4 +5,5 @@ pub mod Importing
 pub mod Mounted
 pub mod Ranked
 pub mod Sending
+pub mod SentBytes
 pub mod Subtrees

@@ -23,6 +23,7 @@ mod reading;
 mod regions;
 mod regrouping;
 mod sending;
+mod sent_bytes;
 mod sights;
 
 pub use inside::leaf_inside;

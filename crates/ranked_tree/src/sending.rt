@@ -69,7 +69,7 @@ fn region_bytes<S: Store + Drop>(
 }
 
 // The bytes of what is sent.
-fn encoded(alloc: Global, sent: &Export) -> Result<Bytes, AllocError>
+pub(crate) fn encoded(alloc: Global, sent: &Export) -> Result<Bytes, AllocError>
     requires { IsTrue (is_sendable sent.now) }
     ensures { IfOk result (λ bytes. SpellsExport bytes sent.now) }
 {

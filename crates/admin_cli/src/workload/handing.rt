@@ -1,6 +1,7 @@
 //! A directory handed to another rank, before the threads start.
-ghost use Rattle.std.specs.Prelude.{◌≡◌};
+ghost use Rattle.admin_cli.specs.Left.{BookGrows};
 
+use crate::workload::steps::step;
 use cluster_core::{Answer, Book, Event};
 use keeping::Keep;
 use mds_types::{Bytes, Frag, Ino, Rank, Refusal};
@@ -11,18 +12,29 @@ const FIRST: Rank = Rank(0);
 
 /// Exports a directory of one leaf from rank 0 to another rank, one step after the other. Nothing where a step is
 /// refused.
+#[tactic(auto, using(crate::proofs::GoesOnLaws::goes_on_past))]
 pub(crate) fn hand<S: Keep + Drop>(
     alloc: Global,
     book: &mut Book<S>,
     ino: Ino,
     to: Rank,
 ) -> Option<()>
-    ensures { book.new.opening ≡ book.old.opening }
+    ensures { BookGrows book.old book.new }
+{
+    prepare(alloc, book, ino, to)?;
+    take_over(alloc, book, ino)
+}
+
+// The first three steps of its export: the importer is told what will come.
+#[tactic(auto, using(crate::proofs::GoesOnLaws::goes_on_past))]
+fn prepare<S: Keep + Drop>(alloc: Global, book: &mut Book<S>, ino: Ino, to: Rank) -> Option<()>
+    ensures { BookGrows book.old book.new }
 {
     let frag = Frag::ROOT;
     let from = FIRST;
-    book.step(
+    step(
         alloc,
+        book,
         Event::Start {
             from,
             ino,
@@ -31,11 +43,20 @@ pub(crate) fn hand<S: Keep + Drop>(
         },
     )
     .ok()?;
-    book.step(alloc, Event::Freeze { ino, frag }).ok()?;
-    book.step(alloc, Event::Prep { ino, frag }).ok()?;
-    let bytes = sent(book.step(alloc, Event::Send { ino, frag }))?;
-    book.step(alloc, Event::Import { ino, frag, bytes }).ok()?;
-    book.step(alloc, Event::Finish { ino, frag }).ok()?;
+    step(alloc, book, Event::Freeze { ino, frag }).ok()?;
+    step(alloc, book, Event::Prep { ino, frag }).ok()?;
+    Some(())
+}
+
+// The last three: the importer takes it over.
+#[tactic(auto, using(crate::proofs::GoesOnLaws::goes_on_past))]
+fn take_over<S: Keep + Drop>(alloc: Global, book: &mut Book<S>, ino: Ino) -> Option<()>
+    ensures { BookGrows book.old book.new }
+{
+    let frag = Frag::ROOT;
+    let bytes = sent(step(alloc, book, Event::Send { ino, frag }))?;
+    step(alloc, book, Event::Import { ino, frag, bytes }).ok()?;
+    step(alloc, book, Event::Finish { ino, frag }).ok()?;
     Some(())
 }
 

@@ -1,5 +1,6 @@
 //! The paths of the tree, read by requests.
 ghost use Rattle.std.specs.Prelude.{◌≡◌, IfSome};
+ghost use Rattle.admin_cli.specs.Left.{BookGrows};
 ghost use Rattle.admin_cli.specs.Reports.{AreInOrder};
 
 use crate::workload::requests::ask;
@@ -12,8 +13,10 @@ use std::alloc::Global;
 const READER: u64 = 0;
 
 /// The paths of what stands in the root and in the directories there, in the order of bytes.
+#[tactic(auto, using(crate::proofs::GoesOnLaws::goes_on_here, crate::proofs::GoesOnLaws::goes_on_past))]
 pub(crate) fn all_paths<S: Keep + Drop>(alloc: Global, book: &mut Book<S>) -> Option<Vec<Bytes>>
-    ensures { IfSome result (λ paths. AreInOrder paths.items) }
+    ensures ordered { IfSome result (λ paths. AreInOrder paths.items) }
+    ensures goes_on { BookGrows book.old book.new }
 {
     let top = names_in(alloc, book, Ino::ROOT, 1)?;
     let mut paths = Vec::new(alloc);
@@ -37,6 +40,7 @@ fn sorted(paths: Vec<Bytes>) -> Option<Vec<Bytes>>
 }
 
 // An entry of the root, and what stands in it if it is a directory.
+#[tactic(auto, using(crate::proofs::GoesOnLaws::goes_on_here, crate::proofs::GoesOnLaws::goes_on_past))]
 fn add_entry<S: Keep + Drop>(
     alloc: Global,
     book: &mut Book<S>,
@@ -44,7 +48,9 @@ fn add_entry<S: Keep + Drop>(
     name: &Name,
     inode: &Inode,
     paths: &mut Vec<Bytes>,
-) -> Option<()> {
+) -> Option<()>
+    ensures { BookGrows book.old book.new }
+{
     let path = Bytes::from_slice(alloc, name.as_bytes()).ok()?;
     paths.push(path).ok()?;
     if inode.kind != Kind::Dir {
@@ -78,12 +84,15 @@ fn path(alloc: Global, dir: &Name, name: &Name) -> Option<Bytes> {
 
 // The names in a directory with their inodes. One page has them all: it holds 1024, and no directory of a run has more
 // than 1000.
+#[tactic(auto, using(crate::proofs::GoesOnLaws::goes_on_here, crate::proofs::GoesOnLaws::goes_on_past))]
 fn names_in<S: Keep + Drop>(
     alloc: Global,
     book: &mut Book<S>,
     dir: Ino,
     tid: u64,
-) -> Option<Vec<(Name, Inode)>> {
+) -> Option<Vec<(Name, Inode)>>
+    ensures { BookGrows book.old book.new }
+{
     let op = Op::Readdir {
         dir,
         after: None,

@@ -8,12 +8,13 @@ use std::sync::atomic::{AtomicU64, Ordering};
 /// After so many creates the line is written anew.
 const STEP: u64 = 250;
 
-/// Tells on standard error how many of the creates are done.
+/// Tells on standard error how many of the creates are done, and at the end how many steps the ranks made of their own.
 #[derive(Drop)]
 pub struct Progress<'a, R: Eprint + Sync> {
     rt: &'a R,
     all: u64,
     done: AtomicU64,
+    moved: AtomicU64,
 }
 
 impl<'a, R: Eprint + Sync> Progress<'a, R> {
@@ -23,7 +24,14 @@ impl<'a, R: Eprint + Sync> Progress<'a, R> {
             rt,
             all: u64::from(load.clients) * u64::from(load.creates),
             done: AtomicU64::new(0),
+            moved: AtomicU64::new(0),
         }
+    }
+
+    /// Tells how many steps the ranks made of their own.
+    pub fn end(&self) {
+        let moved = self.moved.load(Ordering::Relaxed);
+        let _ = eprintln!(self.rt; "{moved} steps of ranks' own");
     }
 }
 
@@ -38,5 +46,9 @@ impl<'a, R: Eprint + Sync> Gate for Progress<'a, R> {
         } else if done % STEP == 0 {
             let _ = eprint!(self.rt; "\r{done} of {all} creates");
         }
+    }
+
+    fn moved(&self, _rank: Rank) {
+        let _ = self.moved.fetch_add(1, Ordering::Relaxed);
     }
 }

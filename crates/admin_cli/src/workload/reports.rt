@@ -1,5 +1,6 @@
 //! What a run prints.
 ghost use Rattle.std.specs.Prelude.{◌≡◌, ◌++◌, IfOk, IfSome, OnOk, length};
+ghost use Rattle.admin_cli.specs.Left.{BookGrows};
 ghost use Rattle.admin_cli.specs.Reports.{Reports, head_text, path_lines};
 
 use crate::workload::listing::all_paths;
@@ -10,12 +11,14 @@ use std::alloc::{AllocError, Global};
 
 /// The text of a run: how many requests were applied, whether the receipts agree, and the paths of the tree. Nothing
 /// where memory is refused or the tree can't be read.
+#[tactic(auto, using(crate::proofs::GoesOnLaws::goes_on_here, crate::proofs::GoesOnLaws::goes_on_past))]
 pub(crate) fn report<S: Keep + Drop>(
     alloc: Global,
     book: &mut Book<S>,
     agrees: bool,
 ) -> Option<Vec<u8>>
-    ensures { IfSome result (λ text. Reports (length book.old.history) agrees text.items) }
+    ensures reports { IfSome result (λ text. Reports (length book.old.history) agrees text.items) }
+    ensures goes_on { BookGrows book.old book.new }
 {
     let served = book.history().len();
     let paths = all_paths(alloc, book)?;

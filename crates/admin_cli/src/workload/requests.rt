@@ -1,6 +1,7 @@
 //! A request, answered by one thread.
-ghost use Rattle.std.specs.Prelude.{◌≡◌};
+ghost use Rattle.admin_cli.specs.Left.{BookGrows};
 
+use crate::workload::steps::step;
 use cluster_core::{Answer, Book, Event};
 use keeping::Keep;
 use mds_types::{Rank, Refusal, Reply, Request};
@@ -8,25 +9,38 @@ use std::alloc::Global;
 
 /// Sends a request to rank 0 and serves it there, or at the rank to which it is forwarded. Answers its reply, or
 /// nothing where it has none.
+#[tactic(auto, using(crate::proofs::GoesOnLaws::goes_on_here, crate::proofs::GoesOnLaws::goes_on_past))]
 pub(crate) fn ask<S: Keep + Drop>(
     alloc: Global,
     book: &mut Book<S>,
     request: Request,
 ) -> Option<Reply>
-    ensures { book.new.opening ≡ book.old.opening }
+    ensures { BookGrows book.old book.new }
 {
     let client = request.client;
     let tid = request.tid;
     let rank = Rank(0);
-    if book.step(alloc, Event::Arrive { rank, request }).is_err() {
+    if step(alloc, book, Event::Arrive { rank, request }).is_err() {
         return None;
     }
-    let answer = book.step(alloc, Event::Serve { rank });
-    let answer = match answer {
-        Ok(Answer::Forwarded(master)) => book.step(alloc, Event::Serve { rank: master }),
-        other => other,
-    };
+    let answer = step(alloc, book, Event::Serve { rank });
+    let answer = serve_on(alloc, book, answer);
     reply_to(client, tid, answer)
+}
+
+// What was forwarded is served at the rank that it went to.
+#[tactic(auto, using(crate::proofs::GoesOnLaws::goes_on_here))]
+fn serve_on<S: Keep + Drop>(
+    alloc: Global,
+    book: &mut Book<S>,
+    answer: Result<Answer, Refusal>,
+) -> Result<Answer, Refusal>
+    ensures { BookGrows book.old book.new }
+{
+    match answer {
+        Ok(Answer::Forwarded(master)) => step(alloc, book, Event::Serve { rank: master }),
+        other => other,
+    }
 }
 
 // The reply to this client's request, if the answer is that.

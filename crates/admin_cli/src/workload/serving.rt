@@ -2,6 +2,7 @@
 ghost use Rattle.std.specs.Prelude.{◌≡◌, ◌⊎◌, ◌≤◌, IfErr, IfOk, IfSome, false, vec_len};
 ghost use Rattle.std.specs.FinMap as map;
 ghost use Rattle.cluster_core.specs.Sound.{IsSoundBook};
+ghost use Rattle.admin_cli.specs.Left.{BookGrows};
 ghost use Rattle.admin_cli.specs.Loads.{IsLoad};
 ghost use Rattle.admin_cli.specs.Reports.{IsText, ServesOut};
 
@@ -106,7 +107,8 @@ pub struct Served<S: Keep + Drop> {
     pub ended: Result<(), ServeFault>,
 }
 
-/// Runs a load as `run_watched` does, over a book of as many ranks that opened with the empty tree.
+/// Runs a load as `run_watched` does, over a book of as many ranks that opened with the empty tree. Whatever the outcome,
+/// the book that it hands back opened with that tree, and its history begins with that from before.
 pub fn run_over_book<W, S, R, G>(
     rt: &R,
     writer: &mut W,
@@ -121,7 +123,8 @@ where
     G: Gate,
     requires load { IsLoad load.ranks load.workers load.clients load.creates }
     requires opening { book.opening ≡ map.empty }
-    ensures { ServesOut (W.contents writer.old) (W.contents writer.new) result.ended }
+    ensures served { ServesOut (W.contents writer.old) (W.contents writer.new) result.ended }
+    ensures left { BookGrows book result.book }
 {
     let Loaded { book, gave } = run_load(rt, book, load, gate);
     let ended = match gave {
@@ -146,6 +149,7 @@ struct Loaded<S: Keep + Drop> {
 }
 
 // Runs a load.
+#[tactic(auto, using(crate::proofs::GoesOnLaws::goes_on_here, crate::proofs::GoesOnLaws::goes_on_past, crate::proofs::GoesOnLaws::goes_on_run))]
 fn run_load<S, R, G>(rt: &R, mut book: Book<S>, load: Load, gate: &G) -> Loaded<S>
 where
     S: Keep + Drop + Send,
@@ -155,6 +159,7 @@ where
     requires opening { book.opening ≡ map.empty }
     ensures ok { IfOk result.gave (λ p. IsText p.agrees p.text.items) }
     ensures err { IfErr result.gave (λ number. (number ≡ 1) ⊎ (number ≡ 2)) }
+    ensures left { BookGrows book result.book }
 {
     let alloc = rt.alloc();
     let plans = planned(alloc, &mut book, load);
@@ -172,9 +177,10 @@ where
 
 // The directories of all clients are made, and what each rank's thread is to do is listed. Nothing where memory is
 // refused, or a step is.
+#[tactic(auto, using(crate::proofs::GoesOnLaws::goes_on_here, crate::proofs::GoesOnLaws::goes_on_past, crate::proofs::GoesOnLaws::goes_on_run))]
 fn planned<S: Keep + Drop>(alloc: Global, book: &mut Book<S>, load: Load) -> Option<Vec<Vec<Turn>>>
     requires { IsLoad load.ranks load.workers load.clients load.creates }
-    ensures opening { book.new.opening ≡ book.old.opening }
+    ensures goes_on { BookGrows book.old book.new }
     ensures ranks { IfSome result (λ plans. vec_len plans ≡ load.ranks) }
 {
     let homes = make_homes(alloc, book, load.ranks, load.clients)?;
@@ -183,12 +189,14 @@ fn planned<S: Keep + Drop>(alloc: Global, book: &mut Book<S>, load: Load) -> Opt
 
 // What a run prints that gave no outcome: at a reply that the history doesn't hold the same as at success, but for one
 // word.
+#[tactic(auto, using(crate::proofs::GoesOnLaws::goes_on_here, crate::proofs::GoesOnLaws::goes_on_past, crate::proofs::GoesOnLaws::goes_on_run))]
 fn failed<S: Keep + Drop>(alloc: Global, book: Book<S>, fault: RunFault) -> Loaded<S>
     requires sound { IsSoundBook book }
     requires opening { book.opening ≡ map.empty }
     ensures ok { IfOk result.gave (λ p. IsText p.agrees p.text.items) }
     ensures strayed { IfOk result.gave (λ p. p.agrees ≡ false) }
     ensures err { IfErr result.gave (λ number. (number ≡ 1) ⊎ (number ≡ 2)) }
+    ensures left { BookGrows book result.book }
 {
     if fault == RunFault::Strayed {
         return reported(alloc, book, false);
@@ -200,12 +208,14 @@ fn failed<S: Keep + Drop>(alloc: Global, book: Book<S>, fault: RunFault) -> Load
 }
 
 // What a run prints.
+#[tactic(auto, using(crate::proofs::GoesOnLaws::goes_on_here, crate::proofs::GoesOnLaws::goes_on_past, crate::proofs::GoesOnLaws::goes_on_run))]
 fn reported<S: Keep + Drop>(alloc: Global, book: Book<S>, agrees: bool) -> Loaded<S>
     requires sound { IsSoundBook book }
     requires opening { book.opening ≡ map.empty }
     ensures ok { IfOk result.gave (λ p. IsText p.agrees p.text.items) }
     ensures agrees { IfOk result.gave (λ p. p.agrees ≡ agrees) }
     ensures err { IfErr result.gave (λ number. number ≡ 1) }
+    ensures left { BookGrows book result.book }
 {
     let mut book = book;
     match report(alloc, &mut book, agrees) {

@@ -1,5 +1,6 @@
 //! What is made before the threads start: a directory for each client.
-ghost use Rattle.std.specs.Prelude.{◌≡◌, ◌≤◌};
+ghost use Rattle.std.specs.Prelude.{◌≤◌};
+ghost use Rattle.admin_cli.specs.Left.{BookGrows};
 
 use crate::workload::handing::hand;
 use crate::workload::requests::ask;
@@ -18,6 +19,7 @@ pub(crate) struct Home {
 
 /// Makes a directory in the root for each of so many clients, in a book of so many ranks, and hands them to the ranks in
 /// turn: the first to rank 0, the next to rank 1, .. Nothing where memory is refused, or a step is.
+#[tactic(auto, using(crate::proofs::GoesOnLaws::goes_on_here, crate::proofs::GoesOnLaws::goes_on_past))]
 pub(crate) fn make_homes<S: Keep + Drop>(
     alloc: Global,
     book: &mut Book<S>,
@@ -25,7 +27,7 @@ pub(crate) fn make_homes<S: Keep + Drop>(
     clients: u8,
 ) -> Option<Vec<Home>>
     requires { 1 ≤ ranks }
-    ensures { book.new.opening ≡ book.old.opening }
+    ensures { BookGrows book.old book.new }
 {
     let mut homes = Vec::new(alloc);
     for number in 0..clients {
@@ -38,13 +40,14 @@ pub(crate) fn make_homes<S: Keep + Drop>(
 }
 
 // Makes the directory of the client after so many others, at a rank.
+#[tactic(auto, using(crate::proofs::GoesOnLaws::goes_on_here, crate::proofs::GoesOnLaws::goes_on_past))]
 fn make_home<S: Keep + Drop>(
     alloc: Global,
     book: &mut Book<S>,
     number: u8,
     rank: Rank,
 ) -> Option<Home>
-    ensures { book.new.opening ≡ book.old.opening }
+    ensures { BookGrows book.old book.new }
 {
     let dir = make_dir(alloc, book, number)?;
     // a new directory is that of the rank that has the root
@@ -64,8 +67,9 @@ fn client_of(number: u8) -> u64 {
 }
 
 // Makes the directory of that client in the root.
+#[tactic(auto, using(crate::proofs::GoesOnLaws::goes_on_here, crate::proofs::GoesOnLaws::goes_on_past))]
 fn make_dir<S: Keep + Drop>(alloc: Global, book: &mut Book<S>, number: u8) -> Option<Ino>
-    ensures { book.new.opening ≡ book.old.opening }
+    ensures { BookGrows book.old book.new }
 {
     let request = Request {
         client: client_of(number),

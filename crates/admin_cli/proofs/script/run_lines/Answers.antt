@@ -1,4 +1,5 @@
-use Rattle.admin_cli.proofs.Common.{DoesBytes, Err, List, Ok, PrintsOf, arith, subst, ℕ, ◌≡◌}
+use Rattle.admin_cli.proofs.Common.{DoesBytes, Err, List, Ok, PrintsOf, arith, refl, subst, ℕ, ◌≡◌}
+use Rattle.admin_cli.proofs.LeavesLaws.{leaves_all, leaves_at, leaves_here}
 use Rattle.admin_cli.proofs.Progress.{begin, finish, line_on, line_stops, settled, stop_long, stop_reading, stop_settling}
 use Rattle.admin_cli.specs.Modes.{DoesUnder}
 use Rattle.admin_cli.specs.Admin.{seen}
@@ -45,3 +46,26 @@ loop-line-preserved g c = record {
       c.in_default-run_line.field-0
       (subst (λ (b : List ℕ). PrintsOf (DoesBytes (DoesUnder c.args.mode) (seen c.loop-line.admin) (seen c.run_line.new.admin) b) c.settle.new.self c.run_line.new.waiting c.loop-line.line (g.W.Write.contents c.settle.new.writer) (g.W.Write.contents c.run_line.new.writer) (Ok c.in_default-run_line.field-0)) c.as_bytes.ensures.bytes c.in_default-run_line.ensures.runs);
 }
+
+pub returns-in-Err-clause-leaves : goal.returns-in-Err-clause-leaves
+returns-in-Err-clause-leaves g c = leaves_here (DoesUnder c.args.mode) _ _ _ _ _ _ _ _ _ c.loop-line.invariant.reached _ _ c.in-Err.fault
+
+pub returns-in-Ok-End-clause-leaves : goal.returns-in-Ok-End-clause-leaves
+returns-in-Ok-End-clause-leaves g c =
+    leaves_all (DoesUnder c.args.mode) _ _ _ _ _ _ _ _ _ (settled (DoesUnder c.args.mode) _ _ _ _ _ _ _ c.loop-line.waiting c.settle.new.self _ c.loop-line.invariant.reached c.in_default.field-0 c.in_default.ensures) c.settle.new.self refl
+    (rw c.in-Ok-End.field-0-is at c.in-Ok-End.ensures.line)
+
+pub returns-in-Err-TooLong-clause-leaves : goal.returns-in-Err-TooLong-clause-leaves
+returns-in-Err-TooLong-clause-leaves g c = leaves_here (DoesUnder c.args.mode) _ _ _ _ _ _ _ _ _ (settled (DoesUnder c.args.mode) _ _ _ _ _ _ _ c.loop-line.waiting c.settle.new.self _ c.loop-line.invariant.reached c.in_default.field-0 c.in_default.ensures) _ _ _
+
+pub returns-in-Err-Fault-clause-leaves : goal.returns-in-Err-Fault-clause-leaves
+returns-in-Err-Fault-clause-leaves g c = leaves_here (DoesUnder c.args.mode) _ _ _ _ _ _ _ _ _ (settled (DoesUnder c.args.mode) _ _ _ _ _ _ _ c.loop-line.waiting c.settle.new.self _ c.loop-line.invariant.reached c.in_default.field-0 c.in_default.ensures) _ _ _
+
+pub returns-in-Err-run_line-clause-leaves : goal.returns-in-Err-run_line-clause-leaves
+returns-in-Err-run_line-clause-leaves g c =
+    leaves_at (DoesUnder c.args.mode) _ _ _ _ _ _ _ _ _ (settled (DoesUnder c.args.mode) _ _ _ _ _ _ _ c.loop-line.waiting c.settle.new.self _ c.loop-line.invariant.reached c.in_default.field-0 c.in_default.ensures) (seen c.run_line.new.admin) _ c.next_line.new.line.line
+    (rw c.in-Ok-Read.field-0-is at c.in-Ok-Read.ensures.line) c.settle.new.self c.run_line.new.waiting _ c.loop-line.line (g.W.Write.contents c.settle.new.writer) (g.W.Write.contents c.run_line.new.writer) _ c.in-Err-run_line.fault (Err c.in-Err-run_line.fault)
+    (subst (λ (b : List ℕ). PrintsOf (DoesBytes (DoesUnder c.args.mode) (seen c.loop-line.admin) (seen c.run_line.new.admin) b) c.settle.new.self c.run_line.new.waiting c.loop-line.line (g.W.Write.contents c.settle.new.writer) (g.W.Write.contents c.run_line.new.writer) (Err c.in-Err-run_line.fault)) c.as_bytes.ensures.bytes c.in-Err-run_line.ensures.runs)
+
+pub returns-clause-leaves : goal.returns-clause-leaves
+returns-clause-leaves g c = leaves_here (DoesUnder c.args.mode) _ _ _ _ _ _ _ _ _ c.loop-line.invariant.reached _ _ _

@@ -47,7 +47,7 @@ returns-in-Ok-clause-served g c =
       told,
       c.note.ensures.told ∙ ap (λ (rs : List Receipt). rs ++ told) same,
       served_then c.args.book.now c.grant_all.new.book c.step.new.self [] told (served_by c.args.found.client c.args.found.tid 16 [] None c.args.book.now c.grant_all.new.book c.in_default.ensures.reached)
-          (served_once c.grant_all.new.book c.step.new.self c.args.found.rank (Ok c.in-Ok.answer) c.in-Ok.ensures.stepped c.in-Ok.ensures.opening c.in-Ok.ensures.sound),
+          (served_once c.grant_all.new.book c.step.new.self c.args.found.rank (Ok c.in-Ok.answer) c.in-Ok.ensures.stepped c.in-Ok.ensures.uses c.in-Ok.ensures.opening c.in-Ok.ensures.sound),
     )
 
 pub returns-in-Err-step-clause-served : goal.returns-in-Err-step-clause-served
@@ -56,5 +56,5 @@ returns-in-Err-step-clause-served g c =
       [],
       same ∙ sym (append-nil c.args.receipts.now.items),
       served_then c.args.book.now c.grant_all.new.book c.step.new.self [] [] (served_by c.args.found.client c.args.found.tid 16 [] None c.args.book.now c.grant_all.new.book c.in_default.ensures.reached)
-          (served_once c.grant_all.new.book c.step.new.self c.args.found.rank (Err c.in-Err-step.refusal) c.in-Err-step.ensures.stepped c.in-Err-step.ensures.opening c.in-Err-step.ensures.sound),
+          (served_once c.grant_all.new.book c.step.new.self c.args.found.rank (Err c.in-Err-step.refusal) c.in-Err-step.ensures.stepped c.in-Err-step.ensures.uses c.in-Err-step.ensures.opening c.in-Err-step.ensures.sound),
     )

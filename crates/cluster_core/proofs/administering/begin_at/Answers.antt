@@ -1,4 +1,4 @@
-use Rattle.cluster_core.proofs.Common.{Err, arith, begun_free, rules, stays}
+use Rattle.cluster_core.proofs.Common.{Err, arith, begun_free, stays}
 use Rattle.mdcache.specs.Core.{state_of as tree_state}
 use Rattle.cluster_core.proofs.administering.begin_at.Goals as goal
 
@@ -9,11 +9,11 @@ returns-in-Err-clause-counted g c =
     let none = begun_free old new (c.args.ino, c.args.frag) (Err c.in-Err.refusal) c.in-Err.ensures.begun in
     omega (arith, c.begin.ensures.faults, none)
 
-pub returns-then-not-has_authority-clause-begun : goal.returns-then-not-has_authority-clause-begun
-returns-then-not-has_authority-clause-begun g c numbers inboxes pins sessions past = (search rules, stays)
+pub returns-then-not-has_authority-clause-came : goal.returns-then-not-has_authority-clause-came
+returns-then-not-has_authority-clause-came g c = stays
 
-pub returns-in_default-clause-begun : goal.returns-in_default-clause-begun
-returns-in_default-clause-begun g c numbers inboxes pins sessions past = (search rules, stays)
+pub returns-in_default-clause-came : goal.returns-in_default-clause-came
+returns-in_default-clause-came g c = stays
 
-pub returns-then-is_frozen-clause-begun : goal.returns-then-is_frozen-clause-begun
-returns-then-is_frozen-clause-begun g c numbers inboxes pins sessions past = (search rules, stays)
+pub returns-then-is_frozen-clause-came : goal.returns-then-is_frozen-clause-came
+returns-then-is_frozen-clause-came g c = stays

@@ -19,5 +19,4 @@ returns-clause-frozen g c = λ numbers inboxes sessions past.
         record { step = c.in_ok-freeze.ensures.frozen.step; roots = c.in_ok-freeze.ensures.frozen.roots; ended = c.in_ok-freeze.ensures.ended },
       ),
       record { same = refl; tree = ap (λ (t : TreeState). shown_tree t) c.in_ok-freeze.ensures.ended.left; left = refl },
-      c.freeze.ensures.caches,
     )

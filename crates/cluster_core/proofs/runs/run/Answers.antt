@@ -8,7 +8,7 @@ pub loop-event-preserved : goal.loop-event-preserved
 loop-event-preserved g c =
     let h = c.loop-event.invariant in
     let w = run_more _ _ _ c.args.events.items (into_iter_items c.next.new.self) c.loop-event.results.items c.put.new.results.items c.step.result c.in-Some.event _ _
-    h.ran (sym c.in-Some.ensures.items ∙ h.left) (record { stepped = c.step.ensures.stepped; same_opening = c.step.ensures.opening }) c.step.ensures.sound c.put.ensures.len c.put.ensures.items in
+    h.ran (sym c.in-Some.ensures.items ∙ h.left) (record { stepped = c.step.ensures.stepped; uses = c.step.ensures.uses; same_opening = c.step.ensures.opening }) c.step.ensures.sound c.put.ensures.len c.put.ensures.items in
     record {
       ran = w.0;
       left = w.1;

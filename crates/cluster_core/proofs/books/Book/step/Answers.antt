@@ -1,5 +1,5 @@
 -- A step leaves a sound book, and what is known of its ranks; and it is one of one thread.
-use Rattle.cluster_core.proofs.Common.{BookState, Entry, KeepsSettled, List, length, refl, subst, ℕ, ◌∙◌, ◌≡◌}
+use Rattle.cluster_core.proofs.Common.{BookState, Entry, KeepsSettled, List, UsesStep, length, refl, subst, ℕ, ◌∙◌, ◌≡◌}
 use Rattle.cluster_core.proofs.LimitStays.{limit_stays}
 use Rattle.cluster_core.proofs.OneThreadLaws.{shown_as_one, shows_after}
 use Rattle.cluster_core.proofs.SettledLaws.{known_after}
@@ -43,6 +43,10 @@ returns-clause-shows g c =
     let b = c.self.inside in
     let end : BookState = record { opening = b.opening; history = c.step-answer.new.history.items; core = c.step-answer.new.self } in
     shows_after _ _ end c.self.view_is c.step-answer.result c.args.event c.step-answer.ensures.stepped refl (c.step-answer.ensures.sound b.opening c.self.invariant.sound)
+
+pub returns-clause-uses : goal.returns-clause-uses
+returns-clause-uses g c =
+    subst (λ (k : BookState). UsesStep k.core c.step-answer.new.self c.step-answer.result c.args.event) c.self.view_is c.step-answer.ensures.uses
 
 pub returns-clause-limit : goal.returns-clause-limit
 returns-clause-limit g c =

@@ -7,42 +7,42 @@ use Rattle.cluster_core.proofs.clusters.Cluster.choose.Goals as goal
 pub returns-in-Split : goal.returns-in-Split
 returns-in-Split g c =
     let kept = c.split.ensures.kept in
-    record { stepped = rw c.in-Split.is (record { does = c.split.ensures.split _; authorities = kept.authorities; holders = kept.holders; ranks = c.split.ensures.count; capacity = c.split.ensures.cap; counted = c.split.ensures.counted }); valid = kept.valid }
+    record { stepped = rw c.in-Split.is (record { does = c.split.ensures.split _; authorities = kept.authorities; holders = kept.holders; ranks = c.split.ensures.count; capacity = c.split.ensures.cap; counted = c.split.ensures.counted }); uses = rw c.in-Split.is c.split.ensures.uses; valid = kept.valid }
 
 pub returns-in-Merge : goal.returns-in-Merge
 returns-in-Merge g c =
     let kept = c.merge.ensures.kept in
-    record { stepped = rw c.in-Merge.is (record { does = c.merge.ensures.merged _; authorities = kept.authorities; holders = kept.holders; ranks = c.merge.ensures.count; capacity = c.merge.ensures.cap; counted = c.merge.ensures.counted }); valid = kept.valid }
+    record { stepped = rw c.in-Merge.is (record { does = c.merge.ensures.merged _; authorities = kept.authorities; holders = kept.holders; ranks = c.merge.ensures.count; capacity = c.merge.ensures.cap; counted = c.merge.ensures.counted }); uses = rw c.in-Merge.is c.merge.ensures.uses; valid = kept.valid }
 
 pub returns-in-CommitBegin : goal.returns-in-CommitBegin
 returns-in-CommitBegin g c =
-    let kept = at_rank_keeps c.args.self.now c.begin_commit.new.self c.args.history.now.items c.args.history.now.items (nat_lt c.in-CommitBegin.rank.0 (length c.args.self.now.state.inboxes)) c.begin_commit.result {done = BeginsCommit c.args.self.now c.begin_commit.new.self c.args.history.now.items c.args.history.now.items c.in-CommitBegin.rank (c.in-CommitBegin.ino, c.in-CommitBegin.frag) c.begin_commit.result} c.requires.1.subtrees (λ h. begun_keeps c.args.self.now.state c.begin_commit.new.self.state c.args.history.now.items c.args.history.now.items c.requires.1.subtrees c.in-CommitBegin.rank (c.in-CommitBegin.ino, c.in-CommitBegin.frag) c.begin_commit.result h.0) (c.begin_commit.ensures.begun c.args.history.now.items) in
-    record { stepped = rw c.in-CommitBegin.is (record { does = c.begin_commit.ensures.begun _; authorities = kept.authorities; holders = kept.holders; ranks = c.begin_commit.ensures.count; capacity = c.begin_commit.ensures.cap; counted = c.begin_commit.ensures.counted }); valid = kept.valid }
+    let kept = at_rank_keeps c.args.self.now c.begin_commit.new.self c.args.history.now.items c.args.history.now.items (nat_lt c.in-CommitBegin.rank.0 (length c.args.self.now.state.inboxes)) c.begin_commit.result {done = BeginsCommit c.args.self.now c.begin_commit.new.self c.args.history.now.items c.args.history.now.items c.in-CommitBegin.rank (c.in-CommitBegin.ino, c.in-CommitBegin.frag) c.begin_commit.result} c.requires.1.subtrees (λ h. begun_keeps c.args.self.now.state c.begin_commit.new.self.state c.args.history.now.items c.args.history.now.items c.requires.1.subtrees c.in-CommitBegin.rank (c.in-CommitBegin.ino, c.in-CommitBegin.frag) c.begin_commit.result h) (c.begin_commit.ensures.begun c.args.history.now.items) in
+    record { stepped = rw c.in-CommitBegin.is (record { does = c.begin_commit.ensures.begun _; authorities = kept.authorities; holders = kept.holders; ranks = c.begin_commit.ensures.count; capacity = c.begin_commit.ensures.cap; counted = c.begin_commit.ensures.counted }); uses = rw c.in-CommitBegin.is c.begin_commit.ensures.uses; valid = kept.valid }
 
 pub returns-in-CommitEnd : goal.returns-in-CommitEnd
 returns-in-CommitEnd g c =
-    let kept = ended_keeps c.args.self.now.state c.end_commit-ended.new.self.state c.args.history.now.items c.args.history.now.items c.requires.1.subtrees _ _ _ _ (c.end_commit-ended.ensures.ended _).0 in
-    record { stepped = rw c.in-CommitEnd.is (record { does = c.end_commit-ended.ensures.ended _; authorities = kept.authorities; holders = kept.holders; ranks = c.end_commit-ended.ensures.count; capacity = c.end_commit-ended.ensures.cap; counted = c.end_commit-ended.ensures.counted }); valid = kept.valid }
+    let kept = ended_keeps c.args.self.now.state c.end_commit-ended.new.self.state c.args.history.now.items c.args.history.now.items c.requires.1.subtrees _ _ _ _ (c.end_commit-ended.ensures.ended _) in
+    record { stepped = rw c.in-CommitEnd.is (record { does = c.end_commit-ended.ensures.ended _; authorities = kept.authorities; holders = kept.holders; ranks = c.end_commit-ended.ensures.count; capacity = c.end_commit-ended.ensures.cap; counted = c.end_commit-ended.ensures.counted }); uses = rw c.in-CommitEnd.is c.end_commit-ended.ensures.uses; valid = kept.valid }
 
 pub returns-in-CommitDrop : goal.returns-in-CommitDrop
 returns-in-CommitDrop g c =
-    let kept = dropped_keeps c.args.self.now.state c.drop_commit.new.self.state c.args.history.now.items c.args.history.now.items c.requires.1.subtrees _ _ (c.drop_commit.ensures.dropped _).0 in
-    record { stepped = rw c.in-CommitDrop.is (record { does = c.drop_commit.ensures.dropped _; authorities = kept.authorities; holders = kept.holders; ranks = c.drop_commit.ensures.count; capacity = c.drop_commit.ensures.cap; counted = c.drop_commit.ensures.counted }); valid = kept.valid }
+    let kept = dropped_keeps c.args.self.now.state c.drop_commit.new.self.state c.args.history.now.items c.args.history.now.items c.requires.1.subtrees _ _ (c.drop_commit.ensures.dropped _) in
+    record { stepped = rw c.in-CommitDrop.is (record { does = c.drop_commit.ensures.dropped _; authorities = kept.authorities; holders = kept.holders; ranks = c.drop_commit.ensures.count; capacity = c.drop_commit.ensures.cap; counted = c.drop_commit.ensures.counted }); uses = rw c.in-CommitDrop.is c.drop_commit.ensures.caches; valid = kept.valid }
 
 pub returns-in-CommitTree : goal.returns-in-CommitTree
 returns-in-CommitTree g c =
-    let kept = saved_keeps c.args.self.now.state c.commit_tree.new.self.state c.args.history.now.items c.args.history.now.items c.requires.1.subtrees _ _ _ _ (c.commit_tree.ensures.saved _).0 in
-    record { stepped = rw c.in-CommitTree.is (record { does = c.commit_tree.ensures.saved _; authorities = kept.authorities; holders = kept.holders; ranks = c.commit_tree.ensures.count; capacity = c.commit_tree.ensures.cap; counted = c.commit_tree.ensures.counted }); valid = kept.valid }
+    let kept = saved_keeps c.args.self.now.state c.commit_tree.new.self.state c.args.history.now.items c.args.history.now.items c.requires.1.subtrees _ _ _ _ (c.commit_tree.ensures.saved _) in
+    record { stepped = rw c.in-CommitTree.is (record { does = c.commit_tree.ensures.saved _; authorities = kept.authorities; holders = kept.holders; ranks = c.commit_tree.ensures.count; capacity = c.commit_tree.ensures.cap; counted = c.commit_tree.ensures.counted }); uses = rw c.in-CommitTree.is c.commit_tree.ensures.caches; valid = kept.valid }
 
 pub returns-in-Purge : goal.returns-in-Purge
 returns-in-Purge g c =
-    let kept = purged_keeps c.args.self.now.state c.purge.new.self.state c.args.history.now.items c.args.history.now.items c.requires.1.subtrees _ _ _ (c.purge.ensures.purged _).0 in
-    record { stepped = rw c.in-Purge.is (record { does = c.purge.ensures.purged _; authorities = kept.authorities; holders = kept.holders; ranks = c.purge.ensures.count; capacity = c.purge.ensures.cap; counted = c.purge.ensures.counted }); valid = kept.valid }
+    let kept = purged_keeps c.args.self.now.state c.purge.new.self.state c.args.history.now.items c.args.history.now.items c.requires.1.subtrees _ _ _ (c.purge.ensures.purged _) in
+    record { stepped = rw c.in-Purge.is (record { does = c.purge.ensures.purged _; authorities = kept.authorities; holders = kept.holders; ranks = c.purge.ensures.count; capacity = c.purge.ensures.cap; counted = c.purge.ensures.counted }); uses = rw c.in-Purge.is c.purge.ensures.caches; valid = kept.valid }
 
 pub returns-in-Evict : goal.returns-in-Evict
 returns-in-Evict g c =
     let kept = at_rank_keeps c.args.self.now c.evict.new.self c.args.history.now.items c.args.history.now.items (nat_lt c.in-Evict.rank.0 (length c.args.self.now.state.inboxes)) c.evict.result {done = AdministersTree c.args.self.now.state c.evict.new.self.state c.args.history.now.items c.args.history.now.items told_nothing (EvictsOne c.args.self.now c.evict.new.self c.in-Evict.rank) c.evict.result} c.requires.1.subtrees (λ h. evicted_keeps c.args.self.now c.evict.new.self c.args.history.now.items c.args.history.now.items c.in-Evict.rank c.evict.result c.requires.1.subtrees h) (c.evict.ensures.evicted c.args.history.now.items) in
-    record { stepped = rw c.in-Evict.is (record { does = c.evict.ensures.evicted _; authorities = kept.authorities; holders = kept.holders; ranks = c.evict.ensures.count; capacity = c.evict.ensures.cap; counted = c.evict.ensures.counted }); valid = kept.valid }
+    record { stepped = rw c.in-Evict.is (record { does = c.evict.ensures.evicted _; authorities = kept.authorities; holders = kept.holders; ranks = c.evict.ensures.count; capacity = c.evict.ensures.cap; counted = c.evict.ensures.counted }); uses = rw c.in-Evict.is c.evict.ensures.uses; valid = kept.valid }
 
 pub evict-requires : goal.evict-requires
 evict-requires g c = c.requires.1.ranks.caches ∙ sym c.requires.1.ranks.inboxes
@@ -58,6 +58,15 @@ returns-in-Arrive-clause-stepped g c =
       counted = c.arrive.ensures.counted;
     })
 
+pub returns-in-Serve-clause-uses : goal.returns-in-Serve-clause-uses
+returns-in-Serve-clause-uses g c = rw c.in-Serve.is c.serve.ensures.uses
+
+pub returns-in-Grant-clause-uses : goal.returns-in-Grant-clause-uses
+returns-in-Grant-clause-uses g c = rw c.in-Grant.is c.grant.ensures.uses
+
+pub returns-in-Arrive-clause-uses : goal.returns-in-Arrive-clause-uses
+returns-in-Arrive-clause-uses g c = rw c.in-Arrive.is c.arrive.ensures.caches
+
 pub returns-in-Start : goal.returns-in-Start
 returns-in-Start g c = record {
   stepped = rw c.in-Start.is (record {
@@ -68,6 +77,7 @@ returns-in-Start g c = record {
     capacity = ap (λ (k : CacheMap). k.cap) c.start.ensures.caches;
     counted = c.start.ensures.counted;
   });
+  uses = rw c.in-Start.is c.start.ensures.caches;
   valid = valid_still c.args.self.now c.start.new.self c.start.ensures.tree c.start.ensures.roots c.requires.1.subtrees;
 }
 
@@ -81,6 +91,7 @@ returns-in-Freeze g c = record {
     capacity = ap (λ (k : CacheMap). k.cap) c.freeze.ensures.caches;
     counted = c.freeze.ensures.counted;
   });
+  uses = rw c.in-Freeze.is c.freeze.ensures.caches;
   valid = c.freeze.ensures.valid c.requires.1.subtrees;
 }
 
@@ -94,6 +105,7 @@ returns-in-Prep g c = record {
     capacity = ap (λ (k : CacheMap). k.cap) c.prep.ensures.caches;
     counted = c.prep.ensures.counted;
   });
+  uses = rw c.in-Prep.is c.prep.ensures.caches;
   valid = valid_still c.args.self.now c.prep.new.self c.prep.ensures.tree c.prep.ensures.roots c.requires.1.subtrees;
 }
 
@@ -107,6 +119,7 @@ returns-in-Send g c = record {
     capacity = ap (λ (k : CacheMap). k.cap) c.send.ensures.caches;
     counted = c.send.ensures.counted;
   });
+  uses = rw c.in-Send.is c.send.ensures.caches;
   valid = valid_still c.args.self.now c.send.new.self c.send.ensures.tree c.send.ensures.roots c.requires.1.subtrees;
 }
 
@@ -120,6 +133,7 @@ returns-in-Import g c = record {
     capacity = c.import-imported.ensures.cap;
     counted = c.import-imported.ensures.counted;
   });
+  uses = rw c.in-Import.is c.import-imported.ensures.uses;
   valid = c.import-imported.ensures.valid c.requires.1.subtrees;
 }
 
@@ -133,6 +147,7 @@ returns-in-Finish g c = record {
     capacity = ap (λ (k : CacheMap). k.cap) c.finish.ensures.caches;
     counted = c.finish.ensures.counted;
   });
+  uses = rw c.in-Finish.is c.finish.ensures.caches;
   valid = c.finish.ensures.valid;
 }
 
@@ -146,6 +161,7 @@ returns-in-Cancel g c = record {
     capacity = ap (λ (k : CacheMap). k.cap) c.cancel.ensures.caches;
     counted = c.cancel.ensures.counted;
   });
+  uses = rw c.in-Cancel.is c.cancel.ensures.caches;
   valid = valid_still c.args.self.now c.cancel.new.self c.cancel.ensures.tree c.cancel.ensures.roots c.requires.1.subtrees;
 }
 

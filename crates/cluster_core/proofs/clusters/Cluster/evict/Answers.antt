@@ -15,11 +15,11 @@ returns-clause-evicted g c past =
       (
         tt,
         refl,
-        (
-          e.evicted,
-          (λ i. state_of (e.kept.state i) (e.roots i).roots (e.exports i) c.self.inside.given.numbers.items c.self.inside.waiting.inboxes c.self.inside.waiting.pins (table c.self.inside.given.sessions)),
-        ),
+        (λ i. state_of (e.kept.state i) (e.roots i).roots (e.exports i) c.self.inside.given.numbers.items c.self.inside.waiting.inboxes c.self.inside.waiting.pins (table c.self.inside.given.sessions)),
         worked _ _ _ _ _ _ e.exports _ _ _ _ past (ap shown_tree e.kept.state),
       ),
       ap (λ s. s.roots) e.roots,
     ))
+
+pub returns-clause-uses : goal.returns-clause-uses
+returns-clause-uses g c = at_rank _ _ _ (sym c.is_rank.ensures ∙ c.if-not-is_rank.false) (rw (← c.self.view_is) (c.in_ok-evict.ensures.evicted, tt))

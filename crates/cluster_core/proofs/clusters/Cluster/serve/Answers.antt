@@ -22,4 +22,7 @@ pub serve_front-requires-clause-valid : goal.serve_front-requires-clause-valid
 serve_front-requires-clause-valid g c = subst (λ (core : Core). AreRoots core.state.tree core.state.roots) (sym c.self.view_is) c.requires.1.subtrees
 
 pub returns-clause-served : goal.returns-clause-served
-returns-clause-served g c = at_rank _ _ _ (sym c.is_rank.ensures ∙ c.if-not-is_rank.false) (rw (← c.self.view_is) c.serve_front.ensures.served, rw (← c.self.view_is) c.serve_front.ensures.uses)
+returns-clause-served g c = at_rank _ _ _ (sym c.is_rank.ensures ∙ c.if-not-is_rank.false) (rw (← c.self.view_is) c.serve_front.ensures.served)
+
+pub returns-clause-uses : goal.returns-clause-uses
+returns-clause-uses g c = at_rank _ _ _ (sym c.is_rank.ensures ∙ c.if-not-is_rank.false) (rw (← c.self.view_is) c.serve_front.ensures.uses)

@@ -1,0 +1,67 @@
+-- The book that a script, or a load, leaves behind.
+use Rattle.std.specs.Prelude.{◌≡◌, ◌⊎◌, ℕ, ◌++◌, [], List, filter, flat_map, length, map, Option, IfOk, IfSome, Result}
+use Rattle.std.specs.Io.KnownBytes.{Appends}
+use Rattle.cluster_core.specs.declared.receipts.Receipt.{Receipt}
+use Rattle.cluster_core.specs.OneThread.{InOrder, IsOneThread, waiting_in}
+use Rattle.cluster_core.specs.Runs.{GoesOnFrom}
+use Rattle.cluster_core.specs.SentBytes.{none_sent}
+use Rattle.cluster_core.specs.State.{BookState}
+use Rattle.std.specs.FinMap as finite
+use Rattle.script_text.specs.Input.{lines_of}
+use Rattle.admin_cli.specs.Admin.{Admin}
+use Rattle.admin_cli.specs.declared.faults.ScriptFault.{ScriptFault}
+use Rattle.admin_cli.specs.Printed.{ended_line, is_reply, receipt_line, requests_of}
+use Rattle.admin_cli.specs.Scripts.{Doing, LacksMemory, OfFirst, RunsLines}
+
+-- ---- in words of lines
+
+-- what a script left of an administrator: lines of it were done, one after the other, whether they were printed or not,
+-- and of the next line what was done before memory for it was refused. One that ended well did and wrote them all
+pub record LeavesAdmin (Does : Doing) (old new : Admin) (known before after : Option (List ℕ))
+    (result : Result (Unit {0}) ScriptFault) : Type 0 where
+  pub lines : List (List ℕ)
+  pub read : IfSome known (λ bytes. lines ≡ lines_of bytes)
+  pub done : List (List ℕ)
+  pub left : List (List ℕ)
+  pub whole : lines ≡ done ++ left
+  pub reached : Admin
+  pub text : List ℕ
+  pub runs : RunsLines Does old reached done text
+  pub last : (new ≡ reached) ⊎ OfFirst (λ bytes. LacksMemory Does reached new bytes) left
+  pub all : IfOk result (λ ended. (left ≡ []) × Appends before after text)
+
+-- a script over a book left this book
+pub record LeavesBook (Does : Doing) (old new : BookState) (known before after : Option (List ℕ))
+    (result : Result (Unit {0}) ScriptFault) : Type 0 where
+  pub admin : Admin
+  pub leaves : LeavesAdmin Does (record { book = old; operations = 0; jobs = finite.empty; sent = none_sent }) admin known before after result
+  pub book_is : new ≡ admin.book
+
+-- ---- in words of one plain tree served by one thread
+
+-- lines were written, of which those that begin with `reply ` are these replies
+pub record PrintsReplies (told : List Receipt) (before after : Option (List ℕ)) : Type 0 where
+  pub printed : List (List ℕ)
+  pub written : Appends before after (flat_map ended_line printed)
+  pub replies : filter is_reply printed ≡ map receipt_line told
+
+-- a script over a book left a book whose history is that of one thread, which served the requests that waited and those
+-- that the script's lines make; a script that ended well printed each of its replies
+pub record LeavesOneThread (old new : BookState) (known before after : Option (List ℕ))
+    (result : Result (Unit {0}) ScriptFault) : Type 0 where
+  pub lines : List (List ℕ)
+  pub read : IfSome known (λ bytes. lines ≡ lines_of bytes)
+  pub told : List Receipt
+  pub one : IsOneThread old.core.state.tree.limit old.opening old.history new.history
+      (waiting_in old.core.state.inboxes ++ requests_of 0 lines) told
+  pub in_order : InOrder (length old.history) told (length new.history)
+  pub same_opening : new.opening ≡ old.opening
+  pub same_limit : new.core.state.tree.limit ≡ old.core.state.tree.limit
+  pub printed : IfOk result (λ ended. PrintsReplies told before after)
+
+-- ---- of a load
+
+-- the book opened with the same tree, and its history begins with that from before
+pub record BookGrows (old new : BookState) : Type 0 where
+  pub same_opening : new.opening ≡ old.opening
+  pub grows : GoesOnFrom new.history old.history

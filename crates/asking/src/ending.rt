@@ -1,0 +1,218 @@
+//! Ending an export that froze its region, by its own next steps.
+ghost use Rattle.std.specs.Prelude.{◌≡◌, ◌<◌, ℕ, List, Some, OnOk};
+ghost use Rattle.std.specs.FinMap as map;
+ghost use Rattle.export_steps.specs.declared.exports.ExportState.TheVariants as at;
+ghost use Rattle.export_steps.specs.Standing.{state_at};
+ghost use Rattle.cluster_core.specs.Exporting.{IsUnsent};
+ghost use Rattle.cluster_core.specs.Sound.{IsSoundBook};
+ghost use Rattle.cluster_core.specs.declared.events.Answer.TheVariants.{Sent};
+ghost use Rattle.asking.specs.Ending.{CancelsOr, EndsExport, EndsFrozen, HasEnded, TriesToSend};
+
+use cluster_core::{Answer, Book, Event, KeptBytes};
+use export_steps::ExportState;
+use mds_types::{Frag, Ino, Refusal};
+use objstore::Store;
+use std::alloc::Global;
+
+/// The export of a root that is frozen, prepared, sent or imported is brought to its end by its own next steps, at most
+/// four: Prep, Send, Import by the bytes that it sent, Finish. Those that an earlier Send gave are taken from `kept`, where
+/// those of a Send of this call stay until they are imported. With `cancel` one that can't be sent is cancelled.
+///
+/// Refused `WrongExportState` exactly where no export of this root froze; for want of memory, and of its importer's places;
+/// `Damaged` where other bytes are kept than were sent; and `TooManyFrags` as Send is, never with `cancel`. The export
+/// stands still then, and may be ended by another call.
+pub fn end_export<S: Store + Drop>(
+    alloc: Global,
+    book: &mut Book<S>,
+    kept: &mut KeptBytes,
+    ino: Ino,
+    frag: Frag,
+    cancel: bool,
+) -> Result<(), Refusal>
+    ensures ends { EndsExport cancel (ino, frag) book.old book.new kept.old kept.new result }
+    ensures opening { book.new.opening ≡ book.old.opening }
+    ensures sound { IsSoundBook book.new }
+{
+    book.is_sound();
+    match state_of(book, ino, frag) {
+        None => Err(Refusal::WrongExportState),
+        Some(ExportState::Started) => Err(Refusal::WrongExportState),
+        Some(ExportState::Frozen) => end_frozen(alloc, book, kept, ino, frag, cancel),
+        Some(ExportState::Prepared) => end_prepared(alloc, book, kept, ino, frag, cancel),
+        Some(ExportState::Sent) => end_sent(alloc, book, kept, ino, frag, cancel),
+        Some(ExportState::Imported) => {
+            finish(alloc, book, kept, ino, frag, cancel);
+            Ok(())
+        }
+    }
+}
+
+// The state of the export of a root, if there is one.
+fn state_of<S: Store + Drop>(book: &Book<S>, ino: Ino, frag: Frag) -> Option<ExportState>
+    ensures { result ≡ state_at book.now.core.state.exports (ino, frag) }
+{
+    match book.cluster().exports().get(ino, frag) {
+        Some(export) => Some(export.state),
+        None => None,
+    }
+}
+
+// One that is frozen.
+fn end_frozen<S: Store + Drop>(
+    alloc: Global,
+    book: &mut Book<S>,
+    kept: &mut KeptBytes,
+    ino: Ino,
+    frag: Frag,
+    cancel: bool,
+) -> Result<(), Refusal>
+    requires { state_at book.old.core.state.exports (ino, frag) ≡ Some at.Frozen }
+    ensures ends { EndsFrozen cancel (ino, frag) 4 book.old book.new kept.old kept.new result }
+    ensures opening { book.new.opening ≡ book.old.opening }
+    ensures sound { IsSoundBook book.new }
+{
+    match book.step(alloc, Event::Prep { ino, frag }) {
+        Ok(answer) => {
+            drop(answer);
+            end_prepared(alloc, book, kept, ino, frag, cancel)
+        }
+        Err(refusal) => unless_cancelled(alloc, book, ino, frag, cancel, refusal),
+    }
+}
+
+// One that is prepared.
+fn end_prepared<S: Store + Drop>(
+    alloc: Global,
+    book: &mut Book<S>,
+    kept: &mut KeptBytes,
+    ino: Ino,
+    frag: Frag,
+    cancel: bool,
+) -> Result<(), Refusal>
+    requires { state_at book.old.core.state.exports (ino, frag) ≡ Some at.Prepared }
+    ensures ends { EndsFrozen cancel (ino, frag) 3 book.old book.new kept.old kept.new result }
+    ensures opening { book.new.opening ≡ book.old.opening }
+    ensures sound { IsSoundBook book.new }
+{
+    match send(alloc, book, kept, ino, frag) {
+        Ok(answer) => {
+            keep_sent(kept, ino, frag, answer);
+            end_sent(alloc, book, kept, ino, frag, cancel)
+        }
+        Err(refusal) => unless_cancelled(alloc, book, ino, frag, cancel, refusal),
+    }
+}
+
+// It is sent, once there is room for its bytes: after that they can't be lost.
+fn send<S: Store + Drop>(
+    alloc: Global,
+    book: &mut Book<S>,
+    kept: &mut KeptBytes,
+    ino: Ino,
+    frag: Frag,
+) -> Result<Answer, Refusal>
+    ensures sends { TriesToSend (ino, frag) book.old book.new result }
+    ensures room { OnOk result (0 < kept.new.room) }
+    ensures bytes { kept.new.bytes ≡ kept.old.bytes }
+    ensures opening { book.new.opening ≡ book.old.opening }
+    ensures sound { IsSoundBook book.new }
+{
+    book.is_sound();
+    match kept.reserve() {
+        Ok(()) => book.step(alloc, Event::Send { ino, frag }),
+        Err(_) => Err(Refusal::NoMemory),
+    }
+}
+
+// The bytes that a Send gave are kept.
+fn keep_sent(kept: &mut KeptBytes, ino: Ino, frag: Frag, answer: Answer)
+    requires room { 0 < kept.old.room }
+    requires sent { (bytes : List ℕ) × (answer ≡ Sent bytes) }
+    ensures { (bytes : List ℕ) → answer ≡ Sent bytes → kept.new.bytes ≡ map.insert kept.old.bytes (ino, frag) bytes }
+{
+    match answer {
+        Answer::Sent(bytes) => kept.keep(ino, frag, bytes),
+        Answer::Nothing => unreachable!(),
+        Answer::Reply { .. } => unreachable!(),
+        Answer::Job(_) => unreachable!(),
+        Answer::Forwarded(_) => unreachable!(),
+        Answer::Deferred => unreachable!(),
+    }
+}
+
+// One that is sent. Its importer is given a copy of the bytes, since an Import that is refused has eaten its own.
+fn end_sent<S: Store + Drop>(
+    alloc: Global,
+    book: &mut Book<S>,
+    kept: &mut KeptBytes,
+    ino: Ino,
+    frag: Frag,
+    cancel: bool,
+) -> Result<(), Refusal>
+    requires { state_at book.old.core.state.exports (ino, frag) ≡ Some at.Sent }
+    ensures ends { EndsFrozen cancel (ino, frag) 2 book.old book.new kept.old kept.new result }
+    ensures opening { book.new.opening ≡ book.old.opening }
+    ensures sound { IsSoundBook book.new }
+{
+    book.is_sound();
+    let Ok(bytes) = kept.copy_of(ino, frag) else {
+        return Err(Refusal::NoMemory);
+    };
+    match book.step(alloc, Event::Import { ino, frag, bytes }) {
+        Ok(answer) => {
+            drop(answer);
+            finish(alloc, book, kept, ino, frag, cancel);
+            Ok(())
+        }
+        Err(refusal) => Err(refusal),
+    }
+}
+
+// One that is imported: nothing can refuse that. Its bytes are kept no longer.
+fn finish<S: Store + Drop>(
+    alloc: Global,
+    book: &mut Book<S>,
+    kept: &mut KeptBytes,
+    ino: Ino,
+    frag: Frag,
+    cancel: bool,
+)
+    requires { state_at book.old.core.state.exports (ino, frag) ≡ Some at.Imported }
+    ensures ends { HasEnded cancel (ino, frag) 1 book.old book.new kept.old kept.new }
+    ensures opening { book.new.opening ≡ book.old.opening }
+    ensures sound { IsSoundBook book.new }
+{
+    book.is_sound();
+    kept.forget(ino, frag);
+    match book.step(alloc, Event::Finish { ino, frag }) {
+        Ok(answer) => drop(answer),
+        Err(_) => unreachable!(),
+    }
+}
+
+// An export whose next step was refused before it is sent is cancelled, where it may be: nothing can refuse that.
+fn unless_cancelled<S: Store + Drop>(
+    alloc: Global,
+    book: &mut Book<S>,
+    ino: Ino,
+    frag: Frag,
+    cancel: bool,
+    refusal: Refusal,
+) -> Result<(), Refusal>
+    requires { IsUnsent book.old.core.state (ino, frag) }
+    ensures cancels { CancelsOr cancel (ino, frag) book.old book.new refusal result }
+    ensures opening { book.new.opening ≡ book.old.opening }
+    ensures sound { IsSoundBook book.new }
+{
+    book.is_sound();
+    if !cancel {
+        return Err(refusal);
+    }
+    match book.step(alloc, Event::Cancel { ino, frag }) {
+        Ok(answer) => {
+            drop(answer);
+            Ok(())
+        }
+        Err(_) => unreachable!(),
+    }
+}
