@@ -18,7 +18,7 @@ pub cached_but : (s : State) (leaf : Leaf) (g f : Cached) → IsButRoom g f → 
 cached_but s leaf g f but was =
     subst (IsCachedIn s leaf) (sym but) (record { live = was.live; tied = tied_but g.base g f.room f.places (object_of s.objects leaf.0 leaf.1) was.tied; made = was.made })
 
-loaded_first : (leaf : Leaf) (f : Cached) (object : Option Omap) → Loads leaf.1 object (Some f) → f.generation ≡ 0
+pub loaded_first : (leaf : Leaf) (f : Cached) (object : Option Omap) → Loads leaf.1 object (Some f) → f.generation ≡ 0
 loaded_first leaf f object h = search rules
 
 -- a fragment that was read

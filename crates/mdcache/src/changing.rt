@@ -18,8 +18,9 @@ use std::alloc::Global;
 
 impl<S: Store + Drop> MdCache<S> {
     /// Makes a change that may be made: its leaves are cached, each at its holder, its names are dirty there at the
-    /// next versions, and a directory that comes, moves or goes does so in the table. A new inode has a number of a
-    /// rank. Takes memory before its first step.
+    /// next versions, and a directory that comes, moves or goes does so in the table. A leaf that stood keeps the
+    /// generation of its fragment; one that was fetched has generation 0. A new inode has a number of a rank. Takes
+    /// memory before its first step.
     ///
     /// Refused `NoInodes` exactly where versions lack for the names that change, or a generation for the leaf of a new
     /// directory; otherwise `NothingToEvict` where fewer than two places of a holder are free or can become so,
