@@ -1,13 +1,19 @@
 -- What is forgotten stays so at every step, and what is kept of it is set aside.
-use Rattle.cluster_core.proofs.Common.{Administers, Answer, AreCached, AreExported, AreRanks, AreSetAside, AreSettled, Arrive, ArrivesAt, BeginsAt, Bool, Cancel, CancelsAt, CommitBegin, CommitDrop, CommitEnd, CommitTree, Core, Does, Drops, EndsJobOf, Entry, Err, Event, Evict, EvictsOne, Exports, Finish, FinishesIn, Freeze, FreezesIn, Grant, GrantsFirst, Import, ImportsExport, IsApplied, IsForwarded, IsLeft, IsSound, IsSoundBehind, IsTableOf, IsTakenOut, IsUnseen, KeepsSettled, Leaf, List, MatchBool, TreeMayRefuse, Merge, MergesLeaves, None, NotAuthority, Ok, Op, Option, Prep, PrepsIn, Purge, Purges, Rank, Refusal, Request, Result, SavesTree, Send, SendsExport, Serve, ServesInbox, ServesRequest, Some, Split, SplitsLeaf, Start, StartsIn, State, Table, Tree, [], ap, append_assoc, append-nil, arith, drop, entry_of, false, first_waiting, inl, inr, is_pair, length, length-append, list_any, nat_lt, told_nothing, refl, shown, subst, sym, take, told_job, true, waiting_at, with_entry, with_waiting, ℕ, ◌++◌, ◌+◌, ◌-◌, ◌<◌, ◌≤◌, ◌∙◌, ◌∷◌, ◌≡◌, ◌⊎◌}
+use Rattle.cluster_core.proofs.Common.{Administers, Answer, AreCached, AreExported, AreRanks, AreSetAside, AreSettled, Arrive, ArrivesAt, BeginsAt, Bool, Cancel, CancelsAt, CommitBegin, CommitDrop, CommitEnd, CommitTree, Core, Does, Drops, EndsJobOf, Entry, Err, Event, Evict, EvictsOne, Exports, Finish, FinishesIn, Freeze, FreezesIn, Grant, GrantsFirst, Import, ImportsExport, IsApplied, IsForwarded, IsLeft, IsSound, IsSoundBehind, IsTableOf, GoesOn, IsTakenOut, IsUnseen, KeepsSettled, KeptState, places_of, Leaf, List, MatchBool, TreeMayRefuse, Merge, MergesLeaves, None, NotAuthority, Ok, Op, Option, Prep, PrepsIn, Purge, Purges, Rank, Refusal, Request, Result, SavesTree, Send, SendsExport, Serve, ServesInbox, ServesRequest, Some, Split, SplitsLeaf, Start, StartsIn, State, Table, Tree, [], ap, append_assoc, append-nil, arith, drop, entry_of, false, first_waiting, inl, inr, length, length-append, list_any, nat_lt, told_nothing, refl, shown, subst, sym, take, told_job, true, waiting_at, with_entry, with_waiting, ℕ, ◌++◌, ◌+◌, ◌-◌, ◌<◌, ◌≤◌, ◌∙◌, ◌∷◌, ◌≡◌, ◌⊎◌}
+use Rattle.mds_types.specs.History.{is_pair}
 use Rattle.mds_types.specs.declared.ids.Rank.{Rank as RankNumber}
 use Rattle.sessions.proofs.AsideLaws.{aside_push, forgot_all}
 use Rattle.sessions.specs.Aside.{forget_all}
 use Rattle.cluster_core.specs.Settled.{HasUnsettled, IsCalmOp}
+use Rattle.std.proofs.Common.{IfSome, length-drop, suc, zero}
 use Rattle.cluster_core.specs.State.{with_sessions}
 use Rattle.std.specs.List.{slice_index_or}
 use Rattle.std.proofs.Math.Seq.{get_or-append-add}
-use Rattle.std.proofs.lemmas.List.{drop-append-le, take-append-drop}
+use Rattle.std.proofs.Common.{drop-append-le, take-append-drop}
+
+-- the whole history has as many entries as there ever were
+pub places_behind : (opening : Tree) (past : List Entry) (book : KeptState) → GoesOn opening past book → length (past ++ book.history) ≡ places_of book
+places_behind opening past book goes = length-append past book.history ∙ ap (λ n. n + length book.history) goes.behind.aside.before
 
 -- ---- a step
 
@@ -176,3 +182,13 @@ forgets opening past history core n behind =
           (sound_with opening (past ++ history) core sessions (subst (λ (l : List Entry). IsTableOf l sessions) whole went.0) behind.sound);
       aside = went.1;
     }
+
+-- so is a book's history, with the tree that it opened with
+pub book_forgets : (opening : Tree) (past : List Entry) (book : KeptState) (kept : Option Tree) (n : ℕ) → IfSome kept (λ tree. tree ≡ opening) → GoesOn opening past book
+    → GoesOn opening (past ++ take n book.history) (record { opening = kept; history = drop n book.history; core = with_sessions book.core (forget_all book.core.state.sessions (take n book.history)) })
+book_forgets opening past book kept n opened goes = record { opened = opened; behind = forgets opening past book.history book.core n goes.behind }
+
+-- where entries went the tree that the book opened with isn't kept any more
+pub still_opened : (opening : Tree) (old new : Option Tree) (n : ℕ) → (n ≡ 0 → new ≡ old) → (0 < n → new ≡ None) → IfSome old (λ tree. tree ≡ opening) → IfSome new (λ tree. tree ≡ opening)
+still_opened opening old new zero stays gone opened = subst (λ (o : Option Tree). IfSome o (λ tree. tree ≡ opening)) (sym (stays refl)) opened
+still_opened opening old new (suc n) stays gone opened = subst (λ (o : Option Tree). IfSome o (λ tree. tree ≡ opening)) (sym (gone (omega arith))) tt

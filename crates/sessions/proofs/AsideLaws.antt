@@ -1,7 +1,22 @@
 -- Laws of what is set aside: once a request was applied, and once entries are forgotten.
-use Rattle.sessions.proofs.Common.{AreSetAside, Bool, Entry, IsAsideFor, IsKeptFor, IsPairAt, IsReplyAt, IsTableOf, None, Option, Reply, Row, Some, Table, List, [], ap, ap₂, append_assoc, append-nil, arith, aside_in, cond, eq-eqb, eqb-true, false, false≢true, forget_all, forget_first, get-insert, get-retain_keys, get_or-append_seam, get_or_append_left, is_at, is_from, is_le, is_pair, keeps_first, kept_in, length, length-append, list_any, list_any_at, nat_eq_equiv, nat_cmp, nat_cmp-IsAntisymmetric, nat_cmp_total, none-some, noted, noted_row, refl, row_in, row_or_none, row_with_aside, rows_with_aside, same_Some, slice_index_or, subst, sym, trimmed, trimmed_row, true, unsigned_tied, ℕ, ◌&&◌, ◌+◌, ◌++◌, ◌<◌, ◌==◌, ◌∙◌, ◌∷◌, ◌≡◌, ◌≤◌}
+use Rattle.sessions.proofs.Common.{AreSetAside, Bool, Entry, IsAsideFor, IsKeptFor, IsPairAt, IsTableOf, None, Option, Reply, Row, Some, Table, List, [], ap, ap₂, append_assoc, append-nil, arith, aside_in, cond, eq-eqb, eqb-true, false, false≢true, forget_all, forget_first, get-empty, get-insert, get-retain_keys, get_or-append_seam, get_or_append_left, is_at, is_from, is_le, is_pair, keeps_first, kept_in, length, length-append, list_any, list_any_at, nat_eq_equiv, nat_cmp, nat_cmp-IsAntisymmetric, nat_cmp_total, none-some, no_table, noted, noted_row, refl, row_in, row_or_none, row_with_aside, rows_with_aside, slice_index_or, subst, sym, trimmed, trimmed_row, true, unsigned_tied, ℕ, ◌&&◌, ◌+◌, ◌++◌, ◌==◌, ◌∙◌, ◌∷◌, ◌≡◌, ◌≤◌}
 use Rattle.sessions.proofs.TableLaws.{row_after}
 use Rattle.std.specs.FinMap as map
+
+-- of no history nothing is forgotten
+pub aside_none : AreSetAside [] [] no_table
+aside_none = record { before = refl; aside = λ client tid. go (kept_in no_table client tid) (aside_in no_table client tid) (kept client tid) (told client tid) }
+  where
+    kept : (client tid : ℕ) → kept_in no_table client tid ≡ None
+    kept client tid = ap (λ (o : Option Row). map.get (row_or_none o).kept tid) (get-empty nat_cmp client) ∙ get-empty nat_cmp tid
+
+    told : (client tid : ℕ) → aside_in no_table client tid ≡ None
+    told client tid = ap (λ (o : Option Row). map.get (row_or_none o).aside tid) (get-empty nat_cmp client) ∙ get-empty nat_cmp tid
+
+    go : (o : Option ℕ) (a : Option Reply) → o ≡ None → a ≡ None → IsAsideFor [] 0 o a
+    go None None is none = tt
+    go None (Some reply) is none = absurd (none-some reply (sym none))
+    go (Some place) a is none = absurd (none-some place (sym is))
 
 -- ---- a request was applied
 
@@ -187,8 +202,8 @@ forgot_all past [] rest table h aside = (h, subst (λ l. AreSetAside l rest tabl
 forgot_all past (e ∷ es) rest table h aside =
     let joined = append_assoc past (e ∷ []) (es ++ rest) in
     let more = forgot_all (past ++ e ∷ []) es rest (forget_first table e)
-        (subst (λ l. IsTableOf l (forget_first table e)) (sym joined) (table_forgot (past ++ e ∷ (es ++ rest)) table e h))
-        (forgot_first past e (es ++ rest) table h aside) in
+    (subst (λ l. IsTableOf l (forget_first table e)) (sym joined) (table_forgot (past ++ e ∷ (es ++ rest)) table e h))
+    (forgot_first past e (es ++ rest) table h aside) in
     (subst (λ l. IsTableOf l (forget_all (forget_first table e) es)) joined more.0, subst (λ l. AreSetAside l rest (forget_all (forget_first table e) es)) (append_assoc past (e ∷ []) es) more.1)
 
 -- one after several

@@ -1,5 +1,5 @@
 -- A walk over the first entries of a history, each of which is forgotten.
-use Rattle.sessions.proofs.Common.{Entry, List, Table, [], ap, arith, drop, forget_all, forget_first, get_or, get_or-drop, length, refl, set, slice_index_or, suc, sym, take, zero, ℕ, ◌++◌, ◌+◌, ◌<◌, ◌∙◌, ◌∷◌, ◌≡◌}
+use Rattle.sessions.proofs.Common.{Entry, List, Table, [], ap, arith, drop, forget_all, forget_first, get_or-drop, length, refl, set, slice_index_or, suc, sym, take, zero, ℕ, ◌++◌, ◌+◌, ◌<◌, ◌∙◌, ◌∷◌, ◌≡◌}
 use Rattle.sessions.proofs.AsideLaws.{forgot_more}
 
 drop_set : (l : List Entry) (i : ℕ) (e : Entry) → drop (suc i) (set l i e) ≡ drop (suc i) l

@@ -45,9 +45,10 @@ impl Model for Client {
 
     ghost coded = { Prim.hlevel (codes, map.code) };
 
-    ghost view = { λ c. record
-        { row = record { mark = c.mark; kept = contents nat_cmp c.kept; aside = contents nat_cmp c.aside };
-        room = c.kept.room } };
+    ghost view = { λ c. record {
+      row = record { mark = c.mark; kept = contents nat_cmp c.kept; aside = contents nat_cmp c.aside };
+      room = c.kept.room;
+    } };
 }
 
 impl Client {

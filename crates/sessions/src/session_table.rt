@@ -47,9 +47,13 @@ impl Model for Sessions {
 
     ghost coded = { Prim.hlevel (codes, map.code) };
 
-    ghost view = { λ s. record
-        { forgotten = s.forgotten; indices = contents nat_cmp s.indices; sessions = s.sessions.items;
-        room = s.indices.room; spare = s.spare } };
+    ghost view = { λ s. record {
+      forgotten = s.forgotten;
+      indices = contents nat_cmp s.indices;
+      sessions = s.sessions.items;
+      room = s.indices.room;
+      spare = s.spare;
+    } };
 
     ghost invariant = { λ s. AreIndexed (contents nat_cmp s.indices) s.sessions.items
         × IfSome s.spare (λ spare. (spare.row ≡ no_row) × (0 < spare.room)
@@ -80,13 +84,7 @@ impl Sessions {
     /// What a request of the client is to the history, whose table this is, and of a new one where the client's session
     /// is. `history` has the entries that aren't forgotten: from whichever past they go on, the request is this to all
     /// of them together. Takes no memory, and two look-ups by binary search; one more for a kept reply.
-    pub fn seen<'a>(
-        &'a self,
-        history: &'a [Entry],
-        client: u64,
-        tid: u64,
-        oldest: u64,
-    ) -> Seen<'a>
+    pub fn seen<'a>(&'a self, history: &'a [Entry], client: u64, tid: u64, oldest: u64) -> Seen<'a>
         requires { (past : List Applied) × IsTableOf (past ++ history.now) (table self.now)
             × AreSetAside past history.now (table self.now) }
         ensures seen { (past : List Applied) → IsTableOf (past ++ history.entry.now) (table self.now)

@@ -1,4 +1,4 @@
-use Rattle.sessions.proofs.Common.{Held, None, Row, Session, Some, ap, contents, nat_cmp, refl, rows, sym, ◌∙◌, ◌≡◌}
+use Rattle.sessions.proofs.Common.{Held, None, Session, Some, ap, contents, nat_cmp, refl, rows, sym, ◌∙◌, ◌≡◌}
 use Rattle.std.specs.FinMap as map
 use Rattle.sessions.proofs.RowLaws.{forgot_known, forgot_unknown, kept_known, same_behind, same_rows}
 use Rattle.sessions.proofs.session_table.Sessions.release.Goals as goal

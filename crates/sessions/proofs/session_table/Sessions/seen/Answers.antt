@@ -1,4 +1,4 @@
-use Rattle.sessions.proofs.Common.{AreSetAside, Held, IsTableOf, New, None, Row, SeesInRow, Some, ap, arith, contents, get-empty, nat_cmp, row_or_none, rows, subst, sym, table, ◌++◌, ◌∙◌, ◌≡◌}
+use Rattle.sessions.proofs.Common.{AreSetAside, Held, IsTableOf, New, None, Row, SeesInRow, Some, ap, arith, contents, get-empty, nat_cmp, rows, subst, sym, table, ◌++◌, ◌∙◌, ◌≡◌}
 use Rattle.std.specs.FinMap as map
 use Rattle.sessions.proofs.TableLaws.{kept_within, sees}
 use Rattle.sessions.proofs.RowLaws.{behind, read, row_known, row_unknown}
@@ -21,7 +21,7 @@ returns-in-Some-clause-seen c =
     rw (← c.find-at.ensures.named) (ap (λ (h : Held). map.get h.indices c.find-at.result.client) c.self.view_is ∙ c.find-at.ensures.found ∙ c.in-Some.is) in
     let row = read (contents nat_cmp c.self.inside.indices) c.self.inside.sessions.items c.args.client c.self.invariant.0 c.in-Some.i its c.index.result.now c.index.result.now c.index.ensures in
     λ past tabled aside. sees past _ _ _ _ _ _ tabled aside
-        (rw (← c.self.view_is) (subst (λ (r : Row). SeesInRow c.args.history.now c.self.inside.forgotten r c.args.tid c.args.oldest c.seen.result) (row ∙ sym (row_known _ c.self.inside.sessions.items _ _ its)) c.seen.ensures.standing))
+    (rw (← c.self.view_is) (subst (λ (r : Row). SeesInRow c.args.history.now c.self.inside.forgotten r c.args.tid c.args.oldest c.seen.result) (row ∙ sym (row_known _ c.self.inside.sessions.items _ _ its)) c.seen.ensures.standing))
 
 -- nothing is known of the client
 pub returns-in-None-2-clause-seen : goal.returns-in-None-2-clause-seen
@@ -29,4 +29,4 @@ returns-in-None-2-clause-seen c =
     let none : map.get (contents nat_cmp c.self.inside.indices) c.args.client ≡ None =
     rw (← c.find-at.ensures.named) (ap (λ (h : Held). map.get h.indices c.find-at.result.client) c.self.view_is ∙ c.find-at.ensures.found ∙ c.in-None-2.is) in
     λ past tabled aside. sees past _ _ c.args.client c.args.tid c.args.oldest (New c.find-at.result) tabled aside
-        (rw (← c.self.view_is, row_unknown _ c.self.inside.sessions.items _ none) (omega arith, c.if-tid-oldest.false, get-empty nat_cmp c.args.tid))
+    (rw (← c.self.view_is, row_unknown _ c.self.inside.sessions.items _ none) (omega arith, c.if-tid-oldest.false, get-empty nat_cmp c.args.tid))
