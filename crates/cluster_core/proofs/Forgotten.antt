@@ -1,15 +1,16 @@
 -- What is forgotten stays so at every step, and what is kept of it is set aside.
 use Rattle.cluster_core.proofs.Common.{Administers, Answer, AreCached, AreExported, AreRanks, AreSetAside, AreSettled, Arrive, ArrivesAt, BeginsAt, Bool, Cancel, CancelsAt, CommitBegin, CommitDrop, CommitEnd, CommitTree, Core, Does, Drops, EndsJobOf, Entry, Err, Event, Evict, EvictsOne, Exports, Finish, FinishesIn, Freeze, FreezesIn, Grant, GrantsFirst, Import, ImportsExport, IsApplied, IsForwarded, IsLeft, IsSound, IsSoundBehind, IsTableOf, GoesOn, IsTakenOut, IsUnseen, KeepsSettled, KeptState, places_of, Leaf, List, MatchBool, TreeMayRefuse, Merge, MergesLeaves, None, NotAuthority, Ok, Op, Option, Prep, PrepsIn, Purge, Purges, Rank, Refusal, Request, Result, SavesTree, Send, SendsExport, Serve, ServesInbox, ServesRequest, Some, Split, SplitsLeaf, Start, StartsIn, State, Table, Tree, [], ap, append_assoc, append-nil, arith, drop, entry_of, false, first_waiting, inl, inr, length, length-append, list_any, nat_lt, told_nothing, refl, shown, subst, sym, take, told_job, true, waiting_at, with_entry, with_waiting, ℕ, ◌++◌, ◌+◌, ◌-◌, ◌<◌, ◌≤◌, ◌∙◌, ◌∷◌, ◌≡◌, ◌⊎◌}
-use Rattle.mds_types.specs.History.{is_pair}
+use Rattle.mds_types.specs.History.{after, IsKeptAt, IsLegal, IsTrimmed, is_pair, mark}
 use Rattle.mds_types.specs.declared.ids.Rank.{Rank as RankNumber}
 use Rattle.sessions.proofs.AsideLaws.{aside_push, forgot_all}
 use Rattle.sessions.specs.Aside.{forget_all}
 use Rattle.cluster_core.specs.Settled.{HasUnsettled, IsCalmOp}
-use Rattle.std.proofs.Common.{IfSome, length-drop, suc, zero}
+use Rattle.std.proofs.Common.{IfSome, ap₂, eq-eqb, suc, zero, ⊎_elim, ◌&&◌}
+use Rattle.std.proofs.lemmas.Bool.{cases_lt}
+use Rattle.std.proofs.lemmas.List.{drop-append-le, get_or_default, length-drop, take-append-drop}
 use Rattle.cluster_core.specs.State.{with_sessions}
 use Rattle.std.specs.List.{slice_index_or}
 use Rattle.std.proofs.Math.Seq.{get_or-append-add}
-use Rattle.std.proofs.Common.{drop-append-le, take-append-drop}
 
 -- the whole history has as many entries as there ever were
 pub places_behind : (opening : Tree) (past : List Entry) (book : KeptState) → GoesOn opening past book → length (past ++ book.history) ≡ places_of book
@@ -192,3 +193,19 @@ book_forgets opening past book kept n opened goes = record { opened = opened; be
 pub still_opened : (opening : Tree) (old new : Option Tree) (n : ℕ) → (n ≡ 0 → new ≡ old) → (0 < n → new ≡ None) → IfSome old (λ tree. tree ≡ opening) → IfSome new (λ tree. tree ≡ opening)
 still_opened opening old new zero stays gone opened = subst (λ (o : Option Tree). IfSome o (λ tree. tree ≡ opening)) (sym (stays refl)) opened
 still_opened opening old new (suc n) stays gone opened = subst (λ (o : Option Tree). IfSome o (λ tree. tree ≡ opening)) (sym (gone (omega arith))) tt
+
+-- ---- in words of histories
+
+pub one_history : (opening : Tree) (past : List Entry) (book : KeptState) → GoesOn opening past book
+    → IsLegal book.core.state.tree.limit opening (past ++ book.history) × (shown book.core.state ≡ after book.core.state.tree.limit opening (past ++ book.history))
+one_history opening past book goes = (goes.behind.sound.legal, goes.behind.sound.replayed)
+
+pub none_is_new : (history : List Entry) (place oldest : ℕ) (e : Entry) → place < length history → e ≡ slice_index_or history place e
+    → IsTrimmed history e.client e.tid oldest ⊎ IsKeptAt history e.client e.tid oldest place
+none_is_new history place oldest e below is =
+    ⊎_elim (λ low. inl (inl low)) (λ high. ⊎_elim (λ low. inl (inr low)) (λ own. inr (record { marked = high; own = own; at = record { in_range = below; pair = here } })) (cases_lt e.tid oldest)) (cases_lt e.tid (mark history e.client))
+  where
+    here : (d : Entry) → is_pair e.client e.tid (slice_index_or history place d) ≡ true
+    here d =
+        ap (is_pair e.client e.tid) (get_or_default history place d e below ∙ sym is)
+        ∙ ap₂ (λ a b. a && b) (eq-eqb e.client e.client refl) (eq-eqb e.tid e.tid refl)

@@ -113,7 +113,9 @@ impl<S: Store + Drop> Book<S> {
     /// The tree that the book opened with is no longer kept: it is a second copy of that tree, which no call needs.
     /// Nothing else changes.
     pub fn drop_opening(&mut self)
-        ensures { self.new ≡ record { opening = None; history = self.old.history; core = self.old.core } }
+        ensures gone { self.new.opening ≡ None }
+        ensures history { self.new.history ≡ self.old.history }
+        ensures core { self.new.core ≡ self.old.core }
         ensures goes_on { (opening : Tree) (past : List Applied) → GoesOn opening past self.old
             → GoesOn opening past self.new }
     {
