@@ -19,7 +19,7 @@ pub use Rattle.cluster_core.proofs.Records.{AddsAtServe, AddsTo, IsOfHistory, Re
 pub use Rattle.cluster_core.specs.Runs.{IsRun, Runs, StepsBook}
 pub use Rattle.cluster_core.specs.Serve.{AppliesRequest, AtFront, CarryLeaves, FollowPlanned, ForwardsTo, HasLeft, IsApplied, IsDeferred, IsForwarded, IsLeft, IsNoted, IsRepeated, IsTakenOut, LeavesRefused, MakesPlanned, RefusesRequest, Repeats, Replies, ServesInbox, ServesRequest, entry_of, number_of, outcome_of, went_with, with_entry, without_gone, without_request}
 pub use Rattle.cluster_core.specs.Settled.{AreSettled, IsAway, IsCalm, IsCalmIn, IsCalmOp, HasSettled, KeepsSettled}
-pub use Rattle.cluster_core.specs.Sound.{AreCached, AreExported, AreRanks, AreSupplied, GoesOn, IsFresh, IsSound, IsSoundBehind, IsSoundBook, IsSoundKept, IsSoundWith, IsSupplied}
+pub use Rattle.cluster_core.specs.Sound.{AreCached, AreExported, AreRanks, AreSupplied, IsFresh, IsSound, IsSoundBehind, IsSoundBook, IsSoundKept, IsSoundWith, IsSupplied, StandsBehind}
 pub use Rattle.cluster_core.specs.State.{BookState, Core, KeptState, State, core_of, new_state, no_supply, places_of, shown, state_of, supply_of, whole_of, whole_supplies, with_sessions}
 pub use Rattle.cluster_core.specs.Steps.{ArrivesAt, Does, TreeMayRefuse, Steps}
 pub use Rattle.cluster_core.specs.Uses.{Asks, ChangesOp, ReadsOp, UsesApplied, UsesFront, UsesRequest}
@@ -148,7 +148,7 @@ pub use Rattle.ranked_tree.specs.Sending.{Sends}
 pub use Rattle.ranked_tree.specs.Subtrees.{AllHave, AreRoots, HoldsAt, KeepsAuthorities, KeepsHolders, KeepsRoots, LoseDirectory, Rules, SettleBy}
 pub use Rattle.sessions.proofs.AsideLaws.{aside_none, aside_push, forgot_all}
 pub use Rattle.sessions.proofs.TableLaws.{table-none, table-push}
-pub use Rattle.sessions.specs.Aside.{AreSetAside, StopsAt, forget_all}
+pub use Rattle.sessions.specs.Aside.{AreSetAside, StopsForgetting, forget_all}
 pub use Rattle.sessions.specs.Rooms.{table}
 pub use Rattle.sessions.specs.Table.{IsTableOf, Table, no_table, noted, trimmed}
 pub use Rattle.sorted_map.proofs.MapLaws.{entries-contents}

@@ -1,5 +1,5 @@
 -- What is forgotten stays so at every step, and what is kept of it is set aside.
-use Rattle.cluster_core.proofs.Common.{Administers, Answer, AreCached, AreExported, AreRanks, AreSetAside, AreSettled, Arrive, ArrivesAt, BeginsAt, Bool, Cancel, CancelsAt, CommitBegin, CommitDrop, CommitEnd, CommitTree, Core, Does, Drops, EndsJobOf, Entry, Err, Event, Evict, EvictsOne, Exports, Finish, FinishesIn, Freeze, FreezesIn, Grant, GrantsFirst, Import, ImportsExport, IsApplied, IsForwarded, IsLeft, IsSound, IsSoundBehind, IsTableOf, GoesOn, IsTakenOut, IsUnseen, KeepsSettled, KeptState, places_of, Leaf, List, MatchBool, TreeMayRefuse, Merge, MergesLeaves, None, NotAuthority, Ok, Op, Option, Prep, PrepsIn, Purge, Purges, Rank, Refusal, Request, Result, SavesTree, Send, SendsExport, Serve, ServesInbox, ServesRequest, Some, Split, SplitsLeaf, Start, StartsIn, State, Table, Tree, [], ap, append_assoc, append-nil, arith, drop, entry_of, false, first_waiting, inl, inr, length, length-append, list_any, nat_lt, told_nothing, refl, shown, subst, sym, take, told_job, true, waiting_at, with_entry, with_waiting, ℕ, ◌++◌, ◌+◌, ◌-◌, ◌<◌, ◌≤◌, ◌∙◌, ◌∷◌, ◌≡◌, ◌⊎◌}
+use Rattle.cluster_core.proofs.Common.{Administers, Answer, AreCached, AreExported, AreRanks, AreSetAside, AreSettled, Arrive, ArrivesAt, BeginsAt, Bool, Cancel, CancelsAt, CommitBegin, CommitDrop, CommitEnd, CommitTree, Core, Does, Drops, EndsJobOf, Entry, Err, Event, Evict, EvictsOne, Exports, Finish, FinishesIn, Freeze, FreezesIn, Grant, GrantsFirst, Import, ImportsExport, IsApplied, IsForwarded, IsLeft, IsSound, IsSoundBehind, IsTableOf, StandsBehind, IsTakenOut, IsUnseen, KeepsSettled, KeptState, places_of, Leaf, List, MatchBool, TreeMayRefuse, Merge, MergesLeaves, None, NotAuthority, Ok, Op, Option, Prep, PrepsIn, Purge, Purges, Rank, Refusal, Request, Result, SavesTree, Send, SendsExport, Serve, ServesInbox, ServesRequest, Some, Split, SplitsLeaf, Start, StartsIn, State, Table, Tree, [], ap, append_assoc, append-nil, arith, drop, entry_of, false, first_waiting, inl, inr, length, length-append, list_any, nat_lt, told_nothing, refl, shown, subst, sym, take, told_job, true, waiting_at, with_entry, with_waiting, ℕ, ◌++◌, ◌+◌, ◌-◌, ◌<◌, ◌≤◌, ◌∙◌, ◌∷◌, ◌≡◌, ◌⊎◌}
 use Rattle.mds_types.specs.History.{after, IsKeptAt, IsLegal, IsTrimmed, is_pair, mark}
 use Rattle.mds_types.specs.declared.ids.Rank.{Rank as RankNumber}
 use Rattle.sessions.proofs.AsideLaws.{aside_push, forgot_all}
@@ -13,7 +13,7 @@ use Rattle.std.specs.List.{slice_index_or}
 use Rattle.std.proofs.Math.Seq.{get_or-append-add}
 
 -- the whole history has as many entries as there ever were
-pub places_behind : (opening : Tree) (past : List Entry) (book : KeptState) → GoesOn opening past book → length (past ++ book.history) ≡ places_of book
+pub places_behind : (opening : Tree) (past : List Entry) (book : KeptState) → StandsBehind opening past book → length (past ++ book.history) ≡ places_of book
 places_behind opening past book goes = length-append past book.history ∙ ap (λ n. n + length book.history) goes.behind.aside.before
 
 -- ---- a step
@@ -175,8 +175,8 @@ forgets opening past history core n behind =
     let parts : take n history ++ drop n history ≡ history = take-append-drop n history in
     let whole : past ++ (take n history ++ drop n history) ≡ past ++ history = ap (λ (l : List Entry). past ++ l) parts in
     let went = forgot_all past (take n history) (drop n history) core.state.sessions
-        (subst (λ (l : List Entry). IsTableOf l core.state.sessions) (sym whole) behind.sound.kept)
-        (subst (λ (l : List Entry). AreSetAside past l core.state.sessions) (sym parts) behind.aside) in
+    (subst (λ (l : List Entry). IsTableOf l core.state.sessions) (sym whole) behind.sound.kept)
+    (subst (λ (l : List Entry). AreSetAside past l core.state.sessions) (sym parts) behind.aside) in
     let sessions = forget_all core.state.sessions (take n history) in
     record {
       sound = subst (λ (l : List Entry). IsSound opening l (with_sessions core sessions)) (sym whole ∙ sym (append_assoc past (take n history) (drop n history)))
@@ -185,8 +185,8 @@ forgets opening past history core n behind =
     }
 
 -- so is a book's history, with the tree that it opened with
-pub book_forgets : (opening : Tree) (past : List Entry) (book : KeptState) (kept : Option Tree) (n : ℕ) → IfSome kept (λ tree. tree ≡ opening) → GoesOn opening past book
-    → GoesOn opening (past ++ take n book.history) (record { opening = kept; history = drop n book.history; core = with_sessions book.core (forget_all book.core.state.sessions (take n book.history)) })
+pub book_forgets : (opening : Tree) (past : List Entry) (book : KeptState) (kept : Option Tree) (n : ℕ) → IfSome kept (λ tree. tree ≡ opening) → StandsBehind opening past book
+    → StandsBehind opening (past ++ take n book.history) (record { opening = kept; history = drop n book.history; core = with_sessions book.core (forget_all book.core.state.sessions (take n book.history)) })
 book_forgets opening past book kept n opened goes = record { opened = opened; behind = forgets opening past book.history book.core n goes.behind }
 
 -- where entries went the tree that the book opened with isn't kept any more
@@ -196,7 +196,7 @@ still_opened opening old new (suc n) stays gone opened = subst (λ (o : Option T
 
 -- ---- in words of histories
 
-pub one_history : (opening : Tree) (past : List Entry) (book : KeptState) → GoesOn opening past book
+pub one_history : (opening : Tree) (past : List Entry) (book : KeptState) → StandsBehind opening past book
     → IsLegal book.core.state.tree.limit opening (past ++ book.history) × (shown book.core.state ≡ after book.core.state.tree.limit opening (past ++ book.history))
 one_history opening past book goes = (goes.behind.sound.legal, goes.behind.sound.replayed)
 

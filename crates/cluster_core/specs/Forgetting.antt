@@ -5,13 +5,13 @@ use Rattle.mds_types.specs.declared.entries.Entry.{Entry}
 use Rattle.mds_types.specs.History.{after, IsKeptAt, IsLegal, IsTrimmed}
 use Rattle.mds_types.specs.Tree.{Tree}
 use Rattle.sessions.specs.Aside.{forget_all}
-use Rattle.cluster_core.specs.Sound.{GoesOn, IsSoundBehind}
+use Rattle.cluster_core.specs.Sound.{StandsBehind, IsSoundBehind}
 use Rattle.cluster_core.specs.State.{Core, KeptState, shown, with_sessions}
 
 -- what is forgotten, put before what isn't, is one legal history, and what is shown is the tree after it
 abbrev pub AllIsOneHistory : Type 0
 AllIsOneHistory =
-    (opening : Tree) (past : List Entry) (book : KeptState) → GoesOn opening past book
+    (opening : Tree) (past : List Entry) (book : KeptState) → StandsBehind opening past book
     → IsLegal book.core.state.tree.limit opening (past ++ book.history)
     × (shown book.core.state ≡ after book.core.state.tree.limit opening (past ++ book.history))
 

@@ -99,10 +99,10 @@ pub record IsSoundBehind (opening : Tree) (past history : List Entry) (core : Co
   pub aside : AreSetAside past history core.state.sessions
 
 -- so does a book, which needn't keep the opening tree
-pub record GoesOn (opening : Tree) (past : List Entry) (book : KeptState) : Type 0 where
+pub record StandsBehind (opening : Tree) (past : List Entry) (book : KeptState) : Type 0 where
   pub opened : IfSome book.opening (λ tree. tree ≡ opening)
   pub behind : IsSoundBehind opening past book.history book.core
 
 -- every book does, from some opening tree and some past
 abbrev pub IsSoundKept : KeptState → Type 0
-IsSoundKept book = (opening : Tree) × (past : List Entry) × GoesOn opening past book
+IsSoundKept book = (opening : Tree) × (past : List Entry) × StandsBehind opening past book

@@ -11,7 +11,7 @@ ghost use Rattle.cluster_core.specs.Fragments.{LieAtHolder};
 ghost use Rattle.cluster_core.specs.OneThread.{InOrder, IsOneThread, arrival, receipt_of, waiting_in};
 ghost use Rattle.cluster_core.specs.State.{new_state, places_of, shown};
 ghost use Rattle.cluster_core.specs.Steps.{Steps};
-ghost use Rattle.cluster_core.specs.Sound.{GoesOn, IsSoundKept};
+ghost use Rattle.cluster_core.specs.Sound.{StandsBehind, IsSoundKept};
 
 use crate::clusters::Cluster;
 use crate::events::{Answer, Event};
@@ -98,18 +98,18 @@ impl<S: Store + Drop> Book<S> {
     /// event does to them.
     #[inline(always)]
     pub fn step(&mut self, alloc: Global, event: Event) -> Result<Answer, Refusal>
-        ensures one_thread { (opening : Tree) (past : List Applied) → GoesOn opening past self.old
+        ensures one_thread { (opening : Tree) (past : List Applied) → StandsBehind opening past self.old
             → IsOneThread self.old.core.state.tree.limit opening (past ++ self.old.history) (past ++ self.new.history)
             (waiting_in self.old.core.state.inboxes ++ arrival event) (receipt_of result) }
         ensures in_order { InOrder (places_of self.old) (receipt_of result) (places_of self.new) }
         ensures waits { AllByRecursion (Contains (waiting_in self.old.core.state.inboxes ++ arrival event))
             (waiting_in self.new.core.state.inboxes) }
-        ensures shows { (opening : Tree) (past : List Applied) → GoesOn opening past self.old
+        ensures shows { (opening : Tree) (past : List Applied) → StandsBehind opening past self.old
             → shown self.new.core.state ≡ after self.old.core.state.tree.limit opening (past ++ self.new.history) }
-        ensures stepped { (opening : Tree) (past : List Applied) → GoesOn opening past self.old
+        ensures stepped { (opening : Tree) (past : List Applied) → StandsBehind opening past self.old
             → Steps self.old.core self.new.core (past ++ self.old.history) (past ++ self.new.history) result event }
-        ensures goes_on { (opening : Tree) (past : List Applied) → GoesOn opening past self.old
-            → GoesOn opening past self.new }
+        ensures goes_on { (opening : Tree) (past : List Applied) → StandsBehind opening past self.old
+            → StandsBehind opening past self.new }
         ensures opening { self.new.opening ≡ self.old.opening }
         ensures limit { self.new.core.state.tree.limit ≡ self.old.core.state.tree.limit }
         ensures sound { IsSoundKept self.new }
@@ -169,7 +169,7 @@ pub fn format<S: Store + Drop>(
     ensures empty { OnOk result (S.objects store ≡ map.empty) }
     ensures opening { IfOk result (λ book. book.opening ≡ Some map.empty) }
     ensures history { IfOk result (λ book. book.history ≡ []) }
-    ensures goes_on { IfOk result (GoesOn map.empty []) }
+    ensures goes_on { IfOk result (StandsBehind map.empty []) }
     ensures state { IfOk result (λ book. book.core.state ≡ new_state ranks limit) }
     ensures caches { IfOk result (λ book. book.core.caches ≡ new_caches ranks cache) }
     ensures refused { IfErr result (λ back. MayNotFormat (S.objects store) (S.faults store) (S.faults back.1) back.0) }

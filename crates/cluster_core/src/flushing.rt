@@ -6,7 +6,7 @@ ghost use Rattle.mds_types.specs.Tree.{Tree};
 ghost use Rattle.mds_types.specs.declared.entries.Entry.{Entry as Applied};
 ghost use Rattle.objstore.specs.Objects.{faults_told};
 ghost use Rattle.cluster_core.specs.Flush.{AreExact, Flushes, IsColdTree, KeepsCore, MayNotFlush};
-ghost use Rattle.cluster_core.specs.Sound.{AreCached, AreExported, GoesOn, IsSoundKept, IsSoundWith};
+ghost use Rattle.cluster_core.specs.Sound.{AreCached, AreExported, StandsBehind, IsSoundKept, IsSoundWith};
 ghost use Rattle.cluster_core.specs.State.{shown};
 
 use crate::books::Book;
@@ -65,8 +65,8 @@ pub fn flush<S: Store + Drop>(
     ensures purged { OnOk result (book.new.core.state.tree.purge ≡ map.empty) }
     ensures outcome { Flushes book.old book.new result }
     ensures counted { book.new.core.faults ≡ book.old.core.faults + faults_told (result_err result) }
-    ensures goes_on { (opening : Tree) (past : List Applied) → GoesOn opening past book.old
-        → GoesOn opening past book.new }
+    ensures goes_on { (opening : Tree) (past : List Applied) → StandsBehind opening past book.old
+        → StandsBehind opening past book.new }
     ensures sound { IsSoundKept book.new }
 {
     if !book.cluster.has_no_export() {

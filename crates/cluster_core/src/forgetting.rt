@@ -3,8 +3,8 @@ ghost use Rattle.std.specs.Prelude.{◌≡◌, ◌<◌, ◌≤◌, ◌+◌, ◌-
 ghost use Rattle.std.specs.List.{slice_index_or};
 ghost use Rattle.mds_types.specs.Tree.{Tree};
 ghost use Rattle.mds_types.specs.declared.entries.Entry.{Entry as Applied};
-ghost use Rattle.sessions.specs.Aside.{StopsAt, forget_all};
-ghost use Rattle.cluster_core.specs.Sound.{GoesOn};
+ghost use Rattle.sessions.specs.Aside.{StopsForgetting, forget_all};
+ghost use Rattle.cluster_core.specs.Sound.{StandsBehind};
 ghost use Rattle.cluster_core.specs.State.{places_of, with_sessions};
 
 use crate::books::Book;
@@ -19,7 +19,7 @@ impl<S: Store + Drop> Cluster<S> {
         requires { count ≤ length history.old.items }
         ensures few { result ≤ count }
         ensures stops { (e : Applied) → result < count
-            → StopsAt self.new.state.sessions (slice_index_or history.old.items result e) }
+            → StopsForgetting self.new.state.sessions (slice_index_or history.old.items result e) }
         ensures left { history.new.items ≡ drop result history.old.items }
         ensures core { self.new ≡ with_sessions self.old
             (forget_all self.old.state.sessions (take result history.old.items)) }
@@ -32,7 +32,7 @@ impl<S: Store + Drop> Cluster<S> {
         requires { count ≤ length history.old.items }
         ensures few { result ≤ count }
         ensures stops { (e : Applied) → result < count
-            → StopsAt self.new.state.sessions (slice_index_or history.old.items result e) }
+            → StopsForgetting self.new.state.sessions (slice_index_or history.old.items result e) }
         ensures left { history.new.items ≡ drop result history.old.items }
         ensures stays { self.new.state.sessions.rows ≡ self.old.state.sessions.rows }
         ensures core { self.new ≡ with_sessions self.old
@@ -70,14 +70,14 @@ impl<S: Store + Drop> Book<S> {
         ensures few { result ≤ length self.old.history - keep }
         ensures waits { length self.old.history - keep < keep → result ≡ 0 }
         ensures stops { (e : Applied) → keep ≤ length self.old.history - keep → result < length self.old.history - keep
-            → StopsAt self.new.core.state.sessions (slice_index_or self.old.history result e) }
+            → StopsForgetting self.new.core.state.sessions (slice_index_or self.old.history result e) }
         ensures left { self.new.history ≡ drop result self.old.history }
         ensures core { self.new.core ≡ with_sessions self.old.core
             (forget_all self.old.core.state.sessions (take result self.old.history)) }
         ensures nothing { result ≡ 0 → self.new ≡ self.old }
         ensures opening { 0 < result → self.new.opening ≡ None }
-        ensures goes_on { (opening : Tree) (past : List Applied) → GoesOn opening past self.old
-            → GoesOn opening (past ++ take result self.old.history) self.new }
+        ensures goes_on { (opening : Tree) (past : List Applied) → StandsBehind opening past self.old
+            → StandsBehind opening (past ++ take result self.old.history) self.new }
     {
         let gone = self.history.len().saturating_sub(keep);
         if gone < keep {
@@ -94,15 +94,15 @@ impl<S: Store + Drop> Book<S> {
     pub fn forget_passed(&mut self) -> usize
         ensures few { result ≤ length self.old.history }
         ensures stops { (e : Applied) → result < length self.old.history
-            → StopsAt self.new.core.state.sessions (slice_index_or self.old.history result e) }
+            → StopsForgetting self.new.core.state.sessions (slice_index_or self.old.history result e) }
         ensures left { self.new.history ≡ drop result self.old.history }
         ensures stays { self.new.core.state.sessions.rows ≡ self.old.core.state.sessions.rows }
         ensures core { self.new.core ≡ with_sessions self.old.core
             (forget_all self.old.core.state.sessions (take result self.old.history)) }
         ensures nothing { result ≡ 0 → self.new ≡ self.old }
         ensures opening { 0 < result → self.new.opening ≡ None }
-        ensures goes_on { (opening : Tree) (past : List Applied) → GoesOn opening past self.old
-            → GoesOn opening (past ++ take result self.old.history) self.new }
+        ensures goes_on { (opening : Tree) (past : List Applied) → StandsBehind opening past self.old
+            → StandsBehind opening (past ++ take result self.old.history) self.new }
     {
         let count = self.history.len();
         let went = self.cluster.forget_passed(&mut self.history, count);
@@ -116,8 +116,8 @@ impl<S: Store + Drop> Book<S> {
         ensures gone { self.new.opening ≡ None }
         ensures history { self.new.history ≡ self.old.history }
         ensures core { self.new.core ≡ self.old.core }
-        ensures goes_on { (opening : Tree) (past : List Applied) → GoesOn opening past self.old
-            → GoesOn opening past self.new }
+        ensures goes_on { (opening : Tree) (past : List Applied) → StandsBehind opening past self.old
+            → StandsBehind opening past self.new }
     {
         drop(self.opening.take());
     }

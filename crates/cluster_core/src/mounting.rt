@@ -11,7 +11,7 @@ ghost use Rattle.ranked_tree.specs.Exported.{StandSoundly};
 ghost use Rattle.ranked_tree.specs.Held.{IsOwned};
 ghost use Rattle.ranked_tree.specs.Ranked.{held_roots};
 ghost use Rattle.cluster_core.specs.Mounted.{MountsCore};
-ghost use Rattle.cluster_core.specs.Sound.{GoesOn, IsSound, IsSoundKept};
+ghost use Rattle.cluster_core.specs.Sound.{StandsBehind, IsSound, IsSoundKept};
 ghost use Rattle.cluster_core.specs.State.{core_of, shown};
 
 use crate::books::Book;
@@ -131,7 +131,7 @@ pub fn mount<S: Store + Drop>(
         (λ book. MountsCore limit (S.objects store) ranks cache (shown book.core.state) book.core) }
     ensures cold { IfOk result (λ book. IsColdTree (S.objects store) (shown book.core.state)) }
     ensures opening { IfOk result (λ book. book.opening ≡ Some (shown book.core.state)) }
-    ensures goes_on { IfOk result (λ book. GoesOn (shown book.core.state) [] book) }
+    ensures goes_on { IfOk result (λ book. StandsBehind (shown book.core.state) [] book) }
     ensures history { IfOk result (λ book. book.history ≡ []) }
     ensures objects { IfOk result (λ book. book.core.state.tree.objects ≡ S.objects store) }
     ensures sound { IfOk result IsSoundKept }

@@ -1,5 +1,5 @@
 -- Laws of what is set aside: once a request was applied, and once entries are forgotten.
-use Rattle.sessions.proofs.Common.{AreSetAside, Bool, Entry, IsAsideFor, IsKeptFor, IsPairAt, IsTableOf, None, Option, Reply, Row, Some, Table, List, [], ap, ap₂, append_assoc, append-nil, arith, aside_in, cond, eq-eqb, eqb-true, false, false≢true, forget_all, forget_first, get-empty, get-insert, get-retain_keys, get_or-append_seam, get_or_append_left, is_at, is_from, is_le, is_pair, keeps_first, kept_in, length, length-append, list_any, list_any_at, nat_eq_equiv, nat_cmp, nat_cmp-IsAntisymmetric, nat_cmp_total, none-some, no_table, noted, noted_row, refl, row_in, row_or_none, row_with_aside, rows_with_aside, slice_index_or, subst, sym, trimmed, trimmed_row, true, unsigned_tied, ℕ, ◌&&◌, ◌+◌, ◌++◌, ◌==◌, ◌∙◌, ◌∷◌, ◌≡◌, ◌≤◌}
+use Rattle.sessions.proofs.Common.{AreSetAside, Bool, Entry, IsAsideFor, IsKeptFor, IsPairAt, IsTableOf, None, Option, Reply, Row, Some, Table, List, [], ap, ap₂, append_assoc, append-nil, arith, aside_in, cond, eq-eqb, eqb-true, false, false≢true, forget_all, forget_first, get-empty, get-insert, get-retain_keys, get_or-append_seam, get_or_append_left, is_kept_at, is_from, is_le, is_pair, keeps_first, kept_in, length, length-append, list_any, list_any_at, nat_eq_equiv, nat_cmp, nat_cmp-IsAntisymmetric, nat_cmp_total, none-some, no_table, noted, noted_row, refl, row_in, row_or_none, row_with_aside, rows_with_aside, slice_index_or, subst, sym, trimmed, trimmed_row, true, unsigned_tied, ℕ, ◌&&◌, ◌+◌, ◌++◌, ◌==◌, ◌∙◌, ◌∷◌, ◌≡◌, ◌≤◌}
 use Rattle.sessions.proofs.TableLaws.{row_after}
 use Rattle.std.specs.FinMap as map
 
@@ -143,7 +143,7 @@ module _ (past : List Entry) (e : Entry) (rest : List Entry) (table : Table) (h 
       go true is = absurd (false≢true (sym other ∙ ap (is_pair q tid) (sym (at_first e place (eqb-true place table.forgotten is))) ∙ stands.pair e))
 
   -- an entry whose reply isn't kept there, or that of another pair
-  stays : (o : Option ℕ) (a : Option Reply) → is_at table.forgotten o ≡ false → IsAsideFor (past ++ e ∷ rest) table.forgotten o a → IsAsideFor (past ++ e ∷ rest) (table.forgotten + 1) o a
+  stays : (o : Option ℕ) (a : Option Reply) → is_kept_at table.forgotten o ≡ false → IsAsideFor (past ++ e ∷ rest) table.forgotten o a → IsAsideFor (past ++ e ∷ rest) (table.forgotten + 1) o a
   stays None a apart k = go a k
     where
       go : (a : Option Reply) → IsAsideFor (past ++ e ∷ rest) table.forgotten None a → IsAsideFor (past ++ e ∷ rest) (table.forgotten + 1) None a
@@ -156,17 +156,17 @@ module _ (past : List Entry) (e : Entry) (rest : List Entry) (table : Table) (h 
   stays (Some place) (Some reply) apart (low, told) = (omega (arith, low), told)
 
   -- the entry's own reply, which is kept there
-  set_there : (o : Option ℕ) → is_at table.forgotten o ≡ true → IsAsideFor (past ++ e ∷ rest) (table.forgotten + 1) o (Some e.reply)
+  set_there : (o : Option ℕ) → is_kept_at table.forgotten o ≡ true → IsAsideFor (past ++ e ∷ rest) (table.forgotten + 1) o (Some e.reply)
   set_there None is = absurd (false≢true is)
   set_there (Some place) is =
       let at = eqb-true place table.forgotten is in
       (omega (arith, at), λ d. ap (λ (x : Entry). x.reply) (sym (at_first d place at)))
 
   -- the reply is kept there of the entry's pair alone
-  apart_kept : (q tid : ℕ) → is_pair q tid e ≡ false → is_at table.forgotten (kept_in table q tid) ≡ false
+  apart_kept : (q tid : ℕ) → is_pair q tid e ≡ false → is_kept_at table.forgotten (kept_in table q tid) ≡ false
   apart_kept q tid other = go (kept_in table q tid) (h.replies q tid)
     where
-      go : (o : Option ℕ) → IsKeptFor (past ++ e ∷ rest) q tid o → is_at table.forgotten o ≡ false
+      go : (o : Option ℕ) → IsKeptFor (past ++ e ∷ rest) q tid o → is_kept_at table.forgotten o ≡ false
       go None k = refl
       go (Some place) (_, stands) = elsewhere q tid place stands other
 
@@ -179,9 +179,9 @@ module _ (past : List Entry) (e : Entry) (rest : List Entry) (table : Table) (h 
       go : (b : Bool) → keeps_first table e ≡ b → (c : Bool) → (q == e.client) ≡ c → (d : Bool) → (tid == e.tid) ≡ d
           → IsAsideFor (past ++ e ∷ rest) (table.forgotten + 1) (kept_in table q tid) (cond (b && c) (cond d (Some e.reply) (aside_in table q tid)) (aside_in table q tid))
       go true kept true one true two =
-          set_there (kept_in table q tid) (ap₂ (λ c t. is_at table.forgotten (kept_in table c t)) (eqb-true q e.client one) (eqb-true tid e.tid two) ∙ kept)
+          set_there (kept_in table q tid) (ap₂ (λ c t. is_kept_at table.forgotten (kept_in table c t)) (eqb-true q e.client one) (eqb-true tid e.tid two) ∙ kept)
       go false kept true one true two =
-          stays (kept_in table q tid) (aside_in table q tid) (ap₂ (λ c t. is_at table.forgotten (kept_in table c t)) (eqb-true q e.client one) (eqb-true tid e.tid two) ∙ kept) (aside.aside q tid)
+          stays (kept_in table q tid) (aside_in table q tid) (ap₂ (λ c t. is_kept_at table.forgotten (kept_in table c t)) (eqb-true q e.client one) (eqb-true tid e.tid two) ∙ kept) (aside.aside q tid)
       go true kept true one false two = stays (kept_in table q tid) (aside_in table q tid) (apart_kept q tid (pairs true false one two)) (aside.aside q tid)
       go false kept true one false two = stays (kept_in table q tid) (aside_in table q tid) (apart_kept q tid (pairs true false one two)) (aside.aside q tid)
       go true kept false one d two = stays (kept_in table q tid) (aside_in table q tid) (apart_kept q tid (pairs false d one two)) (aside.aside q tid)

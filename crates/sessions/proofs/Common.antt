@@ -3,7 +3,7 @@ pub use Rattle.mds_types.specs.History.{IsPairAt, is_pair, mark}
 pub use Rattle.mds_types.specs.declared.entries.Entry.{Entry}
 pub use Rattle.sessions.specs.Rooms.{AreIndexed, Held, Session, no_session, row_at, rows, table}
 pub use Rattle.mds_types.specs.declared.replies.Reply.{Reply}
-pub use Rattle.sessions.specs.Aside.{AreSetAside, IsAsideFor, StopsAt, forget_all, forget_first, is_at, keeps_first, released, row_with_aside, rows_with_aside}
+pub use Rattle.sessions.specs.Aside.{AreSetAside, IsAsideFor, StopsForgetting, forget_all, forget_first, is_kept_at, keeps_first, released, row_with_aside, rows_with_aside}
 pub use Rattle.sessions.specs.Seen.{IsReplyAt, IsReplyIn, IsSeen, SeesInRow}
 pub use Rattle.sessions.specs.Table.{IsKeptFor, IsTableOf, Row, Rows, Table, aside_in, kept_in, no_row, no_table, noted, noted_row, row_in, row_or_none, trimmed, trimmed_found, trimmed_row}
 pub use Rattle.sessions.specs.declared.clients.Seen.{Seen}

@@ -1,5 +1,5 @@
 -- What the table without its rooms says of the sessions with them.
-use Rattle.sessions.proofs.Common.{AreIndexed, Bool, Entry, List, None, Option, Reply, Row, Rows, Table, Session, Some, T, [], ap, ap₂, arith, below_all, cond, entries_sorted, eq-eqb, eq_by_cmp, eqb-true, false, false≢true, find, forget_first, get-empty, get-entries, get-from_sorted, get-insert, get-retain_keys, get_or, get_or-append_seam, get_or-set_at, get_or-set_other, get_or_append_left, get_or_default, is_at, is_from, is_lt, is_sorted, length, length-append, nat_cmp, nat_cmp-IsAntisymmetric, nat_cmp_total, no_row, no_session, none-some, noted, noted_row, option_map, refl, row_at, row_or_none, row_with_aside, same_Some, same_map, set, subst, sym, trimmed_found, trimmed_row, true, unsigned_tied, ℕ, ◌&&◌, ◌++◌, ◌<◌, ◌==◌, ◌∙◌, ◌∷◌, ◌≡◌, ◌≢◌}
+use Rattle.sessions.proofs.Common.{AreIndexed, Bool, Entry, List, None, Option, Reply, Row, Rows, Table, Session, Some, T, [], ap, ap₂, arith, below_all, cond, entries_sorted, eq-eqb, eq_by_cmp, eqb-true, false, false≢true, find, forget_first, get-empty, get-entries, get-from_sorted, get-insert, get-retain_keys, get_or, get_or-append_seam, get_or-set_at, get_or-set_other, get_or_append_left, get_or_default, is_kept_at, is_from, is_lt, is_sorted, length, length-append, nat_cmp, nat_cmp-IsAntisymmetric, nat_cmp_total, no_row, no_session, none-some, noted, noted_row, option_map, refl, row_at, row_or_none, row_with_aside, same_Some, same_map, set, subst, sym, trimmed_found, trimmed_row, true, unsigned_tied, ℕ, ◌&&◌, ◌++◌, ◌<◌, ◌==◌, ◌∙◌, ◌∷◌, ◌≡◌, ◌≢◌}
 use Rattle.std.proofs.Common.{map as list_map}
 use Rattle.std.specs.FinMap as map
 use Rattle.sessions.specs.Rooms.{rows}
@@ -129,22 +129,22 @@ module _ (m : map.FinMap nat_cmp ℕ) (ss : List Session) (client : ℕ) where
         ∙ ap (trimmed_found (rows m ss) client) (sym (get-rows m ss client ∙ ap (option_map (row_at ss)) its))
 
     -- and with a reply set aside, if it's kept
-    pub kept_known : (s : Session) → s ≡ get_or ss i s → (f tid : ℕ) → is_at f (map.get s.row.kept tid) ≡ is_at f (map.get (row_or_none (map.get (rows m ss) client)).kept tid)
-    kept_known s found f tid = ap (λ (r : Row). is_at f (map.get r.kept tid)) (read s found ∙ sym (row_known i its))
+    pub kept_known : (s : Session) → s ≡ get_or ss i s → (f tid : ℕ) → is_kept_at f (map.get s.row.kept tid) ≡ is_kept_at f (map.get (row_or_none (map.get (rows m ss) client)).kept tid)
+    kept_known s found f tid = ap (λ (r : Row). is_kept_at f (map.get r.kept tid)) (read s found ∙ sym (row_known i its))
 
-    pub forgot_known : (s : Session) → s ≡ get_or ss i s → (f : ℕ) (e : Entry) → e.client ≡ client → w.row ≡ cond (is_at f (map.get s.row.kept e.tid)) (row_with_aside s.row e.tid e.reply) s.row
+    pub forgot_known : (s : Session) → s ≡ get_or ss i s → (f : ℕ) (e : Entry) → e.client ≡ client → w.row ≡ cond (is_kept_at f (map.get s.row.kept e.tid)) (row_with_aside s.row e.tid e.reply) s.row
         → rows m (set ss i w) ≡ (forget_first (behind f (rows m ss)) e).rows
     forgot_known s found f e mine is =
-        rw mine (go (is_at f (map.get s.row.kept e.tid)) refl is ∙ ap (λ b. cond b (map.insert (rows m ss) client (row_with_aside (row_or_none (map.get (rows m ss) client)) e.tid e.reply)) (rows m ss)) (kept_known s found f e.tid))
+        rw mine (go (is_kept_at f (map.get s.row.kept e.tid)) refl is ∙ ap (λ b. cond b (map.insert (rows m ss) client (row_with_aside (row_or_none (map.get (rows m ss) client)) e.tid e.reply)) (rows m ss)) (kept_known s found f e.tid))
       where
-        go : (b : Bool) → is_at f (map.get s.row.kept e.tid) ≡ b → w.row ≡ cond b (row_with_aside s.row e.tid e.reply) s.row
+        go : (b : Bool) → is_kept_at f (map.get s.row.kept e.tid) ≡ b → w.row ≡ cond b (row_with_aside s.row e.tid e.reply) s.row
             → rows m (set ss i w) ≡ cond b (map.insert (rows m ss) client (row_with_aside (row_or_none (map.get (rows m ss) client)) e.tid e.reply)) (rows m ss)
         go true _ made = written ∙ ap (map.insert (rows m ss) client) (made ∙ ap (λ row. row_with_aside row e.tid e.reply) (read s found ∙ sym (row_known i its)))
         go false _ made = same_rows s found made
 
   -- nothing is kept of a client that has none
-  pub kept_unknown : map.get m client ≡ None → (f tid : ℕ) → false ≡ is_at f (map.get (row_or_none (map.get (rows m ss) client)).kept tid)
-  kept_unknown is f tid = ap (is_at f) (sym (get-empty nat_cmp tid)) ∙ ap (λ (r : Row). is_at f (map.get r.kept tid)) (sym (row_unknown is))
+  pub kept_unknown : map.get m client ≡ None → (f tid : ℕ) → false ≡ is_kept_at f (map.get (row_or_none (map.get (rows m ss) client)).kept tid)
+  kept_unknown is f tid = ap (is_kept_at f) (sym (get-empty nat_cmp tid)) ∙ ap (λ (r : Row). is_kept_at f (map.get r.kept tid)) (sym (row_unknown is))
 
   pub forgot_unknown : map.get m client ≡ None → (f : ℕ) (e : Entry) → e.client ≡ client → rows m ss ≡ (forget_first (behind f (rows m ss)) e).rows
   forgot_unknown is f e mine = rw mine (ap (λ b. cond b (map.insert (rows m ss) client (row_with_aside (row_or_none (map.get (rows m ss) client)) e.tid e.reply)) (rows m ss)) (kept_unknown is f e.tid))

@@ -20,18 +20,18 @@ pub record AreSetAside (past history : List Entry) (table : Table) : Type 0 wher
       → IsAsideFor (past ++ history) table.forgotten (kept_in table client tid) (aside_in table client tid)
 
 -- what is kept for a pair is at this place
-abbrev pub is_at : ℕ → Option ℕ → Bool
-is_at place None = false
-is_at place (Some kept) = kept == place
+abbrev pub is_kept_at : ℕ → Option ℕ → Bool
+is_kept_at place None = false
+is_kept_at place (Some kept) = kept == place
 
 -- whether the reply is kept of the first entry that isn't forgotten, which is this one
 abbrev pub keeps_first : Table → Entry → Bool
-keeps_first table e = is_at table.forgotten (kept_in table e.client e.tid)
+keeps_first table e = is_kept_at table.forgotten (kept_in table e.client e.tid)
 
 -- nothing more is forgotten: the reply of the first entry that isn't forgotten is kept, or so many are forgotten that
 -- their number is at its end
-abbrev pub StopsAt : Table → Entry → Type 0
-StopsAt table e = (keeps_first table e ≡ true) ⊎ (table.forgotten ≡ 2 ^ 62)
+abbrev pub StopsForgetting : Table → Entry → Type 0
+StopsForgetting table e = (keeps_first table e ≡ true) ⊎ (table.forgotten ≡ 2 ^ 62)
 
 -- a row with a reply that was set aside
 abbrev pub row_with_aside : Row → ℕ → Reply → Row

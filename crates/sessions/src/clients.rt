@@ -1,7 +1,7 @@
 //! What is kept for one client.
 ghost use Rattle.std.specs.Prelude.{◌≡◌, ◌<◌, ◌≤◌, ◌-◌, ℕ, None, Some, true, false, cond, length, IsOk, OnErr, OnOk};
 ghost use Rattle.std.specs.FinMap as map;
-ghost use Rattle.sessions.specs.Aside.{is_at, row_with_aside};
+ghost use Rattle.sessions.specs.Aside.{is_kept_at, row_with_aside};
 ghost use Rattle.sessions.specs.Table.{no_row, noted_row, trimmed_row};
 ghost use Rattle.sessions.specs.Seen.{IsReplyIn, SeesInRow};
 ghost use Rattle.sessions.specs.Rooms.{Held as Table, IsSessionAt, TellsSession};
@@ -135,7 +135,7 @@ impl Client {
 
     /// Whether the reply of the entry at this place is kept for a transaction number.
     pub(crate) fn keeps(&self, tid: u64, place: usize) -> bool
-        ensures { result ≡ is_at place (map.get self.now.row.kept tid) }
+        ensures { result ≡ is_kept_at place (map.get self.now.row.kept tid) }
     {
         match self.kept.get(&tid) {
             Some(kept) => *kept == place,
@@ -147,11 +147,11 @@ impl Client {
     /// reply is moved here, if it may be and memory isn't refused; where it isn't, all is as it was, and false is told.
     pub(crate) fn forget(&mut self, first: &mut Entry, place: usize, may_move: bool) -> bool
         ensures gone { result ≡ true → self.new.row
-            ≡ cond (is_at place (map.get self.old.row.kept first.old.tid))
+            ≡ cond (is_kept_at place (map.get self.old.row.kept first.old.tid))
             (row_with_aside self.old.row first.old.tid first.old.reply) self.old.row }
         ensures left { result ≡ false → self.new ≡ self.old }
         ensures entry { result ≡ false → first.new ≡ first.old }
-        ensures kept { result ≡ false → is_at place (map.get self.old.row.kept first.old.tid) ≡ true }
+        ensures kept { result ≡ false → is_kept_at place (map.get self.old.row.kept first.old.tid) ≡ true }
         ensures stays { may_move ≡ false → self.new ≡ self.old }
     {
         if !self.keeps(first.tid, place) {

@@ -5,7 +5,7 @@ ghost use Rattle.std.specs.Ordering.{nat_cmp};
 ghost use Rattle.std.specs.FinMap as map;
 ghost use Rattle.sorted_map.specs.SortedMap.{contents};
 ghost use Rattle.mds_types.specs.declared.entries.Entry.{Entry as Applied};
-ghost use Rattle.sessions.specs.Aside.{AreSetAside, StopsAt, forget_all, forget_first, keeps_first, released};
+ghost use Rattle.sessions.specs.Aside.{AreSetAside, StopsForgetting, forget_all, forget_first, keeps_first, released};
 ghost use Rattle.sessions.specs.Table.{no_row, no_table, noted, trimmed, IsTableOf};
 ghost use Rattle.sessions.specs.Rooms.{Held, IsReady, IsSessionAt, TellsSession, table};
 ghost use Rattle.sessions.specs.Seen.{IsSeen};
@@ -171,7 +171,7 @@ impl Sessions {
         requires { count ≤ length history.old.items }
         ensures few { result ≤ count }
         ensures stops { (e : Applied) → result < count
-            → StopsAt (table self.new) (slice_index_or history.old.items result e) }
+            → StopsForgetting (table self.new) (slice_index_or history.old.items result e) }
         ensures left { history.new.items ≡ drop result history.old.items }
         ensures aside { table self.new ≡ forget_all (table self.old) (take result history.old.items) }
     {
@@ -186,7 +186,7 @@ impl Sessions {
         requires { count ≤ length history.old.items }
         ensures few { result ≤ count }
         ensures stops { (e : Applied) → result < count
-            → StopsAt (table self.new) (slice_index_or history.old.items result e) }
+            → StopsForgetting (table self.new) (slice_index_or history.old.items result e) }
         ensures left { history.new.items ≡ drop result history.old.items }
         ensures stays { (table self.new).rows ≡ (table self.old).rows }
         ensures aside { table self.new ≡ forget_all (table self.old) (take result history.old.items) }
@@ -202,7 +202,7 @@ impl Sessions {
         requires { count ≤ length history.old.items }
         ensures few { result ≤ count }
         ensures stops { (e : Applied) → result < count
-            → StopsAt (table self.new) (slice_index_or history.old.items result e) }
+            → StopsForgetting (table self.new) (slice_index_or history.old.items result e) }
         ensures left { drop result history.new.items ≡ drop result history.old.items }
         ensures long { length history.new.items ≡ length history.old.items }
         ensures stays { may_move ≡ false → (table self.new).rows ≡ (table self.old).rows }
@@ -222,7 +222,7 @@ impl Sessions {
         ensures gone { result ≡ true → table self.new ≡ forget_first (table self.old) first.old }
         ensures left { result ≡ false → table self.new ≡ table self.old }
         ensures entry { result ≡ false → first.new ≡ first.old }
-        ensures stops { result ≡ false → StopsAt (table self.old) first.old }
+        ensures stops { result ≡ false → StopsForgetting (table self.old) first.old }
         ensures stays { may_move ≡ false → (table self.new).rows ≡ (table self.old).rows }
     {
         if self.forgotten == MOST_FORGOTTEN {

@@ -10,13 +10,17 @@ pub invariant_of-result : goal.invariant_of-result
 invariant_of-result g c =
     let e = c.in-Ok.ensures in
     record {
-      sound = (map.empty, [], record {
-        opened = c.new-in-Ok.ensures;
-        behind = record {
-          sound = rw c.new.ensures.items (sound-empty c.in-Ok.cluster c.args.ranks c.args.limit c.requires.some c.requires.ranked e.state e.kept e.cached (ap (λ (cs : CacheMap). length cs.used) e.caches ∙ new_count c.args.ranks c.args.cache));
-          aside = rw c.new.ensures.items (subst (λ (t : Table). AreSetAside [] [] t) (sym (ap (λ (s : State). s.sessions) e.state)) aside_none);
-        };
-      });
+      sound = (
+        map.empty,
+        [],
+        record {
+          opened = c.new-in-Ok.ensures;
+          behind = record {
+            sound = rw c.new.ensures.items (sound-empty c.in-Ok.cluster c.args.ranks c.args.limit c.requires.some c.requires.ranked e.state e.kept e.cached (ap (λ (cs : CacheMap). length cs.used) e.caches ∙ new_count c.args.ranks c.args.cache));
+            aside = rw c.new.ensures.items (subst (λ (t : Table). AreSetAside [] [] t) (sym (ap (λ (s : State). s.sessions) e.state)) aside_none);
+          };
+        },
+      );
       settled = none_known c.in-Ok.cluster.state c.new-in-Ok-2.result.ranks.items c.new-in-Ok-2.ensures;
     }
 

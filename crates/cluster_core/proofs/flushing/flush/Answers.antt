@@ -1,5 +1,5 @@
 -- A flush leaves a sound book.
-use Rattle.cluster_core.proofs.Common.{GoesOn, subst, sym}
+use Rattle.cluster_core.proofs.Common.{StandsBehind, subst, sym}
 use Rattle.cluster_core.proofs.FlushedBook.{flushed_behind}
 use Rattle.cluster_core.proofs.SettledLaws.{flushed_settled}
 use Rattle.cluster_core.proofs.flushing.flush.Goals as goal
@@ -19,5 +19,5 @@ returns-clause-sound g c = (invariant_of-book g c).sound
 pub returns-clause-goes_on : goal.returns-clause-goes_on
 returns-clause-goes_on g c = λ opening past given.
     let b = c.book.inside in
-    let goes = subst (GoesOn opening past) (sym c.book.view_is) given in
+    let goes = subst (StandsBehind opening past) (sym c.book.view_is) given in
     record { opened = goes.opened; behind = flushed_behind opening past b.history.items b.cluster c.flush.new.self goes.behind c.flush.ensures.left c.flush.ensures.kept c.flush.ensures.cached c.flush.ensures.exported }

@@ -1,4 +1,4 @@
-use Rattle.cluster_core.proofs.Common.{GoesOn, subst, sym, waiting_at}
+use Rattle.cluster_core.proofs.Common.{StandsBehind, subst, sym, waiting_at}
 use Rattle.cluster_core.proofs.GivenUpLaws.{given_behind, given_settled}
 use Rattle.cluster_core.proofs.giving_up.give_up.Goals as goal
 
@@ -17,5 +17,5 @@ returns-clause-sound g c = (invariant_of-book g c).sound
 pub returns-clause-goes_on : goal.returns-clause-goes_on
 returns-clause-goes_on g c = λ opening past given.
     let b = c.book.inside in
-    let goes = subst (GoesOn opening past) (sym c.book.view_is) given in
+    let goes = subst (StandsBehind opening past) (sym c.book.view_is) given in
     record { opened = goes.opened; behind = given_behind opening past b.history.items b.cluster c.give_up.new.self c.args.rank (waiting_at b.cluster.state.inboxes c.args.rank) c.give_up.ensures goes.behind }

@@ -1,5 +1,5 @@
 -- A step leaves a sound book, and what is known of its ranks; and it is one of one thread.
-use Rattle.cluster_core.proofs.Common.{BookState, Entry, GoesOn, InOrder, KeepsSettled, KeptState, List, Steps, ap, length, length-append, places_of, receipt_of, refl, subst, sym, whole_of, ℕ, ◌++◌, ◌+◌, ◌∙◌, ◌≡◌}
+use Rattle.cluster_core.proofs.Common.{BookState, Entry, StandsBehind, InOrder, KeepsSettled, KeptState, List, Steps, ap, length, length-append, places_of, receipt_of, refl, subst, sym, whole_of, ℕ, ◌++◌, ◌+◌, ◌∙◌, ◌≡◌}
 use Rattle.cluster_core.proofs.Forgotten.{keeps_whole, places_behind}
 use Rattle.cluster_core.proofs.LimitStays.{limit_stays}
 use Rattle.cluster_core.proofs.OneThreadLaws.{shown_as_one, shows_after}
@@ -33,7 +33,7 @@ invariant_of-self g c =
 pub returns-clause-one_thread : goal.returns-clause-one_thread
 returns-clause-one_thread g c = λ opening past given.
     let b = c.self.inside in
-    let goes = subst (GoesOn opening past) (sym c.self.view_is) given in
+    let goes = subst (StandsBehind opening past) (sym c.self.view_is) given in
     let stepped = c.step-answer.ensures.stepped opening past goes.behind in
     let still = c.step-answer.ensures.sound opening past goes.behind in
     let end : BookState = record { opening = opening; history = past ++ c.step-answer.new.history.items; core = c.step-answer.new.self } in
@@ -44,14 +44,14 @@ returns-clause-in_order g c =
     let known = c.self.invariant.sound in
     let opening = known.0 in
     let past = known.1 in
-    let given = subst (GoesOn opening past) c.self.view_is known.2 in
+    let given = subst (StandsBehind opening past) c.self.view_is known.2 in
     let b = c.self.inside in
-    let goes = subst (GoesOn opening past) (sym c.self.view_is) given in
+    let goes = subst (StandsBehind opening past) (sym c.self.view_is) given in
     let stepped = c.step-answer.ensures.stepped opening past goes.behind in
     let still = c.step-answer.ensures.sound opening past goes.behind in
     let end : BookState = record { opening = opening; history = past ++ c.step-answer.new.history.items; core = c.step-answer.new.self } in
     let its = shown_as_one (whole_of opening past c.args.self.now) _ end (ap (whole_of opening past) c.self.view_is) c.step-answer.result c.args.event stepped refl still.sound in
-    let after : GoesOn opening past (record { opening = b.opening; history = c.step-answer.new.history.items; core = c.step-answer.new.self }) = record { opened = goes.opened; behind = still } in
+    let after : StandsBehind opening past (record { opening = b.opening; history = c.step-answer.new.history.items; core = c.step-answer.new.self }) = record { opened = goes.opened; behind = still } in
     subst (λ (n : ℕ). InOrder n (receipt_of c.step-answer.result) (places_of (record { opening = b.opening; history = c.step-answer.new.history.items; core = c.step-answer.new.self }))) (places_behind opening past c.args.self.now given)
     (subst (λ (n : ℕ). InOrder (length (past ++ c.args.self.now.history)) (receipt_of c.step-answer.result) n) (places_behind opening past _ after) its.in_order)
 
@@ -60,9 +60,9 @@ returns-clause-waits g c =
     let known = c.self.invariant.sound in
     let opening = known.0 in
     let past = known.1 in
-    let given = subst (GoesOn opening past) c.self.view_is known.2 in
+    let given = subst (StandsBehind opening past) c.self.view_is known.2 in
     let b = c.self.inside in
-    let goes = subst (GoesOn opening past) (sym c.self.view_is) given in
+    let goes = subst (StandsBehind opening past) (sym c.self.view_is) given in
     let stepped = c.step-answer.ensures.stepped opening past goes.behind in
     let still = c.step-answer.ensures.sound opening past goes.behind in
     let end : BookState = record { opening = opening; history = past ++ c.step-answer.new.history.items; core = c.step-answer.new.self } in
@@ -71,7 +71,7 @@ returns-clause-waits g c =
 pub returns-clause-shows : goal.returns-clause-shows
 returns-clause-shows g c = λ opening past given.
     let b = c.self.inside in
-    let goes = subst (GoesOn opening past) (sym c.self.view_is) given in
+    let goes = subst (StandsBehind opening past) (sym c.self.view_is) given in
     let stepped = c.step-answer.ensures.stepped opening past goes.behind in
     let still = c.step-answer.ensures.sound opening past goes.behind in
     let end : BookState = record { opening = opening; history = past ++ c.step-answer.new.history.items; core = c.step-answer.new.self } in
@@ -79,13 +79,13 @@ returns-clause-shows g c = λ opening past given.
 
 pub returns-clause-stepped : goal.returns-clause-stepped
 returns-clause-stepped g c = λ opening past given.
-    let goes = subst (GoesOn opening past) (sym c.self.view_is) given in
+    let goes = subst (StandsBehind opening past) (sym c.self.view_is) given in
     subst (λ (k : KeptState). Steps k.core c.step-answer.new.self (past ++ k.history) (past ++ c.step-answer.new.history.items) c.step-answer.result c.args.event) c.self.view_is
     (c.step-answer.ensures.stepped opening past goes.behind)
 
 pub returns-clause-goes_on : goal.returns-clause-goes_on
 returns-clause-goes_on g c = λ opening past given.
-    let goes = subst (GoesOn opening past) (sym c.self.view_is) given in
+    let goes = subst (StandsBehind opening past) (sym c.self.view_is) given in
     record { opened = goes.opened; behind = c.step-answer.ensures.sound opening past goes.behind }
 
 pub returns-clause-limit : goal.returns-clause-limit

@@ -1,4 +1,4 @@
-use Rattle.sessions.proofs.Common.{Entry, StopsAt, Table, ap, arith, drop, get_or_default, length-set, set, set-get_or, slice_index_or, subst, sym, table, ◌∙◌, ◌<◌, ◌≡◌, length}
+use Rattle.sessions.proofs.Common.{Entry, StopsForgetting, Table, ap, arith, drop, get_or_default, length-set, set, set-get_or, slice_index_or, subst, sym, table, ◌∙◌, ◌<◌, ◌≡◌, length}
 use Rattle.sessions.proofs.WalkLaws.{aside_on, first_left, left_on}
 use Rattle.sessions.proofs.session_table.Sessions.forget_while.Goals as goal
 
@@ -30,7 +30,7 @@ returns-then-not-forget_one c =
       few = omega (arith, c.loop-i-test.true);
       stops = λ e _.
           let same : first ≡ slice_index_or all i e = c.index_mut.ensures.value ∙ first_left all now i h.left first ∙ get_or_default all i first e below in
-          subst (λ (t : Table). StopsAt t (slice_index_or all i e)) (sym known) (subst (λ (x : Entry). StopsAt (table c.loop-i.self) x) same (c.forget_one.ensures.stops not));
+          subst (λ (t : Table). StopsForgetting t (slice_index_or all i e)) (sym known) (subst (λ (x : Entry). StopsForgetting (table c.loop-i.self) x) same (c.forget_one.ensures.stops not));
       left = ap (λ (x : Entry). drop i (set now i x)) (c.forget_one.ensures.entry not ∙ c.index_mut.ensures.value) ∙ ap (drop i) (set-get_or now i first) ∙ h.left;
       long = length-set now i c.forget_one.new.first ∙ h.long;
       stays = λ still. c.forget_one.ensures.stays still ∙ h.stays still;
