@@ -1,5 +1,5 @@
 -- A cluster over a store as it is found is sound from the tree that it opens with.
-use Rattle.cluster_core.proofs.Common.{AreCaches, AreHeld, AreNumbers, AreTopRoots, CacheMap, Core, Covers, Dentry, Inode, IsFresh, IsIn, IsOfRank, IsOwned, IsSound, IsSupplied, IsSupply, List, Mounts, MountsCore, None, Objects, Roots, Some, Supply, Tree, [], ap, arith, core_of, dentry-total, dentry_cmp, first_number, get-empty, get_entry, get_or, inl, inr, length, length-replicate, map, no_supply, none_stand, refl, replicate, shown_in, slice_get, subst, suc, sym, table-none, top_of_none, whole_supplies, zero, ℕ, ◌+◌, ◌<◌, ◌∙◌, ◌∷◌, ◌≡◌, ◌≤◌, ◌⊎◌}
+use Rattle.cluster_core.proofs.Common.{AreCaches, AreHeld, AreNumbers, AreTopRoots, CacheMap, Core, Covers, Dentry, Inode, IsFresh, IsIn, IsOfRank, IsOwned, IsSound, IsSupplied, IsSupply, List, Mounts, MountsCore, None, Objects, Roots, Some, State, Supply, Tree, [], ap, arith, core_of, dentry-total, dentry_cmp, first_number, get-empty, get_entry, get_or, inl, inr, length, length-replicate, map, no_supply, none_stand, refl, replicate, shown_in, slice_get, subst, suc, sym, table-none, top_of_none, whole_supplies, zero, ℕ, ◌+◌, ◌<◌, ◌∙◌, ◌∷◌, ◌≡◌, ◌≤◌, ◌⊎◌}
 use Rattle.sessions.specs.Table.{no_table}
 use Rattle.std.specs.Prelude.{Contains}
 use Rattle.std.specs.FinMap as finmap
@@ -136,3 +136,8 @@ module _ (limit : ℕ) (objects : Objects) (ranks places : ℕ) (t : TreeCore) (
     supplied = supplied_from opening ranks ss most its_numbers;
     kept = table-none;
   }
+
+-- nothing is kept there, and nothing is forgotten
+pub mounts_none_kept : (limit : ℕ) (objects : Objects) (ranks places : ℕ) (opening : Tree) (core : Core) → MountsCore limit objects ranks places opening core → core.state.sessions ≡ no_table
+mounts_none_kept limit objects ranks places opening core (inl (none, empty, new)) = ap (λ (s : State). s.sessions) new.state
+mounts_none_kept limit objects ranks places opening core (inr (some, m)) = m.sessions
