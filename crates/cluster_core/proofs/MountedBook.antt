@@ -138,6 +138,6 @@ module _ (limit : ℕ) (objects : Objects) (ranks places : ℕ) (t : TreeCore) (
   }
 
 -- nothing is kept there, and nothing is forgotten
-pub mounts_none_kept : (limit : ℕ) (objects : Objects) (ranks places : ℕ) (opening : Tree) (core : Core) → MountsCore limit objects ranks places opening core → core.state.sessions ≡ no_table
-mounts_none_kept limit objects ranks places opening core (inl (none, empty, new)) = ap (λ (s : State). s.sessions) new.state
-mounts_none_kept limit objects ranks places opening core (inr (some, m)) = m.sessions
+pub mounts_none_kept : (limit : ℕ) (objects : Objects) (ranks places : ℕ) (opening : Tree) (made : Core) → MountsCore limit objects ranks places opening made → made.state.sessions ≡ no_table
+mounts_none_kept limit objects ranks places opening made (inl (none, empty, new)) = ap (λ (s : State). s.sessions) new.state
+mounts_none_kept limit objects ranks places opening made (inr (some, m)) = m.sessions

@@ -25,6 +25,7 @@ invariant_of-result g c =
     }
 
 pub returns-in-Ok-clause-goes_on : goal.returns-in-Ok-clause-goes_on
+unfolding invariant_of-result
 returns-in-Ok-clause-goes_on g c = (invariant_of-result g c).sound.2
 
 pub returns-in-Ok-clause-sound : goal.returns-in-Ok-clause-sound

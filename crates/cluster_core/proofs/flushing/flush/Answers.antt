@@ -1,5 +1,5 @@
 -- A flush leaves a sound book.
-use Rattle.cluster_core.proofs.Common.{StandsBehind, subst, sym}
+use Rattle.cluster_core.proofs.Common.{IsSoundKept, StandsBehind, subst, sym}
 use Rattle.cluster_core.proofs.FlushedBook.{flushed_behind}
 use Rattle.cluster_core.proofs.SettledLaws.{flushed_settled}
 use Rattle.cluster_core.proofs.flushing.flush.Goals as goal
@@ -21,3 +21,7 @@ returns-clause-goes_on g c = λ opening past given.
     let b = c.book.inside in
     let goes = subst (StandsBehind opening past) (sym c.book.view_is) given in
     record { opened = goes.opened; behind = flushed_behind opening past b.history.items b.cluster c.flush.new.self goes.behind c.flush.ensures.left c.flush.ensures.kept c.flush.ensures.cached c.flush.ensures.exported }
+
+-- nothing was done
+pub returns-then-not-has_no_export-clause-sound : goal.returns-then-not-has_no_export-clause-sound
+returns-then-not-has_no_export-clause-sound g c = subst IsSoundKept c.book.view_is c.book.invariant.sound

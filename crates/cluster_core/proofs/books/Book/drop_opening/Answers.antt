@@ -1,5 +1,5 @@
 use Rattle.cluster_core.proofs.Common.{StandsBehind, subst, sym}
-use Rattle.cluster_core.proofs.forgetting.Book.drop_opening.Goals as goal
+use Rattle.cluster_core.proofs.books.Book.drop_opening.Goals as goal
 
 pub invariant_of-self : goal.invariant_of-self
 invariant_of-self g c =
