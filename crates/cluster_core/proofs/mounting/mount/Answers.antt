@@ -8,13 +8,17 @@ pub invariant_of-result : goal.invariant_of-result
 invariant_of-result g c =
     let m = c.in-Ok in
     record {
-      sound = (m.opening, [], record {
-        opened = refl;
-        behind = record {
-          sound = rw c.new.ensures.items m.ensures.sound;
-          aside = rw c.new.ensures.items (subst (λ (t : Table). AreSetAside [] [] t) (sym (mounts_none_kept _ _ _ _ m.opening m.cluster m.ensures.mounted)) aside_none);
-        };
-      });
+      sound = (
+        m.opening,
+        [],
+        record {
+          opened = refl;
+          behind = record {
+            sound = rw c.new.ensures.items m.ensures.sound;
+            aside = rw c.new.ensures.items (subst (λ (t : Table). AreSetAside [] [] t) (sym (mounts_none_kept _ _ _ _ m.opening m.cluster m.ensures.mounted)) aside_none);
+          };
+        },
+      );
       settled = none_known m.cluster.state c.new-in-Ok.result.ranks.items c.new-in-Ok.ensures;
     }
 

@@ -98,8 +98,8 @@ serve_new-requires-clause-is_new g c =
           (λ rest. subst (λ (h : List Entry). (past : List Entry) → IsTableOf (past ++ h) sessions → AreSetAside past h sessions → IsNew (past ++ h) q.client q.tid q.oldest) c.deref.ensures.value c.in-New.ensures.seen c.requires.known.0 c.requires.known.1 c.requires.known.2),
     )
 
-pub returns-clause-served : goal.returns-clause-served
-returns-clause-served g c = λ before tabled aside.
+pub returns-else-not-is_same-clause-served : goal.returns-else-not-is_same-clause-served
+returns-else-not-is_same-clause-served g c = λ before tabled aside.
     let q = c.in-Some.request.now in
     let sessions = table c.args.given.now.sessions in
     let past = before ++ c.args.history.now.items in

@@ -22,4 +22,3 @@ returns-clause-goes_on g c = λ opening past given.
     let opened = still_opened opening b.opening c.forget_opening.new.opening n c.forget_opening.ensures.stays c.forget_opening.ensures.gone goes.opened in
     rw (← c.self.view_is, c.forget_passed-went.ensures.core, c.forget_passed-went.ensures.left)
     (book_forgets opening past (record { opening = b.opening; history = b.history.items; core = b.cluster }) c.forget_opening.new.opening n opened goes)
-
