@@ -77,7 +77,7 @@ impl StepName {
     }
 }
 
-// So of each step that a rank may propose.
+// The name of each step that a rank may propose.
 fn named(event: &Event) -> StepName
     requires { IsOwnStep event.now }
     ensures { IsCalled event.now result.step result.ino result.frag }

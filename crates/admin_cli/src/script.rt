@@ -287,6 +287,7 @@ fn run_line<W: Write, S: Keep + Drop, T: Tell>(
     ensures runs { PrintsOf (DoesBytes (DoesUnder mode) (seen admin.old) (seen admin.new) bytes.now) waiting.old waiting.new line
         (W.contents writer.old) (W.contents writer.new) result }
 {
+    // words about a line want the command that it was, so no shorter way is taken
     if teller.listens() {
         return run_other(rt, line, bytes, admin, mode, waiting, writer, teller);
     }

@@ -21,13 +21,13 @@ pub(crate) struct Freezes {
 pub(crate) enum WrongState {
     /// No export of the leaf is under way.
     None(Leaf),
-    /// One is, where it was to start.
-    Stands(UnderWay),
-    /// One is, and another step is its next.
+    /// An export of the leaf was to start, and this is under way.
+    Already(UnderWay),
+    /// Another step is the next of this export.
     Other(UnderWay),
-    /// One is, and was sent, so it isn't cancelled any more.
+    /// This export was sent, so it can't be cancelled any more.
     Late(UnderWay),
-    /// One is, and so many more, where a flush was to be made.
+    /// A flush was to be made while this export is under way, and so many more.
     Flush(UnderWay, usize),
 }
 
@@ -62,7 +62,7 @@ pub(crate) fn wrong_state<S: Store + Drop>(
     asked: &Asked<'_>,
 ) -> Option<WrongState> {
     match asked {
-        Asked::Start { leaf, .. } => Some(WrongState::Stands(export_of(cluster, leaf)?)),
+        Asked::Start { leaf, .. } => Some(WrongState::Already(export_of(cluster, leaf)?)),
         Asked::Export(OwnStep::Cancel, leaf) => Some(too_late(cluster, leaf)),
         Asked::Export(_, leaf) => Some(other_state(cluster, leaf)),
         _ => None,
@@ -147,7 +147,7 @@ impl fmt::Display for WrongState {
                 f,
                 "no export of {leaf} is under way; `export dir` starts one"
             ),
-            WrongState::Stands(export) => write!(f, "one is under way: {export}"),
+            WrongState::Already(export) => write!(f, "the leaf has an export already: {export}"),
             WrongState::Other(export) => write!(f, "another step is due: {export}"),
             WrongState::Late(export) => { write!(f, "what was sent can't be cancelled: {export}") }
             WrongState::Flush(export, 0) => {

@@ -36,7 +36,7 @@ pub(crate) enum Left {
 pub(crate) fn what_stays<S: Store + Drop>(cluster: &Cluster<S>, asked: &Asked<'_>) -> Left {
     match asked {
         Asked::Serve(rank) => Left::Request(*rank),
-        // (with --ask the request is gone)
+        // with --ask the request was given up
         Asked::Operation(_) if cluster.waiting_at(Rank(0)) > 0 => Left::Request(Rank(0)),
         Asked::Flush => Left::Written,
         _ => Left::All,
@@ -67,7 +67,7 @@ impl fmt::Display for Lacks {
             Lacks::Store(left) => write!(f, "the store failed; {left}"),
             Lacks::Inodes(Rank(rank)) => write!(
                 f,
-                "rank {rank} has no inode number left, or a counter is at its end; the request is gone"
+                "rank {rank} has no inode number left, or a counter is at its end; the request was removed"
             ),
             Lacks::Counter => write!(f, "a counter of 64 bits is at its end"),
             Lacks::Object(object) => write!(f, "object {object} is outside its format"),

@@ -24,11 +24,11 @@ pub(crate) enum Deferral {
         client: u64,
         tid: u64,
     },
-    /// One of a directory that would go is one of these.
+    /// A leaf of the directory that would be removed is frozen, or another rank's and not granted.
     Gone,
 }
 
-/// Where a request went.
+/// The rank to which a request was forwarded, by this leaf.
 #[derive(Clone, Copy)]
 pub(crate) struct Forwarding {
     leaf: Leaf,
@@ -256,7 +256,7 @@ impl fmt::Display for Deferral {
             }
             Deferral::Gone => write!(
                 f,
-                "a leaf of the directory that would go is frozen, or another rank's and not granted"
+                "a leaf of the directory that would be removed is frozen, or another rank's and not granted"
             ),
         }
     }

@@ -23,7 +23,7 @@ pub(crate) enum Queue {
     FullThere { from: Rank, to: Rank },
     /// The request is older than the oldest that its own client still asks for.
     Old { client: u64, tid: u64, oldest: u64 },
-    /// So was the one that was at the front.
+    /// The request that was at the front was older than that.
     OldFront(Rank),
 }
 
@@ -119,7 +119,7 @@ impl fmt::Display for Queue {
             ),
             Queue::OldFront(Rank(rank)) => write!(
                 f,
-                "the front of rank {rank}'s inbox was older than its client still asks for, and is gone"
+                "the front of rank {rank}'s inbox was older than its client still asks for, and was removed"
             ),
         }
     }
