@@ -1,4 +1,5 @@
 pub mod CacheLaws
+pub mod CallLaws
 pub mod CameLaws
 pub mod CandidateLaws
 pub mod CandidateRoom

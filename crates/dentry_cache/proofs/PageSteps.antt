@@ -1,5 +1,10 @@
 -- Pages of pairs, read one after the other.
 use Rattle.dentry_cache.proofs.Common.{Bool, EndsPairs, Fragment, IsEndOf, Last, List, More, Names, Off, Option, PageEnd, PairMap, PairPage, Some, [], added, and_left, ap, are_good, arith, drop, entry_of, false, inl, inr, is_good, length, length-append, length-take-le, list_all-append, name_of, nat_lt, nat_tests, page_of, pages_make_up, pairs_after, refl, slice_get, subst, suc, sym, take, take-append-drop, take_all, true, with_entry, zero, ℕ, ◌&&◌, ◌++◌, ◌+◌, ◌-◌, ◌<◌, ◌∙◌, ◌∷◌, ◌≡◌, ◌≤◌, ◌⊎◌}
+use Rattle.std.specs.Option.{option_map}
+use Rattle.dentry_cache.proofs.Common.{None, same_Some}
+use Rattle.objstore.specs.Omap.{Omap}
+use Rattle.dentry_cache.specs.Calls.{LeavesPages, PagesLeft, pages_read}
+use Rattle.dentry_cache.proofs.CallLaws.{last_here, more_behind, off_here}
 
 added_split : (names : Names) (a b : List (List ℕ × List ℕ)) → added names (a ++ b) ≡ added (added names a) b
 added_split names [] b = refl
@@ -40,6 +45,9 @@ module _ (frag : Fragment) (pairs : PairMap) (after : Option (List ℕ)) (page :
       ap (are_good frag) (sym (take-append-drop 64 xs)) ∙ list_all-append (is_good frag) (take 64 xs) (drop 64 xs)
       ∙ and_left (are_good frag (take 64 xs)) (are_good frag (drop 64 xs)) (ap (are_good frag) (sym items) ∙ bad)
 
+  pub off_left : are_good frag page.pairs ≡ false → pages_read frag (pairs_after pairs after) ≡ 1
+  off_left bad = ap suc (off_here frag 64 xs (ap (are_good frag) (sym items) ∙ bad))
+
   module _ (old new : Names) (good : are_good frag page.pairs ≡ true) (put : new ≡ added old page.pairs) where
     whole : page.pairs ≡ xs → EndsPairs frag pairs after old new Last
     whole all = (sym (ap (are_good frag) all) ∙ good, put ∙ ap (added old) all)
@@ -47,6 +55,10 @@ module _ (frag : Fragment) (pairs : PairMap) (after : Option (List ℕ)) (page :
     last_page : (page.more ≡ false) ⊎ (page.pairs ≡ []) → page.pairs ≡ xs
     last_page (inl last) = items ∙ take_all 64 xs (few 64 (length xs) (sym flag ∙ last))
     last_page (inr none) = none ∙ sym (nothing_taken 63 xs (sym items ∙ none))
+
+    last_left : (page.more ≡ false) ⊎ (page.pairs ≡ []) → pages_read frag xs ≡ 1
+    last_left (inl last) = ap suc (last_here frag 64 xs (few 64 (length xs) (sym flag ∙ last)))
+    last_left (inr none) = ap (pages_read frag) (nothing_taken 63 xs (sym items ∙ none))
 
     module _ (key bytes : List ℕ) (more : page.more ≡ true) (last : slice_get page.pairs (length page.pairs - 1) ≡ Some (key, bytes)) where
       beyond : 64 < length xs
@@ -72,6 +84,12 @@ module _ (frag : Fragment) (pairs : PairMap) (after : Option (List ℕ)) (page :
             omega (arith, total, count),
           )
 
+      more_left : pages_read frag xs ≡ suc (pages_read frag (pairs_after pairs (Some key)))
+      more_left =
+          let rest = pairs_after pairs (Some key) in
+          let total : length page.pairs + length rest ≡ length xs = sym (length-append page.pairs rest) ∙ ap (length {A = List ℕ × List ℕ}) split in
+          ap (pages_read frag) (sym split) ∙ ap suc (more_behind frag 64 page.pairs rest count (omega (arith, total, count, beyond)) good)
+
     ended : (end : PageEnd) → IsEndOf page.more page.pairs end → EndsPairs frag pairs after old new end
     ended Off h = absurd h
     ended Last h = whole (last_page h)
@@ -79,3 +97,22 @@ module _ (frag : Fragment) (pairs : PairMap) (after : Option (List ℕ)) (page :
 
     pub page_end : (end : PageEnd) (more : Bool) (list : List (List ℕ × List ℕ)) → more ≡ page.more → list ≡ page.pairs → IsEndOf more list end → EndsPairs frag pairs after old new end
     page_end end more list m l h = ended end (subst (λ (b : Bool). IsEndOf b page.pairs end) m (subst (λ (ps : List (List ℕ × List ℕ)). IsEndOf more ps end) l h))
+
+    left_ended : (end : PageEnd) → IsEndOf page.more page.pairs end → LeavesPages frag xs pairs end
+    left_ended Off h = absurd h
+    left_ended Last h = last_left h
+    left_ended (More key) h = more_left key h.1.0 h.0 h.1.1
+
+    pub page_left : (end : PageEnd) (more : Bool) (list : List (List ℕ × List ℕ)) → more ≡ page.more → list ≡ page.pairs → IsEndOf more list end → LeavesPages frag (pairs_after pairs after) pairs end
+    page_left end more list m l h = left_ended end (subst (λ (b : Bool). IsEndOf b page.pairs end) m (subst (λ (ps : List (List ℕ × List ℕ)). IsEndOf more ps end) l h))
+
+-- what a page leaves, as the store gives it
+pub page_pages : (frag : Fragment) (o : Option Omap) (after : Option (List ℕ)) (page : PairPage) (end : PageEnd) → Some page ≡ option_map (λ (x : Omap). page_of x.pairs after 64) o
+    → ((pairs : PairMap) (behind : Option (List ℕ)) → page ≡ page_of pairs behind 64 → LeavesPages frag (pairs_after pairs behind) pairs end) → PagesLeft frag o after end
+page_pages frag None after page end is leaves = let clash : Some page ≡ None = is in absurd cc
+page_pages frag (Some x) after page end is leaves = go end (leaves x.pairs after (same_Some page (page_of x.pairs after 64) is))
+  where
+    go : (end : PageEnd) → LeavesPages frag (pairs_after x.pairs after) x.pairs end → PagesLeft frag (Some x) after end
+    go Off h = h
+    go Last h = h
+    go (More key) h = h

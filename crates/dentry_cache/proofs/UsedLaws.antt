@@ -105,6 +105,10 @@ pub was_absent : (leaf : Leaf) (old new : Held) (there : Bool) (o : Option Place
 was_absent leaf old new there (Some place) u is = let clash : true ≡ false = sym u.0 ∙ is in cc
 was_absent leaf old new there None u is = refl
 
+pub was_there : (leaf : Leaf) (old new : Held) (there : Bool) (o : Option Place) → IsUsed o leaf old new there → there ≡ true → is_some o ≡ true
+was_there leaf old new there (Some place) u is = refl
+was_there leaf old new there None u is = let clash : false ≡ true = sym u.0 ∙ is in absurd cc
+
 pub left_alone : (leaf : Leaf) (old new : Held) (there : Bool) (o : Option Place) → IsUsed o leaf old new there → there ≡ false → new ≡ old
 left_alone leaf old new there (Some place) u is = let clash : true ≡ false = sym u.0 ∙ is in absurd cc
 left_alone leaf old new there None u is = u.1

@@ -2,6 +2,7 @@ pub mod Cache
 pub mod CacheCalls
 pub mod CacheMap
 pub mod CacheSplits
+pub mod Calls
 pub mod Came
 pub mod CandidateSets
 pub mod Candidates

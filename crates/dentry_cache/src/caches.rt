@@ -16,6 +16,7 @@ ghost use Rattle.dentry_cache.specs.CacheCalls.{Edits, FetchesAt, IsAbsent, IsRe
 ghost use Rattle.dentry_cache.specs.CacheMap.{AreCaches, IsFreeFor, evicted, frag_of, given_up, has_place, here, no_caches, order, used_at, with_frag, with_mark};
 ghost use Rattle.dentry_cache.specs.CacheSplits.{IsButPlaces, IsReadyAt};
 ghost use Rattle.dentry_cache.specs.Divided.{AreNumbered};
+ghost use Rattle.dentry_cache.specs.Calls.{AreCalls, AreFetchCalls, calls_to_load};
 ghost use Rattle.dentry_cache.specs.Loading.{object_of};
 
 use crate::cache::Cache;
@@ -157,6 +158,7 @@ impl Caches {
     ///
     /// Refused `NothingToEvict` where no fragment can go, `Damaged` where the object is absent or isn't one that spells
     /// a fragment of this leaf, `StoreFault` and `NoMemory`. The fragment isn't there then; a clean one may have gone.
+    /// The store is called as `load` calls it, once there is a place; for a fragment that is there it isn't called.
     pub fn fetch<S: Store>(
         &mut self,
         alloc: Global,
@@ -178,6 +180,9 @@ impl Caches {
             (MayNotFetchAt at.rank.0 (leaf_of at) stay (object_of (S.objects store.old) at.dir at.frag) self.old) }
         ensures same { S.objects store.new ≡ S.objects store.old }
         ensures counted { S.faults store.new ≡ S.faults store.old + faults_told (result_err result) }
+        ensures called { AreFetchCalls S.IsCall (has_place self.old at.rank.0 (leaf_of at))
+            (calls_to_load at.frag (object_of (S.objects store.old) at.dir at.frag)) store.old (result_err result)
+            store.new }
         ensures valid { AreCaches self.old }
     {
         self.caches[at.rank.0 as usize].fetch(alloc, store, at.dir, at.frag, stay)
@@ -250,7 +255,8 @@ impl Caches {
     /// Writes a snapshot of a rank's fragment to its object, in one operation. What was dirty at the snapshot's
     /// versions is clean then; what changed since stays dirty. Takes memory before it writes.
     ///
-    /// Refused as the store refuses the write, and `NoMemory`. Object and names stay as they were then.
+    /// Refused as the store refuses the write, and `NoMemory`. Object and names stay as they were then. The store is
+    /// called once, and not where memory lacks before.
     pub fn end_commit<S: Store>(
         &mut self,
         alloc: Global,
@@ -271,7 +277,7 @@ impl Caches {
             (job_leaf encoded.now) self.old self.new) }
         ensures refused { IfErr result (MayRefuse (S.faults store.old) (S.faults store.new)) }
         ensures counted { S.faults store.new ≡ S.faults store.old + faults_told (result_err result) }
-        ensures once { OnOk result (S.IsCall store.old None store.new) }
+        ensures called { AreCalls S.IsCall 1 store.old (result_err result) store.new }
     {
         self.caches[rank.0 as usize].end_commit(alloc, store, encoded)
     }

@@ -6,11 +6,12 @@ ghost use Rattle.std.specs.Result.{result_err};
 ghost use Rattle.cached_frag.specs.Snap.{IsBelowEnd, IsSnap};
 ghost use Rattle.cached_frag.specs.Cached.{Cached};
 ghost use Rattle.dentry_cache.specs.Cache.{HasCached, IsChanged, IsThere, IsWritten, cached};
+ghost use Rattle.dentry_cache.specs.Calls.{AreCalls};
 ghost use Rattle.dentry_cache.specs.Commits.{IsSettled, IsCommitted, MayNotBegin, Takes, leaf_text};
 
 use crate::cache::Cache;
 use cached_frag::{Base, CachedFrag, DirtyNames, Encoded, Snapshot};
-use mds_types::{Frag, Ino, ObjName, Refusal};
+use mds_types::{Frag, Ino, ObjName, Refusal, Spelt};
 use objstore::Store;
 use std::alloc::{AllocError, Global};
 
@@ -36,7 +37,8 @@ impl Cache {
     /// Writes a snapshot of a fragment to its object, in one operation. What was dirty at the snapshot's versions is
     /// clean then; what changed since stays dirty. Takes memory before it writes.
     ///
-    /// Refused as the store refuses the write, and `NoMemory`. Object and names stay as they were then.
+    /// Refused as the store refuses the write, and `NoMemory`. Object and names stay as they were then. The store is
+    /// called once, and not where memory lacks before.
     pub fn end_commit<S: Store>(
         &mut self,
         alloc: Global,
@@ -58,7 +60,7 @@ impl Cache {
         ensures refused { IfErr result (MayRefuse (S.faults store.old) (S.faults store.new)) }
         ensures grows { S.faults store.old ≤ S.faults store.new }
         ensures counted { S.faults store.new ≡ S.faults store.old + faults_told (result_err result) }
-        ensures once { OnOk result (S.IsCall store.old None store.new) }
+        ensures called { AreCalls S.IsCall 1 store.old (result_err result) store.new }
     {
         ObjName::texts_differ();
         let job = encoded.job();
@@ -147,9 +149,9 @@ fn write<S: Store>(alloc: Global, store: &mut S, encoded: &Encoded) -> Result<()
     ensures refused { IfErr result (MayRefuse (S.faults store.old) (S.faults store.new)) }
     ensures grows { S.faults store.old ≤ S.faults store.new }
     ensures counted { S.faults store.new ≡ S.faults store.old + faults_told (result_err result) }
-    ensures once { OnOk result (S.IsCall store.old None store.new) }
+    ensures once { S.IsCall store.old (result_err result) store.new }
 {
     let job = encoded.job();
-    let text = ObjName::Frag(job.ino, job.frag).to_text(alloc)?;
+    let text = Spelt::of(ObjName::Frag(job.ino, job.frag));
     store.apply(alloc, text.as_str(), encoded.op())
 }

@@ -1,10 +1,11 @@
 //! Fetches, and places kept for fragments that will be made.
 ghost use Rattle.std.specs.Result.{result_err};
 ghost use Rattle.objstore.specs.Objects.{faults_told};
-ghost use Rattle.std.specs.Prelude.{◌≡◌, ◌+◌, ◌≤◌, ◌<◌, ◌∷◌, length, None, OnOk, OnErr, IfErr};
+ghost use Rattle.std.specs.Prelude.{◌≡◌, ◌+◌, ◌≤◌, ◌<◌, ◌∷◌, length, false, is_some, None, OnOk, OnErr, IfErr};
 ghost use Rattle.std.specs.Map.{lookup};
 ghost use Rattle.lru.specs.LruCache.{lru_cache};
 ghost use Rattle.mds_types.specs.declared.refusals.Refusal.TheVariants.{NoMemory};
+ghost use Rattle.dentry_cache.specs.Calls.{AreFetchCalls, calls_to_load};
 ghost use Rattle.dentry_cache.specs.Loading.{object_of};
 ghost use Rattle.dentry_cache.specs.Cache.{leaf_is};
 ghost use Rattle.dentry_cache.specs.Fetches.{IsFetched, IsNotFetched, IsRefusedIn, MayNotFetch};
@@ -23,6 +24,7 @@ impl Cache {
     ///
     /// Refused `NothingToEvict` where no fragment can go, `Damaged` where the object is absent or isn't one that spells
     /// a fragment of this leaf, `StoreFault` and `NoMemory`. The fragment isn't there then; a clean one may have gone.
+    /// The store is called as `load` calls it, once there is a place; for a fragment that is there it isn't called.
     pub fn fetch<S: Store>(
         &mut self,
         alloc: Global,
@@ -42,6 +44,8 @@ impl Cache {
             (S.faults store.old) (S.faults store.new)) }
         ensures same { S.objects store.new ≡ S.objects store.old }
         ensures counted { S.faults store.new ≡ S.faults store.old + faults_told (result_err result) }
+        ensures called { AreFetchCalls S.IsCall (is_some (lookup (leaf_is (dir, frag)) self.old.entries))
+            (calls_to_load frag (object_of (S.objects store.old) dir frag)) store.old (result_err result) store.new }
     {
         if self.touch(dir, frag) {
             return Ok(());
@@ -68,6 +72,8 @@ impl Cache {
             (S.faults store.old) (S.faults store.new)) }
         ensures same { S.objects store.new ≡ S.objects store.old }
         ensures counted { S.faults store.new ≡ S.faults store.old + faults_told (result_err result) }
+        ensures called { AreFetchCalls S.IsCall false
+            (calls_to_load frag (object_of (S.objects store.old) dir frag)) store.old (result_err result) store.new }
     {
         self.make_room(stay)?;
         let loaded = load(alloc, store, dir, frag)?;

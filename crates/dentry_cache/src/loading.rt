@@ -1,17 +1,18 @@
 //! A fragment, read from its object in the store.
 ghost use Rattle.std.specs.Prelude.{◌≡◌, ◌+◌, ◌≤◌, ℕ, List, Option, Some, None, IfOk, IfErr, OnOk, option_copied};
-ghost use Rattle.objstore.specs.Omap.{PairMap, key_cmp, page_of};
+ghost use Rattle.objstore.specs.Omap.{PairMap, key_cmp, page_of, pairs_after};
 ghost use Rattle.sorted_map.specs.SortedMap.{contents};
 ghost use Rattle.std.specs.Result.{result_err};
 ghost use Rattle.objstore.specs.Objects.{MayRefuse, faults_told};
 ghost use Rattle.std.specs.FinMap as map;
+ghost use Rattle.dentry_cache.specs.Calls.{AreCalls, LeavesPages, PagesLeft, calls_to_load, header_in, pages_read};
 ghost use Rattle.dentry_cache.specs.Loading.{Loads, MayNotLoad, object_of};
-ghost use Rattle.dentry_cache.specs.Pairs.{AreNamesOf, EndsPage, EndsPairs, IsCounted, IsEndOf, IsHeaderOf};
+ghost use Rattle.dentry_cache.specs.Pairs.{AreNamesOf, EndsPage, EndsPairs, IsCounted, IsEndOf, IsHeaderOf, pairs_left};
 
 use crate::pairs::add_pairs;
 use cached_frag::CachedFrag;
 use dirfrag_codec::{FragHeader, decode_header};
-use mds_types::{Bytes, Frag, Ino, Inode, Name, ObjName, Refusal};
+use mds_types::{Bytes, Frag, Ino, Inode, Name, ObjName, Refusal, Spelt};
 use objstore::{Page, Store};
 use sorted_map::SortedMap;
 use std::alloc::{AllocError, Global};
@@ -34,7 +35,8 @@ pub enum PageEnd {
 ///
 /// Refused `Damaged`, with the object's name, where the object is absent or isn't one that spells a fragment with no
 /// name of another leaf, and otherwise as the store refuses a call (`StoreFault`), or `NoMemory`. The objects stay as
-/// they are.
+/// they are. The store is called once for the header, and, where that is one, once for each page up to the first with
+/// a pair that is off, or the last; no call is made behind one that is refused.
 pub fn load<S: Store>(
     alloc: Global,
     store: &mut S,
@@ -46,8 +48,10 @@ pub fn load<S: Store>(
         (MayNotLoad dir frag (object_of (S.objects store.old) dir frag) (S.faults store.old) (S.faults store.new)) }
     ensures same { S.objects store.new ≡ S.objects store.old }
     ensures counted { S.faults store.new ≡ S.faults store.old + faults_told (result_err result) }
+    ensures called { AreCalls S.IsCall (calls_to_load frag (object_of (S.objects store.old) dir frag)) store.old
+        (result_err result) store.new }
 {
-    let text = ObjName::Frag(dir, frag).to_text(alloc)?;
+    let text = Spelt::of(ObjName::Frag(dir, frag));
     match load_object(alloc, store, text.as_str(), frag)? {
         Some(loaded) => Ok(loaded),
         None => Err(Refusal::Damaged(ObjName::Frag(dir, frag))),
@@ -65,6 +69,8 @@ fn load_object<S: Store>(
     ensures refused { IfErr result (MayRefuse (S.faults store.old) (S.faults store.new)) }
     ensures same { S.objects store.new ≡ S.objects store.old }
     ensures counted { S.faults store.new ≡ S.faults store.old + faults_told (result_err result) }
+    ensures called { AreCalls S.IsCall (calls_to_load frag (map.get (S.objects store.old) text.now)) store.old
+        (result_err result) store.new }
 {
     let Some(header) = read_header(alloc, store, text)? else {
         return Ok(None);
@@ -95,10 +101,11 @@ fn read_header<S: Store>(
     text: &str,
 ) -> Result<Option<FragHeader>, Refusal>
     ensures read { IfOk result (IsHeaderOf (map.get (S.objects store.old) text.now)) }
+    ensures value { IfOk result (λ header. header ≡ header_in (map.get (S.objects store.old) text.now)) }
     ensures refused { IfErr result (MayRefuse (S.faults store.old) (S.faults store.new)) }
     ensures same { S.objects store.new ≡ S.objects store.old }
     ensures counted { S.faults store.new ≡ S.faults store.old + faults_told (result_err result) }
-    ensures once { OnOk result (S.IsCall store.old None store.new) }
+    ensures called { AreCalls S.IsCall 1 store.old (result_err result) store.new }
 {
     match store.header(alloc, text)? {
         Some(bytes) => Ok(decode_header(bytes.as_slice())),
@@ -117,6 +124,8 @@ fn read_names<S: Store>(
     ensures refused { IfErr result (MayRefuse (S.faults store.old) (S.faults store.new)) }
     ensures same { S.objects store.new ≡ S.objects store.old }
     ensures counted { S.faults store.new ≡ S.faults store.old + faults_told (result_err result) }
+    ensures called { AreCalls S.IsCall (pages_read frag (pairs_left (map.get (S.objects store.old) text.now) None))
+        store.old (result_err result) store.new }
 {
     let mut names = SortedMap::new(alloc);
     let mut after = None;
@@ -144,7 +153,9 @@ fn read_page<S: Store>(
     ensures refused { IfErr result (MayRefuse (S.faults store.old) (S.faults store.new)) }
     ensures same { S.objects store.new ≡ S.objects store.old }
     ensures counted { S.faults store.new ≡ S.faults store.old + faults_told (result_err result) }
-    ensures once { OnOk result (S.IsCall store.old None store.new) }
+    ensures left { IfOk result
+        (PagesLeft frag (map.get (S.objects store.old) text.now) (option_copied after.entry)) }
+    ensures called { AreCalls S.IsCall 1 store.old (result_err result) store.new }
 {
     match store.page(alloc, text, after, PAGE)? {
         Some(page) => Ok(add_page(alloc, names, frag, page)?),
@@ -159,8 +170,10 @@ fn add_page(
     frag: Frag,
     page: Page,
 ) -> Result<PageEnd, AllocError>
-    ensures { (pairs : PairMap) (after : Option (List ℕ)) → page ≡ page_of pairs after 64
+    ensures ended { (pairs : PairMap) (after : Option (List ℕ)) → page ≡ page_of pairs after 64
         → IfOk result (EndsPairs frag pairs after (contents key_cmp names.old) (contents key_cmp names.new)) }
+    ensures left { (pairs : PairMap) (after : Option (List ℕ)) → page ≡ page_of pairs after 64
+        → IfOk result (LeavesPages frag (pairs_after pairs after) pairs) }
 {
     let more = page.more();
     let pairs = page.into_pairs();

@@ -12,4 +12,5 @@ pub mod Merges
 pub mod Moves
 pub mod Outcomes
 pub mod Placed
+pub mod RootLaws
 pub mod Splits

@@ -97,6 +97,11 @@ pub record IsFreeze (old new : Standing) (was now : Subtrees) (root : Leaf) : Ty
   pub roots : now.roots ≡ map.insert was.roots root step.export.exporter
   pub promises : now.promises ≡ was.promises
 
+-- the leaf of an export is no subtree root of its exporter yet
+abbrev pub IsNoRootYet : Standing → Subtrees → Leaf → Type 0
+IsNoRootYet old was root =
+    (export : StandingExport) → map.get old root ≡ Some export → map.get was.roots root ≢ Some export.exporter
+
 abbrev pub Freezes : Standing → Standing → Subtrees → Subtrees → Leaf → Result (Unit {0}) Refusal → Type 0
 Freezes old new was now root (Ok done) = IsFreeze old new was now root
 Freezes old new was now root (Err reason) =

@@ -1,5 +1,5 @@
 //! The steps of an export: each takes it from one state to the next, and two end it.
-ghost use Rattle.std.specs.Prelude.{◌≡◌, ◌≢◌, ◌<◌, Some, None, IfErr, MatchOption, OnErr, OnOk};
+ghost use Rattle.std.specs.Prelude.{◌≡◌, ◌≢◌, ◌<◌, ◌↔◌, Some, None, IsTrue, IfErr, MatchOption, OnErr, OnOk};
 ghost use Rattle.std.specs.FinMap as map;
 ghost use Rattle.sorted_map.specs.SortedMap.{contents};
 ghost use Rattle.mds_types.specs.declared.refusals.Refusal.TheVariants.{NoMemory};
@@ -7,7 +7,7 @@ ghost use Rattle.mds_types.specs.Leaf.{leaf_cmp};
 ghost use Rattle.subtree_map.specs.Changes.{Subtrees as SubtreesSeen};
 ghost use Rattle.export_steps.specs.declared.exports.ExportState.TheVariants as state;
 ghost use Rattle.export_steps.specs.ByExporter.{AreExports, RootsBy, by_cmp};
-ghost use Rattle.export_steps.specs.Standing.{AreKept, IsBetweenRanks, ArePlaced, Cancels, Finishes, Freezes, Preps, Starts, Steps, come_to, is_before_send, is_freezing, state_at};
+ghost use Rattle.export_steps.specs.Standing.{AreKept, IsBetweenRanks, ArePlaced, Cancels, Finishes, Freezes, IsNoRootYet, Preps, Starts, Steps, come_to, is_before_send, is_freezing, state_at};
 
 use crate::exports::{ExportState, Exports, StandingExport};
 use inode_table::Dirs;
@@ -72,10 +72,14 @@ impl Exports {
 
     /// Freeze: makes the root of a started export a subtree root of the exporter. From now on its region is frozen.
     ///
+    /// A leaf that is a root of the exporter already stays one, and takes no memory.
+    ///
     /// # Errors `WrongExportState` where no started export of this root stands, `NoMemory`; then all is left as it was,
     /// though the subtrees may have more room.
     pub fn freeze(&mut self, subtrees: &mut Subtrees, dir: Ino, frag: Frag) -> Result<(), Refusal>
         ensures outcome { Freezes self.old self.new subtrees.old subtrees.new (dir, frag) result }
+        ensures memory { IfErr result
+            (λ reason. reason ≡ NoMemory → IsNoRootYet self.old subtrees.old (dir, frag)) }
         ensures placed { ArePlaced self.old subtrees.old → ArePlaced self.new subtrees.new }
     {
         let Some(export) = find_in(&self.rows, dir, frag, ExportState::Started) else {
@@ -195,7 +199,17 @@ fn put_new(
     Ok(())
 }
 
-// Makes the root of an export a subtree root of the exporter.
+// Whether a leaf is a subtree root of this rank.
+fn is_root_of(subtrees: &Subtrees, dir: Ino, frag: Frag, rank: Rank) -> bool
+    ensures { IsTrue result ↔ (map.get subtrees.now.roots (dir, frag) ≡ Some rank) }
+{
+    match subtrees.get(dir, frag) {
+        Some(its) => its.0 == rank.0,
+        None => false,
+    }
+}
+
+// Makes the root of an export a subtree root of the exporter, if it is none yet.
 fn place(
     subtrees: &mut Subtrees,
     dir: Ino,
@@ -206,7 +220,11 @@ fn place(
     ensures promises { subtrees.new.promises ≡ subtrees.old.promises }
     ensures err { IfErr result (λ reason. reason ≡ NoMemory) }
     ensures left { OnErr result (AreKept subtrees.old subtrees.new) }
+    ensures memory { OnErr result (map.get subtrees.old.roots (dir, frag) ≢ Some export.exporter) }
 {
+    if is_root_of(subtrees, dir, frag, export.exporter) {
+        return Ok(());
+    }
     if let Err(refusal) = subtrees.reserve(1) {
         return Err(refusal);
     }

@@ -1,7 +1,8 @@
 -- What the steps of a change leave, one after the other.
-use Rattle.mdcache.proofs.Common.{AllCachedIn, AreCaches, At, Bool, CacheMap, Cached, Came, Contains, Core, Counts, DirPins, Dirfrag, Fragment, HasCached, HasLeaf, HasRoom, Home, Homes, Ino, Inode, IsCachedIn, IsFree, IsKeptFor, IsLive, IsNamed, IsThere, IsTied, KeepsNone, KeepsOnlyAt, Leaf, List, Mark, None, Option, Rank, Rooms, Some, State, UnsavedLeaves, [], alters, ap, arith, at, at_rank, cond, cond_both, edited_as, ended, ended_all, ended_at, ends, false, false_from_ne_true, get_given_up, get_left_home, get_with_frag, given_up, has, has_place, here, here_is, here_put, here_with_frag, holder_there, is_some, leaf_is, leaf_of, leaves, leaves_in, leaves_of, length, list_any, made_frag, marked, named, none_given_up, object_of, one_leaf, or_whole, refl, removed, rows_but, rules, same_Some, state_of, stays, subst, suc, sym, true, unclean, unclean_alike, unclean_given_up, unsaved_at, with_frag, without_dir, without_gone_dir, without_leaves, zero, ℕ, ⊎_elim, ◌<◌, ◌==◌, ◌||◌, ◌∙◌, ◌∷◌, ◌≡◌, ◌≤◌}
+use Rattle.mdcache.proofs.Common.{AllCachedIn, AreCaches, At, Bool, CacheMap, Cached, Came, Contains, Core, Counts, DirPins, Dirfrag, Fragment, HasCached, HasLeaf, HasRoom, Home, Homes, Ino, Inode, IsCachedIn, IsFree, IsKeptFor, IsLive, IsNamed, IsThere, IsTied, KeepsNone, KeepsOnlyAt, Leaf, List, Mark, None, Option, Rank, Rooms, Some, State, UnsavedLeaves, [], alters, ap, arith, at, at_rank, cond, cond_both, edited_as, ended, ended_all, ended_at, ends, false, false_from_ne_true, get_given_up, get_left_home, get_with_frag, given_up, has, has_place, here, here_is, here_put, here_with_frag, holder_there, is_some, leaf_is, leaf_of, leaves, leaves_in, leaves_of, length, list_any, made_frag, marked, named, none_given_up, object_of, one_leaf, or_whole, refl, removed, rewritten, rows_but, rules, same_Some, state_of, stays, subst, suc, sym, true, unclean, unclean_alike, unclean_given_up, unsaved_at, with_frag, without_dir, without_gone_dir, without_leaves, zero, ℕ, ⊎_elim, ◌<◌, ◌==◌, ◌||◌, ◌∙◌, ◌∷◌, ◌≡◌, ◌≤◌}
 use Rattle.std.specs.FinMap as map
 use Rattle.dentry_cache.specs.CacheMap.{with_mark}
+use Rattle.mdcache.specs.Changing.{generation_in}
 use Rattle.mdcache.specs.Core.{with_dir}
 use Rattle.mdcache.proofs.GoneLaws.{among}
 use Rattle.mdcache.proofs.NoneLaws.{none_only, only_none}
@@ -39,15 +40,31 @@ left_live_at s dir leaf live none = record {
     apart : leaf.0.0 ≡ dir.0 → ⊥
     apart same = let clash : true ≡ false = sym (among dir.0 leaf (leaves_of s.covers dir.0) same (subst (λ (d : ℕ). HasLeaf (leaves_of s.covers d) leaf.1) same live.stands)) ∙ none in cc
 
--- the caches came from those before, their fragments are sound, and a place that is kept is this one
+-- each fragment of a leaf that was live has the generation that it had in caches before
+abbrev pub KeepGenerations : State → CacheMap → CacheMap → Type 0
+KeepGenerations s old c = (leaf : Leaf) (a : At) → IsLive s.homes s.covers leaf → map.get c.held leaf ≡ Some a → a.frag.generation ≡ generation_in (map.get old.held leaf)
+
+-- so it is where one of them is another of its generation
+generations_rewritten : (s : State) (old c : CacheMap) (r : ℕ) (leaf : Leaf) (f now : Cached) → here c r leaf ≡ Some f → now.generation ≡ f.generation → KeepGenerations s old c → KeepGenerations s old (rewritten c r leaf now)
+generations_rewritten s old c r leaf f now seen same kept q a live is = cond_both (leaf_is q leaf) (Some (at r now)) (map.get c.held q) (λ o. o ≡ Some a → a.frag.generation ≡ generation_in (map.get old.held q))
+    (λ one h. sym (ap (λ (x : At). x.frag.generation) (same_Some (at r now) a h)) ∙ same ∙ kept q (at r f) live (ap (map.get c.held) (one_leaf q leaf one) ∙ here_is r (map.get c.held leaf) f seen))
+    (λ apart h. kept q a live h) (sym (get_with_frag c r leaf now q) ∙ is)
+
+-- and where one comes of a leaf that wasn't live
+generations_beside : (s : State) (old c : CacheMap) (r : ℕ) (leaf : Leaf) (f : Cached) → (IsLive s.homes s.covers leaf → ⊥) → KeepGenerations s old c → KeepGenerations s old (with_frag c r leaf f)
+generations_beside s old c r leaf f new kept q a live is = cond_both (leaf_is q leaf) (Some (at r f)) (map.get c.held q) (λ o. o ≡ Some a → a.frag.generation ≡ generation_in (map.get old.held q))
+    (λ one h. absurd (new (subst (λ (l : Leaf). IsLive s.homes s.covers l) (one_leaf q leaf one) live))) (λ apart h. kept q a live h) (sym (get_with_frag c r leaf f q) ∙ is)
+
+-- the caches came from those before, their fragments are sound and have the generations they had, and a place that is kept is this one
 pub record HasMade (Uses Ends : ℕ → Leaf → Type 0) (kept : Option (Rank × Leaf)) (old new : Core) : Type 0 where
   pub came : Came Uses Ends old.caches new.caches
   pub cached : AllCachedIn (state_of new) new.caches
   pub only : KeepsOnlyAt kept new.caches
+  pub generations : KeepGenerations (state_of old) old.caches new.caches
 
 module _ (Uses Ends : ℕ → Leaf → Type 0) (kept : Option (Rank × Leaf)) (old : Core) where
   pub made_first : AllCachedIn (state_of old) old.caches → KeepsOnlyAt kept old.caches → HasMade Uses Ends kept old old
-  made_first cached only = record { came = stays; cached = cached; only = only }
+  made_first cached only = record { came = stays; cached = cached; only = only; generations = λ leaf a live is. sym (ap generation_in is) }
 
   module _ (c : Core) (before : HasMade Uses Ends kept old c) where
     -- a name of a leaf changed
@@ -64,6 +81,8 @@ module _ (Uses Ends : ℕ → Leaf → Type 0) (kept : Option (Rank × Leaf)) (o
             (alters c.caches a.rank.0 (leaf_of a) w.0 (marked w.0 name (mark c a name inode w.0 w.1 before.cached)) before.came uses w.1);
         cached = cached_on (state_of c) (state_of (named c a name inode)) (named c a name inode).caches (λ leaf live. live) refl (omega arith) (put_cached c a name inode w.0 w.1 before.cached);
         only = put_only c a name inode w.0 w.1 before.cached kept before.only;
+        generations = subst (KeepGenerations (state_of old) old.caches) (sym (marked_is c a name inode w.0 w.1 before.cached))
+            (generations_rewritten (state_of old) old.caches c.caches a.rank.0 (leaf_of a) w.0 (marked w.0 name (mark c a name inode w.0 w.1 before.cached)) w.1 refl before.generations);
       }
 
     -- a directory moved, or a file; entries were counted, or a pin set
@@ -72,6 +91,7 @@ module _ (Uses Ends : ℕ → Leaf → Type 0) (kept : Option (Rank × Leaf)) (o
       came = before.came;
       cached = cached_on (state_of c) (state_of (record c { homes = homes; counts = counts; pins = pins })) c.caches live refl (omega arith) before.cached;
       only = before.only;
+      generations = before.generations;
     }
 
 -- ---- a place is kept for a leaf that comes
@@ -111,14 +131,15 @@ filled_none c a f only absent s q placed = ⊎_elim (λ is. is) (λ own. absurd 
 
 module _ (Uses Ends : ℕ → Leaf → Type 0) (old c : Core) (a : Dirfrag) (before : HasMade Uses Ends (Some (a.rank, leaf_of a)) old c) (absent : map.get c.caches.held (leaf_of a) ≡ None) (home : Home) (room : Rooms)
     (live : IsLive (map.insert c.homes a.dir.0 home) c.covers (leaf_of a)) (still : (leaf : Leaf) → IsLive c.homes c.covers leaf → IsLive (map.insert c.homes a.dir.0 home) c.covers leaf) where
-  pub made_dir : Uses a.rank.0 (leaf_of a) → HasMade Uses Ends None old (with_dir c a home room)
-  made_dir uses =
+  pub made_dir : (IsLive old.homes old.covers (leaf_of a) → ⊥) → Uses a.rank.0 (leaf_of a) → HasMade Uses Ends None old (with_dir c a home room)
+  made_dir new uses =
       let fresh = made_frag c.next_generation in
       let grown = state_of (with_dir c a home room) in
       record {
         came = has c.caches a.rank.0 (leaf_of a) fresh before.came uses;
         cached = cached_with grown c.caches a.rank.0 (leaf_of a) fresh (cached_on (state_of c) grown c.caches still refl (omega arith) before.cached) (record { live = live; tied = tt; made = omega arith });
         only = none_only None (with_dir c a home room).caches (filled_none c.caches a fresh before.only absent);
+        generations = generations_beside (state_of old) old.caches c.caches a.rank.0 (leaf_of a) fresh new before.generations;
       }
 
 -- ---- leaves end
@@ -199,8 +220,13 @@ module _ (c : Core) (counts : Counts) (gone : Option Ino) (room : Rooms) where
       came = comes gone named;
       cached = subst (λ (s : State). AllCachedIn s left.caches) (sym is_gone) (stay gone);
       only = none_only None left.caches (stays_none (only_none c.caches before.only));
+      generations = keeps gone;
     }
       where
+        keeps : (went : Option Ino) → KeepGenerations (state_of old) old.caches (after went).caches
+        keeps None = before.generations
+        keeps (Some dir) = λ leaf a live is. before.generations leaf a live (still_held c.caches (leaves c.covers dir.0) leaf a is).1
+
         comes : (went : Option Ino) → ((r : ℕ) (leaf : Leaf) → went ≡ Some leaf.0 → Ends r leaf) → Came Uses Ends old.caches (after went).caches
         comes None named = before.came
         comes (Some dir) named = ends_came Uses Ends old.caches c.caches dir (leaves_of c.covers dir.0) (λ r leaf is. named r leaf (ap (λ (d : Ino). Some d) (sym is))) before.came

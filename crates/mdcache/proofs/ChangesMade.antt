@@ -1,13 +1,15 @@
 -- What a change makes, once its steps are known.
-use Rattle.mdcache.proofs.Common.{AllCachedIn, Bool, Cached, Came, Change, Core, Dirfrag, EndsWith, HasCached, HasNumber, HasRoom, HasSpace, Ino, Inode, IsChangedBy, IsKeptFor, IsNamedIn, IsRightChange, IsSound, IsSoundCore, IsThere, KeepsNone, KeepsOnlyAt, Leaf, List, Makes, MayChange, None, NoneEnds, Option, Rank, ReadsCore, Rooms, Some, Spot, State, adds, ap, arith, cond, count_of, counts_moved, dentry_at, false, first_leaf, here, home_at, inl, inr, is_dir_kind, is_some, leaf_of, length, made_frag, may_come, moves, named, one_less, one_more, pinned, refl, removes, root_fragment, rows_but, sets, shown_in, shown_tree, shows, state_of, subst, sym, true, unclean_with, with_directory, with_entry, with_home, with_new, with_pin, without_gone_dir, without_dir, without_entry, ℕ, ◌-◌, ◌<◌, ◌==◌, ◌^◌, ◌∙◌, ◌≡◌}
+use Rattle.mdcache.proofs.Common.{AllCachedIn, At, Bool, CacheMap, Cached, Came, Change, Core, Dirfrag, EndsWith, HasCached, HasNumber, HasRoom, HasSpace, Ino, Inode, IsChangedBy, IsKeptFor, IsLive, IsNamedIn, IsReadOf, IsRightChange, IsSound, IsSoundCore, IsThere, KeepsNone, KeepsOnlyAt, Leaf, List, Makes, MayChange, None, NoneEnds, Objects, Option, Rank, Reads, ReadsCore, Rooms, Some, Spot, State, Unsaved, adds, ap, arith, at, cond, cond_both, count_of, counts_moved, dentry_at, false, first_leaf, get_unclean, here, home_at, inl, inr, is_apart, is_clean, is_dir_kind, is_known, is_some, leaf_of, length, made_frag, may_come, moves, named, object_of, one_less, one_more, pinned, reads_held, refl, removes, root_fragment, rows_but, same_Some, sets, shown_in, shown_tree, shows, state_of, subst, sym, true, unclean, unclean_with, unsaved_at, with_directory, with_entry, with_home, with_new, with_pin, without_gone_dir, without_dir, without_entry, ℕ, ◌-◌, ◌<◌, ◌==◌, ◌^◌, ◌||◌, ◌∙◌, ◌≡◌}
 use Rattle.std.specs.FinMap as map
+use Rattle.mdcache.specs.Changing.{generation_in}
 use Rattle.mdcache.specs.Core.{moved_entry, with_dir}
 use Rattle.mdcache.proofs.ChangeLaws.{changes_are_right}
-use Rattle.mdcache.proofs.CoreLaws.{dir_known, reads_state, shows_names}
-use Rattle.mdcache.proofs.ChangeSteps.{HasMade, cached_there, is_gone, is_named, kept_named, left, made_dir, made_first, made_gone, made_named, made_tables, room_left, roomy_there}
+use Rattle.mdcache.proofs.CoreLaws.{dir_known, loaded_first, reads_state, shows_names}
+use Rattle.mdcache.proofs.ChangeSteps.{HasMade, KeepGenerations, cached_there, is_gone, is_named, kept_named, left, made_dir, made_first, made_gone, made_named, made_tables, room_left, roomy_there}
 use Rattle.mdcache.proofs.HomeLaws.{first_live, grown_live, moved_known, relocates}
 use Rattle.mdcache.proofs.NamedLaws.{sound_leaves, stands_at}
 use Rattle.mdcache.proofs.NoneLaws.{none_only, only_none}
+use Rattle.mdcache.proofs.PutLaws.{beyond}
 
 -- all that the steps of a change leave
 pub record IsDone (change : Change) (old new : Core) : Type 0 where
@@ -15,6 +17,7 @@ pub record IsDone (change : Change) (old new : Core) : Type 0 where
   pub right : IsRightChange change (state_of old) (state_of new)
   pub came : Came (IsNamedIn change) (EndsWith change) old.caches new.caches
   pub sound : IsSoundCore new
+  pub generations : KeepGenerations (state_of old) old.caches new.caches
 
 done : (change : Change) (old new : Core) → IsSound (state_of old) → HasNumber change → MayChange (shown_in old) old.covers change → Makes change (state_of old) (state_of new)
     → HasMade (IsNamedIn change) (EndsWith change) None old new → 0 < new.next_generation → IsDone change old new
@@ -25,6 +28,7 @@ done change old new sound number may made has begun =
       right = right;
       came = has.came;
       sound = record { sound = right.sound; begun = begun; cached = has.cached; none = only_none new.caches has.only };
+      generations = has.generations;
     }
 
 -- nothing comes
@@ -32,6 +36,30 @@ not_new : {P : Type 0} → false ≡ true → P
 not_new clash = cc
 
 -- ---- after reads
+
+-- what isn't clean is cached, and has the generation of its fragment
+unclean_held : (c : CacheMap) (leaf : Leaf) (u : Unsaved) → map.get (unclean c) leaf ≡ Some u → (a : At) × (map.get c.held leaf ≡ Some a) × (u.generation ≡ a.frag.generation)
+unclean_held c leaf u is = go (map.get c.held leaf) refl (sym (get_unclean c leaf) ∙ is)
+  where
+    given : (a : At) → unsaved_at (Some a) ≡ Some u → u.generation ≡ a.frag.generation
+    given a = cond_both (is_clean a.frag) None (Some (beyond a.frag)) (λ o. o ≡ Some u → u.generation ≡ a.frag.generation) (λ clean none. let clash : None ≡ Some u = none in absurd cc)
+        (λ dirty some. sym (ap (λ (v : Unsaved). v.generation) (same_Some (beyond a.frag) u some)))
+
+    go : (o : Option At) → map.get c.held leaf ≡ o → unsaved_at o ≡ Some u → (a : At) × (map.get c.held leaf ≡ Some a) × (u.generation ≡ a.frag.generation)
+    go None held h = let clash : None ≡ Some u = h in absurd cc
+    go (Some a) held h = (a, held, given a h)
+
+-- what was read of a leaf that wasn't cached was fetched
+read_first : (Uses Ends : ℕ → Leaf → Type 0) (objects : Objects) (old new : CacheMap) → Reads Uses Ends objects old new → (leaf : Leaf) → map.get old.held leaf ≡ None → generation_in (map.get new.held leaf) ≡ 0
+read_first Uses Ends objects old new reads leaf none = go (map.get new.held leaf) refl
+  where
+    of : (a : At) → IsReadOf Uses objects leaf None a → a.frag.generation ≡ 0
+    of a (inl was) = let clash : None ≡ Some (at a.rank was.0) = was.1 in absurd cc
+    of a (inr read) = ap (λ (f : Cached). f.generation) read.3 ∙ loaded_first leaf read.1 (object_of objects leaf.0 leaf.1) read.2
+
+    go : (o : Option At) → map.get new.held leaf ≡ o → generation_in o ≡ 0
+    go None held = refl
+    go (Some a) held = of a (subst (λ (o : Option At). IsReadOf Uses objects leaf o a) none (reads_held Uses Ends objects old new reads leaf a held))
 
 -- what was read for a change before its steps changed nothing else
 pub after_reads : (change : Change) (old mid new : Core) → ReadsCore (IsNamedIn change) NoneEnds old mid → IsDone change mid new → IsChangedBy change old new
@@ -43,7 +71,15 @@ after_reads change old mid new reads is =
       between = mid.caches;
       read = reads.caches;
       came = is.came;
+      generations = kept;
+      fetched = λ leaf u live none unclean. kept leaf u live unclean ∙ read_first (IsNamedIn change) NoneEnds old.objects old.caches mid.caches reads.caches leaf none;
     }
+  where
+    kept : (leaf : Leaf) (u : Unsaved) → IsLive old.homes old.covers leaf → map.get (unclean new.caches) leaf ≡ Some u → u.generation ≡ generation_in (map.get mid.caches.held leaf)
+    kept leaf u live unclean =
+        let w = unclean_held new.caches leaf u unclean in
+        let still : IsLive mid.homes mid.covers leaf = subst (λ (s : State). IsLive s.homes s.covers leaf) (sym (reads_state (IsNamedIn change) NoneEnds old mid reads)) live in
+        w.2 ∙ is.generations leaf w.0 still w.1
 
 -- and it may be made still
 pub may_still : (Uses : ℕ → Leaf → Type 0) (change : Change) (old mid : Core) → ReadsCore Uses NoneEnds old mid → MayChange (shown_in old) old.covers change → MayChange (shown_in mid) mid.covers change
@@ -108,12 +144,14 @@ module _ (old new : Core) (sound : IsSound (state_of old)) (begun : 0 < old.next
       directory_done its name is =
           let leaves = sound_leaves (state_of old) sound in
           let come = may_come (shown_in old) old.homes (dentry_at spot) inode sound.tabled may.takes in
+          let unknown : is_known old.homes inode.ino.0 ≡ false = λ i. is_apart inode.ino.0 1 come.other i || is_some (come.fresh i) in
+          let not_live : IsLive old.homes old.covers (first_leaf inode.ino) → ⊥ = λ live. let clash : true ≡ false = sym live.known ∙ unknown in cc in
           let counts = one_more old.counts place.dir.0 in
           let before = made_first (IsNamedIn (adds spot inode)) (EndsWith (adds spot inode)) kept old cached only in
           let named = made_named _ _ kept old old before place spot.name (Some inode) there (inl (refl, refl)) in
           let grown = made_dir _ _ old (with_entry now place.dir) first (made_tables _ _ kept old now named old.homes counts old.pins (λ leaf live. live))
           (kept_named old place spot.name (Some inode) there (first_leaf inode.ino) kept_place rank).1 (home_at (dentry_at spot)) rooms
-          (first_live (state_of old) leaves (dentry_at spot) inode.ino come fits) (grown_live (state_of old) leaves (dentry_at spot) inode.ino come fits) (inr (refl, refl)) in
+          (first_live (state_of old) leaves (dentry_at spot) inode.ino come fits) (grown_live (state_of old) leaves (dentry_at spot) inode.ino come fits) not_live (inr (refl, refl)) in
           let with_leaf : State = record (with_directory (state_of now) (dentry_at spot) inode.ino) { counts = map.insert counts inode.ino.0 0 } in
           subst (IsDone (adds spot inode) old) (sym (is ∙ (λ i. with_dir (with_entry now place.dir) first (record { parent = spot.at.dir; name = name i }) rooms)))
           (done (adds spot inode) old (with_dir (with_entry now place.dir) first (home_at (dentry_at spot)) rooms) sound (λ new. fits) may (

@@ -1,6 +1,8 @@
 -- What reads and preparations leave of the tree over caches and a store, and what they find.
 use Rattle.mdcache.proofs.Common.{AllCachedIn, At, Base, CacheMap, Cached, Came, Core, Counts, Covers, Dentry, DirPins, Dirfrag, Rewrites, Fragment, HasCached, Homes, IfErr, IfErr-weaker, IfOk, IfOk-weaker, Ino, Inode, IsButRoom, IsCachedIn, IsFree, IsLive, IsNoLess, IsPick, IsSaved, IsSound, IsSoundCore, IsThat, IsThere, IsTiedAt, KeepsNone, KeepsState, Keys, LacksPlacesIn, Leaf, List, Loads, MayFetch, MayHold, MayNotBeReady, MayNotFind, Names, None, NoneEnds, Objects, Omap, OnErr, OnOk, Option, Reads, ReadsCore, Refusal, Result, Rooms, Some, State, UnsavedLeaves, ap, arith, at, came_cap, came_ranks, rewrites_reads, faults_told, fetched_are_tied, get_unclean, hash_of, here, here_is, inl, inr, is_directory, is_known, is_some, it_stays, known_is, leaf_of, leaves_of, length, object_of, reads_came, reads_held, reads_then, reads_unclean, reads_weaker, refl, rules, shown, shown_at, shown_in, shows, shows_in, state_of, subst, sym, true, unclean, unsaved_at, used_at, used_reads, ℕ, ⊎_elim, ◌+◌, ◌<◌, ◌∙◌, ◌≡◌, ◌≤◌, ◌⊎◌}
 use Rattle.std.specs.FinMap as map
+use Rattle.std.proofs.Common.{◌-◌, ◌^◌}
+use Rattle.mdcache.specs.Ready.{LacksNumbers}
 use Rattle.mdcache.specs.Shown.{names_of}
 pub use Rattle.std.proofs.lemmas.Result.{on_ok_weaker as on_ok}
 use Rattle.mdcache.proofs.EndLaws.{cached_shows}
@@ -18,7 +20,7 @@ pub cached_but : (s : State) (leaf : Leaf) (g f : Cached) → IsButRoom g f → 
 cached_but s leaf g f but was =
     subst (IsCachedIn s leaf) (sym but) (record { live = was.live; tied = tied_but g.base g f.room f.places (object_of s.objects leaf.0 leaf.1) was.tied; made = was.made })
 
-loaded_first : (leaf : Leaf) (f : Cached) (object : Option Omap) → Loads leaf.1 object (Some f) → f.generation ≡ 0
+pub loaded_first : (leaf : Leaf) (f : Cached) (object : Option Omap) → Loads leaf.1 object (Some f) → f.generation ≡ 0
 loaded_first leaf f object h = search rules
 
 -- a fragment that was read
@@ -248,6 +250,13 @@ grows_by old new ready = search rules
 -- why it isn't, once numbers are known to be left
 pub not_ready : (Lacks P : Type 0) (before after : ℕ) (reason : Refusal) → (Lacks → ⊥) → MayNotFind P before after reason → MayNotBeReady Lacks P before after reason
 not_ready Lacks P before after reason left is = inr (left, is)
+
+-- numbers that are left don't lack
+pub one_left : (next now : ℕ) → now ≡ next → now < 2 ^ 64 - 1 → LacksNumbers 1 next → ⊥
+one_left next now same left lacks = absurd (omega (arith, same, left, lacks))
+
+pub two_left : (next now : ℕ) → now ≡ next → now < 2 ^ 64 - 2 → LacksNumbers 2 next → ⊥
+two_left next now same left lacks = absurd (omega (arith, same, left, lacks))
 
 -- so where more may lack, but of the numbers no more
 pub not_ready_wider : (Few Many Less More : Type 0) (before after : ℕ) (reason : Refusal) → (Few → Many) → (Many → Few) → (Less → More) → MayNotBeReady Few Less before after reason → MayNotBeReady Many More before after reason

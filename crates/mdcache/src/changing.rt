@@ -1,12 +1,13 @@
 //! A change of the tree is made: all that it takes comes first, and then its steps, which can't fail.
-ghost use Rattle.std.specs.Prelude.{◌≡◌, ◌+◌, ◌<◌, ◌≤◌, ◌^◌, true, false};
+ghost use Rattle.std.specs.Prelude.{◌≡◌, ◌+◌, ◌<◌, ◌≤◌, ◌^◌, true, false, OnOk};
 ghost use Rattle.std.specs.Result.{result_err};
 ghost use Rattle.mds_types.specs.Tree.{is_dir_kind};
 ghost use Rattle.objstore.specs.Objects.{faults_told};
 ghost use Rattle.dirfrag_codec.specs.EntryRecord.{HasTarget, IsRankNumber};
 ghost use Rattle.namespace_ops.specs.Changes.{IsNumbered, MayChange, adds, moves, removes, sets};
 ghost use Rattle.mdcache.specs.Changing.{ChangesTree};
-ghost use Rattle.mdcache.specs.Core.{IsSoundCore, shown_in};
+ghost use Rattle.mdcache.specs.Core.{IsSoundCore, shown_in, state_of};
+ghost use Rattle.mdcache.specs.Frags.{LacksToMake};
 ghost use Rattle.mdcache.specs.Ranks.{MayHoldEach};
 
 use crate::mdcache::MdCache;
@@ -18,8 +19,9 @@ use std::alloc::Global;
 
 impl<S: Store + Drop> MdCache<S> {
     /// Makes a change that may be made: its leaves are cached, each at its holder, its names are dirty there at the
-    /// next versions, and a directory that comes, moves or goes does so in the table. A new inode has a number of a
-    /// rank. Takes memory before its first step.
+    /// next versions, and a directory that comes, moves or goes does so in the table. A leaf that stood keeps the
+    /// generation of its fragment; one that was fetched has generation 0. A new inode has a number of a rank. Takes
+    /// memory before its first step.
     ///
     /// Refused `NoInodes` exactly where versions lack for the names that change, or a generation for the leaf of a new
     /// directory; otherwise `NothingToEvict` where fewer than two places of a holder are free or can become so,
@@ -30,6 +32,7 @@ impl<S: Store + Drop> MdCache<S> {
         requires may { MayChange (shown_in self.old) self.old.covers change }
         requires numbered { IsNumbered IsRankNumber change }
         ensures changed { ChangesTree change self.old self.new result }
+        ensures numbers { OnOk result (LacksToMake change (state_of self.old) → ⊥) }
         ensures sound { IsSoundCore self.new }
         ensures counted { self.new.faults ≡ self.old.faults + faults_told (result_err result) }
     {
@@ -60,6 +63,7 @@ impl<S: Store + Drop> MdCache<S> {
         requires may { MayChange (shown_in self.old) self.old.covers (adds spot inode) }
         requires number { IsRankNumber inode.ino.0 }
         ensures changed { ChangesTree (adds spot inode) self.old self.new result }
+        ensures numbers { OnOk result (LacksToMake (adds spot inode) (state_of self.old) → ⊥) }
         ensures sound { IsSoundCore self.new }
         ensures counted { self.new.faults ≡ self.old.faults + faults_told (result_err result) }
     {
@@ -78,6 +82,7 @@ impl<S: Store + Drop> MdCache<S> {
         requires number { IsRankNumber inode.ino.0 }
         requires file { is_dir_kind inode.kind ≡ false }
         ensures changed { ChangesTree (adds spot inode) self.old self.new result }
+        ensures numbers { OnOk result (LacksToMake (adds spot inode) (state_of self.old) → ⊥) }
         ensures sound { IsSoundCore self.new }
         ensures counted { self.new.faults ≡ self.old.faults + faults_told (result_err result) }
     {
@@ -103,6 +108,7 @@ impl<S: Store + Drop> MdCache<S> {
         requires number { IsRankNumber inode.ino.0 }
         requires directory { is_dir_kind inode.kind ≡ true }
         ensures changed { ChangesTree (adds spot inode) self.old self.new result }
+        ensures numbers { OnOk result (LacksToMake (adds spot inode) (state_of self.old) → ⊥) }
         ensures sound { IsSoundCore self.new }
         ensures counted { self.new.faults ≡ self.old.faults + faults_told (result_err result) }
     {
@@ -126,6 +132,7 @@ impl<S: Store + Drop> MdCache<S> {
         requires holds { MayHoldEach self.old.caches (sets spot inode) }
         requires may { MayChange (shown_in self.old) self.old.covers (sets spot inode) }
         ensures changed { ChangesTree (sets spot inode) self.old self.new result }
+        ensures numbers { OnOk result (LacksToMake (sets spot inode) (state_of self.old) → ⊥) }
         ensures sound { IsSoundCore self.new }
         ensures counted { self.new.faults ≡ self.old.faults + faults_told (result_err result) }
     {
@@ -149,6 +156,7 @@ impl<S: Store + Drop> MdCache<S> {
         requires holds { MayHoldEach self.old.caches (removes spot gone) }
         requires may { MayChange (shown_in self.old) self.old.covers (removes spot gone) }
         ensures changed { ChangesTree (removes spot gone) self.old self.new result }
+        ensures numbers { OnOk result (LacksToMake (removes spot gone) (state_of self.old) → ⊥) }
         ensures sound { IsSoundCore self.new }
         ensures counted { self.new.faults ≡ self.old.faults + faults_told (result_err result) }
     {
@@ -177,6 +185,7 @@ impl<S: Store + Drop> MdCache<S> {
         requires holds { MayHoldEach self.old.caches (moves from to inode gone) }
         requires may { MayChange (shown_in self.old) self.old.covers (moves from to inode gone) }
         ensures changed { ChangesTree (moves from to inode gone) self.old self.new result }
+        ensures numbers { OnOk result (LacksToMake (moves from to inode gone) (state_of self.old) → ⊥) }
         ensures sound { IsSoundCore self.new }
         ensures counted { self.new.faults ≡ self.old.faults + faults_told (result_err result) }
     {

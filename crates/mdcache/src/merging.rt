@@ -16,6 +16,7 @@ ghost use Rattle.mdcache.specs.Joining.{IsAmongOr};
 ghost use Rattle.mdcache.specs.Ranks.{KeepsOnlyAt, MayHold};
 ghost use Rattle.mdcache.specs.Reads.{MayNotFind};
 ghost use Rattle.mdcache.specs.Regrouping.{IsMergeReady, ending_at, merged_in};
+ghost use Rattle.mdcache.specs.Regroups.{LacksCounts};
 ghost use Rattle.mdcache.specs.Splits.{IsMergedInto, KeepsShownTree};
 ghost use Rattle.mdcache.specs.SplitsAndMerges.{IsUndone, MergesFrags, merged_leaves};
 
@@ -65,6 +66,7 @@ impl<S: Store + Drop> MdCache<S> {
         requires can { CanMerge (leaves_of self.old.covers at.now.dir.0) at.now.frag }
         ensures merged { MergesFrags
             (LacksPlacesAt 1 self.old at.now.rank) self.old self.new at.now.dir at.now.frag result }
+        ensures numbers { OnOk result (LacksCounts 1 (state_of self.old) → ⊥) }
         ensures came { Came (IsAmongOr at.now.rank.0 (ending_at self.old at.now) (leaf_of at.now))
             (λ r q. Contains (ending_at self.old at.now) q) self.old.caches self.new.caches }
         ensures counted { self.new.faults ≡ self.old.faults + faults_told (result_err result) }

@@ -22,6 +22,7 @@ ghost use Rattle.mdcache.specs.Core.{IsSoundCore, LacksPlacesAt, MayFetch, Reads
 ghost use Rattle.mdcache.specs.Ranks.{MayHold};
 ghost use Rattle.mdcache.specs.Reads.{MayNotFind, has_none};
 ghost use Rattle.mdcache.specs.Regrouping.{IsSplitReady, split_in};
+ghost use Rattle.mdcache.specs.Regroups.{LacksCounts};
 ghost use Rattle.mdcache.specs.Splits.{IsSplitInto, KeepsShownTree, without_objects};
 ghost use Rattle.mdcache.specs.SplitsAndMerges.{IsUndone, SplitsFrag};
 
@@ -57,6 +58,7 @@ impl<S: Store + Drop> MdCache<S> {
         requires can { CanSplit (leaves_of self.old.covers at.now.dir.0) at.now.frag nb }
         ensures split { SplitsFrag
             (LacksPlacesAt (2 ^ nb + 1) self.old at.now.rank) self.old self.new at.now.dir at.now.frag nb result }
+        ensures numbers { OnOk result (LacksCounts (2 ^ nb) (state_of self.old) → ⊥) }
         ensures came { Came (IsFamilyAt at.now.rank.0 at.now.dir at.now.frag nb)
             (IsFamilyAt at.now.rank.0 at.now.dir at.now.frag nb) self.old.caches self.new.caches }
         ensures counted { self.new.faults ≡ self.old.faults + faults_told (result_err result) }

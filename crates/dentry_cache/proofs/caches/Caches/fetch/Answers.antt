@@ -1,5 +1,7 @@
-use Rattle.dentry_cache.proofs.Common.{IfErr-weaker, has_place, object_of, on_err_weaker, on_ok_weaker, refl}
-use Rattle.dentry_cache.proofs.MapCalls.{all_caches, fetched_there, fetch_refused, fetch_sound, fetched_now, refused_now, unfetched_now}
+use Rattle.dentry_cache.proofs.Common.{IfErr-weaker, has_place, object_of, on_err_weaker, on_ok_weaker, refl, subst, sym}
+use Rattle.dentry_cache.proofs.MapCalls.{all_caches, fetched_there, fetch_refused, fetch_sound, fetched_now, placed_is, refused_now, unfetched_now}
+use Rattle.std.specs.Result.{result_err}
+use Rattle.dentry_cache.specs.Calls.{AreFetchCalls, calls_to_load}
 use Rattle.dentry_cache.proofs.caches.Caches.fetch.Goals as goal
 
 pub returns-clause-fetched : goal.returns-clause-fetched
@@ -25,3 +27,6 @@ returns-clause-valid g c = all_caches c.self.inside.caches.items c.self.inside.p
 
 pub returns-clause-room : goal.returns-clause-room
 returns-clause-room g c = IfErr-weaker c.fetch.result _ _ (λ reason is. refused_now c.self.inside.caches.items c.self.inside.places c.args.at.rank.0 c.args.self.now c.self.view_is c.self.invariant c.requires.there c.index_mut.result.now c.index_mut.ensures.value c.fetch.new.self c.args.stay reason is) c.fetch.ensures.room
+
+pub returns-clause-called : goal.returns-clause-called
+returns-clause-called g c = subst (λ b. AreFetchCalls g.S.Store.IsCall b (calls_to_load c.args.at.frag (object_of (g.S.Store.objects c.args.store.now) c.args.at.dir c.args.at.frag)) c.args.store.now (result_err c.fetch.result) c.fetch.new.store) (sym (placed_is c.self.inside.caches.items c.self.inside.places c.args.at.rank.0 c.args.self.now c.self.view_is c.self.invariant c.requires.there c.index_mut.result.now c.index_mut.ensures.value (c.args.at.dir, c.args.at.frag))) c.fetch.ensures.called

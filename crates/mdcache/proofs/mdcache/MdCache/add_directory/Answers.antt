@@ -1,6 +1,6 @@
 use Rattle.mdcache.proofs.Common.{Core, IsSound, List, MayCome, State, adds, ap, dentry_at, inl, inr, known_is, may_come, subst, sym, ℕ, ⊎_elim, ◌<◌, ◌∙◌}
 use Rattle.mdcache.proofs.ChangesMade.{after_reads, directory_done, may_still, new_fits}
-use Rattle.mdcache.proofs.CoreLaws.{not_ready_wider, reads_state, there_after}
+use Rattle.mdcache.proofs.CoreLaws.{not_ready_wider, one_left, reads_state, there_after}
 use Rattle.mdcache.proofs.PrepareLaws.{dir_live, new_recordable}
 use Rattle.mdcache.proofs.mdcache.MdCache.add_directory.Goals as goal
 
@@ -35,7 +35,12 @@ returns-in-Ok g c =
     let done = directory_done c.ready_directory.new.self c.come_directory.new.self (subst IsSound same c.requires.sound.sound) (subst (λ (s : State). 0 < s.next_generation) same c.requires.sound.begun) ready.cached
     c.args.spot ready.ready.room c.args.inode ready.only ready.place.place c.requires.directory c.has_parts.ensures.number (there_after _ _ _ _ _ reads c.requires.holds.put.there) (may_still _ _ _ _ reads c.requires.may)
     c.come_directory.new.self.room c.in-Ok.name ready.named c.come_directory.ensures in
-    record { changed = after_reads _ _ _ _ reads done; sound = done.sound; counted = ap (λ (k : Core). k.faults) c.come_directory.ensures ∙ ready.counted }
+    record {
+      changed = after_reads _ _ _ _ reads done;
+      numbers = ⊎_elim (one_left _ _ (ap (λ (k : Core). k.next_version) reads.beside) ready.ready.number) (λ needs. one_left _ _ (ap (λ (k : Core). k.next_generation) reads.beside) ready.place.generation needs.1);
+      sound = done.sound;
+      counted = ap (λ (k : Core). k.faults) c.come_directory.ensures ∙ ready.counted;
+    }
 
 pub returns-in-Err-clause-changed : goal.returns-in-Err-clause-changed
 returns-in-Err-clause-changed g c = (

@@ -1,6 +1,6 @@
 use Rattle.mdcache.proofs.Common.{Core, NoneEnds, adds, ap, dentry_at, false, inl, sym, true, ⊎_elim, ◌∙◌, ◌≡◌}
 use Rattle.mdcache.proofs.ChangesMade.{after_reads, file_done, may_still, new_fits}
-use Rattle.mdcache.proofs.CoreLaws.{dir_known, not_ready_wider, reads_core_wider, there_after}
+use Rattle.mdcache.proofs.CoreLaws.{dir_known, not_ready_wider, one_left, reads_core_wider, there_after}
 use Rattle.mdcache.proofs.PrepareLaws.{dir_live, new_recordable, one_or_two}
 use Rattle.mdcache.proofs.mdcache.MdCache.add_file.Goals as goal
 
@@ -27,6 +27,7 @@ returns-in-Ok g c =
     let done = file_done c.ready_name.new.self c.come_file.new.self s.sound s.begun s.cached c.args.spot c.in-Ok.ensures.ready.room c.args.inode s.none c.requires.file c.has_parts.ensures.number (may_still _ _ _ _ reads c.requires.may) c.come_file.ensures in
     record {
       changed = after_reads _ _ _ _ (reads_core_wider _ _ NoneEnds NoneEnds _ _ (λ r q is. inl is) (λ r q no_end. no_end) reads) done;
+      numbers = ⊎_elim (one_left _ _ (ap (λ (k : Core). k.next_version) reads.beside) c.in-Ok.ensures.ready.number) (λ needs. let clash : true ≡ false = sym needs.0 ∙ c.requires.file in absurd cc);
       sound = done.sound;
       counted = ap (λ (k : Core). k.faults) c.come_file.ensures ∙ c.in-Ok.ensures.counted;
     }

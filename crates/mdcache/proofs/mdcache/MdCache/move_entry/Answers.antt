@@ -4,7 +4,7 @@ use Rattle.cached_frag.specs.Cached.{shown as shown_of}
 use Rattle.mdcache.proofs.ChangeLaws.{entry_known}
 use Rattle.mdcache.proofs.ChangesMade.{after_reads, counts_fit, entry_moved, may_still}
 use Rattle.mdcache.proofs.HomeLaws.{relocates, replaces}
-use Rattle.mdcache.proofs.CoreLaws.{dir_known, of_names, there_after}
+use Rattle.mdcache.proofs.CoreLaws.{dir_known, of_names, there_after, two_left}
 use Rattle.mdcache.proofs.PrepareLaws.{dir_live, entry_live, shows_entry}
 use Rattle.mdcache.proofs.mdcache.MdCache.move_entry.Goals as goal
 
@@ -47,7 +47,7 @@ returns-in-Ok g c =
     let ready = c.in-Ok.ensures in
     let may = may_still _ (moves c.args.from c.args.to c.args.inode c.args.gone) _ _ reads c.requires.may in
     let done = entry_moved now c.pass.new.self ready.sound c.args.from c.args.to c.args.inode c.args.gone may ready.source ready.target c.pass.new.self.room c.in-Ok.name ready.named c.pass.ensures.moved c.pass.ensures.none in
-    record { changed = after_reads _ _ _ _ reads done; sound = done.sound; counted = ap (λ (k : Core). k.faults) c.pass.ensures.moved ∙ ready.counted }
+    record { changed = after_reads _ _ _ _ reads done; numbers = two_left _ _ (ap (λ (k : Core). k.next_version) reads.beside) ready.number; sound = done.sound; counted = ap (λ (k : Core). k.faults) c.pass.ensures.moved ∙ ready.counted }
 
 pub returns-in-Err-clause-changed : goal.returns-in-Err-clause-changed
 returns-in-Err-clause-changed g c = (c.ready_move.ensures.reads, c.in-Err.ensures.refused)

@@ -2,7 +2,7 @@ use Rattle.mdcache.proofs.Common.{Core, ap, dentry_at, state_of, ◌∙◌}
 use Rattle.mdcache.proofs.ChangeLaws.{entry_known}
 use Rattle.mdcache.proofs.ChangesMade.{after_reads, may_still, removal_done}
 use Rattle.mdcache.proofs.HomeLaws.{may_go}
-use Rattle.mdcache.proofs.CoreLaws.{not_ready_wider, there_after}
+use Rattle.mdcache.proofs.CoreLaws.{not_ready_wider, one_left, there_after}
 use Rattle.mdcache.proofs.PrepareLaws.{entry_live, one_or_two}
 use Rattle.mdcache.proofs.mdcache.MdCache.remove_entry.Goals as goal
 
@@ -31,7 +31,7 @@ returns-in-Ok g c =
     let ready = c.in-Ok.ensures in
     let s = ready.sound in
     let done = removal_done now c.leave.new.self s.sound s.begun s.cached c.args.spot ready.ready.room c.args.gone s.none (may_still _ _ _ _ reads c.requires.may) c.leave.new.self.room c.leave.ensures.gone c.leave.ensures.none in
-    record { changed = after_reads _ _ _ _ reads done; sound = done.sound; counted = ap (λ (k : Core). k.faults) c.leave.ensures.gone ∙ ready.counted }
+    record { changed = after_reads _ _ _ _ reads done; numbers = one_left _ _ (ap (λ (k : Core). k.next_version) reads.beside) ready.ready.number; sound = done.sound; counted = ap (λ (k : Core). k.faults) c.leave.ensures.gone ∙ ready.counted }
 
 pub returns-in-Err-clause-changed : goal.returns-in-Err-clause-changed
 returns-in-Err-clause-changed g c = (

@@ -1,6 +1,6 @@
 use Rattle.mdcache.proofs.Common.{Core, IfSome, Inode, IsRecordable, Option, ap, dentry_at, subst, sym, ◌∙◌}
 use Rattle.mdcache.proofs.ChangesMade.{after_reads, may_still, set_done, set_listed}
-use Rattle.mdcache.proofs.CoreLaws.{not_ready_wider, there_after}
+use Rattle.mdcache.proofs.CoreLaws.{not_ready_wider, one_left, there_after}
 use Rattle.mdcache.proofs.PrepareLaws.{entry_live, one_or_two, set_recordable, shows_entry}
 use Rattle.mdcache.proofs.mdcache.MdCache.set_entry.Goals as goal
 
@@ -25,7 +25,7 @@ returns-in-Ok g c =
     let s = c.in-Ok.ensures.sound in
     let reads = c.ready_set.ensures.reads in
     let done = set_done c.ready_set.new.self c.put_altered.new.self s.sound s.begun s.cached c.args.spot c.in-Ok.ensures.ready.room c.args.inode s.none (may_still _ _ _ _ reads c.requires.may) c.put_altered.ensures in
-    record { changed = after_reads _ _ _ _ reads done; sound = done.sound; counted = ap (λ (k : Core). k.faults) c.put_altered.ensures ∙ c.in-Ok.ensures.counted }
+    record { changed = after_reads _ _ _ _ reads done; numbers = one_left _ _ (ap (λ (k : Core). k.next_version) reads.beside) c.in-Ok.ensures.ready.number; sound = done.sound; counted = ap (λ (k : Core). k.faults) c.put_altered.ensures ∙ c.in-Ok.ensures.counted }
 
 pub returns-in-Err-clause-changed : goal.returns-in-Err-clause-changed
 returns-in-Err-clause-changed g c = (
