@@ -1,5 +1,6 @@
 //! A fragment that was fetched.
-ghost use Rattle.std.specs.Prelude.{◌≡◌, IfOk};
+ghost use Rattle.std.specs.Prelude.{◌≡◌, ◌≢◌, ◌<◌, ◌⊎◌};
+ghost use Rattle.mds_types.specs.Copies.{IsMade};
 ghost use Rattle.std.specs.FinMap as map;
 ghost use Rattle.objstore.specs.Omap.{key_cmp};
 ghost use Rattle.sorted_map.specs.SortedMap.{contents};
@@ -14,21 +15,21 @@ use std::alloc::{AllocError, Global};
 
 impl CachedFrag {
     /// A fragment whose object spells these names at this commit version. Takes memory where there are names, or room
-    /// for them.
+    /// for them, and only then may it be wanting.
     pub fn stored(
         alloc: Global,
         version: u64,
         names: SortedMap<Name, Inode>,
     ) -> Result<CachedFrag, AllocError>
         requires { AreEntries (contents key_cmp names) }
-        ensures { IfOk result (λ stored. stored ≡ record {
+        ensures { IsMade (record {
           base = Base.Stored version;
           generation = 0;
           clean = contents key_cmp names;
           dirty = map.empty;
           room = 0;
           places = names.room;
-        }) }
+        }) ((contents key_cmp names ≢ map.empty) ⊎ (0 < names.room)) result }
     {
         if names.room() == 0 && names.is_empty() {
             drop(names);

@@ -1,5 +1,6 @@
 //! What became of a dirty name.
-ghost use Rattle.std.specs.Prelude.{◌≡◌, ◌↔◌, IfOk, IsTrue};
+ghost use Rattle.std.specs.Prelude.{◌≡◌, ◌↔◌, IsTrue};
+ghost use Rattle.mds_types.specs.Copies.{IsLink, IsMade};
 
 use mds_types::Inode;
 use std::alloc::AllocError;
@@ -16,11 +17,15 @@ pub struct Mark {
 impl Mark {
     /// A copy. Takes memory for a link's target alone.
     pub fn try_clone(&self) -> Result<Mark, AllocError>
-        ensures { IfOk result (λ copy. copy ≡ self.now) }
+        ensures { IsMade self.now (IsLink self.now.inode) result }
     {
+        let inode = match &self.inode {
+            Some(inode) => Some(inode.try_clone()?),
+            None => None,
+        };
         Ok(Mark {
             version: self.version,
-            inode: self.inode.clone()?,
+            inode,
         })
     }
 }

@@ -1,3 +1,4 @@
+pub mod CallSteps
 pub mod ColdLaws
 pub mod Common
 pub mod FaultLaws

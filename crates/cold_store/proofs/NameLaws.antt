@@ -3,6 +3,8 @@ use Rattle.cold_store.proofs.Common.{AreLeft, AreNamesOf, Bool, Covers, EndsName
 use Rattle.std.proofs.Common.{map as each}
 use Rattle.std.specs.FinMap as map
 use Rattle.objstore.specs.Objects.{names_after}
+use Rattle.cold_store.specs.Calls.{NamesLeft, pages_beyond}
+use Rattle.cold_store.proofs.CallSteps.{few_beyond, more_beyond}
 
 -- ---- keys, more of them and less of them
 
@@ -159,21 +161,45 @@ module _ (objects : Objects) (after : Option (List ℕ)) where
     none_taken [] none = refl
     none_taken (y ∷ ys) none = absurd cc
 
-    ends : (old new : Keys) (last : Option (List ℕ)) → new ≡ with_keys old page.names → IsLastOf page.more page.names last → EndsNames objects after old new last
-    ends old new None put (inl more) = let few : length xs ≤ 64 = grind (arith, nat_tests) in put ∙ ap (with_keys old) (items ∙ take_all 64 xs few)
-    ends old new None put (inr none) = put ∙ ap (with_keys old) (none ∙ sym (none_taken xs (sym items ∙ none)))
-    ends old new (Some last) put (more, at) =
+    -- more names than those of the page, and which
+    behind_page : (last : List ℕ) → page.more ≡ true → slice_get page.names (length page.names - 1) ≡ Some last → (64 < length xs) × (names_after objects (Some last) ≡ drop 64 xs)
+    behind_page last more at =
         let told : nat_lt 64 (length xs) ≡ true = sym flag ∙ more in
         let long : 64 < length xs = grind (arith, nat_tests) in
         let count : length page.names ≡ 64 = ap (length {A = List ℕ}) items ∙ length-take-le 64 xs (omega (arith, long)) in
         let i : length page.names - 1 ≡ 63 = omega (arith, count) in
         let read : slice_get (take 64 xs) 63 ≡ Some last = sym (λ t. slice_get (items t) (i t)) ∙ at in
         let same : get_or xs 63 last ≡ last = sym (get_or-take 64 xs 63 last (omega arith)) ∙ get_or_from_slice_get (take 64 xs) 63 last last read in
-        let here : slice_get xs 63 ≡ Some last = slice_get-get_or xs 63 last (omega (arith, long)) ∙ ap Some same in
-        let rest : names_after objects (Some last) ≡ drop 64 xs = behind_name 63 last here in
+        (long, behind_name 63 last (slice_get-get_or xs 63 last (omega (arith, long)) ∙ ap Some same))
+
+    ends : (old new : Keys) (last : Option (List ℕ)) → new ≡ with_keys old page.names → IsLastOf page.more page.names last → EndsNames objects after old new last
+    ends old new None put (inl more) = let few : length xs ≤ 64 = grind (arith, nat_tests) in put ∙ ap (with_keys old) (items ∙ take_all 64 xs few)
+    ends old new None put (inr none) = put ∙ ap (with_keys old) (none ∙ sym (none_taken xs (sym items ∙ none)))
+    ends old new (Some last) put (more, at) =
+        let its = behind_page last more at in
+        let long = its.0 in
+        let rest = its.1 in
+        let count : length page.names ≡ 64 = ap (length {A = List ℕ}) items ∙ length-take-le 64 xs (omega (arith, long)) in
         let split : page.names ++ names_after objects (Some last) ≡ xs = (λ t. items t ++ rest t) ∙ take-append-drop 64 xs in
         let total : length page.names + length (names_after objects (Some last)) ≡ length xs = sym (length-append page.names (names_after objects (Some last))) ∙ ap (length {A = List ℕ}) split in
         (ap (λ k. with_keys k (names_after objects (Some last))) put ∙ sym (with_keys-append old page.names (names_after objects (Some last))) ∙ ap (with_keys old) split, omega (arith, total, count))
+
+  -- what a page leaves of the names
+  pub page_left : (page : NameList) → page ≡ first_names 64 (names_after objects after) → (last : Option (List ℕ)) → IsLastOf page.more page.names last → NamesLeft objects after last
+  page_left page is None (inl more) =
+      let told : nat_lt 64 (length (names_after objects after)) ≡ false = sym (flag page is) ∙ more in
+      let few : length (names_after objects after) ≤ 64 = grind (arith, nat_tests) in
+      ap suc (few_beyond 64 (names_after objects after) few)
+  page_left page is None (inr none) = ap (λ ys. suc (pages_beyond 64 ys)) (none_taken page is (names_after objects after) (sym (items page is) ∙ none))
+  page_left page is (Some last) (more, at) =
+      let its = behind_page page is last more at in
+      ap suc (more_beyond 64 (names_after objects after) its.0) ∙ ap (λ ys. suc (suc (pages_beyond 64 ys))) (sym its.1)
+
+-- so as a call read it
+pub names_left : (objects : Objects) (after asked : Option (List ℕ)) (page : NameList) (last : Option (List ℕ)) (told : Bool) (names : List (List ℕ)) → asked ≡ after → page ≡ first_names 64 (names_after objects asked) → told ≡ page.more → names ≡ page.names
+    → IsLastOf told names last → NamesLeft objects after last
+names_left objects after asked page last told names a p m n h =
+    page_left objects after page (p ∙ ap (λ o. first_names 64 (names_after objects o)) a) last (subst (λ b. IsLastOf b page.names last) m (subst (λ (ns : List (List ℕ)). IsLastOf told ns last) n h))
 
 -- what a page leaves, as a call read it: what it asked for, and what it made of the answer
 pub page_read : (objects : Objects) (after asked : Option (List ℕ)) (page : NameList) (old new : Keys) (last : Option (List ℕ)) (told : Bool) (names taken : List (List ℕ)) → asked ≡ after → page ≡ first_names 64 (names_after objects asked)

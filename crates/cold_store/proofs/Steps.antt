@@ -118,7 +118,7 @@ module _ (objects : Objects) where
         queue_then : then.shape.queue ≡ found.shape.queue ++ dirs_of (rows_in objects d)
         queue_then = ap (λ (t : Shape). t.queue) added ∙ queue_after found.shape (rows_in objects d)
 
-        taken : take (next + 1) then.shape.queue ≡ done ++ d ∷ []
+        pub taken : take (next + 1) then.shape.queue ≡ done ++ d ∷ []
         taken =
             ap (take (next + 1)) queue_then ∙ take-append-le (next + 1) found.shape.queue (dirs_of (rows_in objects d)) (omega arith) ∙ take_more found.shape.queue next d less
             ∙ ap (λ k. done ++ k ∷ []) (sym at)

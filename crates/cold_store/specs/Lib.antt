@@ -1,3 +1,4 @@
+pub mod Calls
 pub mod ColdTree
 pub mod Left
 pub mod Numbers

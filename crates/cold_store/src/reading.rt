@@ -8,6 +8,9 @@ ghost use Rattle.mds_types.specs.declared.refusals.Refusal.TheVariants.{NoMemory
 ghost use Rattle.objstore.specs.Omap.{key_cmp};
 ghost use Rattle.objstore.specs.Objects.{MayRefuse, faults_told};
 ghost use Rattle.inode_table.specs.Dirs.{is_known, or_whole};
+ghost use Rattle.dentry_cache.specs.Calls.{AreCalls, calls_to_load};
+ghost use Rattle.dentry_cache.specs.Loading.{object_of};
+ghost use Rattle.cold_store.specs.Calls.{AreDirCalls, AreLeafCalls, calls_for_tree};
 ghost use Rattle.cold_store.specs.ColdTree.{tree_of};
 ghost use Rattle.cold_store.specs.Rows.{AreGoodLeaves, IsBadAmong, IsBadIn, IsBadLeaf, IsBadTree, IsGoodDir, IsGoodLeaf, IsGoodTree, IsReady, HasPairs, MayNotAdd, are_new, cover_in, rows_at, rows_in, rows_of, rows_under, with_cover, with_rows};
 ghost use Rattle.cold_store.specs.Walked.{MayFail};
@@ -17,7 +20,7 @@ use dentry_cache::load;
 use dirfrag_codec::decode_tree;
 use fragtree::FragTree;
 use inode_table::BoxedTree;
-use mds_types::{Frag, Ino, Inode, Name, ObjName, Refusal};
+use mds_types::{Frag, Ino, Inode, Name, ObjName, Refusal, Spelt};
 use objstore::{Page, Store};
 use sorted_map::SortedMap;
 use std::alloc::{AllocError, Global};
@@ -26,7 +29,7 @@ use std::alloc::{AllocError, Global};
 /// (`load`).
 ///
 /// Refused `Damaged`, with the name of the first object that is off, and otherwise as the store refuses a call, or
-/// `NoMemory`.
+/// `NoMemory`. Behind an object that is off, or a call that is refused, the store isn't called.
 pub fn take_dir<S: Store>(
     alloc: Global,
     store: &mut S,
@@ -42,6 +45,8 @@ pub fn take_dir<S: Store>(
         (MayFail (IsBadIn (S.objects store.old) found.old.shape dir) (S.faults store.old) (S.faults store.new)) }
     ensures same { S.objects store.new ≡ S.objects store.old }
     ensures counted { S.faults store.new ≡ S.faults store.old + faults_told (result_err result) }
+    ensures called { AreDirCalls S.IsCall (S.objects store.old) found.old.shape dir store.old (result_err result)
+        store.new }
 {
     let tree = read_tree(alloc, store, dir)?;
     let leaves = leaves_of(alloc, &tree)?;
@@ -56,15 +61,18 @@ fn read_tree<S: Store>(alloc: Global, store: &mut S, dir: Ino) -> Result<Option<
         × IsBadTree (tree_of (S.objects store.old) dir)) (S.faults store.old) (S.faults store.new)) }
     ensures same { S.objects store.new ≡ S.objects store.old }
     ensures counted { S.faults store.new ≡ S.faults store.old + faults_told (result_err result) }
+    ensures called { AreCalls S.IsCall (calls_for_tree (tree_of (S.objects store.old) dir)) store.old
+        (result_err result) store.new }
 {
-    let text = ObjName::Tree(dir).to_text(alloc)?;
-    let Some(header) = store.header(alloc, text.as_str())? else {
+    let text = Spelt::of(ObjName::Tree(dir));
+    let name = text.as_str();
+    let Some(header) = store.header(alloc, name)? else {
         return Ok(None);
     };
     let Some(tree) = decode_tree(alloc, header.as_slice())? else {
         return Err(Refusal::Damaged(ObjName::Tree(dir)));
     };
-    if has_pairs(alloc, store, text.as_str())? {
+    if has_pairs(alloc, store, name)? {
         return Err(Refusal::Damaged(ObjName::Tree(dir)));
     }
     Ok(Some(tree))
@@ -76,6 +84,7 @@ fn has_pairs<S: Store>(alloc: Global, store: &mut S, text: &str) -> Result<bool,
     ensures refused { IfErr result (MayRefuse (S.faults store.old) (S.faults store.new)) }
     ensures same { S.objects store.new ≡ S.objects store.old }
     ensures counted { S.faults store.new ≡ S.faults store.old + faults_told (result_err result) }
+    ensures called { AreCalls S.IsCall 1 store.old (result_err result) store.new }
 {
     match store.page(alloc, text, None, 1)? {
         Some(page) => Ok(has_any(page)),
@@ -136,6 +145,8 @@ fn take_leaves<S: Store>(
         (S.faults store.old) (S.faults store.new)) }
     ensures same { S.objects store.new ≡ S.objects store.old }
     ensures counted { S.faults store.new ≡ S.faults store.old + faults_told (result_err result) }
+    ensures called { AreLeafCalls S.IsCall (S.objects store.old) found.old.shape dir leaves.now store.old
+        (result_err result) store.new }
 {
     for leaf in leaves {
         if let Err(refusal) = take_leaf(alloc, store, found, dir, *leaf) {
@@ -163,6 +174,8 @@ fn take_leaf<S: Store>(
         × IsBadLeaf (S.objects store.old) found.old.shape (dir, frag)) (S.faults store.old) (S.faults store.new)) }
     ensures same { S.objects store.new ≡ S.objects store.old }
     ensures counted { S.faults store.new ≡ S.faults store.old + faults_told (result_err result) }
+    ensures called { AreCalls S.IsCall (calls_to_load frag (object_of (S.objects store.old) dir frag)) store.old
+        (result_err result) store.new }
 {
     match load(alloc, store, dir, frag) {
         Ok(loaded) => add_names(found, dir, frag, loaded.into_names()),

@@ -1,16 +1,18 @@
 //! The names of the objects that a walk didn't reach.
-ghost use Rattle.std.specs.Prelude.{◌≡◌, ◌+◌, List, ℕ, map as each, string_bytes, Option, IfOk, IfErr, OnOk, option_copied};
+ghost use Rattle.std.specs.Prelude.{◌≡◌, ◌+◌, List, None, ℕ, map as each, string_bytes, Option, IfOk, IfErr, OnOk, option_copied};
 ghost use Rattle.std.specs.FinMap as map;
 ghost use Rattle.std.specs.Result.{result_err};
 ghost use Rattle.sorted_map.specs.SortedMap.{contents};
 ghost use Rattle.mds_types.specs.ObjectText.{object_text};
 ghost use Rattle.objstore.specs.Omap.{key_cmp};
 ghost use Rattle.objstore.specs.Objects.{MayRefuse, faults_told};
+ghost use Rattle.dentry_cache.specs.Calls.{AreCalls};
+ghost use Rattle.cold_store.specs.Calls.{NamesLeft, name_pages};
 ghost use Rattle.cold_store.specs.Left.{AreLeft, AreNamesOf, EndsNames, IsLastOf, leaf_texts, texts_from, texts_in, with_keys, without_keys};
 
 use crate::found::Found;
 use inode_table::Dirs;
-use mds_types::{Frag, Ino, ObjName, ObjText, Refusal, Text, TextRef};
+use mds_types::{Frag, Ino, ObjName, ObjText, Refusal, Spelt, Text, TextRef};
 use objstore::Store;
 use sorted_map::SortedMap;
 use std::alloc::{AllocError, Global};
@@ -30,6 +32,7 @@ pub fn list_left<S: Store>(
     ensures refused { IfErr result (MayRefuse (S.faults store.old) (S.faults store.new)) }
     ensures same { S.objects store.new ≡ S.objects store.old }
     ensures counted { S.faults store.new ≡ S.faults store.old + faults_told (result_err result) }
+    ensures called { AreCalls S.IsCall (name_pages (S.objects store.old) None) store.old (result_err result) store.new }
 {
     let mut left = all_names(alloc, store)?;
     take_off(alloc, &mut left, found.dirs(), found.queue())?;
@@ -42,6 +45,7 @@ fn all_names<S: Store>(alloc: Global, store: &mut S) -> Result<SortedMap<ObjText
     ensures refused { IfErr result (MayRefuse (S.faults store.old) (S.faults store.new)) }
     ensures same { S.objects store.new ≡ S.objects store.old }
     ensures counted { S.faults store.new ≡ S.faults store.old + faults_told (result_err result) }
+    ensures called { AreCalls S.IsCall (name_pages (S.objects store.old) None) store.old (result_err result) store.new }
 {
     let mut names = SortedMap::new(alloc);
     let mut after = None;
@@ -66,6 +70,8 @@ fn next_names<S: Store>(
     ensures refused { IfErr result (MayRefuse (S.faults store.old) (S.faults store.new)) }
     ensures same { S.objects store.new ≡ S.objects store.old }
     ensures counted { S.faults store.new ≡ S.faults store.old + faults_told (result_err result) }
+    ensures left { IfOk result (NamesLeft (S.objects store.old) (option_copied after.entry)) }
+    ensures called { AreCalls S.IsCall 1 store.old (result_err result) store.new }
 {
     let page = store.names_page(alloc, text_of(after), PAGE)?;
     let last = last_of(alloc, page.more(), page.names())?;
@@ -147,38 +153,27 @@ fn take_off_dir(
     ensures { OnOk result
         (contents key_cmp left.new ≡ without_keys (contents key_cmp left.old) (texts_in dirs.now.trees dir)) }
 {
-    take_off_name(alloc, left, ObjName::Tree(dir))?;
+    take_off_name(left, ObjName::Tree(dir));
     let leaves = dirs.tree(alloc, dir)?.leaves(alloc)?;
-    take_off_leaves(alloc, left, dir, &leaves)
+    take_off_leaves(left, dir, &leaves);
+    Ok(())
 }
 
 // Takes the names of the objects of leaves off.
-fn take_off_leaves(
-    alloc: Global,
-    left: &mut SortedMap<ObjText, ()>,
-    dir: Ino,
-    leaves: &[Frag],
-) -> Result<(), AllocError>
-    ensures { OnOk result
-        (contents key_cmp left.new ≡ without_keys (contents key_cmp left.old) (leaf_texts dir leaves.now)) }
+fn take_off_leaves(left: &mut SortedMap<ObjText, ()>, dir: Ino, leaves: &[Frag])
+    ensures { contents key_cmp left.new ≡ without_keys (contents key_cmp left.old) (leaf_texts dir leaves.now) }
 {
     for leaf in leaves {
-        take_off_name(alloc, left, ObjName::Frag(dir, *leaf))?;
+        take_off_name(left, ObjName::Frag(dir, *leaf));
     }
-    Ok(())
 }
 
 // Takes the name of an object off.
-fn take_off_name(
-    alloc: Global,
-    left: &mut SortedMap<ObjText, ()>,
-    name: ObjName,
-) -> Result<(), AllocError>
-    ensures { OnOk result (contents key_cmp left.new ≡ map.remove (contents key_cmp left.old) (object_text name)) }
+fn take_off_name(left: &mut SortedMap<ObjText, ()>, name: ObjName)
+    ensures { contents key_cmp left.new ≡ map.remove (contents key_cmp left.old) (object_text name) }
 {
-    let text = name.to_text(alloc)?;
+    let text = Spelt::of(name);
     let _ = left.remove(&TextRef {
         text: text.as_str(),
     });
-    Ok(())
 }

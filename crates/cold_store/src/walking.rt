@@ -1,5 +1,5 @@
 //! The walk.
-ghost use Rattle.std.specs.Prelude.{◌≡◌, ◌+◌, IfOk, IfErr, OnOk, length};
+ghost use Rattle.std.specs.Prelude.{◌≡◌, ◌+◌, IfOk, IfErr, OnOk, OnErr, length};
 ghost use Rattle.std.specs.FinMap as map;
 ghost use Rattle.std.specs.Result.{result_err};
 ghost use Rattle.sorted_map.specs.SortedMap.{contents};
@@ -7,6 +7,7 @@ ghost use Rattle.mds_types.specs.Tree.{dentry_cmp};
 ghost use Rattle.objstore.specs.Omap.{key_cmp};
 ghost use Rattle.objstore.specs.Objects.{faults_told};
 ghost use Rattle.inode_table.specs.TreeTable.{IsCounted};
+ghost use Rattle.cold_store.specs.Calls.{AreWalkCalls, IsWhollyRead};
 ghost use Rattle.cold_store.specs.ColdTree.{IsColdTree};
 ghost use Rattle.cold_store.specs.Rows.{IsWalkedTo, start};
 ghost use Rattle.cold_store.specs.Walked.{IsWalked, MayNotWalk};
@@ -24,7 +25,8 @@ use std::alloc::Global;
 /// Memory is linear in the names and the objects.
 ///
 /// For each object that it reaches it asks for the header once, and for its pairs by pages of 64; for a tree object,
-/// which has none, by a page of one. The names of all objects it asks for by pages of 64.
+/// which has none, by a page of one. The names of all objects it asks for by pages of 64. Behind a faulty object, and
+/// behind a call that is refused, it makes no call.
 ///
 /// Refused `Damaged`, with the name of a faulty object, and otherwise as the store refuses a call (`StoreFault`), or
 /// `NoMemory`. A store that has no object is refused too: directory 1 has no leaf there.
@@ -37,6 +39,7 @@ pub fn walk<S: Store>(alloc: Global, store: &mut S) -> Result<Walked, Refusal>
     ensures refused { IfErr result (MayNotWalk (S.objects store.old) (S.faults store.old) (S.faults store.new)) }
     ensures same { S.objects store.new ≡ S.objects store.old }
     ensures faults { S.faults store.new ≡ S.faults store.old + faults_told (result_err result) }
+    ensures called { AreWalkCalls S.IsCall (S.objects store.old) store.old (result_err result) store.new }
 {
     let found = find(alloc, store)?;
     match list_left(alloc, store, &found) {
@@ -54,6 +57,9 @@ fn find<S: Store>(alloc: Global, store: &mut S) -> Result<Found, Refusal>
     ensures refused { IfErr result (MayNotWalk (S.objects store.old) (S.faults store.old) (S.faults store.new)) }
     ensures same { S.objects store.new ≡ S.objects store.old }
     ensures counted { S.faults store.new ≡ S.faults store.old + faults_told (result_err result) }
+    ensures called { IfOk result
+        (λ found. IsWhollyRead S.IsCall (S.objects store.old) found.shape.queue store.old store.new) }
+    ensures ended { OnErr result (AreWalkCalls S.IsCall (S.objects store.old) store.old (result_err result) store.new) }
 {
     let mut found = Found::new(alloc)?;
     match take_dirs(alloc, store, &mut found) {
@@ -72,6 +78,9 @@ fn take_dirs<S: Store>(alloc: Global, store: &mut S, found: &mut Found) -> Resul
     ensures refused { IfErr result (MayNotWalk (S.objects store.old) (S.faults store.old) (S.faults store.new)) }
     ensures same { S.objects store.new ≡ S.objects store.old }
     ensures counted { S.faults store.new ≡ S.faults store.old + faults_told (result_err result) }
+    ensures called { OnOk result
+        (IsWhollyRead S.IsCall (S.objects store.old) found.new.shape.queue store.old store.new) }
+    ensures ended { OnErr result (AreWalkCalls S.IsCall (S.objects store.old) store.old (result_err result) store.new) }
 {
     let mut next = 0;
     while next < found.queue().len() {

@@ -1,5 +1,6 @@
 pub mod ByteOrder
 pub mod BytesForm
+pub mod Copies
 pub mod Frag
 pub mod History
 pub mod InodeLaws

@@ -4,10 +4,11 @@ use Rattle.mds_types.specs.declared.names.NameFault.{NameFault}
 use Rattle.mds_types.specs.declared.names.NameFault.TheVariants.{Invalid, TooLong, NoMemory}
 use Rattle.mds_types.specs.Name.{IsName}
 
--- Ok exactly for a name, with those bytes; else the fault of its errno, unless memory is refused
+-- Ok exactly for a name, with those bytes; else the fault of its errno, unless memory is refused, which a name of more
+-- than 22 bytes takes
 abbrev pub NameFromBytes : List ℕ → Result (List ℕ) NameFault → Type 0
 NameFromBytes bytes (Ok name) = IsName bytes × (name ≡ bytes)
-NameFromBytes bytes (Err NoMemory) = IsName bytes
+NameFromBytes bytes (Err NoMemory) = IsName bytes × (22 < length bytes)
 NameFromBytes bytes (Err TooLong) = 255 < length bytes
 NameFromBytes bytes (Err Invalid) = (length bytes ≤ 255) × (IsName bytes → ⊥)
 

@@ -6,6 +6,7 @@ ghost use Rattle.std.specs.Cmp.Lexicographic.{pointwise, slice_cmp};
 ghost use Rattle.std.specs.Cmp.Rules.{comparing};
 ghost use Rattle.std.specs.Ordering.{nat_cmp, as_partial_cmp};
 ghost use Rattle.std.specs.Prelude.{◌≡◌, ◌==◌, ◌<◌, length, [], IfOk, OnErr, box_value};
+ghost use Rattle.mds_types.specs.Copies.{IsMade};
 
 use crate::byte_order::compare;
 use crate::short_bytes::Short;
@@ -93,10 +94,10 @@ impl Bytes {
         self.form = Form::Short(Short::empty());
     }
 
-    /// A copy. More than 22 bytes take memory.
+    /// A copy. More than 22 bytes take memory, and only then may it be wanting.
     #[inline(always)]
     pub fn try_clone(&self) -> Result<Bytes, AllocError>
-        ensures { IfOk result (λ copy. copy ≡ self.now) }
+        ensures { IsMade self.now (22 < length self.now) result }
     {
         match &self.form {
             Form::Short(short) => Ok(Bytes {
@@ -110,11 +111,9 @@ impl Bytes {
 // A copy of what stands in a box.
 #[inline(never)]
 fn copied(bytes: &Box<Vec<u8>>) -> Result<Bytes, AllocError>
-    ensures { IfOk result (λ copy. copy ≡ (box_value bytes.now).items) }
+    ensures { IsMade (box_value bytes.now).items (22 < length (box_value bytes.now).items) result }
 {
-    Ok(Bytes {
-        form: Form::Long(bytes.clone()?),
-    })
+    Bytes::from_slice(*bytes.allocator(), bytes.as_slice())
 }
 
 // These bytes in a box.

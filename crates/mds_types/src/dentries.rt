@@ -1,5 +1,6 @@
 //! Dentries: where an entry stands in the tree.
-ghost use Rattle.std.specs.Prelude.{◌≡◌, IfOk};
+ghost use Rattle.std.specs.Prelude.{◌<◌, length};
+ghost use Rattle.mds_types.specs.Copies.{IsMade};
 ghost use Rattle.mds_types.specs.OrderLaws.{ino-exact, name-exact, dentry-exact};
 
 use crate::ids::Ino;
@@ -15,11 +16,14 @@ pub struct Dentry {
 }
 
 impl Dentry {
-    /// A copy. Takes memory for its name.
+    /// A copy. A name of more than 22 bytes takes memory, and only then may it be wanting.
     pub fn try_clone(&self) -> Result<Dentry, AllocError>
-        ensures { IfOk result (λ copy. copy ≡ self.now) }
+        ensures { IsMade self.now (22 < length self.now.name) result }
     {
-        self.clone()
+        Ok(Dentry {
+            dir: self.dir,
+            name: self.name.try_clone()?,
+        })
     }
 }
 

@@ -1,5 +1,6 @@
 //! Inodes, which a directory's entries hold embedded, as CephFS keeps them.
-ghost use Rattle.std.specs.Prelude.{◌≡◌, ◌↔◌, IfOk, IsTrue};
+ghost use Rattle.std.specs.Prelude.{◌≡◌, ◌↔◌, IsTrue};
+ghost use Rattle.mds_types.specs.Copies.{IsMade, HasLink};
 
 use crate::ids::{Ino, Rank};
 use crate::modes::Mode;
@@ -72,9 +73,13 @@ pub enum Alteration {
 impl Kind {
     /// A copy. Takes memory for a link's target alone.
     pub fn try_clone(&self) -> Result<Kind, AllocError>
-        ensures { IfOk result (λ copy. copy ≡ self.now) }
+        ensures { IsMade self.now (HasLink self.now) result }
     {
-        Kind::clone(self)
+        match self {
+            Kind::File => Ok(Kind::File),
+            Kind::Dir => Ok(Kind::Dir),
+            Kind::Symlink(target) => Ok(Kind::Symlink(target.try_clone()?)),
+        }
     }
 
     /// Whether this is a directory.
@@ -88,8 +93,17 @@ impl Kind {
 impl Inode {
     /// A copy. Takes memory for a link's target alone.
     pub fn try_clone(&self) -> Result<Inode, AllocError>
-        ensures { IfOk result (λ copy. copy ≡ self.now) }
+        ensures { IsMade self.now (HasLink self.now.kind) result }
     {
-        Inode::clone(self)
+        Ok(Inode {
+            ino: self.ino,
+            kind: self.kind.try_clone()?,
+            size: self.size,
+            mtime: self.mtime,
+            uid: self.uid,
+            gid: self.gid,
+            mode: self.mode,
+            pin: self.pin,
+        })
     }
 }

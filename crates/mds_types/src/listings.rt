@@ -1,10 +1,11 @@
 //! The entries that a readdir answers.
 ghost use Rattle.std.specs.Cmp.{partial_equiv_from_equiv, decided};
 ghost use Rattle.std.specs.Cmp.Lexicographic.{pointwise, lists_equiv};
-ghost use Rattle.std.specs.Prelude.{◌≡◌, ◌==◌, ◌&&◌, List, ℕ, IfOk};
+ghost use Rattle.std.specs.Prelude.{◌≡◌, ◌==◌, ◌&&◌, List, ℕ, [], IfOk};
 ghost use Rattle.std.proofs.Common.{rules};
 ghost use Rattle.std.proofs.lemmas.Slice.Eq.{bytes_eq-Decides, slice_eq-Decides};
 ghost use Rattle.sorted_map.proofs.Decided.{pair_decides};
+ghost use Rattle.mds_types.specs.Copies.{IsMade};
 ghost use Rattle.mds_types.specs.InodeLaws.{inode_decides};
 ghost use Rattle.mds_types.specs.declared.inodes.Inode.{Inode};
 
@@ -50,10 +51,15 @@ impl Listing {
         self.items.as_slice()
     }
 
-    /// A copy. Takes memory for the entries.
+    /// A copy. Takes memory for the entries: an empty one takes none, and its copy never fails.
     pub fn try_clone(&self) -> Result<Listing, AllocError>
-        ensures { IfOk result (λ copy. copy ≡ self.now) }
+        ensures { IsMade self.now (self.now ≡ [] → ⊥) result }
     {
+        if self.items.is_empty() {
+            return Ok(Listing {
+                items: Vec::new(*self.items.allocator()),
+            });
+        }
         self.clone()
     }
 }

@@ -1,6 +1,7 @@
 //! The name of a directory entry.
-ghost use Rattle.std.specs.Prelude.{◌≡◌, IfOk, IfErr, OnOk};
+ghost use Rattle.std.specs.Prelude.{◌≡◌, ◌<◌, length, IfErr, OnOk};
 ghost use Rattle.std.specs.List.{list_all};
+ghost use Rattle.mds_types.specs.Copies.{IsMade};
 ghost use Rattle.mds_types.specs.Name.{IsName, is_dots, fits_name};
 ghost use Rattle.mds_types.specs.NameFault.{IsFaultOf, NameFromBytes, name_errno};
 
@@ -60,7 +61,8 @@ impl Name {
     /// The most bytes that a name has.
     pub const MAX_LEN: usize = 255;
 
-    /// The name that these bytes are, or why they are none. More than 22 bytes take memory.
+    /// The name that these bytes are, or why they are none. More than 22 bytes take memory, and only then may it be
+    /// wanting.
     pub fn from_bytes(alloc: Global, bytes: &[u8]) -> Result<Name, NameFault>
         ensures { NameFromBytes bytes.now result }
     {
@@ -88,11 +90,13 @@ impl Name {
         self.text.as_slice()
     }
 
-    /// A copy. More than 22 bytes take memory.
+    /// A copy. More than 22 bytes take memory, and only then may it be wanting.
     pub fn try_clone(&self) -> Result<Name, AllocError>
-        ensures { IfOk result (λ copy. copy ≡ self.now) }
+        ensures { IsMade self.now (22 < length self.now) result }
     {
-        self.clone()
+        Ok(Name {
+            text: self.text.try_clone()?,
+        })
     }
 }
 

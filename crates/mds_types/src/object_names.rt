@@ -1,13 +1,11 @@
 //! The names of objects in the store.
-ghost use Rattle.std.specs.Prelude.{◌≡◌, ◌≤◌, ◌-◌, IfOk, IsUtf8, Some, drop, take};
+ghost use Rattle.std.specs.Prelude.{◌≡◌, ◌≤◌, ◌-◌, IsUtf8, Some, drop, take};
 ghost use Rattle.mds_types.specs.ObjectText.{TextsDiffer, object_text};
 ghost use Rattle.mds_types.specs.declared.object_names.ObjName.TheVariants as name;
 
 use crate::digits::write_digits_in;
 use crate::frags::Frag;
 use crate::ids::Ino;
-use crate::texts::Text;
-use std::alloc::{AllocError, Global};
 use std::fmt;
 use std::marker::Model;
 
@@ -44,14 +42,6 @@ impl fmt::Display for ObjName {
 }
 
 impl ObjName {
-    /// The name as text, put together by hand. Takes memory for it.
-    pub fn to_text(self, alloc: Global) -> Result<Text, AllocError>
-        ensures { IfOk result (λ text. text ≡ object_text self) }
-    {
-        let spelt = spell(self);
-        Text::of_bytes(alloc, &spelt.bytes[spelt.start..])
-    }
-
     /// No two objects have one text: a law, the contract of a function that does nothing.
     pub fn texts_differ()
         ensures { TextsDiffer }

@@ -1,5 +1,5 @@
 //! What a client is told.
-ghost use Rattle.std.specs.Prelude.{◌≡◌, IfOk};
+ghost use Rattle.mds_types.specs.Copies.{IsMade, OwnsMemory};
 
 use crate::inodes::Inode;
 use crate::listings::Listing;
@@ -21,10 +21,19 @@ pub enum Reply {
 }
 
 impl Reply {
-    /// A copy. Takes memory for a listing and for links' targets alone.
+    /// A copy. Takes memory for a listing that isn't empty and for links' targets alone.
     pub fn try_clone(&self) -> Result<Reply, AllocError>
-        ensures { IfOk result (λ copy. copy ≡ self.now) }
+        ensures { IsMade self.now (OwnsMemory self.now) result }
     {
-        self.clone()
+        match self {
+            Reply::Entry(inode) => Ok(Reply::Entry(inode.try_clone()?)),
+            Reply::Entries { list, more } => Ok(Reply::Entries {
+                list: list.try_clone()?,
+                more: *more,
+            }),
+            Reply::Target(target) => Ok(Reply::Target(target.try_clone()?)),
+            Reply::Done => Ok(Reply::Done),
+            Reply::Errno(number) => Ok(Reply::Errno(*number)),
+        }
     }
 }

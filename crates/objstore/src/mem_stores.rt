@@ -1,5 +1,5 @@
 //! A store in memory.
-ghost use Rattle.std.specs.Prelude.{◌≡◌, ◌≤◌, ℕ, List, None, map, IfOk, IfErr, IsOk, IsSome, OnOk, OnErr, option_copied, string_bytes};
+ghost use Rattle.std.specs.Prelude.{◌≡◌, ◌≢◌, ◌≤◌, ℕ, List, None, map, IfOk, IfErr, IsOk, IsSome, OnOk, OnErr, option_copied, string_bytes};
 ghost use Rattle.std.specs.FinMap as finmap;
 ghost use Rattle.mds_types.specs.declared.refusals.Refusal.TheVariants.{NoMemory};
 ghost use Rattle.objstore.specs.Omap.{Omap, empty_omap, key_cmp};
@@ -54,11 +54,16 @@ impl MemStore {
         self.objects.get(&TextRef { text: name })
     }
 
-    /// The names of all objects, in order. Takes memory for copies of them; the only refusal is `Refusal::NoMemory`.
+    /// The names of all objects, in order. Takes memory for copies of them, and none where there is no object; the only
+    /// refusal is `Refusal::NoMemory`.
     pub fn names(&self, alloc: Global) -> Result<Vec<String>, Refusal>
         ensures names { IfOk result (λ names. map string_bytes names.items ≡ finmap.keys self.now) }
         ensures refused { IfErr result (λ refusal. refusal ≡ NoMemory) }
+        ensures memory { OnErr result (self.now ≢ finmap.empty) }
     {
+        if self.objects.is_empty() {
+            return Ok(Vec::new(alloc));
+        }
         let all = first_names(alloc, self.objects.iter(), self.objects.len())?;
         Ok(all.into_names())
     }

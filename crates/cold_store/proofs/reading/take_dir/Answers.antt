@@ -1,4 +1,10 @@
-use Rattle.cold_store.proofs.Common.{AreGoodLeaves, Fragment, IsBadAmong, IsGoodTree, List, Objects, Shape, ap, arith, inr, rows_under, subst, tree_of, with_cover, with_rows, ◌∙◌}
+use Rattle.cold_store.proofs.Common.{AreGoodLeaves, Fragment, IsBadAmong, IsGoodTree, List, Objects, Shape, NoMemory, Some, ap, arith, inl, inr, rows_under, subst, tree_of, with_cover, with_rows, ◌∙◌}
+use Rattle.std.proofs.lemmas.Result.{err_from_is_err_and}
+use Rattle.std.specs.Result.{result_err}
+use Rattle.dentry_cache.proofs.CallLaws.{memory_not, some_not, told_then}
+use Rattle.cold_store.specs.Calls.{AreLeafCalls, calls_for_tree}
+use Rattle.cold_store.proofs.CallSteps.{memory_tells, tells_no_other}
+use Rattle.mds_types.specs.declared.object_names.ObjName.TheVariants.{Tree as TreeOf}
 use Rattle.cold_store.proofs.ObjectLaws.{good_cover, good_leaves}
 use Rattle.cold_store.proofs.Refusals.{err_then, ok_always, ok_then, widened}
 use Rattle.cold_store.proofs.reading.take_dir.Goals as goal
@@ -49,3 +55,34 @@ returns-clause-refused g c =
           (subst (λ (o : Objects). IsBadAmong o c.keep_tree.new.found.shape c.args.dir c.deref.result.now name) c.in_ok-tree.ensures.same bad)),
     )))
     c.take_leaves.ensures.refused
+
+pub returns-in_err-tree-clause-called : goal.returns-in_err-tree-clause-called
+returns-in_err-tree-clause-called g c =
+    let p = err_from_is_err_and c.from_residual.result c.from_residual.ensures.1 in
+    rw (p.1, p.2) (inl (some_not c.in_err-tree.field-0.0, tells_no_other _ (TreeOf c.args.dir) _ _ c.in_err-tree.field-0.0 c.in_err-tree.ensures.refused, c.in_err-tree.ensures.called))
+
+pub returns-in_err-leaves-clause-called : goal.returns-in_err-leaves-clause-called
+returns-in_err-leaves-clause-called g c =
+    let p = err_from_is_err_and c.from_residual-in_err-leaves.result c.from_residual-in_err-leaves.ensures.1 in
+    rw (p.1, p.2) (inl (some_not NoMemory, memory_tells (TreeOf c.args.dir), told_then g.S.Store.IsCall (calls_for_tree (tree_of (g.S.Store.objects c.args.store.now) c.args.dir)) _ _ (Some NoMemory) memory_not c.in_ok-tree.ensures.called))
+
+pub returns-in_err-keep_tree-clause-called : goal.returns-in_err-keep_tree-clause-called
+returns-in_err-keep_tree-clause-called g c =
+    let p = err_from_is_err_and c.from_residual-in_err-keep_tree.result c.from_residual-in_err-keep_tree.ensures.1 in
+    rw (p.1, p.2) (inl (some_not NoMemory, memory_tells (TreeOf c.args.dir), told_then g.S.Store.IsCall (calls_for_tree (tree_of (g.S.Store.objects c.args.store.now) c.args.dir)) _ _ (Some NoMemory) memory_not c.in_ok-tree.ensures.called))
+
+pub returns-clause-called : goal.returns-clause-called
+returns-clause-called g c =
+    let objects = g.S.Store.objects c.args.store.now in
+    let tree = c.in_ok-tree.ensures.good in
+    let leaves = c.deref.ensures.value ∙ c.in_ok-leaves.ensures ∙ good_leaves (tree_of objects c.args.dir) c.in_ok-tree.tree tree in
+    let told = result_err c.take_leaves.result in
+    let end = c.take_leaves.new.store in
+    inr (
+      subst (IsGoodTree (tree_of objects c.args.dir)) (good_cover (tree_of objects c.args.dir) c.in_ok-tree.tree tree) tree,
+      c.read_tree.new.store,
+      c.in_ok-tree.ensures.called,
+      subst (λ (ls : List Fragment). AreLeafCalls g.S.Store.IsCall objects c.args.found.now.shape c.args.dir ls c.read_tree.new.store told end) leaves
+          (subst (λ (s : Shape). AreLeafCalls g.S.Store.IsCall objects s c.args.dir c.deref.result.now c.read_tree.new.store told end) c.keep_tree.ensures.shape
+          (subst (λ (o : Objects). AreLeafCalls g.S.Store.IsCall o c.keep_tree.new.found.shape c.args.dir c.deref.result.now c.read_tree.new.store told end) c.in_ok-tree.ensures.same c.take_leaves.ensures.called)),
+    )

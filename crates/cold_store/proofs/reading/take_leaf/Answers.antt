@@ -1,5 +1,7 @@
 use Rattle.cold_store.proofs.Common.{Names, ap, are_new, inr, loaded_fits, loaded_is_saved, loaded_shows, object_of, rows_of, sym, with_rows, ◌∙◌}
 use Rattle.std.specs.FinMap as map
+use Rattle.dentry_cache.specs.Calls.{calls_to_load}
+use Rattle.cold_store.proofs.CallSteps.{then_added}
 use Rattle.cold_store.proofs.Refusals.{added_refused, ok_then}
 use Rattle.cold_store.proofs.reading.take_leaf.Goals as goal
 
@@ -29,3 +31,6 @@ returns-in-Ok-clause-refused g c =
     let names = c.into_names.ensures.names ∙ loaded_shows c.args.frag object c.in-Ok.loaded c.in-Ok.ensures.loaded in
     added_refused c.add_names.result c.args.dir c.args.frag _ (g.S.Store.faults c.args.store.now) (g.S.Store.faults c.load.new.store)
     (λ name is old. (is, inr (sym (ap (λ (n : Names). are_new c.args.found.now.shape (rows_of (c.args.dir, c.args.frag) (map.entries n))) names) ∙ old))) c.add_names.ensures.refused
+
+pub returns-in-Ok-clause-called : goal.returns-in-Ok-clause-called
+returns-in-Ok-clause-called g c = then_added g.S.Store.IsCall (calls_to_load c.args.frag (object_of (g.S.Store.objects c.args.store.now) c.args.dir c.args.frag)) _ _ c.add_names.result c.args.dir c.args.frag _ c.add_names.ensures.refused c.in-Ok.ensures.called

@@ -10,4 +10,4 @@ returns-in-Ok-clause-named c =
 -- memory was to be taken for the name in front of `_head`
 pub returns-in-Err-NoMemory-clause-memory : goal.returns-in-Err-NoMemory-clause-memory
 returns-in-Err-NoMemory-clause-memory c =
-    (c.in-Some.front.now, subst (λ fault. NameFromBytes c.in-Some.front.now (Err fault)) c.in-Err-NoMemory.field-0-is c.in-Err-NoMemory.ensures, key_of_front c.args.key.now c.in-Some.front.now _ c.in-Some.ensures.cases.0 c.in-Some.ensures.cases.1)
+    (c.in-Some.front.now, (subst (λ fault. NameFromBytes c.in-Some.front.now (Err fault)) c.in-Err-NoMemory.field-0-is c.in-Err-NoMemory.ensures).0, key_of_front c.args.key.now c.in-Some.front.now _ c.in-Some.ensures.cases.0 c.in-Some.ensures.cases.1)
